@@ -1,0 +1,5 @@
+pub mod Last
+pub mod Lists
+pub mod Names
+pub mod Shape
+pub mod Values

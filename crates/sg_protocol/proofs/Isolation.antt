@@ -1,0 +1,398 @@
+-- Sessions do not disturb each other.
+use Rattle.std.specs.Prelude.{◌≡◌, ℕ, ◌+◌, ◌≤◌, ◌==◌, ◌||◌, ◌&&◌, ◌⊎◌, nat_le, Bool, true, false, List, [], ◌∷◌, ◌++◌, map, filter, find, length, refl, Option, Some, None, bytes_eq, Result, Ok, Err, All, IfSome, ⊤}
+use Rattle.std.specs.List.{list_any}
+use Rattle.std.specs.Option.{option_map_or}
+use Rattle.std.proofs.Common.{sym, ◌∙◌, ap, subst, inl, inr, arith}
+use Rattle.std.proofs.lemmas.Slice.Eq.{bytes_eq-Decides}
+use Rattle.std.proofs.lemmas.List.Elements.{All-head, All-tail}
+use Rattle.std.proofs.lemmas.Bool.{le-leb, leb-true}
+use Rattle.sg_model.specs.Last.{last, Map}
+use Rattle.sg_model.specs.Lists.{first_some}
+use Rattle.sg_protocol.specs.Frame.{Frame, Cast, Item, Opening, Value, read}
+use Rattle.sg_protocol.specs.Texts.{Hash, session_id}
+use Rattle.sg_protocol.specs.Session.{Session, Program, Took, Gave, extended}
+use Rattle.sg_protocol.specs.Node.{Node, Event, Received, Call, Start, Act, Abandon, Deliver, Answer, Happened, Sends, Left, NotStarted, Refused, Refusal, StartFault, UnknownGraph, CacheFull, SessionsFull, NoRoomToJoin, NoRoomForSession, NoGraph, row, decided, started, rows_of_start, rows_of_join, join_rows, next_rows, rows_of_session, rows, receipt, verdict_on, answer, node_after, takes_read, joined, goes_on, replace, still, is_over, is_for, session_with, session_for, has_joined, new_session, program_for, starter, openings_for, Called, AreAnswers, calls_of, is_call_of, is_frame_of, answers, new_node}
+use Rattle.sg_protocol.specs.Headline.{is_for_room, SessionsAreIsolated}
+
+cases_Bool : (b : Bool) → (b ≡ true) ⊎ (b ≡ false)
+cases_Bool true = inl refl
+cases_Bool false = inr refl
+
+clash : {A : Type 0} (b : Bool) → b ≡ true → b ≡ false → A
+clash b t f = cc
+
+and_left : (a b : Bool) → (a && b) ≡ true → a ≡ true
+and_left true b h = refl
+and_left false b h = h
+
+same_bytes : (a b : List ℕ) → bytes_eq a b ≡ true → a ≡ b
+same_bytes a b h = (bytes_eq-Decides a b).0 h
+
+-- ---- look-ups in a part of a list
+
+pub find-filter : {A : Type 0} (p q : A → Bool) → ((x : A) → p x ≡ true → q x ≡ true) → (xs : List A) → find p (filter q xs) ≡ find p xs
+find-filter p q h [] = refl
+find-filter p q h (x ∷ xs) = elim (cases_Bool (q x)) [
+  | inl e ↦ rw e (elim (cases_Bool (p x)) [ inl f ↦ rw f refl | inr f ↦ rw f (find-filter p q h xs) ])
+  | inr e ↦ rw e (elim (cases_Bool (p x)) [ inl f ↦ clash (q x) (h x f) e | inr f ↦ rw f (find-filter p q h xs) ])
+]
+
+length-filter_le : {A : Type 0} (q : A → Bool) (xs : List A) → length (filter q xs) ≤ length xs
+length-filter_le q [] = omega arith
+length-filter_le q (x ∷ xs) = elim (cases_Bool (q x)) [
+  | inl e ↦ rw e (omega (arith, length-filter_le q xs))
+  | inr e ↦ rw e (omega (arith, length-filter_le q xs))
+]
+
+pub filter-append : {A : Type 0} (q : A → Bool) (xs ys : List A) → filter q (xs ++ ys) ≡ filter q xs ++ filter q ys
+filter-append q [] ys = refl
+filter-append q (x ∷ xs) ys = elim (cases_Bool (q x)) [
+  | inl e ↦ rw e (ap (λ l. x ∷ l) (filter-append q xs ys))
+  | inr e ↦ rw e (filter-append q xs ys)
+]
+
+any-append : {A : Type 0} (p : A → Bool) (xs ys zs : List A) → list_any p xs ≡ list_any p ys → list_any p (xs ++ zs) ≡ list_any p (ys ++ zs)
+any-append {A = A} p xs ys zs h = split xs ∙ ap (λ b. b || list_any p zs) h ∙ sym (split ys)
+  where
+    or_assoc : (a b c : Bool) → (a || (b || c)) ≡ ((a || b) || c)
+    or_assoc true b c = refl
+    or_assoc false b c = refl
+
+    split : (xs : List A) → list_any p (xs ++ zs) ≡ (list_any p xs || list_any p zs)
+    split [] = refl
+    split (x ∷ xs) = ap (λ b. p x || b) (split xs) ∙ or_assoc (p x) (list_any p xs) (list_any p zs)
+
+pub replace-other : {q : Session → Bool} (which : Session → Bool) (now : Session → List Session) → ((s : Session) → which s ≡ true → q s ≡ false) → ((s : Session) → which s ≡ true → filter q (now s) ≡ []) → (ss : List Session) → filter q (replace which now ss) ≡ filter q ss
+replace-other which now h k [] = refl
+replace-other {q = q} which now h k (s ∷ ss) = elim (cases_Bool (which s)) [
+  | inl e ↦ rw (e, filter-append q (now s) ss, k s e, h s e) refl
+  | inr e ↦ rw e (elim (cases_Bool (q s)) [ inl f ↦ rw f (ap (λ l. s ∷ l) (replace-other which now h k ss)) | inr f ↦ rw f (replace-other which now h k ss) ])
+]
+
+pub replace-own : {q : Session → Bool} (which : Session → Bool) (now : Session → List Session) → ((s : Session) → which s ≡ true → q s ≡ true) → ((s : Session) → which s ≡ true → filter q (now s) ≡ now s) → (ss : List Session) → replace which now (filter q ss) ≡ filter q (replace which now ss)
+replace-own which now h k [] = refl
+replace-own {q = q} which now h k (s ∷ ss) = elim (cases_Bool (which s)) [
+  | inl e ↦ rw (h s e, e, filter-append q (now s) ss, k s e) refl
+  | inr e ↦ elim (cases_Bool (q s)) [ inl f ↦ rw (f, e) (rw f (ap (λ l. s ∷ l) (replace-own which now h k ss))) | inr f ↦ rw (f, e) (rw f (replace-own which now h k ss)) ]
+]
+
+-- ---- the first row that holds, with and without rows for want of room
+
+abbrev Same : {F : Type 0} → (F → Bool) → Option F → Option F → Type 0
+Same room x y = (x ≡ y) ⊎ ((y ≡ None) × IfSome x (λ r. room r ≡ true))
+
+abbrev Agree : {F : Type 0} → (F → Bool) → List (Option F) → List (Option F) → Type 0
+Agree room [] [] = ⊤
+Agree room [] (y ∷ ys) = ⊥
+Agree room (x ∷ xs) [] = ⊥
+Agree room (x ∷ xs) (y ∷ ys) = Same room x y × Agree room xs ys
+
+agree_refl : {F : Type 0} (room : F → Bool) (xs : List (Option F)) → Agree room xs xs
+agree_refl room [] = tt
+agree_refl room (x ∷ xs) = (inl refl, agree_refl room xs)
+
+agreed : {F : Type 0} (room : F → Bool) (xs ys : List (Option F)) → Agree room xs ys → IfSome (first_some xs) (λ r. room r ≡ false) → first_some ys ≡ first_some xs
+agreed room [] [] a h = refl
+agreed room [] (y ∷ ys) a h = elim a [ ]
+agreed room (None ∷ xs) [] a h = elim a [ ]
+agreed room (Some r ∷ xs) [] a h = elim a [ ]
+agreed room (None ∷ xs) (y ∷ ys) a h = elim a.0 [ inl e ↦ rw (sym e) (agreed room xs ys a.1 h) | inr e ↦ rw e.0 (agreed room xs ys a.1 h) ]
+agreed room (Some r ∷ xs) (y ∷ ys) a h = elim a.0 [ inl e ↦ rw (sym e) refl | inr e ↦ clash (room r) e.1 h ]
+
+limit : {F : Type 0} (room : F → Bool) (x : F) → room x ≡ true → (b b' : Bool) → (b' ≡ true → b ≡ true) → Same room (row b x) (row b' x)
+limit room x r true true le = inl refl
+limit room x r true false le = inr (refl, r)
+limit room x r false true le = clash true refl (sym (le refl))
+limit room x r false false le = inl refl
+
+fewer_full : (k m n : ℕ) → m ≤ n → nat_le k m ≡ true → nat_le k n ≡ true
+fewer_full k m n le h = le-leb k n (omega (arith, le, leb-true k m h))
+
+-- ---- a node, and one that gets the calls of a session alone
+
+abbrev pub of_sid : List ℕ → Session → Bool
+of_sid sid s = bytes_eq s.sid sid
+
+record Beside (sid : List ℕ) (n n' : Node) : Type 0 where
+  keys : n'.keys ≡ n.keys
+  programs : n'.programs ≡ n.programs
+  live : n'.live ≡ filter (of_sid sid) n.live
+  joins : (s : List ℕ) (r : ℕ) → bytes_eq s sid ≡ true → has_joined n'.joins s r ≡ has_joined n.joins s r
+  fewer : length n'.joins ≤ length n.joins
+
+fewer_live : (sid : List ℕ) (n n' : Node) → Beside sid n n' → length n'.live ≤ length n.live
+fewer_live sid n n' b = rw b.live (length-filter_le (of_sid sid) n.live)
+
+-- ---- the same answers
+
+abbrev room_start : StartFault → Bool
+room_start fault = is_for_room (NotStarted fault)
+
+abbrev room : Refusal → Bool
+room r = is_for_room (Refused r)
+
+start_not_room : (sid : List ℕ) (r : ℕ) (o : Option StartFault) → is_for_room (started sid r o) ≡ false → IfSome o (λ f. room_start f ≡ false)
+start_not_room sid r None h = tt
+start_not_room sid r (Some f) h = h
+
+decided_not_room : (e : Event) (o : Option Refusal) → is_for_room (decided e o) ≡ false → IfSome o (λ r. room r ≡ false)
+decided_not_room e None h = tt
+decided_not_room e (Some r) h = h
+
+module _ (sha : Hash) (sid : List ℕ) (n n' : Node) (b : Beside sid n n') where
+  agree_start : (p : Program) (s : List ℕ) (c : Cast) → bytes_eq s sid ≡ true → Agree room_start (rows_of_start n p s c) (rows_of_start n' p s c)
+  agree_start p s c h = rw (b.keys, b.joins s p.role h) (
+    inl refl,
+    (
+      inl refl,
+      (
+        inl refl,
+        (
+          limit room_start NoRoomToJoin refl _ _ (fewer_full 65536 _ _ b.fewer),
+          (limit room_start NoRoomForSession refl _ _ (fewer_full 4096 _ _ (fewer_live sid n n' b)), tt),
+        ),
+      ),
+    ),
+  )
+
+  same_start : (c : Cast) (o : Option Program) → bytes_eq (session_id sha c) sid ≡ true →
+      is_for_room (option_map_or (λ p. started (session_id sha c) p.role (first_some (rows_of_start n p (session_id sha c) c))) o (NotStarted NoGraph)) ≡ false →
+      option_map_or (λ p. started (session_id sha c) p.role (first_some (rows_of_start n' p (session_id sha c) c))) o (NotStarted NoGraph)
+      ≡ option_map_or (λ p. started (session_id sha c) p.role (first_some (rows_of_start n p (session_id sha c) c))) o (NotStarted NoGraph)
+  same_start c None h k = refl
+  same_start c (Some p) h k = ap (started (session_id sha c) p.role)
+      (agreed room_start (rows_of_start n p (session_id sha c) c) (rows_of_start n' p (session_id sha c) c) (agree_start p (session_id sha c) c h) (start_not_room (session_id sha c) p.role _ k))
+
+  same_session_with : (s : List ℕ) → bytes_eq s sid ≡ true → session_with n'.live s ≡ session_with n.live s
+  same_session_with s h = rw b.live (find-filter (λ x. bytes_eq x.sid s) (of_sid sid) (λ x e. subst (λ y. bytes_eq y sid ≡ true) (sym (same_bytes x.sid s e)) h) n.live)
+
+  same_session_for : (f : Frame) → bytes_eq f.sid sid ≡ true → session_for n'.live f ≡ session_for n.live f
+  same_session_for f h = rw b.live (find-filter (is_for f) (of_sid sid) (λ x e. subst (λ y. bytes_eq y sid ≡ true) (sym (same_bytes x.sid f.sid (and_left _ _ (and_left _ _ e)))) h) n.live)
+
+  agree_join : (f : Frame) (c : Cast) (o : Option Program) → bytes_eq f.sid sid ≡ true → Agree room (option_map_or (rows_of_join sha n f c) o (Some UnknownGraph ∷ [])) (option_map_or (rows_of_join sha n' f c) o (Some UnknownGraph ∷ []))
+  agree_join f c None h = (inl refl, tt)
+  agree_join f c (Some p) h = rw (b.keys, b.joins f.sid f.receiver h) (
+    inl refl,
+    (
+      inl refl,
+      (
+        inl refl,
+        (
+          inl refl,
+          (
+            limit room CacheFull refl _ _ (fewer_full 65536 _ _ b.fewer),
+            (
+              limit room SessionsFull refl _ _ (fewer_full 4096 _ _ (fewer_live sid n n' b)),
+              agree_refl room (rows_of_session sha n.keys p (new_session f.sid c f.receiver) f),
+            ),
+          ),
+        ),
+      ),
+    ),
+  )
+
+  agree_rows : (f : Frame) (o : Option Cast) → bytes_eq f.sid sid ≡ true → Agree room (option_map_or (join_rows sha n f) o (next_rows sha n f)) (option_map_or (join_rows sha n' f) o (next_rows sha n' f))
+  agree_rows f None h = rw (same_session_for f h, b.keys, b.programs) (agree_refl room (next_rows sha n f))
+  agree_rows f (Some c) h = rw b.programs (agree_join f c (program_for n.programs c.graph f.receiver) h)
+
+  same_verdict : (r : Result Frame ℕ) → is_frame_of sid r ≡ true → is_for_room (verdict_on sha n r) ≡ false → verdict_on sha n' r ≡ verdict_on sha n r
+  same_verdict (Err at) h k = refl
+  same_verdict (Ok f) h k = ap (decided (receipt f)) (agreed room (rows sha n f) (rows sha n' f) (agree_rows f f.join h) (decided_not_room (receipt f) _ k))
+
+  same_answer : (c : Call) → is_call_of sha sid c ≡ true → is_for_room (answer sha n c) ≡ false → answer sha n' c ≡ answer sha n c
+  same_answer (Start c) h k = rw b.programs (same_start c (starter n.programs c.graph) h k)
+  same_answer (Act s label values confounders) h k = rw (same_session_with s h, b.keys, b.programs) refl
+  same_answer (Abandon s) h k = rw (same_session_with s h) refl
+  same_answer (Deliver bs) h k = same_verdict (read bs) h k
+
+-- ---- the nodes after a call
+
+has_joined-append : (p : List ℕ × ℕ → Bool) (xs ys zs : List (List ℕ × ℕ)) → list_any p xs ≡ list_any p ys → list_any p (xs ++ zs) ≡ list_any p (ys ++ zs)
+has_joined-append p xs ys zs h = any-append p xs ys zs h
+
+length-snoc : {A : Type 0} (xs : List A) (x : A) → length (xs ++ x ∷ []) ≡ length xs + 1
+length-snoc [] x = refl
+length-snoc (y ∷ ys) x = omega (arith, length-snoc ys x)
+
+any-snoc : {A : Type 0} (p : A → Bool) (xs : List A) (x : A) → p x ≡ false → list_any p (xs ++ x ∷ []) ≡ list_any p xs
+any-snoc p [] x h = rw h refl
+any-snoc p (y ∷ ys) x h = ap (λ b. p y || b) (any-snoc p ys x h)
+
+-- what is left of a session has its sid
+pub still-own : (sid : List ℕ) (ps : List Program) (s : Session) → bytes_eq s.sid sid ≡ true → filter (of_sid sid) (still ps s) ≡ still ps s
+still-own sid ps s h = elim (cases_Bool (is_over ps s)) [ inl e ↦ rw e refl | inr e ↦ rw e (rw h refl) ]
+
+pub still-other : (sid : List ℕ) (ps : List Program) (s : Session) → bytes_eq s.sid sid ≡ false → filter (of_sid sid) (still ps s) ≡ []
+still-other sid ps s h = elim (cases_Bool (is_over ps s)) [ inl e ↦ rw e refl | inr e ↦ rw e (rw h refl) ]
+
+pub both_false : (s sid t : List ℕ) → bytes_eq s sid ≡ false → bytes_eq t sid ≡ true → bytes_eq s t ≡ false
+both_false s sid t h k = elim (cases_Bool (bytes_eq s t)) [ inl e ↦ clash (bytes_eq s sid) (subst (λ y. bytes_eq y sid ≡ true) (sym (same_bytes s t e)) k) h | inr e ↦ e ]
+
+-- what an act leaves of a session
+abbrev given : List Opening → List Program → Option Item → Session → List Session
+given os ps o x = option_map_or (λ i. still ps (extended x (Gave i os))) o (x ∷ [])
+
+module _ (sid : List ℕ) (n n' : Node) (b : Beside sid n n') where
+  -- a session is joined
+  own_joined : (s : Session) → bytes_eq s.sid sid ≡ true → Beside sid (joined n s) (joined n' s)
+  own_joined s h = record {
+    keys = b.keys;
+    programs = b.programs;
+    live = rw (b.live, b.programs, filter-append (of_sid sid) n.live (still n.programs s), still-own sid n.programs s h) refl;
+    joins = λ t r k. any-append (λ j. bytes_eq j.0 t && (j.1 == r)) n'.joins n.joins ((s.sid, s.role) ∷ []) (b.joins t r k);
+    fewer = omega (arith, b.fewer, length-snoc n.joins (s.sid, s.role), length-snoc n'.joins (s.sid, s.role));
+  }
+
+  other_joined : (s : Session) → bytes_eq s.sid sid ≡ false → Beside sid (joined n s) n'
+  other_joined s h = record {
+    keys = b.keys;
+    programs = b.programs;
+    live = rw (filter-append (of_sid sid) n.live (still n.programs s), still-other sid n.programs s h, b.live) (sym (append-nil (filter (of_sid sid) n.live)));
+    joins = λ t r k. b.joins t r k ∙ sym (any-snoc (λ j. bytes_eq j.0 t && (j.1 == r)) n.joins (s.sid, s.role) (rw (both_false s.sid sid t h k) refl));
+    fewer = omega (arith, b.fewer, length-snoc n.joins (s.sid, s.role));
+  }
+    where
+      append-nil : {A : Type 0} (xs : List A) → xs ++ [] ≡ xs
+      append-nil [] = refl
+      append-nil (x ∷ xs) = ap (λ l. x ∷ l) (append-nil xs)
+
+  -- a session goes on
+  own_goes_on : (which : Session → Bool) (now : Session → List Session) → ((s : Session) → which s ≡ true → of_sid sid s ≡ true) → ((s : Session) → which s ≡ true → filter (of_sid sid) (now s) ≡ now s) → Beside sid (goes_on n which now) (goes_on n' which now)
+  own_goes_on which now h k = record {
+    keys = b.keys;
+    programs = b.programs;
+    live = rw b.live (replace-own which now h k n.live);
+    joins = b.joins;
+    fewer = b.fewer;
+  }
+
+  other_goes_on : (which : Session → Bool) (now : Session → List Session) → ((s : Session) → which s ≡ true → of_sid sid s ≡ false) → ((s : Session) → which s ≡ true → filter (of_sid sid) (now s) ≡ []) → Beside sid (goes_on n which now) n'
+  other_goes_on which now h k = record {
+    keys = b.keys;
+    programs = b.programs;
+    live = rw b.live (sym (replace-other which now h k n.live));
+    joins = b.joins;
+    fewer = b.fewer;
+  }
+
+  -- a frame was accepted
+  for_own : (f : Frame) (s : Session) → bytes_eq f.sid sid ≡ true → is_for f s ≡ true → bytes_eq s.sid sid ≡ true
+  for_own f s h e = subst (λ y. bytes_eq y sid ≡ true) (sym (same_bytes s.sid f.sid (and_left _ _ (and_left _ _ e)))) h
+
+  for_other : (f : Frame) (s : Session) → bytes_eq f.sid sid ≡ false → is_for f s ≡ true → bytes_eq s.sid sid ≡ false
+  for_other f s h e = subst (λ y. bytes_eq y sid ≡ false) (sym (same_bytes s.sid f.sid (and_left _ _ (and_left _ _ e)))) h
+
+  own_takes : (f : Frame) (o : Option Cast) → bytes_eq f.sid sid ≡ true →
+      Beside sid (option_map_or (λ c. joined n (extended (new_session f.sid c f.receiver) (Took f))) o (goes_on n (is_for f) (λ s. still n.programs (extended s (Took f)))))
+      (option_map_or (λ c. joined n' (extended (new_session f.sid c f.receiver) (Took f))) o (goes_on n' (is_for f) (λ s. still n'.programs (extended s (Took f)))))
+  own_takes f None h = subst (λ ps. Beside sid (goes_on n (is_for f) (λ s. still n.programs (extended s (Took f)))) (goes_on n' (is_for f) (λ s. still ps (extended s (Took f))))) (sym b.programs) (own_goes_on (is_for f) (λ s. still n.programs (extended s (Took f))) (λ s e. for_own f s h e) (λ s e. still-own sid n.programs (extended s (Took f)) (for_own f s h e)))
+  own_takes f (Some c) h = own_joined (extended (new_session f.sid c f.receiver) (Took f)) h
+
+  other_takes : (f : Frame) (o : Option Cast) → bytes_eq f.sid sid ≡ false →
+      Beside sid (option_map_or (λ c. joined n (extended (new_session f.sid c f.receiver) (Took f))) o (goes_on n (is_for f) (λ s. still n.programs (extended s (Took f))))) n'
+  other_takes f None h = other_goes_on (is_for f) (λ s. still n.programs (extended s (Took f))) (λ s e. for_other f s h e) (λ s e. still-other sid n.programs (extended s (Took f)) (for_other f s h e))
+  other_takes f (Some c) h = other_joined (extended (new_session f.sid c f.receiver) (Took f)) h
+
+  own_read : (r : Result Frame ℕ) → is_frame_of sid r ≡ true → Beside sid (takes_read n r) (takes_read n' r)
+  own_read (Err at) h = b
+  own_read (Ok f) h = own_takes f f.join h
+
+  other_read : (r : Result Frame ℕ) → is_frame_of sid r ≡ false → Beside sid (takes_read n r) n'
+  other_read (Err at) h = b
+  other_read (Ok f) h = other_takes f f.join h
+
+  own_deliver : (bs : List ℕ) (a : Answer) → is_frame_of sid (read bs) ≡ true → Beside sid (node_after n (Deliver bs) a) (node_after n' (Deliver bs) a)
+  own_deliver bs (Happened (Received s r label time values joins)) h = own_read (read bs) h
+  own_deliver bs other h = b
+
+  other_deliver : (bs : List ℕ) (a : Answer) → is_frame_of sid (read bs) ≡ false → Beside sid (node_after n (Deliver bs) a) n'
+  other_deliver bs (Happened (Received s r label time values joins)) h = other_read (read bs) h
+  other_deliver bs other h = b
+
+  own_abandon : (s : List ℕ) (a : Answer) → bytes_eq s sid ≡ true → Beside sid (node_after n (Abandon s) a) (node_after n' (Abandon s) a)
+  own_abandon s Left h = own_goes_on (λ x. bytes_eq x.sid s) (λ x. []) (λ x e. subst (λ y. bytes_eq y sid ≡ true) (sym (same_bytes x.sid s e)) h) (λ x e. refl)
+  own_abandon s other h = b
+
+  other_abandon : (s : List ℕ) (a : Answer) → bytes_eq s sid ≡ false → Beside sid (node_after n (Abandon s) a) n'
+  other_abandon s Left h = other_goes_on (λ x. bytes_eq x.sid s) (λ x. []) (λ x e. subst (λ y. bytes_eq y sid ≡ false) (sym (same_bytes x.sid s e)) h) (λ x e. refl)
+  other_abandon s other h = b
+
+  own_act : (s : List ℕ) (label : ℕ) (values : Map Value) (confounders : List (List ℕ)) (a : Answer) → bytes_eq s sid ≡ true → Beside sid (node_after n (Act s label values confounders) a) (node_after n' (Act s label values confounders) a)
+  own_act s label values confounders (Sends e to f) h =
+      subst (λ ps. Beside sid (goes_on n (λ x. bytes_eq x.sid s) (λ x. given (openings_for values confounders) n.programs (last f.items) x)) (goes_on n' (λ x. bytes_eq x.sid s) (λ x. given (openings_for values confounders) ps (last f.items) x))) (sym b.programs) (on_last (last f.items))
+    where
+      mine : (x : Session) → bytes_eq x.sid s ≡ true → bytes_eq x.sid sid ≡ true
+      mine x e = subst (λ y. bytes_eq y sid ≡ true) (sym (same_bytes x.sid s e)) h
+
+      on_last : (o : Option Item) → Beside sid (goes_on n (λ x. bytes_eq x.sid s) (λ x. given (openings_for values confounders) n.programs o x)) (goes_on n' (λ x. bytes_eq x.sid s) (λ x. given (openings_for values confounders) n.programs o x))
+      on_last None = own_goes_on (λ x. bytes_eq x.sid s) (λ x. x ∷ []) mine (λ x e. rw (mine x e) refl)
+      on_last (Some i) = own_goes_on (λ x. bytes_eq x.sid s) (λ x. still n.programs (extended x (Gave i (openings_for values confounders)))) mine (λ x e. still-own sid n.programs (extended x (Gave i (openings_for values confounders))) (mine x e))
+  own_act s label values confounders other h = b
+
+  other_act : (s : List ℕ) (label : ℕ) (values : Map Value) (confounders : List (List ℕ)) (a : Answer) → bytes_eq s sid ≡ false → Beside sid (node_after n (Act s label values confounders) a) n'
+  other_act s label values confounders (Sends e to f) h = on_last (last f.items)
+    where
+      theirs : (x : Session) → bytes_eq x.sid s ≡ true → bytes_eq x.sid sid ≡ false
+      theirs x e = subst (λ y. bytes_eq y sid ≡ false) (sym (same_bytes x.sid s e)) h
+
+      on_last : (o : Option Item) → Beside sid (goes_on n (λ x. bytes_eq x.sid s) (λ x. option_map_or (λ i. still n.programs (extended x (Gave i (openings_for values confounders)))) o (x ∷ []))) n'
+      on_last None = other_goes_on (λ x. bytes_eq x.sid s) (λ x. x ∷ []) theirs (λ x e. rw (theirs x e) refl)
+      on_last (Some i) = other_goes_on (λ x. bytes_eq x.sid s) (λ x. still n.programs (extended x (Gave i (openings_for values confounders)))) theirs (λ x e. still-other sid n.programs (extended x (Gave i (openings_for values confounders))) (theirs x e))
+  other_act s label values confounders other h = b
+
+module _ (sha : Hash) (sid : List ℕ) (n n' : Node) (b : Beside sid n n') where
+  own_started : (c : Cast) (r : ℕ) (o : Option StartFault) → bytes_eq (session_id sha c) sid ≡ true → Beside sid (node_after n (Start c) (started (session_id sha c) r o)) (node_after n' (Start c) (started (session_id sha c) r o))
+  own_started c r None h = own_joined sid n n' b (new_session (session_id sha c) c r) h
+  own_started c r (Some fault) h = b
+
+  other_started : (c : Cast) (r : ℕ) (o : Option StartFault) → bytes_eq (session_id sha c) sid ≡ false → Beside sid (node_after n (Start c) (started (session_id sha c) r o)) n'
+  other_started c r None h = other_joined sid n n' b (new_session (session_id sha c) c r) h
+  other_started c r (Some fault) h = b
+
+  own_start : (c : Cast) (o : Option Program) → bytes_eq (session_id sha c) sid ≡ true →
+      let a : Answer = option_map_or (λ p. started (session_id sha c) p.role (first_some (rows_of_start n p (session_id sha c) c))) o (NotStarted NoGraph) in
+      Beside sid (node_after n (Start c) a) (node_after n' (Start c) a)
+  own_start c None h = b
+  own_start c (Some p) h = own_started c p.role (first_some (rows_of_start n p (session_id sha c) c)) h
+
+  other_start : (c : Cast) (o : Option Program) → bytes_eq (session_id sha c) sid ≡ false →
+      Beside sid (node_after n (Start c) (option_map_or (λ p. started (session_id sha c) p.role (first_some (rows_of_start n p (session_id sha c) c))) o (NotStarted NoGraph))) n'
+  other_start c None h = b
+  other_start c (Some p) h = other_started c p.role (first_some (rows_of_start n p (session_id sha c) c)) h
+
+  own_after : (c : Call) → is_call_of sha sid c ≡ true → Beside sid (node_after n c (answer sha n c)) (node_after n' c (answer sha n c))
+  own_after (Start c) h = own_start c (starter n.programs c.graph) h
+  own_after (Act s label values confounders) h = own_act sid n n' b s label values confounders (answer sha n (Act s label values confounders)) h
+  own_after (Abandon s) h = own_abandon sid n n' b s (answer sha n (Abandon s)) h
+  own_after (Deliver bs) h = own_deliver sid n n' b bs (answer sha n (Deliver bs)) h
+
+  other_after : (c : Call) → is_call_of sha sid c ≡ false → Beside sid (node_after n c (answer sha n c)) n'
+  other_after (Start c) h = other_start c (starter n.programs c.graph) h
+  other_after (Act s label values confounders) h = other_act sid n n' b s label values confounders (answer sha n (Act s label values confounders)) h
+  other_after (Abandon s) h = other_abandon sid n n' b s (answer sha n (Abandon s)) h
+  other_after (Deliver bs) h = other_deliver sid n n' b bs (answer sha n (Deliver bs)) h
+
+-- ---- whole pasts
+
+isolated : (sha : Hash) (sid : List ℕ) (n n' : Node) (cs : List Called) → Beside sid n n' → AreAnswers sha n cs → All (λ c. is_for_room c.answer ≡ false) cs →
+    map (λ c. c.answer) (calls_of sha sid cs) ≡ answers sha n' (map (λ c. c.call) (calls_of sha sid cs))
+isolated sha sid n n' [] b right free = refl
+isolated sha sid n n' (c ∷ cs) b right free = elim (cases_Bool (is_call_of sha sid c.call)) [
+  | inl e ↦ rw e (rw (same e) (ap (λ l. c.answer ∷ l) (isolated sha sid (node_after n c.call c.answer) (node_after n' c.call c.answer) cs (after e) right.1 rest)))
+  | inr e ↦ rw e (isolated sha sid (node_after n c.call c.answer) n' cs
+      (subst (λ a. Beside sid (node_after n c.call a) n') (sym right.0) (other_after sha sid n n' b c.call e)) right.1 rest)
+]
+  where
+    rest : All (λ c. is_for_room c.answer ≡ false) cs
+    rest = All-tail (λ c. is_for_room c.answer ≡ false) c cs free
+
+    same : is_call_of sha sid c.call ≡ true → answer sha n' c.call ≡ c.answer
+    same e = same_answer sha sid n n' b c.call e (subst (λ a. is_for_room a ≡ false) right.0 (All-head (λ c. is_for_room c.answer ≡ false) c cs free)) ∙ sym right.0
+
+    after : is_call_of sha sid c.call ≡ true → Beside sid (node_after n c.call c.answer) (node_after n' c.call c.answer)
+    after e = subst (λ a. Beside sid (node_after n c.call a) (node_after n' c.call a)) (sym right.0) (own_after sha sid n n' b c.call e)
+
+pub sessions_are_isolated : (sha : Hash) → SessionsAreIsolated sha
+sessions_are_isolated sha past sid right free =
+    let n : Node = new_node past.keys past.programs past.first in
+    isolated sha sid n n past.calls (record { keys = refl; programs = refl; live = refl; joins = λ s r h. refl; fewer = omega arith }) right free

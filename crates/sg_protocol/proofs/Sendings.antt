@@ -1,0 +1,627 @@
+-- A receipt from an honest sender has its sending.
+use Rattle.std.specs.Prelude.{◌≡◌, ◌≢◌, ℕ, ◌+◌, ◌==◌, nat_lt, nat_le, All, ◌&&◌, ◌⊎◌, Bool, true, false, not, List, [], ◌∷◌, ◌++◌, map, filter, flat_map, length, find, position, bytes_eq, refl, Option, Some, None, option_map, unwrap_or, IfSome}
+use Rattle.std.specs.List.{list_any, AllByRecursion}
+use Rattle.std.specs.Option.{option_map_or}
+use Rattle.std.proofs.Common.{sym, ◌∙◌, ap, subst, inl, inr}
+use Rattle.std.proofs.lemmas.Bool.{eqb-true}
+use Rattle.std.proofs.lemmas.List.Elements.{All-head, All-tail}
+use Rattle.std.proofs.lemmas.Slice.Eq.{bytes_eq-Decides}
+use Rattle.sg_model.specs.Last.{Map, last}
+use Rattle.sg_model.specs.Lists.{first_some}
+use Rattle.sg_model.specs.Values.{Value}
+use Rattle.sg_protocol.specs.Graph.{Name}
+use Rattle.sg_protocol.specs.Frame.{Cast, spelling, magic, join_code, Item, Frame, HasSpelling, IsItem, AreBytes, IsTag, body}
+use Rattle.sg_protocol.specs.Texts.{Hash, IsHash, frame_text}
+use Rattle.sg_protocol.specs.TextLaws.{IsVersion}
+use Rattle.sg_protocol.specs.Session.{Keyring, Program, Session, Exchange, Took, Gave, principal, told, own_time, time, at_turn, commitments, extended, text_of, text_to, item_checks}
+use Rattle.sg_protocol.specs.Node.{Refusal, BadFrameTag, NoSuchView, BadEvidence, BadOpening, row, rows_of_session, has_frame_tag, is_shown, bad_time, has_item_tag, is_right, Note, note_of, notes_in_session}
+use Rattle.sg_protocol.specs.Run.{Schedule, is_honest, honest_role}
+use Rattle.sg_law.proofs.Upto.{In}
+use Rattle.sg_law.proofs.Take.{contains_from_in}
+use Rattle.sg_protocol.proofs.Moves.{and_parts, not_false, none_parts, row_none, note_text, note_both, in_left, in_right}
+use Rattle.sg_protocol.specs.TextLaws.{untagged}
+use Rattle.sg_protocol.specs.Session.{frame_of, targets_of}
+use Rattle.sg_protocol.specs.Node.{ActFault, rows_of_act, openings_for, notes_of_sent, Notes}
+use Rattle.sg_protocol.proofs.TextLaws.{one_item, one_body, one_frame, kinds_differ}
+use Rattle.std.specs.Prelude.{Result, Ok, Err, option_and_then}
+use Rattle.sg_protocol.specs.Frame.{IsBytes, IsValue, IsOpening, read}
+use Rattle.sg_protocol.specs.Texts.{session_id, session_text}
+use Rattle.sg_protocol.specs.TextLaws.{CastFits}
+use Rattle.sg_protocol.specs.Node.{Node, Event, Started, Sent, Received, Call, Start, Act, Abandon, Deliver, Answer, Happened, Sends, Left, NotStarted, NotActed, StartFault, NoGraph, WrongCast, NoPeer, WasJoined, NoRoomToJoin, NoRoomForSession, NoSession, UnknownGraph, UnknownSession, NotWaiting, BadCast, BadSession, UnknownPeer, Joined, CacheFull, SessionsFull, answer, answer_act, node_after, joined, goes_on, replace, still, is_over, takes_read, is_for, is_cast, stranger, session_with, session_for, has_joined, new_session, program_for, starter, started, acted, decided, sent, receipt, verdict_on, rows_of_start, rows_of_join, rows_of_next, join_rows, next_rows, rows, notes, notes_of_start, notes_of_act, no_notes, notes_of_read, session_of_frame, hashed_of_join, row_number, sid_of}
+use Rattle.sg_protocol.specs.Frame as Frame'
+use Rattle.sg_protocol.proofs.Isolation.{filter-append}
+use Rattle.sg_protocol.proofs.TextLaws.{cast_fits, opening_fits}
+use Rattle.sg_protocol.proofs.ReadBack.{read-Spells}
+use Rattle.sg_protocol.proofs.Acts as C
+use Rattle.sg_protocol.specs.Texts.{cut}
+use Rattle.sg_protocol.specs.Texts.{graph_text}
+use Rattle.sg_protocol.specs.Frame.{u64}
+use Rattle.sg_protocol.specs.Node.{Past, node_of, new_node, past_after}
+use Rattle.sg_protocol.specs.Run.{World, Logged, Outcome, Answered, Crafted, Step, StartStep, ActStep, AbandonStep, DeliverStep, CraftStep, PairKey, past_of, called, called_if, uncalled, world_after, world_after_all, new_world, run, call_of, cast_of, sid_at, bytes_of, confounder, frame_in, keyring_of, events_of, events_of_outcome, crafted, hashed, MadeBefore}
+use Rattle.sg_protocol.specs.Headline.{IsSchedule, IsStep, AreCompiled, Premises}
+use Rattle.sg_law.proofs.Upto.{in_from_Contains}
+use Rattle.sg_protocol.proofs.Calls.{find_passes, find_all}
+use Rattle.sg_protocol.specs.Run.{cast_of_session, cast_in}
+use Rattle.sg_protocol.proofs.TextLaws.{one_opening, one_cast, one_canonical}
+use Rattle.sg_protocol.proofs.TextLaws as TL
+use Rattle.sg_protocol.proofs.Course.{in_flat}
+use Rattle.sg_protocol.proofs.Course.{past_called, next_past, node_more, Suffix, suffix_all, in_after}
+use Rattle.sg_protocol.proofs.Whole.{FirstCast, first_past, found_in}
+use Rattle.sg_protocol.specs.Frame.{IsCastOf, IsTag}
+use Rattle.sg_protocol.proofs.First.{first_cast}
+use Rattle.sg_protocol.proofs.Sent.{FitSession}
+use Rattle.sg_protocol.specs.Session.{key_of, tag_for}
+use Rattle.sg_protocol.specs.Texts.{tag_of}
+use Rattle.sg_protocol.specs.Headline.{ReceiptsHaveSends, IsTaken, WasSent, IsPairKey}
+use Rattle.sg_protocol.proofs.Fits.{Fit, fit_new, fit_next, fit_bytes, fit_sends, casts_fit, ActSent, act_sends}
+use Rattle.sg_protocol.proofs.TextLaws as TL
+
+cases_Bool : (b : Bool) → (b ≡ true) ⊎ (b ≡ false)
+cases_Bool true = inl refl
+cases_Bool false = inr refl
+
+same_bytes_ : (a b : List ℕ) → bytes_eq a b ≡ true → a ≡ b
+same_bytes_ a b h = (bytes_eq-Decides a b).0 h
+
+all_cat : {A : Type 0} (P : A → Type 0) (xs ys : List A) → AllByRecursion P xs → AllByRecursion P ys → AllByRecursion P (xs ++ ys)
+all_cat P [] ys a b = b
+all_cat P (x ∷ xs) ys a b = (a.0, all_cat P xs ys a.1 b)
+
+replace_all : {P : Session → Type 0} (which : Session → Bool) (now : Session → List Session) (xs : List Session) → ((z : Session) → which z ≡ true → P z → AllByRecursion P (now z)) → AllByRecursion P xs → AllByRecursion P (replace which now xs)
+replace_all which now [] f a = tt
+replace_all {P} which now (x ∷ xs) f a = elim (cases_Bool (which x)) [
+  | inl e ↦ rw e (all_cat P (now x) xs (f x e a.0) a.1)
+  | inr e ↦ rw e (a.0, replace_all {P = P} which now xs f a.1)
+]
+
+any_none : (sid : List ℕ) (es : List Event) → filter (λ e. bytes_eq (sid_of e) sid) es ≡ [] → list_any (λ e. bytes_eq (sid_of e) sid) es ≡ false
+any_none sid [] h = refl
+any_none sid (e ∷ es) h = elim (cases_Bool (bytes_eq (sid_of e) sid)) [ inl k ↦ (let f = rw k at h in absurd (cc)) | inr k ↦ rw k (any_none sid es (rw k at h)) ]
+
+both_nil : {A : Type 0} (xs ys : List A) → xs ++ ys ≡ [] → (xs ≡ []) × (ys ≡ [])
+both_nil [] ys e = (refl, e)
+both_nil (x ∷ xs) ys e = absurd (cc)
+
+-- where a session has no event, no entry is of it
+no_entry : (sid : List ℕ) (log : List Logged) → events_of sid log ≡ [] → find (λ (l : Logged). list_any (λ e. bytes_eq (sid_of e) sid) (events_of_outcome l.outcome)) log ≡ None
+no_entry sid [] h = refl
+no_entry sid (l ∷ ls) h =
+    let p = both_nil (filter (λ e. bytes_eq (sid_of e) sid) (events_of_outcome l.outcome)) (events_of sid ls) (sym (filter-append (λ e. bytes_eq (sid_of e) sid) (events_of_outcome l.outcome) (flat_map (λ (l : Logged). events_of_outcome l.outcome) ls)) ∙ h) in
+    rw (any_none sid (events_of_outcome l.outcome) p.0) (no_entry sid ls p.1)
+
+-- ---- a key is shared both ways
+
+key_same : (ks : List PairKey) → AllByRecursion (λ (k : PairKey). k.one ≢ k.two) ks → (a b : Name) → key_of (keyring_of ks a) b ≡ key_of (keyring_of ks b) a
+key_same [] h a b = refl
+key_same (k ∷ ks) h a b = go (cases_Bool (bytes_eq k.one a)) (cases_Bool (bytes_eq k.one b)) (cases_Bool (bytes_eq k.two a)) (cases_Bool (bytes_eq k.two b)) (key_same ks h.1 a b)
+  where
+    differ : (x : Name) → bytes_eq k.one x ≡ true → bytes_eq k.two x ≡ true → ⊥
+    differ x p q = h.0 (same_bytes_ k.one x p ∙ sym (same_bytes_ k.two x q))
+
+    go : ((bytes_eq k.one a ≡ true) ⊎ (bytes_eq k.one a ≡ false)) → ((bytes_eq k.one b ≡ true) ⊎ (bytes_eq k.one b ≡ false)) → ((bytes_eq k.two a ≡ true) ⊎ (bytes_eq k.two a ≡ false)) → ((bytes_eq k.two b ≡ true) ⊎ (bytes_eq k.two b ≡ false)) → key_of (keyring_of ks a) b ≡ key_of (keyring_of ks b) a → key_of (keyring_of (k ∷ ks) a) b ≡ key_of (keyring_of (k ∷ ks) b) a
+    go (inl p) (inl q) (inl r) (inl t) ih = absurd (differ a p r)
+    go (inl p) (inl q) (inl r) (inr t) ih = absurd (differ a p r)
+    go (inl p) (inl q) (inr r) (inl t) ih = absurd (differ b q t)
+    go (inl p) (inl q) (inr r) (inr t) ih = rw (p, q, r, t) ih
+    go (inl p) (inr q) (inl r) (inl t) ih = absurd (differ a p r)
+    go (inl p) (inr q) (inl r) (inr t) ih = absurd (differ a p r)
+    go (inl p) (inr q) (inr r) (inl t) ih = rw (p, q, t, p) refl
+    go (inl p) (inr q) (inr r) (inr t) ih = rw (p, q, t) ih
+    go (inr p) (inl q) (inl r) (inl t) ih = absurd (differ b q t)
+    go (inr p) (inl q) (inl r) (inr t) ih = rw (p, q, r, q) refl
+    go (inr p) (inl q) (inr r) (inl t) ih = absurd (differ b q t)
+    go (inr p) (inl q) (inr r) (inr t) ih = rw (p, q, r) ih
+    go (inr p) (inr q) (inl r) (inl t) ih = rw (p, q, r, t) (rw (q, p) ih)
+    go (inr p) (inr q) (inl r) (inr t) ih = rw (p, q, r, t) (rw q ih)
+    go (inr p) (inr q) (inr r) (inl t) ih = rw (p, q, r, t) (rw p ih)
+    go (inr p) (inr q) (inr r) (inr t) ih = rw (p, q, r, t) ih
+
+module _ (sha : Hash) (hash : IsHash sha) (programs : List Program) (s : Schedule) (compiled : AreCompiled sha s.graphs programs) (sched : IsSchedule sha s) (wf : World) where
+  -- what is known of a live session of a principal
+  pub record Known (who : Name) (x : Session) : Type 0 where
+    pub id : session_id sha x.cast ≡ x.sid
+    pub is_hashed : In (hashed s wf) (session_text x.cast)
+    pub me : principal x.cast x.role ≡ who
+
+  still_known : (who : Name) (ps : List Program) (x : Session) → Known who x → AllByRecursion (Known who) (still ps x)
+  still_known who ps x h = elim (cases_Bool (is_over ps x)) [ inl e ↦ rw e tt | inr e ↦ rw e (h, tt) ]
+
+  more_known : (who : Name) (x : Session) (e : Exchange) → Known who x → Known who (extended x e)
+  more_known who x e h = record { id = h.id; is_hashed = h.is_hashed; me = h.me }
+
+  module _ (who : Name) (n : Node) (me : n.keys.me ≡ who) (live : AllByRecursion (Known who) n.live) where
+    start_known : (c : Cast) → ((t : List ℕ) → In (notes sha n (Start c)).hashed t → In (hashed s wf) t) → AllByRecursion (Known who) (node_after n (Start c) (answer sha n (Start c))).live
+    start_known c hs = by_program (starter n.programs c.graph) hs
+      where
+        by_rows : (p : Program) (o : Option StartFault) → first_some (rows_of_start n p (session_id sha c) c) ≡ o → ((t : List ℕ) → In (notes_of_start c (started (session_id sha c) p.role o)).hashed t → In (hashed s wf) t) → AllByRecursion (Known who) (node_after n (Start c) (started (session_id sha c) p.role o)).live
+        by_rows p (Some f) e hs = live
+        by_rows p None e hs =
+            let one = none_parts (row (not (is_cast n.keys p.graph c p.role)) WrongCast) (option_map NoPeer (stranger n.keys c) ∷ row (has_joined n.joins (session_id sha c) p.role) WasJoined ∷ row (nat_le 65536 (length n.joins)) NoRoomToJoin ∷ row (nat_le 4096 (length n.live)) NoRoomForSession ∷ []) e in
+            let ic : is_cast n.keys p.graph c p.role ≡ true = not_false (is_cast n.keys p.graph c p.role) (row_none _ _ one.0) in
+            all_cat (Known who) n.live (still n.programs (new_session (session_id sha c) c p.role)) live (still_known who n.programs (new_session (session_id sha c) c p.role) record { id = refl; is_hashed = hs (session_text c) (inl refl); me = same_bytes_ (principal c p.role) n.keys.me (and_parts _ (bytes_eq (principal c p.role) n.keys.me) ic).1 ∙ me })
+
+        by_program : (o : Option Program) → let a : Answer = option_map_or (λ (p : Program). started (session_id sha c) p.role (first_some (rows_of_start n p (session_id sha c) c))) o (NotStarted NoGraph) in
+            ((t : List ℕ) → In (notes_of_start c a).hashed t → In (hashed s wf) t) → AllByRecursion (Known who) (node_after n (Start c) a).live
+        by_program None hs = live
+        by_program (Some p) hs = by_rows p (first_some (rows_of_start n p (session_id sha c) c)) refl hs
+
+    abandon_known : (sid0 : List ℕ) (a : Answer) → AllByRecursion (Known who) (node_after n (Abandon sid0) a).live
+    abandon_known sid0 Left = replace_all {P = Known who} (λ (z : Session). bytes_eq z.sid sid0) (λ z. []) n.live (λ z e h. tt) live
+    abandon_known sid0 other = live
+
+    act_known : (sid0 : List ℕ) (label : ℕ) (values : Map Value) (confs : List (List ℕ)) (a : Answer) → AllByRecursion (Known who) (node_after n (Act sid0 label values confs) a).live
+    act_known sid0 label values confs (Sends e to f) = replace_all {P = Known who} (λ (z : Session). bytes_eq z.sid sid0) (λ z. option_map_or (λ (i : Item). still n.programs (extended z (Gave i (openings_for values confs)))) (last f.items) (z ∷ [])) n.live (λ z e h. now z h (last f.items)) live
+      where
+        now : (z : Session) → Known who z → (o : Option Item) → AllByRecursion (Known who) (option_map_or (λ (i : Item). still n.programs (extended z (Gave i (openings_for values confs)))) o (z ∷ []))
+        now z h None = (h, tt)
+        now z h (Some i) = still_known who n.programs _ (more_known who z (Gave i (openings_for values confs)) h)
+    act_known sid0 label values confs other = live
+
+    deliver_known : (bs : List ℕ) → ((t : List ℕ) → In (notes sha n (Deliver bs)).hashed t → In (hashed s wf) t) → AllByRecursion (Known who) (node_after n (Deliver bs) (answer sha n (Deliver bs))).live
+    deliver_known bs hs = go (read bs) refl
+      where
+        took_ : (f : Frame) → first_some (rows sha n f) ≡ None → ((t : List ℕ) → In (notes_of_read sha n (Ok f)).hashed t → In (hashed s wf) t) → (o : Option Cast) → f.join ≡ o → AllByRecursion (Known who) (option_map_or (λ c. joined n (extended (new_session f.sid c f.receiver) (Took f))) o (goes_on n (is_for f) (λ z. still n.programs (extended z (Took f))))).live
+        took_ f e hs None j = replace_all {P = Known who} (is_for f) (λ z. still n.programs (extended z (Took f))) n.live (λ z q h. still_known who n.programs (extended z (Took f)) (more_known who z (Took f) h)) live
+        took_ f e hs (Some c) j = by_program (program_for n.programs c.graph f.receiver) refl
+          where
+            rows_join : (o : Option Program) → program_for n.programs c.graph f.receiver ≡ o → first_some (option_map_or (rows_of_join sha n f c) o (Some UnknownGraph ∷ [])) ≡ None
+            rows_join o pc = sym (ap (λ o. first_some (option_map_or (join_rows sha n f) o (next_rows sha n f))) j ∙ ap (λ o. first_some (option_map_or (rows_of_join sha n f c) o (Some UnknownGraph ∷ []))) pc) ∙ e
+
+            done : (p : Program) → first_some (rows_of_join sha n f c p) ≡ None → AllByRecursion (Known who) (joined n (extended (new_session f.sid c f.receiver) (Took f))).live
+            done p rj =
+                let x : Session = new_session f.sid c f.receiver in
+                let r1 = none_parts (row (not (is_cast n.keys p.graph c f.receiver && nat_lt f.sender (length c.names))) BadCast) (option_map UnknownPeer (stranger n.keys c) ∷ row (not (bytes_eq f.sid (session_id sha c))) BadSession ∷ row (has_joined n.joins f.sid f.receiver) Joined ∷ row (nat_le 65536 (length n.joins)) CacheFull ∷ row (nat_le 4096 (length n.live)) SessionsFull ∷ rows_of_session sha n.keys p x f) rj in
+                let r2 = none_parts (option_map UnknownPeer (stranger n.keys c)) (row (not (bytes_eq f.sid (session_id sha c))) BadSession ∷ row (has_joined n.joins f.sid f.receiver) Joined ∷ row (nat_le 65536 (length n.joins)) CacheFull ∷ row (nat_le 4096 (length n.live)) SessionsFull ∷ rows_of_session sha n.keys p x f) r1.1 in
+                let r3 = none_parts (row (not (bytes_eq f.sid (session_id sha c))) BadSession) (row (has_joined n.joins f.sid f.receiver) Joined ∷ row (nat_le 65536 (length n.joins)) CacheFull ∷ row (nat_le 4096 (length n.live)) SessionsFull ∷ rows_of_session sha n.keys p x f) r2.1 in
+                let ic : is_cast n.keys p.graph c f.receiver ≡ true = (and_parts (is_cast n.keys p.graph c f.receiver) (nat_lt f.sender (length c.names)) (not_false (is_cast n.keys p.graph c f.receiver && nat_lt f.sender (length c.names)) (row_none _ _ r1.0))).0 in
+                let in_hashed : In (notes_of_read sha n (Ok f)).hashed (session_text c) = in_left (hashed_of_join f (row_number (first_some (rows sha n f)))) _ (session_text c) (subst (λ o. In (hashed_of_join f (row_number o)) (session_text c)) (sym e) (subst (λ o. In (option_map_or (λ c. session_text c ∷ []) o []) (session_text c)) (sym j) (inl refl))) in
+                all_cat (Known who) n.live (still n.programs (extended x (Took f))) live (still_known who n.programs (extended x (Took f)) record { id = sym (same_bytes_ f.sid (session_id sha c) (not_false (bytes_eq f.sid (session_id sha c)) (row_none _ _ r3.0))); is_hashed = hs (session_text c) in_hashed; me = same_bytes_ (principal c f.receiver) n.keys.me (and_parts _ (bytes_eq (principal c f.receiver) n.keys.me) ic).1 ∙ me })
+
+            by_program : (o : Option Program) → program_for n.programs c.graph f.receiver ≡ o → AllByRecursion (Known who) (joined n (extended (new_session f.sid c f.receiver) (Took f))).live
+            by_program None pc = (let q : Some UnknownGraph ≡ None = rows_join None pc in absurd (cc))
+            by_program (Some p) pc = done p (rows_join (Some p) pc)
+
+        by_rows : (f : Frame) → read bs ≡ Ok f → (o : Option Refusal) → first_some (rows sha n f) ≡ o → AllByRecursion (Known who) (node_after n (Deliver bs) (decided (receipt f) o)).live
+        by_rows f e None q = subst (λ r. AllByRecursion (Known who) (takes_read n r).live) (sym e) (took_ f q (subst (λ r. (t : List ℕ) → In (notes_of_read sha n r).hashed t → In (hashed s wf) t) e hs) f.join refl)
+        by_rows f e (Some r) q = live
+
+        go : (r : Result Frame ℕ) → read bs ≡ r → AllByRecursion (Known who) (node_after n (Deliver bs) (answer sha n (Deliver bs))).live
+        go (Err at) e = subst (λ r. AllByRecursion (Known who) (node_after n (Deliver bs) (verdict_on sha n r)).live) (sym e) live
+        go (Ok f) e = subst (λ r. AllByRecursion (Known who) (node_after n (Deliver bs) (verdict_on sha n r)).live) (sym e) (by_rows f e (first_some (rows sha n f)) refl)
+
+    pub call_known : (c : Call) → ((t : List ℕ) → In (notes sha n c).hashed t → In (hashed s wf) t) → AllByRecursion (Known who) (node_after n c (answer sha n c)).live
+    call_known (Start c) hs = start_known c hs
+    call_known (Act sid0 label values confs) hs = act_known sid0 label values confs (answer sha n (Act sid0 label values confs))
+    call_known (Abandon sid0) hs = abandon_known sid0 (answer sha n (Abandon sid0))
+    call_known (Deliver bs) hs = deliver_known bs hs
+
+  takes_keys : (n : Node) (f : Frame) (o : Option Cast) → (option_map_or (λ c. joined n (extended (new_session f.sid c f.receiver) (Took f))) o (goes_on n (is_for f) (λ z. still n.programs (extended z (Took f))))).keys ≡ n.keys
+  takes_keys n f None = refl
+  takes_keys n f (Some c) = refl
+
+  read_keys : (n : Node) (r : Result Frame ℕ) → (takes_read n r).keys ≡ n.keys
+  read_keys n (Err at) = refl
+  read_keys n (Ok f) = takes_keys n f f.join
+
+  keys_after : (n : Node) (c : Call) (a : Answer) → (node_after n c a).keys ≡ n.keys
+  keys_after n (Start c) (Happened (Started sid r)) = refl
+  keys_after n (Act sid label values confounders) (Sends e to f) = refl
+  keys_after n (Abandon sid) Left = refl
+  keys_after n (Deliver bs) (Happened (Received sid r label time values joins)) = read_keys n (read bs)
+  keys_after n c other = refl
+
+  -- where an entry of the log comes from
+  record Origin (l : Logged) (c : Call) : Type 0 where
+    who : Name
+    n : Node
+    is_who : l.who ≡ Some who
+    is_outcome : l.outcome ≡ Answered (answer sha n c)
+    is_frame : l.frame ≡ frame_in (answer sha n c)
+    is_notes : l.notes ≡ notes sha n c
+    its_keys : n.keys ≡ keyring_of s.keys who
+    hon : is_honest s who ≡ true
+    live_fit : AllByRecursion FitSession n.live
+    known_ : AllByRecursion (Known who) n.live
+    spelled : (e : Event) (to : Name) (f : Frame) → answer sha n c ≡ Sends e to f → HasSpelling f
+    bytes : (bs : List ℕ) → c ≡ Deliver bs → IsBytes bs
+
+  abbrev Fit_ : World → Type 0
+  Fit_ w = Fit sha hash programs s compiled sched w
+
+  record LogsOk (w : World) : Type 0 where
+    logs : (l : Logged) (c : Call) → In w.log l → l.call ≡ Some c → Origin l c
+    quiet : (l : Logged) (nt : Note) → In w.log l → l.call ≡ None → In l.notes.made nt → ⊥
+    nodes : (who : Name) (p : Past) → past_of w who ≡ Some p → ((node_of p).keys ≡ keyring_of s.keys who) × (is_honest s who ≡ true) × AllByRecursion (Known who) (node_of p).live
+    fit : Fit_ w
+
+  idle_logs : (w : World) (k : ℕ) (x : Step) → Fit_ (world_after sha s w k x) → (who : Option Name) (o : Outcome) (fr : Option (List ℕ)) → world_after sha s w k x ≡ uncalled w k who o fr → LogsOk w → LogsOk (world_after sha s w k x)
+  idle_logs w k x fit' who o fr e q = subst LogsOk (sym e) record {
+    logs = λ l c i j. elim (C.in_parts w.log _ l i) [ inl a ↦ q.logs l c a j | inr a ↦ elim a [ inl b ↦ (let h : None ≡ Some c = ap (λ (z : Logged). z.call) (sym b) ∙ j in absurd (cc)) | inr b ↦ absurd b ] ];
+    quiet = λ l nt i j k'. elim (C.in_parts w.log _ l i) [ inl a ↦ q.quiet l nt a j k' | inr a ↦ elim a [ inl b ↦ absurd (subst (λ (z : Logged). In z.notes.made nt) b k') | inr b ↦ absurd b ] ];
+    nodes = q.nodes;
+    fit = subst Fit_ e fit';
+  }
+
+  me_is : (who : Name) (n : Node) → n.keys ≡ keyring_of s.keys who → n.keys.me ≡ who
+  me_is who n e = ap (λ (z : Keyring). z.me) e
+
+  call_bytes : (w : World) → Fit_ w → (k : ℕ) (x : Step) → IsStep sha s x → (c : Call) → call_of sha s w k x ≡ Some c → (bs : List ℕ) → c ≡ Deliver bs → IsBytes bs
+  call_bytes w fit k (DeliverStep who what) good c e bs e2 = go (bytes_of w what) refl e
+    where
+      go : (o : Option (List ℕ)) → bytes_of w what ≡ o → option_map Deliver o ≡ Some c → IsBytes bs
+      go None q e = absurd (cc)
+      go (Some zs) q e = (let r : Deliver zs ≡ Deliver bs = (let a : Deliver zs ≡ c = cc in a ∙ e2) in let r' : zs ≡ bs = cc in fit_bytes sha hash programs s compiled sched w fit who what bs good (q ∙ ap (λ z. Some z) r'))
+  call_bytes w fit k (StartStep who n') good c e bs e2 = go (cast_of s n') e
+    where
+      go : (o : Option Cast) → option_map Start o ≡ Some c → IsBytes bs
+      go None e = absurd (cc)
+      go (Some d) e = (let a : Start d ≡ c = cc in let b : Start d ≡ Deliver bs = a ∙ e2 in absurd (cc))
+  call_bytes w fit k (ActStep who n' label values) good c e bs e2 = absurd (let a : Act (sid_at sha s n') label values (map (λ (v : ℕ × Value). confounder k v.0) values) ≡ c = cc in let b : Act (sid_at sha s n') label values (map (λ (v : ℕ × Value). confounder k v.0) values) ≡ Deliver bs = a ∙ e2 in cc)
+  call_bytes w fit k (AbandonStep who n') good c e bs e2 = absurd (let a : Abandon (sid_at sha s n') ≡ c = cc in let b : Abandon (sid_at sha s n') ≡ Deliver bs = a ∙ e2 in cc)
+  call_bytes w fit k (CraftStep cr) good c e bs e2 = absurd (cc)
+
+  called_logs : (w : World) (k : ℕ) (x : Step) → IsStep sha s x → LogsOk w → (who : Name) (past : Past) → past_of w who ≡ Some past → (c : Call) → call_of sha s w k x ≡ Some c → Fit_ (called sha w k who c past) → Suffix (k + 1) (called sha w k who c past).log wf.log → LogsOk (called sha w k who c past)
+  called_logs w k x good q who past its_past c e fit' after = record {
+    logs = λ l d i j. elim (C.in_parts w.log _ l i) [
+      | inl a ↦ q.logs l d a j
+      | inr a ↦ elim a [ inl b ↦ (let h : Some c ≡ Some d = ap (λ (z : Logged). z.call) (sym b) ∙ j in let h' : c ≡ d = cc in subst (λ z. Origin z d) (sym b) (subst (Origin entry_) h' origin)) | inr b ↦ absurd b ]
+    ];
+    quiet = λ l nt i j k'. elim (C.in_parts w.log _ l i) [ inl a ↦ q.quiet l nt a j k' | inr a ↦ elim a [ inl b ↦ (let h : Some c ≡ None = ap (λ (z : Logged). z.call) (sym b) ∙ j in absurd (cc)) | inr b ↦ absurd b ] ];
+    nodes = λ me p' e'. nodes_ me p' (past_of w me) refl (sym (past_called sha w k who c past me) ∙ e');
+    fit = fit';
+  }
+    where
+      entry_ : Logged
+      entry_ = record { number = k; who = Some who; call = Some c; outcome = Answered (answer sha (node_of past) c); frame = frame_in (answer sha (node_of past) c); notes = notes sha (node_of past) c }
+
+      hs : (t : List ℕ) → In (notes sha (node_of past) c).hashed t → In (hashed s wf) t
+      hs t i = in_right (map graph_text s.graphs) (flat_map (λ (l : Logged). l.notes.hashed) wf.log) t (in_flat (λ (l : Logged). l.notes.hashed) wf.log (record { number = k; who = Some who; call = Some c; outcome = Answered (answer sha (node_of past) c); frame = frame_in (answer sha (node_of past) c); notes = notes sha (node_of past) c }) t
+          (in_after (k + 1) (called sha w k who c past).log wf.log after (record { number = k; who = Some who; call = Some c; outcome = Answered (answer sha (node_of past) c); frame = frame_in (answer sha (node_of past) c); notes = notes sha (node_of past) c }) (C.in_last w.log (record { number = k; who = Some who; call = Some c; outcome = Answered (answer sha (node_of past) c); frame = frame_in (answer sha (node_of past) c); notes = notes sha (node_of past) c }))) i)
+
+      origin : Origin (record { number = k; who = Some who; call = Some c; outcome = Answered (answer sha (node_of past) c); frame = frame_in (answer sha (node_of past) c); notes = notes sha (node_of past) c }) c
+      origin = record {
+        who = who;
+        n = node_of past;
+        is_who = refl;
+        is_outcome = refl;
+        is_frame = refl;
+        is_notes = refl;
+        its_keys = (q.nodes who past its_past).0;
+        hon = (q.nodes who past its_past).1;
+        live_fit = (q.fit.nodes who past its_past).1;
+        known_ = (q.nodes who past its_past).2;
+        spelled = λ ev to f a. fit_sends sha hash programs s compiled sched w q.fit k x who past c ev to f good its_past e a;
+        bytes = call_bytes w q.fit k x good c e;
+      }
+
+      nodes_ : (me : Name) (p' : Past) (o : Option Past) → past_of w me ≡ o → option_map (next_past sha who c) o ≡ Some p' → ((node_of p').keys ≡ keyring_of s.keys me) × (is_honest s me ≡ true) × AllByRecursion (Known me) (node_of p').live
+      nodes_ me p' None q' e' = absurd (cc)
+      nodes_ me p' (Some y) q' e' =
+          let r : next_past sha who c y ≡ p' = cc in
+          let is_me : y.keys.me ≡ me = same_bytes_ y.keys.me me (find_passes (λ (z : Past). bytes_eq z.keys.me me) w.pasts y q') in
+          elim (cases_Bool (bytes_eq y.keys.me who)) [
+            | inl h ↦
+                let same : me ≡ who = sym is_me ∙ same_bytes_ y.keys.me who h in
+                let two : Some y ≡ Some past = sym q' ∙ ap (past_of w) same ∙ its_past in
+                let y_past : y ≡ past = cc in
+                let after_ : past_after sha past c ≡ p' = ap (λ z. past_after sha z c) (sym y_past) ∙ (rw h at r) in
+                let node_is : node_of p' ≡ node_after (node_of past) c (answer sha (node_of past) c) = ap node_of (sym after_) ∙ node_more (new_node past.keys past.programs past.first) past.calls (record { call = c; answer = answer sha (node_of past) c }) in
+                let old = q.nodes who past its_past in (
+                  ap (λ (m : Node). m.keys) node_is ∙ keys_after (node_of past) c (answer sha (node_of past) c) ∙ old.0 ∙ ap (keyring_of s.keys) (sym same),
+                  ap (is_honest s) same ∙ old.1,
+                  subst (λ z. AllByRecursion (Known z) (node_of p').live) (sym same) (subst (λ (m : Node). AllByRecursion (Known who) m.live) (sym node_is) (call_known who (node_of past) (me_is who (node_of past) old.0) old.2 c hs)),
+                )
+            | inr h ↦ (let r' : y ≡ p' = rw h at r in subst (λ z. ((node_of z).keys ≡ keyring_of s.keys me) × (is_honest s me ≡ true) × AllByRecursion (Known me) (node_of z).live) r' (q.nodes me y q'))
+          ]
+
+  past_logs : (w : World) (k : ℕ) (x : Step) → IsStep sha s x → LogsOk w → (who : Name) (o : Option Past) → past_of w who ≡ o → (c : Option Call) → call_of sha s w k x ≡ c → Fit_ (option_map_or (called_if sha w k who c) o w) → Suffix (k + 1) (option_map_or (called_if sha w k who c) o w).log wf.log → LogsOk (option_map_or (called_if sha w k who c) o w)
+  past_logs w k x good q who None e c e2 fit' after = q
+  past_logs w k x good q who (Some past) e None e2 fit' after = record {
+    logs = λ l d i j. elim (C.in_parts w.log _ l i) [ inl a ↦ q.logs l d a j | inr a ↦ elim a [ inl b ↦ (let h : None ≡ Some d = ap (λ (z : Logged). z.call) (sym b) ∙ j in absurd (cc)) | inr b ↦ absurd b ] ];
+    quiet = λ l nt i j k'. elim (C.in_parts w.log _ l i) [ inl a ↦ q.quiet l nt a j k' | inr a ↦ elim a [ inl b ↦ absurd (subst (λ (z : Logged). In z.notes.made nt) b k') | inr b ↦ absurd b ] ];
+    nodes = q.nodes;
+    fit = fit';
+  }
+  past_logs w k x good q who (Some past) e (Some c) e2 fit' after = called_logs w k x good q who past e c e2 fit' after
+
+  step_logs : (w : World) (k : ℕ) (x : Step) → IsStep sha s x → LogsOk w → Fit_ (world_after sha s w k x) → Suffix (k + 1) (world_after sha s w k x).log wf.log → LogsOk (world_after sha s w k x)
+  step_logs w k (CraftStep c) good q fit' after = idle_logs w k (CraftStep c) fit' None Crafted (option_map spelling (crafted sha s w c)) refl q
+  step_logs w k (StartStep who n') good q fit' after = past_logs w k (StartStep who n') good q who (past_of w who) refl (call_of sha s w k (StartStep who n')) refl fit' after
+  step_logs w k (ActStep who n' label values) good q fit' after = past_logs w k (ActStep who n' label values) good q who (past_of w who) refl (call_of sha s w k (ActStep who n' label values)) refl fit' after
+  step_logs w k (AbandonStep who n') good q fit' after = past_logs w k (AbandonStep who n') good q who (past_of w who) refl (call_of sha s w k (AbandonStep who n')) refl fit' after
+  step_logs w k (DeliverStep who what) good q fit' after = past_logs w k (DeliverStep who what) good q who (past_of w who) refl (call_of sha s w k (DeliverStep who what)) refl fit' after
+
+  all_logs : (w : World) (k : ℕ) (xs : List Step) → AllByRecursion (IsStep sha s) xs → LogsOk w → world_after_all sha s w k xs ≡ wf → LogsOk wf
+  all_logs w k [] good q e = subst LogsOk e q
+  all_logs w k (x ∷ xs) good q e =
+      all_logs (world_after sha s w k x) (k + 1) xs good.1 (step_logs w k x good.0 q (fit_next sha hash programs s compiled sched w k x q.fit good.0) (subst (λ (z : World). Suffix (k + 1) (world_after sha s w k x).log z.log) e (suffix_all sha s (world_after sha s w k x) (k + 1) xs))) e
+
+  new_logs : LogsOk (new_world programs s)
+  new_logs = record {
+    logs = λ l c i j. absurd i;
+    quiet = λ l nt i j k. absurd i;
+    nodes = λ who p e. let r = first_past s.keys programs s.honest who p e in subst (λ (z : Past). ((node_of z).keys ≡ keyring_of s.keys who) × (is_honest s who ≡ true) × AllByRecursion (Known who) (node_of z).live) (sym r.0) (refl, r.1, tt);
+    fit = fit_new sha hash programs s compiled sched;
+  }
+
+  -- ---- what a receipt checked
+
+  record Took_ (who : Name) (n : Node) (f : Frame) (nts : Notes) : Type 0 where
+    cast : Cast
+    fits : CastFits cast
+    id : session_id sha cast ≡ f.sid
+    is_hashed : In (hashed s wf) (session_text cast)
+    me : principal cast f.receiver ≡ who
+    version : cast.version ≡ f.version
+    found : In nts.found (note_of n.keys.me (principal cast f.sender) (text_of f))
+    tag_is : tag_for sha n.keys cast f.sender (text_of f) ≡ f.tag
+
+  tag_row : (keys : Keyring) (p : Program) (x : Session) (f : Frame) → first_some (rows_of_session sha keys p x f) ≡ None → tag_for sha keys x.cast f.sender (text_of f) ≡ f.tag
+  tag_row keys p x f h =
+      let one = none_parts (row (not (has_frame_tag sha keys x f)) BadFrameTag) (row (not (is_shown p x f)) NoSuchView ∷ bad_time 1 (own_time x) f.items ∷ option_map (λ n. BadEvidence (n + 1)) (position (λ c. not (has_item_tag sha keys x c)) (item_checks p.graph x f)) ∷ option_map (λ o. BadOpening o.variable) (find (λ o. not (is_right sha p.graph x f o)) f.openings) ∷ []) h in
+      same_bytes_ (tag_for sha keys x.cast f.sender (text_of f)) f.tag (and_parts (nat_lt f.sender (length x.cast.names)) (bytes_eq (tag_for sha keys x.cast f.sender (text_of f)) f.tag) (not_false (has_frame_tag sha keys x f) (row_none _ _ one.0))).1
+
+  module _ (who : Name) (n : Node) (me : n.keys.me ≡ who) (live : AllByRecursion (Known who) n.live) (fit : AllByRecursion FitSession n.live) (f : Frame) (spelled : HasSpelling f) (none : first_some (rows sha n f) ≡ None)
+      (hs : (t : List ℕ) → In (notes_of_read sha n (Ok f)).hashed t → In (hashed s wf) t) where
+    abbrev nts_in : ℕ → Option (Program × Session) → Notes
+    nts_in k o = option_map_or (λ (y : Program × Session). notes_in_session sha n.keys y.0 y.1 f k) o no_notes
+
+    note_there : (p : Program) (x : Session) → session_of_frame n f ≡ Some (p, x) → In (notes_of_read sha n (Ok f)).found (note_of n.keys.me (principal x.cast f.sender) (text_of f))
+    note_there p x e = subst (λ o. In (nts_in (row_number o) (session_of_frame n f)).found (note_of n.keys.me (principal x.cast f.sender) (text_of f))) (sym none) (subst (λ o. In (nts_in 16 o).found (note_of n.keys.me (principal x.cast f.sender) (text_of f))) (sym e) (inl refl))
+
+    took_join : (c : Cast) → f.join ≡ Some c → (o : Option Program) → program_for n.programs c.graph f.receiver ≡ o → first_some (option_map_or (rows_of_join sha n f c) o (Some UnknownGraph ∷ [])) ≡ None → Took_ who n f (notes_of_read sha n (Ok f))
+    took_join c j None pc e = absurd (cc)
+    took_join c j (Some p) pc e =
+        let x : Session = new_session f.sid c f.receiver in
+        let r1 = none_parts (row (not (is_cast n.keys p.graph c f.receiver && nat_lt f.sender (length c.names))) BadCast) (option_map UnknownPeer (stranger n.keys c) ∷ row (not (bytes_eq f.sid (session_id sha c))) BadSession ∷ row (has_joined n.joins f.sid f.receiver) Joined ∷ row (nat_le 65536 (length n.joins)) CacheFull ∷ row (nat_le 4096 (length n.live)) SessionsFull ∷ rows_of_session sha n.keys p x f) e in
+        let r2 = none_parts (option_map UnknownPeer (stranger n.keys c)) (row (not (bytes_eq f.sid (session_id sha c))) BadSession ∷ row (has_joined n.joins f.sid f.receiver) Joined ∷ row (nat_le 65536 (length n.joins)) CacheFull ∷ row (nat_le 4096 (length n.live)) SessionsFull ∷ rows_of_session sha n.keys p x f) r1.1 in
+        let r3 = none_parts (row (not (bytes_eq f.sid (session_id sha c))) BadSession) (row (has_joined n.joins f.sid f.receiver) Joined ∷ row (nat_le 65536 (length n.joins)) CacheFull ∷ row (nat_le 4096 (length n.live)) SessionsFull ∷ rows_of_session sha n.keys p x f) r2.1 in
+        let r4 = none_parts (row (has_joined n.joins f.sid f.receiver) Joined) (row (nat_le 65536 (length n.joins)) CacheFull ∷ row (nat_le 4096 (length n.live)) SessionsFull ∷ rows_of_session sha n.keys p x f) r3.1 in
+        let r5 = none_parts (row (nat_le 65536 (length n.joins)) CacheFull) (row (nat_le 4096 (length n.live)) SessionsFull ∷ rows_of_session sha n.keys p x f) r4.1 in
+        let r6 = none_parts (row (nat_le 4096 (length n.live)) SessionsFull) (rows_of_session sha n.keys p x f) r5.1 in
+        let ic : is_cast n.keys p.graph c f.receiver ≡ true = (and_parts (is_cast n.keys p.graph c f.receiver) (nat_lt f.sender (length c.names)) (not_false (is_cast n.keys p.graph c f.receiver && nat_lt f.sender (length c.names)) (row_none _ _ r1.0))).0 in
+        let co = subst (λ o. IfSome o (IsCastOf f.version)) j spelled.join in
+        let sess : session_of_frame n f ≡ Some (p, x) = ap (λ o. option_and_then (λ (z : Session). option_map (λ (q : Program). (q, z)) (program_for n.programs z.cast.graph z.role)) (option_map_or (λ c. Some (new_session f.sid c f.receiver)) o (session_for n.live f))) j ∙ ap (λ o. option_map (λ (q : Program). (q, x)) o) pc in
+        record {
+          cast = c;
+          fits = TL.cast_fits c (subst IsVersion (sym co.version) spelled.version) (subst (λ v. IsCastOf v c) (sym co.version) co);
+          id = sym (same_bytes_ f.sid (session_id sha c) (not_false (bytes_eq f.sid (session_id sha c)) (row_none _ _ r3.0)));
+          is_hashed = hs (session_text c) (in_left (hashed_of_join f (row_number (first_some (rows sha n f)))) _ (session_text c) (subst (λ o. In (hashed_of_join f (row_number o)) (session_text c)) (sym none) (subst (λ o. In (option_map_or (λ c. session_text c ∷ []) o []) (session_text c)) (sym j) (inl refl))));
+          me = same_bytes_ (principal c f.receiver) n.keys.me (and_parts _ (bytes_eq (principal c f.receiver) n.keys.me) ic).1 ∙ me;
+          version = co.version;
+          found = note_there p x sess;
+          tag_is = tag_row n.keys p x f r6.1;
+        }
+
+    took_next : f.join ≡ None → (o : Option Session) → session_for n.live f ≡ o → first_some (option_map_or (λ z. option_map_or (rows_of_next sha n f z) (program_for n.programs z.cast.graph z.role) (Some UnknownSession ∷ [])) o (Some UnknownSession ∷ [])) ≡ None → Took_ who n f (notes_of_read sha n (Ok f))
+    took_next j None sx e = absurd (cc)
+    took_next j (Some x) sx e = by_program (program_for n.programs x.cast.graph x.role) refl e
+      where
+        by_program : (o : Option Program) → program_for n.programs x.cast.graph x.role ≡ o → first_some (option_map_or (rows_of_next sha n f x) o (Some UnknownSession ∷ [])) ≡ None → Took_ who n f (notes_of_read sha n (Ok f))
+        by_program None px e = absurd (cc)
+        by_program (Some p) px e =
+            let r1 = none_parts (row (at_turn p.graph x) NotWaiting) (rows_of_session sha n.keys p x f) e in
+            let k : Known who x = find_all (is_for f) (Known who) n.live x live sx in
+            let fx : FitSession x = find_all (is_for f) FitSession n.live x fit sx in
+            let w1 = and_parts (bytes_eq x.sid f.sid && (x.role == f.receiver)) (x.cast.version == f.version) (find_passes (is_for f) n.live x sx) in
+            let w2 = and_parts (bytes_eq x.sid f.sid) (x.role == f.receiver) w1.0 in
+            let sess : session_of_frame n f ≡ Some (p, x) = ap (λ o. option_and_then (λ (z : Session). option_map (λ (q : Program). (q, z)) (program_for n.programs z.cast.graph z.role)) (option_map_or (λ c. Some (new_session f.sid c f.receiver)) o (session_for n.live f))) j
+            ∙ ap (λ o. option_and_then (λ (z : Session). option_map (λ (q : Program). (q, z)) (program_for n.programs z.cast.graph z.role)) o) sx ∙ ap (λ o. option_map (λ (q : Program). (q, x)) o) px in
+            record {
+              cast = x.cast;
+              fits = TL.cast_fits x.cast fx.version fx.cast;
+              id = k.id ∙ same_bytes_ x.sid f.sid w2.0;
+              is_hashed = k.is_hashed;
+              me = ap (principal x.cast) (sym (eqb-true x.role f.receiver w2.1)) ∙ k.me;
+              version = eqb-true x.cast.version f.version w1.1;
+              found = note_there p x sess;
+              tag_is = tag_row n.keys p x f r1.1;
+            }
+
+    took : Took_ who n f (notes_of_read sha n (Ok f))
+    took = by_join f.join refl
+      where
+        by_join : (o : Option Cast) → f.join ≡ o → Took_ who n f (notes_of_read sha n (Ok f))
+        by_join None j = took_next j (session_for n.live f) refl (sym (ap (λ o. first_some (option_map_or (join_rows sha n f) o (next_rows sha n f))) j) ∙ none)
+        by_join (Some c) j = took_join c j (program_for n.programs c.graph f.receiver) refl (sym (ap (λ o. first_some (option_map_or (join_rows sha n f) o (next_rows sha n f))) j) ∙ none)
+
+  -- ---- where a note was made
+
+  act_event : (n : Node) (sid0 : List ℕ) (label : ℕ) (values : Map Value) (confs : List (List ℕ)) (e : Event) (to : Name) (f : Frame) → answer sha n (Act sid0 label values confs) ≡ Sends e to f → sid_of e ≡ f.sid
+  act_event n sid0 label values confs e to f a = by_session (session_with n.live sid0) a
+    where
+      by_rows : (x : Session) (p : Program) (o : Option ActFault) → acted (sent sha n.keys p x label values confs) o ≡ Sends e to f → sid_of e ≡ f.sid
+      by_rows x p (Some fault) a = absurd (cc)
+      by_rows x p None a =
+          let q : Sent x.sid x.role label (time x + 1) values ≡ e = cc in
+          let r : frame_of sha n.keys p x label (openings_for values confs) ≡ f = cc in
+          ap sid_of (sym q) ∙ ap (λ (z : Frame). z.sid) r
+
+      by_session : (o : Option Session) → option_map_or (λ x. option_map_or (λ p. acted (sent sha n.keys p x label values confs) (first_some (rows_of_act p x label values))) (program_for n.programs x.cast.graph x.role) (NotActed NoSession)) o (NotActed NoSession) ≡ Sends e to f → sid_of e ≡ f.sid
+      by_session None a = absurd (cc)
+      by_session (Some x) a = by_program (program_for n.programs x.cast.graph x.role) a
+        where
+          by_program : (o : Option Program) → option_map_or (λ p. acted (sent sha n.keys p x label values confs) (first_some (rows_of_act p x label values))) o (NotActed NoSession) ≡ Sends e to f → sid_of e ≡ f.sid
+          by_program None a = absurd (cc)
+          by_program (Some p) a = by_rows x p (first_some (rows_of_act p x label values)) a
+
+  record Gave_ (n : Node) (c : Call) (text : List ℕ) : Type 0 where
+    e : Event
+    to : Name
+    f : Frame
+    x : Session
+    there : In n.live x
+    is_answer : answer sha n c ≡ Sends e to f
+    same_sid : sid_of e ≡ f.sid
+    sid_is : f.sid ≡ x.sid
+    sender_is : f.sender ≡ x.role
+    tag_is : f.tag ≡ tag_for sha n.keys x.cast f.receiver (text_of f)
+    is_text : text ≡ text_of f
+
+  gave_ : (n : Node) (c : Call) (nt : Note) (v : ℕ) (body_ : List ℕ) → In (notes sha n c).made nt → nt.text ≡ frame_text v body_ → Gave_ n c nt.text
+  gave_ n (Start c) nt v b i t = absurd (start_none c (answer sha n (Start c)) nt i)
+    where
+      start_none : (c : Cast) (a : Answer) (nt : Note) → In (notes_of_start c a).made nt → ⊥
+      start_none c (NotStarted NoGraph) nt i = i
+      start_none c (NotStarted WrongCast) nt i = i
+      start_none c (NotStarted (NoPeer name)) nt i = i
+      start_none c other nt i = i
+  gave_ n (Abandon sid0) nt v b i t = absurd i
+  gave_ n (Deliver bs) nt v b i t = absurd (go (read bs) i)
+    where
+      made_none : (f : Frame) (k : ℕ) (o : Option (Program × Session)) → In (option_map_or (λ (y : Program × Session). notes_in_session sha n.keys y.0 y.1 f k) o no_notes).made nt → ⊥
+      made_none f k None i = i
+      made_none f k (Some y) i = i
+
+      go : (r : Result Frame ℕ) → In (notes_of_read sha n r).made nt → ⊥
+      go (Err at) i = i
+      go (Ok f) i = made_none f (row_number (first_some (rows sha n f))) (session_of_frame n f) i
+  gave_ n (Act sid0 label values confs) nt v b i t = by_answer (answer_act sha n sid0 label values confs) refl i
+    where
+      by_answer : (a : Answer) → answer_act sha n sid0 label values confs ≡ a → In (notes_of_act n sid0 (openings_for values confs) a).made nt → Gave_ n (Act sid0 label values confs) nt.text
+      by_answer (Sends e to f) q i =
+          let a : ActSent sha hash programs s compiled sched n sid0 label values confs f = act_sends sha hash programs s compiled sched n sid0 label values confs e to f q in
+          let nts' : In (notes_of_sent n.keys a.p a.x f (openings_for values confs)).made nt = i_of a.x a.p f (program_for n.programs (a.x).cast.graph (a.x).role) a.found_p (subst (λ o. In (option_map_or (λ z. option_map_or (λ p. notes_of_sent n.keys p z f (openings_for values confs)) (program_for n.programs z.cast.graph z.role) no_notes) o no_notes).made nt) a.found i) in
+          record {
+            e = e;
+            to = to;
+            f = f;
+            x = a.x;
+            there = found_in (λ (z : Session). bytes_eq z.sid sid0) n.live a.x a.found;
+            is_answer = q;
+            same_sid = act_event n sid0 label values confs e to f q;
+            sid_is = ap (λ (z : Frame). z.sid) (sym a.its);
+            sender_is = ap (λ (z : Frame). z.sender) (sym a.its);
+            tag_is = subst (λ (z : Frame). z.tag ≡ tag_for sha n.keys (a.x).cast z.receiver (text_of z)) a.its refl;
+            is_text = of_sent a.x a.p f nts';
+          }
+        where
+          i_of : (x : Session) (p : Program) (f : Frame) (o : Option Program) → o ≡ Some p → In (option_map_or (λ p. notes_of_sent n.keys p x f (openings_for values confs)) o no_notes).made nt → In (notes_of_sent n.keys p x f (openings_for values confs)).made nt
+          i_of x p f o e i = subst (λ o. In (option_map_or (λ p. notes_of_sent n.keys p x f (openings_for values confs)) o no_notes).made nt) e i
+
+          of_sent : (x : Session) (p : Program) (f : Frame) → In (notes_of_sent n.keys p x f (openings_for values confs)).made nt → nt.text ≡ text_of f
+          of_sent x p f i = elim (C.in_parts _ (note_of n.keys.me (principal x.cast f.receiver) (text_of f) ∷ []) nt i) [
+            | inl j ↦ absurd (items_ (last f.items) j)
+            | inr j ↦ elim j [ inl e ↦ ap (λ (z : Note). z.text) e ∙ note_text n.keys.me (principal x.cast f.receiver) (text_of f) | inr k ↦ absurd k ]
+          ]
+            where
+              items_ : (o : Option Item) → In (option_map_or (λ (i : Item). map (λ t. note_of n.keys.me (principal x.cast t) (text_to p.graph x (told x) i t)) (targets_of p i.label)) o []) nt → ⊥
+              items_ None j = j
+              items_ (Some i) j = let r = C.of_map (λ t. note_of n.keys.me (principal x.cast t) (text_to p.graph x (told x) i t)) (targets_of p i.label) nt j in
+                  absurd (kinds_differ.item_frame x.cast.version x.sid i.role r.0 i.label i.time (commitments p.graph (told x ++ i ∷ [])) v b (sym (note_text n.keys.me (principal x.cast r.0) (text_to p.graph x (told x) i r.0)) ∙ ap (λ (z : Note). z.text) (sym r.1) ∙ t))
+      by_answer other q i = absurd i
+
+  rec_in : {A : Type 0} (P : A → Type 0) (xs : List A) (x : A) → AllByRecursion P xs → In xs x → P x
+  rec_in P [] x a i = absurd i
+  rec_in P (y ∷ ys) x a (inl e) = subst P (sym e) a.0
+  rec_in P (y ∷ ys) x a (inr i) = rec_in P ys x a.1 i
+
+  decided_none : (e : Event) (o : Option Refusal) → decided e o ≡ Happened e → o ≡ None
+  decided_none e None h = refl
+  decided_none e (Some r) h = absurd (cc)
+
+  -- the receipt and the sending
+  module _ (q : LogsOk wf) (premises : Premises sha s wf) (l : Logged) (who : Name) (bs : List ℕ) (f : Frame) (cast : Cast) (taken : IsTaken wf l who bs f) (first : FirstCast sha s programs f.sid wf) (is_cast_ : cast_of_session f.sid wf.log ≡ Some cast) (hon : honest_role s cast f.sender ≡ true) where
+    l_in : In wf.log l
+    l_in = in_from_Contains wf.log l taken.0
+
+    o : Origin l (Deliver bs)
+    o = q.logs l (Deliver bs) l_in taken.2
+
+    first_is : first.cast ≡ cast
+    first_is = (let a : Some first.cast ≡ Some cast = sym first.is_cast ∙ is_cast_ in cc)
+
+    with_sid : (c : Cast) → CastFits c → In (hashed s wf) (session_text c) → session_id sha c ≡ f.sid → c ≡ cast
+    with_sid c fits i e = TL.one_cast c first.cast fits first.fits (premises.collision_free (session_text c) (session_text first.cast) (contains_from_in (hashed s wf) (session_text c) i) (contains_from_in (hashed s wf) (session_text first.cast) first.is_hashed) (e ∙ sym first.sid_is)) ∙ first_is
+
+    spells : Frame'.Spells bs f
+    spells = read-Spells bs f (o.bytes bs refl) taken.3
+
+    rows_none : first_some (rows sha o.n f) ≡ None
+    rows_none = (let a : Answered (answer sha o.n (Deliver bs)) ≡ Answered (Happened (receipt f)) = sym o.is_outcome ∙ taken.4 in let b : answer sha o.n (Deliver bs) ≡ Happened (receipt f) = cc in decided_none (receipt f) (first_some (rows sha o.n f)) (ap (verdict_on sha o.n) (sym taken.3) ∙ b))
+
+    notes_l : l.notes ≡ notes_of_read sha o.n (Ok f)
+    notes_l = o.is_notes ∙ ap (notes_of_read sha o.n) taken.3
+
+    t : Took_ o.who o.n f (notes_of_read sha o.n (Ok f))
+    t = took o.who o.n (me_is o.who o.n o.its_keys) o.known_ o.live_fit f spells.is_frame rows_none
+        (λ y i. in_right (map graph_text s.graphs) (flat_map (λ (z : Logged). z.notes.hashed) wf.log) y (in_flat (λ (z : Logged). z.notes.hashed) wf.log l y l_in (subst (λ (z : Notes). In z.hashed y) (sym notes_l) i)))
+
+    cast_is : t.cast ≡ cast
+    cast_is = with_sid t.cast t.fits t.is_hashed t.id
+
+    abbrev note_ : Note
+    note_ = note_of (o.n).keys.me (principal t.cast f.sender) (text_of f)
+
+    made_before : MadeBefore l.number (note_of (o.n).keys.me (principal t.cast f.sender) (text_of f)) wf.log
+    made_before =
+        let both = note_both (λ z. is_honest s z ≡ true) (o.n).keys.me (principal t.cast f.sender) (text_of f) (ap (is_honest s) (me_is o.who o.n o.its_keys) ∙ o.hon) (ap (λ (c : Cast). is_honest s (principal c f.sender)) cast_is ∙ hon) in
+        premises.unforged l (note_of (o.n).keys.me (principal t.cast f.sender) (text_of f)) taken.0 (contains_from_in l.notes.found _ (subst (λ (z : Notes). In z.found (note_of (o.n).keys.me (principal t.cast f.sender) (text_of f))) (sym notes_l) t.found)) both.0 both.1
+
+    was_sent : WasSent wf l.number (principal cast f.sender) bs f
+    was_sent = by_call (made_before.0).call refl
+      where
+        l' : Logged
+        l' = made_before.0
+
+        from : (c : Call) → Origin made_before.0 c → WasSent wf l.number (principal cast f.sender) bs f
+        from c o' =
+            let nt : Note = note_of (o.n).keys.me (principal t.cast f.sender) (text_of f) in
+            let i : In (notes sha o'.n c).made nt = subst (λ (z : Notes). In z.made nt) o'.is_notes (in_from_Contains (made_before.0).notes.made nt made_before.3) in
+            let g : Gave_ o'.n c nt.text = gave_ o'.n c nt f.version (body f) i (note_text (o.n).keys.me (principal t.cast f.sender) (text_of f)) in
+            let sp : HasSpelling g.f = o'.spelled g.e g.to g.f g.is_answer in
+            let same_text_ : frame_text f.version (body f) ≡ frame_text (g.f).version (body g.f) = sym (note_text (o.n).keys.me (principal t.cast f.sender) (text_of f)) ∙ g.is_text in
+            let u : untagged f ≡ untagged g.f = TL.one_frame f.version (g.f).version f g.f spells.is_frame sp same_text_ in
+            let k : Known o'.who g.x = rec_in (Known o'.who) (o'.n).live g.x o'.known_ g.there in
+            let fx : FitSession g.x = rec_in FitSession (o'.n).live g.x o'.live_fit g.there in
+            let sid_same : f.sid ≡ (g.f).sid = ap (λ (z : Frame). z.sid) u in
+            let x_cast : (g.x).cast ≡ cast = with_sid (g.x).cast (TL.cast_fits (g.x).cast fx.version fx.cast) k.is_hashed (k.id ∙ sym g.sid_is ∙ sym sid_same) in
+            let x_role : (g.x).role ≡ f.sender = sym g.sender_is ∙ sym (ap (λ (z : Frame). z.sender) u) in
+            let who_is : o'.who ≡ principal cast f.sender = sym k.me ∙ ap (λ (c : Cast). principal c (g.x).role) x_cast ∙ ap (principal cast) x_role in
+            let rec : (g.f).receiver ≡ f.receiver = ap (λ (z : Frame). z.receiver) (sym u) in
+            let who_me : o.who ≡ principal cast f.receiver = sym t.me ∙ ap (λ (c : Cast). principal c f.receiver) cast_is in
+            let pair : AllByRecursion (λ (z : PairKey). z.one ≢ z.two) s.keys = pairs_ s.keys sched.keys in
+            let key : key_of (o'.n).keys (principal cast f.receiver) ≡ key_of (o.n).keys (principal cast f.sender) =
+            ap (λ (z : Keyring). key_of z (principal cast f.receiver)) (o'.its_keys ∙ ap (keyring_of s.keys) who_is) ∙ key_same s.keys pair (principal cast f.sender) (principal cast f.receiver) ∙ ap (λ (z : Keyring). key_of z (principal cast f.sender)) (sym (o.its_keys ∙ ap (keyring_of s.keys) who_me)) in
+            let tag : (g.f).tag ≡ f.tag =
+            g.tag_is
+            ∙ ap (λ (c : Cast). tag_for sha (o'.n).keys c (g.f).receiver (text_of g.f)) x_cast
+            ∙ ap (λ r. tag_for sha (o'.n).keys cast r (text_of g.f)) rec
+            ∙ ap (tag_for sha (o'.n).keys cast f.receiver) (sym same_text_)
+            ∙ ap (λ y. cut cast.version (tag_of sha (unwrap_or y []) (text_of f))) key
+            ∙ ap (λ (c : Cast). tag_for sha (o.n).keys c f.sender (text_of f)) (sym cast_is)
+            ∙ t.tag_is in
+            let whole_ : g.f ≡ f = ap (λ (z : Frame). record z { tag = (g.f).tag }) (sym u) ∙ ap (λ y. record f { tag = y }) tag in (
+              made_before.0,
+              g.e,
+              g.to,
+              made_before.1,
+              made_before.2,
+              o'.is_who ∙ ap (λ z. Some z) who_is,
+              o'.is_frame ∙ ap frame_in g.is_answer ∙ ap (λ (z : Frame). Some (spelling z)) whole_ ∙ ap (λ z. Some z) spells.spelled,
+              o'.is_outcome ∙ ap (λ z. Answered z) (g.is_answer ∙ ap (Sends g.e g.to) whole_),
+              g.same_sid ∙ sym sid_same,
+            )
+          where
+            pairs_ : (ks : List PairKey) → All IsPairKey ks → AllByRecursion (λ (z : PairKey). z.one ≢ z.two) ks
+            pairs_ [] a = tt
+            pairs_ (k ∷ ks) a = ((All-head IsPairKey k ks a).0, pairs_ ks (All-tail IsPairKey k ks a))
+
+        by_call : (d : Option Call) → (made_before.0).call ≡ d → WasSent wf l.number (principal cast f.sender) bs f
+        by_call None e = absurd (q.quiet made_before.0 _ (in_from_Contains wf.log made_before.0 made_before.1) e (in_from_Contains (made_before.0).notes.made _ made_before.3))
+        by_call (Some c) e = from c (q.logs made_before.0 c (in_from_Contains wf.log made_before.0 made_before.1) e)
+
+pub receipts_have_sends : (sha : Hash) → IsHash sha → ReceiptsHaveSends sha
+receipts_have_sends sha hash programs s compiled sched premises l who bs f cast taken is hon =
+    let wf : World = run sha programs s in
+    let steps : AllByRecursion (IsStep sha s) s.steps = go sha s s.steps sched.steps in
+    let q = all_logs sha hash programs s compiled sched (run sha programs s) (new_world programs s) 1 s.steps steps (new_logs sha hash programs s compiled sched (run sha programs s)) refl in
+    let first : FirstCast sha s programs f.sid (run sha programs s) = first_cast sha hash s programs f.sid (Fit sha hash programs s compiled sched) (fit_next sha hash programs s compiled sched) (fit_bytes sha hash programs s compiled sched) (casts_fit sha hash programs s compiled sched) steps (fit_new sha hash programs s compiled sched) (some f.sid wf.log cast is) in
+    was_sent sha hash programs s compiled sched (run sha programs s) q premises l who bs f cast taken first is hon
+  where
+    go : (sha : Hash) (s : Schedule) (xs : List Step) → All (IsStep sha s) xs → AllByRecursion (IsStep sha s) xs
+    go sha s [] a = tt
+    go sha s (x ∷ xs) a = (All-head (IsStep sha s) x xs a, go sha s xs (All-tail (IsStep sha s) x xs a))
+
+    some : (sid : List ℕ) (log : List Logged) (cast : Cast) → cast_of_session sid log ≡ Some cast → events_of sid log ≢ []
+    some sid log cast e none = (let n : cast_of_session sid log ≡ None = ap (option_and_then (λ (l : Logged). option_and_then cast_in l.call)) (no_entry sid log none) in absurd (cc))

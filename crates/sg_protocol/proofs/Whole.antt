@@ -1,0 +1,309 @@
+-- Each session of a run follows one walk.
+use Rattle.std.specs.Prelude.{codes, ◌≡◌, ℕ, ◌==◌, nat_le, All, ◌||◌, ◌&&◌, ◌⊎◌, Bool, true, false, not, List, [], ◌∷◌, ◌++◌, map, flat_map, length, find, bytes_eq, refl, Some}
+use Rattle.std.specs.List.{list_all, AllByRecursion}
+use Rattle.std.proofs.Common.{sym, ◌∙◌, ap, subst, inl, inr, append_assoc}
+use Rattle.std.proofs.lemmas.Bool.{eqb-true}
+use Rattle.std.proofs.lemmas.List.Elements.{All-head, All-tail}
+use Rattle.std.proofs.lemmas.Slice.Eq.{bytes_eq-Decides}
+use Rattle.sg_model.specs.Lists.{below, all_differ}
+use Rattle.sg_model.specs.Values.{Opening}
+use Rattle.sg_protocol.specs.Graph.{Name, Graph, IsGraph, shape}
+use Rattle.sg_protocol.specs.Evidence.{IsViewTable}
+use Rattle.sg_protocol.specs.Frame.{Cast, Frame, HasSpelling}
+use Rattle.sg_protocol.specs.Texts.{Hash, IsHash, commitment, commitment_text}
+use Rattle.sg_protocol.specs.Session.{Program}
+use Rattle.sg_protocol.specs.Run.{Schedule, honest_role}
+use Rattle.sg_law.specs.Values as V
+use Rattle.sg_law.specs.Values.{State, Made, whole, com_of, Move, Commit, moved, MayTake, Tagged, Framed, Opened, own_of, is_variable, put}
+use Rattle.sg_law.specs.Values.Move.{Writes, Takes}
+use Rattle.sg_law.specs.Values.Deed.{Read as Reads}
+use Rattle.sg_law.proofs.Upto.{In}
+use Rattle.sg_law.proofs.Take.{contains_from_in}
+use Rattle.sg_protocol.proofs.Moves.{and_parts, in_map, in_left}
+use Rattle.sg_law.specs.Values.{MayWrite}
+use Rattle.sg_protocol.proofs.TextLaws.{one_item, one_body, one_frame, kinds_differ}
+use Rattle.sg_model.specs.Lists.{has_text}
+use Rattle.sg_protocol.specs.Frame.{IsBytes}
+use Rattle.sg_protocol.specs.Texts.{session_id, session_text}
+use Rattle.sg_protocol.specs.TextLaws.{CastFits}
+use Rattle.sg_protocol.specs.Node.{Event, Call, Sends, answer, program_for}
+use Rattle.sg_law.specs.Values.{AllMay, May, moved_all, Deed, deed_of, all_openings}
+use Rattle.sg_protocol.proofs.TextLaws.{cast_fits, opening_fits}
+use Rattle.sg_protocol.proofs.Acts as C
+use Rattle.sg_protocol.specs.Texts.{graph_text}
+use Rattle.sg_protocol.specs.Node.{Past, node_of}
+use Rattle.sg_protocol.specs.Run.{World, Step, DeliverStep, What, PairKey, past_of, world_after, new_world, run, call_of, cast_of, bytes_of, keyring_of, events_of, graph_with, hashed}
+use Rattle.sg_protocol.specs.Headline.{IsSchedule, IsStep, AreCompiled, Premises, IsExplained}
+use Rattle.sg_law.proofs.Upto.{in_from_Contains}
+use Rattle.sg_protocol.proofs.Calls.{NodeOk, find_passes, find_all}
+use Rattle.sg_protocol.specs.Graph.{canonical, ended, variable_line, node_line, edge_line, is_name, is_name_byte, is_letter, reserved}
+use Rattle.sg_protocol.specs.Texts.{graph_digest}
+use Rattle.sg_protocol.specs.Run.{cast_of_session}
+use Rattle.sg_protocol.specs.Headline.{IsProgram, parts}
+use Rattle.sg_law.specs.Values.{Binding, Followed}
+use Rattle.sg_law.proofs.Follow.{followed}
+use Rattle.sg_protocol.proofs.Paths.{one_path}
+use Rattle.sg_protocol.proofs.TextLaws.{one_opening, one_cast, one_canonical}
+use Rattle.sg_protocol.proofs.TextLaws as TL
+use Rattle.sg_protocol.proofs.Course.{Progress, all_steps}
+
+cases_Bool : (b : Bool) → (b ≡ true) ⊎ (b ≡ false)
+cases_Bool true = inl refl
+cases_Bool false = inr refl
+
+same_bytes_ : (a b : List ℕ) → bytes_eq a b ≡ true → a ≡ b
+same_bytes_ a b h = (bytes_eq-Decides a b).0 h
+
+-- ---- graphs with one text
+
+abbrev Free : List ℕ → Type 0
+Free cs = AllByRecursion (λ c. c ≡ 59 → ⊥) cs
+
+cut_at : (a b s t : List ℕ) → Free a → Free b → a ++ 59 ∷ s ≡ b ++ 59 ∷ t → a ≡ b
+cut_at [] [] s t f h e = refl
+cut_at [] (y ∷ b) s t f h e = absurd (h.0 (cc))
+cut_at (x ∷ a) [] s t f h e = absurd (f.0 (cc))
+cut_at (x ∷ a) (y ∷ b) s t f h e = let p : x ≡ y = cc in let q : a ++ 59 ∷ s ≡ b ++ 59 ∷ t = cc in ap (λ z. z ∷ a) p ∙ ap (λ l. y ∷ l) (cut_at a b s t f.1 h.1 q)
+
+letter_free : (c : ℕ) → is_letter c ≡ true → c ≡ 59 → ⊥
+letter_free c h e = (let f : is_letter 59 ≡ true = subst (λ z. is_letter z ≡ true) e h in absurd (cc))
+
+byte_free : (c : ℕ) → is_name_byte c ≡ true → c ≡ 59 → ⊥
+byte_free c h e = (let f : is_name_byte 59 ≡ true = subst (λ z. is_name_byte z ≡ true) e h in absurd (cc))
+
+bytes_free : (cs : List ℕ) → list_all is_name_byte cs ≡ true → Free cs
+bytes_free [] h = tt
+bytes_free (c ∷ cs) h = let p = and_parts (is_name_byte c) (list_all is_name_byte cs) h in (byte_free c p.0, bytes_free cs p.1)
+
+name_free : (n : List ℕ) → is_name n ≡ true → Free n
+name_free [] h = tt
+name_free (c ∷ cs) h =
+    let p = and_parts (is_letter c && list_all is_name_byte cs) (nat_le (length cs) 31) h in
+    let q = and_parts (is_letter c) (list_all is_name_byte cs) p.0 in
+    (letter_free c q.0, bytes_free cs q.1)
+
+graph_name_free : (g : Graph) → IsGraph g → Free g.name
+graph_name_free g is =
+    let a = and_parts (list_all (λ n. is_name n && not (has_text n reserved)) (g.name ∷ [])) (all_differ (g.name ∷ [])) is.named in
+    let b = and_parts (is_name g.name && not (has_text g.name reserved)) true a.0 in
+    name_free g.name (and_parts (is_name g.name) (not (has_text g.name reserved)) b.0).0
+
+front : (g : Graph) → (rest : List ℕ) × (canonical g ≡ codes "graph " ++ (g.name ++ 59 ∷ rest))
+front g =
+    let A : List ℕ = flat_map (λ r. ended (codes "role " ++ r)) g.roles in
+    let B' : List ℕ = flat_map (variable_line g) g.variables in
+    let C' : List ℕ = flat_map (node_line g) g.nodes in
+    let D : List ℕ = flat_map (edge_line g) g.edges in
+    (10 ∷ (A ++ (B' ++ (C' ++ D))), five (codes "graph ") g.name A B' C' D)
+  where
+    five : (w n a b c d : List ℕ) → ((((((w ++ n) ++ 59 ∷ 10 ∷ []) ++ a) ++ b) ++ c) ++ d) ≡ w ++ (n ++ 59 ∷ 10 ∷ (a ++ (b ++ (c ++ d))))
+    five w n a b c d = simp append_assoc
+
+same_name : (g g' : Graph) → IsGraph g → IsGraph g' → canonical g ≡ canonical g' → g.name ≡ g'.name
+same_name g g' is is' e =
+    let f = front g in
+    let f' = front g' in
+    let t = TL.parts (codes "graph ") (codes "graph ") (g.name ++ 59 ∷ f.0) (g'.name ++ 59 ∷ f'.0) refl (sym f.1 ∙ e ∙ f'.1) in
+    cut_at g.name g'.name f.0 f'.0 (graph_name_free g is) (graph_name_free g' is') t.1
+
+same_named : (gs : List Graph) (g g' : Graph) → all_differ (map (λ (g : Graph). g.name) gs) ≡ true → In gs g → In gs g' → g.name ≡ g'.name → g ≡ g'
+same_named [] g g' d i j e = absurd i
+same_named (x ∷ gs) g g' d (inl p) (inl q) e = p ∙ sym q
+same_named (x ∷ gs) g g' d (inl p) (inr j) e = absurd (differs x gs g' d j (ap (λ (z : Graph). z.name) (sym p) ∙ e))
+  where
+    differs : (x : Graph) (gs : List Graph) (y : Graph) → all_differ (map (λ (g : Graph). g.name) (x ∷ gs)) ≡ true → In gs y → x.name ≡ y.name → ⊥
+    differs x gs y d j e = clash (has_text x.name (map (λ (g : Graph). g.name) gs)) (there gs j) (not_true (has_text x.name (map (λ (g : Graph). g.name) gs)) (and_parts (not (has_text x.name (map (λ (g : Graph). g.name) gs))) (all_differ (map (λ (g : Graph). g.name) gs)) d).0)
+      where
+        clash : (b : Bool) → b ≡ true → b ≡ false → ⊥
+        clash b t f = absurd (cc)
+
+        not_true : (b : Bool) → not b ≡ true → b ≡ false
+        not_true true h = sym h
+        not_true false h = refl
+
+        there : (zs : List Graph) → In zs y → has_text x.name (map (λ (g : Graph). g.name) zs) ≡ true
+        there [] i = absurd i
+        there (z ∷ zs) (inl p) = rw ((bytes_eq-Decides x.name z.name).1 (e ∙ ap (λ (z : Graph). z.name) p)) refl
+        there (z ∷ zs) (inr i) = elim (cases_Bool (bytes_eq x.name z.name)) [ inl h ↦ rw h refl | inr h ↦ rw h (there zs i) ]
+same_named (x ∷ gs) g g' d (inr i) (inl q) e = absurd (differs x gs g d i (ap (λ (z : Graph). z.name) (sym q) ∙ sym e))
+  where
+    differs : (x : Graph) (gs : List Graph) (y : Graph) → all_differ (map (λ (g : Graph). g.name) (x ∷ gs)) ≡ true → In gs y → x.name ≡ y.name → ⊥
+    differs x gs y d j e = clash (has_text x.name (map (λ (g : Graph). g.name) gs)) (there gs j) (not_true (has_text x.name (map (λ (g : Graph). g.name) gs)) (and_parts (not (has_text x.name (map (λ (g : Graph). g.name) gs))) (all_differ (map (λ (g : Graph). g.name) gs)) d).0)
+      where
+        clash : (b : Bool) → b ≡ true → b ≡ false → ⊥
+        clash b t f = absurd (cc)
+
+        not_true : (b : Bool) → not b ≡ true → b ≡ false
+        not_true true h = sym h
+        not_true false h = refl
+
+        there : (zs : List Graph) → In zs y → has_text x.name (map (λ (g : Graph). g.name) zs) ≡ true
+        there [] i = absurd i
+        there (z ∷ zs) (inl p) = rw ((bytes_eq-Decides x.name z.name).1 (e ∙ ap (λ (z : Graph). z.name) p)) refl
+        there (z ∷ zs) (inr i) = elim (cases_Bool (bytes_eq x.name z.name)) [ inl h ↦ rw h refl | inr h ↦ rw h (there zs i) ]
+same_named (x ∷ gs) g g' d (inr i) (inr j) e = same_named gs g g' (and_parts (not (has_text x.name (map (λ (g : Graph). g.name) gs))) (all_differ (map (λ (g : Graph). g.name) gs)) d).1 i j e
+
+-- ---- look-ups
+
+all_in : {A : Type 0} (P : A → Type 0) (xs : List A) (x : A) → All P xs → In xs x → P x
+all_in P [] x a i = absurd i
+all_in P (y ∷ ys) x a (inl e) = subst P (sym e) (All-head P y ys a)
+all_in P (y ∷ ys) x a (inr i) = all_in P ys x (All-tail P y ys a) i
+
+rec_in : {A : Type 0} (P : A → Type 0) (xs : List A) (x : A) → AllByRecursion P xs → In xs x → P x
+rec_in P [] x a i = absurd i
+rec_in P (y ∷ ys) x a (inl e) = subst P (sym e) a.0
+rec_in P (y ∷ ys) x a (inr i) = rec_in P ys x a.1 i
+
+to_rec : {A : Type 0} (P : A → Type 0) (xs : List A) → All P xs → AllByRecursion P xs
+to_rec P [] a = tt
+to_rec P (x ∷ xs) a = (All-head P x xs a, to_rec P xs (All-tail P x xs a))
+
+pub found_in : {A : Type 0} (p : A → Bool) (xs : List A) (x : A) → find p xs ≡ Some x → In xs x
+found_in p [] x e = absurd (cc)
+found_in p (y ∷ ys) x e = elim (cases_Bool (p y)) [
+  | inl h ↦ (let f : Some y ≡ Some x = rw h at e in let q : y ≡ x = cc in inl (sym q))
+  | inr h ↦ inr (found_in p ys x (rw h at e))
+]
+
+find_some : {A : Type 0} (p : A → Bool) (xs : List A) (x : A) → In xs x → p x ≡ true → (y : A) × (find p xs ≡ Some y)
+find_some p [] x i h = absurd i
+find_some p (y ∷ ys) x i h = elim (cases_Bool (p y)) [
+  | inl k ↦ (y, rw k refl)
+  | inr k ↦ elim i [
+    | inl e ↦ absurd (no (p y) (subst (λ z. p z ≡ true) e h) k)
+    | inr j ↦ (let r = find_some p ys x j h in (r.0, rw k r.1))
+  ]
+]
+  where
+    no : (b : Bool) → b ≡ true → b ≡ false → ⊥
+    no b t f = absurd (cc)
+
+-- a program's graph is one of the graphs
+in_parts_of : (gs : List Graph) (y : Graph × ℕ) → In (parts gs) y → In gs y.0
+in_parts_of [] y i = absurd i
+in_parts_of (g ∷ gs) y i = elim (C.in_parts (map (λ r. (g, r)) (below (length g.roles))) (parts gs) y i) [
+  | inl j ↦ (let r = C.of_map (λ r. (g, r)) (below (length g.roles)) y j in inl (ap (λ (z : Graph × ℕ). z.0) r.1))
+  | inr j ↦ inr (in_parts_of gs y j)
+]
+
+program_graph : (sha : Hash) (gs : List Graph) (ps : List Program) → AreCompiled sha gs ps → (p : Program) → In ps p → In gs p.graph
+program_graph sha gs ps c p i = in_parts_of gs (p.graph, p.role) (subst (λ l. In l (p.graph, p.role)) c.all (in_map (λ (p : Program). (p.graph, p.role)) ps p i))
+
+-- ---- the beginning
+
+abbrev pub new_past : List PairKey → List Program → Name → Past
+new_past keys programs me = record { keys = keyring_of keys me; programs = programs; first = []; calls = [] }
+
+pub first_past : (keys : List PairKey) (programs : List Program) (names : List Name) (who : Name) (p : Past) → find (λ (p : Past). bytes_eq p.keys.me who) (map (new_past keys programs) names) ≡ Some p → (p ≡ new_past keys programs who) × (has_text who names ≡ true)
+first_past keys programs [] who p e = absurd (cc)
+first_past keys programs (n ∷ ns) who p e = elim (cases_Bool (bytes_eq n who)) [
+  | inl h ↦ (let f : Some (new_past keys programs n) ≡ Some p = rw h at e in let q : new_past keys programs n ≡ p = cc in let same : n ≡ who = same_bytes_ n who h in (sym q ∙ ap (new_past keys programs) same, rw ((bytes_eq-Decides who n).1 (sym same)) refl))
+  | inr h ↦ (let r = first_past keys programs ns who p (rw h at e) in (r.0, or_more (bytes_eq who n) r.1))
+]
+  where
+    or_more : (b : Bool) → has_text who ns ≡ true → (b || has_text who ns) ≡ true
+    or_more true k = refl
+    or_more false k = k
+
+-- what the first event of a session says
+pub record FirstCast (sha : Hash) (s : Schedule) (programs : List Program) (sid : List ℕ) (wf : World) : Type 0 where
+  pub cast : Cast
+  pub is_cast : cast_of_session sid wf.log ≡ Some cast
+  pub sid_is : session_id sha cast ≡ sid
+  pub fits : CastFits cast
+  pub is_hashed : In (hashed s wf) (session_text cast)
+  pub program : Program
+  pub there : In programs program
+  pub digest : program.digest ≡ cast.graph
+  pub differ : all_differ cast.names ≡ true
+
+module _ (sha : Hash) (hash : IsHash sha) (programs : List Program) (s : Schedule) (compiled : AreCompiled sha s.graphs programs) (sched : IsSchedule sha s) (premises : Premises sha s (run sha programs s)) (sid : List ℕ)
+    (first : FirstCast sha s programs sid (run sha programs s))
+    (Fit : World → Type 0) (fit_new : Fit (new_world programs s)) (fit_next : (w : World) (k : ℕ) (x : Step) → Fit w → IsStep sha s x → Fit (world_after sha s w k x))
+    (fit_bytes : (w : World) → Fit w → (who : Name) (what : What) (bs : List ℕ) → IsStep sha s (DeliverStep who what) → bytes_of w what ≡ Some bs → IsBytes bs)
+    (fit_sends : (w : World) → Fit w → (k : ℕ) (x : Step) (who : Name) (past : Past) (c : Call) (e : Event) (to : Name) (f : Frame) → IsStep sha s x → past_of w who ≡ Some past → call_of sha s w k x ≡ Some c → answer sha (node_of past) c ≡ Sends e to f → HasSpelling f)
+    (casts_fit : (n : ℕ) (c : Cast) → cast_of s n ≡ Some c → CastFits c) where
+  abbrev wf : World
+  wf = run sha programs s
+
+  abbrev g : Graph
+  g = first.program.graph
+
+  the_program : IsProgram sha first.program
+  the_program = all_in (IsProgram sha) programs first.program compiled.each first.there
+
+  same_text_same : (a b : List ℕ) → In (hashed s wf) a → In (hashed s wf) b → sha a ≡ sha b → a ≡ b
+  same_text_same a b i j e = premises.collision_free a b (contains_from_in (hashed s wf) a i) (contains_from_in (hashed s wf) b j) e
+
+  same_digest : (a b : Graph) → In s.graphs a → In s.graphs b → graph_digest sha a ≡ graph_digest sha b → a ≡ b
+  same_digest a b i j e =
+      let t : graph_text a ≡ graph_text b = same_text_same (graph_text a) (graph_text b) (in_left (map graph_text s.graphs) _ (graph_text a) (in_map graph_text s.graphs a i)) (in_left (map graph_text s.graphs) _ (graph_text b) (in_map graph_text s.graphs b j)) e in
+      same_named s.graphs a b sched.graph_names i j (same_name a b (all_in IsGraph s.graphs a sched.are_graphs i) (all_in IsGraph s.graphs b sched.are_graphs j) (one_canonical a b t))
+
+  g_there : In s.graphs g
+  g_there = program_graph sha s.graphs programs compiled first.program first.there
+
+  prog : (r : ℕ) (p : Program) → program_for programs first.cast.graph r ≡ Some p → (p.graph ≡ g) × IsViewTable p.graph r p.views
+  prog r p e =
+      let is : IsProgram sha p = find_all (λ (p : Program). bytes_eq p.digest first.cast.graph && (p.role == r)) (IsProgram sha) programs p (to_rec (IsProgram sha) programs compiled.each) e in
+      let t = and_parts (bytes_eq p.digest first.cast.graph) (p.role == r) (find_passes (λ (p : Program). bytes_eq p.digest first.cast.graph && (p.role == r)) programs p e) in (
+        same_digest p.graph g (program_graph sha s.graphs programs compiled p (found_in _ programs p e)) g_there (sym is.digest ∙ same_bytes_ p.digest first.cast.graph t.0 ∙ sym first.digest ∙ the_program.digest),
+        subst (λ z. IsViewTable p.graph z p.views) (eqb-true p.role r t.1) is.views,
+      )
+
+  the_cast : (c : Cast) → CastFits c → In (hashed s wf) (session_text c) → session_id sha c ≡ sid → c ≡ first.cast
+  the_cast c fits i e = TL.one_cast c first.cast fits first.fits (same_text_same (session_text c) (session_text first.cast) i first.is_hashed (e ∙ sym first.sid_is))
+
+  long : length sid ≡ 32
+  long = subst (λ z. length z ≡ 32) first.sid_is (hash (session_text first.cast)).0
+
+  abbrev Prog : World → Type 0
+  Prog w = Progress sha hash s programs sid first.cast g the_program.is_graph the_program.accepted first.fits.version long first.differ prog wf premises.unforged the_cast Fit fit_next fit_bytes fit_sends casts_fit w
+
+  begins : Prog (new_world programs s)
+  begins = record {
+    moves = [];
+    may = tt;
+    nodes = λ who p e. let r = first_past s.keys programs s.honest who p e in (subst (λ (z : Past). NodeOk sha hash s programs sid first.cast g the_program.is_graph the_program.accepted first.fits.version long first.differ prog (λ t. In (hashed s wf) t) the_cast (V.at_first (shape g)) who (node_of z)) (sym r.0) (fresh_node who), r.1);
+    noted = λ l nt i j. absurd i;
+    events = refl;
+    typed = tt;
+    used = tt;
+  }
+    where
+      fresh_node : (who : Name) → NodeOk sha hash s programs sid first.cast g the_program.is_graph the_program.accepted first.fits.version long first.differ prog (λ t. In (hashed s wf) t) the_cast (V.at_first (shape g)) who (node_of (new_past s.keys programs who))
+      fresh_node who = record { me = refl; has_programs = refl; lengths = tt; status = inl record { alone = refl; all = λ h p l. record { none = refl; start = refl } } }
+
+  finished : Prog wf
+  finished = all_steps sha hash s programs sid first.cast g the_program.is_graph the_program.accepted first.fits.version long first.differ prog wf premises.unforged the_cast Fit fit_next fit_bytes fit_sends casts_fit
+      (new_world programs s) 1 begins s.steps (to_rec (IsStep sha s) s.steps sched.steps) fit_new refl
+
+  abbrev commit : Commit
+  commit o = commitment sha sid o
+
+  binding : Binding commit (all_openings finished.moves)
+  binding o p i j v e =
+      let a = rec_in _ (all_openings finished.moves) o finished.used (in_from_Contains (all_openings finished.moves) o i) in
+      let b = rec_in _ (all_openings finished.moves) p finished.used (in_from_Contains (all_openings finished.moves) p j) in
+      ap (λ (z : Opening). z.value) (one_opening sid sid o p long long a.1 b.1 (same_text_same (commitment_text sid o) (commitment_text sid p) a.0 b.0 e)).1
+
+  the_walk : Followed (shape g) (honest_role s first.cast) commit finished.moves
+  the_walk = followed (shape g) (honest_role s first.cast) commit finished.moves the_program.accepted.sighted binding finished.may
+
+  found_graph : (y : Graph) × (graph_with sha s.graphs first.cast.graph ≡ Some y)
+  found_graph = find_some (λ z. bytes_eq (graph_digest sha z) first.cast.graph) s.graphs g g_there ((bytes_eq-Decides (graph_digest sha g) first.cast.graph).1 (sym the_program.digest ∙ first.digest))
+
+  graph_is : graph_with sha s.graphs first.cast.graph ≡ Some g
+  graph_is = found_graph.1 ∙ ap (λ z. Some z) (same_digest found_graph.0 g (found_in _ s.graphs found_graph.0 found_graph.1) g_there
+      (same_bytes_ (graph_digest sha found_graph.0) first.cast.graph (find_passes (λ z. bytes_eq (graph_digest sha z) first.cast.graph) s.graphs found_graph.0 found_graph.1) ∙ sym first.digest ∙ the_program.digest))
+
+  pub explained : IsExplained sha s wf sid
+  explained = record {
+    cast = first.cast;
+    is_cast = first.is_cast;
+    graph = g;
+    is_graph = graph_is;
+    steps = _;
+    path = one_path g (honest_role s first.cast) commit finished.moves (events_of sid wf.log) the_program.is_graph the_walk finished.events finished.typed;
+  }
