@@ -1,0 +1,113 @@
+//! Names of roles, variables, nodes, labels, graphs, principals and sessions.
+ghost use Rattle.std.specs.List.{list_all};
+ghost use Rattle.std.specs.Prelude.{◌≡◌, ◌↔◌, ◌≤◌, ◌++◌, ◌&&◌, nat_le, length, drop, IfSome, IsSome, IsTrue};
+ghost use Rattle.sg_model.specs.Lists.{has_text};
+ghost use Rattle.sg_model.specs.Names.{is_letter, is_name_byte, is_name, reserved};
+
+use std::marker::Model;
+
+/// A letter of `A` to `Z` or `a` to `z`, then letters, digits or `_`: 1 to 32 bytes. A clause sees it as its bytes.
+#[derive(Debug, Clone, Copy, PartialEq, Eq, Hash)]
+pub struct Name {
+    bytes: [u8; 32],
+    count: u8,
+}
+
+impl Model for Name {
+    ghost use Rattle.std.specs.Prelude.{ℕ, List};
+
+    ghost Value = { List ℕ };
+
+    ghost use Rattle.sg_base.specs.Fields.{bytes_of, fields_of, HoldsName};
+    ghost use Rattle.sg_base.specs.FieldsBack.{fields_of-bytes_of};
+
+    ghost view = { bytes_of };
+
+    ghost invariant = { HoldsName };
+
+    ghost inverse = { fields_of };
+
+    ghost inverse_ok = { fields_of-bytes_of };
+}
+
+impl Name {
+    /// The name of these bytes, or `None` where they are no name. It takes no memory.
+    pub fn new(bytes: &[u8]) -> Option<Name>
+        ensures found { IsSome result ↔ IsTrue (is_name bytes.now) }
+        ensures value { IfSome result (λ n. n ≡ bytes.now) }
+    {
+        if !spells_name(bytes) {
+            return None;
+        }
+        let mut kept = [0u8; 32];
+        put_front(&mut kept, bytes);
+        Some(Name {
+            bytes: kept,
+            count: bytes.len() as u8,
+        })
+    }
+
+    /// The bytes. It takes no memory.
+    pub fn as_bytes(&self) -> &[u8]
+        ensures { result.now ≡ self.now }
+    {
+        &self.bytes[..self.count as usize]
+    }
+
+    /// The name is a word that the graph text keeps for itself.
+    pub fn reserved(&self) -> bool
+        ensures { result ≡ has_text self.now reserved }
+    {
+        let word = self.as_bytes();
+        word == b"graph".as_slice()
+            || word == b"role".as_slice()
+            || word == b"var".as_slice()
+            || word == b"node".as_slice()
+            || word == b"edge".as_slice()
+            || word == b"int".as_slice()
+            || word == b"text".as_slice()
+            || word == b"by".as_slice()
+            || word == b"writes".as_slice()
+            || word == b"reads".as_slice()
+    }
+}
+
+fn letter(byte: u8) -> bool
+    ensures { result ≡ is_letter byte }
+{
+    matches!(byte, b'A'..=b'Z' | b'a'..=b'z')
+}
+
+fn name_byte(byte: u8) -> bool
+    ensures { result ≡ is_name_byte byte }
+{
+    letter(byte) || matches!(byte, b'0'..=b'9' | b'_')
+}
+
+fn spells_name(bytes: &[u8]) -> bool
+    ensures { result ≡ is_name bytes.now }
+{
+    match bytes.split_first() {
+        None => false,
+        Some((first, rest)) => letter(*first) && continues_name(rest),
+    }
+}
+
+fn continues_name(rest: &[u8]) -> bool
+    ensures { result ≡ list_all is_name_byte rest.now && nat_le (length rest.now) 31 }
+{
+    are_name_bytes(rest) && rest.len() <= 31
+}
+
+fn are_name_bytes(bytes: &[u8]) -> bool
+    ensures { result ≡ list_all is_name_byte bytes.now }
+{
+    bytes.iter().all(|byte| name_byte(*byte))
+}
+
+fn put_front(block: &mut [u8; 32], front: &[u8])
+    requires { length front.now ≤ 32 }
+    ensures { block.new ≡ front.now ++ drop (length front.now) block.old }
+{
+    block[..front.len()].copy_from_slice(front);
+}
