@@ -1,2 +1,4 @@
 pub mod Fields
 pub mod FieldsBack
+pub mod Fits
+pub mod Values

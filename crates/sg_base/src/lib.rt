@@ -1,13 +1,17 @@
 //! What every crate names: numbers and sets of numbers, names, values, byte fields, made frames, and the outside as traits.
 #![tactic(auto)]
 
+mod chars;
 mod name;
 mod number;
 mod seq;
+mod value;
 
+pub use chars::{Chars, CharsFault};
 pub use name::Name;
 pub use number::{Label, NodeId, Role, Sid, Tag, Time, Var};
 pub use seq::Seq;
+pub use value::{Opening, Value, VarType};
 
 /// The answer where memory was wanted and none was to be had.
 pub type OutOfMemory = std::alloc::AllocError;
