@@ -1,4 +1,5 @@
 pub mod Fields
 pub mod FieldsBack
 pub mod Fits
+pub mod Reading
 pub mod Values

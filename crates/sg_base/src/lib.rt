@@ -1,12 +1,16 @@
 //! What every crate names: numbers and sets of numbers, names, values, byte fields, made frames, and the outside as traits.
 #![tactic(auto)]
 
+mod byte_in;
+mod byte_out;
 mod chars;
 mod name;
 mod number;
 mod seq;
 mod value;
 
+pub use byte_in::{ByteIn, Short};
+pub use byte_out::ByteOut;
 pub use chars::{Chars, CharsFault};
 pub use name::Name;
 pub use number::{Label, NodeId, Role, Sid, Tag, Time, Var};

@@ -1,0 +1,73 @@
+//! Fields written to a growing list of bytes, numbers with the high byte first.
+ghost use Rattle.std.specs.Prelude.{◌≡◌, ◌++◌, [], ◌∷◌, OnOk, OnErr};
+ghost use Rattle.std.specs.Int.{w16, w32, to_be_bytes};
+
+use crate::OutOfMemory;
+use std::alloc::Global;
+use std::marker::Model;
+
+/// A growing list of bytes. Each writing call appends its field; for want of memory the list is as before.
+#[derive(Debug, Drop)]
+pub struct ByteOut {
+    bytes: Vec<u8>,
+}
+
+impl Model for ByteOut {
+    ghost use Rattle.std.specs.Prelude.{ℕ, List};
+
+    ghost Value = { List ℕ };
+
+    ghost view = { λ o. o.bytes.items };
+}
+
+impl ByteOut {
+    /// The empty list. It takes no memory.
+    pub fn new(alloc: Global) -> ByteOut
+        ensures { result ≡ [] }
+    {
+        ByteOut {
+            bytes: Vec::new(alloc),
+        }
+    }
+
+    /// Appends a number of one byte.
+    pub fn u8(&mut self, value: u8) -> Result<(), OutOfMemory>
+        ensures ok { OnOk result (self.new ≡ self.old ++ value ∷ []) }
+        ensures err { OnErr result (self.new ≡ self.old) }
+    {
+        self.bytes.push(value)?;
+        Ok(())
+    }
+
+    /// Appends a number of two bytes.
+    pub fn u16(&mut self, value: u16) -> Result<(), OutOfMemory>
+        ensures ok { OnOk result (self.new ≡ self.old ++ to_be_bytes w16 value) }
+        ensures err { OnErr result (self.new ≡ self.old) }
+    {
+        self.bytes(value.to_be_bytes().as_slice())
+    }
+
+    /// Appends a number of four bytes.
+    pub fn u32(&mut self, value: u32) -> Result<(), OutOfMemory>
+        ensures ok { OnOk result (self.new ≡ self.old ++ to_be_bytes w32 value) }
+        ensures err { OnErr result (self.new ≡ self.old) }
+    {
+        self.bytes(value.to_be_bytes().as_slice())
+    }
+
+    /// Appends bytes.
+    pub fn bytes(&mut self, value: &[u8]) -> Result<(), OutOfMemory>
+        ensures ok { OnOk result (self.new ≡ self.old ++ value.now) }
+        ensures err { OnErr result (self.new ≡ self.old) }
+    {
+        self.bytes.extend_from_slice(value)
+    }
+
+    /// The bytes written. It takes no memory.
+    pub fn done(self) -> Vec<u8>
+        ensures { result.items ≡ self }
+    {
+        let ByteOut { bytes } = self;
+        bytes
+    }
+}
