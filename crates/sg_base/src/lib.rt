@@ -7,6 +7,7 @@ mod chars;
 mod name;
 mod number;
 mod seq;
+mod sets;
 mod value;
 
 pub use byte_in::{ByteIn, Short};
@@ -15,6 +16,7 @@ pub use chars::{Chars, CharsFault};
 pub use name::Name;
 pub use number::{Label, NodeId, Role, Sid, Tag, Time, Var};
 pub use seq::Seq;
+pub use sets::{RoleSet, VarSet};
 pub use value::{Opening, Value, VarType};
 
 /// The answer where memory was wanted and none was to be had.

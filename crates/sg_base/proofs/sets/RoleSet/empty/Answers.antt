@@ -1,0 +1,5 @@
+use Rattle.sg_base.proofs.SetLaws.{members-zero}
+use Rattle.sg_base.proofs.sets.RoleSet.empty.Goals as goal
+
+pub returns : goal.returns
+returns c = members-zero 16
