@@ -1,0 +1,2 @@
+pub mod LastOf
+pub mod Walks

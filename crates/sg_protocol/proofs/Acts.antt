@@ -11,14 +11,19 @@ use Rattle.sg_model.specs.Last.{evidence_for, Map, has, last, last_or, last_of, 
 use Rattle.sg_model.specs.Lists.{below, first_some}
 use Rattle.sg_model.specs.Shape.{role_at, source, target, sender, receiver}
 use Rattle.sg_model.specs.Values.{Value, Opening, Code}
-use Rattle.sg_protocol.specs.Graph.{Name, Graph, IsGraph, shape, writes}
-use Rattle.sg_protocol.specs.Frame.{Cast, Item, Frame, HasSpelling, body}
-use Rattle.sg_protocol.specs.Texts.{Hash, IsHash, commitment, commitment_text}
-use Rattle.sg_protocol.specs.TextLaws.{IsVersion, ItemFits}
-use Rattle.sg_protocol.specs.Session.{Keyring, Program, Session, Gave, principal, items_of, told, own, time, place, at_turn, committed, commitments, extended, text_of, text_to}
-use Rattle.sg_protocol.specs.Node.{row, Note, note_of}
+use Rattle.sg_model.specs.Names.{Name}
+use Rattle.sg_protocol.specs.Graph.{Graph, IsGraph, shape, writes}
+use Rattle.sg_protocol.specs.Frame.{Cast, Item, Frame}
+use Rattle.sg_protocol.specs.Spelling.{HasSpelling, body}
+use Rattle.sg_protocol.specs.Texts.{Hash, IsHash, commitment, commitment_text_of}
+use Rattle.sg_protocol.specs.TextLaws.{IsVersion, ItemFits, untagged, SameItem}
+use Rattle.sg_protocol.specs.Keyring.{Keyring, Program, targets_of}
+use Rattle.sg_protocol.specs.Session.{Session, Gave, principal, items_of, told, own, time, place, at_turn, committed, commitments, extended}
+use Rattle.sg_protocol.specs.Sending.{text_of, text_to, own_item, frame_sent, item_of, entry_of, shown_to}
+use Rattle.sg_protocol.specs.Verdict.{row}
+use Rattle.sg_protocol.specs.Notes.{Note, note_of, notes_of_sent}
 use Rattle.sg_protocol.specs.Walk.{is_typed_or_hidden}
-use Rattle.sg_protocol.specs.Run.{Schedule, is_honest, honest_role}
+use Rattle.sg_protocol.specs.Schedule.{Schedule, is_honest, honest_role}
 use Rattle.sg_law.specs.Last as B
 use Rattle.sg_law.specs.Run.{RisesFrom, Turn}
 use Rattle.sg_law.specs.Run as R
@@ -37,9 +42,8 @@ use Rattle.sg_law.specs.Values.{MayWrite}
 use Rattle.sg_law.proofs.Upto.{upto-at, last-after, after-more}
 use Rattle.sg_law.proofs.Cut.{cut_evidence, label_of}
 use Rattle.sg_law.proofs.Lists.{last-append}
-use Rattle.sg_protocol.specs.TextLaws.{untagged, SameItem}
-use Rattle.sg_protocol.specs.Session.{own_item, frame_of, item_of, entry_of, shown_to, targets_of}
-use Rattle.sg_protocol.specs.Node.{ActFault, NotYourTurn, NoSuchLabel, BadValues, TimeSpent, rows_of_act, leaves, is_bad, openings_for, notes_of_sent}
+use Rattle.sg_protocol.specs.Calls.{SendFault, Send, ActFault, NoSuchLabel, BadValues, TimeSpent}
+use Rattle.sg_protocol.specs.Acting.{rows_of_send, rows_of_act, leaves, is_bad, openings_for}
 use Rattle.sg_protocol.proofs.Paths.{writes_rise}
 use Rattle.sg_protocol.proofs.TextLaws.{one_item, one_frame, kinds_differ}
 use Rattle.sg_protocol.specs.Accepted.{Accepted}
@@ -69,7 +73,7 @@ map_same f h (x ∷ xs) e = ap (λ z. z ∷ map f xs) (e x) ∙ ap (λ l. h x �
 
 commit_lengths : (sha : Hash) → IsHash sha → (sid : List ℕ) (os : List Opening) → AllByRecursion (λ (d : ℕ × List ℕ). length d.1 ≡ 32) (map (λ (o : Opening). (o.variable, commitment sha sid o)) os)
 commit_lengths sha hash sid [] = tt
-commit_lengths sha hash sid (o ∷ os) = ((hash (commitment_text sid o)).0, commit_lengths sha hash sid os)
+commit_lengths sha hash sid (o ∷ os) = ((hash (commitment_text_of sid o)).0, commit_lengths sha hash sid os)
 
 keys_of_commits : (sha : Hash) (sid : List ℕ) (os : List Opening) → keys_of (map (λ (o : Opening). (o.variable, commitment sha sid o)) os) ≡ map (λ (o : Opening). o.variable) os
 keys_of_commits sha sid [] = refl
@@ -89,14 +93,20 @@ pub record ActRows (g : Graph) (x : Session) (label : ℕ) (values : Map Value) 
   pub good : find (is_bad g label values) (below 256) ≡ None
   pub time : nat_le 1000000 (time x) ≡ false
 
+-- where no fault of a step stands behind a constructor, none stands by itself
+none_under : {A B : Type 0} (f : A → B) (os : List (Option A)) → first_some (map (option_map f) os) ≡ None → first_some os ≡ None
+none_under f [] h = refl
+none_under f (None ∷ os) h = none_under f os h
+none_under f (Some a ∷ os) h = absurd (cc)
+
 pub act_rows : (p : Program) (x : Session) (label : ℕ) (values : Map Value) → first_some (rows_of_act p x label values) ≡ None → ActRows p.graph x label values
 act_rows p x label values h =
-    let bad : Option ActFault = option_map BadValues (find (is_bad p.graph label values) (below 256)) in
-    let spent : Option ActFault = row (nat_le 1000000 (time x)) TimeSpent in
-    let one : (row (not (at_turn p.graph x)) NotYourTurn ≡ None) × (first_some (row (not (leaves p.graph x label)) NoSuchLabel ∷ bad ∷ spent ∷ []) ≡ None) = none_parts _ _ h in
-    let two : (row (not (leaves p.graph x label)) NoSuchLabel ≡ None) × (first_some (bad ∷ spent ∷ []) ≡ None) = none_parts _ _ one.1 in
+    let bad : Option SendFault = option_map BadValues (find (is_bad p.graph label values) (below 256)) in
+    let spent : Option SendFault = row (nat_le 1000000 (time x)) TimeSpent in
+    let one : (row (not (at_turn p.graph x)) ActFault.NotYourTurn ≡ None) × (first_some (map (option_map Send) (rows_of_send p x label values)) ≡ None) = none_parts _ _ h in
+    let two : (row (not (leaves p.graph x label)) NoSuchLabel ≡ None) × (first_some (bad ∷ spent ∷ []) ≡ None) = none_parts _ _ (none_under Send (rows_of_send p x label values) one.1) in
     let three : (bad ≡ None) × (first_some (spent ∷ []) ≡ None) = none_parts _ _ two.1 in
-    let four : (spent ≡ None) × (first_some {A = ActFault} [] ≡ None) = none_parts _ _ three.1 in
+    let four : (spent ≡ None) × (first_some {A = SendFault} [] ≡ None) = none_parts _ _ three.1 in
     let l = and_parts (nat_lt label (length p.graph.edges)) (source (shape p.graph) label == place p.graph x) (not_false (leaves p.graph x label) (row_none _ _ two.0)) in
     record { turn = not_false (at_turn p.graph x) (row_none _ _ one.0); edge = l.0; leaves = eqb-true (source (shape p.graph) label) (place p.graph x) l.1; good = map_none _ _ three.0; time = row_none _ _ four.0 }
 
@@ -119,7 +129,7 @@ module _ (sha : Hash) (hash : IsHash sha) (s : Schedule) (sid : List ℕ) (cast 
   to = receiver (shape g) label
 
   abbrev pub f : Frame
-  f = frame_of sha keys p x label os
+  f = frame_sent sha keys p x label os
 
   names_os : map (λ (o : Opening). o.variable) os ≡ writes g label
   names_os = opened_keys F values ∙ keys_are g is label values small rows.good

@@ -11,8 +11,11 @@ use Rattle.sg_protocol.specs.Graph.{Graph, shape}
 use Rattle.sg_protocol.specs.Evidence.{View, Seen, IsView, IsViewTable, view_of, walked, same_origin, same_items, same_view, has_view}
 use Rattle.sg_protocol.specs.Frame.{Frame, Item}
 use Rattle.sg_protocol.specs.Texts.{Hash}
-use Rattle.sg_protocol.specs.Session.{Keyring, Program, Session, own, own_time, origin, item_checks}
-use Rattle.sg_protocol.specs.Node.{Refusal, BadFrameTag, NoSuchView, BadTime, BadEvidence, BadOpening, row, rows_of_session, has_frame_tag, is_shown, bad_time, has_item_tag, is_right, seen}
+use Rattle.sg_protocol.specs.Keyring.{Keyring, Program}
+use Rattle.sg_protocol.specs.Session.{Session, own, own_time, origin}
+use Rattle.sg_protocol.specs.Checks.{texts_checked}
+use Rattle.sg_protocol.specs.Calls.{Refusal, BadFrameTag, NoSuchView, BadTime, BadEvidence, BadOpening}
+use Rattle.sg_protocol.specs.Verdict.{row, rows_of_session, has_frame_tag, is_shown, bad_time, has_item_tag, is_right, seen}
 
 cases_Bool : (b : Bool) → (b ≡ true) ⊎ (b ≡ false)
 cases_Bool true = inl refl
@@ -211,7 +214,7 @@ origin-own_step s = go (last (own s))
 pub accepted_view : (sha : Hash) (keys : Keyring) (p : Program) (s : Session) (f : Frame) → IsViewTable p.graph p.role p.views → first_some (rows_of_session sha keys p s f) ≡ None →
     (n : ℕ) × ViewOf (shape p.graph) p.role (own_step s) n (map timed f.items)
 accepted_view sha keys p s f table h =
-    let evid : Option Refusal = option_map (λ n. BadEvidence (n + 1)) (position (λ c. not (has_item_tag sha keys s c)) (item_checks p.graph s f)) in
+    let evid : Option Refusal = option_map (λ n. BadEvidence (n + 1)) (position (λ c. not (has_item_tag sha keys s c)) (texts_checked p.graph s f)) in
     let open_ : Option Refusal = option_map (λ o. BadOpening o.variable) (find (λ o. not (is_right sha p.graph s f o)) f.openings) in
     let one : (row (not (has_frame_tag sha keys s f)) BadFrameTag ≡ None) × (first_some (row (not (is_shown p s f)) NoSuchView ∷ bad_time 1 (own_time s) f.items ∷ evid ∷ open_ ∷ []) ≡ None) = none_parts _ _ h in
     let two : (row (not (is_shown p s f)) NoSuchView ≡ None) × (first_some (bad_time 1 (own_time s) f.items ∷ evid ∷ open_ ∷ []) ≡ None) = none_parts _ _ one.1 in

@@ -9,15 +9,21 @@ use Rattle.sg_model.specs.Last.{Map, last, up_to_last}
 use Rattle.sg_model.specs.Lists.{first_some, all_differ}
 use Rattle.sg_model.specs.Shape.{role_at, target, sender, receiver}
 use Rattle.sg_model.specs.Values.{Value, Opening, Code}
-use Rattle.sg_protocol.specs.Graph.{Name, Graph, IsGraph, shape}
+use Rattle.sg_model.specs.Names.{Name}
+use Rattle.sg_protocol.specs.Graph.{Graph, IsGraph, shape}
 use Rattle.sg_protocol.specs.Evidence.{IsViewTable}
-use Rattle.sg_protocol.specs.Frame.{Cast, spelling, magic, join_code, Item, Frame, HasSpelling, IsItem, AreBytes, IsTag, body}
-use Rattle.sg_protocol.specs.Texts.{Hash, IsHash, commitment, commitment_text}
-use Rattle.sg_protocol.specs.TextLaws.{IsVersion}
-use Rattle.sg_protocol.specs.Session.{Keyring, Program, Session, Took, Gave, principal, items_of, told, own, time, origin, place, at_turn, last_label, commitments, extended, text_of, text_to}
-use Rattle.sg_protocol.specs.Node.{Refusal, row, rows_of_session, is_right, seen, Note, note_of, notes_in_session}
-use Rattle.sg_protocol.specs.Walk.{is_typed_or_hidden}
-use Rattle.sg_protocol.specs.Run.{Schedule, is_honest, honest_role}
+use Rattle.sg_protocol.specs.Frame.{Cast, Item, Frame, IsItem, IsTag, IsValue, IsOpening}
+use Rattle.sg_protocol.specs.Spelling.{HasSpelling, body}
+use Rattle.sg_protocol.specs.Texts.{Hash, IsHash, commitment, commitment_text_of, session_id, session_text_of}
+use Rattle.sg_protocol.specs.TextLaws.{IsVersion, CastFits, OpeningFits}
+use Rattle.sg_protocol.specs.Keyring.{Keyring, Program, targets_of}
+use Rattle.sg_protocol.specs.Session.{Session, Took, Gave, principal, items_of, told, own, time, origin, place, at_turn, last_label, commitments, extended, new_session}
+use Rattle.sg_protocol.specs.Sending.{text_of, text_to, frame_sent}
+use Rattle.sg_protocol.specs.Calls.{Refusal, ActFault, Event, Started, Sent, Call, Start, Act, Abandon, Deliver, Answer, Happened, Sends, Abandoned, NotStarted, NotActed, NotAbandoned, NotDelivered, StartFault, UnknownGraph, UnknownSession, NotWaiting, BadCast, BadSession, UnknownPeer, Joined, CacheFull, SessionsFull, Malformed, events_of_answer, sid_of}
+use Rattle.sg_protocol.specs.Verdict.{row, rows_of_session, is_right, seen, decided, receipt, verdict_on, rows_of_join, rows_of_next, join_rows, next_rows, rows}
+use Rattle.sg_protocol.specs.Notes.{Note, note_of, notes_in_session, notes_of_sent, Notes, notes, notes_of_start, notes_of_act, no_notes, notes_of_read, session_of_frame, hashed_of_join, hashed_openings, row_number}
+use Rattle.sg_protocol.specs.Walk.{is_typed_or_hidden, shown, acts_of_event}
+use Rattle.sg_protocol.specs.Schedule.{Schedule, is_honest, honest_role}
 use Rattle.sg_law.specs.Last as B
 use Rattle.sg_law.specs.Run.{RisesFrom, Turn}
 use Rattle.sg_law.specs.Run as R
@@ -32,26 +38,23 @@ use Rattle.sg_protocol.proofs.Entries.{entry, entries}
 use Rattle.sg_protocol.proofs.Moves.{NoteOk, Matches, and_parts, not_false, none_parts, row_none, note_text, in_map, in_left, in_right}
 use Rattle.sg_model.specs.Lists.{keys_of}
 use Rattle.sg_law.specs.Values.{MayWrite}
-use Rattle.sg_protocol.specs.Session.{frame_of, targets_of}
-use Rattle.sg_protocol.specs.Node.{ActFault, rows_of_act, openings_for, notes_of_sent, Notes}
-use Rattle.sg_protocol.specs.Walk.{shown}
+use Rattle.sg_protocol.specs.Acting.{rows_of_act, openings_for, answer, answer_act, started, acted, sent, rows_of_start}
 use Rattle.sg_protocol.proofs.TextLaws.{kinds_differ}
 use Rattle.sg_protocol.specs.Accepted.{Accepted}
 use Rattle.sg_protocol.proofs.Gives.{item_sid, frame_sid, opened_values}
 use Rattle.std.specs.Prelude.{Result, Ok, Err, option_and_then}
 use Rattle.sg_model.specs.Lists.{has_text}
-use Rattle.sg_protocol.specs.Frame.{IsBytes, IsValue, IsOpening, read}
-use Rattle.sg_protocol.specs.Texts.{session_id, session_text}
-use Rattle.sg_protocol.specs.TextLaws.{CastFits, OpeningFits}
-use Rattle.sg_protocol.specs.Node.{Node, Event, Started, Sent, Call, Start, Act, Abandon, Deliver, Answer, Happened, Sends, Left, NotStarted, NotActed, NotLeft, Refused, StartFault, NoGraph, WrongCast, NoPeer, WasJoined, NoRoomToJoin, NoRoomForSession, NoSession, UnknownGraph, UnknownSession, NotWaiting, BadCast, BadSession, UnknownPeer, Joined, CacheFull, SessionsFull, Malformed, answer, answer_act, node_after, joined, goes_on, replace, still, is_over, takes_read, is_for, is_cast, stranger, session_with, session_for, has_joined, new_session, program_for, starter, started, acted, decided, sent, receipt, verdict_on, rows_of_start, rows_of_join, rows_of_next, join_rows, next_rows, rows, notes, notes_of_start, notes_of_act, no_notes, notes_of_read, session_of_frame, hashed_of_join, hashed_openings, row_number, events_of_answer, sid_of}
-use Rattle.sg_protocol.specs.Walk as A'
+use Rattle.sg_model.specs.Bytes.{IsBytes}
+use Rattle.sg_protocol.specs.Reading.{read}
+use Rattle.sg_protocol.specs.Node.{Node, is_for, is_cast, stranger, session_with, session_for, has_joined, program_for, starter}
+use Rattle.sg_protocol.specs.NodeAfter.{node_after, joined, goes_on, replace, still, is_over, takes_read}
+use Rattle.sg_protocol.specs.Walk as Walk'
 use Rattle.sg_protocol.specs.Frame as Frame'
-use Rattle.sg_protocol.specs.Walk.{acts_of_event}
 use Rattle.sg_law.specs.Values.{AllMay, May, moved_all, Deed, deed_of, all_openings}
 use Rattle.sg_protocol.proofs.Paths.{acts_of, TypedDeed}
 use Rattle.sg_protocol.proofs.Isolation.{of_sid, find-filter, filter-append, replace-other, replace-own, still-own, still-other}
 use Rattle.sg_protocol.proofs.TextLaws.{cast_fits, opening_fits}
-use Rattle.sg_protocol.proofs.ReadBack.{read-Spells}
+use Rattle.sg_protocol.proofs.ReadBack.{read-SpellsFrame}
 use Rattle.sg_protocol.proofs.Bridge.{has_view-Contains}
 use Rattle.sg_protocol.proofs.Entries.{not_start}
 use Rattle.sg_protocol.proofs.Takes as T
@@ -129,7 +132,7 @@ find_all p P (x ∷ xs) y a e = elim (cases_Bool (p x)) [
 
 module _ (sha : Hash) (hash : IsHash sha) (s : Schedule) (programs : List Program) (sid : List ℕ) (cast : Cast) (g : Graph) (is : IsGraph g) (acc : Accepted g) (version : IsVersion cast.version) (long : length sid ≡ 32) (differ : all_differ cast.names ≡ true)
     (prog : (r : ℕ) (p : Program) → program_for programs cast.graph r ≡ Some p → (p.graph ≡ g) × IsViewTable p.graph r p.views)
-    (Hashed : List ℕ → Type 0) (one_cast : (c : Cast) → CastFits c → Hashed (session_text c) → session_id sha c ≡ sid → c ≡ cast) where
+    (Hashed : List ℕ → Type 0) (one_cast : (c : Cast) → CastFits c → Hashed (session_text_of c) → session_id sha c ≡ sid → c ≡ cast) where
   abbrev pub commit : Commit
   commit o = commitment sha sid o
 
@@ -181,7 +184,7 @@ module _ (sha : Hash) (hash : IsHash sha) (s : Schedule) (programs : List Progra
     pub kept : Kept who st (moved_all commit st moves)
     pub events : flat_map acts_of_event (filter (λ e. bytes_eq (sid_of e) sid) (events_of_answer a)) ≡ flat_map (acts_of g) (map deed_of moves)
     pub typed : AllByRecursion (TypedDeed g honest) (map deed_of moves)
-    pub used : AllByRecursion (λ (o : Opening). In nts.hashed (commitment_text sid o) × OpeningFits o) (all_openings moves)
+    pub used : AllByRecursion (λ (o : Opening). In nts.hashed (commitment_text_of sid o) × OpeningFits o) (all_openings moves)
     pub made : (nt : Note) → In nts.made nt → NoteOk g sid (moved_all commit st moves).log nt
     pub log : (mk : Made) → In st.log mk → In (moved_all commit st moves).log mk
 
@@ -331,9 +334,9 @@ module _ (sha : Hash) (hash : IsHash sha) (s : Schedule) (programs : List Progra
   -- ---- a start
 
   start_made : (c : Cast) (a : Answer) (nt : Note) → In (notes_of_start c a).made nt → ⊥
-  start_made c (NotStarted NoGraph) nt i = i
-  start_made c (NotStarted WrongCast) nt i = i
-  start_made c (NotStarted (NoPeer name)) nt i = i
+  start_made c (NotStarted StartFault.UnknownGraph) nt i = i
+  start_made c (NotStarted StartFault.BadCast) nt i = i
+  start_made c (NotStarted (StartFault.UnknownPeer name)) nt i = i
   start_made c other nt i = i
 
   start_node : (n : Node) (c : Cast) (r : ℕ) (o : Option StartFault) (f : StartFault) → node_after n (Start c) (NotStarted f) ≡ n
@@ -350,20 +353,20 @@ module _ (sha : Hash) (hash : IsHash sha) (s : Schedule) (programs : List Progra
       abbrev sid' : List ℕ
       sid' = session_id sha c
 
-      start_done : (p : Program) → first_some (rows_of_start n p (session_id sha c) c) ≡ None → ((t : List ℕ) → In (session_text c ∷ []) t → Hashed t) → Out st who n (Start c) (Happened (Started (session_id sha c) p.role)) (record { made = []; found = []; hashed = session_text c ∷ [] })
+      start_done : (p : Program) → first_some (rows_of_start n p (session_id sha c) c) ≡ None → ((t : List ℕ) → In (session_text_of c ∷ []) t → Hashed t) → Out st who n (Start c) (Happened (Started (session_id sha c) p.role)) (record { made = []; found = []; hashed = session_text_of c ∷ [] })
       start_done p e hs = elim (cases_Bool (bytes_eq (session_id sha c) sid)) [
         | inl h ↦ mine h
-        | inr h ↦ nothing st who n (Start c) (Happened (Started (session_id sha c) p.role)) (record { made = []; found = []; hashed = session_text c ∷ [] })
-            (other_joined (new_session (session_id sha c) c p.role) h (hash (session_text c)).0) (event_other (Started (session_id sha c) p.role) h) (λ nt i. absurd i)
+        | inr h ↦ nothing st who n (Start c) (Happened (Started (session_id sha c) p.role)) (record { made = []; found = []; hashed = session_text_of c ∷ [] })
+            (other_joined (new_session (session_id sha c) c p.role) h (hash (session_text_of c)).0) (event_other (Started (session_id sha c) p.role) h) (λ nt i. absurd i)
       ]
         where
-          mine : bytes_eq (session_id sha c) sid ≡ true → Out st who n (Start c) (Happened (Started (session_id sha c) p.role)) (record { made = []; found = []; hashed = session_text c ∷ [] })
+          mine : bytes_eq (session_id sha c) sid ≡ true → Out st who n (Start c) (Happened (Started (session_id sha c) p.role)) (record { made = []; found = []; hashed = session_text_of c ∷ [] })
           mine h =
               let same : session_id sha c ≡ sid = same_bytes_ (session_id sha c) sid h in
-              let its : c ≡ cast = one_cast c fits (hs (session_text c) (inl refl)) same in
-              let one : (row (not (is_cast n.keys p.graph c p.role)) WrongCast ≡ None) × (first_some (option_map NoPeer (stranger n.keys c) ∷ row (has_joined n.joins (session_id sha c) p.role) WasJoined ∷ row (nat_le 65536 (length n.joins)) NoRoomToJoin ∷ row (nat_le 4096 (length n.live)) NoRoomForSession ∷ []) ≡ None) = none_parts _ _ e in
-              let two = none_parts (option_map NoPeer (stranger n.keys c)) (row (has_joined n.joins (session_id sha c) p.role) WasJoined ∷ row (nat_le 65536 (length n.joins)) NoRoomToJoin ∷ row (nat_le 4096 (length n.live)) NoRoomForSession ∷ []) one.1 in
-              let three = none_parts (row (has_joined n.joins (session_id sha c) p.role) WasJoined) (row (nat_le 65536 (length n.joins)) NoRoomToJoin ∷ row (nat_le 4096 (length n.live)) NoRoomForSession ∷ []) two.1 in
+              let its : c ≡ cast = one_cast c fits (hs (session_text_of c) (inl refl)) same in
+              let one : (row (not (is_cast n.keys p.graph c p.role)) StartFault.BadCast ≡ None) × (first_some (option_map StartFault.UnknownPeer (stranger n.keys c) ∷ row (has_joined n.joins (session_id sha c) p.role) StartFault.Joined ∷ row (nat_le 65536 (length n.joins)) StartFault.CacheFull ∷ row (nat_le 4096 (length n.live)) StartFault.SessionsFull ∷ []) ≡ None) = none_parts _ _ e in
+              let two = none_parts (option_map StartFault.UnknownPeer (stranger n.keys c)) (row (has_joined n.joins (session_id sha c) p.role) StartFault.Joined ∷ row (nat_le 65536 (length n.joins)) StartFault.CacheFull ∷ row (nat_le 4096 (length n.live)) StartFault.SessionsFull ∷ []) one.1 in
+              let three = none_parts (row (has_joined n.joins (session_id sha c) p.role) StartFault.Joined) (row (nat_le 65536 (length n.joins)) StartFault.CacheFull ∷ row (nat_le 4096 (length n.live)) StartFault.SessionsFull ∷ []) two.1 in
               let cp = cast_parts n.keys p.graph c p.role (not_false (is_cast n.keys p.graph c p.role) (row_none _ _ one.0)) in
               let free : has_joined n.joins sid p.role ≡ false = subst (λ z. has_joined n.joins z p.role ≡ false) same (row_none _ _ three.0) in
               let is_who : principal cast p.role ≡ who = subst (λ (z : Cast). principal z p.role ≡ who) its (cp.1 ∙ ok.me) in
@@ -373,7 +376,7 @@ module _ (sha : Hash) (hash : IsHash sha) (s : Schedule) (programs : List Progra
               record {
                 moves = [];
                 may = tt;
-                node = joined_ok (new_session (session_id sha c) c p.role) st (hash (session_text c)).0 (join_status st who n (new_session (session_id sha c) c p.role) ok.has_programs fresh.alone m);
+                node = joined_ok (new_session (session_id sha c) c p.role) st (hash (session_text_of c)).0 (join_status st who n (new_session (session_id sha c) c p.role) ok.has_programs fresh.alone m);
                 kept = kept_same who st;
                 events = rw h refl;
                 typed = tt;
@@ -387,9 +390,9 @@ module _ (sha : Hash) (hash : IsHash sha) (s : Schedule) (programs : List Progra
       start_rows p None e hs = start_done p e hs
       start_rows p (Some f) e hs = nothing st who n (Start c) (NotStarted f) (notes_of_start c (NotStarted f)) ok refl (λ nt i. absurd (start_made c (NotStarted f) nt i))
 
-      start_program : (o : Option Program) → let a : Answer = option_map_or (λ (p : Program). started (session_id sha c) p.role (first_some (rows_of_start n p (session_id sha c) c))) o (NotStarted NoGraph) in
+      start_program : (o : Option Program) → let a : Answer = option_map_or (λ (p : Program). started (session_id sha c) p.role (first_some (rows_of_start n p (session_id sha c) c))) o (NotStarted StartFault.UnknownGraph) in
           ((t : List ℕ) → In (notes_of_start c a).hashed t → Hashed t) → Out st who n (Start c) a (notes_of_start c a)
-      start_program None hs = nothing st who n (Start c) (NotStarted NoGraph) (notes_of_start c (NotStarted NoGraph)) ok refl (λ nt i. absurd i)
+      start_program None hs = nothing st who n (Start c) (NotStarted StartFault.UnknownGraph) (notes_of_start c (NotStarted StartFault.UnknownGraph)) ok refl (λ nt i. absurd i)
       start_program (Some p) hs = start_rows p (first_some (rows_of_start n p (session_id sha c) c)) refl hs
 
     pub start_out : (c : Cast) → CastFits c → ((t : List ℕ) → In (notes sha n (Start c)).hashed t → Hashed t) → Out st who n (Start c) (answer sha n (Start c)) (notes sha n (Start c))
@@ -425,9 +428,9 @@ module _ (sha : Hash) (hash : IsHash sha) (s : Schedule) (programs : List Progra
     pub abandon_out : (sid0 : List ℕ) → Out st who n (Abandon sid0) (answer sha n (Abandon sid0)) (notes sha n (Abandon sid0))
     abandon_out sid0 = go (session_with n.live sid0)
       where
-        go : (o : Option Session) → Out st who n (Abandon sid0) (option_map_or (λ (x : Session). Left) o NotLeft) (record { made = []; found = []; hashed = [] })
-        go None = nothing st who n (Abandon sid0) NotLeft (record { made = []; found = []; hashed = [] }) ok refl (λ nt i. absurd i)
-        go (Some x) = nothing st who n (Abandon sid0) Left (record { made = []; found = []; hashed = [] }) (abandon_done sid0) refl (λ nt i. absurd i)
+        go : (o : Option Session) → Out st who n (Abandon sid0) (option_map_or (λ (x : Session). Abandoned) o NotAbandoned) (record { made = []; found = []; hashed = [] })
+        go None = nothing st who n (Abandon sid0) NotAbandoned (record { made = []; found = []; hashed = [] }) ok refl (λ nt i. absurd i)
+        go (Some x) = nothing st who n (Abandon sid0) Abandoned (record { made = []; found = []; hashed = [] }) (abandon_done sid0) refl (λ nt i. absurd i)
 
     -- ---- a step is sent
 
@@ -477,9 +480,9 @@ module _ (sha : Hash) (hash : IsHash sha) (s : Schedule) (programs : List Progra
         abbrev which : Session → Bool
         which z = bytes_eq z.sid sid0
 
-        module _ (x : Session) (p : Program) (found_x : session_with n.live sid0 ≡ Some x) (found_p : program_for n.programs x.cast.graph x.role ≡ Some p) (rows : first_some (rows_of_act p x label values) ≡ None) (spelled : HasSpelling (frame_of sha n.keys p x label (openings_for values (map F values)))) where
+        module _ (x : Session) (p : Program) (found_x : session_with n.live sid0 ≡ Some x) (found_p : program_for n.programs x.cast.graph x.role ≡ Some p) (rows : first_some (rows_of_act p x label values) ≡ None) (spelled : HasSpelling (frame_sent sha n.keys p x label (openings_for values (map F values)))) where
           abbrev f : Frame
-          f = frame_of sha n.keys p x label os
+          f = frame_sent sha n.keys p x label os
 
           abbrev event : Event
           event = Sent x.sid x.role label (time x + 1) values
@@ -563,18 +566,18 @@ module _ (sha : Hash) (hash : IsHash sha) (s : Schedule) (programs : List Progra
                       (ap now (sym t.1) ∙ ap (λ o. option_map_or (λ (i : Item). still n.programs (extended x (Gave i os))) o (x ∷ [])) gv.its_last) (ap (λ (z : Session). z.role) t.1) gv.matches;
                 };
                 kept = kept_writes who st x.role label os m.is_who;
-                events = rw sid_true (ap (λ r. A'.Sends r label (shown values) ∷ []) (sym gv.by_x) ∙ ap (λ l. A'.Sends (sender (shape g) label) label l ∷ []) (sym (opened_values F values)));
+                events = rw sid_true (ap (λ r. Walk'.Sends r label (shown values) ∷ []) (sym gv.by_x) ∙ ap (λ l. Walk'.Sends (sender (shape g) label) label l ∷ []) (sym (opened_values F values)));
                 typed = (gv.typed, tt);
                 used = used_all;
                 made = gv.notes_ok;
                 log = λ mk i. in_left st.log (V.made_by commit st x.role label os ∷ []) mk i;
               }
             where
-              used_in : (zs : List Opening) → AllByRecursion OpeningFits zs → ((o : Opening) → In zs o → In os o) → AllByRecursion (λ (o : Opening). In (notes_of_sent n.keys p x f os).hashed (commitment_text sid o) × OpeningFits o) (zs ++ [])
+              used_in : (zs : List Opening) → AllByRecursion OpeningFits zs → ((o : Opening) → In zs o → In os o) → AllByRecursion (λ (o : Opening). In (notes_of_sent n.keys p x f os).hashed (commitment_text_of sid o) × OpeningFits o) (zs ++ [])
               used_in [] a w = tt
-              used_in (o ∷ zs) a w = ((subst (λ y. In (map (commitment_text y) os) (commitment_text sid o)) (sym (x_sid ∙ same_bytes_ sid0 sid h)) (in_map (commitment_text sid) os o (w o (inl refl))), a.0), used_in zs a.1 (λ z i. w z (inr i)))
+              used_in (o ∷ zs) a w = ((subst (λ y. In (map (commitment_text_of y) os) (commitment_text_of sid o)) (sym (x_sid ∙ same_bytes_ sid0 sid h)) (in_map (commitment_text_of sid) os o (w o (inl refl))), a.0), used_in zs a.1 (λ z i. w z (inr i)))
 
-              used_all : AllByRecursion (λ (o : Opening). In (notes_of_sent n.keys p x f os).hashed (commitment_text sid o) × OpeningFits o) (os ++ [])
+              used_all : AllByRecursion (λ (o : Opening). In (notes_of_sent n.keys p x f os).hashed (commitment_text_of sid o) × OpeningFits o) (os ++ [])
               used_all = used_in os opens (λ o i. i)
 
           act_done : Out st who n (Act sid0 label values (map F values)) its_answer (notes_of_sent n.keys p x f os)
@@ -595,10 +598,10 @@ module _ (sha : Hash) (hash : IsHash sha) (s : Schedule) (programs : List Progra
         act_of_rows x p o = acted (sent sha n.keys p x label values (map F values)) o
 
         abbrev act_of_program : Session → Option Program → Answer
-        act_of_program x o = option_map_or (λ p. act_of_rows x p (first_some (rows_of_act p x label values))) o (NotActed NoSession)
+        act_of_program x o = option_map_or (λ p. act_of_rows x p (first_some (rows_of_act p x label values))) o (NotActed ActFault.UnknownSession)
 
         abbrev act_of_session : Option Session → Answer
-        act_of_session o = option_map_or (λ x. act_of_program x (program_for n.programs x.cast.graph x.role)) o (NotActed NoSession)
+        act_of_session o = option_map_or (λ x. act_of_program x (program_for n.programs x.cast.graph x.role)) o (NotActed ActFault.UnknownSession)
 
         abbrev notes_with : Option Session → Frame → Notes
         notes_with o f = option_map_or (λ x. option_map_or (λ p. notes_of_sent n.keys p x f os) (program_for n.programs x.cast.graph x.role) no_notes) o no_notes
@@ -613,16 +616,16 @@ module _ (sha : Hash) (hash : IsHash sha) (s : Schedule) (programs : List Progra
             by_rows x p e e2 (Some fault) e3 = not_acted fault (ap act_of_session e ∙ ap (act_of_program x) e2 ∙ ap (act_of_rows x p) e3)
             by_rows x p e e2 None e3 =
                 let ans : answer sha n (Act sid0 label values (map F values)) ≡ act_of_rows x p None = ap act_of_session e ∙ ap (act_of_program x) e2 ∙ ap (act_of_rows x p) e3 in
-                let nts : notes_with (session_with n.live sid0) (frame_of sha n.keys p x label os) ≡ notes_of_sent n.keys p x (frame_of sha n.keys p x label os) os = ap (λ o. notes_with o (frame_of sha n.keys p x label os)) e ∙ ap (λ o. option_map_or (λ p'. notes_of_sent n.keys p' x (frame_of sha n.keys p x label os) os) o no_notes) e2 in
+                let nts : notes_with (session_with n.live sid0) (frame_sent sha n.keys p x label os) ≡ notes_of_sent n.keys p x (frame_sent sha n.keys p x label os) os = ap (λ o. notes_with o (frame_sent sha n.keys p x label os)) e ∙ ap (λ o. option_map_or (λ p'. notes_of_sent n.keys p' x (frame_sent sha n.keys p x label os) os) o no_notes) e2 in
                 subst (λ a. Out st who n (Act sid0 label values (map F values)) a (notes_of_act n sid0 os a)) (sym ans)
                 (subst (Out st who n (Act sid0 label values (map F values)) (act_of_rows x p None)) (sym nts) (act_done x p e e2 e3 (spelled _ _ _ ans)))
 
             by_program : (x : Session) → session_with n.live sid0 ≡ Some x → (o : Option Program) → program_for n.programs x.cast.graph x.role ≡ o → Out st who n (Act sid0 label values (map F values)) (answer sha n (Act sid0 label values (map F values))) (notes sha n (Act sid0 label values (map F values)))
-            by_program x e None e2 = not_acted NoSession (ap act_of_session e ∙ ap (act_of_program x) e2)
+            by_program x e None e2 = not_acted ActFault.UnknownSession (ap act_of_session e ∙ ap (act_of_program x) e2)
             by_program x e (Some p) e2 = by_rows x p e e2 (first_some (rows_of_act p x label values)) refl
 
             by_session : (o : Option Session) → session_with n.live sid0 ≡ o → Out st who n (Act sid0 label values (map F values)) (answer sha n (Act sid0 label values (map F values))) (notes sha n (Act sid0 label values (map F values)))
-            by_session None e = not_acted NoSession (ap act_of_session e)
+            by_session None e = not_acted ActFault.UnknownSession (ap act_of_session e)
             by_session (Some x) e = by_program x e (program_for n.programs x.cast.graph x.role) refl
 
       -- ---- a frame is delivered
@@ -686,9 +689,9 @@ module _ (sha : Hash) (hash : IsHash sha) (s : Schedule) (programs : List Progra
           node = node';
           kept = kept_takes who st x.role t.node (entries f.items) f.openings is_who;
           events = rw ((bytes_eq-Decides f.sid sid).1 fs) (
-              ap (λ o. A'.Receives f.receiver (unwrap_or (option_map (λ (i : Item). i.label) o) 0) (shown (map (λ (o : Opening). (o.variable, o.value)) f.openings)) ∷ []) t.is_last
-              ∙ ap (λ l. A'.Receives f.receiver (t.last_one).label l ∷ []) (shown_openings f.openings)
-              ∙ ap (λ r. A'.Receives r (t.last_one).label (V.values_of f.openings) ∷ []) (fr ∙ sym t.by_me)
+              ap (λ o. Walk'.Receives f.receiver (unwrap_or (option_map (λ (i : Item). i.label) o) 0) (shown (map (λ (o : Opening). (o.variable, o.value)) f.openings)) ∷ []) t.is_last
+              ∙ ap (λ l. Walk'.Receives f.receiver (t.last_one).label l ∷ []) (shown_openings f.openings)
+              ∙ ap (λ r. Walk'.Receives r (t.last_one).label (V.values_of f.openings) ∷ []) (fr ∙ sym t.by_me)
               ∙ ap (λ o. flat_map (acts_of g) (Reads (option_map (λ (i : B.Entry Code). i.label) o) (V.values_of f.openings) ∷ [])) (sym (last-option_map entry f.items ∙ ap (option_map entry) t.is_last)));
           typed = (t.typed, tt);
           used = used_in f.openings (fit_openings f.openings spelled.openings) (λ o i. i);
@@ -696,12 +699,12 @@ module _ (sha : Hash) (hash : IsHash sha) (s : Schedule) (programs : List Progra
           log = λ mk i. i;
         }
           where
-            used_in : (zs : List Opening) → AllByRecursion OpeningFits zs → ((o : Opening) → In zs o → In f.openings o) → AllByRecursion (λ (o : Opening). In (nts_of 16 (Some (p, x))).hashed (commitment_text sid o) × OpeningFits o) (zs ++ [])
+            used_in : (zs : List Opening) → AllByRecursion OpeningFits zs → ((o : Opening) → In zs o → In f.openings o) → AllByRecursion (λ (o : Opening). In (nts_of 16 (Some (p, x))).hashed (commitment_text_of sid o) × OpeningFits o) (zs ++ [])
             used_in [] a w = tt
             used_in (o ∷ zs) a w = (
               (
-                in_right (hashed_of_join f 16) (map (commitment_text x.sid) (hashed_openings sha p.graph x f f.openings)) (commitment_text sid o)
-                    (subst (λ l. In (map (commitment_text x.sid) l) (commitment_text sid o)) (sym (hashed_all p.graph x f.openings rs.openings)) (subst (λ y. In (map (commitment_text y) f.openings) (commitment_text sid o)) (sym xs) (in_map (commitment_text sid) f.openings o (w o (inl refl))))),
+                in_right (hashed_of_join f 16) (map (commitment_text_of x.sid) (hashed_openings sha p.graph x f f.openings)) (commitment_text_of sid o)
+                    (subst (λ l. In (map (commitment_text_of x.sid) l) (commitment_text_of sid o)) (sym (hashed_all p.graph x f.openings rs.openings)) (subst (λ y. In (map (commitment_text_of y) f.openings) (commitment_text_of sid o)) (sym xs) (in_map (commitment_text_of sid) f.openings o (w o (inl refl))))),
                 a.0,
               ),
               used_in zs a.1 (λ z i. w z (inr i)),
@@ -750,8 +753,8 @@ module _ (sha : Hash) (hash : IsHash sha) (s : Schedule) (programs : List Progra
               let of_c : session_id sha c ≡ sid = sym (same_bytes_ f.sid (session_id sha c) (not_false (bytes_eq f.sid (session_id sha c)) (row_none _ _ r3.0))) ∙ fs in
               let co = subst (λ o. IfSome o (Frame'.IsCastOf f.version)) jc spelled.join in
               let fits : CastFits c = cast_fits c (subst IsVersion (sym co.version) spelled.version) (subst (λ v. Frame'.IsCastOf v c) (sym co.version) co) in
-              let in_hashed : In (notes_of_read sha n (Ok f)).hashed (session_text c) = subst (λ (z : Notes). In z.hashed (session_text c)) (sym nts) (in_left (hashed_of_join f 16) (nts_in 16 (Some (p, x))).hashed (session_text c) (subst (λ o. In (option_map_or (λ c. session_text c ∷ []) o []) (session_text c)) (sym jc) (inl refl))) in
-              let its : c ≡ cast = one_cast c fits (hs (session_text c) in_hashed) of_c in
+              let in_hashed : In (notes_of_read sha n (Ok f)).hashed (session_text_of c) = subst (λ (z : Notes). In z.hashed (session_text_of c)) (sym nts) (in_left (hashed_of_join f 16) (nts_in 16 (Some (p, x))).hashed (session_text_of c) (subst (λ o. In (option_map_or (λ c. session_text_of c ∷ []) o []) (session_text_of c)) (sym jc) (inl refl))) in
+              let its : c ≡ cast = one_cast c fits (hs (session_text_of c) in_hashed) of_c in
               let cp = cast_parts n.keys p.graph c f.receiver (and_parts (is_cast n.keys p.graph c f.receiver) (nat_lt f.sender (length c.names)) (not_false (is_cast n.keys p.graph c f.receiver && nat_lt f.sender (length c.names)) (row_none _ _ r1.0))).0 in
               let free : has_joined n.joins sid f.receiver ≡ false = subst (λ z. has_joined n.joins z f.receiver ≡ false) fs (row_none _ _ r4.0) in
               let is_who : principal cast f.receiver ≡ who = subst (λ (z : Cast). principal z f.receiver ≡ who) its (cp.1 ∙ ok.me) in
@@ -820,7 +823,7 @@ module _ (sha : Hash) (hash : IsHash sha) (s : Schedule) (programs : List Progra
           by_join e fs (Some c) j = join_program e fs c j (program_for n.programs c.graph f.receiver) refl
 
           by_rows : (o : Option Refusal) → first_some (rows sha n f) ≡ o → Out st who n (Deliver bs) (decided (receipt f) o) (notes_of_read sha n (Ok f))
-          by_rows (Some r) e = nothing st who n (Deliver bs) (Refused r) (notes_of_read sha n (Ok f)) ok refl (λ nt i. absurd (no_made (row_number (first_some (rows sha n f))) (session_of_frame n f) nt i))
+          by_rows (Some r) e = nothing st who n (Deliver bs) (NotDelivered r) (notes_of_read sha n (Ok f)) ok refl (λ nt i. absurd (no_made (row_number (first_some (rows sha n f))) (session_of_frame n f) nt i))
           by_rows None e = elim (cases_Bool (bytes_eq f.sid sid)) [ inl h ↦ by_join e (same_bytes_ f.sid sid h) f.join refl | inr h ↦ other_done h ]
 
       pub deliver_out : (bs : List ℕ) → IsBytes bs → ((nt : Note) → In (notes sha n (Deliver bs)).found nt → is_honest s nt.one ≡ true → is_honest s nt.two ≡ true → NoteOk g sid st.log nt) → ((t : List ℕ) → In (notes sha n (Deliver bs)).hashed t → Hashed t)
@@ -828,6 +831,6 @@ module _ (sha : Hash) (hash : IsHash sha) (s : Schedule) (programs : List Progra
       deliver_out bs bytes founds hs = go (read bs) refl
         where
           go : (r : Result Frame ℕ) → read bs ≡ r → Out st who n (Deliver bs) (answer sha n (Deliver bs)) (notes sha n (Deliver bs))
-          go (Err at) e = subst (λ r. Out st who n (Deliver bs) (verdict_on sha n r) (notes_of_read sha n r)) (sym e) (nothing st who n (Deliver bs) (Refused (Malformed at)) no_notes ok refl (λ nt i. absurd i))
+          go (Err at) e = subst (λ r. Out st who n (Deliver bs) (verdict_on sha n r) (notes_of_read sha n r)) (sym e) (nothing st who n (Deliver bs) (NotDelivered (Malformed at)) no_notes ok refl (λ nt i. absurd i))
           go (Ok f) e = subst (λ r. Out st who n (Deliver bs) (verdict_on sha n r) (notes_of_read sha n r)) (sym e)
-              (by_rows f (read-Spells bs f bytes e).is_frame bs e (subst (λ r. (nt : Note) → In (notes_of_read sha n r).found nt → is_honest s nt.one ≡ true → is_honest s nt.two ≡ true → NoteOk g sid st.log nt) e founds) (subst (λ r. (t : List ℕ) → In (notes_of_read sha n r).hashed t → Hashed t) e hs) (first_some (rows sha n f)) refl)
+              (by_rows f (read-SpellsFrame bs f bytes e).is_frame bs e (subst (λ r. (nt : Note) → In (notes_of_read sha n r).found nt → is_honest s nt.one ≡ true → is_honest s nt.two ≡ true → NoteOk g sid st.log nt) e founds) (subst (λ r. (t : List ℕ) → In (notes_of_read sha n r).hashed t → Hashed t) e hs) (first_some (rows sha n f)) refl)

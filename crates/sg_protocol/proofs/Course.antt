@@ -9,14 +9,16 @@ use Rattle.sg_model.specs.Last.{Map}
 use Rattle.sg_model.specs.Lists.{all_differ}
 use Rattle.sg_model.specs.Shape.{Shape}
 use Rattle.sg_model.specs.Values.{Value, Opening}
-use Rattle.sg_protocol.specs.Graph.{Name, Graph, IsGraph, shape}
+use Rattle.sg_model.specs.Names.{Name}
+use Rattle.sg_protocol.specs.Graph.{Graph, IsGraph, shape}
 use Rattle.sg_protocol.specs.Evidence.{IsViewTable}
-use Rattle.sg_protocol.specs.Frame.{Cast, Frame, HasSpelling}
-use Rattle.sg_protocol.specs.Texts.{Hash, IsHash, commitment, commitment_text}
-use Rattle.sg_protocol.specs.TextLaws.{IsVersion}
-use Rattle.sg_protocol.specs.Session.{Program}
-use Rattle.sg_protocol.specs.Node.{Note}
-use Rattle.sg_protocol.specs.Run.{Schedule, is_honest, honest_role}
+use Rattle.sg_protocol.specs.Frame.{Cast, Frame, IsValue}
+use Rattle.sg_protocol.specs.Spelling.{HasSpelling, u64}
+use Rattle.sg_protocol.specs.Texts.{Hash, IsHash, commitment, commitment_text_of, session_id, session_text_of, graph_text_of}
+use Rattle.sg_protocol.specs.TextLaws.{IsVersion, CastFits, OpeningFits, ValueFits}
+use Rattle.sg_protocol.specs.Keyring.{Program}
+use Rattle.sg_protocol.specs.Notes.{Note, notes}
+use Rattle.sg_protocol.specs.Schedule.{Schedule, is_honest, honest_role, Step, StartStep, ActStep, AbandonStep, DeliverStep, CraftStep, What, cast_of, sid_at, confounder}
 use Rattle.sg_law.specs.Values as V
 use Rattle.sg_law.specs.Values.{State, Made, whole, com_of, Move, Commit, moved, MayTake, Tagged, Framed, Opened, own_of, is_variable, put}
 use Rattle.sg_law.specs.Values.Move.{Writes, Takes}
@@ -27,12 +29,12 @@ use Rattle.sg_protocol.proofs.Paths.{flat_map-append}
 use Rattle.sg_protocol.proofs.Moves.{NoteOk, in_left, in_right}
 use Rattle.sg_model.specs.Lists.{keys_of}
 use Rattle.sg_law.specs.Values.{MayWrite}
-use Rattle.sg_protocol.specs.Node.{openings_for}
+use Rattle.sg_protocol.specs.Acting.{openings_for, answer}
 use Rattle.sg_protocol.specs.Accepted.{Accepted}
-use Rattle.sg_protocol.specs.Frame.{IsBytes, IsValue}
-use Rattle.sg_protocol.specs.Texts.{session_id, session_text}
-use Rattle.sg_protocol.specs.TextLaws.{CastFits, OpeningFits}
-use Rattle.sg_protocol.specs.Node.{Node, Event, Call, Start, Act, Abandon, Deliver, Sends, answer, node_after, program_for, notes, events_of_answer, sid_of}
+use Rattle.sg_model.specs.Bytes.{IsBytes}
+use Rattle.sg_protocol.specs.Node.{Node, program_for}
+use Rattle.sg_protocol.specs.Calls.{Event, Call, Start, Act, Abandon, Deliver, Sends, events_of_answer, sid_of}
+use Rattle.sg_protocol.specs.NodeAfter.{node_after}
 use Rattle.sg_protocol.specs.Walk.{acts_of_event}
 use Rattle.sg_law.specs.Values.{AllMay, May, moved_all, Deed, deed_of, all_openings}
 use Rattle.sg_protocol.proofs.Paths.{acts_of, TypedDeed}
@@ -40,12 +42,11 @@ use Rattle.sg_protocol.proofs.Isolation.{filter-append}
 use Rattle.sg_protocol.proofs.Acts as C
 use Rattle.std.proofs.lemmas.List.{length-append}
 use Rattle.sg_model.specs.Values.{IntValue, TextValue}
-use Rattle.sg_protocol.specs.Texts.{graph_text}
-use Rattle.sg_protocol.specs.Frame.{u64}
-use Rattle.sg_protocol.specs.Node.{Past, Called, node_of, new_node, node_after_all, past_after}
-use Rattle.sg_protocol.specs.TextLaws.{ValueFits}
-use Rattle.sg_protocol.specs.Run.{World, Logged, Outcome, Answered, Crafted, NoFrame, Step, StartStep, ActStep, AbandonStep, DeliverStep, CraftStep, What, past_of, called, called_if, uncalled, world_after, world_after_all, call_of, cast_of, sid_at, bytes_of, confounder, frame_in, events_of, events_of_outcome, hashed, Unforged}
-use Rattle.sg_protocol.specs.Headline.{IsStep}
+use Rattle.sg_protocol.specs.Past.{Past, Called, node_of, new_node, node_after_all, past_after}
+use Rattle.sg_protocol.specs.World.{World, Logged, Outcome, Answered, Crafted, NoFrame, past_of, call_of, bytes_of}
+use Rattle.sg_protocol.specs.Run.{called, called_if, uncalled, world_after, world_after_all, frame_in, events_of, events_of_outcome}
+use Rattle.sg_protocol.specs.Premises.{hashed, Unforged}
+use Rattle.sg_protocol.specs.IsSchedule.{IsStep}
 use Rattle.sg_law.proofs.Upto.{in_from_Contains}
 use Rattle.sg_protocol.proofs.Calls.{Out, NodeOk, node_kept, start_out, abandon_out, act_out, deliver_out, find_passes}
 
@@ -195,7 +196,7 @@ small_values (v ∷ vs) h = (h.0.0, small_values vs h.1)
 module _ (sha : Hash) (hash : IsHash sha) (s : Schedule) (programs : List Program) (sid : List ℕ) (cast : Cast) (g : Graph) (is : IsGraph g) (acc : Accepted g) (version : IsVersion cast.version) (long : length sid ≡ 32) (differ : all_differ cast.names ≡ true)
     (prog : (r : ℕ) (p : Program) → program_for programs cast.graph r ≡ Some p → (p.graph ≡ g) × IsViewTable p.graph r p.views)
     (wf : World) (unforged : Unforged s wf)
-    (one_cast : (c : Cast) → CastFits c → In (hashed s wf) (session_text c) → session_id sha c ≡ sid → c ≡ cast)
+    (one_cast : (c : Cast) → CastFits c → In (hashed s wf) (session_text_of c) → session_id sha c ≡ sid → c ≡ cast)
     (Fit : World → Type 0) (fit_next : (w : World) (k : ℕ) (x : Step) → Fit w → IsStep sha s x → Fit (world_after sha s w k x))
     (fit_bytes : (w : World) → Fit w → (who : Name) (what : What) (bs : List ℕ) → IsStep sha s (DeliverStep who what) → bytes_of w what ≡ Some bs → IsBytes bs)
     (fit_sends : (w : World) → Fit w → (k : ℕ) (x : Step) (who : Name) (past : Past) (c : Call) (e : Event) (to : Name) (f : Frame) → IsStep sha s x → past_of w who ≡ Some past → call_of sha s w k x ≡ Some c → answer sha (node_of past) c ≡ Sends e to f → HasSpelling f)
@@ -219,7 +220,7 @@ module _ (sha : Hash) (hash : IsHash sha) (s : Schedule) (programs : List Progra
     pub noted : (l : Logged) (nt : Note) → In w.log l → In l.notes.made nt → NoteOk g sid (moved_all commit (V.at_first (shape g)) moves).log nt
     pub events : flat_map acts_of_event (events_of sid w.log) ≡ flat_map (acts_of g) (map deed_of moves)
     pub typed : AllByRecursion (TypedDeed g honest) (map deed_of moves)
-    pub used : AllByRecursion (λ (o : Opening). Hashed (commitment_text sid o) × OpeningFits o) (all_openings moves)
+    pub used : AllByRecursion (λ (o : Opening). Hashed (commitment_text_of sid o) × OpeningFits o) (all_openings moves)
 
   -- a step without a call
   idle : (w : World) (k : ℕ) (who : Option Name) (o : Outcome) (fr : Option (List ℕ)) → events_of_outcome o ≡ [] → Progress w → Progress (uncalled w k who o fr)
@@ -271,7 +272,7 @@ module _ (sha : Hash) (hash : IsHash sha) (s : Schedule) (programs : List Progra
     hs_of : (c : Call) → Suffix (k + 1) (called sha w k who c past).log wf.log → Hs c
     hs_of c after t i =
         let here : In wf.log (entry_ c) = in_after (k + 1) (called sha w k who c past).log wf.log after (entry_ c) (C.in_last w.log (entry_ c)) in
-        in_right (map graph_text s.graphs) (flat_map (λ (l : Logged). l.notes.hashed) wf.log) t (in_flat (λ (l : Logged). l.notes.hashed) wf.log (entry_ c) t here i)
+        in_right (map graph_text_of s.graphs) (flat_map (λ (l : Logged). l.notes.hashed) wf.log) t (in_flat (λ (l : Logged). l.notes.hashed) wf.log (entry_ c) t here i)
 
     out_of : (c : Call) → call_of sha s w k x ≡ Some c → Founds c → Hs c → Outs c
     out_of c e = go x good c e (λ ev to f a. fit_sends w fit k x who past c ev to f good its_past e a)
@@ -307,7 +308,7 @@ module _ (sha : Hash) (hash : IsHash sha) (s : Schedule) (programs : List Progra
           ∙ ap (λ l. flat_map (acts_of g) (map deed_of p.moves) ++ flat_map acts_of_event (filter (λ e. bytes_eq (sid_of e) sid) l)) (append-nil (events_of_answer (answer sha n c)))
           ∙ ap (λ l. flat_map (acts_of g) (map deed_of p.moves) ++ l) out.events ∙ sym (flat_map-append (acts_of g) (map deed_of p.moves) (map deed_of out.moves)) ∙ ap (flat_map (acts_of g)) (sym (map-append deed_of p.moves out.moves));
       typed = subst (AllByRecursion (TypedDeed g honest)) (sym (map-append deed_of p.moves out.moves)) (all_both (TypedDeed g honest) (map deed_of p.moves) (map deed_of out.moves) p.typed out.typed);
-      used = subst (AllByRecursion (λ (o : Opening). Hashed (commitment_text sid o) × OpeningFits o)) (sym (openings-append p.moves out.moves)) (all_both (λ (o : Opening). Hashed (commitment_text sid o) × OpeningFits o) (all_openings p.moves) (all_openings out.moves) p.used (all_weak _ _ (λ o h. (hs_of c after (commitment_text sid o) h.0, h.1)) (all_openings out.moves) out.used));
+      used = subst (AllByRecursion (λ (o : Opening). Hashed (commitment_text_of sid o) × OpeningFits o)) (sym (openings-append p.moves out.moves)) (all_both (λ (o : Opening). Hashed (commitment_text_of sid o) × OpeningFits o) (all_openings p.moves) (all_openings out.moves) p.used (all_weak _ _ (λ o h. (hs_of c after (commitment_text_of sid o) h.0, h.1)) (all_openings out.moves) out.used));
     }
       where
         nodes_ : (me : Name) (p' : Past) (o : Option Past) → past_of w me ≡ o → option_map (next_past sha who c) o ≡ Some p' → Ok_ (moved_all commit st out.moves) me (node_of p') × (is_honest s me ≡ true)

@@ -13,8 +13,9 @@ use Rattle.sg_model.specs.Values.{Code}
 use Rattle.sg_protocol.specs.Graph.{Graph, Edge, shape, writes}
 use Rattle.sg_protocol.specs.Evidence.{Seen, View, IsView, walked, rising}
 use Rattle.sg_protocol.specs.Frame.{Item}
-use Rattle.sg_protocol.specs.Session.{committed, entry_of, item_of, tags_left, shown_to}
-use Rattle.sg_protocol.specs.Node.{seen}
+use Rattle.sg_protocol.specs.Session.{committed}
+use Rattle.sg_protocol.specs.Sending.{entry_of, item_of, tags_left, shown_to}
+use Rattle.sg_protocol.specs.Verdict.{seen}
 use Rattle.sg_law.specs.Last as B
 use Rattle.sg_law.specs.Accept.{Step}
 use Rattle.sg_law.specs.Run.{RisesFrom, own_time}

@@ -8,34 +8,37 @@ use Rattle.sg_model.specs.Last.{Map, last}
 use Rattle.sg_model.specs.Lists.{first_some, all_differ}
 use Rattle.sg_model.specs.Shape.{role_at}
 use Rattle.sg_model.specs.Values.{Value}
-use Rattle.sg_protocol.specs.Graph.{Name, Graph, shape}
-use Rattle.sg_protocol.specs.Frame.{Cast, spelling, magic, join_code, Item, Frame, HasSpelling, IsItem, AreBytes, IsTag, body}
-use Rattle.sg_protocol.specs.Texts.{Hash, IsHash}
-use Rattle.sg_protocol.specs.TextLaws.{IsVersion}
-use Rattle.sg_protocol.specs.Session.{Keyring, Program, Session, Took, Gave, principal, own, time, extended}
-use Rattle.sg_protocol.specs.Node.{Refusal, row, rows_of_session}
-use Rattle.sg_protocol.specs.Run.{Schedule}
+use Rattle.sg_model.specs.Names.{Name}
+use Rattle.sg_protocol.specs.Graph.{Graph, shape}
+use Rattle.sg_protocol.specs.Frame.{Cast, Item, Frame, IsItem, IsTag, IsValue, IsOpening}
+use Rattle.sg_protocol.specs.Spelling.{HasSpelling}
+use Rattle.sg_protocol.specs.Texts.{Hash, IsHash, session_id, session_text_of, graph_text_of}
+use Rattle.sg_protocol.specs.TextLaws.{IsVersion, CastFits}
+use Rattle.sg_protocol.specs.Keyring.{Keyring, Program}
+use Rattle.sg_protocol.specs.Session.{Session, Took, Gave, principal, own, time, extended, new_session}
+use Rattle.sg_protocol.specs.Calls.{Refusal, ActFault, Started, Received, Call, Start, Act, Abandon, Deliver, Answer, Happened, Sends, Abandoned, NotStarted, NotActed, NotAbandoned, StartFault, UnknownGraph, UnknownSession, BadCast, BadSession, UnknownPeer, Joined, CacheFull, SessionsFull, events_of_answer, sid_of}
+use Rattle.sg_protocol.specs.Verdict.{row, rows_of_session, decided, receipt, verdict_on, rows_of_join, rows_of_next, join_rows, next_rows, rows}
+use Rattle.sg_protocol.specs.Schedule.{Schedule, Step, StartStep, ActStep, AbandonStep, DeliverStep, CraftStep, What, cast_of, sid_at, confounder}
 use Rattle.sg_law.proofs.Upto.{In}
 use Rattle.sg_protocol.proofs.Paths.{flat_map-append}
 use Rattle.sg_protocol.proofs.Moves.{and_parts, not_false, none_parts, row_none, in_left, in_right}
-use Rattle.sg_protocol.specs.Session.{frame_of}
-use Rattle.sg_protocol.specs.Node.{ActFault, rows_of_act, openings_for, Notes}
+use Rattle.sg_protocol.specs.Sending.{frame_sent}
+use Rattle.sg_protocol.specs.Acting.{rows_of_act, openings_for, answer, started, acted, sent, rows_of_start}
+use Rattle.sg_protocol.specs.Notes.{Notes, notes, notes_of_start, notes_of_read, hashed_of_join, row_number}
 use Rattle.std.specs.Prelude.{Result, Ok, Err, option_and_then}
-use Rattle.sg_protocol.specs.Frame.{IsBytes, IsValue, IsOpening, read}
-use Rattle.sg_protocol.specs.Texts.{session_id, session_text}
-use Rattle.sg_protocol.specs.TextLaws.{CastFits}
-use Rattle.sg_protocol.specs.Node.{Node, Started, Received, Call, Start, Act, Abandon, Deliver, Answer, Happened, Sends, Left, NotStarted, NotActed, NotLeft, StartFault, NoGraph, WrongCast, NoPeer, WasJoined, NoRoomToJoin, NoRoomForSession, NoSession, UnknownGraph, UnknownSession, BadCast, BadSession, UnknownPeer, Joined, CacheFull, SessionsFull, answer, node_after, joined, goes_on, replace, still, takes_read, is_for, is_cast, stranger, session_with, session_for, has_joined, new_session, program_for, starter, started, acted, decided, sent, receipt, verdict_on, rows_of_start, rows_of_join, rows_of_next, join_rows, next_rows, rows, notes, notes_of_start, notes_of_read, hashed_of_join, row_number, events_of_answer, sid_of}
+use Rattle.sg_model.specs.Bytes.{IsBytes}
+use Rattle.sg_protocol.specs.Reading.{read}
+use Rattle.sg_protocol.specs.Node.{Node, is_for, is_cast, stranger, session_with, session_for, has_joined, program_for, starter}
+use Rattle.sg_protocol.specs.NodeAfter.{node_after, joined, goes_on, replace, still, takes_read}
 use Rattle.sg_protocol.specs.Frame as Frame'
 use Rattle.sg_protocol.proofs.Isolation.{of_sid, find-filter, filter-append, replace-other, replace-own, still-other}
 use Rattle.sg_protocol.proofs.TextLaws.{cast_fits}
-use Rattle.sg_protocol.proofs.ReadBack.{read-Spells}
-use Rattle.sg_protocol.specs.Texts.{graph_text}
-use Rattle.sg_protocol.specs.Frame.{u64}
-use Rattle.sg_protocol.specs.Node.{Past, node_of, new_node, past_after}
-use Rattle.sg_protocol.specs.Run.{World, Logged, Answered, Step, StartStep, ActStep, AbandonStep, DeliverStep, CraftStep, What, past_of, called, called_if, world_after, world_after_all, new_world, run, call_of, cast_of, sid_at, bytes_of, confounder, frame_in, events_of, events_of_outcome}
-use Rattle.sg_protocol.specs.Headline.{IsStep}
+use Rattle.sg_protocol.proofs.ReadBack.{read-SpellsFrame}
+use Rattle.sg_protocol.specs.Past.{Past, node_of, new_node, past_after}
+use Rattle.sg_protocol.specs.World.{World, Logged, Answered, past_of, new_world, call_of, bytes_of}
+use Rattle.sg_protocol.specs.Run.{called, called_if, world_after, world_after_all, run, frame_in, events_of, events_of_outcome, cast_in}
+use Rattle.sg_protocol.specs.IsSchedule.{IsStep}
 use Rattle.sg_protocol.proofs.Calls.{find_passes}
-use Rattle.sg_protocol.specs.Run.{cast_in}
 use Rattle.sg_protocol.proofs.Course.{in_flat}
 use Rattle.sg_protocol.proofs.Course.{past_called, next_past, node_more, Suffix, suffix_all}
 use Rattle.sg_protocol.proofs.Whole.{FirstCast, first_past, found_in}
@@ -67,7 +70,7 @@ read_programs n (Ok f) = takes_programs n f f.join
 pub programs_after : (n : Node) (c : Call) (a : Answer) → (node_after n c a).programs ≡ n.programs
 programs_after n (Start c) (Happened (Started sid r)) = refl
 programs_after n (Act sid label values confounders) (Sends e to f) = refl
-programs_after n (Abandon sid) Left = refl
+programs_after n (Abandon sid) Abandoned = refl
 programs_after n (Deliver bs) (Happened (Received sid r label time values joins)) = read_programs n (read bs)
 programs_after n c other = refl
 
@@ -81,7 +84,7 @@ module _ (sha : Hash) (hash : IsHash sha) (s : Schedule) (programs : List Progra
     in_call : cast_in c ≡ Some cast
     sid_is : session_id sha cast ≡ sid
     fits : CastFits cast
-    is_hashed : In nts.hashed (session_text cast)
+    is_hashed : In nts.hashed (session_text_of cast)
     program : Program
     there : In programs program
     digest : program.digest ≡ cast.graph
@@ -101,10 +104,10 @@ module _ (sha : Hash) (hash : IsHash sha) (s : Schedule) (programs : List Progra
 
   module _ (n : Node) (ps : n.programs ≡ programs) (quiet : filter (of_sid sid) n.live ≡ []) where
     -- a start
-    start_done : (c : Cast) → CastFits c → (p : Program) → starter n.programs c.graph ≡ Some p → first_some (rows_of_start n p (session_id sha c) c) ≡ None → Either n (Start c) (Happened (Started (session_id sha c) p.role)) (record { made = []; found = []; hashed = session_text c ∷ [] })
+    start_done : (c : Cast) → CastFits c → (p : Program) → starter n.programs c.graph ≡ Some p → first_some (rows_of_start n p (session_id sha c) c) ≡ None → Either n (Start c) (Happened (Started (session_id sha c) p.role)) (record { made = []; found = []; hashed = session_text_of c ∷ [] })
     start_done c fits p sp e = elim (cases_Bool (bytes_eq (session_id sha c) sid)) [
       | inl h ↦
-          let one = none_parts (row (not (is_cast n.keys p.graph c p.role)) WrongCast) (option_map NoPeer (stranger n.keys c) ∷ row (has_joined n.joins (session_id sha c) p.role) WasJoined ∷ row (nat_le 65536 (length n.joins)) NoRoomToJoin ∷ row (nat_le 4096 (length n.live)) NoRoomForSession ∷ []) e in
+          let one = none_parts (row (not (is_cast n.keys p.graph c p.role)) StartFault.BadCast) (option_map StartFault.UnknownPeer (stranger n.keys c) ∷ row (has_joined n.joins (session_id sha c) p.role) StartFault.Joined ∷ row (nat_le 65536 (length n.joins)) StartFault.CacheFull ∷ row (nat_le 4096 (length n.live)) StartFault.SessionsFull ∷ []) e in
           inr record {
             cast = c;
             has_event = rw h refl;
@@ -128,8 +131,8 @@ module _ (sha : Hash) (hash : IsHash sha) (s : Schedule) (programs : List Progra
         by_rows p sp (Some f) e = inl (refl, quiet)
 
         by_program : (o : Option Program) → starter n.programs c.graph ≡ o → Either n (Start c) (answer sha n (Start c)) (notes sha n (Start c))
-        by_program None e = subst (λ o. let a : Answer = option_map_or (λ (p : Program). started (session_id sha c) p.role (first_some (rows_of_start n p (session_id sha c) c))) o (NotStarted NoGraph) in Either n (Start c) a (notes_of_start c a)) (sym e) (inl (refl, quiet))
-        by_program (Some p) e = subst (λ o. let a : Answer = option_map_or (λ (p : Program). started (session_id sha c) p.role (first_some (rows_of_start n p (session_id sha c) c))) o (NotStarted NoGraph) in Either n (Start c) a (notes_of_start c a)) (sym e) (by_rows p e (first_some (rows_of_start n p (session_id sha c) c)) refl)
+        by_program None e = subst (λ o. let a : Answer = option_map_or (λ (p : Program). started (session_id sha c) p.role (first_some (rows_of_start n p (session_id sha c) c))) o (NotStarted StartFault.UnknownGraph) in Either n (Start c) a (notes_of_start c a)) (sym e) (inl (refl, quiet))
+        by_program (Some p) e = subst (λ o. let a : Answer = option_map_or (λ (p : Program). started (session_id sha c) p.role (first_some (rows_of_start n p (session_id sha c) c))) o (NotStarted StartFault.UnknownGraph) in Either n (Start c) a (notes_of_start c a)) (sym e) (by_rows p e (first_some (rows_of_start n p (session_id sha c) c)) refl)
 
     -- no session has the sid
     none_with : (which : Session → Bool) → ((z : Session) → which z ≡ true → of_sid sid z ≡ true) → find which n.live ≡ None
@@ -144,13 +147,13 @@ module _ (sha : Hash) (hash : IsHash sha) (s : Schedule) (programs : List Progra
           | inr h ↦ replace-other (λ (x : Session). bytes_eq x.sid sid0) (λ x. []) (λ x e. subst (λ y. bytes_eq y sid ≡ false) (sym (same_bytes_ x.sid sid0 e)) h) (λ x e. refl) n.live ∙ quiet
         ]
 
-        go : (o : Option Session) → Either n (Abandon sid0) (option_map_or (λ (x : Session). Left) o NotLeft) nts
+        go : (o : Option Session) → Either n (Abandon sid0) (option_map_or (λ (x : Session). Abandoned) o NotAbandoned) nts
         go None = inl (refl, quiet)
         go (Some x) = inl (refl, left)
 
     act_first : (sid0 : List ℕ) (label : ℕ) (values : Map Value) (confs : List (List ℕ)) (nts : Notes) → Either n (Act sid0 label values confs) (answer sha n (Act sid0 label values confs)) nts
     act_first sid0 label values confs nts = elim (cases_Bool (bytes_eq sid0 sid)) [
-      | inl h ↦ subst (λ o. Either n (Act sid0 label values confs) (option_map_or (λ x. option_map_or (λ p. acted (sent sha n.keys p x label values confs) (first_some (rows_of_act p x label values))) (program_for n.programs x.cast.graph x.role) (NotActed NoSession)) o (NotActed NoSession)) nts) (sym (none_with (λ (z : Session). bytes_eq z.sid sid0) (λ z e. subst (λ y. bytes_eq z.sid y ≡ true) (same_bytes_ sid0 sid h) e))) (inl (refl, quiet))
+      | inl h ↦ subst (λ o. Either n (Act sid0 label values confs) (option_map_or (λ x. option_map_or (λ p. acted (sent sha n.keys p x label values confs) (first_some (rows_of_act p x label values))) (program_for n.programs x.cast.graph x.role) (NotActed ActFault.UnknownSession)) o (NotActed ActFault.UnknownSession)) nts) (sym (none_with (λ (z : Session). bytes_eq z.sid sid0) (λ z e. subst (λ y. bytes_eq z.sid y ≡ true) (same_bytes_ sid0 sid h) e))) (inl (refl, quiet))
       | inr h ↦ by_session h (session_with n.live sid0) refl
     ]
       where
@@ -158,21 +161,21 @@ module _ (sha : Hash) (hash : IsHash sha) (s : Schedule) (programs : List Progra
         by_rows h x xs p (Some f) = inl (refl, quiet)
         by_rows h x xs p None = inl (
           rw (ap (λ y. bytes_eq y sid) xs ∙ h) refl,
-          replace-other (λ (z : Session). bytes_eq z.sid sid0) (λ z. option_map_or (λ (i : Item). still n.programs (extended z (Gave i (openings_for values confs)))) (last (frame_of sha n.keys p x label (openings_for values confs)).items) (z ∷ []))
-              (λ z e. subst (λ y. bytes_eq y sid ≡ false) (sym (same_bytes_ z.sid sid0 e)) h) (λ z e. other_now z (subst (λ y. bytes_eq y sid ≡ false) (sym (same_bytes_ z.sid sid0 e)) h) (last (frame_of sha n.keys p x label (openings_for values confs)).items)) n.live ∙ quiet,
+          replace-other (λ (z : Session). bytes_eq z.sid sid0) (λ z. option_map_or (λ (i : Item). still n.programs (extended z (Gave i (openings_for values confs)))) (last (frame_sent sha n.keys p x label (openings_for values confs)).items) (z ∷ []))
+              (λ z e. subst (λ y. bytes_eq y sid ≡ false) (sym (same_bytes_ z.sid sid0 e)) h) (λ z e. other_now z (subst (λ y. bytes_eq y sid ≡ false) (sym (same_bytes_ z.sid sid0 e)) h) (last (frame_sent sha n.keys p x label (openings_for values confs)).items)) n.live ∙ quiet,
         )
           where
             other_now : (z : Session) → bytes_eq z.sid sid ≡ false → (o : Option Item) → filter (of_sid sid) (option_map_or (λ (i : Item). still n.programs (extended z (Gave i (openings_for values confs)))) o (z ∷ [])) ≡ []
             other_now z k None = rw k refl
             other_now z k (Some i) = still-other sid n.programs (extended z (Gave i (openings_for values confs))) k
 
-        by_program : bytes_eq sid0 sid ≡ false → (x : Session) → x.sid ≡ sid0 → (o : Option Program) → Either n (Act sid0 label values confs) (option_map_or (λ p. acted (sent sha n.keys p x label values confs) (first_some (rows_of_act p x label values))) o (NotActed NoSession)) nts
+        by_program : bytes_eq sid0 sid ≡ false → (x : Session) → x.sid ≡ sid0 → (o : Option Program) → Either n (Act sid0 label values confs) (option_map_or (λ p. acted (sent sha n.keys p x label values confs) (first_some (rows_of_act p x label values))) o (NotActed ActFault.UnknownSession)) nts
         by_program h x xs None = inl (refl, quiet)
         by_program h x xs (Some p) = by_rows h x xs p (first_some (rows_of_act p x label values))
 
         by_session : bytes_eq sid0 sid ≡ false → (o : Option Session) → session_with n.live sid0 ≡ o → Either n (Act sid0 label values confs) (answer sha n (Act sid0 label values confs)) nts
-        by_session h None e = subst (λ o. Either n (Act sid0 label values confs) (option_map_or (λ x. option_map_or (λ p. acted (sent sha n.keys p x label values confs) (first_some (rows_of_act p x label values))) (program_for n.programs x.cast.graph x.role) (NotActed NoSession)) o (NotActed NoSession)) nts) (sym e) (inl (refl, quiet))
-        by_session h (Some x) e = subst (λ o. Either n (Act sid0 label values confs) (option_map_or (λ x. option_map_or (λ p. acted (sent sha n.keys p x label values confs) (first_some (rows_of_act p x label values))) (program_for n.programs x.cast.graph x.role) (NotActed NoSession)) o (NotActed NoSession)) nts) (sym e)
+        by_session h None e = subst (λ o. Either n (Act sid0 label values confs) (option_map_or (λ x. option_map_or (λ p. acted (sent sha n.keys p x label values confs) (first_some (rows_of_act p x label values))) (program_for n.programs x.cast.graph x.role) (NotActed ActFault.UnknownSession)) o (NotActed ActFault.UnknownSession)) nts) (sym e) (inl (refl, quiet))
+        by_session h (Some x) e = subst (λ o. Either n (Act sid0 label values confs) (option_map_or (λ x. option_map_or (λ p. acted (sent sha n.keys p x label values confs) (first_some (rows_of_act p x label values))) (program_for n.programs x.cast.graph x.role) (NotActed ActFault.UnknownSession)) o (NotActed ActFault.UnknownSession)) nts) (sym e)
             (by_program h x (same_bytes_ x.sid sid0 (find_passes (λ (z : Session). bytes_eq z.sid sid0) n.live x e)) (program_for n.programs x.cast.graph x.role))
 
     module _ (bs : List ℕ) (f : Frame) (spelled : HasSpelling f) (is_read : read bs ≡ Ok f) where
@@ -199,7 +202,7 @@ module _ (sha : Hash) (hash : IsHash sha) (s : Schedule) (programs : List Progra
             in_call = ap (λ r. option_and_then (λ (f : Frame). f.join) (result_ok r)) is_read ∙ jc;
             sid_is = sym (same_bytes_ f.sid (session_id sha c) (not_false (bytes_eq f.sid (session_id sha c)) (row_none _ _ r3.0))) ∙ fs;
             fits = cast_fits c (subst IsVersion (sym co.version) spelled.version) (subst (λ v. Frame'.IsCastOf v c) (sym co.version) co);
-            is_hashed = in_left (hashed_of_join f (row_number (first_some (rows sha n f)))) _ (session_text c) (subst (λ o. In (hashed_of_join f (row_number o)) (session_text c)) (sym e) (subst (λ o. In (option_map_or (λ c. session_text c ∷ []) o []) (session_text c)) (sym jc) (inl refl)));
+            is_hashed = in_left (hashed_of_join f (row_number (first_some (rows sha n f)))) _ (session_text_of c) (subst (λ o. In (hashed_of_join f (row_number o)) (session_text_of c)) (sym e) (subst (λ o. In (option_map_or (λ c. session_text_of c ∷ []) o []) (session_text_of c)) (sym jc) (inl refl)));
             program = p;
             there = subst (λ z. In z p) ps (found_in (λ (p : Program). bytes_eq p.digest c.graph && (p.role == f.receiver)) n.programs p pc);
             digest = same_bytes_ p.digest c.graph (and_parts (bytes_eq p.digest c.graph) (p.role == f.receiver) (find_passes (λ (p : Program). bytes_eq p.digest c.graph && (p.role == f.receiver)) n.programs p pc)).0;
@@ -231,7 +234,7 @@ module _ (sha : Hash) (hash : IsHash sha) (s : Schedule) (programs : List Progra
       where
         go : (r : Result Frame ℕ) → read bs ≡ r → Either n (Deliver bs) (answer sha n (Deliver bs)) (notes sha n (Deliver bs))
         go (Err at) e = subst (λ r. Either n (Deliver bs) (verdict_on sha n r) (notes_of_read sha n r)) (sym e) (inl (refl, quiet))
-        go (Ok f) e = subst (λ r. Either n (Deliver bs) (verdict_on sha n r) (notes_of_read sha n r)) (sym e) (by_rows_ bs f (read-Spells bs f bytes e).is_frame e (first_some (rows sha n f)) refl)
+        go (Ok f) e = subst (λ r. Either n (Deliver bs) (verdict_on sha n r) (notes_of_read sha n r)) (sym e) (by_rows_ bs f (read-SpellsFrame bs f bytes e).is_frame e (first_some (rows sha n f)) refl)
 
   -- ---- the run until the session's first event
 
@@ -353,7 +356,7 @@ module _ (sha : Hash) (hash : IsHash sha) (s : Schedule) (programs : List Progra
       is_cast = ap (option_and_then (λ (l : Logged). option_and_then cast_in l.call)) (ap (find of_session) b.is ∙ skip b.before (b.l ∷ b.rest) b.none ∙ find_here b.l b.rest (ap (λ o. list_any (λ e. bytes_eq (sid_of e) sid) (events_of_outcome o)) b.is_outcome ∙ b.begun.has_event)) ∙ ap (option_and_then cast_in) b.is_call ∙ b.begun.in_call;
       sid_is = b.begun.sid_is;
       fits = b.begun.fits;
-      is_hashed = in_right (map graph_text s.graphs) (flat_map (λ (l : Logged). l.notes.hashed) w.log) (session_text b.begun.cast) (in_flat (λ (l : Logged). l.notes.hashed) w.log b.l (session_text b.begun.cast) (subst (λ z. In z b.l) (sym b.is) (in_right b.before (b.l ∷ b.rest) b.l (inl refl))) b.begun.is_hashed);
+      is_hashed = in_right (map graph_text_of s.graphs) (flat_map (λ (l : Logged). l.notes.hashed) w.log) (session_text_of b.begun.cast) (in_flat (λ (l : Logged). l.notes.hashed) w.log b.l (session_text_of b.begun.cast) (subst (λ z. In z b.l) (sym b.is) (in_right b.before (b.l ∷ b.rest) b.l (inl refl))) b.begun.is_hashed);
       program = b.begun.program;
       there = b.begun.there;
       digest = b.begun.digest;

@@ -10,44 +10,47 @@ use Rattle.sg_model.specs.Last.{Map, last, last_or}
 use Rattle.sg_model.specs.Lists.{value_at, first_some, all_differ}
 use Rattle.sg_model.specs.Shape.{role_at}
 use Rattle.sg_model.specs.Values.{Value, Opening}
-use Rattle.sg_protocol.specs.Graph.{Name, Graph, shape, writes}
-use Rattle.sg_protocol.specs.Frame.{Cast, spelling, Item, Frame, HasSpelling, IsItem, AreBytes, IsTag}
-use Rattle.sg_protocol.specs.Texts.{Hash, IsHash}
-use Rattle.sg_protocol.specs.TextLaws.{IsVersion}
-use Rattle.sg_protocol.specs.Session.{Program, Session, Exchange, Took, Gave, principal, items_of, told, extended}
-use Rattle.sg_protocol.specs.Node.{Refusal, row}
-use Rattle.sg_protocol.specs.Run.{Schedule, is_honest, honest_role}
+use Rattle.sg_model.specs.Names.{Name}
+use Rattle.sg_protocol.specs.Graph.{Graph, shape, writes}
+use Rattle.sg_protocol.specs.Frame.{Cast, Item, Frame, IsItem, IsTag, IsValue, IsOpening, IsCastOf}
+use Rattle.sg_protocol.specs.Spelling.{spelling, HasSpelling, u64}
+use Rattle.sg_model.specs.Bytes.{AreBytes}
+use Rattle.sg_protocol.specs.Texts.{Hash, IsHash, session_id, session_text_of, cut, graph_text_of, graph_digest}
+use Rattle.sg_protocol.specs.TextLaws.{IsVersion, CastFits}
+use Rattle.sg_protocol.specs.Keyring.{Program}
+use Rattle.sg_protocol.specs.Session.{Session, Exchange, Took, Gave, principal, items_of, told, extended, new_session, openings_of}
+use Rattle.sg_protocol.specs.Calls.{Refusal, ActFault, Event, Call, Start, Act, Abandon, Deliver, Answer, Sends, Abandoned, NotStarted, NotActed, NotAbandoned, StartFault}
+use Rattle.sg_protocol.specs.Verdict.{row, decided, receipt, verdict_on, rows}
+use Rattle.sg_protocol.specs.Schedule.{Schedule, is_honest, honest_role, Step, StartStep, ActStep, AbandonStep, DeliverStep, CraftStep, What, Declared, PairKey, cast_of, sid_at, confounder, graph_with}
 use Rattle.sg_protocol.proofs.Paths.{flat_map-append}
 use Rattle.sg_protocol.proofs.Moves.{and_parts, not_false, none_parts, row_none, writes_below}
 use Rattle.sg_model.specs.Lists.{keys_of}
-use Rattle.sg_protocol.specs.Session.{frame_of}
-use Rattle.sg_protocol.specs.Node.{ActFault, rows_of_act, openings_for}
+use Rattle.sg_protocol.specs.Sending.{frame_sent}
+use Rattle.sg_protocol.specs.Acting.{rows_of_act, openings_for, answer, started, acted, sent, rows_of_start}
 use Rattle.sg_protocol.proofs.Gives.{keys_are, opened_keys}
 use Rattle.std.specs.Prelude.{Result, Ok, Err, option_and_then}
-use Rattle.sg_protocol.specs.Frame.{IsBytes, IsValue, IsOpening, read}
-use Rattle.sg_protocol.specs.Texts.{session_id, session_text}
-use Rattle.sg_protocol.specs.TextLaws.{CastFits}
-use Rattle.sg_protocol.specs.Node.{Node, Event, Call, Start, Act, Abandon, Deliver, Answer, Sends, Left, NotStarted, NotActed, NotLeft, StartFault, NoGraph, WrongCast, NoPeer, WasJoined, NoRoomToJoin, NoRoomForSession, NoSession, answer, node_after, joined, goes_on, replace, still, is_over, takes_read, is_for, is_cast, stranger, session_with, has_joined, new_session, program_for, starter, started, acted, decided, sent, receipt, verdict_on, rows_of_start, rows}
-use Rattle.sg_protocol.proofs.ReadBack.{read-Spells}
+use Rattle.sg_model.specs.Bytes.{IsBytes}
+use Rattle.sg_protocol.specs.Reading.{read}
+use Rattle.sg_protocol.specs.Node.{Node, is_for, is_cast, stranger, session_with, has_joined, program_for, starter}
+use Rattle.sg_protocol.specs.NodeAfter.{node_after, joined, goes_on, replace, still, is_over, takes_read}
+use Rattle.sg_protocol.proofs.ReadBack.{read-SpellsFrame}
 use Rattle.sg_protocol.proofs.Acts as C
 use Rattle.std.specs.Prelude.{slice_get, IsSomeAnd, IsTrue, take, replicate, ◌-◌}
 use Rattle.std.specs.Result.{result_ok}
-use Rattle.sg_protocol.specs.Texts.{cut}
-use Rattle.sg_protocol.specs.Texts.{graph_text}
-use Rattle.sg_protocol.specs.Frame.{u64}
-use Rattle.sg_protocol.specs.Node.{Past, node_of, new_node, past_after}
-use Rattle.sg_protocol.specs.Run.{World, Logged, Outcome, Answered, Crafted, NoFrame, Step, StartStep, ActStep, AbandonStep, DeliverStep, CraftStep, What, Declared, PairKey, past_of, called, called_if, uncalled, recorded, world_after, world_after_all, new_world, run, call_of, cast_of, sid_at, bytes_of, confounder, frame_in, keyring_of, events_of, events_of_outcome, crafted, graph_with, hashed, CollisionFree, MadeBefore, Unforged}
-use Rattle.sg_protocol.specs.Run as Run'
-use Rattle.sg_protocol.specs.Headline.{IsSchedule, IsStep, IsDeclared, AreCompiled, Premises, IsExplained}
+use Rattle.sg_protocol.specs.Past.{Past, node_of, new_node, past_after}
+use Rattle.sg_protocol.specs.World.{World, Logged, Outcome, Answered, Crafted, NoFrame, past_of, new_world, call_of, bytes_of, keyring_of}
+use Rattle.sg_protocol.specs.Run.{called, called_if, uncalled, world_after, run, frame_in, events_of}
+use Rattle.sg_protocol.specs.Crafted.{crafted}
+use Rattle.sg_protocol.specs.Premises.{Premises}
+use Rattle.sg_protocol.specs.World as World'
+use Rattle.sg_protocol.specs.Schedule as Schedule'
+use Rattle.sg_protocol.specs.Crafted as Crafted'
+use Rattle.sg_protocol.specs.IsSchedule.{IsSchedule, IsStep, IsDeclared, AreCompiled, IsProgram}
+use Rattle.sg_protocol.specs.Headline.{IsExplained, SessionsFollowWalks}
 use Rattle.sg_protocol.proofs.Calls.{find_passes, find_all}
-use Rattle.sg_protocol.specs.Graph.{is_name}
-use Rattle.sg_protocol.specs.Texts.{graph_digest}
-use Rattle.sg_protocol.specs.Run.{cast_of_session, cast_in}
-use Rattle.sg_protocol.specs.Headline.{IsProgram, SessionsFollowWalks}
+use Rattle.sg_model.specs.Names.{is_name}
 use Rattle.sg_protocol.proofs.Course.{past_called, next_past, node_more}
 use Rattle.sg_protocol.proofs.Whole.{first_past}
-use Rattle.sg_protocol.specs.Frame.{IsCastOf, IsTag}
-use Rattle.sg_protocol.specs.Session.{openings_of}
 use Rattle.sg_protocol.proofs.First.{first_cast, programs_after}
 use Rattle.sg_protocol.proofs.Sent.{FitSession, sent_spelled}
 use Rattle.sg_protocol.proofs.Course.{confounder_length, small_values}
@@ -77,7 +80,7 @@ module _ (sha : Hash) (hash : IsHash sha) (programs : List Program) (s : Schedul
       go None e h = absurd h
       go (Some y) e h =
           let same : graph_digest sha y ≡ d.cast.graph = same_bytes_ (graph_digest sha y) d.cast.graph (find_passes (λ z. bytes_eq (graph_digest sha z) d.cast.graph) s.graphs y e) in
-          let bytes : AreBytes 32 d.cast.graph = subst (AreBytes 32) same (hash (graph_text y)) in
+          let bytes : AreBytes 32 d.cast.graph = subst (AreBytes 32) same (hash (graph_text_of y)) in
           (record { version = h.3; graph = bytes.0; nonce = h.2.0 }, bytes, h.2, (and_parts (all_differ d.cast.names) (list_all is_name d.cast.names) h.1).1)
 
   pub casts_fit : (n : ℕ) (c : Cast) → cast_of s n ≡ Some c → CastFits c
@@ -108,7 +111,7 @@ module _ (sha : Hash) (hash : IsHash sha) (programs : List Program) (s : Schedul
   get_frame (x ∷ xs) zero a = a.0
   get_frame (x ∷ xs) (suc n) a = get_frame xs n a.1
 
-  frame_bytes : (w : World) → AllByRecursion (λ (l : Logged). IfSome l.frame Bytes_) w.log → (n : ℕ) → IfSome (Run'.frame_at w n) Bytes_
+  frame_bytes : (w : World) → AllByRecursion (λ (l : Logged). IfSome l.frame Bytes_) w.log → (n : ℕ) → IfSome (World'.frame_at w n) Bytes_
   frame_bytes w a n = elim (cases_Bool (n == 0)) [ inl e ↦ rw e tt | inr e ↦ rw e (get_frame (filter_map (λ (l : Logged). l.frame) w.log) (n - 1) (frames_bytes w.log a)) ]
 
   if_map : (f : List ℕ → List ℕ) → ((bs : List ℕ) → Bytes_ bs → Bytes_ (f bs)) → (o : Option (List ℕ)) → IfSome o Bytes_ → IfSome (option_map f o) Bytes_
@@ -119,10 +122,10 @@ module _ (sha : Hash) (hash : IsHash sha) (programs : List Program) (s : Schedul
   fit_bytes w fit who what bs good e = to_bytes bs (subst (λ o. IfSome o Bytes_) e (go what good))
     where
       go : (y : What) → IsStep sha s (DeliverStep who y) → IfSome (bytes_of w y) Bytes_
-      go (Run'.Whole n) gd = frame_bytes w fit.frames n
-      go (Run'.Flipped n at) gd = if_map (Run'.flipped at) (λ bs h. bytes-flipped bs at h) (Run'.frame_at w n) (frame_bytes w fit.frames n)
-      go (Run'.Cut n len) gd = if_map (take len) (λ bs h. bytes-take len bs h) (Run'.frame_at w n) (frame_bytes w fit.frames n)
-      go (Run'.Bytes bs') gd = from_bytes bs' gd
+      go (Schedule'.Whole n) gd = frame_bytes w fit.frames n
+      go (Schedule'.Flipped n at) gd = if_map (World'.flipped at) (λ bs h. bytes-flipped bs at h) (World'.frame_at w n) (frame_bytes w fit.frames n)
+      go (Schedule'.Cut n len) gd = if_map (take len) (λ bs h. bytes-take len bs h) (World'.frame_at w n) (frame_bytes w fit.frames n)
+      go (Schedule'.Bytes bs') gd = from_bytes bs' gd
 
   -- ---- crafted frames
 
@@ -133,16 +136,16 @@ module _ (sha : Hash) (hash : IsHash sha) (programs : List Program) (s : Schedul
   value_bytes_at [] r a = tt
   value_bytes_at (d ∷ m) r a = elim (cases_Bool (d.0 == r)) [ inl e ↦ rw e a.0.1 | inr e ↦ rw e (value_bytes_at m r a.1) ]
 
-  unwrap_bytes : (o : Option (List ℕ)) → IfSome o Bytes_ → Bytes_ (unwrap_or o Run'.no_tag)
+  unwrap_bytes : (o : Option (List ℕ)) → IfSome o Bytes_ → Bytes_ (unwrap_or o Crafted'.no_tag)
   unwrap_bytes None h = bytes-zeros 32
   unwrap_bytes (Some t) h = h
 
-  read_frame_bytes : (w : World) → AllByRecursion (λ (l : Logged). IfSome l.frame Bytes_) w.log → (n : ℕ) → IfSome (Run'.frame_read w n) BytesFrame
-  read_frame_bytes w a n = go (Run'.frame_at w n) (frame_bytes w a n)
+  read_frame_bytes : (w : World) → AllByRecursion (λ (l : Logged). IfSome l.frame Bytes_) w.log → (n : ℕ) → IfSome (Crafted'.frame_read w n) BytesFrame
+  read_frame_bytes w a n = go (World'.frame_at w n) (frame_bytes w a n)
     where
       of_read : (bs : List ℕ) → Bytes_ bs → (r : Result Frame ℕ) → read bs ≡ r → IfSome (result_ok r) BytesFrame
       of_read bs h (Err at) e = tt
-      of_read bs h (Ok f) e = has_bytes f (read-Spells bs f (to_bytes bs h) e).is_frame
+      of_read bs h (Ok f) e = has_bytes f (read-SpellsFrame bs f (to_bytes bs h) e).is_frame
 
       go : (o : Option (List ℕ)) → IfSome o Bytes_ → IfSome (option_and_then (λ bs. result_ok (read bs)) o) BytesFrame
       go None h = tt
@@ -153,22 +156,22 @@ module _ (sha : Hash) (hash : IsHash sha) (programs : List Program) (s : Schedul
   item_tag (x ∷ is) zero r a = value_bytes_at x.tags r a.0.tags
   item_tag (x ∷ is) (suc i) r a = item_tag is i r a.1
 
-  tag_bytes : (w : World) → AllByRecursion (λ (l : Logged). IfSome l.frame Bytes_) w.log → (text : List ℕ) (src : Run'.Source) → Bytes_ (Run'.tag_by sha s w text src)
-  tag_bytes w a text (Run'.Key one two) = from_bytes _ (hash _).1
-  tag_bytes w a text (Run'.CopyItem n i r) = unwrap_bytes _ (go (Run'.frame_read w n) (read_frame_bytes w a n))
+  tag_bytes : (w : World) → AllByRecursion (λ (l : Logged). IfSome l.frame Bytes_) w.log → (text : List ℕ) (src : Schedule'.Source) → Bytes_ (Crafted'.tag_by sha s w text src)
+  tag_bytes w a text (Schedule'.Key one two) = from_bytes _ (hash _).1
+  tag_bytes w a text (Schedule'.CopyItem n i r) = unwrap_bytes _ (go (Crafted'.frame_read w n) (read_frame_bytes w a n))
     where
       go : (o : Option Frame) → IfSome o BytesFrame → IfSome (option_and_then (λ (f : Frame). option_and_then (λ (i : Item). value_at i.tags r) (if i == 0 then None else slice_get f.items (i - 1))) o) Bytes_
       go None h = tt
       go (Some f) h = elim (cases_Bool (i == 0)) [ inl e ↦ rw e tt | inr e ↦ rw e (item_tag f.items (i - 1) r h.items) ]
-  tag_bytes w a text (Run'.CopySeal n) = go (Run'.frame_read w n) (read_frame_bytes w a n)
+  tag_bytes w a text (Schedule'.CopySeal n) = go (Crafted'.frame_read w n) (read_frame_bytes w a n)
     where
-      go : (o : Option Frame) → IfSome o BytesFrame → Bytes_ (option_map_or (λ (f : Frame). f.tag) o Run'.no_tag)
+      go : (o : Option Frame) → IfSome o BytesFrame → Bytes_ (option_map_or (λ (f : Frame). f.tag) o Crafted'.no_tag)
       go None h = bytes-zeros 32
       go (Some f) h = h.tag
-  tag_bytes w a text Run'.Zero = bytes-zeros 32
+  tag_bytes w a text Schedule'.Zero = bytes-zeros 32
 
   module _ (w : World) (a : AllByRecursion (λ (l : Logged). IfSome l.frame Bytes_) w.log) (g : Graph) (x : Session) where
-    tags_again : (v : ℕ) (F G : ℕ × Run'.Source → List ℕ) → ((t : ℕ × Run'.Source) → Bytes_ (G t)) → (ts : Map Run'.Source) → AllByRecursion (λ (t : ℕ × List ℕ). (t.0 < 16) × IsTag v t.1) (map (λ (t : ℕ × Run'.Source). (t.0, F t)) ts) → AllByRecursion (λ (d : ℕ × List ℕ). (d.0 < 256) × Bytes_ d.1) (map (λ (t : ℕ × Run'.Source). (t.0, G t)) ts)
+    tags_again : (v : ℕ) (F G : ℕ × Schedule'.Source → List ℕ) → ((t : ℕ × Schedule'.Source) → Bytes_ (G t)) → (ts : Map Schedule'.Source) → AllByRecursion (λ (t : ℕ × List ℕ). (t.0 < 16) × IsTag v t.1) (map (λ (t : ℕ × Schedule'.Source). (t.0, F t)) ts) → AllByRecursion (λ (d : ℕ × List ℕ). (d.0 < 256) × Bytes_ d.1) (map (λ (t : ℕ × Schedule'.Source). (t.0, G t)) ts)
     tags_again v F G k [] h = tt
     tags_again v F G k (t ∷ ts) h = (((let l = h.0.0 in omega (arith, l)), k t), tags_again v F G k ts h.1)
 
@@ -177,23 +180,23 @@ module _ (sha : Hash) (hash : IsHash sha) (programs : List Program) (s : Schedul
     same_len F G (t ∷ ts) zero h = absurd (omega arith)
     same_len F G (t ∷ ts) (suc n) h = (let r : length (map G ts) ≤ n = same_len F G ts n (omega arith) in omega (arith, r))
 
-    items_again : (v : ℕ) (w0 : World) (before0 before : List Item) (cs : List Run'.CraftItem) → AllByRecursion (IsItem v) (Run'.crafted_items sha s w0 g x before0 cs) → AllByRecursion BytesItem (Run'.crafted_items sha s w g x before cs)
+    items_again : (v : ℕ) (w0 : World) (before0 before : List Item) (cs : List Schedule'.CraftItem) → AllByRecursion (IsItem v) (Crafted'.crafted_items sha s w0 g x before0 cs) → AllByRecursion BytesItem (Crafted'.crafted_items sha s w g x before cs)
     items_again v w0 before0 before [] h = tt
     items_again v w0 before0 before (c ∷ cs) h =
-        let one : BytesItem (Run'.crafted_item sha s w0 g x before0 c) = item_has_bytes v (Run'.crafted_item sha s w0 g x before0 c) h.0 in (
+        let one : BytesItem (Crafted'.crafted_item sha s w0 g x before0 c) = item_has_bytes v (Crafted'.crafted_item sha s w0 g x before0 c) h.0 in (
           record {
             role = one.role;
             delta_len = one.delta_len;
             delta = one.delta;
-            tags_len = (let l : length (Run'.crafted_item sha s w g x before c).tags ≤ 14 = same_len _ _ c.tags 14 h.0.roles.0 in omega (arith, l));
+            tags_len = (let l : length (Crafted'.crafted_item sha s w g x before c).tags ≤ 14 = same_len _ _ c.tags 14 h.0.roles.0 in omega (arith, l));
             tags = tags_again v _ _ (λ t. cut_bytes x.cast.version _ (tag_bytes w a _ t.1)) c.tags h.0.tags;
           },
-          items_again v w0 (before0 ++ Run'.crafted_item sha s w0 g x before0 c ∷ []) (before ++ Run'.crafted_item sha s w g x before c ∷ []) cs h.1,
+          items_again v w0 (before0 ++ Crafted'.crafted_item sha s w0 g x before0 c ∷ []) (before ++ Crafted'.crafted_item sha s w g x before c ∷ []) cs h.1,
         )
 
-    frame_again : (w0 : World) (c : Run'.Craft) → HasSpelling (Run'.crafted_frame sha s w0 c g x) → BytesFrame (Run'.crafted_frame sha s w c g x)
+    frame_again : (w0 : World) (c : Schedule'.Craft) → HasSpelling (Crafted'.crafted_frame sha s w0 c g x) → BytesFrame (Crafted'.crafted_frame sha s w c g x)
     frame_again w0 c h =
-        let b : BytesFrame (Run'.crafted_frame sha s w0 c g x) = has_bytes (Run'.crafted_frame sha s w0 c g x) h in
+        let b : BytesFrame (Crafted'.crafted_frame sha s w0 c g x) = has_bytes (Crafted'.crafted_frame sha s w0 c g x) h in
         record {
           sid = b.sid;
           roles = b.roles;
@@ -204,15 +207,15 @@ module _ (sha : Hash) (hash : IsHash sha) (programs : List Program) (s : Schedul
           tag = cut_bytes x.cast.version _ (tag_bytes w a _ c.seal);
         }
 
-  crafted_bytes : (w : World) → AllByRecursion (λ (l : Logged). IfSome l.frame Bytes_) w.log → (c : Run'.Craft) → IsStep sha s (CraftStep c) → IfSome (option_map spelling (crafted sha s w c)) Bytes_
+  crafted_bytes : (w : World) → AllByRecursion (λ (l : Logged). IfSome l.frame Bytes_) w.log → (c : Schedule'.Craft) → IsStep sha s (CraftStep c) → IfSome (option_map spelling (crafted sha s w c)) Bytes_
   crafted_bytes w a c h = by_cast (cast_of s c.session) h
     where
-      by_graph : (d : Cast) (o : Option Graph) → IsSomeAnd (option_map (λ g. Run'.crafted_frame sha s (new_world [] s) c g (new_session (session_id sha d) d c.from)) o) HasSpelling → IfSome (option_map spelling (option_map (λ g. Run'.crafted_frame sha s w c g (new_session (session_id sha d) d c.from)) o)) Bytes_
+      by_graph : (d : Cast) (o : Option Graph) → IsSomeAnd (option_map (λ g. Crafted'.crafted_frame sha s (new_world [] s) c g (new_session (session_id sha d) d c.from)) o) HasSpelling → IfSome (option_map spelling (option_map (λ g. Crafted'.crafted_frame sha s w c g (new_session (session_id sha d) d c.from)) o)) Bytes_
       by_graph d None h = tt
-      by_graph d (Some g) h = spelling_bytes (Run'.crafted_frame sha s w c g (new_session (session_id sha d) d c.from)) (frame_again w a g (new_session (session_id sha d) d c.from) (new_world [] s) c h)
+      by_graph d (Some g) h = spelling_bytes (Crafted'.crafted_frame sha s w c g (new_session (session_id sha d) d c.from)) (frame_again w a g (new_session (session_id sha d) d c.from) (new_world [] s) c h)
 
-      by_cast : (o : Option Cast) → IsSomeAnd (option_and_then (λ (d : Cast). option_map (λ g. Run'.crafted_frame sha s (new_world [] s) c g (new_session (session_id sha d) d c.from)) (graph_with sha s.graphs d.graph)) o) HasSpelling
-          → IfSome (option_map spelling (option_and_then (λ (d : Cast). option_map (λ g. Run'.crafted_frame sha s w c g (new_session (session_id sha d) d c.from)) (graph_with sha s.graphs d.graph)) o)) Bytes_
+      by_cast : (o : Option Cast) → IsSomeAnd (option_and_then (λ (d : Cast). option_map (λ g. Crafted'.crafted_frame sha s (new_world [] s) c g (new_session (session_id sha d) d c.from)) (graph_with sha s.graphs d.graph)) o) HasSpelling
+          → IfSome (option_map spelling (option_and_then (λ (d : Cast). option_map (λ g. Crafted'.crafted_frame sha s w c g (new_session (session_id sha d) d c.from)) (graph_with sha s.graphs d.graph)) o)) Bytes_
       by_cast None h = tt
       by_cast (Some d) h = by_graph d (graph_with sha s.graphs d.graph) h
 
@@ -224,7 +227,7 @@ module _ (sha : Hash) (hash : IsHash sha) (programs : List Program) (s : Schedul
     pub p : Program
     pub found_p : program_for n.programs x.cast.graph x.role ≡ Some p
     pub rows : first_some (rows_of_act p x label values) ≡ None
-    pub its : frame_of sha n.keys p x label (openings_for values confs) ≡ f
+    pub its : frame_sent sha n.keys p x label (openings_for values confs) ≡ f
 
   frame_or : Frame → Answer → Frame
   frame_or d (Sends e to f) = f
@@ -237,11 +240,11 @@ module _ (sha : Hash) (hash : IsHash sha) (programs : List Program) (s : Schedul
       by_rows x q p q2 (Some fault) q3 a = absurd (cc)
       by_rows x q p q2 None q3 a = record { x = x; found = q; p = p; found_p = q2; rows = q3; its = cc }
 
-      by_program : (x : Session) → session_with n.live sid0 ≡ Some x → (o : Option Program) → program_for n.programs x.cast.graph x.role ≡ o → option_map_or (λ p. acted (sent sha n.keys p x label values confs) (first_some (rows_of_act p x label values))) o (NotActed NoSession) ≡ Sends e to f → ActSent n sid0 label values confs f
+      by_program : (x : Session) → session_with n.live sid0 ≡ Some x → (o : Option Program) → program_for n.programs x.cast.graph x.role ≡ o → option_map_or (λ p. acted (sent sha n.keys p x label values confs) (first_some (rows_of_act p x label values))) o (NotActed ActFault.UnknownSession) ≡ Sends e to f → ActSent n sid0 label values confs f
       by_program x q None q2 a = absurd (cc)
       by_program x q (Some p) q2 a = by_rows x q p q2 (first_some (rows_of_act p x label values)) refl a
 
-      by_session : (o : Option Session) → session_with n.live sid0 ≡ o → option_map_or (λ x. option_map_or (λ p. acted (sent sha n.keys p x label values confs) (first_some (rows_of_act p x label values))) (program_for n.programs x.cast.graph x.role) (NotActed NoSession)) o (NotActed NoSession) ≡ Sends e to f → ActSent n sid0 label values confs f
+      by_session : (o : Option Session) → session_with n.live sid0 ≡ o → option_map_or (λ x. option_map_or (λ p. acted (sent sha n.keys p x label values confs) (first_some (rows_of_act p x label values))) (program_for n.programs x.cast.graph x.role) (NotActed ActFault.UnknownSession)) o (NotActed ActFault.UnknownSession) ≡ Sends e to f → ActSent n sid0 label values confs f
       by_session None q a = absurd (cc)
       by_session (Some x) q a = by_program x q (program_for n.programs x.cast.graph x.role) refl a
 
@@ -252,14 +255,14 @@ module _ (sha : Hash) (hash : IsHash sha) (programs : List Program) (s : Schedul
       by_rows p None a = absurd (cc)
       by_rows p (Some x) a = absurd (cc)
 
-      by_program : (o : Option Program) → option_map_or (λ (p : Program). started (session_id sha c) p.role (first_some (rows_of_start n p (session_id sha c) c))) o (NotStarted NoGraph) ≡ Sends e to f → ⊥
+      by_program : (o : Option Program) → option_map_or (λ (p : Program). started (session_id sha c) p.role (first_some (rows_of_start n p (session_id sha c) c))) o (NotStarted StartFault.UnknownGraph) ≡ Sends e to f → ⊥
       by_program None a = absurd (cc)
       by_program (Some p) a = by_rows p (first_some (rows_of_start n p (session_id sha c) c)) a
 
   abandon_sends : (n : Node) (sid0 : List ℕ) (e : Event) (to : Name) (f : Frame) → answer sha n (Abandon sid0) ≡ Sends e to f → ⊥
   abandon_sends n sid0 e to f a = go (session_with n.live sid0) a
     where
-      go : (o : Option Session) → option_map_or (λ (x : Session). Left) o NotLeft ≡ Sends e to f → ⊥
+      go : (o : Option Session) → option_map_or (λ (x : Session). Abandoned) o NotAbandoned ≡ Sends e to f → ⊥
       go None a = absurd (cc)
       go (Some x) a = absurd (cc)
 
@@ -371,11 +374,11 @@ module _ (sha : Hash) (hash : IsHash sha) (programs : List Program) (s : Schedul
         new_fit : (p : Program) → starter n.programs c.graph ≡ Some p → first_some (rows_of_start n p (session_id sha c) c) ≡ None → FitSession (new_session (session_id sha c) c p.role)
         new_fit p sp e =
             let ip : IsProgram sha p = find_all (λ (p : Program). bytes_eq p.digest c.graph && (p.role == role_at (shape p.graph) 0)) (IsProgram sha) programs p (recs_ programs compiled.each) (subst (λ z. starter z c.graph ≡ Some p) ps sp) in
-            let one = none_parts (row (not (is_cast n.keys p.graph c p.role)) WrongCast) (option_map NoPeer (stranger n.keys c) ∷ row (has_joined n.joins (session_id sha c) p.role) WasJoined ∷ row (nat_le 65536 (length n.joins)) NoRoomToJoin ∷ row (nat_le 4096 (length n.live)) NoRoomForSession ∷ []) e in
+            let one = none_parts (row (not (is_cast n.keys p.graph c p.role)) StartFault.BadCast) (option_map StartFault.UnknownPeer (stranger n.keys c) ∷ row (has_joined n.joins (session_id sha c) p.role) StartFault.Joined ∷ row (nat_le 65536 (length n.joins)) StartFault.CacheFull ∷ row (nat_le 4096 (length n.live)) StartFault.SessionsFull ∷ []) e in
             let ic : is_cast n.keys p.graph c p.role ≡ true = not_false (is_cast n.keys p.graph c p.role) (row_none _ _ one.0) in
             let len : length c.names ≡ length p.graph.roles = eq_of (length c.names) (length p.graph.roles) (and_parts (length c.names == length p.graph.roles) (all_differ c.names) (and_parts _ (nat_lt p.role (length c.names)) (and_parts _ (bytes_eq (principal c p.role) n.keys.me) ic).0).0).0 in
             record {
-              sid = hash (session_text c);
+              sid = hash (session_text_of c);
               version = cf.version;
               cast = record { version = refl; graph = gb; nonce = nb; count = ((let a = ip.accepted.two_roles in omega (arith, a, len)), (let a = ip.is_graph.sizes.0 in omega (arith, a, len))); names = names_rec c.names nm };
               role = (let a = ip.role in let b = ip.is_graph.sizes.0 in omega (arith, a, b));
@@ -388,13 +391,13 @@ module _ (sha : Hash) (hash : IsHash sha) (programs : List Program) (s : Schedul
         by_rows p sp (Some f) e = live
 
         by_program : (o : Option Program) → starter n.programs c.graph ≡ o → AllByRecursion FitSession (node_after n (Start c) (answer sha n (Start c))).live
-        by_program None e = subst (λ o. AllByRecursion FitSession (node_after n (Start c) (option_map_or (λ (p : Program). started (session_id sha c) p.role (first_some (rows_of_start n p (session_id sha c) c))) o (NotStarted NoGraph))).live) (sym e) live
-        by_program (Some p) e = subst (λ o. AllByRecursion FitSession (node_after n (Start c) (option_map_or (λ (p : Program). started (session_id sha c) p.role (first_some (rows_of_start n p (session_id sha c) c))) o (NotStarted NoGraph))).live) (sym e) (by_rows p e (first_some (rows_of_start n p (session_id sha c) c)) refl)
+        by_program None e = subst (λ o. AllByRecursion FitSession (node_after n (Start c) (option_map_or (λ (p : Program). started (session_id sha c) p.role (first_some (rows_of_start n p (session_id sha c) c))) o (NotStarted StartFault.UnknownGraph))).live) (sym e) live
+        by_program (Some p) e = subst (λ o. AllByRecursion FitSession (node_after n (Start c) (option_map_or (λ (p : Program). started (session_id sha c) p.role (first_some (rows_of_start n p (session_id sha c) c))) o (NotStarted StartFault.UnknownGraph))).live) (sym e) (by_rows p e (first_some (rows_of_start n p (session_id sha c) c)) refl)
 
     abandon_fit : (sid0 : List ℕ) → AllByRecursion FitSession (node_after n (Abandon sid0) (answer sha n (Abandon sid0))).live
     abandon_fit sid0 = go (session_with n.live sid0)
       where
-        go : (o : Option Session) → AllByRecursion FitSession (node_after n (Abandon sid0) (option_map_or (λ (x : Session). Left) o NotLeft)).live
+        go : (o : Option Session) → AllByRecursion FitSession (node_after n (Abandon sid0) (option_map_or (λ (x : Session). Abandoned) o NotAbandoned)).live
         go None = live
         go (Some x) = replace_fit (λ (z : Session). bytes_eq z.sid sid0) (λ z. []) n.live (λ z q h. tt) live
 
@@ -440,7 +443,7 @@ module _ (sha : Hash) (hash : IsHash sha) (programs : List Program) (s : Schedul
 
         go : (r : Result Frame ℕ) → read bs ≡ r → AllByRecursion FitSession (node_after n (Deliver bs) (answer sha n (Deliver bs))).live
         go (Err at) e = subst (λ r. AllByRecursion FitSession (node_after n (Deliver bs) (verdict_on sha n r)).live) (sym e) live
-        go (Ok f) e = subst (λ r. AllByRecursion FitSession (node_after n (Deliver bs) (verdict_on sha n r)).live) (sym e) (by_rows f (read-Spells bs f bytes e).is_frame e (first_some (rows sha n f)))
+        go (Ok f) e = subst (λ r. AllByRecursion FitSession (node_after n (Deliver bs) (verdict_on sha n r)).live) (sym e) (by_rows f (read-SpellsFrame bs f bytes e).is_frame e (first_some (rows sha n f)))
 
   module _ (w : World) (k : ℕ) (fit : Fit w) where
     call_fit : (x : Step) → IsStep sha s x → (who : Name) (past : Past) → past_of w who ≡ Some past → (c : Call) → call_of sha s w k x ≡ Some c → AllByRecursion FitSession (node_after (node_of past) c (answer sha (node_of past) c)).live

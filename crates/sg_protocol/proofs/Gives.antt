@@ -8,17 +8,17 @@ use Rattle.sg_model.specs.Last.{Map}
 use Rattle.sg_model.specs.Lists.{is_in, value_at, below, range_from}
 use Rattle.sg_model.specs.Values.{Value, Opening}
 use Rattle.sg_protocol.specs.Graph.{Graph, IsGraph, writes}
-use Rattle.sg_protocol.specs.Frame.{magic, join_code, Frame, body}
-use Rattle.sg_protocol.specs.Texts.{item_text, frame_text}
-use Rattle.sg_protocol.specs.Walk.{is_typed_or_hidden}
+use Rattle.sg_protocol.specs.Spelling.{magic, join_code, body}
+use Rattle.sg_protocol.specs.Frame.{Frame}
+use Rattle.sg_protocol.specs.Texts.{item_text_of, frame_text_of}
+use Rattle.sg_protocol.specs.Walk.{is_typed_or_hidden, shown}
 use Rattle.sg_law.specs.Values as V
 use Rattle.sg_law.specs.Values.{State, Made, whole, com_of, Move, Commit, moved, MayTake, Tagged, Framed, Opened, own_of, is_variable, put}
 use Rattle.sg_law.specs.Values.Move.{Writes, Takes}
 use Rattle.sg_protocol.proofs.Moves.{and_parts, not_false, writes_below}
 use Rattle.sg_model.specs.Lists.{rises_from, keys_of, in_order}
 use Rattle.sg_law.specs.Values.{MayWrite}
-use Rattle.sg_protocol.specs.Node.{is_bad, is_typed, is_out_of_order, openings_for}
-use Rattle.sg_protocol.specs.Walk.{shown}
+use Rattle.sg_protocol.specs.Acting.{is_bad, is_typed, is_out_of_order, openings_for}
 use Rattle.sg_protocol.proofs.Paths.{writes_rise}
 use Rattle.sg_protocol.proofs.TextLaws.{parts}
 
@@ -82,16 +82,16 @@ word_item v w a b e = (parts (if v == 2 then codes "sg-item-2" else codes "sg-it
     nine : (v : ℕ) → length (if v == 2 then codes "sg-item-2" else codes "sg-item-1") ≡ 9
     nine v = elim (cases_Bool (v == 2)) [ inl e ↦ rw e refl | inr e ↦ rw e refl ]
 
-pub item_sid : (v w : ℕ) (s t : List ℕ) (a b c d l m i j : ℕ) (h k : List (Option (List ℕ))) → length s ≡ 32 → length t ≡ 32 → item_text v s a c l i h ≡ item_text w t b d m j k → s ≡ t
+pub item_sid : (v w : ℕ) (s t : List ℕ) (a b c d l m i j : ℕ) (h k : List (Option (List ℕ))) → length s ≡ 32 → length t ≡ 32 → item_text_of v s a c l i h ≡ item_text_of w t b d m j k → s ≡ t
 item_sid v w s t a b c d l m i j h k x y e = (parts s t _ _ (x ∙ sym y) (word_item v w _ _ e)).0
 
-word_frame : (v w : ℕ) (a b : List ℕ) → frame_text v a ≡ frame_text w b → a ≡ b
+word_frame : (v w : ℕ) (a b : List ℕ) → frame_text_of v a ≡ frame_text_of w b → a ≡ b
 word_frame v w a b e = (parts (if v == 2 then codes "sg-frame-2" else codes "sg-frame-1") (if w == 2 then codes "sg-frame-2" else codes "sg-frame-1") a b (ten v ∙ sym (ten w)) e).1
   where
     ten : (v : ℕ) → length (if v == 2 then codes "sg-frame-2" else codes "sg-frame-1") ≡ 10
     ten v = elim (cases_Bool (v == 2)) [ inl e ↦ rw e refl | inr e ↦ rw e refl ]
 
-pub frame_sid : (v w : ℕ) (f g : Frame) → length f.sid ≡ 32 → length g.sid ≡ 32 → frame_text v (body f) ≡ frame_text w (body g) → f.sid ≡ g.sid
+pub frame_sid : (v w : ℕ) (f g : Frame) → length f.sid ≡ 32 → length g.sid ≡ 32 → frame_text_of v (body f) ≡ frame_text_of w (body g) → f.sid ≡ g.sid
 frame_sid v w f g x y e = (parts f.sid g.sid _ _ (x ∙ sym y) (tl (join_code f.join) (join_code g.join) _ _ (parts (magic f.version) (magic g.version) _ _ (four f.version ∙ sym (four g.version)) (word_frame v w (body f) (body g) e)).1)).0
   where
     four : (v : ℕ) → length (magic v) ≡ 4

@@ -8,11 +8,19 @@ use Rattle.std.proofs.lemmas.List.Elements.{All-head, All-tail}
 use Rattle.std.proofs.lemmas.Bool.{le-leb, leb-true}
 use Rattle.sg_model.specs.Last.{last, Map}
 use Rattle.sg_model.specs.Lists.{first_some}
-use Rattle.sg_protocol.specs.Frame.{Frame, Cast, Item, Opening, Value, read}
+use Rattle.sg_protocol.specs.Frame.{Frame, Cast, Item}
+use Rattle.sg_model.specs.Values.{Opening, Value}
+use Rattle.sg_protocol.specs.Reading.{read}
 use Rattle.sg_protocol.specs.Texts.{Hash, session_id}
-use Rattle.sg_protocol.specs.Session.{Session, Program, Took, Gave, extended}
-use Rattle.sg_protocol.specs.Node.{Node, Event, Received, Call, Start, Act, Abandon, Deliver, Answer, Happened, Sends, Left, NotStarted, Refused, Refusal, StartFault, UnknownGraph, CacheFull, SessionsFull, NoRoomToJoin, NoRoomForSession, NoGraph, row, decided, started, rows_of_start, rows_of_join, join_rows, next_rows, rows_of_session, rows, receipt, verdict_on, answer, node_after, takes_read, joined, goes_on, replace, still, is_over, is_for, session_with, session_for, has_joined, new_session, program_for, starter, openings_for, Called, AreAnswers, calls_of, is_call_of, is_frame_of, answers, new_node}
-use Rattle.sg_protocol.specs.Headline.{is_for_room, SessionsAreIsolated}
+use Rattle.sg_protocol.specs.Session.{Session, Took, Gave, extended, new_session}
+use Rattle.sg_protocol.specs.Keyring.{Program}
+use Rattle.sg_protocol.specs.Node.{Node, is_for, session_with, session_for, has_joined, program_for, starter}
+use Rattle.sg_protocol.specs.Calls.{Event, Received, Call, Start, Act, Abandon, Deliver, Answer, Happened, Sends, Abandoned, NotStarted, NotDelivered, Refusal, StartFault, UnknownGraph, CacheFull, SessionsFull}
+use Rattle.sg_protocol.specs.Verdict.{row, decided, rows_of_join, join_rows, next_rows, rows_of_session, rows, receipt, verdict_on}
+use Rattle.sg_protocol.specs.Acting.{started, rows_of_start, answer, openings_for}
+use Rattle.sg_protocol.specs.NodeAfter.{node_after, takes_read, joined, goes_on, replace, still, is_over}
+use Rattle.sg_protocol.specs.Past.{Called, AreAnswers, calls_of_session, is_call_of, is_frame_of, answers, new_node}
+use Rattle.sg_protocol.specs.Isolation.{is_for_room, SessionsAreIsolated}
 
 cases_Bool : (b : Bool) → (b ≡ true) ⊎ (b ≡ false)
 cases_Bool true = inl refl
@@ -129,7 +137,7 @@ abbrev room_start : StartFault → Bool
 room_start fault = is_for_room (NotStarted fault)
 
 abbrev room : Refusal → Bool
-room r = is_for_room (Refused r)
+room r = is_for_room (NotDelivered r)
 
 start_not_room : (sid : List ℕ) (r : ℕ) (o : Option StartFault) → is_for_room (started sid r o) ≡ false → IfSome o (λ f. room_start f ≡ false)
 start_not_room sid r None h = tt
@@ -148,17 +156,17 @@ module _ (sha : Hash) (sid : List ℕ) (n n' : Node) (b : Beside sid n n') where
       (
         inl refl,
         (
-          limit room_start NoRoomToJoin refl _ _ (fewer_full 65536 _ _ b.fewer),
-          (limit room_start NoRoomForSession refl _ _ (fewer_full 4096 _ _ (fewer_live sid n n' b)), tt),
+          limit room_start StartFault.CacheFull refl _ _ (fewer_full 65536 _ _ b.fewer),
+          (limit room_start StartFault.SessionsFull refl _ _ (fewer_full 4096 _ _ (fewer_live sid n n' b)), tt),
         ),
       ),
     ),
   )
 
   same_start : (c : Cast) (o : Option Program) → bytes_eq (session_id sha c) sid ≡ true →
-      is_for_room (option_map_or (λ p. started (session_id sha c) p.role (first_some (rows_of_start n p (session_id sha c) c))) o (NotStarted NoGraph)) ≡ false →
-      option_map_or (λ p. started (session_id sha c) p.role (first_some (rows_of_start n' p (session_id sha c) c))) o (NotStarted NoGraph)
-      ≡ option_map_or (λ p. started (session_id sha c) p.role (first_some (rows_of_start n p (session_id sha c) c))) o (NotStarted NoGraph)
+      is_for_room (option_map_or (λ p. started (session_id sha c) p.role (first_some (rows_of_start n p (session_id sha c) c))) o (NotStarted StartFault.UnknownGraph)) ≡ false →
+      option_map_or (λ p. started (session_id sha c) p.role (first_some (rows_of_start n' p (session_id sha c) c))) o (NotStarted StartFault.UnknownGraph)
+      ≡ option_map_or (λ p. started (session_id sha c) p.role (first_some (rows_of_start n p (session_id sha c) c))) o (NotStarted StartFault.UnknownGraph)
   same_start c None h k = refl
   same_start c (Some p) h k = ap (started (session_id sha c) p.role)
       (agreed room_start (rows_of_start n p (session_id sha c) c) (rows_of_start n' p (session_id sha c) c) (agree_start p (session_id sha c) c h) (start_not_room (session_id sha c) p.role _ k))
@@ -310,11 +318,11 @@ module _ (sid : List ℕ) (n n' : Node) (b : Beside sid n n') where
   other_deliver bs other h = b
 
   own_abandon : (s : List ℕ) (a : Answer) → bytes_eq s sid ≡ true → Beside sid (node_after n (Abandon s) a) (node_after n' (Abandon s) a)
-  own_abandon s Left h = own_goes_on (λ x. bytes_eq x.sid s) (λ x. []) (λ x e. subst (λ y. bytes_eq y sid ≡ true) (sym (same_bytes x.sid s e)) h) (λ x e. refl)
+  own_abandon s Abandoned h = own_goes_on (λ x. bytes_eq x.sid s) (λ x. []) (λ x e. subst (λ y. bytes_eq y sid ≡ true) (sym (same_bytes x.sid s e)) h) (λ x e. refl)
   own_abandon s other h = b
 
   other_abandon : (s : List ℕ) (a : Answer) → bytes_eq s sid ≡ false → Beside sid (node_after n (Abandon s) a) n'
-  other_abandon s Left h = other_goes_on (λ x. bytes_eq x.sid s) (λ x. []) (λ x e. subst (λ y. bytes_eq y sid ≡ false) (sym (same_bytes x.sid s e)) h) (λ x e. refl)
+  other_abandon s Abandoned h = other_goes_on (λ x. bytes_eq x.sid s) (λ x. []) (λ x e. subst (λ y. bytes_eq y sid ≡ false) (sym (same_bytes x.sid s e)) h) (λ x e. refl)
   other_abandon s other h = b
 
   own_act : (s : List ℕ) (label : ℕ) (values : Map Value) (confounders : List (List ℕ)) (a : Answer) → bytes_eq s sid ≡ true → Beside sid (node_after n (Act s label values confounders) a) (node_after n' (Act s label values confounders) a)
@@ -350,13 +358,13 @@ module _ (sha : Hash) (sid : List ℕ) (n n' : Node) (b : Beside sid n n') where
   other_started c r (Some fault) h = b
 
   own_start : (c : Cast) (o : Option Program) → bytes_eq (session_id sha c) sid ≡ true →
-      let a : Answer = option_map_or (λ p. started (session_id sha c) p.role (first_some (rows_of_start n p (session_id sha c) c))) o (NotStarted NoGraph) in
+      let a : Answer = option_map_or (λ p. started (session_id sha c) p.role (first_some (rows_of_start n p (session_id sha c) c))) o (NotStarted StartFault.UnknownGraph) in
       Beside sid (node_after n (Start c) a) (node_after n' (Start c) a)
   own_start c None h = b
   own_start c (Some p) h = own_started c p.role (first_some (rows_of_start n p (session_id sha c) c)) h
 
   other_start : (c : Cast) (o : Option Program) → bytes_eq (session_id sha c) sid ≡ false →
-      Beside sid (node_after n (Start c) (option_map_or (λ p. started (session_id sha c) p.role (first_some (rows_of_start n p (session_id sha c) c))) o (NotStarted NoGraph))) n'
+      Beside sid (node_after n (Start c) (option_map_or (λ p. started (session_id sha c) p.role (first_some (rows_of_start n p (session_id sha c) c))) o (NotStarted StartFault.UnknownGraph))) n'
   other_start c None h = b
   other_start c (Some p) h = other_started c p.role (first_some (rows_of_start n p (session_id sha c) c)) h
 
@@ -375,7 +383,7 @@ module _ (sha : Hash) (sid : List ℕ) (n n' : Node) (b : Beside sid n n') where
 -- ---- whole pasts
 
 isolated : (sha : Hash) (sid : List ℕ) (n n' : Node) (cs : List Called) → Beside sid n n' → AreAnswers sha n cs → All (λ c. is_for_room c.answer ≡ false) cs →
-    map (λ c. c.answer) (calls_of sha sid cs) ≡ answers sha n' (map (λ c. c.call) (calls_of sha sid cs))
+    map (λ c. c.answer) (calls_of_session sha sid cs) ≡ answers sha n' (map (λ c. c.call) (calls_of_session sha sid cs))
 isolated sha sid n n' [] b right free = refl
 isolated sha sid n n' (c ∷ cs) b right free = elim (cases_Bool (is_call_of sha sid c.call)) [
   | inl e ↦ rw e (rw (same e) (ap (λ l. c.answer ∷ l) (isolated sha sid (node_after n c.call c.answer) (node_after n' c.call c.answer) cs (after e) right.1 rest)))

@@ -7,12 +7,22 @@ use Rattle.std.proofs.lemmas.Slice.Eq.{bytes_eq-Decides}
 use Rattle.std.proofs.lemmas.Bool.{eqb-true, eq-eqb}
 use Rattle.sg_model.specs.Last.{last, Map}
 use Rattle.sg_model.specs.Lists.{first_some}
-use Rattle.sg_protocol.specs.Frame.{Frame, Cast, Item, Value, Opening, read}
+use Rattle.sg_protocol.specs.Frame.{Frame, Cast, Item}
+use Rattle.sg_model.specs.Values.{Value, Opening}
+use Rattle.sg_protocol.specs.Reading.{read}
 use Rattle.sg_protocol.specs.Texts.{Hash, session_id}
-use Rattle.sg_protocol.specs.Session.{Session, Program, Took, Gave, extended, last_label, last_time}
-use Rattle.sg_protocol.specs.Node.{Node, Event, Started, Received, Call, Start, Act, Abandon, Deliver, Answer, Happened, Sends, Left, NotStarted, NotActed, NotLeft, Refusal, StartFault, ActFault, UnknownGraph, UnknownSession, NoGraph, NoSession, row, decided, started, acted, sent, rows_of_start, rows_of_act, rows_of_join, rows_of_next, join_rows, next_rows, rows, receipt, verdict_on, answer, node_after, takes_read, joined, goes_on, replace, still, is_over, is_for, session_with, session_for, has_joined, new_session, program_for, starter, openings_for, Called, Past, AreAnswers, JoinedOnce, joins_once, events_of_answer, new_node, node_after_all, past_after}
-use Rattle.sg_protocol.specs.Graph.{Name}
-use Rattle.sg_protocol.specs.Run.{Schedule, PairKey, Step, StartStep, ActStep, AbandonStep, DeliverStep, CraftStep, World, run, world_after, world_after_all, new_world, keyring_of, called_if, call_of, past_of}
+use Rattle.sg_protocol.specs.Session.{Session, Took, Gave, extended, last_label, last_time, new_session}
+use Rattle.sg_protocol.specs.Keyring.{Program}
+use Rattle.sg_protocol.specs.Node.{Node, is_for, session_with, session_for, has_joined, program_for, starter}
+use Rattle.sg_protocol.specs.Calls.{Event, Started, Received, Call, Start, Act, Abandon, Deliver, Answer, Happened, Sends, Abandoned, NotStarted, NotActed, NotAbandoned, Refusal, StartFault, ActFault, UnknownGraph, UnknownSession, events_of_answer}
+use Rattle.sg_protocol.specs.Verdict.{row, decided, rows_of_join, rows_of_next, join_rows, next_rows, rows, receipt, verdict_on}
+use Rattle.sg_protocol.specs.Acting.{started, acted, sent, rows_of_start, rows_of_act, answer, openings_for}
+use Rattle.sg_protocol.specs.NodeAfter.{node_after, takes_read, joined, goes_on, replace, still, is_over}
+use Rattle.sg_protocol.specs.Past.{Called, Past, AreAnswers, JoinedOnce, joins_once, new_node, node_after_all, past_after}
+use Rattle.sg_model.specs.Names.{Name}
+use Rattle.sg_protocol.specs.Schedule.{Schedule, PairKey, Step, StartStep, ActStep, AbandonStep, DeliverStep, CraftStep}
+use Rattle.sg_protocol.specs.World.{World, new_world, keyring_of, call_of, past_of}
+use Rattle.sg_protocol.specs.Run.{run, world_after, world_after_all, called_if}
 use Rattle.sg_protocol.specs.Headline.{NoneJoinsTwice}
 use Rattle.std.proofs.lemmas.List.Elements.{All-nil, All-cons}
 
@@ -116,7 +126,7 @@ owns_act n os (Some i) s h = owns_still n.joins n.programs (extended s (Gave i o
 owns_after : (n : Node) (c : Call) (a : Answer) → Owns n.joins n.live → Owns (node_after n c a).joins (node_after n c a).live
 owns_after n (Start c) (Happened (Started sid r)) h = own_pair n (new_session sid c r) h
 owns_after n (Act sid label values confounders) (Sends e to f) h = owns_replace n.joins (λ s. bytes_eq s.sid sid) _ (λ s k. owns_act n (openings_for values confounders) (last f.items) s k) n.live h
-owns_after n (Abandon sid) Left h = owns_replace n.joins (λ s. bytes_eq s.sid sid) (λ s. []) (λ s k. refl) n.live h
+owns_after n (Abandon sid) Abandoned h = owns_replace n.joins (λ s. bytes_eq s.sid sid) (λ s. []) (λ s k. refl) n.live h
 owns_after n (Deliver bs) (Happened (Received sid r label time values joins)) h = owns_read n (read bs) h
 owns_after n c other h = h
 
@@ -151,7 +161,7 @@ module _ (sha : Hash) (n : Node) (h : Owns n.joins n.live) (es : List Event) whe
   start_rows c p (Some fault) e k = k
 
   start_step : (c : Cast) (o : Option Program) →
-      let a : Answer = option_map_or (λ p. started (session_id sha c) p.role (first_some (rows_of_start n p (session_id sha c) c))) o (NotStarted NoGraph) in
+      let a : Answer = option_map_or (λ p. started (session_id sha c) p.role (first_some (rows_of_start n p (session_id sha c) c))) o (NotStarted StartFault.UnknownGraph) in
       joins_once (node_after n (Start c) a).joins es ≡ true → joins_once n.joins (events_of_answer a ++ es) ≡ true
   start_step c None k = k
   start_step c (Some p) k = start_rows c p (first_some (rows_of_start n p (session_id sha c) c)) refl k
@@ -196,20 +206,20 @@ module _ (sha : Hash) (n : Node) (h : Owns n.joins n.live) (es : List Event) whe
   act_rows sid label values confounders p s j (Some fault) k = k
 
   act_program : (sid : List ℕ) (label : ℕ) (values : Map Value) (confounders : List (List ℕ)) (s : Session) → has_joined n.joins s.sid s.role ≡ true → (o : Option Program) →
-      let a : Answer = option_map_or (λ p. acted (sent sha n.keys p s label values confounders) (first_some (rows_of_act p s label values))) o (NotActed NoSession) in
+      let a : Answer = option_map_or (λ p. acted (sent sha n.keys p s label values confounders) (first_some (rows_of_act p s label values))) o (NotActed ActFault.UnknownSession) in
       joins_once (node_after n (Act sid label values confounders) a).joins es ≡ true → joins_once n.joins (events_of_answer a ++ es) ≡ true
   act_program sid label values confounders s j None k = k
   act_program sid label values confounders s j (Some p) k = act_rows sid label values confounders p s j (first_some (rows_of_act p s label values)) k
 
   act_step : (sid : List ℕ) (label : ℕ) (values : Map Value) (confounders : List (List ℕ)) (o : Option Session) → session_with n.live sid ≡ o →
-      let a : Answer = option_map_or (λ s. option_map_or (λ p. acted (sent sha n.keys p s label values confounders) (first_some (rows_of_act p s label values))) (program_for n.programs s.cast.graph s.role) (NotActed NoSession)) o (NotActed NoSession) in
+      let a : Answer = option_map_or (λ s. option_map_or (λ p. acted (sent sha n.keys p s label values confounders) (first_some (rows_of_act p s label values))) (program_for n.programs s.cast.graph s.role) (NotActed ActFault.UnknownSession)) o (NotActed ActFault.UnknownSession) in
       joins_once (node_after n (Act sid label values confounders) a).joins es ≡ true → joins_once n.joins (events_of_answer a ++ es) ≡ true
   act_step sid label values confounders None e k = k
   act_step sid label values confounders (Some s) e k =
       act_program sid label values confounders s (found (λ x. bytes_eq x.sid sid) (λ s. has_joined n.joins s.sid s.role) n.live s e h).1 (program_for n.programs s.cast.graph s.role) k
 
   abandon_step : (sid : List ℕ) (o : Option Session) →
-      let a : Answer = option_map_or (λ s. Left) o NotLeft in
+      let a : Answer = option_map_or (λ s. Abandoned) o NotAbandoned in
       joins_once (node_after n (Abandon sid) a).joins es ≡ true → joins_once n.joins (events_of_answer a ++ es) ≡ true
   abandon_step sid None k = k
   abandon_step sid (Some s) k = k

@@ -9,7 +9,7 @@ use Rattle.sg_model.specs.Last.{Map, Entry, has, merge, carry, evidence, after_l
 use Rattle.sg_model.specs.Lists.{range_from, value_at, in_order}
 use Rattle.sg_protocol.specs.Graph.{Graph}
 use Rattle.sg_protocol.specs.Frame.{Item}
-use Rattle.sg_protocol.specs.Session.{entry_of, item_of, shown_to, tags_left}
+use Rattle.sg_protocol.specs.Sending.{entry_of, item_of, shown_to, tags_left}
 
 cases_Bool : (b : Bool) → (b ≡ true) ⊎ (b ≡ false)
 cases_Bool true = inl refl

@@ -12,12 +12,17 @@ use Rattle.sg_model.specs.Last.{Map, has, last, after_last, up_to_last}
 use Rattle.sg_model.specs.Lists.{value_at, below, range_from, first_some}
 use Rattle.sg_model.specs.Shape.{Shape, Arrow, sender}
 use Rattle.sg_model.specs.Values.{Code}
-use Rattle.sg_protocol.specs.Graph.{Name, Graph, Edge, IsGraph, AreNumbers, shape, writes}
-use Rattle.sg_protocol.specs.Frame.{Cast, Item, Frame, HasSpelling, body}
-use Rattle.sg_protocol.specs.Texts.{item_text, frame_text}
+use Rattle.sg_model.specs.Names.{Name}
+use Rattle.sg_protocol.specs.Graph.{Graph, Edge, IsGraph, AreNumbers, shape, writes}
+use Rattle.sg_protocol.specs.Frame.{Cast, Item, Frame}
+use Rattle.sg_protocol.specs.Spelling.{HasSpelling, body}
+use Rattle.sg_protocol.specs.Texts.{item_text_of, frame_text_of}
 use Rattle.sg_protocol.specs.TextLaws.{ItemFits, AreHeld}
-use Rattle.sg_protocol.specs.Session.{Session, principal, told, own, time, place, at_turn, committed, commitments, text_to, checked_texts}
-use Rattle.sg_protocol.specs.Node.{row, bad_time, Note, note_of, text_before}
+use Rattle.sg_protocol.specs.Session.{Session, principal, told, own, time, place, at_turn, committed, commitments}
+use Rattle.sg_protocol.specs.Sending.{text_to}
+use Rattle.sg_protocol.specs.Checks.{checked_texts}
+use Rattle.sg_protocol.specs.Verdict.{row, bad_time}
+use Rattle.sg_protocol.specs.Notes.{Note, note_of, text_before}
 use Rattle.sg_law.specs.Last as B
 use Rattle.sg_law.specs.Accept.{Step}
 use Rattle.sg_law.specs.Run.{RisesFrom}
@@ -59,8 +64,8 @@ module _ (g : Graph) where
 
   -- what a note says of the session was made in it
   pub record NoteOk (sid : List ℕ) (log : List Made) (n : Note) : Type 0 where
-    pub item : (v from to label time : ℕ) (held : List (Option (List ℕ))) → ItemFits v sid label time held → n.text ≡ item_text v sid from to label time held → MadeItem log label time held
-    pub frame : (v : ℕ) (f : Frame) → HasSpelling f → f.sid ≡ sid → n.text ≡ frame_text v (body f) → MadeFrame log f
+    pub item : (v from to label time : ℕ) (held : List (Option (List ℕ))) → ItemFits v sid label time held → n.text ≡ item_text_of v sid from to label time held → MadeItem log label time held
+    pub frame : (v : ℕ) (f : Frame) → HasSpelling f → f.sid ≡ sid → n.text ≡ frame_text_of v (body f) → MadeFrame log f
 
   -- the role of a live session is what the law has for it
   pub record Matches (sid : List ℕ) (cast : Cast) (st : State) (who : Name) (x : Session) : Type 0 where

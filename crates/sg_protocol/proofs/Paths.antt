@@ -12,7 +12,8 @@ use Rattle.sg_model.specs.Lists.{is_in, value_at, keys_of, rises_from}
 use Rattle.sg_model.specs.Shape.{Arrow, Walk, sender, receiver}
 use Rattle.sg_model.specs.Values.{Value}
 use Rattle.sg_protocol.specs.Graph.{Graph, Edge, IsGraph, AreNumbers, shape, writes, reads}
-use Rattle.sg_protocol.specs.Node.{Event, is_typed}
+use Rattle.sg_protocol.specs.Calls.{Event}
+use Rattle.sg_protocol.specs.Acting.{is_typed}
 use Rattle.sg_protocol.specs.Walk as A
 use Rattle.sg_protocol.specs.Walk.{StoredStep, Act, Sends, Receives, act_if, counts, honest_acts, acts_of_event, stored, is_carried, is_written_first, are_hidden, is_typed_or_hidden, IsStoredStep, OnePath}
 use Rattle.sg_law.specs.Accept.{Step}

@@ -9,50 +9,50 @@ use Rattle.std.proofs.lemmas.Slice.Eq.{bytes_eq-Decides}
 use Rattle.sg_model.specs.Last.{Map, last}
 use Rattle.sg_model.specs.Lists.{first_some}
 use Rattle.sg_model.specs.Values.{Value}
-use Rattle.sg_protocol.specs.Graph.{Name}
-use Rattle.sg_protocol.specs.Frame.{Cast, spelling, magic, join_code, Item, Frame, HasSpelling, IsItem, AreBytes, IsTag, body}
-use Rattle.sg_protocol.specs.Texts.{Hash, IsHash, frame_text}
-use Rattle.sg_protocol.specs.TextLaws.{IsVersion}
-use Rattle.sg_protocol.specs.Session.{Keyring, Program, Session, Exchange, Took, Gave, principal, told, own_time, time, at_turn, commitments, extended, text_of, text_to, item_checks}
-use Rattle.sg_protocol.specs.Node.{Refusal, BadFrameTag, NoSuchView, BadEvidence, BadOpening, row, rows_of_session, has_frame_tag, is_shown, bad_time, has_item_tag, is_right, Note, note_of, notes_in_session}
-use Rattle.sg_protocol.specs.Run.{Schedule, is_honest, honest_role}
+use Rattle.sg_model.specs.Names.{Name}
+use Rattle.sg_protocol.specs.Frame.{Cast, Item, Frame, IsCastOf}
+use Rattle.sg_protocol.specs.Spelling.{spelling, magic, join_code, HasSpelling, body, u64}
+use Rattle.sg_protocol.specs.Texts.{Hash, IsHash, frame_text_of, session_id, session_text_of, cut, graph_text_of, hmac}
+use Rattle.sg_protocol.specs.TextLaws.{IsVersion, untagged, CastFits}
+use Rattle.sg_protocol.specs.Keyring.{Keyring, Program, targets_of, key_of}
+use Rattle.sg_protocol.specs.Session.{Session, Exchange, Took, Gave, principal, told, own_time, time, at_turn, commitments, extended, new_session}
+use Rattle.sg_protocol.specs.Sending.{text_of, text_to, frame_sent, tag_for}
+use Rattle.sg_protocol.specs.Checks.{texts_checked}
+use Rattle.sg_protocol.specs.Calls.{Refusal, BadFrameTag, NoSuchView, BadEvidence, BadOpening, ActFault, Event, Started, Sent, Received, Call, Start, Act, Abandon, Deliver, Answer, Happened, Sends, Abandoned, NotStarted, NotActed, StartFault, UnknownGraph, UnknownSession, NotWaiting, BadCast, BadSession, UnknownPeer, Joined, CacheFull, SessionsFull, sid_of}
+use Rattle.sg_protocol.specs.Verdict.{row, rows_of_session, has_frame_tag, is_shown, bad_time, has_item_tag, is_right, decided, receipt, verdict_on, rows_of_join, rows_of_next, join_rows, next_rows, rows}
+use Rattle.sg_protocol.specs.Notes.{Note, note_of, notes_in_session, notes_of_sent, Notes, notes, notes_of_start, notes_of_act, no_notes, notes_of_read, session_of_frame, hashed_of_join, row_number}
+use Rattle.sg_protocol.specs.Schedule.{Schedule, is_honest, honest_role, Step, StartStep, ActStep, AbandonStep, DeliverStep, CraftStep, PairKey, cast_of, sid_at, confounder}
 use Rattle.sg_law.proofs.Upto.{In}
 use Rattle.sg_law.proofs.Take.{contains_from_in}
 use Rattle.sg_protocol.proofs.Moves.{and_parts, not_false, none_parts, row_none, note_text, note_both, in_left, in_right}
-use Rattle.sg_protocol.specs.TextLaws.{untagged}
-use Rattle.sg_protocol.specs.Session.{frame_of, targets_of}
-use Rattle.sg_protocol.specs.Node.{ActFault, rows_of_act, openings_for, notes_of_sent, Notes}
+use Rattle.sg_protocol.specs.Acting.{rows_of_act, openings_for, answer, answer_act, started, acted, sent, rows_of_start}
 use Rattle.sg_protocol.proofs.TextLaws.{one_item, one_body, one_frame, kinds_differ}
 use Rattle.std.specs.Prelude.{Result, Ok, Err, option_and_then}
-use Rattle.sg_protocol.specs.Frame.{IsBytes, IsValue, IsOpening, read}
-use Rattle.sg_protocol.specs.Texts.{session_id, session_text}
-use Rattle.sg_protocol.specs.TextLaws.{CastFits}
-use Rattle.sg_protocol.specs.Node.{Node, Event, Started, Sent, Received, Call, Start, Act, Abandon, Deliver, Answer, Happened, Sends, Left, NotStarted, NotActed, StartFault, NoGraph, WrongCast, NoPeer, WasJoined, NoRoomToJoin, NoRoomForSession, NoSession, UnknownGraph, UnknownSession, NotWaiting, BadCast, BadSession, UnknownPeer, Joined, CacheFull, SessionsFull, answer, answer_act, node_after, joined, goes_on, replace, still, is_over, takes_read, is_for, is_cast, stranger, session_with, session_for, has_joined, new_session, program_for, starter, started, acted, decided, sent, receipt, verdict_on, rows_of_start, rows_of_join, rows_of_next, join_rows, next_rows, rows, notes, notes_of_start, notes_of_act, no_notes, notes_of_read, session_of_frame, hashed_of_join, row_number, sid_of}
-use Rattle.sg_protocol.specs.Frame as Frame'
+use Rattle.sg_model.specs.Bytes.{IsBytes}
+use Rattle.sg_protocol.specs.Reading.{read}
+use Rattle.sg_protocol.specs.Node.{Node, is_for, is_cast, stranger, session_with, session_for, has_joined, program_for, starter}
+use Rattle.sg_protocol.specs.NodeAfter.{node_after, joined, goes_on, replace, still, is_over, takes_read}
+use Rattle.sg_protocol.specs.Spelling as Spelling'
 use Rattle.sg_protocol.proofs.Isolation.{filter-append}
 use Rattle.sg_protocol.proofs.TextLaws.{cast_fits, opening_fits}
-use Rattle.sg_protocol.proofs.ReadBack.{read-Spells}
+use Rattle.sg_protocol.proofs.ReadBack.{read-SpellsFrame}
 use Rattle.sg_protocol.proofs.Acts as C
-use Rattle.sg_protocol.specs.Texts.{cut}
-use Rattle.sg_protocol.specs.Texts.{graph_text}
-use Rattle.sg_protocol.specs.Frame.{u64}
-use Rattle.sg_protocol.specs.Node.{Past, node_of, new_node, past_after}
-use Rattle.sg_protocol.specs.Run.{World, Logged, Outcome, Answered, Crafted, Step, StartStep, ActStep, AbandonStep, DeliverStep, CraftStep, PairKey, past_of, called, called_if, uncalled, world_after, world_after_all, new_world, run, call_of, cast_of, sid_at, bytes_of, confounder, frame_in, keyring_of, events_of, events_of_outcome, crafted, hashed, MadeBefore}
-use Rattle.sg_protocol.specs.Headline.{IsSchedule, IsStep, AreCompiled, Premises}
+use Rattle.sg_protocol.specs.Past.{Past, node_of, new_node, past_after}
+use Rattle.sg_protocol.specs.World.{World, Logged, Outcome, Answered, Crafted, past_of, new_world, call_of, bytes_of, keyring_of}
+use Rattle.sg_protocol.specs.Run.{called, called_if, uncalled, world_after, world_after_all, run, frame_in, events_of, events_of_outcome, cast_of_session, cast_in}
+use Rattle.sg_protocol.specs.Crafted.{crafted}
+use Rattle.sg_protocol.specs.Premises.{hashed, MadeBefore, Premises}
+use Rattle.sg_protocol.specs.IsSchedule.{IsSchedule, IsStep, AreCompiled, IsPairKey}
 use Rattle.sg_law.proofs.Upto.{in_from_Contains}
 use Rattle.sg_protocol.proofs.Calls.{find_passes, find_all}
-use Rattle.sg_protocol.specs.Run.{cast_of_session, cast_in}
 use Rattle.sg_protocol.proofs.TextLaws.{one_opening, one_cast, one_canonical}
 use Rattle.sg_protocol.proofs.TextLaws as TL
 use Rattle.sg_protocol.proofs.Course.{in_flat}
 use Rattle.sg_protocol.proofs.Course.{past_called, next_past, node_more, Suffix, suffix_all, in_after}
 use Rattle.sg_protocol.proofs.Whole.{FirstCast, first_past, found_in}
-use Rattle.sg_protocol.specs.Frame.{IsCastOf, IsTag}
 use Rattle.sg_protocol.proofs.First.{first_cast}
 use Rattle.sg_protocol.proofs.Sent.{FitSession}
-use Rattle.sg_protocol.specs.Session.{key_of, tag_for}
-use Rattle.sg_protocol.specs.Texts.{tag_of}
-use Rattle.sg_protocol.specs.Headline.{ReceiptsHaveSends, IsTaken, WasSent, IsPairKey}
+use Rattle.sg_protocol.specs.Receipts.{ReceiptsHaveSends, IsTaken, WasSent}
 use Rattle.sg_protocol.proofs.Fits.{Fit, fit_new, fit_next, fit_bytes, fit_sends, casts_fit, ActSent, act_sends}
 use Rattle.sg_protocol.proofs.TextLaws as TL
 
@@ -120,7 +120,7 @@ module _ (sha : Hash) (hash : IsHash sha) (programs : List Program) (s : Schedul
   -- what is known of a live session of a principal
   pub record Known (who : Name) (x : Session) : Type 0 where
     pub id : session_id sha x.cast ≡ x.sid
-    pub is_hashed : In (hashed s wf) (session_text x.cast)
+    pub is_hashed : In (hashed s wf) (session_text_of x.cast)
     pub me : principal x.cast x.role ≡ who
 
   still_known : (who : Name) (ps : List Program) (x : Session) → Known who x → AllByRecursion (Known who) (still ps x)
@@ -136,17 +136,17 @@ module _ (sha : Hash) (hash : IsHash sha) (programs : List Program) (s : Schedul
         by_rows : (p : Program) (o : Option StartFault) → first_some (rows_of_start n p (session_id sha c) c) ≡ o → ((t : List ℕ) → In (notes_of_start c (started (session_id sha c) p.role o)).hashed t → In (hashed s wf) t) → AllByRecursion (Known who) (node_after n (Start c) (started (session_id sha c) p.role o)).live
         by_rows p (Some f) e hs = live
         by_rows p None e hs =
-            let one = none_parts (row (not (is_cast n.keys p.graph c p.role)) WrongCast) (option_map NoPeer (stranger n.keys c) ∷ row (has_joined n.joins (session_id sha c) p.role) WasJoined ∷ row (nat_le 65536 (length n.joins)) NoRoomToJoin ∷ row (nat_le 4096 (length n.live)) NoRoomForSession ∷ []) e in
+            let one = none_parts (row (not (is_cast n.keys p.graph c p.role)) StartFault.BadCast) (option_map StartFault.UnknownPeer (stranger n.keys c) ∷ row (has_joined n.joins (session_id sha c) p.role) StartFault.Joined ∷ row (nat_le 65536 (length n.joins)) StartFault.CacheFull ∷ row (nat_le 4096 (length n.live)) StartFault.SessionsFull ∷ []) e in
             let ic : is_cast n.keys p.graph c p.role ≡ true = not_false (is_cast n.keys p.graph c p.role) (row_none _ _ one.0) in
-            all_cat (Known who) n.live (still n.programs (new_session (session_id sha c) c p.role)) live (still_known who n.programs (new_session (session_id sha c) c p.role) record { id = refl; is_hashed = hs (session_text c) (inl refl); me = same_bytes_ (principal c p.role) n.keys.me (and_parts _ (bytes_eq (principal c p.role) n.keys.me) ic).1 ∙ me })
+            all_cat (Known who) n.live (still n.programs (new_session (session_id sha c) c p.role)) live (still_known who n.programs (new_session (session_id sha c) c p.role) record { id = refl; is_hashed = hs (session_text_of c) (inl refl); me = same_bytes_ (principal c p.role) n.keys.me (and_parts _ (bytes_eq (principal c p.role) n.keys.me) ic).1 ∙ me })
 
-        by_program : (o : Option Program) → let a : Answer = option_map_or (λ (p : Program). started (session_id sha c) p.role (first_some (rows_of_start n p (session_id sha c) c))) o (NotStarted NoGraph) in
+        by_program : (o : Option Program) → let a : Answer = option_map_or (λ (p : Program). started (session_id sha c) p.role (first_some (rows_of_start n p (session_id sha c) c))) o (NotStarted StartFault.UnknownGraph) in
             ((t : List ℕ) → In (notes_of_start c a).hashed t → In (hashed s wf) t) → AllByRecursion (Known who) (node_after n (Start c) a).live
         by_program None hs = live
         by_program (Some p) hs = by_rows p (first_some (rows_of_start n p (session_id sha c) c)) refl hs
 
     abandon_known : (sid0 : List ℕ) (a : Answer) → AllByRecursion (Known who) (node_after n (Abandon sid0) a).live
-    abandon_known sid0 Left = replace_all {P = Known who} (λ (z : Session). bytes_eq z.sid sid0) (λ z. []) n.live (λ z e h. tt) live
+    abandon_known sid0 Abandoned = replace_all {P = Known who} (λ (z : Session). bytes_eq z.sid sid0) (λ z. []) n.live (λ z e h. tt) live
     abandon_known sid0 other = live
 
     act_known : (sid0 : List ℕ) (label : ℕ) (values : Map Value) (confs : List (List ℕ)) (a : Answer) → AllByRecursion (Known who) (node_after n (Act sid0 label values confs) a).live
@@ -174,8 +174,8 @@ module _ (sha : Hash) (hash : IsHash sha) (programs : List Program) (s : Schedul
                 let r2 = none_parts (option_map UnknownPeer (stranger n.keys c)) (row (not (bytes_eq f.sid (session_id sha c))) BadSession ∷ row (has_joined n.joins f.sid f.receiver) Joined ∷ row (nat_le 65536 (length n.joins)) CacheFull ∷ row (nat_le 4096 (length n.live)) SessionsFull ∷ rows_of_session sha n.keys p x f) r1.1 in
                 let r3 = none_parts (row (not (bytes_eq f.sid (session_id sha c))) BadSession) (row (has_joined n.joins f.sid f.receiver) Joined ∷ row (nat_le 65536 (length n.joins)) CacheFull ∷ row (nat_le 4096 (length n.live)) SessionsFull ∷ rows_of_session sha n.keys p x f) r2.1 in
                 let ic : is_cast n.keys p.graph c f.receiver ≡ true = (and_parts (is_cast n.keys p.graph c f.receiver) (nat_lt f.sender (length c.names)) (not_false (is_cast n.keys p.graph c f.receiver && nat_lt f.sender (length c.names)) (row_none _ _ r1.0))).0 in
-                let in_hashed : In (notes_of_read sha n (Ok f)).hashed (session_text c) = in_left (hashed_of_join f (row_number (first_some (rows sha n f)))) _ (session_text c) (subst (λ o. In (hashed_of_join f (row_number o)) (session_text c)) (sym e) (subst (λ o. In (option_map_or (λ c. session_text c ∷ []) o []) (session_text c)) (sym j) (inl refl))) in
-                all_cat (Known who) n.live (still n.programs (extended x (Took f))) live (still_known who n.programs (extended x (Took f)) record { id = sym (same_bytes_ f.sid (session_id sha c) (not_false (bytes_eq f.sid (session_id sha c)) (row_none _ _ r3.0))); is_hashed = hs (session_text c) in_hashed; me = same_bytes_ (principal c f.receiver) n.keys.me (and_parts _ (bytes_eq (principal c f.receiver) n.keys.me) ic).1 ∙ me })
+                let in_hashed : In (notes_of_read sha n (Ok f)).hashed (session_text_of c) = in_left (hashed_of_join f (row_number (first_some (rows sha n f)))) _ (session_text_of c) (subst (λ o. In (hashed_of_join f (row_number o)) (session_text_of c)) (sym e) (subst (λ o. In (option_map_or (λ c. session_text_of c ∷ []) o []) (session_text_of c)) (sym j) (inl refl))) in
+                all_cat (Known who) n.live (still n.programs (extended x (Took f))) live (still_known who n.programs (extended x (Took f)) record { id = sym (same_bytes_ f.sid (session_id sha c) (not_false (bytes_eq f.sid (session_id sha c)) (row_none _ _ r3.0))); is_hashed = hs (session_text_of c) in_hashed; me = same_bytes_ (principal c f.receiver) n.keys.me (and_parts _ (bytes_eq (principal c f.receiver) n.keys.me) ic).1 ∙ me })
 
             by_program : (o : Option Program) → program_for n.programs c.graph f.receiver ≡ o → AllByRecursion (Known who) (joined n (extended (new_session f.sid c f.receiver) (Took f))).live
             by_program None pc = (let q : Some UnknownGraph ≡ None = rows_join None pc in absurd (cc))
@@ -206,7 +206,7 @@ module _ (sha : Hash) (hash : IsHash sha) (programs : List Program) (s : Schedul
   keys_after : (n : Node) (c : Call) (a : Answer) → (node_after n c a).keys ≡ n.keys
   keys_after n (Start c) (Happened (Started sid r)) = refl
   keys_after n (Act sid label values confounders) (Sends e to f) = refl
-  keys_after n (Abandon sid) Left = refl
+  keys_after n (Abandon sid) Abandoned = refl
   keys_after n (Deliver bs) (Happened (Received sid r label time values joins)) = read_keys n (read bs)
   keys_after n c other = refl
 
@@ -275,7 +275,7 @@ module _ (sha : Hash) (hash : IsHash sha) (programs : List Program) (s : Schedul
       entry_ = record { number = k; who = Some who; call = Some c; outcome = Answered (answer sha (node_of past) c); frame = frame_in (answer sha (node_of past) c); notes = notes sha (node_of past) c }
 
       hs : (t : List ℕ) → In (notes sha (node_of past) c).hashed t → In (hashed s wf) t
-      hs t i = in_right (map graph_text s.graphs) (flat_map (λ (l : Logged). l.notes.hashed) wf.log) t (in_flat (λ (l : Logged). l.notes.hashed) wf.log (record { number = k; who = Some who; call = Some c; outcome = Answered (answer sha (node_of past) c); frame = frame_in (answer sha (node_of past) c); notes = notes sha (node_of past) c }) t
+      hs t i = in_right (map graph_text_of s.graphs) (flat_map (λ (l : Logged). l.notes.hashed) wf.log) t (in_flat (λ (l : Logged). l.notes.hashed) wf.log (record { number = k; who = Some who; call = Some c; outcome = Answered (answer sha (node_of past) c); frame = frame_in (answer sha (node_of past) c); notes = notes sha (node_of past) c }) t
           (in_after (k + 1) (called sha w k who c past).log wf.log after (record { number = k; who = Some who; call = Some c; outcome = Answered (answer sha (node_of past) c); frame = frame_in (answer sha (node_of past) c); notes = notes sha (node_of past) c }) (C.in_last w.log (record { number = k; who = Some who; call = Some c; outcome = Answered (answer sha (node_of past) c); frame = frame_in (answer sha (node_of past) c); notes = notes sha (node_of past) c }))) i)
 
       origin : Origin (record { number = k; who = Some who; call = Some c; outcome = Answered (answer sha (node_of past) c); frame = frame_in (answer sha (node_of past) c); notes = notes sha (node_of past) c }) c
@@ -350,7 +350,7 @@ module _ (sha : Hash) (hash : IsHash sha) (programs : List Program) (s : Schedul
     cast : Cast
     fits : CastFits cast
     id : session_id sha cast ≡ f.sid
-    is_hashed : In (hashed s wf) (session_text cast)
+    is_hashed : In (hashed s wf) (session_text_of cast)
     me : principal cast f.receiver ≡ who
     version : cast.version ≡ f.version
     found : In nts.found (note_of n.keys.me (principal cast f.sender) (text_of f))
@@ -358,7 +358,7 @@ module _ (sha : Hash) (hash : IsHash sha) (programs : List Program) (s : Schedul
 
   tag_row : (keys : Keyring) (p : Program) (x : Session) (f : Frame) → first_some (rows_of_session sha keys p x f) ≡ None → tag_for sha keys x.cast f.sender (text_of f) ≡ f.tag
   tag_row keys p x f h =
-      let one = none_parts (row (not (has_frame_tag sha keys x f)) BadFrameTag) (row (not (is_shown p x f)) NoSuchView ∷ bad_time 1 (own_time x) f.items ∷ option_map (λ n. BadEvidence (n + 1)) (position (λ c. not (has_item_tag sha keys x c)) (item_checks p.graph x f)) ∷ option_map (λ o. BadOpening o.variable) (find (λ o. not (is_right sha p.graph x f o)) f.openings) ∷ []) h in
+      let one = none_parts (row (not (has_frame_tag sha keys x f)) BadFrameTag) (row (not (is_shown p x f)) NoSuchView ∷ bad_time 1 (own_time x) f.items ∷ option_map (λ n. BadEvidence (n + 1)) (position (λ c. not (has_item_tag sha keys x c)) (texts_checked p.graph x f)) ∷ option_map (λ o. BadOpening o.variable) (find (λ o. not (is_right sha p.graph x f o)) f.openings) ∷ []) h in
       same_bytes_ (tag_for sha keys x.cast f.sender (text_of f)) f.tag (and_parts (nat_lt f.sender (length x.cast.names)) (bytes_eq (tag_for sha keys x.cast f.sender (text_of f)) f.tag) (not_false (has_frame_tag sha keys x f) (row_none _ _ one.0))).1
 
   module _ (who : Name) (n : Node) (me : n.keys.me ≡ who) (live : AllByRecursion (Known who) n.live) (fit : AllByRecursion FitSession n.live) (f : Frame) (spelled : HasSpelling f) (none : first_some (rows sha n f) ≡ None)
@@ -386,7 +386,7 @@ module _ (sha : Hash) (hash : IsHash sha) (programs : List Program) (s : Schedul
           cast = c;
           fits = TL.cast_fits c (subst IsVersion (sym co.version) spelled.version) (subst (λ v. IsCastOf v c) (sym co.version) co);
           id = sym (same_bytes_ f.sid (session_id sha c) (not_false (bytes_eq f.sid (session_id sha c)) (row_none _ _ r3.0)));
-          is_hashed = hs (session_text c) (in_left (hashed_of_join f (row_number (first_some (rows sha n f)))) _ (session_text c) (subst (λ o. In (hashed_of_join f (row_number o)) (session_text c)) (sym none) (subst (λ o. In (option_map_or (λ c. session_text c ∷ []) o []) (session_text c)) (sym j) (inl refl))));
+          is_hashed = hs (session_text_of c) (in_left (hashed_of_join f (row_number (first_some (rows sha n f)))) _ (session_text_of c) (subst (λ o. In (hashed_of_join f (row_number o)) (session_text_of c)) (sym none) (subst (λ o. In (option_map_or (λ c. session_text_of c ∷ []) o []) (session_text_of c)) (sym j) (inl refl))));
           me = same_bytes_ (principal c f.receiver) n.keys.me (and_parts _ (bytes_eq (principal c f.receiver) n.keys.me) ic).1 ∙ me;
           version = co.version;
           found = note_there p x sess;
@@ -434,14 +434,14 @@ module _ (sha : Hash) (hash : IsHash sha) (programs : List Program) (s : Schedul
       by_rows x p (Some fault) a = absurd (cc)
       by_rows x p None a =
           let q : Sent x.sid x.role label (time x + 1) values ≡ e = cc in
-          let r : frame_of sha n.keys p x label (openings_for values confs) ≡ f = cc in
+          let r : frame_sent sha n.keys p x label (openings_for values confs) ≡ f = cc in
           ap sid_of (sym q) ∙ ap (λ (z : Frame). z.sid) r
 
-      by_session : (o : Option Session) → option_map_or (λ x. option_map_or (λ p. acted (sent sha n.keys p x label values confs) (first_some (rows_of_act p x label values))) (program_for n.programs x.cast.graph x.role) (NotActed NoSession)) o (NotActed NoSession) ≡ Sends e to f → sid_of e ≡ f.sid
+      by_session : (o : Option Session) → option_map_or (λ x. option_map_or (λ p. acted (sent sha n.keys p x label values confs) (first_some (rows_of_act p x label values))) (program_for n.programs x.cast.graph x.role) (NotActed ActFault.UnknownSession)) o (NotActed ActFault.UnknownSession) ≡ Sends e to f → sid_of e ≡ f.sid
       by_session None a = absurd (cc)
       by_session (Some x) a = by_program (program_for n.programs x.cast.graph x.role) a
         where
-          by_program : (o : Option Program) → option_map_or (λ p. acted (sent sha n.keys p x label values confs) (first_some (rows_of_act p x label values))) o (NotActed NoSession) ≡ Sends e to f → sid_of e ≡ f.sid
+          by_program : (o : Option Program) → option_map_or (λ p. acted (sent sha n.keys p x label values confs) (first_some (rows_of_act p x label values))) o (NotActed ActFault.UnknownSession) ≡ Sends e to f → sid_of e ≡ f.sid
           by_program None a = absurd (cc)
           by_program (Some p) a = by_rows x p (first_some (rows_of_act p x label values)) a
 
@@ -458,13 +458,13 @@ module _ (sha : Hash) (hash : IsHash sha) (programs : List Program) (s : Schedul
     tag_is : f.tag ≡ tag_for sha n.keys x.cast f.receiver (text_of f)
     is_text : text ≡ text_of f
 
-  gave_ : (n : Node) (c : Call) (nt : Note) (v : ℕ) (body_ : List ℕ) → In (notes sha n c).made nt → nt.text ≡ frame_text v body_ → Gave_ n c nt.text
+  gave_ : (n : Node) (c : Call) (nt : Note) (v : ℕ) (body_ : List ℕ) → In (notes sha n c).made nt → nt.text ≡ frame_text_of v body_ → Gave_ n c nt.text
   gave_ n (Start c) nt v b i t = absurd (start_none c (answer sha n (Start c)) nt i)
     where
       start_none : (c : Cast) (a : Answer) (nt : Note) → In (notes_of_start c a).made nt → ⊥
-      start_none c (NotStarted NoGraph) nt i = i
-      start_none c (NotStarted WrongCast) nt i = i
-      start_none c (NotStarted (NoPeer name)) nt i = i
+      start_none c (NotStarted StartFault.UnknownGraph) nt i = i
+      start_none c (NotStarted StartFault.BadCast) nt i = i
+      start_none c (NotStarted (StartFault.UnknownPeer name)) nt i = i
       start_none c other nt i = i
   gave_ n (Abandon sid0) nt v b i t = absurd i
   gave_ n (Deliver bs) nt v b i t = absurd (go (read bs) i)
@@ -531,11 +531,11 @@ module _ (sha : Hash) (hash : IsHash sha) (programs : List Program) (s : Schedul
     first_is : first.cast ≡ cast
     first_is = (let a : Some first.cast ≡ Some cast = sym first.is_cast ∙ is_cast_ in cc)
 
-    with_sid : (c : Cast) → CastFits c → In (hashed s wf) (session_text c) → session_id sha c ≡ f.sid → c ≡ cast
-    with_sid c fits i e = TL.one_cast c first.cast fits first.fits (premises.collision_free (session_text c) (session_text first.cast) (contains_from_in (hashed s wf) (session_text c) i) (contains_from_in (hashed s wf) (session_text first.cast) first.is_hashed) (e ∙ sym first.sid_is)) ∙ first_is
+    with_sid : (c : Cast) → CastFits c → In (hashed s wf) (session_text_of c) → session_id sha c ≡ f.sid → c ≡ cast
+    with_sid c fits i e = TL.one_cast c first.cast fits first.fits (premises.collision_free (session_text_of c) (session_text_of first.cast) (contains_from_in (hashed s wf) (session_text_of c) i) (contains_from_in (hashed s wf) (session_text_of first.cast) first.is_hashed) (e ∙ sym first.sid_is)) ∙ first_is
 
-    spells : Frame'.Spells bs f
-    spells = read-Spells bs f (o.bytes bs refl) taken.3
+    spells : Spelling'.SpellsFrame bs f
+    spells = read-SpellsFrame bs f (o.bytes bs refl) taken.3
 
     rows_none : first_some (rows sha o.n f) ≡ None
     rows_none = (let a : Answered (answer sha o.n (Deliver bs)) ≡ Answered (Happened (receipt f)) = sym o.is_outcome ∙ taken.4 in let b : answer sha o.n (Deliver bs) ≡ Happened (receipt f) = cc in decided_none (receipt f) (first_some (rows sha o.n f)) (ap (verdict_on sha o.n) (sym taken.3) ∙ b))
@@ -545,7 +545,7 @@ module _ (sha : Hash) (hash : IsHash sha) (programs : List Program) (s : Schedul
 
     t : Took_ o.who o.n f (notes_of_read sha o.n (Ok f))
     t = took o.who o.n (me_is o.who o.n o.its_keys) o.known_ o.live_fit f spells.is_frame rows_none
-        (λ y i. in_right (map graph_text s.graphs) (flat_map (λ (z : Logged). z.notes.hashed) wf.log) y (in_flat (λ (z : Logged). z.notes.hashed) wf.log l y l_in (subst (λ (z : Notes). In z.hashed y) (sym notes_l) i)))
+        (λ y i. in_right (map graph_text_of s.graphs) (flat_map (λ (z : Logged). z.notes.hashed) wf.log) y (in_flat (λ (z : Logged). z.notes.hashed) wf.log l y l_in (subst (λ (z : Notes). In z.hashed y) (sym notes_l) i)))
 
     cast_is : t.cast ≡ cast
     cast_is = with_sid t.cast t.fits t.is_hashed t.id
@@ -570,7 +570,7 @@ module _ (sha : Hash) (hash : IsHash sha) (programs : List Program) (s : Schedul
             let i : In (notes sha o'.n c).made nt = subst (λ (z : Notes). In z.made nt) o'.is_notes (in_from_Contains (made_before.0).notes.made nt made_before.3) in
             let g : Gave_ o'.n c nt.text = gave_ o'.n c nt f.version (body f) i (note_text (o.n).keys.me (principal t.cast f.sender) (text_of f)) in
             let sp : HasSpelling g.f = o'.spelled g.e g.to g.f g.is_answer in
-            let same_text_ : frame_text f.version (body f) ≡ frame_text (g.f).version (body g.f) = sym (note_text (o.n).keys.me (principal t.cast f.sender) (text_of f)) ∙ g.is_text in
+            let same_text_ : frame_text_of f.version (body f) ≡ frame_text_of (g.f).version (body g.f) = sym (note_text (o.n).keys.me (principal t.cast f.sender) (text_of f)) ∙ g.is_text in
             let u : untagged f ≡ untagged g.f = TL.one_frame f.version (g.f).version f g.f spells.is_frame sp same_text_ in
             let k : Known o'.who g.x = rec_in (Known o'.who) (o'.n).live g.x o'.known_ g.there in
             let fx : FitSession g.x = rec_in FitSession (o'.n).live g.x o'.live_fit g.there in
@@ -588,7 +588,7 @@ module _ (sha : Hash) (hash : IsHash sha) (programs : List Program) (s : Schedul
             ∙ ap (λ (c : Cast). tag_for sha (o'.n).keys c (g.f).receiver (text_of g.f)) x_cast
             ∙ ap (λ r. tag_for sha (o'.n).keys cast r (text_of g.f)) rec
             ∙ ap (tag_for sha (o'.n).keys cast f.receiver) (sym same_text_)
-            ∙ ap (λ y. cut cast.version (tag_of sha (unwrap_or y []) (text_of f))) key
+            ∙ ap (λ y. cut cast.version (hmac sha (unwrap_or y []) (text_of f))) key
             ∙ ap (λ (c : Cast). tag_for sha (o.n).keys c f.sender (text_of f)) (sym cast_is)
             ∙ t.tag_is in
             let whole_ : g.f ≡ f = ap (λ (z : Frame). record z { tag = (g.f).tag }) (sym u) ∙ ap (λ y. record f { tag = y }) tag in (

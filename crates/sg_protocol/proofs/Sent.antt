@@ -12,32 +12,29 @@ use Rattle.sg_model.specs.Last.{evidence_for, Map, has, last, last_or, last_of, 
 use Rattle.sg_model.specs.Lists.{value_at, range_from}
 use Rattle.sg_model.specs.Shape.{Arrow, role_at, source, target, sender, receiver}
 use Rattle.sg_model.specs.Values.{Value, Opening}
-use Rattle.sg_protocol.specs.Graph.{Name, Graph, Edge, IsGraph, AreNumbers, shape, writes, reads}
-use Rattle.sg_protocol.specs.Frame.{Cast, spelling, magic, join_code, Item, Frame, HasSpelling, IsItem, AreBytes, IsTag, body}
-use Rattle.sg_protocol.specs.Texts.{Hash, IsHash, commitment}
+use Rattle.sg_protocol.specs.Graph.{Graph, Edge, IsGraph, AreNumbers, shape, writes, reads, canonical, ended, spaced, variable_line, node_line, edge_line, AreNames}
+use Rattle.sg_protocol.specs.Frame.{Cast, Item, Frame, IsItem, IsTag, IsValue, IsOpening, IsCastOf, tag_len}
+use Rattle.sg_protocol.specs.Spelling.{spelling, magic, join_code, HasSpelling, body, u8, u16, u32, item_bytes, pair_bytes, map_bytes, join_bytes, short_text, opening_bytes, sized, value_bytes, kind_code}
+use Rattle.sg_model.specs.Bytes.{AreBytes}
+use Rattle.sg_protocol.specs.Texts.{Hash, IsHash, commitment, cut}
 use Rattle.sg_protocol.specs.TextLaws.{IsVersion}
-use Rattle.sg_protocol.specs.Session.{Keyring, Program, Session, Exchange, told, time, place, text_to}
+use Rattle.sg_protocol.specs.Keyring.{Keyring, Program, targets_of}
+use Rattle.sg_protocol.specs.Session.{Session, Exchange, told, time, place, openings_of, opening_in, last_opening, known}
+use Rattle.sg_protocol.specs.Sending.{text_to, plain_item, own_item, frame_sent, item_of, entry_of, tags_left, shown_to, opening_of, tag_for}
 use Rattle.sg_law.proofs.Lists.{has-map}
 use Rattle.sg_protocol.proofs.Paths.{in_same}
 use Rattle.sg_protocol.proofs.Moves.{and_parts, writes_below}
 use Rattle.sg_model.specs.Lists.{rises_from, keys_of, in_order}
 use Rattle.sg_law.proofs.Upto.{after-more}
-use Rattle.sg_protocol.specs.Session.{plain_item, own_item, frame_of, item_of, entry_of, tags_left, shown_to, opening_of, targets_of}
 use Rattle.sg_protocol.proofs.Paths.{writes_rise}
-use Rattle.sg_protocol.specs.Frame.{IsValue, IsOpening}
 use Rattle.sg_protocol.proofs.Acts as C
 use Rattle.std.specs.Prelude.{IsTrue}
 use Rattle.sg_model.specs.Values.{IntValue, TextValue}
-use Rattle.sg_protocol.specs.Graph.{canonical, ended, spaced, variable_line, node_line, edge_line, AreNames, is_name, is_name_byte, is_letter, reserved}
-use Rattle.sg_protocol.specs.Headline.{IsProgram}
-use Rattle.sg_protocol.specs.Frame.{IsCastOf, IsTag}
-use Rattle.sg_protocol.specs.Session.{openings_of}
+use Rattle.sg_model.specs.Names.{is_name, is_name_byte, is_letter}
+use Rattle.sg_protocol.specs.IsSchedule.{IsProgram}
 use Rattle.std.specs.Prelude.{replicate, take}
 use Rattle.std.specs.List.{concat}
-use Rattle.sg_protocol.specs.Frame.{u8, u16, u32, item_bytes, pair_bytes, map_bytes, join_bytes, short_text, opening_bytes, sized, value_bytes, kind_code, tag_len}
 use Rattle.std.specs.Prelude.{drop, ◌*◌}
-use Rattle.sg_protocol.specs.Texts.{cut}
-use Rattle.sg_protocol.specs.Session.{tag_for, opening_in, last_opening, known}
 use Rattle.sg_protocol.specs.Targets.{IsTarget}
 use Rattle.sg_protocol.specs.Graph as G
 use Rattle.sg_protocol.proofs.Spelled.{to_bytes, from_bytes, bytes-append, bytes-take, bytes-zeros}
@@ -520,7 +517,7 @@ module _ (sha : Hash) (hash : IsHash sha) (p : Program) (ip : IsProgram sha p) (
   oi = own_item sha keys p x label os
 
   abbrev sent_frame : Frame
-  sent_frame = frame_of sha keys p x label os
+  sent_frame = frame_sent sha keys p x label os
 
   in_edges : label < length g.edges
   in_edges = C.lt_of label (length g.edges) rows.edge
@@ -637,7 +634,7 @@ module _ (sha : Hash) (hash : IsHash sha) (p : Program) (ip : IsProgram sha p) (
   join_ok : IfSome sent_frame.join (IsCastOf v)
   join_ok = elim (cases_Bool (has (λ (j : Item). j.role) (receiver (shape g) label) (told x))) [ inl e ↦ rw e tt | inr e ↦ rw e fx.cast ]
 
-  pub sent_spelled : HasSpelling (frame_of sha keys p x label os)
+  pub sent_spelled : HasSpelling (frame_sent sha keys p x label os)
   sent_spelled = record {
     version = fx.version;
     sid = fx.sid;

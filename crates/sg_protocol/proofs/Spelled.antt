@@ -8,23 +8,20 @@ use Rattle.std.proofs.lemmas.Bool.Decides.{nat_tests}
 use Rattle.sg_model.specs.Last.{Map}
 use Rattle.sg_model.specs.Lists.{below, range_from}
 use Rattle.sg_model.specs.Values.{Value, Opening}
-use Rattle.sg_protocol.specs.Frame.{Cast, spelling, magic, join_code, Item, Frame, HasSpelling, IsItem, AreBytes, IsTag, body}
-use Rattle.sg_protocol.specs.Run.{Schedule, is_honest, honest_role}
+use Rattle.sg_protocol.specs.Frame.{Cast, Item, Frame, IsItem, IsTag, IsValue, IsOpening, IsCastOf, tag_len}
+use Rattle.sg_protocol.specs.Spelling.{spelling, magic, join_code, HasSpelling, body, u64, u8, u16, u32, item_bytes, pair_bytes, map_bytes, join_bytes, short_text, opening_bytes, sized, value_bytes, kind_code}
+use Rattle.sg_model.specs.Bytes.{AreBytes}
 use Rattle.sg_protocol.proofs.Moves.{and_parts}
-use Rattle.sg_protocol.specs.Frame.{IsBytes, IsValue, IsOpening}
+use Rattle.sg_model.specs.Bytes.{IsBytes}
 use Rattle.sg_protocol.proofs.Acts as C
 use Rattle.std.specs.Prelude.{slice_get, IsTrue}
 use Rattle.sg_model.specs.Values.{IntValue, TextValue}
-use Rattle.sg_protocol.specs.Frame.{u64}
-use Rattle.sg_protocol.specs.Run.{World, Logged, Outcome, Answered, Crafted, NoFrame, Step, StartStep, ActStep, AbandonStep, DeliverStep, CraftStep, What, Declared, PairKey, past_of, called, called_if, uncalled, recorded, world_after, world_after_all, new_world, run, call_of, cast_of, sid_at, bytes_of, confounder, frame_in, keyring_of, events_of, events_of_outcome, crafted, graph_with, hashed, CollisionFree, MadeBefore, Unforged}
-use Rattle.sg_protocol.specs.Run as Run'
-use Rattle.sg_protocol.specs.Graph.{is_name, is_name_byte, is_letter}
-use Rattle.sg_protocol.specs.Run.{cast_of_session, cast_in}
-use Rattle.sg_protocol.specs.Frame.{IsCastOf, IsTag}
+use Rattle.sg_protocol.specs.World.{World, Logged, Outcome, Answered, Crafted, NoFrame, past_of, new_world, call_of, bytes_of, keyring_of}
+use Rattle.sg_protocol.specs.World as World'
+use Rattle.sg_model.specs.Names.{is_name, is_name_byte, is_letter}
 use Rattle.sg_model.specs.Lists.{below}
 use Rattle.std.specs.Prelude.{replicate, take, set, bit_xor, ◌%◌, ◌/◌}
 use Rattle.std.specs.List.{concat}
-use Rattle.sg_protocol.specs.Frame.{u8, u16, u32, item_bytes, pair_bytes, map_bytes, join_bytes, short_text, opening_bytes, sized, value_bytes, kind_code, tag_len}
 
 cases_Bool : (b : Bool) → (b ≡ true) ⊎ (b ≡ false)
 cases_Bool true = inl refl
@@ -91,7 +88,7 @@ get_byte [] at b a e = absurd (cc)
 get_byte (x ∷ bs) zero b a e = (let q : x ≡ b = cc in subst (λ z. z < 256) q a.0)
 get_byte (x ∷ bs) (suc at) b a e = get_byte bs at b a.1 e
 
-pub bytes-flipped : (bs : List ℕ) (at : ℕ) → Bytes_ bs → Bytes_ (Run'.flipped at bs)
+pub bytes-flipped : (bs : List ℕ) (at : ℕ) → Bytes_ bs → Bytes_ (World'.flipped at bs)
 bytes-flipped bs at a = go (slice_get bs at) refl
   where
     go : (o : Option ℕ) → slice_get bs at ≡ o → Bytes_ (option_map_or (λ b. set bs at (bit_xor b 1)) o bs)

@@ -9,15 +9,23 @@ use Rattle.sg_model.specs.Last.{Map, has, last, last_or, last_of, after_last, up
 use Rattle.sg_model.specs.Lists.{first_some, same_text}
 use Rattle.sg_model.specs.Shape.{Shape, role_at, end_of, target, sender, receiver}
 use Rattle.sg_model.specs.Values.{Opening, Code}
-use Rattle.sg_protocol.specs.Graph.{Name, Graph, IsGraph, shape, reads}
+use Rattle.sg_model.specs.Names.{Name}
+use Rattle.sg_protocol.specs.Graph.{Graph, IsGraph, shape, reads}
 use Rattle.sg_protocol.specs.Evidence.{Seen, View, IsView, IsViewTable, has_view}
-use Rattle.sg_protocol.specs.Frame.{Cast, Item, Frame, HasSpelling, IsItem, AreBytes}
-use Rattle.sg_protocol.specs.Texts.{Hash, commitment, item_text}
+use Rattle.sg_protocol.specs.Frame.{Cast, Item, Frame, IsItem}
+use Rattle.sg_protocol.specs.Spelling.{HasSpelling}
+use Rattle.sg_model.specs.Bytes.{AreBytes}
+use Rattle.sg_protocol.specs.Texts.{Hash, commitment, item_text_of}
 use Rattle.sg_protocol.specs.TextLaws.{IsVersion}
-use Rattle.sg_protocol.specs.Session.{Keyring, Program, Session, Took, principal, items_of, told, own, own_time, time, origin, place, at_turn, last_label, committed, commitments, shown_commitments, extended, text_of, text_to, checked_texts, item_checks}
-use Rattle.sg_protocol.specs.Node.{Refusal, BadFrameTag, NoSuchView, BadEvidence, BadOpening, row, rows_of_session, has_frame_tag, is_shown, bad_time, has_item_tag, has_kind, is_right, has_right_tags, seen, Note, note_of, notes_in_session}
+use Rattle.sg_protocol.specs.Keyring.{Keyring, Program}
+use Rattle.sg_protocol.specs.Session.{Session, Took, principal, items_of, told, own, own_time, time, origin, place, at_turn, last_label, committed, commitments, extended}
+use Rattle.sg_protocol.specs.Checks.{shown_commitments, checked_texts, texts_checked}
+use Rattle.sg_protocol.specs.Sending.{text_of, text_to}
+use Rattle.sg_protocol.specs.Calls.{Refusal, BadFrameTag, NoSuchView, BadEvidence, BadOpening}
+use Rattle.sg_protocol.specs.Verdict.{row, rows_of_session, has_frame_tag, is_shown, bad_time, has_item_tag, has_kind, is_right, has_right_tags, seen}
+use Rattle.sg_protocol.specs.Notes.{Note, note_of, notes_in_session}
 use Rattle.sg_protocol.specs.Walk.{is_typed_or_hidden}
-use Rattle.sg_protocol.specs.Run.{Schedule, is_honest, honest_role}
+use Rattle.sg_protocol.specs.Schedule.{Schedule, is_honest, honest_role}
 use Rattle.sg_law.specs.Last as B
 use Rattle.sg_law.specs.Accept.{Step}
 use Rattle.sg_law.specs.Run.{RisesFrom, Turn}
@@ -49,12 +57,12 @@ pub record Rows (sha : Hash) (keys : Keyring) (p : Program) (x : Session) (f : F
   pub by_sender : option_map_or (λ (i : Item). i.role == f.sender) (last f.items) false ≡ true
   pub variables : bytes_eq (map (λ (o : Opening). o.variable) f.openings) (option_map_or (reads p.graph) (last_label f.items) []) ≡ true
   pub times : bad_time 1 (own_time x) f.items ≡ None
-  pub tags : list_all (has_item_tag sha keys x) (item_checks p.graph x f) ≡ true
+  pub tags : list_all (has_item_tag sha keys x) (texts_checked p.graph x f) ≡ true
   pub openings : list_all (is_right sha p.graph x f) f.openings ≡ true
 
 pub rows_of : (sha : Hash) (keys : Keyring) (p : Program) (x : Session) (f : Frame) → first_some (rows_of_session sha keys p x f) ≡ None → Rows sha keys p x f
 rows_of sha keys p x f h =
-    let evid : Option Refusal = option_map (λ n. BadEvidence (n + 1)) (position (λ c. not (has_item_tag sha keys x c)) (item_checks p.graph x f)) in
+    let evid : Option Refusal = option_map (λ n. BadEvidence (n + 1)) (position (λ c. not (has_item_tag sha keys x c)) (texts_checked p.graph x f)) in
     let open_ : Option Refusal = option_map (λ o. BadOpening o.variable) (find (λ o. not (is_right sha p.graph x f o)) f.openings) in
     let one : (row (not (has_frame_tag sha keys x f)) BadFrameTag ≡ None) × (first_some (row (not (is_shown p x f)) NoSuchView ∷ bad_time 1 (own_time x) f.items ∷ evid ∷ open_ ∷ []) ≡ None) = none_parts _ _ h in
     let two : (row (not (is_shown p x f)) NoSuchView ≡ None) × (first_some (bad_time 1 (own_time x) f.items ∷ evid ∷ open_ ∷ []) ≡ None) = none_parts _ _ one.1 in
@@ -72,7 +80,7 @@ rows_of sha keys p x f h =
       by_sender = c.1;
       variables = a.1;
       times = three.0;
-      tags = no_position (has_item_tag sha keys x) (item_checks p.graph x f) (map_none _ _ four.0);
+      tags = no_position (has_item_tag sha keys x) (texts_checked p.graph x f) (map_none _ _ four.0);
       openings = no_find (is_right sha p.graph x f) f.openings (map_none _ _ five.0);
     }
 
@@ -150,12 +158,12 @@ module _ (sha : Hash) (s : Schedule) (sid : List ℕ) (cast : Cast) (keys : Keyr
   own_times (Some i) = refl
 
   -- the tag of an item
-  texts_found : (c : Item × List ℕ) → In (item_checks g x f) c → is_honest s (principal x.cast (c.0).role) ≡ true → NoteOk g sid st.log (note_of keys.me (principal x.cast (c.0).role) c.1)
+  texts_found : (c : Item × List ℕ) → In (texts_checked g x f) c → is_honest s (principal x.cast (c.0).role) ≡ true → NoteOk g sid st.log (note_of keys.me (principal x.cast (c.0).role) c.1)
   texts_found c i h =
       let note : Note = note_of keys.me (principal x.cast (c.0).role) c.1 in
       let both = note_both (λ z. is_honest s z ≡ true) keys.me (principal x.cast (c.0).role) c.1 (ap (is_honest s) me ∙ hon) h in
-      found note (in_right (note_of keys.me (principal x.cast f.sender) (text_of f) ∷ []) _ note (subst (λ l. In (map (λ (c : Item × List ℕ). note_of keys.me (principal x.cast (c.0).role) c.1) l) note) (sym (take_all (has_item_tag sha keys x) (item_checks g x f) rows.tags))
-      (in_map (λ (c : Item × List ℕ). note_of keys.me (principal x.cast (c.0).role) c.1) (item_checks g x f) c i))) both.0 both.1
+      found note (in_right (note_of keys.me (principal x.cast f.sender) (text_of f) ∷ []) _ note (subst (λ l. In (map (λ (c : Item × List ℕ). note_of keys.me (principal x.cast (c.0).role) c.1) l) note) (sym (take_all (has_item_tag sha keys x) (texts_checked g x f) rows.tags))
+      (in_map (λ (c : Item × List ℕ). note_of keys.me (principal x.cast (c.0).role) c.1) (texts_checked g x f) c i))) both.0 both.1
 
   tagged : (a : List Item) (i j : Item) (b : List Item) → f.items ≡ a ++ i ∷ j ∷ b → honest_role s cast (sender (shape g) i.label) ≡ true → MadeItem g st.log i.label i.time (commitments g ((own x ++ a) ++ i ∷ []))
   tagged a i j b e h =
@@ -167,7 +175,7 @@ module _ (sha : Hash) (s : Schedule) (sid : List ℕ) (cast : Cast) (keys : Keyr
       let ok = texts_found (i, t) (subst (λ l. In (checked_texts g x (own x) l) (i, t)) (sym e) (checked_in g x (own x) a i j b)) hon' in
       ok.item x.cast.version i.role x.role i.label i.time (commitments g ((own x ++ a) ++ i ∷ []))
       (record { version = subst (λ (c : Cast). IsVersion c.version) (sym m.same_cast) version; sid = long; label = (let l = it.label in omega arith); time = (let l = it.time.1 in omega arith); held = are_held g ((own x ++ a) ++ i ∷ []) fits })
-      (note_text keys.me (principal x.cast i.role) t ∙ ap (λ z. item_text x.cast.version z i.role x.role i.label i.time (commitments g ((own x ++ a) ++ i ∷ []))) m.same_sid)
+      (note_text keys.me (principal x.cast i.role) t ∙ ap (λ z. item_text_of x.cast.version z i.role x.role i.label i.time (commitments g ((own x ++ a) ++ i ∷ []))) m.same_sid)
 
   law_tag : (a b : List (B.Entry Code)) (i j : B.Entry Code) → entries f.items ≡ a ++ i ∷ j ∷ b → honest_role s cast (sender (shape g) i.label) ≡ true → Tagged (shape g) st.log (own_of (shape g) st x.role ++ (a ++ i ∷ [])) i
   law_tag a b i j e h = go (split f.items a i (j ∷ b) e)

@@ -8,8 +8,11 @@ use Rattle.std.proofs.lemmas.Int.{to_z-of_z}
 use Rattle.std.proofs.lemmas.List.{append_assoc, append-nil, append_cancel_left, append_cancel_right}
 use Rattle.std.proofs.lemmas.Nat.{from_be_bytes-to_be_bytes_2, from_be_bytes-to_be_bytes_4, from_be_bytes-to_be_bytes_8}
 use Rattle.sg_protocol.specs.Graph.{Graph, canonical}
+use Rattle.sg_protocol.specs.Spelling
 use Rattle.sg_protocol.specs.Frame
-use Rattle.sg_protocol.specs.Texts.{graph_text, session_text, commitment_text, item_text, frame_text, maybe_commitment}
+use Rattle.sg_model.specs.Values
+use Rattle.sg_protocol.specs.Reading
+use Rattle.sg_protocol.specs.Texts.{graph_text_of, session_text_of, commitment_text_of, item_text_of, frame_text_of, maybe_commitment}
 use Rattle.sg_protocol.specs.TextLaws.{IsVersion, ValueFits, CastFits, OpeningFits, untagged, OneCast, OneOpening, OneItem, OneBody, OneFrame, OneCanonical, KindsDiffer, VersionsDiffer}
 use Rattle.sg_protocol.proofs.ReadLaws.{read-spelling}
 
@@ -71,16 +74,16 @@ all_to_end P spell d more (x ∷ xs) (y ∷ ys) h k e =
 
 -- ---- numbers
 
-u16_same : (m n : ℕ) → m < 2 ^ 16 → n < 2 ^ 16 → Frame.u16 m ≡ Frame.u16 n → m ≡ n
+u16_same : (m n : ℕ) → m < 2 ^ 16 → n < 2 ^ 16 → Spelling.u16 m ≡ Spelling.u16 n → m ≡ n
 u16_same m n h k e = sym (from_be_bytes-to_be_bytes_2 m h) ∙ ap (from_be_bytes w16) e ∙ from_be_bytes-to_be_bytes_2 n k
 
-u32_same : (m n : ℕ) → m < 2 ^ 32 → n < 2 ^ 32 → Frame.u32 m ≡ Frame.u32 n → m ≡ n
+u32_same : (m n : ℕ) → m < 2 ^ 32 → n < 2 ^ 32 → Spelling.u32 m ≡ Spelling.u32 n → m ≡ n
 u32_same m n h k e = sym (from_be_bytes-to_be_bytes_4 m h) ∙ ap (from_be_bytes w32) e ∙ from_be_bytes-to_be_bytes_4 n k
 
-int_same : (y z : ℤ) → FitsSigned w64 y → FitsSigned w64 z → Frame.u64 (cast_unsigned w64 y) ≡ Frame.u64 (cast_unsigned w64 z) → y ≡ z
+int_same : (y z : ℤ) → FitsSigned w64 y → FitsSigned w64 z → Spelling.u64 (cast_unsigned w64 y) ≡ Spelling.u64 (cast_unsigned w64 z) → y ≡ z
 int_same y z h k e = sym (again y h) ∙ ap (λ bs. cast_signed w64 (from_be_bytes w64 bs)) e ∙ again z k
   where
-    again : (x : ℤ) → FitsSigned w64 x → cast_signed w64 (from_be_bytes w64 (Frame.u64 (cast_unsigned w64 x))) ≡ x
+    again : (x : ℤ) → FitsSigned w64 x → cast_signed w64 (from_be_bytes w64 (Spelling.u64 (cast_unsigned w64 x))) ≡ x
     again x h = ap (cast_signed w64) (from_be_bytes-to_be_bytes_8 (cast_unsigned w64 x) (Fits-lt-pow (Fits-of_z h))) ∙ to_z-of_z w64 x h
 
 -- ---- words
@@ -115,7 +118,7 @@ rest_same a b s t v w l e = (parts (word a b v) (word a b w) s t (word_length a 
 
 -- ---- sessions
 
-name_ends : Ends (λ (n : List ℕ). Unit {0}) Frame.short_text
+name_ends : Ends (λ (n : List ℕ). Unit {0}) Spelling.short_text
 name_ends = record { same = λ x y s t h k e. parts x y s t (ap (λ l. get_or l 0 0) e) (ap (drop 1) e) }
 
 all_names : (ns : List (List ℕ)) → AllByRecursion (λ (n : List ℕ). Unit {0}) ns
@@ -123,10 +126,10 @@ all_names [] = tt
 all_names (n ∷ ns) = (tt, all_names ns)
 
 abbrev cast_fields : Frame.Cast → List (List ℕ)
-cast_fields c = c.graph ∷ c.nonce ∷ Frame.u8 (length c.names) ∷ []
+cast_fields c = c.graph ∷ c.nonce ∷ Spelling.u8 (length c.names) ∷ []
 
 abbrev cast_rest : Frame.Cast → List ℕ
-cast_rest c = flat_map Frame.short_text c.names ++ []
+cast_rest c = flat_map Spelling.short_text c.names ++ []
 
 pub one_cast : OneCast
 one_cast c d h k e =
@@ -134,7 +137,7 @@ one_cast c d h k e =
     versions_same 11 (codes "sg-session-2") (codes "sg-session-1") _ _ c.version d.version refl refl refl h.version k.version e in
     let f : (cast_fields c ≡ cast_fields d) × (cast_rest c ≡ cast_rest d) = fields_same (cast_fields c) (cast_fields d) (cast_rest c) (cast_rest d) (cc (h.graph, k.graph, h.nonce, k.nonce)) v.1 in
     let same_count : length c.names ≡ length d.names = cc (f.0) in
-    let same_names : c.names ≡ d.names = (all_same (λ (n : List ℕ). Unit {0}) Frame.short_text name_ends c.names d.names [] [] (all_names c.names) (all_names d.names) same_count f.1).0 in
+    let same_names : c.names ≡ d.names = (all_same (λ (n : List ℕ). Unit {0}) Spelling.short_text name_ends c.names d.names [] [] (all_names c.names) (all_names d.names) same_count f.1).0 in
     let same : made c.version c.graph c.nonce c.names ≡ made d.version d.graph d.nonce d.names = cc (v.0, f.0, same_names) in
     same
   where
@@ -143,28 +146,28 @@ one_cast c d h k e =
 
 -- ---- commitments
 
-value_same : (v w : Frame.Value) → ValueFits v → ValueFits w → Frame.kind_code v ≡ Frame.kind_code w → Frame.sized v ++ [] ≡ Frame.sized w ++ [] → v ≡ w
-value_same (Frame.IntValue y) (Frame.IntValue z) h k c e =
-    ap Frame.IntValue (int_same y z h k (append_cancel_right (Frame.u64 (cast_unsigned w64 y)) (Frame.u64 (cast_unsigned w64 z)) [] (append_cancel_left (Frame.u32 8) _ _ e)))
-value_same (Frame.IntValue y) (Frame.TextValue u) h k c e = absurd (omega arith)
-value_same (Frame.TextValue t) (Frame.IntValue z) h k c e = absurd (omega arith)
-value_same (Frame.TextValue t) (Frame.TextValue u) h k c e = ap Frame.TextValue (append_cancel_right t u [] (parts (Frame.u32 (length t)) (Frame.u32 (length u)) _ _ refl e).1)
+value_same : (v w : Values.Value) → ValueFits v → ValueFits w → Spelling.kind_code v ≡ Spelling.kind_code w → Spelling.sized v ++ [] ≡ Spelling.sized w ++ [] → v ≡ w
+value_same (Values.IntValue y) (Values.IntValue z) h k c e =
+    ap Values.IntValue (int_same y z h k (append_cancel_right (Spelling.u64 (cast_unsigned w64 y)) (Spelling.u64 (cast_unsigned w64 z)) [] (append_cancel_left (Spelling.u32 8) _ _ e)))
+value_same (Values.IntValue y) (Values.TextValue u) h k c e = absurd (omega arith)
+value_same (Values.TextValue t) (Values.IntValue z) h k c e = absurd (omega arith)
+value_same (Values.TextValue t) (Values.TextValue u) h k c e = ap Values.TextValue (append_cancel_right t u [] (parts (Spelling.u32 (length t)) (Spelling.u32 (length u)) _ _ refl e).1)
 
-abbrev opening_fields : List ℕ → Frame.Opening → List (List ℕ)
-opening_fields s o = s ∷ Frame.u8 o.variable ∷ o.confounder ∷ Frame.u8 (Frame.kind_code o.value) ∷ []
+abbrev opening_fields : List ℕ → Values.Opening → List (List ℕ)
+opening_fields s o = s ∷ Spelling.u8 o.variable ∷ o.confounder ∷ Spelling.u8 (Spelling.kind_code o.value) ∷ []
 
 pub one_opening : OneOpening
 one_opening s t o p l m h k e =
-    let f : (opening_fields s o ≡ opening_fields t p) × (Frame.sized o.value ++ [] ≡ Frame.sized p.value ++ []) =
+    let f : (opening_fields s o ≡ opening_fields t p) × (Spelling.sized o.value ++ [] ≡ Spelling.sized p.value ++ []) =
     fields_same (opening_fields s o) (opening_fields t p) _ _ (cc (l, m, h.confounder, k.confounder)) (sym (spelled s o) ∙ append_cancel_left (codes "sg-commit-1") _ _ e ∙ spelled t p) in
-    let same_kind : Frame.kind_code o.value ≡ Frame.kind_code p.value = cc (f.0) in
+    let same_kind : Spelling.kind_code o.value ≡ Spelling.kind_code p.value = cc (f.0) in
     let same : made o.variable o.confounder o.value ≡ made p.variable p.confounder p.value = cc (f.0, value_same o.value p.value h.value k.value same_kind f.1) in
     (cc (f.0), same)
   where
-    spelled : (s : List ℕ) (o : Frame.Opening) → s ++ (Frame.opening_bytes o ++ []) ≡ fields (opening_fields s o) (Frame.sized o.value ++ [])
-    spelled s o = ap (λ l. s ++ l) (append-nil (Frame.opening_bytes o))
+    spelled : (s : List ℕ) (o : Values.Opening) → s ++ (Spelling.opening_bytes o ++ []) ≡ fields (opening_fields s o) (Spelling.sized o.value ++ [])
+    spelled s o = ap (λ l. s ++ l) (append-nil (Spelling.opening_bytes o))
 
-    made : ℕ → List ℕ → Frame.Value → Frame.Opening
+    made : ℕ → List ℕ → Values.Value → Values.Opening
     made x c v = record { variable = x; confounder = c; value = v }
 
 -- ---- items
@@ -183,7 +186,7 @@ held_some None = omega arith
 held_some (Some c) = omega arith
 
 abbrev item_fields : List ℕ → ℕ → ℕ → ℕ → ℕ → List (List ℕ)
-item_fields s a c l i = s ∷ Frame.u8 a ∷ Frame.u8 c ∷ Frame.u16 l ∷ Frame.u32 i ∷ []
+item_fields s a c l i = s ∷ Spelling.u8 a ∷ Spelling.u8 c ∷ Spelling.u16 l ∷ Spelling.u32 i ∷ []
 
 pub one_item : OneItem
 one_item v w s t a b c d l m i j h k f g e =
@@ -207,26 +210,26 @@ pub one_body : OneBody
 one_body v w b c h k e = versions_same 9 (codes "sg-frame-2") (codes "sg-frame-1") b c v w refl refl refl h k e
 
 -- two frames with one spelling before their tags
-pub body_same : (f g : Frame.Frame) → Frame.HasSpelling f → Frame.HasSpelling g → Frame.body f ≡ Frame.body g → untagged f ≡ untagged g
-body_same f g h k e = ap untagged (ok_same f (with_tag f.tag g) (sym (read-spelling f h) ∙ ap Frame.read spelled ∙ read-spelling (with_tag f.tag g) fits))
+pub body_same : (f g : Frame.Frame) → Spelling.HasSpelling f → Spelling.HasSpelling g → Spelling.body f ≡ Spelling.body g → untagged f ≡ untagged g
+body_same f g h k e = ap untagged (ok_same f (with_tag f.tag g) (sym (read-spelling f h) ∙ ap Reading.read spelled ∙ read-spelling (with_tag f.tag g) fits))
   where
     with_tag : List ℕ → Frame.Frame → Frame.Frame
     with_tag t f = record { version = f.version; sid = f.sid; sender = f.sender; receiver = f.receiver; join = f.join; items = f.items; openings = f.openings; tag = t }
 
     after_magic : Frame.Frame → List ℕ
-    after_magic f = concat (Frame.u8 (Frame.join_code f.join) ∷ f.sid ∷ Frame.u8 f.sender ∷ Frame.u8 f.receiver ∷ Frame.join_bytes f.join
-        ∷ Frame.u16 (length f.items) ∷ flat_map (Frame.item_bytes f.version) f.items ∷ Frame.u8 (length f.openings) ∷ flat_map Frame.opening_bytes f.openings ∷ [])
+    after_magic f = concat (Spelling.u8 (Spelling.join_code f.join) ∷ f.sid ∷ Spelling.u8 f.sender ∷ Spelling.u8 f.receiver ∷ Spelling.join_bytes f.join
+        ∷ Spelling.u16 (length f.items) ∷ flat_map (Spelling.item_bytes f.version) f.items ∷ Spelling.u8 (length f.openings) ∷ flat_map Spelling.opening_bytes f.openings ∷ [])
 
     version : f.version ≡ g.version
     version = (versions_same 3 (codes "SGF2") (codes "SGF1") (after_magic f) (after_magic g) f.version g.version refl refl refl h.version k.version e).0
 
-    spelled : Frame.spelling f ≡ Frame.spelling (with_tag f.tag g)
-    spelled = ap (λ v. Frame.body f ++ take (Frame.tag_len v) f.tag) version ∙ ap (λ bs. bs ++ take (Frame.tag_len g.version) f.tag) e
+    spelled : Spelling.spelling f ≡ Spelling.spelling (with_tag f.tag g)
+    spelled = ap (λ v. Spelling.body f ++ take (Frame.tag_len v) f.tag) version ∙ ap (λ bs. bs ++ take (Frame.tag_len g.version) f.tag) e
 
     ok_same : (x y : Frame.Frame) → (let r : Result Frame.Frame ℕ = Ok x in r ≡ Ok y) → x ≡ y
     ok_same x y e = cc
 
-    fits : Frame.HasSpelling (with_tag f.tag g)
+    fits : Spelling.HasSpelling (with_tag f.tag g)
     fits = record {
       version = k.version;
       sid = k.sid;
@@ -241,7 +244,7 @@ body_same f g h k e = ap untagged (ok_same f (with_tag f.tag g) (sym (read-spell
     }
 
 pub one_frame : OneFrame
-one_frame v w f g h k e = body_same f g h k (rest_same (codes "sg-frame-2") (codes "sg-frame-1") (Frame.body f) (Frame.body g) v w refl e)
+one_frame v w f g h k e = body_same f g h k (rest_same (codes "sg-frame-2") (codes "sg-frame-1") (Spelling.body f) (Spelling.body g) v w refl e)
 
 pub one_canonical : OneCanonical
 one_canonical g h e = append_cancel_left (codes "sg-graph-1") (canonical g) (canonical h) e
@@ -256,23 +259,23 @@ head_kind : (x : Bool) (a b s : List ℕ) (k : ℕ) → get_or (a ++ s) 3 0 ≡ 
 head_kind true a b s k h j = h
 head_kind false a b s k h j = j
 
-kind_graph : (g : Graph) → kind (graph_text g) ≡ 103
+kind_graph : (g : Graph) → kind (graph_text_of g) ≡ 103
 unfolding kind
 kind_graph g = refl
 
-kind_session : (c : Frame.Cast) → kind (session_text c) ≡ 115
+kind_session : (c : Frame.Cast) → kind (session_text_of c) ≡ 115
 unfolding kind
 kind_session c = head_kind (c.version == 2) (codes "sg-session-2") (codes "sg-session-1") _ 115 refl refl
 
-kind_commitment : (s : List ℕ) (o : Frame.Opening) → kind (commitment_text s o) ≡ 99
+kind_commitment : (s : List ℕ) (o : Values.Opening) → kind (commitment_text_of s o) ≡ 99
 unfolding kind
 kind_commitment s o = refl
 
-kind_item : (v : ℕ) (s : List ℕ) (a b l i : ℕ) (h : List (Option (List ℕ))) → kind (item_text v s a b l i h) ≡ 105
+kind_item : (v : ℕ) (s : List ℕ) (a b l i : ℕ) (h : List (Option (List ℕ))) → kind (item_text_of v s a b l i h) ≡ 105
 unfolding kind
 kind_item v s a b l i h = head_kind (v == 2) (codes "sg-item-2") (codes "sg-item-1") _ 105 refl refl
 
-kind_frame : (w : ℕ) (bs : List ℕ) → kind (frame_text w bs) ≡ 102
+kind_frame : (w : ℕ) (bs : List ℕ) → kind (frame_text_of w bs) ≡ 102
 unfolding kind
 kind_frame w bs = head_kind (w == 2) (codes "sg-frame-2") (codes "sg-frame-1") bs 102 refl refl
 
@@ -306,13 +309,13 @@ versions_differ = record {
 pub cast_fits : (c : Frame.Cast) → IsVersion c.version → Frame.IsCastOf c.version c → CastFits c
 cast_fits c v h = record { version = v; graph = h.graph.0; nonce = h.nonce.0 }
 
-value_fits : (v : Frame.Value) → Frame.IsValue v → ValueFits v
-value_fits (Frame.IntValue z) h = h
-value_fits (Frame.TextValue t) h = below (length t) h.1
+value_fits : (v : Values.Value) → Frame.IsValue v → ValueFits v
+value_fits (Values.IntValue z) h = h
+value_fits (Values.TextValue t) h = below (length t) h.1
   where
     below : (n : ℕ) → n ≤ 1024 → n < 2 ^ 32
     below n h = omega arith
 
 -- an opening that a frame may have
-pub opening_fits : (o : Frame.Opening) → Frame.IsOpening o → OpeningFits o
+pub opening_fits : (o : Values.Opening) → Frame.IsOpening o → OpeningFits o
 opening_fits o h = record { confounder = h.confounder.0; value = value_fits o.value h.value }

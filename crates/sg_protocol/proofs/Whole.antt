@@ -7,12 +7,14 @@ use Rattle.std.proofs.lemmas.List.Elements.{All-head, All-tail}
 use Rattle.std.proofs.lemmas.Slice.Eq.{bytes_eq-Decides}
 use Rattle.sg_model.specs.Lists.{below, all_differ}
 use Rattle.sg_model.specs.Values.{Opening}
-use Rattle.sg_protocol.specs.Graph.{Name, Graph, IsGraph, shape}
+use Rattle.sg_model.specs.Names.{Name}
+use Rattle.sg_protocol.specs.Graph.{Graph, IsGraph, shape, canonical, ended, variable_line, node_line, edge_line}
 use Rattle.sg_protocol.specs.Evidence.{IsViewTable}
-use Rattle.sg_protocol.specs.Frame.{Cast, Frame, HasSpelling}
-use Rattle.sg_protocol.specs.Texts.{Hash, IsHash, commitment, commitment_text}
-use Rattle.sg_protocol.specs.Session.{Program}
-use Rattle.sg_protocol.specs.Run.{Schedule, honest_role}
+use Rattle.sg_protocol.specs.Frame.{Cast, Frame}
+use Rattle.sg_protocol.specs.Spelling.{HasSpelling}
+use Rattle.sg_protocol.specs.Texts.{Hash, IsHash, commitment, commitment_text_of, session_id, session_text_of, graph_text_of, graph_digest}
+use Rattle.sg_protocol.specs.Keyring.{Program}
+use Rattle.sg_protocol.specs.Schedule.{Schedule, honest_role, Step, DeliverStep, What, PairKey, cast_of, graph_with}
 use Rattle.sg_law.specs.Values as V
 use Rattle.sg_law.specs.Values.{State, Made, whole, com_of, Move, Commit, moved, MayTake, Tagged, Framed, Opened, own_of, is_variable, put}
 use Rattle.sg_law.specs.Values.Move.{Writes, Takes}
@@ -23,23 +25,23 @@ use Rattle.sg_protocol.proofs.Moves.{and_parts, in_map, in_left}
 use Rattle.sg_law.specs.Values.{MayWrite}
 use Rattle.sg_protocol.proofs.TextLaws.{one_item, one_body, one_frame, kinds_differ}
 use Rattle.sg_model.specs.Lists.{has_text}
-use Rattle.sg_protocol.specs.Frame.{IsBytes}
-use Rattle.sg_protocol.specs.Texts.{session_id, session_text}
+use Rattle.sg_model.specs.Bytes.{IsBytes}
 use Rattle.sg_protocol.specs.TextLaws.{CastFits}
-use Rattle.sg_protocol.specs.Node.{Event, Call, Sends, answer, program_for}
+use Rattle.sg_protocol.specs.Calls.{Event, Call, Sends}
+use Rattle.sg_protocol.specs.Acting.{answer}
+use Rattle.sg_protocol.specs.Node.{program_for}
 use Rattle.sg_law.specs.Values.{AllMay, May, moved_all, Deed, deed_of, all_openings}
 use Rattle.sg_protocol.proofs.TextLaws.{cast_fits, opening_fits}
 use Rattle.sg_protocol.proofs.Acts as C
-use Rattle.sg_protocol.specs.Texts.{graph_text}
-use Rattle.sg_protocol.specs.Node.{Past, node_of}
-use Rattle.sg_protocol.specs.Run.{World, Step, DeliverStep, What, PairKey, past_of, world_after, new_world, run, call_of, cast_of, bytes_of, keyring_of, events_of, graph_with, hashed}
-use Rattle.sg_protocol.specs.Headline.{IsSchedule, IsStep, AreCompiled, Premises, IsExplained}
+use Rattle.sg_protocol.specs.Past.{Past, node_of}
+use Rattle.sg_protocol.specs.World.{World, past_of, new_world, call_of, bytes_of, keyring_of}
+use Rattle.sg_protocol.specs.Run.{world_after, run, events_of, cast_of_session}
+use Rattle.sg_protocol.specs.Premises.{hashed, Premises}
+use Rattle.sg_protocol.specs.IsSchedule.{IsSchedule, IsStep, AreCompiled, IsProgram, parts}
+use Rattle.sg_protocol.specs.Headline.{IsExplained}
 use Rattle.sg_law.proofs.Upto.{in_from_Contains}
 use Rattle.sg_protocol.proofs.Calls.{NodeOk, find_passes, find_all}
-use Rattle.sg_protocol.specs.Graph.{canonical, ended, variable_line, node_line, edge_line, is_name, is_name_byte, is_letter, reserved}
-use Rattle.sg_protocol.specs.Texts.{graph_digest}
-use Rattle.sg_protocol.specs.Run.{cast_of_session}
-use Rattle.sg_protocol.specs.Headline.{IsProgram, parts}
+use Rattle.sg_model.specs.Names.{is_name, is_name_byte, is_letter, reserved}
 use Rattle.sg_law.specs.Values.{Binding, Followed}
 use Rattle.sg_law.proofs.Follow.{followed}
 use Rattle.sg_protocol.proofs.Paths.{one_path}
@@ -212,7 +214,7 @@ pub record FirstCast (sha : Hash) (s : Schedule) (programs : List Program) (sid 
   pub is_cast : cast_of_session sid wf.log ≡ Some cast
   pub sid_is : session_id sha cast ≡ sid
   pub fits : CastFits cast
-  pub is_hashed : In (hashed s wf) (session_text cast)
+  pub is_hashed : In (hashed s wf) (session_text_of cast)
   pub program : Program
   pub there : In programs program
   pub digest : program.digest ≡ cast.graph
@@ -238,7 +240,7 @@ module _ (sha : Hash) (hash : IsHash sha) (programs : List Program) (s : Schedul
 
   same_digest : (a b : Graph) → In s.graphs a → In s.graphs b → graph_digest sha a ≡ graph_digest sha b → a ≡ b
   same_digest a b i j e =
-      let t : graph_text a ≡ graph_text b = same_text_same (graph_text a) (graph_text b) (in_left (map graph_text s.graphs) _ (graph_text a) (in_map graph_text s.graphs a i)) (in_left (map graph_text s.graphs) _ (graph_text b) (in_map graph_text s.graphs b j)) e in
+      let t : graph_text_of a ≡ graph_text_of b = same_text_same (graph_text_of a) (graph_text_of b) (in_left (map graph_text_of s.graphs) _ (graph_text_of a) (in_map graph_text_of s.graphs a i)) (in_left (map graph_text_of s.graphs) _ (graph_text_of b) (in_map graph_text_of s.graphs b j)) e in
       same_named s.graphs a b sched.graph_names i j (same_name a b (all_in IsGraph s.graphs a sched.are_graphs i) (all_in IsGraph s.graphs b sched.are_graphs j) (one_canonical a b t))
 
   g_there : In s.graphs g
@@ -252,11 +254,11 @@ module _ (sha : Hash) (hash : IsHash sha) (programs : List Program) (s : Schedul
         subst (λ z. IsViewTable p.graph z p.views) (eqb-true p.role r t.1) is.views,
       )
 
-  the_cast : (c : Cast) → CastFits c → In (hashed s wf) (session_text c) → session_id sha c ≡ sid → c ≡ first.cast
-  the_cast c fits i e = TL.one_cast c first.cast fits first.fits (same_text_same (session_text c) (session_text first.cast) i first.is_hashed (e ∙ sym first.sid_is))
+  the_cast : (c : Cast) → CastFits c → In (hashed s wf) (session_text_of c) → session_id sha c ≡ sid → c ≡ first.cast
+  the_cast c fits i e = TL.one_cast c first.cast fits first.fits (same_text_same (session_text_of c) (session_text_of first.cast) i first.is_hashed (e ∙ sym first.sid_is))
 
   long : length sid ≡ 32
-  long = subst (λ z. length z ≡ 32) first.sid_is (hash (session_text first.cast)).0
+  long = subst (λ z. length z ≡ 32) first.sid_is (hash (session_text_of first.cast)).0
 
   abbrev Prog : World → Type 0
   Prog w = Progress sha hash s programs sid first.cast g the_program.is_graph the_program.accepted first.fits.version long first.differ prog wf premises.unforged the_cast Fit fit_next fit_bytes fit_sends casts_fit w
@@ -286,7 +288,7 @@ module _ (sha : Hash) (hash : IsHash sha) (programs : List Program) (s : Schedul
   binding o p i j v e =
       let a = rec_in _ (all_openings finished.moves) o finished.used (in_from_Contains (all_openings finished.moves) o i) in
       let b = rec_in _ (all_openings finished.moves) p finished.used (in_from_Contains (all_openings finished.moves) p j) in
-      ap (λ (z : Opening). z.value) (one_opening sid sid o p long long a.1 b.1 (same_text_same (commitment_text sid o) (commitment_text sid p) a.0 b.0 e)).1
+      ap (λ (z : Opening). z.value) (one_opening sid sid o p long long a.1 b.1 (same_text_same (commitment_text_of sid o) (commitment_text_of sid p) a.0 b.0 e)).1
 
   the_walk : Followed (shape g) (honest_role s first.cast) commit finished.moves
   the_walk = followed (shape g) (honest_role s first.cast) commit finished.moves the_program.accepted.sighted binding finished.may

@@ -1,5 +1,5 @@
 -- Graphs with variables and names, and their one canonical text.
-use Rattle.std.specs.Prelude.{ℕ, ◌<◌, ◌≤◌, Bool, true, false, not, ◌&&◌, nat_le, nat_lt, if◌then◌else◌, List, [], ◌∷◌, ◌++◌, map, length, get_or, codes, All, IsTrue, flat_map}
+use Rattle.std.specs.Prelude.{ℕ, ◌<◌, ◌≤◌, not, ◌&&◌, nat_lt, List, [], ◌∷◌, ◌++◌, map, length, get_or, codes, All, IsTrue, flat_map}
 use Rattle.std.specs.List.{list_all}
 use Rattle.sg_model.specs.Lists.{all_differ, has_text, rises_from}
 pub use Rattle.sg_model.specs.Names.{Name, is_letter, is_name_byte, is_name, reserved}

@@ -3,8 +3,10 @@ use Rattle.std.specs.Prelude.{FitsSigned, ◌≡◌, ◌≢◌, ◌⊎◌, ◌<�
 use Rattle.std.specs.List.{AllByRecursion}
 use Rattle.std.specs.Int.{w64}
 use Rattle.sg_protocol.specs.Graph.{Graph, IsGraph, canonical}
-use Rattle.sg_protocol.specs.Frame.{Value, IntValue, TextValue, Opening, Cast, Frame, HasSpelling, body}
-use Rattle.sg_protocol.specs.Texts.{graph_text, session_text, commitment_text, item_text, frame_text}
+use Rattle.sg_model.specs.Values.{Value, IntValue, TextValue, Opening}
+use Rattle.sg_protocol.specs.Frame.{Cast, Frame}
+use Rattle.sg_protocol.specs.Spelling.{HasSpelling, body}
+use Rattle.sg_protocol.specs.Texts.{graph_text_of, session_text_of, commitment_text_of, item_text_of, frame_text_of}
 
 -- ---- ranges: what a text does not say itself
 
@@ -48,11 +50,11 @@ untagged f = record { version = f.version; sid = f.sid; sender = f.sender; recei
 
 -- a session text is of one cast
 abbrev pub OneCast : Type 0
-OneCast = (c d : Cast) → CastFits c → CastFits d → session_text c ≡ session_text d → c ≡ d
+OneCast = (c d : Cast) → CastFits c → CastFits d → session_text_of c ≡ session_text_of d → c ≡ d
 
 -- a commitment text is of one session identifier and one opening
 abbrev pub OneOpening : Type 0
-OneOpening = (s t : List ℕ) (o p : Opening) → length s ≡ 32 → length t ≡ 32 → OpeningFits o → OpeningFits p → commitment_text s o ≡ commitment_text t p → (s ≡ t) × (o ≡ p)
+OneOpening = (s t : List ℕ) (o p : Opening) → length s ≡ 32 → length t ≡ 32 → OpeningFits o → OpeningFits p → commitment_text_of s o ≡ commitment_text_of t p → (s ≡ t) × (o ≡ p)
 
 -- what two item texts say is the same
 pub record SameItem (v w : ℕ) (s t : List ℕ) (from_v from_w to_v to_w label_v label_w time_v time_w : ℕ) (held_v held_w : List (Option (List ℕ))) : Type 0 where
@@ -67,40 +69,40 @@ pub record SameItem (v w : ℕ) (s t : List ℕ) (from_v from_w to_v to_w label_
 -- an item text is of one version, session, sender, target, label, time and list of commitments
 abbrev pub OneItem : Type 0
 OneItem = (v w : ℕ) (s t : List ℕ) (a b c d l m i j : ℕ) (h k : List (Option (List ℕ))) → ItemFits v s l i h → ItemFits w t m j k →
-    item_text v s a c l i h ≡ item_text w t b d m j k → SameItem v w s t a b c d l m i j h k
+    item_text_of v s a c l i h ≡ item_text_of w t b d m j k → SameItem v w s t a b c d l m i j h k
 
 -- a frame text is of one version and one text before the tag
 abbrev pub OneBody : Type 0
-OneBody = (v w : ℕ) (b c : List ℕ) → IsVersion v → IsVersion w → frame_text v b ≡ frame_text w c → (v ≡ w) × (b ≡ c)
+OneBody = (v w : ℕ) (b c : List ℕ) → IsVersion v → IsVersion w → frame_text_of v b ≡ frame_text_of w c → (v ≡ w) × (b ≡ c)
 
 -- a frame text is of one frame, but for its tag
 abbrev pub OneFrame : Type 0
-OneFrame = (v w : ℕ) (f g : Frame) → HasSpelling f → HasSpelling g → frame_text v (body f) ≡ frame_text w (body g) → untagged f ≡ untagged g
+OneFrame = (v w : ℕ) (f g : Frame) → HasSpelling f → HasSpelling g → frame_text_of v (body f) ≡ frame_text_of w (body g) → untagged f ≡ untagged g
 
 -- a graph text is of one canonical text
 abbrev pub OneCanonical : Type 0
-OneCanonical = (g h : Graph) → graph_text g ≡ graph_text h → canonical g ≡ canonical h
+OneCanonical = (g h : Graph) → graph_text_of g ≡ graph_text_of h → canonical g ≡ canonical h
 
 -- a graph text is of one graph
 abbrev pub OneGraph : Type 0
-OneGraph = (g h : Graph) → IsGraph g → IsGraph h → graph_text g ≡ graph_text h → g ≡ h
+OneGraph = (g h : Graph) → IsGraph g → IsGraph h → graph_text_of g ≡ graph_text_of h → g ≡ h
 
 -- texts of different kinds differ, whatever their versions and ranges
 pub record KindsDiffer : Type 0 where
-  pub graph_session : (g : Graph) (c : Cast) → graph_text g ≢ session_text c
-  pub graph_commitment : (g : Graph) (s : List ℕ) (o : Opening) → graph_text g ≢ commitment_text s o
-  pub graph_item : (g : Graph) (v : ℕ) (s : List ℕ) (a b l i : ℕ) (h : List (Option (List ℕ))) → graph_text g ≢ item_text v s a b l i h
-  pub graph_frame : (g : Graph) (w : ℕ) (bs : List ℕ) → graph_text g ≢ frame_text w bs
-  pub session_commitment : (c : Cast) (s : List ℕ) (o : Opening) → session_text c ≢ commitment_text s o
-  pub session_item : (c : Cast) (v : ℕ) (s : List ℕ) (a b l i : ℕ) (h : List (Option (List ℕ))) → session_text c ≢ item_text v s a b l i h
-  pub session_frame : (c : Cast) (w : ℕ) (bs : List ℕ) → session_text c ≢ frame_text w bs
-  pub commitment_item : (s : List ℕ) (o : Opening) (v : ℕ) (t : List ℕ) (a b l i : ℕ) (h : List (Option (List ℕ))) → commitment_text s o ≢ item_text v t a b l i h
-  pub commitment_frame : (s : List ℕ) (o : Opening) (w : ℕ) (bs : List ℕ) → commitment_text s o ≢ frame_text w bs
-  pub item_frame : (v : ℕ) (s : List ℕ) (a b l i : ℕ) (h : List (Option (List ℕ))) (w : ℕ) (bs : List ℕ) → item_text v s a b l i h ≢ frame_text w bs
+  pub graph_session : (g : Graph) (c : Cast) → graph_text_of g ≢ session_text_of c
+  pub graph_commitment : (g : Graph) (s : List ℕ) (o : Opening) → graph_text_of g ≢ commitment_text_of s o
+  pub graph_item : (g : Graph) (v : ℕ) (s : List ℕ) (a b l i : ℕ) (h : List (Option (List ℕ))) → graph_text_of g ≢ item_text_of v s a b l i h
+  pub graph_frame : (g : Graph) (w : ℕ) (bs : List ℕ) → graph_text_of g ≢ frame_text_of w bs
+  pub session_commitment : (c : Cast) (s : List ℕ) (o : Opening) → session_text_of c ≢ commitment_text_of s o
+  pub session_item : (c : Cast) (v : ℕ) (s : List ℕ) (a b l i : ℕ) (h : List (Option (List ℕ))) → session_text_of c ≢ item_text_of v s a b l i h
+  pub session_frame : (c : Cast) (w : ℕ) (bs : List ℕ) → session_text_of c ≢ frame_text_of w bs
+  pub commitment_item : (s : List ℕ) (o : Opening) (v : ℕ) (t : List ℕ) (a b l i : ℕ) (h : List (Option (List ℕ))) → commitment_text_of s o ≢ item_text_of v t a b l i h
+  pub commitment_frame : (s : List ℕ) (o : Opening) (w : ℕ) (bs : List ℕ) → commitment_text_of s o ≢ frame_text_of w bs
+  pub item_frame : (v : ℕ) (s : List ℕ) (a b l i : ℕ) (h : List (Option (List ℕ))) (w : ℕ) (bs : List ℕ) → item_text_of v s a b l i h ≢ frame_text_of w bs
 
 -- texts of one kind and two versions differ, whatever else they say
 pub record VersionsDiffer : Type 0 where
-  pub session : (c d : Cast) → IsVersion c.version → IsVersion d.version → session_text c ≡ session_text d → c.version ≡ d.version
+  pub session : (c d : Cast) → IsVersion c.version → IsVersion d.version → session_text_of c ≡ session_text_of d → c.version ≡ d.version
   pub item : (v w : ℕ) (s t : List ℕ) (a b c d l m i j : ℕ) (h k : List (Option (List ℕ))) → IsVersion v → IsVersion w →
-      item_text v s a c l i h ≡ item_text w t b d m j k → v ≡ w
-  pub frame : (v w : ℕ) (b c : List ℕ) → IsVersion v → IsVersion w → frame_text v b ≡ frame_text w c → v ≡ w
+      item_text_of v s a c l i h ≡ item_text_of w t b d m j k → v ≡ w
+  pub frame : (v w : ℕ) (b c : List ℕ) → IsVersion v → IsVersion w → frame_text_of v b ≡ frame_text_of w c → v ≡ w

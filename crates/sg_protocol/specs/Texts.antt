@@ -3,7 +3,10 @@ use Rattle.std.specs.Prelude.{ℕ, ◌-◌, ◌==◌, nat_lt, if◌then◌else�
 use Rattle.std.specs.List.{concat}
 use Rattle.sha2.specs.Sha256.{sha256}
 use Rattle.sg_protocol.specs.Graph.{Graph, canonical}
-use Rattle.sg_protocol.specs.Frame.{Cast, Opening, u8, u16, u32, short_text, opening_bytes, AreBytes}
+use Rattle.sg_protocol.specs.Frame.{Cast}
+use Rattle.sg_model.specs.Values.{Opening}
+use Rattle.sg_protocol.specs.Spelling.{u8, u16, u32, short_text, opening_bytes}
+use Rattle.sg_model.specs.Bytes.{AreBytes}
 
 -- what makes a digest of a text
 abbrev pub Hash : Type 0
@@ -28,8 +31,8 @@ abbrev pub padded : ℕ → List ℕ → List ℕ
 padded pad block = map (λ b. bit_xor pad b) block
 
 -- HMAC
-abbrev pub tag_of : Hash → List ℕ → List ℕ → List ℕ
-tag_of sha key text = sha (padded 0x5C (key_block sha key) ++ sha (padded 0x36 (key_block sha key) ++ text))
+abbrev pub hmac : Hash → List ℕ → List ℕ → List ℕ
+hmac sha key text = sha (padded 0x5C (key_block sha key) ++ sha (padded 0x36 (key_block sha key) ++ text))
 
 -- version 2 keeps the first sixteen bytes of a tag, and zeros for the others
 abbrev pub cut : ℕ → List ℕ → List ℕ
@@ -38,16 +41,16 @@ cut version tag = if version == 2 then take 16 tag ++ replicate 16 0 else tag
 -- ---- the texts
 
 -- what a graph's digest is of
-abbrev pub graph_text : Graph → List ℕ
-graph_text g = codes "sg-graph-1" ++ canonical g
+abbrev pub graph_text_of : Graph → List ℕ
+graph_text_of g = codes "sg-graph-1" ++ canonical g
 
 -- what a session's identifier is of
-abbrev pub session_text : Cast → List ℕ
-session_text c = concat ((if c.version == 2 then codes "sg-session-2" else codes "sg-session-1") ∷ c.graph ∷ c.nonce ∷ u8 (length c.names) ∷ flat_map short_text c.names ∷ [])
+abbrev pub session_text_of : Cast → List ℕ
+session_text_of c = concat ((if c.version == 2 then codes "sg-session-2" else codes "sg-session-1") ∷ c.graph ∷ c.nonce ∷ u8 (length c.names) ∷ flat_map short_text c.names ∷ [])
 
 -- what a commitment is of
-abbrev pub commitment_text : List ℕ → Opening → List ℕ
-commitment_text sid o = concat (codes "sg-commit-1" ∷ sid ∷ opening_bytes o ∷ [])
+abbrev pub commitment_text_of : List ℕ → Opening → List ℕ
+commitment_text_of sid o = concat (codes "sg-commit-1" ∷ sid ∷ opening_bytes o ∷ [])
 
 -- the byte 0, or the byte 1 and the commitment
 abbrev pub maybe_commitment : Option (List ℕ) → List ℕ
@@ -55,24 +58,24 @@ maybe_commitment None = u8 0
 maybe_commitment (Some c) = u8 1 ++ c
 
 -- what the sender's tag for the target says: the step, and every current commitment
-abbrev pub item_text : ℕ → List ℕ → ℕ → ℕ → ℕ → ℕ → List (Option (List ℕ)) → List ℕ
-item_text version sid sender target label time commitments =
+abbrev pub item_text_of : ℕ → List ℕ → ℕ → ℕ → ℕ → ℕ → List (Option (List ℕ)) → List ℕ
+item_text_of version sid sender target label time commitments =
     concat ((if version == 2 then codes "sg-item-2" else codes "sg-item-1") ∷ sid ∷ u8 sender ∷ u8 target ∷ u16 label ∷ u32 time ∷ flat_map maybe_commitment commitments ∷ [])
 
 -- what a frame's tag is of
-abbrev pub frame_text : ℕ → List ℕ → List ℕ
-frame_text version body = (if version == 2 then codes "sg-frame-2" else codes "sg-frame-1") ++ body
+abbrev pub frame_text_of : ℕ → List ℕ → List ℕ
+frame_text_of version body = (if version == 2 then codes "sg-frame-2" else codes "sg-frame-1") ++ body
 
 -- ---- what is hashed
 
 -- the digest of a graph
 abbrev pub graph_digest : Hash → Graph → List ℕ
-graph_digest sha g = sha (graph_text g)
+graph_digest sha g = sha (graph_text_of g)
 
 -- the identifier of a session
 abbrev pub session_id : Hash → Cast → List ℕ
-session_id sha c = sha (session_text c)
+session_id sha c = sha (session_text_of c)
 
 -- the commitment that an opening opens
 abbrev pub commitment : Hash → List ℕ → Opening → List ℕ
-commitment sha sid o = sha (commitment_text sid o)
+commitment sha sid o = sha (commitment_text_of sid o)

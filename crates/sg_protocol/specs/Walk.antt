@@ -6,8 +6,9 @@ use Rattle.sg_model.specs.Last.{Map, merge, last}
 use Rattle.sg_model.specs.Lists.{is_in, value_at, keys_of}
 use Rattle.sg_model.specs.Shape.{Walk, sender, receiver}
 use Rattle.sg_protocol.specs.Graph.{Graph, shape, writes, reads}
-use Rattle.sg_protocol.specs.Frame.{Value}
-use Rattle.sg_protocol.specs.Node.{Event, Started, Sent, Received, is_typed}
+use Rattle.sg_model.specs.Values.{Value}
+use Rattle.sg_protocol.specs.Calls.{Event, Started, Sent, Received}
+use Rattle.sg_protocol.specs.Acting.{is_typed}
 
 -- a step, with the values that it writes. None is a hidden value
 pub record StoredStep : Type 0 where

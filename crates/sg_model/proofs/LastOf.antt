@@ -1,0 +1,59 @@
+-- Lemmas on keys and on the last elements of each key.
+use Rattle.std.proofs.Common.{◌≡◌, ◌⊎◌, ℕ, ◌==◌, Bool, true, false, ◌||◌, List, [], ◌∷◌, ◌++◌, refl, sym, ap, ◌∙◌, subst, inl, inr}
+use Rattle.std.proofs.lemmas.Bool.{cases_Bool, eqb-true, eq-eqb, or_parts}
+use Rattle.sg_model.specs.Last.{has, last_of}
+
+or_assoc : (a b c : Bool) → (a || (b || c)) ≡ ((a || b) || c)
+or_assoc true b c = refl
+or_assoc false b c = refl
+
+pub has-append : {A : Type 0} (key : A → ℕ) (k : ℕ) (xs ys : List A) → has key k (xs ++ ys) ≡ (has key k xs || has key k ys)
+has-append key k [] ys = refl
+has-append key k (x ∷ xs) ys = rw (has-append key k xs ys) (or_assoc (key x == k) (has key k xs) (has key k ys))
+
+pub has-rest : {A : Type 0} (key : A → ℕ) (k : ℕ) (xs ys : List A) → has key k (xs ++ ys) ≡ false → has key k ys ≡ false
+has-rest key k [] ys free = free
+has-rest key k (x ∷ xs) ys free = has-rest key k xs ys (or_parts (key x == k) (has key k (xs ++ ys)) free).1
+
+pub has-after : {A : Type 0} (key : A → ℕ) (k : ℕ) (xs : List A) (y : A) (ys : List A) → has key k (xs ++ y ∷ ys) ≡ false → has key k ys ≡ false
+has-after key k [] y ys free = (or_parts (key y == k) (has key k ys) free).1
+has-after key k (x ∷ xs) y ys free = has-after key k xs y ys (or_parts (key x == k) (has key k (xs ++ y ∷ ys)) free).1
+
+-- one element more
+pub last_of-drop : {A : Type 0} (key : A → ℕ) (x : A) (xs : List A) → has key (key x) xs ≡ true → last_of key (x ∷ xs) ≡ last_of key xs
+last_of-drop key x xs e = rw e
+
+pub last_of-keep : {A : Type 0} (key : A → ℕ) (x : A) (xs : List A) → has key (key x) xs ≡ false → last_of key (x ∷ xs) ≡ x ∷ last_of key xs
+last_of-keep key x xs e = rw e
+
+pub eqb_same : (n : ℕ) → (n == n) ≡ true
+eqb_same n = eq-eqb n n refl
+
+-- the last elements have the keys of all
+pub has-last_of : {A : Type 0} (key : A → ℕ) (k : ℕ) (xs : List A) → has key k (last_of key xs) ≡ has key k xs
+has-last_of key k [] = refl
+has-last_of key k (x ∷ xs) =
+    elim (cases_Bool (has key (key x) xs)) [
+      | inl e ↦ rw (last_of-drop key x xs e) (has-last_of key k xs ∙ dropped (cases_Bool (key x == k)) e)
+      | inr e ↦ rw (last_of-keep key x xs e) (ap (λ b. (key x == k) || b) (has-last_of key k xs))
+    ]
+  where
+    dropped : ((key x == k) ≡ true) ⊎ ((key x == k) ≡ false) → has key (key x) xs ≡ true → has key k xs ≡ ((key x == k) || has key k xs)
+    dropped (inl same) e = rw same (subst (λ n. has key n xs ≡ true) (eqb-true (key x) k same) e)
+    dropped (inr other) e = rw other
+
+-- the last elements, of a list whose first part was reduced to them
+pub last_of_again : {A : Type 0} (key : A → ℕ) (xs ys : List A) → last_of key (last_of key xs ++ ys) ≡ last_of key (xs ++ ys)
+last_of_again key [] ys = refl
+last_of_again key (x ∷ xs) ys =
+    elim (cases_Bool (has key (key x) xs)) [
+      | inl e ↦ rw (last_of-drop key x xs e) (last_of_again key xs ys ∙ sym (last_of-drop key x (xs ++ ys) (has-append key (key x) xs ys ∙ ap (λ b. b || has key (key x) ys) e)))
+      | inr e ↦ rw (last_of-keep key x xs e) (step (cases_Bool (has key (key x) (xs ++ ys))) (last_of_again key xs ys))
+    ]
+  where
+    same : has key (key x) (last_of key xs ++ ys) ≡ has key (key x) (xs ++ ys)
+    same = has-append key (key x) (last_of key xs) ys ∙ ap (λ b. b || has key (key x) ys) (has-last_of key (key x) xs) ∙ sym (has-append key (key x) xs ys)
+
+    step : (has key (key x) (xs ++ ys) ≡ true) ⊎ (has key (key x) (xs ++ ys) ≡ false) → last_of key (last_of key xs ++ ys) ≡ last_of key (xs ++ ys) → last_of key (x ∷ (last_of key xs ++ ys)) ≡ last_of key (x ∷ (xs ++ ys))
+    step (inl f) ih = last_of-drop key x (last_of key xs ++ ys) (same ∙ f) ∙ ih ∙ sym (last_of-drop key x (xs ++ ys) f)
+    step (inr f) ih = last_of-keep key x (last_of key xs ++ ys) (same ∙ f) ∙ ap (λ l. x ∷ l) ih ∙ sym (last_of-keep key x (xs ++ ys) f)

@@ -1,0 +1,66 @@
+-- Which schedules and programs are meant.
+use Rattle.std.specs.Prelude.{◌≡◌, ◌≢◌, ℕ, ◌<◌, List, [], length, IsTrue, ◌&&◌, map, ◌⊎◌, flat_map, All, AllPairs, IsSomeAnd, ⊤}
+use Rattle.std.specs.List.{AllByRecursion, list_all}
+use Rattle.sg_model.specs.Bytes.{IsBytes, AreBytes}
+use Rattle.sg_model.specs.Lists.{below, all_differ}
+use Rattle.sg_model.specs.Names.{is_name}
+use Rattle.sg_model.specs.Values.{Value}
+use Rattle.sg_protocol.specs.Graph.{Graph, IsGraph}
+use Rattle.sg_protocol.specs.Targets.{IsTargetTable}
+use Rattle.sg_protocol.specs.Accepted.{Accepted}
+use Rattle.sg_protocol.specs.Evidence.{IsViewTable}
+use Rattle.sg_protocol.specs.Frame.{IsValue}
+use Rattle.sg_protocol.specs.Spelling.{HasSpelling}
+use Rattle.sg_protocol.specs.Texts.{Hash, graph_digest}
+use Rattle.sg_protocol.specs.Keyring.{Program}
+use Rattle.sg_protocol.specs.Schedule.{PairKey, Declared, Step, Schedule, graph_with, Bytes, ActStep, DeliverStep, CraftStep}
+use Rattle.sg_protocol.specs.World.{new_world}
+use Rattle.sg_protocol.specs.Crafted.{crafted}
+
+-- ---- programs
+
+-- a program is of an accepted graph, with its digest, all its views and all its targets
+pub record IsProgram (sha : Hash) (p : Program) : Type 0 where
+  pub is_graph : IsGraph p.graph
+  pub accepted : Accepted p.graph
+  pub role : p.role < length p.graph.roles
+  pub digest : p.digest ≡ graph_digest sha p.graph
+  pub views : IsViewTable p.graph p.role p.views
+  pub targets : IsTargetTable p.graph p.targets
+
+-- the graphs with each of their roles, in order
+abbrev pub parts : List Graph → List (Graph × ℕ)
+parts graphs = flat_map (λ g. map (λ r. (g, r)) (below (length g.roles))) graphs
+
+-- the programs are those of all roles of these graphs, in order
+pub record AreCompiled (sha : Hash) (graphs : List Graph) (programs : List Program) : Type 0 where
+  pub each : All (IsProgram sha) programs
+  pub all : map (λ p. (p.graph, p.role)) programs ≡ parts graphs
+
+-- ---- schedules
+
+-- a declared session is of a graph, with a principal for each role
+abbrev pub IsDeclared : Hash → List Graph → Declared → Type 0
+IsDeclared sha graphs d = IsSomeAnd (graph_with sha graphs d.cast.graph) (λ g. (length d.cast.names ≡ length g.roles)
+    × IsTrue (all_differ d.cast.names && list_all is_name d.cast.names) × AreBytes 16 d.cast.nonce × ((d.cast.version ≡ 1) ⊎ (d.cast.version ≡ 2)))
+
+-- the key of two different principals is 32 bytes
+abbrev pub IsPairKey : PairKey → Type 0
+IsPairKey k = (k.one ≢ k.two) × AreBytes 32 k.key
+
+-- a step's variables are bytes, its values are values and its bytes are bytes. A crafted frame has a spelling, whichever tags it copies
+abbrev pub IsStep : Hash → Schedule → Step → Type 0
+IsStep sha s (ActStep who n label values) = AllByRecursion (λ (w : ℕ × Value). (w.0 < 256) × IsValue w.1) values
+IsStep sha s (DeliverStep who (Bytes bs)) = IsBytes bs
+IsStep sha s (CraftStep c) = IsSomeAnd (crafted sha s (new_world [] s) c) HasSpelling
+IsStep sha s other = ⊤
+
+-- the graphs are graphs and their names differ, what is declared fits, and the steps are any that can be spelled
+pub record IsSchedule (sha : Hash) (s : Schedule) : Type 0 where
+  pub are_graphs : All IsGraph s.graphs
+  pub graph_names : IsTrue (all_differ (map (λ g. g.name) s.graphs))
+  pub honest_names : IsTrue (all_differ s.honest && list_all is_name s.honest)
+  pub keys : All IsPairKey s.keys
+  pub pairs : AllPairs (λ j k. ((j.one ≢ k.one) ⊎ (j.two ≢ k.two)) × ((j.one ≢ k.two) ⊎ (j.two ≢ k.one))) s.keys
+  pub sessions : All (IsDeclared sha s.graphs) s.sessions
+  pub steps : All (IsStep sha s) s.steps

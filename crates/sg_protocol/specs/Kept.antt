@@ -1,0 +1,31 @@
+-- What a role keeps of all that it was told.
+use Rattle.std.specs.Prelude.{ℕ, List, length, map, Option}
+use Rattle.sg_model.specs.Last.{evidence}
+use Rattle.sg_model.specs.Lists.{below}
+use Rattle.sg_model.specs.Values.{Opening}
+use Rattle.sg_protocol.specs.Graph.{Graph}
+use Rattle.sg_protocol.specs.Frame.{Item}
+use Rattle.sg_protocol.specs.Session.{Session, told, origin, own_time, time, place, commitments, known}
+use Rattle.sg_protocol.specs.Sending.{entry_of, item_of}
+
+-- the last item of each sender with its tags, the current commitments and the openings that are known
+pub record Kept : Type 0 where
+  pub origin : Option ℕ
+  pub own_time : ℕ
+  pub time : ℕ
+  pub place : ℕ
+  pub items : List Item
+  pub commitments : List (Option (List ℕ))
+  pub openings : List (Option Opening)
+
+-- what a role keeps of a session
+abbrev pub kept : Graph → Session → Kept
+kept g s = record {
+  origin = origin s;
+  own_time = own_time s;
+  time = time s;
+  place = place g s;
+  items = map (item_of g) (evidence (λ i. i.role) (map entry_of (told s)));
+  commitments = commitments g (told s);
+  openings = map (known s) (below (length g.variables));
+}
