@@ -21,3 +21,6 @@ pub use value::{Opening, Value, VarType};
 
 /// The answer where memory was wanted and none was to be had.
 pub type OutOfMemory = std::alloc::AllocError;
+
+#[cfg(test)]
+mod tests;
