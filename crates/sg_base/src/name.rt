@@ -49,7 +49,8 @@ impl Name {
 
     /// The bytes. It takes no memory.
     pub fn as_bytes(&self) -> &[u8]
-        ensures { result.now ≡ self.now }
+        ensures bytes { result.now ≡ self.now }
+        ensures name { IsTrue (is_name self.now) }
     {
         &self.bytes[..self.count as usize]
     }
