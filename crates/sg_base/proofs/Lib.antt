@@ -1,1 +1,4 @@
+mod Lookup
+mod Pieces
+mod Seeded
 pub mod SetLaws

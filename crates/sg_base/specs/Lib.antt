@@ -1,7 +1,10 @@
 pub mod Fields
 pub mod FieldsBack
 pub mod Fits
+pub mod Memory
+pub mod Outside
 pub mod Reading
+pub mod Seeded
 pub mod Sets
 pub mod SetsBack
 pub mod Values

@@ -1,0 +1,29 @@
+use Rattle.std.proofs.Common.{◌≡◌, refl, ap, ◌∙◌, ◌+◌, ◌*◌, ◌<◌, ◌%◌, ◌^◌, ℕ, zero, suc, List, [], ◌∷◌, ◌++◌, map, arith, add-zero, zero-add, add-one}
+use Rattle.std.proofs.lemmas.List.{map-append}
+use Rattle.rand_core.specs.Steps.{fill_via_u32, word_bytes}
+use Rattle.rand_chacha.specs.ChaCha.{ChaCha, next_word, key_of}
+use Rattle.sg_model.specs.Lists.{range_from, below}
+use Rattle.sg_base.specs.Seeded.{stream_word, seeded_words}
+
+-- four words from a generator that does not wrap
+pub next_four : (g : ChaCha) → g.word_pos + 4 < 2 ^ 68
+    → fill_via_u32 (next_word 10) 16 g ≡ (stream_word g.key g.stream g.word_pos, record g { word_pos = g.word_pos + 4 })
+unfolding word_bytes
+next_four g small =
+    let one : (g.word_pos + 1) % 2 ^ 68 ≡ g.word_pos + 1 = omega arith in
+    let two : (g.word_pos + 1 + 1) % 2 ^ 68 ≡ g.word_pos + 2 = omega arith in
+    let three : (g.word_pos + 2 + 1) % 2 ^ 68 ≡ g.word_pos + 3 = omega arith in
+    let four : (g.word_pos + 3 + 1) % 2 ^ 68 ≡ g.word_pos + 4 = omega arith in
+    rw (one, two, three, four) refl
+
+range_from-suc : (n k : ℕ) → range_from n (suc k) ≡ range_from n k ++ (n + k) ∷ []
+range_from-suc n zero = rw (add-zero n) refl
+range_from-suc n (suc k) =
+    ap (λ l. n ∷ l) (range_from-suc (suc n) k ∙ ap (λ m. range_from (suc n) k ++ m ∷ []) (omega arith))
+
+-- one more word of a seed
+pub seeded_words-suc : (seed : List ℕ) (n : ℕ)
+    → seeded_words seed (n + 1) ≡ seeded_words seed n ++ stream_word (key_of seed) 0 (4 * n) ∷ []
+seeded_words-suc seed n =
+    let more : below (n + 1) ≡ below n ++ n ∷ [] = rw add-one (range_from-suc 0 n ∙ ap (λ m. below n ++ m ∷ []) (zero-add n)) in
+    rw more (map-append (λ i. stream_word (key_of seed) 0 (4 * i)) (below n) (n ∷ []))

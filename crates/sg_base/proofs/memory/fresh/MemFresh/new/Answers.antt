@@ -1,0 +1,16 @@
+use Rattle.std.proofs.Common.{◌≡◌, ◌∙◌, sym, ◌+◌, ◌*◌, ◌++◌, ◌∷◌, [], arith}
+use Rattle.rand_chacha.specs.ChaCha.{key_of}
+use Rattle.sg_base.specs.Seeded.{stream_word}
+use Rattle.sg_base.proofs.Seeded.{seeded_words-suc}
+use Rattle.sg_base.proofs.memory.fresh.MemFresh.new.Goals as goal
+
+pub loop-preserved : goal.loop-preserved
+loop-preserved c =
+    let more = seeded_words-suc c.args.seed c.loop.counter in
+    let step : 4 * c.loop.counter + 4 ≡ 4 * (c.loop.counter + 1) = omega arith in
+    let word : c.draw.result ≡ stream_word (key_of c.args.seed) 0 (4 * c.loop.counter) =
+    rw c.loop.invariant.place at c.draw.ensures.word in
+    record {
+      place = rw (c.draw.ensures.place, c.loop.invariant.place) (λ i. record { key = key_of c.args.seed; stream = 0; word_pos = step i });
+      drawn = c.in_ok-push_back.ensures.items ∙ (λ i. c.loop.invariant.drawn i ++ word i ∷ []) ∙ sym more;
+    }

@@ -1,0 +1,25 @@
+use Rattle.std.specs.Prelude.{◌≡◌, ℕ, ◌+◌, ◌-◌, ◌<◌, ◌≤◌, ◌^◌, ◌⊎◌, List, [], ◌∷◌, ◌++◌, Option, Some, length, take, drop, find, replicate}
+use Rattle.std.specs.Option.{option_map}
+use Rattle.std.specs.Str.{bytes_eq}
+
+-- a count of faults rose, or stood at its end, where a rise does not show
+abbrev pub HasRisen : ℕ → ℕ → Type 0
+HasRisen old new = (old < new) ⊎ (2 ^ 64 - 1 ≤ old)
+
+-- the items were added at the end of a list, where the list is told
+abbrev pub Appends : {A : Type 0} → Option (List A) → Option (List A) → List A → Type 0
+Appends {A} old new items = (before : List A) → old ≡ Some before → new ≡ Some (before ++ items)
+
+-- a front part of the items was added at the end of a list, where the list is told
+abbrev pub AppendsFront : {A : Type 0} → Option (List A) → Option (List A) → List A → Type 0
+AppendsFront {A} old new items =
+    (count : ℕ) × (count ≤ length items) × Appends old new (take count items)
+
+-- the first item was taken off a list, where the list is told
+abbrev pub TakesFirst : {A : Type 0} → Option (List A) → Option (List A) → A → Type 0
+TakesFirst {A} old new first =
+    (all : List A) → old ≡ Some all → (all ≡ first ∷ drop 1 all) × (new ≡ Some (drop 1 all))
+
+-- the bytes of the first file with a name
+abbrev pub file_at : List (List ℕ × List ℕ) → List ℕ → Option (List ℕ)
+file_at files name = option_map (λ f. f.1) (find (λ f. bytes_eq f.0 name) files)

@@ -1,0 +1,18 @@
+use Rattle.std.specs.Prelude.{ℕ, ◌+◌, ◌*◌, List, ◌++◌, map}
+use Rattle.std.specs.Int.{w32, to_le_bytes}
+use Rattle.rand_chacha.specs.ChaCha.{word_at, key_of}
+use Rattle.sg_model.specs.Lists.{below}
+
+-- the four bytes of one place of a key stream of ChaCha20 (RFC 8439, section 2.4), low byte first
+abbrev pub stream_bytes : List ℕ → ℕ → ℕ → List ℕ
+stream_bytes key stream place = to_le_bytes w32 (word_at 10 key stream place)
+
+-- the sixteen bytes of four places
+abbrev pub stream_word : List ℕ → ℕ → ℕ → List ℕ
+stream_word key stream place =
+    stream_bytes key stream place ++ stream_bytes key stream (place + 1)
+    ++ stream_bytes key stream (place + 2) ++ stream_bytes key stream (place + 3)
+
+-- the first words of a seed, of sixteen bytes each, one after the other in the key stream
+abbrev pub seeded_words : List ℕ → ℕ → List (List ℕ)
+seeded_words seed count = map (λ i. stream_word (key_of seed) 0 (4 * i)) (below count)

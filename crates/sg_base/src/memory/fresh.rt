@@ -1,0 +1,63 @@
+//! Random words in memory.
+ghost use Rattle.std.specs.Prelude.{◌≡◌, ◌+◌, ◌<◌, ◌^◌, drop, replicate, slice_index_or, IfOk};
+ghost use Rattle.sg_base.specs.Seeded.{seeded_words, stream_word};
+
+use crate::{Fresh, OutOfMemory};
+use rand_chacha::ChaCha20Rng;
+use rand_core::SeedableRng;
+use rand_core::utils::fill_bytes_via_u32;
+use std::alloc::Global;
+use std::collections::VecDeque;
+use std::marker::Model;
+
+/// A list of words, drawn from a seed when it was made.
+#[derive(Debug, Drop)]
+pub struct MemFresh {
+    words: VecDeque<[u8; 16]>,
+}
+
+impl Model for MemFresh {
+    ghost use Rattle.std.specs.Prelude.{ℕ, List};
+
+    ghost Value = { List (List ℕ) };
+
+    ghost view = { λ f. f.words.items };
+}
+
+impl MemFresh {
+    /// The first words, so many, of `ChaCha20Rng` from a seed.
+    pub fn new(alloc: Global, seed: [u8; 32], words: u32) -> Result<MemFresh, OutOfMemory>
+        ensures { IfOk result (λ f. f ≡ seeded_words seed words) }
+    {
+        let mut rng = ChaCha20Rng::from_seed(seed);
+        let mut drawn = VecDeque::with_capacity(alloc, words as usize)?;
+        for _ in 0..words {
+            drawn.push_back(draw(&mut rng))?;
+        }
+        Ok(MemFresh { words: drawn })
+    }
+}
+
+// The next word of sixteen bytes.
+fn draw(rng: &mut ChaCha20Rng) -> [u8; 16]
+    requires { rng.old.word_pos + 4 < 2 ^ 68 }
+    ensures word { result ≡ stream_word rng.old.key rng.old.stream rng.old.word_pos }
+    ensures place { rng.new ≡ record rng.old { word_pos = rng.old.word_pos + 4 } }
+{
+    let mut word = [0u8; 16];
+    fill_bytes_via_u32(rng, &mut word);
+    word
+}
+
+impl Fresh for MemFresh {
+    ghost use Rattle.std.specs.Prelude.{Some};
+
+    ghost words = { λ f. Some f };
+
+    fn next(&mut self) -> [u8; 16]
+        ensures word { result ≡ slice_index_or self.old 0 (replicate 16 0) }
+        ensures taken { self.new ≡ drop 1 self.old }
+    {
+        self.words.pop_front().unwrap_or([0; 16])
+    }
+}

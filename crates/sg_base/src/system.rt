@@ -1,0 +1,90 @@
+//! The files and the writers of the system. They tell nothing of what they hold: that a file is missing or too long, and which bytes
+//! were written, is what the system says.
+ghost use Rattle.std.specs.Prelude.{◌≡◌};
+
+use crate::{Failed, FileFault, Files, Sink};
+use std::alloc::Global;
+use std::io::{ErrorKind, Read, Write};
+use std::{fs, io, rt};
+
+/// The files of the system.
+#[derive(Drop)]
+pub struct StdFiles<R: rt::Files> {
+    rt: R,
+    faults: u64,
+}
+
+impl<R: rt::Files + Drop> StdFiles<R> {
+    /// The files, with a count of faults of 0.
+    pub fn new(rt: R) -> StdFiles<R> {
+        StdFiles { rt, faults: 0 }
+    }
+}
+
+// The first bytes of a file, at most one more than `max`.
+fn read_front<R: rt::Files>(rt: &R, alloc: Global, name: &str, max: u32) -> io::Result<Vec<u8>>
+where
+    R::File: Drop,
+{
+    let file = fs::open(rt, name)?;
+    let mut bytes = Vec::new(alloc);
+    file.take(u64::from(max) + 1).read_to_end(&mut bytes)?;
+    Ok(bytes)
+}
+
+impl<R: rt::Files + Drop> Files for StdFiles<R> {
+    ghost use Rattle.std.specs.Prelude.{None};
+
+    ghost faults = { λ f. f.faults };
+
+    ghost held = { λ _. None };
+
+    fn read(&mut self, alloc: Global, name: &str, max: u32) -> Result<Option<Vec<u8>>, FileFault> {
+        match read_front(&self.rt, alloc, name, max) {
+            Ok(bytes) if bytes.len() > max as usize => Err(FileFault::TooLong),
+            Ok(bytes) => Ok(Some(bytes)),
+            Err(e) => match e.kind() {
+                ErrorKind::NotFound => Ok(None),
+                ErrorKind::OutOfMemory => Err(FileFault::OutOfMemory),
+                _ => {
+                    self.faults = self.faults.saturating_add(1);
+                    Err(FileFault::Failed)
+                }
+            },
+        }
+    }
+}
+
+/// A writer of the system.
+#[derive(Drop)]
+pub struct StdSink<W: Write> {
+    writer: W,
+    faults: u64,
+}
+
+impl<W: Write + Drop> StdSink<W> {
+    /// A sink over a writer, with a count of faults of 0.
+    pub fn new(writer: W) -> StdSink<W> {
+        StdSink { writer, faults: 0 }
+    }
+}
+
+impl<W: Write> Sink for StdSink<W> {
+    ghost use Rattle.std.specs.Prelude.{None};
+
+    ghost faults = { λ s. s.faults };
+
+    ghost written = { λ _. None };
+
+    fn write(&mut self, piece: &[u8]) -> Result<usize, Failed> {
+        let taken = match self.writer.write(piece) {
+            Ok(count) => count,
+            Err(_) => 0,
+        };
+        if taken == 0 || taken > piece.len() {
+            self.faults = self.faults.saturating_add(1);
+            return Err(Failed);
+        }
+        Ok(taken)
+    }
+}
