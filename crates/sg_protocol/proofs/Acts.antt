@@ -227,7 +227,7 @@ module _ (sha : Hash) (hash : IsHash sha) (s : Schedule) (sid : List ℕ) (cast 
   told_later : told later ≡ told x ++ gi ∷ []
   told_later = flat_map-append items_of x.exchanges (Gave gi os ∷ [])
 
-  entry_made : entry gi ≡ V.item_for commit st x.role label os
+  pub entry_made : entry gi ≡ V.item_for commit st x.role label os
   entry_made = gave.2 ∙ ap (λ t. record { label = label; time = t + 1; writes = map (λ (o : Opening). (o.variable, commitment sha x.sid o)) os }) (sym (ap R.turn_time (m.turns rows.turn)))
       ∙ ap (λ z. record { label = label; time = R.turn_time (st.world.at x.role).turn + 1; writes = map (λ (o : Opening). (o.variable, commitment sha z o)) os }) m.same_sid
 

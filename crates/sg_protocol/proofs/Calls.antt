@@ -1,11 +1,12 @@
 -- What a call at a node is to the law.
-use Rattle.std.specs.Prelude.{◌≡◌, ℕ, zero, suc, ◌+◌, ◌<◌, ◌==◌, nat_lt, nat_le, get_or, ◌&&◌, ◌⊎◌, Bool, true, false, not, cond, List, [], ◌∷◌, ◌++◌, map, filter, flat_map, length, find, bytes_eq, refl, Option, Some, None, option_map, unwrap_or, IfSome}
-use Rattle.std.specs.List.{list_all, AllByRecursion}
+use Rattle.std.specs.Prelude.{filter_map, ◌≡◌, ℕ, zero, suc, ◌+◌, ◌<◌, ◌==◌, nat_lt, nat_le, get_or, ◌&&◌, ◌||◌, ◌⊎◌, Bool, true, false, not, cond, List, [], ◌∷◌, ◌++◌, map, filter, flat_map, length, find, bytes_eq, refl, Option, Some, None, option_map, unwrap_or, IfSome}
+use Rattle.std.specs.List.{list_all, list_any, AllByRecursion}
 use Rattle.std.specs.Option.{option_map_or}
 use Rattle.std.proofs.Common.{sym, ◌∙◌, ap, subst, inl, inr, arith, append-nil}
 use Rattle.std.proofs.lemmas.Bool.{eqb-true, eq-eqb, ne_eqb}
+use Rattle.std.proofs.lemmas.List.{map-append}
 use Rattle.std.proofs.lemmas.Slice.Eq.{bytes_eq-Decides}
-use Rattle.sg_model.specs.Last.{Map, last, up_to_last}
+use Rattle.sg_model.specs.Last.{Map, has, last, up_to_last}
 use Rattle.sg_model.specs.Lists.{first_some, all_differ}
 use Rattle.sg_model.specs.Shape.{role_at, target, sender, receiver}
 use Rattle.sg_model.specs.Values.{Value, Opening, Code}
@@ -17,13 +18,15 @@ use Rattle.sg_protocol.specs.Spelling.{HasSpelling, body}
 use Rattle.sg_protocol.specs.Texts.{Hash, IsHash, commitment, commitment_text_of, session_id, session_text_of}
 use Rattle.sg_protocol.specs.TextLaws.{IsVersion, CastFits, OpeningFits}
 use Rattle.sg_protocol.specs.Keyring.{Keyring, Program, targets_of}
-use Rattle.sg_protocol.specs.Session.{Session, Took, Gave, principal, items_of, told, own, time, origin, place, at_turn, last_label, commitments, extended, new_session}
+use Rattle.sg_protocol.specs.Session.{Session, Exchange, Took, Gave, principal, items_of, told, own, time, origin, place, at_turn, last_label, commitments, extended, new_session}
 use Rattle.sg_protocol.specs.Sending.{text_of, text_to, frame_sent}
 use Rattle.sg_protocol.specs.Calls.{Refusal, ActFault, Event, Started, Sent, Call, Start, Act, Abandon, Deliver, Answer, Happened, Sends, Abandoned, NotStarted, NotActed, NotAbandoned, NotDelivered, StartFault, UnknownGraph, UnknownSession, NotWaiting, BadCast, BadSession, UnknownPeer, Joined, CacheFull, SessionsFull, Malformed, events_of_answer, sid_of}
 use Rattle.sg_protocol.specs.Verdict.{row, rows_of_session, is_right, seen, decided, receipt, verdict_on, rows_of_join, rows_of_next, join_rows, next_rows, rows}
 use Rattle.sg_protocol.specs.Notes.{Note, note_of, notes_in_session, notes_of_sent, Notes, notes, notes_of_start, notes_of_act, no_notes, notes_of_read, session_of_frame, hashed_of_join, hashed_openings, row_number}
 use Rattle.sg_protocol.specs.Walk.{is_typed_or_hidden, shown, acts_of_event}
 use Rattle.sg_protocol.specs.Schedule.{Schedule, is_honest, honest_role}
+use Rattle.sg_protocol.specs.World.{Answered}
+use Rattle.sg_protocol.specs.LastSteps.{exchanges_of, sent_item}
 use Rattle.sg_law.specs.Last as B
 use Rattle.sg_law.specs.Run.{RisesFrom, Turn}
 use Rattle.sg_law.specs.Run as R
@@ -34,8 +37,8 @@ use Rattle.sg_law.specs.Values.Deed.{Read as Reads}
 use Rattle.sg_law.proofs.Upto.{In}
 use Rattle.sg_law.proofs.Cut.{last-option_map}
 use Rattle.sg_protocol.proofs.Bridge.{has_view-Contains}
-use Rattle.sg_protocol.proofs.Entries.{entry, entries}
-use Rattle.sg_protocol.proofs.Moves.{NoteOk, Matches, and_parts, not_false, none_parts, row_none, note_text, in_map, in_left, in_right}
+use Rattle.sg_protocol.proofs.Entries.{entry, entries, Roles}
+use Rattle.sg_protocol.proofs.Moves.{step, NoteOk, Matches, and_parts, not_false, none_parts, row_none, note_text, in_map, in_left, in_right}
 use Rattle.sg_model.specs.Lists.{keys_of}
 use Rattle.sg_law.specs.Values.{MayWrite}
 use Rattle.sg_protocol.specs.Acting.{rows_of_act, openings_for, answer, answer_act, started, acted, sent, rows_of_start}
@@ -51,7 +54,7 @@ use Rattle.sg_protocol.specs.NodeAfter.{node_after, joined, goes_on, replace, st
 use Rattle.sg_protocol.specs.Walk as Walk'
 use Rattle.sg_protocol.specs.Frame as Frame'
 use Rattle.sg_law.specs.Values.{AllMay, May, moved_all, Deed, deed_of, all_openings}
-use Rattle.sg_protocol.proofs.Paths.{acts_of, TypedDeed}
+use Rattle.sg_protocol.proofs.Paths.{flat_map-append, acts_of, TypedDeed}
 use Rattle.sg_protocol.proofs.Isolation.{of_sid, find-filter, filter-append, replace-other, replace-own, still-own, still-other}
 use Rattle.sg_protocol.proofs.TextLaws.{cast_fits, opening_fits}
 use Rattle.sg_protocol.proofs.ReadBack.{read-SpellsFrame}
@@ -93,6 +96,9 @@ one_place (t ∷ ts) (suc h) zero d l m e = absurd (clash (has_text t ts) (there
     not_true false h = refl
 one_place (t ∷ ts) (suc h) (suc k) d l m e = ap suc (one_place ts h k (and_parts (not (has_text t ts)) (all_differ ts) d).1 (omega arith) (omega arith) e)
 
+ok_same : (r : Result Frame ℕ) (f f' : Frame) → r ≡ Ok f → r ≡ Ok f' → f ≡ f'
+ok_same r f f' a b = cc
+
 -- pairs that are joined later
 joined_more : (js : List (List ℕ × ℕ)) (j : List ℕ × ℕ) (sid : List ℕ) (r : ℕ) → has_joined js sid r ≡ true → has_joined (js ++ j ∷ []) sid r ≡ true
 joined_more [] j sid r h = absurd (cc)
@@ -132,7 +138,8 @@ find_all p P (x ∷ xs) y a e = elim (cases_Bool (p x)) [
 
 module _ (sha : Hash) (hash : IsHash sha) (s : Schedule) (programs : List Program) (sid : List ℕ) (cast : Cast) (g : Graph) (is : IsGraph g) (acc : Accepted g) (version : IsVersion cast.version) (long : length sid ≡ 32) (differ : all_differ cast.names ≡ true)
     (prog : (r : ℕ) (p : Program) → program_for programs cast.graph r ≡ Some p → (p.graph ≡ g) × IsViewTable p.graph r p.views)
-    (Hashed : List ℕ → Type 0) (one_cast : (c : Cast) → CastFits c → Hashed (session_text_of c) → session_id sha c ≡ sid → c ≡ cast) where
+    (Hashed : List ℕ → Type 0) (one_cast : (c : Cast) → CastFits c → Hashed (session_text_of c) → session_id sha c ≡ sid → c ≡ cast)
+    (LeftBy : Name → Type 0) where
   abbrev pub commit : Commit
   commit o = commitment sha sid o
 
@@ -154,15 +161,16 @@ module _ (sha : Hash) (hash : IsHash sha) (s : Schedule) (programs : List Progra
     pub matches : Matches g sid cast st who x
     pub was_joined : has_joined n.joins sid x.role ≡ true
 
-  pub record Gone (who : Name) (n : Node) : Type 0 where
+  -- the session was over, or was left
+  pub record Gone (st : State) (who : Name) (n : Node) : Type 0 where
     pub alone : filter (of_sid sid) n.live ≡ []
-    pub role : ℕ
-    pub is_who : principal cast role ≡ who
-    pub inside : role < length cast.names
-    pub was_joined : has_joined n.joins sid role ≡ true
+    pub x : Session
+    pub matches : Matches g sid cast st who x
+    pub was_joined : has_joined n.joins sid x.role ≡ true
+    pub why : (is_over programs x ≡ true) ⊎ LeftBy who
 
   abbrev pub Status : State → Name → Node → Type 0
-  Status st who n = Fresh st who n ⊎ (Here st who n ⊎ Gone who n)
+  Status st who n = Fresh st who n ⊎ (Here st who n ⊎ Gone st who n)
 
   -- a node and the law's state fit
   pub record NodeOk (st : State) (who : Name) (n : Node) : Type 0 where
@@ -176,6 +184,54 @@ module _ (sha : Hash) (hash : IsHash sha) (s : Schedule) (programs : List Progra
     pub told : (h : ℕ) → (principal cast h ≡ who → ⊥) → st'.told h ≡ st.told h
     pub world : (h : ℕ) → (principal cast h ≡ who → ⊥) → st'.world.at h ≡ st.world.at h
 
+  -- the items of the session that role r took or gave in a call
+  abbrev pub told_in : ℕ → Call → Answer → List Item
+  told_in r c a = flat_map items_of (exchanges_of sid r (record { call = c; answer = a } ∷ []))
+
+  -- the own item that was sent in a call
+  abbrev pub sent_in : Answer → List Item
+  sent_in a = filter_map (sent_item sid) (Answered a ∷ [])
+
+  -- no event of the session
+  abbrev Quiet : Answer → Type 0
+  Quiet a = list_any (λ e. bytes_eq (sid_of e) sid) (events_of_answer a) ≡ false
+
+  quiet_event : (e : Event) → bytes_eq (sid_of e) sid ≡ false → (bytes_eq (sid_of e) sid || false) ≡ false
+  quiet_event e h = rw h refl
+
+  of_quiet : (b : Bool) → (b || false) ≡ false → b ≡ false
+  of_quiet true h = absurd (cc)
+  of_quiet false h = refl
+
+  quiet_told : (r : ℕ) (c : Call) (a : Answer) → Quiet a → told_in r c a ≡ []
+  quiet_told r c (Happened e) q = rw (of_quiet (bytes_eq (sid_of e) sid) q) refl
+  quiet_told r c (Sends e to f) q = rw (of_quiet (bytes_eq (sid_of e) sid) q) refl
+  quiet_told r c other q = refl
+
+  quiet_items : (a : Answer) → Quiet a → sent_in a ≡ []
+  quiet_items (Sends e to f) q = rw (of_quiet (bytes_eq (sid_of e) sid) q) refl
+  quiet_items other q = refl
+
+  -- the call took a frame of the session
+  pub record TookFrame (c : Call) (a : Answer) (f : Frame) : Type 0 where
+    pub bs : List ℕ
+    pub is_call : c ≡ Deliver bs
+    pub is_read : read bs ≡ Ok f
+    pub is_answer : a ≡ Happened (receipt f)
+    pub is_sid : f.sid ≡ sid
+
+  -- the law's role takes the frame
+  pub record TakesFrame (who : Name) (moves : List Move) (f : Frame) : Type 0 where
+    pub node : ℕ
+    pub are : moves ≡ Takes f.receiver node (entries f.items) f.openings ∷ []
+    pub is_who : principal cast f.receiver ≡ who
+    pub inside : f.receiver < length cast.names
+    pub no_own : has (λ (i : Item). i.role) f.receiver f.items ≡ false
+    pub roles : Roles (shape g) f.items
+
+  quiet_took : (c : Call) (a : Answer) (f : Frame) → Quiet a → TookFrame c a f → ⊥
+  quiet_took c a f q t = clash (bytes_eq f.sid sid) ((bytes_eq-Decides f.sid sid).1 t.is_sid) (of_quiet (bytes_eq f.sid sid) (subst Quiet t.is_answer q))
+
   -- what a call gives
   pub record Out (st : State) (who : Name) (n : Node) (c : Call) (a : Answer) (nts : Notes) : Type 0 where
     pub moves : List Move
@@ -187,6 +243,9 @@ module _ (sha : Hash) (hash : IsHash sha) (s : Schedule) (programs : List Progra
     pub used : AllByRecursion (λ (o : Opening). In nts.hashed (commitment_text_of sid o) × OpeningFits o) (all_openings moves)
     pub made : (nt : Note) → In nts.made nt → NoteOk g sid (moved_all commit st moves).log nt
     pub log : (mk : Made) → In st.log mk → In (moved_all commit st moves).log mk
+    pub told : (r : ℕ) → principal cast r ≡ who → r < length cast.names → ((moved_all commit st moves).told r ≡ st.told r ++ entries (told_in r c a)) × Roles (shape g) (told_in r c a)
+    pub sent : ((moved_all commit st moves).world.sent ≡ st.world.sent ++ map step (sent_in a)) × Roles (shape g) (sent_in a)
+    pub took : (f : Frame) → TookFrame c a f → TakesFrame who moves f
 
   kept_same : (who : Name) (st : State) → Kept who st st
   kept_same who st = record { told = λ h ne. refl; world = λ h ne. refl }
@@ -207,32 +266,29 @@ module _ (sha : Hash) (hash : IsHash sha) (s : Schedule) (programs : List Progra
   pub node_kept : (st st' : State) (who me : Name) (n : Node) → (me ≡ who → ⊥) → Kept who st st' → NodeOk st me n → NodeOk st' me n
   node_kept st st' who me n ne k ok = record { me = ok.me; has_programs = ok.has_programs; lengths = ok.lengths; status = go ok.status }
     where
+      matches_kept : (x : Session) → Matches g sid cast st me x → Matches g sid cast st' me x
+      matches_kept x m =
+          let other : principal cast x.role ≡ who → ⊥ = λ q. ne (sym m.is_who ∙ q) in
+          let t : st'.told x.role ≡ st.told x.role = k.told x.role other in
+          let w : st'.world.at x.role ≡ st.world.at x.role = k.world x.role other in
+          record {
+            same_sid = m.same_sid;
+            same_cast = m.same_cast;
+            is_who = m.is_who;
+            inside = m.inside;
+            is_told = t ∙ m.is_told;
+            is_own = ap (λ (l : R.Local). l.own) w ∙ m.is_own;
+            turns = λ e. ap (λ (l : R.Local). l.turn) w ∙ m.turns e;
+            waits = λ e. ap (λ (l : R.Local). l.turn) w ∙ m.waits e;
+            roles = m.roles;
+            fits = m.fits;
+            last_edge = m.last_edge;
+          }
+
       go : Status st me n → Status st' me n
       go (inl f) = inl record { alone = f.alone; all = λ h is l. let u = f.all h is l in record { none = k.told h (λ q. ne (sym is ∙ q)) ∙ u.none; start = k.world h (λ q. ne (sym is ∙ q)) ∙ u.start } }
-      go (inr (inl h)) =
-          let m = h.matches in
-          let other : principal cast (h.x).role ≡ who → ⊥ = λ q. ne (sym m.is_who ∙ q) in
-          let t : st'.told (h.x).role ≡ st.told (h.x).role = k.told (h.x).role other in
-          let w : st'.world.at (h.x).role ≡ st.world.at (h.x).role = k.world (h.x).role other in
-          inr (inl record {
-            x = h.x;
-            alone = h.alone;
-            was_joined = h.was_joined;
-            matches = record {
-              same_sid = m.same_sid;
-              same_cast = m.same_cast;
-              is_who = m.is_who;
-              inside = m.inside;
-              is_told = t ∙ m.is_told;
-              is_own = ap (λ (l : R.Local). l.own) w ∙ m.is_own;
-              turns = λ e. ap (λ (l : R.Local). l.turn) w ∙ m.turns e;
-              waits = λ e. ap (λ (l : R.Local). l.turn) w ∙ m.waits e;
-              roles = m.roles;
-              fits = m.fits;
-              last_edge = m.last_edge;
-            };
-          })
-      go (inr (inr g)) = inr (inr g)
+      go (inr (inl h)) = inr (inl record { x = h.x; alone = h.alone; was_joined = h.was_joined; matches = matches_kept h.x h.matches })
+      go (inr (inr h)) = inr (inr record { x = h.x; alone = h.alone; was_joined = h.was_joined; matches = matches_kept h.x h.matches; why = h.why })
 
   -- a new session
   pub new_matches : (st : State) (who : Name) (c : Cast) (sid' : List ℕ) (r : ℕ) → sid' ≡ sid → c ≡ cast → principal cast r ≡ who → r < length cast.names → Untouched st r → Matches g sid cast st who (new_session sid' c r)
@@ -253,9 +309,19 @@ module _ (sha : Hash) (hash : IsHash sha) (s : Schedule) (programs : List Progra
   -- what is left of the session
   settle : (st : State) (who : Name) (n : Node) (x : Session) → Matches g sid cast st who x → filter (of_sid sid) n.live ≡ still programs x → has_joined n.joins sid x.role ≡ true → Status st who n
   settle st who n x m e j = elim (cases_Bool (is_over programs x)) [
-    | inl o ↦ inr (inr record { alone = e ∙ rw o refl; role = x.role; is_who = m.is_who; inside = m.inside; was_joined = j })
+    | inl o ↦ inr (inr record { alone = e ∙ rw o refl; x = x; matches = m; was_joined = j; why = inl o })
     | inr o ↦ inr (inl record { x = x; alone = e ∙ rw o refl; matches = m; was_joined = j })
   ]
+
+  roles_right : (xs ys : List Item) → Roles (shape g) (xs ++ ys) → Roles (shape g) ys
+  roles_right [] ys h = h
+  roles_right (x ∷ xs) ys h = roles_right xs ys h.1
+
+  -- what an exchange adds to what was told
+  told_step : (st st' : State) (who : Name) (x : Session) (e : Exchange) → Matches g sid cast st who x → Matches g sid cast st' who (extended x e) → (st'.told x.role ≡ st.told x.role ++ entries (items_of e)) × Roles (shape g) (items_of e)
+  told_step st st' who x e m m' =
+      let more : told (extended x e) ≡ told x ++ items_of e = flat_map-append items_of x.exchanges (e ∷ []) ∙ ap (λ l. told x ++ l) (append-nil (items_of e)) in
+      (m'.is_told ∙ ap entries more ∙ map-append entry (told x) (items_of e) ∙ ap (λ l. l ++ entries (items_of e)) (sym m.is_told), roles_right (told x) (items_of e) (subst (Roles (shape g)) more m'.roles))
 
   is_sid : (x : Session) → x.sid ≡ sid → bytes_eq x.sid sid ≡ true
   is_sid x e = (bytes_eq-Decides x.sid sid).1 e
@@ -290,14 +356,14 @@ module _ (sha : Hash) (hash : IsHash sha) (s : Schedule) (programs : List Progra
   other_status : (st : State) (who : Name) (n n' : Node) → filter (of_sid sid) n'.live ≡ filter (of_sid sid) n.live → ((r : ℕ) → has_joined n.joins sid r ≡ true → has_joined n'.joins sid r ≡ true) → Status st who n → Status st who n'
   other_status st who n n' e j (inl f) = inl record { alone = e ∙ f.alone; all = f.all }
   other_status st who n n' e j (inr (inl h)) = inr (inl record { x = h.x; alone = e ∙ h.alone; matches = h.matches; was_joined = j (h.x).role h.was_joined })
-  other_status st who n n' e j (inr (inr g)) = inr (inr record { alone = e ∙ g.alone; role = g.role; is_who = g.is_who; inside = g.inside; was_joined = j g.role g.was_joined })
+  other_status st who n n' e j (inr (inr h)) = inr (inr record { alone = e ∙ h.alone; x = h.x; matches = h.matches; was_joined = j (h.x).role h.was_joined; why = h.why })
 
   joined_other : (n : Node) (x : Session) → bytes_eq x.sid sid ≡ false → filter (of_sid sid) (joined n x).live ≡ filter (of_sid sid) n.live
   joined_other n x h = filter-append (of_sid sid) n.live (still n.programs x) ∙ ap (λ l. filter (of_sid sid) n.live ++ l) (still-other sid n.programs x h) ∙ append-nil (filter (of_sid sid) n.live)
 
   -- nothing is known of the session in this call
-  nothing : (st : State) (who : Name) (n : Node) (c : Call) (a : Answer) (nts : Notes) → NodeOk st who (node_after n c a) → flat_map acts_of_event (filter (λ e. bytes_eq (sid_of e) sid) (events_of_answer a)) ≡ [] → ((nt : Note) → In nts.made nt → NoteOk g sid st.log nt) → Out st who n c a nts
-  nothing st who n c a nts ok ev md = record {
+  nothing : (st : State) (who : Name) (n : Node) (c : Call) (a : Answer) (nts : Notes) → NodeOk st who (node_after n c a) → flat_map acts_of_event (filter (λ e. bytes_eq (sid_of e) sid) (events_of_answer a)) ≡ [] → Quiet a → ((nt : Note) → In nts.made nt → NoteOk g sid st.log nt) → Out st who n c a nts
+  nothing st who n c a nts ok ev q md = record {
     moves = [];
     may = tt;
     node = ok;
@@ -307,6 +373,9 @@ module _ (sha : Hash) (hash : IsHash sha) (s : Schedule) (programs : List Progra
     used = tt;
     made = md;
     log = λ mk i. i;
+    told = λ r e l. rw (quiet_told r c a q) (sym (append-nil (st.told r)), tt);
+    sent = rw (quiet_items a q) (sym (append-nil st.world.sent), tt);
+    took = λ f t. absurd (quiet_took c a f q t);
   }
 
   event_other : (e : Event) → bytes_eq (sid_of e) sid ≡ false → flat_map acts_of_event (filter (λ e. bytes_eq (sid_of e) sid) (e ∷ [])) ≡ []
@@ -317,9 +386,9 @@ module _ (sha : Hash) (hash : IsHash sha) (s : Schedule) (programs : List Progra
   no_two st who n r (inr (inl h)) p l j =
       let same : (h.x).role ≡ r = one_place cast.names (h.x).role r differ h.matches.inside l (h.matches.is_who ∙ sym p) in
       absurd (clash (has_joined n.joins sid r) (subst (λ z. has_joined n.joins sid z ≡ true) same h.was_joined) j)
-  no_two st who n r (inr (inr g)) p l j =
-      let same : g.role ≡ r = one_place cast.names g.role r differ g.inside l (g.is_who ∙ sym p) in
-      absurd (clash (has_joined n.joins sid r) (subst (λ z. has_joined n.joins sid z ≡ true) same g.was_joined) j)
+  no_two st who n r (inr (inr h)) p l j =
+      let same : (h.x).role ≡ r = one_place cast.names (h.x).role r differ h.matches.inside l (h.matches.is_who ∙ sym p) in
+      absurd (clash (has_joined n.joins sid r) (subst (λ z. has_joined n.joins sid z ≡ true) same h.was_joined) j)
 
   same_bytes_ : (a b : List ℕ) → bytes_eq a b ≡ true → a ≡ b
   same_bytes_ a b h = (bytes_eq-Decides a b).0 h
@@ -357,7 +426,7 @@ module _ (sha : Hash) (hash : IsHash sha) (s : Schedule) (programs : List Progra
       start_done p e hs = elim (cases_Bool (bytes_eq (session_id sha c) sid)) [
         | inl h ↦ mine h
         | inr h ↦ nothing st who n (Start c) (Happened (Started (session_id sha c) p.role)) (record { made = []; found = []; hashed = session_text_of c ∷ [] })
-            (other_joined (new_session (session_id sha c) c p.role) h (hash (session_text_of c)).0) (event_other (Started (session_id sha c) p.role) h) (λ nt i. absurd i)
+            (other_joined (new_session (session_id sha c) c p.role) h (hash (session_text_of c)).0) (event_other (Started (session_id sha c) p.role) h) (quiet_event (Started (session_id sha c) p.role) h) (λ nt i. absurd i)
       ]
         where
           mine : bytes_eq (session_id sha c) sid ≡ true → Out st who n (Start c) (Happened (Started (session_id sha c) p.role)) (record { made = []; found = []; hashed = session_text_of c ∷ [] })
@@ -383,16 +452,22 @@ module _ (sha : Hash) (hash : IsHash sha) (s : Schedule) (programs : List Progra
                 used = tt;
                 made = λ nt i. absurd i;
                 log = λ mk i. i;
+                told = λ r e l. start_told r;
+                sent = (sym (append-nil st.world.sent), tt);
+                took = λ f t. (let e = t.is_call in absurd (cc));
               }
+            where
+              start_told : (r : ℕ) → (st.told r ≡ st.told r ++ entries (told_in r (Start c) (Happened (Started (session_id sha c) p.role)))) × Roles (shape g) (told_in r (Start c) (Happened (Started (session_id sha c) p.role)))
+              start_told r = elim (cases_Bool (bytes_eq (session_id sha c) sid && (p.role == r))) [ inl k ↦ rw k (sym (append-nil (st.told r)), tt) | inr k ↦ rw k (sym (append-nil (st.told r)), tt) ]
 
       start_rows : (p : Program) (o : Option StartFault) → first_some (rows_of_start n p (session_id sha c) c) ≡ o → ((t : List ℕ) → In (notes_of_start c (started (session_id sha c) p.role o)).hashed t → Hashed t)
           → Out st who n (Start c) (started (session_id sha c) p.role o) (notes_of_start c (started (session_id sha c) p.role o))
       start_rows p None e hs = start_done p e hs
-      start_rows p (Some f) e hs = nothing st who n (Start c) (NotStarted f) (notes_of_start c (NotStarted f)) ok refl (λ nt i. absurd (start_made c (NotStarted f) nt i))
+      start_rows p (Some f) e hs = nothing st who n (Start c) (NotStarted f) (notes_of_start c (NotStarted f)) ok refl refl (λ nt i. absurd (start_made c (NotStarted f) nt i))
 
       start_program : (o : Option Program) → let a : Answer = option_map_or (λ (p : Program). started (session_id sha c) p.role (first_some (rows_of_start n p (session_id sha c) c))) o (NotStarted StartFault.UnknownGraph) in
           ((t : List ℕ) → In (notes_of_start c a).hashed t → Hashed t) → Out st who n (Start c) a (notes_of_start c a)
-      start_program None hs = nothing st who n (Start c) (NotStarted StartFault.UnknownGraph) (notes_of_start c (NotStarted StartFault.UnknownGraph)) ok refl (λ nt i. absurd i)
+      start_program None hs = nothing st who n (Start c) (NotStarted StartFault.UnknownGraph) (notes_of_start c (NotStarted StartFault.UnknownGraph)) ok refl refl (λ nt i. absurd i)
       start_program (Some p) hs = start_rows p (first_some (rows_of_start n p (session_id sha c) c)) refl hs
 
     pub start_out : (c : Cast) → CastFits c → ((t : List ℕ) → In (notes sha n (Start c)).hashed t → Hashed t) → Out st who n (Start c) (answer sha n (Start c)) (notes sha n (Start c))
@@ -400,8 +475,8 @@ module _ (sha : Hash) (hash : IsHash sha) (s : Schedule) (programs : List Progra
 
     -- ---- a session is left
 
-    abandon_done : (sid0 : List ℕ) → NodeOk st who (goes_on n (λ (x : Session). bytes_eq x.sid sid0) (λ x. []))
-    abandon_done sid0 = record {
+    abandon_done : (sid0 : List ℕ) → (sid0 ≡ sid → LeftBy who) → NodeOk st who (goes_on n (λ (x : Session). bytes_eq x.sid sid0) (λ x. []))
+    abandon_done sid0 left = record {
       me = ok.me;
       has_programs = ok.has_programs;
       lengths = replace_lengths (λ (x : Session). bytes_eq x.sid sid0) (λ x. []) n.live (λ z l. tt) ok.lengths;
@@ -418,19 +493,19 @@ module _ (sha : Hash) (hash : IsHash sha) (s : Schedule) (programs : List Progra
         mine q (inl f) = inl record { alone = after q ∙ ap (replace (λ (x : Session). bytes_eq x.sid sid0) (λ x. [])) f.alone; all = f.all }
         mine q (inr (inl h)) = inr (inr record {
           alone = after q ∙ ap (replace (λ (x : Session). bytes_eq x.sid sid0) (λ x. [])) h.alone ∙ rw ((bytes_eq-Decides (h.x).sid sid0).1 (h.matches.same_sid ∙ sym q)) refl;
-          role = (h.x).role;
-          is_who = h.matches.is_who;
-          inside = h.matches.inside;
+          x = h.x;
+          matches = h.matches;
           was_joined = h.was_joined;
+          why = inr (left q);
         })
-        mine q (inr (inr g')) = inr (inr record { alone = after q ∙ ap (replace (λ (x : Session). bytes_eq x.sid sid0) (λ x. [])) g'.alone; role = g'.role; is_who = g'.is_who; inside = g'.inside; was_joined = g'.was_joined })
+        mine q (inr (inr g')) = inr (inr record { alone = after q ∙ ap (replace (λ (x : Session). bytes_eq x.sid sid0) (λ x. [])) g'.alone; x = g'.x; matches = g'.matches; was_joined = g'.was_joined; why = g'.why })
 
-    pub abandon_out : (sid0 : List ℕ) → Out st who n (Abandon sid0) (answer sha n (Abandon sid0)) (notes sha n (Abandon sid0))
+    pub abandon_out : (sid0 : List ℕ) → (sid0 ≡ sid → answer sha n (Abandon sid0) ≡ Abandoned → LeftBy who) → Out st who n (Abandon sid0) (answer sha n (Abandon sid0)) (notes sha n (Abandon sid0))
     abandon_out sid0 = go (session_with n.live sid0)
       where
-        go : (o : Option Session) → Out st who n (Abandon sid0) (option_map_or (λ (x : Session). Abandoned) o NotAbandoned) (record { made = []; found = []; hashed = [] })
-        go None = nothing st who n (Abandon sid0) NotAbandoned (record { made = []; found = []; hashed = [] }) ok refl (λ nt i. absurd i)
-        go (Some x) = nothing st who n (Abandon sid0) Abandoned (record { made = []; found = []; hashed = [] }) (abandon_done sid0) refl (λ nt i. absurd i)
+        go : (o : Option Session) → (sid0 ≡ sid → option_map_or (λ (x : Session). Abandoned) o NotAbandoned ≡ Abandoned → LeftBy who) → Out st who n (Abandon sid0) (option_map_or (λ (x : Session). Abandoned) o NotAbandoned) (record { made = []; found = []; hashed = [] })
+        go None left = nothing st who n (Abandon sid0) NotAbandoned (record { made = []; found = []; hashed = [] }) ok refl refl (λ nt i. absurd i)
+        go (Some x) left = nothing st who n (Abandon sid0) Abandoned (record { made = []; found = []; hashed = [] }) (abandon_done sid0 (λ q. left q refl)) refl refl (λ nt i. absurd i)
 
     -- ---- a step is sent
 
@@ -529,6 +604,7 @@ module _ (sha : Hash) (hash : IsHash sha) (s : Schedule) (programs : List Progra
             notes_ok : (nt : Note) → In (notes_of_sent n.keys p x f os).made nt → NoteOk z sid (st.log ++ V.made_by commit st x.role label os ∷ []) nt
             by_x : sender (shape z) label ≡ x.role
             typed : list_all (is_typed_or_hidden z) (V.values_of os) ≡ true
+            made : entry gi ≡ V.item_for commit st x.role label os
 
           given_in : p.graph ≡ g → Matches g sid cast st who x → Given g
           given_in pg m =
@@ -544,7 +620,14 @@ module _ (sha : Hash) (hash : IsHash sha) (s : Schedule) (programs : List Progra
                 notes_ok = C.notes_ok sha hash s sid cast n.keys p x label values F st who is' acc' m' hon version long small rs spelled;
                 by_x = C.by_x sha hash s sid cast n.keys p x label values F st who is' acc' m' hon version long small rs;
                 typed = C.values_typed sha hash s sid cast n.keys p x label values F st who is' acc' m' hon version long small rs;
+                made = C.entry_made sha hash s sid cast n.keys p x label values F st who is' acc' m' hon version long small rs;
               }
+
+          act_told : (gi : Item) → last f.items ≡ Some gi → x.sid ≡ sid → told_in x.role (Act sid0 label values (map F values)) its_answer ≡ gi ∷ []
+          act_told gi e q = rw ((bytes_eq-Decides x.sid sid).1 q, eq-eqb x.role x.role refl, e) refl
+
+          act_sent : (gi : Item) → last f.items ≡ Some gi → x.sid ≡ sid → sent_in its_answer ≡ gi ∷ []
+          act_sent gi e q = rw ((bytes_eq-Decides x.sid sid).1 q, e) refl
 
           act_mine : bytes_eq sid0 sid ≡ true → Out st who n (Act sid0 label values (map F values)) its_answer (notes_of_sent n.keys p x f os)
           act_mine h =
@@ -571,6 +654,11 @@ module _ (sha : Hash) (hash : IsHash sha) (s : Schedule) (programs : List Progra
                 used = used_all;
                 made = gv.notes_ok;
                 log = λ mk i. in_left st.log (V.made_by commit st x.role label os ∷ []) mk i;
+                told = λ r e l. subst (λ k. ((moved commit st (Writes x.role label os)).told k ≡ st.told k ++ entries (told_in k (Act sid0 label values (map F values)) its_answer)) × Roles (shape g) (told_in k (Act sid0 label values (map F values)) its_answer))
+                    (one_place cast.names x.role r differ m.inside l (m.is_who ∙ sym e))
+                    (rw (act_told gv.gi gv.its_last m.same_sid) (told_step st (moved commit st (Writes x.role label os)) who x (Gave gv.gi os) m gv.matches));
+                sent = rw (act_sent gv.gi gv.its_last m.same_sid) (ap (λ z. st.world.sent ++ V.step_of z ∷ []) (sym gv.made), (told_step st (moved commit st (Writes x.role label os)) who x (Gave gv.gi os) m gv.matches).1);
+                took = λ f t. (let e = t.is_call in absurd (cc));
               }
             where
               used_in : (zs : List Opening) → AllByRecursion OpeningFits zs → ((o : Opening) → In zs o → In os o) → AllByRecursion (λ (o : Opening). In (notes_of_sent n.keys p x f os).hashed (commitment_text_of sid o) × OpeningFits o) (zs ++ [])
@@ -583,7 +671,7 @@ module _ (sha : Hash) (hash : IsHash sha) (s : Schedule) (programs : List Progra
           act_done : Out st who n (Act sid0 label values (map F values)) its_answer (notes_of_sent n.keys p x f os)
           act_done = elim (cases_Bool (bytes_eq sid0 sid)) [
             | inl h ↦ act_mine h
-            | inr h ↦ nothing st who n (Act sid0 label values (map F values)) its_answer (notes_of_sent n.keys p x f os) (other h) (event_other event (ap (λ y. bytes_eq y sid) x_sid ∙ h)) (note_other x p f os x_long (ap (λ y. bytes_eq y sid) x_sid ∙ h) refl)
+            | inr h ↦ nothing st who n (Act sid0 label values (map F values)) its_answer (notes_of_sent n.keys p x f os) (other h) (event_other event (ap (λ y. bytes_eq y sid) x_sid ∙ h)) (quiet_event event (ap (λ y. bytes_eq y sid) x_sid ∙ h)) (note_other x p f os x_long (ap (λ y. bytes_eq y sid) x_sid ∙ h) refl)
           ]
             where
               other : bytes_eq sid0 sid ≡ false → NodeOk st who (goes_on n which now)
@@ -607,7 +695,7 @@ module _ (sha : Hash) (hash : IsHash sha) (s : Schedule) (programs : List Progra
         notes_with o f = option_map_or (λ x. option_map_or (λ p. notes_of_sent n.keys p x f os) (program_for n.programs x.cast.graph x.role) no_notes) o no_notes
 
         not_acted : (fault : ActFault) → answer_act sha n sid0 label values (map F values) ≡ NotActed fault → Out st who n (Act sid0 label values (map F values)) (answer sha n (Act sid0 label values (map F values))) (notes sha n (Act sid0 label values (map F values)))
-        not_acted fault e = subst (λ a. Out st who n (Act sid0 label values (map F values)) a (notes_of_act n sid0 os a)) (sym e) (nothing st who n (Act sid0 label values (map F values)) (NotActed fault) no_notes ok refl (λ nt i. absurd i))
+        not_acted fault e = subst (λ a. Out st who n (Act sid0 label values (map F values)) a (notes_of_act n sid0 os a)) (sym e) (nothing st who n (Act sid0 label values (map F values)) (NotActed fault) no_notes ok refl refl (λ nt i. absurd i))
 
         pub act_out : ((e : Event) (to : Name) (f : Frame) → answer sha n (Act sid0 label values (map F values)) ≡ Sends e to f → HasSpelling f) → Out st who n (Act sid0 label values (map F values)) (answer sha n (Act sid0 label values (map F values))) (notes sha n (Act sid0 label values (map F values)))
         act_out spelled = by_session (session_with n.live sid0) refl
@@ -639,6 +727,7 @@ module _ (sha : Hash) (hash : IsHash sha) (s : Schedule) (programs : List Progra
           last_one : Item
           is_last : last f.items ≡ Some last_one
           by_me : receiver (shape z) last_one.label ≡ x.role
+          no_own : has (λ (i : Item). i.role) x.role f.items ≡ false
           typed : list_all (is_typed_or_hidden z) (V.values_of f.openings) ≡ true
 
         taken_at : (x : Session) (p : Program) → p.graph ≡ g → IsViewTable p.graph x.role p.views → Matches g sid cast st who x → at_turn g x ≡ false → f.sid ≡ sid → f.receiver ≡ x.role → T.Rows sha n.keys p x f
@@ -654,6 +743,7 @@ module _ (sha : Hash) (hash : IsHash sha) (s : Schedule) (programs : List Progra
               matches = T.taken sha s sid cast n.keys p x f st who is' m' ok.me hon views version long wait' spelled fs fr rs found';
               last_one = (T.last_item sha s sid cast n.keys p x f st who is' m' ok.me hon views version long wait' spelled fs fr rs found').0;
               is_last = (T.last_item sha s sid cast n.keys p x f st who is' m' ok.me hon views version long wait' spelled fs fr rs found').1;
+              no_own = T.no_own sha s sid cast n.keys p x f st who is' m' ok.me hon views version long wait' spelled fs fr rs found';
               by_me = T.by_me sha s sid cast n.keys p x f st who is' m' ok.me hon views version long wait' spelled fs fr rs found';
               typed = T.values_typed sha s sid cast n.keys p x f st who is' m' ok.me hon views version long wait' spelled fs fr rs found';
             }
@@ -681,9 +771,9 @@ module _ (sha : Hash) (hash : IsHash sha) (s : Schedule) (programs : List Progra
         fit_openings (o ∷ os) h = (opening_fits o h.0, fit_openings os h.1)
 
         -- the answer to a frame that session x takes
-        take_done : (bs : List ℕ) (x : Session) (p : Program) (rs : T.Rows sha n.keys p x f) → x.sid ≡ sid → f.sid ≡ sid → f.receiver ≡ x.role → principal cast x.role ≡ who → (t : TakenAt g x)
+        take_done : (bs : List ℕ) → read bs ≡ Ok f → (x : Session) (p : Program) (rs : T.Rows sha n.keys p x f) → Matches g sid cast st who x → x.sid ≡ sid → f.sid ≡ sid → f.receiver ≡ x.role → principal cast x.role ≡ who → (t : TakenAt g x)
             → NodeOk (moved commit st (Takes x.role t.node (entries f.items) f.openings)) who (node_after n (Deliver bs) (Happened (receipt f))) → Out st who n (Deliver bs) (Happened (receipt f)) (nts_of 16 (Some (p, x)))
-        take_done bs x p rs xs fs fr is_who t node' = record {
+        take_done bs is_read x p rs m xs fs fr is_who t node' = record {
           moves = Takes x.role t.node (entries f.items) f.openings ∷ [];
           may = (t.may, tt);
           node = node';
@@ -697,8 +787,28 @@ module _ (sha : Hash) (hash : IsHash sha) (s : Schedule) (programs : List Progra
           used = used_in f.openings (fit_openings f.openings spelled.openings) (λ o i. i);
           made = λ nt i. absurd (no_made 16 (Some (p, x)) nt i);
           log = λ mk i. i;
+          told = λ r e l. subst (λ k. ((moved commit st (Takes x.role t.node (entries f.items) f.openings)).told k ≡ st.told k ++ entries (told_in k (Deliver bs) (Happened (receipt f)))) × Roles (shape g) (told_in k (Deliver bs) (Happened (receipt f))))
+              (one_place cast.names x.role r differ m.inside l (m.is_who ∙ sym e))
+              (rw took_told (told_step st (moved commit st (Takes x.role t.node (entries f.items) f.openings)) who x (Took f) m t.matches));
+          sent = (sym (append-nil st.world.sent), tt);
+          took = λ f' q. (
+            let same : Deliver bs ≡ Deliver q.bs = q.is_call in
+            let same' : bs ≡ q.bs = cc in
+            let ff : f ≡ f' = ok_same (read bs) f f' is_read (ap read same' ∙ q.is_read) in
+            subst (TakesFrame who (Takes x.role t.node (entries f.items) f.openings ∷ [])) ff record {
+              node = t.node;
+              are = ap (λ r. Takes r t.node (entries f.items) f.openings ∷ []) (sym fr);
+              is_who = ap (principal cast) fr ∙ m.is_who;
+              inside = subst (λ r. r < length cast.names) (sym fr) m.inside;
+              no_own = subst (λ r. has (λ (i : Item). i.role) r f.items ≡ false) (sym fr) t.no_own;
+              roles = (told_step st (moved commit st (Takes x.role t.node (entries f.items) f.openings)) who x (Took f) m t.matches).1;
+            }
+          );
         }
           where
+            took_told : told_in x.role (Deliver bs) (Happened (receipt f)) ≡ f.items
+            took_told = rw ((bytes_eq-Decides f.sid sid).1 fs, eq-eqb f.receiver x.role fr, is_read) (append-nil f.items)
+
             used_in : (zs : List Opening) → AllByRecursion OpeningFits zs → ((o : Opening) → In zs o → In f.openings o) → AllByRecursion (λ (o : Opening). In (nts_of 16 (Some (p, x))).hashed (commitment_text_of sid o) × OpeningFits o) (zs ++ [])
             used_in [] a w = tt
             used_in (o ∷ zs) a w = (
@@ -732,7 +842,7 @@ module _ (sha : Hash) (hash : IsHash sha) (s : Schedule) (programs : List Progra
           }
 
           other_done : bytes_eq f.sid sid ≡ false → Out st who n (Deliver bs) (Happened (receipt f)) (notes_of_read sha n (Ok f))
-          other_done h = nothing st who n (Deliver bs) (Happened (receipt f)) (notes_of_read sha n (Ok f)) (subst (NodeOk st who) (sym (ap (takes_read n) is_read)) (other_node h f.join)) (event_other (receipt f) h) (λ nt i. absurd (no_made (row_number (first_some (rows sha n f))) (session_of_frame n f) nt i))
+          other_done h = nothing st who n (Deliver bs) (Happened (receipt f)) (notes_of_read sha n (Ok f)) (subst (NodeOk st who) (sym (ap (takes_read n) is_read)) (other_node h f.join)) (event_other (receipt f) h) (quiet_event (receipt f) h) (λ nt i. absurd (no_made (row_number (first_some (rows sha n f))) (session_of_frame n f) nt i))
 
           -- where no row holds, the notes are those of the session
           notes_are : first_some (rows sha n f) ≡ None → (y : Program × Session) → session_of_frame n f ≡ Some y → notes_of_read sha n (Ok f) ≡ nts_of 16 (Some y)
@@ -765,7 +875,7 @@ module _ (sha : Hash) (hash : IsHash sha) (s : Schedule) (programs : List Progra
               let wait : at_turn g x ≡ false = no_turn p x pr.0 pr.1 rs refl in
               let t : TakenAt g x = taken_at x p pr.0 pr.1 m wait fs refl rs (λ nt i. founds nt (subst (λ (z : Notes). In z.found nt) (sym nts) i)) in
               subst (Out st who n (Deliver bs) (Happened (receipt f))) (sym nts)
-              (take_done bs x p rs fs fs refl is_who t
+              (take_done bs is_read x p rs m fs fs refl is_who t
               (subst (NodeOk (moved commit st (Takes f.receiver t.node (entries f.items) f.openings)) who) (sym (ap (takes_read n) is_read ∙ ap nexts jc))
               (joined_ok (extended x (Took f)) (moved commit st (Takes f.receiver t.node (entries f.items) f.openings)) spelled.sid.0 (join_status (moved commit st (Takes f.receiver t.node (entries f.items) f.openings)) who n (extended x (Took f)) ok.has_programs fresh.alone t.matches))))
             where
@@ -792,7 +902,7 @@ module _ (sha : Hash) (hash : IsHash sha) (s : Schedule) (programs : List Progra
               let nts : notes_of_read sha n (Ok f) ≡ nts_of 16 (Some (p, x)) = notes_are e (p, x) sess in
               let t : TakenAt g x = taken_at x p pr.0 pr.1 m wait fs role rs (λ nt i. founds nt (subst (λ (z : Notes). In z.found nt) (sym nts) i)) in
               subst (Out st who n (Deliver bs) (Happened (receipt f))) (sym nts)
-              (take_done bs x p rs m.same_sid fs role m.is_who t
+              (take_done bs is_read x p rs m m.same_sid fs role m.is_who t
               (subst (NodeOk (moved commit st (Takes x.role t.node (entries f.items) f.openings)) who) (sym (ap (takes_read n) is_read ∙ ap nexts jn)) record {
                 me = ok.me;
                 has_programs = ok.has_programs;
@@ -823,7 +933,7 @@ module _ (sha : Hash) (hash : IsHash sha) (s : Schedule) (programs : List Progra
           by_join e fs (Some c) j = join_program e fs c j (program_for n.programs c.graph f.receiver) refl
 
           by_rows : (o : Option Refusal) → first_some (rows sha n f) ≡ o → Out st who n (Deliver bs) (decided (receipt f) o) (notes_of_read sha n (Ok f))
-          by_rows (Some r) e = nothing st who n (Deliver bs) (NotDelivered r) (notes_of_read sha n (Ok f)) ok refl (λ nt i. absurd (no_made (row_number (first_some (rows sha n f))) (session_of_frame n f) nt i))
+          by_rows (Some r) e = nothing st who n (Deliver bs) (NotDelivered r) (notes_of_read sha n (Ok f)) ok refl refl (λ nt i. absurd (no_made (row_number (first_some (rows sha n f))) (session_of_frame n f) nt i))
           by_rows None e = elim (cases_Bool (bytes_eq f.sid sid)) [ inl h ↦ by_join e (same_bytes_ f.sid sid h) f.join refl | inr h ↦ other_done h ]
 
       pub deliver_out : (bs : List ℕ) → IsBytes bs → ((nt : Note) → In (notes sha n (Deliver bs)).found nt → is_honest s nt.one ≡ true → is_honest s nt.two ≡ true → NoteOk g sid st.log nt) → ((t : List ℕ) → In (notes sha n (Deliver bs)).hashed t → Hashed t)
@@ -831,6 +941,6 @@ module _ (sha : Hash) (hash : IsHash sha) (s : Schedule) (programs : List Progra
       deliver_out bs bytes founds hs = go (read bs) refl
         where
           go : (r : Result Frame ℕ) → read bs ≡ r → Out st who n (Deliver bs) (answer sha n (Deliver bs)) (notes sha n (Deliver bs))
-          go (Err at) e = subst (λ r. Out st who n (Deliver bs) (verdict_on sha n r) (notes_of_read sha n r)) (sym e) (nothing st who n (Deliver bs) (NotDelivered (Malformed at)) no_notes ok refl (λ nt i. absurd i))
+          go (Err at) e = subst (λ r. Out st who n (Deliver bs) (verdict_on sha n r) (notes_of_read sha n r)) (sym e) (nothing st who n (Deliver bs) (NotDelivered (Malformed at)) no_notes ok refl refl (λ nt i. absurd i))
           go (Ok f) e = subst (λ r. Out st who n (Deliver bs) (verdict_on sha n r) (notes_of_read sha n r)) (sym e)
               (by_rows f (read-SpellsFrame bs f bytes e).is_frame bs e (subst (λ r. (nt : Note) → In (notes_of_read sha n r).found nt → is_honest s nt.one ≡ true → is_honest s nt.two ≡ true → NoteOk g sid st.log nt) e founds) (subst (λ r. (t : List ℕ) → In (notes_of_read sha n r).hashed t → Hashed t) e hs) (first_some (rows sha n f)) refl)

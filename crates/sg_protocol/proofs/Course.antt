@@ -1,6 +1,6 @@
 -- What a run is to the law.
-use Rattle.std.specs.Prelude.{◌≡◌, ℕ, ◌+◌, ◌<◌, ◌≤◌, if◌then◌else◌, ◌⊎◌, Bool, true, false, List, [], ◌∷◌, ◌++◌, map, filter, flat_map, length, find, bytes_eq, refl, Option, Some, None, option_map}
-use Rattle.std.specs.List.{AllByRecursion}
+use Rattle.std.specs.Prelude.{filter_map, ◌≡◌, ℕ, ◌+◌, ◌<◌, ◌≤◌, if◌then◌else◌, ◌⊎◌, Bool, true, false, List, [], ◌∷◌, ◌++◌, map, filter, flat_map, length, find, bytes_eq, refl, Option, Some, None, option_map}
+use Rattle.std.specs.List.{AllByRecursion, cons_option}
 use Rattle.std.specs.Option.{option_map_or}
 use Rattle.std.proofs.Common.{sym, ◌∙◌, ap, subst, inl, inr, arith, append_assoc, append-nil}
 use Rattle.std.proofs.lemmas.List.{map-append}
@@ -12,7 +12,10 @@ use Rattle.sg_model.specs.Values.{Value, Opening}
 use Rattle.sg_model.specs.Names.{Name}
 use Rattle.sg_protocol.specs.Graph.{Graph, IsGraph, shape}
 use Rattle.sg_protocol.specs.Evidence.{IsViewTable}
-use Rattle.sg_protocol.specs.Frame.{Cast, Frame, IsValue}
+use Rattle.sg_protocol.specs.Frame.{Cast, Frame, Item, IsValue}
+use Rattle.sg_protocol.specs.Session.{principal, items_of}
+use Rattle.sg_protocol.specs.LastSteps.{exchanges_in, exchanges_of, is_of, sent_item, honest_items}
+use Rattle.sg_protocol.specs.Completeness.{HadAnswer}
 use Rattle.sg_protocol.specs.Spelling.{HasSpelling, u64}
 use Rattle.sg_protocol.specs.Texts.{Hash, IsHash, commitment, commitment_text_of, session_id, session_text_of, graph_text_of}
 use Rattle.sg_protocol.specs.TextLaws.{IsVersion, CastFits, OpeningFits, ValueFits}
@@ -26,14 +29,15 @@ use Rattle.sg_law.specs.Values.Deed.{Read as Reads}
 use Rattle.sg_law.proofs.Upto.{In}
 use Rattle.sg_law.proofs.Take.{contains_from_in}
 use Rattle.sg_protocol.proofs.Paths.{flat_map-append}
-use Rattle.sg_protocol.proofs.Moves.{NoteOk, in_left, in_right}
+use Rattle.sg_protocol.proofs.Moves.{step, NoteOk, in_left, in_right, roles-append}
+use Rattle.sg_protocol.proofs.Entries.{entry, entries, Roles}
 use Rattle.sg_model.specs.Lists.{keys_of}
 use Rattle.sg_law.specs.Values.{MayWrite}
 use Rattle.sg_protocol.specs.Acting.{openings_for, answer}
 use Rattle.sg_protocol.specs.Accepted.{Accepted}
 use Rattle.sg_model.specs.Bytes.{IsBytes}
 use Rattle.sg_protocol.specs.Node.{Node, program_for}
-use Rattle.sg_protocol.specs.Calls.{Event, Call, Start, Act, Abandon, Deliver, Sends, events_of_answer, sid_of}
+use Rattle.sg_protocol.specs.Calls.{Event, Call, Start, Act, Abandon, Deliver, Sends, Abandoned, events_of_answer, sid_of}
 use Rattle.sg_protocol.specs.NodeAfter.{node_after}
 use Rattle.sg_protocol.specs.Walk.{acts_of_event}
 use Rattle.sg_law.specs.Values.{AllMay, May, moved_all, Deed, deed_of, all_openings}
@@ -49,6 +53,14 @@ use Rattle.sg_protocol.specs.Premises.{hashed, Unforged}
 use Rattle.sg_protocol.specs.IsSchedule.{IsStep}
 use Rattle.sg_law.proofs.Upto.{in_from_Contains}
 use Rattle.sg_protocol.proofs.Calls.{Out, NodeOk, node_kept, start_out, abandon_out, act_out, deliver_out, find_passes}
+
+filter_map-append : {X Y : Type 0} (f : X → Option Y) (xs ys : List X) → filter_map f (xs ++ ys) ≡ filter_map f xs ++ filter_map f ys
+filter_map-append f [] ys = refl
+filter_map-append f (x ∷ xs) ys = ap (cons_option (f x)) (filter_map-append f xs ys) ∙ moved_in (f x) (filter_map f xs) (filter_map f ys)
+  where
+    moved_in : {A : Type 0} (o : Option A) (l m : List A) → cons_option o (l ++ m) ≡ cons_option o l ++ m
+    moved_in None l m = refl
+    moved_in (Some a) l m = refl
 
 cases_Bool : (b : Bool) → (b ≡ true) ⊎ (b ≡ false)
 cases_Bool true = inl refl
@@ -151,11 +163,11 @@ in_flat f (z ∷ xs) x y (inr i) j = in_right (f z) (flat_map f xs) y (in_flat f
 
 -- ---- moves, one after another
 
-moved-append : (commit : Commit) (st : State) (ms ns : List Move) → moved_all commit st (ms ++ ns) ≡ moved_all commit (moved_all commit st ms) ns
+pub moved-append : (commit : Commit) (st : State) (ms ns : List Move) → moved_all commit st (ms ++ ns) ≡ moved_all commit (moved_all commit st ms) ns
 moved-append commit st [] ns = refl
 moved-append commit st (m ∷ ms) ns = moved-append commit (moved commit st m) ms ns
 
-may-append : (g : Shape) (honest : ℕ → Bool) (commit : Commit) (st : State) (ms ns : List Move) → AllMay g honest commit st ms → AllMay g honest commit (moved_all commit st ms) ns → AllMay g honest commit st (ms ++ ns)
+pub may-append : (g : Shape) (honest : ℕ → Bool) (commit : Commit) (st : State) (ms ns : List Move) → AllMay g honest commit st ms → AllMay g honest commit (moved_all commit st ms) ns → AllMay g honest commit st (ms ++ ns)
 may-append g honest commit st [] ns a b = b
 may-append g honest commit st (m ∷ ms) ns a b = (a.0, may-append g honest commit (moved commit st m) ms ns a.1 b)
 
@@ -210,8 +222,29 @@ module _ (sha : Hash) (hash : IsHash sha) (s : Schedule) (programs : List Progra
   abbrev pub Hashed : List ℕ → Type 0
   Hashed t = In (hashed s wf) t
 
-  abbrev Ok_ : State → Name → Node → Type 0
-  Ok_ st who n = NodeOk sha hash s programs sid cast g is acc version long differ prog Hashed one_cast st who n
+  -- the principal left the session, in the end
+  abbrev pub LeftBy : Name → Type 0
+  LeftBy who = HadAnswer wf.log who (Abandon sid) Abandoned
+
+  abbrev pub Ok_ : State → Name → Node → Type 0
+  Ok_ st who n = NodeOk sha hash s programs sid cast g is acc version long differ prog Hashed one_cast LeftBy st who n
+
+  -- the items of the session that role r took or gave
+  abbrev pub told_by : ℕ → List Called → List Item
+  told_by r calls = flat_map items_of (exchanges_of sid r calls)
+
+  -- the law has been told what the role took and gave
+  abbrev pub Told : State → ℕ → List Called → Type 0
+  Told st r calls = (st.told r ≡ entries (told_by r calls)) × Roles (shape g) (told_by r calls)
+
+  told_by-append : (r : ℕ) (cs : List Called) (c : Called) → told_by r (cs ++ c ∷ []) ≡ told_by r cs ++ told_by r (c ∷ [])
+  told_by-append r cs c =
+      ap (λ l. flat_map items_of (flat_map (λ (c : Called). exchanges_in c.call c.answer) l)) (filter-append (is_of sid r) cs (c ∷ []))
+      ∙ ap (flat_map items_of) (flat_map-append (λ (c : Called). exchanges_in c.call c.answer) (filter (is_of sid r) cs) (filter (is_of sid r) (c ∷ [])))
+      ∙ flat_map-append items_of (exchanges_of sid r cs) (exchanges_of sid r (c ∷ []))
+
+  honest_items-append : (xs ys : List Logged) → honest_items sid (xs ++ ys) ≡ honest_items sid xs ++ honest_items sid ys
+  honest_items-append xs ys = filter_map-append (λ (l : Logged). sent_item sid l.outcome) xs ys
 
   pub record Progress (w : World) : Type 0 where
     pub moves : List Move
@@ -221,6 +254,9 @@ module _ (sha : Hash) (hash : IsHash sha) (s : Schedule) (programs : List Progra
     pub events : flat_map acts_of_event (events_of sid w.log) ≡ flat_map (acts_of g) (map deed_of moves)
     pub typed : AllByRecursion (TypedDeed g honest) (map deed_of moves)
     pub used : AllByRecursion (λ (o : Opening). Hashed (commitment_text_of sid o) × OpeningFits o) (all_openings moves)
+    pub told : (who : Name) (p : Past) → past_of w who ≡ Some p → (r : ℕ) → principal cast r ≡ who → r < length cast.names → Told (moved_all commit (V.at_first (shape g)) moves) r p.calls
+    pub sent : ((moved_all commit (V.at_first (shape g)) moves).world.sent ≡ map step (honest_items sid w.log)) × Roles (shape g) (honest_items sid w.log)
+    pub pasts : (who : Name) → is_honest s who ≡ true → (p : Past) × (past_of w who ≡ Some p)
 
   -- a step without a call
   idle : (w : World) (k : ℕ) (who : Option Name) (o : Outcome) (fr : Option (List ℕ)) → events_of_outcome o ≡ [] → Progress w → Progress (uncalled w k who o fr)
@@ -235,13 +271,20 @@ module _ (sha : Hash) (hash : IsHash sha) (s : Schedule) (programs : List Progra
     events = events-append sid w.log _ ∙ ap (λ l. flat_map acts_of_event (events_of sid w.log) ++ flat_map acts_of_event (filter (λ e. bytes_eq (sid_of e) sid) (l ++ []))) e ∙ append-nil _ ∙ p.events;
     typed = p.typed;
     used = p.used;
+    told = p.told;
+    pasts = p.pasts;
+    sent = subst (λ l. ((moved_all commit (V.at_first (shape g)) p.moves).world.sent ≡ map step l) × Roles (shape g) l) (sym (honest_items-append w.log _ ∙ ap (λ z. honest_items sid w.log ++ cons_option z []) (no_item o e) ∙ append-nil (honest_items sid w.log))) p.sent;
   }
+    where
+      no_item : (o : Outcome) → events_of_outcome o ≡ [] → sent_item sid o ≡ None
+      no_item (Answered (Sends ev to f)) h = absurd (cc)
+      no_item other h = refl
 
   module _ (w : World) (k : ℕ) (p : Progress w) (x : Step) (good : IsStep sha s x) (fit : Fit w) (who : Name) (past : Past) (its_past : past_of w who ≡ Some past) where
-    abbrev st : State
+    abbrev pub st : State
     st = moved_all commit (V.at_first (shape g)) p.moves
 
-    abbrev n : Node
+    abbrev pub n : Node
     n = node_of past
 
     ok : Ok_ st who n
@@ -250,7 +293,7 @@ module _ (sha : Hash) (hash : IsHash sha) (s : Schedule) (programs : List Progra
     hon : is_honest s who ≡ true
     hon = (p.nodes who past its_past).1
 
-    abbrev entry_ : Call → Logged
+    abbrev pub entry_ : Call → Logged
     entry_ c = record { number = k; who = Some who; call = Some c; outcome = Answered (answer sha n c); frame = frame_in (answer sha n c); notes = notes sha n c }
 
     abbrev Founds : Call → Type 0
@@ -259,8 +302,14 @@ module _ (sha : Hash) (hash : IsHash sha) (s : Schedule) (programs : List Progra
     abbrev Hs : Call → Type 0
     Hs c = (t : List ℕ) → In (notes sha n c).hashed t → Hashed t
 
-    abbrev Outs : Call → Type 0
-    Outs c = Out sha hash s programs sid cast g is acc version long differ prog Hashed one_cast st who n c (answer sha n c) (notes sha n c)
+    abbrev Lefts : Call → Type 0
+    Lefts c = c ≡ Abandon sid → answer sha n c ≡ Abandoned → LeftBy who
+
+    lefts : (c : Call) → Suffix (k + 1) (called sha w k who c past).log wf.log → Lefts c
+    lefts c after q a = (entry_ c, contains_from_in wf.log (entry_ c) (in_after (k + 1) (called sha w k who c past).log wf.log after (entry_ c) (C.in_last w.log (entry_ c))), refl, ap (λ z. Some z) q, ap (λ z. Answered z) a)
+
+    abbrev pub Outs : Call → Type 0
+    Outs c = Out sha hash s programs sid cast g is acc version long differ prog Hashed one_cast LeftBy st who n c (answer sha n c) (notes sha n c)
 
     founds : (c : Call) → Suffix (k + 1) (called sha w k who c past).log wf.log → Founds c
     founds c after nt i h1 h2 =
@@ -274,28 +323,28 @@ module _ (sha : Hash) (hash : IsHash sha) (s : Schedule) (programs : List Progra
         let here : In wf.log (entry_ c) = in_after (k + 1) (called sha w k who c past).log wf.log after (entry_ c) (C.in_last w.log (entry_ c)) in
         in_right (map graph_text_of s.graphs) (flat_map (λ (l : Logged). l.notes.hashed) wf.log) t (in_flat (λ (l : Logged). l.notes.hashed) wf.log (entry_ c) t here i)
 
-    out_of : (c : Call) → call_of sha s w k x ≡ Some c → Founds c → Hs c → Outs c
+    out_of : (c : Call) → call_of sha s w k x ≡ Some c → Founds c → Hs c → Lefts c → Outs c
     out_of c e = go x good c e (λ ev to f a. fit_sends w fit k x who past c ev to f good its_past e a)
       where
         start_ : (o : Option Cast) → (n' : ℕ) → cast_of s n' ≡ o → (c : Call) → option_map Start o ≡ Some c → Hs c → Outs c
         start_ None n' q c e = absurd (cc)
-        start_ (Some d) n' q c e = let r : Start d ≡ c = cc in subst (λ z. Hs z → Outs z) r (λ hs. start_out sha hash s programs sid cast g is acc version long differ prog Hashed one_cast st who n ok d (casts_fit n' d q) hs)
+        start_ (Some d) n' q c e = let r : Start d ≡ c = cc in subst (λ z. Hs z → Outs z) r (λ hs. start_out sha hash s programs sid cast g is acc version long differ prog Hashed one_cast LeftBy st who n ok d (casts_fit n' d q) hs)
 
         deliver_ : (who' : Name) (what : What) → IsStep sha s (DeliverStep who' what) → (o : Option (List ℕ)) → bytes_of w what ≡ o → (c : Call) → option_map Deliver o ≡ Some c → Founds c → Hs c → Outs c
         deliver_ who' what gd None q c e = absurd (cc)
-        deliver_ who' what gd (Some bs) q c e = let r : Deliver bs ≡ c = cc in subst (λ z. Founds z → Hs z → Outs z) r (λ fo hs. deliver_out sha hash s programs sid cast g is acc version long differ prog Hashed one_cast st who n ok hon bs (fit_bytes w fit who' what bs gd q) fo hs)
+        deliver_ who' what gd (Some bs) q c e = let r : Deliver bs ≡ c = cc in subst (λ z. Founds z → Hs z → Outs z) r (λ fo hs. deliver_out sha hash s programs sid cast g is acc version long differ prog Hashed one_cast LeftBy st who n ok hon bs (fit_bytes w fit who' what bs gd q) fo hs)
 
-        go : (y : Step) → IsStep sha s y → (c : Call) → call_of sha s w k y ≡ Some c → ((ev : Event) (to : Name) (f : Frame) → answer sha n c ≡ Sends ev to f → HasSpelling f) → Founds c → Hs c → Outs c
-        go (StartStep who' n') gd c e sp fo hs = start_ (cast_of s n') n' refl c e hs
-        go (ActStep who' n' label values) gd c e sp fo hs =
+        go : (y : Step) → IsStep sha s y → (c : Call) → call_of sha s w k y ≡ Some c → ((ev : Event) (to : Name) (f : Frame) → answer sha n c ≡ Sends ev to f → HasSpelling f) → Founds c → Hs c → Lefts c → Outs c
+        go (StartStep who' n') gd c e sp fo hs ls = start_ (cast_of s n') n' refl c e hs
+        go (ActStep who' n' label values) gd c e sp fo hs ls =
             let r : Act (sid_at sha s n') label values (map (λ (v : ℕ × Value). confounder k v.0) values) ≡ c = cc in
             subst (λ z. ((ev : Event) (to : Name) (f : Frame) → answer sha n z ≡ Sends ev to f → HasSpelling f) → Outs z) r
-            (λ sp'. act_out sha hash s programs sid cast g is acc version long differ prog Hashed one_cast st who n ok hon (sid_at sha s n') label values (λ (v : ℕ × Value). confounder k v.0) (small_values values gd) (openings_fit k values gd) sp') sp
-        go (AbandonStep who' n') gd c e sp fo hs = let r : Abandon (sid_at sha s n') ≡ c = cc in subst Outs r (abandon_out sha hash s programs sid cast g is acc version long differ prog Hashed one_cast st who n ok (sid_at sha s n'))
-        go (DeliverStep who' what) gd c e sp fo hs = deliver_ who' what gd (bytes_of w what) refl c e fo hs
-        go (CraftStep cr) gd c e sp fo hs = absurd (cc)
+            (λ sp'. act_out sha hash s programs sid cast g is acc version long differ prog Hashed one_cast LeftBy st who n ok hon (sid_at sha s n') label values (λ (v : ℕ × Value). confounder k v.0) (small_values values gd) (openings_fit k values gd) sp') sp
+        go (AbandonStep who' n') gd c e sp fo hs ls = let r : Abandon (sid_at sha s n') ≡ c = cc in subst (λ z. Lefts z → Outs z) r (λ left. abandon_out sha hash s programs sid cast g is acc version long differ prog Hashed one_cast LeftBy st who n ok (sid_at sha s n') (λ q a. left (ap Abandon q) a)) ls
+        go (DeliverStep who' what) gd c e sp fo hs ls = deliver_ who' what gd (bytes_of w what) refl c e fo hs
+        go (CraftStep cr) gd c e sp fo hs ls = absurd (cc)
 
-    progress_called : (c : Call) → Suffix (k + 1) (called sha w k who c past).log wf.log → Outs c → Progress (called sha w k who c past)
+    pub progress_called : (c : Call) → Suffix (k + 1) (called sha w k who c past).log wf.log → Outs c → Progress (called sha w k who c past)
     progress_called c after out = record {
       moves = p.moves ++ out.moves;
       may = may-append (shape g) honest commit (V.at_first (shape g)) p.moves out.moves p.may out.may;
@@ -309,8 +358,39 @@ module _ (sha : Hash) (hash : IsHash sha) (s : Schedule) (programs : List Progra
           ∙ ap (λ l. flat_map (acts_of g) (map deed_of p.moves) ++ l) out.events ∙ sym (flat_map-append (acts_of g) (map deed_of p.moves) (map deed_of out.moves)) ∙ ap (flat_map (acts_of g)) (sym (map-append deed_of p.moves out.moves));
       typed = subst (AllByRecursion (TypedDeed g honest)) (sym (map-append deed_of p.moves out.moves)) (all_both (TypedDeed g honest) (map deed_of p.moves) (map deed_of out.moves) p.typed out.typed);
       used = subst (AllByRecursion (λ (o : Opening). Hashed (commitment_text_of sid o) × OpeningFits o)) (sym (openings-append p.moves out.moves)) (all_both (λ (o : Opening). Hashed (commitment_text_of sid o) × OpeningFits o) (all_openings p.moves) (all_openings out.moves) p.used (all_weak _ _ (λ o h. (hs_of c after (commitment_text_of sid o) h.0, h.1)) (all_openings out.moves) out.used));
+      pasts = λ me is. (let o = p.pasts me is in (next_past sha who c o.0, past_called sha w k who c past me ∙ ap (option_map (next_past sha who c)) o.1));
+      told = λ me p' e r is l. subst (λ (z : State). Told z r p'.calls) (sym (moved-append commit (V.at_first (shape g)) p.moves out.moves)) (told_ me p' (past_of w me) refl (sym (past_called sha w k who c past me) ∙ e) r is l);
+      sent = subst (λ l. ((moved_all commit (V.at_first (shape g)) (p.moves ++ out.moves)).world.sent ≡ map step l) × Roles (shape g) l) (sym (honest_items-append w.log (entry_ c ∷ [])))
+          (ap (λ (z : State). z.world.sent) (moved-append commit (V.at_first (shape g)) p.moves out.moves) ∙ out.sent.0 ∙ ap (λ l. l ++ map step (honest_items sid (entry_ c ∷ []))) p.sent.0 ∙ sym (map-append step (honest_items sid w.log) (honest_items sid (entry_ c ∷ []))), roles-append (shape g) (honest_items sid w.log) (honest_items sid (entry_ c ∷ [])) p.sent.1 out.sent.1);
     }
       where
+        told_ : (me : Name) (p' : Past) (o : Option Past) → past_of w me ≡ o → option_map (next_past sha who c) o ≡ Some p' → (r : ℕ) → principal cast r ≡ me → r < length cast.names → Told (moved_all commit st out.moves) r p'.calls
+        told_ me p' None q e r is l = absurd (cc)
+        told_ me p' (Some y) q e r is l =
+            let nx : next_past sha who c y ≡ p' = cc in
+            let is_me : y.keys.me ≡ me = same_bytes_ y.keys.me me (find_passes (λ (z : Past). bytes_eq z.keys.me me) w.pasts y q) in
+            elim (cases_Bool (bytes_eq y.keys.me who)) [
+              | inl h ↦
+                  let same : me ≡ who = sym is_me ∙ same_bytes_ y.keys.me who h in
+                  let two : Some y ≡ Some past = sym q ∙ ap (past_of w) same ∙ its_past in
+                  let y_past : y ≡ past = cc in
+                  let after_ : past_after sha past c ≡ p' = ap (λ z. past_after sha z c) (sym y_past) ∙ (rw h at nx) in
+                  let calls_are : p'.calls ≡ past.calls ++ record { call = c; answer = answer sha (node_of past) c } ∷ [] = ap (λ (z : Past). z.calls) (sym after_) in
+                  let old : Told st r past.calls = p.told who past its_past r (is ∙ same) l in
+                  let new = out.told r (is ∙ same) l in
+                  subst (Told (moved_all commit st out.moves) r) (sym calls_are) (subst (λ l. ((moved_all commit st out.moves).told r ≡ entries l) × Roles (shape g) l) (sym (told_by-append r past.calls (record { call = c; answer = answer sha (node_of past) c })))
+                      (new.0 ∙ ap (λ l. l ++ entries (told_by r (record { call = c; answer = answer sha (node_of past) c } ∷ []))) old.0 ∙ sym (map-append entry (told_by r past.calls) (told_by r (record { call = c; answer = answer sha (node_of past) c } ∷ []))), roles-append (shape g) (told_by r past.calls) (told_by r (record { call = c; answer = answer sha (node_of past) c } ∷ [])) old.1 new.1))
+              | inr h ↦
+                  let r' : y ≡ p' = rw h at nx in
+                  let ne : me ≡ who → ⊥ = λ z. no_clash (bytes_eq y.keys.me who) ((bytes_eq-Decides y.keys.me who).1 (is_me ∙ z)) h in
+                  let old : Told st r y.calls = p.told me y q r is l in
+                  let same : (moved_all commit st out.moves).told r ≡ st.told r = out.kept.told r (λ z. ne (sym is ∙ z)) in
+                  subst (λ (z : Past). Told (moved_all commit st out.moves) r z.calls) r' (same ∙ old.0, old.1)
+            ]
+          where
+            no_clash : (b : Bool) → b ≡ true → b ≡ false → ⊥
+            no_clash b t f = absurd (cc)
+
         nodes_ : (me : Name) (p' : Past) (o : Option Past) → past_of w me ≡ o → option_map (next_past sha who c) o ≡ Some p' → Ok_ (moved_all commit st out.moves) me (node_of p') × (is_honest s me ≡ true)
         nodes_ me p' None q e = absurd (cc)
         nodes_ me p' (Some y) q e =
@@ -328,17 +408,21 @@ module _ (sha : Hash) (hash : IsHash sha) (s : Schedule) (programs : List Progra
                   let r' : y ≡ p' = rw h at r in
                   let both = p.nodes me y q in
                   let ne : me ≡ who → ⊥ = λ z. no_clash (bytes_eq y.keys.me who) ((bytes_eq-Decides y.keys.me who).1 (is_me ∙ z)) h in
-                  (subst (λ z. Ok_ (moved_all commit st out.moves) me (node_of z)) r' (node_kept sha hash s programs sid cast g is acc version long differ prog Hashed one_cast st (moved_all commit st out.moves) who me (node_of y) ne out.kept both.0), both.1)
+                  (subst (λ z. Ok_ (moved_all commit st out.moves) me (node_of z)) r' (node_kept sha hash s programs sid cast g is acc version long differ prog Hashed one_cast LeftBy st (moved_all commit st out.moves) who me (node_of y) ne out.kept both.0), both.1)
             ]
           where
             no_clash : (b : Bool) → b ≡ true → b ≡ false → ⊥
             no_clash b t f = absurd (cc)
 
+    pub progress_moves : (c : Call) (after : Suffix (k + 1) (called sha w k who c past).log wf.log) (out : Outs c) → (progress_called c after out).moves ≡ p.moves ++ out.moves
+    unfolding progress_called
+    progress_moves c after out = refl
+
   -- a step
   by_past : (w : World) (k : ℕ) → Progress w → (x : Step) → IsStep sha s x → Fit w → (who : Name) (o : Option Past) → past_of w who ≡ o → (c : Option Call) → call_of sha s w k x ≡ c → Suffix (k + 1) (option_map_or (called_if sha w k who c) o w).log wf.log → Progress (option_map_or (called_if sha w k who c) o w)
   by_past w k p x good fit who None q c e after = p
   by_past w k p x good fit who (Some past) q None e after = idle w k (Some who) NoFrame None refl p
-  by_past w k p x good fit who (Some past) q (Some c) e after = progress_called w k p x good fit who past q c after (out_of w k p x good fit who past q c e (founds w k p x good fit who past q c after) (hs_of w k p x good fit who past q c after))
+  by_past w k p x good fit who (Some past) q (Some c) e after = progress_called w k p x good fit who past q c after (out_of w k p x good fit who past q c e (founds w k p x good fit who past q c after) (hs_of w k p x good fit who past q c after) (lefts w k p x good fit who past q c after))
 
   one_step : (w : World) (k : ℕ) → Progress w → (x : Step) → IsStep sha s x → Fit w → Suffix (k + 1) (world_after sha s w k x).log wf.log → Progress (world_after sha s w k x)
   one_step w k p (CraftStep c) good fit after = idle w k None Crafted _ refl p
@@ -351,3 +435,24 @@ module _ (sha : Hash) (hash : IsHash sha) (s : Schedule) (programs : List Progra
   all_steps w k p [] good fit e = subst Progress e p
   all_steps w k p (x ∷ xs) good fit e =
       all_steps (world_after sha s w k x) (k + 1) (one_step w k p x good.0 fit (subst (λ (z : World). Suffix (k + 1) (world_after sha s w k x).log z.log) e (suffix_all sha s (world_after sha s w k x) (k + 1) xs))) xs good.1 (fit_next w k x fit good.0) e
+
+  -- what each call keeps, and each step without a call, holds in the end
+  module _ (P : World → Type 0) (P_idle : (w : World) (k : ℕ) → Progress w → P w → (who : Option Name) (o : Outcome) (fr : Option (List ℕ)) → P (uncalled w k who o fr))
+      (P_called : (w : World) (k : ℕ) (p : Progress w) → P w → (x : Step) (good : IsStep sha s x) (fit : Fit w) (who : Name) (past : Past) (its_past : past_of w who ≡ Some past) (c : Call) → call_of sha s w k x ≡ Some c → Suffix (k + 1) (called sha w k who c past).log wf.log → Outs w k p x good fit who past its_past c → P (called sha w k who c past)) where
+    keep_past : (w : World) (k : ℕ) → Progress w → P w → (x : Step) → IsStep sha s x → Fit w → (who : Name) (o : Option Past) → past_of w who ≡ o → (c : Option Call) → call_of sha s w k x ≡ c → Suffix (k + 1) (option_map_or (called_if sha w k who c) o w).log wf.log → P (option_map_or (called_if sha w k who c) o w)
+    keep_past w k p h x good fit who None q c e after = h
+    keep_past w k p h x good fit who (Some past) q None e after = P_idle w k p h (Some who) NoFrame None
+    keep_past w k p h x good fit who (Some past) q (Some c) e after = P_called w k p h x good fit who past q c e after (out_of w k p x good fit who past q c e (founds w k p x good fit who past q c after) (hs_of w k p x good fit who past q c after) (lefts w k p x good fit who past q c after))
+
+    keep_step : (w : World) (k : ℕ) → Progress w → P w → (x : Step) → IsStep sha s x → Fit w → Suffix (k + 1) (world_after sha s w k x).log wf.log → P (world_after sha s w k x)
+    keep_step w k p h (CraftStep c) good fit after = P_idle w k p h None Crafted _
+    keep_step w k p h (StartStep who n') good fit after = keep_past w k p h (StartStep who n') good fit who (past_of w who) refl (call_of sha s w k (StartStep who n')) refl after
+    keep_step w k p h (ActStep who n' label values) good fit after = keep_past w k p h (ActStep who n' label values) good fit who (past_of w who) refl (call_of sha s w k (ActStep who n' label values)) refl after
+    keep_step w k p h (AbandonStep who n') good fit after = keep_past w k p h (AbandonStep who n') good fit who (past_of w who) refl (call_of sha s w k (AbandonStep who n')) refl after
+    keep_step w k p h (DeliverStep who what) good fit after = keep_past w k p h (DeliverStep who what) good fit who (past_of w who) refl (call_of sha s w k (DeliverStep who what)) refl after
+
+    pub keep_all : (w : World) (k : ℕ) → Progress w → P w → (xs : List Step) → AllByRecursion (IsStep sha s) xs → Fit w → world_after_all sha s w k xs ≡ wf → P wf
+    keep_all w k p h [] good fit e = subst P e h
+    keep_all w k p h (x ∷ xs) good fit e =
+        let after : Suffix (k + 1) (world_after sha s w k x).log wf.log = subst (λ (z : World). Suffix (k + 1) (world_after sha s w k x).log z.log) e (suffix_all sha s (world_after sha s w k x) (k + 1) xs) in
+        keep_all (world_after sha s w k x) (k + 1) (one_step w k p x good.0 fit after) (keep_step w k p h x good.0 fit after) xs good.1 (fit_next w k x fit good.0) e

@@ -271,7 +271,7 @@ module _ (sha : Hash) (s : Schedule) (sid : List ℕ) (cast : Cast) (keys : Keyr
   }
 
   -- no item is the role's own
-  no_own : has (λ (i : Item). i.role) x.role f.items ≡ false
+  pub no_own : has (λ (i : Item). i.role) x.role f.items ≡ false
   no_own =
       let labels : map (λ (i : Item). i.label) f.items ≡ last_of (sender (shape g)) (after_last (sender (shape g)) x.role viewed.walk) =
       sym (seen_labels f.items) ∙ ap (λ (v : View). map (λ (s : Seen). s.label) v.items) (sym viewed.seen) ∙ labels-view_of g x.role viewed.walk in

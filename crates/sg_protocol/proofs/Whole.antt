@@ -11,6 +11,10 @@ use Rattle.sg_model.specs.Names.{Name}
 use Rattle.sg_protocol.specs.Graph.{Graph, IsGraph, shape, canonical, ended, variable_line, node_line, edge_line}
 use Rattle.sg_protocol.specs.Evidence.{IsViewTable}
 use Rattle.sg_protocol.specs.Frame.{Cast, Frame}
+use Rattle.sg_protocol.specs.Session.{items_of}
+use Rattle.sg_protocol.specs.LastSteps.{exchanges_of}
+use Rattle.sg_protocol.specs.Completeness.{HadAnswer}
+use Rattle.sg_protocol.proofs.Entries.{entries, Roles}
 use Rattle.sg_protocol.specs.Spelling.{HasSpelling}
 use Rattle.sg_protocol.specs.Texts.{Hash, IsHash, commitment, commitment_text_of, session_id, session_text_of, graph_text_of, graph_digest}
 use Rattle.sg_protocol.specs.Keyring.{Program}
@@ -27,7 +31,7 @@ use Rattle.sg_protocol.proofs.TextLaws.{one_item, one_body, one_frame, kinds_dif
 use Rattle.sg_model.specs.Lists.{has_text}
 use Rattle.sg_model.specs.Bytes.{IsBytes}
 use Rattle.sg_protocol.specs.TextLaws.{CastFits}
-use Rattle.sg_protocol.specs.Calls.{Event, Call, Sends}
+use Rattle.sg_protocol.specs.Calls.{Event, Call, Abandon, Sends, Abandoned}
 use Rattle.sg_protocol.specs.Acting.{answer}
 use Rattle.sg_protocol.specs.Node.{program_for}
 use Rattle.sg_law.specs.Values.{AllMay, May, moved_all, Deed, deed_of, all_openings}
@@ -267,14 +271,31 @@ module _ (sha : Hash) (hash : IsHash sha) (programs : List Program) (s : Schedul
   begins = record {
     moves = [];
     may = tt;
-    nodes = λ who p e. let r = first_past s.keys programs s.honest who p e in (subst (λ (z : Past). NodeOk sha hash s programs sid first.cast g the_program.is_graph the_program.accepted first.fits.version long first.differ prog (λ t. In (hashed s wf) t) the_cast (V.at_first (shape g)) who (node_of z)) (sym r.0) (fresh_node who), r.1);
+    nodes = λ who p e. let r = first_past s.keys programs s.honest who p e in (subst (λ (z : Past). NodeOk sha hash s programs sid first.cast g the_program.is_graph the_program.accepted first.fits.version long first.differ prog (λ t. In (hashed s wf) t) the_cast (λ who. HadAnswer wf.log who (Abandon sid) Abandoned) (V.at_first (shape g)) who (node_of z)) (sym r.0) (fresh_node who), r.1);
     noted = λ l nt i j. absurd i;
     events = refl;
     typed = tt;
     used = tt;
+    told = λ who p e r is l. let f = first_past s.keys programs s.honest who p e in subst (λ (z : Past). ((V.at_first (shape g)).told r ≡ entries (flat_map items_of (exchanges_of sid r z.calls))) × Roles (shape g) (flat_map items_of (exchanges_of sid r z.calls))) (sym f.0) (refl, tt);
+    sent = (refl, tt);
+    pasts = λ who is. has_past s.honest who is;
   }
     where
-      fresh_node : (who : Name) → NodeOk sha hash s programs sid first.cast g the_program.is_graph the_program.accepted first.fits.version long first.differ prog (λ t. In (hashed s wf) t) the_cast (V.at_first (shape g)) who (node_of (new_past s.keys programs who))
+      has_past : (names : List Name) (who : Name) → has_text who names ≡ true → (p : Past) × (find (λ (p : Past). bytes_eq p.keys.me who) (map (new_past s.keys programs) names) ≡ Some p)
+      has_past [] who h = absurd (cc)
+      has_past (n ∷ ns) who h = elim (cases_Bool (bytes_eq n who)) [
+        | inl e ↦ (new_past s.keys programs n, rw e refl)
+        | inr e ↦ (let r = has_past ns who (later (bytes_eq who n) (λ q. differs (bytes_eq n who) ((bytes_eq-Decides n who).1 (sym (same_bytes_ who n q))) e) h) in (r.0, rw e r.1))
+      ]
+        where
+          later : (b : Bool) → (b ≡ true → ⊥) → (b || has_text who ns) ≡ true → has_text who ns ≡ true
+          later true f k = absurd (f refl)
+          later false f k = k
+
+          differs : (b : Bool) → b ≡ true → b ≡ false → ⊥
+          differs b t f = absurd (cc)
+
+      fresh_node : (who : Name) → NodeOk sha hash s programs sid first.cast g the_program.is_graph the_program.accepted first.fits.version long first.differ prog (λ t. In (hashed s wf) t) the_cast (λ who. HadAnswer wf.log who (Abandon sid) Abandoned) (V.at_first (shape g)) who (node_of (new_past s.keys programs who))
       fresh_node who = record { me = refl; has_programs = refl; lengths = tt; status = inl record { alone = refl; all = λ h p l. record { none = refl; start = refl } } }
 
   finished : Prog wf
