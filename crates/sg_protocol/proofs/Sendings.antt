@@ -83,7 +83,7 @@ both_nil [] ys e = (refl, e)
 both_nil (x ∷ xs) ys e = absurd (cc)
 
 -- where a session has no event, no entry is of it
-no_entry : (sid : List ℕ) (log : List Logged) → events_of sid log ≡ [] → find (λ (l : Logged). list_any (λ e. bytes_eq (sid_of e) sid) (events_of_outcome l.outcome)) log ≡ None
+pub no_entry : (sid : List ℕ) (log : List Logged) → events_of sid log ≡ [] → find (λ (l : Logged). list_any (λ e. bytes_eq (sid_of e) sid) (events_of_outcome l.outcome)) log ≡ None
 no_entry sid [] h = refl
 no_entry sid (l ∷ ls) h =
     let p = both_nil (filter (λ e. bytes_eq (sid_of e) sid) (events_of_outcome l.outcome)) (events_of sid ls) (sym (filter-append (λ e. bytes_eq (sid_of e) sid) (events_of_outcome l.outcome) (flat_map (λ (l : Logged). events_of_outcome l.outcome) ls)) ∙ h) in

@@ -10,12 +10,17 @@ use Rattle.sg_model.specs.Values.{Opening}
 use Rattle.sg_model.specs.Names.{Name}
 use Rattle.sg_protocol.specs.Graph.{Graph, IsGraph, shape, canonical, ended, variable_line, node_line, edge_line}
 use Rattle.sg_protocol.specs.Evidence.{IsViewTable}
-use Rattle.sg_protocol.specs.Frame.{Cast, Frame}
-use Rattle.sg_protocol.specs.Session.{items_of}
-use Rattle.sg_protocol.specs.LastSteps.{exchanges_of}
+use Rattle.sg_protocol.specs.Frame.{Cast, Frame, Item}
+use Rattle.sg_protocol.specs.Session.{principal, items_of}
+use Rattle.sg_protocol.specs.LastSteps.{exchanges_of, ShowsLastSteps}
+use Rattle.sg_protocol.specs.Receipts.{IsTaken}
+use Rattle.sg_protocol.proofs.Showing.{shows}
+use Rattle.sg_model.specs.Last.{last, up_to_last}
 use Rattle.sg_protocol.specs.Completeness.{HadAnswer}
 use Rattle.sg_protocol.proofs.Entries.{entries, Roles}
 use Rattle.sg_protocol.specs.Spelling.{HasSpelling}
+use Rattle.std.specs.Prelude.{zero, suc, ◌<◌, get_or, None}
+use Rattle.std.proofs.Common.{arith}
 use Rattle.sg_protocol.specs.Texts.{Hash, IsHash, commitment, commitment_text_of, session_id, session_text_of, graph_text_of, graph_digest}
 use Rattle.sg_protocol.specs.Keyring.{Program}
 use Rattle.sg_protocol.specs.Schedule.{Schedule, honest_role, Step, DeliverStep, What, PairKey, cast_of, graph_with}
@@ -30,7 +35,7 @@ use Rattle.sg_law.specs.Values.{MayWrite}
 use Rattle.sg_protocol.proofs.TextLaws.{one_item, one_body, one_frame, kinds_differ}
 use Rattle.sg_model.specs.Lists.{has_text}
 use Rattle.sg_model.specs.Bytes.{IsBytes}
-use Rattle.sg_protocol.specs.TextLaws.{CastFits}
+use Rattle.sg_protocol.specs.TextLaws.{CastFits, OpeningFits}
 use Rattle.sg_protocol.specs.Calls.{Event, Call, Abandon, Sends, Abandoned}
 use Rattle.sg_protocol.specs.Acting.{answer}
 use Rattle.sg_protocol.specs.Node.{program_for}
@@ -38,7 +43,7 @@ use Rattle.sg_law.specs.Values.{AllMay, May, moved_all, Deed, deed_of, all_openi
 use Rattle.sg_protocol.proofs.TextLaws.{cast_fits, opening_fits}
 use Rattle.sg_protocol.proofs.Acts as C
 use Rattle.sg_protocol.specs.Past.{Past, node_of}
-use Rattle.sg_protocol.specs.World.{World, past_of, new_world, call_of, bytes_of, keyring_of}
+use Rattle.sg_protocol.specs.World.{World, Logged, past_of, new_world, call_of, bytes_of, keyring_of}
 use Rattle.sg_protocol.specs.Run.{world_after, run, events_of, cast_of_session}
 use Rattle.sg_protocol.specs.Premises.{hashed, Premises}
 use Rattle.sg_protocol.specs.IsSchedule.{IsSchedule, IsStep, AreCompiled, IsProgram, parts}
@@ -305,14 +310,14 @@ module _ (sha : Hash) (hash : IsHash sha) (programs : List Program) (s : Schedul
   abbrev commit : Commit
   commit o = commitment sha sid o
 
-  binding : Binding commit (all_openings finished.moves)
-  binding o p i j v e =
-      let a = rec_in _ (all_openings finished.moves) o finished.used (in_from_Contains (all_openings finished.moves) o i) in
-      let b = rec_in _ (all_openings finished.moves) p finished.used (in_from_Contains (all_openings finished.moves) p j) in
+  binding : (ms : List Move) → AllByRecursion (λ (o : Opening). In (hashed s wf) (commitment_text_of sid o) × OpeningFits o) (all_openings ms) → Binding commit (all_openings ms)
+  binding ms used o p i j v e =
+      let a = rec_in _ (all_openings ms) o used (in_from_Contains (all_openings ms) o i) in
+      let b = rec_in _ (all_openings ms) p used (in_from_Contains (all_openings ms) p j) in
       ap (λ (z : Opening). z.value) (one_opening sid sid o p long long a.1 b.1 (same_text_same (commitment_text_of sid o) (commitment_text_of sid p) a.0 b.0 e)).1
 
   the_walk : Followed (shape g) (honest_role s first.cast) commit finished.moves
-  the_walk = followed (shape g) (honest_role s first.cast) commit finished.moves the_program.accepted.sighted binding finished.may
+  the_walk = followed (shape g) (honest_role s first.cast) commit finished.moves the_program.accepted.sighted (binding finished.moves finished.used) finished.may
 
   found_graph : (y : Graph) × (graph_with sha s.graphs first.cast.graph ≡ Some y)
   found_graph = find_some (λ z. bytes_eq (graph_digest sha z) first.cast.graph) s.graphs g g_there ((bytes_eq-Decides (graph_digest sha g) first.cast.graph).1 (sym the_program.digest ∙ first.digest))
@@ -330,3 +335,31 @@ module _ (sha : Hash) (hash : IsHash sha) (programs : List Program) (s : Schedul
     steps = _;
     path = one_path g (honest_role s first.cast) commit finished.moves (events_of sid wf.log) the_program.is_graph the_walk finished.events finished.typed;
   }
+
+  -- an honest role is one of the cast
+  inside : (k : ℕ) → honest_role s first.cast k ≡ true → k < length first.cast.names
+  inside k h = elim (in_range first.cast.names k) [
+    | inl l ↦ l
+    | inr e ↦ absurd (let n : is_name [] ≡ true = subst (λ z. is_name z ≡ true) e (named s.honest (principal first.cast k) (and_parts (all_differ s.honest) (list_all is_name s.honest) sched.honest_names).1 h) in cc)
+  ]
+    where
+      in_range : (ts : List Name) (k : ℕ) → (k < length ts) ⊎ (get_or ts k [] ≡ [])
+      in_range [] k = inr refl
+      in_range (t ∷ ts) zero = inl (omega arith)
+      in_range (t ∷ ts) (suc k) = elim (in_range ts k) [ inl l ↦ inl (omega (arith, l)) | inr e ↦ inr e ]
+
+      named : (ts : List Name) (n : Name) → list_all is_name ts ≡ true → has_text n ts ≡ true → is_name n ≡ true
+      named [] n a h = absurd (cc)
+      named (t ∷ ts) n a h =
+          let p = and_parts (is_name t) (list_all is_name ts) a in
+          elim (cases_Bool (bytes_eq n t)) [ inl e ↦ subst (λ z. is_name z ≡ true) (sym (same_bytes_ n t e)) p.0 | inr e ↦ named ts n p.1 (rw e at h) ]
+
+  -- what a frame that was accepted last shows
+  pub last_shown : (l : Logged) (who : Name) (bs : List ℕ) (f : Frame) (y : Graph) (past : Past) → last wf.log ≡ Some l → IsTaken wf l who bs f → f.sid ≡ sid → graph_with sha s.graphs first.cast.graph ≡ Some y → past_of wf who ≡ Some past
+      → ShowsLastSteps s wf y first.cast f (up_to_last (λ (i : Item). i.role) f.receiver (flat_map items_of (exchanges_of f.sid f.receiver past.calls)))
+  last_shown l who bs f y past e t q gr its =
+      let two : Some g ≡ Some y = sym graph_is ∙ gr in
+      let same : g ≡ y = cc in
+      subst (λ z. ShowsLastSteps s wf z first.cast f (up_to_last (λ (i : Item). i.role) f.receiver (flat_map items_of (exchanges_of f.sid f.receiver past.calls)))) same
+      (shows sha hash s programs sid first.cast g the_program.is_graph the_program.accepted first.fits.version long first.differ prog wf premises.unforged the_cast Fit fit_next fit_bytes fit_sends casts_fit binding inside
+      (new_world programs s) 1 begins (λ l who bs f past e. absurd (let n : None ≡ Some l = e in cc)) s.steps (to_rec (IsStep sha s) s.steps sched.steps) fit_new refl l who bs f past e t q its)

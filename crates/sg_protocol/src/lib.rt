@@ -14,6 +14,7 @@ ghost use Rattle.sg_protocol.specs.Texts.{IsHash, real};
 ghost use Rattle.sg_protocol.specs.Headline.{Headline, SessionsFollowWalks, NoneJoinsTwice};
 ghost use Rattle.sg_protocol.specs.Isolation.{SessionsAreIsolated};
 ghost use Rattle.sg_protocol.specs.Receipts.{ReceiptsHaveSends};
+ghost use Rattle.sg_protocol.specs.LastSteps.{FramesShowLastSteps};
 
 /// What is read from the spelling of a frame is this frame, so no two frames have one spelling.
 pub fn frames_read()
@@ -53,4 +54,9 @@ pub fn headline_of_sha256()
 /// A receipt from an honest sender was given by bytes that this sender sent before.
 pub fn receipts()
     ensures { (sha : List ℕ → List ℕ) → IsHash sha → ReceiptsHaveSends sha }
+{}
+
+/// What an accepted frame shows of honest senders is the last step of each since the receiver's own, and after each of these items the receiver holds the commitments that its sender held.
+pub fn last_steps()
+    ensures { (sha : List ℕ → List ℕ) → IsHash sha → FramesShowLastSteps sha }
 {}

@@ -1,0 +1,35 @@
+-- What an accepted frame shows is what honest senders last did, in each run.
+use Rattle.sg_model.specs.Last.{up_to_last}
+use Rattle.std.specs.Prelude.{flat_map, refl, ◌≡◌, ◌≢◌, ℕ, List, [], ◌∷◌, All, Some, None, option_and_then}
+use Rattle.std.specs.List.{AllByRecursion}
+use Rattle.std.proofs.Common.{sym, ◌∙◌, ap, subst}
+use Rattle.std.proofs.lemmas.List.Elements.{All-head, All-tail}
+use Rattle.sg_protocol.specs.Frame.{Cast, Item}
+use Rattle.sg_protocol.specs.Texts.{Hash, IsHash}
+use Rattle.sg_protocol.specs.Session.{items_of}
+use Rattle.sg_protocol.specs.Schedule.{Schedule, Step, graph_with}
+use Rattle.sg_protocol.specs.World.{World, Logged}
+use Rattle.sg_protocol.specs.Run.{run, events_of, cast_in, cast_of_session}
+use Rattle.sg_protocol.specs.IsSchedule.{IsStep}
+use Rattle.sg_protocol.specs.LastSteps.{FramesShowLastSteps, ShowsLastSteps, exchanges_of}
+use Rattle.sg_protocol.proofs.First.{first_cast}
+use Rattle.sg_protocol.proofs.Whole.{FirstCast, last_shown}
+use Rattle.sg_protocol.proofs.Fits.{Fit, fit_new, fit_next, fit_bytes, fit_sends, casts_fit}
+use Rattle.sg_protocol.proofs.Sendings.{no_entry}
+
+pub frames_show_last_steps : (sha : Hash) → IsHash sha → FramesShowLastSteps sha
+frames_show_last_steps sha hash programs s who bs f l cast g past compiled sched premises e t is gr its =
+    let steps : AllByRecursion (IsStep sha s) s.steps = go sha s s.steps sched.steps in
+    let first : FirstCast sha s programs f.sid (run sha programs s) = first_cast sha hash s programs f.sid (Fit sha hash programs s compiled sched) (fit_next sha hash programs s compiled sched) (fit_bytes sha hash programs s compiled sched) (casts_fit sha hash programs s compiled sched) steps (fit_new sha hash programs s compiled sched) (some f.sid (run sha programs s).log cast is) in
+    let two : Some first.cast ≡ Some cast = sym first.is_cast ∙ is in
+    let same : first.cast ≡ cast = cc in
+    subst (λ c. ShowsLastSteps s (run sha programs s) g c f (up_to_last (λ (i : Item). i.role) f.receiver (flat_map items_of (exchanges_of f.sid f.receiver past.calls)))) same
+    (last_shown sha hash programs s compiled sched premises f.sid first (Fit sha hash programs s compiled sched) (fit_new sha hash programs s compiled sched) (fit_next sha hash programs s compiled sched) (fit_bytes sha hash programs s compiled sched) (fit_sends sha hash programs s compiled sched) (casts_fit sha hash programs s compiled sched)
+    l who bs f g past e t refl (subst (λ (c : Cast). graph_with sha s.graphs c.graph ≡ Some g) (sym same) gr) its)
+  where
+    go : (sha : Hash) (s : Schedule) (xs : List Step) → All (IsStep sha s) xs → AllByRecursion (IsStep sha s) xs
+    go sha s [] a = tt
+    go sha s (x ∷ xs) a = (All-head (IsStep sha s) x xs a, go sha s xs (All-tail (IsStep sha s) x xs a))
+
+    some : (sid : List ℕ) (log : List Logged) (cast : Cast) → cast_of_session sid log ≡ Some cast → events_of sid log ≢ []
+    some sid log cast e none = (let n : cast_of_session sid log ≡ None = ap (option_and_then (λ (l : Logged). option_and_then cast_in l.call)) (no_entry sid log none) in absurd (cc))
