@@ -62,7 +62,7 @@ picks-same : {A : Type 0} (a b : Map A) (k j : ℕ) → ((x : ℕ) → x < k + j
 picks-same a b k zero h = refl
 picks-same a b k (suc j) h = rw (h k (omega arith)) (ap (cons_option (option_map (λ v. (k, v)) (value_at b k))) (picks-same a b (suc k) j (λ x l. h x (omega (arith, l)))))
 
-in_order-same : {A : Type 0} (n : ℕ) (a b : Map A) → ((x : ℕ) → x < n → value_at a x ≡ value_at b x) → in_order n a ≡ in_order n b
+pub in_order-same : {A : Type 0} (n : ℕ) (a b : Map A) → ((x : ℕ) → x < n → value_at a x ≡ value_at b x) → in_order n a ≡ in_order n b
 in_order-same n a b h = picks-same a b 0 n (λ x l. h x (omega (arith, l)))
 
 same-in_order : {A : Type 0} (n : ℕ) (a b : Map A) → in_order n a ≡ in_order n b → (x : ℕ) → x < n → value_at a x ≡ value_at b x
