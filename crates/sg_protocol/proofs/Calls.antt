@@ -19,7 +19,7 @@ use Rattle.sg_protocol.specs.Texts.{Hash, IsHash, commitment, commitment_text_of
 use Rattle.sg_protocol.specs.TextLaws.{IsVersion, CastFits, OpeningFits}
 use Rattle.sg_protocol.specs.Keyring.{Keyring, Program, targets_of}
 use Rattle.sg_protocol.specs.Session.{Session, Exchange, Took, Gave, principal, items_of, told, own, time, origin, place, at_turn, last_label, commitments, extended, new_session}
-use Rattle.sg_protocol.specs.Sending.{text_of, text_to, frame_sent}
+use Rattle.sg_protocol.specs.Sending.{text_of, text_to, frame_sent, own_item}
 use Rattle.sg_protocol.specs.Calls.{Refusal, ActFault, Event, Started, Sent, Call, Start, Act, Abandon, Deliver, Answer, Happened, Sends, Abandoned, NotStarted, NotActed, NotAbandoned, NotDelivered, StartFault, UnknownGraph, UnknownSession, NotWaiting, BadCast, BadSession, UnknownPeer, Joined, CacheFull, SessionsFull, Malformed, events_of_answer, sid_of}
 use Rattle.sg_protocol.specs.Verdict.{row, rows_of_session, is_right, seen, decided, receipt, verdict_on, rows_of_join, rows_of_next, join_rows, next_rows, rows}
 use Rattle.sg_protocol.specs.Notes.{Note, note_of, notes_in_session, notes_of_sent, Notes, notes, notes_of_start, notes_of_act, no_notes, notes_of_read, session_of_frame, hashed_of_join, hashed_openings, row_number}
@@ -98,6 +98,9 @@ one_place (t ∷ ts) (suc h) (suc k) d l m e = ap suc (one_place ts h k (and_par
 
 ok_same : (r : Result Frame ℕ) (f f' : Frame) → r ≡ Ok f → r ≡ Ok f' → f ≡ f'
 ok_same r f f' a b = cc
+
+none_some : (t : Turn) → None ≡ Some t → ⊥
+none_some t e = absurd (cc)
 
 -- pairs that are joined later
 joined_more : (js : List (List ℕ × ℕ)) (j : List ℕ × ℕ) (sid : List ℕ) (r : ℕ) → has_joined js sid r ≡ true → has_joined (js ++ j ∷ []) sid r ≡ true
@@ -232,6 +235,77 @@ module _ (sha : Hash) (hash : IsHash sha) (s : Schedule) (programs : List Progra
   quiet_took : (c : Call) (a : Answer) (f : Frame) → Quiet a → TookFrame c a f → ⊥
   quiet_took c a f q t = clash (bytes_eq f.sid sid) ((bytes_eq-Decides f.sid sid).1 t.is_sid) (of_quiet (bytes_eq f.sid sid) (subst Quiet t.is_answer q))
 
+  -- nothing became of the session
+  pub record Unmoved (n n' : Node) (a : Answer) : Type 0 where
+    pub quiet : Quiet a
+    pub same : filter (of_sid sid) n'.live ≡ filter (of_sid sid) n.live
+
+  -- the session was left
+  pub record WasLeft (who : Name) (n' : Node) (a : Answer) : Type 0 where
+    pub quiet : Quiet a
+    pub none : filter (of_sid sid) n'.live ≡ []
+    pub by : LeftBy who
+
+  -- a role started the session
+  pub record HasStarted (who : Name) (n n' : Node) (a : Answer) : Type 0 where
+    pub role : ℕ
+    pub is_answer : a ≡ Happened (Started sid role)
+    pub is_who : principal cast role ≡ who
+    pub inside : role < length cast.names
+    pub none : filter (of_sid sid) n.live ≡ []
+    pub unjoined : has_joined n.joins sid role ≡ false
+    pub now : filter (of_sid sid) n'.live ≡ still programs (new_session sid cast role)
+    pub was_joined : has_joined n'.joins sid role ≡ true
+
+  -- a role took a frame, in the session that was there or in a new one
+  pub record HasTaken (who : Name) (n n' : Node) (c : Call) (a : Answer) : Type 0 where
+    pub f : Frame
+    pub spelled : HasSpelling f
+    pub took : TookFrame c a f
+    pub x : Session
+    pub same_sid : x.sid ≡ sid
+    pub same_cast : x.cast ≡ cast
+    pub same_role : f.receiver ≡ x.role
+    pub is_who : principal cast x.role ≡ who
+    pub inside : x.role < length cast.names
+    pub wait : at_turn g x ≡ false
+    pub p : Program
+    pub is_graph : p.graph ≡ g
+    pub rows : T.Rows sha n.keys p x f
+    pub before : ((filter (of_sid sid) n.live ≡ x ∷ []) × (f.join ≡ None)) ⊎ ((filter (of_sid sid) n.live ≡ []) × (has_joined n.joins sid x.role ≡ false) × (x ≡ new_session sid cast x.role))
+    pub now : filter (of_sid sid) n'.live ≡ still programs (extended x (Took f))
+    pub was_joined : has_joined n'.joins sid x.role ≡ true
+    pub turn : at_turn g (extended x (Took f)) ≡ true
+
+  -- a role sent a step
+  pub record HasGiven (who : Name) (n n' : Node) (a : Answer) : Type 0 where
+    pub x : Session
+    pub same_sid : x.sid ≡ sid
+    pub same_cast : x.cast ≡ cast
+    pub is_who : principal cast x.role ≡ who
+    pub inside : x.role < length cast.names
+    pub p : Program
+    pub found_p : program_for programs cast.graph x.role ≡ Some p
+    pub is_graph : p.graph ≡ g
+    pub label : ℕ
+    pub values : Map Value
+    pub F : ℕ × Value → List ℕ
+    pub small : AllByRecursion (λ k. k < 256) (keys_of values)
+    pub rows : C.ActRows g x label values
+    pub item : Item
+    pub its_last : last (frame_sent sha n.keys p x label (openings_for values (map F values))).items ≡ Some item
+    pub is_entry : entry item ≡ entry (own_item sha n.keys p x label (openings_for values (map F values)))
+    pub its_role : item.role ≡ x.role
+    pub is_answer : a ≡ Sends (Sent x.sid x.role label (time x + 1) values) (principal x.cast (receiver (shape p.graph) label)) (frame_sent sha n.keys p x label (openings_for values (map F values)))
+    pub spelled : HasSpelling (frame_sent sha n.keys p x label (openings_for values (map F values)))
+    pub before : filter (of_sid sid) n.live ≡ x ∷ []
+    pub now : filter (of_sid sid) n'.live ≡ still programs (extended x (Gave item (openings_for values (map F values))))
+    pub wait : at_turn g (extended x (Gave item (openings_for values (map F values)))) ≡ false
+
+  -- what became of the session in a call
+  abbrev pub Life : Name → Node → Node → Call → Answer → Type 0
+  Life who n n' c a = Unmoved n n' a ⊎ (WasLeft who n' a ⊎ (HasStarted who n n' a ⊎ (HasTaken who n n' c a ⊎ HasGiven who n n' a)))
+
   -- what a call gives
   pub record Out (st : State) (who : Name) (n : Node) (c : Call) (a : Answer) (nts : Notes) : Type 0 where
     pub moves : List Move
@@ -246,6 +320,8 @@ module _ (sha : Hash) (hash : IsHash sha) (s : Schedule) (programs : List Progra
     pub told : (r : ℕ) → principal cast r ≡ who → r < length cast.names → ((moved_all commit st moves).told r ≡ st.told r ++ entries (told_in r c a)) × Roles (shape g) (told_in r c a)
     pub sent : ((moved_all commit st moves).world.sent ≡ st.world.sent ++ map step (sent_in a)) × Roles (shape g) (sent_in a)
     pub took : (f : Frame) → TookFrame c a f → TakesFrame who moves f
+    pub life : Life who n (node_after n c a) c a
+    pub more_joins : (r : ℕ) → has_joined n.joins sid r ≡ true → has_joined (node_after n c a).joins sid r ≡ true
 
   kept_same : (who : Name) (st : State) → Kept who st st
   kept_same who st = record { told = λ h ne. refl; world = λ h ne. refl }
@@ -326,6 +402,12 @@ module _ (sha : Hash) (hash : IsHash sha) (s : Schedule) (programs : List Progra
   is_sid : (x : Session) → x.sid ≡ sid → bytes_eq x.sid sid ≡ true
   is_sid x e = (bytes_eq-Decides x.sid sid).1 e
 
+  join_now : (n : Node) (x : Session) → n.programs ≡ programs → filter (of_sid sid) n.live ≡ [] → x.sid ≡ sid → filter (of_sid sid) (joined n x).live ≡ still programs x
+  join_now n x ps f q = filter-append (of_sid sid) n.live (still n.programs x) ∙ ap (λ l. l ++ filter (of_sid sid) (still n.programs x)) f ∙ still-own sid n.programs x (is_sid x q) ∙ ap (λ ps. still ps x) ps
+
+  goes_now : (n : Node) (x : Session) (which : Session → Bool) (now : Session → List Session) (x' : Session) → filter (of_sid sid) n.live ≡ x ∷ [] → n.programs ≡ programs → ((z : Session) → which z ≡ true → of_sid sid z ≡ true) → ((z : Session) → which z ≡ true → filter (of_sid sid) (now z) ≡ now z) → which x ≡ true → now x ≡ still n.programs x' → filter (of_sid sid) (goes_on n which now).live ≡ still programs x'
+  goes_now n x which now x' a ps own own' w e = sym (replace-own which now own own' n.live) ∙ ap (replace which now) a ∙ rw w (append-nil (now x) ∙ e ∙ ap (λ ps. still ps x') ps)
+
   -- joining, where nothing was there
   join_status : (st : State) (who : Name) (n : Node) (x : Session) → n.programs ≡ programs → filter (of_sid sid) n.live ≡ [] → Matches g sid cast st who x → Status st who (joined n x)
   join_status st who n x ps f m =
@@ -362,8 +444,8 @@ module _ (sha : Hash) (hash : IsHash sha) (s : Schedule) (programs : List Progra
   joined_other n x h = filter-append (of_sid sid) n.live (still n.programs x) ∙ ap (λ l. filter (of_sid sid) n.live ++ l) (still-other sid n.programs x h) ∙ append-nil (filter (of_sid sid) n.live)
 
   -- nothing is known of the session in this call
-  nothing : (st : State) (who : Name) (n : Node) (c : Call) (a : Answer) (nts : Notes) → NodeOk st who (node_after n c a) → flat_map acts_of_event (filter (λ e. bytes_eq (sid_of e) sid) (events_of_answer a)) ≡ [] → Quiet a → ((nt : Note) → In nts.made nt → NoteOk g sid st.log nt) → Out st who n c a nts
-  nothing st who n c a nts ok ev q md = record {
+  nothing : (st : State) (who : Name) (n : Node) (c : Call) (a : Answer) (nts : Notes) → NodeOk st who (node_after n c a) → flat_map acts_of_event (filter (λ e. bytes_eq (sid_of e) sid) (events_of_answer a)) ≡ [] → Quiet a → ((nt : Note) → In nts.made nt → NoteOk g sid st.log nt) → (filter (of_sid sid) (node_after n c a).live ≡ filter (of_sid sid) n.live) ⊎ WasLeft who (node_after n c a) a → ((r : ℕ) → has_joined n.joins sid r ≡ true → has_joined (node_after n c a).joins sid r ≡ true) → Out st who n c a nts
+  nothing st who n c a nts ok ev q md lf mj = record {
     moves = [];
     may = tt;
     node = ok;
@@ -376,6 +458,8 @@ module _ (sha : Hash) (hash : IsHash sha) (s : Schedule) (programs : List Progra
     told = λ r e l. rw (quiet_told r c a q) (sym (append-nil (st.told r)), tt);
     sent = rw (quiet_items a q) (sym (append-nil st.world.sent), tt);
     took = λ f t. absurd (quiet_took c a f q t);
+    life = elim lf [ inl e ↦ inl record { quiet = q; same = e } | inr w ↦ inr (inl w) ];
+    more_joins = mj;
   }
 
   event_other : (e : Event) → bytes_eq (sid_of e) sid ≡ false → flat_map acts_of_event (filter (λ e. bytes_eq (sid_of e) sid) (e ∷ [])) ≡ []
@@ -426,7 +510,7 @@ module _ (sha : Hash) (hash : IsHash sha) (s : Schedule) (programs : List Progra
       start_done p e hs = elim (cases_Bool (bytes_eq (session_id sha c) sid)) [
         | inl h ↦ mine h
         | inr h ↦ nothing st who n (Start c) (Happened (Started (session_id sha c) p.role)) (record { made = []; found = []; hashed = session_text_of c ∷ [] })
-            (other_joined (new_session (session_id sha c) c p.role) h (hash (session_text_of c)).0) (event_other (Started (session_id sha c) p.role) h) (quiet_event (Started (session_id sha c) p.role) h) (λ nt i. absurd i)
+            (other_joined (new_session (session_id sha c) c p.role) h (hash (session_text_of c)).0) (event_other (Started (session_id sha c) p.role) h) (quiet_event (Started (session_id sha c) p.role) h) (λ nt i. absurd i) (inl (joined_other n (new_session (session_id sha c) c p.role) h)) (λ r j. joined_more n.joins (session_id sha c, p.role) sid r j)
       ]
         where
           mine : bytes_eq (session_id sha c) sid ≡ true → Out st who n (Start c) (Happened (Started (session_id sha c) p.role)) (record { made = []; found = []; hashed = session_text_of c ∷ [] })
@@ -455,6 +539,17 @@ module _ (sha : Hash) (hash : IsHash sha) (s : Schedule) (programs : List Progra
                 told = λ r e l. start_told r;
                 sent = (sym (append-nil st.world.sent), tt);
                 took = λ f t. (let e = t.is_call in absurd (cc));
+                life = inr (inr (inl record {
+                  role = p.role;
+                  is_answer = ap (λ z. Happened (Started z p.role)) same;
+                  is_who = is_who;
+                  inside = inside;
+                  none = fresh.alone;
+                  unjoined = free;
+                  now = join_now n (new_session (session_id sha c) c p.role) ok.has_programs fresh.alone same ∙ ap (λ z. still programs (new_session z c p.role)) same ∙ ap (λ z. still programs (new_session sid z p.role)) its;
+                  was_joined = subst (λ z. has_joined (n.joins ++ (z, p.role) ∷ []) sid p.role ≡ true) (sym same) (joined_now n.joins sid p.role);
+                }));
+                more_joins = λ r j. joined_more n.joins (session_id sha c, p.role) sid r j;
               }
             where
               start_told : (r : ℕ) → (st.told r ≡ st.told r ++ entries (told_in r (Start c) (Happened (Started (session_id sha c) p.role)))) × Roles (shape g) (told_in r (Start c) (Happened (Started (session_id sha c) p.role)))
@@ -463,11 +558,11 @@ module _ (sha : Hash) (hash : IsHash sha) (s : Schedule) (programs : List Progra
       start_rows : (p : Program) (o : Option StartFault) → first_some (rows_of_start n p (session_id sha c) c) ≡ o → ((t : List ℕ) → In (notes_of_start c (started (session_id sha c) p.role o)).hashed t → Hashed t)
           → Out st who n (Start c) (started (session_id sha c) p.role o) (notes_of_start c (started (session_id sha c) p.role o))
       start_rows p None e hs = start_done p e hs
-      start_rows p (Some f) e hs = nothing st who n (Start c) (NotStarted f) (notes_of_start c (NotStarted f)) ok refl refl (λ nt i. absurd (start_made c (NotStarted f) nt i))
+      start_rows p (Some f) e hs = nothing st who n (Start c) (NotStarted f) (notes_of_start c (NotStarted f)) ok refl refl (λ nt i. absurd (start_made c (NotStarted f) nt i)) (inl refl) (λ r j. j)
 
       start_program : (o : Option Program) → let a : Answer = option_map_or (λ (p : Program). started (session_id sha c) p.role (first_some (rows_of_start n p (session_id sha c) c))) o (NotStarted StartFault.UnknownGraph) in
           ((t : List ℕ) → In (notes_of_start c a).hashed t → Hashed t) → Out st who n (Start c) a (notes_of_start c a)
-      start_program None hs = nothing st who n (Start c) (NotStarted StartFault.UnknownGraph) (notes_of_start c (NotStarted StartFault.UnknownGraph)) ok refl refl (λ nt i. absurd i)
+      start_program None hs = nothing st who n (Start c) (NotStarted StartFault.UnknownGraph) (notes_of_start c (NotStarted StartFault.UnknownGraph)) ok refl refl (λ nt i. absurd i) (inl refl) (λ r j. j)
       start_program (Some p) hs = start_rows p (first_some (rows_of_start n p (session_id sha c) c)) refl hs
 
     pub start_out : (c : Cast) → CastFits c → ((t : List ℕ) → In (notes sha n (Start c)).hashed t → Hashed t) → Out st who n (Start c) (answer sha n (Start c)) (notes sha n (Start c))
@@ -500,12 +595,26 @@ module _ (sha : Hash) (hash : IsHash sha) (s : Schedule) (programs : List Progra
         })
         mine q (inr (inr g')) = inr (inr record { alone = after q ∙ ap (replace (λ (x : Session). bytes_eq x.sid sid0) (λ x. [])) g'.alone; x = g'.x; matches = g'.matches; was_joined = g'.was_joined; why = g'.why })
 
+    abandon_life : (sid0 : List ℕ) → (sid0 ≡ sid → LeftBy who) → (filter (of_sid sid) (replace (λ (x : Session). bytes_eq x.sid sid0) (λ x. []) n.live) ≡ filter (of_sid sid) n.live) ⊎ WasLeft who (goes_on n (λ (x : Session). bytes_eq x.sid sid0) (λ x. [])) Abandoned
+    abandon_life sid0 left = elim (cases_Bool (bytes_eq sid0 sid)) [
+      | inl h ↦ inr record { quiet = refl; none = mine (same_bytes_ sid0 sid h) ok.status; by = left (same_bytes_ sid0 sid h) }
+      | inr h ↦ inl (replace-other (λ (x : Session). bytes_eq x.sid sid0) (λ x. []) (λ x e. subst (λ y. bytes_eq y sid ≡ false) (sym (same_bytes_ x.sid sid0 e)) h) (λ x e. refl) n.live)
+    ]
+      where
+        after : sid0 ≡ sid → filter (of_sid sid) (replace (λ (x : Session). bytes_eq x.sid sid0) (λ x. []) n.live) ≡ replace (λ (x : Session). bytes_eq x.sid sid0) (λ x. []) (filter (of_sid sid) n.live)
+        after q = sym (replace-own (λ (x : Session). bytes_eq x.sid sid0) (λ x. []) (λ x e. subst (λ y. bytes_eq x.sid y ≡ true) q e) (λ x e. refl) n.live)
+
+        mine : sid0 ≡ sid → Status st who n → filter (of_sid sid) (replace (λ (x : Session). bytes_eq x.sid sid0) (λ x. []) n.live) ≡ []
+        mine q (inl f) = after q ∙ ap (replace (λ (x : Session). bytes_eq x.sid sid0) (λ x. [])) f.alone
+        mine q (inr (inl h)) = after q ∙ ap (replace (λ (x : Session). bytes_eq x.sid sid0) (λ x. [])) h.alone ∙ rw ((bytes_eq-Decides (h.x).sid sid0).1 (h.matches.same_sid ∙ sym q)) refl
+        mine q (inr (inr h)) = after q ∙ ap (replace (λ (x : Session). bytes_eq x.sid sid0) (λ x. [])) h.alone
+
     pub abandon_out : (sid0 : List ℕ) → (sid0 ≡ sid → answer sha n (Abandon sid0) ≡ Abandoned → LeftBy who) → Out st who n (Abandon sid0) (answer sha n (Abandon sid0)) (notes sha n (Abandon sid0))
     abandon_out sid0 = go (session_with n.live sid0)
       where
         go : (o : Option Session) → (sid0 ≡ sid → option_map_or (λ (x : Session). Abandoned) o NotAbandoned ≡ Abandoned → LeftBy who) → Out st who n (Abandon sid0) (option_map_or (λ (x : Session). Abandoned) o NotAbandoned) (record { made = []; found = []; hashed = [] })
-        go None left = nothing st who n (Abandon sid0) NotAbandoned (record { made = []; found = []; hashed = [] }) ok refl refl (λ nt i. absurd i)
-        go (Some x) left = nothing st who n (Abandon sid0) Abandoned (record { made = []; found = []; hashed = [] }) (abandon_done sid0 (λ q. left q refl)) refl refl (λ nt i. absurd i)
+        go None left = nothing st who n (Abandon sid0) NotAbandoned (record { made = []; found = []; hashed = [] }) ok refl refl (λ nt i. absurd i) (inl refl) (λ r j. j)
+        go (Some x) left = nothing st who n (Abandon sid0) Abandoned (record { made = []; found = []; hashed = [] }) (abandon_done sid0 (λ q. left q refl)) refl refl (λ nt i. absurd i) (abandon_life sid0 (λ q. left q refl)) (λ r j. j)
 
     -- ---- a step is sent
 
@@ -605,6 +714,8 @@ module _ (sha : Hash) (hash : IsHash sha) (s : Schedule) (programs : List Progra
             by_x : sender (shape z) label ≡ x.role
             typed : list_all (is_typed_or_hidden z) (V.values_of os) ≡ true
             made : entry gi ≡ V.item_for commit st x.role label os
+            own_entry : entry gi ≡ entry (own_item sha n.keys p x label os)
+            its_role : gi.role ≡ x.role
 
           given_in : p.graph ≡ g → Matches g sid cast st who x → Given g
           given_in pg m =
@@ -620,6 +731,8 @@ module _ (sha : Hash) (hash : IsHash sha) (s : Schedule) (programs : List Progra
                 notes_ok = C.notes_ok sha hash s sid cast n.keys p x label values F st who is' acc' m' hon version long small rs spelled;
                 by_x = C.by_x sha hash s sid cast n.keys p x label values F st who is' acc' m' hon version long small rs;
                 typed = C.values_typed sha hash s sid cast n.keys p x label values F st who is' acc' m' hon version long small rs;
+                own_entry = (C.gave sha hash s sid cast n.keys p x label values F st who is' acc' m' hon version long small rs).2;
+                its_role = (C.gave sha hash s sid cast n.keys p x label values F st who is' acc' m' hon version long small rs).3;
                 made = C.entry_made sha hash s sid cast n.keys p x label values F st who is' acc' m' hon version long small rs;
               }
 
@@ -634,6 +747,7 @@ module _ (sha : Hash) (hash : IsHash sha) (s : Schedule) (programs : List Progra
               let q : sid0 ≡ sid = same_bytes_ sid0 sid h in
               let own : (z : Session) → which z ≡ true → of_sid sid z ≡ true = λ z w. subst (λ y. bytes_eq z.sid y ≡ true) q w in
               let t = the_session which own x found_x in
+              let alone_ : filter (of_sid sid) n.live ≡ x ∷ [] = (t.0).alone ∙ ap (λ z. z ∷ []) (sym t.1) in
               let m : Matches g sid cast st who x = subst (Matches g sid cast st who) (sym t.1) (t.0).matches in
               let pr = prog x.role p (subst (λ ps. program_for ps cast.graph x.role ≡ Some p) ok.has_programs (subst (λ (c : Cast). program_for n.programs c.graph x.role ≡ Some p) m.same_cast found_p)) in
               let gv : Given g = given_in pr.0 m in
@@ -659,8 +773,40 @@ module _ (sha : Hash) (hash : IsHash sha) (s : Schedule) (programs : List Progra
                     (rw (act_told gv.gi gv.its_last m.same_sid) (told_step st (moved commit st (Writes x.role label os)) who x (Gave gv.gi os) m gv.matches));
                 sent = rw (act_sent gv.gi gv.its_last m.same_sid) (ap (λ z. st.world.sent ++ V.step_of z ∷ []) (sym gv.made), (told_step st (moved commit st (Writes x.role label os)) who x (Gave gv.gi os) m gv.matches).1);
                 took = λ f t. (let e = t.is_call in absurd (cc));
+                life = inr (inr (inr (inr record {
+                  x = x;
+                  same_sid = m.same_sid;
+                  same_cast = m.same_cast;
+                  is_who = m.is_who;
+                  inside = m.inside;
+                  p = p;
+                  found_p = subst (λ ps. program_for ps cast.graph x.role ≡ Some p) ok.has_programs (subst (λ (c : Cast). program_for n.programs c.graph x.role ≡ Some p) m.same_cast found_p);
+                  is_graph = pr.0;
+                  label = label;
+                  values = values;
+                  F = F;
+                  small = small;
+                  rows = subst (λ z. C.ActRows z x label values) pr.0 (C.act_rows p x label values rows);
+                  item = gv.gi;
+                  its_last = gv.its_last;
+                  is_entry = gv.own_entry;
+                  its_role = gv.its_role;
+                  is_answer = refl;
+                  spelled = spelled;
+                  before = alone_;
+                  now = goes_now n x which now (extended x (Gave gv.gi os)) alone_ ok.has_programs own (λ z w. now_own z w (own z w)) ((bytes_eq-Decides x.sid sid0).1 x_sid) (ap (λ o. option_map_or (λ (i : Item). still n.programs (extended x (Gave i os))) o (x ∷ [])) gv.its_last);
+                  wait = no_turn_now m.is_who m.inside (extended x (Gave gv.gi os)) gv.matches (cases_Bool (at_turn g (extended x (Gave gv.gi os))));
+                })));
+                more_joins = λ r j. j;
               }
             where
+              no_turn_now : principal cast x.role ≡ who → x.role < length cast.names → (y : Session) → Matches g sid cast (moved commit st (Writes x.role label os)) who y → (at_turn g y ≡ true) ⊎ (at_turn g y ≡ false) → at_turn g y ≡ false
+              no_turn_now who_x in_x y m' (inr b) = b
+              no_turn_now who_x in_x y m' (inl a) = absurd (no_turn_law y.role (m'.turns a) (one_place cast.names y.role x.role differ m'.inside in_x (m'.is_who ∙ sym who_x)))
+                where
+                  no_turn_law : (r : ℕ) → ((moved commit st (Writes x.role label os)).world.at r).turn ≡ Some (record { node = place g y; time = time y }) → r ≡ x.role → ⊥
+                  no_turn_law r e q = none_some (record { node = place g y; time = time y }) (rw (eq-eqb r x.role q) at e)
+
               used_in : (zs : List Opening) → AllByRecursion OpeningFits zs → ((o : Opening) → In zs o → In os o) → AllByRecursion (λ (o : Opening). In (notes_of_sent n.keys p x f os).hashed (commitment_text_of sid o) × OpeningFits o) (zs ++ [])
               used_in [] a w = tt
               used_in (o ∷ zs) a w = ((subst (λ y. In (map (commitment_text_of y) os) (commitment_text_of sid o)) (sym (x_sid ∙ same_bytes_ sid0 sid h)) (in_map (commitment_text_of sid) os o (w o (inl refl))), a.0), used_in zs a.1 (λ z i. w z (inr i)))
@@ -671,9 +817,12 @@ module _ (sha : Hash) (hash : IsHash sha) (s : Schedule) (programs : List Progra
           act_done : Out st who n (Act sid0 label values (map F values)) its_answer (notes_of_sent n.keys p x f os)
           act_done = elim (cases_Bool (bytes_eq sid0 sid)) [
             | inl h ↦ act_mine h
-            | inr h ↦ nothing st who n (Act sid0 label values (map F values)) its_answer (notes_of_sent n.keys p x f os) (other h) (event_other event (ap (λ y. bytes_eq y sid) x_sid ∙ h)) (quiet_event event (ap (λ y. bytes_eq y sid) x_sid ∙ h)) (note_other x p f os x_long (ap (λ y. bytes_eq y sid) x_sid ∙ h) refl)
+            | inr h ↦ nothing st who n (Act sid0 label values (map F values)) its_answer (notes_of_sent n.keys p x f os) (other h) (event_other event (ap (λ y. bytes_eq y sid) x_sid ∙ h)) (quiet_event event (ap (λ y. bytes_eq y sid) x_sid ∙ h)) (note_other x p f os x_long (ap (λ y. bytes_eq y sid) x_sid ∙ h) refl) (inl (other_live h)) (λ r j. j)
           ]
             where
+              other_live : bytes_eq sid0 sid ≡ false → filter (of_sid sid) (replace which now n.live) ≡ filter (of_sid sid) n.live
+              other_live h = replace-other which now (λ z e. subst (λ y. bytes_eq y sid ≡ false) (sym (same_bytes_ z.sid sid0 e)) h) (λ z e. now_other z (subst (λ y. bytes_eq y sid ≡ false) (sym (same_bytes_ z.sid sid0 e)) h)) n.live
+
               other : bytes_eq sid0 sid ≡ false → NodeOk st who (goes_on n which now)
               other h = record {
                 me = ok.me;
@@ -695,7 +844,7 @@ module _ (sha : Hash) (hash : IsHash sha) (s : Schedule) (programs : List Progra
         notes_with o f = option_map_or (λ x. option_map_or (λ p. notes_of_sent n.keys p x f os) (program_for n.programs x.cast.graph x.role) no_notes) o no_notes
 
         not_acted : (fault : ActFault) → answer_act sha n sid0 label values (map F values) ≡ NotActed fault → Out st who n (Act sid0 label values (map F values)) (answer sha n (Act sid0 label values (map F values))) (notes sha n (Act sid0 label values (map F values)))
-        not_acted fault e = subst (λ a. Out st who n (Act sid0 label values (map F values)) a (notes_of_act n sid0 os a)) (sym e) (nothing st who n (Act sid0 label values (map F values)) (NotActed fault) no_notes ok refl refl (λ nt i. absurd i))
+        not_acted fault e = subst (λ a. Out st who n (Act sid0 label values (map F values)) a (notes_of_act n sid0 os a)) (sym e) (nothing st who n (Act sid0 label values (map F values)) (NotActed fault) no_notes ok refl refl (λ nt i. absurd i) (inl refl) (λ r j. j))
 
         pub act_out : ((e : Event) (to : Name) (f : Frame) → answer sha n (Act sid0 label values (map F values)) ≡ Sends e to f → HasSpelling f) → Out st who n (Act sid0 label values (map F values)) (answer sha n (Act sid0 label values (map F values))) (notes sha n (Act sid0 label values (map F values)))
         act_out spelled = by_session (session_with n.live sid0) refl
@@ -772,8 +921,12 @@ module _ (sha : Hash) (hash : IsHash sha) (s : Schedule) (programs : List Progra
 
         -- the answer to a frame that session x takes
         take_done : (bs : List ℕ) → read bs ≡ Ok f → (x : Session) (p : Program) (rs : T.Rows sha n.keys p x f) → Matches g sid cast st who x → x.sid ≡ sid → f.sid ≡ sid → f.receiver ≡ x.role → principal cast x.role ≡ who → (t : TakenAt g x)
-            → NodeOk (moved commit st (Takes x.role t.node (entries f.items) f.openings)) who (node_after n (Deliver bs) (Happened (receipt f))) → Out st who n (Deliver bs) (Happened (receipt f)) (nts_of 16 (Some (p, x)))
-        take_done bs is_read x p rs m xs fs fr is_who t node' = record {
+            → NodeOk (moved commit st (Takes x.role t.node (entries f.items) f.openings)) who (node_after n (Deliver bs) (Happened (receipt f)))
+            → at_turn g x ≡ false → p.graph ≡ g
+            → ((filter (of_sid sid) n.live ≡ x ∷ []) × (f.join ≡ None)) ⊎ ((filter (of_sid sid) n.live ≡ []) × (has_joined n.joins sid x.role ≡ false) × (x ≡ new_session sid cast x.role))
+            → filter (of_sid sid) (node_after n (Deliver bs) (Happened (receipt f))).live ≡ still programs (extended x (Took f)) → has_joined (node_after n (Deliver bs) (Happened (receipt f))).joins sid x.role ≡ true
+            → ((r : ℕ) → has_joined n.joins sid r ≡ true → has_joined (node_after n (Deliver bs) (Happened (receipt f))).joins sid r ≡ true) → Out st who n (Deliver bs) (Happened (receipt f)) (nts_of 16 (Some (p, x)))
+        take_done bs is_read x p rs m xs fs fr is_who t node' wait pg before now_ joined_ more_ = record {
           moves = Takes x.role t.node (entries f.items) f.openings ∷ [];
           may = (t.may, tt);
           node = node';
@@ -804,8 +957,32 @@ module _ (sha : Hash) (hash : IsHash sha) (s : Schedule) (programs : List Progra
               roles = (told_step st (moved commit st (Takes x.role t.node (entries f.items) f.openings)) who x (Took f) m t.matches).1;
             }
           );
+          life = inr (inr (inr (inl record {
+            f = f;
+            spelled = spelled;
+            took = record { bs = bs; is_call = refl; is_read = is_read; is_answer = refl; is_sid = fs };
+            x = x;
+            same_sid = xs;
+            same_cast = m.same_cast;
+            same_role = fr;
+            is_who = is_who;
+            inside = m.inside;
+            wait = wait;
+            p = p;
+            is_graph = pg;
+            rows = rs;
+            before = before;
+            now = now_;
+            was_joined = joined_;
+            turn = turn_now (cases_Bool (at_turn g (extended x (Took f))));
+          })));
+          more_joins = more_;
         }
           where
+            turn_now : (at_turn g (extended x (Took f)) ≡ true) ⊎ (at_turn g (extended x (Took f)) ≡ false) → at_turn g (extended x (Took f)) ≡ true
+            turn_now (inl a) = a
+            turn_now (inr b) = absurd (none_some (record { node = t.node; time = R.last_time (R.own_time (st.world.at x.role).own) (V.steps_of (entries f.items)) }) (sym (rw (eq-eqb x.role x.role refl) at (t.matches.waits b))))
+
             took_told : told_in x.role (Deliver bs) (Happened (receipt f)) ≡ f.items
             took_told = rw ((bytes_eq-Decides f.sid sid).1 fs, eq-eqb f.receiver x.role fr, is_read) (append-nil f.items)
 
@@ -841,8 +1018,16 @@ module _ (sha : Hash) (hash : IsHash sha) (s : Schedule) (programs : List Progra
             status = other_status st who n (goes_on n (is_for f) took) (replace-other (is_for f) took (λ z e. subst (λ y. bytes_eq y sid ≡ false) (sym (for_sid z e)) h) (λ z e. still-other sid n.programs (extended z (Took f)) (subst (λ y. bytes_eq y sid ≡ false) (sym (for_sid z e)) h)) n.live) (λ r j. j) ok.status;
           }
 
+          other_live : bytes_eq f.sid sid ≡ false → (o : Option Cast) → filter (of_sid sid) (nexts o).live ≡ filter (of_sid sid) n.live
+          other_live h (Some c) = joined_other n (extended (new_session f.sid c f.receiver) (Took f)) h
+          other_live h None = replace-other (is_for f) took (λ z e. subst (λ y. bytes_eq y sid ≡ false) (sym (for_sid z e)) h) (λ z e. still-other sid n.programs (extended z (Took f)) (subst (λ y. bytes_eq y sid ≡ false) (sym (for_sid z e)) h)) n.live
+
+          other_joins : (r : ℕ) → has_joined n.joins sid r ≡ true → (o : Option Cast) → has_joined (nexts o).joins sid r ≡ true
+          other_joins r j (Some c) = joined_more n.joins (f.sid, f.receiver) sid r j
+          other_joins r j None = j
+
           other_done : bytes_eq f.sid sid ≡ false → Out st who n (Deliver bs) (Happened (receipt f)) (notes_of_read sha n (Ok f))
-          other_done h = nothing st who n (Deliver bs) (Happened (receipt f)) (notes_of_read sha n (Ok f)) (subst (NodeOk st who) (sym (ap (takes_read n) is_read)) (other_node h f.join)) (event_other (receipt f) h) (quiet_event (receipt f) h) (λ nt i. absurd (no_made (row_number (first_some (rows sha n f))) (session_of_frame n f) nt i))
+          other_done h = nothing st who n (Deliver bs) (Happened (receipt f)) (notes_of_read sha n (Ok f)) (subst (NodeOk st who) (sym (ap (takes_read n) is_read)) (other_node h f.join)) (event_other (receipt f) h) (quiet_event (receipt f) h) (λ nt i. absurd (no_made (row_number (first_some (rows sha n f))) (session_of_frame n f) nt i)) (inl (ap (λ (m : Node). filter (of_sid sid) m.live) (ap (takes_read n) is_read) ∙ other_live h f.join)) (λ r j. subst (λ (m : Node). has_joined m.joins sid r ≡ true) (sym (ap (takes_read n) is_read)) (other_joins r j f.join))
 
           -- where no row holds, the notes are those of the session
           notes_are : first_some (rows sha n f) ≡ None → (y : Program × Session) → session_of_frame n f ≡ Some y → notes_of_read sha n (Ok f) ≡ nts_of 16 (Some y)
@@ -877,7 +1062,11 @@ module _ (sha : Hash) (hash : IsHash sha) (s : Schedule) (programs : List Progra
               subst (Out st who n (Deliver bs) (Happened (receipt f))) (sym nts)
               (take_done bs is_read x p rs m fs fs refl is_who t
               (subst (NodeOk (moved commit st (Takes f.receiver t.node (entries f.items) f.openings)) who) (sym (ap (takes_read n) is_read ∙ ap nexts jc))
-              (joined_ok (extended x (Took f)) (moved commit st (Takes f.receiver t.node (entries f.items) f.openings)) spelled.sid.0 (join_status (moved commit st (Takes f.receiver t.node (entries f.items) f.openings)) who n (extended x (Took f)) ok.has_programs fresh.alone t.matches))))
+              (joined_ok (extended x (Took f)) (moved commit st (Takes f.receiver t.node (entries f.items) f.openings)) spelled.sid.0 (join_status (moved commit st (Takes f.receiver t.node (entries f.items) f.openings)) who n (extended x (Took f)) ok.has_programs fresh.alone t.matches)))
+              wait pr.0 (inr (fresh.alone, free, ap (λ z. new_session z c f.receiver) fs ∙ ap (λ z. new_session sid z f.receiver) its))
+              (ap (λ (m : Node). filter (of_sid sid) m.live) (ap (takes_read n) is_read ∙ ap nexts jc) ∙ join_now n (extended x (Took f)) ok.has_programs fresh.alone fs)
+              (subst (λ (m : Node). has_joined m.joins sid f.receiver ≡ true) (sym (ap (takes_read n) is_read ∙ ap nexts jc)) (subst (λ z. has_joined (n.joins ++ (z, f.receiver) ∷ []) sid f.receiver ≡ true) (sym fs) (joined_now n.joins sid f.receiver)))
+              (λ r j. subst (λ (m : Node). has_joined m.joins sid r ≡ true) (sym (ap (takes_read n) is_read ∙ ap nexts jc)) (joined_more n.joins (f.sid, f.receiver) sid r j)))
             where
               no_turn : (p : Program) (x : Session) → p.graph ≡ g → IsViewTable p.graph x.role p.views → T.Rows sha n.keys p x f → x.exchanges ≡ [] → at_turn g x ≡ false
               no_turn p x pg views rs none = elim (cases_Bool (at_turn g x)) [
@@ -908,7 +1097,11 @@ module _ (sha : Hash) (hash : IsHash sha) (s : Schedule) (programs : List Progra
                 has_programs = ok.has_programs;
                 lengths = replace_lengths (is_for f) took n.live (λ z l. still_lengths n.programs (extended z (Took f)) l) ok.lengths;
                 status = goes_status st who n h.0 (is_for f) took (moved commit st (Takes x.role t.node (entries f.items) f.openings)) (extended x (Took f)) ok.has_programs own (λ z w. still-own sid n.programs (extended z (Took f)) (own z w)) h.2 (ap took (sym h.1)) (ap (λ (z : Session). z.role) h.1) t.matches;
-              }))
+              })
+              wait pr.0 (inl ((h.0).alone ∙ ap (λ z. z ∷ []) (sym h.1), jn))
+              (ap (λ (m : Node). filter (of_sid sid) m.live) (ap (takes_read n) is_read ∙ ap nexts jn) ∙ goes_now n x (is_for f) took (extended x (Took f)) ((h.0).alone ∙ ap (λ z. z ∷ []) (sym h.1)) ok.has_programs own (λ z w. still-own sid n.programs (extended z (Took f)) (own z w)) (find_passes (is_for f) n.live x sx) refl)
+              (subst (λ (m : Node). has_joined m.joins sid x.role ≡ true) (sym (ap (takes_read n) is_read ∙ ap nexts jn)) (ap (λ (z : Session). has_joined n.joins sid z.role) h.1 ∙ (h.0).was_joined))
+              (λ r j. subst (λ (m : Node). has_joined m.joins sid r ≡ true) (sym (ap (takes_read n) is_read ∙ ap nexts jn)) j))
 
           join_program : first_some (rows sha n f) ≡ None → f.sid ≡ sid → (c : Cast) → f.join ≡ Some c → (o : Option Program) → program_for n.programs c.graph f.receiver ≡ o → Out st who n (Deliver bs) (Happened (receipt f)) (notes_of_read sha n (Ok f))
           join_program e fs c jc None pc = (let q : first_some (rows sha n f) ≡ Some UnknownGraph = ap (λ o. first_some (option_map_or (join_rows sha n f) o (next_rows sha n f))) jc ∙ ap (λ o. first_some (option_map_or (rows_of_join sha n f c) o (Some UnknownGraph ∷ []))) pc in absurd (cc))
@@ -933,7 +1126,7 @@ module _ (sha : Hash) (hash : IsHash sha) (s : Schedule) (programs : List Progra
           by_join e fs (Some c) j = join_program e fs c j (program_for n.programs c.graph f.receiver) refl
 
           by_rows : (o : Option Refusal) → first_some (rows sha n f) ≡ o → Out st who n (Deliver bs) (decided (receipt f) o) (notes_of_read sha n (Ok f))
-          by_rows (Some r) e = nothing st who n (Deliver bs) (NotDelivered r) (notes_of_read sha n (Ok f)) ok refl refl (λ nt i. absurd (no_made (row_number (first_some (rows sha n f))) (session_of_frame n f) nt i))
+          by_rows (Some r) e = nothing st who n (Deliver bs) (NotDelivered r) (notes_of_read sha n (Ok f)) ok refl refl (λ nt i. absurd (no_made (row_number (first_some (rows sha n f))) (session_of_frame n f) nt i)) (inl refl) (λ r j. j)
           by_rows None e = elim (cases_Bool (bytes_eq f.sid sid)) [ inl h ↦ by_join e (same_bytes_ f.sid sid h) f.join refl | inr h ↦ other_done h ]
 
       pub deliver_out : (bs : List ℕ) → IsBytes bs → ((nt : Note) → In (notes sha n (Deliver bs)).found nt → is_honest s nt.one ≡ true → is_honest s nt.two ≡ true → NoteOk g sid st.log nt) → ((t : List ℕ) → In (notes sha n (Deliver bs)).hashed t → Hashed t)
@@ -941,6 +1134,6 @@ module _ (sha : Hash) (hash : IsHash sha) (s : Schedule) (programs : List Progra
       deliver_out bs bytes founds hs = go (read bs) refl
         where
           go : (r : Result Frame ℕ) → read bs ≡ r → Out st who n (Deliver bs) (answer sha n (Deliver bs)) (notes sha n (Deliver bs))
-          go (Err at) e = subst (λ r. Out st who n (Deliver bs) (verdict_on sha n r) (notes_of_read sha n r)) (sym e) (nothing st who n (Deliver bs) (NotDelivered (Malformed at)) no_notes ok refl refl (λ nt i. absurd i))
+          go (Err at) e = subst (λ r. Out st who n (Deliver bs) (verdict_on sha n r) (notes_of_read sha n r)) (sym e) (nothing st who n (Deliver bs) (NotDelivered (Malformed at)) no_notes ok refl refl (λ nt i. absurd i) (inl refl) (λ r j. j))
           go (Ok f) e = subst (λ r. Out st who n (Deliver bs) (verdict_on sha n r) (notes_of_read sha n r)) (sym e)
               (by_rows f (read-SpellsFrame bs f bytes e).is_frame bs e (subst (λ r. (nt : Note) → In (notes_of_read sha n r).found nt → is_honest s nt.one ≡ true → is_honest s nt.two ≡ true → NoteOk g sid st.log nt) e founds) (subst (λ r. (t : List ℕ) → In (notes_of_read sha n r).hashed t → Hashed t) e hs) (first_some (rows sha n f)) refl)
