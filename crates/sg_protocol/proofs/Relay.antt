@@ -169,3 +169,298 @@ after_all k xs ys l n = Evid.after_last-append by_role k xs ys n l
 
 pub after_one : (k : ℕ) (xs : List Item) (i : Item) → (i.role == k) ≡ false → after_last by_role k (xs ++ i ∷ []) ≡ after_last by_role k xs ++ i ∷ []
 after_one k xs i ne = Upto'.after-more by_role k xs (i ∷ []) (rw ne refl)
+
+-- ---- what a role knows on a walk
+
+any-append : {A : Type 0} (p : A → Bool) (xs ys : List A) → list_any p (xs ++ ys) ≡ (list_any p xs || list_any p ys)
+any-append p [] ys = refl
+any-append p (x ∷ xs) ys = ap (λ b. p x || b) (any-append p xs ys) ∙ assoc (p x) (list_any p xs) (list_any p ys)
+  where
+    assoc : (a b c : Bool) → (a || (b || c)) ≡ ((a || b) || c)
+    assoc true b c = refl
+    assoc false b c = refl
+
+or_false : (a : Bool) → (a || false) ≡ a
+or_false true = refl
+or_false false = refl
+
+from_last-no : {A : Type 0} (p : A → Bool) (xs : List A) (y : A) → p y ≡ false → from_last p (xs ++ y ∷ []) ≡ (if list_any p xs then from_last p xs ++ y ∷ [] else [])
+from_last-no p [] y e = rw e refl
+from_last-no p (x ∷ xs) y e =
+    let a : list_any p (xs ++ y ∷ []) ≡ list_any p xs = any-append p xs (y ∷ []) ∙ ap (λ b. list_any p xs || (b || false)) e ∙ or_false (list_any p xs) in
+    let ih : from_last p (xs ++ y ∷ []) ≡ (if list_any p xs then from_last p xs ++ y ∷ [] else []) = from_last-no p xs y e in
+    elim (cases_Bool (list_any p xs)) [
+      | inl h ↦ rw (a ∙ h, h) ((rw h at ih) ∙ both (p x))
+      | inr h ↦ rw (a ∙ h, h) (elim (cases_Bool (p x)) [ inl k ↦ rw k refl | inr k ↦ rw k refl ])
+    ]
+  where
+    both : (b : Bool) → from_last p xs ++ y ∷ [] ≡ (if b || true then from_last p xs ++ y ∷ [] else [])
+    both true = refl
+    both false = refl
+
+from_last-yes : {A : Type 0} (p : A → Bool) (xs : List A) (y : A) → p y ≡ true → from_last p (xs ++ y ∷ []) ≡ y ∷ []
+from_last-yes p [] y e = rw e refl
+from_last-yes p (x ∷ xs) y e = rw (any-append p xs (y ∷ []) ∙ ap (λ b. list_any p xs || (b || false)) e ∙ right (list_any p xs)) (from_last-yes p xs y e)
+  where
+    right : (b : Bool) → (b || (true || false)) ≡ true
+    right true = refl
+    right false = refl
+
+module _ (g : Graph) (r v : ℕ) where
+  abbrev wrote : ℕ → Bool
+  wrote e = is_in v (writes g e)
+
+  pub knows_more : (w : List ℕ) (e : ℕ) → knows g r v (w ++ e ∷ []) ≡ true → learns g r v e ≡ false → (knows g r v w ≡ true) × (is_in v (writes g e) ≡ false)
+  knows_more w e k l = elim (cases_Bool (is_in v (writes g e))) [
+    | inl h ↦ absurd (clash (list_any (learns g r v) (e ∷ [])) (ap (list_any (learns g r v)) (sym (from_last-yes wrote w e h)) ∙ k) (rw l refl))
+    | inr h ↦ (old (cases_Bool (list_any wrote w)) (ap (list_any (learns g r v)) (sym (from_last-no wrote w e h)) ∙ k), h)
+  ]
+    where
+      old : (list_any wrote w ≡ true) ⊎ (list_any wrote w ≡ false) → list_any (learns g r v) (if list_any wrote w then from_last wrote w ++ e ∷ [] else []) ≡ true → knows g r v w ≡ true
+      old (inl a) q = sym (or_false (list_any (learns g r v) (from_last wrote w))) ∙ ap (λ b. list_any (learns g r v) (from_last wrote w) || (b || false)) (sym l) ∙ sym (any-append (learns g r v) (from_last wrote w) (e ∷ [])) ∙ (rw a at q)
+      old (inr a) q = absurd (let f : false ≡ true = rw a at q in cc)
+
+  pub knows_past : (w es : List ℕ) → list_any (learns g r v) es ≡ false → knows g r v (w ++ es) ≡ true → (knows g r v w ≡ true) × (list_any wrote es ≡ false)
+  knows_past w [] l k = (subst (λ z. knows g r v z ≡ true) (append-nil w) k, refl)
+  knows_past w (e ∷ es) l k =
+      let le : learns g r v e ≡ false = left (learns g r v e) (list_any (learns g r v) es) l in
+      let ls : list_any (learns g r v) es ≡ false = right (learns g r v e) (list_any (learns g r v) es) l in
+      let ih = knows_past (w ++ e ∷ []) es ls (subst (λ z. knows g r v z ≡ true) (sym (append_assoc w (e ∷ []) es)) k) in
+      let m = knows_more w e ih.0 le in
+      (m.0, rw (m.1, ih.1) refl)
+    where
+      left : (a b : Bool) → (a || b) ≡ false → a ≡ false
+      left true b h = absurd (cc)
+      left false b h = refl
+
+      right : (a b : Bool) → (a || b) ≡ false → b ≡ false
+      right true b h = absurd (cc)
+      right false b h = h
+
+  -- a role that sends none of the steps learns only from the last one
+  pub unlearned : (m : ℕ) (es : List ℕ) → Walk (shape g) m es → has (sender (shape g)) r es ≡ false → IfSome (last es) (λ e. is_in v (reads g e) ≡ false) → list_any (learns g r v) es ≡ false
+  unlearned m [] w n l = refl
+  unlearned m (e ∷ []) w n l = (let s : (sender (shape g) e == r) ≡ false = first (sender (shape g) e == r) false n in rw (s, l) (ap (λ b. b || false) (none (receiver (shape g) e == r))))
+    where
+      first : (a b : Bool) → (a || b) ≡ false → a ≡ false
+      first true b h = absurd (cc)
+      first false b h = refl
+
+      none : (b : Bool) → (b && false) ≡ false
+      none true = refl
+      none false = refl
+  unlearned m (e ∷ f ∷ es) w n l =
+      let s : (sender (shape g) e == r) ≡ false = first (sender (shape g) e == r) (has (sender (shape g)) r (f ∷ es)) n in
+      let n' : has (sender (shape g)) r (f ∷ es) ≡ false = rest (sender (shape g) e == r) (has (sender (shape g)) r (f ∷ es)) n in
+      let s' : (receiver (shape g) e == r) ≡ false = ap (λ k. role_at (shape g) k == r) (sym w.2.1) ∙ first (sender (shape g) f == r) (has (sender (shape g)) r es) n' in
+      rw (s, s') (unlearned (target (shape g) e) (f ∷ es) w.2 n' l)
+    where
+      first : (a b : Bool) → (a || b) ≡ false → a ≡ false
+      first true b h = absurd (cc)
+      first false b h = refl
+
+      rest : (a b : Bool) → (a || b) ≡ false → b ≡ false
+      rest true b h = absurd (cc)
+      rest false b h = h
+
+-- ---- openings
+
+-- an opening of a variable among openings of these variables
+opening_there : (os : List Opening) (x : ℕ) → is_in x (map (λ (o : Opening). o.variable) os) ≡ true → (o : Opening) × (opening_in os x ≡ Some o) × (o.variable ≡ x)
+opening_there [] x h = absurd (cc)
+opening_there (o ∷ os) x h = elim (cases_Bool (o.variable == x)) [
+  | inl e ↦ (o, rw e refl, eqb-true o.variable x e)
+  | inr e ↦ (let r = opening_there os x (rw e at h) in (r.0, rw e r.1, r.2))
+]
+
+opening_not : (os : List Opening) (x : ℕ) → is_in x (map (λ (o : Opening). o.variable) os) ≡ false → opening_in os x ≡ None
+opening_not [] x h = refl
+opening_not (o ∷ os) x h = elim (cases_Bool (o.variable == x)) [
+  | inl e ↦ absurd (let f : true ≡ false = rw e at h in cc)
+  | inr e ↦ rw e (opening_not os x (rw e at h))
+]
+
+opening_all : (P : Opening → Type 0) (os : List Opening) (x : ℕ) (o : Opening) → AllByRecursion P os → opening_in os x ≡ Some o → P o
+opening_all P [] x o a e = absurd (cc)
+opening_all P (z ∷ os) x o a e = elim (cases_Bool (z.variable == x)) [
+  | inl h ↦ (let f : Some z ≡ Some o = rw h at e in let q : z ≡ o = cc in subst P q a.0)
+  | inr h ↦ opening_all P os x o a.1 (rw h at e)
+]
+
+value_of_opening : (C : Opening → List ℕ) (os : List Opening) (x : ℕ) → value_at (map (λ (o : Opening). (o.variable, C o)) os) x ≡ option_map C (opening_in os x)
+value_of_opening C [] x = refl
+value_of_opening C (o ∷ os) x = elim (cases_Bool (o.variable == x)) [ inl e ↦ rw e refl | inr e ↦ rw e (value_of_opening C os x) ]
+
+value_none : {A : Type 0} (m : Map A) (x : ℕ) → is_in x (keys_of m) ≡ false → value_at m x ≡ None
+value_none [] x h = refl
+value_none (w ∷ ws) x h = elim (cases_Bool (w.0 == x)) [ inl e ↦ absurd (let f : true ≡ false = rw e at h in cc) | inr e ↦ rw e (value_none ws x (rw e at h)) ]
+
+-- items that write nothing to a variable
+pub not_committed : (g : Graph) (x : ℕ) (is : List Item) → AllByRecursion (λ (i : Item). keys_of i.delta ≡ writes g i.label) is → list_any (λ e. is_in x (writes g e)) (labels is) ≡ false → committed x is ≡ None
+not_committed g x [] k h = refl
+not_committed g x (i ∷ is) k h = elim (cases_Bool (is_in x (writes g i.label))) [
+  | inl e ↦ absurd (let f : true ≡ false = rw e at h in cc)
+  | inr e ↦ rw (not_committed g x is k.1 (rw e at h)) (value_none i.delta x (ap (is_in x) k.0 ∙ e))
+]
+
+-- ---- a session, and the steps that were taken
+
+all-cat : {A : Type 0} (P : A → Type 0) (xs ys : List A) → AllByRecursion P xs → AllByRecursion P ys → AllByRecursion P (xs ++ ys)
+all-cat P [] ys a b = b
+all-cat P (x ∷ xs) ys a b = (a.0, all-cat P xs ys a.1 b)
+
+pub all-right : {A : Type 0} (P : A → Type 0) (xs ys : List A) → AllByRecursion P (xs ++ ys) → AllByRecursion P ys
+all-right P [] ys a = a
+all-right P (x ∷ xs) ys a = all-right P xs ys a.1
+
+pub all-left : {A : Type 0} (P : A → Type 0) (xs ys : List A) → AllByRecursion P (xs ++ ys) → AllByRecursion P xs
+all-left P [] ys a = tt
+all-left P (x ∷ xs) ys a = (a.0, all-left P xs ys a.1)
+
+module _ (sha : Hash) (keys : List PairKey) (sid : List ℕ) (cast : Cast) (targets : ℕ → List ℕ) where
+  module _ (g : Graph) where
+    -- the tag of an item for a role, after the items before it
+    abbrev pub tag_said : List Item → Item → ℕ → List ℕ
+    tag_said before i t = tag_for sha (keyring_of keys (principal cast i.role)) cast t (item_text_of cast.version sid i.role t i.label i.time (commitments g (before ++ i ∷ [])))
+
+    -- each item has its tags, after the items before it
+    abbrev pub TagsOk : List Item → List Item → Type 0
+    TagsOk before [] = ⊤
+    TagsOk before (i ∷ is) = (i.tags ≡ map (λ t. (t, tag_said before i t)) (targets i.label)) × TagsOk (before ++ i ∷ []) is
+
+    pub tags-append : (before is : List Item) (i : Item) → TagsOk before is → i.tags ≡ map (λ t. (t, tag_said (before ++ is) i t)) (targets i.label) → TagsOk before (is ++ i ∷ [])
+    tags-append before [] i a e = (e ∙ ap (λ l. map (λ t. (t, tag_said l i t)) (targets i.label)) (append-nil before), tt)
+    tags-append before (j ∷ is) i a e = (a.0, tags-append (before ++ j ∷ []) is i a.1 (e ∙ ap (λ l. map (λ t. (t, tag_said l i t)) (targets i.label)) (sym (append_assoc before (j ∷ []) is))))
+
+    -- the steps are those of a walk, at rising times, and each has what its edge writes and its tags
+    pub record StepsOk (done : List Item) : Type 0 where
+      pub walk : Walk (shape g) 0 (labels done)
+      pub roles : Roles (shape g) done
+      pub delta_keys : AllByRecursion (λ (i : Item). keys_of i.delta ≡ writes g i.label) done
+      pub tags : TagsOk [] done
+      pub times : R.RisesFrom 0 (map step done)
+
+    -- an opening is of its variable's type, and of the commitment after these items
+    pub record OpensAt (past : List Item) (o : Opening) : Type 0 where
+      pub fits : committed o.variable past ≡ Some (commitment sha sid o)
+      pub kind : has_kind g o ≡ true
+
+    -- the session knows what opens the variable
+    pub record Opens (past : List Item) (x : Session) (v : ℕ) : Type 0 where
+      pub opening : Opening
+      pub is_known : known x v ≡ Some opening
+      pub variable : opening.variable ≡ v
+      pub opens : OpensAt past opening
+
+    -- the session holds the steps up to where it was
+    pub record RelayOk (done : List Item) (x : Session) : Type 0 where
+      pub past : List Item
+      pub since : List Item
+      pub parts : done ≡ past ++ since
+      pub none : has by_role x.role since ≡ false
+      pub held : reduced g (told x) ≡ reduced g past
+      pub last_own : last (own x) ≡ last (up_to_last by_role x.role past)
+      pub turn : at_turn g x ≡ true → since ≡ []
+      pub waits : at_turn g x ≡ false → IfSome (last past) (λ (i : Item). i.role ≡ x.role)
+      pub opens : (v : ℕ) → knows g x.role v (labels past) ≡ true → Opens past x v
+
+    -- a new session
+    pub relay_new : (done : List Item) (sid' : List ℕ) (c : Cast) (r : ℕ) → has by_role r done ≡ false → (at_turn g (record { sid = sid'; cast = c; role = r; exchanges = [] }) ≡ true → done ≡ []) → RelayOk done (record { sid = sid'; cast = c; role = r; exchanges = [] })
+    relay_new done sid' c r n t = record { past = []; since = done; parts = refl; none = n; held = refl; last_own = refl; turn = t; waits = λ e. tt; opens = λ v k. absurd (cc) }
+
+    -- another role's step
+    pub relay_other : (done : List Item) (x : Session) (i : Item) → RelayOk done x → (i.role == x.role) ≡ false → (at_turn g x ≡ true → ⊥) → RelayOk (done ++ i ∷ []) x
+    relay_other done x i k ne nt = record {
+      past = k.past;
+      since = k.since ++ i ∷ [];
+      parts = ap (λ l. l ++ i ∷ []) k.parts ∙ append_assoc k.past k.since (i ∷ []);
+      none = has-both x.role k.since (i ∷ []) ∙ rw (k.none, ne) refl;
+      held = k.held;
+      last_own = k.last_own;
+      turn = λ e. absurd (nt e);
+      waits = k.waits;
+      opens = k.opens;
+    }
+
+    -- where the session is at its turn, it is at the end of the walk
+    pub at_end : (done : List Item) (x : Session) → RelayOk done x → at_turn g x ≡ true → place g x ≡ end_of (shape g) 0 (labels done)
+    at_end done x k t = place_is g x k.past k.held ∙ ap (λ l. end_of (shape g) 0 (labels l)) (sym (k.parts ∙ ap (λ l. k.past ++ l) (k.turn t) ∙ append-nil k.past))
+
+    -- a frame that shows what was done since is taken
+    pub relay_takes : (done : List Item) (x : Session) (f : Frame) → StepsOk done → RelayOk done x → at_turn g x ≡ false → at_turn g (extended x (Took f)) ≡ true → f.items ≡ reduced g (after_last by_role x.role done) → has by_role x.role f.items ≡ false
+        → IfSome (last (labels done)) (λ e. map (λ (o : Opening). o.variable) f.openings ≡ reads g e) → AllByRecursion (OpensAt done) f.openings → (done ≢ []) → RelayOk done (extended x (Took f))
+    relay_takes done x f so k wt tn items no_own vars opened some = record {
+      past = done;
+      since = [];
+      parts = sym (append-nil done);
+      none = refl;
+      held = ap (reduced g) told_later ∙ ap (λ l. reduced g (told x ++ l)) (items ∙ ap (reduced g) since_is) ∙ reduced_after g (told x) k.since ∙ sym (reduced_again g (told x) k.since) ∙ ap (λ l. reduced g (l ++ k.since)) k.held ∙ reduced_again g k.past k.since ∙ ap (reduced g) (sym k.parts);
+      last_own = ap (λ l. last (up_to_last by_role x.role l)) told_later ∙ ap last (Upto'.upto-more by_role x.role (told x) f.items no_own) ∙ k.last_own ∙ ap last (sym (Upto'.upto-more by_role x.role k.past k.since k.none)) ∙ ap (λ l. last (up_to_last by_role x.role l)) (sym k.parts);
+      turn = λ e. refl;
+      waits = λ e. absurd (clash (at_turn g (extended x (Took f))) tn e);
+      opens = opens_;
+    }
+      where
+        told_later : told (extended x (Took f)) ≡ told x ++ f.items
+        told_later = flat_map-append items_of x.exchanges (Took f ∷ []) ∙ ap (λ l. told x ++ l) (append-nil f.items)
+
+        since_is : after_last by_role x.role done ≡ k.since
+        since_is = ap (after_last by_role x.role) k.parts ∙ after_all x.role k.past k.since (k.waits wt) k.none
+
+        known_is : (v : ℕ) → known (extended x (Took f)) v ≡ option_or (opening_in f.openings v) (known x v)
+        known_is v = last_opening-append v x.exchanges (Took f)
+
+        last_label_of : (e : ℕ) × (last (labels done) ≡ Some e)
+        last_label_of = go done some
+          where
+            go : (l : List Item) → l ≢ [] → (e : ℕ) × (last (labels l) ≡ Some e)
+            go [] n = absurd (n refl)
+            go (i ∷ l) n = (last_or i.label (labels l), refl)
+
+        vars_are : map (λ (o : Opening). o.variable) f.openings ≡ reads g last_label_of.0
+        vars_are = subst (λ o. IfSome o (λ e. map (λ (o : Opening). o.variable) f.openings ≡ reads g e)) last_label_of.1 vars
+
+        since_walk : Walk (shape g) (end_of (shape g) 0 (labels k.past)) (labels k.since)
+        since_walk = (walk-append (shape g) 0 (labels k.past) (labels k.since) (subst (Walk (shape g) 0) (ap labels k.parts ∙ map-append (λ (i : Item). i.label) k.past k.since) so.walk)).1
+
+        since_senders : has (sender (shape g)) x.role (labels k.since) ≡ false
+        since_senders = go k.since (all-right (λ (i : Item). i.role ≡ sender (shape g) i.label) k.past k.since (subst (Roles (shape g)) k.parts so.roles)) k.none
+          where
+            go : (is : List Item) → Roles (shape g) is → has by_role x.role is ≡ false → has (sender (shape g)) x.role (labels is) ≡ false
+            go [] r n = refl
+            go (i ∷ is) r n = elim (cases_Bool (i.role == x.role)) [
+              | inl h ↦ absurd (let q : true ≡ false = rw h at n in cc)
+              | inr h ↦ rw (ap (λ z. z == x.role) (sym r.0) ∙ h) (go is r.1 (rw h at n))
+            ]
+
+        last_unread : (v : ℕ) → is_in v (reads g last_label_of.0) ≡ false → IfSome (last (labels k.since)) (λ e. is_in v (reads g e) ≡ false)
+        last_unread v h = go (last (labels k.since)) refl
+          where
+            go : (o : Option ℕ) → last (labels k.since) ≡ o → IfSome o (λ e. is_in v (reads g e) ≡ false)
+            go None e = tt
+            go (Some e) q =
+                let l : last (labels done) ≡ Some e = ap last (ap labels k.parts ∙ map-append (λ (i : Item). i.label) k.past k.since) ∙ last-append_some (labels k.past) (labels k.since) e q in
+                let s : Some last_label_of.0 ≡ Some e = sym last_label_of.1 ∙ l in
+                let s' : last_label_of.0 ≡ e = cc in
+                subst (λ z. is_in v (reads g z) ≡ false) s' h
+
+        opens_ : (v : ℕ) → knows g x.role v (labels done) ≡ true → Opens done (extended x (Took f)) v
+        opens_ v kn = elim (cases_Bool (is_in v (reads g last_label_of.0))) [
+          | inl h ↦
+              let o = opening_there f.openings v (ap (is_in v) vars_are ∙ h) in
+              record { opening = o.0; is_known = known_is v ∙ ap (λ z. option_or z (known x v)) o.1; variable = o.2; opens = opening_all (OpensAt done) f.openings v o.0 opened o.1 }
+          | inr h ↦
+              let kp = knows_past g x.role v (labels k.past) (labels k.since) (unlearned g x.role v (end_of (shape g) 0 (labels k.past)) (labels k.since) since_walk since_senders (last_unread v h))
+                  (subst (λ z. knows g x.role v z ≡ true) (ap labels k.parts ∙ map-append (λ (i : Item). i.label) k.past k.since) kn) in
+              let old : Opens k.past x v = k.opens v kp.0 in
+              let nc : committed v k.since ≡ None = not_committed g v k.since (all-right (λ (i : Item). keys_of i.delta ≡ writes g i.label) k.past k.since (subst (AllByRecursion (λ (i : Item). keys_of i.delta ≡ writes g i.label)) k.parts so.delta_keys)) kp.1 in
+              record {
+                opening = old.opening;
+                is_known = known_is v ∙ ap (λ z. option_or z (known x v)) (opening_not f.openings v (ap (is_in v) vars_are ∙ h)) ∙ old.is_known;
+                variable = old.variable;
+                opens = record {
+                  fits = ap (λ l. committed (old.opening).variable l) k.parts ∙ committed-append (old.opening).variable k.past k.since ∙ ap (λ o. option_or o (committed (old.opening).variable k.past)) (ap (λ z. committed z k.since) old.variable ∙ nc) ∙ old.opens.fits;
+                  kind = old.opens.kind;
+                };
+              }
+        ]
