@@ -1,5 +1,5 @@
 -- A frame that has a spelling is read from it.
-use Rattle.std.specs.Prelude.{◌≡◌, ◌≢◌, ℕ, suc, ◌+◌, ◌-◌, ◌^◌, ◌<◌, ◌≤◌, ◌==◌, nat_lt, nat_le, Bool, true, false, not, ◌&&◌, ◌⊎◌, if◌then◌else◌, List, [], ◌∷◌, ◌++◌, map, length, take, replicate, codes, bytes_eq, flat_map, refl, Option, Some, None, Ok, ℤ, FitsSigned, IfSome}
+use Rattle.std.specs.Prelude.{Result, ◌≡◌, ◌≢◌, ℕ, suc, ◌+◌, ◌-◌, ◌^◌, ◌<◌, ◌≤◌, ◌==◌, nat_lt, nat_le, Bool, true, false, not, ◌&&◌, ◌⊎◌, if◌then◌else◌, List, [], ◌∷◌, ◌++◌, map, length, take, replicate, codes, bytes_eq, flat_map, refl, Option, Some, None, Ok, ℤ, FitsSigned, IfSome}
 use Rattle.std.specs.List.{AllByRecursion, concat, list_all}
 use Rattle.std.specs.Int.{Width, w8, w16, w32, w64, byte_len, from_be_bytes, cast_unsigned, cast_signed}
 use Rattle.std.specs.Str.{is_utf8}
@@ -256,15 +256,32 @@ concat-snoc : (xss : List (List ℕ)) (t : List ℕ) → concat xss ++ t ≡ con
 concat-snoc [] t = sym (append-nil t)
 concat-snoc (xs ∷ xss) t = append_assoc xs (concat xss) t ∙ ap (λ l. xs ++ l) (concat-snoc xss t)
 
+-- the version and the fields are the spelling
+fields_spelled : (f : Frame.Frame) → Spelling.spelling f ≡ (Spelling.magic f.version ++ all_of f) ++ []
+fields_spelled f = concat-snoc (Spelling.magic f.version ∷ Spelling.u8 (Spelling.join_code f.join) ∷ f.sid ∷ Spelling.u8 f.sender ∷ Spelling.u8 f.receiver ∷ Spelling.join_bytes f.join
+    ∷ Spelling.u16 (length f.items) ∷ flat_map (Spelling.item_bytes f.version) f.items
+    ∷ Spelling.u8 (length f.openings) ∷ flat_map Spelling.opening_bytes f.openings ∷ []) (take (Frame.tag_len f.version) f.tag)
+    ∙ sym (append-nil (Spelling.magic f.version ++ all_of f))
+
+reads-spelling : (f : Frame.Frame) → Spelling.HasSpelling f → Reads (Reading.after Reading.read_version Reading.read_frame_of) (Spelling.magic f.version ++ all_of f) f
+reads-spelling f h = reads-after Reading.read_version Reading.read_frame_of (Spelling.magic f.version) (all_of f) f.version f (reads-version f.version h.version) (reads-frame f h)
+
 -- a frame that has a spelling is what is read from it
 pub read-spelling : (f : Frame.Frame) → Spelling.HasSpelling f → Reading.read (Spelling.spelling f) ≡ Ok f
 read-spelling f h =
     rw (le-ltb 60000 (length (Spelling.spelling f)) h.short) (
-    ap (λ bs. Reading.whole (Reading.after Reading.read_version Reading.read_frame_of 0 bs)) spelled
-    ∙ ap Reading.whole ((reads-after Reading.read_version Reading.read_frame_of (Spelling.magic f.version) (all_of f) f.version f (reads-version f.version h.version) (reads-frame f h)).go 0 []))
+    ap (λ bs. Reading.whole (Reading.after Reading.read_version Reading.read_frame_of 0 bs)) (fields_spelled f)
+    ∙ ap Reading.whole ((reads-spelling f h).go 0 []))
+
+-- a spelling is the beginning of no other
+pub spelling-alone : (f g : Frame.Frame) (rest : List ℕ) → Spelling.HasSpelling f → Spelling.HasSpelling g → Spelling.spelling f ++ rest ≡ Spelling.spelling g → rest ≡ []
+spelling-alone f g rest h k e = left (sym ((reads-spelling f h).go 0 rest) ∙ ap (Reading.after Reading.read_version Reading.read_frame_of 0) bytes ∙ (reads-spelling g k).go 0 [])
   where
-    spelled : Spelling.spelling f ≡ (Spelling.magic f.version ++ all_of f) ++ []
-    spelled = concat-snoc (Spelling.magic f.version ∷ Spelling.u8 (Spelling.join_code f.join) ∷ f.sid ∷ Spelling.u8 f.sender ∷ Spelling.u8 f.receiver ∷ Spelling.join_bytes f.join
-        ∷ Spelling.u16 (length f.items) ∷ flat_map (Spelling.item_bytes f.version) f.items
-        ∷ Spelling.u8 (length f.openings) ∷ flat_map Spelling.opening_bytes f.openings ∷ []) (take (Frame.tag_len f.version) f.tag)
-        ∙ sym (append-nil (Spelling.magic f.version ++ all_of f))
+    bytes : (Spelling.magic f.version ++ all_of f) ++ rest ≡ (Spelling.magic g.version ++ all_of g) ++ []
+    bytes = ap (λ bs. bs ++ rest) (sym (append-nil (Spelling.magic f.version ++ all_of f)) ∙ sym (fields_spelled f)) ∙ e ∙ fields_spelled g
+
+    read_frame : Reading.Read Frame.Frame → Result (Reading.Read Frame.Frame) ℕ
+    read_frame r = Ok r
+
+    left : {a b : Reading.Read Frame.Frame} → read_frame a ≡ read_frame b → a.rest ≡ b.rest
+    left e = cc

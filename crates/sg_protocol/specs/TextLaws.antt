@@ -1,12 +1,14 @@
 -- The texts that are hashed or tagged are read back in one way only.
-use Rattle.std.specs.Prelude.{FitsSigned, ◌≡◌, ◌≢◌, ◌⊎◌, ◌<◌, ◌^◌, ℕ, List, [], length, Option, IfSome}
+use Rattle.std.specs.Prelude.{FitsSigned, ◌≡◌, ◌≢◌, ◌⊎◌, ◌<◌, ◌^◌, ℕ, List, [], ◌∷◌, ◌++◌, length, Option, IfSome}
 use Rattle.std.specs.List.{AllByRecursion}
 use Rattle.std.specs.Int.{w64}
 use Rattle.sg_protocol.specs.Graph.{Graph, IsGraph, canonical}
 use Rattle.sg_model.specs.Values.{Value, IntValue, TextValue, Opening}
-use Rattle.sg_protocol.specs.Frame.{Cast, Frame}
+use Rattle.sg_protocol.specs.Frame.{Cast, Frame, Item}
 use Rattle.sg_protocol.specs.Spelling.{HasSpelling, body}
 use Rattle.sg_protocol.specs.Texts.{graph_text_of, session_text_of, commitment_text_of, item_text_of, frame_text_of}
+use Rattle.sg_protocol.specs.Session.{Session, commitments}
+use Rattle.sg_protocol.specs.Sending.{text_to}
 
 -- ---- ranges: what a text does not say itself
 
@@ -42,6 +44,19 @@ pub record ItemFits (v : ℕ) (s : List ℕ) (l i : ℕ) (h : List (Option (List
   pub time : i < 2 ^ 32
   pub held : AreHeld h
 
+-- each new commitment has 32 bytes
+abbrev pub DeltaFits : Item → Type 0
+DeltaFits i = AllByRecursion (λ (d : ℕ × List ℕ). length d.1 ≡ 32) i.delta
+
+-- a session, and an item after others, of which the text to a role can be read
+pub record TextFits (s : Session) (before : List Item) (i : Item) : Type 0 where
+  pub version : IsVersion s.cast.version
+  pub sid : length s.sid ≡ 32
+  pub label : i.label < 2 ^ 16
+  pub time : i.time < 2 ^ 32
+  pub before_fits : AllByRecursion DeltaFits before
+  pub item_fits : DeltaFits i
+
 -- the frame, with no tag
 abbrev pub untagged : Frame → Frame
 untagged f = record { version = f.version; sid = f.sid; sender = f.sender; receiver = f.receiver; join = f.join; items = f.items; openings = f.openings; tag = [] }
@@ -70,6 +85,11 @@ pub record SameItem (v w : ℕ) (s t : List ℕ) (from_v from_w to_v to_w label_
 abbrev pub OneItem : Type 0
 OneItem = (v w : ℕ) (s t : List ℕ) (a b c d l m i j : ℕ) (h k : List (Option (List ℕ))) → ItemFits v s l i h → ItemFits w t m j k →
     item_text_of v s a c l i h ≡ item_text_of w t b d m j k → SameItem v w s t a b c d l m i j h k
+
+-- what an item says to a role is of one session identifier, sender, target, step and list of commitments
+abbrev pub OneTextTo : Type 0
+OneTextTo = (g h : Graph) (s t : Session) (before before' : List Item) (i j : Item) (a b : ℕ) → TextFits s before i → TextFits t before' j → text_to g s before i a ≡ text_to h t before' j b →
+    SameItem s.cast.version t.cast.version s.sid t.sid i.role j.role a b i.label j.label i.time j.time (commitments g (before ++ i ∷ [])) (commitments h (before' ++ j ∷ []))
 
 -- a frame text is of one version and one text before the tag
 abbrev pub OneBody : Type 0

@@ -5,12 +5,13 @@
 //! is the law.
 #![tactic(auto)]
 
-ghost use Rattle.std.specs.Prelude.{◌≡◌, ℕ, List, Ok};
+ghost use Rattle.std.specs.Prelude.{◌≡◌, ◌++◌, ℕ, List, [], Ok};
 ghost use Rattle.sg_model.specs.Bytes.{IsBytes};
 ghost use Rattle.sg_protocol.specs.Frame.{Frame};
 ghost use Rattle.sg_protocol.specs.Spelling.{HasSpelling, SpellsFrame, spelling};
 ghost use Rattle.sg_protocol.specs.Reading.{read};
 ghost use Rattle.sg_protocol.specs.Texts.{IsHash, real};
+ghost use Rattle.sg_protocol.specs.TextLaws.{OneCast, OneOpening, OneItem, OneTextTo, OneBody, OneFrame, OneCanonical, OneGraph, KindsDiffer, VersionsDiffer};
 ghost use Rattle.sg_protocol.specs.Headline.{Headline, SessionsFollowWalks, NoneJoinsTwice};
 ghost use Rattle.sg_protocol.specs.Isolation.{SessionsAreIsolated};
 ghost use Rattle.sg_protocol.specs.Receipts.{ReceiptsHaveSends};
@@ -24,6 +25,26 @@ pub fn frames_read()
 /// Bytes from which a frame is read are the spelling of this frame.
 pub fn frames_read_back()
     ensures { (bs : List ℕ) (f : Frame) → IsBytes bs → read bs ≡ Ok f → SpellsFrame bs f }
+{}
+
+/// No spelling of a frame is the beginning of another.
+pub fn no_frame_begins_another()
+    ensures { (f g : Frame) (rest : List ℕ) → HasSpelling f → HasSpelling g → spelling f ++ rest ≡ spelling g → rest ≡ [] }
+{}
+
+/// What is hashed or tagged is read back in one way: a text is of one cast, one opening, one step and list of
+/// commitments, one frame or one graph, and texts of different kinds or versions differ.
+pub fn texts_read_back()
+    ensures casts { OneCast }
+    ensures openings { OneOpening }
+    ensures items { OneItem }
+    ensures items_of_sessions { OneTextTo }
+    ensures bodies { OneBody }
+    ensures frames { OneFrame }
+    ensures canonical_texts { OneCanonical }
+    ensures graphs { OneGraph }
+    ensures kinds { KindsDiffer }
+    ensures versions { VersionsDiffer }
 {}
 
 /// Below the limits, a node answers the calls of a session as a node would that gets no others, whatever hashes.
