@@ -2,7 +2,7 @@
 use Rattle.std.specs.Prelude.{◌≡◌, ℕ, ◌+◌, ◌==◌, ◌||◌, ◌&&◌, ◌⊎◌, Bool, true, false, cond, not, if◌then◌else◌, List, [], ◌∷◌, ◌++◌, map, flat_map, find, refl, Option, Some, None, unwrap_or, bytes_eq, Result, Ok, Err, All}
 use Rattle.std.specs.List.{list_any, list_all, AllByRecursion}
 use Rattle.std.specs.Option.{option_map_or}
-use Rattle.std.proofs.Common.{sym, subst, inl, inr}
+use Rattle.std.proofs.Common.{ap, sym, subst, inl, inr}
 use Rattle.std.proofs.lemmas.Slice.Eq.{bytes_eq-Decides}
 use Rattle.std.proofs.lemmas.Bool.{eqb-true, eq-eqb}
 use Rattle.sg_model.specs.Last.{last, Map}
@@ -18,12 +18,12 @@ use Rattle.sg_protocol.specs.Calls.{Event, Started, Received, Call, Start, Act, 
 use Rattle.sg_protocol.specs.Verdict.{row, decided, rows_of_join, rows_of_next, join_rows, next_rows, rows, receipt, verdict_on}
 use Rattle.sg_protocol.specs.Acting.{started, acted, sent, rows_of_start, rows_of_act, answer, openings_for}
 use Rattle.sg_protocol.specs.NodeAfter.{node_after, takes_read, joined, goes_on, replace, still, is_over}
-use Rattle.sg_protocol.specs.Past.{Called, Past, AreAnswers, JoinedOnce, joins_once, new_node, node_after_all, past_after}
+use Rattle.sg_protocol.specs.Past.{Called, Past, AreAnswers, joins_once, pairs_differ, JoinedOnce, new_node, node_after_all, past_after}
 use Rattle.sg_model.specs.Names.{Name}
 use Rattle.sg_protocol.specs.Schedule.{Schedule, PairKey, Step, StartStep, ActStep, AbandonStep, DeliverStep, CraftStep}
 use Rattle.sg_protocol.specs.World.{World, new_world, keyring_of, call_of, past_of}
 use Rattle.sg_protocol.specs.Run.{run, world_after, world_after_all, called_if}
-use Rattle.sg_protocol.specs.Headline.{NoneJoinsTwice}
+use Rattle.sg_protocol.specs.Headline.{NoneJoinsTwice, NodesJoinOnce}
 use Rattle.std.proofs.lemmas.List.Elements.{All-nil, All-cons}
 
 cases_Bool : (b : Bool) → (b ≡ true) ⊎ (b ≡ false)
@@ -238,20 +238,20 @@ once sha n (c ∷ cs) h a =
     (subst (λ x. joins_once (node_after n c.call x).joins (flat_map (λ c. events_of_answer c.answer) cs) ≡ true) a.0
     (once sha (node_after n c.call c.answer) cs (owns_after n c.call c.answer h) a.1)))
 
-pub joined_once : (sha : Hash) (past : Past) → AreAnswers sha (new_node past.keys past.programs past.first) past.calls → JoinedOnce past
-joined_once sha past a = once sha (new_node past.keys past.programs past.first) past.calls refl a
+pub nodes_join_once : (sha : Hash) → NodesJoinOnce sha
+nodes_join_once sha past d a = record { first = d; events = once sha (new_node past.keys past.programs past.first) past.calls refl a }
 
 -- ---- whole runs
 
 abbrev Right : Hash → Past → Type 0
-Right sha past = AreAnswers sha (new_node past.keys past.programs past.first) past.calls
+Right sha past = AreAnswers sha (new_node past.keys past.programs past.first) past.calls × (past.first ≡ [])
 
 answers_more : (sha : Hash) (n : Node) (cs : List Called) (c : Call) → AreAnswers sha n cs → AreAnswers sha n (cs ++ record { call = c; answer = answer sha (node_after_all n cs) c } ∷ [])
 answers_more sha n [] c a = (refl, tt)
 answers_more sha n (d ∷ cs) c a = (a.0, answers_more sha (node_after n d.call d.answer) cs c a.1)
 
 right_after : (sha : Hash) (past : Past) (c : Call) → Right sha past → Right sha (past_after sha past c)
-right_after sha past c a = answers_more sha (new_node past.keys past.programs past.first) past.calls c a
+right_after sha past c a = (answers_more sha (new_node past.keys past.programs past.first) past.calls c a.0, a.1)
 
 right_recorded : (sha : Hash) (who : Name) (c : Call) (ps : List Past) → AllByRecursion (Right sha) ps → AllByRecursion (Right sha) (map (λ p. if bytes_eq p.keys.me who then past_after sha p c else p) ps)
 right_recorded sha who c [] a = tt
@@ -283,11 +283,11 @@ right_all sha s w k (x ∷ xs) a = right_all sha s (world_after sha s w k x) (k 
 
 right_new : (sha : Hash) (keys : List PairKey) (programs : List Program) (names : List Name) → AllByRecursion (Right sha) (map (λ me. record { keys = keyring_of keys me; programs = programs; first = []; calls = [] }) names)
 right_new sha keys programs [] = tt
-right_new sha keys programs (n ∷ ns) = (tt, right_new sha keys programs ns)
+right_new sha keys programs (n ∷ ns) = ((tt, refl), right_new sha keys programs ns)
 
 all_once : (sha : Hash) (ps : List Past) → AllByRecursion (Right sha) ps → All JoinedOnce ps
 all_once sha [] a = All-nil JoinedOnce
-all_once sha (p ∷ ps) a = All-cons JoinedOnce p ps (joined_once sha p a.0) (all_once sha ps a.1)
+all_once sha (p ∷ ps) a = All-cons JoinedOnce p ps (nodes_join_once sha p (ap pairs_differ (a.0).1) (a.0).0) (all_once sha ps a.1)
 
 pub none_joins_twice : (sha : Hash) → NoneJoinsTwice sha
 none_joins_twice sha programs s = all_once sha (run sha programs s).pasts (right_all sha s (new_world programs s) 1 s.steps (right_new sha s.keys programs s.honest))

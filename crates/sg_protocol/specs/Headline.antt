@@ -1,10 +1,10 @@
 -- The headline: each session follows one walk, and none is joined twice.
-use Rattle.std.specs.Prelude.{◌≡◌, ◌≢◌, ℕ, List, [], Some, All}
+use Rattle.std.specs.Prelude.{◌≡◌, ◌≢◌, ℕ, List, [], Some, All, IsTrue}
 use Rattle.sg_protocol.specs.Graph.{Graph}
 use Rattle.sg_protocol.specs.Frame.{Cast}
 use Rattle.sg_protocol.specs.Texts.{Hash}
 use Rattle.sg_protocol.specs.Keyring.{Program}
-use Rattle.sg_protocol.specs.Past.{JoinedOnce}
+use Rattle.sg_protocol.specs.Past.{Past, JoinedOnce, AreAnswers, new_node, pairs_differ}
 use Rattle.sg_protocol.specs.Walk.{StoredStep, OnePath}
 use Rattle.sg_protocol.specs.Schedule.{Schedule, graph_with, honest_role}
 use Rattle.sg_protocol.specs.World.{World}
@@ -30,6 +30,10 @@ SessionsFollowWalks sha = (programs : List Program) (s : Schedule) → AreCompil
 -- No honest principal joins a session twice, whatever holds
 abbrev pub NoneJoinsTwice : Hash → Type 0
 NoneJoinsTwice sha = (programs : List Program) (s : Schedule) → All JoinedOnce (run sha programs s).pasts
+
+-- A node joins no pair twice, whatever it is asked, where the pairs that it was made with differ
+abbrev pub NodesJoinOnce : Hash → Type 0
+NodesJoinOnce sha = (past : Past) → IsTrue (pairs_differ past.first) → AreAnswers sha (new_node past.keys past.programs past.first) past.calls → JoinedOnce past
 
 -- Whatever the schedule, each session follows one walk, and no honest principal joins a session twice
 abbrev pub Headline : Hash → Type 0

@@ -68,6 +68,11 @@ calls_of_session sha sid calls = filter (λ c. is_call_of sha sid c.call) calls
 
 -- ---- joined once
 
+-- the pairs are all different
+abbrev pub pairs_differ : List (List ℕ × ℕ) → Bool
+pairs_differ [] = true
+pairs_differ (j ∷ js) = not (has_joined js j.0 j.1) && pairs_differ js
+
 -- a joining event is of a new pair, and each other event of a pair that was joined before
 abbrev pub joins_once : List (List ℕ × ℕ) → List Event → Bool
 joins_once joins [] = true
@@ -76,6 +81,7 @@ joins_once joins (e ∷ es) =
     then not (has_joined joins (sid_of e) (role_of e)) && joins_once (joins ++ (sid_of e, role_of e) ∷ []) es
     else has_joined joins (sid_of e) (role_of e) && joins_once joins es
 
--- no pair was joined twice
-abbrev pub JoinedOnce : Past → Type 0
-JoinedOnce past = IsTrue (joins_once past.first (flat_map (λ c. events_of_answer c.answer) past.calls))
+-- no pair was joined twice, nor one that the node was made with, and each other event of a pair came after its join
+pub record JoinedOnce (past : Past) : Type 0 where
+  pub first : IsTrue (pairs_differ past.first)
+  pub events : IsTrue (joins_once past.first (flat_map (λ c. events_of_answer c.answer) past.calls))

@@ -12,7 +12,7 @@ ghost use Rattle.sg_protocol.specs.Spelling.{HasSpelling, SpellsFrame, spelling}
 ghost use Rattle.sg_protocol.specs.Reading.{read};
 ghost use Rattle.sg_protocol.specs.Texts.{IsHash, real};
 ghost use Rattle.sg_protocol.specs.TextLaws.{OneCast, OneOpening, OneItem, OneTextTo, OneBody, OneFrame, OneCanonical, OneGraph, KindsDiffer, VersionsDiffer};
-ghost use Rattle.sg_protocol.specs.Headline.{Headline, SessionsFollowWalks, NoneJoinsTwice};
+ghost use Rattle.sg_protocol.specs.Headline.{Headline, SessionsFollowWalks, NoneJoinsTwice, NodesJoinOnce};
 ghost use Rattle.sg_protocol.specs.Isolation.{SessionsAreIsolated};
 ghost use Rattle.sg_protocol.specs.Receipts.{ReceiptsHaveSends};
 ghost use Rattle.sg_protocol.specs.LastSteps.{FramesShowLastSteps};
@@ -52,9 +52,10 @@ pub fn sessions_isolated()
     ensures { (sha : List ℕ → List ℕ) → SessionsAreIsolated sha }
 {}
 
-/// No honest principal joins a session twice, whatever the schedule and the hash.
+/// No node joins a pair of session and role twice, and no honest principal of a run does, whatever holds.
 pub fn none_joins()
-    ensures { (sha : List ℕ → List ℕ) → NoneJoinsTwice sha }
+    ensures at_nodes { (sha : List ℕ → List ℕ) → NodesJoinOnce sha }
+    ensures in_runs { (sha : List ℕ → List ℕ) → NoneJoinsTwice sha }
 {}
 
 /// Where the premises hold, each session follows one walk.

@@ -1,6 +1,6 @@
--- The law of joins.
-use Rattle.sg_protocol.proofs.Joins.{none_joins_twice}
+-- The laws of joins.
+use Rattle.sg_protocol.proofs.Joins.{nodes_join_once, none_joins_twice}
 use Rattle.sg_protocol.proofs.none_joins.Goals as goal
 
 pub returns : goal.returns
-returns c = none_joins_twice
+returns c = record { at_nodes = nodes_join_once; in_runs = none_joins_twice }
