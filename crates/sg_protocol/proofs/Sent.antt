@@ -439,7 +439,7 @@ cut_tag v (inr e) t h = subst (λ v. IsTag v (cut v t)) (sym e) record {
 
 -- ---- edges
 
-ends_in : (N : ℕ) (es : List Edge) → All (λ (e : Edge). (e.source < N) × (e.target < N)) es → (k : ℕ) → k < length es → let a : Arrow = get_or (map (λ (e : Edge). record { source = e.source; target = e.target; writes = e.writes; reads = e.reads }) es) k (record { source = 0; target = 0; writes = []; reads = [] }) in (a.source < N) × (a.target < N)
+pub ends_in : (N : ℕ) (es : List Edge) → All (λ (e : Edge). (e.source < N) × (e.target < N)) es → (k : ℕ) → k < length es → let a : Arrow = get_or (map (λ (e : Edge). record { source = e.source; target = e.target; writes = e.writes; reads = e.reads }) es) k (record { source = 0; target = 0; writes = []; reads = [] }) in (a.source < N) × (a.target < N)
 ends_in N [] a k l = absurd (omega arith)
 ends_in N (e ∷ es) a zero l = All-head (λ (e : Edge). (e.source < N) × (e.target < N)) e es a
 ends_in N (e ∷ es) a (suc k) l = ends_in N es (All-tail (λ (e : Edge). (e.source < N) × (e.target < N)) e es a) k (omega arith)

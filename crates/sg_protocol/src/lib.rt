@@ -12,6 +12,7 @@ ghost use Rattle.sg_protocol.specs.Spelling.{HasSpelling, SpellsFrame, spelling}
 ghost use Rattle.sg_protocol.specs.Reading.{read};
 ghost use Rattle.sg_protocol.specs.Texts.{IsHash, real};
 ghost use Rattle.sg_protocol.specs.TextLaws.{OneCast, OneOpening, OneItem, OneTextTo, OneBody, OneFrame, OneCanonical, OneGraph, KindsDiffer, VersionsDiffer};
+ghost use Rattle.sg_protocol.specs.Returns.{TablesShowReturns};
 ghost use Rattle.sg_protocol.specs.Headline.{Headline, SessionsFollowWalks, NoneJoinsTwice, NodesJoinOnce};
 ghost use Rattle.sg_protocol.specs.Isolation.{SessionsAreIsolated};
 ghost use Rattle.sg_protocol.specs.Receipts.{ReceiptsHaveSends};
@@ -45,6 +46,11 @@ pub fn texts_read_back()
     ensures graphs { OneGraph }
     ensures kinds { KindsDiffer }
     ensures versions { VersionsDiffer }
+{}
+
+/// A waiting session is over exactly where no walk from the end of its own last step leads to a node of its role.
+pub fn tables_show_returns()
+    ensures { (sha : List ℕ → List ℕ) → TablesShowReturns sha }
 {}
 
 /// Below the limits, a node answers the calls of a session as a node would that gets no others, whatever hashes.
