@@ -1,2 +1,3 @@
 pub mod LastOf
+pub mod Evidence
 pub mod Walks

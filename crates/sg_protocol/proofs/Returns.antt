@@ -1,9 +1,9 @@
 -- A role that waits comes to a node again exactly where its table has a view from its own last label.
-use Rattle.std.specs.Prelude.{◌≡◌, ◌≢◌, ℕ, ◌<◌, ◌==◌, ◌||◌, ◌⊎◌, Bool, true, false, List, [], ◌∷◌, ◌++◌, length, refl, Option, Some, None, Contains, Any, IsTrue, ◌↔◌}
+use Rattle.std.specs.Prelude.{◌≡◌, ◌≢◌, ℕ, ◌<◌, ◌==◌, ◌||◌, Bool, true, false, List, [], ◌∷◌, ◌++◌, length, refl, Option, Some, None, Contains, Any, IsTrue, ◌↔◌}
 use Rattle.std.proofs.Common.{sym, ◌∙◌, ap, subst, inl, inr, arith}
-use Rattle.std.proofs.lemmas.Bool.{cases_Bool, eqb-true, eq-eqb, or_parts}
+use Rattle.std.proofs.lemmas.Bool.{cases_Bool, eqb-true, eq-eqb}
 use Rattle.std.proofs.lemmas.List.Folds.{list_any-from_Any, Any-from_list_any}
-use Rattle.sg_model.specs.Last.{has, last, last_or, up_to_last, after_last}
+use Rattle.sg_model.specs.Last.{has, last, up_to_last, after_last}
 use Rattle.sg_model.specs.Shape.{Shape, Walk, end_of, role_at, source, sender, target}
 use Rattle.sg_model.proofs.LastOf.{has-append, eqb_same}
 use Rattle.sg_law.proofs.Walks.{walk-append, walk_join, end_of-append, end_of_same}
@@ -87,8 +87,7 @@ module _ (sha : Hash) (p : Program) (e : ℕ) (is : IsProgram sha p) (edge : e <
   return_seen r =
       let there : Reached p.graph (source g e) = is.accepted.all_reached (source g e) (source_in p.graph is.is_graph e edge) in
       let on : ToTurn g (target g e) p.role = to_turn g (target g e) p.role r.0 r.1 r.2 in
-      let walk : List ℕ = there.0 ++ e ∷ on.walk in
-      (
+      let walk : List ℕ = there.0 ++ e ∷ on.walk in (
         view_of p.graph p.role walk,
         record {
           walk = walk;
