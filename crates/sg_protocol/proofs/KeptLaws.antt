@@ -10,6 +10,7 @@ use Rattle.sg_model.specs.Lists.{range_from, value_at, in_order}
 use Rattle.sg_protocol.specs.Graph.{Graph}
 use Rattle.sg_protocol.specs.Frame.{Item}
 use Rattle.sg_protocol.specs.Sending.{entry_of, item_of, shown_to, tags_left}
+use Rattle.sg_protocol.specs.Kept.{kept_items}
 
 cases_Bool : (b : Bool) → (b ≡ true) ⊎ (b ≡ false)
 cases_Bool true = inl refl
@@ -174,10 +175,6 @@ module _ (g : Graph) where
   again-near [] = refl
   again-near (x ∷ xs) = ap (λ m. record (x.step) { delta = m } ∷ map (item_of g) (map entry_of (map (item_of g) xs))) (in_order-in_order (length g.variables) x.writes)
       ∙ ap (λ l. item_of g x ∷ l) (again-near xs)
-
--- the last item of each role, as it is kept
-abbrev pub kept_items : Graph → List Item → List Item
-kept_items g items = map (item_of g) (evidence (λ i. i.role) (map entry_of items))
 
 -- from the two laws of evidence
 module _ (again : (xs ys : List E) → evidence (λ (i : Item). i.role) (evidence (λ (i : Item). i.role) xs ++ ys) ≡ evidence (λ (i : Item). i.role) (xs ++ ys))

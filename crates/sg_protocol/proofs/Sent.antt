@@ -449,7 +449,7 @@ role_in R [] a k l = absurd (omega arith)
 role_in R (n ∷ ns) a zero l = All-head (λ (n : G.Node). n.role < R) n ns a
 role_in R (n ∷ ns) a (suc k) l = role_in R ns (All-tail (λ (n : G.Node). n.role < R) n ns a) k (omega arith)
 
-reads_in : (N : ℕ) (es : List Edge) → All (λ (e : Edge). AreNumbers N e.writes × AreNumbers N e.reads) es → (k : ℕ) → let a : Arrow = get_or (map (λ (e : Edge). record { source = e.source; target = e.target; writes = e.writes; reads = e.reads }) es) k (record { source = 0; target = 0; writes = []; reads = [] }) in (rises_from 0 a.reads ≡ true) × Below N a.reads
+pub reads_in : (N : ℕ) (es : List Edge) → All (λ (e : Edge). AreNumbers N e.writes × AreNumbers N e.reads) es → (k : ℕ) → let a : Arrow = get_or (map (λ (e : Edge). record { source = e.source; target = e.target; writes = e.writes; reads = e.reads }) es) k (record { source = 0; target = 0; writes = []; reads = [] }) in (rises_from 0 a.reads ≡ true) × Below N a.reads
 reads_in N [] a k = (refl, tt)
 reads_in N (e ∷ es) a zero = let h = (All-head (λ (e : Edge). AreNumbers N e.writes × AreNumbers N e.reads) e es a).1 in let p = and_parts (rises_from 0 e.reads) (list_all (λ k. nat_lt k N) e.reads) h in (p.0, below_all N e.reads p.1)
   where

@@ -8,7 +8,11 @@ use Rattle.sg_protocol.specs.Frame.{Item}
 use Rattle.sg_protocol.specs.Session.{Session, told, origin, own_time, time, place, commitments, known}
 use Rattle.sg_protocol.specs.Sending.{entry_of, item_of}
 
--- the last item of each sender with its tags, the current commitments and the openings that are known
+-- the last item of each sender with its tags, and what was written since the one before it
+abbrev pub kept_items : Graph → List Item → List Item
+kept_items g items = map (item_of g) (evidence (λ i. i.role) (map entry_of items))
+
+-- the own last label and time, the time and the place, the last item of each sender with its tags, the current commitments and the openings that are known
 pub record Kept : Type 0 where
   pub origin : Option ℕ
   pub own_time : ℕ
@@ -25,7 +29,7 @@ kept g s = record {
   own_time = own_time s;
   time = time s;
   place = place g s;
-  items = map (item_of g) (evidence (λ i. i.role) (map entry_of (told s)));
+  items = kept_items g (told s);
   commitments = commitments g (told s);
   openings = map (known s) (below (length g.variables));
 }

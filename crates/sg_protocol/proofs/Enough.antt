@@ -1,0 +1,396 @@
+-- What a role keeps is enough.
+use Rattle.std.specs.Prelude.{◌≡◌, ℕ, zero, suc, ◌+◌, ◌<◌, ◌≤◌, ◌==◌, nat_le, nat_lt, ◌||◌, ◌&&◌, ◌⊎◌, Bool, true, false, not, if◌then◌else◌, List, [], ◌∷◌, ◌++◌, map, find, position, filter_map, length, refl, Option, Some, None, option_map, unwrap_or, bytes_eq}
+use Rattle.std.specs.List.{AllByRecursion, cons_option, list_all}
+use Rattle.std.specs.Option.{option_or, option_map_or}
+use Rattle.std.proofs.Common.{sym, ◌∙◌, ap, subst, inl, inr, arith, append_assoc, append-nil}
+use Rattle.std.proofs.lemmas.Bool.{cases_Bool, eqb-true}
+use Rattle.std.proofs.lemmas.Bool.Decides.{nat_tests}
+use Rattle.sg_model.specs.Last.{Map, Entry, has, last, last_or, up_to_last, after_last, evidence}
+use Rattle.sg_model.specs.Lists.{below, range_from, first_some, same_text, value_at}
+use Rattle.sg_model.specs.Shape.{sender, receiver, target, role_at, source}
+use Rattle.sg_model.specs.Values.{Value, Opening}
+use Rattle.sg_model.proofs.Evidence.{evidence_again, evidence_since, has-evidence}
+use Rattle.sg_law.proofs.Lists.{has-append, has-map, last-append}
+use Rattle.sg_protocol.specs.Graph.{Graph, IsGraph, shape, reads}
+use Rattle.sg_protocol.specs.Evidence.{has_view}
+use Rattle.sg_protocol.specs.Frame.{Cast, Item, Frame}
+use Rattle.sg_protocol.specs.Texts.{Hash, item_text_of, commitment}
+use Rattle.sg_protocol.specs.Keyring.{Keyring, Program, targets_of}
+use Rattle.sg_protocol.specs.Session.{Session, Exchange, items_of, openings_of, told, own, own_time, time, place, origin, at_turn, last_label, committed, commitments, opening_in, last_opening, known, extended}
+use Rattle.sg_protocol.specs.Sending.{entry_of, item_of, shown_to, tag_for, plain_item, text_to, own_item, opening_of, plain_frame, text_of, frame_sent}
+use Rattle.sg_protocol.specs.Checks.{checked_texts, texts_checked, shown_commitments}
+use Rattle.sg_protocol.specs.Kept.{Kept, kept, kept_items}
+use Rattle.sg_protocol.specs.Calls.{Refusal, BadFrameTag, NoSuchView, BadTime, BadEvidence, BadOpening, ActFault, Send, NoSuchLabel, BadValues, TimeSpent}
+use Rattle.sg_protocol.specs.Verdict.{row, seen, has_frame_tag, is_shown, has_right_tags, bad_time, has_item_tag, has_kind, is_right, rows_of_session}
+use Rattle.sg_protocol.specs.Acting.{is_bad, leaves, rows_of_send, rows_of_act}
+use Rattle.sg_protocol.specs.Enough.{KeepsSame, KeptIsEnough}
+use Rattle.sg_protocol.proofs.KeptLaws.{kept-kept, shown_to-kept}
+use Rattle.sg_protocol.proofs.Moves.{and_parts, not_false, row_none, same_bytes}
+use Rattle.sg_protocol.proofs.Paths.{flat_map-append}
+use Rattle.sg_protocol.proofs.Sent.{reads_in}
+
+-- ---- lists
+
+or_in_turn : {A : Type 0} (a b c : Option A) → option_or (option_or a b) c ≡ option_or a (option_or b c)
+or_in_turn None b c = refl
+or_in_turn (Some x) b c = refl
+
+or_none : {A : Type 0} (o : Option A) → o ≡ option_or o None
+or_none None = refl
+or_none (Some x) = refl
+
+committed-append : (x : ℕ) (xs ys : List Item) → committed x (xs ++ ys) ≡ option_or (committed x ys) (committed x xs)
+committed-append x [] ys = or_none (committed x ys)
+committed-append x (i ∷ is) ys = ap (λ o. option_or o (value_at i.delta x)) (committed-append x is ys) ∙ or_in_turn (committed x ys) (committed x is) (value_at i.delta x)
+
+last_opening-append : (x : ℕ) (es fs : List Exchange) → last_opening x (es ++ fs) ≡ option_or (last_opening x fs) (last_opening x es)
+last_opening-append x [] fs = or_none (last_opening x fs)
+last_opening-append x (e ∷ es) fs = ap (λ o. option_or o (opening_in (openings_of e) x)) (last_opening-append x es fs) ∙ or_in_turn (last_opening x fs) (last_opening x es) (opening_in (openings_of e) x)
+
+-- two functions on the numbers below n
+from_range : {A : Type 0} (f h : ℕ → A) (k j : ℕ) → map f (range_from k j) ≡ map h (range_from k j) → (x : ℕ) → k ≤ x → x < k + j → f x ≡ h x
+from_range f h k zero e x a b = absurd (omega (arith, a, b))
+from_range f h k (suc j) e x a b =
+    let hd : f k ≡ h k = heads (f k) (h k) (map f (range_from (suc k) j)) (map h (range_from (suc k) j)) e in
+    let tl : map f (range_from (suc k) j) ≡ map h (range_from (suc k) j) = tails (f k) (h k) (map f (range_from (suc k) j)) (map h (range_from (suc k) j)) e in
+    elim (at_or_above k x a) [ inl q ↦ subst (λ y. f y ≡ h y) q hd | inr l ↦ from_range f h (suc k) j tl x l (omega (arith, b)) ]
+  where
+    heads : {A : Type 0} (x y : A) (xs ys : List A) → x ∷ xs ≡ y ∷ ys → x ≡ y
+    heads x y xs ys e = cc
+
+    tails : {A : Type 0} (x y : A) (xs ys : List A) → x ∷ xs ≡ y ∷ ys → xs ≡ ys
+    tails x y xs ys e = cc
+
+    at_or_above : (k x : ℕ) → k ≤ x → (k ≡ x) ⊎ (suc k ≤ x)
+    at_or_above k x h = elim (cases_Bool (nat_le (suc k) x)) [ inl e ↦ inr (grind (arith, nat_tests)) | inr e ↦ inl (grind (arith, nat_tests)) ]
+
+to_range : {A : Type 0} (f h : ℕ → A) (k j : ℕ) → ((x : ℕ) → x < k + j → f x ≡ h x) → map f (range_from k j) ≡ map h (range_from k j)
+to_range f h k zero e = refl
+to_range f h k (suc j) e = ap (λ y. y ∷ map f (range_from (suc k) j)) (e k (omega arith)) ∙ ap (λ l. h k ∷ l) (to_range f h (suc k) j (λ x l. e x (omega (arith, l))))
+
+map_all : {A B : Type 0} (f h : A → B) (xs : List A) → ((x : A) → f x ≡ h x) → map f xs ≡ map h xs
+map_all f h [] e = refl
+map_all f h (x ∷ xs) e = ap (λ y. y ∷ map f xs) (e x) ∙ ap (λ l. h x ∷ l) (map_all f h xs e)
+
+find_same : {A : Type 0} (p q : A → Bool) (xs : List A) → AllByRecursion (λ x. p x ≡ q x) xs → find p xs ≡ find q xs
+find_same p q [] a = refl
+find_same p q (x ∷ xs) a = elim (cases_Bool (q x)) [ inl e ↦ rw (a.0 ∙ e, e) refl | inr e ↦ rw (a.0 ∙ e, e) (find_same p q xs a.1) ]
+
+filter_map_below : {A : Type 0} (n : ℕ) (f h : ℕ → Option A) (xs : List ℕ) → AllByRecursion (λ x. x < n) xs → ((x : ℕ) → x < n → f x ≡ h x) → filter_map f xs ≡ filter_map h xs
+filter_map_below n f h [] a e = refl
+filter_map_below n f h (x ∷ xs) a e = ap (λ o. cons_option o (filter_map f xs)) (e x a.0) ∙ ap (cons_option (h x)) (filter_map_below n f h xs a.1 e)
+
+up_free : {A : Type 0} (key : A → ℕ) (k : ℕ) (ys : List A) → has key k ys ≡ false → up_to_last key k ys ≡ []
+up_free key k [] h = refl
+up_free key k (y ∷ ys) h =
+    elim (cases_Bool (key y == k)) [
+      | inl e ↦ absurd (clash (rw e at h))
+      | inr e ↦ (let f : has key k ys ≡ false = rw e at h in rw (f, e) refl)
+    ]
+  where
+    clash : true ≡ false → ⊥
+    clash e = cc
+
+up_later : {A : Type 0} (key : A → ℕ) (k : ℕ) (xs ys : List A) → has key k ys ≡ true → up_to_last key k (xs ++ ys) ≡ xs ++ up_to_last key k ys
+up_later key k [] ys h = refl
+up_later key k (x ∷ xs) ys h = rw (has-append key k xs ys ∙ ap (λ b. has key k xs || b) h ∙ or_true (has key k xs)) (ap (λ l. x ∷ l) (up_later key k xs ys h))
+  where
+    or_true : (b : Bool) → (b || true) ≡ true
+    or_true true = refl
+    or_true false = refl
+
+up_before : {A : Type 0} (key : A → ℕ) (k : ℕ) (xs ys : List A) → has key k ys ≡ false → up_to_last key k (xs ++ ys) ≡ up_to_last key k xs
+up_before key k [] ys h = up_free key k ys h
+up_before key k (x ∷ xs) ys h =
+    rw (has-append key k xs ys ∙ ap (λ b. has key k xs || b) h ∙ or_false (has key k xs)) (
+    elim (cases_Bool (has key k xs)) [
+      | inl e ↦ rw e (ap (λ l. x ∷ l) (up_before key k xs ys h))
+      | inr e ↦ rw e refl
+    ])
+  where
+    or_false : (b : Bool) → (b || false) ≡ b
+    or_false true = refl
+    or_false false = refl
+
+up_some : {A : Type 0} (key : A → ℕ) (k : ℕ) (ys : List A) → has key k ys ≡ true → (z : A) × (zs : List A) × (up_to_last key k ys ≡ z ∷ zs)
+up_some key k [] h = absurd (clash h)
+  where
+    clash : false ≡ true → ⊥
+    clash e = cc
+up_some key k (y ∷ ys) h =
+    elim (cases_Bool (has key k ys)) [
+      | inl e ↦ (y, up_to_last key k ys, rw e refl)
+      | inr e ↦ (y, [], rw (e, first (key y == k) (has key k ys) h e) refl)
+    ]
+  where
+    first : (a b : Bool) → (a || b) ≡ true → b ≡ false → a ≡ true
+    first true b h e = refl
+    first false b h e = absurd (clash (sym h ∙ e))
+      where
+        clash : true ≡ false → ⊥
+        clash e = cc
+
+-- what is said of the last element is said after both lists went on
+last_same : {A X : Type 0} (F : Option A → X) (xs ys more : List A) → F (last xs) ≡ F (last ys) → F (last (xs ++ more)) ≡ F (last (ys ++ more))
+last_same F xs ys [] e = ap (λ l. F (last l)) (append-nil xs) ∙ e ∙ sym (ap (λ l. F (last l)) (append-nil ys))
+last_same F xs ys (z ∷ zs) e = ap F (last-append xs z zs) ∙ sym (ap F (last-append ys z zs))
+
+up_same : {A X : Type 0} (F : Option A → X) (key : A → ℕ) (k : ℕ) (xs ys more : List A) → F (last (up_to_last key k xs)) ≡ F (last (up_to_last key k ys)) → F (last (up_to_last key k (xs ++ more))) ≡ F (last (up_to_last key k (ys ++ more)))
+up_same F key k xs ys more e =
+    elim (cases_Bool (has key k more)) [
+      | inl h ↦ (let z = up_some key k more h in
+          ap (λ l. F (last l)) (up_later key k xs more h ∙ ap (λ l. xs ++ l) z.2) ∙ ap F (last-append xs z.0 z.1)
+          ∙ sym (ap (λ l. F (last l)) (up_later key k ys more h ∙ ap (λ l. ys ++ l) z.2) ∙ ap F (last-append ys z.0 z.1)))
+      | inr h ↦ ap (λ l. F (last l)) (up_before key k xs more h) ∙ e ∙ sym (ap (λ l. F (last l)) (up_before key k ys more h))
+    ]
+
+has-kept : (g : Graph) (r : ℕ) (items : List Item) → has (λ (i : Item). i.role) r (kept_items g items) ≡ has (λ (i : Item). i.role) r items
+has-kept g r items =
+    has-map (item_of g) (λ (i : Item). i.role) r (evidence (λ (i : Item). i.role) (map entry_of items))
+    ∙ has-evidence (λ (i : Item). i.role) r (map entry_of items)
+    ∙ has-map entry_of (λ (e : Entry Item (List ℕ)). e.step.role) r items
+
+-- ---- two sessions of which the role keeps the same
+
+module _ (g : Graph) (s t : Session) (k : KeepsSame g s t) where
+  abbrev n : ℕ
+  n = length g.variables
+
+  abbrev by : Item → ℕ
+  by i = i.role
+
+  same_time : time s ≡ time t
+  same_time = ap (λ (z : Kept). z.time) k.kept
+
+  same_place : place g s ≡ place g t
+  same_place = ap (λ (z : Kept). z.place) k.kept
+
+  same_origin_ : origin s ≡ origin t
+  same_origin_ = ap (λ (z : Kept). z.origin) k.kept
+
+  same_own_time : own_time s ≡ own_time t
+  same_own_time = ap (λ (z : Kept). z.own_time) k.kept
+
+  same_items : kept_items g (told s) ≡ kept_items g (told t)
+  same_items = ap (λ (z : Kept). z.items) k.kept
+
+  same_committed : (x : ℕ) → x < n → committed x (told s) ≡ committed x (told t)
+  same_committed x h = from_range (λ x. committed x (told s)) (λ x. committed x (told t)) 0 n (ap (λ (z : Kept). z.commitments) k.kept) x (omega arith) (omega (arith, h))
+
+  same_known : (x : ℕ) → x < n → known s x ≡ known t x
+  same_known x h = from_range (known s) (known t) 0 n (ap (λ (z : Kept). z.openings) k.kept) x (omega arith) (omega (arith, h))
+
+  committed_more : (more : List Item) (x : ℕ) → x < n → committed x (told s ++ more) ≡ committed x (told t ++ more)
+  committed_more more x h = committed-append x (told s) more ∙ ap (option_or (committed x more)) (same_committed x h) ∙ sym (committed-append x (told t) more)
+
+  commitments_more : (more : List Item) → commitments g (told s ++ more) ≡ commitments g (told t ++ more)
+  commitments_more more = to_range (λ x. committed x (told s ++ more)) (λ x. committed x (told t ++ more)) 0 n (λ x h. committed_more more x (omega (arith, h)))
+
+  said_same : (xs ys : List Item) (i : Item) (r : ℕ) → commitments g (xs ++ i ∷ []) ≡ commitments g (ys ++ i ∷ []) → text_to g s xs i r ≡ text_to g t ys i r
+  said_same xs ys i r e =
+      ap (λ (c : Cast). item_text_of c.version s.sid i.role r i.label i.time (commitments g (xs ++ i ∷ []))) k.cast
+      ∙ ap (λ z. item_text_of t.cast.version z i.role r i.label i.time (commitments g (xs ++ i ∷ []))) k.sid
+      ∙ ap (item_text_of t.cast.version t.sid i.role r i.label i.time) e
+
+  same_checked : (xs ys is : List Item) → ((more : List Item) → commitments g (xs ++ more) ≡ commitments g (ys ++ more)) → checked_texts g s xs is ≡ checked_texts g t ys is
+  same_checked xs ys [] e = refl
+  same_checked xs ys (i ∷ []) e = refl
+  same_checked xs ys (i ∷ j ∷ is) e =
+      ap (λ r. (i, text_to g s xs i r) ∷ checked_texts g s (xs ++ i ∷ []) (j ∷ is)) k.role
+      ∙ ap (λ z. (i, z) ∷ checked_texts g s (xs ++ i ∷ []) (j ∷ is)) (said_same xs ys i t.role (e (i ∷ [])))
+      ∙ ap (λ l. (i, text_to g t ys i t.role) ∷ l) (same_checked (xs ++ i ∷ []) (ys ++ i ∷ []) (j ∷ is) (λ more. ap (commitments g) (append_assoc xs (i ∷ []) more) ∙ e (i ∷ more) ∙ sym (ap (commitments g) (append_assoc ys (i ∷ []) more))))
+
+  -- ---- what is sent
+
+  module _ (sha : Hash) (keys : Keyring) (p : Program) (at : p.graph ≡ g) (is : IsGraph g) (label : ℕ) (written : List Opening) where
+    abbrev tagged : Session → Item → Item
+    tagged u i = record i { tags = map (λ r. (r, tag_for sha keys u.cast r (text_to g u (told u) i r))) (targets_of p label) }
+
+    same_plain : plain_item sha s label written ≡ plain_item sha t label written
+    same_plain =
+        ap (λ r. record (plain_item sha s label written) { role = r }) k.role
+        ∙ ap (λ z. record (plain_item sha s label written) { role = t.role; time = z + 1 }) same_time
+        ∙ ap (λ z. record (plain_item sha s label written) { role = t.role; time = time t + 1; delta = map (λ (o : Opening). (o.variable, commitment sha z o)) written }) k.sid
+
+    same_tagged : (i : Item) → tagged s i ≡ tagged t i
+    same_tagged i = ap (λ ts. record i { tags = ts }) (map_all _ _ (targets_of p label) (λ r.
+        ap (λ (c : Cast). (r, tag_for sha keys c r (text_to g s (told s) i r))) k.cast ∙ ap (λ z. (r, tag_for sha keys t.cast r z)) (said_same (told s) (told t) i r (commitments_more (i ∷ [])))))
+
+    same_own : tagged s (plain_item sha s label written) ≡ tagged t (plain_item sha t label written)
+    same_own = same_tagged (plain_item sha s label written) ∙ ap (tagged t) same_plain
+
+    same_shown : (r : ℕ) (more : List Item) → shown_to g r (told s ++ more) ≡ shown_to g r (told t ++ more)
+    same_shown r more =
+        sym (shown_to-kept (evidence_again (λ (i : Item). i.role)) (evidence_since (λ (i : Item). i.role)) g (told s) more r)
+        ∙ ap (λ l. shown_to g r (l ++ more)) same_items
+        ∙ shown_to-kept (evidence_again (λ (i : Item). i.role)) (evidence_since (λ (i : Item). i.role)) g (told t) more r
+
+    same_has : (r : ℕ) → has by r (told s) ≡ has by r (told t)
+    same_has r = sym (has-kept g r (told s)) ∙ ap (has by r) same_items ∙ has-kept g r (told t)
+
+    -- the frame, from its parts
+    abbrev made : ℕ → Cast → List ℕ → ℕ → Bool → List Item → List Opening → Frame
+    made to c sid r has_item items os = record { version = c.version; sid = sid; sender = r; receiver = to; join = if has_item then None else Some c; items = items; openings = os; tag = [] }
+
+    abbrev to : Item → ℕ
+    to i = receiver (shape g) i.label
+
+    abbrev plain : Session → Item → Frame
+    plain u i = made (to i) u.cast u.sid u.role (has by (to i) (told u)) (shown_to g (to i) (told u ++ i ∷ [])) (filter_map (opening_of u written) (reads g i.label))
+
+    same_frame : (i : Item) → plain s i ≡ plain t i
+    same_frame i =
+        ap (λ c. made (to i) c s.sid s.role (has by (to i) (told s)) (shown_to g (to i) (told s ++ i ∷ [])) (filter_map (opening_of s written) (reads g i.label))) k.cast
+        ∙ ap (λ z. made (to i) t.cast z s.role (has by (to i) (told s)) (shown_to g (to i) (told s ++ i ∷ [])) (filter_map (opening_of s written) (reads g i.label))) k.sid
+        ∙ ap (λ r. made (to i) t.cast t.sid r (has by (to i) (told s)) (shown_to g (to i) (told s ++ i ∷ [])) (filter_map (opening_of s written) (reads g i.label))) k.role
+        ∙ ap (λ b. made (to i) t.cast t.sid t.role b (shown_to g (to i) (told s ++ i ∷ [])) (filter_map (opening_of s written) (reads g i.label))) (same_has (to i))
+        ∙ ap (λ l. made (to i) t.cast t.sid t.role (has by (to i) (told t)) l (filter_map (opening_of s written) (reads g i.label))) (same_shown (to i) (i ∷ []))
+        ∙ ap (made (to i) t.cast t.sid t.role (has by (to i) (told t)) (shown_to g (to i) (told t ++ i ∷ [])))
+        (filter_map_below n (opening_of s written) (opening_of t written) (reads g i.label) (reads_in n g.edges is.variables i.label).1 (λ x h. ap (option_or (opening_in written x)) (same_known x h)))
+
+    abbrev sealed : Cast → Frame → Frame
+    sealed c f = record f { tag = tag_for sha keys c f.receiver (text_of f) }
+
+    same_sent : sealed s.cast (plain s (tagged s (plain_item sha s label written))) ≡ sealed t.cast (plain t (tagged t (plain_item sha t label written)))
+    same_sent =
+        ap (λ c. sealed c (plain s (tagged s (plain_item sha s label written)))) k.cast
+        ∙ ap (λ i. sealed t.cast (plain s i)) same_own
+        ∙ ap (sealed t.cast) (same_frame (tagged t (plain_item sha t label written)))
+
+keeps_sending : (sha : Hash) (keys : Keyring) (p : Program) (s t : Session) (label : ℕ) (written : List Opening) → IsGraph p.graph → KeepsSame p.graph s t → frame_sent sha keys p s label written ≡ frame_sent sha keys p t label written
+keeps_sending sha keys p s t label written is k = same_sent p.graph s t k sha keys p refl is label written
+
+-- ---- what is refused
+
+keeps_refusing : (p : Program) (s t : Session) (label : ℕ) (values : Map Value) → KeepsSame p.graph s t → rows_of_act p s label values ≡ rows_of_act p t label values
+keeps_refusing p s t label values k =
+    ap (λ n. rows n s.role (time s)) (same_place p.graph s t k) ∙ ap (λ r. rows (place p.graph t) r (time s)) k.role ∙ ap (rows (place p.graph t) t.role) (same_time p.graph s t k)
+  where
+    rows : (place role time : ℕ) → List (Option ActFault)
+    rows n r i = row (not (role_at (shape p.graph) n == r)) ActFault.NotYourTurn
+        ∷ map (option_map Send) (row (not (nat_lt label (length p.graph.edges) && (source (shape p.graph) label == n))) NoSuchLabel ∷ option_map BadValues (find (is_bad p.graph label values) (below 256)) ∷ row (nat_le 1000000 i) TimeSpent ∷ [])
+
+-- ---- what is judged
+
+-- of five rows the last is alike where the second does not hold
+five : {A : Type 0} (a b c d e e' : Option A) → (b ≡ None → e ≡ e') → first_some (a ∷ b ∷ c ∷ d ∷ e ∷ []) ≡ first_some (a ∷ b ∷ c ∷ d ∷ e' ∷ [])
+five (Some x) b c d e e' h = refl
+five None (Some x) c d e e' h = refl
+five None None c d e e' h = ap (λ o. first_some (c ∷ d ∷ o ∷ [])) (h refl)
+
+-- the variables of these openings are those
+below_reads : (n : ℕ) (os : List Opening) (xs : List ℕ) → map (λ (o : Opening). o.variable) os ≡ xs → AllByRecursion (λ x. x < n) xs → AllByRecursion (λ (o : Opening). o.variable < n) os
+below_reads n [] xs e a = tt
+below_reads n (o ∷ os) [] e a = absurd (clash e)
+  where
+    clash : {x : ℕ} {xs : List ℕ} → x ∷ xs ≡ [] → ⊥
+    clash e = cc
+below_reads n (o ∷ os) (x ∷ xs) e a =
+    let hd : o.variable ≡ x = cc in
+    let tl : map (λ (o : Opening). o.variable) os ≡ xs = cc in
+    (subst (λ z. z < n) (sym hd) a.0, below_reads n os xs tl a.1)
+
+all_below : {A : Type 0} (P Q : A → Type 0) (xs : List A) → AllByRecursion P xs → ((x : A) → P x → Q x) → AllByRecursion Q xs
+all_below P Q [] a f = tt
+all_below P Q (x ∷ xs) a f = (f x a.0, all_below P Q xs a.1 f)
+
+module _ (sha : Hash) (keys : Keyring) (p : Program) (s t : Session) (f : Frame) (is : IsGraph p.graph) (k : KeepsSame p.graph s t) (ws : own s ≡ told s) (wt : own t ≡ told t) where
+  abbrev tag_row : Cast → Option Refusal
+  tag_row c = row (not (nat_lt f.sender (length c.names) && bytes_eq (tag_for sha keys c f.sender (text_of f)) f.tag)) BadFrameTag
+
+  abbrev view_row : Option ℕ → Option Refusal
+  view_row o = row (not (has_view p.views (record { origin = o; items = map seen f.items })
+      && list_all (λ i. i.role == sender (shape p.graph) i.label) f.items
+      && option_map_or (λ i. i.role == f.sender) (last f.items) false
+      && has_right_tags p f.items
+      && bytes_eq (map (λ o. o.variable) f.openings) (option_map_or (reads p.graph) (last_label f.items) []))) NoSuchView
+
+  abbrev item_row : ℕ → Cast → List (Item × List ℕ) → Option Refusal
+  item_row r c texts = option_map (λ n. BadEvidence (n + 1)) (position (λ (x : Item × List ℕ). not (same_text (value_at (x.0).tags r) (tag_for sha keys c (x.0).role x.1))) texts)
+
+  abbrev opening_row : Session → Option Refusal
+  opening_row u = option_map (λ o. BadOpening o.variable) (find (λ o. not (is_right sha p.graph u f o)) f.openings)
+
+  texts_same : texts_checked p.graph s f ≡ texts_checked p.graph t f
+  texts_same = ap (λ l. checked_texts p.graph s l f.items) ws ∙ same_checked p.graph s t k (told s) (told t) f.items (commitments_more p.graph s t k) ∙ sym (ap (λ l. checked_texts p.graph t l f.items) wt)
+
+  right_same : (o : Opening) → o.variable < length p.graph.variables → not (is_right sha p.graph s f o) ≡ not (is_right sha p.graph t f o)
+  right_same o h =
+      ap (λ l. not (has_kind p.graph o && same_text (committed o.variable (l ++ f.items)) (commitment sha s.sid o))) ws
+      ∙ ap (λ c. not (has_kind p.graph o && same_text c (commitment sha s.sid o))) (committed_more p.graph s t k f.items o.variable h)
+      ∙ ap (λ z. not (has_kind p.graph o && same_text (committed o.variable (told t ++ f.items)) (commitment sha z o))) k.sid
+      ∙ sym (ap (λ l. not (has_kind p.graph o && same_text (committed o.variable (l ++ f.items)) (commitment sha t.sid o))) wt)
+
+  reads_below : (o : Option ℕ) → AllByRecursion (λ x. x < length p.graph.variables) (option_map_or (reads p.graph) o [])
+  reads_below None = tt
+  reads_below (Some e) = (reads_in (length p.graph.variables) p.graph.edges is.variables e).1
+
+  openings_same : view_row (origin t) ≡ None → opening_row s ≡ opening_row t
+  openings_same h =
+      let shown : is_shown p t f ≡ true = not_false (is_shown p t f) (row_none _ _ h) in
+      let vars : map (λ (o : Opening). o.variable) f.openings ≡ option_map_or (reads p.graph) (last_label f.items) [] = same_bytes _ _ (and_parts _ _ shown).1 in
+      ap (option_map (λ (o : Opening). BadOpening o.variable)) (find_same _ _ f.openings
+          (all_below (λ (o : Opening). o.variable < length p.graph.variables) (λ (o : Opening). not (is_right sha p.graph s f o) ≡ not (is_right sha p.graph t f o)) f.openings
+          (below_reads (length p.graph.variables) f.openings _ vars (reads_below (last_label f.items))) right_same))
+
+  keeps_judging : first_some (rows_of_session sha keys p s f) ≡ first_some (rows_of_session sha keys p t f)
+  keeps_judging =
+      ap (λ c. first_some (tag_row c ∷ view_row (origin s) ∷ bad_time 1 (own_time s) f.items ∷ item_row s.role s.cast (texts_checked p.graph s f) ∷ opening_row s ∷ [])) k.cast
+      ∙ ap (λ o. first_some (tag_row t.cast ∷ view_row o ∷ bad_time 1 (own_time s) f.items ∷ item_row s.role s.cast (texts_checked p.graph s f) ∷ opening_row s ∷ [])) (same_origin_ p.graph s t k)
+      ∙ ap (λ n. first_some (tag_row t.cast ∷ view_row (origin t) ∷ bad_time 1 n f.items ∷ item_row s.role s.cast (texts_checked p.graph s f) ∷ opening_row s ∷ [])) (same_own_time p.graph s t k)
+      ∙ ap (λ r. first_some (tag_row t.cast ∷ view_row (origin t) ∷ bad_time 1 (own_time t) f.items ∷ item_row r s.cast (texts_checked p.graph s f) ∷ opening_row s ∷ [])) k.role
+      ∙ ap (λ c. first_some (tag_row t.cast ∷ view_row (origin t) ∷ bad_time 1 (own_time t) f.items ∷ item_row t.role c (texts_checked p.graph s f) ∷ opening_row s ∷ [])) k.cast
+      ∙ ap (λ l. first_some (tag_row t.cast ∷ view_row (origin t) ∷ bad_time 1 (own_time t) f.items ∷ item_row t.role t.cast l ∷ opening_row s ∷ [])) texts_same
+      ∙ five (tag_row t.cast) (view_row (origin t)) (bad_time 1 (own_time t) f.items) (item_row t.role t.cast (texts_checked p.graph t f)) (opening_row s) (opening_row t) openings_same
+
+-- ---- what is kept after an exchange
+
+told-extended : (s : Session) (e : Exchange) → told (extended s e) ≡ told s ++ items_of e
+told-extended s e = flat_map-append items_of s.exchanges (e ∷ []) ∙ ap (λ l. told s ++ l) (append-nil (items_of e))
+
+abbrev kept_of : Option ℕ → ℕ → ℕ → ℕ → List Item → List (Option (List ℕ)) → List (Option Opening) → Kept
+kept_of o a b c d e f = record { origin = o; own_time = a; time = b; place = c; items = d; commitments = e; openings = f }
+
+same_kept : {o o' : Option ℕ} {a a' b b' c c' : ℕ} {d d' : List Item} {e e' : List (Option (List ℕ))} {f f' : List (Option Opening)} → o ≡ o' → a ≡ a' → b ≡ b' → c ≡ c' → d ≡ d' → e ≡ e' → f ≡ f' → kept_of o a b c d e f ≡ kept_of o' a' b' c' d' e' f'
+same_kept h1 h2 h3 h4 h5 h6 h7 = cc
+
+keeps_going : (g : Graph) (s t : Session) (e : Exchange) → KeepsSame g s t → KeepsSame g (extended s e) (extended t e)
+keeps_going g s t e k = record {
+  sid = k.sid;
+  cast = k.cast;
+  role = k.role;
+  kept = same_kept (later_own (λ o. option_map (λ (i : Item). i.label) o) (same_origin_ g s t k)) (later_own (λ o. unwrap_or (option_map (λ (i : Item). i.time) o) 0) (same_own_time g s t k))
+      (later (λ o. unwrap_or (option_map (λ (i : Item). i.time) o) 0) (same_time g s t k)) (later (λ o. unwrap_or (option_map (target (shape g)) (option_map (λ (i : Item). i.label) o)) 0) (same_place g s t k))
+      later_items later_commitments later_openings;
+}
+  where
+    more : List Item
+    more = items_of e
+
+    later : {X : Type 0} (F : Option Item → X) → F (last (told s)) ≡ F (last (told t)) → F (last (told (extended s e))) ≡ F (last (told (extended t e)))
+    later F h = ap (λ l. F (last l)) (told-extended s e) ∙ last_same F (told s) (told t) more h ∙ sym (ap (λ l. F (last l)) (told-extended t e))
+
+    later_own : {X : Type 0} (F : Option Item → X) → F (last (own s)) ≡ F (last (own t)) → F (last (own (extended s e))) ≡ F (last (own (extended t e)))
+    later_own F h =
+        ap (λ r. F (last (up_to_last (λ (i : Item). i.role) r (told (extended s e))))) k.role
+        ∙ ap (λ l. F (last (up_to_last (λ (i : Item). i.role) t.role l))) (told-extended s e)
+        ∙ up_same F (λ (i : Item). i.role) t.role (told s) (told t) more (sym (ap (λ r. F (last (up_to_last (λ (i : Item). i.role) r (told s)))) k.role) ∙ h)
+        ∙ sym (ap (λ l. F (last (up_to_last (λ (i : Item). i.role) t.role l))) (told-extended t e))
+
+    later_items : kept_items g (told (extended s e)) ≡ kept_items g (told (extended t e))
+    later_items =
+        ap (kept_items g) (told-extended s e)
+        ∙ sym (kept-kept (evidence_again (λ (i : Item). i.role)) (evidence_since (λ (i : Item). i.role)) g (told s) more)
+        ∙ ap (λ l. kept_items g (l ++ more)) (same_items g s t k)
+        ∙ kept-kept (evidence_again (λ (i : Item). i.role)) (evidence_since (λ (i : Item). i.role)) g (told t) more
+        ∙ sym (ap (kept_items g) (told-extended t e))
+
+    later_commitments : commitments g (told (extended s e)) ≡ commitments g (told (extended t e))
+    later_commitments = ap (commitments g) (told-extended s e) ∙ commitments_more g s t k more ∙ sym (ap (commitments g) (told-extended t e))
+
+    later_openings : map (known (extended s e)) (below (length g.variables)) ≡ map (known (extended t e)) (below (length g.variables))
+    later_openings = to_range (known (extended s e)) (known (extended t e)) 0 (length g.variables) (λ x h.
+        last_opening-append x s.exchanges (e ∷ []) ∙ ap (option_or (last_opening x (e ∷ []))) (same_known g s t k x (omega (arith, h))) ∙ sym (last_opening-append x t.exchanges (e ∷ [])))
+
+pub kept_is_enough : (sha : Hash) → KeptIsEnough sha
+kept_is_enough sha = record { sends = keeps_sending sha; refuses = keeps_refusing; judges = keeps_judging sha; goes_on = keeps_going }

@@ -1,0 +1,29 @@
+-- What a role keeps is enough: it says as much as all that the role was told.
+use Rattle.std.specs.Prelude.{◌≡◌, ℕ, List}
+use Rattle.sg_model.specs.Last.{Map}
+use Rattle.sg_model.specs.Lists.{first_some}
+use Rattle.sg_model.specs.Values.{Value, Opening}
+use Rattle.sg_protocol.specs.Graph.{Graph, IsGraph}
+use Rattle.sg_protocol.specs.Frame.{Frame}
+use Rattle.sg_protocol.specs.Texts.{Hash}
+use Rattle.sg_protocol.specs.Keyring.{Keyring, Program}
+use Rattle.sg_protocol.specs.Session.{Session, Exchange, own, told, extended}
+use Rattle.sg_protocol.specs.Sending.{frame_sent}
+use Rattle.sg_protocol.specs.Kept.{kept}
+use Rattle.sg_protocol.specs.Verdict.{rows_of_session}
+use Rattle.sg_protocol.specs.Acting.{rows_of_act}
+
+-- two sessions of one cast and role, of which the role keeps the same
+pub record KeepsSame (g : Graph) (s t : Session) : Type 0 where
+  pub sid : s.sid ≡ t.sid
+  pub cast : s.cast ≡ t.cast
+  pub role : s.role ≡ t.role
+  pub kept : kept g s ≡ kept g t
+
+-- Sessions of which a role keeps the same send the same frames, refuse the same steps, judge frames alike while the role waits, and keep the same after whatever comes
+pub record KeptIsEnough (sha : Hash) : Type 0 where
+  pub sends : (keys : Keyring) (p : Program) (s t : Session) (label : ℕ) (written : List Opening) → IsGraph p.graph → KeepsSame p.graph s t → frame_sent sha keys p s label written ≡ frame_sent sha keys p t label written
+  pub refuses : (p : Program) (s t : Session) (label : ℕ) (values : Map Value) → KeepsSame p.graph s t → rows_of_act p s label values ≡ rows_of_act p t label values
+  -- while it waits, the last item that it was told is its own
+  pub judges : (keys : Keyring) (p : Program) (s t : Session) (f : Frame) → IsGraph p.graph → KeepsSame p.graph s t → own s ≡ told s → own t ≡ told t → first_some (rows_of_session sha keys p s f) ≡ first_some (rows_of_session sha keys p t f)
+  pub goes_on : (g : Graph) (s t : Session) (e : Exchange) → KeepsSame g s t → KeepsSame g (extended s e) (extended t e)
