@@ -1,14 +1,16 @@
 -- What a role keeps is enough: it says as much as all that the role was told.
-use Rattle.std.specs.Prelude.{◌≡◌, ℕ, List}
-use Rattle.sg_model.specs.Last.{Map}
-use Rattle.sg_model.specs.Lists.{first_some}
+use Rattle.std.specs.Prelude.{◌≡◌, ◌≢◌, ℕ, ◌<◌, List, map, length, Some, IfSome, IsTrue}
+use Rattle.std.specs.List.{AllByRecursion}
+use Rattle.sg_model.specs.Last.{Map, last}
+use Rattle.sg_model.specs.Lists.{first_some, rises_from}
+use Rattle.sg_model.specs.Shape.{receiver}
 use Rattle.sg_model.specs.Values.{Value, Opening}
-use Rattle.sg_protocol.specs.Graph.{Graph, IsGraph}
+use Rattle.sg_protocol.specs.Graph.{Graph, IsGraph, shape}
 use Rattle.sg_protocol.specs.Frame.{Frame}
 use Rattle.sg_protocol.specs.Texts.{Hash}
 use Rattle.sg_protocol.specs.Keyring.{Keyring, Program}
 use Rattle.sg_protocol.specs.Session.{Session, Exchange, own, told, extended}
-use Rattle.sg_protocol.specs.Sending.{frame_sent}
+use Rattle.sg_protocol.specs.Sending.{own_item, frame_sent}
 use Rattle.sg_protocol.specs.Kept.{kept}
 use Rattle.sg_protocol.specs.Verdict.{rows_of_session}
 use Rattle.sg_protocol.specs.Acting.{rows_of_act}
@@ -27,3 +29,8 @@ pub record KeptIsEnough (sha : Hash) : Type 0 where
   -- while it waits, the last item that it was told is its own
   pub judges : (keys : Keyring) (p : Program) (s t : Session) (f : Frame) → IsGraph p.graph → KeepsSame p.graph s t → own s ≡ told s → own t ≡ told t → first_some (rows_of_session sha keys p s f) ≡ first_some (rows_of_session sha keys p t f)
   pub goes_on : (g : Graph) (s t : Session) (e : Exchange) → KeepsSame g s t → KeepsSame g (extended s e) (extended t e)
+
+-- Where another role sent what a role was told last, the last item of the frame that the role sends is its own item
+abbrev pub OwnItemIsLast : Hash → Type 0
+OwnItemIsLast sha = (keys : Keyring) (p : Program) (s : Session) (label : ℕ) (written : List Opening) → receiver (shape p.graph) label ≢ s.role → IfSome (last (told s)) (λ i. i.role ≢ s.role) →
+    IsTrue (rises_from 0 (map (λ o. o.variable) written)) → AllByRecursion (λ o. o.variable < length p.graph.variables) written → last (frame_sent sha keys p s label written).items ≡ Some (own_item sha keys p s label written)

@@ -12,7 +12,7 @@ ghost use Rattle.sg_protocol.specs.Spelling.{HasSpelling, SpellsFrame, spelling}
 ghost use Rattle.sg_protocol.specs.Reading.{read};
 ghost use Rattle.sg_protocol.specs.Texts.{IsHash, real};
 ghost use Rattle.sg_protocol.specs.TextLaws.{OneCast, OneOpening, OneItem, OneTextTo, OneBody, OneFrame, OneCanonical, OneGraph, KindsDiffer, VersionsDiffer};
-ghost use Rattle.sg_protocol.specs.Enough.{KeptIsEnough};
+ghost use Rattle.sg_protocol.specs.Enough.{KeptIsEnough, OwnItemIsLast};
 ghost use Rattle.sg_protocol.specs.Returns.{TablesShowReturns};
 ghost use Rattle.sg_protocol.specs.Headline.{Headline, SessionsFollowWalks, NoneJoinsTwice, NodesJoinOnce};
 ghost use Rattle.sg_protocol.specs.Isolation.{SessionsAreIsolated};
@@ -52,6 +52,11 @@ pub fn texts_read_back()
 /// What a role keeps of a session is enough: it says as much as all that the role was told and sent.
 pub fn kept_is_enough()
     ensures { (sha : List ℕ → List ℕ) → KeptIsEnough sha }
+{}
+
+/// The frame that a step sends ends with the step's own item, with a tag for each of its targets.
+pub fn own_item_is_last()
+    ensures { (sha : List ℕ → List ℕ) → OwnItemIsLast sha }
 {}
 
 /// A waiting session is over exactly where no walk from the end of its own last step leads to a node of its role.
