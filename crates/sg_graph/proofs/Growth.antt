@@ -1,0 +1,189 @@
+-- A graph with one part more is a graph.
+use Rattle.std.proofs.Common.{◌≡◌, ℕ, zero, suc, ◌+◌, ◌<◌, ◌≤◌, nat_lt, Bool, true, false, not, ◌&&◌, ◌||◌, List, [], ◌∷◌, ◌++◌, length, get_or, refl, sym, ◌∙◌, inl, inr, arith, add-zero, add-one, zero-add, length-append}
+use Rattle.std.specs.Prelude.{All, bytes_eq}
+use Rattle.std.specs.List.{list_all}
+use Rattle.std.proofs.lemmas.List.{map-append}
+use Rattle.std.proofs.lemmas.List.Folds.{list_all-append, list_any-append}
+use Rattle.std.proofs.lemmas.List.Elements.{All-append}
+use Rattle.std.proofs.lemmas.Slice.Eq.{bytes_eq-Decides}
+use Rattle.std.proofs.lemmas.Bool.Decides.{nat_tests}
+use Rattle.sg_model.specs.Lists.{has_text, all_differ, rises_from, range_from, below}
+use Rattle.sg_model.specs.Names.{is_name, reserved}
+use Rattle.sg_protocol.specs.Graph.{Graph, Name, Variable, Node, Edge, IsGraph, AreNames, AreNumbers}
+use Rattle.sg_graph.specs.Adding.{no_parts, with_role, with_variable, with_node, with_edge}
+use Rattle.sg_graph.specs.Parts.{variable_names, node_names, edge_names}
+use Rattle.sg_graph.proofs.Found.{cases_of}
+
+-- both parts of a test hold
+pub both : (a b : Bool) → (a && b) ≡ true → (a ≡ true) × (b ≡ true)
+both true b h = (refl, h)
+both false b h = absurd (cc)
+
+-- a test that isn't true is false
+pub refused : (b : Bool) → not b ≡ true → b ≡ false
+refused true h = sym h
+refused false h = refl
+
+-- two texts differ in either order
+bytes_eq-flip : (s t : List ℕ) → bytes_eq s t ≡ false → bytes_eq t s ≡ false
+bytes_eq-flip s t h = elim (cases_of (bytes_eq t s)) [
+  | inl y ↦ (let e : s ≡ t = sym ((bytes_eq-Decides t s).0 y) in let z : bytes_eq s t ≡ true = (bytes_eq-Decides s t).1 e in absurd (cc))
+  | inr n ↦ n
+]
+
+-- texts that differ still do with one more that differs from each
+all_differ-append : (ts : List Name) (t : Name) → all_differ ts ≡ true → has_text t ts ≡ false → all_differ (ts ++ t ∷ []) ≡ true
+all_differ-append [] t d h = refl
+all_differ-append (u ∷ us) t d h =
+    let parts = both (not (has_text u us)) (all_differ us) d in
+    let apart : (bytes_eq t u ≡ false) × (has_text t us ≡ false) = neither (bytes_eq t u) (has_text t us) h in
+    let first : has_text u (us ++ t ∷ []) ≡ false =
+    list_any-append (bytes_eq u) us (t ∷ []) ∙ rw (refused (has_text u us) parts.0, bytes_eq-flip t u apart.0) in
+    rw (first, all_differ-append us t parts.1 apart.1)
+  where
+    neither : (a b : Bool) → (a || b) ≡ false → (a ≡ false) × (b ≡ false)
+    neither true b h = absurd (cc)
+    neither false b h = (refl, h)
+
+-- names with one more
+AreNames-append : (ns : List Name) (n : Name) → AreNames ns → is_name n ≡ true → has_text n reserved ≡ false → has_text n ns ≡ false → AreNames (ns ++ n ∷ [])
+AreNames-append ns n named is free new =
+    let p : Name → Bool = λ n. is_name n && not (has_text n reserved) in
+    let parts = both (list_all p ns) (all_differ ns) named in
+    let all : list_all p (ns ++ n ∷ []) ≡ true = list_all-append p ns (n ∷ []) ∙ rw (parts.0, is, free) in
+    rw (all, all_differ-append ns n parts.1 new)
+
+-- numbers below a bound are below a greater one
+AreNumbers-grows : (m n : ℕ) → m ≤ n → (ks : List ℕ) → AreNumbers m ks → AreNumbers n ks
+AreNumbers-grows m n le ks h =
+    let parts = both (rises_from 0 ks) (list_all (λ k. nat_lt k m) ks) h in
+    rw (parts.0, below_more ks parts.1)
+  where
+    below_more : (ks : List ℕ) → list_all (λ k. nat_lt k m) ks ≡ true → list_all (λ k. nat_lt k n) ks ≡ true
+    below_more [] h = refl
+    below_more (k ∷ ks) h =
+        let parts = both (nat_lt k m) (list_all (λ k. nat_lt k m) ks) h in
+        let here : nat_lt k n ≡ true = grind (arith, nat_tests, parts.0) in
+        rw (here, below_more ks parts.1)
+
+-- what holds of each element and follows of it
+All-map : {X : Type 0} (P Q : X → Type 0) (xs : List X) → ((x : X) → P x → Q x) → All P xs → All Q xs
+All-map P Q xs step all = λ k d l. step (get_or xs k d) (all k d l)
+
+-- what holds of one element
+All-one : {X : Type 0} (P : X → Type 0) (x : X) → P x → All P (x ∷ [])
+All-one P x p zero d l = p
+All-one P x p (suc k) d l = absurd (omega arith)
+
+-- the length with one element more
+length-more : {X : Type 0} (xs : List X) (x : X) → length (xs ++ x ∷ []) ≡ length xs + 1
+length-more xs x = length-append xs (x ∷ [])
+
+-- no parts are a graph
+pub IsGraph-no_parts : (name : Name) → is_name name ≡ true → has_text name reserved ≡ false → IsGraph (no_parts name)
+IsGraph-no_parts name is free = record {
+  named = rw (is, free);
+  role_names = refl;
+  variable_names = refl;
+  node_names = refl;
+  edge_names = refl;
+  writers = λ k d l. absurd (omega arith);
+  roles = λ k d l. absurd (omega arith);
+  ends = λ k d l. absurd (omega arith);
+  variables = λ k d l. absurd (omega arith);
+  sizes = (omega arith, omega arith, omega arith, omega arith);
+}
+
+-- with one role more
+pub IsGraph-with_role : (g : Graph) (name : Name) → IsGraph g → is_name name ≡ true → has_text name reserved ≡ false → has_text name g.roles ≡ false
+    → length g.roles < 16 → IsGraph (with_role g name)
+IsGraph-with_role g name h is free new room =
+    let more : length g.roles ≤ length (g.roles ++ name ∷ []) = omega (arith, length-more g.roles name) in
+    record {
+      named = h.named;
+      role_names = AreNames-append g.roles name h.role_names is free new;
+      variable_names = h.variable_names;
+      node_names = h.node_names;
+      edge_names = h.edge_names;
+      writers = All-map (λ (v : Variable). AreNumbers (length g.roles) v.writers × (0 < length v.writers)) (λ (v : Variable). AreNumbers (length (g.roles ++ name ∷ [])) v.writers × (0 < length v.writers)) g.variables (λ v w. (AreNumbers-grows _ _ more v.writers w.0, w.1)) h.writers;
+      roles = All-map (λ (n : Node). n.role < length g.roles) (λ (n : Node). n.role < length (g.roles ++ name ∷ [])) g.nodes (λ n w. omega (arith, more, w)) h.roles;
+      ends = h.ends;
+      variables = h.variables;
+      sizes = (omega (arith, room, length-more g.roles name), h.sizes.1, h.sizes.2, h.sizes.3);
+    }
+
+-- with one variable more
+pub IsGraph-with_variable : (g : Graph) (v : Variable) → IsGraph g → is_name v.name ≡ true → has_text v.name reserved ≡ false
+    → has_text v.name (variable_names g) ≡ false → AreNumbers (length g.roles) v.writers → 0 < length v.writers → length g.variables < 32 → IsGraph (with_variable g v)
+IsGraph-with_variable g v h is free new there some room =
+    let more : length g.variables ≤ length (g.variables ++ v ∷ []) = omega (arith, length-more g.variables v) in
+    record {
+      named = h.named;
+      role_names = h.role_names;
+      variable_names = rw (map-append (λ (v : Variable). v.name) g.variables (v ∷ [])) (AreNames-append (variable_names g) v.name h.variable_names is free new);
+      node_names = h.node_names;
+      edge_names = h.edge_names;
+      writers = (let P : Variable → Type 0 = λ v. AreNumbers (length g.roles) v.writers × (0 < length v.writers) in All-append P g.variables (v ∷ []) h.writers (All-one P v (there, some)));
+      roles = h.roles;
+      ends = h.ends;
+      variables = All-map (λ (e : Edge). AreNumbers (length g.variables) e.writes × AreNumbers (length g.variables) e.reads) (λ (e : Edge). AreNumbers (length (g.variables ++ v ∷ [])) e.writes × AreNumbers (length (g.variables ++ v ∷ [])) e.reads) g.edges (λ e w. (AreNumbers-grows _ _ more e.writes w.0, AreNumbers-grows _ _ more e.reads w.1)) h.variables;
+      sizes = (h.sizes.0, omega (arith, room, length-more g.variables v), h.sizes.2, h.sizes.3);
+    }
+
+-- with one node more
+pub IsGraph-with_node : (g : Graph) (n : Node) → IsGraph g → is_name n.name ≡ true → has_text n.name reserved ≡ false
+    → has_text n.name (node_names g) ≡ false → n.role < length g.roles → length g.nodes < 256 → IsGraph (with_node g n)
+IsGraph-with_node g n h is free new there room =
+    let more : length g.nodes ≤ length (g.nodes ++ n ∷ []) = omega (arith, length-more g.nodes n) in
+    record {
+      named = h.named;
+      role_names = h.role_names;
+      variable_names = h.variable_names;
+      node_names = rw (map-append (λ (n : Node). n.name) g.nodes (n ∷ [])) (AreNames-append (node_names g) n.name h.node_names is free new);
+      edge_names = h.edge_names;
+      writers = h.writers;
+      roles = (let P : Node → Type 0 = λ n. n.role < length g.roles in All-append P g.nodes (n ∷ []) h.roles (All-one P n there));
+      ends = All-map (λ (e : Edge). (e.source < length g.nodes) × (e.target < length g.nodes)) (λ (e : Edge). (e.source < length (g.nodes ++ n ∷ [])) × (e.target < length (g.nodes ++ n ∷ []))) g.edges (λ e w. (omega (arith, more, w.0), omega (arith, more, w.1))) h.ends;
+      variables = h.variables;
+      sizes = (h.sizes.0, h.sizes.1, omega (arith, room, length-more g.nodes n), h.sizes.3);
+    }
+
+-- with one edge more
+pub IsGraph-with_edge : (g : Graph) (e : Edge) → IsGraph g → is_name e.name ≡ true → has_text e.name reserved ≡ false
+    → has_text e.name (edge_names g) ≡ false → e.source < length g.nodes → e.target < length g.nodes
+    → AreNumbers (length g.variables) e.writes → AreNumbers (length g.variables) e.reads → length g.edges < 512 → IsGraph (with_edge g e)
+IsGraph-with_edge g e h is free new source target writes reads room =
+    record {
+      named = h.named;
+      role_names = h.role_names;
+      variable_names = h.variable_names;
+      node_names = h.node_names;
+      edge_names = rw (map-append (λ (e : Edge). e.name) g.edges (e ∷ [])) (AreNames-append (edge_names g) e.name h.edge_names is free new);
+      writers = h.writers;
+      roles = h.roles;
+      ends = (let P : Edge → Type 0 = λ e. (e.source < length g.nodes) × (e.target < length g.nodes) in All-append P g.edges (e ∷ []) h.ends (All-one P e (source, target)));
+      variables = (let P : Edge → Type 0 = λ e. AreNumbers (length g.variables) e.writes × AreNumbers (length g.variables) e.reads in All-append P g.edges (e ∷ []) h.variables (All-one P e (writes, reads)));
+      sizes = (h.sizes.0, h.sizes.1, h.sizes.2, omega (arith, room, length-more g.edges e));
+    }
+
+-- a range with one number more
+range_from-suc : (a k : ℕ) → range_from a (suc k) ≡ range_from a k ++ (a + k) ∷ []
+range_from-suc a zero = rw (add-zero a)
+range_from-suc a (suc k) =
+    let rest = range_from-suc (suc a) k in
+    let same : suc a + k ≡ a + suc k = omega arith in
+    rw (rest, same)
+
+-- the numbers below one more
+pub below-suc : (n : ℕ) → below (n + 1) ≡ below n ++ n ∷ []
+below-suc n = rw (add-one, range_from-suc 0 n, zero-add)
+
+-- the number at a place of a range
+range_from-at : (a k i d : ℕ) → i < k → get_or (range_from a k) i d ≡ a + i
+range_from-at a zero i d h = absurd (omega arith)
+range_from-at a (suc k) zero d h = sym (add-zero a)
+range_from-at a (suc k) (suc i) d h = range_from-at (suc a) k i d (omega arith) ∙ omega arith
+
+-- the number at a place below n
+pub below-at : (n i d : ℕ) → i < n → get_or (below n) i d ≡ i
+below-at n i d h = range_from-at 0 n i d h ∙ zero-add i

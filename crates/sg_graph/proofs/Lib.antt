@@ -1,0 +1,3 @@
+pub mod Found
+pub mod Growth
+pub mod Kept

@@ -1,0 +1,35 @@
+use Rattle.std.proofs.Common.{◌≡◌, ◌<◌, false, List, [], ◌∷◌, ◌++◌, map, length, sym, ◌∙◌, ap, subst, arith, rules}
+use Rattle.std.proofs.lemmas.List.{map-append, length-map}
+use Rattle.sg_model.specs.Lists.{has_text}
+use Rattle.sg_protocol.specs.Graph.{Graph, IsGraph, Edge, AreNumbers}
+use Rattle.sg_graph.specs.Parts.{edge_names}
+use Rattle.sg_graph.specs.View.{graph_of, edge_of}
+use Rattle.sg_graph.specs.declared.graph.NamedEdge.{NamedEdge}
+use Rattle.sg_graph.proofs.Found.{unfound}
+use Rattle.sg_graph.proofs.Growth.{IsGraph-with_edge}
+use Rattle.sg_graph.proofs.Kept.{labels-append}
+use Rattle.sg_graph.proofs.graph.Graph.add_edge.Goals as goal
+
+pub invariant_of-self-2 : goal.invariant_of-self-2
+invariant_of-self-2 c =
+    let part : NamedEdge = record {
+      name = c.args.name;
+      edge = record { label = c.len-number.result; source = c.args.source; target = c.args.target; writes = c.args.writes; reads = c.args.reads };
+    } in
+    let pushed : c.self.inside.edges.items ++ part ∷ [] ≡ c.push.new.self.items = search rules in
+    let items : map edge_of c.self.inside.edges.items ++ edge_of part ∷ [] ≡ map edge_of c.push.new.self.items =
+    sym (map-append edge_of c.self.inside.edges.items (part ∷ [])) ∙ ap (map edge_of) pushed in
+    let new : has_text c.args.name (edge_names (graph_of c.self.inside)) ≡ false =
+    ap (λ (g : Graph). has_text c.args.name (edge_names g)) c.self.view_is
+    ∙ unfound c.find_edge.result c.is_some.result _ c.find_edge.ensures.found c.is_some.ensures c.if-is_some.false in
+    let from = subst (λ (g : Graph). c.args.source < length g.nodes) (sym c.self.view_is) c.requires.source in
+    let to = subst (λ (g : Graph). c.args.target < length g.nodes) (sym c.self.view_is) c.requires.target in
+    let written = subst (λ (g : Graph). AreNumbers (length g.variables) c.args.writes) (sym c.self.view_is) c.requires.writes in
+    let read = subst (λ (g : Graph). AreNumbers (length g.variables) c.args.reads) (sym c.self.view_is) c.requires.reads in
+    let kept : length c.self.inside.edges.items < 512 = omega arith in
+    let room : length (graph_of c.self.inside).edges < 512 = rw length-map kept in
+    let whole = IsGraph-with_edge (graph_of c.self.inside) (edge_of part) c.self.invariant.graph c.as_bytes-bytes.ensures.name c.requires.name new from to written read room in
+    record {
+      graph = subst (λ (xs : List Edge). IsGraph (record (graph_of c.self.inside) { edges = xs })) items whole;
+      labels = labels-append c.self.inside.edges.items part c.push.new.self.items c.self.invariant.labels (omega arith) pushed;
+    }

@@ -1,0 +1,4 @@
+pub mod Adding
+pub mod Edges
+pub mod Parts
+pub mod View

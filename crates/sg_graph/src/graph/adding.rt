@@ -1,0 +1,135 @@
+//! Parts added one by one.
+ghost use Rattle.std.specs.Prelude.{◌≡◌, ◌<◌, false, length};
+ghost use Rattle.sg_model.specs.Lists.{has_text};
+ghost use Rattle.sg_model.specs.Names.{reserved};
+ghost use Rattle.sg_protocol.specs.Graph.{AreNumbers};
+ghost use Rattle.sg_graph.specs.Adding.{Adds, with_role, with_variable, with_node, with_edge};
+ghost use Rattle.sg_graph.specs.Parts.{kind_of_type, variable_names, node_names, edge_names};
+
+use super::{Graph, NamedEdge, Node, Variable};
+use crate::Edge;
+use sg_base::{Label, Name, NodeId, Role, RoleSet, Var, VarSet, VarType};
+use thiserror::Error;
+
+/// Why a part isn't added, the first cause that holds.
+#[derive(Debug, Clone, Copy, PartialEq, Eq, Error)]
+pub enum AddFault {
+    /// The graph has a part of this kind with this name.
+    #[error("the name is there already")]
+    Twice,
+    /// The graph has as many parts of this kind as a graph may have.
+    #[error("no room for one more of this kind")]
+    TooMany,
+    /// Memory was wanted, and none was to be had.
+    #[error("out of memory")]
+    OutOfMemory,
+}
+
+impl Graph {
+    /// Adds a role, the 16th at the latest.
+    pub fn add_role(&mut self, name: Name) -> Result<Role, AddFault>
+        requires { has_text name reserved ≡ false }
+        ensures { Adds self.old.roles 16 name self.old self.new (with_role self.old name) result }
+    {
+        // Its bytes are a name, as the graph asks.
+        let _bytes = name.as_bytes();
+        if self.find_role(&name).is_some() {
+            return Err(AddFault::Twice);
+        }
+        let number = self.roles.len();
+        if number >= 16 {
+            return Err(AddFault::TooMany);
+        }
+        self.roles.push(name).map_err(|_| AddFault::OutOfMemory)?;
+        Ok(Role(number as u8))
+    }
+
+    /// Adds a variable, the 32nd at the latest, with the roles that may write it.
+    pub fn add_var(&mut self, name: Name, kind: VarType, writers: RoleSet) -> Result<Var, AddFault>
+        requires name { has_text name reserved ≡ false }
+        requires writers { AreNumbers (length self.old.roles) writers }
+        requires some { 0 < length writers }
+        ensures { Adds (variable_names self.old) 32 name self.old self.new
+            (with_variable self.old (record { name = name; kind = kind_of_type kind; writers = writers })) result }
+    {
+        // Its bytes are a name, as the graph asks.
+        let _bytes = name.as_bytes();
+        if self.find_var(&name).is_some() {
+            return Err(AddFault::Twice);
+        }
+        let number = self.vars.len();
+        if number >= 32 {
+            return Err(AddFault::TooMany);
+        }
+        self.vars
+            .push(Variable {
+                name,
+                kind,
+                writers,
+            })
+            .map_err(|_| AddFault::OutOfMemory)?;
+        Ok(Var(number as u8))
+    }
+
+    /// Adds a node of a role, the 256th at the latest.
+    pub fn add_node(&mut self, name: Name, role: Role) -> Result<NodeId, AddFault>
+        requires name { has_text name reserved ≡ false }
+        requires role { role < length self.old.roles }
+        ensures { Adds (node_names self.old) 256 name self.old self.new
+            (with_node self.old (record { name = name; role = role })) result }
+    {
+        // Its bytes are a name, as the graph asks.
+        let _bytes = name.as_bytes();
+        if self.find_node(&name).is_some() {
+            return Err(AddFault::Twice);
+        }
+        let number = self.nodes.len();
+        if number >= 256 {
+            return Err(AddFault::TooMany);
+        }
+        self.nodes
+            .push(Node { name, role })
+            .map_err(|_| AddFault::OutOfMemory)?;
+        Ok(NodeId(number as u16))
+    }
+
+    /// Adds an edge, the 512th at the latest, with the variables that its sender writes and those that its receiver reads.
+    pub fn add_edge(
+        &mut self,
+        name: Name,
+        source: NodeId,
+        target: NodeId,
+        writes: VarSet,
+        reads: VarSet,
+    ) -> Result<Label, AddFault>
+        requires name { has_text name reserved ≡ false }
+        requires source { source < length self.old.nodes }
+        requires target { target < length self.old.nodes }
+        requires writes { AreNumbers (length self.old.variables) writes }
+        requires reads { AreNumbers (length self.old.variables) reads }
+        ensures { Adds (edge_names self.old) 512 name self.old self.new
+            (with_edge self.old
+            (record { name = name; source = source; target = target; writes = writes; reads = reads })) result }
+    {
+        // Its bytes are a name, as the graph asks.
+        let _bytes = name.as_bytes();
+        if self.find_edge(&name).is_some() {
+            return Err(AddFault::Twice);
+        }
+        let number = self.edges.len();
+        if number >= 512 {
+            return Err(AddFault::TooMany);
+        }
+        let edge = Edge {
+            label: Label(number as u16),
+            source,
+            target,
+            writes,
+            reads,
+        };
+        self.edges
+            .push(NamedEdge { name, edge })
+            .map_err(|_| AddFault::OutOfMemory)?;
+        Ok(Label(number as u16))
+    }
+}
