@@ -1,0 +1,35 @@
+-- The sixteen places of a cast's names.
+use Rattle.std.proofs.Common.{◌≡◌, ℕ, ◌<◌, ◌≤◌, List, [], ◌++◌, length, take, drop, replicate, get_or, sym, ◌∙◌, IsTrue, refl}
+use Rattle.std.specs.List.{AllByRecursion}
+use Rattle.std.proofs.lemmas.List.{drop-replicate, get_or_default}
+use Rattle.std.proofs.Math.Seq.{take-append_seam}
+use Rattle.sg_model.specs.Names.{Name, is_name}
+use Rattle.sg_protocol.specs.Frame.{AreBytes}
+use Rattle.sg_protocol.specs.TextLaws.{IsVersion}
+use Rattle.sg_crypt.specs.Casts.{first_of, filled, HoldsCast}
+
+-- the first name everywhere, and then the names, are the names filled up
+pub filled_up : (names places : List Name) (x : Name) → x ≡ get_or names 0 x → 0 < length names → places ≡ names →
+    places ++ drop (length names) (replicate 16 x) ≡ filled names
+filled_up names places x first some put =
+    let same : x ≡ first_of names = first ∙ sym (get_or_default names 0 [] x some) in
+    rw (put, drop-replicate, same)
+
+-- the fields that `new` makes are a cast's
+pub holds_cast : (version : ℕ) (graph nonce : List ℕ) (names places : List Name) → IsVersion version → AreBytes 32 graph → AreBytes 16 nonce →
+    2 ≤ length names → length names ≤ 16 → AllByRecursion (λ n. IsTrue (is_name n)) names → places ≡ filled names →
+    HoldsCast (record { version = version; graph = graph; nonce = nonce; count = length names; names = places })
+holds_cast version graph nonce names places v g n low high named put =
+    let front : take (length names) places ≡ names = rw put (take-append_seam names _) in
+    record {
+      version = v;
+      cast = record {
+        version = refl;
+        graph = g;
+        nonce = n;
+        count = rw front (low, high);
+        names = rw front named;
+      };
+      counted = rw front;
+      places = rw front put;
+    }

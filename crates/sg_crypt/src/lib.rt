@@ -1,0 +1,6 @@
+//! Hashes, tags and the texts under them.
+#![tactic(auto)]
+
+mod cast;
+
+pub use cast::Cast;
