@@ -1,0 +1,90 @@
+//! Tags.
+ghost use Rattle.std.specs.Prelude.{◌≡◌, ◌↔◌, ◌≤◌, ◌++◌, length, drop, IsTrue};
+ghost use Rattle.sg_protocol.specs.Texts.{real, key_block, padded, tag_of, cut};
+ghost use Rattle.sg_protocol.specs.TextLaws.{IsVersion};
+
+use sg_base::Tag;
+use sha2::{Digest, Sha256};
+
+/// The HMAC-SHA-256 of `head` followed by `rest` under `key` (RFC 2104 section 2, with blocks of 64 bytes). It takes no memory.
+pub fn tag(key: &[u8], head: &[u8], rest: &[u8]) -> Tag
+    ensures { result ≡ tag_of real key.now (head.now ++ rest.now) }
+{
+    let block = key_block(key);
+    let mut inner = Sha256::new();
+    inner.update(padded(0x36, &block));
+    inner.update(head);
+    inner.update(rest);
+    let digest = inner.finalize();
+    let mut outer = Sha256::new();
+    outer.update(padded(0x5C, &block));
+    outer.update(digest);
+    Tag(outer.finalize())
+}
+
+/// Whether this is the HMAC of `head` followed by `rest` under `key`. It takes no memory.
+pub fn tag_matches(key: &[u8], head: &[u8], rest: &[u8], tag: &Tag) -> bool
+    ensures { IsTrue result ↔ (tag_of real key.now (head.now ++ rest.now) ≡ tag.now) }
+{
+    same(&crate::hmac::tag(key, head, rest), tag)
+}
+
+/// The tag as a version sends it: whole in version 1; in version 2 its first sixteen bytes, as RFC 2104 section 5 allows, and then
+/// zeros. It takes no memory.
+pub fn cut(version: u8, tag: Tag) -> Tag
+    requires { IsVersion version }
+    ensures { result ≡ cut version tag }
+{
+    if version == 2 {
+        let mut bytes = [0u8; 32];
+        bytes[..16].copy_from_slice(&tag.0[..16]);
+        Tag(bytes)
+    } else {
+        tag
+    }
+}
+
+/// Whether this is the HMAC of `head` followed by `rest` under `key`, as the version sends it. It takes no memory.
+pub fn cut_matches(version: u8, key: &[u8], head: &[u8], rest: &[u8], tag: &Tag) -> bool
+    requires { IsVersion version }
+    ensures { IsTrue result ↔ (cut version (tag_of real key.now (head.now ++ rest.now)) ≡ tag.now) }
+{
+    same(&cut(version, crate::hmac::tag(key, head, rest)), tag)
+}
+
+fn same(one: &Tag, other: &Tag) -> bool
+    ensures { IsTrue result ↔ (one.now ≡ other.now) }
+{
+    one.0 == other.0
+}
+
+// The key as a block of 64 bytes: a longer one hashed, and zeros after it.
+fn key_block(key: &[u8]) -> [u8; 64]
+    ensures { result ≡ key_block real key.now }
+{
+    let mut block = [0u8; 64];
+    if key.len() > 64 {
+        let digest = Sha256::digest(key);
+        put_front(&mut block, &digest);
+    } else {
+        put_front(&mut block, key);
+    }
+    block
+}
+
+fn put_front(block: &mut [u8; 64], front: &[u8])
+    requires { length front.now ≤ 64 }
+    ensures { block.new ≡ front.now ++ drop (length front.now) block.old }
+{
+    block[..front.len()].copy_from_slice(front);
+}
+
+fn padded(pad: u8, block: &[u8; 64]) -> [u8; 64]
+    ensures { result ≡ padded pad block.now }
+{
+    let mut out = *block;
+    'bytes: for i in 0..64 {
+        out[i] = pad ^ out[i];
+    }
+    out
+}

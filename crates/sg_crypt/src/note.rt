@@ -1,0 +1,191 @@
+//! What a run's calls leave on record: texts that were tagged, texts whose tag was found right, and texts that were hashed.
+ghost use Rattle.std.specs.Prelude.{◌≡◌, ◌++◌, [], ◌∷◌, length, take, OnOk, OnErr};
+ghost use Rattle.sg_protocol.specs.Node.{text_before, note_of, no_notes};
+
+use sg_base::{Name, OutOfMemory, Seq};
+use std::alloc::Global;
+use std::marker::Model;
+
+/// A text for two principals, the lesser name first by its bytes.
+#[derive(Debug, Drop)]
+pub struct Note {
+    one: Name,
+    two: Name,
+    text: Seq<u8>,
+}
+
+impl Model for Note {
+    ghost use Rattle.sg_protocol.specs.Node.{Note};
+
+    ghost Value = { Note };
+
+    ghost view = { λ n. record { one = n.one; two = n.two; text = n.text } };
+}
+
+impl Note {
+    /// The note of a text for two principals, in either order. It takes no memory.
+    pub fn new(a: Name, b: Name, text: Vec<u8>) -> Note
+        ensures { result ≡ note_of a b text.items }
+    {
+        let text = Seq::from_vec(text);
+        if before(b.as_bytes(), a.as_bytes()) {
+            Note {
+                one: b,
+                two: a,
+                text,
+            }
+        } else {
+            Note {
+                one: a,
+                two: b,
+                text,
+            }
+        }
+    }
+
+    /// The lesser name by its bytes.
+    pub fn one(&self) -> Name
+        ensures { result ≡ self.now.one }
+    {
+        self.one
+    }
+
+    /// The greater name by its bytes.
+    pub fn two(&self) -> Name
+        ensures { result ≡ self.now.two }
+    {
+        self.two
+    }
+
+    /// The text.
+    pub fn text(&self) -> &[u8]
+        ensures { result.now ≡ self.now.text }
+    {
+        self.text.as_slice()
+    }
+}
+
+// The bytes of `a` stand before those of `b`.
+fn before(a: &[u8], b: &[u8]) -> bool
+    ensures { result ≡ text_before a.now b.now }
+{
+    a < b
+}
+
+/// How long each of the three lists is.
+#[derive(Debug, Clone, Copy, PartialEq, Eq)]
+pub struct Counts {
+    pub made: usize,
+    pub found: usize,
+    pub hashed: usize,
+}
+
+/// Three lists: the texts that were tagged, those whose tag was found right, and those that were hashed.
+#[derive(Debug, Drop)]
+pub struct Notes {
+    made: Seq<Note>,
+    found: Seq<Note>,
+    hashed: Seq<Seq<u8>>,
+}
+
+impl Model for Notes {
+    ghost use Rattle.sg_protocol.specs.Node.{Notes};
+
+    ghost Value = { Notes };
+
+    ghost view = { λ n. record { made = n.made; found = n.found; hashed = n.hashed } };
+}
+
+impl Notes {
+    /// Three empty lists. It takes no memory.
+    pub fn new(alloc: Global) -> Notes
+        ensures { result ≡ no_notes }
+    {
+        Notes {
+            made: Seq::new(alloc),
+            found: Seq::new(alloc),
+            hashed: Seq::new(alloc),
+        }
+    }
+
+    /// Empties the three lists. It takes no memory.
+    pub fn clear(&mut self)
+        ensures { self.new ≡ no_notes }
+    {
+        self.made.truncate(0);
+        self.found.truncate(0);
+        self.hashed.truncate(0);
+    }
+
+    /// Appends a text that was tagged. For want of memory the lists stay as they were.
+    pub fn note_made(&mut self, note: Note) -> Result<(), OutOfMemory>
+        ensures ok { OnOk result (self.new ≡ record self.old { made = self.old.made ++ note ∷ [] }) }
+        ensures err { OnErr result (self.new ≡ self.old) }
+    {
+        self.made.push(note)?;
+        Ok(())
+    }
+
+    /// Appends a text whose tag was found right. For want of memory the lists stay as they were.
+    pub fn note_found(&mut self, note: Note) -> Result<(), OutOfMemory>
+        ensures ok { OnOk result (self.new ≡ record self.old { found = self.old.found ++ note ∷ [] }) }
+        ensures err { OnErr result (self.new ≡ self.old) }
+    {
+        self.found.push(note)?;
+        Ok(())
+    }
+
+    /// Appends a text that was hashed. For want of memory the lists stay as they were.
+    pub fn note_hashed(&mut self, text: Vec<u8>) -> Result<(), OutOfMemory>
+        ensures ok { OnOk result (self.new ≡ record self.old { hashed = self.old.hashed ++ text.items ∷ [] }) }
+        ensures err { OnErr result (self.new ≡ self.old) }
+    {
+        self.hashed.push(Seq::from_vec(text))?;
+        Ok(())
+    }
+
+    /// The texts that were tagged, in order.
+    pub fn made(&self) -> &[Note]
+        ensures { result.now ≡ self.now.made }
+    {
+        self.made.as_slice()
+    }
+
+    /// The texts whose tag was found right, in order.
+    pub fn found(&self) -> &[Note]
+        ensures { result.now ≡ self.now.found }
+    {
+        self.found.as_slice()
+    }
+
+    /// The texts that were hashed, in order.
+    pub fn hashed(&self) -> &[Seq<u8>]
+        ensures { result.now ≡ self.now.hashed }
+    {
+        self.hashed.as_slice()
+    }
+
+    /// How long the lists are.
+    pub fn counts(&self) -> Counts
+        ensures { result ≡ record { made = length self.now.made; found = length self.now.found; hashed = length self.now.hashed } }
+    {
+        Counts {
+            made: self.made.len(),
+            found: self.found.len(),
+            hashed: self.hashed.len(),
+        }
+    }
+
+    /// Keeps the first so many of each list: what was noted after `counts` was asked for is gone. It takes no memory.
+    pub fn keep(&mut self, counts: Counts)
+        ensures { self.new ≡ record {
+          made = take counts.made self.old.made;
+          found = take counts.found self.old.found;
+          hashed = take counts.hashed self.old.hashed;
+        } }
+    {
+        self.made.truncate(counts.made);
+        self.found.truncate(counts.found);
+        self.hashed.truncate(counts.hashed);
+    }
+}

@@ -1,0 +1,144 @@
+//! The texts that are hashed or tagged.
+ghost use Rattle.std.specs.Prelude.{◌≡◌, ◌==◌, ◌++◌, codes, if◌then◌else◌, flat_map, IfOk, OnOk};
+ghost use Rattle.sg_protocol.specs.Graph.{Graph, canonical};
+ghost use Rattle.sg_protocol.specs.Texts.{graph_text, session_text, commitment_text, item_text, frame_text, maybe_commitment};
+ghost use Rattle.sg_protocol.specs.TextLaws.{IsVersion};
+
+use crate::cast::Cast;
+use crate::put::{put_name, put_opening};
+use sg_base::{ByteOut, Label, Opening, OutOfMemory, Role, Sid, Time};
+use std::alloc::Global;
+
+/// What the digest of a graph is of, with this canonical text.
+pub fn graph_text(alloc: Global, text: &[u8]) -> Result<Vec<u8>, OutOfMemory>
+    ensures value { IfOk result (λ t. t.items ≡ codes "sg-graph-1" ++ text.now) }
+    ensures graph { IfOk result (λ t. (g : Graph) → text.now ≡ canonical g → t.items ≡ graph_text g) }
+{
+    let mut out = ByteOut::new(alloc);
+    out.bytes(GRAPH)?;
+    out.bytes(text)?;
+    Ok(out.done())
+}
+
+/// What the identifier of a session is of: the digest of its graph, its nonce, and its principals in the order of their roles.
+pub fn session_text(alloc: Global, cast: &Cast) -> Result<Vec<u8>, OutOfMemory>
+    ensures { IfOk result (λ t. t.items ≡ session_text cast.now) }
+{
+    let mut out = ByteOut::new(alloc);
+    out.bytes(session_word(cast.version()))?;
+    out.bytes(&cast.graph())?;
+    out.bytes(&cast.nonce())?;
+    out.u8(cast.count())?;
+    for name in cast.names() {
+        put_name(&mut out, name)?;
+    }
+    Ok(out.done())
+}
+
+/// What the commitment to a value in a session is of: the session, the variable, the confounder and the value.
+pub fn commit_text(alloc: Global, sid: &Sid, opening: &Opening) -> Result<Vec<u8>, OutOfMemory>
+    ensures { IfOk result (λ t. t.items ≡ commitment_text sid.now opening.now) }
+{
+    let mut out = ByteOut::new(alloc);
+    out.bytes(COMMIT)?;
+    out.bytes(&sid.0)?;
+    put_opening(&mut out, opening)?;
+    Ok(out.done())
+}
+
+/// What the sender's tag for another role says: the step, and the current commitment of each variable of the graph in order.
+pub fn item_text(
+    alloc: Global,
+    version: u8,
+    sid: &Sid,
+    sender: Role,
+    target: Role,
+    label: Label,
+    time: Time,
+    commitments: &[Option<[u8; 32]>],
+) -> Result<Vec<u8>, OutOfMemory>
+    requires { IsVersion version }
+    ensures { IfOk result (λ t. t.items ≡ item_text version sid.now sender target label time commitments.now) }
+{
+    let mut out = ByteOut::new(alloc);
+    out.bytes(item_word(version))?;
+    out.bytes(&sid.0)?;
+    out.u8(sender.0)?;
+    out.u8(target.0)?;
+    out.u16(label.0)?;
+    out.u32(time.0)?;
+    put_commitments(&mut out, commitments)?;
+    Ok(out.done())
+}
+
+/// What the tag of a frame is of, with these bytes before the tag.
+pub fn frame_text(alloc: Global, version: u8, body: &[u8]) -> Result<Vec<u8>, OutOfMemory>
+    requires { IsVersion version }
+    ensures { IfOk result (λ t. t.items ≡ frame_text version body.now) }
+{
+    let mut out = ByteOut::new(alloc);
+    out.bytes(frame_word(version))?;
+    out.bytes(body)?;
+    Ok(out.done())
+}
+
+// The byte 0, or the byte 1 and the commitment, for each.
+fn put_commitments(out: &mut ByteOut, commitments: &[Option<[u8; 32]>]) -> Result<(), OutOfMemory>
+    ensures { OnOk result (out.new ≡ out.old ++ flat_map maybe_commitment commitments.now) }
+{
+    for commitment in commitments {
+        put_commitment(out, commitment)?;
+    }
+    Ok(())
+}
+
+fn put_commitment(out: &mut ByteOut, commitment: &Option<[u8; 32]>) -> Result<(), OutOfMemory>
+    ensures { OnOk result (out.new ≡ out.old ++ maybe_commitment commitment.now) }
+{
+    match commitment {
+        None => out.u8(0),
+        Some(bytes) => {
+            out.u8(1)?;
+            out.bytes(bytes)
+        }
+    }
+}
+
+/// The word that the text of a graph begins with.
+pub const GRAPH: &[u8] = b"sg-graph-1";
+
+/// The word that the text of a commitment begins with.
+pub const COMMIT: &[u8] = b"sg-commit-1";
+
+/// The word that the text of a session begins with.
+pub fn session_word(version: u8) -> &'static [u8]
+    ensures { result.now ≡ (if version == 2 then codes "sg-session-2" else codes "sg-session-1") }
+{
+    if version == 2 {
+        b"sg-session-2"
+    } else {
+        b"sg-session-1"
+    }
+}
+
+/// The word that the text of an item begins with.
+pub fn item_word(version: u8) -> &'static [u8]
+    ensures { result.now ≡ (if version == 2 then codes "sg-item-2" else codes "sg-item-1") }
+{
+    if version == 2 {
+        b"sg-item-2"
+    } else {
+        b"sg-item-1"
+    }
+}
+
+/// The word that the text of a frame begins with.
+pub fn frame_word(version: u8) -> &'static [u8]
+    ensures { result.now ≡ (if version == 2 then codes "sg-frame-2" else codes "sg-frame-1") }
+{
+    if version == 2 {
+        b"sg-frame-2"
+    } else {
+        b"sg-frame-1"
+    }
+}
