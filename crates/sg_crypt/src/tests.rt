@@ -22,7 +22,7 @@ fn pair(version: u8) -> Result<Cast, &'static str> {
 
 const NONCE: [u8; 16] = [0, 0, 0, 0, 0, 0, 0, 0, 0, 0, 0, 0, 0, 0, 0, 1];
 
-// Test cases 1, 2 and 6 of RFC 4231.
+// The test cases 1, 2 and 6 of RFC 4231.
 #[test]
 fn tags_of_rfc_4231(rt: HostRuntime) {
     let one = [
