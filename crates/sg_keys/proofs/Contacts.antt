@@ -1,0 +1,50 @@
+-- What the table of peers finds, in the words of the keyring.
+use Rattle.std.proofs.Common.{◌≡◌, ℕ, Bool, true, false, ◌||◌, sym, ap, ◌∙◌, refl, List, [], ◌∷◌, ◌++◌, map, cond, if◌then◌else◌, Option, Some, None, is_some, option_map, bytes_eq, true≢false}
+use Rattle.std.specs.List.{list_any, find}
+use Rattle.std.specs.Map.{lookup}
+use Rattle.sg_protocol.specs.Keyring.{Peer}
+use Rattle.sg_model.specs.Lists.{has_text}
+use Rattle.sg_keys.specs.declared.keyring.Contact.{Contact}
+use Rattle.sg_keys.specs.Inside.{peer_of, names_in}
+use Rattle.sg_keys.proofs.SameName.{same, same-bytes_eq, same-bytes_eq_back}
+
+-- an entry of the table
+abbrev pub Entry : Type 0
+Entry = List ℕ × Contact
+
+module _ {B : Type 0} (f : Peer → B) (g : Contact → B) (agree : (n : List ℕ) (c : Contact) → f (peer_of (n, c)) ≡ g c) where
+  by : (b : Bool) (e : Entry) (found : Option Contact) (first : Option Peer) → option_map g found ≡ option_map f first → option_map g (cond b (Some e.1) found) ≡ option_map f (if b then Some (peer_of e) else first)
+  by true e found first h = ap Some (sym (agree e.0 e.1))
+  by false e found first h = h
+
+  -- what the table has for a name is what the first peer of this name has
+  pub lookup-find : (n : List ℕ) (es : List Entry) → option_map g (lookup (same n) es) ≡ option_map f (find (λ p. bytes_eq p.name n) (map peer_of es))
+  lookup-find n [] = refl
+  lookup-find n (e ∷ es) = rw (same-bytes_eq_back n e.0) (by (bytes_eq e.0 n) e _ _ (lookup-find n es))
+
+some_by : (b : Bool) (c : Contact) (found : Option Contact) (there : Bool) → is_some found ≡ there → is_some (cond b (Some c) found) ≡ b || there
+some_by true c found there h = refl
+some_by false c found there h = h
+
+-- the table has a name that stands in it
+pub is_some-lookup : (n : List ℕ) (es : List Entry) → is_some (lookup (same n) es) ≡ has_text n (names_in es)
+is_some-lookup n [] = refl
+is_some-lookup n (e ∷ es) = rw (same-bytes_eq n e.0) (some_by (bytes_eq n e.0) e.1 _ _ (is_some-lookup n es))
+
+none_from : (found : Option Contact) → is_some found ≡ false → found ≡ None
+none_from None h = refl
+none_from (Some c) h = absurd (true≢false h)
+
+-- the table has nothing for a name that does not stand in it
+pub lookup-absent : (n : List ℕ) (es : List Entry) → has_text n (names_in es) ≡ false → lookup (same n) es ≡ None
+lookup-absent n es h = none_from _ (is_some-lookup n es ∙ h)
+
+-- the names of a table with one more entry
+pub names_in-append : (es : List Entry) (n : List ℕ) (c : Contact) → names_in (es ++ (n, c) ∷ []) ≡ names_in es ++ n ∷ []
+names_in-append [] n c = refl
+names_in-append (e ∷ es) n c = ap (λ ns. e.0 ∷ ns) (names_in-append es n c)
+
+-- the peers of a table with one more entry
+pub peers-append : (es : List Entry) (n : List ℕ) (c : Contact) → map peer_of (es ++ (n, c) ∷ []) ≡ map peer_of es ++ peer_of (n, c) ∷ []
+peers-append [] n c = refl
+peers-append (e ∷ es) n c = ap (λ ps. peer_of e ∷ ps) (peers-append es n c)

@@ -1,0 +1,3 @@
+pub mod SameName
+pub mod Contacts
+pub mod Differ
