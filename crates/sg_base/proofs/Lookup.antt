@@ -1,4 +1,4 @@
-use Rattle.std.specs.Prelude.{Option, Some, None, option_map, String, Vec, string_bytes, bytes_eq}
+use Rattle.std.specs.Prelude.{Option, Some, option_map, String, Vec, string_bytes, bytes_eq}
 use Rattle.std.proofs.Common.{◌≡◌, refl, ap, ◌∙◌, sym, Bool, true, false, cond, List, [], ◌∷◌, map, ℕ}
 use Rattle.std.specs.List.{find}
 use Rattle.std.specs.declared.alloc.Global.{Global}

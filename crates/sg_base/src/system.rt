@@ -16,7 +16,9 @@ pub struct StdFiles<R: rt::Files> {
 
 impl<R: rt::Files + Drop> StdFiles<R> {
     /// The files, with a count of faults of 0.
-    pub fn new(rt: R) -> StdFiles<R> {
+    pub fn new(rt: R) -> StdFiles<R>
+        ensures { ⟦<StdFiles<R> as Files>⟧.faults result ≡ 0 }
+    {
         StdFiles { rt, faults: 0 }
     }
 }
@@ -64,7 +66,9 @@ pub struct StdSink<W: Write> {
 
 impl<W: Write + Drop> StdSink<W> {
     /// A sink over a writer, with a count of faults of 0.
-    pub fn new(writer: W) -> StdSink<W> {
+    pub fn new(writer: W) -> StdSink<W>
+        ensures { ⟦<StdSink<W> as Sink>⟧.faults result ≡ 0 }
+    {
         StdSink { writer, faults: 0 }
     }
 }
@@ -86,5 +90,35 @@ impl<W: Write> Sink for StdSink<W> {
             return Err(Failed);
         }
         Ok(taken)
+    }
+}
+
+#[cfg(test)]
+mod tests {
+    use super::*;
+    use crate::write_all;
+
+    #[test]
+    fn files_of_the_system(rt: HostRuntime) -> io::Result<()> {
+        let alloc = rt.alloc();
+        fs::write(&rt, "four", b"abcd")?;
+        let mut files = StdFiles::new(rt.clone()?);
+        assert!(rt;
+            matches!(files.read(alloc, "four", 4), Ok(Some(bytes)) if bytes.as_slice() == b"abcd".as_slice())
+        );
+        assert!(rt; matches!(files.read(alloc, "four", 3), Err(FileFault::TooLong)));
+        assert!(rt; matches!(files.read(alloc, "five", 4), Ok(None)));
+        assert!(rt; matches!(files.read(alloc, "four/five", 4), Err(FileFault::Failed)));
+        Ok(())
+    }
+
+    #[test]
+    fn writers_of_the_system(rt: HostRuntime) -> io::Result<()> {
+        let mut out = StdSink::new(fs::create(&rt, "out")?);
+        assert!(rt; write_all(&mut out, b"abc") == Ok(()));
+        assert!(rt; fs::read(&rt, "out")?.as_slice() == b"abc".as_slice());
+        let mut shut = StdSink::new(fs::open(&rt, "out")?);
+        assert!(rt; write_all(&mut shut, b"abc") == Err(Failed));
+        Ok(())
     }
 }

@@ -1,4 +1,4 @@
-use Rattle.std.proofs.Common.{◌≡◌, ◌∙◌, ap, sym, Some, None}
+use Rattle.std.proofs.Common.{◌∙◌, ap, sym, Some, None}
 use Rattle.sg_base.proofs.Lookup.{file_at-found}
 use Rattle.sg_base.proofs.memory.files.find_bytes.Goals as goal
 

@@ -1,5 +1,3 @@
-use Rattle.std.proofs.Common.{arith, rules}
-use Rattle.std.proofs.lemmas.Grind.{common_steps}
 use Rattle.sg_base.proofs.memory.files.MemFilesFiles.read.Goals as goal
 use Rattle.sg_base.proofs.memory.files.MemFilesFiles.read.Goals.{in-Ok, in-Err}
 

@@ -1,4 +1,4 @@
-use Rattle.std.proofs.Common.{◌≡◌, ◌∙◌, sym, ◌+◌, ◌*◌, ◌++◌, ◌∷◌, [], arith}
+use Rattle.std.proofs.Common.{◌≡◌, ◌+◌, ◌*◌, refl, arith}
 use Rattle.rand_chacha.specs.ChaCha.{key_of}
 use Rattle.sg_base.specs.Seeded.{stream_word}
 use Rattle.sg_base.proofs.Seeded.{seeded_words-suc}
@@ -12,5 +12,5 @@ loop-preserved c =
     rw c.loop.invariant.place at c.draw.ensures.word in
     record {
       place = rw (c.draw.ensures.place, c.loop.invariant.place) (λ i. record { key = key_of c.args.seed; stream = 0; word_pos = step i });
-      drawn = c.in_ok-push_back.ensures.items ∙ (λ i. c.loop.invariant.drawn i ++ word i ∷ []) ∙ sym more;
+      drawn = rw (c.in_ok-push_back.ensures.items, c.loop.invariant.drawn, word, more) refl;
     }
