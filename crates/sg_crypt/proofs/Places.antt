@@ -4,7 +4,7 @@ use Rattle.std.specs.List.{AllByRecursion}
 use Rattle.std.proofs.lemmas.List.{drop-replicate, get_or_default}
 use Rattle.std.proofs.Math.Seq.{take-append_seam}
 use Rattle.sg_model.specs.Names.{Name, is_name}
-use Rattle.sg_protocol.specs.Frame.{AreBytes}
+use Rattle.sg_model.specs.Bytes.{AreBytes}
 use Rattle.sg_protocol.specs.TextLaws.{IsVersion}
 use Rattle.sg_crypt.specs.Casts.{first_of, filled, HoldsCast}
 

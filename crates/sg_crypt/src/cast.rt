@@ -1,8 +1,9 @@
 //! Who takes part in a session.
 ghost use Rattle.std.specs.Prelude.{◌≡◌, ◌↔◌, ◌≤◌, length, slice_get, IfSome, IsSome, IsTrue};
 ghost use Rattle.std.specs.List.{AllByRecursion};
+ghost use Rattle.sg_model.specs.Bytes.{IsBytes};
 ghost use Rattle.sg_model.specs.Names.{is_name};
-ghost use Rattle.sg_protocol.specs.Frame.{IsBytes, IsCastOf};
+ghost use Rattle.sg_protocol.specs.Frame.{IsCastOf};
 ghost use Rattle.sg_protocol.specs.TextLaws.{IsVersion};
 ghost use Rattle.sg_crypt.specs.Casts.{filled};
 

@@ -3,7 +3,7 @@ ghost use Rattle.std.specs.Prelude.{◌≡◌, ℕ, List, ◌++◌, codes};
 ghost use Rattle.sha2.specs.Hashers.{Holds256};
 ghost use Rattle.sg_base.specs.Values.{value_of};
 ghost use Rattle.sg_protocol.specs.Graph.{Graph, canonical};
-ghost use Rattle.sg_protocol.specs.Frame.{u8, short_text, kind_code, sized, opening_bytes};
+ghost use Rattle.sg_protocol.specs.Spelling.{u8, short_text, kind_code, sized, opening_bytes};
 ghost use Rattle.sg_protocol.specs.Texts.{real, graph_digest, session_id, commitment};
 
 use crate::cast::Cast;

@@ -1,6 +1,6 @@
 //! Tags.
 ghost use Rattle.std.specs.Prelude.{◌≡◌, ◌↔◌, ◌≤◌, ◌++◌, length, drop, IsTrue};
-ghost use Rattle.sg_protocol.specs.Texts.{real, key_block, padded, tag_of, cut};
+ghost use Rattle.sg_protocol.specs.Texts.{real, key_block, padded, hmac, cut};
 ghost use Rattle.sg_protocol.specs.TextLaws.{IsVersion};
 
 use sg_base::Tag;
@@ -8,7 +8,7 @@ use sha2::{Digest, Sha256};
 
 /// The HMAC-SHA-256 of `head` followed by `rest` under `key` (RFC 2104 section 2, with blocks of 64 bytes). It takes no memory.
 pub fn tag(key: &[u8], head: &[u8], rest: &[u8]) -> Tag
-    ensures { result ≡ tag_of real key.now (head.now ++ rest.now) }
+    ensures { result ≡ hmac real key.now (head.now ++ rest.now) }
 {
     let block = key_block(key);
     let mut inner = Sha256::new();
@@ -24,7 +24,7 @@ pub fn tag(key: &[u8], head: &[u8], rest: &[u8]) -> Tag
 
 /// Whether this is the HMAC of `head` followed by `rest` under `key`. It takes no memory.
 pub fn tag_matches(key: &[u8], head: &[u8], rest: &[u8], tag: &Tag) -> bool
-    ensures { IsTrue result ↔ (tag_of real key.now (head.now ++ rest.now) ≡ tag.now) }
+    ensures { IsTrue result ↔ (hmac real key.now (head.now ++ rest.now) ≡ tag.now) }
 {
     same(&crate::hmac::tag(key, head, rest), tag)
 }
@@ -47,7 +47,7 @@ pub fn cut(version: u8, tag: Tag) -> Tag
 /// Whether this is the HMAC of `head` followed by `rest` under `key`, as the version sends it. It takes no memory.
 pub fn cut_matches(version: u8, key: &[u8], head: &[u8], rest: &[u8], tag: &Tag) -> bool
     requires { IsVersion version }
-    ensures { IsTrue result ↔ (cut version (tag_of real key.now (head.now ++ rest.now)) ≡ tag.now) }
+    ensures { IsTrue result ↔ (cut version (hmac real key.now (head.now ++ rest.now)) ≡ tag.now) }
 {
     same(&cut(version, crate::hmac::tag(key, head, rest)), tag)
 }

@@ -1,6 +1,6 @@
 //! What a run's calls leave on record: texts that were tagged, texts whose tag was found right, and texts that were hashed.
 ghost use Rattle.std.specs.Prelude.{◌≡◌, ◌++◌, [], ◌∷◌, length, take, OnOk, OnErr};
-ghost use Rattle.sg_protocol.specs.Node.{text_before, note_of, no_notes};
+ghost use Rattle.sg_protocol.specs.Notes.{text_before, note_of, no_notes};
 
 use sg_base::{Name, OutOfMemory, Seq};
 use std::alloc::Global;
@@ -15,7 +15,7 @@ pub struct Note {
 }
 
 impl Model for Note {
-    ghost use Rattle.sg_protocol.specs.Node.{Note};
+    ghost use Rattle.sg_protocol.specs.Notes.{Note};
 
     ghost Value = { Note };
 
@@ -89,7 +89,7 @@ pub struct Notes {
 }
 
 impl Model for Notes {
-    ghost use Rattle.sg_protocol.specs.Node.{Notes};
+    ghost use Rattle.sg_protocol.specs.Notes.{Notes};
 
     ghost Value = { Notes };
 

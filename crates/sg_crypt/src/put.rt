@@ -1,7 +1,7 @@
 //! Fields that texts and frames share, written to a growing list of bytes.
 ghost use Rattle.std.specs.Prelude.{◌≡◌, ◌++◌, OnOk};
 ghost use Rattle.sg_base.specs.Values.{value_of};
-ghost use Rattle.sg_protocol.specs.Frame.{u8, short_text, kind_code, sized, opening_bytes};
+ghost use Rattle.sg_protocol.specs.Spelling.{u8, short_text, kind_code, sized, opening_bytes};
 
 use sg_base::{ByteOut, Name, Opening, OutOfMemory, Value};
 

@@ -1,7 +1,7 @@
 //! The texts that are hashed or tagged.
 ghost use Rattle.std.specs.Prelude.{◌≡◌, ◌==◌, ◌++◌, codes, if◌then◌else◌, flat_map, IfOk, OnOk};
 ghost use Rattle.sg_protocol.specs.Graph.{Graph, canonical};
-ghost use Rattle.sg_protocol.specs.Texts.{graph_text, session_text, commitment_text, item_text, frame_text, maybe_commitment};
+ghost use Rattle.sg_protocol.specs.Texts.{graph_text_of, session_text_of, commitment_text_of, item_text_of, frame_text_of, maybe_commitment};
 ghost use Rattle.sg_protocol.specs.TextLaws.{IsVersion};
 
 use crate::cast::Cast;
@@ -12,7 +12,7 @@ use std::alloc::Global;
 /// What the digest of a graph is of, with this canonical text.
 pub fn graph_text(alloc: Global, text: &[u8]) -> Result<Vec<u8>, OutOfMemory>
     ensures value { IfOk result (λ t. t.items ≡ codes "sg-graph-1" ++ text.now) }
-    ensures graph { IfOk result (λ t. (g : Graph) → text.now ≡ canonical g → t.items ≡ graph_text g) }
+    ensures graph { IfOk result (λ t. (g : Graph) → text.now ≡ canonical g → t.items ≡ graph_text_of g) }
 {
     let mut out = ByteOut::new(alloc);
     out.bytes(GRAPH)?;
@@ -22,7 +22,7 @@ pub fn graph_text(alloc: Global, text: &[u8]) -> Result<Vec<u8>, OutOfMemory>
 
 /// What the identifier of a session is of: the digest of its graph, its nonce, and its principals in the order of their roles.
 pub fn session_text(alloc: Global, cast: &Cast) -> Result<Vec<u8>, OutOfMemory>
-    ensures { IfOk result (λ t. t.items ≡ session_text cast.now) }
+    ensures { IfOk result (λ t. t.items ≡ session_text_of cast.now) }
 {
     let mut out = ByteOut::new(alloc);
     out.bytes(session_word(cast.version()))?;
@@ -37,7 +37,7 @@ pub fn session_text(alloc: Global, cast: &Cast) -> Result<Vec<u8>, OutOfMemory>
 
 /// What the commitment to a value in a session is of: the session, the variable, the confounder and the value.
 pub fn commit_text(alloc: Global, sid: &Sid, opening: &Opening) -> Result<Vec<u8>, OutOfMemory>
-    ensures { IfOk result (λ t. t.items ≡ commitment_text sid.now opening.now) }
+    ensures { IfOk result (λ t. t.items ≡ commitment_text_of sid.now opening.now) }
 {
     let mut out = ByteOut::new(alloc);
     out.bytes(COMMIT)?;
@@ -58,7 +58,7 @@ pub fn item_text(
     commitments: &[Option<[u8; 32]>],
 ) -> Result<Vec<u8>, OutOfMemory>
     requires { IsVersion version }
-    ensures { IfOk result (λ t. t.items ≡ item_text version sid.now sender target label time commitments.now) }
+    ensures { IfOk result (λ t. t.items ≡ item_text_of version sid.now sender target label time commitments.now) }
 {
     let mut out = ByteOut::new(alloc);
     out.bytes(item_word(version))?;
@@ -74,7 +74,7 @@ pub fn item_text(
 /// What the tag of a frame is of, with these bytes before the tag.
 pub fn frame_text(alloc: Global, version: u8, body: &[u8]) -> Result<Vec<u8>, OutOfMemory>
     requires { IsVersion version }
-    ensures { IfOk result (λ t. t.items ≡ frame_text version body.now) }
+    ensures { IfOk result (λ t. t.items ≡ frame_text_of version body.now) }
 {
     let mut out = ByteOut::new(alloc);
     out.bytes(frame_word(version))?;

@@ -1,6 +1,6 @@
 use Rattle.std.proofs.Common.{◌≡◌, ◌++◌, codes, ap, ◌∙◌}
 use Rattle.sha2.specs.Sha256.{sha256}
-use Rattle.sg_protocol.specs.Frame.{opening_bytes}
+use Rattle.sg_protocol.specs.Spelling.{opening_bytes}
 use Rattle.sg_crypt.proofs.Joined.{three_joined}
 use Rattle.sg_crypt.proofs.digest.commit.Goals as goal
 

@@ -1,7 +1,7 @@
 use Rattle.std.proofs.Common.{◌++◌, ℕ, List, take}
 use Rattle.std.specs.List.{flat_map}
 use Rattle.sha2.specs.Hashers.{Holds256}
-use Rattle.sg_protocol.specs.Frame.{short_text}
+use Rattle.sg_protocol.specs.Spelling.{short_text}
 use Rattle.sg_crypt.proofs.digest.session_id.Given as goal
 
 abbrev pub invariant-loop-name : goal.invariant-loop-name
