@@ -5,7 +5,9 @@ use Rattle.std.proofs.lemmas.Nat.Bits.{bit_at-zero, bit_at_set_same, bit_at_set_
 use Rattle.std.specs.Int.{Width, bit_at}
 use mir.Val.{bits}
 use Rattle.std.specs.Prelude.{bit_or, bit_and}
-use Rattle.sg_base.specs.Sets.{members, with_member}
+use Rattle.std.proofs.lemmas.Bool.{eqb-true, eq-eqb}
+use Rattle.std.specs.Prelude.{◌↔◌}
+use Rattle.sg_base.specs.Sets.{members, mask_of, with_member}
 use Rattle.sg_model.specs.Lists.{range_from, is_in}
 
 -- a test of the elements below a bound may be replaced by one that agrees there
@@ -91,3 +93,10 @@ one_more w width m x h = members-as width (bit_or m (1 * 2 ^ x % 2 ^ bits w)) �
 -- the same of a set that is seen as s
 pub members-with : (w : Width) (width m x : ℕ) (s : List ℕ) → members width m ≡ s → x < bits w → members width (bit_or m (1 * 2 ^ x % 2 ^ bits w)) ≡ with_member width s x
 members-with w width m x s seen h = rw (← seen) (one_more w width m x h)
+
+-- a mask has no number exactly if it is 0
+pub members-none : (width m : ℕ) (s : List ℕ) → members width m ≡ s → mask_of (members width m) ≡ m → (m == 0) ≡ true ↔ (s ≡ [])
+members-none width m s seen back = (
+  (λ z. let zero : m ≡ 0 = eqb-true m 0 z in sym seen ∙ ap (members width) zero ∙ members-zero width),
+  (λ none. let zero : m ≡ 0 = sym back ∙ ap mask_of (seen ∙ none) in eq-eqb m 0 zero),
+)

@@ -1,5 +1,5 @@
 //! Sets of roles and of variables.
-ghost use Rattle.std.specs.Prelude.{◌≡◌, ◌<◌, [], Bool};
+ghost use Rattle.std.specs.Prelude.{◌≡◌, ◌<◌, ◌↔◌, [], IsTrue};
 ghost use Rattle.sg_model.specs.Lists.{is_in};
 ghost use Rattle.sg_base.specs.Sets.{members, with_member};
 
@@ -33,6 +33,13 @@ impl RoleSet {
         ensures { result ≡ [] }
     {
         RoleSet(0)
+    }
+
+    /// No role is in the set.
+    pub fn is_empty(&self) -> bool
+        ensures { IsTrue result ↔ (self.now ≡ []) }
+    {
+        self.0 == 0
     }
 
     /// The role is in the set. There are sixteen roles at most, so no other is.
@@ -78,6 +85,13 @@ impl VarSet {
         ensures { result ≡ [] }
     {
         VarSet(0)
+    }
+
+    /// No variable is in the set.
+    pub fn is_empty(&self) -> bool
+        ensures { IsTrue result ↔ (self.now ≡ []) }
+    {
+        self.0 == 0
     }
 
     /// The variable is in the set. There are 32 variables at most, so no other is.
