@@ -3,5 +3,6 @@
 pub struct Addr {
     /// The four bytes of the address, in network order.
     pub ip: [u8; 4],
+    /// The port, in the host's own order.
     pub port: u16,
 }

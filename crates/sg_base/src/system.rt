@@ -101,24 +101,31 @@ mod tests {
     #[test]
     fn files_of_the_system(rt: HostRuntime) -> io::Result<()> {
         let alloc = rt.alloc();
-        fs::write(&rt, "four", b"abcd")?;
+        fs::write(&rt, "four_bytes", b"abcd")?;
         let mut files = StdFiles::new(rt.clone()?);
         assert!(rt;
-            matches!(files.read(alloc, "four", 4), Ok(Some(bytes)) if bytes.as_slice() == b"abcd".as_slice())
+            matches!(files.read(alloc, "four_bytes", 4), Ok(Some(bytes)) if bytes.as_slice() == b"abcd".as_slice())
         );
-        assert!(rt; matches!(files.read(alloc, "four", 3), Err(FileFault::TooLong)));
-        assert!(rt; matches!(files.read(alloc, "five", 4), Ok(None)));
-        assert!(rt; matches!(files.read(alloc, "four/five", 4), Err(FileFault::Failed)));
+        assert!(rt; matches!(files.read(alloc, "four_bytes", 3), Err(FileFault::TooLong)));
+        assert!(rt; matches!(files.read(alloc, "no_file", 4), Ok(None)));
+        assert!(rt;
+            matches!(
+                files.read(alloc, "four_bytes/five", 4),
+                Err(FileFault::Failed)
+            )
+        );
+        fs::remove_file(&rt, "four_bytes")?;
         Ok(())
     }
 
     #[test]
     fn writers_of_the_system(rt: HostRuntime) -> io::Result<()> {
-        let mut out = StdSink::new(fs::create(&rt, "out")?);
+        let mut out = StdSink::new(fs::create(&rt, "three_bytes")?);
         assert!(rt; write_all(&mut out, b"abc") == Ok(()));
-        assert!(rt; fs::read(&rt, "out")?.as_slice() == b"abc".as_slice());
-        let mut shut = StdSink::new(fs::open(&rt, "out")?);
+        assert!(rt; fs::read(&rt, "three_bytes")?.as_slice() == b"abc".as_slice());
+        let mut shut = StdSink::new(fs::open(&rt, "three_bytes")?);
         assert!(rt; write_all(&mut shut, b"abc") == Err(Failed));
+        fs::remove_file(&rt, "three_bytes")?;
         Ok(())
     }
 }
