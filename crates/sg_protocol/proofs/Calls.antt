@@ -1,4 +1,5 @@
 -- What a call at a node is to the law.
+use Rattle.sg_law.specs.Accept.{Step as LawStep}
 use Rattle.std.specs.Prelude.{filter_map, ◌≡◌, ℕ, zero, suc, ◌+◌, ◌<◌, ◌==◌, nat_lt, nat_le, get_or, ◌&&◌, ◌||◌, ◌⊎◌, Bool, true, false, not, cond, List, [], ◌∷◌, ◌++◌, map, filter, flat_map, length, find, bytes_eq, refl, Option, Some, None, option_map, unwrap_or, IfSome}
 use Rattle.std.specs.List.{list_all, list_any, AllByRecursion}
 use Rattle.std.specs.Option.{option_map_or}
@@ -332,7 +333,7 @@ module _ (sha : Hash) (hash : IsHash sha) (s : Schedule) (programs : List Progra
     world = λ h ne. rw (ne_eqb h r (λ q. ne (ap (principal cast) q ∙ is))) refl;
   }
 
-  kept_takes : (who : Name) (st : State) (r k : ℕ) (items : List (B.Entry Code)) (os : List Opening) → principal cast r ≡ who → Kept who st (moved commit st (Takes r k items os))
+  kept_takes : (who : Name) (st : State) (r k : ℕ) (items : List (B.Entry LawStep Code)) (os : List Opening) → principal cast r ≡ who → Kept who st (moved commit st (Takes r k items os))
   kept_takes who st r k items os is = record {
     told = λ h ne. rw (ne_eqb h r (λ q. ne (ap (principal cast) q ∙ is))) refl;
     world = λ h ne. rw (ne_eqb h r (λ q. ne (ap (principal cast) q ∙ is))) refl;
@@ -935,7 +936,7 @@ module _ (sha : Hash) (hash : IsHash sha) (s : Schedule) (programs : List Progra
               ap (λ o. Walk'.Receives f.receiver (unwrap_or (option_map (λ (i : Item). i.label) o) 0) (shown (map (λ (o : Opening). (o.variable, o.value)) f.openings)) ∷ []) t.is_last
               ∙ ap (λ l. Walk'.Receives f.receiver (t.last_one).label l ∷ []) (shown_openings f.openings)
               ∙ ap (λ r. Walk'.Receives r (t.last_one).label (V.values_of f.openings) ∷ []) (fr ∙ sym t.by_me)
-              ∙ ap (λ o. flat_map (acts_of g) (Reads (option_map (λ (i : B.Entry Code). i.label) o) (V.values_of f.openings) ∷ [])) (sym (last-option_map entry f.items ∙ ap (option_map entry) t.is_last)));
+              ∙ ap (λ o. flat_map (acts_of g) (Reads (option_map (λ (i : B.Entry LawStep Code). i.step.label) o) (V.values_of f.openings) ∷ [])) (sym (last-option_map entry f.items ∙ ap (option_map entry) t.is_last)));
           typed = (t.typed, tt);
           used = used_in f.openings (fit_openings f.openings spelled.openings) (λ o i. i);
           made = λ nt i. absurd (no_made 16 (Some (p, x)) nt i);
@@ -945,18 +946,18 @@ module _ (sha : Hash) (hash : IsHash sha) (s : Schedule) (programs : List Progra
               (rw took_told (told_step st (moved commit st (Takes x.role t.node (entries f.items) f.openings)) who x (Took f) m t.matches));
           sent = (sym (append-nil st.world.sent), tt);
           took = λ f' q. (
-            let same : Deliver bs ≡ Deliver q.bs = q.is_call in
-            let same' : bs ≡ q.bs = cc in
-            let ff : f ≡ f' = ok_same (read bs) f f' is_read (ap read same' ∙ q.is_read) in
-            subst (TakesFrame who (Takes x.role t.node (entries f.items) f.openings ∷ [])) ff record {
-              node = t.node;
-              are = ap (λ r. Takes r t.node (entries f.items) f.openings ∷ []) (sym fr);
-              is_who = ap (principal cast) fr ∙ m.is_who;
-              inside = subst (λ r. r < length cast.names) (sym fr) m.inside;
-              no_own = subst (λ r. has (λ (i : Item). i.role) r f.items ≡ false) (sym fr) t.no_own;
-              roles = (told_step st (moved commit st (Takes x.role t.node (entries f.items) f.openings)) who x (Took f) m t.matches).1;
-            }
-          );
+              let same : Deliver bs ≡ Deliver q.bs = q.is_call in
+              let same' : bs ≡ q.bs = cc in
+              let ff : f ≡ f' = ok_same (read bs) f f' is_read (ap read same' ∙ q.is_read) in
+              subst (TakesFrame who (Takes x.role t.node (entries f.items) f.openings ∷ [])) ff record {
+                node = t.node;
+                are = ap (λ r. Takes r t.node (entries f.items) f.openings ∷ []) (sym fr);
+                is_who = ap (principal cast) fr ∙ m.is_who;
+                inside = subst (λ r. r < length cast.names) (sym fr) m.inside;
+                no_own = subst (λ r. has (λ (i : Item). i.role) r f.items ≡ false) (sym fr) t.no_own;
+                roles = (told_step st (moved commit st (Takes x.role t.node (entries f.items) f.openings)) who x (Took f) m t.matches).1;
+              }
+              );
           life = inr (inr (inr (inl record {
             f = f;
             spelled = spelled;

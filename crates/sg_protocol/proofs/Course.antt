@@ -379,7 +379,7 @@ module _ (sha : Hash) (hash : IsHash sha) (s : Schedule) (programs : List Progra
                   let old : Told st r past.calls = p.told who past its_past r (is ∙ same) l in
                   let new = out.told r (is ∙ same) l in
                   subst (Told (moved_all commit st out.moves) r) (sym calls_are) (subst (λ l. ((moved_all commit st out.moves).told r ≡ entries l) × Roles (shape g) l) (sym (told_by-append r past.calls (record { call = c; answer = answer sha (node_of past) c })))
-                      (new.0 ∙ ap (λ l. l ++ entries (told_by r (record { call = c; answer = answer sha (node_of past) c } ∷ []))) old.0 ∙ sym (map-append entry (told_by r past.calls) (told_by r (record { call = c; answer = answer sha (node_of past) c } ∷ []))), roles-append (shape g) (told_by r past.calls) (told_by r (record { call = c; answer = answer sha (node_of past) c } ∷ [])) old.1 new.1))
+                  (new.0 ∙ ap (λ l. l ++ entries (told_by r (record { call = c; answer = answer sha (node_of past) c } ∷ []))) old.0 ∙ sym (map-append entry (told_by r past.calls) (told_by r (record { call = c; answer = answer sha (node_of past) c } ∷ []))), roles-append (shape g) (told_by r past.calls) (told_by r (record { call = c; answer = answer sha (node_of past) c } ∷ [])) old.1 new.1))
               | inr h ↦
                   let r' : y ≡ p' = rw h at nx in
                   let ne : me ≡ who → ⊥ = λ z. no_clash (bytes_eq y.keys.me who) ((bytes_eq-Decides y.keys.me who).1 (is_me ∙ z)) h in

@@ -3,9 +3,9 @@ use Rattle.std.specs.Prelude.{◌≡◌, ℕ, zero, suc, ◌+◌, ◌<◌, ◌�
 use Rattle.std.specs.List.{AllByRecursion, cons_option, list_all}
 use Rattle.std.specs.Option.{option_or, option_map_or}
 use Rattle.std.proofs.Common.{sym, ◌∙◌, ap, subst, inl, inr, arith, append_assoc, append-nil}
-use Rattle.std.proofs.lemmas.Bool.{cases_Bool, eqb-true}
+use Rattle.std.proofs.lemmas.Bool.{cases_Bool}
 use Rattle.std.proofs.lemmas.Bool.Decides.{nat_tests}
-use Rattle.sg_model.specs.Last.{Map, Entry, has, last, last_or, up_to_last, after_last, evidence}
+use Rattle.sg_model.specs.Last.{Map, Entry, has, last, up_to_last, evidence}
 use Rattle.sg_model.specs.Lists.{below, range_from, first_some, same_text, value_at}
 use Rattle.sg_model.specs.Shape.{sender, receiver, target, role_at, source}
 use Rattle.sg_model.specs.Values.{Value, Opening}
@@ -16,13 +16,13 @@ use Rattle.sg_protocol.specs.Evidence.{has_view}
 use Rattle.sg_protocol.specs.Frame.{Cast, Item, Frame}
 use Rattle.sg_protocol.specs.Texts.{Hash, item_text_of, commitment}
 use Rattle.sg_protocol.specs.Keyring.{Keyring, Program, targets_of}
-use Rattle.sg_protocol.specs.Session.{Session, Exchange, items_of, openings_of, told, own, own_time, time, place, origin, at_turn, last_label, committed, commitments, opening_in, last_opening, known, extended}
-use Rattle.sg_protocol.specs.Sending.{entry_of, item_of, shown_to, tag_for, plain_item, text_to, own_item, opening_of, plain_frame, text_of, frame_sent}
-use Rattle.sg_protocol.specs.Checks.{checked_texts, texts_checked, shown_commitments}
-use Rattle.sg_protocol.specs.Kept.{Kept, kept, kept_items}
-use Rattle.sg_protocol.specs.Calls.{Refusal, BadFrameTag, NoSuchView, BadTime, BadEvidence, BadOpening, ActFault, Send, NoSuchLabel, BadValues, TimeSpent}
-use Rattle.sg_protocol.specs.Verdict.{row, seen, has_frame_tag, is_shown, has_right_tags, bad_time, has_item_tag, has_kind, is_right, rows_of_session}
-use Rattle.sg_protocol.specs.Acting.{is_bad, leaves, rows_of_send, rows_of_act}
+use Rattle.sg_protocol.specs.Session.{Session, Exchange, items_of, openings_of, told, own, own_time, time, place, origin, last_label, committed, commitments, opening_in, last_opening, known, extended}
+use Rattle.sg_protocol.specs.Sending.{entry_of, item_of, shown_to, tag_for, plain_item, text_to, opening_of, text_of, frame_sent}
+use Rattle.sg_protocol.specs.Checks.{checked_texts, texts_checked}
+use Rattle.sg_protocol.specs.Kept.{Kept, kept_items}
+use Rattle.sg_protocol.specs.Calls.{Refusal, BadFrameTag, NoSuchView, BadEvidence, BadOpening, ActFault, Send, NoSuchLabel, BadValues, TimeSpent}
+use Rattle.sg_protocol.specs.Verdict.{row, seen, is_shown, has_right_tags, bad_time, has_kind, is_right, rows_of_session}
+use Rattle.sg_protocol.specs.Acting.{is_bad, rows_of_act}
 use Rattle.sg_protocol.specs.Enough.{KeepsSame, KeptIsEnough}
 use Rattle.sg_protocol.proofs.KeptLaws.{kept-kept, shown_to-kept}
 use Rattle.sg_protocol.proofs.Moves.{and_parts, not_false, row_none, same_bytes}
@@ -330,8 +330,8 @@ module _ (sha : Hash) (keys : Keyring) (p : Program) (s t : Session) (f : Frame)
       let shown : is_shown p t f ≡ true = not_false (is_shown p t f) (row_none _ _ h) in
       let vars : map (λ (o : Opening). o.variable) f.openings ≡ option_map_or (reads p.graph) (last_label f.items) [] = same_bytes _ _ (and_parts _ _ shown).1 in
       ap (option_map (λ (o : Opening). BadOpening o.variable)) (find_same _ _ f.openings
-          (all_below (λ (o : Opening). o.variable < length p.graph.variables) (λ (o : Opening). not (is_right sha p.graph s f o) ≡ not (is_right sha p.graph t f o)) f.openings
-          (below_reads (length p.graph.variables) f.openings _ vars (reads_below (last_label f.items))) right_same))
+      (all_below (λ (o : Opening). o.variable < length p.graph.variables) (λ (o : Opening). not (is_right sha p.graph s f o) ≡ not (is_right sha p.graph t f o)) f.openings
+      (below_reads (length p.graph.variables) f.openings _ vars (reads_below (last_label f.items))) right_same))
 
   keeps_judging : first_some (rows_of_session sha keys p s f) ≡ first_some (rows_of_session sha keys p t f)
   keeps_judging =

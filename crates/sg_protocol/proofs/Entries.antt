@@ -17,7 +17,7 @@ use Rattle.sg_protocol.specs.Session.{committed}
 use Rattle.sg_protocol.specs.Sending.{entry_of, item_of, tags_left, shown_to}
 use Rattle.sg_protocol.specs.Verdict.{seen}
 use Rattle.sg_law.specs.Last as B
-use Rattle.sg_law.specs.Accept.{Step}
+use Rattle.sg_law.specs.Accept.{sender_of, Step}
 use Rattle.sg_law.specs.Run.{RisesFrom, own_time}
 use Rattle.sg_law.specs.Values as V
 use Rattle.sg_law.specs.Values.{com_of, lookup, or_else, Alike, Sight}
@@ -34,10 +34,10 @@ cases_Bool true = inl refl
 cases_Bool false = inr refl
 
 -- an item as an entry of the law
-abbrev pub entry : Item → B.Entry Code
-entry i = record { label = i.label; time = i.time; writes = i.delta }
+abbrev pub entry : Item → B.Entry Step Code
+entry i = record { step = record { label = i.label; time = i.time }; writes = i.delta }
 
-abbrev pub entries : List Item → List (B.Entry Code)
+abbrev pub entries : List Item → List (B.Entry Step Code)
 entries is = map entry is
 
 pub entries-com : (is : List Item) (x : ℕ) → com_of (entries is) x ≡ committed x is
@@ -48,16 +48,16 @@ abbrev Ent : Type 0
 Ent = A.Entry Item (List ℕ)
 
 -- an entry of an item as an entry of the law
-abbrev pub as_entry : Ent → B.Entry Code
-as_entry e = record { label = e.step.label; time = e.step.time; writes = e.writes }
+abbrev pub as_entry : Ent → B.Entry Step Code
+as_entry e = record { step = record { label = e.step.label; time = e.step.time }; writes = e.writes }
 
 pub entries-entry_of : (is : List Item) → map as_entry (map entry_of is) ≡ entries is
 entries-entry_of [] = refl
 entries-entry_of (i ∷ is) = ap (λ l. entry i ∷ l) (entries-entry_of is)
 
 module _ (g : Shape) where
-  abbrev pub by : B.Entry Code → ℕ
-  by e = sender g e.label
+  abbrev pub by : B.Entry Step Code → ℕ
+  by e = sender g e.step.label
 
   -- each item's role is the sender of its label
   abbrev pub Roles : List Item → Type 0
@@ -105,7 +105,7 @@ module _ (g : Shape) where
   carry-ents v [] = refl
   carry-ents v (e ∷ es) = refl
 
-  evidence-ents : (es : List Ent) → EntRoles es → map as_entry (A.evidence (λ (i : Item). i.role) es) ≡ B.evidence (sender g) (map as_entry es)
+  evidence-ents : (es : List Ent) → EntRoles es → map as_entry (A.evidence (λ (i : Item). i.role) es) ≡ B.evidence (sender_of g) (map as_entry es)
   evidence-ents [] r = refl
   evidence-ents (e ∷ es) r =
       let same : has by (sender g e.step.label) (map as_entry es) ≡ has (λ (e : Ent). e.step.role) e.step.role es = has-ents (sender g e.step.label) es r.1 ∙ ap (λ k. has (λ (e : Ent). e.step.role) k es) (sym r.0) in
@@ -138,10 +138,10 @@ module _ (g : Shape) where
   ent_roles (i ∷ is) r = (r.0, ent_roles is r.1)
 
   -- the evidence of items is the evidence of the law
-  pub evidence_for-ents : (k : ℕ) (is : List Item) → Roles is → map as_entry (evidence_for (λ (i : Item). i.role) k (map entry_of is)) ≡ B.evidence (sender g) (after_last by k (entries is))
+  pub evidence_for-ents : (k : ℕ) (is : List Item) → Roles is → map as_entry (evidence_for (λ (i : Item). i.role) k (map entry_of is)) ≡ B.evidence (sender_of g) (after_last by k (entries is))
   evidence_for-ents k is r =
       evidence-ents (after_last (λ (e : Ent). e.step.role) k (map entry_of is)) (after-roles k (map entry_of is) (ent_roles is r))
-      ∙ ap (B.evidence (sender g)) (after-ents k (map entry_of is) (ent_roles is r) ∙ ap (after_last by k) (entries-entry_of is))
+      ∙ ap (B.evidence (sender_of g)) (after-ents k (map entry_of is) (ent_roles is r) ∙ ap (after_last by k) (entries-entry_of is))
 
 -- the last entry of what is shown has its sender's role
 pub evidence_for-role : (g : Shape) (k : ℕ) (is : List Item) (e : Ent) → Roles g is → last (evidence_for (λ (i : Item). i.role) k (map entry_of is)) ≡ Some e → e.step.role ≡ sender g e.step.label
@@ -171,12 +171,12 @@ com-items g (e ∷ es) x h =
     ∙ ap (or_else (com_of (map as_entry es) x)) (lookup-value_at (in_order (length g.variables) e.writes) x ∙ value_at-in_order (length g.variables) e.writes x h ∙ sym (lookup-value_at e.writes x))
 
 -- what is shown to a role is the evidence of the law, in other order
-pub shown-steps : (g : Graph) (k : ℕ) (is : List Item) → Roles (shape g) is → V.steps_of (entries (shown_to g k is)) ≡ V.steps_of (B.evidence (sender (shape g)) (after_last (by (shape g)) k (entries is)))
+pub shown-steps : (g : Graph) (k : ℕ) (is : List Item) → Roles (shape g) is → V.steps_of (entries (shown_to g k is)) ≡ V.steps_of (B.evidence (sender_of (shape g)) (after_last (by (shape g)) k (entries is)))
 shown-steps g k is r =
     ap V.steps_of (entries-tags_left (map (item_of g) (evidence_for (λ (i : Item). i.role) k (map entry_of is))))
     ∙ steps-items g (evidence_for (λ (i : Item). i.role) k (map entry_of is)) ∙ ap V.steps_of (evidence_for-ents (shape g) k is r)
 
-pub shown-com : (g : Graph) (k : ℕ) (is : List Item) → Roles (shape g) is → (x : ℕ) → x < length g.variables → com_of (entries (shown_to g k is)) x ≡ com_of (B.evidence (sender (shape g)) (after_last (by (shape g)) k (entries is))) x
+pub shown-com : (g : Graph) (k : ℕ) (is : List Item) → Roles (shape g) is → (x : ℕ) → x < length g.variables → com_of (entries (shown_to g k is)) x ≡ com_of (B.evidence (sender_of (shape g)) (after_last (by (shape g)) k (entries is))) x
 shown-com g k is r x h =
     ap (λ l. com_of l x) (entries-tags_left (map (item_of g) (evidence_for (λ (i : Item). i.role) k (map entry_of is))))
     ∙ com-items g (evidence_for (λ (i : Item). i.role) k (map entry_of is)) x h ∙ ap (λ l. com_of l x) (evidence_for-ents (shape g) k is r)
@@ -207,33 +207,33 @@ names-merge {A = A} a b =
         ]
 
 -- the same labels and names
-abbrev Keyed : List Wal → List (B.Entry Code) → Type 0
+abbrev Keyed : List Wal → List (B.Entry Step Code) → Type 0
 Keyed [] [] = ⊤
 Keyed [] (b ∷ bs) = ⊥
 Keyed (a ∷ ps) [] = ⊥
-Keyed (a ∷ ps) (b ∷ bs) = (a.step ≡ b.label) × (names a.writes ≡ names b.writes) × Keyed ps bs
+Keyed (a ∷ ps) (b ∷ bs) = (a.step ≡ b.step.label) × (names a.writes ≡ names b.writes) × Keyed ps bs
 
 module _ (g : Shape) where
-  keyed-has : (k : ℕ) (xs : List Wal) (ys : List (B.Entry Code)) → Keyed xs ys → has (λ (y : Wal). sender g y.step) k xs ≡ has (λ (y : B.Entry Code). sender g y.label) k ys
+  keyed-has : (k : ℕ) (xs : List Wal) (ys : List (B.Entry Step Code)) → Keyed xs ys → has (λ (y : Wal). sender g y.step) k xs ≡ has (λ (y : B.Entry Step Code). sender g y.step.label) k ys
   keyed-has k [] [] h = refl
   keyed-has k [] (y ∷ ys) h = absurd h
   keyed-has k (x ∷ xs) [] h = absurd h
-  keyed-has k (x ∷ xs) (y ∷ ys) h = ap (λ n. (sender g n == k) || has (λ (y : Wal). sender g y.step) k xs) h.0 ∙ ap (λ b. (sender g y.label == k) || b) (keyed-has k xs ys h.2)
+  keyed-has k (x ∷ xs) (y ∷ ys) h = ap (λ n. (sender g n == k) || has (λ (y : Wal). sender g y.step) k xs) h.0 ∙ ap (λ b. (sender g y.step.label == k) || b) (keyed-has k xs ys h.2)
 
-  keyed-carry : (u : Map (Unit {0})) (v : Map Code) → names u ≡ names v → (xs : List Wal) (ys : List (B.Entry Code)) → Keyed xs ys → Keyed (A.carry u xs) (B.carry v ys)
+  keyed-carry : (u : Map (Unit {0})) (v : Map Code) → names u ≡ names v → (xs : List Wal) (ys : List (B.Entry Step Code)) → Keyed xs ys → Keyed (A.carry u xs) (B.carry v ys)
   keyed-carry u v e [] [] h = tt
   keyed-carry u v e [] (y ∷ ys) h = absurd h
   keyed-carry u v e (x ∷ xs) [] h = absurd h
   keyed-carry u v e (x ∷ xs) (y ∷ ys) h = (h.0, names-merge u x.writes ∙ ap (λ a. name_merge a (names x.writes)) e ∙ ap (name_merge (names v)) h.1 ∙ sym (names-merge v y.writes), h.2)
 
-  keyed-evidence : (xs : List Wal) (ys : List (B.Entry Code)) → Keyed xs ys → Keyed (A.evidence (sender g) xs) (B.evidence (sender g) ys)
+  keyed-evidence : (xs : List Wal) (ys : List (B.Entry Step Code)) → Keyed xs ys → Keyed (A.evidence (sender g) xs) (B.evidence (sender_of g) ys)
   keyed-evidence [] [] h = tt
   keyed-evidence [] (y ∷ ys) h = absurd h
   keyed-evidence (x ∷ xs) [] h = absurd h
   keyed-evidence (x ∷ xs) (y ∷ ys) h =
-      let same : has (λ (y : Wal). sender g y.step) (sender g x.step) xs ≡ has (λ (y : B.Entry Code). sender g y.label) (sender g y.label) ys = keyed-has (sender g x.step) xs ys h.2 ∙ ap (λ n. has (λ (y : B.Entry Code). sender g y.label) (sender g n) ys) h.0 in
-      elim (cases_Bool (has (λ (y : B.Entry Code). sender g y.label) (sender g y.label) ys)) [
-        | inl e ↦ rw (same ∙ e, e) (keyed-carry x.writes y.writes h.1 (A.evidence (sender g) xs) (B.evidence (sender g) ys) (keyed-evidence xs ys h.2))
+      let same : has (λ (y : Wal). sender g y.step) (sender g x.step) xs ≡ has (λ (y : B.Entry Step Code). sender g y.step.label) (sender g y.step.label) ys = keyed-has (sender g x.step) xs ys h.2 ∙ ap (λ n. has (λ (y : B.Entry Step Code). sender g y.step.label) (sender g n) ys) h.0 in
+      elim (cases_Bool (has (λ (y : B.Entry Step Code). sender g y.step.label) (sender g y.step.label) ys)) [
+        | inl e ↦ rw (same ∙ e, e) (keyed-carry x.writes y.writes h.1 (A.evidence (sender g) xs) (B.evidence (sender_of g) ys) (keyed-evidence xs ys h.2))
         | inr e ↦ rw (same ∙ e, e) (h.0, h.1, keyed-evidence xs ys h.2)
       ]
 
@@ -297,7 +297,7 @@ rising-has n K x b = elim (cases_Bool (nat_lt x n)) [
 ]
 
 -- items that are seen as the evidence of a walk are alike to it
-alike_seen : (n : ℕ) (items : List Item) (ws : List Wal) (bs : List (B.Entry Code)) → map seen items ≡ map (λ (i : Wal). record { label = i.step; delta = rising n (keys_of i.writes) }) ws → AllBelow n ws → Keyed ws bs → Alike (entries items) bs
+alike_seen : (n : ℕ) (items : List Item) (ws : List Wal) (bs : List (B.Entry Step Code)) → map seen items ≡ map (λ (i : Wal). record { label = i.step; delta = rising n (keys_of i.writes) }) ws → AllBelow n ws → Keyed ws bs → Alike (entries items) bs
 alike_seen n [] [] [] e b h = tt
 alike_seen n [] [] (y ∷ ys) e b h = absurd h
 alike_seen n [] (a ∷ ws) bs e b h = absurd (cc)
@@ -354,7 +354,7 @@ sight g b h v i own items o l t =
       turn = i.ends;
       own_last = ap (λ (x : View). x.origin) i.seen ∙ o;
       no_own = has-after_last (sender (shape g)) h i.walk;
-      alike = alike_seen (length g.variables) items (A.evidence (sender (shape g)) (walked g since)) (B.evidence (sender (shape g)) (map (V.entry (shape g)) since)) seen_items
+      alike = alike_seen (length g.variables) items (A.evidence (sender (shape g)) (walked g since)) (B.evidence (sender_of (shape g)) (map (V.entry (shape g)) since)) seen_items
           (below-evidence (length g.variables) (sender (shape g)) (walked g since) (below_walked g b since)) (keyed-evidence (shape g) (walked g since) (map (V.entry (shape g)) since) (keyed_walked g since));
       rises = t;
     }

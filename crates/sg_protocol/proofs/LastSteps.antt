@@ -8,7 +8,7 @@ use Rattle.sg_protocol.specs.Frame.{Cast, Item}
 use Rattle.sg_protocol.specs.Texts.{Hash, IsHash}
 use Rattle.sg_protocol.specs.Session.{items_of}
 use Rattle.sg_protocol.specs.Schedule.{Schedule, Step, graph_with}
-use Rattle.sg_protocol.specs.World.{World, Logged}
+use Rattle.sg_protocol.specs.World.{Logged}
 use Rattle.sg_protocol.specs.Run.{run, events_of, cast_in, cast_of_session}
 use Rattle.sg_protocol.specs.IsSchedule.{IsStep}
 use Rattle.sg_protocol.specs.LastSteps.{FramesShowLastSteps, ShowsLastSteps, exchanges_of}

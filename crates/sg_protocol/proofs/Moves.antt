@@ -10,7 +10,7 @@ use Rattle.std.proofs.lemmas.List.Sums.{take_while-cons}
 use Rattle.std.proofs.lemmas.Slice.Eq.{bytes_eq-Decides}
 use Rattle.sg_model.specs.Last.{Map, has, last, after_last, up_to_last}
 use Rattle.sg_model.specs.Lists.{value_at, below, range_from, first_some}
-use Rattle.sg_model.specs.Shape.{Shape, Arrow, sender}
+use Rattle.sg_model.specs.Shape.{Shape, Arrow}
 use Rattle.sg_model.specs.Values.{Code}
 use Rattle.sg_model.specs.Names.{Name}
 use Rattle.sg_protocol.specs.Graph.{Graph, Edge, IsGraph, AreNumbers, shape, writes}
@@ -24,7 +24,7 @@ use Rattle.sg_protocol.specs.Checks.{checked_texts}
 use Rattle.sg_protocol.specs.Verdict.{row, bad_time}
 use Rattle.sg_protocol.specs.Notes.{Note, note_of, text_before}
 use Rattle.sg_law.specs.Last as B
-use Rattle.sg_law.specs.Accept.{Step}
+use Rattle.sg_law.specs.Accept.{sender_of, Step}
 use Rattle.sg_law.specs.Run.{RisesFrom}
 use Rattle.sg_law.specs.Values as V
 use Rattle.sg_law.specs.Values.{State, Made, whole, com_of, Move, Commit, moved, MayTake, Tagged, Framed, Opened, own_of, is_variable, put}
@@ -59,8 +59,8 @@ module _ (g : Graph) where
   pub record MadeFrame (log : List Made) (f : Frame) : Type 0 where
     pub made : Made
     pub there : Contains log made
-    pub steps : V.steps_of (entries f.items) ≡ V.steps_of (B.evidence (sender (shape g)) (after_last (by (shape g)) f.receiver (whole made)))
-    pub written : (x : ℕ) → x < length g.variables → com_of (entries f.items) x ≡ com_of (B.evidence (sender (shape g)) (after_last (by (shape g)) f.receiver (whole made))) x
+    pub steps : V.steps_of (entries f.items) ≡ V.steps_of (B.evidence (sender_of (shape g)) (after_last (by (shape g)) f.receiver (whole made)))
+    pub written : (x : ℕ) → x < length g.variables → com_of (entries f.items) x ≡ com_of (B.evidence (sender_of (shape g)) (after_last (by (shape g)) f.receiver (whole made))) x
 
   -- what a note says of the session was made in it
   pub record NoteOk (sid : List ℕ) (log : List Made) (n : Note) : Type 0 where
@@ -190,7 +190,7 @@ at_each f h k (suc j) e x l u = elim (cases_Bool (k == x)) [
 ]
 
 -- a list of entries that is split
-pub record Split (is : List Item) (a : List (B.Entry Code)) (i : B.Entry Code) (b : List (B.Entry Code)) : Type 0 where
+pub record Split (is : List Item) (a : List (B.Entry Step Code)) (i : B.Entry Step Code) (b : List (B.Entry Step Code)) : Type 0 where
   pub front : List Item
   pub mid : Item
   pub rest : List Item
@@ -199,7 +199,7 @@ pub record Split (is : List Item) (a : List (B.Entry Code)) (i : B.Entry Code) (
   pub same_mid : i ≡ entry mid
   pub same_rest : b ≡ entries rest
 
-pub split : (is : List Item) (a : List (B.Entry Code)) (i : B.Entry Code) (b : List (B.Entry Code)) → entries is ≡ a ++ i ∷ b → Split is a i b
+pub split : (is : List Item) (a : List (B.Entry Step Code)) (i : B.Entry Step Code) (b : List (B.Entry Step Code)) → entries is ≡ a ++ i ∷ b → Split is a i b
 split [] [] i b e = absurd (cc)
 split [] (c ∷ a) i b e = absurd (cc)
 split (x ∷ is) [] i b e = record { front = []; mid = x; rest = is; parts = refl; same_front = refl; same_mid = (let s : entry x ≡ i = cc in sym s); same_rest = (let s : entries is ≡ b = cc in sym s) }

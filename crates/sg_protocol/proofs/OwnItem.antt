@@ -1,11 +1,11 @@
 -- The last item of the frame that a step sends is the own item.
-use Rattle.std.specs.Prelude.{◌≡◌, ◌≢◌, ℕ, ◌<◌, ◌==◌, ◌||◌, Bool, true, false, not, List, [], ◌∷◌, ◌++◌, map, filter, length, refl, Option, Some, None, option_map, IfSome, IsTrue}
+use Rattle.std.specs.Prelude.{◌≡◌, ◌≢◌, ℕ, ◌<◌, ◌==◌, ◌||◌, Bool, true, false, List, [], ◌∷◌, ◌++◌, map, filter, length, refl, Option, Some, None, option_map, IfSome}
 use Rattle.std.specs.List.{AllByRecursion}
 use Rattle.std.proofs.Common.{sym, ◌∙◌, ap, subst, inl, inr}
 use Rattle.std.proofs.lemmas.Bool.{cases_Bool, ne_eqb, or_right}
 use Rattle.sg_model.proofs.LastOf.{eqb_same}
 use Rattle.sg_model.specs.Last.{Map, Entry, has, last, last_or, after_last, carry, evidence, evidence_for}
-use Rattle.sg_model.specs.Lists.{rises_from, keys_of, in_order}
+use Rattle.sg_model.specs.Lists.{rises_from, keys_of}
 use Rattle.sg_model.specs.Shape.{receiver}
 use Rattle.sg_model.specs.Values.{Opening}
 use Rattle.sg_model.proofs.Evidence.{evidence-drop, evidence-keep, has-evidence}
@@ -13,11 +13,11 @@ use Rattle.sg_law.proofs.Cut.{last-option_map}
 use Rattle.std.proofs.lemmas.List.{map-append}
 use Rattle.sg_law.proofs.Upto.{after-more, last-after}
 use Rattle.sg_protocol.specs.Graph.{Graph, shape}
-use Rattle.sg_protocol.specs.Frame.{Item, Frame}
+use Rattle.sg_protocol.specs.Frame.{Item}
 use Rattle.sg_protocol.specs.Texts.{Hash, commitment}
 use Rattle.sg_protocol.specs.Keyring.{Keyring, Program}
 use Rattle.sg_protocol.specs.Session.{Session, told}
-use Rattle.sg_protocol.specs.Sending.{entry_of, item_of, tags_left, shown_to, own_item, frame_sent}
+use Rattle.sg_protocol.specs.Sending.{entry_of, item_of, tags_left, own_item}
 use Rattle.sg_protocol.specs.Enough.{OwnItemIsLast}
 use Rattle.sg_protocol.proofs.Gives.{in_order-all}
 

@@ -1,9 +1,9 @@
 -- What items reduce to: the last of each role with what was written since the one before, and with its tags for roles that have no later item.
-use Rattle.std.specs.Prelude.{◌≡◌, ℕ, ◌<◌, ◌==◌, ◌||◌, ◌⊎◌, Bool, true, false, not, if◌then◌else◌, List, [], ◌∷◌, ◌++◌, map, filter, length, refl, Option, Some, None, option_map}
+use Rattle.std.specs.Prelude.{◌≡◌, ℕ, ◌<◌, ◌==◌, ◌||◌, ◌⊎◌, Bool, true, false, not, if◌then◌else◌, List, [], ◌∷◌, ◌++◌, map, filter, length, refl, Option, Some, None}
 use Rattle.std.specs.Option.{option_or}
 use Rattle.std.proofs.Common.{sym, ◌∙◌, ap, subst, inl, inr, append-nil}
-use Rattle.std.proofs.lemmas.Bool.{eqb-true, eq-eqb}
-use Rattle.sg_model.specs.Last.{Map, Entry, merge, has, last, last_or, after_last, carry, evidence, evidence_for}
+use Rattle.std.proofs.lemmas.Bool.{eqb-true}
+use Rattle.sg_model.specs.Last.{Map, Entry, merge, has, after_last, carry, evidence}
 use Rattle.sg_model.specs.Lists.{value_at, in_order}
 use Rattle.sg_protocol.specs.Graph.{Graph}
 use Rattle.sg_protocol.specs.Frame.{Item}

@@ -1,37 +1,35 @@
 -- In a session of honest principals, each role holds the evidence of the steps that were taken.
-use Rattle.std.specs.Prelude.{◌≡◌, ◌≢◌, ℕ, zero, suc, ◌+◌, ◌<◌, ◌≤◌, ◌==◌, nat_lt, nat_le, ◌||◌, ◌&&◌, ◌⊎◌, Bool, true, false, not, if◌then◌else◌, List, [], ◌∷◌, ◌++◌, map, filter, filter_map, flat_map, find, length, get_or, refl, Option, Some, None, option_map, unwrap_or, IfSome, ⊤, IsTrue, bytes_eq}
-use Rattle.std.specs.List.{AllByRecursion, list_any, list_all, cons_option}
-use Rattle.std.specs.Option.{option_or, option_map_or}
+use Rattle.std.specs.Prelude.{◌≡◌, ◌≢◌, ℕ, zero, suc, ◌+◌, ◌<◌, ◌==◌, ◌||◌, ◌&&◌, ◌⊎◌, Bool, true, false, if◌then◌else◌, List, [], ◌∷◌, ◌++◌, map, length, refl, Option, Some, None, option_map, unwrap_or, IfSome, ⊤}
+use Rattle.std.specs.List.{AllByRecursion, list_any}
+use Rattle.std.specs.Option.{option_or}
 use Rattle.std.proofs.Common.{sym, ◌∙◌, ap, subst, inl, inr, arith, append_assoc, append-nil}
-use Rattle.std.proofs.lemmas.Bool.{eqb-true, eq-eqb, ne_eqb}
-use Rattle.std.proofs.lemmas.Bool.Decides.{nat_tests}
+use Rattle.std.proofs.lemmas.Bool.{eqb-true}
 use Rattle.std.proofs.lemmas.List.{map-append}
 use Rattle.sg_model.specs.Last.{Map, has, last, last_or, last_of, after_last, up_to_last}
 use Rattle.sg_model.specs.Lists.{value_at, in_order, below, range_from, keys_of, is_in, from_last}
-use Rattle.sg_model.specs.Shape.{Shape, Walk, end_of, role_at, source, target, sender, receiver}
-use Rattle.sg_model.specs.Values.{Value, Opening}
-use Rattle.sg_protocol.specs.Graph.{Graph, IsGraph, shape, writes, reads}
-use Rattle.sg_protocol.specs.Knowledge.{learns, knows, ReadsAreKnown}
+use Rattle.sg_model.specs.Shape.{Walk, end_of, role_at, target, sender, receiver}
+use Rattle.sg_model.specs.Values.{Opening}
+use Rattle.sg_protocol.specs.Graph.{Graph, shape, writes, reads}
+use Rattle.sg_protocol.specs.Knowledge.{learns, knows}
 use Rattle.sg_protocol.specs.Frame.{Cast, Item, Frame}
 use Rattle.sg_protocol.specs.Texts.{Hash, commitment, item_text_of}
-use Rattle.sg_protocol.specs.Keyring.{Keyring, Program, targets_of}
 use Rattle.sg_protocol.specs.Schedule.{PairKey}
 use Rattle.sg_protocol.specs.World.{keyring_of}
-use Rattle.sg_protocol.specs.Session.{Session, Exchange, Took, Gave, principal, items_of, openings_of, told, own, time, place, at_turn, last_label, last_time, committed, commitments, opening_in, last_opening, known, extended}
-use Rattle.sg_protocol.specs.Sending.{tag_for, text_to, plain_item, own_item, opening_of, shown_to, frame_sent}
+use Rattle.sg_protocol.specs.Session.{Session, Exchange, Took, principal, items_of, openings_of, told, own, time, place, at_turn, last_label, last_time, committed, commitments, opening_in, last_opening, known, extended}
+use Rattle.sg_protocol.specs.Sending.{tag_for}
 use Rattle.sg_protocol.specs.Verdict.{has_kind}
 use Rattle.sg_protocol.specs.LastSteps.{Bare, bare}
 use Rattle.sg_law.specs.Run as R
 use Rattle.sg_model.specs.Last as Last'
-use Rattle.sg_law.proofs.Evidence as Evid
+use Rattle.sg_model.proofs.Evidence as Evid
 use Rattle.sg_law.proofs.Upto as Upto'
 use Rattle.sg_law.proofs.Cut.{split_end}
-use Rattle.sg_law.proofs.Lists.{last-append, last-append_some}
-use Rattle.sg_law.proofs.Walks.{walk-append, walk_join, end_of-append, end_of-last}
+use Rattle.sg_law.proofs.Lists.{last-append_some}
+use Rattle.sg_law.proofs.Walks.{walk-append, end_of-last}
 use Rattle.sg_protocol.proofs.Paths.{flat_map-append}
-use Rattle.sg_protocol.proofs.Entries.{entry, Roles}
-use Rattle.sg_protocol.proofs.Moves.{step, roles-append}
-use Rattle.sg_protocol.proofs.Reduced.{by_role, has-both, tags_but, lead, left_by, reduced, has-reduced, reduced_again, reduced_after, after_reduced, shown_reduced, committed_reduced}
+use Rattle.sg_protocol.proofs.Entries.{Roles}
+use Rattle.sg_protocol.proofs.Moves.{step}
+use Rattle.sg_protocol.proofs.Reduced.{by_role, has-both, tags_but, lead, left_by, reduced, has-reduced, reduced_again, reduced_after, committed_reduced}
 
 cases_Bool : (b : Bool) → (b ≡ true) ⊎ (b ≡ false)
 cases_Bool true = inl refl
@@ -451,7 +449,7 @@ module _ (sha : Hash) (keys : List PairKey) (sid : List ℕ) (cast : Cast) (targ
               record { opening = o.0; is_known = known_is v ∙ ap (λ z. option_or z (known x v)) o.1; variable = o.2; opens = opening_all (OpensAt done) f.openings v o.0 opened o.1 }
           | inr h ↦
               let kp = knows_past g x.role v (labels k.past) (labels k.since) (unlearned g x.role v (end_of (shape g) 0 (labels k.past)) (labels k.since) since_walk since_senders (last_unread v h))
-                  (subst (λ z. knows g x.role v z ≡ true) (ap labels k.parts ∙ map-append (λ (i : Item). i.label) k.past k.since) kn) in
+              (subst (λ z. knows g x.role v z ≡ true) (ap labels k.parts ∙ map-append (λ (i : Item). i.label) k.past k.since) kn) in
               let old : Opens k.past x v = k.opens v kp.0 in
               let nc : committed v k.since ≡ None = not_committed g v k.since (all-right (λ (i : Item). keys_of i.delta ≡ writes g i.label) k.past k.since (subst (AllByRecursion (λ (i : Item). keys_of i.delta ≡ writes g i.label)) k.parts so.delta_keys)) kp.1 in
               record {

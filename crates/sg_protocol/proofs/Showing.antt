@@ -1,14 +1,12 @@
 -- What an accepted frame shows is what honest senders last did.
-use Rattle.std.specs.Prelude.{◌≡◌, ◌≢◌, ℕ, ◌+◌, ◌<◌, ◌==◌, ◌⊎◌, Bool, true, false, List, [], ◌∷◌, ◌++◌, map, filter, flat_map, length, bytes_eq, refl, Option, Some, None, option_map, Result, Ok, Err, Contains}
+use Rattle.std.specs.Prelude.{◌≡◌, ℕ, ◌+◌, ◌<◌, ◌==◌, ◌⊎◌, Bool, true, false, List, [], ◌∷◌, ◌++◌, map, filter, flat_map, length, refl, Option, Some, None, option_map}
 use Rattle.std.specs.List.{AllByRecursion}
-use Rattle.std.proofs.Common.{sym, ◌∙◌, ap, subst, inl, inr, append_assoc, append-nil}
-use Rattle.std.proofs.lemmas.Bool.{eqb-true, eq-eqb, ne_eqb}
+use Rattle.std.proofs.Common.{sym, ◌∙◌, ap, subst, inl, inr, append_assoc}
 use Rattle.std.proofs.lemmas.List.{map-append}
-use Rattle.std.proofs.lemmas.Slice.Eq.{bytes_eq-Decides}
 use Rattle.sg_model.specs.Last.{has, last, last_of, after_last, up_to_last}
 use Rattle.sg_model.specs.Lists.{below, all_differ}
-use Rattle.sg_model.specs.Shape.{Shape, sender}
-use Rattle.sg_model.specs.Values.{Opening, Code}
+use Rattle.sg_model.specs.Shape.{sender}
+use Rattle.sg_model.specs.Values.{Opening}
 use Rattle.sg_model.specs.Names.{Name}
 use Rattle.sg_model.specs.Bytes.{IsBytes}
 use Rattle.sg_protocol.specs.Graph.{Graph, IsGraph, shape}
@@ -20,13 +18,13 @@ use Rattle.sg_protocol.specs.Texts.{Hash, IsHash, commitment, commitment_text_of
 use Rattle.sg_protocol.specs.TextLaws.{IsVersion, CastFits, OpeningFits}
 use Rattle.sg_protocol.specs.Keyring.{Program}
 use Rattle.sg_protocol.specs.Session.{Session, principal, items_of, told, own, committed, commitments}
-use Rattle.sg_protocol.specs.Calls.{Event, Call, Abandon, Deliver, Answer, Happened, Sends, Abandoned}
+use Rattle.sg_protocol.specs.Calls.{Event, Call, Abandon, Deliver, Happened, Sends, Abandoned}
 use Rattle.sg_protocol.specs.Node.{Node, program_for}
 use Rattle.sg_protocol.specs.Acting.{answer}
 use Rattle.sg_protocol.specs.Verdict.{receipt}
 use Rattle.sg_protocol.specs.Notes.{no_notes, notes}
-use Rattle.sg_protocol.specs.Past.{Past, Called, node_of}
-use Rattle.sg_protocol.specs.Schedule.{Schedule, is_honest, honest_role, Step, DeliverStep, What, cast_of}
+use Rattle.sg_protocol.specs.Past.{Past, node_of}
+use Rattle.sg_protocol.specs.Schedule.{Schedule, honest_role, Step, DeliverStep, What, cast_of}
 use Rattle.sg_protocol.specs.World.{World, Logged, Outcome, Answered, past_of, call_of, bytes_of}
 use Rattle.sg_protocol.specs.Run.{called, uncalled, world_after, world_after_all, frame_in}
 use Rattle.sg_protocol.specs.Premises.{hashed, Unforged}
@@ -34,22 +32,21 @@ use Rattle.sg_protocol.specs.IsSchedule.{IsStep}
 use Rattle.sg_protocol.specs.Completeness.{HadAnswer}
 use Rattle.sg_protocol.specs.Receipts.{IsTaken}
 use Rattle.sg_protocol.specs.LastSteps.{ShowsLastSteps, Held, Bare, bare, exchanges_of, honest_items}
-use Rattle.sg_law.specs.Last as B
 use Rattle.sg_law.specs.Accept.{honest_part}
 use Rattle.sg_law.specs.Accept as A
 use Rattle.sg_law.specs.Run as R
 use Rattle.sg_law.specs.Values as V
 use Rattle.sg_law.specs.Values.{State, Made, whole, com_of, Move, Commit, moved, own_of, put, AllMay, moved_all, all_openings, Binding, Agreed}
 use Rattle.sg_law.specs.Values.Move.{Writes, Takes}
-use Rattle.sg_law.proofs.Upto.{In, in_from_Contains, upto-more}
+use Rattle.sg_law.proofs.Upto.{In, upto-more}
 use Rattle.sg_law.proofs.Cut.{last-option_map, split_end}
-use Rattle.sg_law.proofs.Lists.{last-append, has-map, eqb_same}
+use Rattle.sg_law.proofs.Lists.{last-append, eqb_same}
 use Rattle.sg_law.proofs.Follow.{all_agreed}
 use Rattle.sg_protocol.proofs.Bridge.{up_to_last-after}
 use Rattle.sg_protocol.proofs.Entries.{entry, entries, entries-com, by, Roles, has-entries, up_to-entries}
 use Rattle.sg_protocol.proofs.Moves.{step, Matches}
 use Rattle.sg_protocol.proofs.Keys.{last_of-keys, after_last-keys, last_of-map, after_last-map, all-filter, all-last_of, all-after_last, all-up_to_last, all-mid, has-mid}
-use Rattle.sg_protocol.proofs.Calls.{Out, NodeOk, Status, TakesFrame, one_place}
+use Rattle.sg_protocol.proofs.Calls.{Status, TakesFrame, one_place}
 use Rattle.sg_protocol.proofs.Course.{Progress, progress_called, progress_moves, keep_all, Suffix, may-append, moved-append, Outs, Ok_}
 
 cases_Bool : (b : Bool) → (b ≡ true) ⊎ (b ≡ false)
@@ -105,9 +102,9 @@ module _ (g : Graph) (honest : ℕ → Bool) where
         let parts : entries f.items ≡ entries front ++ entry i ∷ entries rest = ap entries e ∙ map-append entry front (i ∷ rest) in
         let joined : own_of (shape g) st f.receiver ++ (entries front ++ entry i ∷ []) ≡ entries (before ++ front ++ i ∷ []) = ap (λ l. l ++ (entries front ++ entry i ∷ [])) ob ∙ ap (λ l. entries before ++ l) (sym (map-append entry front (i ∷ []))) ∙ sym (map-append entry before (front ++ i ∷ [])) ∙ ap entries (sym (append_assoc before front (i ∷ []))) in
         map_same (λ x. committed x (before ++ front ++ i ∷ [])) (λ x. committed x its) (below (length g.variables)) (λ x.
-            sym (entries-com (before ++ front ++ i ∷ []) x) ∙ ap (λ l. com_of l x) (sym joined)
-            ∙ agreed.held (entries front) (entries rest) (entry i) parts (ap honest (sym role) ∙ h) x
-            ∙ ap (λ k. com_of (own_of (shape g) st k) x) (sym role) ∙ ap (λ l. com_of l x) oi ∙ entries-com its x)
+        sym (entries-com (before ++ front ++ i ∷ []) x) ∙ ap (λ l. com_of l x) (sym joined)
+        ∙ agreed.held (entries front) (entries rest) (entry i) parts (ap honest (sym role) ∙ h) x
+        ∙ ap (λ k. com_of (own_of (shape g) st k) x) (sym role) ∙ ap (λ l. com_of l x) oi ∙ entries-com its x)
 
   own_entries : (st : State) (k : ℕ) (is : List Item) → st.told k ≡ entries is → Roles (shape g) is → own_of (shape g) st k ≡ entries (up_to_last (λ (i : Item). i.role) k is)
   own_entries st k is e r = ap (up_to_last (by (shape g)) k) e ∙ up_to-entries (shape g) k is r

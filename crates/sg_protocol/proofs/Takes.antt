@@ -27,7 +27,7 @@ use Rattle.sg_protocol.specs.Notes.{Note, note_of, notes_in_session}
 use Rattle.sg_protocol.specs.Walk.{is_typed_or_hidden}
 use Rattle.sg_protocol.specs.Schedule.{Schedule, is_honest, honest_role}
 use Rattle.sg_law.specs.Last as B
-use Rattle.sg_law.specs.Accept.{Step}
+use Rattle.sg_law.specs.Accept.{sender_of, Step}
 use Rattle.sg_law.specs.Run.{RisesFrom, Turn}
 use Rattle.sg_law.specs.Run as R
 use Rattle.sg_law.specs.Values as V
@@ -177,7 +177,7 @@ module _ (sha : Hash) (s : Schedule) (sid : List ℕ) (cast : Cast) (keys : Keyr
       (record { version = subst (λ (c : Cast). IsVersion c.version) (sym m.same_cast) version; sid = long; label = (let l = it.label in omega arith); time = (let l = it.time.1 in omega arith); held = are_held g ((own x ++ a) ++ i ∷ []) fits })
       (note_text keys.me (principal x.cast i.role) t ∙ ap (λ z. item_text_of x.cast.version z i.role x.role i.label i.time (commitments g ((own x ++ a) ++ i ∷ []))) m.same_sid)
 
-  law_tag : (a b : List (B.Entry Code)) (i j : B.Entry Code) → entries f.items ≡ a ++ i ∷ j ∷ b → honest_role s cast (sender (shape g) i.label) ≡ true → Tagged (shape g) st.log (own_of (shape g) st x.role ++ (a ++ i ∷ [])) i
+  law_tag : (a b : List (B.Entry Step Code)) (i j : B.Entry Step Code) → entries f.items ≡ a ++ i ∷ j ∷ b → honest_role s cast (sender (shape g) i.step.label) ≡ true → Tagged (shape g) st.log (own_of (shape g) st x.role ++ (a ++ i ∷ [])) i
   law_tag a b i j e h = go (split f.items a i (j ∷ b) e)
     where
       go : Split f.items a i (j ∷ b) → Tagged (shape g) st.log (own_of (shape g) st x.role ++ (a ++ i ∷ [])) i
@@ -186,7 +186,7 @@ module _ (sha : Hash) (s : Schedule) (sid : List ℕ) (cast : Cast) (keys : Keyr
           more : (rest : List Item) → j ∷ b ≡ entries rest → f.items ≡ r.front ++ r.mid ∷ rest → Tagged (shape g) st.log (own_of (shape g) st x.role ++ (a ++ i ∷ [])) i
           more [] q w = absurd (cc)
           more (j' ∷ b') q w =
-              let t = tagged r.front r.mid j' b' w (ap (λ (z : B.Entry Code). honest_role s cast (sender (shape g) z.label)) (sym r.same_mid) ∙ h) in
+              let t = tagged r.front r.mid j' b' w (ap (λ (z : B.Entry Step Code). honest_role s cast (sender (shape g) z.step.label)) (sym r.same_mid) ∙ h) in
               let whole_list : own_of (shape g) st x.role ++ (a ++ i ∷ []) ≡ entries ((own x ++ r.front) ++ r.mid ∷ []) =
               ap (λ l. l ++ (a ++ i ∷ [])) own_same ∙ ap (λ l. entries (own x) ++ (l ++ i ∷ [])) r.same_front ∙ ap (λ z. entries (own x) ++ (entries r.front ++ z ∷ [])) r.same_mid
               ∙ ap (λ l. entries (own x) ++ l) (sym (map-append entry r.front (r.mid ∷ []))) ∙ sym (map-append entry (own x) (r.front ++ r.mid ∷ [])) ∙ ap entries (sym (append_assoc (own x) r.front (r.mid ∷ []))) in
@@ -206,8 +206,8 @@ module _ (sha : Hash) (s : Schedule) (sid : List ℕ) (cast : Cast) (keys : Keyr
       let ok = found note (in_left (note ∷ []) _ note (inl refl)) both.0 both.1 in
       ok.frame f.version f spelled its_sid (note_text keys.me (principal x.cast f.sender) (text_of f))
 
-  law_frame : IfSome (last (entries f.items)) (λ (i : B.Entry Code). honest_role s cast (sender (shape g) i.label) ≡ true → Framed (shape g) st.log x.role (entries f.items))
-  law_frame = subst (λ o. IfSome o (λ (i : B.Entry Code). honest_role s cast (sender (shape g) i.label) ≡ true → Framed (shape g) st.log x.role (entries f.items)))
+  law_frame : IfSome (last (entries f.items)) (λ (i : B.Entry Step Code). honest_role s cast (sender (shape g) i.step.label) ≡ true → Framed (shape g) st.log x.role (entries f.items))
+  law_frame = subst (λ o. IfSome o (λ (i : B.Entry Step Code). honest_role s cast (sender (shape g) i.step.label) ≡ true → Framed (shape g) st.log x.role (entries f.items)))
       (sym (last-option_map entry f.items ∙ ap (option_map entry) last_item.1)) from
     where
       from : honest_role s cast (sender (shape g) (last_item.0).label) ≡ true → Framed (shape g) st.log x.role (entries f.items)
@@ -217,8 +217,8 @@ module _ (sha : Hash) (s : Schedule) (sid : List ℕ) (cast : Cast) (keys : Keyr
           record {
             made = t.made;
             there = t.there;
-            steps = t.steps ∙ ap (λ k. V.steps_of (B.evidence (sender (shape g)) (after_last (by (shape g)) k (whole t.made)))) its_role;
-            written = λ y var. t.written y (variable_below g is y var) ∙ ap (λ k. com_of (B.evidence (sender (shape g)) (after_last (by (shape g)) k (whole t.made))) y) its_role;
+            steps = t.steps ∙ ap (λ k. V.steps_of (B.evidence (sender_of (shape g)) (after_last (by (shape g)) k (whole t.made)))) its_role;
+            written = λ y var. t.written y (variable_below g is y var) ∙ ap (λ k. com_of (B.evidence (sender_of (shape g)) (after_last (by (shape g)) k (whole t.made))) y) its_role;
           }
         where
           last_role : (is' : List Item) (i : Item) → last is' ≡ Some i → Roles (shape g) is' → i.role ≡ sender (shape g) i.label
@@ -252,7 +252,7 @@ module _ (sha : Hash) (s : Schedule) (sid : List ℕ) (cast : Cast) (keys : Keyr
       reads_last : (o : Option Item) → o ≡ Some (last_item.0) → option_map_or (reads g) (option_map (λ (i : Item). i.label) o) [] ≡ V.last_reads (shape g) (Some (entry (last_item.0)))
       reads_last o e = ap (λ o. option_map_or (reads g) (option_map (λ (i : Item). i.label) o) []) e
 
-      last_two : (xs ys : List (B.Entry Code)) (z : B.Entry Code) → last ys ≡ Some z → last (xs ++ ys) ≡ Some z
+      last_two : (xs ys : List (B.Entry Step Code)) (z : B.Entry Step Code) → last ys ≡ Some z → last (xs ++ ys) ≡ Some z
       last_two xs ys z e = last-append_some xs ys z e
 
   not_empty : entries f.items ≢ []

@@ -1,6 +1,7 @@
--- The law of last elements, from the lemma.
-use Rattle.sg_model.proofs.LastOf.{last_of_again}
+-- The laws of last elements, from the lemmas.
+use Rattle.sg_model.proofs.LastOf.{last_of_again, Sublist-last_of, covered}
+use Rattle.sg_model.proofs.Evidence.{after_last-append}
 use Rattle.sg_model.proofs.last_elements.Goals as goal
 
 pub returns : goal.returns
-returns c = last_of_again
+returns c = record { again = last_of_again; part = Sublist-last_of; covered = covered; cut = after_last-append }
