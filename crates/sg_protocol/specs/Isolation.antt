@@ -4,7 +4,7 @@ use Rattle.sg_protocol.specs.Texts.{Hash}
 use Rattle.sg_protocol.specs.Calls.{Answer, CacheFull, SessionsFull, NotStarted, NotDelivered}
 use Rattle.sg_protocol.specs.Past.{Past, new_node, AreAnswers, answers, calls_of_session}
 
--- no call was refused for want of room
+-- the call was refused for want of room
 abbrev pub is_for_room : Answer → Bool
 is_for_room (NotDelivered CacheFull) = true
 is_for_room (NotDelivered SessionsFull) = true
