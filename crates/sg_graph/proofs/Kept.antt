@@ -1,7 +1,7 @@
 -- What is kept, and the graph that it is.
 use Rattle.std.proofs.Common.{◌≡◌, ℕ, ◌+◌, ◌<◌, List, [], ◌∷◌, ◌++◌, map, length, get_or, sym, ◌∙◌, ap, subst, length-append}
 use Rattle.std.proofs.lemmas.List.{map-append, length-map, get_or-map}
-use Rattle.std.specs.Prelude.{Option, position, bytes_eq}
+use Rattle.std.specs.Prelude.{All, Option, position, bytes_eq}
 use Rattle.sg_model.specs.Shape.{Arrow, edge_at, role_at}
 use Rattle.sg_protocol.specs.Graph.{Graph, Name, Variable, Node, Edge, shape}
 use Rattle.sg_graph.specs.Edges.{edge_of_label}
@@ -58,61 +58,50 @@ labels-append es e fs kept at same =
 abbrev arrow_of : Edge → Arrow
 arrow_of e = record { source = e.source; target = e.target; writes = e.writes; reads = e.reads }
 
--- the edge at a place of the list that is kept is the edge at that place of the graph
-arrow_kept : (g : Inside) (i : ℕ) (e : NamedEdge) → i < length g.edges.items → e ≡ get_or g.edges.items i e → edge_at (shape (graph_of g)) i ≡ arrow_of (edge_of e)
-arrow_kept g i e l same =
-    let es : List Edge = map edge_of g.edges.items in
-    let within : i < length (map edge_of g.edges.items) = rw length-map l in
-    get_or-map arrow_of es i (edge_of e) _ within
-    ∙ ap arrow_of (get_or-map edge_of g.edges.items i e (edge_of e) l ∙ ap edge_of (sym same))
+-- the element at a place of a list that is seen through f
+pub at_place : {X Y : Type 0} (f : X → Y) (xs : List X) (ys : List Y) (k i : ℕ) (x : X) (d : Y) → map f xs ≡ ys → k ≡ i → i < length ys → x ≡ get_or xs k x → get_or ys i d ≡ f x
+at_place f xs ys k i x d seen at l same =
+    let within : i < length xs = rw (← seen, length-map) at l in
+    rw (← seen, get_or-map f xs i x d within, ← at, ← same)
+
+-- what holds of each element holds of the one at a place
+pub all_at : {X Y : Type 0} (f : X → Y) (xs : List X) (ys : List Y) (k i : ℕ) (x : X) (P : Y → Type 0) → map f xs ≡ ys → k ≡ i → i < length ys → x ≡ get_or xs k x → All P ys → P (f x)
+all_at f xs ys k i x P seen at l same all = subst P (at_place f xs ys k i x (f x) seen at l same) (all i (f x) l)
 
 -- the edge that is kept for a label is the edge of the label
 pub edge_kept : (g : Inside) (now : Graph) (k i : ℕ) (e : NamedEdge) → HoldsGraph g → graph_of g ≡ now → k ≡ i → i < length now.edges
     → e ≡ get_or g.edges.items k e → e.edge ≡ edge_of_label now i
 edge_kept g now k i e holds view at l same =
-    let here : k < length (graph_of g).edges = subst (λ (n : ℕ). n < length (graph_of g).edges) (sym at) (subst (λ (h : Graph). i < length h.edges) (sym view) l) in
-    let within : k < length g.edges.items = rw length-map at here in
-    let label : e.edge.label ≡ k =
-    ap (λ (e : NamedEdge). e.edge.label) same
-    ∙ sym (get_or-map (λ (e : NamedEdge). e.edge.label) g.edges.items k e 0 within)
-    ∙ ap (λ (ns : List ℕ). get_or ns k 0) holds.labels
-    ∙ below-at (length g.edges.items) k 0 within in
-    let arrow : arrow_of (edge_of e) ≡ edge_at (shape (graph_of g)) k = sym (arrow_kept g k e within same) in
-    let whole : e.edge ≡ edge_of_label (graph_of g) k =
-    λ j. record { label = label j; source = (arrow j).source; target = (arrow j).target; writes = (arrow j).writes; reads = (arrow j).reads } in
-    subst (λ (h : Graph). e.edge ≡ edge_of_label h i) view (subst (λ (n : ℕ). e.edge ≡ edge_of_label (graph_of g) n) at whole)
+    let seen : map edge_of g.edges.items ≡ now.edges = ap (λ (g : Graph). g.edges) view in
+    let within : i < length g.edges.items = rw (← seen, length-map) at l in
+    let labels : map (λ e. e.edge.label) g.edges.items ≡ below (length g.edges.items) = holds.labels in
+    let within' : i < length (below (length g.edges.items)) = rw (← labels, length-map) within in
+    let label : e.edge.label ≡ i =
+    sym (at_place (λ (e : NamedEdge). e.edge.label) g.edges.items (below (length g.edges.items)) k i e 0 labels at within' same)
+    ∙ below-at (length g.edges.items) i 0 within in
+    let arrow : arrow_of (edge_of e) ≡ edge_at (shape now) i =
+    sym (get_or-map arrow_of now.edges i (edge_of e) _ l ∙ ap arrow_of (at_place edge_of g.edges.items now.edges k i e (edge_of e) seen at l same)) in
+    λ j. record { label = label j; source = (arrow j).source; target = (arrow j).target; writes = (arrow j).writes; reads = (arrow j).reads }
 
--- the nodes of the edge that is kept for a label are there
-pub ends_kept : (g : Inside) (now : Graph) (k i : ℕ) (e : NamedEdge) → HoldsGraph g → graph_of g ≡ now → k ≡ i → i < length now.edges
-    → e ≡ get_or g.edges.items k e → (e.edge.source < length now.nodes) × (e.edge.target < length now.nodes)
-ends_kept g now k i e holds view at l same =
-    let here : k < length (graph_of g).edges = subst (λ (n : ℕ). n < length (graph_of g).edges) (sym at) (subst (λ (h : Graph). i < length h.edges) (sym view) l) in
-    let within : k < length g.edges.items = rw length-map at here in
-    let there : edge_of e ≡ get_or (graph_of g).edges k (edge_of e) =
-    ap edge_of same ∙ sym (get_or-map edge_of g.edges.items k e (edge_of e) within) in
-    let ends = subst (λ (e : Edge). (e.source < length (graph_of g).nodes) × (e.target < length (graph_of g).nodes)) (sym there) (holds.graph.ends k (edge_of e) here) in
-    subst (λ (h : Graph). (e.edge.source < length h.nodes) × (e.edge.target < length h.nodes)) view ends
+-- what holds of each edge holds of the one that is kept for a label
+pub edge_has : (P : Edge → Type 0) (g : Inside) (now : Graph) (k i : ℕ) (e : NamedEdge) → graph_of g ≡ now → k ≡ i → i < length now.edges
+    → e ≡ get_or g.edges.items k e → All P now.edges → P (edge_of e)
+edge_has P g now k i e view at l same all = all_at edge_of g.edges.items now.edges k i e P (ap (λ (g : Graph). g.edges) view) at l same all
 
 -- the role that is kept for a node is the node's
 pub role_kept : (g : Inside) (now : Graph) (k i : ℕ) (n : KeptNode) → graph_of g ≡ now → k ≡ i → i < length now.nodes
     → n ≡ get_or g.nodes.items k n → n.role ≡ role_at (shape now) i
 role_kept g now k i n view at l same =
-    let here : k < length (graph_of g).nodes = subst (λ (m : ℕ). m < length (graph_of g).nodes) (sym at) (subst (λ (h : Graph). i < length h.nodes) (sym view) l) in
-    let within : k < length g.nodes.items = rw length-map at here in
-    let ns : List Node = map node_of g.nodes.items in
-    let whole : n.role ≡ role_at (shape (graph_of g)) k =
-    ap (λ (n : KeptNode). n.role) same
-    ∙ ap (λ (n : Node). n.role) (sym (get_or-map node_of g.nodes.items k n (node_of n) within))
-    ∙ sym (get_or-map (λ (n : Node). n.role) ns k (node_of n) 0 here) in
-    subst (λ (h : Graph). n.role ≡ role_at (shape h) i) view (subst (λ (m : ℕ). n.role ≡ role_at (shape (graph_of g)) m) at whole)
+    let seen : map node_of g.nodes.items ≡ now.nodes = ap (λ (g : Graph). g.nodes) view in
+    sym (get_or-map (λ (n : Node). n.role) now.nodes i (node_of n) 0 l
+    ∙ ap (λ (n : Node). n.role) (at_place node_of g.nodes.items now.nodes k i n (node_of n) seen at l same))
 
--- the role of a node is there
-pub role_there : (g : Inside) (now : Graph) (k i : ℕ) (n : KeptNode) → HoldsGraph g → graph_of g ≡ now → k ≡ i → i < length now.nodes
-    → n ≡ get_or g.nodes.items k n → n.role < length now.roles
-role_there g now k i n holds view at l same =
-    let here : k < length (graph_of g).nodes = subst (λ (m : ℕ). m < length (graph_of g).nodes) (sym at) (subst (λ (h : Graph). i < length h.nodes) (sym view) l) in
-    let within : k < length g.nodes.items = rw length-map at here in
-    let there : node_of n ≡ get_or (graph_of g).nodes k (node_of n) =
-    ap node_of same ∙ sym (get_or-map node_of g.nodes.items k n (node_of n) within) in
-    let role = subst (λ (n : Node). n.role < length (graph_of g).roles) (sym there) (holds.graph.roles k (node_of n) here) in
-    subst (λ (h : Graph). n.role < length h.roles) view role
+-- what holds of each node holds of the one that is kept
+pub node_has : (P : Node → Type 0) (g : Inside) (now : Graph) (k i : ℕ) (n : KeptNode) → graph_of g ≡ now → k ≡ i → i < length now.nodes
+    → n ≡ get_or g.nodes.items k n → All P now.nodes → P (node_of n)
+node_has P g now k i n view at l same all = all_at node_of g.nodes.items now.nodes k i n P (ap (λ (g : Graph). g.nodes) view) at l same all
+
+-- what holds of each variable holds of the one that is kept
+pub variable_has : (P : Variable → Type 0) (g : Inside) (now : Graph) (k i : ℕ) (v : KeptVariable) → graph_of g ≡ now → k ≡ i → i < length now.variables
+    → v ≡ get_or g.vars.items k v → All P now.variables → P (variable_of v)
+variable_has P g now k i v view at l same all = all_at variable_of g.vars.items now.variables k i v P (ap (λ (g : Graph). g.variables) view) at l same all

@@ -1,3 +1,6 @@
 pub mod Found
 pub mod Growth
 pub mod Kept
+pub mod Lines
+pub mod Rising
+pub mod Sets

@@ -1,9 +1,9 @@
 //! The graph, its counts and its parts by their numbers.
-ghost use Rattle.std.specs.Prelude.{◌≡◌, ◌<◌, false, length};
+ghost use Rattle.std.specs.Prelude.{◌≡◌, ◌<◌, false, length, IfOk};
 ghost use Rattle.sg_model.specs.Lists.{has_text};
 ghost use Rattle.sg_model.specs.Names.{reserved};
 ghost use Rattle.sg_model.specs.Shape.{role_at, sender, receiver};
-ghost use Rattle.sg_protocol.specs.Graph.{IsGraph, shape, role_name, variable_name, node_name, kind_of, writers};
+ghost use Rattle.sg_protocol.specs.Graph.{IsGraph, AreNumbers, shape, role_name, variable_name, node_name, kind_of, writers};
 ghost use Rattle.sg_graph.specs.Parts.{kind_of_type, edge_name};
 
 mod adding;
@@ -11,7 +11,7 @@ mod finding;
 
 use crate::Edge;
 pub use adding::AddFault;
-use sg_base::{Label, Name, NodeId, Role, RoleSet, Var, VarType};
+use sg_base::{Label, Name, NodeId, OutOfMemory, Role, RoleSet, Var, VarType};
 use std::alloc::Global;
 use std::marker::Model;
 
@@ -143,7 +143,8 @@ impl Graph {
     /// The roles that may write a variable: one or more.
     pub fn writers(&self, var: Var) -> RoleSet
         requires { var < length self.now.variables }
-        ensures { result ≡ writers self.now var }
+        ensures writers { result ≡ writers self.now var }
+        ensures there { AreNumbers (length self.now.roles) result × (0 < length result) }
     {
         self.vars[var.0 as usize].writers
     }
@@ -170,6 +171,7 @@ impl Graph {
         requires { label < length self.now.edges }
         ensures edge { result.now ≡ edge_of_label self.now label }
         ensures ends { (result.now.source < length self.now.nodes) × (result.now.target < length self.now.nodes) }
+        ensures sets { AreNumbers (length self.now.variables) result.now.writes × AreNumbers (length self.now.variables) result.now.reads }
     {
         &self.edges[label.0 as usize].edge
     }
@@ -198,5 +200,18 @@ impl Graph {
         ensures there { result < length self.now.roles }
     {
         self.node_role(self.edge(label).target)
+    }
+
+    /// An equal graph.
+    pub fn copy(&self, alloc: Global) -> Result<Graph, OutOfMemory>
+        ensures { IfOk result (λ g. g ≡ self.now) }
+    {
+        Ok(Graph {
+            name: self.name,
+            roles: self.roles.as_slice().to_vec(alloc)?,
+            vars: self.vars.as_slice().to_vec(alloc)?,
+            nodes: self.nodes.as_slice().to_vec(alloc)?,
+            edges: self.edges.as_slice().to_vec(alloc)?,
+        })
     }
 }

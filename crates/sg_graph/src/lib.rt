@@ -10,6 +10,10 @@
 
 mod edge;
 mod graph;
+mod text;
+mod walk;
 
 pub use edge::Edge;
 pub use graph::{AddFault, Graph};
+pub use text::canonical_text;
+pub use walk::is_walk;

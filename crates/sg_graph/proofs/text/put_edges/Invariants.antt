@@ -1,0 +1,7 @@
+use Rattle.std.proofs.Common.{◌≡◌, ◌++◌, take}
+use Rattle.std.specs.Prelude.{flat_map}
+use Rattle.sg_protocol.specs.Graph.{edge_line}
+use Rattle.sg_graph.proofs.text.put_edges.Given as goal
+
+abbrev pub invariant-loop-number : goal.invariant-loop-number
+invariant-loop-number l = l.out ≡ l.initial.out ++ flat_map (edge_line l.graph) (take l.number l.graph.edges)
