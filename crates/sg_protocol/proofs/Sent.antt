@@ -55,11 +55,11 @@ pub record FitSession (x : Session) : Type 0 where
 
 -- ---- numbers that differ
 
-abbrev Dist : List ℕ → Type 0
+abbrev pub Dist : List ℕ → Type 0
 Dist [] = ⊤
 Dist (x ∷ xs) = (has (λ (y : ℕ). y) x xs ≡ false) × Dist xs
 
-abbrev Below : ℕ → List ℕ → Type 0
+abbrev pub Below : ℕ → List ℕ → Type 0
 Below n xs = AllByRecursion (λ x. x < n) xs
 
 without : ℕ → List ℕ → List ℕ
@@ -93,7 +93,7 @@ length-without n (x ∷ xs) d = elim (cases_Bool (x == n)) [
   | inr e ↦ rw e (let l = length-without n xs d.1 in omega (arith, l))
 ]
 
-pigeon : (n : ℕ) (xs : List ℕ) → Dist xs → Below n xs → length xs ≤ n
+pub pigeon : (n : ℕ) (xs : List ℕ) → Dist xs → Below n xs → length xs ≤ n
 pigeon zero [] d b = omega arith
 pigeon zero (x ∷ xs) d b = absurd (let l = b.0 in omega (arith, l))
 pigeon (suc n) xs d b = (let a = pigeon n (filter (λ x. not (x == n)) xs) (dist-without n xs d) (below-without n xs b) in let c = length-without n xs d in omega (arith, a, c))
@@ -151,7 +151,7 @@ all_both : {A : Type 0} (P : A → Type 0) (xs ys : List A) → AllByRecursion P
 all_both P [] ys a b = b
 all_both P (x ∷ xs) ys a b = (a.0, all_both P xs ys a.1 b)
 
-abbrev Coms : Map (List ℕ) → Type 0
+abbrev pub Coms : Map (List ℕ) → Type 0
 Coms m = AllByRecursion (λ (d : ℕ × List ℕ). AreBytes 32 d.1) m
 
 value_com : (m : Map (List ℕ)) (x : ℕ) → Coms m → IfSome (value_at m x) (AreBytes 32)
@@ -183,10 +183,10 @@ coms_merge a b c d = all_both (λ (d : ℕ × List ℕ). AreBytes 32 d.1) _ b (a
 
 -- ---- items
 
-abbrev Ent : Type 0
+abbrev pub Ent : Type 0
 Ent = A.Entry Item (List ℕ)
 
-record FitEnt (v : ℕ) (e : Ent) : Type 0 where
+pub record FitEnt (v : ℕ) (e : Ent) : Type 0 where
   step_fit : IsItem v e.step
   coms : Coms e.writes
 
@@ -194,7 +194,7 @@ coms_of : (m : Map (List ℕ)) → AllByRecursion (λ (d : ℕ × List ℕ). (d.
 coms_of [] a = tt
 coms_of (d ∷ m) a = (a.0.1, coms_of m a.1)
 
-ents_fit : (v : ℕ) (is : List Item) → AllByRecursion (IsItem v) is → AllByRecursion (FitEnt v) (map entry_of is)
+pub ents_fit : (v : ℕ) (is : List Item) → AllByRecursion (IsItem v) is → AllByRecursion (FitEnt v) (map entry_of is)
 ents_fit v [] a = tt
 ents_fit v (i ∷ is) a = (record { step_fit = a.0; coms = coms_of i.delta a.0.delta }, ents_fit v is a.1)
 
@@ -202,14 +202,14 @@ carry_fit : (v : ℕ) (m : Map (List ℕ)) (es : List Ent) → Coms m → AllByR
 carry_fit v m [] c a = tt
 carry_fit v m (e ∷ es) c a = (record { step_fit = a.0.step_fit; coms = coms_merge m e.writes c a.0.coms }, a.1)
 
-evidence_fit : (v : ℕ) (es : List Ent) → AllByRecursion (FitEnt v) es → AllByRecursion (FitEnt v) (A.evidence (λ (i : Item). i.role) es)
+pub evidence_fit : (v : ℕ) (es : List Ent) → AllByRecursion (FitEnt v) es → AllByRecursion (FitEnt v) (A.evidence (λ (i : Item). i.role) es)
 evidence_fit v [] a = tt
 evidence_fit v (e ∷ es) a = elim (cases_Bool (has (λ (y : Ent). y.step.role) e.step.role es)) [
   | inl d ↦ rw d (carry_fit v e.writes (A.evidence (λ (i : Item). i.role) es) a.0.coms (evidence_fit v es a.1))
   | inr d ↦ rw d (a.0, evidence_fit v es a.1)
 ]
 
-after_fit : (v k : ℕ) (es : List Ent) → AllByRecursion (FitEnt v) es → AllByRecursion (FitEnt v) (after_last (λ (y : Ent). y.step.role) k es)
+pub after_fit : (v k : ℕ) (es : List Ent) → AllByRecursion (FitEnt v) es → AllByRecursion (FitEnt v) (after_last (λ (y : Ent). y.step.role) k es)
 after_fit v k [] a = tt
 after_fit v k (e ∷ es) a = elim (cases_Bool (has (λ (y : Ent). y.step.role) k es)) [
   | inl d ↦ rw d (after_fit v k es a.1)
@@ -245,7 +245,7 @@ shown_fit : (g : Graph) → length g.variables ≤ 32 → (v k : ℕ) (is : List
 shown_fit g small v k is a = left_fit v _ (item_fit g small v _ (evidence_fit v _ (after_fit v k (map entry_of is) (ents_fit v is a))))
 
 -- the roles of what is shown differ
-has-ev : (k : ℕ) (es : List Ent) → has (λ (y : Ent). y.step.role) k (A.evidence (λ (i : Item). i.role) es) ≡ has (λ (y : Ent). y.step.role) k es
+pub has-ev : (k : ℕ) (es : List Ent) → has (λ (y : Ent). y.step.role) k (A.evidence (λ (i : Item). i.role) es) ≡ has (λ (y : Ent). y.step.role) k es
 has-ev k [] = refl
 has-ev k (e ∷ es) = elim (cases_Bool (has (λ (y : Ent). y.step.role) e.step.role es)) [
   | inl d ↦ rw d (carried_ (A.evidence (λ (i : Item). i.role) es) ∙ has-ev k es ∙ sym (there (cases_Bool (e.step.role == k)) d))
@@ -260,7 +260,7 @@ has-ev k (e ∷ es) = elim (cases_Bool (has (λ (y : Ent). y.step.role) e.step.r
     there (inl q) d = rw q (sym d ∙ ap (λ z. has (λ (y : Ent). y.step.role) z es) (eqb-true e.step.role k q))
     there (inr q) d = rw q refl
 
-dist_ev : (es : List Ent) → Dist (map (λ (y : Ent). y.step.role) (A.evidence (λ (i : Item). i.role) es))
+pub dist_ev : (es : List Ent) → Dist (map (λ (y : Ent). y.step.role) (A.evidence (λ (i : Item). i.role) es))
 dist_ev [] = tt
 dist_ev (e ∷ es) = elim (cases_Bool (has (λ (y : Ent). y.step.role) e.step.role es)) [
   | inl d ↦ rw d (same_roles (A.evidence (λ (i : Item). i.role) es) (dist_ev es))
@@ -271,15 +271,15 @@ dist_ev (e ∷ es) = elim (cases_Bool (has (λ (y : Ent). y.step.role) e.step.ro
     same_roles [] h = tt
     same_roles (z ∷ zs) h = h
 
-len_map : {A B : Type 0} (f : A → B) (xs : List A) → length (map f xs) ≡ length xs
+pub len_map : {A B : Type 0} (f : A → B) (xs : List A) → length (map f xs) ≡ length xs
 len_map f [] = refl
 len_map f (x ∷ xs) = let l = len_map f xs in omega (arith, l)
 
-len_left : (is : List Item) → length (tags_left is) ≡ length is
+pub len_left : (is : List Item) → length (tags_left is) ≡ length is
 len_left [] = refl
 len_left (i ∷ is) = let l = len_left is in omega (arith, l)
 
-roles_below : (v : ℕ) (es : List Ent) → AllByRecursion (FitEnt v) es → Below 16 (map (λ (y : Ent). y.step.role) es)
+pub roles_below : (v : ℕ) (es : List Ent) → AllByRecursion (FitEnt v) es → Below 16 (map (λ (y : Ent). y.step.role) es)
 roles_below v [] a = tt
 roles_below v (e ∷ es) a = (a.0.step_fit.role, roles_below v es a.1)
 
@@ -316,19 +316,19 @@ shown_some g k is i ne =
 
 -- ---- lengths
 
-len_app : {A : Type 0} (xs ys : List A) → length (xs ++ ys) ≡ length xs + length ys
+pub len_app : {A : Type 0} (xs ys : List A) → length (xs ++ ys) ≡ length xs + length ys
 len_app [] ys = omega arith
 len_app (x ∷ xs) ys = let l = len_app xs ys in omega (arith, l)
 
-abbrev total : List ℕ → ℕ
+abbrev pub total : List ℕ → ℕ
 total [] = 0
 total (n ∷ ns) = n + total ns
 
-len_concat : (ps : List (List ℕ)) → length (concat ps) ≡ total (map (λ (p : List ℕ). length p) ps)
+pub len_concat : (ps : List (List ℕ)) → length (concat ps) ≡ total (map (λ (p : List ℕ). length p) ps)
 len_concat [] = refl
 len_concat (p ∷ ps) = let l = len_app p (concat ps) in let m = len_concat ps in omega (arith, l, m)
 
-flat33 : {A : Type 0} (f : A → List ℕ) (xs : List A) → AllByRecursion (λ x. length (f x) ≤ 33) xs → length (flat_map f xs) ≤ length xs * 33
+pub flat33 : {A : Type 0} (f : A → List ℕ) (xs : List A) → AllByRecursion (λ x. length (f x) ≤ 33) xs → length (flat_map f xs) ≤ length xs * 33
 flat33 f [] a = omega arith
 flat33 f (x ∷ xs) a = let l = len_app (f x) (flat_map f xs) in let m = flat33 f xs a.1 in let h = a.0 in omega (arith, l, m, h)
 
@@ -336,7 +336,7 @@ flat1527 : {A : Type 0} (f : A → List ℕ) (xs : List A) → AllByRecursion (�
 flat1527 f [] a = omega arith
 flat1527 f (x ∷ xs) a = let l = len_app (f x) (flat_map f xs) in let m = flat1527 f xs a.1 in let h = a.0 in omega (arith, l, m, h)
 
-flat1046 : {A : Type 0} (f : A → List ℕ) (xs : List A) → AllByRecursion (λ x. length (f x) ≤ 1046) xs → length (flat_map f xs) ≤ length xs * 1046
+pub flat1046 : {A : Type 0} (f : A → List ℕ) (xs : List A) → AllByRecursion (λ x. length (f x) ≤ 1046) xs → length (flat_map f xs) ≤ length xs * 1046
 flat1046 f [] a = omega arith
 flat1046 f (x ∷ xs) a = let l = len_app (f x) (flat_map f xs) in let m = flat1046 f xs a.1 in let h = a.0 in omega (arith, l, m, h)
 
@@ -356,7 +356,7 @@ drop_app zero (x ∷ a) b e = absurd (omega arith)
 drop_app (suc n) [] b e = absurd (omega arith)
 drop_app (suc n) (x ∷ a) b e = drop_app n a b (omega arith)
 
-item_len : (v : ℕ) (i : Item) → IsItem v i → length (item_bytes v i) ≤ 1527
+pub item_len : (v : ℕ) (i : Item) → IsItem v i → length (item_bytes v i) ≤ 1527
 item_len v i h =
     let c = len_concat (u8 i.role ∷ u16 i.label ∷ u32 i.time ∷ map_bytes (λ c. c) i.delta ∷ map_bytes (take (tag_len v)) i.tags ∷ []) in
     let a = flat33 (pair_bytes (λ c. c)) i.delta (go32 i.delta h.delta) in
@@ -377,7 +377,7 @@ value_len : (v : Value) → IsValue v → length (value_bytes v) ≤ 1024
 value_len (IntValue z) h = omega arith
 value_len (TextValue t) h = h.1
 
-opening_len : (o : Opening) → IsOpening o → length (opening_bytes o) ≤ 1046
+pub opening_len : (o : Opening) → IsOpening o → length (opening_bytes o) ≤ 1046
 opening_len o h =
     let c = len_concat (u8 o.variable ∷ o.confounder ∷ u8 (kind_code o.value) ∷ sized o.value ∷ []) in
     let a = len_app (u32 (length (value_bytes o.value))) (value_bytes o.value) in
@@ -385,7 +385,7 @@ opening_len o h =
     let d = h.confounder.0 in
     omega (arith, c, a, b, d)
 
-join_len : (v : ℕ) (o : Option Cast) → IfSome o (IsCastOf v) → length (join_bytes o) ≤ 577
+pub join_len : (v : ℕ) (o : Option Cast) → IfSome o (IsCastOf v) → length (join_bytes o) ≤ 577
 join_len v None h = omega arith
 join_len v (Some c) h =
     let a = len_concat (c.graph ∷ c.nonce ∷ u8 (length c.names) ∷ flat_map short_text c.names ∷ []) in

@@ -12,6 +12,7 @@ ghost use Rattle.sg_protocol.specs.Spelling.{HasSpelling, SpellsFrame, spelling}
 ghost use Rattle.sg_protocol.specs.Reading.{read};
 ghost use Rattle.sg_protocol.specs.Texts.{IsHash, real};
 ghost use Rattle.sg_protocol.specs.TextLaws.{OneCast, OneOpening, OneItem, OneTextTo, OneBody, OneFrame, OneCanonical, OneGraph, KindsDiffer, VersionsDiffer};
+ghost use Rattle.sg_protocol.specs.Bounds.{ShownAreFew, FramesAreShort};
 ghost use Rattle.sg_protocol.specs.Enough.{KeptIsEnough, OwnItemIsLast};
 ghost use Rattle.sg_protocol.specs.Returns.{TablesShowReturns};
 ghost use Rattle.sg_protocol.specs.Headline.{Headline, SessionsFollowWalks, NoneJoinsTwice, NodesJoinOnce};
@@ -57,6 +58,13 @@ pub fn kept_is_enough()
 /// The frame that a step sends ends with the step's own item, with a tag for each of its targets.
 pub fn own_item_is_last()
     ensures { (sha : List ℕ → List ℕ) → OwnItemIsLast sha }
+{}
+
+/// What is shown to a role has at most fifteen items, and a frame with so few has at most 57,028 bytes, or 53,652 in
+/// version 2.
+pub fn frames_are_short()
+    ensures items { ShownAreFew }
+    ensures bytes { FramesAreShort }
 {}
 
 /// A waiting session is over exactly where no walk from the end of its own last step leads to a node of its role.
