@@ -1,6 +1,6 @@
 -- What the table of peers finds, in the words of the keyring.
 use Rattle.std.proofs.Common.{◌≡◌, ℕ, Bool, true, false, ◌||◌, sym, ap, ◌∙◌, refl, List, [], ◌∷◌, ◌++◌, map, cond, if◌then◌else◌, Option, Some, None, is_some, option_map, bytes_eq, true≢false}
-use Rattle.std.specs.List.{list_any, find}
+use Rattle.std.specs.List.{find}
 use Rattle.std.specs.Map.{lookup}
 use Rattle.sg_protocol.specs.Keyring.{Peer}
 use Rattle.sg_model.specs.Lists.{has_text}

@@ -1,3 +1,7 @@
-pub mod SameName
 pub mod Contacts
 pub mod Differ
+pub mod DocumentLaws
+pub mod SameName
+pub mod SplitLaws
+pub mod TableLaws
+pub mod WordLaws

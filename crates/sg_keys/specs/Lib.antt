@@ -1,2 +1,4 @@
 pub mod Inside
+pub mod KeyFile
 pub mod Names
+pub mod Words

@@ -3,8 +3,25 @@
 //! A keyring has a principal's name, the address at which it waits, and for each of its peers a name, an address and a key of 32
 //! bytes that the two share. No two of these names are equal. Look-ups go by a hash table, so they take the same time however many
 //! peers there are.
+//!
+//! A keyring is read from a key file in TOML, such as
+//!
+//! ```text
+//! me = "a"
+//! listen = "127.0.0.1:4001"
+//! [[peer]]
+//! name = "b"
+//! addr = "127.0.0.1:4002"
+//! key = "1111111111111111111111111111111111111111111111111111111111111111"
+//! ```
+//!
+//! with exactly these keys. There may be no `peer` at all.
 #![tactic(auto)]
 
+mod key_file;
 mod keyring;
+mod table;
+mod word;
 
+pub use key_file::KeyFault;
 pub use keyring::{Keyring, PeerFault};

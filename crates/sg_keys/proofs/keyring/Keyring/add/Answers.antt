@@ -15,6 +15,6 @@ pub invariant_of-self : goal.invariant_of-self
 invariant_of-self c =
     let absent : has_text c.args.peer (c.self.inside.me ∷ names_in c.self.inside.peers.entries) ≡ false = rw (← c.self.view_is) at (sym c.has_name.ensures ∙ c.if-has_name.false) in
     elim c.match-put_last.branch [
-      in-Ok w ↦ rw (w.in-Ok.ensures.ok, names_in-append) (all_differ-append (c.self.inside.me ∷ names_in c.self.inside.peers.entries) c.args.peer c.self.invariant absent)
-    | in-Err w ↦ rw w.in-Err.ensures.err c.self.invariant
+      | in-Ok w ↦ rw (w.in-Ok.ensures.ok, names_in-append) (all_differ-append (c.self.inside.me ∷ names_in c.self.inside.peers.entries) c.args.peer c.self.invariant absent)
+      | in-Err w ↦ rw w.in-Err.ensures.err c.self.invariant
     ]

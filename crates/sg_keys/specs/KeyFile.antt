@@ -1,0 +1,126 @@
+-- The key file: the keyring that the data of its TOML text spell, or the first fault.
+use Rattle.std.specs.Prelude.{ℕ, ◌+◌, Bool, true, ◌&&◌, ◌||◌, bytes_eq, if◌then◌else◌, List, [], ◌∷◌, ◌++◌, map, codes, Option, Some, None, is_some, option_and_then, Result, Ok, Err}
+use Rattle.std.specs.List.{list_all}
+use Rattle.std.specs.Str.{is_utf8}
+use Rattle.sg_base.specs.declared.address.Addr.{Addr}
+use Rattle.sg_model.specs.Lists.{has_text}
+use Rattle.sg_model.specs.Names.{Name}
+use Rattle.sg_protocol.specs.Keyring.{Keyring, Peer}
+use Rattle.toml.specs.Data.{Data, Items, no_items, item, Members, no_members, member, get_member, as_str, as_array, as_table}
+use Rattle.toml.specs.Parse.{parse_document}
+use Rattle.sg_keys.specs.declared.key_file.KeyFault.{KeyFault}
+use Rattle.sg_keys.specs.declared.key_file.KeyFault.TheVariants.{NotToml, BadEntry, Twice}
+use Rattle.sg_keys.specs.Names.{names_of, peer_at}
+use Rattle.sg_keys.specs.Words.{name, address, hex_key}
+
+-- ---- tables
+
+-- each key of the table is one that may stand there
+abbrev pub has_keys_alone : (List ℕ → Bool) → Members → Bool
+has_keys_alone may_stand no_members = true
+has_keys_alone may_stand (member k d table) = may_stand k && has_keys_alone may_stand table
+
+-- the text at a key
+abbrev pub text_at : List ℕ → Members → Option (List ℕ)
+text_at key table = option_and_then as_str (get_member key table)
+
+-- what the text at a key spells
+abbrev pub at : {A : Type 0} → (List ℕ → Option A) → List ℕ → Members → Option A
+at spelled key table = option_and_then spelled (text_at key table)
+
+-- the items in order
+abbrev pub list_of : Items → List Data
+list_of no_items = []
+list_of (item d ds) = d ∷ list_of ds
+
+-- ---- entries
+
+-- a peer of its three parts
+abbrev pub peer_from : Option Name → Option Addr → Option (List ℕ) → Option Peer
+peer_from (Some n) (Some a) (Some k) = Some (peer_at n a k)
+peer_from _ _ _ = None
+
+-- the keys of a peer
+abbrev pub is_peer_key : List ℕ → Bool
+is_peer_key k = (bytes_eq k (codes "name") || bytes_eq k (codes "addr")) || bytes_eq k (codes "key")
+
+-- a table with exactly a name, an address and a key
+abbrev pub peer_in : Members → Option Peer
+peer_in table =
+    if has_keys_alone is_peer_key table
+    then peer_from (at name (codes "name") table) (at address (codes "addr") table) (at hex_key (codes "key") table)
+    else None
+
+-- the peer of an entry
+unfoldable pub peer_of : Data → Option Peer
+peer_of d = option_and_then peer_in (as_table d)
+
+-- the items, where each is a table
+abbrev pub tables_in : Items → Option (List Data)
+tables_in items = if list_all (λ d. is_some (as_table d)) (list_of items) then Some (list_of items) else None
+
+-- a list of tables, which may be missing
+abbrev pub tables_of : Option Data → Option (List Data)
+tables_of None = Some []
+tables_of (Some d) = option_and_then tables_in (as_array d)
+
+-- a keyring without peers, and the entries of its peers
+pub record Head : Type 0 where
+  pub me : Name
+  pub listen : Addr
+  pub entries : List Data
+
+-- the head of its three parts
+abbrev pub head_from : Option Name → Option Addr → Option (List Data) → Option Head
+head_from (Some n) (Some a) (Some es) = Some (record { me = n; listen = a; entries = es })
+head_from _ _ _ = None
+
+-- the keys of the head
+abbrev pub is_head_key : List ℕ → Bool
+is_head_key k = (bytes_eq k (codes "me") || bytes_eq k (codes "listen")) || bytes_eq k (codes "peer")
+
+-- a table with exactly the own name, an address, and maybe a list of tables
+unfoldable pub head : Members → Option Head
+head table =
+    if has_keys_alone is_head_key table
+    then head_from (at name (codes "me") table) (at address (codes "listen") table) (tables_of (get_member (codes "peer") table))
+    else None
+
+-- ---- the file
+
+-- a keyring with the peer of the entry of this number
+abbrev pub with_entry : Keyring → ℕ → Option Peer → Result Keyring KeyFault
+with_entry keys i None = Err (BadEntry i)
+with_entry keys i (Some p) = if has_text p.name (names_of keys) then Err (Twice i) else Ok (record keys { peers = keys.peers ++ p ∷ [] })
+
+-- the second step, if the first gave a keyring
+abbrev pub then_with : Result Keyring KeyFault → (Keyring → Result Keyring KeyFault) → Result Keyring KeyFault
+then_with (Ok keys) next = next keys
+then_with (Err fault) next = Err fault
+
+-- a keyring with the peers of the entries from this number on, or the first fault
+abbrev pub with_entries : Keyring → ℕ → List (Option Peer) → Result Keyring KeyFault
+with_entries keys i [] = Ok keys
+with_entries keys i (p ∷ ps) = then_with (with_entry keys i p) (λ k. with_entries k (i + 1) ps)
+
+-- a keyring without peers
+abbrev pub alone : Head → Keyring
+alone h = record { me = h.me; ip = (h.listen).ip; port = (h.listen).port; peers = [] }
+
+-- the keyring that the data spell: the head is entry 0, the peers are entries 1 and on
+abbrev pub keyring_in : Option Head → Result Keyring KeyFault
+keyring_in None = Err (BadEntry 0)
+keyring_in (Some h) = with_entries (alone h) 1 (map peer_of h.entries)
+
+-- what the bytes say as TOML
+unfoldable pub document : List ℕ → Option Members
+document bytes = if is_utf8 bytes then parse_document bytes else None
+
+-- the keyring that the document spells
+abbrev pub keyring_of : Option Members → Result Keyring KeyFault
+keyring_of None = Err NotToml
+keyring_of (Some table) = keyring_in (head table)
+
+-- the keyring that the bytes of a key file spell, or the first fault
+abbrev pub key_file : List ℕ → Result Keyring KeyFault
+key_file bytes = keyring_of (document bytes)

@@ -1,0 +1,158 @@
+//! The reader of key files.
+ghost use Rattle.std.specs.Prelude.{◌≡◌, ◌≢◌, ◌+◌, ◌<◌, ◌^◌, Some, None, Option, List, map, length, option_map, IfErr, IfOk, OnOk, OnErr, Ok, Err};
+ghost use Rattle.toml.specs.View.{view, table_view};
+ghost use Rattle.toml.specs.Parse.{parse_document};
+ghost use Rattle.std.specs.Str.{is_utf8};
+ghost use Rattle.sg_keys.specs.Names.{peer_at};
+ghost use Rattle.sg_keys.specs.Words.{name, address, hex_key};
+
+use crate::table::{
+    address_at, entries, has_head_keys_alone, has_peer_keys_alone, key_at, name_at,
+};
+use crate::{Keyring, PeerFault};
+use sg_base::{Addr, Name};
+use std::alloc::Global;
+use thiserror::Error;
+use toml::{Table, Value};
+
+/// Why a key file can't be read, the first fault in the order of its entries. Entry 0 is the head, entry i the i-th peer.
+#[derive(Debug, Clone, Copy, PartialEq, Eq, Error)]
+pub enum KeyFault {
+    /// The bytes are no TOML.
+    #[error("not TOML")]
+    NotToml,
+    /// A key of the entry is missing, unknown, or of the wrong type or form. A `peer` that is no list of tables is a fault of the
+    /// head.
+    #[error("entry {entry} is bad")]
+    BadEntry { entry: u32 },
+    /// The peer's name is the principal's own, or an earlier peer's.
+    #[error("entry {entry} is there twice")]
+    Twice { entry: u32 },
+    /// Memory was wanted, and none was to be had.
+    #[error("out of memory")]
+    OutOfMemory,
+}
+
+// The head of a key file: a keyring without peers, and the entries of its peers.
+#[derive(Clone, Copy)]
+struct Head<'a> {
+    me: Name,
+    listen: Addr,
+    entries: &'a [Value],
+}
+
+// A peer of a key file.
+#[derive(Clone, Copy)]
+struct PeerEntry {
+    name: Name,
+    addr: Addr,
+    key: [u8; 32],
+}
+
+impl Keyring {
+    ghost use Rattle.sg_keys.specs.KeyFile.{key_file};
+
+    /// The keyring that the bytes of a key file spell. The head is looked at first, then each peer in order, for a bad entry and then
+    /// for a name that is there.
+    pub fn from_toml(alloc: Global, bytes: &[u8]) -> Result<Keyring, KeyFault>
+        ensures spelled { IfOk result (λ k. key_file bytes.now ≡ Ok k) }
+        ensures first_fault { IfErr result (λ e. e ≢ KeyFault.OutOfMemory → key_file bytes.now ≡ Err e) }
+    {
+        let table = read_document(alloc, bytes)?;
+        let Some(head) = read_head(&table) else {
+            return Err(KeyFault::BadEntry { entry: 0 });
+        };
+        add_entries(Keyring::new(alloc, head.me, head.listen), head.entries)
+    }
+}
+
+ghost use Rattle.sg_keys.specs.KeyFile.{document, head, peer_of, with_entry, with_entries};
+
+// The data of a TOML text.
+#[tactic(auto, unfolding(crate::specs::KeyFile::document))]
+fn read_document(alloc: Global, bytes: &[u8]) -> Result<Table, KeyFault>
+    ensures ok { IfOk result (λ t. document bytes.now ≡ Some (table_view t)) }
+    ensures refused { IfErr result (λ e. e ≢ KeyFault.OutOfMemory → (e ≡ KeyFault.NotToml) × (document bytes.now ≡ None)) }
+{
+    match toml::table_from_slice(alloc, bytes) {
+        Ok(table) => Ok(table),
+        Err(fault) => {
+            if fault.is_memory() {
+                Err(KeyFault::OutOfMemory)
+            } else {
+                Err(KeyFault::NotToml)
+            }
+        }
+    }
+}
+
+// The head of the data of a key file.
+#[tactic(auto, unfolding(crate::specs::KeyFile::head))]
+fn read_head(table: &Table) -> Option<Head<'_>>
+    ensures { option_map (λ h. record { me = h.me; listen = h.listen; entries = map view h.entries.now }) result ≡ head (table_view table.now) }
+{
+    if !has_head_keys_alone(table) {
+        return None;
+    }
+    let me = name_at(table, "me")?;
+    let listen = address_at(table, "listen")?;
+    let entries = entries(table)?;
+    Some(Head {
+        me,
+        listen,
+        entries,
+    })
+}
+
+// The peer of an entry.
+#[tactic(auto, unfolding(crate::specs::KeyFile::peer_of))]
+fn read_peer(value: &Value) -> Option<PeerEntry>
+    ensures { option_map (λ p. peer_at p.name p.addr p.key) result ≡ peer_of (view value.now) }
+{
+    let table = value.as_table()?;
+    if !has_peer_keys_alone(table) {
+        return None;
+    }
+    let name = name_at(table, "name")?;
+    let addr = address_at(table, "addr")?;
+    let key = key_at(table, "key")?;
+    Some(PeerEntry { name, addr, key })
+}
+
+// Adds the peer of the entry of this number. After a refusal the keyring is as before.
+fn add_entry(keys: &mut Keyring, number: u32, value: &Value) -> Result<(), KeyFault>
+    ensures ok { OnOk result (with_entry keys.old number (peer_of (view value.now)) ≡ Ok keys.new) }
+    ensures fault { IfErr result (λ e. e ≢ KeyFault.OutOfMemory → with_entry keys.old number (peer_of (view value.now)) ≡ Err e) }
+{
+    let Some(peer) = read_peer(value) else {
+        return Err(KeyFault::BadEntry { entry: number });
+    };
+    match keys.add(peer.name, peer.addr, peer.key) {
+        Ok(()) => Ok(()),
+        Err(PeerFault::Twice) => Err(KeyFault::Twice { entry: number }),
+        Err(PeerFault::OutOfMemory) => Err(KeyFault::OutOfMemory),
+    }
+}
+
+// Adds the peers of the entries, from entry 1 on.
+fn add_entries(mut keys: Keyring, values: &[Value]) -> Result<Keyring, KeyFault>
+    ensures ok { IfOk result (λ k. with_entries keys 1 (map peer_of (map view values.now)) ≡ Ok k) }
+    ensures fault { IfErr result (λ e. e ≢ KeyFault.OutOfMemory → with_entries keys 1 (map peer_of (map view values.now)) ≡ Err e) }
+{
+    for (at, value) in values.iter().enumerate() {
+        add_entry(&mut keys, number_of(at)?, value)?;
+    }
+    Ok(keys)
+}
+
+// The number of the entry of the peer at this place. A file of fewer than 2^32 bytes has fewer entries.
+fn number_of(at: usize) -> Result<u32, KeyFault>
+    requires { at < 2 ^ 63 }
+    ensures ok { IfOk result (λ n. n ≡ at + 1) }
+    ensures only { IfErr result (λ e. e ≡ KeyFault.OutOfMemory) }
+{
+    match u32::try_from(at + 1) {
+        Ok(number) => Ok(number),
+        Err(_) => Err(KeyFault::OutOfMemory),
+    }
+}

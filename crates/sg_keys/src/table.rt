@@ -1,0 +1,120 @@
+//! What the tables of a key file hold.
+ghost use Rattle.std.specs.Prelude.{◌≡◌, ◌&&◌, ◌||◌, [], ◌∷◌, Bool, List, codes, is_some, map, string_bytes, if◌then◌else◌, option_map, option_and_then, Option, Some, None};
+ghost use Rattle.std.specs.List.{list_all};
+ghost use Rattle.std.specs.BTreeMap.{keys};
+ghost use Rattle.std.specs.Str.{bytes_eq};
+ghost use Rattle.toml.specs.Data.{as_str, as_array, as_table, get_member};
+ghost use Rattle.toml.specs.View.{view, items_view, table_view};
+ghost use Rattle.sg_keys.specs.KeyFile.{has_keys_alone, text_at, at, is_head_key, is_peer_key, tables_in, tables_of};
+ghost use Rattle.sg_keys.specs.Words.{name, address, hex_key};
+
+use crate::word::{read_address, read_key};
+use sg_base::{Addr, Name};
+use toml::{Table, Value};
+
+// The text at a key.
+fn text_at<'a>(table: &'a Table, key: &str) -> Option<&'a str>
+    ensures { option_map (λ s. s.now) result ≡ text_at key.now (table_view table.now) }
+{
+    match table.get(key) {
+        Some(value) => value.as_str(),
+        None => None,
+    }
+}
+
+/// The name that the text at a key spells.
+#[tactic(auto, unfolding(crate::specs::Words::name))]
+pub(crate) fn name_at(table: &Table, key: &str) -> Option<Name>
+    ensures { result ≡ at name key.now (table_view table.now) }
+{
+    Name::new(text_at(table, key)?.as_bytes())
+}
+
+/// The address that the text at a key spells.
+pub(crate) fn address_at(table: &Table, key: &str) -> Option<Addr>
+    ensures { result ≡ at address key.now (table_view table.now) }
+{
+    read_address(text_at(table, key)?.as_bytes())
+}
+
+/// The 32 bytes that the text at a key spells.
+pub(crate) fn key_at(table: &Table, key: &str) -> Option<[u8; 32]>
+    ensures { result ≡ at hex_key key.now (table_view table.now) }
+{
+    read_key(text_at(table, key)?.as_bytes())
+}
+
+fn is_head_key(key: &str) -> bool
+    ensures { result ≡ is_head_key key.now }
+{
+    key == "me" || key == "listen" || key == "peer"
+}
+
+fn is_peer_key(key: &str) -> bool
+    ensures { result ≡ is_peer_key key.now }
+{
+    key == "name" || key == "addr" || key == "key"
+}
+
+/// Each key of the table is one of the head.
+pub(crate) fn has_head_keys_alone(table: &Table) -> bool
+    ensures { result ≡ has_keys_alone is_head_key (table_view table.now) }
+{
+    are_head_keys(table)
+}
+
+fn are_head_keys(table: &Table) -> bool
+    ensures { result ≡ list_all (λ k. is_head_key (string_bytes k)) (keys table.now) }
+{
+    table.keys().all(|key| is_head_key(key.as_str()))
+}
+
+/// Each key of the table is one of a peer.
+pub(crate) fn has_peer_keys_alone(table: &Table) -> bool
+    ensures { result ≡ has_keys_alone is_peer_key (table_view table.now) }
+{
+    are_peer_keys(table)
+}
+
+fn are_peer_keys(table: &Table) -> bool
+    ensures { result ≡ list_all (λ k. is_peer_key (string_bytes k)) (keys table.now) }
+{
+    table.keys().all(|key| is_peer_key(key.as_str()))
+}
+
+fn are_tables(values: &[Value]) -> bool
+    ensures { result ≡ list_all (λ v. is_some (as_table (view v))) values.now }
+{
+    values.iter().all(|value| value.is_table())
+}
+
+// The values, where each is a table.
+fn tables_in(values: &[Value]) -> Option<&[Value]>
+    ensures { option_map (λ vs. map view vs.now) result ≡ tables_in (items_view values.now) }
+{
+    if are_tables(values) {
+        Some(values)
+    } else {
+        None
+    }
+}
+
+// The items of a list of tables.
+fn tables_of(value: &Value) -> Option<&[Value]>
+    ensures { option_map (λ vs. map view vs.now) result ≡ option_and_then tables_in (as_array (view value.now)) }
+{
+    match value.as_array() {
+        Some(array) => tables_in(array.as_slice()),
+        None => None,
+    }
+}
+
+/// The entries of the peers, none where there is no `peer`; `None` where it is no list of tables.
+pub(crate) fn entries(table: &Table) -> Option<&[Value]>
+    ensures { option_map (λ vs. map view vs.now) result ≡ tables_of (get_member (codes "peer") (table_view table.now)) }
+{
+    match table.get("peer") {
+        Some(value) => tables_of(value),
+        None => Some(&[]),
+    }
+}
