@@ -108,6 +108,10 @@ joined_more : (js : List (List ℕ × ℕ)) (j : List ℕ × ℕ) (sid : List �
 joined_more [] j sid r h = absurd (cc)
 joined_more (i ∷ js) j sid r h = elim (cases_Bool (bytes_eq i.0 sid && (i.1 == r))) [ inl e ↦ rw e refl | inr e ↦ rw e (joined_more js j sid r (rw e at h)) ]
 
+joined_less : (js : List (List ℕ × ℕ)) (j : List ℕ × ℕ) (sid : List ℕ) (r : ℕ) → bytes_eq j.0 sid ≡ false → has_joined (js ++ j ∷ []) sid r ≡ true → has_joined js sid r ≡ true
+joined_less [] j sid r n h = absurd (let f : false ≡ true = rw n at h in cc)
+joined_less (i ∷ js) j sid r n h = elim (cases_Bool (bytes_eq i.0 sid && (i.1 == r))) [ inl e ↦ rw e refl | inr e ↦ rw e (joined_less js j sid r n (rw e at h)) ]
+
 joined_now : (js : List (List ℕ × ℕ)) (sid : List ℕ) (r : ℕ) → has_joined (js ++ (sid, r) ∷ []) sid r ≡ true
 joined_now [] sid r = rw ((bytes_eq-Decides sid sid).1 refl, eq-eqb r r refl) refl
 joined_now (j ∷ js) sid r = elim (cases_Bool (bytes_eq j.0 sid && (j.1 == r))) [ inl e ↦ rw e refl | inr e ↦ rw e (joined_now js sid r) ]
@@ -240,16 +244,21 @@ module _ (sha : Hash) (hash : IsHash sha) (s : Schedule) (programs : List Progra
   pub record Unmoved (n n' : Node) (a : Answer) : Type 0 where
     pub quiet : Quiet a
     pub same : filter (of_sid sid) n'.live ≡ filter (of_sid sid) n.live
+    pub fewer : (r : ℕ) → has_joined n'.joins sid r ≡ true → has_joined n.joins sid r ≡ true
 
   -- the session was left
-  pub record WasLeft (who : Name) (n' : Node) (a : Answer) : Type 0 where
+  pub record WasLeft (who : Name) (n n' : Node) (a : Answer) : Type 0 where
     pub quiet : Quiet a
     pub none : filter (of_sid sid) n'.live ≡ []
     pub by : LeftBy who
+    pub fewer : (r : ℕ) → has_joined n'.joins sid r ≡ true → has_joined n.joins sid r ≡ true
 
   -- a role started the session
   pub record HasStarted (who : Name) (n n' : Node) (a : Answer) : Type 0 where
     pub role : ℕ
+    pub program : Program
+    pub found_p : starter programs cast.graph ≡ Some program
+    pub its_role : program.role ≡ role
     pub is_answer : a ≡ Happened (Started sid role)
     pub is_who : principal cast role ≡ who
     pub inside : role < length cast.names
@@ -305,7 +314,7 @@ module _ (sha : Hash) (hash : IsHash sha) (s : Schedule) (programs : List Progra
 
   -- what became of the session in a call
   abbrev pub Life : Name → Node → Node → Call → Answer → Type 0
-  Life who n n' c a = Unmoved n n' a ⊎ (WasLeft who n' a ⊎ (HasStarted who n n' a ⊎ (HasTaken who n n' c a ⊎ HasGiven who n n' a)))
+  Life who n n' c a = Unmoved n n' a ⊎ (WasLeft who n n' a ⊎ (HasStarted who n n' a ⊎ (HasTaken who n n' c a ⊎ HasGiven who n n' a)))
 
   -- what a call gives
   pub record Out (st : State) (who : Name) (n : Node) (c : Call) (a : Answer) (nts : Notes) : Type 0 where
@@ -445,8 +454,8 @@ module _ (sha : Hash) (hash : IsHash sha) (s : Schedule) (programs : List Progra
   joined_other n x h = filter-append (of_sid sid) n.live (still n.programs x) ∙ ap (λ l. filter (of_sid sid) n.live ++ l) (still-other sid n.programs x h) ∙ append-nil (filter (of_sid sid) n.live)
 
   -- nothing is known of the session in this call
-  nothing : (st : State) (who : Name) (n : Node) (c : Call) (a : Answer) (nts : Notes) → NodeOk st who (node_after n c a) → flat_map acts_of_event (filter (λ e. bytes_eq (sid_of e) sid) (events_of_answer a)) ≡ [] → Quiet a → ((nt : Note) → In nts.made nt → NoteOk g sid st.log nt) → (filter (of_sid sid) (node_after n c a).live ≡ filter (of_sid sid) n.live) ⊎ WasLeft who (node_after n c a) a → ((r : ℕ) → has_joined n.joins sid r ≡ true → has_joined (node_after n c a).joins sid r ≡ true) → Out st who n c a nts
-  nothing st who n c a nts ok ev q md lf mj = record {
+  nothing : (st : State) (who : Name) (n : Node) (c : Call) (a : Answer) (nts : Notes) → NodeOk st who (node_after n c a) → flat_map acts_of_event (filter (λ e. bytes_eq (sid_of e) sid) (events_of_answer a)) ≡ [] → Quiet a → ((nt : Note) → In nts.made nt → NoteOk g sid st.log nt) → (filter (of_sid sid) (node_after n c a).live ≡ filter (of_sid sid) n.live) ⊎ WasLeft who n (node_after n c a) a → ((r : ℕ) → has_joined n.joins sid r ≡ true → has_joined (node_after n c a).joins sid r ≡ true) → ((r : ℕ) → has_joined (node_after n c a).joins sid r ≡ true → has_joined n.joins sid r ≡ true) → Out st who n c a nts
+  nothing st who n c a nts ok ev q md lf mj fj = record {
     moves = [];
     may = tt;
     node = ok;
@@ -459,7 +468,7 @@ module _ (sha : Hash) (hash : IsHash sha) (s : Schedule) (programs : List Progra
     told = λ r e l. rw (quiet_told r c a q) (sym (append-nil (st.told r)), tt);
     sent = rw (quiet_items a q) (sym (append-nil st.world.sent), tt);
     took = λ f t. absurd (quiet_took c a f q t);
-    life = elim lf [ inl e ↦ inl record { quiet = q; same = e } | inr w ↦ inr (inl w) ];
+    life = elim lf [ inl e ↦ inl record { quiet = q; same = e; fewer = fj } | inr w ↦ inr (inl w) ];
     more_joins = mj;
   }
 
@@ -507,11 +516,11 @@ module _ (sha : Hash) (hash : IsHash sha) (s : Schedule) (programs : List Progra
       abbrev sid' : List ℕ
       sid' = session_id sha c
 
-      start_done : (p : Program) → first_some (rows_of_start n p (session_id sha c) c) ≡ None → ((t : List ℕ) → In (session_text_of c ∷ []) t → Hashed t) → Out st who n (Start c) (Happened (Started (session_id sha c) p.role)) (record { made = []; found = []; hashed = session_text_of c ∷ [] })
-      start_done p e hs = elim (cases_Bool (bytes_eq (session_id sha c) sid)) [
+      start_done : (p : Program) → starter n.programs c.graph ≡ Some p → first_some (rows_of_start n p (session_id sha c) c) ≡ None → ((t : List ℕ) → In (session_text_of c ∷ []) t → Hashed t) → Out st who n (Start c) (Happened (Started (session_id sha c) p.role)) (record { made = []; found = []; hashed = session_text_of c ∷ [] })
+      start_done p sp e hs = elim (cases_Bool (bytes_eq (session_id sha c) sid)) [
         | inl h ↦ mine h
         | inr h ↦ nothing st who n (Start c) (Happened (Started (session_id sha c) p.role)) (record { made = []; found = []; hashed = session_text_of c ∷ [] })
-            (other_joined (new_session (session_id sha c) c p.role) h (hash (session_text_of c)).0) (event_other (Started (session_id sha c) p.role) h) (quiet_event (Started (session_id sha c) p.role) h) (λ nt i. absurd i) (inl (joined_other n (new_session (session_id sha c) c p.role) h)) (λ r j. joined_more n.joins (session_id sha c, p.role) sid r j)
+            (other_joined (new_session (session_id sha c) c p.role) h (hash (session_text_of c)).0) (event_other (Started (session_id sha c) p.role) h) (quiet_event (Started (session_id sha c) p.role) h) (λ nt i. absurd i) (inl (joined_other n (new_session (session_id sha c) c p.role) h)) (λ r j. joined_more n.joins (session_id sha c, p.role) sid r j) (λ r j. joined_less n.joins (session_id sha c, p.role) sid r h j)
       ]
         where
           mine : bytes_eq (session_id sha c) sid ≡ true → Out st who n (Start c) (Happened (Started (session_id sha c) p.role)) (record { made = []; found = []; hashed = session_text_of c ∷ [] })
@@ -542,6 +551,9 @@ module _ (sha : Hash) (hash : IsHash sha) (s : Schedule) (programs : List Progra
                 took = λ f t. (let e = t.is_call in absurd (cc));
                 life = inr (inr (inl record {
                   role = p.role;
+                  program = p;
+                  found_p = subst (λ ps. starter ps cast.graph ≡ Some p) ok.has_programs (subst (λ (z : Cast). starter n.programs z.graph ≡ Some p) its sp);
+                  its_role = refl;
                   is_answer = ap (λ z. Happened (Started z p.role)) same;
                   is_who = is_who;
                   inside = inside;
@@ -556,18 +568,18 @@ module _ (sha : Hash) (hash : IsHash sha) (s : Schedule) (programs : List Progra
               start_told : (r : ℕ) → (st.told r ≡ st.told r ++ entries (told_in r (Start c) (Happened (Started (session_id sha c) p.role)))) × Roles (shape g) (told_in r (Start c) (Happened (Started (session_id sha c) p.role)))
               start_told r = elim (cases_Bool (bytes_eq (session_id sha c) sid && (p.role == r))) [ inl k ↦ rw k (sym (append-nil (st.told r)), tt) | inr k ↦ rw k (sym (append-nil (st.told r)), tt) ]
 
-      start_rows : (p : Program) (o : Option StartFault) → first_some (rows_of_start n p (session_id sha c) c) ≡ o → ((t : List ℕ) → In (notes_of_start c (started (session_id sha c) p.role o)).hashed t → Hashed t)
+      start_rows : (p : Program) → starter n.programs c.graph ≡ Some p → (o : Option StartFault) → first_some (rows_of_start n p (session_id sha c) c) ≡ o → ((t : List ℕ) → In (notes_of_start c (started (session_id sha c) p.role o)).hashed t → Hashed t)
           → Out st who n (Start c) (started (session_id sha c) p.role o) (notes_of_start c (started (session_id sha c) p.role o))
-      start_rows p None e hs = start_done p e hs
-      start_rows p (Some f) e hs = nothing st who n (Start c) (NotStarted f) (notes_of_start c (NotStarted f)) ok refl refl (λ nt i. absurd (start_made c (NotStarted f) nt i)) (inl refl) (λ r j. j)
+      start_rows p sp None e hs = start_done p sp e hs
+      start_rows p sp (Some f) e hs = nothing st who n (Start c) (NotStarted f) (notes_of_start c (NotStarted f)) ok refl refl (λ nt i. absurd (start_made c (NotStarted f) nt i)) (inl refl) (λ r j. j) (λ r j. j)
 
-      start_program : (o : Option Program) → let a : Answer = option_map_or (λ (p : Program). started (session_id sha c) p.role (first_some (rows_of_start n p (session_id sha c) c))) o (NotStarted StartFault.UnknownGraph) in
+      start_program : (o : Option Program) → starter n.programs c.graph ≡ o → let a : Answer = option_map_or (λ (p : Program). started (session_id sha c) p.role (first_some (rows_of_start n p (session_id sha c) c))) o (NotStarted StartFault.UnknownGraph) in
           ((t : List ℕ) → In (notes_of_start c a).hashed t → Hashed t) → Out st who n (Start c) a (notes_of_start c a)
-      start_program None hs = nothing st who n (Start c) (NotStarted StartFault.UnknownGraph) (notes_of_start c (NotStarted StartFault.UnknownGraph)) ok refl refl (λ nt i. absurd i) (inl refl) (λ r j. j)
-      start_program (Some p) hs = start_rows p (first_some (rows_of_start n p (session_id sha c) c)) refl hs
+      start_program None sp hs = nothing st who n (Start c) (NotStarted StartFault.UnknownGraph) (notes_of_start c (NotStarted StartFault.UnknownGraph)) ok refl refl (λ nt i. absurd i) (inl refl) (λ r j. j) (λ r j. j)
+      start_program (Some p) sp hs = start_rows p sp (first_some (rows_of_start n p (session_id sha c) c)) refl hs
 
     pub start_out : (c : Cast) → CastFits c → ((t : List ℕ) → In (notes sha n (Start c)).hashed t → Hashed t) → Out st who n (Start c) (answer sha n (Start c)) (notes sha n (Start c))
-    start_out c fits hs = start_program c fits (starter n.programs c.graph) hs
+    start_out c fits hs = start_program c fits (starter n.programs c.graph) refl hs
 
     -- ---- a session is left
 
@@ -596,9 +608,9 @@ module _ (sha : Hash) (hash : IsHash sha) (s : Schedule) (programs : List Progra
         })
         mine q (inr (inr g')) = inr (inr record { alone = after q ∙ ap (replace (λ (x : Session). bytes_eq x.sid sid0) (λ x. [])) g'.alone; x = g'.x; matches = g'.matches; was_joined = g'.was_joined; why = g'.why })
 
-    abandon_life : (sid0 : List ℕ) → (sid0 ≡ sid → LeftBy who) → (filter (of_sid sid) (replace (λ (x : Session). bytes_eq x.sid sid0) (λ x. []) n.live) ≡ filter (of_sid sid) n.live) ⊎ WasLeft who (goes_on n (λ (x : Session). bytes_eq x.sid sid0) (λ x. [])) Abandoned
+    abandon_life : (sid0 : List ℕ) → (sid0 ≡ sid → LeftBy who) → (filter (of_sid sid) (replace (λ (x : Session). bytes_eq x.sid sid0) (λ x. []) n.live) ≡ filter (of_sid sid) n.live) ⊎ WasLeft who n (goes_on n (λ (x : Session). bytes_eq x.sid sid0) (λ x. [])) Abandoned
     abandon_life sid0 left = elim (cases_Bool (bytes_eq sid0 sid)) [
-      | inl h ↦ inr record { quiet = refl; none = mine (same_bytes_ sid0 sid h) ok.status; by = left (same_bytes_ sid0 sid h) }
+      | inl h ↦ inr record { quiet = refl; none = mine (same_bytes_ sid0 sid h) ok.status; by = left (same_bytes_ sid0 sid h); fewer = λ r j. j }
       | inr h ↦ inl (replace-other (λ (x : Session). bytes_eq x.sid sid0) (λ x. []) (λ x e. subst (λ y. bytes_eq y sid ≡ false) (sym (same_bytes_ x.sid sid0 e)) h) (λ x e. refl) n.live)
     ]
       where
@@ -614,8 +626,8 @@ module _ (sha : Hash) (hash : IsHash sha) (s : Schedule) (programs : List Progra
     abandon_out sid0 = go (session_with n.live sid0)
       where
         go : (o : Option Session) → (sid0 ≡ sid → option_map_or (λ (x : Session). Abandoned) o NotAbandoned ≡ Abandoned → LeftBy who) → Out st who n (Abandon sid0) (option_map_or (λ (x : Session). Abandoned) o NotAbandoned) (record { made = []; found = []; hashed = [] })
-        go None left = nothing st who n (Abandon sid0) NotAbandoned (record { made = []; found = []; hashed = [] }) ok refl refl (λ nt i. absurd i) (inl refl) (λ r j. j)
-        go (Some x) left = nothing st who n (Abandon sid0) Abandoned (record { made = []; found = []; hashed = [] }) (abandon_done sid0 (λ q. left q refl)) refl refl (λ nt i. absurd i) (abandon_life sid0 (λ q. left q refl)) (λ r j. j)
+        go None left = nothing st who n (Abandon sid0) NotAbandoned (record { made = []; found = []; hashed = [] }) ok refl refl (λ nt i. absurd i) (inl refl) (λ r j. j) (λ r j. j)
+        go (Some x) left = nothing st who n (Abandon sid0) Abandoned (record { made = []; found = []; hashed = [] }) (abandon_done sid0 (λ q. left q refl)) refl refl (λ nt i. absurd i) (abandon_life sid0 (λ q. left q refl)) (λ r j. j) (λ r j. j)
 
     -- ---- a step is sent
 
@@ -818,7 +830,7 @@ module _ (sha : Hash) (hash : IsHash sha) (s : Schedule) (programs : List Progra
           act_done : Out st who n (Act sid0 label values (map F values)) its_answer (notes_of_sent n.keys p x f os)
           act_done = elim (cases_Bool (bytes_eq sid0 sid)) [
             | inl h ↦ act_mine h
-            | inr h ↦ nothing st who n (Act sid0 label values (map F values)) its_answer (notes_of_sent n.keys p x f os) (other h) (event_other event (ap (λ y. bytes_eq y sid) x_sid ∙ h)) (quiet_event event (ap (λ y. bytes_eq y sid) x_sid ∙ h)) (note_other x p f os x_long (ap (λ y. bytes_eq y sid) x_sid ∙ h) refl) (inl (other_live h)) (λ r j. j)
+            | inr h ↦ nothing st who n (Act sid0 label values (map F values)) its_answer (notes_of_sent n.keys p x f os) (other h) (event_other event (ap (λ y. bytes_eq y sid) x_sid ∙ h)) (quiet_event event (ap (λ y. bytes_eq y sid) x_sid ∙ h)) (note_other x p f os x_long (ap (λ y. bytes_eq y sid) x_sid ∙ h) refl) (inl (other_live h)) (λ r j. j) (λ r j. j)
           ]
             where
               other_live : bytes_eq sid0 sid ≡ false → filter (of_sid sid) (replace which now n.live) ≡ filter (of_sid sid) n.live
@@ -845,7 +857,7 @@ module _ (sha : Hash) (hash : IsHash sha) (s : Schedule) (programs : List Progra
         notes_with o f = option_map_or (λ x. option_map_or (λ p. notes_of_sent n.keys p x f os) (program_for n.programs x.cast.graph x.role) no_notes) o no_notes
 
         not_acted : (fault : ActFault) → answer_act sha n sid0 label values (map F values) ≡ NotActed fault → Out st who n (Act sid0 label values (map F values)) (answer sha n (Act sid0 label values (map F values))) (notes sha n (Act sid0 label values (map F values)))
-        not_acted fault e = subst (λ a. Out st who n (Act sid0 label values (map F values)) a (notes_of_act n sid0 os a)) (sym e) (nothing st who n (Act sid0 label values (map F values)) (NotActed fault) no_notes ok refl refl (λ nt i. absurd i) (inl refl) (λ r j. j))
+        not_acted fault e = subst (λ a. Out st who n (Act sid0 label values (map F values)) a (notes_of_act n sid0 os a)) (sym e) (nothing st who n (Act sid0 label values (map F values)) (NotActed fault) no_notes ok refl refl (λ nt i. absurd i) (inl refl) (λ r j. j) (λ r j. j))
 
         pub act_out : ((e : Event) (to : Name) (f : Frame) → answer sha n (Act sid0 label values (map F values)) ≡ Sends e to f → HasSpelling f) → Out st who n (Act sid0 label values (map F values)) (answer sha n (Act sid0 label values (map F values))) (notes sha n (Act sid0 label values (map F values)))
         act_out spelled = by_session (session_with n.live sid0) refl
@@ -1027,8 +1039,12 @@ module _ (sha : Hash) (hash : IsHash sha) (s : Schedule) (programs : List Progra
           other_joins r j (Some c) = joined_more n.joins (f.sid, f.receiver) sid r j
           other_joins r j None = j
 
+          other_fewer : bytes_eq f.sid sid ≡ false → (r : ℕ) (o : Option Cast) → has_joined (nexts o).joins sid r ≡ true → has_joined n.joins sid r ≡ true
+          other_fewer h r (Some c) j = joined_less n.joins (f.sid, f.receiver) sid r h j
+          other_fewer h r None j = j
+
           other_done : bytes_eq f.sid sid ≡ false → Out st who n (Deliver bs) (Happened (receipt f)) (notes_of_read sha n (Ok f))
-          other_done h = nothing st who n (Deliver bs) (Happened (receipt f)) (notes_of_read sha n (Ok f)) (subst (NodeOk st who) (sym (ap (takes_read n) is_read)) (other_node h f.join)) (event_other (receipt f) h) (quiet_event (receipt f) h) (λ nt i. absurd (no_made (row_number (first_some (rows sha n f))) (session_of_frame n f) nt i)) (inl (ap (λ (m : Node). filter (of_sid sid) m.live) (ap (takes_read n) is_read) ∙ other_live h f.join)) (λ r j. subst (λ (m : Node). has_joined m.joins sid r ≡ true) (sym (ap (takes_read n) is_read)) (other_joins r j f.join))
+          other_done h = nothing st who n (Deliver bs) (Happened (receipt f)) (notes_of_read sha n (Ok f)) (subst (NodeOk st who) (sym (ap (takes_read n) is_read)) (other_node h f.join)) (event_other (receipt f) h) (quiet_event (receipt f) h) (λ nt i. absurd (no_made (row_number (first_some (rows sha n f))) (session_of_frame n f) nt i)) (inl (ap (λ (m : Node). filter (of_sid sid) m.live) (ap (takes_read n) is_read) ∙ other_live h f.join)) (λ r j. subst (λ (m : Node). has_joined m.joins sid r ≡ true) (sym (ap (takes_read n) is_read)) (other_joins r j f.join)) (λ r j. other_fewer h r f.join (subst (λ (m : Node). has_joined m.joins sid r ≡ true) (ap (takes_read n) is_read) j))
 
           -- where no row holds, the notes are those of the session
           notes_are : first_some (rows sha n f) ≡ None → (y : Program × Session) → session_of_frame n f ≡ Some y → notes_of_read sha n (Ok f) ≡ nts_of 16 (Some y)
@@ -1127,7 +1143,7 @@ module _ (sha : Hash) (hash : IsHash sha) (s : Schedule) (programs : List Progra
           by_join e fs (Some c) j = join_program e fs c j (program_for n.programs c.graph f.receiver) refl
 
           by_rows : (o : Option Refusal) → first_some (rows sha n f) ≡ o → Out st who n (Deliver bs) (decided (receipt f) o) (notes_of_read sha n (Ok f))
-          by_rows (Some r) e = nothing st who n (Deliver bs) (NotDelivered r) (notes_of_read sha n (Ok f)) ok refl refl (λ nt i. absurd (no_made (row_number (first_some (rows sha n f))) (session_of_frame n f) nt i)) (inl refl) (λ r j. j)
+          by_rows (Some r) e = nothing st who n (Deliver bs) (NotDelivered r) (notes_of_read sha n (Ok f)) ok refl refl (λ nt i. absurd (no_made (row_number (first_some (rows sha n f))) (session_of_frame n f) nt i)) (inl refl) (λ r j. j) (λ r j. j)
           by_rows None e = elim (cases_Bool (bytes_eq f.sid sid)) [ inl h ↦ by_join e (same_bytes_ f.sid sid h) f.join refl | inr h ↦ other_done h ]
 
       pub deliver_out : (bs : List ℕ) → IsBytes bs → ((nt : Note) → In (notes sha n (Deliver bs)).found nt → is_honest s nt.one ≡ true → is_honest s nt.two ≡ true → NoteOk g sid st.log nt) → ((t : List ℕ) → In (notes sha n (Deliver bs)).hashed t → Hashed t)
@@ -1135,6 +1151,6 @@ module _ (sha : Hash) (hash : IsHash sha) (s : Schedule) (programs : List Progra
       deliver_out bs bytes founds hs = go (read bs) refl
         where
           go : (r : Result Frame ℕ) → read bs ≡ r → Out st who n (Deliver bs) (answer sha n (Deliver bs)) (notes sha n (Deliver bs))
-          go (Err at) e = subst (λ r. Out st who n (Deliver bs) (verdict_on sha n r) (notes_of_read sha n r)) (sym e) (nothing st who n (Deliver bs) (NotDelivered (Malformed at)) no_notes ok refl refl (λ nt i. absurd i) (inl refl) (λ r j. j))
+          go (Err at) e = subst (λ r. Out st who n (Deliver bs) (verdict_on sha n r) (notes_of_read sha n r)) (sym e) (nothing st who n (Deliver bs) (NotDelivered (Malformed at)) no_notes ok refl refl (λ nt i. absurd i) (inl refl) (λ r j. j) (λ r j. j))
           go (Ok f) e = subst (λ r. Out st who n (Deliver bs) (verdict_on sha n r) (notes_of_read sha n r)) (sym e)
               (by_rows f (read-SpellsFrame bs f bytes e).is_frame bs e (subst (λ r. (nt : Note) → In (notes_of_read sha n r).found nt → is_honest s nt.one ≡ true → is_honest s nt.two ≡ true → NoteOk g sid st.log nt) e founds) (subst (λ r. (t : List ℕ) → In (notes_of_read sha n r).hashed t → Hashed t) e hs) (first_some (rows sha n f)) refl)

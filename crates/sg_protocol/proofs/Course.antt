@@ -54,7 +54,7 @@ use Rattle.sg_protocol.specs.IsSchedule.{IsStep}
 use Rattle.sg_law.proofs.Upto.{in_from_Contains}
 use Rattle.sg_protocol.proofs.Calls.{Out, NodeOk, node_kept, start_out, abandon_out, act_out, deliver_out, find_passes}
 
-filter_map-append : {X Y : Type 0} (f : X → Option Y) (xs ys : List X) → filter_map f (xs ++ ys) ≡ filter_map f xs ++ filter_map f ys
+pub filter_map-append : {X Y : Type 0} (f : X → Option Y) (xs ys : List X) → filter_map f (xs ++ ys) ≡ filter_map f xs ++ filter_map f ys
 filter_map-append f [] ys = refl
 filter_map-append f (x ∷ xs) ys = ap (cons_option (f x)) (filter_map-append f xs ys) ∙ moved_in (f x) (filter_map f xs) (filter_map f ys)
   where
@@ -104,7 +104,7 @@ pub record Suffix (k : ℕ) (log log' : List Logged) : Type 0 where
 suffix_refl : (k : ℕ) (log : List Logged) → Suffix k log log
 suffix_refl k log = record { rest = []; is = sym (append-nil log); late = tt }
 
-suffix_one : (k : ℕ) (log : List Logged) (l : Logged) → l.number ≡ k → Suffix k log (log ++ l ∷ [])
+pub suffix_one : (k : ℕ) (log : List Logged) (l : Logged) → l.number ≡ k → Suffix k log (log ++ l ∷ [])
 suffix_one k log l e = record { rest = l ∷ []; is = refl; late = (omega (arith, e), tt) }
 
 all_both : {A : Type 0} (P : A → Type 0) (xs ys : List A) → AllByRecursion P xs → AllByRecursion P ys → AllByRecursion P (xs ++ ys)
@@ -115,7 +115,7 @@ all_weak : {A : Type 0} (P Q : A → Type 0) → ((x : A) → P x → Q x) → (
 all_weak P Q f [] a = tt
 all_weak P Q f (x ∷ xs) a = (f x a.0, all_weak P Q f xs a.1)
 
-suffix_trans : (k j : ℕ) (a b c : List Logged) → k ≤ j → Suffix k a b → Suffix j b c → Suffix k a c
+pub suffix_trans : (k j : ℕ) (a b c : List Logged) → k ≤ j → Suffix k a b → Suffix j b c → Suffix k a c
 suffix_trans k j a b c l s t = record {
   rest = s.rest ++ t.rest;
   is = t.is ∙ ap (λ z. z ++ t.rest) s.is ∙ append_assoc a s.rest t.rest;
@@ -243,7 +243,7 @@ module _ (sha : Hash) (hash : IsHash sha) (s : Schedule) (programs : List Progra
       ∙ ap (flat_map items_of) (flat_map-append (λ (c : Called). exchanges_in c.call c.answer) (filter (is_of sid r) cs) (filter (is_of sid r) (c ∷ [])))
       ∙ flat_map-append items_of (exchanges_of sid r cs) (exchanges_of sid r (c ∷ []))
 
-  honest_items-append : (xs ys : List Logged) → honest_items sid (xs ++ ys) ≡ honest_items sid xs ++ honest_items sid ys
+  pub honest_items-append : (xs ys : List Logged) → honest_items sid (xs ++ ys) ≡ honest_items sid xs ++ honest_items sid ys
   honest_items-append xs ys = filter_map-append (λ (l : Logged). sent_item sid l.outcome) xs ys
 
   pub record Progress (w : World) : Type 0 where
@@ -437,15 +437,15 @@ module _ (sha : Hash) (hash : IsHash sha) (s : Schedule) (programs : List Progra
       all_steps (world_after sha s w k x) (k + 1) (one_step w k p x good.0 fit (subst (λ (z : World). Suffix (k + 1) (world_after sha s w k x).log z.log) e (suffix_all sha s (world_after sha s w k x) (k + 1) xs))) xs good.1 (fit_next w k x fit good.0) e
 
   -- what each call keeps, and each step without a call, holds in the end
-  module _ (P : World → Type 0) (P_idle : (w : World) (k : ℕ) → Progress w → P w → (who : Option Name) (o : Outcome) (fr : Option (List ℕ)) → P (uncalled w k who o fr))
+  module _ (P : World → Type 0) (P_idle : (w : World) (k : ℕ) → Progress w → P w → (who : Option Name) (o : Outcome) (fr : Option (List ℕ)) → events_of_outcome o ≡ [] → P (uncalled w k who o fr))
       (P_called : (w : World) (k : ℕ) (p : Progress w) → P w → (x : Step) (good : IsStep sha s x) (fit : Fit w) (who : Name) (past : Past) (its_past : past_of w who ≡ Some past) (c : Call) → call_of sha s w k x ≡ Some c → Suffix (k + 1) (called sha w k who c past).log wf.log → Outs w k p x good fit who past its_past c → P (called sha w k who c past)) where
     keep_past : (w : World) (k : ℕ) → Progress w → P w → (x : Step) → IsStep sha s x → Fit w → (who : Name) (o : Option Past) → past_of w who ≡ o → (c : Option Call) → call_of sha s w k x ≡ c → Suffix (k + 1) (option_map_or (called_if sha w k who c) o w).log wf.log → P (option_map_or (called_if sha w k who c) o w)
     keep_past w k p h x good fit who None q c e after = h
-    keep_past w k p h x good fit who (Some past) q None e after = P_idle w k p h (Some who) NoFrame None
+    keep_past w k p h x good fit who (Some past) q None e after = P_idle w k p h (Some who) NoFrame None refl
     keep_past w k p h x good fit who (Some past) q (Some c) e after = P_called w k p h x good fit who past q c e after (out_of w k p x good fit who past q c e (founds w k p x good fit who past q c after) (hs_of w k p x good fit who past q c after) (lefts w k p x good fit who past q c after))
 
     keep_step : (w : World) (k : ℕ) → Progress w → P w → (x : Step) → IsStep sha s x → Fit w → Suffix (k + 1) (world_after sha s w k x).log wf.log → P (world_after sha s w k x)
-    keep_step w k p h (CraftStep c) good fit after = P_idle w k p h None Crafted _
+    keep_step w k p h (CraftStep c) good fit after = P_idle w k p h None Crafted _ refl
     keep_step w k p h (StartStep who n') good fit after = keep_past w k p h (StartStep who n') good fit who (past_of w who) refl (call_of sha s w k (StartStep who n')) refl after
     keep_step w k p h (ActStep who n' label values) good fit after = keep_past w k p h (ActStep who n' label values) good fit who (past_of w who) refl (call_of sha s w k (ActStep who n' label values)) refl after
     keep_step w k p h (AbandonStep who n') good fit after = keep_past w k p h (AbandonStep who n') good fit who (past_of w who) refl (call_of sha s w k (AbandonStep who n')) refl after

@@ -3,6 +3,7 @@ use Rattle.std.specs.Prelude.{◌≡◌, ◌≢◌, ℕ, ◌+◌, ◌==◌, nat_
 use Rattle.std.specs.List.{list_any, AllByRecursion}
 use Rattle.std.specs.Option.{option_map_or}
 use Rattle.std.proofs.Common.{sym, ◌∙◌, ap, subst, inl, inr, append_assoc, append-nil}
+use Rattle.std.proofs.lemmas.Bool.{eqb-true}
 use Rattle.std.proofs.lemmas.Slice.Eq.{bytes_eq-Decides}
 use Rattle.sg_model.specs.Last.{Map, last}
 use Rattle.sg_model.specs.Lists.{first_some, all_differ}
@@ -89,6 +90,7 @@ module _ (sha : Hash) (hash : IsHash sha) (s : Schedule) (programs : List Progra
     there : In programs program
     digest : program.digest ≡ cast.graph
     differ : all_differ cast.names ≡ true
+    lengths : length cast.names ≡ length program.graph.roles
 
   abbrev pub Quiet : Node → Type 0
   Quiet n = filter (of_sid sid) n.live ≡ []
@@ -98,6 +100,9 @@ module _ (sha : Hash) (hash : IsHash sha) (s : Schedule) (programs : List Progra
 
   abbrev pub Either : Node → Call → Answer → Notes → Type 0
   Either n c a nts = Still n c a ⊎ BegunBy c a nts
+
+  cast_length : (keys : Keyring) (g : Graph) (c : Cast) (r : ℕ) → is_cast keys g c r ≡ true → length c.names ≡ length g.roles
+  cast_length keys g c r h = eqb-true (length c.names) (length g.roles) (and_parts (length c.names == length g.roles) (all_differ c.names) (and_parts _ (nat_lt r (length c.names)) (and_parts _ (bytes_eq (principal c r) keys.me) h).0).0).0
 
   cast_differ : (keys : Keyring) (g : Graph) (c : Cast) (r : ℕ) → is_cast keys g c r ≡ true → all_differ c.names ≡ true
   cast_differ keys g c r h = (and_parts (length c.names == length g.roles) (all_differ c.names) (and_parts _ (nat_lt r (length c.names)) (and_parts _ (bytes_eq (principal c r) keys.me) h).0).0).1
@@ -119,6 +124,7 @@ module _ (sha : Hash) (hash : IsHash sha) (s : Schedule) (programs : List Progra
             there = subst (λ z. In z p) ps (found_in (λ (p : Program). bytes_eq p.digest c.graph && (p.role == role_at (shape p.graph) 0)) n.programs p sp);
             digest = same_bytes_ p.digest c.graph (and_parts (bytes_eq p.digest c.graph) (p.role == role_at (shape p.graph) 0) (find_passes (λ (p : Program). bytes_eq p.digest c.graph && (p.role == role_at (shape p.graph) 0)) n.programs p sp)).0;
             differ = cast_differ n.keys p.graph c p.role (not_false (is_cast n.keys p.graph c p.role) (row_none _ _ one.0));
+            lengths = cast_length n.keys p.graph c p.role (not_false (is_cast n.keys p.graph c p.role) (row_none _ _ one.0));
           }
       | inr h ↦ inl (rw h refl, filter-append (of_sid sid) n.live (still n.programs (new_session (session_id sha c) c p.role)) ∙ ap (λ l. l ++ filter (of_sid sid) (still n.programs (new_session (session_id sha c) c p.role))) quiet ∙ still-other sid n.programs (new_session (session_id sha c) c p.role) h)
     ]
@@ -207,6 +213,7 @@ module _ (sha : Hash) (hash : IsHash sha) (s : Schedule) (programs : List Progra
             there = subst (λ z. In z p) ps (found_in (λ (p : Program). bytes_eq p.digest c.graph && (p.role == f.receiver)) n.programs p pc);
             digest = same_bytes_ p.digest c.graph (and_parts (bytes_eq p.digest c.graph) (p.role == f.receiver) (find_passes (λ (p : Program). bytes_eq p.digest c.graph && (p.role == f.receiver)) n.programs p pc)).0;
             differ = cast_differ n.keys p.graph c f.receiver (and_parts (is_cast n.keys p.graph c f.receiver) (nat_lt f.sender (length c.names)) (not_false (is_cast n.keys p.graph c f.receiver && nat_lt f.sender (length c.names)) (row_none _ _ r1.0))).0;
+            lengths = cast_length n.keys p.graph c f.receiver (and_parts (is_cast n.keys p.graph c f.receiver) (nat_lt f.sender (length c.names)) (not_false (is_cast n.keys p.graph c f.receiver && nat_lt f.sender (length c.names)) (row_none _ _ r1.0))).0;
           }
 
       rows_join : (c : Cast) → f.join ≡ Some c → (o : Option Program) → program_for n.programs c.graph f.receiver ≡ o → first_some (rows sha n f) ≡ first_some (option_map_or (rows_of_join sha n f c) o (Some UnknownGraph ∷ []))
@@ -361,6 +368,7 @@ module _ (sha : Hash) (hash : IsHash sha) (s : Schedule) (programs : List Progra
       there = b.begun.there;
       digest = b.begun.digest;
       differ = b.begun.differ;
+      lengths = b.begun.lengths;
     }
 
     pub first_cast : AllByRecursion (IsStep sha s) s.steps → Fit (new_world programs s) → events_of sid (run sha programs s).log ≢ [] → FirstCast sha s programs sid (run sha programs s)

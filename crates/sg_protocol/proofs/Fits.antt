@@ -248,7 +248,7 @@ module _ (sha : Hash) (hash : IsHash sha) (programs : List Program) (s : Schedul
       by_session None q a = absurd (cc)
       by_session (Some x) q a = by_program x q (program_for n.programs x.cast.graph x.role) refl a
 
-  start_sends : (n : Node) (c : Cast) (e : Event) (to : Name) (f : Frame) → answer sha n (Start c) ≡ Sends e to f → ⊥
+  pub start_sends : (n : Node) (c : Cast) (e : Event) (to : Name) (f : Frame) → answer sha n (Start c) ≡ Sends e to f → ⊥
   start_sends n c e to f a = by_program (starter n.programs c.graph) a
     where
       by_rows : (p : Program) (o : Option StartFault) → started (session_id sha c) p.role o ≡ Sends e to f → ⊥
@@ -259,14 +259,14 @@ module _ (sha : Hash) (hash : IsHash sha) (programs : List Program) (s : Schedul
       by_program None a = absurd (cc)
       by_program (Some p) a = by_rows p (first_some (rows_of_start n p (session_id sha c) c)) a
 
-  abandon_sends : (n : Node) (sid0 : List ℕ) (e : Event) (to : Name) (f : Frame) → answer sha n (Abandon sid0) ≡ Sends e to f → ⊥
+  pub abandon_sends : (n : Node) (sid0 : List ℕ) (e : Event) (to : Name) (f : Frame) → answer sha n (Abandon sid0) ≡ Sends e to f → ⊥
   abandon_sends n sid0 e to f a = go (session_with n.live sid0) a
     where
       go : (o : Option Session) → option_map_or (λ (x : Session). Abandoned) o NotAbandoned ≡ Sends e to f → ⊥
       go None a = absurd (cc)
       go (Some x) a = absurd (cc)
 
-  deliver_sends : (n : Node) (bs : List ℕ) (e : Event) (to : Name) (f : Frame) → answer sha n (Deliver bs) ≡ Sends e to f → ⊥
+  pub deliver_sends : (n : Node) (bs : List ℕ) (e : Event) (to : Name) (f : Frame) → answer sha n (Deliver bs) ≡ Sends e to f → ⊥
   deliver_sends n bs e to f a = go (read bs) a
     where
       by_rows : (g : Frame) (o : Option Refusal) → decided (receipt g) o ≡ Sends e to f → ⊥

@@ -121,11 +121,11 @@ module _ (g : Graph) where
   merge_last d w = in_order-in_order (length g.variables) (merge d w) ∙ in_order-same (length g.variables) (merge d w) (merge d (in_order (length g.variables) w)) (λ x h.
       value_at-merge d w x ∙ ap (λ o. option_or o (value_at d x)) (sym (value_at-in_order (length g.variables) w x h)) ∙ sym (value_at-merge d (in_order (length g.variables) w) x))
 
-  lead-lead : (d e : Map (List ℕ)) (xs : List Item) → lead (in_order (length g.variables) (merge d e)) xs ≡ lead d (lead e xs)
+  pub lead-lead : (d e : Map (List ℕ)) (xs : List Item) → lead (in_order (length g.variables) (merge d e)) xs ≡ lead d (lead e xs)
   lead-lead d e [] = refl
   lead-lead d e (x ∷ xs) = ap (λ m. record x { delta = m } ∷ xs) (merge_twice d e x.delta)
 
-  lead-in_order : (d : Map (List ℕ)) (xs : List Item) → lead (in_order (length g.variables) d) xs ≡ lead d xs
+  pub lead-in_order : (d : Map (List ℕ)) (xs : List Item) → lead (in_order (length g.variables) d) xs ≡ lead d xs
   lead-in_order d [] = refl
   lead-in_order d (x ∷ xs) = ap (λ m. record x { delta = m } ∷ xs) (merge_in_order d x.delta)
 

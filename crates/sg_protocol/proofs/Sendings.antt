@@ -91,7 +91,7 @@ no_entry sid (l ∷ ls) h =
 
 -- ---- a key is shared both ways
 
-key_same : (ks : List PairKey) → AllByRecursion (λ (k : PairKey). k.one ≢ k.two) ks → (a b : Name) → key_of (keyring_of ks a) b ≡ key_of (keyring_of ks b) a
+pub key_same : (ks : List PairKey) → AllByRecursion (λ (k : PairKey). k.one ≢ k.two) ks → (a b : Name) → key_of (keyring_of ks a) b ≡ key_of (keyring_of ks b) a
 key_same [] h a b = refl
 key_same (k ∷ ks) h a b = go (cases_Bool (bytes_eq k.one a)) (cases_Bool (bytes_eq k.one b)) (cases_Bool (bytes_eq k.two a)) (cases_Bool (bytes_eq k.two b)) (key_same ks h.1 a b)
   where
@@ -203,7 +203,7 @@ module _ (sha : Hash) (hash : IsHash sha) (programs : List Program) (s : Schedul
   read_keys n (Err at) = refl
   read_keys n (Ok f) = takes_keys n f f.join
 
-  keys_after : (n : Node) (c : Call) (a : Answer) → (node_after n c a).keys ≡ n.keys
+  pub keys_after : (n : Node) (c : Call) (a : Answer) → (node_after n c a).keys ≡ n.keys
   keys_after n (Start c) (Happened (Started sid r)) = refl
   keys_after n (Act sid label values confounders) (Sends e to f) = refl
   keys_after n (Abandon sid) Abandoned = refl
@@ -427,7 +427,7 @@ module _ (sha : Hash) (hash : IsHash sha) (programs : List Program) (s : Schedul
 
   -- ---- where a note was made
 
-  act_event : (n : Node) (sid0 : List ℕ) (label : ℕ) (values : Map Value) (confs : List (List ℕ)) (e : Event) (to : Name) (f : Frame) → answer sha n (Act sid0 label values confs) ≡ Sends e to f → sid_of e ≡ f.sid
+  pub act_event : (n : Node) (sid0 : List ℕ) (label : ℕ) (values : Map Value) (confs : List (List ℕ)) (e : Event) (to : Name) (f : Frame) → answer sha n (Act sid0 label values confs) ≡ Sends e to f → sid_of e ≡ f.sid
   act_event n sid0 label values confs e to f a = by_session (session_with n.live sid0) a
     where
       by_rows : (x : Session) (p : Program) (o : Option ActFault) → acted (sent sha n.keys p x label values confs) o ≡ Sends e to f → sid_of e ≡ f.sid

@@ -26,7 +26,7 @@ use Rattle.sg_protocol.specs.Notes.{no_notes, notes}
 use Rattle.sg_protocol.specs.Past.{Past, node_of}
 use Rattle.sg_protocol.specs.Schedule.{Schedule, honest_role, Step, DeliverStep, What, cast_of}
 use Rattle.sg_protocol.specs.World.{World, Logged, Outcome, Answered, past_of, call_of, bytes_of}
-use Rattle.sg_protocol.specs.Run.{called, uncalled, world_after, world_after_all, frame_in}
+use Rattle.sg_protocol.specs.Run.{called, uncalled, events_of_outcome, world_after, world_after_all, frame_in}
 use Rattle.sg_protocol.specs.Premises.{hashed, Unforged}
 use Rattle.sg_protocol.specs.IsSchedule.{IsStep}
 use Rattle.sg_protocol.specs.Completeness.{HadAnswer}
@@ -163,8 +163,8 @@ module _ (sha : Hash) (hash : IsHash sha) (s : Schedule) (programs : List Progra
   abbrev Shows : World → Type 0
   Shows w = (l : Logged) (who : Name) (bs : List ℕ) (f : Frame) (past : Past) → last w.log ≡ Some l → IsTaken w l who bs f → f.sid ≡ sid → past_of w who ≡ Some past → ShowsLastSteps s w g cast f (up_to_last (λ (i : Item). i.role) f.receiver (flat_map items_of (exchanges_of f.sid f.receiver past.calls)))
 
-  shows_idle : (w : World) (k : ℕ) → Prog w → Shows w → (who : Option Name) (o : Outcome) (fr : Option (List ℕ)) → Shows (uncalled w k who o fr)
-  shows_idle w k p h who o fr l who' bs f past e t q its =
+  shows_idle : (w : World) (k : ℕ) → Prog w → Shows w → (who : Option Name) (o : Outcome) (fr : Option (List ℕ)) → events_of_outcome o ≡ [] → Shows (uncalled w k who o fr)
+  shows_idle w k p h who o fr none_ l who' bs f past e t q its =
       let same : Some (record { number = k; who = who; call = None; outcome = o; frame = fr; notes = no_notes }) ≡ Some l = sym (last-append w.log (record { number = k; who = who; call = None; outcome = o; frame = fr; notes = no_notes }) []) ∙ e in
       let same' : record { number = k; who = who; call = None; outcome = o; frame = fr; notes = no_notes } ≡ l = cc in
       let none : None ≡ Some (Deliver bs) = ap (λ (z : Logged). z.call) same' ∙ t.2 in
@@ -251,7 +251,7 @@ module _ (sha : Hash) (hash : IsHash sha) (s : Schedule) (programs : List Progra
         held = λ front i rest e h. subst (λ z. Held (called sha w k who c past) g cast z i (commitments g (up_to_last (λ (i : Item). i.role) f.receiver (flat_map items_of (exchanges_of z f.receiver pr.calls)) ++ front ++ i ∷ []))) (sym q) (held_by pr pr_is front i rest e h);
       }
 
-    shows_called : Shows (called sha w k who c past)
+    pub shows_called : Shows (called sha w k who c past)
     shows_called l who' bs f pr e t q pr_is =
         let same : Some (entry_ c) ≡ Some l = sym (last-append w.log (entry_ c) []) ∙ e in
         let same' : entry_ c ≡ l = cc in

@@ -166,7 +166,7 @@ rec_in P [] x a i = absurd i
 rec_in P (y ∷ ys) x a (inl e) = subst P (sym e) a.0
 rec_in P (y ∷ ys) x a (inr i) = rec_in P ys x a.1 i
 
-to_rec : {A : Type 0} (P : A → Type 0) (xs : List A) → All P xs → AllByRecursion P xs
+pub to_rec : {A : Type 0} (P : A → Type 0) (xs : List A) → All P xs → AllByRecursion P xs
 to_rec P [] a = tt
 to_rec P (x ∷ xs) a = (All-head P x xs a, to_rec P xs (All-tail P x xs a))
 
@@ -177,7 +177,7 @@ found_in p (y ∷ ys) x e = elim (cases_Bool (p y)) [
   | inr h ↦ inr (found_in p ys x (rw h at e))
 ]
 
-find_some : {A : Type 0} (p : A → Bool) (xs : List A) (x : A) → In xs x → p x ≡ true → (y : A) × (find p xs ≡ Some y)
+pub find_some : {A : Type 0} (p : A → Bool) (xs : List A) (x : A) → In xs x → p x ≡ true → (y : A) × (find p xs ≡ Some y)
 find_some p [] x i h = absurd i
 find_some p (y ∷ ys) x i h = elim (cases_Bool (p y)) [
   | inl k ↦ (y, rw k refl)
@@ -198,7 +198,7 @@ in_parts_of (g ∷ gs) y i = elim (C.in_parts (map (λ r. (g, r)) (below (length
   | inr j ↦ inr (in_parts_of gs y j)
 ]
 
-program_graph : (sha : Hash) (gs : List Graph) (ps : List Program) → AreCompiled sha gs ps → (p : Program) → In ps p → In gs p.graph
+pub program_graph : (sha : Hash) (gs : List Graph) (ps : List Program) → AreCompiled sha gs ps → (p : Program) → In ps p → In gs p.graph
 program_graph sha gs ps c p i = in_parts_of gs (p.graph, p.role) (subst (λ l. In l (p.graph, p.role)) c.all (in_map (λ (p : Program). (p.graph, p.role)) ps p i))
 
 -- ---- the beginning
@@ -228,6 +228,7 @@ pub record FirstCast (sha : Hash) (s : Schedule) (programs : List Program) (sid 
   pub there : In programs program
   pub digest : program.digest ≡ cast.graph
   pub differ : all_differ cast.names ≡ true
+  pub lengths : length cast.names ≡ length program.graph.roles
 
 module _ (sha : Hash) (hash : IsHash sha) (programs : List Program) (s : Schedule) (compiled : AreCompiled sha s.graphs programs) (sched : IsSchedule sha s) (premises : Premises sha s (run sha programs s)) (sid : List ℕ)
     (first : FirstCast sha s programs sid (run sha programs s))
@@ -238,24 +239,24 @@ module _ (sha : Hash) (hash : IsHash sha) (programs : List Program) (s : Schedul
   abbrev wf : World
   wf = run sha programs s
 
-  abbrev g : Graph
+  abbrev pub g : Graph
   g = first.program.graph
 
-  the_program : IsProgram sha first.program
+  pub the_program : IsProgram sha first.program
   the_program = all_in (IsProgram sha) programs first.program compiled.each first.there
 
   same_text_same : (a b : List ℕ) → In (hashed s wf) a → In (hashed s wf) b → sha a ≡ sha b → a ≡ b
   same_text_same a b i j e = premises.collision_free a b (contains_from_in (hashed s wf) a i) (contains_from_in (hashed s wf) b j) e
 
-  same_digest : (a b : Graph) → In s.graphs a → In s.graphs b → graph_digest sha a ≡ graph_digest sha b → a ≡ b
+  pub same_digest : (a b : Graph) → In s.graphs a → In s.graphs b → graph_digest sha a ≡ graph_digest sha b → a ≡ b
   same_digest a b i j e =
       let t : graph_text_of a ≡ graph_text_of b = same_text_same (graph_text_of a) (graph_text_of b) (in_left (map graph_text_of s.graphs) _ (graph_text_of a) (in_map graph_text_of s.graphs a i)) (in_left (map graph_text_of s.graphs) _ (graph_text_of b) (in_map graph_text_of s.graphs b j)) e in
       same_named s.graphs a b sched.graph_names i j (same_name a b (all_in IsGraph s.graphs a sched.are_graphs i) (all_in IsGraph s.graphs b sched.are_graphs j) (one_canonical a b t))
 
-  g_there : In s.graphs g
+  pub g_there : In s.graphs g
   g_there = program_graph sha s.graphs programs compiled first.program first.there
 
-  prog : (r : ℕ) (p : Program) → program_for programs first.cast.graph r ≡ Some p → (p.graph ≡ g) × IsViewTable p.graph r p.views
+  pub prog : (r : ℕ) (p : Program) → program_for programs first.cast.graph r ≡ Some p → (p.graph ≡ g) × IsViewTable p.graph r p.views
   prog r p e =
       let is : IsProgram sha p = find_all (λ (p : Program). bytes_eq p.digest first.cast.graph && (p.role == r)) (IsProgram sha) programs p (to_rec (IsProgram sha) programs compiled.each) e in
       let t = and_parts (bytes_eq p.digest first.cast.graph) (p.role == r) (find_passes (λ (p : Program). bytes_eq p.digest first.cast.graph && (p.role == r)) programs p e) in (
@@ -263,16 +264,16 @@ module _ (sha : Hash) (hash : IsHash sha) (programs : List Program) (s : Schedul
         subst (λ z. IsViewTable p.graph z p.views) (eqb-true p.role r t.1) is.views,
       )
 
-  the_cast : (c : Cast) → CastFits c → In (hashed s wf) (session_text_of c) → session_id sha c ≡ sid → c ≡ first.cast
+  pub the_cast : (c : Cast) → CastFits c → In (hashed s wf) (session_text_of c) → session_id sha c ≡ sid → c ≡ first.cast
   the_cast c fits i e = TL.one_cast c first.cast fits first.fits (same_text_same (session_text_of c) (session_text_of first.cast) i first.is_hashed (e ∙ sym first.sid_is))
 
-  long : length sid ≡ 32
+  pub long : length sid ≡ 32
   long = subst (λ z. length z ≡ 32) first.sid_is (hash (session_text_of first.cast)).0
 
   abbrev Prog : World → Type 0
   Prog w = Progress sha hash s programs sid first.cast g the_program.is_graph the_program.accepted first.fits.version long first.differ prog wf premises.unforged the_cast Fit fit_next fit_bytes fit_sends casts_fit w
 
-  begins : Prog (new_world programs s)
+  pub begins : Prog (new_world programs s)
   begins = record {
     moves = [];
     may = tt;
@@ -303,14 +304,14 @@ module _ (sha : Hash) (hash : IsHash sha) (programs : List Program) (s : Schedul
       fresh_node : (who : Name) → NodeOk sha hash s programs sid first.cast g the_program.is_graph the_program.accepted first.fits.version long first.differ prog (λ t. In (hashed s wf) t) the_cast (λ who. HadAnswer wf.log who (Abandon sid) Abandoned) (V.at_first (shape g)) who (node_of (new_past s.keys programs who))
       fresh_node who = record { me = refl; has_programs = refl; lengths = tt; status = inl record { alone = refl; all = λ h p l. record { none = refl; start = refl } } }
 
-  finished : Prog wf
+  pub finished : Prog wf
   finished = all_steps sha hash s programs sid first.cast g the_program.is_graph the_program.accepted first.fits.version long first.differ prog wf premises.unforged the_cast Fit fit_next fit_bytes fit_sends casts_fit
       (new_world programs s) 1 begins s.steps (to_rec (IsStep sha s) s.steps sched.steps) fit_new refl
 
   abbrev commit : Commit
   commit o = commitment sha sid o
 
-  binding : (ms : List Move) → AllByRecursion (λ (o : Opening). In (hashed s wf) (commitment_text_of sid o) × OpeningFits o) (all_openings ms) → Binding commit (all_openings ms)
+  pub binding : (ms : List Move) → AllByRecursion (λ (o : Opening). In (hashed s wf) (commitment_text_of sid o) × OpeningFits o) (all_openings ms) → Binding commit (all_openings ms)
   binding ms used o p i j v e =
       let a = rec_in _ (all_openings ms) o used (in_from_Contains (all_openings ms) o i) in
       let b = rec_in _ (all_openings ms) p used (in_from_Contains (all_openings ms) p j) in
@@ -337,7 +338,7 @@ module _ (sha : Hash) (hash : IsHash sha) (programs : List Program) (s : Schedul
   }
 
   -- an honest role is one of the cast
-  inside : (k : ℕ) → honest_role s first.cast k ≡ true → k < length first.cast.names
+  pub inside : (k : ℕ) → honest_role s first.cast k ≡ true → k < length first.cast.names
   inside k h = elim (in_range first.cast.names k) [
     | inl l ↦ l
     | inr e ↦ absurd (let n : is_name [] ≡ true = subst (λ z. is_name z ≡ true) e (named s.honest (principal first.cast k) (and_parts (all_differ s.honest) (list_all is_name s.honest) sched.honest_names).1 h) in cc)

@@ -19,6 +19,7 @@ ghost use Rattle.sg_protocol.specs.Headline.{Headline, SessionsFollowWalks, None
 ghost use Rattle.sg_protocol.specs.Isolation.{SessionsAreIsolated};
 ghost use Rattle.sg_protocol.specs.Receipts.{ReceiptsHaveSends};
 ghost use Rattle.sg_protocol.specs.LastSteps.{FramesShowLastSteps};
+ghost use Rattle.sg_protocol.specs.Completeness.{DeliveryIsComplete};
 
 /// What is read from the spelling of a frame is this frame, so no two frames have one spelling.
 pub fn frames_read()
@@ -106,4 +107,9 @@ pub fn receipts()
 /// What an accepted frame shows of honest senders is the last step of each since the receiver's own, and after each of these items the receiver holds the commitments that its sender held.
 pub fn last_steps()
     ensures { (sha : List ℕ → List ℕ) → IsHash sha → FramesShowLastSteps sha }
+{}
+
+/// Where all principals of a session are honest, a frame that was sent, was not yet taken and comes to a principal that has not left the session is accepted, whatever came between.
+pub fn delivery()
+    ensures { (sha : List ℕ → List ℕ) → IsHash sha → DeliveryIsComplete sha }
 {}

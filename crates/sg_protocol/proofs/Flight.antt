@@ -1,0 +1,804 @@
+-- In a session of honest principals, each frame but the last one was taken, and each role holds what was done until its last step or receipt.
+use Rattle.std.specs.Prelude.{◌||◌, ◌≡◌, ◌≢◌, ℕ, zero, suc, ◌+◌, ◌<◌, ◌==◌, ◌⊎◌, Bool, true, false, if◌then◌else◌, List, [], ◌∷◌, ◌++◌, map, filter, length, get_or, bytes_eq, refl, Option, Some, None, option_map, IfSome, All}
+use Rattle.std.specs.List.{AllByRecursion, cons_option, list_any}
+use Rattle.std.proofs.Common.{sym, ◌∙◌, ap, subst, inl, inr, arith, append-nil}
+use Rattle.std.proofs.lemmas.Bool.{eqb-true, eq-eqb, ne_eqb}
+use Rattle.std.proofs.lemmas.List.{map-append}
+use Rattle.std.proofs.lemmas.List.Elements.{All-head, All-tail}
+use Rattle.std.proofs.lemmas.Slice.Eq.{bytes_eq-Decides}
+use Rattle.sg_model.specs.Last.{has, last, last_or, last_of, after_last}
+use Rattle.sg_model.specs.Lists.{all_differ}
+use Rattle.sg_model.specs.Shape.{end_of, role_at, source, receiver}
+use Rattle.sg_model.specs.Values.{Opening}
+use Rattle.sg_model.specs.Names.{Name}
+use Rattle.sg_model.specs.Bytes.{IsBytes}
+use Rattle.sg_protocol.specs.Graph as G'
+use Rattle.sg_protocol.specs.Graph.{Graph, IsGraph, shape, reads}
+use Rattle.sg_protocol.specs.Accepted.{Accepted}
+use Rattle.sg_protocol.specs.Evidence.{IsViewTable}
+use Rattle.sg_protocol.specs.Frame.{Cast, Frame, Item}
+use Rattle.sg_protocol.specs.Spelling.{HasSpelling, spelling}
+use Rattle.sg_protocol.specs.Texts.{Hash, IsHash, commitment, commitment_text_of, session_id, session_text_of}
+use Rattle.sg_protocol.specs.TextLaws.{IsVersion, CastFits, OpeningFits}
+use Rattle.sg_protocol.specs.Keyring.{Keyring, Program, targets_of}
+use Rattle.sg_protocol.specs.Session.{Session, Took, Gave, principal, place, time, at_turn, extended, new_session}
+use Rattle.sg_protocol.specs.Sending.{tag_for, text_of, frame_sent, own_item}
+use Rattle.sg_protocol.specs.Calls.{Event, Started, Sent, Call, Abandon, Deliver, Answer, Happened, Sends, Abandoned, sid_of, events_of_answer}
+use Rattle.sg_protocol.specs.Node.{Node, program_for, starter, has_joined}
+use Rattle.sg_protocol.specs.NodeAfter.{node_after, still, is_over}
+use Rattle.sg_protocol.specs.Acting.{answer, openings_for}
+use Rattle.sg_protocol.specs.Verdict.{receipt}
+use Rattle.sg_protocol.specs.Notes.{no_notes, notes}
+use Rattle.sg_protocol.specs.Past.{Past, node_of, new_node, past_after}
+use Rattle.sg_protocol.specs.Schedule.{Schedule, honest_role, Step, DeliverStep, What, cast_of}
+use Rattle.sg_protocol.specs.World.{World, Logged, Outcome, Answered, past_of, call_of, bytes_of, keyring_of}
+use Rattle.sg_protocol.specs.Run.{called, uncalled, world_after, world_after_all, frame_in, events_of_outcome}
+use Rattle.sg_protocol.specs.Premises.{hashed, Unforged}
+use Rattle.sg_protocol.specs.IsSchedule.{IsStep}
+use Rattle.sg_protocol.specs.Completeness.{HadAnswer}
+use Rattle.sg_protocol.specs.Receipts.{IsTaken, WasSent}
+use Rattle.sg_protocol.specs.LastSteps.{Bare, bare, sent_item, honest_items}
+use Rattle.sg_law.specs.Run as R
+use Rattle.sg_law.specs.Values.{Move, Binding, all_openings}
+use Rattle.sg_law.proofs.Upto.{In, in_from_Contains}
+use Rattle.sg_law.proofs.Upto as Upto'
+use Rattle.sg_law.proofs.Take.{contains_from_in}
+use Rattle.sg_law.proofs.Cut as Cut'
+use Rattle.sg_law.proofs.Lists.{last-append}
+use Rattle.sg_protocol.proofs.Isolation.{of_sid}
+use Rattle.sg_protocol.proofs.Entries.{Roles}
+use Rattle.sg_protocol.proofs.Moves.{step, in_left, in_right}
+use Rattle.sg_protocol.proofs.Acts as C
+use Rattle.sg_protocol.proofs.Reduced.{by_role, has-both, reduced}
+use Rattle.sg_protocol.proofs.Relay.{StepsOk, RelayOk, OpensAt, relay_new, relay_other, relay_takes, at_end, labels}
+use Rattle.sg_protocol.proofs.Relay as Y
+use Rattle.sg_protocol.proofs.Entries as Entries'
+use Rattle.sg_protocol.proofs.Keys as Keys'
+use Rattle.std.specs.Option.{option_map_or}
+use Rattle.sg_protocol.proofs.Calls.{Life, Unmoved, WasLeft, HasStarted, HasTaken, HasGiven, TakesFrame, one_place, find_passes}
+use Rattle.sg_protocol.proofs.Course.{Progress, keep_all, Suffix, Outs, past_called, next_past, node_more, in_after, in_before, suffix_trans, suffix_one, filter_map-append}
+use Rattle.sg_protocol.proofs.Showing.{shows_called}
+
+cases_Bool : (b : Bool) → (b ≡ true) ⊎ (b ≡ false)
+cases_Bool true = inl refl
+cases_Bool false = inr refl
+
+clash : (b : Bool) → b ≡ true → b ≡ false → ⊥
+clash b t f = absurd (cc)
+
+same_bytes_ : (a b : List ℕ) → bytes_eq a b ≡ true → a ≡ b
+same_bytes_ a b h = (bytes_eq-Decides a b).0 h
+
+-- ---- where a list is split
+
+pub split_at_end : {A : Type 0} (xs : List A) (y : A) (before : List A) (l : A) (after : List A) → xs ++ y ∷ [] ≡ before ++ l ∷ after → ((rest : List A) × (after ≡ rest ++ y ∷ []) × (xs ≡ before ++ l ∷ rest)) ⊎ ((l ≡ y) × (before ≡ xs) × (after ≡ []))
+split_at_end [] y [] l after e = inr (let h : y ≡ l = cc in let t : [] ≡ after = cc in (sym h, refl, sym t))
+split_at_end [] y (b ∷ []) l after e = absurd (cc)
+split_at_end [] y (b ∷ b' ∷ before) l after e = absurd (cc)
+split_at_end (x ∷ xs) y [] l after e = inl (let h : x ≡ l = cc in let t : xs ++ y ∷ [] ≡ after = cc in (xs, sym t, ap (λ z. z ∷ xs) h))
+split_at_end (x ∷ xs) y (b ∷ before) l after e =
+    let h : x ≡ b = cc in
+    let t : xs ++ y ∷ [] ≡ before ++ l ∷ after = cc in
+    elim (split_at_end xs y before l after t) [
+      | inl r ↦ inl (r.0, r.1, ap (λ z. z ∷ xs) h ∙ ap (λ z. b ∷ z) r.2)
+      | inr r ↦ inr (r.0, ap (λ z. b ∷ z) r.1 ∙ ap (λ z. z ∷ xs) (sym h), r.2)
+    ]
+
+pub in_split : {A : Type 0} (xs : List A) (x : A) → In xs x → (before : List A) × (after : List A) × (xs ≡ before ++ x ∷ after)
+in_split [] x i = absurd i
+in_split (y ∷ ys) x (inl e) = ([], ys, ap (λ z. z ∷ ys) (sym e))
+in_split (y ∷ ys) x (inr i) = let r = in_split ys x i in (y ∷ r.0, r.1, ap (λ z. y ∷ z) r.2)
+
+pub split_in : {A : Type 0} (before : List A) (l : A) (after : List A) → In (before ++ l ∷ after) l
+split_in before l after = in_right before (l ∷ after) l (inl refl)
+
+-- two elements at which a list is split are the same, or one stands after the other
+pub two_splits : {A : Type 0} (a : List A) (x : A) (b : List A) (c : List A) (y : A) (d : List A) → a ++ x ∷ b ≡ c ++ y ∷ d → (x ≡ y) ⊎ (In b y ⊎ In d x)
+two_splits [] x b [] y d e = inl (cc)
+two_splits [] x b (z ∷ c) y d e = inr (inl (let t : b ≡ c ++ y ∷ d = cc in subst (λ l. In l y) (sym t) (split_in c y d)))
+two_splits (z ∷ a) x b [] y d e = inr (inr (let t : a ++ x ∷ b ≡ d = cc in subst (λ l. In l x) t (split_in a x b)))
+two_splits (z ∷ a) x b (u ∷ c) y d e = two_splits a x b c y d (let t : a ++ x ∷ b ≡ c ++ y ∷ d = cc in t)
+
+-- ---- times that rise
+
+rises_mid : (t : ℕ) (a : List Item) (i : Item) (b : Item) (bs : List Item) → R.RisesFrom t (map step (a ++ i ∷ b ∷ bs)) → i.time < (last_or b bs).time
+rises_mid t [] i b bs r = up i.time b bs r.1
+  where
+    up : (t : ℕ) (b : Item) (bs : List Item) → R.RisesFrom t (map step (b ∷ bs)) → t < (last_or b bs).time
+    up t b [] r = r.0
+    up t b (c ∷ cs) r = (let h = up b.time c cs r.1 in let l = r.0 in omega (arith, h, l))
+rises_mid t (x ∷ a) i b bs r = rises_mid x.time a i b bs r.1
+
+-- roles of nodes are roles
+pub role_small : (g : Graph) → IsGraph g → Accepted g → (n : ℕ) → role_at (shape g) n < length g.roles
+role_small g is acc n = go g.nodes is.roles n
+  where
+    go : (ns : List G'.Node) → All (λ (m : G'.Node). m.role < length g.roles) ns → (n : ℕ) → get_or (map (λ (m : G'.Node). m.role) ns) n 0 < length g.roles
+    go [] a n = (let l = acc.two_roles in omega (arith, l))
+    go (m ∷ ns) a zero = All-head (λ (m : G'.Node). m.role < length g.roles) m ns a
+    go (m ∷ ns) a (suc n) = go ns (All-tail (λ (m : G'.Node). m.role < length g.roles) m ns a) n
+
+module _ (sha : Hash) (hash : IsHash sha) (s : Schedule) (programs : List Program) (sid : List ℕ) (cast : Cast) (g : Graph) (is : IsGraph g) (acc : Accepted g) (version : IsVersion cast.version) (long : length sid ≡ 32) (differ : all_differ cast.names ≡ true)
+    (prog : (r : ℕ) (p : Program) → program_for programs cast.graph r ≡ Some p → (p.graph ≡ g) × IsViewTable p.graph r p.views)
+    (wf : World) (unforged : Unforged s wf)
+    (one_cast : (c : Cast) → CastFits c → In (hashed s wf) (session_text_of c) → session_id sha c ≡ sid → c ≡ cast)
+    (Fit : World → Type 0) (fit_next : (w : World) (k : ℕ) (x : Step) → Fit w → IsStep sha s x → Fit (world_after sha s w k x))
+    (fit_bytes : (w : World) → Fit w → (who : Name) (what : What) (bs : List ℕ) → IsStep sha s (DeliverStep who what) → bytes_of w what ≡ Some bs → IsBytes bs)
+    (fit_sends : (w : World) → Fit w → (k : ℕ) (x : Step) (who : Name) (past : Past) (c : Call) (e : Event) (to : Name) (f : Frame) → IsStep sha s x → past_of w who ≡ Some past → call_of sha s w k x ≡ Some c → answer sha (node_of past) c ≡ Sends e to f → HasSpelling f)
+    (casts_fit : (n : ℕ) (c : Cast) → cast_of s n ≡ Some c → CastFits c)
+    (binding : (ms : List Move) → AllByRecursion (λ (o : Opening). In (hashed s wf) (commitment_text_of sid o) × OpeningFits o) (all_openings ms) → Binding (λ o. commitment sha sid o) (all_openings ms))
+    (inside : (k : ℕ) → honest_role s cast k ≡ true → k < length cast.names)
+    (everyone : (r : ℕ) → r < length g.roles → honest_role s cast r ≡ true)
+    (targets : ℕ → List ℕ) (same_targets : (r : ℕ) (p : Program) → program_for programs cast.graph r ≡ Some p → (e : ℕ) → targets_of p e ≡ targets e)
+    (was_sent : (l : Logged) (who : Name) (bs : List ℕ) (f : Frame) → IsTaken wf l who bs f → f.sid ≡ sid → honest_role s cast f.sender ≡ true → WasSent wf l.number (principal cast f.sender) bs f)
+    (keys_kept : (n : Node) (c : Call) (a : Answer) → (node_after n c a).keys ≡ n.keys)
+    (starts : (p : Program) → starter programs cast.graph ≡ Some p → role_at (shape g) 0 ≡ p.role)
+    (sends_sid : (n : Node) (c : Call) (e : Event) (to : Name) (f : Frame) → answer sha n c ≡ Sends e to f → sid_of e ≡ f.sid) where
+  abbrev pub honest : ℕ → Bool
+  honest k = honest_role s cast k
+
+  abbrev pub Prog : World → Type 0
+  Prog w = Progress sha hash s programs sid cast g is acc version long differ prog wf unforged one_cast Fit fit_next fit_bytes fit_sends casts_fit w
+
+  abbrev pub LeftBy' : Name → Type 0
+  LeftBy' who = HadAnswer wf.log who (Abandon sid) Abandoned
+
+  abbrev pub Steps_ : List Item → Type 0
+  Steps_ done = StepsOk sha s.keys sid cast targets g done
+
+  abbrev pub Relay_ : List Item → Session → Type 0
+  Relay_ done x = RelayOk sha s.keys sid cast targets g done x
+
+  abbrev pub Opens_ : List Item → Opening → Type 0
+  Opens_ past o = OpensAt sha s.keys sid cast targets g past o
+
+  -- the frame was taken by whom it was sent to
+  abbrev pub Taken : List Logged → Name → Frame → Type 0
+  Taken log to f = (m : Logged) × In log m × (m.who ≡ Some to) × (m.call ≡ Some (Deliver (spelling f))) × (m.outcome ≡ Answered (Happened (receipt f)))
+
+  abbrev pub AllTaken : List Logged → Type 0
+  AllTaken log = (l : Logged) (e : Event) (to : Name) (f : Frame) → In log l → l.outcome ≡ Answered (Sends e to f) → sid_of e ≡ sid → Taken log to f
+
+  -- a frame that was sent
+  pub record FrameOk (log before after : List Logged) (l : Logged) (to : Name) (f : Frame) : Type 0 where
+    pub item : Item
+    pub its_last : last f.items ≡ Some item
+    pub receiver_is : f.receiver ≡ receiver (shape g) item.label
+    pub sender_is : f.sender ≡ item.role
+    pub apart : f.receiver ≢ item.role
+    pub to_is : to ≡ principal cast f.receiver
+    pub version_is : f.version ≡ cast.version
+    pub sid_is : f.sid ≡ sid
+    pub items_are : f.items ≡ reduced g (after_last by_role f.receiver (honest_items sid before ++ item ∷ []))
+    pub join_is : f.join ≡ (if has by_role f.receiver (honest_items sid before) then None else Some cast)
+    pub opened : (map (λ (o : Opening). o.variable) f.openings ≡ reads g item.label) × AllByRecursion (Opens_ (honest_items sid before ++ item ∷ [])) f.openings
+    pub tag_is : f.tag ≡ tag_for sha (keyring_of s.keys (principal cast f.sender)) cast f.receiver (text_of f)
+    pub spelled : HasSpelling f
+    pub framed : l.frame ≡ Some (spelling f)
+    pub taken : (honest_items sid after ≡ [] → ⊥) → Taken log to f
+
+  -- a session of a principal
+  pub record SessOk (log : List Logged) (who : Name) (x : Session) : Type 0 where
+    pub same_sid : x.sid ≡ sid
+    pub same_cast : x.cast ≡ cast
+    pub is_who : principal cast x.role ≡ who
+    pub inside_ : x.role < length cast.names
+    pub relay : Relay_ (honest_items sid log) x
+    pub taken : at_turn g x ≡ true → AllTaken log
+    pub stepped : at_turn g x ≡ false → has by_role x.role (honest_items sid log) ≡ true
+
+  pub record New (log : List Logged) (who : Name) (n : Node) : Type 0 where
+    pub alone : filter (of_sid sid) n.live ≡ []
+    pub none : (r : ℕ) → principal cast r ≡ who → r < length cast.names → has by_role r (honest_items sid log) ≡ false
+    pub unjoined : (r : ℕ) → principal cast r ≡ who → r < length cast.names → has_joined n.joins sid r ≡ true → ⊥
+
+  pub record Here (log : List Logged) (who : Name) (n : Node) : Type 0 where
+    pub x : Session
+    pub alone : filter (of_sid sid) n.live ≡ x ∷ []
+    pub ok : SessOk log who x
+    pub was_joined : has_joined n.joins sid x.role ≡ true
+
+  pub record Gone (log : List Logged) (who : Name) (n : Node) : Type 0 where
+    pub x : Session
+    pub alone : filter (of_sid sid) n.live ≡ []
+    pub ok : SessOk log who x
+    pub was_joined : has_joined n.joins sid x.role ≡ true
+    pub why : (is_over programs x ≡ true) ⊎ LeftBy' who
+
+  abbrev pub Track : List Logged → Name → Node → Type 0
+  Track log who n = New log who n ⊎ (Here log who n ⊎ Gone log who n)
+
+  pub record Flight (w : World) : Type 0 where
+    pub sids : (l : Logged) (e : Event) (to : Name) (f : Frame) → In w.log l → l.outcome ≡ Answered (Sends e to f) → sid_of e ≡ f.sid
+    pub keys_are : (who : Name) (p : Past) → past_of w who ≡ Some p → (node_of p).keys ≡ keyring_of s.keys who
+    pub steps : Steps_ (honest_items sid w.log)
+    pub tracks : (who : Name) (p : Past) → past_of w who ≡ Some p → Track w.log who (node_of p)
+    pub frames : (before : List Logged) (l : Logged) (after : List Logged) (e : Event) (to : Name) (f : Frame) → w.log ≡ before ++ l ∷ after → l.outcome ≡ Answered (Sends e to f) → sid_of e ≡ sid → FrameOk w.log before after l to f
+
+  -- ---- later logs
+
+  taken_more : (log : List Logged) (l0 : Logged) (to : Name) (f : Frame) → Taken log to f → Taken (log ++ l0 ∷ []) to f
+  taken_more log l0 to f t = (t.0, in_left log (l0 ∷ []) t.0 t.1, t.2, t.3, t.4)
+
+  items-append : (xs ys : List Logged) → honest_items sid (xs ++ ys) ≡ honest_items sid xs ++ honest_items sid ys
+  items-append xs ys = filter_map-append (λ (l : Logged). sent_item sid l.outcome) xs ys
+
+  -- a log with one more entry that sends nothing in the session
+  abbrev Silent : Logged → Type 0
+  Silent l = (e : Event) (to : Name) (f : Frame) → l.outcome ≡ Answered (Sends e to f) → sid_of e ≡ sid → ⊥
+
+  silent_item : (l : Logged) → Silent l → sent_item sid l.outcome ≡ None
+  silent_item l q = go l.outcome refl
+    where
+      answered : (a : Answer) → l.outcome ≡ Answered a → sent_item sid (Answered a) ≡ None
+      answered (Sends e to f) h = elim (cases_Bool (bytes_eq (sid_of e) sid)) [ inl k ↦ absurd (q e to f h (same_bytes_ (sid_of e) sid k)) | inr k ↦ rw k refl ]
+      answered other h = refl
+
+      go : (o : Outcome) → l.outcome ≡ o → sent_item sid o ≡ None
+      go (Answered a) h = answered a h
+      go other h = refl
+
+  same_items : (log : List Logged) (l0 : Logged) → Silent l0 → honest_items sid (log ++ l0 ∷ []) ≡ honest_items sid log
+  same_items log l0 q = items-append log (l0 ∷ []) ∙ ap (λ o. honest_items sid log ++ cons_option o []) (silent_item l0 q) ∙ append-nil (honest_items sid log)
+
+  all_taken_more : (log : List Logged) (l0 : Logged) → Silent l0 → AllTaken log → AllTaken (log ++ l0 ∷ [])
+  all_taken_more log l0 q a l e to f i o h = elim (C.in_parts log (l0 ∷ []) l i) [
+    | inl j ↦ taken_more log l0 to f (a l e to f j o h)
+    | inr j ↦ elim j [ inl k ↦ absurd (q e to f (ap (λ (z : Logged). z.outcome) (sym k) ∙ o) h) | inr k ↦ absurd k ]
+  ]
+
+  sess_more : (log : List Logged) (l0 : Logged) (who : Name) (x : Session) → Silent l0 → SessOk log who x → SessOk (log ++ l0 ∷ []) who x
+  sess_more log l0 who x q k = record {
+    same_sid = k.same_sid;
+    same_cast = k.same_cast;
+    is_who = k.is_who;
+    inside_ = k.inside_;
+    relay = subst (λ l. Relay_ l x) (sym (same_items log l0 q)) k.relay;
+    taken = λ t. all_taken_more log l0 q (k.taken t);
+    stepped = λ t. ap (has by_role x.role) (same_items log l0 q) ∙ k.stepped t;
+  }
+
+  track_more : (log : List Logged) (l0 : Logged) (who : Name) (n n' : Node) → Silent l0 → filter (of_sid sid) n'.live ≡ filter (of_sid sid) n.live → ((r : ℕ) → has_joined n.joins sid r ≡ true → has_joined n'.joins sid r ≡ true) → ((r : ℕ) → has_joined n'.joins sid r ≡ true → has_joined n.joins sid r ≡ true) → Track log who n → Track (log ++ l0 ∷ []) who n'
+  track_more log l0 who n n' q e j j' (inl t) = inl record { alone = e ∙ t.alone; none = λ r a b. ap (has by_role r) (same_items log l0 q) ∙ t.none r a b; unjoined = λ r a b h. t.unjoined r a b (j' r h) }
+  track_more log l0 who n n' q e j j' (inr (inl t)) = inr (inl record { x = t.x; alone = e ∙ t.alone; ok = sess_more log l0 who t.x q t.ok; was_joined = j (t.x).role t.was_joined })
+  track_more log l0 who n n' q e j j' (inr (inr t)) = inr (inr record { x = t.x; alone = e ∙ t.alone; ok = sess_more log l0 who t.x q t.ok; was_joined = j (t.x).role t.was_joined; why = t.why })
+
+  frame_more : (log before after : List Logged) (l l0 : Logged) (to : Name) (f : Frame) → ((honest_items sid after ≡ []) → (honest_items sid (after ++ l0 ∷ []) ≡ [] → ⊥) → Taken (log ++ l0 ∷ []) to f) → FrameOk log before after l to f → FrameOk (log ++ l0 ∷ []) before (after ++ l0 ∷ []) l to f
+  frame_more log before after l l0 to f t k = record {
+    item = k.item;
+    its_last = k.its_last;
+    receiver_is = k.receiver_is;
+    sender_is = k.sender_is;
+    apart = k.apart;
+    to_is = k.to_is;
+    version_is = k.version_is;
+    sid_is = k.sid_is;
+    items_are = k.items_are;
+    join_is = k.join_is;
+    opened = k.opened;
+    tag_is = k.tag_is;
+    spelled = k.spelled;
+    framed = k.framed;
+    taken = λ ne. go (honest_items sid after) refl ne;
+  }
+    where
+      go : (is' : List Item) → honest_items sid after ≡ is' → (honest_items sid (after ++ l0 ∷ []) ≡ [] → ⊥) → Taken (log ++ l0 ∷ []) to f
+      go [] e ne = t e ne
+      go (i ∷ is') e ne = taken_more log l0 to f (k.taken (λ z. (let q : i ∷ is' ≡ [] = sym e ∙ z in absurd (cc))))
+
+  -- frames that were sent before an entry that sends nothing
+  frames_silent : (log : List Logged) (l0 : Logged) → Silent l0 → ((before : List Logged) (l : Logged) (after : List Logged) (e : Event) (to : Name) (f : Frame) → log ≡ before ++ l ∷ after → l.outcome ≡ Answered (Sends e to f) → sid_of e ≡ sid → FrameOk log before after l to f)
+      → (before : List Logged) (l : Logged) (after : List Logged) (e : Event) (to : Name) (f : Frame) → log ++ l0 ∷ [] ≡ before ++ l ∷ after → l.outcome ≡ Answered (Sends e to f) → sid_of e ≡ sid → FrameOk (log ++ l0 ∷ []) before after l to f
+  frames_silent log l0 q old before l after e to f h o i = elim (split_at_end log l0 before l after h) [
+    | inl r ↦ subst (λ z. FrameOk (log ++ l0 ∷ []) before z l to f) (sym r.1) (frame_more log before r.0 l l0 to f (λ a ne. absurd (ne (same_items r.0 l0 q ∙ a))) (old before l r.0 e to f r.2 o i))
+    | inr r ↦ absurd (q e to f (ap (λ (z : Logged). z.outcome) (sym r.0) ∙ o) i)
+  ]
+
+  flight_idle : (w : World) (k : ℕ) → Prog w → Flight w → (who : Option Name) (o : Outcome) (fr : Option (List ℕ)) → events_of_outcome o ≡ [] → Flight (uncalled w k who o fr)
+  flight_idle w k p fl who o fr ev =
+      let l0 : Logged = record { number = k; who = who; call = None; outcome = o; frame = fr; notes = no_notes } in
+      record {
+        sids = λ l e to f i h. elim (C.in_parts w.log (record { number = k; who = who; call = None; outcome = o; frame = fr; notes = no_notes } ∷ []) l i) [ inl j ↦ fl.sids l e to f j h | inr j ↦ elim j [ inl q ↦ absurd (let z : e ∷ [] ≡ [] = ap events_of_outcome (sym (ap (λ (z : Logged). z.outcome) (sym q) ∙ h)) ∙ ev in cc) | inr q ↦ absurd q ] ];
+        keys_are = fl.keys_are;
+        steps = subst Steps_ (sym (same_items w.log (record { number = k; who = who; call = None; outcome = o; frame = fr; notes = no_notes }) quiet)) fl.steps;
+        tracks = λ me y e. track_more w.log (record { number = k; who = who; call = None; outcome = o; frame = fr; notes = no_notes }) me (node_of y) (node_of y) quiet refl (λ r j. j) (λ r j. j) (fl.tracks me y e);
+        frames = frames_silent w.log (record { number = k; who = who; call = None; outcome = o; frame = fr; notes = no_notes }) quiet fl.frames;
+      }
+    where
+      quiet : Silent (record { number = k; who = who; call = None; outcome = o; frame = fr; notes = no_notes })
+      quiet e to f h i = (let z : e ∷ [] ≡ [] = ap events_of_outcome (sym h) ∙ ev in absurd (cc))
+
+  -- ---- what is sent stands among the items
+
+  sent_is : (e : Event) (to : Name) (f : Frame) → sid_of e ≡ sid → sent_item sid (Answered (Sends e to f)) ≡ last f.items
+  sent_is e to f i = rw ((bytes_eq-Decides (sid_of e) sid).1 i) refl
+
+  pub split_items : (before : List Logged) (l : Logged) (after : List Logged) (e : Event) (to : Name) (f : Frame) (item : Item) → l.outcome ≡ Answered (Sends e to f) → sid_of e ≡ sid → last f.items ≡ Some item → honest_items sid (before ++ l ∷ after) ≡ honest_items sid before ++ item ∷ honest_items sid after
+  split_items before l after e to f item o i q =
+      items-append before (l ∷ after)
+      ∙ ap (λ z. honest_items sid before ++ cons_option z (honest_items sid after)) (ap (sent_item sid) o ∙ sent_is e to f i ∙ q)
+
+  not_empty : (xs : List Item) (i : Item) (ys : List Item) → xs ++ i ∷ ys ≡ [] → ⊥
+  not_empty [] i ys e = absurd (cc)
+  not_empty (x ∷ xs) i ys e = absurd (cc)
+
+  in_items : (log : List Logged) (l : Logged) (e : Event) (to : Name) (f : Frame) (item : Item) → In log l → l.outcome ≡ Answered (Sends e to f) → sid_of e ≡ sid → last f.items ≡ Some item → honest_items sid log ≡ [] → ⊥
+  in_items log l e to f item i o h q n =
+      let r = in_split log l i in
+      not_empty (honest_items sid r.0) item (honest_items sid r.1) (sym (ap (honest_items sid) r.2 ∙ split_items r.0 l r.1 e to f item o h q) ∙ n)
+
+  -- the last of the items that are shown is the last one that was sent
+  newest : (all before after : List Item) (item : Item) (k : ℕ) (shown : List Item) → R.RisesFrom 0 (map step all) → all ≡ before ++ item ∷ after → last shown ≡ Some item → map bare shown ≡ map bare (last_of by_role (after_last by_role k all)) → after ≡ []
+  newest all before after item k shown r e l b = go after e
+    where
+      ends : (ys : List Item) → after_last by_role k all ≡ ys → option_map bare (last ys) ≡ Some (bare item) → option_map bare (last all) ≡ Some (bare item)
+      ends [] q h = absurd (let z : None ≡ Some (bare item) = h in cc)
+      ends (y ∷ ys) q h = ap (option_map bare) (Upto'.last-after by_role k all y ys q) ∙ h
+
+      last_bare : option_map bare (last all) ≡ Some (bare item)
+      last_bare = ends (after_last by_role k all) refl (ap (option_map bare) (sym (Cut'.last-last_of by_role (after_last by_role k all))) ∙ sym (Cut'.last-option_map bare (last_of by_role (after_last by_role k all))) ∙ ap last (sym b) ∙ Cut'.last-option_map bare shown ∙ ap (option_map bare) l)
+
+      go : (rest : List Item) → all ≡ before ++ item ∷ rest → rest ≡ []
+      go [] q = refl
+      go (c ∷ cs) q =
+          let m : (item).time < (last_or c cs).time = rises_mid 0 before item c cs (subst (λ z. R.RisesFrom 0 (map step z)) q r) in
+          let s : Some (bare (last_or c cs)) ≡ Some (bare item) = sym (ap (λ z. option_map bare (last z)) q ∙ ap (option_map bare) (last-append before item (c ∷ cs))) ∙ last_bare in
+          let s' : bare (last_or c cs) ≡ bare item = cc in
+          let t : (last_or c cs).time ≡ item.time = ap (λ (z : Bare). z.time) s' in
+          absurd (omega (arith, m, t))
+
+  filter_all : (p : Item → Bool) (xs : List Item) → AllByRecursion (λ i. p i ≡ true) xs → filter p xs ≡ xs
+  filter_all p [] a = refl
+  filter_all p (x ∷ xs) a = rw a.0 (ap (λ l. x ∷ l) (filter_all p xs a.1))
+
+  all_honest : (xs : List Item) → Roles (shape g) xs → AllByRecursion (λ (i : Item). honest_role s cast i.role ≡ true) xs
+  all_honest [] r = tt
+  all_honest (i ∷ xs) r = (everyone i.role (subst (λ z. z < length g.roles) (sym r.0) (role_small g is acc (source (shape g) i.label))), all_honest xs r.1)
+
+  none_taken : (w : World) → Flight w → honest_items sid w.log ≡ [] → AllTaken w.log
+  none_taken w fl none l e to f i o h =
+      let r = in_split w.log l i in
+      absurd (in_items w.log l e to f (fl.frames r.0 l r.1 e to f r.2 o h).item i o h (fl.frames r.0 l r.1 e to f r.2 o h).its_last none)
+
+  -- ---- a call
+
+  abbrev Life_ : Name → Node → Node → Call → Answer → Type 0
+  Life_ who n n' c a = Life sha hash s programs sid cast g is acc version long differ prog (λ t. In (hashed s wf) t) one_cast (λ who. HadAnswer wf.log who (Abandon sid) Abandoned) who n n' c a
+
+  abbrev Unmoved_ : Node → Node → Answer → Type 0
+  Unmoved_ n n' a = Unmoved sha hash s programs sid cast g is acc version long differ prog (λ t. In (hashed s wf) t) one_cast (λ who. HadAnswer wf.log who (Abandon sid) Abandoned) n n' a
+
+  abbrev WasLeft_ : Name → Node → Node → Answer → Type 0
+  WasLeft_ who n n' a = WasLeft sha hash s programs sid cast g is acc version long differ prog (λ t. In (hashed s wf) t) one_cast (λ who. HadAnswer wf.log who (Abandon sid) Abandoned) who n n' a
+
+  abbrev HasStarted_ : Name → Node → Node → Answer → Type 0
+  HasStarted_ who n n' a = HasStarted sha hash s programs sid cast g is acc version long differ prog (λ t. In (hashed s wf) t) one_cast (λ who. HadAnswer wf.log who (Abandon sid) Abandoned) who n n' a
+
+  abbrev HasTaken_ : Name → Node → Node → Call → Answer → Type 0
+  HasTaken_ who n n' c a = HasTaken sha hash s programs sid cast g is acc version long differ prog (λ t. In (hashed s wf) t) one_cast (λ who. HadAnswer wf.log who (Abandon sid) Abandoned) who n n' c a
+
+  abbrev HasGiven_ : Name → Node → Node → Answer → Type 0
+  HasGiven_ who n n' a = HasGiven sha hash s programs sid cast g is acc version long differ prog (λ t. In (hashed s wf) t) one_cast (λ who. HadAnswer wf.log who (Abandon sid) Abandoned) who n n' a
+
+  module _ (w : World) (k : ℕ) (p : Prog w) (fl : Flight w) (x : Step) (good : IsStep sha s x) (fit : Fit w) (who : Name) (past : Past) (its_past : past_of w who ≡ Some past) (c : Call) (call_is : call_of sha s w k x ≡ Some c) (after : Suffix (k + 1) (called sha w k who c past).log wf.log)
+      (out : Outs sha hash s programs sid cast g is acc version long differ prog wf unforged one_cast Fit fit_next fit_bytes fit_sends casts_fit w k p x good fit who past its_past c) where
+    abbrev n : Node
+    n = node_of past
+
+    abbrev a : Answer
+    a = answer sha (node_of past) c
+
+    abbrev n' : Node
+    n' = node_after (node_of past) c (answer sha (node_of past) c)
+
+    abbrev l0 : Logged
+    l0 = record { number = k; who = Some who; call = Some c; outcome = Answered (answer sha (node_of past) c); frame = frame_in (answer sha (node_of past) c); notes = notes sha (node_of past) c }
+
+    abbrev log' : List Logged
+    log' = w.log ++ l0 ∷ []
+
+    -- from the tracks of this principal and of others
+    assemble : Steps_ (honest_items sid log') → Track log' who n' → ((me : Name) (y : Past) → (me ≡ who → ⊥) → Track w.log me (node_of y) → Track log' me (node_of y))
+        → ((before : List Logged) (l : Logged) (after : List Logged) (e : Event) (to : Name) (f : Frame) → log' ≡ before ++ l ∷ after → l.outcome ≡ Answered (Sends e to f) → sid_of e ≡ sid → FrameOk log' before after l to f) → Flight (called sha w k who c past)
+    assemble so mine others frames_ = record {
+      sids = λ l e to f i h. elim (C.in_parts w.log (l0 ∷ []) l i) [
+        | inl j ↦ fl.sids l e to f j h
+        | inr j ↦ elim j [ inl q ↦ (let z : Answered (answer sha (node_of past) c) ≡ Answered (Sends e to f) = ap (λ (z : Logged). z.outcome) (sym q) ∙ h in sends_sid (node_of past) c e to f (cc)) | inr q ↦ absurd q ]
+      ];
+      keys_are = λ me p' e. (nodes_ me p' (past_of w me) refl (sym (past_called sha w k who c past me) ∙ e)).0;
+      steps = so;
+      tracks = λ me p' e. (nodes_ me p' (past_of w me) refl (sym (past_called sha w k who c past me) ∙ e)).1;
+      frames = frames_;
+    }
+      where
+        nodes_ : (me : Name) (p' : Past) (o : Option Past) → past_of w me ≡ o → option_map (next_past sha who c) o ≡ Some p' → ((node_of p').keys ≡ keyring_of s.keys me) × Track log' me (node_of p')
+        nodes_ me p' None q e = absurd (cc)
+        nodes_ me p' (Some y) q e =
+            let r : next_past sha who c y ≡ p' = cc in
+            let is_me : y.keys.me ≡ me = same_bytes_ y.keys.me me (find_passes (λ (z : Past). bytes_eq z.keys.me me) w.pasts y q) in
+            elim (cases_Bool (bytes_eq y.keys.me who)) [
+              | inl h ↦
+                  let same : me ≡ who = sym is_me ∙ same_bytes_ y.keys.me who h in
+                  let two : Some y ≡ Some past = sym q ∙ ap (past_of w) same ∙ its_past in
+                  let y_past : y ≡ past = cc in
+                  let after_ : past_after sha past c ≡ p' = ap (λ z. past_after sha z c) (sym y_past) ∙ (rw h at r) in
+                  let node_is : node_of p' ≡ n' = ap node_of (sym after_) ∙ node_more (new_node past.keys past.programs past.first) past.calls (record { call = c; answer = answer sha (node_of past) c }) in (
+                    ap (λ (m : Node). m.keys) node_is ∙ keys_kept (node_of past) c (answer sha (node_of past) c) ∙ fl.keys_are who past its_past ∙ ap (keyring_of s.keys) (sym same),
+                    subst (λ z. Track log' z (node_of p')) (sym same) (subst (Track log' who) (sym node_is) mine),
+                  )
+              | inr h ↦
+                  let r' : y ≡ p' = rw h at r in
+                  let ne : me ≡ who → ⊥ = λ z. clash (bytes_eq y.keys.me who) ((bytes_eq-Decides y.keys.me who).1 (is_me ∙ z)) h in
+                  subst (λ (z : Past). ((node_of z).keys ≡ keyring_of s.keys me) × Track log' me (node_of z)) r' (fl.keys_are me y q, others me y ne (fl.tracks me y q))
+            ]
+
+    -- where nothing is sent in the session
+    assemble_silent : Silent l0 → Track log' who n' → Flight (called sha w k who c past)
+    assemble_silent q mine = assemble (subst Steps_ (sym (same_items w.log l0 q)) fl.steps) mine (λ me y ne t. track_more w.log l0 me (node_of y) (node_of y) q refl (λ r j. j) (λ r j. j) t) (frames_silent w.log l0 q fl.frames)
+
+    settled : (y : Session) → filter (of_sid sid) n'.live ≡ still programs y → SessOk log' who y → has_joined n'.joins sid y.role ≡ true → Track log' who n'
+    settled y e ok j = elim (cases_Bool (is_over programs y)) [
+      | inl o ↦ inr (inr record { x = y; alone = e ∙ rw o refl; ok = ok; was_joined = j; why = inl o })
+      | inr o ↦ inr (inl record { x = y; alone = e ∙ rw o refl; ok = ok; was_joined = j })
+    ]
+
+    happened_silent : (ev : Event) → a ≡ Happened ev → Silent l0
+    happened_silent ev e1 e to f o i = (let z : Answered (Happened ev) ≡ Answered (Sends e to f) = ap (λ z. Answered z) (sym e1) ∙ o in absurd (cc))
+
+    on_unmoved : Unmoved_ n n' a → Flight (called sha w k who c past)
+    on_unmoved u = assemble_silent quiet (track_more w.log l0 who n n' quiet u.same out.more_joins u.fewer (fl.tracks who past its_past))
+      where
+        of_quiet : (b : Bool) → (b || false) ≡ false → b ≡ false
+        of_quiet true h = absurd (cc)
+        of_quiet false h = refl
+
+        quiet : Silent l0
+        quiet e to f o i =
+            let z : answer sha (node_of past) c ≡ Sends e to f = cc in
+            clash (bytes_eq (sid_of e) sid) ((bytes_eq-Decides (sid_of e) sid).1 i) (of_quiet (bytes_eq (sid_of e) sid) (subst (λ (b : Answer). list_any (λ e. bytes_eq (sid_of e) sid) (events_of_answer b) ≡ false) z u.quiet))
+
+    on_left : WasLeft_ who n n' a → Flight (called sha w k who c past)
+    on_left u = assemble_silent quiet (left (fl.tracks who past its_past))
+      where
+        of_quiet : (b : Bool) → (b || false) ≡ false → b ≡ false
+        of_quiet true h = absurd (cc)
+        of_quiet false h = refl
+
+        quiet : Silent l0
+        quiet e to f o i =
+            let z : answer sha (node_of past) c ≡ Sends e to f = cc in
+            clash (bytes_eq (sid_of e) sid) ((bytes_eq-Decides (sid_of e) sid).1 i) (of_quiet (bytes_eq (sid_of e) sid) (subst (λ (b : Answer). list_any (λ e. bytes_eq (sid_of e) sid) (events_of_answer b) ≡ false) z u.quiet))
+
+        left : Track w.log who n → Track log' who n'
+        left (inl t) = inl record { alone = u.none; none = λ r a b. ap (has by_role r) (same_items w.log l0 quiet) ∙ t.none r a b; unjoined = λ r a b h. t.unjoined r a b (u.fewer r h) }
+        left (inr (inl t)) = inr (inr record { x = t.x; alone = u.none; ok = sess_more w.log l0 who t.x quiet t.ok; was_joined = out.more_joins (t.x).role t.was_joined; why = inr u.by })
+        left (inr (inr t)) = inr (inr record { x = t.x; alone = u.none; ok = sess_more w.log l0 who t.x quiet t.ok; was_joined = out.more_joins (t.x).role t.was_joined; why = t.why })
+
+    -- a role that has sent nothing is at its turn only at the start
+    at_start : (r : ℕ) (done : List Item) → Steps_ done → has by_role r done ≡ false → (role_at (shape g) 0 == r) ≡ true → done ≡ []
+    at_start r [] so h t = refl
+    at_start r (i ∷ is') so h t =
+        let e : i.role ≡ r = so.roles.0 ∙ ap (role_at (shape g)) so.walk.1 ∙ eqb-true (role_at (shape g) 0) r t in
+        absurd (let z : true ≡ false = (rw (eq-eqb i.role r e) at h) in cc)
+
+    -- a session before its first exchange
+    record Starting (r : ℕ) : Type 0 where
+      is_who_ : principal cast r ≡ who
+      inside__ : r < length cast.names
+      relay_ : Relay_ (honest_items sid w.log) (new_session sid cast r)
+      taken_ : at_turn g (new_session sid cast r) ≡ true → AllTaken w.log
+
+    fresh_sess : (r : ℕ) → principal cast r ≡ who → r < length cast.names → has by_role r (honest_items sid w.log) ≡ false → Starting r
+    fresh_sess r q l none = record {
+      is_who_ = q;
+      inside__ = l;
+      relay_ = relay_new sha s.keys sid cast targets g (honest_items sid w.log) sid cast r none (λ t. at_start r (honest_items sid w.log) fl.steps none t);
+      taken_ = λ t. none_taken w fl (at_start r (honest_items sid w.log) fl.steps none t);
+    }
+
+    unjoined_new : (r : ℕ) → principal cast r ≡ who → r < length cast.names → filter (of_sid sid) n.live ≡ [] → has_joined n.joins sid r ≡ false → Track w.log who n → Starting r
+    unjoined_new r q l none j (inl t) = fresh_sess r q l (t.none r q l)
+    unjoined_new r q l none j (inr (inl t)) = absurd (let z : [] ≡ t.x ∷ [] = sym none ∙ t.alone in cc)
+    unjoined_new r q l none j (inr (inr t)) = absurd (clash (has_joined n.joins sid r) (subst (λ z. has_joined n.joins sid z ≡ true) (one_place cast.names (t.x).role r differ t.ok.inside_ l (t.ok.is_who ∙ sym q)) t.was_joined) j)
+
+    on_started : HasStarted_ who n n' a → Flight (called sha w k who c past)
+    on_started h =
+        let q : Silent l0 = happened_silent (Started sid h.role) h.is_answer in
+        let st : Starting h.role = unjoined_new h.role h.is_who h.inside h.none h.unjoined (fl.tracks who past its_past) in
+        let first : at_turn g (new_session sid cast h.role) ≡ true = eq-eqb (role_at (shape g) 0) h.role (starts h.program h.found_p ∙ h.its_role) in
+        assemble_silent q (settled (new_session sid cast h.role) h.now (sess_more w.log l0 who (new_session sid cast h.role) q record {
+          same_sid = refl;
+          same_cast = refl;
+          is_who = st.is_who_;
+          inside_ = st.inside__;
+          relay = st.relay_;
+          taken = st.taken_;
+          stepped = λ t. absurd (clash (at_turn g (new_session sid cast h.role)) first t);
+        }) h.was_joined)
+
+    -- ---- a frame is taken
+
+    module _ (h : HasTaken_ who n n' c a) where
+      abbrev f : Frame
+      f = h.f
+
+      silent_ : Silent l0
+      silent_ = happened_silent (receipt h.f) h.took.is_answer
+
+      here_wf : In wf.log l0
+      here_wf = in_after (k + 1) (called sha w k who c past).log wf.log after l0 (C.in_last w.log l0)
+
+      taken_wf : IsTaken wf l0 who h.took.bs h.f
+      taken_wf = (contains_from_in wf.log l0 here_wf, refl, ap (λ z. Some z) h.took.is_call, h.took.is_read, ap (λ z. Answered z) h.took.is_answer)
+
+      taken_now : IsTaken (called sha w k who c past) l0 who h.took.bs h.f
+      taken_now = (contains_from_in log' l0 (C.in_last w.log l0), refl, ap (λ z. Some z) h.took.is_call, h.took.is_read, ap (λ z. Answered z) h.took.is_answer)
+
+      tf : TakesFrame sha hash s programs sid cast g is acc version long differ prog (λ t. In (hashed s wf) t) one_cast (λ who. HadAnswer wf.log who (Abandon sid) Abandoned) who out.moves h.f
+      tf = out.took h.f h.took
+
+      last_item : (i : Item) × (last f.items ≡ Some i) × (i.role ≡ f.sender)
+      last_item = go (last f.items) refl h.rows.by_sender
+        where
+          go : (o : Option Item) → last f.items ≡ o → option_map_or (λ (i : Item). i.role == f.sender) o false ≡ true → (i : Item) × (last f.items ≡ Some i) × (i.role ≡ f.sender)
+          go None e q = absurd (cc)
+          go (Some i) e q = (i, e, eqb-true i.role f.sender q)
+
+      sender_honest : honest_role s cast f.sender ≡ true
+      sender_honest =
+          let cut = Cut'.split_end f.items last_item.0 last_item.1 in
+          let all = all_honest f.items tf.roles in
+          ap (honest_role s cast) (sym last_item.2) ∙ Keys'.all-mid (λ (i : Item). honest_role s cast i.role ≡ true) cut.0 last_item.0 [] (subst (AllByRecursion (λ (i : Item). honest_role s cast i.role ≡ true)) cut.1 all)
+
+      ws : WasSent wf k (principal cast f.sender) h.took.bs h.f
+      ws = was_sent l0 who h.took.bs h.f taken_wf h.took.is_sid sender_honest
+
+      ws_in : In w.log ws.0
+      ws_in = in_before k w.log wf.log (suffix_trans k (k + 1) w.log (called sha w k who c past).log wf.log (omega arith) (suffix_one k w.log l0 refl) after) ws.0 (in_from_Contains wf.log ws.0 ws.3) ws.4
+
+      sp : (before : List Logged) × (rest : List Logged) × (w.log ≡ before ++ ws.0 ∷ rest)
+      sp = in_split w.log ws.0 ws_in
+
+      ws_sid : sid_of ws.1 ≡ sid
+      ws_sid = ws.8 ∙ h.took.is_sid
+
+      fo : FrameOk w.log sp.0 sp.1 ws.0 ws.2 h.f
+      fo = fl.frames sp.0 ws.0 sp.1 ws.1 ws.2 h.f sp.2 ws.7 ws_sid
+
+      items_are : honest_items sid w.log ≡ honest_items sid sp.0 ++ fo.item ∷ honest_items sid sp.1
+      items_are = ap (honest_items sid) sp.2 ∙ split_items sp.0 ws.0 sp.1 ws.1 ws.2 h.f fo.item ws.7 ws_sid fo.its_last
+
+      past_now : past_of (called sha w k who c past) who ≡ Some (next_past sha who c past)
+      past_now = past_called sha w k who c past who ∙ ap (option_map (next_past sha who c)) its_past
+
+      shows_ : map bare (filter (λ (i : Item). honest_role s cast i.role) f.items) ≡ map bare (last_of by_role (after_last by_role f.receiver (honest_items f.sid log')))
+      shows_ = (shows_called sha hash s programs sid cast g is acc version long differ prog wf unforged one_cast Fit fit_next fit_bytes fit_sends casts_fit binding inside w k p x good fit who past its_past c after out
+          l0 who h.took.bs h.f (next_past sha who c past) (last-append w.log l0 []) taken_now h.took.is_sid past_now).items
+
+      shown_are : map bare f.items ≡ map bare (last_of by_role (after_last by_role f.receiver (honest_items sid w.log)))
+      shown_are = ap (map bare) (sym (filter_all (λ (i : Item). honest_role s cast i.role) f.items (all_honest f.items tf.roles))) ∙ shows_
+          ∙ ap (λ z. map bare (last_of by_role (after_last by_role f.receiver (honest_items z log')))) h.took.is_sid
+          ∙ ap (λ l. map bare (last_of by_role (after_last by_role f.receiver l))) (same_items w.log l0 silent_)
+
+      nothing_after : honest_items sid sp.1 ≡ []
+      nothing_after = newest (honest_items sid w.log) (honest_items sid sp.0) (honest_items sid sp.1) fo.item f.receiver f.items fl.steps.times items_are fo.its_last shown_are
+
+      done_is : honest_items sid w.log ≡ honest_items sid sp.0 ++ fo.item ∷ []
+      done_is = items_are ∙ ap (λ l. honest_items sid sp.0 ++ fo.item ∷ l) nothing_after
+
+      sess : Relay_ (honest_items sid w.log) h.x
+      sess = elim h.before [
+        | inl b ↦ here b.0 (fl.tracks who past its_past)
+        | inr b ↦ subst (Relay_ (honest_items sid w.log)) (sym b.2) (unjoined_new (h.x).role h.is_who h.inside b.0 b.1 (fl.tracks who past its_past)).relay_
+      ]
+        where
+          here : filter (of_sid sid) n.live ≡ h.x ∷ [] → Track w.log who n → Relay_ (honest_items sid w.log) h.x
+          here e (inl t) = absurd (let z : h.x ∷ [] ≡ [] = sym e ∙ t.alone in cc)
+          here e (inr (inl t)) = (let z : t.x ∷ [] ≡ h.x ∷ [] = sym t.alone ∙ e in let q : t.x ≡ h.x = cc in subst (Relay_ (honest_items sid w.log)) q t.ok.relay)
+          here e (inr (inr t)) = absurd (let z : h.x ∷ [] ≡ [] = sym e ∙ t.alone in cc)
+
+      bytes_are : h.took.bs ≡ spelling h.f
+      bytes_are = (let z : Some h.took.bs ≡ Some (spelling h.f) = sym ws.6 ∙ fo.framed in cc)
+
+      to_who : ws.2 ≡ who
+      to_who = fo.to_is ∙ ap (principal cast) h.same_role ∙ h.is_who
+
+      taken_this : Taken log' ws.2 h.f
+      taken_this = (l0, C.in_last w.log l0, ap (λ z. Some z) (sym to_who), ap (λ z. Some z) (h.took.is_call ∙ ap (λ z. Deliver z) bytes_are), ap (λ z. Answered z) h.took.is_answer)
+
+      all_taken : AllTaken log'
+      all_taken l e to f2 i o hs = elim (C.in_parts w.log (l0 ∷ []) l i) [
+        | inr j ↦ elim j [ inl q ↦ absurd (silent_ e to f2 (ap (λ (z : Logged). z.outcome) (sym q) ∙ o) hs) | inr q ↦ absurd q ]
+        | inl j ↦ (let r = in_split w.log l j in by_after r.0 r.1 r.2 (fl.frames r.0 l r.1 e to f2 r.2 o hs) (honest_items sid r.1) refl)
+      ]
+        where
+          by_after : (before rest : List Logged) → w.log ≡ before ++ l ∷ rest → FrameOk w.log before rest l to f2 → (is' : List Item) → honest_items sid rest ≡ is' → Taken log' to f2
+          by_after before rest e2 fo2 (i2 ∷ is') q = taken_more w.log l0 to f2 (fo2.taken (λ z. (let y : i2 ∷ is' ≡ [] = sym q ∙ z in absurd (cc))))
+          by_after before rest e2 fo2 [] q = elim (two_splits sp.0 ws.0 sp.1 before l rest (sym sp.2 ∙ e2)) [
+            | inl same ↦
+                (let z : Answered (Sends ws.1 ws.2 h.f) ≡ Answered (Sends e to f2) = sym ws.7 ∙ ap (λ (z : Logged). z.outcome) same ∙ o in
+                let ff : h.f ≡ f2 = cc in
+                let tt' : ws.2 ≡ to = cc in
+                subst (λ y. Taken log' to y) ff (subst (λ y. Taken log' y h.f) tt' taken_this))
+            | inr other ↦ elim other [
+              | inl j2 ↦ absurd (in_items sp.1 l e to f2 fo2.item j2 o hs fo2.its_last nothing_after)
+              | inr j2 ↦ absurd (in_items rest ws.0 ws.1 ws.2 h.f fo.item j2 ws.7 ws_sid fo.its_last q)
+            ]
+          ]
+
+      taken_relay : Relay_ (honest_items sid w.log) (extended h.x (Took h.f))
+      taken_relay = relay_takes sha s.keys sid cast targets g (honest_items sid w.log) h.x h.f fl.steps sess h.wait h.turn
+          (subst (λ r. f.items ≡ reduced g (after_last by_role r (honest_items sid w.log))) h.same_role (fo.items_are ∙ ap (λ l. reduced g (after_last by_role f.receiver l)) (sym done_is)))
+          (subst (λ r. has by_role r f.items ≡ false) h.same_role tf.no_own)
+          (subst (λ o. IfSome o (λ e. map (λ (o : Opening). o.variable) f.openings ≡ reads g e)) (sym (ap (λ l. last (labels l)) done_is ∙ ap last (map-append (λ (i : Item). i.label) (honest_items sid sp.0) (fo.item ∷ [])) ∙ last-append (labels (honest_items sid sp.0)) (fo.item).label [])) fo.opened.0)
+          (subst (λ l. AllByRecursion (Opens_ l) f.openings) (sym done_is) fo.opened.1)
+          (λ e. not_empty (honest_items sid sp.0) fo.item [] (sym done_is ∙ e))
+
+      on_taken : Flight (called sha w k who c past)
+      on_taken = assemble_silent silent_ (settled (extended h.x (Took h.f)) h.now record {
+        same_sid = h.same_sid;
+        same_cast = h.same_cast;
+        is_who = h.is_who;
+        inside_ = h.inside;
+        relay = subst (λ l. Relay_ l (extended h.x (Took h.f))) (sym (same_items w.log l0 silent_)) taken_relay;
+        taken = λ e. all_taken;
+        stepped = λ e. absurd (clash (at_turn g (extended h.x (Took h.f))) h.turn e);
+      } h.was_joined)
+
+    -- ---- a step is sent
+
+    module _ (h : HasGiven_ who n n' a) where
+      abbrev os : List Opening
+      os = openings_for h.values (map h.F h.values)
+
+      abbrev fr : Frame
+      fr = frame_sent sha n.keys h.p h.x h.label (openings_for h.values (map h.F h.values))
+
+      abbrev done : List Item
+      done = honest_items sid w.log
+
+      -- what the step gives, in the graph z
+      record GivenAt (z : Graph) : Type 0 where
+        steps_ : StepsOk sha s.keys sid cast targets z (done ++ h.item ∷ [])
+        relay_ : RelayOk sha s.keys sid cast targets z (done ++ h.item ∷ []) (extended h.x (Gave h.item os))
+        receiver_ : fr.receiver ≡ receiver (shape z) h.label
+        apart_ : receiver (shape z) h.label ≢ (h.x).role
+        items_ : fr.items ≡ reduced z (after_last by_role (receiver (shape z) h.label) (done ++ h.item ∷ []))
+        join_ : fr.join ≡ (if has by_role (receiver (shape z) h.label) done then None else Some cast)
+        opened_ : (map (λ (o : Opening). o.variable) fr.openings ≡ reads z h.label) × AllByRecursion (OpensAt sha s.keys sid cast targets z (done ++ h.item ∷ [])) fr.openings
+        tag_ : fr.tag ≡ tag_for sha (keyring_of s.keys (principal cast (h.x).role)) cast (receiver (shape z) h.label) (text_of fr)
+        item_label : (h.item).label ≡ h.label
+        item_role : (h.item).role ≡ (h.x).role
+
+      here : Track w.log who n → (SessOk w.log who h.x) × (has_joined n.joins sid (h.x).role ≡ true)
+      here (inl t) = absurd (let z : h.x ∷ [] ≡ [] = sym h.before ∙ t.alone in cc)
+      here (inr (inl t)) = (let z : t.x ∷ [] ≡ h.x ∷ [] = sym t.alone ∙ h.before in let q : t.x ≡ h.x = cc in subst (λ (y : Session). SessOk w.log who y × (has_joined n.joins sid y.role ≡ true)) q (t.ok, t.was_joined))
+      here (inr (inr t)) = absurd (let z : h.x ∷ [] ≡ [] = sym h.before ∙ t.alone in cc)
+
+      sess_ : SessOk w.log who h.x
+      sess_ = (here (fl.tracks who past its_past)).0
+
+      keys_mine : n.keys ≡ keyring_of s.keys (principal cast (h.x).role)
+      keys_mine = fl.keys_are who past its_past ∙ ap (keyring_of s.keys) (sym h.is_who)
+
+      given : GivenAt g
+      given =
+          let is' : IsGraph (h.p).graph = subst IsGraph (sym h.is_graph) is in
+          let acc' : Accepted (h.p).graph = subst Accepted (sym h.is_graph) acc in
+          let so' : StepsOk sha s.keys sid cast targets (h.p).graph done = subst (λ z. StepsOk sha s.keys sid cast targets z done) (sym h.is_graph) fl.steps in
+          let k' : RelayOk sha s.keys sid cast targets (h.p).graph done h.x = subst (λ z. RelayOk sha s.keys sid cast targets z done h.x) (sym h.is_graph) sess_.relay in
+          let rows' : C.ActRows (h.p).graph h.x h.label h.values = subst (λ z. C.ActRows z h.x h.label h.values) (sym h.is_graph) h.rows in
+          let tg : targets_of h.p h.label ≡ targets h.label = same_targets (h.x).role h.p h.found_p h.label in
+          let last' : last (frame_sent sha (keyring_of s.keys (principal cast (h.x).role)) h.p h.x h.label os).items ≡ Some h.item = subst (λ (m : Keyring). last (frame_sent sha m h.p h.x h.label os).items ≡ Some h.item) keys_mine h.its_last in
+          let entry' : Entries'.entry h.item ≡ Entries'.entry (own_item sha (keyring_of s.keys (principal cast (h.x).role)) h.p h.x h.label os) = subst (λ (m : Keyring). Entries'.entry h.item ≡ Entries'.entry (own_item sha m h.p h.x h.label os)) keys_mine h.is_entry in
+          let wait' : at_turn (h.p).graph (extended h.x (Gave h.item os)) ≡ false = subst (λ z. at_turn z (extended h.x (Gave h.item os)) ≡ false) (sym h.is_graph) h.wait in
+          subst GivenAt h.is_graph record {
+            steps_ = Y.steps_ok sha s.keys sid cast targets h.p h.x h.label h.values h.F done is' acc' so' k' sess_.same_sid sess_.same_cast rows' h.small tg h.item last' entry' wait';
+            relay_ = Y.gives sha s.keys sid cast targets h.p h.x h.label h.values h.F done is' acc' so' k' sess_.same_sid sess_.same_cast rows' h.small tg h.item last' entry' wait';
+            receiver_ = refl;
+            apart_ = Y.apart sha s.keys sid cast targets h.p h.x h.label h.values h.F done is' acc' so' k' sess_.same_sid sess_.same_cast rows' h.small tg h.item last' entry' wait';
+            items_ = subst (λ (m : Keyring). (frame_sent sha m h.p h.x h.label os).items ≡ reduced (h.p).graph (after_last by_role (receiver (shape (h.p).graph) h.label) (done ++ h.item ∷ []))) (sym keys_mine)
+                (Y.frame_items sha s.keys sid cast targets h.p h.x h.label h.values h.F done is' acc' so' k' sess_.same_sid sess_.same_cast rows' h.small tg h.item last' entry' wait');
+            join_ = Y.frame_join sha s.keys sid cast targets h.p h.x h.label h.values h.F done is' acc' so' k' sess_.same_sid sess_.same_cast rows' h.small tg h.item last' entry' wait';
+            opened_ = Y.frame_opened sha s.keys sid cast targets h.p h.x h.label h.values h.F done is' acc' so' k' sess_.same_sid sess_.same_cast rows' h.small tg h.item last' entry' wait';
+            tag_ = subst (λ (m : Keyring). (frame_sent sha m h.p h.x h.label os).tag ≡ tag_for sha (keyring_of s.keys (principal cast (h.x).role)) cast (receiver (shape (h.p).graph) h.label) (text_of (frame_sent sha m h.p h.x h.label os))) (sym keys_mine)
+                (Y.frame_tag sha s.keys sid cast targets h.p h.x h.label h.values h.F done is' acc' so' k' sess_.same_sid sess_.same_cast rows' h.small tg h.item last' entry' wait');
+            item_label = ap (λ (z : Item). z.label) (Y.item_is sha s.keys sid cast targets h.p h.x h.label h.values h.F done is' acc' so' k' sess_.same_sid sess_.same_cast rows' h.small tg h.item last' entry' wait');
+            item_role = ap (λ (z : Item). z.role) (Y.item_is sha s.keys sid cast targets h.p h.x h.label h.values h.F done is' acc' so' k' sess_.same_sid sess_.same_cast rows' h.small tg h.item last' entry' wait');
+          }
+
+      abbrev ev : Event
+      ev = Sent (h.x).sid (h.x).role h.label (time h.x + 1) h.values
+
+      items_now : honest_items sid log' ≡ done ++ h.item ∷ []
+      items_now = split_items w.log l0 [] ev (principal (h.x).cast (receiver (shape (h.p).graph) h.label)) fr h.item (ap (λ z. Answered z) h.is_answer) h.same_sid h.its_last
+
+      -- another role has no turn now
+      other_turn : (y : Session) → Relay_ done y → principal cast y.role ≢ who → at_turn g y ≡ true → ⊥
+      other_turn y ry ne t =
+          let one : place g y ≡ end_of (shape g) 0 (labels done) = at_end sha s.keys sid cast targets g done y ry t in
+          let two : place g h.x ≡ end_of (shape g) 0 (labels done) = at_end sha s.keys sid cast targets g done h.x sess_.relay h.rows.turn in
+          let roles : y.role ≡ (h.x).role = sym (eqb-true (role_at (shape g) (place g y)) y.role t) ∙ ap (role_at (shape g)) (one ∙ sym two) ∙ eqb-true (role_at (shape g) (place g h.x)) (h.x).role h.rows.turn in
+          ne (ap (principal cast) roles ∙ h.is_who)
+
+      other_role : (r : ℕ) → principal cast r ≢ who → ((h.item).role == r) ≡ false
+      other_role r ne = ne_eqb (h.item).role r (λ q. ne (ap (principal cast) (sym q ∙ given.item_role) ∙ h.is_who))
+
+      other_sess : (me : Name) (y : Session) → (me ≡ who → ⊥) → SessOk w.log me y → SessOk log' me y
+      other_sess me y ne ok =
+          let ne' : principal cast y.role ≢ who = λ q. ne (sym ok.is_who ∙ q) in
+          record {
+            same_sid = ok.same_sid;
+            same_cast = ok.same_cast;
+            is_who = ok.is_who;
+            inside_ = ok.inside_;
+            relay = subst (λ l. Relay_ l y) (sym items_now) (relay_other sha s.keys sid cast targets g done y h.item ok.relay (other_role y.role ne') (other_turn y ok.relay ne'));
+            taken = λ t. absurd (other_turn y ok.relay ne' t);
+            stepped = λ t. ap (has by_role y.role) items_now ∙ has-both y.role done (h.item ∷ []) ∙ rw (ok.stepped t) refl;
+          }
+
+      others : (me : Name) (y : Past) → (me ≡ who → ⊥) → Track w.log me (node_of y) → Track log' me (node_of y)
+      others me y ne (inl t) = inl record { alone = t.alone; none = λ r q l. ap (has by_role r) items_now ∙ has-both r done (h.item ∷ []) ∙ rw (t.none r q l, other_role r (λ z. ne (sym q ∙ z))) refl; unjoined = t.unjoined }
+      others me y ne (inr (inl t)) = inr (inl record { x = t.x; alone = t.alone; ok = other_sess me t.x ne t.ok; was_joined = t.was_joined })
+      others me y ne (inr (inr t)) = inr (inr record { x = t.x; alone = t.alone; ok = other_sess me t.x ne t.ok; was_joined = t.was_joined; why = t.why })
+
+      new_frame : (before : List Logged) (l : Logged) (rest : List Logged) (e : Event) (to : Name) (f : Frame) → l ≡ l0 → before ≡ w.log → rest ≡ [] → l.outcome ≡ Answered (Sends e to f) → FrameOk log' before rest l to f
+      new_frame before l rest e to f le be re o =
+          let z : Answered (Sends ev (principal (h.x).cast (receiver (shape (h.p).graph) h.label)) fr) ≡ Answered (Sends e to f) = ap (λ z. Answered z) (sym h.is_answer) ∙ ap (λ (z : Logged). z.outcome) (sym le) ∙ o in
+          let ff : fr ≡ f = cc in
+          let tt' : principal (h.x).cast (receiver (shape (h.p).graph) h.label) ≡ to = cc in
+          subst (λ b. FrameOk log' b rest l to f) (sym be) (subst (λ r. FrameOk log' w.log r l to f) (sym re) (subst (λ y. FrameOk log' w.log [] y to f) (sym le) (subst (λ y. FrameOk log' w.log [] l0 to y) ff (subst (λ y. FrameOk log' w.log [] l0 y fr) tt' record {
+            item = h.item;
+            its_last = h.its_last;
+            receiver_is = given.receiver_ ∙ ap (receiver (shape g)) (sym given.item_label);
+            sender_is = sym given.item_role;
+            apart = λ q. given.apart_ (sym given.receiver_ ∙ q ∙ given.item_role);
+            to_is = ap (λ (c : Cast). principal c fr.receiver) h.same_cast;
+            version_is = ap (λ (c : Cast). c.version) h.same_cast;
+            sid_is = h.same_sid;
+            items_are = given.items_ ∙ ap (λ r. reduced g (after_last by_role r (done ++ h.item ∷ []))) (sym given.receiver_);
+            join_is = given.join_ ∙ ap (λ r. if has by_role r done then None else Some cast) (sym given.receiver_);
+            opened = (given.opened_.0 ∙ ap (reads g) (sym given.item_label), given.opened_.1);
+            tag_is = given.tag_ ∙ ap (λ r. tag_for sha (keyring_of s.keys (principal cast (h.x).role)) cast r (text_of fr)) (sym given.receiver_);
+            spelled = h.spelled;
+            framed = ap frame_in h.is_answer;
+            taken = λ ne. absurd (ne refl);
+          }))))
+
+      frames_ : (before : List Logged) (l : Logged) (rest : List Logged) (e : Event) (to : Name) (f : Frame) → log' ≡ before ++ l ∷ rest → l.outcome ≡ Answered (Sends e to f) → sid_of e ≡ sid → FrameOk log' before rest l to f
+      frames_ before l rest e to f q o i = elim (split_at_end w.log l0 before l rest q) [
+        | inl r ↦ subst (λ z. FrameOk log' before z l to f) (sym r.1) (frame_more w.log before r.0 l l0 to f (λ _ _. taken_more w.log l0 to f (sess_.taken h.rows.turn l e to f (subst (λ z. In z l) (sym r.2) (split_in before l r.0)) o i)) (fl.frames before l r.0 e to f r.2 o i))
+        | inr r ↦ new_frame before l rest e to f r.0 r.1 r.2 o
+      ]
+
+      either : (b : Bool) → (b || true) ≡ true
+      either true = refl
+      either false = refl
+
+      on_given : Flight (called sha w k who c past)
+      on_given = assemble (subst Steps_ (sym items_now) given.steps_)
+          (settled (extended h.x (Gave h.item os)) h.now record {
+            same_sid = h.same_sid;
+            same_cast = h.same_cast;
+            is_who = h.is_who;
+            inside_ = h.inside;
+            relay = subst (λ l. Relay_ l (extended h.x (Gave h.item os))) (sym items_now) given.relay_;
+            taken = λ t. absurd (clash (at_turn g (extended h.x (Gave h.item os))) t h.wait);
+            stepped = λ t. ap (has by_role (h.x).role) items_now ∙ has-both (h.x).role done (h.item ∷ []) ∙ rw (eq-eqb (h.item).role (h.x).role given.item_role) (either (has by_role (h.x).role done));
+          } (out.more_joins (h.x).role (here (fl.tracks who past its_past)).1)) others frames_
+
+    pub flight_called : Flight (called sha w k who c past)
+    flight_called = elim out.life [
+      | inl u ↦ on_unmoved u
+      | inr r ↦ elim r [
+        | inl u ↦ on_left u
+        | inr r2 ↦ elim r2 [
+          | inl u ↦ on_started u
+          | inr r3 ↦ elim r3 [ inl u ↦ on_taken u | inr u ↦ on_given u ]
+        ]
+      ]
+    ]
+
+  pub flight : (w : World) (k : ℕ) → Prog w → Flight w → (xs : List Step) → AllByRecursion (IsStep sha s) xs → Fit w → world_after_all sha s w k xs ≡ wf → Flight wf
+  flight w k p h xs good fit e = keep_all sha hash s programs sid cast g is acc version long differ prog wf unforged one_cast Fit fit_next fit_bytes fit_sends casts_fit Flight flight_idle
+      (λ w k p h x good fit who past its_past c call after out. flight_called w k p h x good fit who past its_past c call after out) w k p h xs good fit e
