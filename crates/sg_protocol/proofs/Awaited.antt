@@ -1,18 +1,18 @@
 -- An awaited frame is accepted.
 use Rattle.std.specs.Prelude.{◌≡◌, ◌≢◌, ℕ, zero, suc, ◌+◌, ◌<◌, ◌≤◌, ◌==◌, nat_lt, nat_le, ◌||◌, ◌&&◌, ◌⊎◌, Bool, true, false, not, if◌then◌else◌, List, [], ◌∷◌, ◌++◌, map, filter, find, length, get_or, bytes_eq, refl, Option, Some, None, option_map, option_and_then, is_some, All, Contains}
-use Rattle.std.specs.List.{AllByRecursion, list_any, list_all}
+use Rattle.std.specs.List.{AllByRecursion, list_any}
 use Rattle.std.specs.Option.{option_map_or}
 use Rattle.std.proofs.Common.{sym, ◌∙◌, ap, subst, inl, inr, arith}
-use Rattle.std.proofs.lemmas.Bool.{eqb-true, eq-eqb, ne_eqb}
+use Rattle.std.proofs.lemmas.Bool.{cases_Bool, eqb-true, eq-eqb, ne_eqb}
 use Rattle.std.proofs.lemmas.Bool.Decides.{nat_tests}
 use Rattle.std.proofs.lemmas.List.Elements.{All-head, All-tail}
 use Rattle.std.proofs.lemmas.Slice.Eq.{bytes_eq-Decides}
-use Rattle.sg_model.specs.Last.{Map, has, last, after_last}
-use Rattle.sg_model.specs.Lists.{all_differ, below, range_from, keys_of, is_in, rises_from, first_some}
-use Rattle.sg_model.specs.Shape.{Arrow, role_at, sender, receiver}
+use Rattle.sg_model.specs.Last.{has, last, after_last}
+use Rattle.sg_model.specs.Lists.{all_differ, below, range_from, first_some}
+use Rattle.sg_model.specs.Shape.{role_at, sender, receiver}
 use Rattle.sg_model.specs.Names.{Name}
 use Rattle.sg_model.specs.Values.{Opening}
-use Rattle.sg_protocol.specs.Graph.{Graph, Edge, IsGraph, AreNumbers, shape, reads}
+use Rattle.sg_protocol.specs.Graph.{Graph, IsGraph, shape, reads}
 use Rattle.sg_protocol.specs.Evidence.{View, IsView, IsViewTable, same_origin}
 use Rattle.sg_protocol.specs.Targets.{IsTargetTable}
 use Rattle.sg_protocol.specs.Frame.{Cast, Frame, Item}
@@ -39,7 +39,6 @@ use Rattle.sg_law.proofs.Upto.{In, in_from_Contains}
 use Rattle.sg_law.proofs.Take.{contains_from_in}
 use Rattle.sg_law.proofs.Lists.{last-append}
 use Rattle.sg_protocol.proofs.Moves.{and_parts, in_map}
-use Rattle.sg_protocol.proofs.Gives.{in_order-all}
 use Rattle.sg_protocol.proofs.Isolation.{of_sid, find-filter}
 use Rattle.sg_protocol.proofs.ReadLaws.{read-spelling}
 use Rattle.sg_protocol.proofs.Calls.{find_passes, find_all, one_place}
@@ -51,17 +50,13 @@ use Rattle.sg_protocol.proofs.Fits.{Fit, fit_new, fit_next, fit_bytes, fit_sends
 use Rattle.sg_protocol.proofs.Sendings.{no_entry, act_event, keys_after, receipts_have_sends}
 use Rattle.sg_protocol.proofs.Reduced.{by_role, has-both, reduced}
 use Rattle.sg_protocol.proofs.Relay.{StepsOk, RelayOk, OpensAt, relay_new}
-use Rattle.sg_protocol.proofs.Rows.{rows_none, viewed, keys_in_order, rising_same}
+use Rattle.sg_protocol.proofs.Rows.{rows_none, viewed}
 use Rattle.sg_protocol.proofs.Flight.{Flight, FrameOk, Taken, Track, New, Here, Gone, SessOk, flight, in_split, role_small}
 use Rattle.sg_protocol.proofs.Flight as L
 use Rattle.sg_protocol.proofs.Keys as Keys'
 use Rattle.sg_protocol.specs.Notes.{notes}
-use Rattle.sg_protocol.specs.Evidence as Evidence'
 use Rattle.sg_protocol.specs.NodeAfter as NodeAfter'
-
-cases_Bool : (b : Bool) → (b ≡ true) ⊎ (b ≡ false)
-cases_Bool true = inl refl
-cases_Bool false = inr refl
+use Rattle.sg_protocol.proofs.OneTable.{one_table, reads_small}
 
 clash : (b : Bool) → b ≡ true → b ≡ false → ⊥
 clash b t f = absurd (cc)
@@ -103,62 +98,6 @@ rec_in : {A : Type 0} (P : A → Type 0) (xs : List A) (x : A) → AllByRecursio
 rec_in P [] x a i = absurd i
 rec_in P (y ∷ ys) x a (inl e) = subst P (sym e) a.0
 rec_in P (y ∷ ys) x a (inr i) = rec_in P ys x a.1 i
-
--- ---- one table of targets
-
-all_less : (n : ℕ) (xs : List ℕ) → list_all (λ k. nat_lt k n) xs ≡ true → AllByRecursion (λ x. x < n) xs
-all_less n [] h = tt
-all_less n (x ∷ xs) h = let ps = and_parts (nat_lt x n) (list_all (λ k. nat_lt k n) xs) h in (grind (arith, nat_tests, ps.0), all_less n xs ps.1)
-
--- numbers that rise are known by their set
-numbers_by_set : (n : ℕ) (xs ys : List ℕ) → AreNumbers n xs → AreNumbers n ys → ((t : ℕ) → t < n → is_in t xs ≡ is_in t ys) → xs ≡ ys
-numbers_by_set n xs ys a b e = sym (own xs a) ∙ rising_same n xs ys e ∙ own ys b
-  where
-    keys_named : (zs : List ℕ) → keys_of {A = List ℕ} (map (λ z. (z, [])) zs) ≡ zs
-    keys_named [] = refl
-    keys_named (z ∷ zs) = ap (λ l. z ∷ l) (keys_named zs)
-
-    own : (zs : List ℕ) → AreNumbers n zs → Evidence'.rising n zs ≡ zs
-    own zs h =
-        let ps = and_parts (rises_from 0 zs) (list_all (λ k. nat_lt k n) zs) h in
-        let m : Map (List ℕ) = map (λ z. (z, [])) zs in
-        ap (Evidence'.rising n) (sym (keys_named zs)) ∙ sym (keys_in_order n (map (λ z. (z, [])) zs))
-        ∙ ap keys_of (in_order-all n (map (λ z. (z, [])) zs) (ap (rises_from 0) (keys_named zs) ∙ ps.0) (subst (AllByRecursion (λ x. x < n)) (sym (keys_named zs)) (all_less n zs ps.1)))
-        ∙ keys_named zs
-
-get_out : (ts : List (List ℕ)) (e : ℕ) → length ts ≤ e → get_or ts e [] ≡ []
-get_out [] e l = refl
-get_out (t ∷ ts) zero l = absurd (omega (arith, l))
-get_out (t ∷ ts) (suc e) l = get_out ts e (omega (arith, l))
-
-one_table : (g : Graph) (one two : List (List ℕ)) → IsTargetTable g one → IsTargetTable g two → (e : ℕ) → get_or one e [] ≡ get_or two e []
-one_table g one two a b e = elim (cases_Bool (nat_lt e (length g.edges))) [
-  | inl h ↦
-      let l : e < length g.edges = grind (arith, nat_tests) in
-      numbers_by_set (length g.roles) (get_or one e []) (get_or two e []) (a.rising e) (b.rising e) (λ t lt. both (is_in t (get_or one e [])) (is_in t (get_or two e [])) (λ i. (b.each e t l lt).1 ((a.each e t l lt).0 i)) (λ i. (a.each e t l lt).1 ((b.each e t l lt).0 i)))
-  | inr h ↦
-      let l : length g.edges ≤ e = grind (arith, nat_tests) in
-      get_out one e (let s = a.size in omega (arith, l, s)) ∙ sym (get_out two e (let s = b.size in omega (arith, l, s)))
-]
-  where
-    both : (x y : Bool) → (x ≡ true → y ≡ true) → (y ≡ true → x ≡ true) → x ≡ y
-    both true y f h = sym (f refl)
-    both false true f h = absurd (let z = h refl in cc)
-    both false false f h = refl
-
--- what is read is a variable
-reads_small : (g : Graph) → IsGraph g → (e v : ℕ) → is_in v (reads g e) ≡ true → v < length g.variables
-reads_small g is e v h = go g.edges is.variables e h
-  where
-    in_less : (xs : List ℕ) → AllByRecursion (λ x. x < length g.variables) xs → is_in v xs ≡ true → v < length g.variables
-    in_less [] a i = absurd (cc)
-    in_less (x ∷ xs) a i = elim (cases_Bool (x == v)) [ inl d ↦ subst (λ z. z < length g.variables) (eqb-true x v d) a.0 | inr d ↦ in_less xs a.1 (rw d at i) ]
-
-    go : (es : List Edge) → All (λ (e : Edge). AreNumbers (length g.variables) e.writes × AreNumbers (length g.variables) e.reads) es → (k : ℕ)
-        → is_in v (get_or {A = Arrow} (map (λ (e : Edge). record { source = e.source; target = e.target; writes = e.writes; reads = e.reads }) es) k (record { source = 0; target = 0; writes = []; reads = [] })).reads ≡ true → v < length g.variables
-    go [] a k i = absurd (cc)
-    go (x ∷ es) a zero i = in_less x.reads (all_less (length g.variables) x.reads (and_parts (rises_from 0 x.reads) (list_all (λ k. nat_lt k (length g.variables)) x.reads) (All-head (λ (e : Edge). AreNumbers (length g.variables) e.writes × AreNumbers (length g.variables) e.reads) x es a).1).1) i
-    go (x ∷ es) a (suc k) i = go es (All-tail (λ (e : Edge). AreNumbers (length g.variables) e.writes × AreNumbers (length g.variables) e.reads) x es a) k i
 
 pairs_apart : (ks : List PairKey) → All IsPairKey ks → AllByRecursion (λ (z : PairKey). z.one ≢ z.two) ks
 pairs_apart [] a = tt

@@ -2,7 +2,7 @@
 use Rattle.std.specs.Prelude.{◌||◌, ◌≡◌, ◌≢◌, ℕ, zero, suc, ◌+◌, ◌<◌, ◌==◌, ◌⊎◌, Bool, true, false, if◌then◌else◌, List, [], ◌∷◌, ◌++◌, map, filter, length, get_or, bytes_eq, refl, Option, Some, None, option_map, IfSome, All}
 use Rattle.std.specs.List.{AllByRecursion, cons_option, list_any}
 use Rattle.std.proofs.Common.{sym, ◌∙◌, ap, subst, inl, inr, arith, append-nil}
-use Rattle.std.proofs.lemmas.Bool.{eqb-true, eq-eqb, ne_eqb}
+use Rattle.std.proofs.lemmas.Bool.{cases_Bool, eqb-true, eq-eqb, ne_eqb}
 use Rattle.std.proofs.lemmas.List.{map-append}
 use Rattle.std.proofs.lemmas.List.Elements.{All-head, All-tail}
 use Rattle.std.proofs.lemmas.Slice.Eq.{bytes_eq-Decides}
@@ -50,18 +50,15 @@ use Rattle.sg_protocol.proofs.Entries.{Roles}
 use Rattle.sg_protocol.proofs.Moves.{step, in_left, in_right}
 use Rattle.sg_protocol.proofs.Acts as C
 use Rattle.sg_protocol.proofs.Reduced.{by_role, has-both, reduced}
-use Rattle.sg_protocol.proofs.Relay.{StepsOk, RelayOk, OpensAt, relay_new, relay_other, relay_takes, at_end, labels}
-use Rattle.sg_protocol.proofs.Relay as Y
+use Rattle.sg_protocol.proofs.Ends.{labels}
+use Rattle.sg_protocol.proofs.Relay.{StepsOk, RelayOk, OpensAt, relay_new, relay_other, relay_takes, at_end}
+use Rattle.sg_protocol.proofs.RelayGives as Y
 use Rattle.sg_protocol.proofs.Entries as Entries'
 use Rattle.sg_protocol.proofs.Keys as Keys'
 use Rattle.std.specs.Option.{option_map_or}
 use Rattle.sg_protocol.proofs.Calls.{Life, Unmoved, WasLeft, HasStarted, HasTaken, HasGiven, TakesFrame, one_place, find_passes}
 use Rattle.sg_protocol.proofs.Course.{Progress, keep_all, Suffix, Outs, past_called, next_past, node_more, in_after, in_before, suffix_trans, suffix_one, filter_map-append}
 use Rattle.sg_protocol.proofs.Showing.{shows_called}
-
-cases_Bool : (b : Bool) → (b ≡ true) ⊎ (b ≡ false)
-cases_Bool true = inl refl
-cases_Bool false = inr refl
 
 clash : (b : Bool) → b ≡ true → b ≡ false → ⊥
 clash b t f = absurd (cc)

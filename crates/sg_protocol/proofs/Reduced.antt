@@ -2,7 +2,7 @@
 use Rattle.std.specs.Prelude.{◌≡◌, ℕ, ◌<◌, ◌==◌, ◌||◌, ◌⊎◌, Bool, true, false, not, if◌then◌else◌, List, [], ◌∷◌, ◌++◌, map, filter, length, refl, Option, Some, None}
 use Rattle.std.specs.Option.{option_or}
 use Rattle.std.proofs.Common.{sym, ◌∙◌, ap, subst, inl, inr, append-nil}
-use Rattle.std.proofs.lemmas.Bool.{eqb-true}
+use Rattle.std.proofs.lemmas.Bool.{cases_Bool, eqb-true}
 use Rattle.sg_model.specs.Last.{Map, Entry, merge, has, after_last, carry, evidence}
 use Rattle.sg_model.specs.Lists.{value_at, in_order}
 use Rattle.sg_protocol.specs.Graph.{Graph}
@@ -10,10 +10,6 @@ use Rattle.sg_protocol.specs.Frame.{Item}
 use Rattle.sg_protocol.specs.Session.{committed}
 use Rattle.sg_protocol.specs.Sending.{entry_of, item_of, tags_left, shown_to}
 use Rattle.sg_protocol.proofs.KeptLaws.{value_at-in_order, in_order-in_order, in_order-same, value_at-merge}
-
-cases_Bool : (b : Bool) → (b ≡ true) ⊎ (b ≡ false)
-cases_Bool true = inl refl
-cases_Bool false = inr refl
 
 -- the role of an item
 abbrev pub by_role : Item → ℕ

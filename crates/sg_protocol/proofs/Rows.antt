@@ -1,18 +1,17 @@
 -- A frame that shows what was done since a role's last step meets every row.
-use Rattle.std.specs.Prelude.{◌≡◌, ◌≢◌, ℕ, zero, suc, ◌+◌, ◌<◌, ◌≤◌, ◌==◌, nat_lt, nat_le, ◌||◌, ◌&&◌, ◌⊎◌, Bool, true, false, not, List, [], ◌∷◌, ◌++◌, map, filter, filter_map, find, position, length, refl, Option, Some, None, option_map, unwrap_or, IfSome, bytes_eq, Contains, ⊤}
-use Rattle.std.specs.List.{AllByRecursion, list_all, prefix_len}
+use Rattle.std.specs.Prelude.{◌≡◌, ◌≢◌, ℕ, ◌+◌, ◌<◌, ◌==◌, nat_lt, ◌||◌, ◌&&◌, ◌⊎◌, Bool, true, false, not, List, [], ◌∷◌, ◌++◌, map, filter, find, position, length, refl, Option, Some, None, option_map, unwrap_or, IfSome, bytes_eq}
+use Rattle.std.specs.List.{AllByRecursion, list_all}
 use Rattle.std.specs.Option.{option_or, option_map_or}
 use Rattle.std.proofs.Common.{sym, ◌∙◌, ap, subst, inl, inr, arith, append_assoc, append-nil}
-use Rattle.std.proofs.lemmas.Bool.{eqb-true, eq-eqb, ne_eqb}
-use Rattle.std.proofs.lemmas.Bool.Decides.{nat_tests}
+use Rattle.std.proofs.lemmas.Bool.{cases_Bool, eq-eqb}
 use Rattle.std.proofs.lemmas.List.{map-append}
 use Rattle.std.proofs.lemmas.Slice.Eq.{bytes_eq-Decides}
-use Rattle.sg_model.specs.Last.{Map, Entry, merge, has, last, after_last, up_to_last, carry, evidence, evidence_for}
-use Rattle.sg_model.specs.Lists.{value_at, in_order, below, range_from, keys_of, is_in, same_text, first_some}
+use Rattle.sg_model.specs.Last.{Map, merge, has, last, after_last, up_to_last}
+use Rattle.sg_model.specs.Lists.{value_at, in_order, keys_of, is_in, same_text, first_some}
 use Rattle.sg_model.specs.Shape.{Walk, end_of, role_at, target, sender, receiver}
 use Rattle.sg_model.specs.Values.{Opening}
 use Rattle.sg_protocol.specs.Graph.{Graph, IsGraph, shape, writes, reads}
-use Rattle.sg_protocol.specs.Evidence.{View, Seen, IsView, IsViewTable, view_of, walked, rising, same_origin, same_items, same_view, has_view}
+use Rattle.sg_protocol.specs.Evidence.{IsView, IsViewTable, has_view}
 use Rattle.sg_protocol.specs.Targets.{IsTargetTable}
 use Rattle.sg_protocol.specs.Frame.{Cast, Item, Frame}
 use Rattle.sg_protocol.specs.Texts.{Hash, commitment, cut, hmac, item_text_of}
@@ -35,13 +34,12 @@ use Rattle.sg_protocol.proofs.Sendings.{key_same}
 use Rattle.sg_law.proofs.Walks.{walk-append, end_of-append}
 use Rattle.sg_protocol.proofs.Entries.{Roles, edges_same}
 use Rattle.sg_protocol.proofs.Moves.{step}
-use Rattle.sg_protocol.proofs.Reduced.{by_role, tags_but, lead, left_by, reduced, has-reduced, lead-lead, lead-in_order, committed_reduced}
-use Rattle.sg_protocol.proofs.KeptLaws.{value_at-in_order, in_order-in_order, value_at-merge}
-use Rattle.sg_protocol.proofs.Relay.{labels, StepsOk, RelayOk, OpensAt, TagsOk, tag_said, committed-append, committed_same, below_same, same_last, after_all, all-right, value_none, no_last, last_bare}
-
-cases_Bool : (b : Bool) → (b ≡ true) ⊎ (b ≡ false)
-cases_Bool true = inl refl
-cases_Bool false = inr refl
+use Rattle.sg_protocol.proofs.Reduced.{by_role, tags_but, lead, left_by, reduced, has-reduced, lead-lead, committed_reduced}
+use Rattle.sg_protocol.proofs.KeptLaws.{value_at-in_order, value_at-merge}
+use Rattle.sg_protocol.proofs.Ends.{no_last, below_same, committed-append, labels, last_bare, same_last, committed_same, after_all}
+use Rattle.sg_protocol.proofs.Relay.{all-right, tag_said, TagsOk, StepsOk, OpensAt, RelayOk}
+use Rattle.sg_protocol.proofs.SeenItems.{view_is, view_there}
+use Rattle.sg_protocol.proofs.RowLemmas.{all_position, all_find, tags_keys, tag_kept, tag_there, filter_same, lead_nil, roles_reduced, roles_test, less, rises_reduced, times_good, last_of_role, none5}
 
 cases_Option : {A : Type 0} (o : Option A) → (o ≡ None) ⊎ ((x : A) × (o ≡ Some x))
 cases_Option None = inl refl
@@ -56,285 +54,6 @@ and_both false b h k = h
 
 same_self : (t : List ℕ) → bytes_eq t t ≡ true
 same_self t = (bytes_eq-Decides t t).1 refl
-
--- ---- tests that all pass
-
-all_position : {A : Type 0} (p : A → Bool) (xs : List A) → list_all p xs ≡ true → position (λ c. not (p c)) xs ≡ None
-all_position {A = A} p xs h = rw (go xs h, not_less (length xs)) refl
-  where
-    not_less : (n : ℕ) → nat_lt n n ≡ false
-    not_less n = elim (cases_Bool (nat_lt n n)) [ inl e ↦ absurd (let l : n < n = grind (arith, nat_tests) in omega (arith, l)) | inr e ↦ e ]
-
-    head : (b c : Bool) → (b && c) ≡ true → (b ≡ true) × (c ≡ true)
-    head true c h = (refl, h)
-    head false c h = absurd (cc)
-
-    go : (xs : List A) → list_all p xs ≡ true → prefix_len (λ c. not (not (p c))) xs ≡ length xs
-    go [] h = refl
-    go (x ∷ xs) h = let q = head (p x) (list_all p xs) h in rw q.0 (ap (λ n. 1 + n) (go xs q.1) ∙ omega arith)
-
-all_find : {A : Type 0} (p : A → Bool) (xs : List A) → list_all p xs ≡ true → find (λ c. not (p c)) xs ≡ None
-all_find p [] h = refl
-all_find p (x ∷ xs) h = elim (cases_Bool (p x)) [ inl e ↦ rw e (all_find p xs (rw e at h)) | inr e ↦ absurd (let f : false ≡ true = rw e at h in cc) ]
-
--- ---- what is seen of reduced items
-
-keys_picked : (m : Map (List ℕ)) (xs : List ℕ) → keys_of (filter_map (λ x. option_map (λ v. (x, v)) (value_at m x)) xs) ≡ filter (λ x. is_in x (keys_of m)) xs
-keys_picked m [] = refl
-keys_picked m (x ∷ xs) = elim (cases_Bool (is_in x (keys_of m))) [
-  | inl e ↦ (let v = some m x e in rw (e, v.1) (ap (λ l. x ∷ l) (keys_picked m xs)))
-  | inr e ↦ rw (e, value_none m x e) (keys_picked m xs)
-]
-  where
-    some : (m : Map (List ℕ)) (x : ℕ) → is_in x (keys_of m) ≡ true → (v : List ℕ) × (value_at m x ≡ Some v)
-    some [] x h = absurd (cc)
-    some (w ∷ ws) x h = elim (cases_Bool (w.0 == x)) [ inl e ↦ (w.1, rw e refl) | inr e ↦ (let r = some ws x (rw e at h) in (r.0, rw e r.1)) ]
-
-pub keys_in_order : (n : ℕ) (m : Map (List ℕ)) → keys_of (in_order n m) ≡ rising n (keys_of m)
-keys_in_order n m = keys_picked m (below n)
-
-in-append : (x : ℕ) (ps bs : List ℕ) → is_in x (ps ++ bs) ≡ (is_in x ps || is_in x bs)
-in-append x [] bs = refl
-in-append x (a ∷ ps) bs = ap (λ b. (a == x) || b) (in-append x ps bs) ∙ assoc (a == x) (is_in x ps) (is_in x bs)
-  where
-    assoc : (a b c : Bool) → (a || (b || c)) ≡ ((a || b) || c)
-    assoc true b c = refl
-    assoc false b c = refl
-
-in_merge : {A : Type 0} (x : ℕ) (a b : Map A) → is_in x (keys_of (merge a b)) ≡ (is_in x (keys_of a) || is_in x (keys_of b))
-in_merge {A = A} x a b = ap (is_in x) (map-append (λ (w : ℕ × A). w.0) (filter (λ (w : ℕ × A). not (has (λ (y : ℕ × A). y.0) w.0 b)) a) b) ∙ in-append x (keys_of (filter (λ (w : ℕ × A). not (has (λ (y : ℕ × A). y.0) w.0 b)) a)) (keys_of b) ∙ go a
-  where
-    has_in : (x : ℕ) (m : Map A) → has (λ (y : ℕ × A). y.0) x m ≡ is_in x (keys_of m)
-    has_in x [] = refl
-    has_in x (w ∷ ws) = ap (λ z. (w.0 == x) || z) (has_in x ws)
-
-    either : (d : Bool) → (d || true) ≡ true
-    either true = refl
-    either false = refl
-
-    go : (ws : Map A) → (is_in x (keys_of (filter (λ (w : ℕ × A). not (has (λ (y : ℕ × A). y.0) w.0 b)) ws)) || is_in x (keys_of b)) ≡ (is_in x (keys_of ws) || is_in x (keys_of b))
-    go [] = refl
-    go (w ∷ ws) = elim (cases_Bool (has (λ (y : ℕ × A). y.0) w.0 b)) [
-      | inl e ↦ rw e (elim (cases_Bool (w.0 == x)) [
-        | inl d ↦ (let i : is_in x (keys_of b) ≡ true = subst (λ z. is_in z (keys_of b) ≡ true) (eqb-true w.0 x d) (sym (has_in w.0 b) ∙ e) in rw (d, i) (either _))
-        | inr d ↦ rw d (go ws)
-      ])
-      | inr e ↦ rw e (elim (cases_Bool (w.0 == x)) [ inl d ↦ rw d refl | inr d ↦ rw d (go ws) ])
-    ]
-
-filter_below : (p q : ℕ → Bool) (k j : ℕ) → ((x : ℕ) → x < k + j → p x ≡ q x) → filter p (range_from k j) ≡ filter q (range_from k j)
-filter_below p q k zero e = refl
-filter_below p q k (suc j) e =
-    let rest : filter p (range_from (suc k) j) ≡ filter q (range_from (suc k) j) = filter_below p q (suc k) j (λ x l. e x (omega (arith, l))) in
-    elim (cases_Bool (q k)) [ inl h ↦ rw (e k (omega arith) ∙ h, h) (ap (λ l. k ∷ l) rest) | inr h ↦ rw (e k (omega arith) ∙ h, h) rest ]
-
-pub rising_same : (n : ℕ) (ps bs : List ℕ) → ((x : ℕ) → x < n → is_in x ps ≡ is_in x bs) → rising n ps ≡ rising n bs
-rising_same n ps bs e = filter_below (λ x. is_in x ps) (λ x. is_in x bs) 0 n (λ x l. e x (omega (arith, l)))
-
-in_rising : (n : ℕ) (ps : List ℕ) (x : ℕ) → x < n → is_in x (rising n ps) ≡ is_in x ps
-in_rising n ps x l = go 0 n (omega arith) (omega (arith, l))
-  where
-    above : (k j : ℕ) → x < k → is_in x (filter (λ y. is_in y ps) (range_from k j)) ≡ false
-    above k zero h = refl
-    above k (suc j) h = elim (cases_Bool (is_in k ps)) [
-      | inl e ↦ rw (e, ne_eqb k x (λ q. absurd (omega (arith, h, q)))) (above (suc k) j (omega (arith, h)))
-      | inr e ↦ rw e (above (suc k) j (omega (arith, h)))
-    ]
-
-    go : (k j : ℕ) → k ≤ x → x < k + j → is_in x (filter (λ y. is_in y ps) (range_from k j)) ≡ is_in x ps
-    go k zero a b = absurd (omega (arith, a, b))
-    go k (suc j) a b = elim (cases_Bool (k == x)) [
-      | inl e ↦ (let q : k ≡ x = eqb-true k x e in elim (cases_Bool (is_in k ps)) [
-        | inl h ↦ rw (h, e) (sym (subst (λ z. is_in z ps ≡ true) q h))
-        | inr h ↦ rw h (above (suc k) j (omega (arith, q)) ∙ sym (subst (λ z. is_in z ps ≡ false) q h))
-      ])
-      | inr e ↦ (let ih : is_in x (filter (λ y. is_in y ps) (range_from (suc k) j)) ≡ is_in x ps = go (suc k) j (grind (arith, nat_tests)) (omega (arith, b)) in elim (cases_Bool (is_in k ps)) [ inl h ↦ rw (h, e) ih | inr h ↦ rw h ih ])
-    ]
-
-abbrev Wal : Type 0
-Wal = Entry ℕ (Unit {0})
-
-module _ (g : Graph) where
-  abbrev of_wal : Wal → Seen
-  of_wal e = record { label = e.step; delta = rising (length g.variables) (keys_of e.writes) }
-
-  abbrev by_wal : Wal → ℕ
-  by_wal e = sender (shape g) e.step
-
-  -- items that show what entries show
-  abbrev Shows : List Item → List Wal → Type 0
-  Shows [] [] = ⊤
-  Shows [] (e ∷ es) = ⊥
-  Shows (i ∷ is) [] = ⊥
-  Shows (i ∷ is) (e ∷ es) = (i.label ≡ e.step) × (keys_of i.delta ≡ rising (length g.variables) (keys_of e.writes)) × Shows is es
-
-  shows_seen : (is : List Item) (es : List Wal) → Shows is es → map seen is ≡ map of_wal es
-  shows_seen [] [] h = refl
-  shows_seen [] (e ∷ es) h = absurd h
-  shows_seen (i ∷ is) [] h = absurd h
-  shows_seen (i ∷ is) (e ∷ es) h = ap (λ l. record { label = l; delta = keys_of i.delta } ∷ map seen is) h.0 ∙ ap (λ d. record { label = e.step; delta = d } ∷ map seen is) h.1 ∙ ap (λ l. of_wal e ∷ l) (shows_seen is es h.2)
-
-  has_walked : (k : ℕ) (is : List Item) → Roles (shape g) is → has by_wal k (walked g (labels is)) ≡ has by_role k is
-  has_walked k [] r = refl
-  has_walked k (i ∷ is) r = ap (λ z. (z == k) || has by_wal k (walked g (labels is))) (sym r.0) ∙ ap (λ b. (i.role == k) || b) (has_walked k is r.1)
-
-  shows_lead : (d : Map (List ℕ)) (u : Map (Unit {0})) → keys_of d ≡ keys_of u → (is : List Item) (es : List Wal) → Shows is es → Shows (lead g d is) (carry u es)
-  shows_lead d u e [] [] h = tt
-  shows_lead d u e [] (x ∷ es) h = absurd h
-  shows_lead d u e (i ∷ is) [] h = absurd h
-  shows_lead d u e (i ∷ is) (x ∷ es) h = (
-    h.0,
-    keys_in_order (length g.variables) (merge d i.delta) ∙ rising_same (length g.variables) (keys_of (merge d i.delta)) (keys_of (merge u x.writes)) (λ v l.
-        in_merge v d i.delta ∙ ap (λ z. is_in v z || is_in v (keys_of i.delta)) e ∙ ap (λ z. is_in v (keys_of u) || is_in v z) h.1 ∙ ap (λ z. is_in v (keys_of u) || z) (in_rising (length g.variables) (keys_of x.writes) v l) ∙ sym (in_merge v u x.writes)),
-    h.2,
-  )
-
-  names_of : (xs : List ℕ) → keys_of {A = Unit {0}} (map (λ x. (x, tt)) xs) ≡ xs
-  names_of [] = refl
-  names_of (x ∷ xs) = ap (λ l. x ∷ l) (names_of xs)
-
-  -- reduced items show the evidence of their walk
-  shows_reduced : (is : List Item) → Roles (shape g) is → AllByRecursion (λ (i : Item). keys_of i.delta ≡ writes g i.label) is → Shows (reduced g is) (evidence (sender (shape g)) (walked g (labels is)))
-  shows_reduced [] r k = tt
-  shows_reduced (i ∷ is) r k =
-      let same : has by_wal (sender (shape g) i.label) (walked g (labels is)) ≡ has by_role i.role is = has_walked (sender (shape g) i.label) is r.1 ∙ ap (λ z. has by_role z is) (sym r.0) in
-      let keys : keys_of i.delta ≡ keys_of {A = Unit {0}} (map (λ x. (x, tt)) (writes g i.label)) = k.0 ∙ sym (names_of (writes g i.label)) in
-      elim (cases_Bool (has by_role i.role is)) [
-        | inl e ↦ rw (same ∙ e, e) (shows_lead i.delta (map (λ x. (x, tt)) (writes g i.label)) keys (reduced g is) (evidence (sender (shape g)) (walked g (labels is))) (shows_reduced is r.1 k.1))
-        | inr e ↦ rw (same ∙ e, e) (refl, keys_in_order (length g.variables) i.delta ∙ ap (rising (length g.variables)) keys, shows_reduced is r.1 k.1)
-      ]
-
-  after_walked : (k : ℕ) (is : List Item) → Roles (shape g) is → after_last by_wal k (walked g (labels is)) ≡ walked g (labels (after_last by_role k is))
-  after_walked k [] r = refl
-  after_walked k (i ∷ is) r = elim (cases_Bool (has by_role k is)) [
-    | inl e ↦ rw (has_walked k is r.1 ∙ e, e) (after_walked k is r.1)
-    | inr e ↦ elim (cases_Bool (i.role == k)) [
-      | inl d ↦ rw (has_walked k is r.1 ∙ e, e, ap (λ z. z == k) (sym r.0) ∙ d, d) refl
-      | inr d ↦ rw (has_walked k is r.1 ∙ e, e, ap (λ z. z == k) (sym r.0) ∙ d, d) refl
-    ]
-  ]
-
-  up_to_labels : (k : ℕ) (is : List Item) → Roles (shape g) is → up_to_last (sender (shape g)) k (labels is) ≡ labels (up_to_last by_role k is)
-  up_to_labels k [] r = refl
-  up_to_labels k (i ∷ is) r =
-      let same : has (sender (shape g)) k (labels is) ≡ has by_role k is = go is r.1 in
-      elim (cases_Bool (has by_role k is)) [
-        | inl e ↦ rw (same ∙ e, e) (ap (λ l. i.label ∷ l) (up_to_labels k is r.1))
-        | inr e ↦ elim (cases_Bool (i.role == k)) [
-          | inl d ↦ rw (same ∙ e, e, ap (λ z. z == k) (sym r.0) ∙ d, d) refl
-          | inr d ↦ rw (same ∙ e, e, ap (λ z. z == k) (sym r.0) ∙ d, d) refl
-        ]
-      ]
-    where
-      go : (zs : List Item) → Roles (shape g) zs → has (sender (shape g)) k (labels zs) ≡ has by_role k zs
-      go [] r = refl
-      go (z ∷ zs) r = ap (λ y. (y == k) || has (sender (shape g)) k (labels zs)) (sym r.0) ∙ ap (λ b. (z.role == k) || b) (go zs r.1)
-
-  -- what the role sees of the walk
-  pub view_is : (r : ℕ) (is : List Item) → Roles (shape g) is → AllByRecursion (λ (i : Item). keys_of i.delta ≡ writes g i.label) (after_last by_role r is) → Roles (shape g) (after_last by_role r is)
-      → view_of g r (labels is) ≡ record { origin = option_map (λ (i : Item). i.label) (last (up_to_last by_role r is)); items = map seen (reduced g (after_last by_role r is)) }
-  view_is r is ro ke ra =
-      ap (λ o. record { origin = o; items = map of_wal (evidence_for (sender (shape g)) r (walked g (labels is))) }) (ap last (up_to_labels r is ro) ∙ Cut'.last-option_map (λ (i : Item). i.label) (up_to_last by_role r is))
-      ∙ ap (λ l. record { origin = option_map (λ (i : Item). i.label) (last (up_to_last by_role r is)); items = map of_wal (evidence (sender (shape g)) l) }) (after_walked r is ro)
-      ∙ ap (λ l. record { origin = option_map (λ (i : Item). i.label) (last (up_to_last by_role r is)); items = l }) (sym (shows_seen (reduced g (after_last by_role r is)) (evidence (sender (shape g)) (walked g (labels (after_last by_role r is)))) (shows_reduced (after_last by_role r is) ra ke)))
-
--- a view stands in the table that has it
-same_origin_self : (o : Option ℕ) → same_origin o o ≡ true
-same_origin_self None = refl
-same_origin_self (Some a) = eq-eqb a a refl
-
-same_items_self : (xs : List Seen) → same_items xs xs ≡ true
-same_items_self [] = refl
-same_items_self (x ∷ xs) = and_both ((x.label == x.label) && bytes_eq x.delta x.delta) (same_items xs xs) (and_both (x.label == x.label) (bytes_eq x.delta x.delta) (eq-eqb x.label x.label refl) (same_self x.delta)) (same_items_self xs)
-
-pub view_there : (table : List View) (v : View) → Contains table v → has_view table v ≡ true
-view_there [] v c = absurd (let l = c.1 in omega (arith, l))
-view_there (w ∷ ws) v (zero, l, e) = rw (subst (λ z. same_view v z ≡ true) (sym e) (and_both (same_origin v.origin v.origin) (same_items v.items v.items) (same_origin_self v.origin) (same_items_self v.items))) refl
-view_there (w ∷ ws) v (suc k, l, e) = elim (cases_Bool (same_view v w)) [ inl h ↦ rw h refl | inr h ↦ rw h (view_there ws v (k, omega (arith, l), e)) ]
-
--- ---- tags
-
-tags_keys : (xs : List Item) (ts : Map (List ℕ)) → keys_of (tags_but xs ts) ≡ filter (λ t. not (has by_role t xs)) (keys_of ts)
-tags_keys xs [] = refl
-tags_keys xs (t ∷ ts) = elim (cases_Bool (has by_role t.0 xs)) [ inl e ↦ rw e (tags_keys xs ts) | inr e ↦ rw e (ap (λ l. t.0 ∷ l) (tags_keys xs ts)) ]
-
-tag_kept : (xs : List Item) (ts : Map (List ℕ)) (r : ℕ) → has by_role r xs ≡ false → value_at (tags_but xs ts) r ≡ value_at ts r
-tag_kept xs [] r h = refl
-tag_kept xs (t ∷ ts) r h = elim (cases_Bool (t.0 == r)) [
-  | inl d ↦ (let n : has by_role t.0 xs ≡ false = subst (λ z. has by_role z xs ≡ false) (sym (eqb-true t.0 r d)) h in rw (n, d) refl)
-  | inr d ↦ elim (cases_Bool (has by_role t.0 xs)) [ inl e ↦ rw (e, d) (tag_kept xs ts r h) | inr e ↦ rw (e, d) (tag_kept xs ts r h) ]
-]
-
-tag_there : (T : ℕ → List ℕ) (ts : List ℕ) (r : ℕ) → is_in r ts ≡ true → value_at (map (λ t. (t, T t)) ts) r ≡ Some (T r)
-tag_there T [] r h = absurd (cc)
-tag_there T (t ∷ ts) r h = elim (cases_Bool (t == r)) [ inl e ↦ rw e (ap (λ z. Some (T z)) (eqb-true t r e)) | inr e ↦ rw e (tag_there T ts r (rw e at h)) ]
-
-filter_same : (q r : ℕ → Bool) → ((x : ℕ) → q x ≡ r x) → (xs : List ℕ) → filter q xs ≡ filter r xs
-filter_same q r e [] = refl
-filter_same q r e (x ∷ xs) = elim (cases_Bool (r x)) [ inl h ↦ rw (e x ∙ h, h) (ap (λ l. x ∷ l) (filter_same q r e xs)) | inr h ↦ rw (e x ∙ h, h) (filter_same q r e xs) ]
-
-lead_nil : (g : Graph) (xs : List Item) → lead g [] (reduced g xs) ≡ reduced g xs
-lead_nil g [] = refl
-lead_nil g (i ∷ xs) = elim (cases_Bool (has by_role i.role xs)) [
-  | inl e ↦ rw e (sym (lead-lead g [] i.delta (reduced g xs)) ∙ lead-in_order g i.delta (reduced g xs))
-  | inr e ↦ rw e (ap (λ m. record i { delta = m; tags = tags_but xs i.tags } ∷ reduced g xs) (in_order-in_order (length g.variables) i.delta))
-]
-
-roles_lead : (g : Graph) (d : Map (List ℕ)) (xs : List Item) → Roles (shape g) xs → Roles (shape g) (lead g d xs)
-roles_lead g d [] r = tt
-roles_lead g d (x ∷ xs) r = r
-
-pub roles_reduced : (g : Graph) (xs : List Item) → Roles (shape g) xs → Roles (shape g) (reduced g xs)
-roles_reduced g [] r = tt
-roles_reduced g (i ∷ xs) r = elim (cases_Bool (has by_role i.role xs)) [
-  | inl e ↦ rw e (roles_lead g i.delta (reduced g xs) (roles_reduced g xs r.1))
-  | inr e ↦ rw e (r.0, roles_reduced g xs r.1)
-]
-
-roles_test : (g : Graph) (xs : List Item) → Roles (shape g) xs → list_all (λ (i : Item). i.role == sender (shape g) i.label) xs ≡ true
-roles_test g [] r = refl
-roles_test g (i ∷ xs) r = rw (eq-eqb i.role (sender (shape g) i.label) r.0) (roles_test g xs r.1)
-
-less : (a b : ℕ) → a < b → nat_lt a b ≡ true
-less a b l = elim (cases_Bool (nat_lt a b)) [ inl e ↦ e | inr e ↦ absurd (let m : b ≤ a = grind (arith, nat_tests) in omega (arith, l, m)) ]
-
--- ---- times
-
-less_weak : (t u : ℕ) (xs : List Item) → t ≤ u → R.RisesFrom u (map step xs) → R.RisesFrom t (map step xs)
-less_weak t u xs l r = Times.rises_from_less t u (map step xs) l r
-
-rises_reduced : (g : Graph) (t : ℕ) (xs : List Item) → R.RisesFrom t (map step xs) → R.RisesFrom t (map step (reduced g xs))
-rises_reduced g t [] r = tt
-rises_reduced g t (i ∷ xs) r = elim (cases_Bool (has by_role i.role xs)) [
-  | inl e ↦ rw e (led (reduced g xs) (rises_reduced g t xs (less_weak t i.time xs (let l = r.0 in omega (arith, l)) r.1)))
-  | inr e ↦ rw e (r.0, rises_reduced g i.time xs r.1)
-]
-  where
-    led : (zs : List Item) → R.RisesFrom t (map step zs) → R.RisesFrom t (map step (lead g i.delta zs))
-    led [] h = tt
-    led (z ∷ zs) h = h
-
-times_good : (n t : ℕ) (xs : List Item) → R.RisesFrom t (map step xs) → bad_time n t xs ≡ None
-times_good n t [] r = refl
-times_good n t (i ∷ xs) r = rw (above i.time t r.0) (times_good (n + 1) i.time xs r.1)
-  where
-    above : (a b : ℕ) → b < a → nat_le a b ≡ false
-    above a b l = elim (cases_Bool (nat_le a b)) [ inl e ↦ absurd (let m : a ≤ b = grind (arith, nat_tests) in omega (arith, l, m)) | inr e ↦ e ]
-
--- ---- the last of a list
-
-last_of_role : (k : ℕ) (xs : List Item) → IfSome (last xs) (λ (i : Item). i.role ≡ k) → up_to_last by_role k xs ≡ xs
-last_of_role k xs h = go (cases_Option (last xs))
-  where
-    go : (last xs ≡ None) ⊎ ((i : Item) × (last xs ≡ Some i)) → up_to_last by_role k xs ≡ xs
-    go (inl e) = let n : xs ≡ [] = no_last xs e in ap (up_to_last by_role k) n ∙ sym n
-    go (inr e) =
-        let c = Cut'.split_end xs e.0 e.1 in
-        let r : (e.0).role ≡ k = subst (λ o. IfSome o (λ (i : Item). i.role ≡ k)) e.1 h in
-        ap (up_to_last by_role k) c.1 ∙ Upto'.upto-at by_role k c.0 e.0 [] r refl ∙ sym c.1
-
-none5 : {F : Type 0} (a b c d e : Option F) → a ≡ None → b ≡ None → c ≡ None → d ≡ None → e ≡ None → first_some (a ∷ b ∷ c ∷ d ∷ e ∷ []) ≡ None
-none5 a b c d e p q r s t = rw (p, q, r, s, t) refl
 
 module _ (sha : Hash) (keys : List PairKey) (sid : List ℕ) (cast : Cast) (targets : ℕ → List ℕ) (p : Program) (x : Session) (f : Frame) (done before : List Item) (item : Item) (me : Keyring)
     (is : IsGraph p.graph) (so : StepsOk sha keys sid cast targets p.graph done) (k : RelayOk sha keys sid cast targets p.graph done x) (wait : at_turn p.graph x ≡ false) (views : IsViewTable p.graph x.role p.views) (table : IsTargetTable p.graph p.targets) (same_targets : (e : ℕ) → targets_of p e ≡ targets e)

@@ -1,7 +1,8 @@
 -- What an accepted frame shows is what honest senders last did.
-use Rattle.std.specs.Prelude.{◌≡◌, ℕ, ◌+◌, ◌<◌, ◌==◌, ◌⊎◌, Bool, true, false, List, [], ◌∷◌, ◌++◌, map, filter, flat_map, length, refl, Option, Some, None, option_map}
+use Rattle.std.specs.Prelude.{◌≡◌, ℕ, ◌+◌, ◌<◌, ◌==◌, Bool, true, false, List, [], ◌∷◌, ◌++◌, map, filter, flat_map, length, refl, Option, Some, None, option_map}
 use Rattle.std.specs.List.{AllByRecursion}
 use Rattle.std.proofs.Common.{sym, ◌∙◌, ap, subst, inl, inr, append_assoc}
+use Rattle.std.proofs.lemmas.Bool.{cases_Bool}
 use Rattle.std.proofs.lemmas.List.{map-append}
 use Rattle.sg_model.specs.Last.{has, last, last_of, after_last, up_to_last}
 use Rattle.sg_model.specs.Lists.{below, all_differ}
@@ -48,10 +49,6 @@ use Rattle.sg_protocol.proofs.Moves.{step, Matches}
 use Rattle.sg_protocol.proofs.Keys.{last_of-keys, after_last-keys, last_of-map, after_last-map, all-filter, all-last_of, all-after_last, all-up_to_last, all-mid, has-mid}
 use Rattle.sg_protocol.proofs.Calls.{Status, TakesFrame, one_place}
 use Rattle.sg_protocol.proofs.Course.{Progress, progress_called, progress_moves, keep_all, Suffix, may-append, moved-append, Outs, Ok_}
-
-cases_Bool : (b : Bool) → (b ≡ true) ⊎ (b ≡ false)
-cases_Bool true = inl refl
-cases_Bool false = inr refl
 
 map_same : {A : Type 0} (f h : ℕ → A) (xs : List ℕ) → ((x : ℕ) → f x ≡ h x) → map f xs ≡ map h xs
 map_same f h [] e = refl
