@@ -1,0 +1,87 @@
+-- Where lines and words end.
+use Rattle.std.proofs.Common.{◌≡◌, ◌≢◌, ℕ, suc, ◌+◌, ◌<◌, ◌≤◌, ◌==◌, Bool, true, false, cond, nat_lt, not, List, [], ◌∷◌, length, take, drop, filter, refl, sym, ap, ◌∙◌, arith, if◌then◌else◌, get_or, subst}
+use Rattle.std.specs.List.{position_or_len, slice_split, onto_first}
+use Rattle.std.proofs.lemmas.Grind.{common_steps}
+use Rattle.std.proofs.lemmas.List.{length-take-le}
+use Rattle.std.proofs.lemmas.List.Splits.{slice_split-cons_yes, slice_split-cons_no}
+use Rattle.sg_sched.specs.Text.{lines, words}
+
+-- the place of the first mark
+abbrev pub place : ℕ → List ℕ → ℕ
+place mark bs = position_or_len (λ b. b == mark) bs
+
+-- the first line and the lines after it
+abbrev FirstLine : List ℕ → Type 0
+FirstLine bs = lines bs ≡ take (place 10 bs + 1) bs ∷ lines (drop (place 10 bs + 1) bs)
+
+first_onto : (c : ℕ) (cs : List ℕ) → (0 < length cs → FirstLine cs) → (c == 10) ≡ false → FirstLine (c ∷ cs)
+first_onto c [] ih e = grind (arith, common_steps)
+first_onto c (d ∷ ds) ih e = let more = ih (omega arith) in grind (arith, common_steps)
+
+pub lines_first : (bs : List ℕ) → 0 < length bs → FirstLine bs
+lines_first [] h = absurd (omega arith)
+lines_first (c ∷ cs) h = by (c == 10) refl (lines_first cs)
+  where
+    by : (b : Bool) → (c == 10) ≡ b → (0 < length cs → FirstLine cs) → FirstLine (c ∷ cs)
+    by true e ih = grind (arith, common_steps)
+    by false e ih = first_onto c cs ih e
+
+-- the parts after the first one
+abbrev pub parts_after : ℕ → List ℕ → List (List ℕ)
+parts_after mark [] = []
+parts_after mark (c ∷ cs) = slice_split (λ b. b == mark) cs
+
+-- the first part and the parts after it
+abbrev FirstPart : ℕ → List ℕ → Type 0
+FirstPart mark bs = slice_split (λ b. b == mark) bs ≡ take (place mark bs) bs ∷ parts_after mark (drop (place mark bs) bs)
+
+-- at a mark, and before the mark
+place_yes : (mark c : ℕ) (cs : List ℕ) → (c == mark) ≡ true → place mark (c ∷ cs) ≡ 0
+place_yes mark c cs e = grind (arith, common_steps)
+
+place_no : (mark c : ℕ) (cs : List ℕ) → (c == mark) ≡ false → place mark (c ∷ cs) ≡ suc (place mark cs)
+place_no mark c cs e = grind (arith, common_steps)
+
+part_more : (mark c : ℕ) (cs : List ℕ) (n m : ℕ) → m ≡ suc n → slice_split (λ b. b == mark) cs ≡ take n cs ∷ parts_after mark (drop n cs) →
+    onto_first c (slice_split (λ b. b == mark) cs) ≡ take m (c ∷ cs) ∷ parts_after mark (drop m (c ∷ cs))
+part_more mark c cs n m e h = rw e (ap (onto_first c) h)
+
+part_none : (mark c : ℕ) (cs : List ℕ) (m : ℕ) → m ≡ 0 → slice_split (λ b. b == mark) (c ∷ cs) ≡ [] ∷ slice_split (λ b. b == mark) cs → slice_split (λ b. b == mark) (c ∷ cs) ≡ take m (c ∷ cs) ∷ parts_after mark (drop m (c ∷ cs))
+part_none mark c cs m e h = rw e h
+
+pub parts_first : (mark : ℕ) (bs : List ℕ) → FirstPart mark bs
+parts_first mark [] = refl
+parts_first mark (c ∷ cs) = by (c == mark) refl (parts_first mark cs)
+  where
+    by : (b : Bool) → (c == mark) ≡ b → FirstPart mark cs → FirstPart mark (c ∷ cs)
+    by true e ih = part_none mark c cs _ (place_yes mark c cs e) (slice_split-cons_yes (λ b. b == mark) c cs e)
+    by false e ih = slice_split-cons_no (λ b. b == mark) c cs e ∙ part_more mark c cs _ _ (place_no mark c cs e) ih
+
+-- the parts that are not empty
+abbrev full : List (List ℕ) → List (List ℕ)
+full parts = filter (λ w. nat_lt 0 (length w)) parts
+
+-- from a space on, or at the end, the words are those behind it
+abbrev WordsAfter : List ℕ → Type 0
+WordsAfter bs = full (parts_after 32 (drop (place 32 bs) bs)) ≡ words (drop (place 32 bs) bs)
+
+words_yes : (c : ℕ) (cs : List ℕ) (m : ℕ) → m ≡ 0 → words (c ∷ cs) ≡ words cs → full (parts_after 32 (drop m (c ∷ cs))) ≡ words (drop m (c ∷ cs))
+words_yes c cs m e h = rw e (sym h)
+
+words_no : (c : ℕ) (cs : List ℕ) (n m : ℕ) → m ≡ suc n → full (parts_after 32 (drop n cs)) ≡ words (drop n cs) → full (parts_after 32 (drop m (c ∷ cs))) ≡ words (drop m (c ∷ cs))
+words_no c cs n m e h = rw e h
+
+words_after : (bs : List ℕ) → WordsAfter bs
+words_after [] = refl
+words_after (c ∷ cs) = by (c == 32) refl (words_after cs)
+  where
+    by : (b : Bool) → (c == 32) ≡ b → WordsAfter cs → WordsAfter (c ∷ cs)
+    by true e ih = words_yes c cs _ (place_yes 32 c cs e) (ap full (slice_split-cons_yes (λ b. b == 32) c cs e))
+    by false e ih = words_no c cs _ _ (place_no 32 c cs e) ih
+
+-- the first word and the words after it, where the text begins with no space
+pub words_first : (bs : List ℕ) → place 32 bs ≢ 0 → place 32 bs ≤ length bs → words bs ≡ take (place 32 bs) bs ∷ words (drop (place 32 bs) bs)
+words_first bs h in_range = ap full (parts_first 32 bs) ∙ kept ∙ ap (λ ws. take (place 32 bs) bs ∷ ws) (words_after bs)
+  where
+    kept : full (take (place 32 bs) bs ∷ parts_after 32 (drop (place 32 bs) bs)) ≡ take (place 32 bs) bs ∷ full (parts_after 32 (drop (place 32 bs) bs))
+    kept = let l : length (take (place 32 bs) bs) ≡ place 32 bs = length-take-le (place 32 bs) bs in_range in grind (arith, common_steps)

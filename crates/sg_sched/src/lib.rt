@@ -1,0 +1,4 @@
+//! The reader of schedules.
+#![tactic(auto)]
+
+mod text;

@@ -1,0 +1,105 @@
+//! The lines of a text, and the words of a line.
+ghost use Rattle.std.specs.Prelude.{◌≡◌, ◌<◌, ◌≤◌, ◌==◌, ◌≢◌, [], ◌∷◌, length, take, drop, MatchOption};
+ghost use Rattle.std.specs.List.{position_or_len};
+ghost use Rattle.sg_sched.specs.Text.{lines, content};
+
+use std::marker::Model;
+
+/// The place of the first byte `mark`, or the length where there is none.
+pub(crate) fn place_of(mark: u8, bytes: &[u8]) -> usize
+    ensures first { result ≡ position_or_len (λ b. b == mark) bytes.now }
+    ensures within { result ≤ length bytes.now }
+{
+    'bytes: for at in 0..bytes.len() {
+        if bytes[at] == mark {
+            return at;
+        }
+    }
+    bytes.len()
+}
+
+/// The first line with its line end, and what follows it.
+pub(crate) fn split_line(bytes: &[u8]) -> (&[u8], &[u8])
+    requires { 0 < length bytes.now }
+    ensures split { lines bytes.now ≡ result.0.now ∷ lines result.1.now }
+    ensures shorter { length result.1.now < length bytes.now }
+{
+    let at = place_of(b'\n', bytes);
+    bytes.split_at((at + 1).min(bytes.len()))
+}
+
+/// What stands on a line, without its line end and a carriage return before that.
+pub(crate) fn line_content(line: &[u8]) -> &[u8]
+    ensures { result.now ≡ content line.now }
+{
+    match line {
+        [front @ .., b'\r', b'\n'] => front,
+        [front @ .., b'\n'] => front,
+        _ => line,
+    }
+}
+
+/// The words of a line that are left: the parts between spaces that aren't empty. A clause sees them as their list.
+pub(crate) struct Words<'a> {
+    rest: &'a [u8],
+}
+
+impl<'a> Model for Words<'a> {
+    ghost use Rattle.std.specs.Prelude.{ℕ, List};
+    ghost use Rattle.sg_sched.specs.Text.{words};
+
+    ghost Value = { List (List ℕ) };
+
+    ghost view = { λ w. words w.rest.now };
+}
+
+impl<'a> Words<'a> {
+    ghost use Rattle.sg_sched.specs.Text.{words};
+
+    /// The words of a text.
+    pub fn new(text: &'a [u8]) -> Words<'a>
+        ensures { result ≡ words text.now }
+    {
+        Words { rest: text }
+    }
+
+    /// The next word, which is taken off.
+    pub fn next(&mut self) -> Option<&'a [u8]>
+        ensures { MatchOption result ((self.old ≡ []) × (self.new ≡ [])) (λ w. self.old ≡ w.now ∷ self.new) }
+    {
+        match split_word(self.rest) {
+            Some((word, rest)) => {
+                self.rest = rest;
+                Some(word)
+            }
+            None => None,
+        }
+    }
+}
+
+ghost use Rattle.sg_sched.specs.Text.{words};
+
+/// The first word and what follows it.
+fn split_word(text: &[u8]) -> Option<(&[u8], &[u8])>
+    ensures { MatchOption result (words text.now ≡ []) (λ p. words text.now ≡ p.0.now ∷ words p.1.now) }
+{
+    let text = without_spaces(text);
+    if text.is_empty() {
+        return None;
+    }
+    let at = place_of(b' ', text);
+    Some(text.split_at(at))
+}
+
+/// The text from its first byte that is no space.
+fn without_spaces(text: &[u8]) -> &[u8]
+    ensures same { words result.now ≡ words text.now }
+    ensures begins { 0 < length result.now → position_or_len (λ b. b == 32) result.now ≢ 0 }
+{
+    'bytes: for at in 0..text.len() {
+        if text[at] != b' ' {
+            return &text[at..];
+        }
+    }
+    &text[text.len()..]
+}
