@@ -1,3 +1,4 @@
 pub mod TextLaws
 pub mod WordLaws
 pub mod SameName
+pub mod NamesLaws

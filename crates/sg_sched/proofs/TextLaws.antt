@@ -1,8 +1,8 @@
 -- Where lines and words end.
-use Rattle.std.proofs.Common.{◌≡◌, ◌≢◌, ℕ, suc, ◌+◌, ◌<◌, ◌≤◌, ◌==◌, Bool, true, false, cond, nat_lt, not, List, [], ◌∷◌, length, take, drop, filter, refl, sym, ap, ◌∙◌, arith, if◌then◌else◌, get_or, subst}
+use Rattle.std.proofs.Common.{◌≡◌, ◌≢◌, ℕ, suc, ◌+◌, ◌-◌, ◌<◌, ◌≤◌, ◌==◌, Bool, true, false, cond, nat_lt, not, List, [], ◌∷◌, length, take, drop, filter, refl, sym, ap, ◌∙◌, arith, if◌then◌else◌, get_or, subst}
 use Rattle.std.specs.List.{position_or_len, slice_split, onto_first}
 use Rattle.std.proofs.lemmas.Grind.{common_steps}
-use Rattle.std.proofs.lemmas.List.{length-take-le}
+use Rattle.std.proofs.lemmas.List.{length-take-le, take_all}
 use Rattle.std.proofs.lemmas.List.Splits.{slice_split-cons_yes, slice_split-cons_no}
 use Rattle.sg_sched.specs.Text.{lines, words}
 
@@ -56,6 +56,11 @@ parts_first mark (c ∷ cs) = by (c == mark) refl (parts_first mark cs)
     by : (b : Bool) → (c == mark) ≡ b → FirstPart mark cs → FirstPart mark (c ∷ cs)
     by true e ih = part_none mark c cs _ (place_yes mark c cs e) (slice_split-cons_yes (λ b. b == mark) c cs e)
     by false e ih = slice_split-cons_no (λ b. b == mark) c cs e ∙ part_more mark c cs _ _ (place_no mark c cs e) ih
+
+-- behind a mark, as a part of what begins with it
+pub parts_behind : (mark : ℕ) (bs : List ℕ) → 1 ≤ length bs → parts_after mark bs ≡ slice_split (λ b. b == mark) (take (length bs - 1) (drop 1 bs))
+parts_behind mark [] h = absurd (omega arith)
+parts_behind mark (c ∷ cs) h = ap (slice_split (λ b. b == mark)) (sym (take_all (length (c ∷ cs) - 1) cs (omega arith)))
 
 -- the parts that are not empty
 abbrev full : List (List ℕ) → List (List ℕ)

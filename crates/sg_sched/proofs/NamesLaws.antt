@@ -1,0 +1,88 @@
+-- Lists of different names, read name by name.
+use Rattle.std.proofs.Common.{◌≡◌, ℕ, ◌+◌, ◌==◌, Bool, true, false, not, ◌&&◌, ◌||◌, List, [], ◌∷◌, ◌++◌, bytes_eq, Option, Some, None, refl, sym, ap, ◌∙◌, arith, if◌then◌else◌, subst, true≢false}
+use Rattle.std.specs.List.{list_all, list_any, slice_split}
+use Rattle.std.proofs.lemmas.Grind.{common_steps}
+use Rattle.std.proofs.lemmas.List.{append_assoc, append-nil}
+use Rattle.std.proofs.lemmas.Slice.Eq.{bytes_eq-Decides}
+use Rattle.std.proofs.lemmas.Bool.Decides.{same_from_decides}
+use Rattle.sg_model.specs.Names.{is_name}
+use Rattle.sg_model.specs.Lists.{has_text, all_differ}
+
+-- a text of the list after it
+pub has_text-middle : (t : List ℕ) (front rest : List (List ℕ)) → has_text t (front ++ t ∷ rest) ≡ true
+has_text-middle t [] rest = ap (λ b. b || has_text t rest) ((bytes_eq-Decides t t).1 refl)
+has_text-middle t (f ∷ fs) rest = let ih = has_text-middle t fs rest in by (bytes_eq t f) refl ih
+  where
+    by : (b : Bool) → bytes_eq t f ≡ b → has_text t (fs ++ t ∷ rest) ≡ true → has_text t (f ∷ (fs ++ t ∷ rest)) ≡ true
+    by true e ih = ap (λ b. b || has_text t (fs ++ t ∷ rest)) e
+    by false e ih = ap (λ b. b || has_text t (fs ++ t ∷ rest)) e ∙ ih
+
+-- a text that stands before
+pub differ_twice : (t : List ℕ) (front rest : List (List ℕ)) → has_text t front ≡ true → all_differ (front ++ t ∷ rest) ≡ false
+differ_twice t [] rest h = absurd (cc)
+differ_twice t (f ∷ fs) rest h = by (bytes_eq t f) refl (differ_twice t fs rest)
+  where
+    by : (b : Bool) → bytes_eq t f ≡ b → (has_text t fs ≡ true → all_differ (fs ++ t ∷ rest) ≡ false) → all_differ (f ∷ (fs ++ t ∷ rest)) ≡ false
+    by true e ih =
+        let same : t ≡ f = (bytes_eq-Decides t f).0 e in
+        let there : has_text f (fs ++ t ∷ rest) ≡ true = subst (λ x. has_text x (fs ++ t ∷ rest) ≡ true) same (has_text-middle t fs rest) in
+        ap (λ b. not b && all_differ (fs ++ t ∷ rest)) there
+    by false e ih =
+        let later : has_text t fs ≡ true = sym (ap (λ b. b || has_text t fs) e) ∙ h in
+        grind (arith, common_steps, ih later)
+
+-- which text comes first does not matter
+bytes_eq-sym : (a b : List ℕ) → bytes_eq a b ≡ bytes_eq b a
+bytes_eq-sym a b =
+    let d = bytes_eq-Decides a b in
+    same_from_decides (bytes_eq a b) (bytes_eq b a) (λ h. sym (d.0 h), λ e. d.1 (sym e)) (bytes_eq-Decides b a)
+
+-- a text that does not stand before
+pub differ_push : (t : List ℕ) (front : List (List ℕ)) → has_text t front ≡ false → all_differ front ≡ true → all_differ (front ++ t ∷ []) ≡ true
+differ_push t [] h d = refl
+differ_push t (f ∷ fs) h d = step (bytes_eq t f) (has_text t fs) (has_text f fs) (all_differ fs) refl refl refl refl h d (differ_push t fs)
+  where
+    any_push : (p : List ℕ → Bool) (xs : List (List ℕ)) → list_any p xs ≡ false → p t ≡ false → list_any p (xs ++ t ∷ []) ≡ false
+    any_push p xs a b = grind (arith, common_steps)
+    step : (s u v w : Bool) → bytes_eq t f ≡ s → has_text t fs ≡ u → has_text f fs ≡ v → all_differ fs ≡ w → s || u ≡ false → not v && w ≡ true →
+        (has_text t fs ≡ false → all_differ fs ≡ true → all_differ (fs ++ t ∷ []) ≡ true) → not (has_text f (fs ++ t ∷ [])) && all_differ (fs ++ t ∷ []) ≡ true
+    step false false false true es eu ev ew h d ih =
+        let apart : bytes_eq f t ≡ false = bytes_eq-sym f t ∙ es in
+        let other : has_text f (fs ++ t ∷ []) ≡ false = any_push (bytes_eq f) fs ev apart in
+        let rest = ih eu ew in
+        (λ i. not (other i) && rest i)
+    step true u v w es eu ev ew h d ih = absurd (true≢false h)
+    step false true v w es eu ev ew h d ih = absurd (true≢false h)
+    step false false true w es eu ev ew h d ih = absurd (true≢false (sym d))
+    step false false false false es eu ev ew h d ih = absurd (true≢false (sym d))
+
+-- the names so far, and those that parts spell
+abbrev pub names_with : List (List ℕ) → List (List ℕ) → Option (List (List ℕ))
+names_with front parts = if list_all is_name parts && all_differ (front ++ parts) then Some (front ++ parts) else None
+
+pub names_bad : (front : List (List ℕ)) (t : List ℕ) (parts : List (List ℕ)) → is_name t ≡ false → names_with front (t ∷ parts) ≡ None
+names_bad front t parts h = ap (λ b. if b && list_all is_name parts && all_differ (front ++ t ∷ parts) then Some (front ++ t ∷ parts) else None) h
+
+pub names_twice : (front : List (List ℕ)) (t : List ℕ) (parts : List (List ℕ)) → has_text t front ≡ true → names_with front (t ∷ parts) ≡ None
+names_twice front t parts h = by (list_all is_name (t ∷ parts)) (all_differ (front ++ t ∷ parts)) (differ_twice t front parts h)
+  where
+    by : (a d : Bool) → d ≡ false → (if a && d then Some (front ++ t ∷ parts) else None) ≡ None
+    by true d e = ap (λ b. if b then Some (front ++ t ∷ parts) else None) e
+    by false d e = refl
+
+pub names_more : (front : List (List ℕ)) (t : List ℕ) (parts : List (List ℕ)) → is_name t ≡ true → names_with front (t ∷ parts) ≡ names_with (front ++ t ∷ []) parts
+names_more front t parts h =
+    ap (λ b. if b && list_all is_name parts && all_differ (front ++ t ∷ parts) then Some (front ++ t ∷ parts) else None) h
+    ∙ ap (λ l. if list_all is_name parts && all_differ l then Some l else None) (sym (append_assoc front (t ∷ []) parts))
+
+pub names_end : (front : List (List ℕ)) → all_differ front ≡ true → names_with front [] ≡ Some front
+names_end front h = ap (λ l. if all_differ l then Some l else None) (append-nil front) ∙ ap (λ b. if b then Some front else None) h
+
+-- the same, where a name was read from the first part
+pub read_twice : (all : Option (List (List ℕ))) (front parts rest : List (List ℕ)) (t name : List ℕ) → all ≡ names_with front parts → parts ≡ t ∷ rest → name ≡ t → has_text name front ≡ true → None ≡ all
+read_twice all front parts rest t name a p n h =
+    sym (a ∙ ap (names_with front) p ∙ names_twice front t rest (subst (λ x. has_text x front ≡ true) n h))
+
+pub read_more : (all : Option (List (List ℕ))) (front parts rest : List (List ℕ)) (t name : List ℕ) → all ≡ names_with front parts → parts ≡ t ∷ rest → name ≡ t → is_name t ≡ true → all ≡ names_with (front ++ name ∷ []) rest
+read_more all front parts rest t name a p n h =
+    a ∙ ap (names_with front) p ∙ names_more front t rest h ∙ ap (λ x. names_with (front ++ x ∷ []) rest) (sym n)
