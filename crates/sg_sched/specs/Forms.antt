@@ -1,5 +1,5 @@
 -- What a line says, word by word.
-use Rattle.std.specs.Prelude.{ℕ, ◌%◌, ◌==◌, not, ◌&&◌, if◌then◌else◌, List, [], ◌∷◌, codes, bytes_eq, Option, Some, None, option_map, option_and_then}
+use Rattle.std.specs.Prelude.{ℕ, ◌%◌, ◌==◌, not, ◌&&◌, if◌then◌else◌, List, [], ◌∷◌, length, codes, bytes_eq, Option, Some, None, option_map, option_and_then}
 use Rattle.sg_model.specs.Names.{Name, reserved}
 use Rattle.sg_model.specs.Lists.{has_text}
 use Rattle.sg_protocol.specs.Run.{PairKey}
@@ -33,9 +33,8 @@ abbrev pub after : {A B : Type 0} → Taker A → (A → Left → Option B) → 
 after {A} take next ws = option_and_then (λ (p : A × Left). next p.0 p.1) (take ws)
 
 -- no word is left
-unfoldable pub ended : {A : Type 0} → Option A → Left → Option A
-ended said [] = said
-ended said (w ∷ ws) = None
+abbrev pub ended : {A : Type 0} → Option A → Left → Option A
+ended said ws = if length ws == 0 then said else None
 
 -- the version of a session's frames: 1, or 2 where the word v2 stands
 unfoldable pub version : Taker ℕ

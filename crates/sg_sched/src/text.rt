@@ -1,7 +1,7 @@
 //! The lines of a text, and the words of a line.
 ghost use Rattle.std.specs.Prelude.{◌≡◌, ◌<◌, ◌≤◌, ◌==◌, ◌≢◌, [], ◌∷◌, length, take, drop, MatchOption};
 ghost use Rattle.std.specs.List.{position_or_len};
-ghost use Rattle.sg_sched.specs.Text.{lines, content};
+ghost use Rattle.sg_sched.specs.Text.{lines, content, words};
 
 use std::marker::Model;
 
@@ -40,6 +40,7 @@ pub(crate) fn line_content(line: &[u8]) -> &[u8]
 }
 
 /// The words of a line that are left: the parts between spaces that aren't empty. A clause sees them as their list.
+#[derive(Drop)]
 pub(crate) struct Words<'a> {
     rest: &'a [u8],
 }
@@ -54,8 +55,6 @@ impl<'a> Model for Words<'a> {
 }
 
 impl<'a> Words<'a> {
-    ghost use Rattle.sg_sched.specs.Text.{words};
-
     /// The words of a text.
     pub fn new(text: &'a [u8]) -> Words<'a>
         ensures { result ≡ words text.now }
@@ -75,9 +74,17 @@ impl<'a> Words<'a> {
             None => None,
         }
     }
-}
 
-ghost use Rattle.sg_sched.specs.Text.{words};
+    /// Whether no word is left.
+    pub fn is_empty(&self) -> bool
+        ensures { result ≡ (length self.now == 0) }
+    {
+        match split_word(self.rest) {
+            Some(_) => false,
+            None => true,
+        }
+    }
+}
 
 /// The first word and what follows it.
 fn split_word(text: &[u8]) -> Option<(&[u8], &[u8])>

@@ -1,0 +1,19 @@
+-- What the program holds, as the values of the definitions.
+use Rattle.std.specs.Prelude.{Option, option_map}
+use Rattle.sg_sched.specs.declared.line.Line.{Line}
+use Rattle.sg_sched.specs.declared.line.Line.TheVariants.{Edge, Honest, Key, Session, Start, Act, Deliver}
+use Rattle.sg_sched.specs.Forms.{Said, SaidEdge, SaidHonest, SaidKey, SaidSession, SaidStart, SaidAct, SaidDeliver, Left}
+
+-- what a line that is held says
+abbrev pub said : Line → Said
+said (Edge label from to) = SaidEdge label from to
+said (Honest who) = SaidHonest who
+said (Key key) = SaidKey key
+said (Session name graph nonce names version) = SaidSession name graph nonce names version
+said (Start who session) = SaidStart who session
+said (Act who session label) = SaidAct who session label
+said (Deliver who frame) = SaidDeliver who frame
+
+-- what was taken, and the words that are left
+abbrev pub taken : {A : Type 0} → Option A → Left → Option (A × Left)
+taken o ws = option_map (λ x. (x, ws)) o
