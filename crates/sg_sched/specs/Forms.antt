@@ -2,7 +2,7 @@
 use Rattle.std.specs.Prelude.{ℕ, ◌%◌, ◌==◌, not, ◌&&◌, if◌then◌else◌, List, [], ◌∷◌, length, codes, bytes_eq, Option, Some, None, option_map, option_and_then}
 use Rattle.sg_model.specs.Names.{Name, reserved}
 use Rattle.sg_model.specs.Lists.{has_text}
-use Rattle.sg_protocol.specs.Run.{PairKey}
+use Rattle.sg_protocol.specs.Schedule.{PairKey}
 use Rattle.sg_sched.specs.Words.{name, number, names, key, frame}
 
 -- what a line says: a declaration, or a step with the names that it uses

@@ -2,3 +2,6 @@ pub mod Text
 pub mod Words
 pub mod Forms
 pub mod Held
+pub mod Pair
+pub mod SoFar
+pub mod Spelled

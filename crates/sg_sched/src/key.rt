@@ -11,7 +11,7 @@ pub struct PairKey {
 }
 
 impl Model for PairKey {
-    ghost use Rattle.sg_protocol.specs.Run.{PairKey};
+    ghost use Rattle.sg_protocol.specs.Schedule.{PairKey};
 
     ghost Value = { PairKey };
 

@@ -1,8 +1,13 @@
 //! The reader of schedules.
 #![tactic(auto)]
 
+mod fault;
 mod key;
+mod keys;
 mod line;
 mod name_set;
 mod text;
 mod word;
+
+pub use fault::{Kind, LineFault};
+pub use key::PairKey;
