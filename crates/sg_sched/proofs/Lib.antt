@@ -3,3 +3,5 @@ pub mod WordLaws
 pub mod SameName
 pub mod NamesLaws
 pub mod SameBoth
+pub mod NodeNames
+pub mod PairLaws

@@ -1,10 +1,12 @@
 -- Lists of different names, read name by name.
-use Rattle.std.proofs.Common.{◌≡◌, ℕ, ◌+◌, ◌==◌, Bool, true, false, not, ◌&&◌, ◌||◌, List, [], ◌∷◌, ◌++◌, bytes_eq, Option, Some, None, refl, sym, ap, ◌∙◌, arith, if◌then◌else◌, subst, true≢false}
-use Rattle.std.specs.List.{list_all, list_any, slice_split}
+use Rattle.std.proofs.Common.{◌≡◌, ℕ, ◌+◌, ◌==◌, Bool, true, false, not, ◌&&◌, ◌||◌, List, [], ◌∷◌, ◌++◌, length, get_or, position, zero, suc, ◌<◌, nat_lt, bytes_eq, Option, Some, None, refl, sym, ap, ◌∙◌, arith, if◌then◌else◌, subst, true≢false}
+use Rattle.std.specs.List.{list_all, list_any, slice_split, position_or_len}
 use Rattle.std.proofs.lemmas.Grind.{common_steps}
+use Rattle.std.proofs.lemmas.List.Folds.{list_any_at}
 use Rattle.std.proofs.lemmas.List.{append_assoc, append-nil}
 use Rattle.std.proofs.lemmas.Slice.Eq.{bytes_eq-Decides}
-use Rattle.std.proofs.lemmas.Bool.Decides.{same_from_decides}
+use Rattle.std.proofs.lemmas.Bool.Decides.{same_from_decides, nat_tests}
+use Rattle.std.proofs.lemmas.List.Sums.{passes_at_first}
 use Rattle.sg_model.specs.Names.{is_name}
 use Rattle.sg_model.specs.Lists.{has_text, all_differ}
 
@@ -86,3 +88,36 @@ read_twice all front parts rest t name a p n h =
 pub read_more : (all : Option (List (List ℕ))) (front parts rest : List (List ℕ)) (t name : List ℕ) → all ≡ names_with front parts → parts ≡ t ∷ rest → name ≡ t → is_name t ≡ true → all ≡ names_with (front ++ name ∷ []) rest
 read_more all front parts rest t name a p n h =
     a ∙ ap (names_with front) p ∙ names_more front t rest h ∙ ap (λ x. names_with (front ++ x ∷ []) rest) (sym n)
+
+-- in a list of different names each stands at its place
+place_in : (names : List (List ℕ)) (i : ℕ) → all_differ names ≡ true → i < length names → position_or_len (bytes_eq (get_or names i [])) names ≡ i
+place_in [] i d h = absurd (omega arith)
+place_in (n ∷ ns) zero d h = let e : bytes_eq n n ≡ true = (bytes_eq-Decides n n).1 refl in grind (arith, common_steps)
+place_in (n ∷ ns) (suc i) d h = step (has_text n ns) (bytes_eq (get_or ns i []) n) refl refl d (λ k. place_in ns i k (omega arith))
+  where
+    step : (u v : Bool) → has_text n ns ≡ u → bytes_eq (get_or ns i []) n ≡ v → all_differ (n ∷ ns) ≡ true → (all_differ ns ≡ true → position_or_len (bytes_eq (get_or ns i [])) ns ≡ i) →
+        position_or_len (bytes_eq (get_or ns i [])) (n ∷ ns) ≡ suc i
+    step true v eu ev d ih = absurd (true≢false (sym (ap (λ b. not b && all_differ ns) (sym eu) ∙ d)))
+    step false true eu ev d ih =
+        let same : bytes_eq n (get_or ns i []) ≡ true = bytes_eq-sym n (get_or ns i []) ∙ ev in
+        absurd (true≢false (sym (list_any_at (bytes_eq n) ns i [] (omega arith) same) ∙ eu))
+    step false false eu ev d ih =
+        let rest = ih (ap (λ b. not b && all_differ ns) (sym eu) ∙ d) in
+        grind (arith, common_steps)
+
+-- so the place of a name that stands at i is i
+pub position_in : (names : List (List ℕ)) (i : ℕ) (name : List ℕ) → all_differ names ≡ true → i < length names → get_or names i [] ≡ name → position (bytes_eq name) names ≡ Some i
+position_in names i name d h e =
+    let p : position_or_len (bytes_eq name) names ≡ i = subst (λ x. position_or_len (bytes_eq x) names ≡ i) e (place_in names i d h) in
+    grind (arith, common_steps)
+
+-- a name that is not there has no place
+pub position_out : (names : List (List ℕ)) (name : List ℕ) → has_text name names ≡ false → position (bytes_eq name) names ≡ None
+position_out names name h = by (nat_lt (position_or_len (bytes_eq name) names) (length names)) refl
+  where
+    by : (b : Bool) → nat_lt (position_or_len (bytes_eq name) names) (length names) ≡ b → position (bytes_eq name) names ≡ None
+    by true e =
+        let inside : position_or_len (bytes_eq name) names < length names = grind (arith, nat_tests) in
+        let there = passes_at_first (bytes_eq name) names [] inside in
+        absurd (true≢false (sym (list_any_at (bytes_eq name) names _ [] inside there) ∙ h))
+    by false e = ap (λ b. if b then Some (position_or_len (bytes_eq name) names) else None) e

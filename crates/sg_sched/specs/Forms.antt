@@ -1,7 +1,6 @@
 -- What a line says, word by word.
-use Rattle.std.specs.Prelude.{ℕ, ◌%◌, ◌==◌, not, ◌&&◌, if◌then◌else◌, List, [], ◌∷◌, length, codes, bytes_eq, Option, Some, None, option_map, option_and_then}
-use Rattle.sg_model.specs.Names.{Name, reserved}
-use Rattle.sg_model.specs.Lists.{has_text}
+use Rattle.std.specs.Prelude.{ℕ, ◌%◌, ◌==◌, if◌then◌else◌, List, [], ◌∷◌, length, codes, bytes_eq, Option, Some, None, option_map, option_and_then}
+use Rattle.sg_model.specs.Names.{Name}
 use Rattle.sg_protocol.specs.Schedule.{PairKey}
 use Rattle.sg_sched.specs.Words.{name, number, names, key, frame}
 
@@ -41,9 +40,9 @@ unfoldable pub version : Taker ℕ
 version [] = Some (1, [])
 version (w ∷ ws) = if bytes_eq w (codes "v2") then Some (2, ws) else None
 
--- a label that is not reserved, and an edge from an even node to an odd one or back
+-- an edge from an even node to an odd one, or back
 abbrev pub edge_of : Name → ℕ → ℕ → Option Said
-edge_of label from to = if not (has_text label reserved) && not (from % 2 == to % 2) then Some (SaidEdge label from to) else None
+edge_of label from to = if from % 2 == to % 2 then None else Some (SaidEdge label from to)
 
 -- a key of two different principals
 abbrev pub key_of : Name → Name → List ℕ → Option Said

@@ -1,5 +1,6 @@
 -- What the program holds, as the values of the definitions.
-use Rattle.std.specs.Prelude.{Option, option_map}
+use Rattle.std.specs.Prelude.{Option, option_map, ⊤}
+use Rattle.sg_protocol.specs.TextLaws.{IsVersion}
 use Rattle.sg_sched.specs.declared.line.Line.{Line}
 use Rattle.sg_sched.specs.declared.line.Line.TheVariants.{Edge, Honest, Key, Session, Start, Act, Deliver}
 use Rattle.sg_sched.specs.Forms.{Said, SaidEdge, SaidHonest, SaidKey, SaidSession, SaidStart, SaidAct, SaidDeliver, Left}
@@ -17,3 +18,8 @@ said (Deliver who frame) = SaidDeliver who frame
 -- what was taken, and the words that are left
 abbrev pub taken : {A : Type 0} → Option A → Left → Option (A × Left)
 taken o ws = option_map (λ x. (x, ws)) o
+
+-- a session has version 1 or 2
+abbrev pub Fits : Line → Type 0
+Fits (Session name graph nonce names version) = IsVersion version
+Fits other = ⊤

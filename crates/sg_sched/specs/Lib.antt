@@ -5,3 +5,4 @@ pub mod Held
 pub mod Pair
 pub mod SoFar
 pub mod Spelled
+pub mod Edges

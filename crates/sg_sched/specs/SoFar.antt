@@ -2,7 +2,7 @@
 use Rattle.std.specs.Prelude.{ℕ, ◌==◌, nat_lt, nat_le, Bool, not, ◌&&◌, ◌||◌, if◌then◌else◌, List, [], ◌∷◌, ◌++◌, length, map, position, find, slice_index, bytes_eq, Option, Some, option_map, option_and_then, Result, Ok, Err}
 use Rattle.std.specs.List.{list_any, list_all}
 use Rattle.std.specs.Option.{option_map_or}
-use Rattle.sg_model.specs.Names.{Name}
+use Rattle.sg_model.specs.Names.{Name, reserved}
 use Rattle.sg_model.specs.Lists.{has_text}
 use Rattle.sg_protocol.specs.Graph.{Graph, Edge}
 use Rattle.sg_protocol.specs.Frame.{Cast}
@@ -44,10 +44,10 @@ in_group g d added = if nat_lt g d.group then Err Form else added
 abbrev pub labels : List Edge → List Name
 labels edges = map (λ e. e.name) edges
 
--- at most 512 edges, with different labels
+-- at most 512 edges, with different labels that are not reserved
 unfoldable pub add_edge : SoFar → Name → ℕ → ℕ → Added
 add_edge d label from to =
-    if nat_le 512 (length d.edges) then Err Form
+    if has_text label reserved || nat_le 512 (length d.edges) then Err Form
     else if has_text label (labels d.edges) then Err Twice
     else Ok (record d { edges = d.edges ++ edge label from to ∷ [] })
 

@@ -6,6 +6,8 @@ mod key;
 mod keys;
 mod line;
 mod name_set;
+mod node_name;
+mod pair;
 mod text;
 mod word;
 

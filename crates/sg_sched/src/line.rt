@@ -2,7 +2,8 @@
 ghost use Rattle.std.specs.Prelude.{◌≡◌, ◌≤◌, length, IfOk, IfSome, option_map};
 ghost use Rattle.sg_sched.specs.Words.{name, number, names, key, frame};
 ghost use Rattle.sg_sched.specs.Forms.{word, version, edge_form, honest_form, key_form, session_form, start_form, act_form, deliver_form, form};
-ghost use Rattle.sg_sched.specs.Held.{said, taken};
+ghost use Rattle.sg_sched.specs.Held.{said, taken, Fits};
+ghost use Rattle.sg_protocol.specs.TextLaws.{IsVersion};
 
 use crate::key::PairKey;
 use crate::name_set::{NameSet, read_names};
@@ -85,7 +86,8 @@ fn take_names(alloc: Global, words: &mut Words) -> Result<Option<NameSet>, OutOf
 /// The version of a session's frames: 1, or 2 where the word `v2` stands.
 #[tactic(auto, unfolding(crate::specs::Forms::version))]
 fn take_version(words: &mut Words) -> Option<u8>
-    ensures { version words.old ≡ taken result words.new }
+    ensures taken { version words.old ≡ taken result words.new }
+    ensures version { IfSome result IsVersion }
 {
     match words.next() {
         None => Some(1),
@@ -97,7 +99,8 @@ fn take_version(words: &mut Words) -> Option<u8>
 /// `edge LABEL FROM TO`, after its first word.
 #[tactic(auto, unfolding(crate::specs::Forms::edge_form))]
 fn edge(words: &mut Words) -> Option<Line>
-    ensures { option_map said result ≡ edge_form words.old }
+    ensures said { option_map said result ≡ edge_form words.old }
+    ensures fits { IfSome result Fits }
 {
     let label = take_name(words)?;
     let from = take_number(words, 255)?;
@@ -105,7 +108,7 @@ fn edge(words: &mut Words) -> Option<Line>
     if !words.is_empty() {
         return None;
     }
-    if label.reserved() || from % 2 == to % 2 {
+    if from % 2 == to % 2 {
         return None;
     }
     Some(Line::Edge {
@@ -118,7 +121,8 @@ fn edge(words: &mut Words) -> Option<Line>
 /// `honest NAME`, after its first word.
 #[tactic(auto, unfolding(crate::specs::Forms::honest_form))]
 fn honest(words: &mut Words) -> Option<Line>
-    ensures { option_map said result ≡ honest_form words.old }
+    ensures said { option_map said result ≡ honest_form words.old }
+    ensures fits { IfSome result Fits }
 {
     let who = take_name(words)?;
     if !words.is_empty() {
@@ -130,7 +134,8 @@ fn honest(words: &mut Words) -> Option<Line>
 /// `key NAME NAME HEX`, after its first word.
 #[tactic(auto, unfolding(crate::specs::Forms::key_form))]
 fn key(words: &mut Words) -> Option<Line>
-    ensures { option_map said result ≡ key_form words.old }
+    ensures said { option_map said result ≡ key_form words.old }
+    ensures fits { IfSome result Fits }
 {
     let one = take_name(words)?;
     let two = take_name(words)?;
@@ -147,7 +152,8 @@ fn key(words: &mut Words) -> Option<Line>
 /// `session NAME GRAPH NONCE NAME,NAME,..` and maybe `v2`, after its first word.
 #[tactic(auto, unfolding(crate::specs::Forms::session_form))]
 fn session(alloc: Global, words: &mut Words) -> Result<Option<Line>, OutOfMemory>
-    ensures { IfOk result (λ line. option_map said line ≡ session_form words.old) }
+    ensures said { IfOk result (λ line. option_map said line ≡ session_form words.old) }
+    ensures fits { IfOk result (λ line. IfSome line Fits) }
 {
     let Some(name) = take_name(words) else {
         return Ok(None);
@@ -179,7 +185,8 @@ fn session(alloc: Global, words: &mut Words) -> Result<Option<Line>, OutOfMemory
 /// `start NAME SESSION`, after its first word.
 #[tactic(auto, unfolding(crate::specs::Forms::start_form))]
 fn start(words: &mut Words) -> Option<Line>
-    ensures { option_map said result ≡ start_form words.old }
+    ensures said { option_map said result ≡ start_form words.old }
+    ensures fits { IfSome result Fits }
 {
     let who = take_name(words)?;
     let session = take_name(words)?;
@@ -192,7 +199,8 @@ fn start(words: &mut Words) -> Option<Line>
 /// `act NAME SESSION LABEL`, after its first word.
 #[tactic(auto, unfolding(crate::specs::Forms::act_form))]
 fn act(words: &mut Words) -> Option<Line>
-    ensures { option_map said result ≡ act_form words.old }
+    ensures said { option_map said result ≡ act_form words.old }
+    ensures fits { IfSome result Fits }
 {
     let who = take_name(words)?;
     let session = take_name(words)?;
@@ -210,7 +218,8 @@ fn act(words: &mut Words) -> Option<Line>
 /// `deliver NAME fN`, after its first word.
 #[tactic(auto, unfolding(crate::specs::Forms::deliver_form))]
 fn deliver(words: &mut Words) -> Option<Line>
-    ensures { option_map said result ≡ deliver_form words.old }
+    ensures said { option_map said result ≡ deliver_form words.old }
+    ensures fits { IfSome result Fits }
 {
     let who = take_name(words)?;
     let frame = take_frame(words)?;
@@ -223,7 +232,8 @@ fn deliver(words: &mut Words) -> Option<Line>
 /// What a line with these words says, or `None` where it is in no form.
 #[tactic(auto, unfolding(crate::specs::Forms::form))]
 pub(crate) fn read_line(alloc: Global, mut words: Words) -> Result<Option<Line>, OutOfMemory>
-    ensures { IfOk result (λ line. option_map said line ≡ form words.entry) }
+    ensures said { IfOk result (λ line. option_map said line ≡ form words.entry) }
+    ensures fits { IfOk result (λ line. IfSome line Fits) }
 {
     let Some(first) = words.next() else {
         return Ok(None);

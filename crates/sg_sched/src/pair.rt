@@ -1,0 +1,166 @@
+//! The graph `pair` that the edge lines make, edge by edge.
+ghost use Rattle.std.specs.Prelude.{◌≡◌, ◌<◌, ◌≤◌, ◌++◌, [], ◌∷◌, max, map, false, length, bytes_eq, position, option_copied, IfOk, OnOk};
+ghost use Rattle.std.specs.Option.{option_to_list};
+ghost use Rattle.sg_model.specs.Lists.{has_text, below};
+ghost use Rattle.sg_model.specs.Names.{reserved};
+ghost use Rattle.sg_sched.specs.Pair.{edge, node, pair_graph, graphs_of};
+ghost use Rattle.sg_sched.specs.SoFar.{labels};
+ghost use Rattle.sg_graph.specs.Adding.{with_role, with_node};
+
+use crate::node_name::{name_of, node_name};
+use sg_base::{Label, Name, NodeId, OutOfMemory, Role, VarSet};
+use sg_graph::Graph;
+use std::alloc::{AllocError, Global};
+use std::marker::Model;
+
+/// The graph of the edges so far, if there are any. A clause sees the list of its edges.
+#[derive(Drop)]
+pub(crate) struct Pair {
+    graph: Option<Graph>,
+}
+
+impl Model for Pair {
+    ghost use Rattle.std.specs.Prelude.{List};
+    ghost use Rattle.sg_protocol.specs.Graph.{Edge};
+    ghost use Rattle.sg_sched.specs.Edges.{edges_of, HoldsPair};
+
+    ghost Value = { List Edge };
+
+    ghost view = { λ p. edges_of p.graph };
+
+    ghost invariant = { λ p. HoldsPair p.graph };
+}
+
+impl Pair {
+    /// No edges. It takes no memory.
+    pub fn new() -> Pair
+        ensures { result ≡ [] }
+    {
+        Pair { graph: None }
+    }
+
+    /// The graph, if there are edges.
+    pub fn graph(&self) -> Option<&Graph>
+        ensures { graphs_of self.now ≡ option_to_list (option_copied result) }
+    {
+        self.graph.as_ref()
+    }
+
+    /// The number of edges.
+    pub fn len(&self) -> usize
+        ensures { result ≡ length self.now }
+    {
+        match &self.graph {
+            Some(graph) => graph.edges() as usize,
+            None => 0,
+        }
+    }
+
+    /// The number of a label, if an edge has it.
+    pub fn label(&self, label: &Name) -> Option<Label>
+        ensures { result ≡ position (bytes_eq label.now) (labels self.now) }
+    {
+        match &self.graph {
+            Some(graph) => {
+                // Its labels differ, as those of a graph do.
+                let _count = graph.edges();
+                graph.find_edge(label)
+            }
+            None => None,
+        }
+    }
+
+    /// Whether an edge has the label.
+    pub fn has(&self, label: &Name) -> bool
+        ensures { result ≡ has_text label.now (labels self.now) }
+    {
+        match &self.graph {
+            Some(graph) => graph.find_edge(label).is_some(),
+            None => false,
+        }
+    }
+
+    /// Adds an edge between two nodes, with the nodes that its numbers need.
+    pub fn add(&mut self, alloc: Global, label: Name, from: u8, to: u8) -> Result<(), OutOfMemory>
+        requires plain { has_text label reserved ≡ false }
+        requires new_label { has_text label (labels self.old) ≡ false }
+        requires room { length self.old < 512 }
+        ensures { OnOk result (self.new ≡ self.old ++ edge label from to ∷ []) }
+    {
+        let mut graph = match self.graph.take() {
+            Some(graph) => graph,
+            None => empty_pair(alloc)?,
+        };
+        add_edge(&mut graph, label, from, to)?;
+        self.graph = Some(graph);
+        Ok(())
+    }
+}
+
+// The graph with the roles a and b and no nodes.
+fn empty_pair(alloc: Global) -> Result<Graph, OutOfMemory>
+    ensures { IfOk result (λ g. g ≡ pair_graph []) }
+{
+    let mut graph = Graph::new(alloc, name_of(b"pair"));
+    add_role(&mut graph, name_of(b"a"))?;
+    add_role(&mut graph, name_of(b"b"))?;
+    Ok(graph)
+}
+
+fn add_role(graph: &mut Graph, name: Name) -> Result<(), OutOfMemory>
+    requires { has_text name reserved ≡ false }
+    ensures { OnOk result (graph.new ≡ with_role graph.old name) }
+{
+    match graph.add_role(name) {
+        Ok(_) => Ok(()),
+        Err(_) => Err(AllocError),
+    }
+}
+
+// The graph with one edge more, and the nodes that it needs.
+fn add_edge(graph: &mut Graph, label: Name, from: u8, to: u8) -> Result<(), OutOfMemory>
+    requires pair { graph.old ≡ pair_graph graph.old.edges }
+    requires plain { has_text label reserved ≡ false }
+    ensures { OnOk result (graph.new ≡ pair_graph (graph.old.edges ++ edge label from to ∷ [])) }
+{
+    add_nodes(graph, u16::from(from.max(to)) + 1)?;
+    let none = VarSet::empty();
+    match graph.add_edge(
+        label,
+        NodeId(u16::from(from)),
+        NodeId(u16::from(to)),
+        none,
+        none,
+    ) {
+        Ok(_) => Ok(()),
+        Err(_) => Err(AllocError),
+    }
+}
+
+// The graph with at least `count` nodes.
+fn add_nodes(graph: &mut Graph, count: u16) -> Result<(), OutOfMemory>
+    requires roles { length graph.old.roles ≡ 2 }
+    requires nodes { graph.old.nodes ≡ map node (below (length graph.old.nodes)) }
+    requires few { count ≤ 256 }
+    ensures {
+        OnOk result (graph.new ≡ record graph.old { nodes = map node (below (max (length graph.old.nodes) count)) })
+    }
+{
+    while graph.nodes() < count {
+        let number = graph.nodes() as u8;
+        add_node(graph, number)?;
+    }
+    Ok(())
+}
+
+// The graph with the node of the next number.
+fn add_node(graph: &mut Graph, number: u8) -> Result<(), OutOfMemory>
+    requires roles { length graph.old.roles ≡ 2 }
+    requires next { length graph.old.nodes ≡ number }
+    ensures { OnOk result (graph.new ≡ with_node graph.old (node number)) }
+{
+    match graph.add_node(node_name(number), Role(number % 2)) {
+        Ok(_) => Ok(()),
+        Err(_) => Err(AllocError),
+    }
+}
