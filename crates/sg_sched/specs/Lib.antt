@@ -6,3 +6,4 @@ pub mod Pair
 pub mod SoFar
 pub mod Spelled
 pub mod Edges
+pub mod Steps

@@ -84,9 +84,13 @@ add_session d name graph nonce names version =
     else if not (list_all (λ n. has_text n d.honest) names) then Err Form
     else option_map_or (open_session d name nonce names version) (graph_named graph d) (Err Unknown)
 
+-- the names of sessions
+abbrev pub session_names : List Declared → List Name
+session_names sessions = map (λ s. s.name) sessions
+
 -- the place of a session
 abbrev pub session_at : Name → SoFar → Option ℕ
-session_at name d = position (bytes_eq name) (map (λ s. s.name) d.sessions)
+session_at name d = position (bytes_eq name) (session_names d.sessions)
 
 -- the number of a label of the graph `pair`
 abbrev pub label_at : Name → SoFar → Option ℕ

@@ -8,8 +8,13 @@ mod line;
 mod name_set;
 mod node_name;
 mod pair;
+mod schedule;
+mod sessions;
+mod step;
 mod text;
 mod word;
 
 pub use fault::{Kind, LineFault};
 pub use key::PairKey;
+pub use schedule::{Declared, Schedule};
+pub use step::{Change, Step, What};
