@@ -1,5 +1,5 @@
 -- What the program holds, as the values of the definitions.
-use Rattle.std.specs.Prelude.{Option, option_map, ⊤}
+use Rattle.std.specs.Prelude.{ℕ, Option, option_map, ⊤}
 use Rattle.sg_protocol.specs.TextLaws.{IsVersion}
 use Rattle.sg_sched.specs.declared.line.Line.{Line}
 use Rattle.sg_sched.specs.declared.line.Line.TheVariants.{Edge, Honest, Key, Session, Start, Act, Deliver}
@@ -23,3 +23,11 @@ taken o ws = option_map (λ x. (x, ws)) o
 abbrev pub Fits : Line → Type 0
 Fits (Session name graph nonce names version) = IsVersion version
 Fits other = ⊤
+
+-- the group in which such a line stands
+abbrev pub group_of : Line → ℕ
+group_of (Edge label from to) = 0
+group_of (Honest who) = 1
+group_of (Key key) = 2
+group_of (Session name graph nonce names version) = 3
+group_of other = 4

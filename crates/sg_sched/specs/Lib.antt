@@ -7,3 +7,4 @@ pub mod SoFar
 pub mod Spelled
 pub mod Edges
 pub mod Steps
+pub mod Taken

@@ -1,5 +1,5 @@
 -- What the lines so far have declared, and what one more line adds.
-use Rattle.std.specs.Prelude.{ℕ, ◌==◌, nat_lt, nat_le, Bool, not, ◌&&◌, ◌||◌, if◌then◌else◌, List, [], ◌∷◌, ◌++◌, length, map, position, find, slice_index, bytes_eq, Option, Some, option_map, option_and_then, Result, Ok, Err}
+use Rattle.std.specs.Prelude.{ℕ, ◌==◌, nat_lt, nat_le, Bool, not, ◌&&◌, ◌||◌, if◌then◌else◌, List, [], ◌∷◌, ◌++◌, length, map, position, find, slice_index, bytes_eq, Option, Some, None, option_map, option_and_then, Result, Ok, Err}
 use Rattle.std.specs.List.{list_any, list_all}
 use Rattle.std.specs.Option.{option_map_or}
 use Rattle.sg_model.specs.Names.{Name, reserved}
@@ -71,18 +71,21 @@ add_key d k = if has_key k.one k.two d.keys then Err Twice else Ok (record d { g
 abbrev pub graph_named : Name → SoFar → Option Graph
 graph_named name d = find (λ g. bytes_eq name g.name) (graphs_of d.edges)
 
--- a session of a graph, with as many principals as it has roles
-abbrev pub open_session : SoFar → Name → ℕ → List Name → ℕ → Graph → Added
-open_session d name nonce names version g =
-    let cast : Cast = record { version = version; graph = graph_digest real g; nonce = nonce_of nonce; names = names } in
-    if length names == length g.roles then Ok (record d { group = 3; sessions = d.sessions ++ record { name = name; cast = cast } ∷ [] }) else Err Form
+-- who takes part in a session of a graph: as many principals as it has roles
+unfoldable pub cast_for : Graph → ℕ → List Name → ℕ → Option Cast
+cast_for g nonce names version =
+    if length names == length g.roles then Some (record { version = version; graph = graph_digest real g; nonce = nonce_of nonce; names = names }) else None
+
+-- a session with its cast
+abbrev pub open_session : SoFar → Name → Option Cast → Added
+open_session d name cast = option_map_or (λ c. Ok (record d { group = 3; sessions = d.sessions ++ record { name = name; cast = c } ∷ [] })) cast (Err Form)
 
 -- one session, of honest principals, of a declared graph
 unfoldable pub add_session : SoFar → Name → Name → ℕ → List Name → ℕ → Added
 add_session d name graph nonce names version =
     if nat_lt 0 (length d.sessions) then Err Form
     else if not (list_all (λ n. has_text n d.honest) names) then Err Form
-    else option_map_or (open_session d name nonce names version) (graph_named graph d) (Err Unknown)
+    else option_map_or (λ g. open_session d name (cast_for g nonce names version)) (graph_named graph d) (Err Unknown)
 
 -- the names of sessions
 abbrev pub session_names : List Declared → List Name
@@ -113,14 +116,14 @@ add d (SaidAct who session label) =
     in_group 4 d (add_step d who (option_and_then (λ s. option_map (λ l. ActStep who s l []) (label_at label d)) (session_at session d)))
 add d (SaidDeliver who frame) = in_group 4 d (add_step d who (Some (DeliverStep who (Whole frame))))
 
--- a comment, whose first byte is #, or a line without words
-abbrev pub says_nothing : List ℕ → Bool
-says_nothing text = slice_index text 0 == 35 || length (words text) == 0
+-- a comment: its first byte is #
+abbrev pub is_comment : List ℕ → Bool
+is_comment text = slice_index text 0 == 35
 
--- what a line adds: its bytes are ASCII, and it says nothing or is in a form
+-- what a line adds: its bytes are ASCII, and it is a comment, has no words or is in a form
 unfoldable pub add_line : SoFar → List ℕ → Added
 add_line d line =
     let text = content line in
     if not (list_all (λ b. nat_lt b 128) text) then Err Form
-    else if says_nothing text then Ok d
+    else if is_comment text || length (words text) == 0 then Ok d
     else option_map_or (add d) (form (words text)) (Err Form)

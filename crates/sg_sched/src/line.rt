@@ -3,8 +3,10 @@ ghost use Rattle.std.specs.Prelude.{◌≡◌, ◌≤◌, length, IfOk, IfSome, 
 ghost use Rattle.sg_sched.specs.Words.{name, number, names, key, frame};
 ghost use Rattle.sg_sched.specs.Forms.{word, version, edge_form, honest_form, key_form, session_form, start_form, act_form, deliver_form, form};
 ghost use Rattle.sg_sched.specs.Held.{said, taken, Fits};
+ghost use Rattle.sg_sched.specs.Taken.{group_number};
 ghost use Rattle.sg_protocol.specs.TextLaws.{IsVersion};
 
+use crate::group::Group;
 use crate::key::PairKey;
 use crate::name_set::{NameSet, read_names};
 use crate::text::Words;
@@ -42,6 +44,23 @@ pub(crate) enum Line {
         who: Name,
         frame: u32,
     },
+}
+
+impl Line {
+    ghost use Rattle.sg_sched.specs.Held.{group_of};
+
+    /// The group in which such a line stands.
+    pub fn group(&self) -> Group
+        ensures { group_number result ≡ group_of self.now }
+    {
+        match self {
+            Line::Edge { .. } => Group::Graphs,
+            Line::Honest(_) => Group::Honest,
+            Line::Key(_) => Group::Keys,
+            Line::Session { .. } => Group::Sessions,
+            Line::Start { .. } | Line::Act { .. } | Line::Deliver { .. } => Group::Steps,
+        }
+    }
 }
 
 #[tactic(auto, unfolding(crate::specs::Forms::word))]

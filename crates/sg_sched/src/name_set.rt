@@ -7,7 +7,7 @@ ghost use Rattle.sg_sched.specs.Words.{names};
 
 use crate::text::place_of;
 use indexmap::IndexSet;
-use sg_base::{Name, OutOfMemory};
+use sg_base::{Name, OutOfMemory, Seq};
 use std::alloc::Global;
 use std::marker::Model;
 
@@ -44,7 +44,8 @@ impl NameSet {
 
     /// The place of the name, where it is there.
     pub fn place(&self, name: &Name) -> Option<usize>
-        ensures { result ≡ position (bytes_eq name.now) self.now }
+        ensures place { result ≡ position (bytes_eq name.now) self.now }
+        ensures within { IfSome result (λ i. i < length self.now) }
     {
         self.names.get_index_of(name)
     }
@@ -57,6 +58,13 @@ impl NameSet {
     {
         self.names.insert(name)?;
         Ok(())
+    }
+
+    /// The names in order, as a list of their own.
+    pub fn to_list(&self, alloc: Global) -> Result<Seq<Name>, OutOfMemory>
+        ensures { IfOk result (λ names. names ≡ self.now) }
+    {
+        Ok(Seq::from_vec(self.names.as_slice().to_vec(alloc)?))
     }
 
     /// The names in order.

@@ -1,5 +1,5 @@
 //! The graph `pair` that the edge lines make, edge by edge.
-ghost use Rattle.std.specs.Prelude.{◌≡◌, ◌<◌, ◌≤◌, ◌++◌, [], ◌∷◌, max, map, false, length, bytes_eq, position, option_copied, IfOk, OnOk};
+ghost use Rattle.std.specs.Prelude.{◌≡◌, ◌<◌, ◌≤◌, ◌++◌, [], ◌∷◌, max, map, false, length, bytes_eq, position, option_copied, IfOk, IfSome, OnOk};
 ghost use Rattle.std.specs.Option.{option_to_list};
 ghost use Rattle.sg_model.specs.Lists.{has_text, below};
 ghost use Rattle.sg_model.specs.Names.{reserved};
@@ -8,7 +8,7 @@ ghost use Rattle.sg_sched.specs.SoFar.{labels};
 ghost use Rattle.sg_graph.specs.Adding.{with_role, with_node};
 
 use crate::node_name::{name_of, node_name};
-use sg_base::{Label, Name, NodeId, OutOfMemory, Role, VarSet};
+use sg_base::{Label, Name, NodeId, OutOfMemory, Role, Seq, VarSet};
 use sg_graph::Graph;
 use std::alloc::{AllocError, Global};
 use std::marker::Model;
@@ -41,9 +41,22 @@ impl Pair {
 
     /// The graph, if there are edges.
     pub fn graph(&self) -> Option<&Graph>
-        ensures { graphs_of self.now ≡ option_to_list (option_copied result) }
+        ensures graphs { graphs_of self.now ≡ option_to_list (option_copied result) }
+        ensures roles { IfSome result (λ g. length g.now.roles ≡ 2) }
     {
         self.graph.as_ref()
+    }
+
+    /// The graph as a list, which is empty where there are no edges.
+    pub fn into_list(self, alloc: Global) -> Result<Seq<Graph>, OutOfMemory>
+        ensures { IfOk result (λ graphs. graphs ≡ graphs_of self) }
+    {
+        let Pair { graph } = self;
+        let mut graphs = Seq::new(alloc);
+        if let Some(graph) = graph {
+            graphs.push(graph)?;
+        }
+        Ok(graphs)
     }
 
     /// The number of edges.

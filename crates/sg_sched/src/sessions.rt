@@ -1,5 +1,5 @@
 //! The sessions that are declared, found by their names without a scan.
-ghost use Rattle.std.specs.Prelude.{◌≡◌, ◌≤◌, ◌++◌, [], ◌∷◌, map, false, length, bytes_eq, position, IfSome, OnOk};
+ghost use Rattle.std.specs.Prelude.{◌≡◌, ◌<◌, ◌++◌, [], ◌∷◌, false, length, bytes_eq, position, OnOk};
 ghost use Rattle.sg_model.specs.Lists.{has_text};
 ghost use Rattle.sg_sched.specs.SoFar.{session_names};
 
@@ -17,14 +17,14 @@ pub(crate) struct Sessions {
 }
 
 impl Model for Sessions {
-    ghost use Rattle.std.specs.Prelude.{◌≡◌, List, map};
+    ghost use Rattle.std.specs.Prelude.{◌≡◌, ◌≤◌, List, map, length};
     ghost use Rattle.sg_protocol.specs.Schedule.{Declared};
 
     ghost Value = { List Declared };
 
     ghost view = { λ s. s.list };
 
-    ghost invariant = { λ s. s.names ≡ map (λ d. d.name) s.list };
+    ghost invariant = { λ s. (s.names ≡ map (λ d. d.name) s.list) × (length s.list ≤ 100000) };
 }
 
 impl Sessions {
@@ -46,15 +46,17 @@ impl Sessions {
     }
 
     /// The place of the session of this name, if it is declared.
-    pub fn place(&self, name: &Name) -> Option<usize>
+    pub fn place(&self, name: &Name) -> Option<u32>
         ensures { result ≡ position (bytes_eq name.now) (session_names self.now) }
     {
-        self.names.place(name)
+        let place = self.names.place(name)?;
+        Some(place as u32)
     }
 
-    /// Adds a session of a new name.
+    /// Adds a session of a new name, the 100,000th at the latest.
     pub fn add(&mut self, session: Declared) -> Result<(), OutOfMemory>
-        requires { has_text session.name (session_names self.old) ≡ false }
+        requires new_name { has_text session.name (session_names self.old) ≡ false }
+        requires room { length self.old < 100000 }
         ensures { OnOk result (self.new ≡ self.old ++ session ∷ []) }
     {
         let name = session.name;
