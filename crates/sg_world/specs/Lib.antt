@@ -1,0 +1,4 @@
+pub mod Outcome
+pub mod Run
+pub mod Forms
+pub mod Report
