@@ -1,3 +1,5 @@
 pub mod Rows
 pub mod Pasts
 pub mod Once
+pub mod Story
+pub mod Stages
