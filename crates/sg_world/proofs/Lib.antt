@@ -3,3 +3,5 @@ pub mod Pasts
 pub mod Once
 pub mod Story
 pub mod Stages
+pub mod Ours
+pub mod Course

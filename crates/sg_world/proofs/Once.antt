@@ -1,18 +1,17 @@
 -- No principal joins a session twice.
-use Rattle.std.specs.Prelude.{◌≡◌, ◌⊎◌, ℕ, ◌==◌, Bool, true, false, cond, not, ◌&&◌, if◌then◌else◌, List, [], ◌∷◌, ◌++◌, refl, Option, Some, None, option_map, bytes_eq}
-use Rattle.std.specs.List.{list_all}
+use Rattle.std.specs.Prelude.{◌≡◌, ℕ, Bool, true, false, not, ◌&&◌, if◌then◌else◌, List, [], ◌∷◌, ◌++◌, refl, Option, Some, None, bytes_eq}
 use Rattle.std.specs.Option.{option_map_or}
-use Rattle.std.proofs.Common.{sym, ap, ◌∙◌, subst, inl, inr, append_assoc, append-nil}
+use Rattle.std.proofs.Common.{sym, ap, subst, inl, inr, append_assoc, append-nil}
 use Rattle.std.proofs.lemmas.Bool.{cases_Bool}
 use Rattle.sg_model.specs.Lists.{first_some}
 use Rattle.sg_protocol.specs.Graph.{Name, shape}
 use Rattle.sg_model.specs.Shape.{role_at}
 use Rattle.sg_protocol.specs.Session.{principal}
-use Rattle.sg_protocol.specs.Node.{Event, Started, Sent, Received, StartFault, ActFault, Refusal, row, has_joined, does_join, sid_of, role_of, joins_once, is_cast, stranger}
-use Rattle.sg_protocol.specs.Run.{Schedule, Step, StartStep, ActStep, AbandonStep, DeliverStep, CraftStep, What, Whole, Flipped, Cut, Bytes}
+use Rattle.sg_protocol.specs.Node.{Event, Started, Sent, Received, StartFault, ActFault, Refusal, row, has_joined, does_join, sid_of, role_of, joins_once}
+use Rattle.sg_protocol.specs.Run.{Schedule, Step, StartStep, ActStep, AbandonStep, DeliverStep, CraftStep, Whole, Flipped, Cut, Bytes}
 use Rattle.sg_world.specs.Outcome.{Outcome, NotActed, NoFrame, events_of_outcome, past_of}
-use Rattle.sg_world.specs.Run.{World, Message, the_sid, pair, the_cast, joins_of, is_live, has_turn, leaves, rows_of_start, started, rows_of_act, acted, acts, role_in, rows_of_join, rows_of_next, rows_of_session, refusal, received, frame_at, taken, world_after, world_after_all, run, message, may_go_on, place}
-use Rattle.sg_world.proofs.Rows.{third_row, first_asked, and_both, and_left, and_right, same_bytes, bytes_refl}
+use Rattle.sg_world.specs.Run.{World, Message, the_sid, pair, the_cast, joins_of, is_live, has_turn, rows_of_start, started, rows_of_act, acted, acts, role_in, rows_of_session, refusal, received, frame_at, taken, world_after, world_after_all, run, message, may_go_on, place}
+use Rattle.sg_world.proofs.Rows.{third_row, first_asked, and_both, and_left, and_right, same_bytes}
 use Rattle.sg_world.proofs.Pasts.{past_own, past_other}
 
 -- a joining event is of a new pair, any other of a pair that was joined
@@ -62,7 +61,7 @@ module _ (s : Schedule) (w : World) (once : Once w) (who : Name) where
   once_taken : (o : Outcome) → Fits (joins_of past) (events_of_outcome o) → Once (taken w who o)
   once_taken o f p = elim (cases_Bool (bytes_eq who p)) [
     | inl same ↦ subst (λ x. joins_once [] x ≡ true) (sym (past_own who p w.log o same))
-      (more_events (past_of p w.log) (events_of_outcome o) (once p) (subst (λ q. Fits (joins_of (past_of q w.log)) (events_of_outcome o)) (same_bytes who p same) f))
+        (more_events (past_of p w.log) (events_of_outcome o) (once p) (subst (λ q. Fits (joins_of (past_of q w.log)) (events_of_outcome o)) (same_bytes who p same) f))
     | inr other ↦ subst (λ x. joins_once [] x ≡ true) (sym (past_other who p w.log o other)) (once p)
   ]
 

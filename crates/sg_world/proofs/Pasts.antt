@@ -1,11 +1,10 @@
 -- The events of a record with one step more.
-use Rattle.std.specs.Prelude.{◌≡◌, ℕ, Bool, true, false, cond, if◌then◌else◌, List, [], ◌∷◌, ◌++◌, filter, flat_map, refl, Option, Some, None, bytes_eq}
-use Rattle.std.proofs.Common.{sym, ap, ◌∙◌, append_assoc, append-nil}
+use Rattle.std.specs.Prelude.{◌≡◌, true, false, List, [], ◌∷◌, ◌++◌, filter, refl, Some, bytes_eq}
+use Rattle.std.proofs.Common.{ap, ◌∙◌, append-nil}
 use Rattle.std.proofs.lemmas.List.Elements.{filter-append}
 use Rattle.std.proofs.lemmas.Grind.{flat_map-append}
 use Rattle.sg_model.specs.Lists.{same_text}
 use Rattle.sg_protocol.specs.Graph.{Name}
-use Rattle.sg_protocol.specs.Node.{Event}
 use Rattle.sg_world.specs.Outcome.{Outcome, Logged, events, events_of_outcome, past_of}
 
 -- the events of a record of one step

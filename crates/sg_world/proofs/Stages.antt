@@ -1,11 +1,10 @@
 -- Where two honest roles stand on the walk that they make, and what each step does to it.
-use Rattle.std.specs.Prelude.{◌≡◌, ◌≢◌, ◌⊎◌, ℕ, zero, suc, ◌+◌, ◌<◌, ◌≤◌, List, [], ◌∷◌, ◌++◌, map, flat_map, length, refl, Option, Some, None}
+use Rattle.std.specs.Prelude.{◌≡◌, ◌≢◌, ◌⊎◌, ℕ, zero, suc, ◌+◌, ◌<◌, ◌≤◌, List, [], ◌∷◌, ◌++◌, length, refl, Some}
 use Rattle.std.specs.List.{AllByRecursion}
 use Rattle.std.specs.Option.{option_map_or}
 use Rattle.std.proofs.Common.{sym, ap, ◌∙◌, subst, inl, inr, arith, append_assoc, length-append}
-use Rattle.std.proofs.lemmas.Bool.{cases_eq}
 use Rattle.std.proofs.lemmas.Grind.{flat_map-append}
-use Rattle.sg_model.specs.Last.{last, last_or}
+use Rattle.sg_model.specs.Last.{last}
 use Rattle.sg_model.specs.Shape.{Walk, end_of, role_at, source, target, sender, receiver}
 use Rattle.sg_law.proofs.Lists.{last-append}
 use Rattle.sg_law.proofs.Stored.{all-append}

@@ -1,14 +1,14 @@
 -- A walk of a graph of two roles, both honest, as a stored walk that explains events.
-use Rattle.std.specs.Prelude.{◌≡◌, ◌≢◌, ◌⊎◌, ℕ, ◌<◌, ◌%◌, Bool, true, false, ◌&&◌, ◌||◌, List, [], ◌∷◌, ◌++◌, map, flat_map, length, refl, Option, Some, None, IfSome, IsTrue}
-use Rattle.std.specs.List.{list_all, AllByRecursion}
-use Rattle.std.proofs.Common.{sym, ap, ◌∙◌, subst, inl, inr, arith, true≢false, append_assoc}
+use Rattle.std.specs.Prelude.{◌≡◌, ◌≢◌, ℕ, ◌<◌, Bool, true, false, ◌&&◌, ◌||◌, List, [], ◌∷◌, ◌++◌, map, flat_map, length, refl, Option, IfSome, IsTrue}
+use Rattle.std.specs.List.{AllByRecursion}
+use Rattle.std.proofs.Common.{sym, ap, ◌∙◌, subst, arith, true≢false}
 use Rattle.std.proofs.lemmas.List.{length-map}
-use Rattle.sg_model.specs.Last.{Map, last, last_or}
-use Rattle.sg_model.specs.Shape.{Walk, end_of, role_at, source, target, sender, receiver}
-use Rattle.sg_protocol.specs.Graph.{Graph, shape, writes, reads}
+use Rattle.sg_model.specs.Last.{Map, last}
+use Rattle.sg_model.specs.Shape.{Walk, source, target, sender, receiver}
+use Rattle.sg_protocol.specs.Graph.{Graph, shape}
 use Rattle.sg_protocol.specs.Frame.{Value}
 use Rattle.sg_protocol.specs.Node.{Event}
-use Rattle.sg_protocol.specs.Walk.{StoredStep, labels, IsStoredStep, IsStoredWalk, Act, Sends, Receives, act_if, counts, honest_acts, acts_of_event, are_hidden, OnePath}
+use Rattle.sg_protocol.specs.Walk.{StoredStep, labels, IsStoredStep, IsStoredWalk, Act, Sends, Receives, counts, honest_acts, acts_of_event, are_hidden, OnePath}
 use Rattle.sg_world.specs.Forms.{IsPair}
 use Rattle.sg_world.proofs.Rows.{and_both}
 

@@ -1,10 +1,13 @@
 -- The schedules of one session of two roles.
-use Rattle.std.specs.Prelude.{◌≡◌, ◌≢◌, ℕ, ◌<◌, ◌≤◌, ◌%◌, true, List, [], length, IsTrue, All, ⊤}
+use Rattle.std.specs.Prelude.{◌≡◌, ◌≢◌, ℕ, ◌<◌, ◌≤◌, ◌%◌, true, List, [], length, IsTrue, All}
 use Rattle.sg_model.specs.Lists.{all_differ}
 use Rattle.sg_model.specs.Shape.{role_at, source, target}
-use Rattle.sg_protocol.specs.Graph.{Graph, shape, writes, reads}
-use Rattle.sg_protocol.specs.Run.{Schedule, Declared, Step, StartStep, ActStep, DeliverStep, Whole, is_honest}
-use Rattle.sg_world.specs.Run.{pair}
+use Rattle.sg_protocol.specs.Graph.{Name, Graph, shape, writes, reads}
+use Rattle.sg_protocol.specs.Node.{joins_once}
+use Rattle.sg_protocol.specs.Walk.{OnePath}
+use Rattle.sg_protocol.specs.Run.{Schedule, Declared, Step, StartStep, ActStep, DeliverStep, Whole, is_honest, honest_role}
+use Rattle.sg_world.specs.Outcome.{events_in, past_of}
+use Rattle.sg_world.specs.Run.{pair, the_cast, run, walk_of}
 
 -- nodes of even numbers have role 0 and those of odd numbers role 1, each edge joins one of each, and no edge has a variable
 pub record IsPair (g : Graph) : Type 0 where
@@ -33,3 +36,11 @@ pub record IsPairSchedule (s : Schedule) : Type 0 where
   pub one_session : length s.sessions ≤ 1
   pub sessions : All (IsPairSession s) s.sessions
   pub steps : All (IsPairStep s) s.steps
+
+-- the sessions' events are those of one walk each, and it is what was sent
+abbrev pub FollowWalks : Schedule → Type 0
+FollowWalks s = (sid : List ℕ) → OnePath (pair s) (honest_role s (the_cast s)) (events_in sid (run s).log) (walk_of sid (run s).log)
+
+-- no principal joins a session twice
+abbrev pub NoneJoinsTwice : Schedule → Type 0
+NoneJoinsTwice s = (who : Name) → IsTrue (joins_once [] (past_of who (run s).log))

@@ -11,7 +11,7 @@ use Rattle.sg_protocol.specs.Session.{principal}
 use Rattle.sg_protocol.specs.Node.{Event, Started, Sent, Received, Refusal, BadCast, UnknownPeer, Joined, UnknownSession, NotWaiting, NoSuchView, BadTime, StartFault, WrongCast, NoPeer, WasJoined, ActFault, NoSession, NotYourTurn, NoSuchLabel, row, is_cast, stranger, has_joined, does_join, sid_of, role_of}
 use Rattle.sg_protocol.specs.Run.{Schedule, Step, StartStep, ActStep, DeliverStep, Whole, cast_of, keyring_of}
 use Rattle.sg_protocol.specs.Walk.{StoredStep}
-use Rattle.sg_world.specs.Outcome.{Outcome, Happened, Sends, NotStarted, NotActed, Refused, NoFrame, Logged, past_of, events}
+use Rattle.sg_world.specs.Outcome.{Outcome, Happened, Sends, NotStarted, NotActed, Refused, NoFrame, Logged, past_of, events_in}
 
 -- ---- frames and worlds
 
@@ -209,6 +209,6 @@ sent_label (Started sid r) = []
 sent_label (Sent sid r label time values) = label ∷ []
 sent_label (Received sid r label time values joins) = []
 
--- the walk that explains a session whose roles are all honest: what was sent, in order. No value is written
-abbrev pub walk_of : List Logged → List StoredStep
-walk_of log = map (λ e. record { label = e; writes = [] }) (flat_map sent_label (events log))
+-- the walk that explains a session whose roles are all honest: what was sent in it, in order. No value is written
+abbrev pub walk_of : List ℕ → List Logged → List StoredStep
+walk_of sid log = map (λ e. record { label = e; writes = [] }) (flat_map sent_label (events_in sid log))
