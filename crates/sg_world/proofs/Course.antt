@@ -8,13 +8,16 @@ use Rattle.std.proofs.lemmas.Grind.{flat_map-append}
 use Rattle.std.proofs.lemmas.List.{length-map}
 use Rattle.std.proofs.lemmas.List.Elements.{All-head, All-tail}
 use Rattle.sg_model.specs.Lists.{first_some, all_differ}
+use Rattle.sg_model.specs.Names.{Name}
 use Rattle.sg_model.specs.Shape.{Walk, role_at, source, receiver}
-use Rattle.sg_protocol.specs.Graph.{Name, Graph, shape}
+use Rattle.sg_protocol.specs.Calls.{Event, Sent, StartFault, ActFault, SendFault, Refusal}
 use Rattle.sg_protocol.specs.Frame.{Cast}
+use Rattle.sg_protocol.specs.Graph.{Graph, shape}
+use Rattle.sg_protocol.specs.Node.{is_cast, has_joined}
+use Rattle.sg_protocol.specs.Schedule.{Schedule, Declared, Step, StartStep, ActStep, AbandonStep, DeliverStep, CraftStep, Whole, Flipped, Cut, Bytes, is_honest, honest_role}
 use Rattle.sg_protocol.specs.Session.{principal}
-use Rattle.sg_protocol.specs.Node.{Event, Sent, StartFault, ActFault, Refusal, is_cast, has_joined}
-use Rattle.sg_protocol.specs.Walk.{Act, Receives, acts_of_event, OnePath}
-use Rattle.sg_protocol.specs.Run.{Schedule, Declared, keyring_of, Step, StartStep, ActStep, AbandonStep, DeliverStep, CraftStep, Whole, Flipped, Cut, Bytes, is_honest, honest_role}
+use Rattle.sg_protocol.specs.Walk.{Receives, acts_of_event, OnePath, Act}
+use Rattle.sg_protocol.specs.World.{keyring_of}
 use Rattle.sg_world.specs.Outcome.{Outcome, NotActed, NoFrame, events, events_of_outcome, past_of}
 use Rattle.sg_world.specs.Run.{World, Message, Move, move_of, the_sid, pair, the_cast, place, time, joins_of, is_live, has_turn, leaves, rows_of_start, started, rows_of_act, acted, acts, message, role_in, is_shown, rows_of_session, rows_of_join, rows_of_next, refusal, received, frame_at, taken, world_after, world_after_all, run, sent_label}
 use Rattle.sg_world.specs.Forms.{IsPair, IsPairSession, IsPairSchedule, FollowWalks}
@@ -150,15 +153,15 @@ module _ (s : Schedule) (is : IsPair (pair s)) (a b : Name) (two : (the_cast s).
         On (acted w who to (message g r (past_of who w.log) label) f)
     on_rows who r label to (Some fault) h = on_mute who (NotActed fault) (mute_of _ refl)
     on_rows who r label to None h =
-        let live = first_asked (is_live s who r (past_of who w.log)) ActFault.NoSession _ h in
+        let live = first_asked (is_live s who r (past_of who w.log)) ActFault.UnknownSession _ h in
         let turn = first_asked (has_turn g r (past_of who w.log)) ActFault.NotYourTurn _ live.1 in
-        let leave = first_asked (leaves g (past_of who w.log) label) ActFault.NoSuchLabel [] turn.1 in
+        let leave = first_asked (leaves g (past_of who w.log) label) (ActFault.Send SendFault.NoSuchLabel) [] turn.1 in
         let me : name r ≡ who = same_bytes (name r) who (and_left _ _ (and_left _ _ live.0)) in
         subst (λ p. On (acted w p to (message g r (past_of p w.log) label) None)) me
         (on_sent r label to (subst (λ p. has_turn g r (past_of p w.log) ≡ true) (sym me) turn.0) (subst (λ p. leaves g (past_of p w.log) label ≡ true) (sym me) leave.0))
 
-    on_acts : (who : Name) (label : ℕ) (o : Option ℕ) → On (option_map_or (acts s w who label) o (taken w who (NotActed ActFault.NoSession)))
-    on_acts who label None = on_mute who (NotActed ActFault.NoSession) (mute_of _ refl)
+    on_acts : (who : Name) (label : ℕ) (o : Option ℕ) → On (option_map_or (acts s w who label) o (taken w who (NotActed ActFault.UnknownSession)))
+    on_acts who label None = on_mute who (NotActed ActFault.UnknownSession) (mute_of _ refl)
     on_acts who label (Some r) = on_rows who r label _ (first_some (rows_of_act s who r (past_of who w.log) label)) refl
 
     -- what a delivery passed

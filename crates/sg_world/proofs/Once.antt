@@ -4,11 +4,15 @@ use Rattle.std.specs.Option.{option_map_or}
 use Rattle.std.proofs.Common.{sym, ap, subst, inl, inr, append_assoc, append-nil}
 use Rattle.std.proofs.lemmas.Bool.{cases_Bool}
 use Rattle.sg_model.specs.Lists.{first_some}
-use Rattle.sg_protocol.specs.Graph.{Name, shape}
+use Rattle.sg_model.specs.Names.{Name}
 use Rattle.sg_model.specs.Shape.{role_at}
+use Rattle.sg_protocol.specs.Calls.{Event, Started, Sent, Received, StartFault, ActFault, Refusal, does_join, sid_of, role_of}
+use Rattle.sg_protocol.specs.Graph.{shape}
+use Rattle.sg_protocol.specs.Node.{has_joined}
+use Rattle.sg_protocol.specs.Past.{joins_once}
+use Rattle.sg_protocol.specs.Schedule.{Schedule, Step, StartStep, ActStep, AbandonStep, DeliverStep, CraftStep, Whole, Flipped, Cut, Bytes}
 use Rattle.sg_protocol.specs.Session.{principal}
-use Rattle.sg_protocol.specs.Node.{Event, Started, Sent, Received, StartFault, ActFault, Refusal, row, has_joined, does_join, sid_of, role_of, joins_once}
-use Rattle.sg_protocol.specs.Run.{Schedule, Step, StartStep, ActStep, AbandonStep, DeliverStep, CraftStep, Whole, Flipped, Cut, Bytes}
+use Rattle.sg_protocol.specs.Verdict.{row}
 use Rattle.sg_world.specs.Outcome.{Outcome, NotActed, NoFrame, events_of_outcome, past_of}
 use Rattle.sg_world.specs.Run.{World, Message, the_sid, pair, the_cast, joins_of, is_live, has_turn, rows_of_start, started, rows_of_act, acted, acts, role_in, rows_of_session, refusal, received, frame_at, taken, world_after, world_after_all, run, message, may_go_on, place}
 use Rattle.sg_world.proofs.Rows.{third_row, first_asked, and_both, and_left, and_right, same_bytes}
@@ -76,8 +80,8 @@ module _ (s : Schedule) (w : World) (once : Once w) (who : Name) where
   once_acted to m None h = once_taken _ (h refl)
   once_acted to m (Some fault) h = once_taken (NotActed fault) tt
 
-  once_acts : (label : ℕ) (o : Option ℕ) → Once (option_map_or (acts s w who label) o (taken w who (NotActed ActFault.NoSession)))
-  once_acts label None = once_taken (NotActed ActFault.NoSession) tt
+  once_acts : (label : ℕ) (o : Option ℕ) → Once (option_map_or (acts s w who label) o (taken w who (NotActed ActFault.UnknownSession)))
+  once_acts label None = once_taken (NotActed ActFault.UnknownSession) tt
   once_acts label (Some r) = once_acted _ (message (pair s) r past label) (first_some (rows_of_act s who r past label)) (λ h. live_joined r (first_asked (is_live s who r past) _ _ h).0)
 
   once_received : (m : Message) (o : Option Refusal) → refusal s who past m ≡ o → Once (taken w who (received m o))
@@ -93,7 +97,7 @@ module _ (s : Schedule) (w : World) (once : Once w) (who : Name) where
 
 once_after : (s : Schedule) (w : World) → Once w → (x : Step) → Once (world_after s w x)
 once_after s w once (StartStep who n) = once_started s w once who _ (first_some (rows_of_start s who (past_of who w.log)))
-    (λ h. (third_row _ _ (has_joined (joins_of (past_of who w.log)) the_sid (role_at (shape (pair s)) 0)) StartFault.WasJoined [] h).0)
+    (λ h. (third_row _ _ (has_joined (joins_of (past_of who w.log)) the_sid (role_at (shape (pair s)) 0)) StartFault.Joined [] h).0)
 once_after s w once (ActStep who n label values) = once_acts s w once who label (role_in (the_cast s) who)
 once_after s w once (DeliverStep who (Whole n)) = once_delivered s w once who (frame_at w n)
 once_after s w once (DeliverStep who (Flipped n at)) = once

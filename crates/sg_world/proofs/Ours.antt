@@ -5,12 +5,16 @@ use Rattle.std.specs.Option.{option_map_or}
 use Rattle.std.proofs.Common.{sym, ap, ◌∙◌, subst, inl, inr, arith, true≢false}
 use Rattle.std.proofs.lemmas.Bool.{cases_Bool, ltb-true}
 use Rattle.sg_model.specs.Lists.{first_some}
-use Rattle.sg_protocol.specs.Graph.{Name, Graph, shape}
-use Rattle.sg_protocol.specs.Node.{Event, StartFault, ActFault, Refusal, sid_of, row, is_cast}
-use Rattle.sg_protocol.specs.Session.{Keyring}
-use Rattle.sg_protocol.specs.Frame.{Cast}
+use Rattle.sg_model.specs.Names.{Name}
 use Rattle.sg_model.specs.Shape.{role_at}
-use Rattle.sg_protocol.specs.Run.{Schedule, keyring_of, Step, StartStep, ActStep, AbandonStep, DeliverStep, CraftStep, Whole, Flipped, Cut, Bytes}
+use Rattle.sg_protocol.specs.Calls.{Event, StartFault, ActFault, Refusal, sid_of}
+use Rattle.sg_protocol.specs.Frame.{Cast}
+use Rattle.sg_protocol.specs.Graph.{Graph, shape}
+use Rattle.sg_protocol.specs.Keyring.{Keyring}
+use Rattle.sg_protocol.specs.Node.{is_cast}
+use Rattle.sg_protocol.specs.Schedule.{Schedule, Step, StartStep, ActStep, AbandonStep, DeliverStep, CraftStep, Whole, Flipped, Cut, Bytes}
+use Rattle.sg_protocol.specs.Verdict.{row}
+use Rattle.sg_protocol.specs.World.{keyring_of}
 use Rattle.sg_world.specs.Outcome.{Outcome, NotStarted, NotActed, NoFrame, events, events_in, events_of_outcome, past_of}
 use Rattle.sg_world.specs.Run.{World, Message, the_sid, pair, the_cast, rows_of_start, started, rows_of_act, acted, acts, role_in, refusal, received, frame_at, taken, world_after, world_after_all, run}
 use Rattle.sg_world.proofs.Rows.{and_both, and_left, and_right, same_bytes}
@@ -36,8 +40,8 @@ module _ (s : Schedule) (w : World) (ours : Ours (events w.log)) (who : Name) wh
   ours_acted to m None = ours_taken _ refl
   ours_acted to m (Some fault) = ours_taken (NotActed fault) refl
 
-  ours_acts : (label : ℕ) (o : Option ℕ) → Ours (events (option_map_or (acts s w who label) o (taken w who (NotActed ActFault.NoSession))).log)
-  ours_acts label None = ours_taken (NotActed ActFault.NoSession) refl
+  ours_acts : (label : ℕ) (o : Option ℕ) → Ours (events (option_map_or (acts s w who label) o (taken w who (NotActed ActFault.UnknownSession))).log)
+  ours_acts label None = ours_taken (NotActed ActFault.UnknownSession) refl
   ours_acts label (Some r) = ours_acted _ _ (first_some (rows_of_act s who r (past_of who w.log) label))
 
   ours_received : (m : Message) (o : Option Refusal) → Ours (events (taken w who (received m o)).log)
@@ -97,8 +101,8 @@ module _ (s : Schedule) (none : (the_cast s).names ≡ []) (w : World) (nothing 
     no_frames = nothing.no_frames;
   }
 
-  nothing_acts : (o : Option ℕ) → o ≡ None → (label : ℕ) → Nothing (option_map_or (acts s w who label) o (taken w who (NotActed ActFault.NoSession)))
-  nothing_acts None e label = nothing_taken (NotActed ActFault.NoSession) refl
+  nothing_acts : (o : Option ℕ) → o ≡ None → (label : ℕ) → Nothing (option_map_or (acts s w who label) o (taken w who (NotActed ActFault.UnknownSession)))
+  nothing_acts None e label = nothing_taken (NotActed ActFault.UnknownSession) refl
   nothing_acts (Some r) e label = cc
 
   nothing_delivered : (o : Option Message) → o ≡ None → Nothing (taken w who (option_map_or (λ m. received m (refusal s who (past_of who w.log) m)) o NoFrame))
@@ -108,8 +112,8 @@ module _ (s : Schedule) (none : (the_cast s).names ≡ []) (w : World) (nothing 
   no_frame_at : (n : ℕ) → frame_at w n ≡ None
   no_frame_at n = elim (cases_Bool (n == 0)) [ inl e ↦ rw e refl | inr e ↦ rw (e, nothing.no_frames) refl ]
 
-  nothing_started : (r : ℕ) (b : Bool) (os : List (Option StartFault)) → b ≡ false → Nothing (taken w who (started r (first_some (row (not b) StartFault.WrongCast ∷ os))))
-  nothing_started r false os e = nothing_taken (NotStarted StartFault.WrongCast) refl
+  nothing_started : (r : ℕ) (b : Bool) (os : List (Option StartFault)) → b ≡ false → Nothing (taken w who (started r (first_some (row (not b) StartFault.BadCast ∷ os))))
+  nothing_started r false os e = nothing_taken (NotStarted StartFault.BadCast) refl
   nothing_started r true os e = absurd (true≢false e)
 
   no_cast : (keys : Keyring) (g : Graph) (c : Cast) (r : ℕ) → c.names ≡ [] → is_cast keys g c r ≡ false

@@ -4,7 +4,7 @@ use Rattle.std.proofs.Common.{ap, ◌∙◌, append-nil}
 use Rattle.std.proofs.lemmas.List.Elements.{filter-append}
 use Rattle.std.proofs.lemmas.Grind.{flat_map-append}
 use Rattle.sg_model.specs.Lists.{same_text}
-use Rattle.sg_protocol.specs.Graph.{Name}
+use Rattle.sg_model.specs.Names.{Name}
 use Rattle.sg_world.specs.Outcome.{Outcome, Logged, events, events_of_outcome, past_of}
 
 -- the events of a record of one step

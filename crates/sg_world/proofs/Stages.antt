@@ -6,11 +6,11 @@ use Rattle.std.proofs.Common.{sym, ap, ◌∙◌, subst, inl, inr, arith, append
 use Rattle.std.proofs.lemmas.Grind.{flat_map-append}
 use Rattle.sg_model.specs.Last.{last}
 use Rattle.sg_model.specs.Shape.{Walk, end_of, role_at, source, target, sender, receiver}
+use Rattle.sg_protocol.specs.Graph.{Graph, shape}
+use Rattle.sg_protocol.specs.Walk.{Receives, Act, Sends}
 use Rattle.sg_law.proofs.Lists.{last-append}
 use Rattle.sg_law.proofs.Stored.{all-append}
 use Rattle.sg_law.proofs.Walks.{walk-append, walk_join, end_of-append}
-use Rattle.sg_protocol.specs.Graph.{Graph, shape}
-use Rattle.sg_protocol.specs.Walk.{Act, Sends, Receives}
 use Rattle.sg_world.specs.Run.{Message, Move}
 use Rattle.sg_world.specs.Forms.{IsPair}
 use Rattle.sg_world.proofs.Story.{both, story, in_graph, sender_two, receiver_two, differ}

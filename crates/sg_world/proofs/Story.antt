@@ -5,10 +5,10 @@ use Rattle.std.proofs.Common.{sym, ap, ◌∙◌, subst, arith, true≢false}
 use Rattle.std.proofs.lemmas.List.{length-map}
 use Rattle.sg_model.specs.Last.{Map, last}
 use Rattle.sg_model.specs.Shape.{Walk, source, target, sender, receiver}
+use Rattle.sg_model.specs.Values.{Value}
+use Rattle.sg_protocol.specs.Calls.{Event}
 use Rattle.sg_protocol.specs.Graph.{Graph, shape}
-use Rattle.sg_protocol.specs.Frame.{Value}
-use Rattle.sg_protocol.specs.Node.{Event}
-use Rattle.sg_protocol.specs.Walk.{StoredStep, labels, IsStoredStep, IsStoredWalk, Act, Sends, Receives, counts, honest_acts, acts_of_event, are_hidden, OnePath}
+use Rattle.sg_protocol.specs.Walk.{StoredStep, labels, IsStoredStep, IsStoredWalk, Receives, counts, honest_acts, acts_of_event, are_hidden, OnePath, Act, Sends}
 use Rattle.sg_world.specs.Forms.{IsPair}
 use Rattle.sg_world.proofs.Rows.{and_both}
 

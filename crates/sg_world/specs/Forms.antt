@@ -1,11 +1,12 @@
 -- The schedules of one session of two roles.
 use Rattle.std.specs.Prelude.{◌≡◌, ◌≢◌, ℕ, ◌<◌, ◌≤◌, ◌%◌, true, List, [], length, IsTrue, All}
 use Rattle.sg_model.specs.Lists.{all_differ}
+use Rattle.sg_model.specs.Names.{Name}
 use Rattle.sg_model.specs.Shape.{role_at, source, target}
-use Rattle.sg_protocol.specs.Graph.{Name, Graph, shape, writes, reads}
-use Rattle.sg_protocol.specs.Node.{joins_once}
+use Rattle.sg_protocol.specs.Graph.{Graph, shape, writes, reads}
+use Rattle.sg_protocol.specs.Past.{joins_once}
+use Rattle.sg_protocol.specs.Schedule.{Schedule, Declared, Step, StartStep, ActStep, DeliverStep, Whole, is_honest, honest_role}
 use Rattle.sg_protocol.specs.Walk.{OnePath}
-use Rattle.sg_protocol.specs.Run.{Schedule, Declared, Step, StartStep, ActStep, DeliverStep, Whole, is_honest, honest_role}
 use Rattle.sg_world.specs.Outcome.{events_in, past_of}
 use Rattle.sg_world.specs.Run.{pair, the_cast, run, walk_of}
 

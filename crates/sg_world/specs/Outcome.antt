@@ -1,19 +1,19 @@
 -- What a step of a replay brings about, and the record of such steps.
 use Rattle.std.specs.Prelude.{ℕ, List, [], ◌∷◌, filter, flat_map, Option, bytes_eq}
 use Rattle.sg_model.specs.Lists.{same_text}
-use Rattle.sg_protocol.specs.Graph.{Name}
-use Rattle.sg_protocol.specs.Node.{Event, StartFault, ActFault, Refusal, sid_of}
+use Rattle.sg_model.specs.Names.{Name}
+use Rattle.sg_protocol.specs.Calls.{Event, StartFault, ActFault, Refusal, sid_of}
 
 -- what a step brought about: an event, a frame made or a session left, or why it did not. A sending has the principal to whom its frame goes and the number of the frame
 pub data Outcome : Type 0 where
   Happened : Event → Outcome
   Sends : Event → (to : Name) → (frame : ℕ) → Outcome
-  Left : (sid : List ℕ) → Outcome
+  Abandoned : (sid : List ℕ) → Outcome
   Crafted : (frame : ℕ) → Outcome
   NotStarted : StartFault → Outcome
   NotActed : ActFault → Outcome
-  NotLeft : Outcome
-  Refused : Refusal → Outcome
+  NotAbandoned : Outcome
+  NotDelivered : Refusal → Outcome
   NoFrame : Outcome
 
 -- a step that was taken: the principal whose step it was, or None for a crafted frame, and what came of it

@@ -5,13 +5,13 @@ use Rattle.std.specs.Option.{option_map_or}
 use Rattle.std.specs.Fmt.{decimal, signed_decimal, digit_glyph}
 use Rattle.sg_model.specs.Last.{Map}
 use Rattle.sg_model.specs.Lists.{has_text}
+use Rattle.sg_model.specs.Names.{Name}
 use Rattle.sg_model.specs.Shape.{sender}
-use Rattle.sg_protocol.specs.Graph.{Name, Graph, shape, role_name, variable_name}
-use Rattle.sg_protocol.specs.Frame.{Value, IntValue, TextValue}
-use Rattle.sg_protocol.specs.Node.{Event, Started, Sent, Received, Refusal, StartFault, ActFault, sid_of}
+use Rattle.sg_model.specs.Values.{Value, IntValue, TextValue}
+use Rattle.sg_protocol.specs.Calls.{Event, Started, Sent, Received, Refusal, StartFault, ActFault, SendFault, sid_of}
+use Rattle.sg_protocol.specs.Graph.{Graph, shape, role_name, variable_name}
 use Rattle.sg_protocol.specs.Walk.{StoredStep, OnePath}
-use Rattle.sg_world.specs.Outcome.{Outcome, Happened, Sends, Left, Crafted, NotStarted, NotActed, NotLeft, NoFrame, Logged, events, events_in}
-use Rattle.sg_world.specs.Outcome.{Refused as NotDelivered}
+use Rattle.sg_world.specs.Outcome.{Outcome, Happened, Sends, Abandoned, Crafted, NotStarted, NotActed, NotAbandoned, NotDelivered, NoFrame, Logged, events, events_in}
 
 -- ---- what is reported
 
@@ -104,20 +104,24 @@ refusal_text g (Refusal.BadOpening x) = codes "bad-opening " ++ variable_name g 
 
 -- why a start was refused
 abbrev pub start_text : StartFault → List ℕ
-start_text StartFault.NoGraph = codes "unknown-graph"
-start_text StartFault.WrongCast = codes "bad-cast"
-start_text (StartFault.NoPeer name) = codes "unknown-peer " ++ name
-start_text StartFault.WasJoined = codes "joined"
-start_text StartFault.NoRoomToJoin = codes "cache-full"
-start_text StartFault.NoRoomForSession = codes "sessions-full"
+start_text StartFault.UnknownGraph = codes "unknown-graph"
+start_text StartFault.BadCast = codes "bad-cast"
+start_text (StartFault.UnknownPeer name) = codes "unknown-peer " ++ name
+start_text StartFault.Joined = codes "joined"
+start_text StartFault.CacheFull = codes "cache-full"
+start_text StartFault.SessionsFull = codes "sessions-full"
+
+-- why a step was not sent
+abbrev pub send_text : Graph → SendFault → List ℕ
+send_text g SendFault.NoSuchLabel = codes "no-such-label"
+send_text g (SendFault.BadValues x) = codes "bad-values " ++ variable_name g x
+send_text g SendFault.TimeSpent = codes "time-spent"
 
 -- why an act was refused
 abbrev pub act_text : Graph → ActFault → List ℕ
-act_text g ActFault.NoSession = codes "unknown-session"
+act_text g ActFault.UnknownSession = codes "unknown-session"
 act_text g ActFault.NotYourTurn = codes "not-your-turn"
-act_text g ActFault.NoSuchLabel = codes "no-such-label"
-act_text g (ActFault.BadValues x) = codes "bad-values " ++ variable_name g x
-act_text g ActFault.TimeSpent = codes "time-spent"
+act_text g (ActFault.Send fault) = send_text g fault
 
 -- an event but for its values: the session and what was done
 abbrev pub event_text : Account → Graph → Event → List ℕ
@@ -135,11 +139,11 @@ event_values g (Received sid r label time values joins) = values_text g values
 abbrev pub outcome_text : Account → Graph → Outcome → List ℕ
 outcome_text a g (Happened e) = event_text a g e ++ event_values g e
 outcome_text a g (Sends e to frame) = event_text a g e ++ codes " to " ++ to ++ codes " as f" ++ decimal frame ++ event_values g e
-outcome_text a g (Left sid) = session_name a sid ++ codes " abandoned"
+outcome_text a g (Abandoned sid) = session_name a sid ++ codes " abandoned"
 outcome_text a g (Crafted frame) = codes "crafted f" ++ decimal frame
 outcome_text a g (NotStarted fault) = codes "refused " ++ start_text fault
 outcome_text a g (NotActed fault) = codes "refused " ++ act_text g fault
-outcome_text a g NotLeft = codes "refused unknown-session"
+outcome_text a g NotAbandoned = codes "refused unknown-session"
 outcome_text a g (NotDelivered why) = codes "refused " ++ refusal_text g why
 outcome_text a g NoFrame = codes "refused no-frame"
 

@@ -4,14 +4,18 @@ use Rattle.std.specs.List.{list_any}
 use Rattle.std.specs.Option.{option_map_or}
 use Rattle.sg_model.specs.Last.{last}
 use Rattle.sg_model.specs.Lists.{first_some}
+use Rattle.sg_model.specs.Names.{Name}
 use Rattle.sg_model.specs.Shape.{role_at, source, target, receiver}
-use Rattle.sg_protocol.specs.Graph.{Name, Graph, shape}
+use Rattle.sg_protocol.specs.Calls.{Event, Started, Sent, Received, Refusal, NotWaiting, NoSuchView, BadTime, StartFault, ActFault, NotYourTurn, Send, NoSuchLabel, does_join, sid_of, role_of}
 use Rattle.sg_protocol.specs.Frame.{Cast}
+use Rattle.sg_protocol.specs.Graph.{Graph, shape}
+use Rattle.sg_protocol.specs.Node.{is_cast, stranger, has_joined}
+use Rattle.sg_protocol.specs.Schedule.{Schedule, Step, StartStep, ActStep, DeliverStep, Whole, cast_of}
 use Rattle.sg_protocol.specs.Session.{principal}
-use Rattle.sg_protocol.specs.Node.{Event, Started, Sent, Received, Refusal, BadCast, UnknownPeer, Joined, UnknownSession, NotWaiting, NoSuchView, BadTime, StartFault, WrongCast, NoPeer, WasJoined, ActFault, NoSession, NotYourTurn, NoSuchLabel, row, is_cast, stranger, has_joined, does_join, sid_of, role_of}
-use Rattle.sg_protocol.specs.Run.{Schedule, Step, StartStep, ActStep, DeliverStep, Whole, cast_of, keyring_of}
+use Rattle.sg_protocol.specs.Verdict.{row}
 use Rattle.sg_protocol.specs.Walk.{StoredStep}
-use Rattle.sg_world.specs.Outcome.{Outcome, Happened, Sends, NotStarted, NotActed, Refused, NoFrame, Logged, past_of, events_in}
+use Rattle.sg_protocol.specs.World.{keyring_of}
+use Rattle.sg_world.specs.Outcome.{Outcome, Happened, Sends, NotStarted, NotActed, NotDelivered, NoFrame, Logged, past_of, events_in}
 
 -- ---- frames and worlds
 
@@ -86,9 +90,9 @@ has_turn g r past = role_at (shape g) (place g past) == r
 -- what is looked at in a start, which is in the role of the first node
 abbrev pub rows_of_start : Schedule → Name → List Event → List (Option StartFault)
 rows_of_start s who past =
-    row (not (is_cast (keyring_of s.keys who) (pair s) (the_cast s) (role_at (shape (pair s)) 0))) WrongCast
-    ∷ option_map NoPeer (stranger (keyring_of s.keys who) (the_cast s))
-    ∷ row (has_joined (joins_of past) the_sid (role_at (shape (pair s)) 0)) WasJoined
+    row (not (is_cast (keyring_of s.keys who) (pair s) (the_cast s) (role_at (shape (pair s)) 0))) StartFault.BadCast
+    ∷ option_map StartFault.UnknownPeer (stranger (keyring_of s.keys who) (the_cast s))
+    ∷ row (has_joined (joins_of past) the_sid (role_at (shape (pair s)) 0)) StartFault.Joined
     ∷ []
 
 -- the start, where no row holds
@@ -109,9 +113,9 @@ leaves g past label = nat_lt label (length g.edges) && (source (shape g) label =
 -- what is looked at in an act of a role
 abbrev pub rows_of_act : Schedule → Name → ℕ → List Event → ℕ → List (Option ActFault)
 rows_of_act s who r past label =
-    row (not (is_live s who r past)) NoSession
+    row (not (is_live s who r past)) ActFault.UnknownSession
     ∷ row (not (has_turn (pair s) r past)) NotYourTurn
-    ∷ row (not (leaves (pair s) past label)) NoSuchLabel
+    ∷ row (not (leaves (pair s) past label)) (Send NoSuchLabel)
     ∷ []
 
 -- the frame that an act sends, one tick after the last step. It joins where the sender has had no step before: then the receiver has had none either
@@ -140,15 +144,15 @@ rows_of_session g past m =
 -- what is looked at in a frame that joins
 abbrev pub rows_of_join : Schedule → Name → List Event → Message → List (Option Refusal)
 rows_of_join s who past m =
-    row (not (is_cast (keyring_of s.keys who) (pair s) (the_cast s) m.receiver && nat_lt m.sender (length (the_cast s).names))) BadCast
-    ∷ option_map UnknownPeer (stranger (keyring_of s.keys who) (the_cast s))
-    ∷ row (has_joined (joins_of past) the_sid m.receiver) Joined
+    row (not (is_cast (keyring_of s.keys who) (pair s) (the_cast s) m.receiver && nat_lt m.sender (length (the_cast s).names))) Refusal.BadCast
+    ∷ option_map Refusal.UnknownPeer (stranger (keyring_of s.keys who) (the_cast s))
+    ∷ row (has_joined (joins_of past) the_sid m.receiver) Refusal.Joined
     ∷ rows_of_session (pair s) past m
 
 -- what is looked at in a frame that continues the session
 abbrev pub rows_of_next : Schedule → Name → List Event → Message → List (Option Refusal)
 rows_of_next s who past m =
-    row (not (is_live s who m.receiver past)) UnknownSession
+    row (not (is_live s who m.receiver past)) Refusal.UnknownSession
     ∷ row (has_turn (pair s) m.receiver past) NotWaiting
     ∷ rows_of_session (pair s) past m
 
@@ -159,7 +163,7 @@ refusal s who past m = if m.joins then first_some (rows_of_join s who past m) el
 -- the receipt, where no row holds
 abbrev pub received : Message → Option Refusal → Outcome
 received m None = Happened (Received the_sid m.receiver m.label m.time [] m.joins)
-received m (Some why) = Refused why
+received m (Some why) = NotDelivered why
 
 -- the recorded frame of a number
 abbrev pub frame_at : World → ℕ → Option Message
@@ -188,7 +192,7 @@ acts s w who label r =
 -- the world after a step. Steps of other forms change nothing
 abbrev pub world_after : Schedule → World → Step → World
 world_after s w (StartStep who n) = taken w who (started (role_at (shape (pair s)) 0) (first_some (rows_of_start s who (past_of who w.log))))
-world_after s w (ActStep who n label values) = option_map_or (acts s w who label) (role_in (the_cast s) who) (taken w who (NotActed NoSession))
+world_after s w (ActStep who n label values) = option_map_or (acts s w who label) (role_in (the_cast s) who) (taken w who (NotActed ActFault.UnknownSession))
 world_after s w (DeliverStep who (Whole n)) = taken w who (option_map_or (λ m. received m (refusal s who (past_of who w.log) m)) (frame_at w n) NoFrame)
 world_after s w other = w
 

@@ -2,7 +2,7 @@
 #![tactic(auto)]
 
 ghost use Rattle.std.specs.Prelude.{ℕ, List};
-ghost use Rattle.sg_protocol.specs.Run.{Schedule};
+ghost use Rattle.sg_protocol.specs.Schedule.{Schedule};
 ghost use Rattle.sg_world.specs.Forms.{IsPairSchedule, FollowWalks, NoneJoinsTwice};
 ghost use Rattle.sg_world.specs.Report.{Account, IsReport};
 
