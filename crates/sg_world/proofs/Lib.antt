@@ -5,3 +5,4 @@ pub mod Story
 pub mod Stages
 pub mod Ours
 pub mod Course
+pub mod Worked

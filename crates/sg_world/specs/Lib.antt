@@ -2,3 +2,4 @@ pub mod Outcome
 pub mod Run
 pub mod Forms
 pub mod Report
+pub mod Account
