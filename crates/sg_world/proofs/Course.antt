@@ -20,7 +20,7 @@ use Rattle.sg_protocol.specs.Walk.{Receives, acts_of_event, OnePath, Act}
 use Rattle.sg_protocol.specs.World.{keyring_of}
 use Rattle.sg_world.specs.Outcome.{Outcome, NotActed, NoFrame, events, events_of_outcome, past_of}
 use Rattle.sg_world.specs.Run.{World, Message, Move, move_of, the_sid, pair, the_cast, place, time, joins_of, is_live, has_turn, leaves, rows_of_start, started, rows_of_act, acted, acts, message, role_in, is_shown, rows_of_session, rows_of_join, rows_of_next, refusal, received, frame_at, taken, world_after, world_after_all, run, sent_label}
-use Rattle.sg_world.specs.Forms.{IsPair, IsPairSession, IsPairSchedule, FollowWalks}
+use Rattle.sg_world.specs.Forms.{IsPair, IsPairSession, IsPairSetting, FollowWalks}
 use Rattle.sg_world.proofs.Rows.{first_row, first_asked, third_row, and_left, and_right, same_bytes, bytes_refl}
 use Rattle.sg_world.proofs.Pasts.{events_more, past_own, past_other}
 use Rattle.sg_world.proofs.Story.{stored, receiver_two, sender_two, settled_path, cut_path}
@@ -266,7 +266,7 @@ cast_two s (d ∷ ds) e all =
     let same : the_cast s ≡ d.cast = ap (λ l. unwrap_or (option_map (λ (d : Declared). d.cast) (slice_get l 0)) none) e in
     inr (subst (Two s) (sym same) (two_of s d.cast d.cast.names refl is.two is.differ is.are_honest))
 
-pub follow_walks : (s : Schedule) → IsPairSchedule s → FollowWalks s
+pub follow_walks : (s : Schedule) → IsPairSetting s → FollowWalks s
 follow_walks s is sid = elim (one_session s sid) [
   | inl all ↦ subst (λ es. OnePath (pair s) (honest_role s (the_cast s)) es (stored (flat_map sent_label es))) (sym all) whole
   | inr empty ↦ subst (λ es. OnePath (pair s) (honest_role s (the_cast s)) es (stored (flat_map sent_label es))) (sym empty) nothing

@@ -5,4 +5,5 @@ pub mod Story
 pub mod Stages
 pub mod Ours
 pub mod Course
+pub mod Reports
 pub mod Worked

@@ -1,10 +1,9 @@
 -- Worked replays, computed.
-use Rattle.std.specs.Prelude.{◌≡◌, ℕ, List, [], ◌∷◌, ◌++◌, codes, replicate, refl}
+use Rattle.std.specs.Prelude.{◌≡◌, ℕ, List, [], ◌∷◌, codes, replicate, refl}
 use Rattle.std.specs.Fmt.{digits}
 use Rattle.sg_model.specs.Names.{Name}
-use Rattle.sg_protocol.specs.Graph.{Graph, Node, Edge}
-use Rattle.sg_protocol.specs.Frame.{Cast}
-use Rattle.sg_protocol.specs.Schedule.{Schedule, PairKey, Declared, Step, StartStep, ActStep, DeliverStep, Whole}
+use Rattle.sg_protocol.specs.Graph.{Graph, Edge}
+use Rattle.sg_protocol.specs.Schedule.{Schedule, Step, StartStep, ActStep, DeliverStep, Whole}
 use Rattle.sg_world.specs.Account.{report_of}
 
 abbrev edge : Name → ℕ → ℕ → Edge

@@ -23,6 +23,13 @@ pub record IsPairSession (s : Schedule) (d : Declared) : Type 0 where
   pub differ : IsTrue (all_differ d.cast.names)
   pub are_honest : All (λ n. is_honest s n ≡ true) d.cast.names
 
+-- at most one graph and one session, both of two roles
+pub record IsPairSetting (s : Schedule) : Type 0 where
+  pub one_graph : length s.graphs ≤ 1
+  pub is_pair : IsPair (pair s)
+  pub one_session : length s.sessions ≤ 1
+  pub sessions : All (IsPairSession s) s.sessions
+
 -- a start, an act without values along an edge, or a delivery of a recorded frame as it is
 abbrev pub IsPairStep : Schedule → Step → Type 0
 IsPairStep s (StartStep who n) = (is_honest s who ≡ true) × (n < length s.sessions)
@@ -30,12 +37,9 @@ IsPairStep s (ActStep who n label values) = (is_honest s who ≡ true) × (n < l
 IsPairStep s (DeliverStep who (Whole n)) = is_honest s who ≡ true
 IsPairStep s other = ⊥
 
--- at most one graph and one session, both of two roles
+-- a schedule of one session of two roles
 pub record IsPairSchedule (s : Schedule) : Type 0 where
-  pub one_graph : length s.graphs ≤ 1
-  pub is_pair : IsPair (pair s)
-  pub one_session : length s.sessions ≤ 1
-  pub sessions : All (IsPairSession s) s.sessions
+  pub setting : IsPairSetting s
   pub steps : All (IsPairStep s) s.steps
 
 -- the sessions' events are those of one walk each, and it is what was sent

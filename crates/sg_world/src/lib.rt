@@ -1,22 +1,22 @@
 //! Replays a schedule: its honest principals, the record of what they did, and the report of it.
 #![tactic(auto)]
 
-ghost use Rattle.std.specs.Prelude.{ℕ, List};
 ghost use Rattle.sg_protocol.specs.Schedule.{Schedule};
-ghost use Rattle.sg_world.specs.Forms.{IsPairSchedule, FollowWalks, NoneJoinsTwice};
-ghost use Rattle.sg_world.specs.Report.{Account, IsReport};
-
-/// Reaches the definitions.
-pub fn definitions()
-    ensures { (a : Account) (text : List ℕ) → IsReport a text → IsReport a text }
-{}
+ghost use Rattle.sg_world.specs.Forms.{IsPairSetting, FollowWalks, NoneJoinsTwice};
+ghost use Rattle.sg_world.specs.Account.{account, report_of};
+ghost use Rattle.sg_world.specs.Report.{IsReport};
 
 /// Whatever the steps, the events of a session of two honest roles are those of one walk, and it is what they sent.
 pub fn follow_walks()
-    ensures { (s : Schedule) → IsPairSchedule s → FollowWalks s }
+    ensures { (s : Schedule) → IsPairSetting s → FollowWalks s }
 {}
 
 /// Whatever the schedule, no principal joins a session twice.
 pub fn none_joins_twice()
     ensures { (s : Schedule) → NoneJoinsTwice s }
+{}
+
+/// The report with the walks of what was sent is a report of the run.
+pub fn report_of_run()
+    ensures { (s : Schedule) → IsPairSetting s → IsReport (account s) (report_of s) }
 {}
