@@ -19,7 +19,7 @@ use Rattle.sg_protocol.specs.Session.{principal}
 use Rattle.sg_protocol.specs.Walk.{Receives, acts_of_event, OnePath, Act}
 use Rattle.sg_protocol.specs.World.{keyring_of}
 use Rattle.sg_world.specs.Outcome.{Outcome, NotActed, NoFrame, events, events_of_outcome, past_of}
-use Rattle.sg_world.specs.Run.{World, Message, Move, move_of, the_sid, pair, the_cast, place, time, joins_of, is_live, has_turn, leaves, rows_of_start, started, rows_of_act, acted, acts, message, role_in, is_shown, rows_of_session, rows_of_join, rows_of_next, refusal, received, frame_at, taken, world_after, world_after_all, run, sent_label}
+use Rattle.sg_world.specs.Run.{World, Message, Move, move_of, the_sid, pair, the_cast, Standing, standing, delivered, place, time, joins_of, is_live, has_turn, leaves, rows_of_start, started, rows_of_act, acted, acts, message, role_in, is_shown, rows_of_session, rows_of_join, rows_of_next, refusal, received, frame_at, taken, world_after, world_after_all, run, sent_label}
 use Rattle.sg_world.specs.Forms.{IsPair, IsPairSession, IsPairSetting, FollowWalks}
 use Rattle.sg_world.proofs.Rows.{first_row, first_asked, third_row, and_left, and_right, same_bytes, bytes_refl}
 use Rattle.sg_world.proofs.Pasts.{events_more, past_own, past_other}
@@ -113,18 +113,18 @@ module _ (s : Schedule) (is : IsPair (pair s)) (a b : Name) (two : (the_cast s).
     edge_of_shape : (label : ℕ) → label < length g.edges → label < length (shape g).edges
     edge_of_shape label h = subst (λ n. label < n) (sym (length-map g.edges _)) h
 
-    leaving : (past : List Event) (label : ℕ) → leaves g past label ≡ true → (label < length g.edges) × (source (shape g) label ≡ place g past)
-    leaving past label h = (ltb-true label (length g.edges) (and_left _ _ h), eqb-true (source (shape g) label) (place g past) (and_right (nat_lt label (length g.edges)) _ h))
+    leaving : (at : Standing) (label : ℕ) → leaves g at label ≡ true → (label < length g.edges) × (source (shape g) label ≡ place g at)
+    leaving at label h = (ltb-true label (length g.edges) (and_left _ _ h), eqb-true (source (shape g) label) (place g at) (and_right (nat_lt label (length g.edges)) _ h))
 
     -- an act that no row refuses
-    on_sent : (r label : ℕ) (to : Name) → has_turn g r (past_of (name r) w.log) ≡ true → leaves g (past_of (name r) w.log) label ≡ true →
-        On (acted w (name r) to (message g r (past_of (name r) w.log) label) None)
+    on_sent : (r label : ℕ) (to : Name) → has_turn g r (standing r (past_of (name r) w.log)) ≡ true → leaves g (standing r (past_of (name r) w.log)) label ≡ true →
+        On (acted w (name r) to (message g r (standing r (past_of (name r) w.log)) label) None)
     on_sent r label to turn leave =
-        let past : List Event = past_of (name r) w.log in
-        let e = leaving past label leave in
-        let at : role_at (shape g) (place g past) ≡ r = eqb-true _ r turn in
+        let st : Standing = standing r (past_of (name r) w.log) in
+        let e = leaving st label leave in
+        let at : role_at (shape g) (place g st) ≡ r = eqb-true _ r turn in
         let r2 : r < 2 = subst (λ q. q < 2) (ap (role_at (shape g)) e.1 ∙ at) (sender_two g is label e.0) in
-        let m : Message = message g r past label in
+        let m : Message = message g r st label in
         let o : Outcome = Outcome.Sends (Sent the_sid r label m.time []) to (length w.frames + 1) in
         subst (λ x. Stage g x (λ q. steps_of (taken w (name r) o) (name q)) (done (taken w (name r) o)) (w.frames ++ m ∷ [])) (sym (total_more sent_label w (name r) o))
         (subst (λ x. Stage g (walk w ++ label ∷ []) (λ q. steps_of (taken w (name r) o) (name q)) x (w.frames ++ m ∷ [])) (sym (total_more acts_of_event w (name r) o))
@@ -132,77 +132,77 @@ module _ (s : Schedule) (is : IsPair (pair s)) (a b : Name) (two : (the_cast s).
         (steps_own w (name r) (name r) o (bytes_refl (name r))) at (edge_of_shape label e.0)))
 
     -- a delivery that no row refuses
-    on_received : (r : ℕ) (m : Message) → m.receiver ≡ r → IsOf (walk w) m → is_shown g (past_of (name r) w.log) m ≡ true → nat_le m.time (time (past_of (name r) w.log)) ≡ false →
+    on_received : (r : ℕ) (m : Message) → m.receiver ≡ r → IsOf (walk w) m → is_shown g (standing r (past_of (name r) w.log)) m ≡ true → nat_le m.time (time (standing r (past_of (name r) w.log))) ≡ false →
         On (taken w (name r) (received m None))
     on_received r m to of shown late =
-        let past : List Event = past_of (name r) w.log in
-        let e = leaving past m.label (and_left _ _ shown) in
-        let it : receiver (shape g) m.label ≡ m.receiver = eqb-true _ m.receiver (and_right (leaves g past m.label) _ shown) in
+        let st : Standing = standing r (past_of (name r) w.log) in
+        let e = leaving st m.label (and_left _ _ shown) in
+        let it : receiver (shape g) m.label ≡ m.receiver = eqb-true _ m.receiver (and_right (leaves g st m.label) _ shown) in
         let r2 : r < 2 = subst (λ q. q < 2) (it ∙ to) (receiver_two g is m.label e.0) in
         let o : Outcome = received m None in
         subst (λ x. Stage g x (λ q. steps_of (taken w (name r) o) (name q)) (done (taken w (name r) o)) w.frames) (sym (total_more sent_label w (name r) o ∙ append-nil (walk w)))
         (subst (λ x. Stage g (walk w) (λ q. steps_of (taken w (name r) o) (name q)) x w.frames) (sym (total_more acts_of_event w (name r) o ∙ ap (λ q. done w ++ Receives q m.label [] ∷ []) to))
-        (takes g is (walk w) (λ q. steps_of w (name q)) (λ q. steps_of (taken w (name r) o) (name q)) (done w) w.frames on r r2 (others r o r2) m of to (leb-false m.time (time past) late)
+        (takes g is (walk w) (λ q. steps_of w (name q)) (λ q. steps_of (taken w (name r) o) (name q)) (done w) w.frames on r r2 (others r o r2) m of to (leb-false m.time (time st) late)
         (steps_own w (name r) (name r) o (bytes_refl (name r)))))
 
     on_started : (who : Name) (r : ℕ) (o : Option StartFault) → On (taken w who (started r o))
     on_started who r None = on_mute who (started r None) (record { no_label = refl; no_act = refl; no_move = refl })
     on_started who r (Some fault) = on_mute who (started r (Some fault)) (mute_of _ refl)
 
-    on_rows : (who : Name) (r label : ℕ) (to : Name) (f : Option ActFault) → first_some (rows_of_act s who r (past_of who w.log) label) ≡ f →
-        On (acted w who to (message g r (past_of who w.log) label) f)
+    on_rows : (who : Name) (r label : ℕ) (to : Name) (f : Option ActFault) → first_some (rows_of_act s who r (standing r (past_of who w.log)) label) ≡ f →
+        On (acted w who to (message g r (standing r (past_of who w.log)) label) f)
     on_rows who r label to (Some fault) h = on_mute who (NotActed fault) (mute_of _ refl)
     on_rows who r label to None h =
-        let live = first_asked (is_live s who r (past_of who w.log)) ActFault.UnknownSession _ h in
-        let turn = first_asked (has_turn g r (past_of who w.log)) ActFault.NotYourTurn _ live.1 in
-        let leave = first_asked (leaves g (past_of who w.log) label) (ActFault.Send SendFault.NoSuchLabel) [] turn.1 in
+        let live = first_asked (is_live s who r (standing r (past_of who w.log))) ActFault.UnknownSession _ h in
+        let turn = first_asked (has_turn g r (standing r (past_of who w.log))) ActFault.NotYourTurn _ live.1 in
+        let leave = first_asked (leaves g (standing r (past_of who w.log)) label) (ActFault.Send SendFault.NoSuchLabel) [] turn.1 in
         let me : name r ≡ who = same_bytes (name r) who (and_left _ _ (and_left _ _ live.0)) in
-        subst (λ p. On (acted w p to (message g r (past_of p w.log) label) None)) me
-        (on_sent r label to (subst (λ p. has_turn g r (past_of p w.log) ≡ true) (sym me) turn.0) (subst (λ p. leaves g (past_of p w.log) label ≡ true) (sym me) leave.0))
+        subst (λ p. On (acted w p to (message g r (standing r (past_of p w.log)) label) None)) me
+        (on_sent r label to (subst (λ p. has_turn g r (standing r (past_of p w.log)) ≡ true) (sym me) turn.0) (subst (λ p. leaves g (standing r (past_of p w.log)) label ≡ true) (sym me) leave.0))
 
     on_acts : (who : Name) (label : ℕ) (o : Option ℕ) → On (option_map_or (acts s w who label) o (taken w who (NotActed ActFault.UnknownSession)))
     on_acts who label None = on_mute who (NotActed ActFault.UnknownSession) (mute_of _ refl)
-    on_acts who label (Some r) = on_rows who r label _ (first_some (rows_of_act s who r (past_of who w.log) label)) refl
+    on_acts who label (Some r) = on_rows who r label _ (first_some (rows_of_act s who r (standing r (past_of who w.log)) label)) refl
 
     -- what a delivery passed
-    passed : (who : Name) (m : Message) → first_some (rows_of_session g (past_of who w.log) m) ≡ None → (is_shown g (past_of who w.log) m ≡ true) × (nat_le m.time (time (past_of who w.log)) ≡ false)
+    passed : (who : Name) (m : Message) → first_some (rows_of_session g (standing m.receiver (past_of who w.log)) m) ≡ None → (is_shown g (standing m.receiver (past_of who w.log)) m ≡ true) × (nat_le m.time (time (standing m.receiver (past_of who w.log))) ≡ false)
     passed who m h =
-        let shown = first_asked (is_shown g (past_of who w.log) m) Refusal.NoSuchView _ h in
-        (shown.0, (first_row (nat_le m.time (time (past_of who w.log))) _ [] shown.1).0)
+        let shown = first_asked (is_shown g (standing m.receiver (past_of who w.log)) m) Refusal.NoSuchView _ h in
+        (shown.0, (first_row (nat_le m.time (time (standing m.receiver (past_of who w.log)))) _ [] shown.1).0)
 
-    for_me : (who : Name) (m : Message) → refusal s who (past_of who w.log) m ≡ None → (name m.receiver ≡ who) × (first_some (rows_of_session g (past_of who w.log) m) ≡ None)
+    for_me : (who : Name) (m : Message) → refusal s who (standing m.receiver (past_of who w.log)) m ≡ None → (name m.receiver ≡ who) × (first_some (rows_of_session g (standing m.receiver (past_of who w.log)) m) ≡ None)
     for_me who m h = elim (cases_Bool m.joins) [
       | inl joins ↦ joined (rw joins at h)
       | inr goes ↦ continued (rw goes at h)
     ]
       where
-        joined : first_some (rows_of_join s who (past_of who w.log) m) ≡ None → (name m.receiver ≡ who) × (first_some (rows_of_session g (past_of who w.log) m) ≡ None)
+        joined : first_some (rows_of_join s who (standing m.receiver (past_of who w.log)) m) ≡ None → (name m.receiver ≡ who) × (first_some (rows_of_session g (standing m.receiver (past_of who w.log)) m) ≡ None)
         joined k =
             let cast = first_asked (is_cast (keyring_of s.keys who) g (the_cast s) m.receiver && nat_lt m.sender (length (the_cast s).names)) Refusal.BadCast _ k in
             (same_bytes (name m.receiver) who (and_right _ (bytes_eq (name m.receiver) who) (and_left _ _ cast.0)), (third_row _ _ (has_joined (joins_of (past_of who w.log)) the_sid m.receiver) Refusal.Joined _ k).1)
 
-        continued : first_some (rows_of_next s who (past_of who w.log) m) ≡ None → (name m.receiver ≡ who) × (first_some (rows_of_session g (past_of who w.log) m) ≡ None)
+        continued : first_some (rows_of_next s who (standing m.receiver (past_of who w.log)) m) ≡ None → (name m.receiver ≡ who) × (first_some (rows_of_session g (standing m.receiver (past_of who w.log)) m) ≡ None)
         continued k =
-            let live = first_asked (is_live s who m.receiver (past_of who w.log)) Refusal.UnknownSession _ k in
-            (same_bytes (name m.receiver) who (and_left _ _ (and_left _ _ live.0)), (first_row (has_turn g m.receiver (past_of who w.log)) Refusal.NotWaiting _ live.1).1)
+            let live = first_asked (is_live s who m.receiver (standing m.receiver (past_of who w.log))) Refusal.UnknownSession _ k in
+            (same_bytes (name m.receiver) who (and_left _ _ (and_left _ _ live.0)), (first_row (has_turn g m.receiver (standing m.receiver (past_of who w.log))) Refusal.NotWaiting _ live.1).1)
 
-    on_delivery : (who : Name) (m : Message) → IsOf (walk w) m → (o : Option Refusal) → refusal s who (past_of who w.log) m ≡ o → On (taken w who (received m o))
+    on_delivery : (who : Name) (m : Message) → IsOf (walk w) m → (o : Option Refusal) → refusal s who (standing m.receiver (past_of who w.log)) m ≡ o → On (taken w who (received m o))
     on_delivery who m of (Some why) h = on_mute who (received m (Some why)) (mute_of _ refl)
     on_delivery who m of None h =
         let me = for_me who m h in
         let p = passed who m me.1 in
         subst (λ p. On (taken w p (received m None))) me.0
-        (on_received m.receiver m refl of (subst (λ p. is_shown g (past_of p w.log) m ≡ true) (sym me.0) p.0) (subst (λ p. nat_le m.time (time (past_of p w.log)) ≡ false) (sym me.0) p.1))
+        (on_received m.receiver m refl of (subst (λ p. is_shown g (standing m.receiver (past_of p w.log)) m ≡ true) (sym me.0) p.0) (subst (λ p. nat_le m.time (time (standing m.receiver (past_of p w.log))) ≡ false) (sym me.0) p.1))
 
     is_of : (n : ℕ) (m : Message) → frame_at w n ≡ Some m → IsOf (walk w) m
     is_of n m h = elim (cases_Bool (n == 0)) [ inl e ↦ cc | inr e ↦ all_at (IsOf (walk w)) w.frames (n - 1) m on.of_it (rw e at h) ]
 
-    on_delivered : (who : Name) (n : ℕ) (o : Option Message) → frame_at w n ≡ o → On (taken w who (option_map_or (λ m. received m (refusal s who (past_of who w.log) m)) o NoFrame))
+    on_delivered : (who : Name) (n : ℕ) (o : Option Message) → frame_at w n ≡ o → On (taken w who (option_map_or (delivered s w who) o NoFrame))
     on_delivered who n None h = on_mute who NoFrame (mute_of _ refl)
-    on_delivered who n (Some m) h = on_delivery who m (is_of n m h) (refusal s who (past_of who w.log) m) refl
+    on_delivered who n (Some m) h = on_delivery who m (is_of n m h) (refusal s who (standing m.receiver (past_of who w.log)) m) refl
 
     on_after : (x : Step) → On (world_after s w x)
-    on_after (StartStep who n) = on_started who _ (first_some (rows_of_start s who (past_of who w.log)))
+    on_after (StartStep who n) = on_started who _ (first_some (rows_of_start s who (standing (role_at (shape g) 0) (past_of who w.log))))
     on_after (ActStep who n label values) = on_acts who label (role_in (the_cast s) who)
     on_after (DeliverStep who (Whole n)) = on_delivered who n (frame_at w n) refl
     on_after (DeliverStep who (Flipped n at)) = on

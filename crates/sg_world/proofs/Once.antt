@@ -14,7 +14,7 @@ use Rattle.sg_protocol.specs.Schedule.{Schedule, Step, StartStep, ActStep, Aband
 use Rattle.sg_protocol.specs.Session.{principal}
 use Rattle.sg_protocol.specs.Verdict.{row}
 use Rattle.sg_world.specs.Outcome.{Outcome, NotActed, NoFrame, events_of_outcome, past_of}
-use Rattle.sg_world.specs.Run.{World, Message, the_sid, pair, the_cast, joins_of, is_live, has_turn, rows_of_start, started, rows_of_act, acted, acts, role_in, rows_of_session, refusal, received, frame_at, taken, world_after, world_after_all, run, message, may_go_on, place}
+use Rattle.sg_world.specs.Run.{World, Message, the_sid, pair, the_cast, joins_of, standing, delivered, is_live, has_turn, rows_of_start, started, rows_of_act, acted, acts, role_in, rows_of_session, refusal, received, frame_at, taken, world_after, world_after_all, run, message, may_go_on, place}
 use Rattle.sg_world.proofs.Rows.{third_row, first_asked, and_both, and_left, and_right, same_bytes}
 use Rattle.sg_world.proofs.Pasts.{past_own, past_other}
 
@@ -73,8 +73,8 @@ module _ (s : Schedule) (w : World) (once : Once w) (who : Name) where
   once_started r None h = once_taken (started r None) (ap not (h refl))
   once_started r (Some fault) h = once_taken (started r (Some fault)) tt
 
-  live_joined : (r : ℕ) → is_live s who r past ≡ true → has_joined (joins_of past) the_sid r ≡ true
-  live_joined r h = and_right (bytes_eq (principal (the_cast s) r) who) (has_joined (joins_of past) the_sid r) (and_left _ (may_go_on (pair s) (place (pair s) past)) h)
+  live_joined : (r : ℕ) → is_live s who r (standing r past) ≡ true → has_joined (joins_of past) the_sid r ≡ true
+  live_joined r h = and_right (bytes_eq (principal (the_cast s) r) who) (has_joined (joins_of past) the_sid r) (and_left _ (may_go_on (pair s) (place (pair s) (standing r past))) h)
 
   once_acted : (to : Name) (m : Message) (o : Option ActFault) → (o ≡ None → has_joined (joins_of past) the_sid m.sender ≡ true) → Once (acted w who to m o)
   once_acted to m None h = once_taken _ (h refl)
@@ -82,21 +82,21 @@ module _ (s : Schedule) (w : World) (once : Once w) (who : Name) where
 
   once_acts : (label : ℕ) (o : Option ℕ) → Once (option_map_or (acts s w who label) o (taken w who (NotActed ActFault.UnknownSession)))
   once_acts label None = once_taken (NotActed ActFault.UnknownSession) tt
-  once_acts label (Some r) = once_acted _ (message (pair s) r past label) (first_some (rows_of_act s who r past label)) (λ h. live_joined r (first_asked (is_live s who r past) _ _ h).0)
+  once_acts label (Some r) = once_acted _ (message (pair s) r (standing r past) label) (first_some (rows_of_act s who r (standing r past) label)) (λ h. live_joined r (first_asked (is_live s who r (standing r past)) _ _ h).0)
 
-  once_received : (m : Message) (o : Option Refusal) → refusal s who past m ≡ o → Once (taken w who (received m o))
+  once_received : (m : Message) (o : Option Refusal) → refusal s who (standing m.receiver past) m ≡ o → Once (taken w who (received m o))
   once_received m (Some why) e = once_taken _ tt
   once_received m None e = once_taken _ (elim (cases_Bool m.joins) [
-    | inl joins ↦ rw joins (ap not (third_row _ _ (has_joined (joins_of past) the_sid m.receiver) Refusal.Joined (rows_of_session (pair s) past m) (rw joins at e)).0)
-    | inr goes ↦ rw goes (live_joined m.receiver (first_asked (is_live s who m.receiver past) Refusal.UnknownSession (row (has_turn (pair s) m.receiver past) Refusal.NotWaiting ∷ rows_of_session (pair s) past m) (rw goes at e)).0)
+    | inl joins ↦ rw joins (ap not (third_row _ _ (has_joined (joins_of past) the_sid m.receiver) Refusal.Joined (rows_of_session (pair s) (standing m.receiver past) m) (rw joins at e)).0)
+    | inr goes ↦ rw goes (live_joined m.receiver (first_asked (is_live s who m.receiver (standing m.receiver past)) Refusal.UnknownSession (row (has_turn (pair s) m.receiver (standing m.receiver past)) Refusal.NotWaiting ∷ rows_of_session (pair s) (standing m.receiver past) m) (rw goes at e)).0)
   ])
 
-  once_delivered : (o : Option Message) → Once (taken w who (option_map_or (λ m. received m (refusal s who past m)) o NoFrame))
+  once_delivered : (o : Option Message) → Once (taken w who (option_map_or (delivered s w who) o NoFrame))
   once_delivered None = once_taken NoFrame tt
-  once_delivered (Some m) = once_received m (refusal s who past m) refl
+  once_delivered (Some m) = once_received m (refusal s who (standing m.receiver past) m) refl
 
 once_after : (s : Schedule) (w : World) → Once w → (x : Step) → Once (world_after s w x)
-once_after s w once (StartStep who n) = once_started s w once who _ (first_some (rows_of_start s who (past_of who w.log)))
+once_after s w once (StartStep who n) = once_started s w once who _ (first_some (rows_of_start s who (standing (role_at (shape (pair s)) 0) (past_of who w.log))))
     (λ h. (third_row _ _ (has_joined (joins_of (past_of who w.log)) the_sid (role_at (shape (pair s)) 0)) StartFault.Joined [] h).0)
 once_after s w once (ActStep who n label values) = once_acts s w once who label (role_in (the_cast s) who)
 once_after s w once (DeliverStep who (Whole n)) = once_delivered s w once who (frame_at w n)

@@ -16,7 +16,7 @@ use Rattle.sg_protocol.specs.Schedule.{Schedule, Step, StartStep, ActStep, Aband
 use Rattle.sg_protocol.specs.Verdict.{row}
 use Rattle.sg_protocol.specs.World.{keyring_of}
 use Rattle.sg_world.specs.Outcome.{Outcome, NotStarted, NotActed, NoFrame, events, events_in, events_of_outcome, past_of}
-use Rattle.sg_world.specs.Run.{World, Message, the_sid, pair, the_cast, rows_of_start, started, rows_of_act, acted, acts, role_in, refusal, received, frame_at, taken, world_after, world_after_all, run}
+use Rattle.sg_world.specs.Run.{World, Message, the_sid, pair, the_cast, standing, delivered, rows_of_start, started, rows_of_act, acted, acts, role_in, refusal, received, frame_at, taken, world_after, world_after_all, run}
 use Rattle.sg_world.proofs.Rows.{and_both, and_left, and_right, same_bytes}
 use Rattle.sg_world.proofs.Pasts.{events_more}
 
@@ -42,18 +42,18 @@ module _ (s : Schedule) (w : World) (ours : Ours (events w.log)) (who : Name) wh
 
   ours_acts : (label : ℕ) (o : Option ℕ) → Ours (events (option_map_or (acts s w who label) o (taken w who (NotActed ActFault.UnknownSession))).log)
   ours_acts label None = ours_taken (NotActed ActFault.UnknownSession) refl
-  ours_acts label (Some r) = ours_acted _ _ (first_some (rows_of_act s who r (past_of who w.log) label))
+  ours_acts label (Some r) = ours_acted _ _ (first_some (rows_of_act s who r (standing r (past_of who w.log)) label))
 
   ours_received : (m : Message) (o : Option Refusal) → Ours (events (taken w who (received m o)).log)
   ours_received m None = ours_taken (received m None) refl
   ours_received m (Some why) = ours_taken (received m (Some why)) refl
 
-  ours_delivered : (o : Option Message) → Ours (events (taken w who (option_map_or (λ m. received m (refusal s who (past_of who w.log) m)) o NoFrame)).log)
+  ours_delivered : (o : Option Message) → Ours (events (taken w who (option_map_or (delivered s w who) o NoFrame)).log)
   ours_delivered None = ours_taken NoFrame refl
-  ours_delivered (Some m) = ours_received m (refusal s who (past_of who w.log) m)
+  ours_delivered (Some m) = ours_received m (refusal s who (standing m.receiver (past_of who w.log)) m)
 
 ours_after : (s : Schedule) (w : World) → Ours (events w.log) → (x : Step) → Ours (events (world_after s w x).log)
-ours_after s w ours (StartStep who n) = ours_started s w ours who _ (first_some (rows_of_start s who (past_of who w.log)))
+ours_after s w ours (StartStep who n) = ours_started s w ours who _ (first_some (rows_of_start s who (standing (role_at (shape (pair s)) 0) (past_of who w.log))))
 ours_after s w ours (ActStep who n label values) = ours_acts s w ours who label (role_in (the_cast s) who)
 ours_after s w ours (DeliverStep who (Whole n)) = ours_delivered s w ours who (frame_at w n)
 ours_after s w ours (DeliverStep who (Flipped n at)) = ours
@@ -105,7 +105,7 @@ module _ (s : Schedule) (none : (the_cast s).names ≡ []) (w : World) (nothing 
   nothing_acts None e label = nothing_taken (NotActed ActFault.UnknownSession) refl
   nothing_acts (Some r) e label = cc
 
-  nothing_delivered : (o : Option Message) → o ≡ None → Nothing (taken w who (option_map_or (λ m. received m (refusal s who (past_of who w.log) m)) o NoFrame))
+  nothing_delivered : (o : Option Message) → o ≡ None → Nothing (taken w who (option_map_or (delivered s w who) o NoFrame))
   nothing_delivered None e = nothing_taken NoFrame refl
   nothing_delivered (Some m) e = cc
 

@@ -44,12 +44,17 @@ pair s = get_or s.graphs 0 (record { name = []; roles = []; variables = []; node
 abbrev pub the_cast : Schedule → Cast
 the_cast s = unwrap_or (cast_of s 0) (record { version = 1; graph = []; nonce = []; names = [] })
 
--- ---- what follows from a principal's past
+-- ---- what a principal's past comes to
 
 -- a step along an edge, and its time
 pub record Move : Type 0 where
   pub label : ℕ
   pub time : ℕ
+
+-- whether a principal joined in a role, and the last step that it sent or received
+pub record Standing : Type 0 where
+  pub joined : Bool
+  pub last : Option Move
 
 -- the step of an event: a start is none
 abbrev pub move_of : Event → List Move
@@ -57,42 +62,42 @@ move_of (Started sid r) = []
 move_of (Sent sid r label time values) = record { label = label; time = time } ∷ []
 move_of (Received sid r label time values joins) = record { label = label; time = time } ∷ []
 
--- the last step that the principal sent or received
-abbrev pub last_move : List Event → Option Move
-last_move past = last (flat_map move_of past)
-
--- the node to which it led, or the start
-abbrev pub place : Graph → List Event → ℕ
-place g past = option_map_or (λ m. target (shape g) m.label) (last_move past) 0
-
--- its time, or 0
-abbrev pub time : List Event → ℕ
-time past = option_map_or (λ m. m.time) (last_move past) 0
-
 -- the pairs of session and role that the principal joined
 abbrev pub joins_of : List Event → List (List ℕ × ℕ)
 joins_of past = map (λ e. (sid_of e, role_of e)) (filter does_join past)
+
+-- where a principal with this past stands in a role
+abbrev pub standing : ℕ → List Event → Standing
+standing r past = record { joined = has_joined (joins_of past) the_sid r; last = last (flat_map move_of past) }
+
+-- the node to which the last step led, or the start
+abbrev pub place : Graph → Standing → ℕ
+place g at = option_map_or (λ m. target (shape g) m.label) at.last 0
+
+-- the time of the last step, or 0
+abbrev pub time : Standing → ℕ
+time at = option_map_or (λ m. m.time) at.last 0
 
 -- an edge leaves the node
 abbrev pub may_go_on : Graph → ℕ → Bool
 may_go_on g n = list_any (λ e. e.source == n) g.edges
 
 -- the principal has joined in the role, and the session goes on: with two roles, the one that waits has a node to come to just where an edge leaves the other's
-abbrev pub is_live : Schedule → Name → ℕ → List Event → Bool
-is_live s who r past = bytes_eq (principal (the_cast s) r) who && has_joined (joins_of past) the_sid r && may_go_on (pair s) (place (pair s) past)
+abbrev pub is_live : Schedule → Name → ℕ → Standing → Bool
+is_live s who r at = bytes_eq (principal (the_cast s) r) who && at.joined && may_go_on (pair s) (place (pair s) at)
 
 -- the role has the turn
-abbrev pub has_turn : Graph → ℕ → List Event → Bool
-has_turn g r past = role_at (shape g) (place g past) == r
+abbrev pub has_turn : Graph → ℕ → Standing → Bool
+has_turn g r at = role_at (shape g) (place g at) == r
 
 -- ---- starts
 
 -- what is looked at in a start, which is in the role of the first node
-abbrev pub rows_of_start : Schedule → Name → List Event → List (Option StartFault)
-rows_of_start s who past =
+abbrev pub rows_of_start : Schedule → Name → Standing → List (Option StartFault)
+rows_of_start s who at =
     row (not (is_cast (keyring_of s.keys who) (pair s) (the_cast s) (role_at (shape (pair s)) 0))) StartFault.BadCast
     ∷ option_map StartFault.UnknownPeer (stranger (keyring_of s.keys who) (the_cast s))
-    ∷ row (has_joined (joins_of past) the_sid (role_at (shape (pair s)) 0)) StartFault.Joined
+    ∷ row at.joined StartFault.Joined
     ∷ []
 
 -- the start, where no row holds
@@ -107,58 +112,58 @@ abbrev pub role_in : Cast → Name → Option ℕ
 role_in c who = position (bytes_eq who) c.names
 
 -- an edge of this label leaves the place
-abbrev pub leaves : Graph → List Event → ℕ → Bool
-leaves g past label = nat_lt label (length g.edges) && (source (shape g) label == place g past)
+abbrev pub leaves : Graph → Standing → ℕ → Bool
+leaves g at label = nat_lt label (length g.edges) && (source (shape g) label == place g at)
 
 -- what is looked at in an act of a role
-abbrev pub rows_of_act : Schedule → Name → ℕ → List Event → ℕ → List (Option ActFault)
-rows_of_act s who r past label =
-    row (not (is_live s who r past)) ActFault.UnknownSession
-    ∷ row (not (has_turn (pair s) r past)) NotYourTurn
-    ∷ row (not (leaves (pair s) past label)) (Send NoSuchLabel)
+abbrev pub rows_of_act : Schedule → Name → ℕ → Standing → ℕ → List (Option ActFault)
+rows_of_act s who r at label =
+    row (not (is_live s who r at)) ActFault.UnknownSession
+    ∷ row (not (has_turn (pair s) r at)) NotYourTurn
+    ∷ row (not (leaves (pair s) at label)) (Send NoSuchLabel)
     ∷ []
 
 -- the frame that an act sends, one tick after the last step. It joins where the sender has had no step before: then the receiver has had none either
-abbrev pub message : Graph → ℕ → List Event → ℕ → Message
-message g r past label = record {
+abbrev pub message : Graph → ℕ → Standing → ℕ → Message
+message g r at label = record {
   sender = r;
   receiver = receiver (shape g) label;
   label = label;
-  time = time past + 1;
-  joins = is_none (last_move past);
+  time = time at + 1;
+  joins = is_none at.last;
 }
 
 -- ---- deliveries
 
 -- the frame's step is an edge from the receiver's place to a node of the receiver
-abbrev pub is_shown : Graph → List Event → Message → Bool
-is_shown g past m = leaves g past m.label && (receiver (shape g) m.label == m.receiver)
+abbrev pub is_shown : Graph → Standing → Message → Bool
+is_shown g at m = leaves g at m.label && (receiver (shape g) m.label == m.receiver)
 
 -- what is looked at in the session that waits for the frame
-abbrev pub rows_of_session : Graph → List Event → Message → List (Option Refusal)
-rows_of_session g past m =
-    row (not (is_shown g past m)) NoSuchView
-    ∷ row (nat_le m.time (time past)) (BadTime 1 m.time (time past + 1))
+abbrev pub rows_of_session : Graph → Standing → Message → List (Option Refusal)
+rows_of_session g at m =
+    row (not (is_shown g at m)) NoSuchView
+    ∷ row (nat_le m.time (time at)) (BadTime 1 m.time (time at + 1))
     ∷ []
 
 -- what is looked at in a frame that joins
-abbrev pub rows_of_join : Schedule → Name → List Event → Message → List (Option Refusal)
-rows_of_join s who past m =
+abbrev pub rows_of_join : Schedule → Name → Standing → Message → List (Option Refusal)
+rows_of_join s who at m =
     row (not (is_cast (keyring_of s.keys who) (pair s) (the_cast s) m.receiver && nat_lt m.sender (length (the_cast s).names))) Refusal.BadCast
     ∷ option_map Refusal.UnknownPeer (stranger (keyring_of s.keys who) (the_cast s))
-    ∷ row (has_joined (joins_of past) the_sid m.receiver) Refusal.Joined
-    ∷ rows_of_session (pair s) past m
+    ∷ row at.joined Refusal.Joined
+    ∷ rows_of_session (pair s) at m
 
 -- what is looked at in a frame that continues the session
-abbrev pub rows_of_next : Schedule → Name → List Event → Message → List (Option Refusal)
-rows_of_next s who past m =
-    row (not (is_live s who m.receiver past)) Refusal.UnknownSession
-    ∷ row (has_turn (pair s) m.receiver past) NotWaiting
-    ∷ rows_of_session (pair s) past m
+abbrev pub rows_of_next : Schedule → Name → Standing → Message → List (Option Refusal)
+rows_of_next s who at m =
+    row (not (is_live s who m.receiver at)) Refusal.UnknownSession
+    ∷ row (has_turn (pair s) m.receiver at) NotWaiting
+    ∷ rows_of_session (pair s) at m
 
 -- why a delivery is refused, if it is
-abbrev pub refusal : Schedule → Name → List Event → Message → Option Refusal
-refusal s who past m = if m.joins then first_some (rows_of_join s who past m) else first_some (rows_of_next s who past m)
+abbrev pub refusal : Schedule → Name → Standing → Message → Option Refusal
+refusal s who at m = if m.joins then first_some (rows_of_join s who at m) else first_some (rows_of_next s who at m)
 
 -- the receipt, where no row holds
 abbrev pub received : Message → Option Refusal → Outcome
@@ -186,14 +191,19 @@ acted w who to m None = record {
 -- a principal acts in its role
 abbrev pub acts : Schedule → World → Name → ℕ → ℕ → World
 acts s w who label r =
-    let past = past_of who w.log in
-    acted w who (principal (the_cast s) (receiver (shape (pair s)) label)) (message (pair s) r past label) (first_some (rows_of_act s who r past label))
+    let at = standing r (past_of who w.log) in
+    acted w who (principal (the_cast s) (receiver (shape (pair s)) label)) (message (pair s) r at label) (first_some (rows_of_act s who r at label))
+
+-- what a principal's delivery of a frame brings about
+abbrev pub delivered : Schedule → World → Name → Message → Outcome
+delivered s w who m = received m (refusal s who (standing m.receiver (past_of who w.log)) m)
 
 -- the world after a step. Steps of other forms change nothing
 abbrev pub world_after : Schedule → World → Step → World
-world_after s w (StartStep who n) = taken w who (started (role_at (shape (pair s)) 0) (first_some (rows_of_start s who (past_of who w.log))))
+world_after s w (StartStep who n) =
+    let r = role_at (shape (pair s)) 0 in taken w who (started r (first_some (rows_of_start s who (standing r (past_of who w.log)))))
 world_after s w (ActStep who n label values) = option_map_or (acts s w who label) (role_in (the_cast s) who) (taken w who (NotActed ActFault.UnknownSession))
-world_after s w (DeliverStep who (Whole n)) = taken w who (option_map_or (λ m. received m (refusal s who (past_of who w.log) m)) (frame_at w n) NoFrame)
+world_after s w (DeliverStep who (Whole n)) = taken w who (option_map_or (delivered s w who) (frame_at w n) NoFrame)
 world_after s w other = w
 
 -- the world after these steps
