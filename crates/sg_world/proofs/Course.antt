@@ -156,7 +156,7 @@ module _ (s : Schedule) (is : IsPair (pair s)) (a b : Name) (two : (the_cast s).
         let live = first_asked (is_live s who r (standing r (past_of who w.log))) ActFault.UnknownSession _ h in
         let turn = first_asked (has_turn g r (standing r (past_of who w.log))) ActFault.NotYourTurn _ live.1 in
         let leave = first_asked (leaves g (standing r (past_of who w.log)) label) (ActFault.Send SendFault.NoSuchLabel) [] turn.1 in
-        let me : name r ≡ who = same_bytes (name r) who (and_left _ _ (and_left _ _ live.0)) in
+        let me : name r ≡ who = same_bytes (name r) who (and_right _ (bytes_eq (name r) who) (and_left _ _ (and_left _ _ live.0))) in
         subst (λ p. On (acted w p to (message g r (standing r (past_of p w.log)) label) None)) me
         (on_sent r label to (subst (λ p. has_turn g r (standing r (past_of p w.log)) ≡ true) (sym me) turn.0) (subst (λ p. leaves g (standing r (past_of p w.log)) label ≡ true) (sym me) leave.0))
 
@@ -184,7 +184,7 @@ module _ (s : Schedule) (is : IsPair (pair s)) (a b : Name) (two : (the_cast s).
         continued : first_some (rows_of_next s who (standing m.receiver (past_of who w.log)) m) ≡ None → (name m.receiver ≡ who) × (first_some (rows_of_session g (standing m.receiver (past_of who w.log)) m) ≡ None)
         continued k =
             let live = first_asked (is_live s who m.receiver (standing m.receiver (past_of who w.log))) Refusal.UnknownSession _ k in
-            (same_bytes (name m.receiver) who (and_left _ _ (and_left _ _ live.0)), (first_row (has_turn g m.receiver (standing m.receiver (past_of who w.log))) Refusal.NotWaiting _ live.1).1)
+            (same_bytes (name m.receiver) who (and_right _ (bytes_eq (name m.receiver) who) (and_left _ _ (and_left _ _ live.0))), (first_row (has_turn g m.receiver (standing m.receiver (past_of who w.log))) Refusal.NotWaiting _ live.1).1)
 
     on_delivery : (who : Name) (m : Message) → IsOf (walk w) m → (o : Option Refusal) → refusal s who (standing m.receiver (past_of who w.log)) m ≡ o → On (taken w who (received m o))
     on_delivery who m of (Some why) h = on_mute who (received m (Some why)) (mute_of _ refl)

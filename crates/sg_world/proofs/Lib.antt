@@ -1,4 +1,6 @@
 pub mod Rows
+pub mod Going
+pub mod Sits
 pub mod Pasts
 pub mod Once
 pub mod Story

@@ -14,7 +14,7 @@ use Rattle.sg_protocol.specs.Schedule.{Schedule, Step, StartStep, ActStep, Aband
 use Rattle.sg_protocol.specs.Session.{principal}
 use Rattle.sg_protocol.specs.Verdict.{row}
 use Rattle.sg_world.specs.Outcome.{Outcome, NotActed, NoFrame, events_of_outcome, past_of}
-use Rattle.sg_world.specs.Run.{World, Message, the_sid, pair, the_cast, joins_of, standing, delivered, is_live, has_turn, rows_of_start, started, rows_of_act, acted, acts, role_in, rows_of_session, refusal, received, frame_at, taken, world_after, world_after_all, run, message, may_go_on, place}
+use Rattle.sg_world.specs.Run.{World, Message, the_sid, pair, the_cast, joins_of, standing, delivered, has_role, is_live, has_turn, rows_of_start, started, rows_of_act, acted, acts, role_in, rows_of_session, refusal, received, frame_at, taken, world_after, world_after_all, run, message, may_go_on, place}
 use Rattle.sg_world.proofs.Rows.{third_row, first_asked, and_both, and_left, and_right, same_bytes}
 use Rattle.sg_world.proofs.Pasts.{past_own, past_other}
 
@@ -74,7 +74,7 @@ module _ (s : Schedule) (w : World) (once : Once w) (who : Name) where
   once_started r (Some fault) h = once_taken (started r (Some fault)) tt
 
   live_joined : (r : ℕ) → is_live s who r (standing r past) ≡ true → has_joined (joins_of past) the_sid r ≡ true
-  live_joined r h = and_right (bytes_eq (principal (the_cast s) r) who) (has_joined (joins_of past) the_sid r) (and_left _ (may_go_on (pair s) (place (pair s) (standing r past))) h)
+  live_joined r h = and_right (has_role (the_cast s) r who) (has_joined (joins_of past) the_sid r) (and_left _ (may_go_on (pair s) (place (pair s) (standing r past))) h)
 
   once_acted : (to : Name) (m : Message) (o : Option ActFault) → (o ≡ None → has_joined (joins_of past) the_sid m.sender ≡ true) → Once (acted w who to m o)
   once_acted to m None h = once_taken _ (h refl)

@@ -82,9 +82,13 @@ time at = option_map_or (λ m. m.time) at.last 0
 abbrev pub may_go_on : Graph → ℕ → Bool
 may_go_on g n = list_any (λ e. e.source == n) g.edges
 
+-- the principal has the role
+abbrev pub has_role : Cast → ℕ → Name → Bool
+has_role c r who = nat_lt r (length c.names) && bytes_eq (principal c r) who
+
 -- the principal has joined in the role, and the session goes on: with two roles, the one that waits has a node to come to just where an edge leaves the other's
 abbrev pub is_live : Schedule → Name → ℕ → Standing → Bool
-is_live s who r at = bytes_eq (principal (the_cast s) r) who && at.joined && may_go_on (pair s) (place (pair s) at)
+is_live s who r at = has_role (the_cast s) r who && at.joined && may_go_on (pair s) (place (pair s) at)
 
 -- the role has the turn
 abbrev pub has_turn : Graph → ℕ → Standing → Bool

@@ -1,6 +1,17 @@
 //! Replays a schedule: its honest principals, the record of what they did, and the report of it.
 #![tactic(auto)]
 
+mod judge;
+mod message;
+mod sitting;
+mod standing;
+mod step;
+
+pub use message::Message;
+pub use sitting::Sitting;
+pub use standing::{Move, Standing};
+pub use step::{ActFault, Outcome, Refusal, StartFault, Step};
+
 ghost use Rattle.sg_protocol.specs.Schedule.{Schedule};
 ghost use Rattle.sg_world.specs.Forms.{IsPairSetting, FollowWalks, NoneJoinsTwice};
 ghost use Rattle.sg_world.specs.Account.{account, report_of};
