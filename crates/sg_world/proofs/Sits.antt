@@ -53,7 +53,7 @@ module _ (s : Schedule) (x : Sitting) (is : IsSitting s x) where
   is_cast_same who r =
       subst (λ g. is_cast (keyring_of s.keys who) g (the_cast s) r ≡ is_role x r who) (sym is.graph)
       (subst (λ ns. ((length ns == length x.graph.roles) && all_differ ns && nat_lt r (length ns) && bytes_eq (get_or ns r []) who) ≡ is_role x r who) (sym is.cast)
-      (rw (is.roles, differ_all) (and_assoc _ _ ∙ role_same x r who)))
+      (rw (is.roles, differ_all) (and_assoc (nat_lt r (length (names x))) (bytes_eq (get_or (names x) r []) who) ∙ role_same x r who)))
 
   unknown_same : (r : ℕ) (who : Name) → is_role x r who ≡ true → stranger (keyring_of s.keys who) (the_cast s) ≡ unknown_peer x who
   unknown_same r who h = elim (one_of_two x r who h) [

@@ -8,6 +8,8 @@ use Rattle.sg_model.specs.Names.{Name}
 use Rattle.sg_world.specs.Outcome as Shown
 use Rattle.sg_world.specs.Outcome.{Happened, Sends}
 use Rattle.sg_world.specs.Run.{the_sid}
+use Rattle.sg_world.specs.Judged.{Judgement}
+use Rattle.sg_world.specs.declared.judge.Judged.{Judged}
 use Rattle.sg_world.specs.declared.step.Step.{Step}
 use Rattle.sg_world.specs.declared.step.Step.TheVariants.{Start, Act, Deliver}
 use Rattle.sg_world.specs.declared.step.Outcome.{Outcome}
@@ -62,3 +64,7 @@ outcome_of (Held.NotStarted fault) = Shown.NotStarted (start_fault_of fault)
 outcome_of (Held.NotActed fault) = Shown.NotActed (act_fault_of fault)
 outcome_of (Held.NotDelivered why) = Shown.NotDelivered (refusal_of why)
 outcome_of Held.NoFrame = Shown.NoFrame
+
+-- the outcome and the frame
+abbrev pub judgement_of : Judged → Judgement
+judgement_of j = record { outcome = outcome_of j.outcome; frame = j.frame }

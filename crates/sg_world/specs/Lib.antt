@@ -5,3 +5,5 @@ pub mod Report
 pub mod Account
 pub mod Held
 pub mod Sitting
+pub mod Holds
+pub mod Judged

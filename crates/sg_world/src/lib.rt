@@ -1,16 +1,21 @@
 //! Replays a schedule: its honest principals, the record of what they did, and the report of it.
 #![tactic(auto)]
 
+mod fault;
 mod judge;
 mod message;
+mod setting;
 mod sitting;
 mod standing;
 mod step;
+mod world;
 
 pub use message::Message;
+pub use setting::{Declared, PairKey, Setting};
 pub use sitting::Sitting;
 pub use standing::{Move, Standing};
 pub use step::{ActFault, Outcome, Refusal, StartFault, Step};
+pub use world::World;
 
 ghost use Rattle.sg_protocol.specs.Schedule.{Schedule};
 ghost use Rattle.sg_world.specs.Forms.{IsPairSetting, FollowWalks, NoneJoinsTwice};
