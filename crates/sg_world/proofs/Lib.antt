@@ -1,6 +1,7 @@
 pub mod Rows
 pub mod Going
 pub mod Sits
+pub mod Right
 pub mod Pasts
 pub mod Once
 pub mod Story

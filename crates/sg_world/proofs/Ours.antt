@@ -122,6 +122,12 @@ module _ (s : Schedule) (none : (the_cast s).names ≡ []) (w : World) (nothing 
     | inr h ↦ h
   ]
 
+pub cast_of_none : (keys : Keyring) (g : Graph) (c : Cast) (r : ℕ) → c.names ≡ [] → is_cast keys g c r ≡ false
+cast_of_none keys g c r e = elim (cases_Bool (is_cast keys g c r)) [
+  | inl h ↦ absurd (let few : nat_lt r (length c.names) ≡ true = and_right _ (nat_lt r (length c.names)) (and_left _ _ h) in let lt : r < 0 = ltb-true r 0 (subst (λ l. nat_lt r (length l) ≡ true) e few) in omega (arith, lt))
+  | inr h ↦ h
+]
+
 nothing_after : (s : Schedule) → (the_cast s).names ≡ [] → (w : World) → Nothing w → (x : Step) → Nothing (world_after s w x)
 nothing_after s none w nothing (StartStep who n) =
     nothing_started s none w nothing who (role_at (shape (pair s)) 0) (is_cast (keyring_of s.keys who) (pair s) (the_cast s) (role_at (shape (pair s)) 0)) _ (no_cast s none w nothing who (keyring_of s.keys who) (pair s) (the_cast s) _ none)
@@ -139,3 +145,6 @@ nothing_all s none w (x ∷ xs) nothing = nothing_all s none (world_after s w x)
 
 pub nothing_happens : (s : Schedule) → (the_cast s).names ≡ [] → events (run s).log ≡ []
 nothing_happens s none = (nothing_all s none (record { log = []; frames = [] }) s.steps (record { no_events = refl; no_frames = refl })).no_events
+
+pub nothing_sent : (s : Schedule) → (the_cast s).names ≡ [] → (run s).frames ≡ []
+nothing_sent s none = (nothing_all s none (record { log = []; frames = [] }) s.steps (record { no_events = refl; no_frames = refl })).no_frames

@@ -24,7 +24,7 @@ never r b = elim (cases_Bool (nat_lt (suc (suc r)) 2)) [
   | inr e ↦ rw e refl
 ]
 
-not_role : (x : Sitting) (r : ℕ) (who : Name) → is_role x (suc (suc r)) who ≡ false
+pub not_role : (x : Sitting) (r : ℕ) (who : Name) → is_role x (suc (suc r)) who ≡ false
 not_role x r who = rw (ne_eqb (suc (suc r)) 0 (λ e. omega (arith, e)), ne_eqb (suc (suc r)) 1 (λ e. omega (arith, e))) refl
 
 role_same : (x : Sitting) (r : ℕ) (who : Name) → (nat_lt r (length (names x)) && bytes_eq (get_or (names x) r []) who) ≡ is_role x r who
@@ -33,7 +33,7 @@ role_same x (suc zero) who = refl
 role_same x (suc (suc r)) who = never r _ ∙ sym (not_role x r who)
 
 -- whoever has a role is one of two
-one_of_two : (x : Sitting) (r : ℕ) (who : Name) → is_role x r who ≡ true → (who ≡ x.one) ⊎ (who ≡ x.two)
+pub one_of_two : (x : Sitting) (r : ℕ) (who : Name) → is_role x r who ≡ true → (who ≡ x.one) ⊎ (who ≡ x.two)
 one_of_two x zero who h = inl (sym (same_bytes x.one who h))
 one_of_two x (suc zero) who h = inr (sym (same_bytes x.two who h))
 one_of_two x (suc (suc r)) who h = absurd (true≢false (sym h ∙ not_role x r who))
