@@ -50,7 +50,7 @@ steps_own w who p o same = ap (flat_map move_of) (past_own who p w.log o same) �
 steps_other : (w : World) (who p : Name) (o : Outcome) → bytes_eq who p ≡ false → steps_of (taken w who o) p ≡ steps_of w p
 steps_other w who p o other = ap (flat_map move_of) (past_other who p w.log o other)
 
-all_at : {A : Type 0} (P : A → Type 0) (xs : List A) (n : ℕ) (x : A) → AllByRecursion P xs → slice_get xs n ≡ Some x → P x
+pub all_at : {A : Type 0} (P : A → Type 0) (xs : List A) (n : ℕ) (x : A) → AllByRecursion P xs → slice_get xs n ≡ Some x → P x
 all_at P [] n x a e = cc
 all_at P (y ∷ ys) zero x a e = subst P (some_same y x e) a.0
   where
@@ -259,10 +259,10 @@ two_of s c (a ∷ b ∷ []) e two differ honest = record {
 abbrev none : Cast
 none = record { version = 1; graph = []; nonce = []; names = [] }
 
-cast_two : (s : Schedule) (ds : List Declared) → s.sessions ≡ ds → All (IsPairSession s) ds → ((the_cast s).names ≡ []) ⊎ Two s (the_cast s)
+cast_two : (s : Schedule) (ds : List Declared) → s.sessions ≡ ds → All (IsPairSession (pair s) s.honest) ds → ((the_cast s).names ≡ []) ⊎ Two s (the_cast s)
 cast_two s [] e all = inl (ap (λ l. (unwrap_or (option_map (λ (d : Declared). d.cast) (slice_get l 0)) none).names) e)
 cast_two s (d ∷ ds) e all =
-    let is = All-head (IsPairSession s) d ds all in
+    let is = All-head (IsPairSession (pair s) s.honest) d ds all in
     let same : the_cast s ≡ d.cast = ap (λ l. unwrap_or (option_map (λ (d : Declared). d.cast) (slice_get l 0)) none) e in
     inr (subst (Two s) (sym same) (two_of s d.cast d.cast.names refl is.two is.differ is.are_honest))
 

@@ -2,6 +2,8 @@ pub mod Rows
 pub mod Going
 pub mod Sits
 pub mod Right
+pub mod Next
+pub mod Kept
 pub mod Pasts
 pub mod Once
 pub mod Story

@@ -1,6 +1,6 @@
 -- The schedules of one session of two roles.
 use Rattle.std.specs.Prelude.{◌≡◌, ◌≢◌, ℕ, ◌<◌, ◌≤◌, ◌%◌, true, List, [], length, IsTrue, All}
-use Rattle.sg_model.specs.Lists.{all_differ}
+use Rattle.sg_model.specs.Lists.{all_differ, has_text}
 use Rattle.sg_model.specs.Names.{Name}
 use Rattle.sg_model.specs.Shape.{role_at, source, target}
 use Rattle.sg_protocol.specs.Graph.{Graph, shape, writes, reads}
@@ -17,18 +17,19 @@ pub record IsPair (g : Graph) : Type 0 where
   pub apart : (e : ℕ) → e < length g.edges → source (shape g) e % 2 ≢ target (shape g) e % 2
   pub silent : (e : ℕ) → e < length g.edges → (writes g e ≡ []) × (reads g e ≡ [])
 
--- a session of two different principals, both honest
-pub record IsPairSession (s : Schedule) (d : Declared) : Type 0 where
+-- a session of two different principals, both honest, in a graph of two roles
+pub record IsPairSession (g : Graph) (honest : List Name) (d : Declared) : Type 0 where
   pub two : length d.cast.names ≡ 2
+  pub roles : length g.roles ≡ 2
   pub differ : IsTrue (all_differ d.cast.names)
-  pub are_honest : All (λ n. is_honest s n ≡ true) d.cast.names
+  pub are_honest : All (λ n. has_text n honest ≡ true) d.cast.names
 
 -- at most one graph and one session, both of two roles
 pub record IsPairSetting (s : Schedule) : Type 0 where
   pub one_graph : length s.graphs ≤ 1
   pub is_pair : IsPair (pair s)
   pub one_session : length s.sessions ≤ 1
-  pub sessions : All (IsPairSession s) s.sessions
+  pub sessions : All (IsPairSession (pair s) s.honest) s.sessions
 
 -- a start, an act without values along an edge, or a delivery of a recorded frame as it is
 abbrev pub IsPairStep : Schedule → Step → Type 0
