@@ -51,7 +51,8 @@ use Rattle.sg_protocol.proofs.Sendings.{no_entry, act_event, keys_after, receipt
 use Rattle.sg_protocol.proofs.Reduced.{by_role, has-both, reduced}
 use Rattle.sg_protocol.proofs.Relay.{StepsOk, RelayOk, OpensAt, relay_new}
 use Rattle.sg_protocol.proofs.Rows.{rows_none, viewed}
-use Rattle.sg_protocol.proofs.Flight.{Flight, FrameOk, Taken, Track, New, Here, Gone, SessOk, flight, in_split, role_small}
+use Rattle.sg_protocol.proofs.Flight.{Flight, FrameOk, Taken, Track, New, Here, Gone, SessOk, flight}
+use Rattle.sg_protocol.proofs.Splits.{in_split, role_small}
 use Rattle.sg_protocol.proofs.Flight as L
 use Rattle.sg_protocol.proofs.Keys as Keys'
 use Rattle.sg_protocol.specs.Notes.{notes}
