@@ -1,28 +1,27 @@
 -- What is kept after a step is the run with this step.
-use Rattle.std.specs.Prelude.{◌≡◌, ◌⊎◌, ℕ, zero, suc, ◌+◌, ◌-◌, ◌<◌, ◌≤◌, ◌==◌, Bool, true, false, ◌||◌, if◌then◌else◌, List, [], ◌∷◌, ◌++◌, length, slice_get, refl, Option, Some, None, MatchOption}
+use Rattle.std.specs.Prelude.{◌≡◌, ℕ, ◌+◌, ◌-◌, ◌≤◌, ◌==◌, List, [], ◌∷◌, ◌++◌, length, refl, Option, Some, None}
 use Rattle.std.specs.List.{AllByRecursion}
 use Rattle.std.specs.Option.{option_map_or}
 use Rattle.std.proofs.Common.{sym, ap, ◌∙◌, subst, inl, inr, arith, append-nil, length-append}
 use Rattle.std.proofs.lemmas.Bool.{cases_Bool}
 use Rattle.sg_model.specs.Names.{Name}
-use Rattle.sg_model.specs.Shape.{role_at, receiver}
 use Rattle.sg_law.proofs.Stored.{all-append}
 use Rattle.sg_protocol.specs.Calls.{Event, Started, Sent, Received, StartFault, ActFault, Refusal}
-use Rattle.sg_protocol.specs.Graph.{shape}
 use Rattle.sg_protocol.specs.Schedule.{Schedule, Step, StartStep, ActStep, DeliverStep, Whole}
 use Rattle.sg_world.specs.Outcome.{Outcome, Happened, Sends, NotStarted, NotActed, NotDelivered, NoFrame, Logged, past_of}
-use Rattle.sg_world.specs.Run.{World, Message, Move, Standing, the_cast, standing, time, started, received, message, world_after, run}
+use Rattle.sg_world.specs.Run.{World, Message, Standing, standing, time, started, received, message, world_after, run}
 use Rattle.sg_world.specs.Forms.{IsPairSetting}
 use Rattle.sg_world.specs.Sitting as Sittings
 use Rattle.sg_world.specs.Sitting.{Sitting, IsSitting, name_of, start_fault, act_fault, join_refusal, next_refusal}
-use Rattle.sg_world.specs.Judged.{Judgement, without_frame, stands, frame_of, sending, acting, delivery, judged, judged_nowhere, judgement, stands_after_event, stands_after}
+use Rattle.sg_world.specs.Judged.{Judgement, frames_in, without_frame, stands, frame_of, sending, acting, delivery, judged, judgement, stands_after_event, stands_after}
 use Rattle.sg_world.specs.Held.{step_of, who_of}
-use Rattle.sg_world.specs.Holds.{with_step, Stand, Early, IsRun}
+use Rattle.sg_world.specs.Steps.{with_step}
+use Rattle.sg_world.specs.Holds.{Stand, Early, IsRun}
 use Rattle.sg_world.specs.declared.step.Step.{Step as Taken}
 use Rattle.sg_world.specs.declared.step.Step.TheVariants.{Start, Act, Deliver}
 use Rattle.sg_world.proofs.Ours.{nothing_sent}
 use Rattle.sg_world.proofs.Course.{all_at}
-use Rattle.sg_world.proofs.Right.{StandIn, frames_in, after, start_right, act_right, delivery_right, start_nowhere, act_nowhere, delivery_nowhere}
+use Rattle.sg_world.proofs.Right.{StandIn, after, start_right, act_right, delivery_right, start_nowhere, act_nowhere, delivery_nowhere}
 use Rattle.sg_world.proofs.Next.{OutcomeBy, run_more, first_after, second_after, by_start_step, by_act_step, by_deliver_step}
 
 -- ---- no time is beyond the number of steps

@@ -1,9 +1,11 @@
 pub mod Rows
 pub mod Going
 pub mod Sits
+pub mod Declares
 pub mod Right
 pub mod Next
 pub mod Kept
+pub mod Holding
 pub mod Pasts
 pub mod Once
 pub mod Story

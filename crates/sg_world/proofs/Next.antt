@@ -1,34 +1,30 @@
 -- Where both principals stand after a step, and the run with one step more.
-use Rattle.std.specs.Prelude.{◌≡◌, ◌⊎◌, ℕ, zero, suc, ◌+◌, ◌<◌, ◌≤◌, ◌==◌, nat_lt, Bool, true, false, cond, not, ◌&&◌, ◌||◌, if◌then◌else◌, List, [], ◌∷◌, ◌++◌, map, filter, flat_map, length, refl, Option, Some, None, bytes_eq, MatchOption}
-use Rattle.std.specs.List.{list_any, AllByRecursion}
+use Rattle.std.specs.Prelude.{◌≡◌, ℕ, zero, suc, ◌==◌, nat_lt, Bool, true, false, ◌&&◌, ◌||◌, if◌then◌else◌, List, [], ◌∷◌, ◌++◌, map, filter, flat_map, length, refl, Option, Some, None, bytes_eq}
 use Rattle.std.specs.Option.{option_map_or}
-use Rattle.std.proofs.Common.{sym, ap, ◌∙◌, subst, inl, inr, arith, true≢false, append-nil, append_assoc, length-append}
+use Rattle.std.proofs.Common.{sym, ap, ◌∙◌, subst, inl, inr, true≢false, append-nil}
 use Rattle.std.proofs.lemmas.Bool.{cases_Bool, eqb-true, eq-eqb}
 use Rattle.std.proofs.lemmas.List.{map-append}
 use Rattle.std.proofs.lemmas.List.Elements.{filter-append}
 use Rattle.std.proofs.lemmas.List.Folds.{list_any-append}
 use Rattle.std.proofs.lemmas.Grind.{flat_map-append}
 use Rattle.sg_model.specs.Last.{last}
-use Rattle.sg_model.specs.Lists.{first_some}
 use Rattle.sg_model.specs.Names.{Name}
-use Rattle.sg_model.specs.Shape.{role_at, receiver}
+use Rattle.sg_model.specs.Shape.{role_at}
 use Rattle.sg_law.proofs.Lists.{last-append}
-use Rattle.sg_law.proofs.Stored.{all-append}
 use Rattle.sg_protocol.specs.Calls.{Event, Started, Sent, Received, StartFault, ActFault, Refusal, sid_of, role_of, does_join}
 use Rattle.sg_protocol.specs.Graph.{shape}
 use Rattle.sg_protocol.specs.Node.{has_joined}
-use Rattle.sg_protocol.specs.Schedule.{Schedule, Step, StartStep, ActStep, AbandonStep, DeliverStep, CraftStep, What, Whole, Flipped, Cut, Bytes}
-use Rattle.sg_protocol.specs.Verdict.{row}
+use Rattle.sg_protocol.specs.Schedule.{Schedule, Step, StartStep, ActStep, AbandonStep, DeliverStep, CraftStep, Whole, Flipped, Cut, Bytes}
 use Rattle.sg_world.specs.Outcome.{Outcome, Happened, Sends, NotStarted, NotActed, NotDelivered, NoFrame, events_of_outcome, past_of}
-use Rattle.sg_world.specs.Run.{World, Message, Move, Standing, the_sid, joins_of, move_of, standing, time, started, received, has_role, has_turn, leaves, message, rows_of_session, world_after, world_after_all, run}
+use Rattle.sg_world.specs.Run.{World, Message, Standing, the_sid, joins_of, move_of, standing, time, started, received, message, world_after, world_after_all, run}
 use Rattle.sg_world.specs.Sitting as Sittings
 use Rattle.sg_world.specs.Sitting.{Sitting, is_role, name_of, unknown_peer, is_in, start_fault, act_fault, join_refusal, next_refusal}
-use Rattle.sg_world.specs.Judged.{Judgement, without_frame, stands, frame_of, sending, acting, delivery, judged, stands_after_event, stands_after}
-use Rattle.sg_world.specs.Holds.{with_step, Early}
-use Rattle.sg_world.proofs.Rows.{first_row, first_asked, third_row, and_left, and_right, same_bytes, bytes_refl}
+use Rattle.sg_world.specs.Judged.{without_frame, stands, frame_of, sending, acting, delivery, judged, stands_after_event, stands_after}
+use Rattle.sg_world.specs.Steps.{with_step}
+use Rattle.sg_world.proofs.Rows.{first_asked, and_left, same_bytes, bytes_refl}
 use Rattle.sg_world.proofs.Pasts.{past_own, past_other}
 use Rattle.sg_world.proofs.Sits.{not_role}
-use Rattle.sg_world.proofs.Right.{role_of_is, frames_in, after}
+use Rattle.sg_world.proofs.Right.{role_of_is}
 
 -- ---- the run with one step more
 
@@ -148,9 +144,9 @@ module _ (x : Sitting) (differ : bytes_eq x.one x.two ≡ false) (w : World) (wh
       standing r (past_of p (w.log ++ record { who = Some who; outcome = o } ∷ [])) ≡ stands_after r (standing r (past_of p w.log)) o
   after_event r p seat o e one by same = elim (cases_Bool (bytes_eq who p)) [
     | inl is ↦ ap (standing r) (past_own who p w.log o is ∙ ap (λ es. past_of p w.log ++ es) one)
-      ∙ own_event (past_of p w.log) e r by.sid (seat.own (role_of e) (subst (λ q. is_role x (role_of e) q ≡ true) (same_bytes who p is) by.role)) ∙ sym same
+        ∙ own_event (past_of p w.log) e r by.sid (seat.own (role_of e) (subst (λ q. is_role x (role_of e) q ≡ true) (same_bytes who p is) by.role)) ∙ sym same
     | inr away ↦ ap (standing r) (past_other who p w.log o away)
-      ∙ sym (same ∙ other_event (standing r (past_of p w.log)) e r (not_same (role_of e == r) refl away))
+        ∙ sym (same ∙ other_event (standing r (past_of p w.log)) e r (not_same (role_of e == r) refl away))
   ]
     where
       not_same : (b : Bool) → (role_of e == r) ≡ b → bytes_eq who p ≡ false → b ≡ false
@@ -205,10 +201,13 @@ module _ (x : Sitting) (first second : Standing) (frames : List Message) (who : 
 
   by_frame : (at : Standing) (m : Message) (o : Option Refusal) → (if m.joins then join_refusal x who at m else next_refusal x who at m) ≡ o → OutcomeBy x who (received m o)
   by_frame at m (Some why) e = tt
-  by_frame at m None e = record { sid = refl; role = elim (cases_Bool m.joins) [
-    | inl k ↦ and_left (is_role x m.receiver who) (nat_lt m.sender 2) (first_asked (is_role x m.receiver who && nat_lt m.sender 2) Refusal.BadCast _ (rw k at e)).0
-    | inr k ↦ and_left (is_role x m.receiver who) _ (and_left _ _ (first_asked (is_in x who m.receiver at) Refusal.UnknownSession _ (rw k at e)).0)
-  ] }
+  by_frame at m None e = record {
+    sid = refl;
+    role = elim (cases_Bool m.joins) [
+      | inl k ↦ and_left (is_role x m.receiver who) (nat_lt m.sender 2) (first_asked (is_role x m.receiver who && nat_lt m.sender 2) Refusal.BadCast _ (rw k at e)).0
+      | inr k ↦ and_left (is_role x m.receiver who) _ (and_left _ _ (first_asked (is_in x who m.receiver at) Refusal.UnknownSession _ (rw k at e)).0)
+    ];
+  }
 
   by_delivery : (o : Option Message) → OutcomeBy x who (option_map_or (λ m. delivery x who (stands first second m.receiver) m) o NoFrame)
   by_delivery None = tt

@@ -11,7 +11,6 @@ use Rattle.sg_protocol.specs.Graph.{shape}
 use Rattle.sg_protocol.specs.Node.{has_joined}
 use Rattle.sg_protocol.specs.Past.{joins_once}
 use Rattle.sg_protocol.specs.Schedule.{Schedule, Step, StartStep, ActStep, AbandonStep, DeliverStep, CraftStep, Whole, Flipped, Cut, Bytes}
-use Rattle.sg_protocol.specs.Session.{principal}
 use Rattle.sg_protocol.specs.Verdict.{row}
 use Rattle.sg_world.specs.Outcome.{Outcome, NotActed, NoFrame, events_of_outcome, past_of}
 use Rattle.sg_world.specs.Run.{World, Message, the_sid, pair, the_cast, joins_of, standing, delivered, has_role, is_live, has_turn, rows_of_start, started, rows_of_act, acted, acts, role_in, rows_of_session, refusal, received, frame_at, taken, world_after, world_after_all, run, message, may_go_on, place}

@@ -1,31 +1,27 @@
 -- What a step is judged to bring about is what it brings about in the run.
-use Rattle.std.specs.Prelude.{◌≡◌, ◌⊎◌, ℕ, zero, suc, ◌+◌, ◌-◌, ◌<◌, ◌==◌, nat_lt, Bool, true, false, cond, not, ◌&&◌, ◌||◌, if◌then◌else◌, List, [], ◌∷◌, ◌++◌, length, get_or, slice_get, refl, Option, Some, None, option_map, bytes_eq, position, MatchOption}
+use Rattle.std.specs.Prelude.{◌≡◌, ℕ, zero, suc, ◌<◌, ◌==◌, Bool, true, false, not, List, [], ◌∷◌, ◌++◌, length, get_or, refl, Option, Some, None, bytes_eq, position}
 use Rattle.std.specs.Option.{option_map_or}
 use Rattle.std.proofs.Common.{sym, ap, ◌∙◌, subst, inl, inr, arith, true≢false, append-nil}
 use Rattle.std.proofs.lemmas.Bool.{cases_Bool, ltb-true}
 use Rattle.sg_model.specs.Lists.{first_some}
 use Rattle.sg_model.specs.Names.{Name}
 use Rattle.sg_model.specs.Shape.{role_at, receiver}
-use Rattle.sg_protocol.specs.Calls.{Sent, Refusal, NotWaiting, StartFault, ActFault, NotYourTurn, Send, NoSuchLabel}
+use Rattle.sg_protocol.specs.Calls.{StartFault, ActFault, NotYourTurn, Send, NoSuchLabel}
 use Rattle.sg_protocol.specs.Graph.{Graph, shape}
-use Rattle.sg_protocol.specs.Node.{is_cast, stranger}
-use Rattle.sg_protocol.specs.Schedule.{Schedule, Step, StartStep, ActStep, DeliverStep, Whole}
+use Rattle.sg_protocol.specs.Node.{is_cast}
+use Rattle.sg_protocol.specs.Schedule.{Schedule, StartStep, ActStep, DeliverStep, Whole}
 use Rattle.sg_protocol.specs.Session.{principal}
 use Rattle.sg_protocol.specs.Verdict.{row}
 use Rattle.sg_protocol.specs.World.{keyring_of}
-use Rattle.sg_world.specs.Outcome.{Outcome, Sends, NotStarted, NotActed, NoFrame, past_of}
-use Rattle.sg_world.specs.Run.{World, Message, Standing, the_sid, pair, the_cast, place, standing, has_turn, leaves, role_in, rows_of_start, rows_of_act, rows_of_session, refusal, message, started, received, delivered, acted, acts, taken, frame_at, world_after}
+use Rattle.sg_world.specs.Outcome.{Outcome, NotStarted, NotActed, NoFrame, past_of}
+use Rattle.sg_world.specs.Run.{World, Message, Standing, pair, the_cast, standing, has_turn, leaves, role_in, message, started, received, delivered, acted, acts, taken, frame_at, world_after}
 use Rattle.sg_world.specs.Forms.{IsPair}
-use Rattle.sg_world.specs.Sitting.{Sitting, IsSitting, names, is_role, role_of, name_of, unknown_peer, is_in, start_fault, act_fault, join_refusal, next_refusal}
-use Rattle.sg_world.specs.Judged.{Judgement, without_frame, stands, frame_of, sending, acting, delivery, judged, judged_nowhere}
-use Rattle.sg_world.proofs.Rows.{first_asked, and_left, and_right, same_bytes, bytes_refl}
+use Rattle.sg_world.specs.Sitting.{Sitting, IsSitting, names, is_role, role_of, name_of, is_in, start_fault, act_fault}
+use Rattle.sg_world.specs.Judged.{Judgement, frames_in, without_frame, stands, frame_of, sending, acting, delivery, judged, judged_nowhere}
+use Rattle.sg_world.proofs.Rows.{first_asked, and_left, same_bytes, bytes_refl}
 use Rattle.sg_world.proofs.Story.{receiver_two}
 use Rattle.sg_world.proofs.Ours.{cast_of_none}
-use Rattle.sg_world.proofs.Sits.{one_of_two, not_role, start_same, act_same, refusal_same, role_in_same}
-
-abbrev pub frames_in : Option Message → List Message
-frames_in None = []
-frames_in (Some m) = m ∷ []
+use Rattle.sg_world.proofs.Sits.{not_role, start_same, act_same, refusal_same, role_in_same}
 
 -- the world with a step that is judged so
 abbrev pub after : World → Name → Judgement → World

@@ -1,22 +1,19 @@
 -- What the session that the program holds refuses is what the schedule's session refuses.
-use Rattle.std.specs.Prelude.{◌≡◌, ◌⊎◌, ℕ, zero, suc, ◌<◌, ◌==◌, nat_lt, Bool, true, false, cond, not, ◌&&◌, ◌||◌, if◌then◌else◌, List, [], ◌∷◌, length, get_or, refl, Option, Some, None, option_map, bytes_eq, position}
+use Rattle.std.specs.Prelude.{◌≡◌, ◌⊎◌, ℕ, zero, suc, ◌<◌, ◌==◌, nat_lt, Bool, true, false, cond, not, ◌&&◌, if◌then◌else◌, List, [], ◌∷◌, length, get_or, refl, option_map, bytes_eq, position}
 use Rattle.std.proofs.Common.{sym, ap, ◌∙◌, subst, inl, inr, arith, true≢false}
 use Rattle.std.proofs.lemmas.Bool.{cases_Bool, ltb-true, ne_eqb}
 use Rattle.sg_model.specs.Lists.{first_some, all_differ}
 use Rattle.sg_model.specs.Names.{Name}
 use Rattle.sg_model.specs.Shape.{role_at}
-use Rattle.sg_protocol.specs.Calls.{Refusal, NotWaiting, StartFault, ActFault, NotYourTurn, Send, NoSuchLabel}
-use Rattle.sg_protocol.specs.Frame.{Cast}
+use Rattle.sg_protocol.specs.Calls.{Refusal, NotWaiting, ActFault, NotYourTurn, Send, NoSuchLabel}
 use Rattle.sg_protocol.specs.Graph.{Graph, shape}
-use Rattle.sg_protocol.specs.Keyring.{Keyring}
 use Rattle.sg_protocol.specs.Node.{is_cast, stranger}
 use Rattle.sg_protocol.specs.Schedule.{Schedule}
-use Rattle.sg_protocol.specs.Session.{principal}
 use Rattle.sg_protocol.specs.Verdict.{row}
 use Rattle.sg_protocol.specs.World.{keyring_of}
 use Rattle.sg_world.specs.Run.{Message, Standing, pair, the_cast, place, may_go_on, has_turn, leaves, has_role, is_live, role_in, rows_of_start, rows_of_act, rows_of_join, rows_of_next, rows_of_session, refusal}
-use Rattle.sg_world.specs.Sitting.{Sitting, IsSitting, names, is_role, role_of, name_of, unknown_peer, is_in, start_fault, act_fault, join_refusal, next_refusal}
-use Rattle.sg_world.proofs.Rows.{same_bytes, bytes_refl}
+use Rattle.sg_world.specs.Sitting.{Sitting, IsSitting, names, is_role, role_of, unknown_peer, is_in, start_fault, act_fault, join_refusal, next_refusal}
+use Rattle.sg_world.proofs.Rows.{same_bytes}
 
 never : (r : ℕ) (b : Bool) → (nat_lt (suc (suc r)) 2 && b) ≡ false
 never r b = elim (cases_Bool (nat_lt (suc (suc r)) 2)) [

@@ -1,5 +1,5 @@
 -- The steps and outcomes of the program as those of the definitions.
-use Rattle.std.specs.Prelude.{[], List, Some, map}
+use Rattle.std.specs.Prelude.{[]}
 use Rattle.sg_protocol.specs.Calls as Protocol
 use Rattle.sg_protocol.specs.Calls.{Started, Sent, Received}
 use Rattle.sg_protocol.specs.Schedule as Schedules

@@ -1,21 +1,15 @@
 -- How a replay is kept: its steps with their outcomes, the recorded frames, and where both principals stand.
-use Rattle.std.specs.Prelude.{◌≡◌, ℕ, ◌≤◌, length, List, [], ◌∷◌, ◌++◌, map, Option, Some, None, MatchOption}
+use Rattle.std.specs.Prelude.{◌≡◌, ℕ, ◌≤◌, length, List, [], map, Option, Some, MatchOption}
 use Rattle.std.specs.List.{AllByRecursion}
 use Rattle.sg_protocol.specs.Schedule.{Schedule}
 use Rattle.sg_protocol.specs.Schedule as Schedules
 use Rattle.sg_world.specs.Outcome.{Logged, past_of}
-use Rattle.sg_world.specs.Run.{Standing, Message, World, the_cast, run, standing, time}
+use Rattle.sg_world.specs.Run.{Standing, Message, the_cast, run, standing, time}
 use Rattle.sg_world.specs.Forms.{IsPairSetting}
 use Rattle.sg_world.specs.Sitting.{Sitting, IsSitting}
 use Rattle.sg_world.specs.Held.{step_of, who_of, outcome_of}
-use Rattle.sg_world.specs.declared.step.Step.{Step}
-use Rattle.sg_world.specs.declared.step.Outcome.{Outcome}
 use Rattle.sg_world.specs.declared.world.Entry.{Entry}
 use Rattle.sg_world.specs.declared.world.World.TheInside.{Inside}
-
--- the schedule with one step more
-abbrev pub with_step : Schedule → Schedules.Step → Schedule
-with_step s x = record s { steps = s.steps ++ x ∷ [] }
 
 -- the step that is kept
 abbrev pub step_kept : Entry → Schedules.Step

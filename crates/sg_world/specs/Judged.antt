@@ -1,19 +1,24 @@
 -- What a step brings about, by where both principals stand, and where they stand after it.
-use Rattle.std.specs.Prelude.{ℕ, ◌+◌, ◌-◌, ◌==◌, Bool, true, false, ◌||◌, if◌then◌else◌, List, [], ◌∷◌, length, slice_get, Option, Some, None}
+use Rattle.std.specs.Prelude.{ℕ, ◌+◌, ◌-◌, ◌==◌, true, ◌||◌, if◌then◌else◌, List, [], ◌∷◌, length, slice_get, Option, Some, None}
 use Rattle.std.specs.Option.{option_map_or}
 use Rattle.sg_model.specs.Names.{Name}
 use Rattle.sg_model.specs.Shape.{role_at, receiver}
-use Rattle.sg_protocol.specs.Calls.{Event, Started, Sent, Received, StartFault, ActFault, Refusal}
+use Rattle.sg_protocol.specs.Calls.{Event, Started, Sent, Received, StartFault, ActFault}
 use Rattle.sg_protocol.specs.Graph.{shape}
 use Rattle.sg_protocol.specs.Schedule.{Step, StartStep, ActStep, DeliverStep, Whole}
 use Rattle.sg_world.specs.Outcome.{Outcome, Happened, Sends, NotStarted, NotActed, NoFrame}
-use Rattle.sg_world.specs.Run.{Message, Move, Standing, the_sid, started, received, message}
+use Rattle.sg_world.specs.Run.{Message, Standing, the_sid, started, received, message}
 use Rattle.sg_world.specs.Sitting.{Sitting, role_of, name_of, start_fault, act_fault, join_refusal, next_refusal}
 
 -- an outcome, and the frame that is recorded
 pub record Judgement : Type 0 where
   pub outcome : Outcome
   pub frame : Option Message
+
+-- the frame, if there is one
+abbrev pub frames_in : Option Message → List Message
+frames_in None = []
+frames_in (Some m) = m ∷ []
 
 -- no frame is recorded
 abbrev pub without_frame : Outcome → Judgement

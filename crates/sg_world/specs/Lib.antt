@@ -7,3 +7,4 @@ pub mod Held
 pub mod Sitting
 pub mod Holds
 pub mod Judged
+pub mod Steps

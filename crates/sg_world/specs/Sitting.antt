@@ -1,12 +1,12 @@
 -- The session that is replayed, as the program holds it, and what it refuses.
-use Rattle.std.specs.Prelude.{◌≡◌, ℕ, ◌+◌, ◌==◌, nat_le, Bool, true, false, not, ◌&&◌, ◌||◌, nat_lt, if◌then◌else◌, List, [], ◌∷◌, length, get_or, Option, Some, None, option_map, bytes_eq}
+use Rattle.std.specs.Prelude.{◌≡◌, ℕ, ◌==◌, Bool, false, not, ◌&&◌, ◌||◌, nat_lt, if◌then◌else◌, List, [], ◌∷◌, length, Option, Some, None, option_map, bytes_eq}
 use Rattle.sg_model.specs.Lists.{first_some}
 use Rattle.sg_model.specs.Shape.{role_at}
 use Rattle.sg_model.specs.Names.{Name}
 use Rattle.sg_protocol.specs.Calls.{Refusal, NotWaiting, StartFault, ActFault, NotYourTurn, Send, NoSuchLabel}
 use Rattle.sg_protocol.specs.Graph.{Graph, shape}
 use Rattle.sg_protocol.specs.Node.{stranger}
-use Rattle.sg_protocol.specs.Schedule.{Schedule}
+use Rattle.sg_protocol.specs.Schedule.{Schedule, PairKey}
 use Rattle.sg_protocol.specs.Verdict.{row}
 use Rattle.sg_protocol.specs.World.{keyring_of}
 use Rattle.sg_world.specs.Run.{Message, Standing, pair, the_cast, place, may_go_on, has_turn, leaves, rows_of_session}
@@ -17,6 +17,10 @@ pub record Sitting : Type 0 where
   pub one : Name
   pub two : Name
   pub covered : Bool
+
+-- the key is that of the two principals
+abbrev pub joins_both : Name → Name → PairKey → Bool
+joins_both a b k = (bytes_eq k.one a && bytes_eq k.two b) || (bytes_eq k.one b && bytes_eq k.two a)
 
 -- the principals in the order of their roles
 abbrev pub names : Sitting → List Name

@@ -78,7 +78,9 @@ impl<'s> Sitting<'s> {
         ensures { option_map refusal_of result ≡ first_some (rows_of_session self.now.graph at.now frame.now) }
     {
         let last = time_of(at);
-        if !(self.leaves(at, frame.label) && self.role_at(self.target(frame.label)).0 == frame.receiver.0) {
+        if !(self.leaves(at, frame.label)
+            && self.role_at(self.target(frame.label)).0 == frame.receiver.0)
+        {
             Some(Refusal::NoSuchView)
         } else if frame.time.0 <= last.0 {
             Some(Refusal::BadTime {

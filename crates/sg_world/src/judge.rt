@@ -17,7 +17,13 @@ pub struct Judged {
 }
 
 /// What a step brings about, in the session if there is one.
-pub fn judge(sitting: &Option<Sitting<'_>>, first: &Standing, second: &Standing, frames: &[Message], step: &Step) -> Judged
+pub fn judge(
+    sitting: &Option<Sitting<'_>>,
+    first: &Standing,
+    second: &Standing,
+    frames: &[Message],
+    step: &Step,
+) -> Judged
     requires count { length frames.now < 1_000_000 }
     requires first { time first.now < 1_000_000 }
     requires second { time second.now < 1_000_000 }
@@ -41,7 +47,13 @@ fn judge_nowhere(step: &Step) -> Judged
 }
 
 // What a step brings about in the session.
-fn judge_in(sitting: &Sitting<'_>, first: &Standing, second: &Standing, frames: &[Message], step: &Step) -> Judged
+fn judge_in(
+    sitting: &Sitting<'_>,
+    first: &Standing,
+    second: &Standing,
+    frames: &[Message],
+    step: &Step,
+) -> Judged
     requires count { length frames.now < 1_000_000 }
     requires first { time first.now < 1_000_000 }
     requires second { time second.now < 1_000_000 }
@@ -51,11 +63,23 @@ fn judge_in(sitting: &Sitting<'_>, first: &Standing, second: &Standing, frames: 
         Step::Start { who } => judge_start(sitting, first, second, &who),
         Step::Act { who, label } => match sitting.role_of(&who) {
             None => bare(Outcome::NotActed(ActFault::UnknownSession)),
-            Some(role) => judge_act(sitting, &who, label, frames.len(), stands_in(first, second, role), role),
+            Some(role) => judge_act(
+                sitting,
+                &who,
+                label,
+                frames.len(),
+                stands_in(first, second, role),
+                role,
+            ),
         },
         Step::Deliver { who, number } => match frame_at(frames, number) {
             None => bare(Outcome::NoFrame),
-            Some(frame) => bare(judge_delivery(sitting, &who, stands_in(first, second, frame.receiver), &frame)),
+            Some(frame) => bare(judge_delivery(
+                sitting,
+                &who,
+                stands_in(first, second, frame.receiver),
+                &frame,
+            )),
         },
     }
 }
@@ -70,7 +94,14 @@ fn judge_start(sitting: &Sitting<'_>, first: &Standing, second: &Standing, who: 
     }
 }
 
-fn judge_act(sitting: &Sitting<'_>, who: &Name, label: Label, count: usize, at: &Standing, role: Role) -> Judged
+fn judge_act(
+    sitting: &Sitting<'_>,
+    who: &Name,
+    label: Label,
+    count: usize,
+    at: &Standing,
+    role: Role,
+) -> Judged
     requires count { count < 1_000_000 }
     requires time { time at.now < 1_000_000 }
     ensures { judgement_of result ≡ acting sitting.now who.now label count at.now role }
@@ -155,11 +186,21 @@ pub fn stand_after(role: Role, at: &Standing, outcome: &Outcome) -> Standing
             joined: true,
             last: at.last,
         },
-        Outcome::Sent { role: own, label, time, .. } if own.0 == role.0 => Standing {
+        Outcome::Sent {
+            role: own,
+            label,
+            time,
+            ..
+        } if own.0 == role.0 => Standing {
             joined: at.joined,
             last: Some(Move { label, time }),
         },
-        Outcome::Received { role: own, label, time, joins } if own.0 == role.0 => Standing {
+        Outcome::Received {
+            role: own,
+            label,
+            time,
+            joins,
+        } if own.0 == role.0 => Standing {
             joined: at.joined || joins,
             last: Some(Move { label, time }),
         },

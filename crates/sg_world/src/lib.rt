@@ -10,17 +10,17 @@ mod standing;
 mod step;
 mod world;
 
+ghost use Rattle.sg_protocol.specs.Schedule.{Schedule};
+ghost use Rattle.sg_world.specs.Forms.{IsPairSetting, FollowWalks, NoneJoinsTwice};
+ghost use Rattle.sg_world.specs.Account.{account, report_of};
+ghost use Rattle.sg_world.specs.Report.{IsReport};
+
 pub use message::Message;
 pub use setting::{Declared, PairKey, Setting};
 pub use sitting::Sitting;
 pub use standing::{Move, Standing};
 pub use step::{ActFault, Outcome, Refusal, StartFault, Step};
 pub use world::World;
-
-ghost use Rattle.sg_protocol.specs.Schedule.{Schedule};
-ghost use Rattle.sg_world.specs.Forms.{IsPairSetting, FollowWalks, NoneJoinsTwice};
-ghost use Rattle.sg_world.specs.Account.{account, report_of};
-ghost use Rattle.sg_world.specs.Report.{IsReport};
 
 /// Whatever the steps, the events of a session of two honest roles are those of one walk, and it is what they sent.
 pub fn follow_walks()

@@ -18,18 +18,18 @@ impl Model for Message {
     ghost Value = { Message };
 
     ghost view = { λ m. record {
-        sender = m.sender;
-        receiver = m.receiver;
-        label = m.label;
-        time = m.time;
-        joins = m.joins;
+      sender = m.sender;
+      receiver = m.receiver;
+      label = m.label;
+      time = m.time;
+      joins = m.joins;
     } };
 
     ghost inverse = { λ m. record {
-        sender = m.sender;
-        receiver = m.receiver;
-        label = m.label;
-        time = m.time;
-        joins = m.joins;
+      sender = m.sender;
+      receiver = m.receiver;
+      label = m.label;
+      time = m.time;
+      joins = m.joins;
     } };
 }

@@ -180,7 +180,8 @@ fn any_leaves(graph: &Graph, node: u16) -> bool
     false
 }
 
-fn same(one: &Name, other: &Name) -> bool
+/// The names are the same.
+pub fn same(one: &Name, other: &Name) -> bool
     ensures { result ≡ bytes_eq one.now other.now }
 {
     one.as_bytes() == other.as_bytes()

@@ -15,10 +15,23 @@ pub enum Step {
 /// What a step brought about. It has no values, since no edge has a variable.
 #[derive(Debug, Clone, Copy)]
 pub enum Outcome {
-    Started { role: Role },
+    Started {
+        role: Role,
+    },
     /// The principal to whom the frame goes, and the frame's number, counted from 1.
-    Sent { role: Role, label: Label, time: Time, to: Name, frame: u32 },
-    Received { role: Role, label: Label, time: Time, joins: bool },
+    Sent {
+        role: Role,
+        label: Label,
+        time: Time,
+        to: Name,
+        frame: u32,
+    },
+    Received {
+        role: Role,
+        label: Label,
+        time: Time,
+        joins: bool,
+    },
     NotStarted(StartFault),
     NotActed(ActFault),
     NotDelivered(Refusal),

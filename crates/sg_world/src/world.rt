@@ -1,10 +1,15 @@
 //! A replay of one session of two honest principals.
-ghost use Rattle.std.specs.Prelude.{◌≡◌, ◌<◌, ◌↔◌, ◌==◌, if◌then◌else◌, length, Some, None, option_map, IsOk, OnOk, OnErr};
+ghost use Rattle.std.specs.Prelude.{◌≡◌, ◌<◌, ◌++◌, ◌∷◌, [], length, vec_len, vec_capacity, option_map, IsOk, OnOk, OnErr};
+ghost use Rattle.sg_model.specs.Last.{last};
 ghost use Rattle.sg_world.specs.Held.{outcome_of, step_of};
+ghost use Rattle.sg_world.specs.Judged.{frames_in};
+ghost use Rattle.sg_world.specs.Run.{run};
+ghost use Rattle.sg_world.specs.Steps.{with_step, without_steps};
 ghost use Rattle.sg_world.specs.Forms.{IsPairSetting};
 
-use crate::{Message, Outcome, Setting, Sitting, Standing, Step};
-use sg_base::OutOfMemory;
+use crate::judge::{judge, stand_after};
+use crate::{ActFault, Message, Outcome, Refusal, Setting, Sitting, Standing, StartFault, Step};
+use sg_base::{OutOfMemory, Role};
 use std::alloc::Global;
 use std::marker::Model;
 
@@ -20,7 +25,7 @@ pub struct World<'s> {
 }
 
 // A step that was taken, and what came of it.
-#[derive(Debug, Clone, Copy)]
+#[derive(Debug, Drop)]
 struct Entry {
     step: Step,
     outcome: Outcome,
@@ -39,10 +44,83 @@ impl<'s> Model for World<'s> {
 }
 
 impl<'s> World<'s> {
+    /// A replay of which no step was taken.
+    pub fn new(alloc: Global, setting: &'s Setting) -> World<'s>
+        requires { IsPairSetting setting.now }
+        ensures { result ≡ without_steps setting.now }
+    {
+        let unmoved = Standing {
+            joined: false,
+            last: None,
+        };
+        World {
+            setting,
+            sitting: setting.sitting(),
+            first: unmoved,
+            second: unmoved,
+            entries: Vec::new(alloc),
+            frames: Vec::new(alloc),
+        }
+    }
+
     /// The number of steps that were taken.
     pub fn len(&self) -> usize
         ensures { result ≡ length self.now.steps }
     {
         self.entries.len()
     }
+
+    /// Takes a step. For want of memory none is taken.
+    pub fn step(&mut self, step: Step) -> Result<(), OutOfMemory>
+        requires { length self.old.steps < 200_000 }
+        ensures ok { OnOk result (self.new ≡ with_step self.old (step_of step)) }
+        ensures err { OnErr result (self.new ≡ self.old) }
+    {
+        let judged = judge(
+            &self.sitting,
+            &self.first,
+            &self.second,
+            self.frames.as_slice(),
+            &step,
+        );
+        self.entries.reserve(1)?;
+        put_frame(&mut self.frames, judged.frame)?;
+        put_entry(&mut self.entries, step, judged.outcome)?;
+        self.first = stand_after(Role(0), &self.first, &judged.outcome);
+        self.second = stand_after(Role(1), &self.second, &judged.outcome);
+        Ok(())
+    }
+
+    /// What the last step brought about, or `None` where none was taken. It takes no memory.
+    pub fn last(&self) -> Option<&Outcome>
+        ensures { option_map (λ o. outcome_of o.now) result ≡ option_map (λ l. l.outcome) (last (run self.now).log) }
+    {
+        match self.entries.last() {
+            None => None,
+            Some(entry) => Some(&entry.outcome),
+        }
+    }
+}
+
+// Records a frame, if there is one. For want of memory none is recorded.
+fn put_frame(frames: &mut Vec<Message>, frame: Option<Message>) -> Result<(), OutOfMemory>
+    ensures ok { OnOk result (frames.new.items ≡ frames.old.items ++ frames_in frame) }
+    ensures err { OnErr result (frames.new.items ≡ frames.old.items) }
+{
+    if let Some(frame) = frame {
+        frames.push(frame)?;
+    }
+    Ok(())
+}
+
+// Puts a step with its outcome where room was made.
+fn put_entry(entries: &mut Vec<Entry>, step: Step, outcome: Outcome) -> Result<(), OutOfMemory>
+    requires { vec_len entries.old < vec_capacity entries.old }
+    ensures ok { IsOk result }
+    ensures items { entries.new.items ≡ entries.old.items ++ record { step = step; outcome = outcome } ∷ [] }
+{
+    // The check knows the types inside an outcome only where they are named.
+    let _named: (Option<StartFault>, Option<ActFault>, Option<Refusal>) = (None, None, None);
+    entries.push(Entry { step, outcome })?;
+    Ok(())
 }

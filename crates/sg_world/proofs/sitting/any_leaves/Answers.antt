@@ -1,4 +1,4 @@
-use Rattle.std.proofs.Common.{◌≡◌, ◌<◌, length, subst, sym, ap, ◌∙◌}
+use Rattle.std.proofs.Common.{◌<◌, subst, sym, ap, ◌∙◌}
 use Rattle.sg_graph.specs.declared.edge.Edge.{Edge}
 use Rattle.sg_world.proofs.Going.{found, none_more}
 use Rattle.sg_world.proofs.sitting.any_leaves.Goals as goal
