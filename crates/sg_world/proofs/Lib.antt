@@ -1,4 +1,5 @@
 pub mod Rows
+pub mod Lines
 pub mod Going
 pub mod Sits
 pub mod Declares

@@ -123,11 +123,19 @@ act_text g ActFault.UnknownSession = codes "unknown-session"
 act_text g ActFault.NotYourTurn = codes "not-your-turn"
 act_text g (ActFault.Send fault) = send_text g fault
 
--- an event but for its values: the session and what was done
-abbrev pub event_text : Account → Graph → Event → List ℕ
-event_text a g (Started sid r) = session_name a sid ++ codes " started as " ++ role_name g r
-event_text a g (Sent sid r label time values) = session_name a sid ++ codes " sent " ++ label_name g label ++ codes " time " ++ decimal time
-event_text a g (Received sid r label time values joins) = session_name a sid ++ codes " received " ++ label_name g label ++ codes " time " ++ decimal time
+-- a step along a label's edge in a session
+abbrev pub moved_text : (session : List ℕ) → (word : List ℕ) → Graph → (label time : ℕ) → List ℕ
+moved_text session word g label time = session ++ word ++ label_name g label ++ codes " time " ++ decimal time
+
+-- an event but for its values: the session, by what names it, and what was done
+abbrev pub event_text : (List ℕ → List ℕ) → Graph → Event → List ℕ
+event_text name g (Started sid r) = name sid ++ codes " started as " ++ role_name g r
+event_text name g (Sent sid r label time values) = moved_text (name sid) (codes " sent ") g label time
+event_text name g (Received sid r label time values joins) = moved_text (name sid) (codes " received ") g label time
+
+-- the principal to whom a frame goes, and the frame's number
+abbrev pub sent_to : Name → ℕ → List ℕ
+sent_to to frame = codes " to " ++ to ++ codes " as f" ++ decimal frame
 
 -- the values of an event
 abbrev pub event_values : Graph → Event → List ℕ
@@ -136,25 +144,29 @@ event_values g (Sent sid r label time values) = values_text g values
 event_values g (Received sid r label time values joins) = values_text g values
 
 -- what came of a principal's step
-abbrev pub outcome_text : Account → Graph → Outcome → List ℕ
-outcome_text a g (Happened e) = event_text a g e ++ event_values g e
-outcome_text a g (Sends e to frame) = event_text a g e ++ codes " to " ++ to ++ codes " as f" ++ decimal frame ++ event_values g e
-outcome_text a g (Abandoned sid) = session_name a sid ++ codes " abandoned"
-outcome_text a g (Crafted frame) = codes "crafted f" ++ decimal frame
-outcome_text a g (NotStarted fault) = codes "refused " ++ start_text fault
-outcome_text a g (NotActed fault) = codes "refused " ++ act_text g fault
-outcome_text a g NotAbandoned = codes "refused unknown-session"
-outcome_text a g (NotDelivered why) = codes "refused " ++ refusal_text g why
-outcome_text a g NoFrame = codes "refused no-frame"
+abbrev pub outcome_text : (List ℕ → List ℕ) → Graph → Outcome → List ℕ
+outcome_text name g (Happened e) = event_text name g e ++ event_values g e
+outcome_text name g (Sends e to frame) = event_text name g e ++ sent_to to frame ++ event_values g e
+outcome_text name g (Abandoned sid) = name sid ++ codes " abandoned"
+outcome_text name g (Crafted frame) = codes "crafted f" ++ decimal frame
+outcome_text name g (NotStarted fault) = codes "refused " ++ start_text fault
+outcome_text name g (NotActed fault) = codes "refused " ++ act_text g fault
+outcome_text name g NotAbandoned = codes "refused unknown-session"
+outcome_text name g (NotDelivered why) = codes "refused " ++ refusal_text g why
+outcome_text name g NoFrame = codes "refused no-frame"
 
 -- the principal whose step it was, and a space
 abbrev pub by_whom : Option Name → List ℕ
 by_whom None = []
 by_whom (Some who) = who ++ 32 ∷ []
 
--- the line of step k
+-- the line of step k, where the sessions are named so
+abbrev pub line_text : (List ℕ → List ℕ) → Graph → ℕ → Logged → List ℕ
+line_text name g k l = decimal k ++ 32 ∷ by_whom l.who ++ outcome_text name g l.outcome ++ 10 ∷ []
+
+-- the line of step k of an account
 abbrev pub line : Account → ℕ → Logged → List ℕ
-line a k l = decimal k ++ 32 ∷ by_whom l.who ++ outcome_text a (a.graph_at k) l.outcome ++ 10 ∷ []
+line a k l = line_text (session_name a) (a.graph_at k) k l
 
 -- the lines of these steps, the first of number k
 abbrev pub lines_from : Account → ℕ → List Logged → List ℕ

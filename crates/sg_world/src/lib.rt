@@ -3,6 +3,7 @@
 
 mod fault;
 mod judge;
+mod line;
 mod message;
 mod setting;
 mod sitting;
@@ -15,6 +16,7 @@ ghost use Rattle.sg_world.specs.Forms.{IsPairSetting, FollowWalks, NoneJoinsTwic
 ghost use Rattle.sg_world.specs.Account.{account, report_of};
 ghost use Rattle.sg_world.specs.Report.{IsReport};
 
+pub use line::report_line;
 pub use message::Message;
 pub use setting::{Declared, PairKey, Setting};
 pub use sitting::Sitting;
