@@ -1,0 +1,75 @@
+-- Readings one after the other, as a loop does them.
+use Rattle.std.proofs.Common.{◌≡◌, ℕ, suc, ◌-◌, ◌+◌, ◌≤◌, ◌<◌, List, [], ◌∷◌, ◌++◌, Result, Ok, Err, refl, sym, ap, ◌∙◌, append_assoc, append-nil, arith}
+use Rattle.sg_base.specs.Reading.{Place}
+use Rattle.sg_protocol.specs.Reading.{Read, Reader, give, on, after, times, rising_times}
+use Rattle.sg_frame.specs.declared.fault.Stop.{Stop}
+use Rattle.sg_frame.specs.declared.fault.Stop.TheVariants.{Malformed, OutOfMemory}
+use Rattle.sg_frame.specs.Reads.{left, StopsWith}
+
+-- what was read before, and what is still read
+abbrev pub with_front : {A : Type 0} → List A → Result (Read (List A)) ℕ → Result (Read (List A)) ℕ
+with_front front read = on read (λ xs. give (front ++ xs))
+
+regroup : {A : Type 0} (front : List A) (x : A) (read : Result (Read (List A)) ℕ) → with_front front (on read (λ xs. give (x ∷ xs))) ≡ with_front (front ++ x ∷ []) read
+regroup front x (Ok r) = ap (λ xs. Ok (record { value = xs; at = r.at; rest = r.rest })) (simp append_assoc)
+regroup front x (Err at) = refl
+
+-- the place behind what was read
+abbrev pub Gives : {A : Type 0} → Reader A → Place → A → Place → Type 0
+Gives reader p x q = reader p.at (left p) ≡ Ok (record { value = x; at = q.at; rest = left q })
+
+-- one more reading
+pub times_more : {A : Type 0} (reader : Reader A) (front : List A) (count i : ℕ) (p q : Place) (x : A) (total : Result (Read (List A)) ℕ) → i < count → Gives reader p x q →
+    with_front front (times (count - i) reader p.at (left p)) ≡ total → with_front (front ++ x ∷ []) (times (count - (i + 1)) reader q.at (left q)) ≡ total
+times_more reader front count i p q x total lt h so_far =
+    let k : count - i ≡ suc (count - (i + 1)) = omega arith in
+    let one : with_front front (times (count - i) reader p.at (left p)) ≡ with_front (front ++ x ∷ []) (times (count - (i + 1)) reader q.at (left q)) =
+    rw (k, h) (regroup front x (times (count - (i + 1)) reader q.at (left q))) in
+    sym one ∙ so_far
+
+-- a reading that stops
+pub times_stop : {A : Type 0} (e : Stop) (reader : Reader A) (front : List A) (count i : ℕ) (p : Place) (total : Result (Read (List A)) ℕ) → i < count → StopsWith e (reader p.at (left p)) →
+    with_front front (times (count - i) reader p.at (left p)) ≡ total → StopsWith e total
+times_stop OutOfMemory reader front count i p total lt h so_far = tt
+times_stop (Malformed at) reader front count i p total lt h so_far =
+    let k : count - i ≡ suc (count - (i + 1)) = omega arith in
+    let one : with_front front (times (count - i) reader p.at (left p)) ≡ Err at = rw (k, h) refl in
+    sym so_far ∙ one
+
+-- all were read
+pub times_done : {A : Type 0} (reader : Reader A) (front : List A) (count i : ℕ) (p : Place) (total : Result (Read (List A)) ℕ) → count ≤ i →
+    with_front front (times (count - i) reader p.at (left p)) ≡ total → total ≡ Ok (record { value = front; at = p.at; rest = left p })
+times_done reader front count i p total le so_far =
+    let k : count - i ≡ 0 = omega arith in
+    let one : with_front front (times (count - i) reader p.at (left p)) ≡ Ok (record { value = front; at = p.at; rest = left p }) =
+    rw k (ap (λ xs. Ok (record { value = xs; at = p.at; rest = left p })) (append-nil front)) in
+    sym so_far ∙ one
+
+-- one more reading, of a greater key
+pub rising_more : {A : Type 0} (key : A → ℕ) (reader : ℕ → Reader A) (front : List A) (count i least : ℕ) (p q : Place) (x : A) (total : Result (Read (List A)) ℕ) → i < count →
+    Gives (reader least) p x q → with_front front (rising_times key (count - i) least reader p.at (left p)) ≡ total →
+    with_front (front ++ x ∷ []) (rising_times key (count - (i + 1)) (key x + 1) reader q.at (left q)) ≡ total
+rising_more key reader front count i least p q x total lt h so_far =
+    let k : count - i ≡ suc (count - (i + 1)) = omega arith in
+    let s : suc (key x) ≡ key x + 1 = omega arith in
+    let one : with_front front (rising_times key (count - i) least reader p.at (left p)) ≡ with_front (front ++ x ∷ []) (rising_times key (count - (i + 1)) (key x + 1) reader q.at (left q)) =
+    rw (k, h, s) (regroup front x (rising_times key (count - (i + 1)) (key x + 1) reader q.at (left q))) in
+    sym one ∙ so_far
+
+-- a reading that stops
+pub rising_stop : {A : Type 0} (e : Stop) (key : A → ℕ) (reader : ℕ → Reader A) (front : List A) (count i least : ℕ) (p : Place) (total : Result (Read (List A)) ℕ) → i < count →
+    StopsWith e (reader least p.at (left p)) → with_front front (rising_times key (count - i) least reader p.at (left p)) ≡ total → StopsWith e total
+rising_stop OutOfMemory key reader front count i least p total lt h so_far = tt
+rising_stop (Malformed at) key reader front count i least p total lt h so_far =
+    let k : count - i ≡ suc (count - (i + 1)) = omega arith in
+    let one : with_front front (rising_times key (count - i) least reader p.at (left p)) ≡ Err at = rw (k, h) refl in
+    sym so_far ∙ one
+
+-- all were read
+pub rising_done : {A : Type 0} (key : A → ℕ) (reader : ℕ → Reader A) (front : List A) (count i least : ℕ) (p : Place) (total : Result (Read (List A)) ℕ) → count ≤ i →
+    with_front front (rising_times key (count - i) least reader p.at (left p)) ≡ total → total ≡ Ok (record { value = front; at = p.at; rest = left p })
+rising_done key reader front count i least p total le so_far =
+    let k : count - i ≡ 0 = omega arith in
+    let one : with_front front (rising_times key (count - i) least reader p.at (left p)) ≡ Ok (record { value = front; at = p.at; rest = left p }) =
+    rw k (ap (λ xs. Ok (record { value = xs; at = p.at; rest = left p })) (append-nil front)) in
+    sym so_far ∙ one

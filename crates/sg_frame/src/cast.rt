@@ -1,0 +1,52 @@
+//! The cast that a frame joins with.
+ghost use Rattle.std.specs.Prelude.{◌≡◌, ◌==◌, if◌then◌else◌, None, vec_len, IfOk};
+ghost use Rattle.sg_protocol.specs.Reading.{give, times, read_name, read_cast};
+ghost use Rattle.sg_protocol.specs.Spelling.{join_bytes};
+ghost use Rattle.sg_protocol.specs.TextLaws.{IsVersion};
+ghost use Rattle.sg_frame.specs.Reads.{Reads, ReadsSeen};
+
+use crate::fault::Stop;
+use crate::field;
+use sg_base::{ByteIn, Name};
+use sg_crypt::Cast;
+use std::alloc::Global;
+
+// The cast of a frame that joins, where the kind is 0.
+pub fn read_join(
+    alloc: Global,
+    input: &mut ByteIn,
+    version: u8,
+    kind: u8,
+) -> Result<Option<Cast>, Stop>
+    requires { IsVersion version }
+    ensures { Reads (if kind == 0 then read_cast version else give None) input.old input.new result }
+{
+    if kind == 0 {
+        read_cast(alloc, input, version)
+    } else {
+        Ok(None)
+    }
+}
+
+fn read_cast(alloc: Global, input: &mut ByteIn, version: u8) -> Result<Option<Cast>, Stop>
+    requires { IsVersion version }
+    ensures { Reads (read_cast version) input.old input.new result }
+{
+    let graph = field::thirty_two(input)?;
+    let nonce = field::sixteen(input)?;
+    let count = field::byte(input, 2, 16)?;
+    let names = read_names(alloc, input, count)?;
+    Ok(Cast::new(version, graph, nonce, names.as_slice()))
+}
+
+fn read_names(alloc: Global, input: &mut ByteIn, count: u8) -> Result<Vec<Name>, Stop>
+    ensures reads { ReadsSeen (λ v. v.items) (times count read_name) input.old input.new result }
+    ensures length { IfOk result (λ v. vec_len v ≡ count) }
+{
+    let mut names = Vec::new(alloc);
+    'names: for _ in 0..count {
+        let name = field::read_name(input)?;
+        names.push(name)?;
+    }
+    Ok(names)
+}

@@ -1,0 +1,49 @@
+//! Why bytes are no frame.
+ghost use Rattle.std.specs.Prelude.{◌≡◌};
+ghost use Rattle.sg_frame.specs.declared.fault.Stop.TheVariants.{Malformed, OutOfMemory as Memory};
+
+use sg_base::Short;
+use std::alloc::{AllocError, AllocFailed};
+use thiserror::Error;
+
+/// Why bytes were not read as a frame.
+#[derive(Debug, Clone, Copy, PartialEq, Eq, Error)]
+pub enum DecodeFault {
+    /// The first field that is not there whole, or is out of its range, begins at this offset.
+    #[error("malformed at {at}")]
+    Malformed { at: u32 },
+    /// Memory was wanted, and none was to be had.
+    #[error("out of memory")]
+    OutOfMemory,
+}
+
+// Why reading stopped within the bytes.
+#[derive(Debug, Clone, Copy)]
+pub enum Stop {
+    Malformed { at: usize },
+    OutOfMemory,
+}
+
+impl From<Short> for Stop {
+    ghost from_gives = { λ short stop. stop ≡ Malformed short.at };
+
+    fn from(short: Short) -> Stop {
+        Stop::Malformed { at: short.at }
+    }
+}
+
+impl From<AllocError> for Stop {
+    ghost from_gives = { λ _ stop. stop ≡ Memory };
+
+    fn from(_: AllocError) -> Stop {
+        Stop::OutOfMemory
+    }
+}
+
+impl<T: Drop> From<AllocFailed<T>> for Stop {
+    ghost from_gives = { λ _ stop. stop ≡ Memory };
+
+    fn from(_: AllocFailed<T>) -> Stop {
+        Stop::OutOfMemory
+    }
+}

@@ -1,0 +1,122 @@
+//! Single fields of a frame.
+ghost use Rattle.std.specs.Prelude.{◌≡◌, ◌≤◌, ◌++◌, length, drop, IfOk, OnOk};
+ghost use Rattle.std.specs.Int.{w8, w16, w32};
+ghost use Rattle.sg_model.specs.Names.{is_name};
+ghost use Rattle.sg_protocol.specs.Frame.{tag_len};
+ghost use Rattle.sg_protocol.specs.Reading.{any_bytes, field, number, read_tag, read_name};
+ghost use Rattle.sg_frame.specs.Reads.{Reads, ReadsSeen};
+
+use crate::fault::Stop;
+use sg_base::{ByteIn, Name, Tag};
+
+// The next `n` bytes.
+pub fn bytes<'a>(input: &mut ByteIn<'a>, n: usize) -> Result<&'a [u8], Stop>
+    requires { 1 ≤ n }
+    ensures reads { ReadsSeen (λ x. x.now) (any_bytes n) input.old input.new result }
+    ensures length { IfOk result (λ x. length x.now ≡ n) }
+{
+    let bytes = input.bytes(n)?;
+    Ok(bytes)
+}
+
+// Sixteen bytes.
+pub fn sixteen(input: &mut ByteIn) -> Result<[u8; 16], Stop>
+    ensures { Reads (any_bytes 16) input.old input.new result }
+{
+    let mut kept = [0u8; 16];
+    kept.copy_from_slice(bytes(input, 16)?);
+    Ok(kept)
+}
+
+// Thirty-two bytes.
+pub fn thirty_two(input: &mut ByteIn) -> Result<[u8; 32], Stop>
+    ensures { Reads (any_bytes 32) input.old input.new result }
+{
+    let mut kept = [0u8; 32];
+    kept.copy_from_slice(bytes(input, 32)?);
+    Ok(kept)
+}
+
+// A number of one byte, from `low` to `high`.
+pub fn byte(input: &mut ByteIn, low: u8, high: u8) -> Result<u8, Stop>
+    ensures reads { Reads (number w8 low high) input.old input.new result }
+    ensures range { IfOk result (λ v. (low ≤ v) × (v ≤ high)) }
+{
+    let at = input.at();
+    let value = input.u8()?;
+    if value < low || high < value {
+        return Err(Stop::Malformed { at });
+    }
+    Ok(value)
+}
+
+// A number of two bytes, from `low` to `high`.
+pub fn two_bytes(input: &mut ByteIn, low: u16, high: u16) -> Result<u16, Stop>
+    ensures reads { Reads (number w16 low high) input.old input.new result }
+    ensures range { IfOk result (λ v. (low ≤ v) × (v ≤ high)) }
+{
+    let at = input.at();
+    let value = input.u16()?;
+    if value < low || high < value {
+        return Err(Stop::Malformed { at });
+    }
+    Ok(value)
+}
+
+// A number of four bytes, from `low` to `high`. The place then stands within the bytes.
+pub fn four_bytes(input: &mut ByteIn, low: u32, high: u32) -> Result<u32, Stop>
+    ensures reads { Reads (number w32 low high) input.old input.new result }
+    ensures range { IfOk result (λ v. (low ≤ v) × (v ≤ high)) }
+    ensures within { OnOk result (input.new.at ≤ length input.new.bytes) }
+{
+    let at = input.at();
+    let value = input.u32()?;
+    if value < low || high < value {
+        return Err(Stop::Malformed { at });
+    }
+    Ok(value)
+}
+
+// How many bytes of a tag are sent.
+pub fn tag_len(version: u8) -> usize
+    ensures value { result ≡ tag_len version }
+    ensures bounds { (1 ≤ result) × (result ≤ 32) }
+{
+    if version == 2 { 16 } else { 32 }
+}
+
+// A tag, filled up with zeros.
+pub fn read_tag(input: &mut ByteIn, version: u8) -> Result<Tag, Stop>
+    ensures { Reads (read_tag version) input.old input.new result }
+{
+    let mut kept = [0u8; 32];
+    put_front(&mut kept, bytes(input, tag_len(version))?);
+    Ok(Tag(kept))
+}
+
+fn put_front(block: &mut [u8; 32], front: &[u8])
+    requires { length front.now ≤ 32 }
+    ensures { block.new ≡ front.now ++ drop (length front.now) block.old }
+{
+    block[..front.len()].copy_from_slice(front);
+}
+
+// A name after its length.
+pub fn read_name(input: &mut ByteIn) -> Result<Name, Stop>
+    ensures { Reads read_name input.old input.new result }
+{
+    let count = byte(input, 1, 32)?;
+    read_name_of(input, count as usize)
+}
+
+fn read_name_of(input: &mut ByteIn, count: usize) -> Result<Name, Stop>
+    requires { 1 ≤ count }
+    ensures { Reads (field count is_name) input.old input.new result }
+{
+    let at = input.at();
+    let bytes = bytes(input, count)?;
+    match Name::new(bytes) {
+        Some(name) => Ok(name),
+        None => Err(Stop::Malformed { at }),
+    }
+}
