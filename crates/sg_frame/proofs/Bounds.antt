@@ -1,6 +1,6 @@
 -- A fault stands within the bytes, or at their end.
 use Rattle.sg_protocol.specs.Frame.{Frame, tag_len}
-use Rattle.std.proofs.Common.{◌==◌, not, bytes_eq, if◌then◌else◌, None, subst, ◌≡◌, ℕ, zero, suc, ◌+◌, ◌-◌, ◌≤◌, nat_le, nat_lt, Bool, true, false, ◌&&◌, List, [], ◌∷◌, length, take, drop, ◌++◌, replicate, Result, Ok, Err, refl, arith, length-drop}
+use Rattle.std.proofs.Common.{◌==◌, not, bytes_eq, if◌then◌else◌, None, subst, ◌≡◌, ℕ, zero, suc, ◌+◌, ◌-◌, ◌≤◌, nat_le, Bool, true, false, ◌&&◌, List, [], ◌∷◌, length, take, drop, ◌++◌, replicate, Result, Ok, Err, refl, arith, length-drop}
 use Rattle.std.proofs.lemmas.Bool.{leb-true, le-ltb}
 use Rattle.std.specs.Int.{Width, w8, w16, w32, byte_len, from_be_bytes}
 use Rattle.std.specs.Str.{is_utf8}

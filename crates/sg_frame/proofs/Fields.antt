@@ -1,5 +1,5 @@
 -- A field at a place.
-use Rattle.std.proofs.Common.{◌≡◌, ℕ, ◌+◌, ◌≤◌, nat_le, Bool, true, false, ◌&&◌, List, [], ◌∷◌, length, Ok, Err, arith, length-drop, refl}
+use Rattle.std.proofs.Common.{◌≡◌, ℕ, ◌+◌, ◌≤◌, nat_le, Bool, true, false, List, [], ◌∷◌, length, Ok, Err, arith, length-drop, refl}
 use Rattle.std.specs.Str.{IsUtf8, is_utf8}
 use Rattle.std.proofs.lemmas.Str.{IsUtf8-from_is_utf8}
 use Rattle.std.proofs.lemmas.List.{length-take-le, drop_all}
@@ -8,7 +8,7 @@ use Rattle.std.proofs.Math.Seq.{drop-drop}
 use Rattle.std.specs.Int.{Width, byte_len, from_be_bytes}
 use Rattle.sg_base.specs.Reading.{Place, past}
 use Rattle.sg_base.specs.Reading as here
-use Rattle.sg_protocol.specs.Reading.{Read, field, number, is_within, if_none_left}
+use Rattle.sg_protocol.specs.Reading.{field, number, is_within, if_none_left}
 use Rattle.sg_frame.specs.Reads.{left}
 
 -- so many bytes are left at the place

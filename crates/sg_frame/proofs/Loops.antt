@@ -1,7 +1,7 @@
 -- Readings one after the other, as a loop does them.
 use Rattle.std.proofs.Common.{◌≡◌, ℕ, suc, ◌-◌, ◌+◌, ◌≤◌, ◌<◌, List, [], ◌∷◌, ◌++◌, Result, Ok, Err, refl, sym, ap, ◌∙◌, append_assoc, append-nil, arith}
 use Rattle.sg_base.specs.Reading.{Place}
-use Rattle.sg_protocol.specs.Reading.{Read, Reader, give, on, after, times, rising_times}
+use Rattle.sg_protocol.specs.Reading.{Read, Reader, give, on, times, rising_times}
 use Rattle.sg_frame.specs.declared.fault.Stop.{Stop}
 use Rattle.sg_frame.specs.declared.fault.Stop.TheVariants.{Malformed, OutOfMemory}
 use Rattle.sg_frame.specs.Reads.{left, StopsWith}

@@ -1,5 +1,4 @@
 use Rattle.std.proofs.Common.{◌≡◌, ◌≤◌, length, arith, subst, Ok, Err}
-use Rattle.sg_protocol.specs.Frame.{Frame}
 use Rattle.sg_protocol.specs.Reading.{read}
 use Rattle.sg_protocol.proofs.ReadBack.{read-SpellsFrame}
 use Rattle.sg_protocol.proofs.ReadLaws.{read-spelling}

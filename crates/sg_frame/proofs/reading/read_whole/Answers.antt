@@ -1,4 +1,4 @@
-use Rattle.std.proofs.Common.{◌≡◌, ◌+◌, ◌≤◌, length, sym, ◌∙◌}
+use Rattle.std.proofs.Common.{◌+◌, ◌≤◌, length, sym, ◌∙◌}
 use Rattle.sg_frame.proofs.Fields.{none_left, some_left}
 use Rattle.sg_frame.proofs.reading.read_whole.Goals as goal
 
