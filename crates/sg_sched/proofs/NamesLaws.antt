@@ -1,6 +1,6 @@
 -- Lists of different names, read name by name.
-use Rattle.std.proofs.Common.{◌≡◌, ℕ, ◌+◌, ◌==◌, Bool, true, false, not, ◌&&◌, ◌||◌, List, [], ◌∷◌, ◌++◌, length, get_or, position, zero, suc, ◌<◌, nat_lt, bytes_eq, Option, Some, None, refl, sym, ap, ◌∙◌, arith, if◌then◌else◌, subst, true≢false}
-use Rattle.std.specs.List.{list_all, list_any, slice_split, position_or_len}
+use Rattle.std.proofs.Common.{◌≡◌, ℕ, Bool, true, false, not, ◌&&◌, ◌||◌, List, [], ◌∷◌, ◌++◌, length, get_or, position, zero, suc, ◌<◌, nat_lt, bytes_eq, Option, Some, None, refl, sym, ap, ◌∙◌, arith, if◌then◌else◌, subst, true≢false}
+use Rattle.std.specs.List.{list_all, list_any, position_or_len}
 use Rattle.std.proofs.lemmas.Grind.{common_steps}
 use Rattle.std.proofs.lemmas.List.Folds.{list_any_at}
 use Rattle.std.proofs.lemmas.List.{append_assoc, append-nil}
@@ -46,6 +46,7 @@ differ_push t (f ∷ fs) h d = step (bytes_eq t f) (has_text t fs) (has_text f f
   where
     any_push : (p : List ℕ → Bool) (xs : List (List ℕ)) → list_any p xs ≡ false → p t ≡ false → list_any p (xs ++ t ∷ []) ≡ false
     any_push p xs a b = grind (arith, common_steps)
+
     step : (s u v w : Bool) → bytes_eq t f ≡ s → has_text t fs ≡ u → has_text f fs ≡ v → all_differ fs ≡ w → s || u ≡ false → not v && w ≡ true →
         (has_text t fs ≡ false → all_differ fs ≡ true → all_differ (fs ++ t ∷ []) ≡ true) → not (has_text f (fs ++ t ∷ [])) && all_differ (fs ++ t ∷ []) ≡ true
     step false false false true es eu ev ew h d ih =

@@ -1,5 +1,5 @@
 -- The graph `pair`, node by node and edge by edge.
-use Rattle.std.proofs.Common.{◌≡◌, ℕ, zero, suc, ◌+◌, ◌<◌, ◌≤◌, max, List, [], ◌∷◌, ◌++◌, length, map, fold, refl, sym, ap, ◌∙◌, arith, subst, add-one, add-suc, add-zero}
+use Rattle.std.proofs.Common.{◌≡◌, ℕ, zero, suc, ◌+◌, max, List, [], ◌∷◌, ◌++◌, length, map, refl, sym, ap, ◌∙◌, arith, add-one, add-zero}
 use Rattle.std.proofs.lemmas.List.{map_push, length-map}
 use Rattle.std.proofs.lemmas.Grind.{common_steps}
 use Rattle.sg_model.specs.Names.{Name}
@@ -44,6 +44,6 @@ pub edge_more : (g wide new : Graph) (label : Name) (from to count : ℕ) → g 
     wide ≡ record g { nodes = map node (below (max (length g.nodes) count)) } → new ≡ with_edge wide (edge label from to) → new ≡ pair_graph (g.edges ++ edge label from to ∷ [])
 edge_more g wide new label from to count e n w h =
     let counted : max (length g.nodes) count ≡ node_count (g.edges ++ edge label from to ∷ []) =
-        (λ i. max (pair_nodes g e i) ((n ∙ add-one (max from to)) i)) ∙ sym (node_count-push g.edges (edge label from to)) in
+    (λ i. max (pair_nodes g e i) ((n ∙ add-one (max from to)) i)) ∙ sym (node_count-push g.edges (edge label from to)) in
     h ∙ ap (λ x. with_edge x (edge label from to)) w
-      ∙ (λ i. record { name = (e i).name; roles = (e i).roles; variables = (e i).variables; nodes = map node (below (counted i)); edges = g.edges ++ edge label from to ∷ [] })
+    ∙ (λ i. record { name = (e i).name; roles = (e i).roles; variables = (e i).variables; nodes = map node (below (counted i)); edges = g.edges ++ edge label from to ∷ [] })

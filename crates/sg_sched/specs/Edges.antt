@@ -1,5 +1,5 @@
 -- How the graph `pair` is kept: with its edges, and the nodes that they need.
-use Rattle.std.specs.Prelude.{◌≡◌, ℕ, ◌<◌, List, [], length, Option, IfSome}
+use Rattle.std.specs.Prelude.{◌≡◌, ◌<◌, List, [], length, Option, IfSome}
 use Rattle.std.specs.Option.{option_map_or}
 use Rattle.sg_protocol.specs.Graph.{Graph, Edge}
 use Rattle.sg_sched.specs.Pair.{pair_graph}

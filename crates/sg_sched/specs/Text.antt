@@ -1,6 +1,6 @@
 -- The lines of a text, and the words of a line.
 use Rattle.std.specs.Prelude.{ℕ, ◌-◌, ◌==◌, nat_lt, if◌then◌else◌, List, [], ◌∷◌, length, take, filter, slice_index}
-use Rattle.std.specs.List.{slice_split, onto_first, list_all}
+use Rattle.std.specs.List.{slice_split, onto_first}
 
 -- the lines, each with its line end, which the last may lack
 abbrev pub lines : List ℕ → List (List ℕ)

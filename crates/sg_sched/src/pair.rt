@@ -155,9 +155,7 @@ fn add_nodes(graph: &mut Graph, count: u16) -> Result<(), OutOfMemory>
     requires roles { length graph.old.roles ≡ 2 }
     requires nodes { graph.old.nodes ≡ map node (below (length graph.old.nodes)) }
     requires few { count ≤ 256 }
-    ensures {
-        OnOk result (graph.new ≡ record graph.old { nodes = map node (below (max (length graph.old.nodes) count)) })
-    }
+    ensures { OnOk result (graph.new ≡ record graph.old { nodes = map node (below (max (length graph.old.nodes) count)) }) }
 {
     while graph.nodes() < count {
         let number = graph.nodes() as u8;

@@ -48,16 +48,17 @@ impl Model for Reader {
     ghost Value = { SoFar };
 
     ghost view = { λ r. record {
-        group = group_number r.group;
-        edges = r.pair;
-        honest = r.honest;
-        keys = r.keys;
-        sessions = r.sessions;
-        steps = map step_of r.steps;
+      group = group_number r.group;
+      edges = r.pair;
+      honest = r.honest;
+      keys = r.keys;
+      sessions = r.sessions;
+      steps = map step_of r.steps;
     } };
 }
 
 const MOST_EDGES: usize = 512;
+
 const MOST_STEPS: usize = 200_000;
 
 impl Reader {
@@ -246,10 +247,8 @@ impl Reader {
     }
 
     fn act(&self, who: Name, session: &Name, label: &Name) -> Option<Step>
-        ensures {
-            option_map step_of result
-                ≡ option_and_then (λ s. option_map (λ l. ActStep who s l []) (label_at label.now self.now)) (session_at session.now self.now)
-        }
+        ensures { option_map step_of result
+            ≡ option_and_then (λ s. option_map (λ l. ActStep who s l []) (label_at label.now self.now)) (session_at session.now self.now) }
     {
         let session = self.sessions.place(session)?;
         let label = self.pair.label(label)?;

@@ -5,7 +5,10 @@ use sg_base::{Label, Name, Seq, Value, Var};
 #[derive(Debug, Drop)]
 pub enum Step {
     /// The principal starts the session.
-    Start { who: Name, session: u32 },
+    Start {
+        who: Name,
+        session: u32,
+    },
     /// The principal acts in the session: it sends along the label and writes the values, whose variables rise.
     Act {
         who: Name,
@@ -14,7 +17,10 @@ pub enum Step {
         values: Seq<(Var, Value)>,
     },
     /// The principal is given bytes.
-    Deliver { who: Name, what: What },
+    Deliver {
+        who: Name,
+        what: What,
+    },
 }
 
 /// What is delivered.

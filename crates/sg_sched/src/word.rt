@@ -54,9 +54,7 @@ fn next_value(value: u64, digit: u8, most: u64) -> Option<u64>
     requires { 48 ≤ digit }
     ensures { result ≡ up_to most (value * 10 + (digit - 48)) }
 {
-    let next = value
-        .checked_mul(10)?
-        .checked_add(u64::from(digit - b'0'))?;
+    let next = value.checked_mul(10)?.checked_add(u64::from(digit - b'0'))?;
     if next > most {
         return None;
     }

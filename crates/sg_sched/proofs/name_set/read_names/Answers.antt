@@ -1,4 +1,4 @@
-use Rattle.std.proofs.Common.{◌≡◌, ◌==◌, ◌∙◌, ap, sym, true, List, [], ◌∷◌, ◌++◌, Some, Option, option_copied, refl, ℕ, Bor}
+use Rattle.std.proofs.Common.{◌==◌, ◌∙◌, ap, sym, List, [], ◌∷◌, ◌++◌, Some, Option, option_copied, refl, ℕ, Bor}
 use Rattle.std.specs.List.{slice_split}
 use Rattle.std.specs.Option.{option_map_or}
 use Rattle.sg_sched.proofs.NamesLaws.{names_with, names_end, differ_push, read_twice, read_more}

@@ -1,4 +1,4 @@
-use Rattle.std.proofs.Common.{◌≡◌, ◌%◌, ◌+◌, ◌∙◌, ap, sym, []  , ◌∷◌, arith}
+use Rattle.std.proofs.Common.{◌≡◌, ◌%◌, ◌+◌, ◌∙◌, ap, sym, [], ◌∷◌, arith}
 use Rattle.sg_sched.proofs.NodeNames.{decimal_one, decimal_two, decimal_three}
 use Rattle.sg_sched.proofs.node_name.node_name.Goals as goal
 

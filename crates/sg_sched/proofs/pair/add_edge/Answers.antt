@@ -1,4 +1,4 @@
-use Rattle.std.proofs.Common.{◌≡◌, ◌∙◌, ◌+◌, length, ap, sym, map, arith, max}
+use Rattle.std.proofs.Common.{◌≡◌, ◌∙◌, ◌+◌, ap, sym, map, arith}
 use Rattle.sg_model.specs.Lists.{below}
 use Rattle.sg_graph.specs.Adding.{with_edge}
 use Rattle.sg_sched.specs.Pair.{node, edge}
@@ -22,5 +22,5 @@ add_edge-requires-clause-target c =
 pub returns-in-Ok : goal.returns-in-Ok
 returns-in-Ok c =
     let added : c.add_edge.new.self ≡ with_edge c.add_nodes.new.graph (edge c.args.label c.args.from c.args.to) =
-        c.in-Ok.ensures.added ∙ (λ i. with_edge c.add_nodes.new.graph (record { name = c.args.label; source = c.from-2.ensures i; target = c.from-3.ensures i; writes = c.empty-none.ensures i; reads = c.empty-none.ensures i })) in
+    c.in-Ok.ensures.added ∙ (λ i. with_edge c.add_nodes.new.graph (record { name = c.args.label; source = c.from-2.ensures i; target = c.from-3.ensures i; writes = c.empty-none.ensures i; reads = c.empty-none.ensures i })) in
     edge_more c.args.graph.now c.add_nodes.new.graph c.add_edge.new.self c.args.label c.args.from c.args.to (c.from.result + 1) c.requires.pair (ap (λ n. n + 1) (c.from.ensures ∙ c.max.ensures)) c.in_ok-add_nodes.ensures added

@@ -1,6 +1,5 @@
 use Rattle.std.proofs.Common.{◌≡◌, suc, ◌∙◌, length, ap, sym, map, arith}
 use Rattle.sg_model.specs.Lists.{below}
-use Rattle.sg_protocol.specs.Graph.{Graph}
 use Rattle.sg_graph.specs.Adding.{with_node}
 use Rattle.sg_sched.specs.Pair.{node}
 use Rattle.sg_sched.proofs.PairLaws.{node_more, nodes_there}

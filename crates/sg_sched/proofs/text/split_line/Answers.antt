@@ -1,5 +1,3 @@
-use Rattle.std.proofs.Common.{arith}
-use Rattle.std.proofs.lemmas.Grind.{common_steps}
 use Rattle.std.proofs.lemmas.List.{take_min, drop_min}
 use Rattle.sg_sched.proofs.TextLaws.{lines_first}
 use Rattle.sg_sched.proofs.text.split_line.Goals as goal

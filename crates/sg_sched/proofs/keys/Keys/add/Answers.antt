@@ -1,6 +1,5 @@
-use Rattle.std.proofs.Common.{◌≡◌, ◌∙◌, ap, sym, map, ◌++◌, ◌∷◌, [], false}
+use Rattle.std.proofs.Common.{◌∙◌, ap, sym, map}
 use Rattle.indexmap.specs.IndexSet.{insert_key}
-use Rattle.sg_sched.specs.SoFar.{has_key}
 use Rattle.sg_sched.proofs.SameBoth.{same_both, both_of, both_new}
 use Rattle.sg_sched.proofs.keys.Keys.add.Goals as goal
 

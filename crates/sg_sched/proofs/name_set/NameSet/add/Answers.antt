@@ -1,4 +1,4 @@
-use Rattle.std.proofs.Common.{◌∙◌, ap, ◌++◌, ◌∷◌, []}
+use Rattle.std.proofs.Common.{◌∙◌}
 use Rattle.sg_sched.proofs.SameName.{insert_new}
 use Rattle.sg_sched.proofs.name_set.NameSet.add.Goals as goal
 
