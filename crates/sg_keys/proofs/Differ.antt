@@ -41,3 +41,18 @@ all_differ-append (x ∷ xs) t h absent =
     kept : (b : Bool) → not b ≡ true → (not (b || false) && true) ≡ true
     kept true h = h
     kept false h = refl
+
+no_middle : (x t : List ℕ) (ts us : List (List ℕ)) → has_text x (ts ++ t ∷ us) ≡ false → bytes_eq x t ≡ false
+no_middle x t [] us h = (neither (bytes_eq x t) (has_text x us) h).0
+no_middle x t (y ∷ ys) us h = no_middle x t ys us (neither (bytes_eq x y) (has_text x (ys ++ t ∷ us)) h).1
+
+not_true : (b : Bool) → not b ≡ true → b ≡ false
+not_true true h = sym h
+not_true false h = refl
+
+-- of different texts none stands before itself
+pub absent_before : (ts : List (List ℕ)) (t : List ℕ) (us : List (List ℕ)) → all_differ (ts ++ t ∷ us) ≡ true → has_text t ts ≡ false
+absent_before [] t us h = refl
+absent_before (x ∷ xs) t us h =
+    let (here, later) = both (not (has_text x (xs ++ t ∷ us))) (all_differ (xs ++ t ∷ us)) h in
+    rw (bytes_eq-swap t x, no_middle x t xs us (not_true _ here)) (absent_before xs t us later)

@@ -1,9 +1,9 @@
 -- The key file: the keyring that the data of its TOML text spell, or the first fault.
-use Rattle.std.specs.Prelude.{ℕ, ◌+◌, Bool, true, ◌&&◌, ◌||◌, bytes_eq, if◌then◌else◌, List, [], ◌∷◌, ◌++◌, map, codes, Option, Some, None, is_some, option_and_then, Result, Ok, Err}
+use Rattle.std.specs.Prelude.{◌≡◌, IsTrue, ℕ, ◌+◌, Bool, true, ◌&&◌, ◌||◌, bytes_eq, if◌then◌else◌, List, [], ◌∷◌, ◌++◌, map, codes, Option, Some, None, is_some, option_and_then, Result, Ok, Err}
 use Rattle.std.specs.List.{list_all}
 use Rattle.std.specs.Str.{is_utf8}
 use Rattle.sg_base.specs.declared.address.Addr.{Addr}
-use Rattle.sg_model.specs.Lists.{has_text}
+use Rattle.sg_model.specs.Lists.{all_differ, has_text}
 use Rattle.sg_model.specs.Names.{Name}
 use Rattle.sg_protocol.specs.Keyring.{Keyring, Peer}
 use Rattle.toml.specs.Data.{Data, Items, no_items, item, Members, no_members, member, get_member, as_str, as_array, as_table}
@@ -80,13 +80,30 @@ abbrev pub is_head_key : List ℕ → Bool
 is_head_key k = (bytes_eq k (codes "me") || bytes_eq k (codes "listen")) || bytes_eq k (codes "peer")
 
 -- a table with exactly the own name, an address, and maybe a list of tables
-unfoldable pub head : Members → Option Head
-head table =
+unfoldable pub head_of : Members → Option Head
+head_of table =
     if has_keys_alone is_head_key table
     then head_from (at name (codes "me") table) (at address (codes "listen") table) (tables_of (get_member (codes "peer") table))
     else None
 
--- ---- the file
+-- ---- what the file spells
+
+-- what the bytes say as TOML
+unfoldable pub document : List ℕ → Option Members
+document bytes = if is_utf8 bytes then parse_document bytes else None
+
+-- the data spell the keyring: its head, each of its peers in order, and no name twice
+pub record SpellsKeyring (table : Members) (keys : Keyring) : Type 0 where
+  pub entries : List Data
+  pub head : head_of table ≡ Some (record { me = keys.me; listen = record { ip = keys.ip; port = keys.port }; entries = entries })
+  pub peers : map peer_of entries ≡ map Some keys.peers
+  pub differ : IsTrue (all_differ (names_of keys))
+
+-- the bytes of a key file spell the keyring
+abbrev pub SpellsKeys : List ℕ → Keyring → Type 0
+SpellsKeys bytes keys = (table : Members) × (document bytes ≡ Some table) × SpellsKeyring table keys
+
+-- ---- the first fault
 
 -- a keyring with the peer of the entry of this number
 abbrev pub with_entry : Keyring → ℕ → Option Peer → Result Keyring KeyFault
@@ -107,20 +124,16 @@ with_entries keys i (p ∷ ps) = then_with (with_entry keys i p) (λ k. with_ent
 abbrev pub alone : Head → Keyring
 alone h = record { me = h.me; ip = (h.listen).ip; port = (h.listen).port; peers = [] }
 
--- the keyring that the data spell: the head is entry 0, the peers are entries 1 and on
-abbrev pub keyring_in : Option Head → Result Keyring KeyFault
-keyring_in None = Err (BadEntry 0)
-keyring_in (Some h) = with_entries (alone h) 1 (map peer_of h.entries)
+-- the answer to a head: it is entry 0, and the peers are entries 1 and on
+abbrev pub answer_to_head : Option Head → Result Keyring KeyFault
+answer_to_head None = Err (BadEntry 0)
+answer_to_head (Some h) = with_entries (alone h) 1 (map peer_of h.entries)
 
--- what the bytes say as TOML
-unfoldable pub document : List ℕ → Option Members
-document bytes = if is_utf8 bytes then parse_document bytes else None
-
--- the keyring that the document spells
-abbrev pub keyring_of : Option Members → Result Keyring KeyFault
-keyring_of None = Err NotToml
-keyring_of (Some table) = keyring_in (head table)
+-- the answer to a document
+abbrev pub answer_to : Option Members → Result Keyring KeyFault
+answer_to None = Err NotToml
+answer_to (Some table) = answer_to_head (head_of table)
 
 -- the keyring that the bytes of a key file spell, or the first fault
 abbrev pub key_file : List ℕ → Result Keyring KeyFault
-key_file bytes = keyring_of (document bytes)
+key_file bytes = answer_to (document bytes)

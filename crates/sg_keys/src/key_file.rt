@@ -1,5 +1,5 @@
 //! The reader of key files.
-ghost use Rattle.std.specs.Prelude.{◌≡◌, ◌≢◌, ◌+◌, ◌<◌, ◌^◌, Some, None, Option, List, map, length, option_map, IfErr, IfOk, OnOk, OnErr, Ok, Err};
+ghost use Rattle.std.specs.Prelude.{◌≡◌, ◌≢◌, ◌+◌, ◌<◌, ◌^◌, ◌⊎◌, Some, None, Option, List, map, length, option_map, IfErr, IfOk, OnOk, OnErr, Ok, Err};
 ghost use Rattle.toml.specs.View.{view, table_view};
 ghost use Rattle.toml.specs.Parse.{parse_document};
 ghost use Rattle.std.specs.Str.{is_utf8};
@@ -50,23 +50,35 @@ struct PeerEntry {
 }
 
 impl Keyring {
-    ghost use Rattle.sg_keys.specs.KeyFile.{key_file};
+    ghost use Rattle.sg_protocol.specs.Keyring.{Keyring};
+    ghost use Rattle.sg_keys.specs.KeyFile.{key_file, SpellsKeys};
 
     /// The keyring that the bytes of a key file spell. The head is looked at first, then each peer in order, for a bad entry and then
     /// for a name that is there.
     pub fn from_toml(alloc: Global, bytes: &[u8]) -> Result<Keyring, KeyFault>
-        ensures spelled { IfOk result (λ k. key_file bytes.now ≡ Ok k) }
+        ensures spelled { IfOk result (SpellsKeys bytes.now) }
+        ensures each { (keys : Keyring) → SpellsKeys bytes.now keys → (result ≡ Ok keys) ⊎ (result ≡ Err KeyFault.OutOfMemory) }
+
+        ensures answer { IfOk result (λ k. key_file bytes.now ≡ Ok k) }
         ensures first_fault { IfErr result (λ e. e ≢ KeyFault.OutOfMemory → key_file bytes.now ≡ Err e) }
     {
-        let table = read_document(alloc, bytes)?;
-        let Some(head) = read_head(&table) else {
-            return Err(KeyFault::BadEntry { entry: 0 });
-        };
-        add_entries(Keyring::new(alloc, head.me, head.listen), head.entries)
+        read_keys(alloc, bytes)
     }
 }
 
-ghost use Rattle.sg_keys.specs.KeyFile.{document, head, peer_of, with_entry, with_entries};
+ghost use Rattle.sg_keys.specs.KeyFile.{document, key_file, head_of, peer_of, with_entry, with_entries};
+
+// The keyring or the first fault.
+fn read_keys(alloc: Global, bytes: &[u8]) -> Result<Keyring, KeyFault>
+    ensures answer { IfOk result (λ k. key_file bytes.now ≡ Ok k) }
+    ensures fault { IfErr result (λ e. e ≢ KeyFault.OutOfMemory → key_file bytes.now ≡ Err e) }
+{
+    let table = read_document(alloc, bytes)?;
+    let Some(head) = read_head(&table) else {
+        return Err(KeyFault::BadEntry { entry: 0 });
+    };
+    add_entries(Keyring::new(alloc, head.me, head.listen), head.entries)
+}
 
 // The data of a TOML text.
 #[tactic(auto, unfolding(crate::specs::KeyFile::document))]
@@ -87,9 +99,9 @@ fn read_document(alloc: Global, bytes: &[u8]) -> Result<Table, KeyFault>
 }
 
 // The head of the data of a key file.
-#[tactic(auto, unfolding(crate::specs::KeyFile::head))]
+#[tactic(auto, unfolding(crate::specs::KeyFile::head_of))]
 fn read_head(table: &Table) -> Option<Head<'_>>
-    ensures { option_map (λ h. record { me = h.me; listen = h.listen; entries = map view h.entries.now }) result ≡ head (table_view table.now) }
+    ensures { option_map (λ h. record { me = h.me; listen = h.listen; entries = map view h.entries.now }) result ≡ head_of (table_view table.now) }
 {
     if !has_head_keys_alone(table) {
         return None;

@@ -25,3 +25,6 @@ mod word;
 
 pub use key_file::KeyFault;
 pub use keyring::{Keyring, PeerFault};
+
+#[cfg(test)]
+mod tests;
