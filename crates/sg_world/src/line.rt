@@ -10,7 +10,14 @@ use sg_graph::Graph;
 use std::alloc::Global;
 
 /// The line of a step: its number, counted from 1, the principal, and what came of it, in a session of this name.
-pub fn report_line(alloc: Global, step: u32, who: Name, session: &[u8], graph: &Graph, outcome: &Outcome) -> Result<Vec<u8>, OutOfMemory>
+pub fn report_line(
+    alloc: Global,
+    step: u32,
+    who: Name,
+    session: &[u8],
+    graph: &Graph,
+    outcome: &Outcome,
+) -> Result<Vec<u8>, OutOfMemory>
     ensures { IfOk result (λ text. text.items ≡ line_text (λ sid. session.now) graph.now step (record { who = Some who; outcome = outcome_of outcome.now })) }
 {
     let mut out = ByteOut::new(alloc);
@@ -19,7 +26,15 @@ pub fn report_line(alloc: Global, step: u32, who: Name, session: &[u8], graph: &
 }
 
 /// Writes the line of a step.
-pub fn put_line(alloc: Global, out: &mut ByteOut, step: u32, who: &Name, session: &[u8], graph: &Graph, outcome: &Outcome) -> Result<(), OutOfMemory>
+pub fn put_line(
+    alloc: Global,
+    out: &mut ByteOut,
+    step: u32,
+    who: &Name,
+    session: &[u8],
+    graph: &Graph,
+    outcome: &Outcome,
+) -> Result<(), OutOfMemory>
     ensures { OnOk result (out.new ≡ out.old ++ line_text (λ sid. session.now) graph.now step (record { who = Some who.now; outcome = outcome_of outcome.now })) }
 {
     put_number(alloc, out, step)?;
@@ -31,16 +46,36 @@ pub fn put_line(alloc: Global, out: &mut ByteOut, step: u32, who: &Name, session
 }
 
 // Writes what came of a step.
-fn put_outcome(alloc: Global, out: &mut ByteOut, session: &[u8], graph: &Graph, outcome: &Outcome) -> Result<(), OutOfMemory>
+fn put_outcome(
+    alloc: Global,
+    out: &mut ByteOut,
+    session: &[u8],
+    graph: &Graph,
+    outcome: &Outcome,
+) -> Result<(), OutOfMemory>
     ensures { OnOk result (out.new ≡ out.old ++ outcome_text (λ sid. session.now) graph.now (outcome_of outcome.now)) }
 {
     match *outcome {
         Outcome::Started { role } => put_started(out, session, graph, role),
-        Outcome::Sent { label, time, to, frame, .. } => {
+        Outcome::Sent {
+            label,
+            time,
+            to,
+            frame,
+            ..
+        } => {
             put_moved(alloc, out, session, b" sent ", graph, label, time)?;
             put_sent_to(alloc, out, &to, frame)
         }
-        Outcome::Received { label, time, .. } => put_moved(alloc, out, session, b" received ", graph, label, time),
+        Outcome::Received { label, time, .. } => put_moved(
+            alloc,
+            out,
+            session,
+            b" received ",
+            graph,
+            label,
+            time,
+        ),
         Outcome::NotStarted(fault) => {
             out.bytes(b"refused ")?;
             put_start_fault(out, fault)
@@ -57,7 +92,12 @@ fn put_outcome(alloc: Global, out: &mut ByteOut, session: &[u8], graph: &Graph, 
     }
 }
 
-fn put_started(out: &mut ByteOut, session: &[u8], graph: &Graph, role: Role) -> Result<(), OutOfMemory>
+fn put_started(
+    out: &mut ByteOut,
+    session: &[u8],
+    graph: &Graph,
+    role: Role,
+) -> Result<(), OutOfMemory>
     ensures { OnOk result (out.new ≡ out.old ++ (session.now ++ codes " started as " ++ role_name graph.now role)) }
 {
     out.bytes(session)?;
@@ -65,7 +105,15 @@ fn put_started(out: &mut ByteOut, session: &[u8], graph: &Graph, role: Role) -> 
     put_role(out, graph, role)
 }
 
-fn put_moved(alloc: Global, out: &mut ByteOut, session: &[u8], word: &[u8], graph: &Graph, label: Label, time: Time) -> Result<(), OutOfMemory>
+fn put_moved(
+    alloc: Global,
+    out: &mut ByteOut,
+    session: &[u8],
+    word: &[u8],
+    graph: &Graph,
+    label: Label,
+    time: Time,
+) -> Result<(), OutOfMemory>
     ensures { OnOk result (out.new ≡ out.old ++ moved_text session.now word.now graph.now label time) }
 {
     out.bytes(session)?;
