@@ -1,0 +1,76 @@
+#!/usr/bin/env bash
+# Reads and spells the longest frame that a step makes, 15 steps and 32 openings in 57,028 bytes, 20,000 times each, and prints the
+# throughput. The program is made in a folder of its own, over this repository's crates. Needs python3; no part of the gate.
+set -eu
+here=$(cd "$(dirname "${BASH_SOURCE[0]}")/.." && pwd)
+folder=$(mktemp -d)
+trap 'rm -rf "$folder"' EXIT
+mkdir -p "$folder/crates/frames/src"
+for crate in sg_model sg_law sg_protocol sg_base sg_crypt sg_frame; do
+    (cd "$here/crates" && tar cf - --exclude=out "$crate") | (cd "$folder/crates" && tar xf -)
+    grep "^$crate:" "$here/crates.txt" >>"$folder/crates.txt"
+done
+echo 'frames: sg_base sg_frame' >>"$folder/crates.txt"
+cp "$here/HANDLES" "$folder/HANDLES"
+cat >"$folder/crates/frames/src/main.rt" <<'RATTLE'
+//! One frame, read and spelled again and again.
+#![tactic(auto)]
+
+use sg_frame::{decode, encode};
+use std::alloc::Global;
+use std::{fs, io};
+
+fn main(rt: HostRuntime) -> Result<(), io::Error> {
+    let bytes = fs::read(&rt, "frame")?;
+    let reads_alone = fs::read(&rt, "mode")?.is_empty();
+    let mut right = 0u32;
+    for _ in 0..20_000 {
+        if passes(rt.alloc(), bytes.as_slice(), reads_alone) {
+            right = right.wrapping_add(1);
+        }
+    }
+    println!(rt; "{right}")
+}
+
+fn passes(alloc: Global, bytes: &[u8], reads_alone: bool) -> bool {
+    match decode(alloc, bytes) {
+        Ok(frame) => reads_alone || matches!(encode(alloc, &frame), Ok(again) if again.len() == bytes.len()),
+        Err(_) => false,
+    }
+}
+RATTLE
+python3 - "$folder/crates/frames" <<'PYTHON'
+import sys
+
+item = bytes([0, 0, 0, 0, 0, 0, 1, 32]) + b''.join(bytes([v]) + bytes(32) for v in range(32))
+item += bytes([14]) + b''.join(bytes([r]) + bytes(32) for r in range(14))
+name = bytes([32]) + b'a' * 32
+opening = bytes(16) + bytes([1, 0, 0, 4, 0]) + b'x' * 1024
+frame = b'SGF1' + bytes([0]) + bytes(32) + bytes([0, 1]) + bytes(48) + bytes([16]) + name * 16 + bytes([0, 15]) + item * 15
+frame += bytes([32]) + b''.join(bytes([v]) + opening for v in range(32)) + bytes(32)
+assert len(frame) == 57028
+open(sys.argv[1] + '/frame', 'wb').write(frame)
+open(sys.argv[1] + '/mode', 'wb').close()
+PYTHON
+(cd "$folder/crates/frames" && rt run) >"$folder/log" 2>&1 || { cat "$folder/log"; exit 1; }
+python3 - "$folder/crates/frames/out/frames" "$folder/crates/frames" <<'PYTHON'
+import subprocess
+import sys
+import time
+
+program, folder = sys.argv[1:]
+
+
+def seconds(mode):
+    open(folder + '/mode', 'w').write(mode)
+    begun = time.monotonic()
+    said = subprocess.run([program], stdout=subprocess.PIPE, check=True, cwd=folder).stdout
+    assert said == b"20000\n", said
+    return time.monotonic() - begun
+
+
+read = seconds('')
+both = seconds('and spells')
+size = 20000 * 57028 / 1e6
+print(f'reading {size / read:.0f} MB/s, spelling {size / (both - read):.0f} MB/s')
+PYTHON
