@@ -87,6 +87,10 @@ first_of P (y ∷ ys) x all e = subst P (some_same y x e) (All-head P y ys all)
     some_same : {A : Type 0} (a b : A) → Some a ≡ Some b → a ≡ b
     some_same a b h = cc
 
+-- the session has two principals
+pub two_named : (s : Schedule) (d : Declared) → IsPairSetting s → slice_get s.sessions 0 ≡ Some d → length d.cast.names ≡ 2
+two_named s d setting is_session = (first_of (IsPairSession (pair s) s.honest) s.sessions d setting.sessions is_session).two
+
 pub sits : (s : Schedule) (g : Graph) (d : Declared) (one two : Name) (covered : Bool) → IsPairSetting s → slice_get s.graphs 0 ≡ Some g → slice_get s.sessions 0 ≡ Some d → d.cast.names ≡ one ∷ two ∷ [] → covered ≡ list_any (joins_both one two) s.keys →
     IsSitting s (record { graph = g; one = one; two = two; covered = covered })
 sits s g d one two covered setting is_graph is_session is_names is_covered =

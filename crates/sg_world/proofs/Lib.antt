@@ -15,3 +15,4 @@ pub mod Ours
 pub mod Course
 pub mod Reports
 pub mod Worked
+pub mod Spelled

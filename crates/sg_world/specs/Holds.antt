@@ -21,7 +21,7 @@ logged e = record { who = Some (who_of e.step); outcome = outcome_of e.outcome }
 
 -- the schedule so far
 abbrev pub schedule_of : Inside → Schedule
-schedule_of w = record w.setting.now { steps = map step_kept w.entries.items }
+schedule_of w = record w.schedule.now { steps = map step_kept w.entries.items }
 
 -- both principals stand where their pasts say
 pub record Stand (s : Schedule) (first second : Standing) (x : Sitting) : Type 0 where

@@ -18,7 +18,6 @@ ghost use Rattle.sg_world.specs.Report.{IsReport};
 
 pub use line::report_line;
 pub use message::Message;
-pub use setting::{Declared, PairKey, Setting};
 pub use sitting::Sitting;
 pub use standing::{Move, Standing};
 pub use step::{ActFault, Outcome, Refusal, StartFault, Step};

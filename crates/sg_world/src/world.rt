@@ -8,15 +8,17 @@ ghost use Rattle.sg_world.specs.Steps.{with_step, without_steps};
 ghost use Rattle.sg_world.specs.Forms.{IsPairSetting};
 
 use crate::judge::{judge, stand_after};
-use crate::{ActFault, Message, Outcome, Refusal, Setting, Sitting, Standing, StartFault, Step};
+use crate::setting::sitting;
+use crate::{ActFault, Message, Outcome, Refusal, Sitting, Standing, StartFault, Step};
 use sg_base::{OutOfMemory, Role};
+use sg_sched::Schedule;
 use std::alloc::Global;
 use std::marker::Model;
 
 /// A replay. A clause sees it as the schedule with the steps that were taken so far.
 #[derive(Debug, Drop)]
 pub struct World<'s> {
-    setting: &'s Setting,
+    schedule: &'s Schedule,
     sitting: Option<Sitting<'s>>,
     first: Standing,
     second: Standing,
@@ -45,17 +47,17 @@ impl<'s> Model for World<'s> {
 
 impl<'s> World<'s> {
     /// A replay of which no step was taken.
-    pub fn new(alloc: Global, setting: &'s Setting) -> World<'s>
-        requires { IsPairSetting setting.now }
-        ensures { result ≡ without_steps setting.now }
+    pub fn new(alloc: Global, schedule: &'s Schedule) -> World<'s>
+        requires { IsPairSetting schedule.now }
+        ensures { result ≡ without_steps schedule.now }
     {
         let unmoved = Standing {
             joined: false,
             last: None,
         };
         World {
-            setting,
-            sitting: setting.sitting(),
+            schedule,
+            sitting: sitting(schedule),
             first: unmoved,
             second: unmoved,
             entries: Vec::new(alloc),
