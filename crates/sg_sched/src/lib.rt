@@ -42,3 +42,6 @@ pub use key::PairKey;
 pub use read::read_schedule;
 pub use schedule::{Declared, Schedule};
 pub use step::{Change, Step, What};
+
+#[cfg(test)]
+mod tests;
