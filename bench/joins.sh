@@ -108,7 +108,7 @@ fn main() {
     println!("{} {} {} {}", claims.as_micros(), more_claims.as_micros(), few_time.as_micros(), many_time.as_micros());
 }
 RUST
-(cd "$folder/crates/many_joins" && rt run >/dev/null)
+(cd "$folder/crates/many_joins" && rt run >"$folder/log" 2>&1) || { cat "$folder/log" >&2; exit 1; }
 rustc -O -o "$folder/many_joins" "$folder/many_joins.rs"
 "$folder/crates/many_joins/out/many_joins" >"$folder/ours"
 "$folder/many_joins" >"$folder/theirs"

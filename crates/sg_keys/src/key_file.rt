@@ -1,10 +1,8 @@
 //! The reader of key files.
-ghost use Rattle.std.specs.Prelude.{◌≡◌, ◌≢◌, ◌+◌, ◌<◌, ◌^◌, ◌⊎◌, Some, None, Option, List, map, length, option_map, IfErr, IfOk, OnOk, OnErr, Ok, Err};
+ghost use Rattle.std.specs.Prelude.{◌≡◌, ◌≢◌, ◌+◌, ◌<◌, ◌^◌, ◌⊎◌, Some, None, map, option_map, IfErr, IfOk, OnOk};
 ghost use Rattle.toml.specs.View.{view, table_view};
-ghost use Rattle.toml.specs.Parse.{parse_document};
-ghost use Rattle.std.specs.Str.{is_utf8};
+ghost use Rattle.sg_keys.specs.KeyFile.{document, key_file, head_of, peer_of, with_entry, with_entries, SpellsKeys};
 ghost use Rattle.sg_keys.specs.Names.{peer_at};
-ghost use Rattle.sg_keys.specs.Words.{name, address, hex_key};
 
 use crate::table::{
     address_at, entries, has_head_keys_alone, has_peer_keys_alone, key_at, name_at,
@@ -51,7 +49,6 @@ struct PeerEntry {
 
 impl Keyring {
     ghost use Rattle.sg_protocol.specs.Keyring.{Keyring};
-    ghost use Rattle.sg_keys.specs.KeyFile.{key_file, SpellsKeys};
 
     /// The keyring that the bytes of a key file spell. The head is looked at first, then each peer in order, for a bad entry and then
     /// for a name that is there.
@@ -65,8 +62,6 @@ impl Keyring {
         read_keys(alloc, bytes)
     }
 }
-
-ghost use Rattle.sg_keys.specs.KeyFile.{document, key_file, head_of, peer_of, with_entry, with_entries};
 
 // The keyring or the first fault.
 fn read_keys(alloc: Global, bytes: &[u8]) -> Result<Keyring, KeyFault>

@@ -1,5 +1,5 @@
 //! A principal's name and address, and its peers.
-ghost use Rattle.std.specs.Prelude.{◌≡◌, ◌↔◌, ◌++◌, [], ◌∷◌, ◌&&◌, Bool, false, not, bytes_eq, is_none, Contains, IsTrue, OnErr, OnOk, option_map};
+ghost use Rattle.std.specs.Prelude.{◌≡◌, ◌↔◌, ◌++◌, [], ◌∷◌, ◌&&◌, false, not, bytes_eq, is_none, IsTrue, OnErr, OnOk};
 ghost use Rattle.std.specs.Option.{option_copied};
 ghost use Rattle.sg_model.specs.Lists.{all_differ, has_text};
 ghost use Rattle.sg_protocol.specs.Keyring.{key_of};
@@ -13,14 +13,15 @@ use std::marker::Model;
 use thiserror::Error;
 
 /// Where a peer is, and the key shared with it.
-#[derive(Debug, Clone, Copy)]
+#[derive(Clone, Copy)]
 struct Contact {
     addr: Addr,
     key: [u8; 32],
 }
 
-/// One principal's name and address, and its peers in the order in which they were added. All names differ.
-#[derive(Debug, Drop)]
+/// One principal's name and address, and its peers in the order in which they were added. All names differ. It has no `Debug`, which
+/// would print the keys.
+#[derive(Drop)]
 pub struct Keyring {
     me: Name,
     listen: Addr,
@@ -145,6 +146,8 @@ impl Keyring {
     }
 }
 
+ghost use Rattle.sg_keys.specs.Inside.{names_in};
+
 // The name is a peer's.
 fn has_peer(peers: &IndexMap<Name, Contact>, name: &Name) -> bool
     ensures { result ≡ has_text name.now (names_in peers.now.entries) }
@@ -165,5 +168,3 @@ fn put_last(
     peers.insert(peer, contact)?;
     Ok(())
 }
-
-ghost use Rattle.sg_keys.specs.Inside.{names_in};

@@ -1,8 +1,7 @@
 //! What the tables of a key file hold.
-ghost use Rattle.std.specs.Prelude.{◌≡◌, ◌&&◌, ◌||◌, [], ◌∷◌, Bool, List, codes, is_some, map, string_bytes, if◌then◌else◌, option_map, option_and_then, Option, Some, None};
+ghost use Rattle.std.specs.Prelude.{◌≡◌, codes, is_some, map, string_bytes, option_map, option_and_then};
 ghost use Rattle.std.specs.List.{list_all};
 ghost use Rattle.std.specs.BTreeMap.{keys};
-ghost use Rattle.std.specs.Str.{bytes_eq};
 ghost use Rattle.toml.specs.Data.{as_str, as_array, as_table, get_member};
 ghost use Rattle.toml.specs.View.{view, items_view, table_view};
 ghost use Rattle.sg_keys.specs.KeyFile.{has_keys_alone, text_at, at, is_head_key, is_peer_key, tables_in, tables_of};

@@ -1,5 +1,5 @@
 //! What the texts of a key file spell: numbers, addresses and keys.
-ghost use Rattle.std.specs.Prelude.{◌≡◌, ◌+◌, ◌-◌, ◌*◌, ◌≤◌, ◌==◌, ◌<◌, [], ◌∷◌, if◌then◌else◌, length, IfSome, MatchOption};
+ghost use Rattle.std.specs.Prelude.{◌≡◌, ◌+◌, ◌-◌, ◌*◌, ◌≤◌, ◌==◌, [], ◌∷◌, if◌then◌else◌, IfSome, MatchOption};
 ghost use Rattle.std.specs.List.{list_all, slice_split};
 ghost use Rattle.sg_keys.specs.Words.{is_digit, has_needless_zero, value, up_to, number, ip, port, address, hex_key};
 
