@@ -1,5 +1,12 @@
 //! Steps of a schedule, and what they bring about.
+ghost use Rattle.std.specs.Prelude.{◌≡◌, ◌≤◌, length};
+ghost use Rattle.sg_protocol.specs.Schedule.{Schedule};
+ghost use Rattle.sg_sched.specs.Steps.{step_of as said};
+ghost use Rattle.sg_world.specs.Forms.{IsPairStep};
+ghost use Rattle.sg_world.specs.Held.{step_of};
+
 use sg_base::{Label, Name, Role, Time};
+use sg_sched::What;
 
 /// A step of a principal in the session.
 #[derive(Debug, Clone, Copy)]
@@ -10,6 +17,26 @@ pub enum Step {
     Act { who: Name, label: Label },
     /// A delivery of the recorded frame of a number, counted from 1.
     Deliver { who: Name, number: u32 },
+}
+
+/// The step of a schedule of one session.
+pub fn asked(step: &sg_sched::Step) -> Step
+    ensures { (s : Schedule) → length s.sessions ≤ 1 → IsPairStep s (said step.now) → step_of result ≡ said step.now }
+{
+    match step {
+        sg_sched::Step::Start { who, .. } => Step::Start { who: *who },
+        sg_sched::Step::Act { who, label, .. } => Step::Act {
+            who: *who,
+            label: *label,
+        },
+        sg_sched::Step::Deliver {
+            who,
+            what: What::Frame { number, .. },
+        } => Step::Deliver {
+            who: *who,
+            number: *number,
+        },
+    }
 }
 
 /// What a step brought about. It has no values, since no edge has a variable.

@@ -5,10 +5,12 @@ ghost use Rattle.sg_world.specs.Held.{outcome_of, step_of};
 ghost use Rattle.sg_world.specs.Judged.{frames_in};
 ghost use Rattle.sg_world.specs.Run.{run};
 ghost use Rattle.sg_world.specs.Steps.{with_step, without_steps};
-ghost use Rattle.sg_world.specs.Forms.{IsPairSetting};
+ghost use Rattle.sg_world.specs.Forms.{IsPairSetting, IsPairStep};
+ghost use Rattle.sg_sched.specs.Steps.{step_of as said};
 
 use crate::judge::{judge, stand_after};
 use crate::setting::sitting;
+use crate::step::asked;
 use crate::{ActFault, Message, Outcome, Refusal, Sitting, Standing, StartFault, Step};
 use sg_base::{OutOfMemory, Role};
 use sg_sched::Schedule;
@@ -72,8 +74,19 @@ impl<'s> World<'s> {
         self.entries.len()
     }
 
-    /// Takes a step. For want of memory none is taken.
-    pub fn step(&mut self, step: Step) -> Result<(), OutOfMemory>
+    /// Takes a step of the schedule. For want of memory none is taken.
+    pub fn step(&mut self, step: &sg_sched::Step) -> Result<(), OutOfMemory>
+        requires room { length self.old.steps < 200_000 }
+        requires form { IsPairStep self.old (said step.now) }
+        ensures ok { OnOk result (self.new ≡ with_step self.old (said step.now)) }
+        ensures err { OnErr result (self.new ≡ self.old) }
+    {
+        let _schedule = &self.schedule;
+        self.take(asked(step))
+    }
+
+    // Takes a step. For want of memory none is taken.
+    fn take(&mut self, step: Step) -> Result<(), OutOfMemory>
         requires { length self.old.steps < 200_000 }
         ensures ok { OnOk result (self.new ≡ with_step self.old (step_of step)) }
         ensures err { OnErr result (self.new ≡ self.old) }
