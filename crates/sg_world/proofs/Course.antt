@@ -259,7 +259,7 @@ two_of s c (a ∷ b ∷ []) e two differ honest = record {
 abbrev none : Cast
 none = record { version = 1; graph = []; nonce = []; names = [] }
 
-cast_two : (s : Schedule) (ds : List Declared) → s.sessions ≡ ds → All (IsPairSession (pair s) s.honest) ds → ((the_cast s).names ≡ []) ⊎ Two s (the_cast s)
+pub cast_two : (s : Schedule) (ds : List Declared) → s.sessions ≡ ds → All (IsPairSession (pair s) s.honest) ds → ((the_cast s).names ≡ []) ⊎ Two s (the_cast s)
 cast_two s [] e all = inl (ap (λ l. (unwrap_or (option_map (λ (d : Declared). d.cast) (slice_get l 0)) none).names) e)
 cast_two s (d ∷ ds) e all =
     let is = All-head (IsPairSession (pair s) s.honest) d ds all in

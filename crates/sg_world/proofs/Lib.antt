@@ -8,6 +8,8 @@ pub mod Next
 pub mod Kept
 pub mod Holding
 pub mod Pasts
+pub mod PlainLines
+pub mod PlainReport
 pub mod Once
 pub mod Story
 pub mod Stages

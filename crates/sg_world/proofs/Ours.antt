@@ -21,7 +21,7 @@ use Rattle.sg_world.proofs.Rows.{and_both, and_left, and_right, same_bytes}
 use Rattle.sg_world.proofs.Pasts.{events_more}
 
 -- the events are of the one session
-abbrev Ours : List Event → Type 0
+abbrev pub Ours : List Event → Type 0
 Ours es = list_all (λ e. bytes_eq (sid_of e) the_sid) es ≡ true
 
 ours_both : (es ds : List Event) → Ours es → Ours ds → Ours (es ++ ds)
@@ -62,12 +62,12 @@ ours_after s w ours (DeliverStep who (Bytes bs)) = ours
 ours_after s w ours (AbandonStep who n) = ours
 ours_after s w ours (CraftStep c) = ours
 
-ours_all : (s : Schedule) (w : World) (xs : List Step) → Ours (events w.log) → Ours (events (world_after_all s w xs).log)
+pub ours_all : (s : Schedule) (w : World) (xs : List Step) → Ours (events w.log) → Ours (events (world_after_all s w xs).log)
 ours_all s w [] ours = ours
 ours_all s w (x ∷ xs) ours = ours_all s (world_after s w x) xs (ours_after s w ours x)
 
 -- a session has all events of the run, or none
-in_one : (sid : List ℕ) (es : List Event) → bytes_eq the_sid sid ≡ true → Ours es → filter (λ e. bytes_eq (sid_of e) sid) es ≡ es
+pub in_one : (sid : List ℕ) (es : List Event) → bytes_eq the_sid sid ≡ true → Ours es → filter (λ e. bytes_eq (sid_of e) sid) es ≡ es
 in_one sid [] same h = refl
 in_one sid (e ∷ es) same h =
     rw (ap (λ x. bytes_eq x sid) (same_bytes (sid_of e) the_sid (and_left _ (list_all (λ e. bytes_eq (sid_of e) the_sid) es) h)) ∙ same)

@@ -1,4 +1,5 @@
 pub mod Outcome
+pub mod Plain
 pub mod Run
 pub mod Forms
 pub mod Report

@@ -2,6 +2,8 @@
 ghost use Rattle.std.specs.Prelude.{◌≡◌, ◌++◌, ◌∷◌, [], Some, IfOk, OnOk, codes, decimal};
 ghost use Rattle.sg_protocol.specs.Graph.{Graph, role_name};
 ghost use Rattle.sg_world.specs.Held.{outcome_of, refusal_of, start_fault_of, act_fault_of};
+ghost use Rattle.std.specs.Option.{option_copied};
+ghost use Rattle.sg_world.specs.Plain.{shown, sent_text};
 ghost use Rattle.sg_world.specs.Report.{label_name, moved_text, sent_to, outcome_text, line_text, refusal_text, start_text, act_text};
 
 use crate::{ActFault, Outcome, Refusal, StartFault};
@@ -15,10 +17,10 @@ pub fn report_line(
     step: u32,
     who: Name,
     session: &[u8],
-    graph: &Graph,
+    graph: Option<&Graph>,
     outcome: &Outcome,
 ) -> Result<Vec<u8>, OutOfMemory>
-    ensures { IfOk result (λ text. text.items ≡ line_text (λ sid. session.now) graph.now step (record { who = Some who; outcome = outcome_of outcome.now })) }
+    ensures { IfOk result (λ text. text.items ≡ line_text (λ sid. session.now) (shown (option_copied graph.entry)) step (record { who = Some who; outcome = outcome_of outcome.now })) }
 {
     let mut out = ByteOut::new(alloc);
     put_line(alloc, &mut out, step, &who, session, graph, outcome)?;
@@ -32,10 +34,10 @@ pub fn put_line(
     step: u32,
     who: &Name,
     session: &[u8],
-    graph: &Graph,
+    graph: Option<&Graph>,
     outcome: &Outcome,
 ) -> Result<(), OutOfMemory>
-    ensures { OnOk result (out.new ≡ out.old ++ line_text (λ sid. session.now) graph.now step (record { who = Some who.now; outcome = outcome_of outcome.now })) }
+    ensures { OnOk result (out.new ≡ out.old ++ line_text (λ sid. session.now) (shown (option_copied graph.entry)) step (record { who = Some who.now; outcome = outcome_of outcome.now })) }
 {
     put_number(alloc, out, step)?;
     out.u8(b' ')?;
@@ -50,10 +52,10 @@ fn put_outcome(
     alloc: Global,
     out: &mut ByteOut,
     session: &[u8],
-    graph: &Graph,
+    graph: Option<&Graph>,
     outcome: &Outcome,
 ) -> Result<(), OutOfMemory>
-    ensures { OnOk result (out.new ≡ out.old ++ outcome_text (λ sid. session.now) graph.now (outcome_of outcome.now)) }
+    ensures { OnOk result (out.new ≡ out.old ++ outcome_text (λ sid. session.now) (shown (option_copied graph.entry)) (outcome_of outcome.now)) }
 {
     match *outcome {
         Outcome::Started { role } => put_started(out, session, graph, role),
@@ -92,13 +94,30 @@ fn put_outcome(
     }
 }
 
+/// Writes a space and the label of a sending, and nothing for another outcome.
+pub fn put_sent(
+    out: &mut ByteOut,
+    graph: Option<&Graph>,
+    outcome: &Outcome,
+) -> Result<(), OutOfMemory>
+    ensures { OnOk result (out.new ≡ out.old ++ sent_text (shown (option_copied graph.entry)) (outcome_of outcome.now)) }
+{
+    match *outcome {
+        Outcome::Sent { label, .. } => {
+            out.bytes(b" ")?;
+            put_label(out, graph, label)
+        }
+        _ => out.bytes(b""),
+    }
+}
+
 fn put_started(
     out: &mut ByteOut,
     session: &[u8],
-    graph: &Graph,
+    graph: Option<&Graph>,
     role: Role,
 ) -> Result<(), OutOfMemory>
-    ensures { OnOk result (out.new ≡ out.old ++ (session.now ++ codes " started as " ++ role_name graph.now role)) }
+    ensures { OnOk result (out.new ≡ out.old ++ (session.now ++ codes " started as " ++ role_name (shown (option_copied graph.entry)) role)) }
 {
     out.bytes(session)?;
     out.bytes(b" started as ")?;
@@ -110,11 +129,11 @@ fn put_moved(
     out: &mut ByteOut,
     session: &[u8],
     word: &[u8],
-    graph: &Graph,
+    graph: Option<&Graph>,
     label: Label,
     time: Time,
 ) -> Result<(), OutOfMemory>
-    ensures { OnOk result (out.new ≡ out.old ++ moved_text session.now word.now graph.now label time) }
+    ensures { OnOk result (out.new ≡ out.old ++ moved_text session.now word.now (shown (option_copied graph.entry)) label time) }
 {
     out.bytes(session)?;
     out.bytes(word)?;
@@ -192,8 +211,17 @@ fn put_least(alloc: Global, out: &mut ByteOut, least: Time) -> Result<(), OutOfM
     put_number(alloc, out, least.0)
 }
 
-// Writes the name of a label, or nothing where the graph has no such edge.
-fn put_label(out: &mut ByteOut, graph: &Graph, label: Label) -> Result<(), OutOfMemory>
+// Writes the name of a label, or nothing where there is no such edge.
+fn put_label(out: &mut ByteOut, graph: Option<&Graph>, label: Label) -> Result<(), OutOfMemory>
+    ensures { OnOk result (out.new ≡ out.old ++ label_name (shown (option_copied graph.entry)) label) }
+{
+    match graph {
+        None => out.bytes(b""),
+        Some(graph) => put_label_of(out, graph, label),
+    }
+}
+
+fn put_label_of(out: &mut ByteOut, graph: &Graph, label: Label) -> Result<(), OutOfMemory>
     ensures { OnOk result (out.new ≡ out.old ++ label_name graph.now label) }
 {
     if label.0 < graph.edges() {
@@ -203,8 +231,17 @@ fn put_label(out: &mut ByteOut, graph: &Graph, label: Label) -> Result<(), OutOf
     }
 }
 
-// Writes the name of a role, or nothing where the graph has no such role.
-fn put_role(out: &mut ByteOut, graph: &Graph, role: Role) -> Result<(), OutOfMemory>
+// Writes the name of a role, or nothing where there is no such role.
+fn put_role(out: &mut ByteOut, graph: Option<&Graph>, role: Role) -> Result<(), OutOfMemory>
+    ensures { OnOk result (out.new ≡ out.old ++ role_name (shown (option_copied graph.entry)) role) }
+{
+    match graph {
+        None => out.bytes(b""),
+        Some(graph) => put_role_of(out, graph, role),
+    }
+}
+
+fn put_role_of(out: &mut ByteOut, graph: &Graph, role: Role) -> Result<(), OutOfMemory>
     ensures { OnOk result (out.new ≡ out.old ++ role_name graph.now role) }
 {
     if role.0 < graph.roles() {

@@ -1,18 +1,23 @@
 //! A replay of one session of two honest principals.
-ghost use Rattle.std.specs.Prelude.{◌≡◌, ◌<◌, ◌++◌, ◌∷◌, [], length, vec_len, vec_capacity, option_map, IsOk, OnOk, OnErr};
+ghost use Rattle.std.specs.Prelude.{◌≡◌, ◌<◌, ◌≤◌, ◌++◌, ◌∷◌, [], length, vec_len, vec_capacity, option_map, IsOk, IfOk, OnOk, OnErr};
 ghost use Rattle.sg_model.specs.Last.{last};
 ghost use Rattle.sg_world.specs.Held.{outcome_of, step_of};
 ghost use Rattle.sg_world.specs.Judged.{frames_in};
 ghost use Rattle.sg_world.specs.Run.{run};
 ghost use Rattle.sg_world.specs.Steps.{with_step, without_steps};
+ghost use Rattle.sg_world.specs.Account.{account};
 ghost use Rattle.sg_world.specs.Forms.{IsPairSetting, IsPairStep};
+ghost use Rattle.sg_world.specs.Report.{IsReport};
 ghost use Rattle.sg_sched.specs.Steps.{step_of as said};
+
+mod report;
 
 use crate::judge::{judge, stand_after};
 use crate::setting::sitting;
 use crate::step::asked;
 use crate::{ActFault, Message, Outcome, Refusal, Sitting, Standing, StartFault, Step};
-use sg_base::{OutOfMemory, Role};
+use report::{put_report, session_name};
+use sg_base::{ByteOut, OutOfMemory, Role};
 use sg_sched::Schedule;
 use std::alloc::Global;
 use std::marker::Model;
@@ -104,6 +109,23 @@ impl<'s> World<'s> {
         self.first = stand_after(Role(0), &self.first, &judged.outcome);
         self.second = stand_after(Role(1), &self.second, &judged.outcome);
         Ok(())
+    }
+
+    /// The report of the steps that were taken: a line for each, the premises, and the walk of the session.
+    pub fn report(&self, alloc: Global) -> Result<Vec<u8>, OutOfMemory>
+        requires { length self.now.steps ≤ 200_000 }
+        ensures { IfOk result (λ text. IsReport (account self.now) text.items) }
+    {
+        let schedule = self.schedule;
+        let mut out = ByteOut::new(alloc);
+        put_report(
+            alloc,
+            &mut out,
+            session_name(schedule.sessions.as_slice()),
+            schedule.graphs.as_slice().first(),
+            self.entries.as_slice(),
+        )?;
+        Ok(out.done())
     }
 
     /// What the last step brought about, or `None` where none was taken. It takes no memory.
