@@ -4,8 +4,8 @@ use Rattle.std.specs.List.{list_all, AllByRecursion}
 use Rattle.std.specs.Option.{option_map_or}
 use Rattle.std.proofs.Common.{sym, ◌∙◌, ap, subst, arith, lit≤}
 use Rattle.std.proofs.Math.ListN.{get_or-map}
-use Rattle.std.proofs.lemmas.Bool.{ltb-false, eqb-true, eq-eqb}
-use Rattle.std.proofs.lemmas.List.{length-map}
+use Rattle.std.proofs.lemmas.Bool.{leb-false, ltb-false, eqb-true, eq-eqb}
+use Rattle.std.proofs.lemmas.List.{length-append, length-map}
 use Rattle.std.proofs.lemmas.List.Elements.{All-from_recursion}
 use Rattle.std.proofs.lemmas.List.Quantifiers.{position-Some}
 use Rattle.sg_model.specs.Names.{Name, reserved}
@@ -182,9 +182,10 @@ record Good (d : SoFar) : Type 0 where
   earlier : d.group < 4 → d.steps ≡ []
   sessions : AllByRecursion (IsPairSession (pair (schedule_of d)) d.honest) d.sessions
   steps : AllByRecursion (IsPairStep (schedule_of d)) d.steps
+  few : length d.steps ≤ 200000
 
 good_nothing : Good nothing
-good_nothing = record { edges = tt; one = omega arith; early = λ h. refl; earlier = λ h. refl; sessions = tt; steps = tt }
+good_nothing = record { edges = tt; one = omega arith; early = λ h. refl; earlier = λ h. refl; sessions = tt; steps = tt; few = lit≤ tt }
 
 all_push : {A : Type 0} (P : A → Type 0) (xs : List A) (x : A) → AllByRecursion P xs → P x → AllByRecursion P (xs ++ x ∷ [])
 all_push P [] x h p = (p, tt)
@@ -221,6 +222,7 @@ edge_good d label from to h low apart =
       earlier = h.earlier;
       sessions = subst (λ (ss : List Declared). AllByRecursion (IsPairSession (pair (schedule_of d')) d.honest) ss) (sym none) tt;
       steps = subst (λ (xs : List Step). AllByRecursion (IsPairStep (schedule_of d')) xs) (sym no_step) tt;
+      few = h.few;
     } in
     two_tests (has_text label reserved || nat_le 512 (length d.edges)) (has_text label (labels d.edges)) Form Twice d' good
 
@@ -237,6 +239,7 @@ honest_good d who h low =
       earlier = λ k. no_step;
       sessions = subst (λ (ss : List Declared). AllByRecursion (IsPairSession (pair (schedule_of d')) d'.honest) ss) (sym none) tt;
       steps = subst (λ (xs : List Step). AllByRecursion (IsPairStep (schedule_of d')) xs) (sym no_step) tt;
+      few = h.few;
     } in
     one_test (has_text who d.honest) Twice d' good
 
@@ -253,6 +256,7 @@ key_good d k h low =
       earlier = λ q. no_step;
       sessions = h.sessions;
       steps = subst (λ (xs : List Step). AllByRecursion (IsPairStep (schedule_of d')) xs) (sym no_step) tt;
+      few = h.few;
     } in
     one_test (has_key k.one k.two d.keys) Twice d' good
 
@@ -315,6 +319,7 @@ open_good d name graph nonce cast kind g h low differ honest none found = go (le
             tt,
           );
           steps = subst (λ (xs : List Step). AllByRecursion (IsPairStep (schedule_of d')) xs) (sym no_step) tt;
+          few = h.few;
         }
 
     go : (b : Bool) → (length cast == length g.roles) ≡ b → IfOk (open_session d name (if b then Some c else None)) Good
@@ -351,32 +356,33 @@ pair_edges d = go d.edges
 
 step_good : (d : SoFar) (who : Name) (step : Option Step) → Good d → ((s : Step) → step ≡ Some s → has_text who d.honest ≡ true → IsPairStep (schedule_of d) s) → IfOk (add_step d who step) Good
 unfolding add_step
-step_good d who step h fits = first (nat_le 200000 (length d.steps))
+step_good d who step h fits = first (nat_le 200000 (length d.steps)) refl
   where
     d' : Step → SoFar
     d' s = record d { group = 4; steps = d.steps ++ s ∷ [] }
 
-    good : (s : Step) → IsPairStep (schedule_of d) s → Good (d' s)
-    good s f = record {
+    good : (s : Step) → length d.steps < 200000 → IsPairStep (schedule_of d) s → Good (d' s)
+    good s room f = record {
       edges = h.edges;
       one = h.one;
       early = λ k. absurd (omega arith);
       earlier = λ k. absurd (omega arith);
       sessions = h.sessions;
       steps = all_push (IsPairStep (schedule_of d)) d.steps s h.steps f;
+      few = rw (length-append d.steps (s ∷ [])) (omega arith);
     }
 
-    third : (s : Step) → step ≡ Some s → (b : Bool) → has_text who d.honest ≡ b → IfOk (if b then Ok (d' s) else Err NotHonest) Good
-    third s e true honest = good s (fits s e honest)
-    third s e false honest = tt
+    third : (s : Step) → step ≡ Some s → length d.steps < 200000 → (b : Bool) → has_text who d.honest ≡ b → IfOk (if b then Ok (d' s) else Err NotHonest) Good
+    third s e room true honest = good s room (fits s e honest)
+    third s e room false honest = tt
 
-    second : (o : Option Step) → step ≡ o → IfOk (option_map_or (λ s. if has_text who d.honest then Ok (d' s) else Err NotHonest) o (Err Unknown)) Good
-    second None e = tt
-    second (Some s) e = third s e (has_text who d.honest) refl
+    second : (o : Option Step) → step ≡ o → length d.steps < 200000 → IfOk (option_map_or (λ s. if has_text who d.honest then Ok (d' s) else Err NotHonest) o (Err Unknown)) Good
+    second None e room = tt
+    second (Some s) e room = third s e room (has_text who d.honest) refl
 
-    first : (b : Bool) → IfOk (if b then Err TooManySteps else option_map_or (λ s. if has_text who d.honest then Ok (d' s) else Err NotHonest) step (Err Unknown)) Good
-    first true = tt
-    first false = second step refl
+    first : (b : Bool) → nat_le 200000 (length d.steps) ≡ b → IfOk (if b then Err TooManySteps else option_map_or (λ s. if has_text who d.honest then Ok (d' s) else Err NotHonest) step (Err Unknown)) Good
+    first true e = tt
+    first false e = second step refl (leb-false 200000 (length d.steps) e)
 
 -- a place that is found is there
 found_below : (name : Name) (names : List Name) (i : ℕ) → position (bytes_eq name) names ≡ Some i → i < length names
@@ -524,3 +530,10 @@ unfolding read
 spelled_pair bytes s e =
     let made = lines_good 1 nothing (lines bytes) s good_nothing e in
     subst (λ (s : Schedule). IsPairSchedule s) made.2 (good_schedule made.0 made.1)
+
+-- and it has at most 200,000 steps
+pub spelled_few : (bytes : List ℕ) (s : Schedule) → SpellsSchedule bytes s → length s.steps ≤ 200000
+unfolding read
+spelled_few bytes s e =
+    let made = lines_good 1 nothing (lines bytes) s good_nothing e in
+    subst (λ (s : Schedule). length s.steps ≤ 200000) made.2 made.1.few
