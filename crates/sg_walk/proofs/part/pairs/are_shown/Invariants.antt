@@ -1,0 +1,7 @@
+use Rattle.std.proofs.Common.{◌≡◌, ◌↔◌, drop}
+use Rattle.sg_protocol.specs.Walk.{shown}
+use Rattle.sg_walk.specs.Views.{values_of, writes_of}
+use Rattle.sg_walk.proofs.part.pairs.are_shown.Given as goal
+
+abbrev pub invariant-loop-place : goal.invariant-loop-place
+invariant-loop-place l = (shown (values_of l.values) ≡ writes_of l.writes) ↔ (shown (values_of (drop l.place l.values)) ≡ writes_of (drop l.place l.writes))
