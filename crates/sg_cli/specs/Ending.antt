@@ -1,0 +1,70 @@
+-- How the program ends, with which status, and what it says of it on standard error.
+use Rattle.std.specs.Prelude.{ℕ, List, [], ◌∷◌, ◌++◌, codes, Result, Ok, Err}
+use Rattle.std.specs.Fmt.{decimal}
+use Rattle.sg_protocol.specs.Schedule.{Schedule}
+use Rattle.sg_sched.specs.declared.fault.Kind.{Kind}
+use Rattle.sg_sched.specs.declared.fault.Kind.TheVariants.{Form, Unknown, Twice, NotHonest, TooManySteps}
+use Rattle.sg_sched.specs.declared.fault.LineFault.{LineFault}
+use Rattle.sg_sched.specs.declared.fault.LineFault.TheVariants.{Line, OutOfMemory}
+
+-- how the program ends
+pub data Ending : Type 0 where
+  -- the report is written whole
+  Reported : Ending
+  -- the words are not in the table of commands
+  NoCommand : Ending
+  -- this line of the schedule is the first that is wrong
+  WrongLine : (line : ℕ) → Kind → Ending
+  -- the file could not be read
+  FileFailed : (file : List ℕ) → Ending
+  -- what was to be written was not taken
+  WriteFailed : Ending
+  -- memory was wanted, and none was to be had
+  NoMemory : Ending
+  -- there is no such file
+  NoSuchFile : (file : List ℕ) → Ending
+  -- the file, or what it holds, passes a limit
+  TooLarge : (what : List ℕ) → Ending
+
+-- the status of an ending
+abbrev pub status_of : Ending → ℕ
+status_of Reported = 0
+status_of NoCommand = 2
+status_of (WrongLine line kind) = 4
+status_of (FileFailed file) = 5
+status_of WriteFailed = 6
+status_of NoMemory = 8
+status_of (NoSuchFile file) = 9
+status_of (TooLarge what) = 10
+
+-- what is wrong with a line
+abbrev pub kind_text : Kind → List ℕ
+kind_text Form = codes "form"
+kind_text Unknown = codes "unknown"
+kind_text Twice = codes "twice"
+kind_text NotHonest = codes "not-honest"
+kind_text TooManySteps = codes "too-many-steps"
+
+-- the line on standard error
+abbrev pub line_of : Ending → List ℕ
+line_of Reported = []
+line_of NoCommand = codes "usage: sessiongraph replay\n"
+line_of (WrongLine line kind) = codes "input refused: line " ++ decimal line ++ 32 ∷ kind_text kind ++ 10 ∷ []
+line_of (FileFailed file) = codes "file failed: " ++ file ++ 10 ∷ []
+line_of WriteFailed = []
+line_of NoMemory = codes "out of memory\n"
+line_of (NoSuchFile file) = codes "no such file: " ++ file ++ 10 ∷ []
+line_of (TooLarge what) = codes "too large: " ++ what ++ 10 ∷ []
+
+-- ---- the ending that the input has, where nothing fails and memory is to be had
+
+-- what a line's fault ends with
+abbrev pub ending_of_line : ℕ → Kind → Ending
+ending_of_line n TooManySteps = TooLarge (codes "steps")
+ending_of_line n kind = WrongLine n kind
+
+-- what the reading of a schedule ends with
+abbrev pub ending_of_read : Result Schedule LineFault → Ending
+ending_of_read (Ok s) = Reported
+ending_of_read (Err (Line n kind)) = ending_of_line n kind
+ending_of_read (Err OutOfMemory) = NoMemory

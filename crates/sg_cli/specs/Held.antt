@@ -1,0 +1,22 @@
+-- What the program holds, as the values of the definitions.
+use Rattle.sg_cli.specs.Command as Asked
+use Rattle.sg_cli.specs.Ending as Ended
+use Rattle.sg_cli.specs.declared.command.Command.{Command}
+use Rattle.sg_cli.specs.declared.command.Command.TheVariants.{Replay}
+use Rattle.sg_cli.specs.declared.ending.Ending.{Ending}
+use Rattle.sg_cli.specs.declared.ending.Ending.TheVariants.{Reported, NoCommand, WrongLine, FileFailed, WriteFailed, NoMemory, NoSuchFile, TooLarge}
+
+-- the command that is held
+abbrev pub command_held : Command → Asked.Command
+command_held (Replay file) = Asked.Replay file.now
+
+-- the ending that is held
+abbrev pub ending_held : Ending → Ended.Ending
+ending_held Reported = Ended.Reported
+ending_held NoCommand = Ended.NoCommand
+ending_held (WrongLine line kind) = Ended.WrongLine line kind
+ending_held (FileFailed file) = Ended.FileFailed file.now
+ending_held WriteFailed = Ended.WriteFailed
+ending_held NoMemory = Ended.NoMemory
+ending_held (NoSuchFile file) = Ended.NoSuchFile file.now
+ending_held (TooLarge what) = Ended.TooLarge what.now

@@ -1,0 +1,108 @@
+//! The command `replay`: reads a schedule, runs it, and writes the report of the run.
+ghost use Rattle.std.specs.Prelude.{◌≡◌, ◌≤◌, Some, Err, IfOk, IfErr, length};
+ghost use Rattle.sg_cli.specs.Ends.{Has, Replays, IsUnread, ReplaysFile};
+ghost use Rattle.sg_cli.specs.Ending.{ending_of_read};
+ghost use Rattle.sg_cli.specs.Held.{ending_held};
+ghost use Rattle.sg_sched.specs.Spelled.{SpellsSchedule};
+ghost use Rattle.sg_world.specs.Account.{account};
+ghost use Rattle.sg_world.specs.Forms.{IsPairSchedule};
+ghost use Rattle.sg_world.specs.Report.{IsReport};
+
+use crate::ending::Ending;
+use sg_base::{FileFault, Files, OutOfMemory, Sink, write_all};
+use sg_sched::{Kind, LineFault, Schedule, read_schedule};
+use sg_world::World;
+use std::alloc::Global;
+
+// A schedule file has at most 16 MiB.
+const MOST_BYTES: u32 = 16_777_216;
+
+/// Replays the schedule of a file and writes its report, or says why not.
+pub fn replay<'w, F: Files, O: Sink>(
+    alloc: Global,
+    file: &'w str,
+    files: &mut F,
+    out: &mut O,
+) -> Ending<'w>
+    ensures { ReplaysFile file.now (F.held files.old) (F.faults files.old) (F.faults files.new)
+        (record { bytes = O.written out.old; faults = O.faults out.old }) (record { bytes = O.written out.new; faults = O.faults out.new }) (ending_held result) }
+{
+    match read_file(alloc, file, files) {
+        Ok(bytes) => replay_bytes(alloc, bytes.as_slice(), out),
+        Err(ending) => ending,
+    }
+}
+
+fn read_file<'w, F: Files>(
+    alloc: Global,
+    file: &'w str,
+    files: &mut F,
+) -> Result<Vec<u8>, Ending<'w>>
+    ensures few { IfOk result (λ bytes. length bytes.items ≤ 16_777_216) }
+    ensures found { IfOk result (λ bytes. Has (F.held files.old) file.now (Some bytes.items)) }
+    ensures unread { IfErr result (λ ending. IsUnread file.now (F.held files.old) (F.faults files.old) (F.faults files.new) (ending_held ending)) }
+{
+    match files.read(alloc, file, MOST_BYTES) {
+        Ok(Some(bytes)) => Ok(bytes),
+        Ok(None) => Err(Ending::NoSuchFile { file }),
+        Err(FileFault::Failed) => Err(Ending::FileFailed { file }),
+        Err(FileFault::TooLong) => Err(Ending::TooLarge { what: file }),
+        Err(FileFault::OutOfMemory) => Err(Ending::NoMemory),
+    }
+}
+
+fn replay_bytes<O: Sink>(alloc: Global, bytes: &[u8], out: &mut O) -> Ending<'static>
+    requires { length bytes.now ≤ 16_777_216 }
+    ensures { Replays bytes.now (record { bytes = O.written out.old; faults = O.faults out.old }) (record { bytes = O.written out.new; faults = O.faults out.new }) (ending_held result) }
+{
+    match read_schedule(alloc, bytes) {
+        Ok(schedule) => replay_schedule(alloc, bytes, &schedule, out),
+        Err(fault) => refused(fault),
+    }
+}
+
+// Runs the schedule that the bytes spell, and writes the report.
+fn replay_schedule<O: Sink>(
+    alloc: Global,
+    bytes: &[u8],
+    schedule: &Schedule,
+    out: &mut O,
+) -> Ending<'static>
+    requires { SpellsSchedule bytes.now schedule.now }
+    ensures { Replays bytes.now (record { bytes = O.written out.old; faults = O.faults out.old }) (record { bytes = O.written out.new; faults = O.faults out.new }) (ending_held result) }
+{
+    match report_of(alloc, schedule) {
+        Ok(text) => match write_all(out, text.as_slice()) {
+            Ok(()) => Ending::Reported,
+            Err(_) => Ending::WriteFailed,
+        },
+        Err(_) => Ending::NoMemory,
+    }
+}
+
+// How the program ends where bytes are no schedule.
+fn refused(fault: LineFault) -> Ending<'static>
+    ensures { ending_held result ≡ ending_of_read (Err fault) }
+{
+    match fault {
+        LineFault::Line {
+            kind: Kind::TooManySteps,
+            ..
+        } => Ending::TooLarge { what: "steps" },
+        LineFault::Line { line, kind } => Ending::WrongLine { line, kind },
+        LineFault::OutOfMemory => Ending::NoMemory,
+    }
+}
+
+// Runs a schedule and gives the report of the run.
+fn report_of(alloc: Global, schedule: &Schedule) -> Result<Vec<u8>, OutOfMemory>
+    requires form { IsPairSchedule schedule.now }
+    requires few { length schedule.now.steps ≤ 200_000 }
+    ensures { IfOk result (λ text. IsReport (account schedule.now) text.items) }
+{
+    let mut world = World::new(alloc, schedule);
+    'steps: for step in schedule.steps.as_slice() {
+        world.step(step)?;
+    }
+    world.report(alloc)
+}
