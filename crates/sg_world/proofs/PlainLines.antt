@@ -30,8 +30,8 @@ lines_more name g es i number who e old out new h at by is before line =
     let all : map logged (take (i + 1) es) ≡ map logged (take i es) ++ logged (get_or es i e) ∷ [] = ap (map logged) (take_more es i e h) ∙ map-append logged (take i es) (get_or es i e ∷ []) in
     let count : 1 + length (map logged (take i es)) ≡ number + 1 = ap (λ n. 1 + n) (length-map (take i es) logged ∙ length-take-le i es (omega arith)) ∙ omega arith in
     let pushed : lines name g 1 (map logged (take (i + 1) es)) ≡ lines name g 1 (map logged (take i es)) ++ line_text (λ sid. name) g (number + 1) (logged e) =
-        ap (lines name g 1) all ∙ lines_push name g 1 (map logged (take i es)) (logged (get_or es i e)) ∙ ap (λ n. lines name g 1 (map logged (take i es)) ++ line_text (λ sid. name) g n (logged (get_or es i e))) count
-        ∙ ap (λ x. lines name g 1 (map logged (take i es)) ++ line_text (λ sid. name) g (number + 1) (logged x)) (sym is) in
+    ap (lines name g 1) all ∙ lines_push name g 1 (map logged (take i es)) (logged (get_or es i e)) ∙ ap (λ n. lines name g 1 (map logged (take i es)) ++ line_text (λ sid. name) g n (logged (get_or es i e))) count
+    ∙ ap (λ x. lines name g 1 (map logged (take i es)) ++ line_text (λ sid. name) g (number + 1) (logged x)) (sym is) in
     line
     ∙ ap (λ w. out ++ line_text (λ sid. name) g (number + 1) (record { who = Some w; outcome = outcome_of e.outcome })) by
     ∙ ap (λ o. o ++ line_text (λ sid. name) g (number + 1) (logged e)) before

@@ -107,7 +107,7 @@ name_is s = go s.sessions refl
 plain_labels : (g : Graph) (honest : ℕ → Bool) (xs : List ℕ) → AllByRecursion (λ x. honest (sender (shape g) x) ≡ true) xs →
     flat_map (step_text g honest) (map (λ (x : ℕ). record { label = x; writes = [] }) xs) ≡ flat_map (λ x. 32 ∷ label_name g x) xs
 plain_labels g honest [] h = refl
-plain_labels g honest (x ∷ xs) h = 
+plain_labels g honest (x ∷ xs) h =
     rw h.0 (ap (λ t. 32 ∷ (t ++ flat_map (step_text g honest) (map (λ (x : ℕ). record { label = x; writes = [] }) xs))) (append-nil (label_name g x))
     ∙ ap (λ t. 32 ∷ (label_name g x ++ t)) (plain_labels g honest xs h.1))
 
