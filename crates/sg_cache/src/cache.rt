@@ -1,5 +1,5 @@
 //! The pairs of session and role that were joined.
-ghost use Rattle.std.specs.Prelude.{◌≡◌, ◌≢◌, ◌<◌, ◌≤◌, ◌↔◌, ◌++◌, [], ◌∷◌, length, AllPairs, Contains, IfOk, IsOk, IsTrue, OnErr, OnOk};
+ghost use Rattle.std.specs.Prelude.{◌≡◌, ◌≢◌, ◌<◌, ◌≤◌, ◌↔◌, ◌⊎◌, ◌++◌, [], ◌∷◌, length, AllPairs, Contains, IfOk, IsOk, IsTrue, OnErr, OnOk};
 ghost use Rattle.indexmap.specs.IndexSet.{spare};
 
 use crate::Ticket;
@@ -64,15 +64,15 @@ impl Cache {
         self.joins.reserve(1)
     }
 
-    /// Puts a pair at the end, and gives the ticket for it. Where room was made it takes no memory. After a refusal the pairs are
-    /// as before.
+    /// Puts a pair at the end, and gives the ticket for it. Where room was made it takes no memory. After a refusal the cache is
+    /// as before, room and all; only want of memory may leave it with less room.
     pub fn claim(&mut self, sid: Sid, role: Role) -> Result<Ticket, ClaimFault>
         ensures joined { (result ≡ Err ClaimFault.Joined) ↔ Contains self.old.pairs (sid, role) }
         ensures full { (result ≡ Err ClaimFault.CacheFull) ↔ ((¬ Contains self.old.pairs (sid, role)) × (length self.old.pairs ≡ 65536)) }
         ensures memory { 0 < self.old.spare → result ≢ Err ClaimFault.OutOfMemory }
-
         ensures ticket { IfOk result (λ t. t ≡ (sid, role)) }
         ensures added { OnOk result (self.new.pairs ≡ self.old.pairs ++ (sid, role) ∷ []) }
+        ensures refused { (result ≡ Err ClaimFault.Joined) ⊎ (result ≡ Err ClaimFault.CacheFull) → self.new ≡ self.old }
         ensures err { OnErr result (self.new.pairs ≡ self.old.pairs) }
     {
         if self.has(&sid, role) {

@@ -1,5 +1,5 @@
 -- What the program leaves, and why it ends as it does.
-use Rattle.std.specs.Prelude.{◌≡◌, ℕ, ◌≤◌, ◌<◌, ◌⊎◌, List, Option, Some, None, length, IsSomeAnd, ⊤}
+use Rattle.std.specs.Prelude.{◌≡◌, ◌≢◌, ℕ, ◌≤◌, ◌<◌, ◌⊎◌, List, [], Option, Some, None, length, IsSomeAnd, ⊤}
 use Rattle.sg_base.specs.Outside.{HasRisen, Appends, AppendsFront, file_at}
 use Rattle.sg_protocol.specs.Schedule.{Schedule}
 use Rattle.sg_sched.specs.Spelled.{SpellsSchedule, read}
@@ -63,9 +63,11 @@ Puts old new line wanted status =
     ((status ≡ wanted) × Appends old.bytes new.bytes line)
     ⊎ ((status ≡ 6) × HasRisen old.faults new.faults × AppendsFront old.bytes new.bytes line)
 
--- how the program says how its work ended: by the ending's line and status, or, where memory was wanted for the line, by saying this
+-- how the program says how its work ended: by the ending's line and status, or, where memory was wanted for a line, by saying this
 abbrev pub Says : Ending → (old new : Place) → (status : ℕ) → Type 0
-Says work old new status = Puts old new (line_of work) (status_of work) status ⊎ Puts old new (line_of NoMemory) (status_of NoMemory) status
+Says work old new status =
+    Puts old new (line_of work) (status_of work) status
+    ⊎ ((line_of work ≢ []) × Puts old new (line_of NoMemory) (status_of NoMemory) status)
 
 -- the program ended with this status: its work ended in some way, and so it says
 pub record Ends (words : List (List ℕ)) (told : Told) (faults faults' : ℕ) (out out' err err' : Place) (status : ℕ) : Type 0 where

@@ -1,5 +1,5 @@
 //! How the program ends, and what it says of it.
-ghost use Rattle.std.specs.Prelude.{◌≡◌, ◌++◌, ◌∷◌, [], IfOk, codes, decimal, string_bytes};
+ghost use Rattle.std.specs.Prelude.{◌≡◌, ◌≢◌, ◌++◌, ◌∷◌, [], IfOk, OnErr, codes, decimal, string_bytes};
 ghost use Rattle.sg_cli.specs.Ending.{status_of, line_of, kind_text};
 ghost use Rattle.sg_cli.specs.Held.{ending_held};
 
@@ -45,9 +45,10 @@ impl<'w> Ending<'w> {
         }
     }
 
-    /// The line on standard error, with its line end; nothing where the report is written.
+    /// The line on standard error, with its line end; nothing, which takes no memory, where the report was to be written.
     pub fn line(&self, alloc: Global) -> Result<String, OutOfMemory>
-        ensures { IfOk result (λ text. string_bytes text ≡ line_of (ending_held self.now)) }
+        ensures value { IfOk result (λ text. string_bytes text ≡ line_of (ending_held self.now)) }
+        ensures memory { OnErr result (line_of (ending_held self.now) ≢ []) }
     {
         match self {
             Ending::Reported | Ending::WriteFailed => Ok(String::new(alloc)),

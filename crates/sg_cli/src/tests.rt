@@ -30,32 +30,57 @@ fn replayed(alloc: Global, schedule: &str) -> Result<Left, OutOfMemory> {
     run(alloc, &["replay", "f"], bytes, 10_000)
 }
 
+const HEAD: &str = "edge Request 0 1\n\
+    edge Reply 1 2\n\
+    edge Again 2 1\n\
+    honest a\n\
+    honest b\n\
+    key a b 1111111111111111111111111111111111111111111111111111111111111111\n\
+    session s1 pair 1 a,b\n";
+
 #[test]
-fn reports_a_session(rt: HostRuntime) -> Result<(), OutOfMemory> {
-    let schedule = "edge Request 0 1\n\
-        edge Reply 1 2\n\
-        honest a\n\
-        honest b\n\
-        key a b 1111111111111111111111111111111111111111111111111111111111111111\n\
-        session s1 pair 1 a,b\n\
+fn reports_a_session_whose_frames_come_again(rt: HostRuntime) -> Result<(), OutOfMemory> {
+    let alloc = rt.alloc();
+    let schedule = format!(in alloc;
+        "{HEAD}\
         start a s1\n\
         act a s1 Request\n\
         deliver b f1\n\
         deliver b f1\n\
         act b s1 Reply\n\
         deliver a f2\n\
-        deliver b f9\n";
-    let left = replayed(rt.alloc(), schedule)?;
+        deliver a f2\n\
+        act a s1 Again\n\
+        deliver a f2\n\
+        deliver b f3\n\
+        deliver b f9\n"
+    )?;
+    let left = replayed(alloc, schedule.as_str())?;
     let report = "1 a s1 started as a\n\
         2 a s1 sent Request time 1 to b as f1\n\
         3 b s1 received Request time 1\n\
         4 b refused joined\n\
         5 b s1 sent Reply time 2 to a as f2\n\
         6 a s1 received Reply time 2\n\
-        7 b refused no-frame\n\
+        7 a refused not-waiting\n\
+        8 a s1 sent Again time 3 to b as f3\n\
+        9 a refused bad-time item 1 got 2 least 4\n\
+        10 b s1 received Again time 3\n\
+        11 b refused no-frame\n\
         premise unforged holds\n\
         premise collision-free holds\n\
-        walk s1: Request Reply\n";
+        walk s1: Request Reply Again\n";
+    assert!(rt; left.status == 0);
+    assert!(rt; left.out.bytes() == report.as_bytes());
+    assert!(rt; left.err.bytes().is_empty());
+    Ok(())
+}
+
+#[test]
+fn reports_no_steps_as_two_premises(rt: HostRuntime) -> Result<(), OutOfMemory> {
+    let left = replayed(rt.alloc(), HEAD)?;
+    let report = "premise unforged holds\n\
+        premise collision-free holds\n";
     assert!(rt; left.status == 0);
     assert!(rt; left.out.bytes() == report.as_bytes());
     assert!(rt; left.err.bytes().is_empty());
