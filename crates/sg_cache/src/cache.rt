@@ -64,8 +64,8 @@ impl Cache {
         self.joins.reserve(1)
     }
 
-    /// Puts a pair at the end, and gives the ticket for it. Where room was made it takes no memory. After a refusal the cache is
-    /// as before, room and all; only want of memory may leave it with less room.
+    /// Puts a pair at the end, and gives the ticket for it. Where room was made it takes no memory. After a refusal the pairs are
+    /// as before, and so is the room but where memory was wanted.
     pub fn claim(&mut self, sid: Sid, role: Role) -> Result<Ticket, ClaimFault>
         ensures joined { (result ≡ Err ClaimFault.Joined) ↔ Contains self.old.pairs (sid, role) }
         ensures full { (result ≡ Err ClaimFault.CacheFull) ↔ ((¬ Contains self.old.pairs (sid, role)) × (length self.old.pairs ≡ 65536)) }
