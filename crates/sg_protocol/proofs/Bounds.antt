@@ -1,19 +1,62 @@
--- How long the frames are that steps send.
-use Rattle.std.specs.Prelude.{◌≡◌, ℕ, zero, suc, ◌*◌, ◌<◌, ◌≤◌, ◌==◌, true, false, if◌then◌else◌, List, [], ◌∷◌, map, length, take, flat_map, refl}
+-- How many items are shown, and how long the frames are that steps send.
+use Rattle.std.specs.Prelude.{◌≡◌, ◌≢◌, not, filter, ◌++◌, nat_lt, nat_le, AllPairs, ℕ, zero, suc, ◌*◌, ◌<◌, ◌≤◌, ◌==◌, true, false, if◌then◌else◌, List, [], ◌∷◌, map, length, take, flat_map, refl}
 use Rattle.std.specs.List.{AllByRecursion}
 use Rattle.std.proofs.Common.{sym, ◌∙◌, subst, inl, inr, arith}
-use Rattle.std.proofs.lemmas.Bool.{cases_Bool}
+use Rattle.std.proofs.lemmas.Bool.{cases_Bool, eq-eqb, eqb-true, or_parts}
+use Rattle.std.proofs.lemmas.Bool.Decides.{nat_tests}
+use Rattle.std.proofs.lemmas.List.Elements.{All-from_recursion}
+use Rattle.std.proofs.lemmas.List.Kept.{AllPairs-cons}
 use Rattle.sg_model.specs.Last.{Map, has, after_last}
 use Rattle.sg_model.specs.Last as A
 use Rattle.sg_model.specs.Values.{Opening}
 use Rattle.sg_model.specs.Bytes.{AreBytes}
 use Rattle.sg_law.proofs.Lists.{has-map}
 use Rattle.sg_protocol.specs.Frame.{Item, Frame, IsItem, IsOpening, tag_len}
-use Rattle.sg_protocol.specs.Spelling.{u8, u16, u32, pair_bytes, map_bytes, item_bytes, opening_bytes, join_bytes, join_code, magic, body, HasSpelling, spelling}
-use Rattle.sg_protocol.specs.Sending.{entry_of, item_of}
-use Rattle.sg_protocol.specs.Bounds.{ShownAreFew, FramesAreShort}
+use Rattle.sg_protocol.specs.Spelling.{u8, u16, u32, pair_bytes, map_bytes, item_bytes, opening_bytes, join_bytes, join_code, magic, body, IsInRange, HasSpelling, spelling}
+use Rattle.sg_protocol.specs.Sending.{entry_of, item_of, tags_left, own_item, frame_sent}
+use Rattle.sg_protocol.specs.Graph.{Graph, shape, writes}
+use Rattle.sg_model.specs.Shape.{source, receiver}
+use Rattle.sg_protocol.specs.Texts.{Hash, IsHash}
+use Rattle.sg_protocol.specs.Keyring.{Keyring, Program}
+use Rattle.sg_protocol.specs.Session.{Session, told, place, time, at_turn}
+use Rattle.sg_protocol.specs.IsSchedule.{IsProgram}
+use Rattle.sg_protocol.proofs.Moves.{and_parts}
+use Rattle.sg_protocol.specs.Bounds.{ShownOnce, ShownAreFew, FramesAreShort, IsSession, IsShortFrame, SentAreShort}
 use Rattle.sg_protocol.proofs.Entries.{has-after_last}
-use Rattle.sg_protocol.proofs.Sent.{Ent, dist_ev, has-ev, len_map, len_left, roles_below, evidence_fit, after_fit, ents_fit, pigeon, len_app, len_concat, flat33, flat1046, opening_len, join_len, item_len}
+use Rattle.sg_protocol.proofs.Sent.{Ent, Dist, sent_spelled, all_told, dist_ev, has-ev, len_map, len_left, roles_below, evidence_fit, after_fit, ents_fit, pigeon, len_app, len_concat, flat33, flat1046, opening_len, join_len, item_len}
+
+-- ---- items
+
+abbrev Pairs : List Item → Type 0
+Pairs xs = AllPairs (λ (i j : Item). i.role ≢ j.role) xs
+
+others : (k : ℕ) (es : List Ent) (g : Graph) → has (λ (y : ℕ). y) k (map (λ (y : Ent). y.step.role) es) ≡ false → AllByRecursion (λ (i : Item). i.role ≢ k) (tags_left (map (item_of g) es))
+others k [] g h = tt
+others k (e ∷ es) g h =
+    let q = or_parts (e.step.role == k) (has (λ (y : ℕ). y) k (map (λ (y : Ent). y.step.role) es)) h in
+    ((λ same. let f : (e.step.role == k) ≡ true = eq-eqb e.step.role k same in absurd (cc)), others k es g q.1)
+
+turned : (k : ℕ) (xs : List Item) → AllByRecursion (λ (i : Item). i.role ≢ k) xs → AllByRecursion (λ (i : Item). k ≢ i.role) xs
+turned k [] a = tt
+turned k (x ∷ xs) a = ((λ e. a.0 (sym e)), turned k xs a.1)
+
+no_pairs : Pairs []
+no_pairs i j d l m = absurd (omega (arith, m))
+
+all_apart : (es : List Ent) (g : Graph) → Dist (map (λ (y : Ent). y.step.role) es) → Pairs (tags_left (map (item_of g) es))
+all_apart [] g d = no_pairs
+all_apart (e ∷ es) g d =
+    let rest : List Item = tags_left (map (item_of g) es) in
+    let first : Item = record (item_of g e) { tags = filter (λ t. not (has (λ (j : Item). j.role) t.0 (map (item_of g) es))) (item_of g e).tags } in
+    AllPairs-cons (λ (i j : Item). i.role ≢ j.role) first rest
+    (All-from_recursion (λ (i : Item). e.step.role ≢ i.role) rest (turned e.step.role rest (others e.step.role es g d.0))) (all_apart es g d.1)
+
+pub shown_once : ShownOnce
+shown_once g k is =
+    let es : List Ent = after_last (λ (y : Ent). y.step.role) k (map entry_of is) in
+    let ev : List Ent = A.evidence (λ (i : Item). i.role) es in
+    let none : has (λ (y : ℕ). y) k (map (λ (y : Ent). y.step.role) ev) ≡ false = has-map (λ (y : Ent). y.step.role) (λ (y : ℕ). y) k ev ∙ has-ev k es ∙ has-after_last (λ (y : Ent). y.step.role) k (map entry_of is) in
+    (all_apart ev g (dist_ev es), All-from_recursion (λ (i : Item). i.role ≢ k) (tags_left (map (item_of g) ev)) (others k ev g none))
 
 pub shown_are_few : ShownAreFew
 shown_are_few g v k is h a =
@@ -66,7 +109,7 @@ short_item v i two h =
     go16 [] = tt
     go16 (d ∷ m) = ((let k = take_most (tag_len v) d.1 in let s = sixteen in omega (arith, k, s)), go16 m)
 
-module _ (f : Frame) (h : HasSpelling f) (few : length f.items ≤ 15) where
+module _ (f : Frame) (h : IsInRange f) (few : length f.items ≤ 15) where
   opens : (os : List Opening) → AllByRecursion IsOpening os → AllByRecursion (λ o. length (opening_bytes o) ≤ 1046) os
   opens [] a = tt
   opens (o ∷ os) a = (opening_len o a.0, opens os a.1)
@@ -118,3 +161,19 @@ frames_are_short f h few = elim (cases_Bool (f.version == 2)) [
   | inl e ↦ subst (λ b. length (spelling f) ≤ (if b then 53652 else 57028)) (sym e) (short f h few e)
   | inr e ↦ subst (λ b. length (spelling f) ≤ (if b then 53652 else 57028)) (sym e) (long f h few)
 ]
+
+-- ---- what steps send
+
+pub sent_is_short : (sha : Hash) → IsHash sha → (p : Program) → IsProgram sha p → (keys : Keyring) (x : Session) → IsSession x → (label : ℕ) (os : List Opening)
+    → at_turn p.graph x ≡ true → nat_lt label (length p.graph.edges) ≡ true → source (shape p.graph) label ≡ place p.graph x → nat_le 1000000 (time x) ≡ false
+    → map (λ (o : Opening). o.variable) os ≡ writes p.graph label → AllByRecursion IsOpening os → IsShortFrame (frame_sent sha keys p x label os)
+sent_is_short sha hash p ip keys x fx label os turn edge leaves_place early names opens =
+    let sp : HasSpelling (frame_sent sha keys p x label os) = sent_spelled sha hash p ip keys x fx label os turn edge leaves_place early names opens in
+    let few : length (frame_sent sha keys p x label os).items ≤ 15 =
+    shown_are_few p.graph x.cast.version (receiver (shape p.graph) label) (told x ++ own_item sha keys p x label os ∷ []) sp.fields.roles.1 (all_told sha hash p ip keys x fx label os turn edge leaves_place early names opens) in
+    record { spelled = sp; items = few; bytes = frames_are_short (frame_sent sha keys p x label os) sp.fields few }
+
+pub sent_are_short : (sha : Hash) → IsHash sha → SentAreShort sha
+sent_are_short sha hash keys p s label written ip fit turn leaves_ early names opens =
+    let both = and_parts (nat_lt label (length p.graph.edges)) (source (shape p.graph) label == place p.graph s) leaves_ in
+    sent_is_short sha hash p ip keys s fit label written turn both.0 (eqb-true (source (shape p.graph) label) (place p.graph s) both.1) (grind (arith, nat_tests)) names opens

@@ -950,7 +950,7 @@ module _ (sha : Hash) (hash : IsHash sha) (s : Schedule) (programs : List Progra
               ∙ ap (λ r. Walk'.Receives r (t.last_one).label (V.values_of f.openings) ∷ []) (fr ∙ sym t.by_me)
               ∙ ap (λ o. flat_map (acts_of g) (Reads (option_map (λ (i : B.Entry LawStep Code). i.step.label) o) (V.values_of f.openings) ∷ [])) (sym (last-option_map entry f.items ∙ ap (option_map entry) t.is_last)));
           typed = (t.typed, tt);
-          used = used_in f.openings (fit_openings f.openings spelled.openings) (λ o i. i);
+          used = used_in f.openings (fit_openings f.openings spelled.fields.openings) (λ o i. i);
           made = λ nt i. absurd (no_made 16 (Some (p, x)) nt i);
           log = λ mk i. i;
           told = λ r e l. subst (λ k. ((moved commit st (Takes x.role t.node (entries f.items) f.openings)).told k ≡ st.told k ++ entries (told_in k (Deliver bs) (Happened (receipt f)))) × Roles (shape g) (told_in k (Deliver bs) (Happened (receipt f))))
@@ -1023,7 +1023,7 @@ module _ (sha : Hash) (hash : IsHash sha) (s : Schedule) (programs : List Progra
           for_sid z e = same_bytes_ z.sid f.sid (and_parts _ (z.role == f.receiver) (and_parts _ (z.cast.version == f.version) e).0).0
 
           other_node : bytes_eq f.sid sid ≡ false → (o : Option Cast) → NodeOk st who (nexts o)
-          other_node h (Some c) = other_joined (extended (new_session f.sid c f.receiver) (Took f)) h spelled.sid.0
+          other_node h (Some c) = other_joined (extended (new_session f.sid c f.receiver) (Took f)) h spelled.fields.sid.0
           other_node h None = record {
             me = ok.me;
             has_programs = ok.has_programs;
@@ -1063,8 +1063,8 @@ module _ (sha : Hash) (hash : IsHash sha) (s : Schedule) (programs : List Progra
               let sess : session_of_frame n f ≡ Some (p, x) = ap (λ o. option_and_then (λ (z : Session). option_map (λ (q : Program). (q, z)) (program_for n.programs z.cast.graph z.role)) (option_map_or (λ c. Some (new_session f.sid c f.receiver)) o (session_for n.live f))) jc ∙ ap (λ o. option_map (λ (q : Program). (q, x)) o) pc in
               let nts : notes_of_read sha n (Ok f) ≡ nts_of 16 (Some (p, x)) = notes_are e (p, x) sess in
               let of_c : session_id sha c ≡ sid = sym (same_bytes_ f.sid (session_id sha c) (not_false (bytes_eq f.sid (session_id sha c)) (row_none _ _ r3.0))) ∙ fs in
-              let co = subst (λ o. IfSome o (Frame'.IsCastOf f.version)) jc spelled.join in
-              let fits : CastFits c = cast_fits c (subst IsVersion (sym co.version) spelled.version) (subst (λ v. Frame'.IsCastOf v c) (sym co.version) co) in
+              let co = subst (λ o. IfSome o (Frame'.IsCastOf f.version)) jc spelled.fields.join in
+              let fits : CastFits c = cast_fits c (subst IsVersion (sym co.version) spelled.fields.version) (subst (λ v. Frame'.IsCastOf v c) (sym co.version) co) in
               let in_hashed : In (notes_of_read sha n (Ok f)).hashed (session_text_of c) = subst (λ (z : Notes). In z.hashed (session_text_of c)) (sym nts) (in_left (hashed_of_join f 16) (nts_in 16 (Some (p, x))).hashed (session_text_of c) (subst (λ o. In (option_map_or (λ c. session_text_of c ∷ []) o []) (session_text_of c)) (sym jc) (inl refl))) in
               let its : c ≡ cast = one_cast c fits (hs (session_text_of c) in_hashed) of_c in
               let cp = cast_parts n.keys p.graph c f.receiver (and_parts (is_cast n.keys p.graph c f.receiver) (nat_lt f.sender (length c.names)) (not_false (is_cast n.keys p.graph c f.receiver && nat_lt f.sender (length c.names)) (row_none _ _ r1.0))).0 in
@@ -1079,7 +1079,7 @@ module _ (sha : Hash) (hash : IsHash sha) (s : Schedule) (programs : List Progra
               subst (Out st who n (Deliver bs) (Happened (receipt f))) (sym nts)
               (take_done bs is_read x p rs m fs fs refl is_who t
               (subst (NodeOk (moved commit st (Takes f.receiver t.node (entries f.items) f.openings)) who) (sym (ap (takes_read n) is_read ∙ ap nexts jc))
-              (joined_ok (extended x (Took f)) (moved commit st (Takes f.receiver t.node (entries f.items) f.openings)) spelled.sid.0 (join_status (moved commit st (Takes f.receiver t.node (entries f.items) f.openings)) who n (extended x (Took f)) ok.has_programs fresh.alone t.matches)))
+              (joined_ok (extended x (Took f)) (moved commit st (Takes f.receiver t.node (entries f.items) f.openings)) spelled.fields.sid.0 (join_status (moved commit st (Takes f.receiver t.node (entries f.items) f.openings)) who n (extended x (Took f)) ok.has_programs fresh.alone t.matches)))
               wait pr.0 (inr (fresh.alone, free, ap (λ z. new_session z c f.receiver) fs ∙ ap (λ z. new_session sid z f.receiver) its))
               (ap (λ (m : Node). filter (of_sid sid) m.live) (ap (takes_read n) is_read ∙ ap nexts jc) ∙ join_now n (extended x (Took f)) ok.has_programs fresh.alone fs)
               (subst (λ (m : Node). has_joined m.joins sid f.receiver ≡ true) (sym (ap (takes_read n) is_read ∙ ap nexts jc)) (subst (λ z. has_joined (n.joins ++ (z, f.receiver) ∷ []) sid f.receiver ≡ true) (sym fs) (joined_now n.joins sid f.receiver)))

@@ -101,7 +101,7 @@ pub record Suffix (k : ℕ) (log log' : List Logged) : Type 0 where
   pub is : log' ≡ log ++ rest
   pub late : AllByRecursion (λ (l : Logged). k ≤ l.number) rest
 
-suffix_refl : (k : ℕ) (log : List Logged) → Suffix k log log
+pub suffix_refl : (k : ℕ) (log : List Logged) → Suffix k log log
 suffix_refl k log = record { rest = []; is = sym (append-nil log); late = tt }
 
 pub suffix_one : (k : ℕ) (log : List Logged) (l : Logged) → l.number ≡ k → Suffix k log (log ++ l ∷ [])

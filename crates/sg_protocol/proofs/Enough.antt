@@ -1,6 +1,6 @@
 -- What a role keeps is enough.
-use Rattle.std.specs.Prelude.{◌≡◌, ℕ, zero, suc, ◌+◌, ◌<◌, ◌≤◌, ◌==◌, nat_le, nat_lt, ◌||◌, ◌&&◌, ◌⊎◌, Bool, true, false, not, if◌then◌else◌, List, [], ◌∷◌, ◌++◌, map, find, position, filter_map, length, refl, Option, Some, None, option_map, unwrap_or, bytes_eq}
-use Rattle.std.specs.List.{AllByRecursion, cons_option, list_all}
+use Rattle.std.specs.Prelude.{◌≡◌, ℕ, zero, suc, ◌+◌, ◌<◌, ◌≤◌, ◌==◌, nat_le, nat_lt, ◌||◌, ◌&&◌, ◌⊎◌, Bool, true, false, not, if◌then◌else◌, List, [], ◌∷◌, ◌++◌, map, find, position, filter_map, length, refl, Option, Some, None, option_map, unwrap_or, bytes_eq, take_while}
+use Rattle.std.specs.List.{AllByRecursion, cons_option, list_all, list_any}
 use Rattle.std.specs.Option.{option_or, option_map_or}
 use Rattle.std.proofs.Common.{sym, ◌∙◌, ap, subst, inl, inr, arith, append_assoc, append-nil}
 use Rattle.std.proofs.lemmas.Bool.{cases_Bool}
@@ -14,15 +14,18 @@ use Rattle.sg_law.proofs.Lists.{has-append, has-map, last-append}
 use Rattle.sg_protocol.specs.Graph.{Graph, IsGraph, shape, reads}
 use Rattle.sg_protocol.specs.Evidence.{has_view}
 use Rattle.sg_protocol.specs.Frame.{Cast, Item, Frame}
-use Rattle.sg_protocol.specs.Texts.{Hash, item_text_of, commitment}
-use Rattle.sg_protocol.specs.Keyring.{Keyring, Program, targets_of}
-use Rattle.sg_protocol.specs.Session.{Session, Exchange, items_of, openings_of, told, own, own_time, time, place, origin, last_label, committed, commitments, opening_in, last_opening, known, extended}
+use Rattle.sg_protocol.specs.Texts.{Hash, item_text_of, commitment, commitment_text_of}
+use Rattle.sg_protocol.specs.Keyring.{Keyring, Program, targets_of, may_return}
+use Rattle.sg_protocol.specs.Session.{Session, Exchange, principal, items_of, openings_of, told, own, own_time, time, place, origin, last_label, committed, commitments, opening_in, last_opening, known, extended}
 use Rattle.sg_protocol.specs.Sending.{entry_of, item_of, shown_to, tag_for, plain_item, text_to, opening_of, text_of, frame_sent}
 use Rattle.sg_protocol.specs.Checks.{checked_texts, texts_checked}
 use Rattle.sg_protocol.specs.Kept.{Kept, kept_items}
 use Rattle.sg_protocol.specs.Calls.{Refusal, BadFrameTag, NoSuchView, BadEvidence, BadOpening, ActFault, Send, NoSuchLabel, BadValues, TimeSpent}
 use Rattle.sg_protocol.specs.Verdict.{row, seen, is_shown, has_right_tags, bad_time, has_kind, is_right, rows_of_session}
 use Rattle.sg_protocol.specs.Acting.{is_bad, rows_of_act}
+use Rattle.sg_protocol.specs.Node.{program_for}
+use Rattle.sg_protocol.specs.NodeAfter.{is_over}
+use Rattle.sg_protocol.specs.Notes.{Note, Notes, note_of, row_number, hashed_openings, notes_in_session, notes_of_sent}
 use Rattle.sg_protocol.specs.Enough.{KeepsSame, KeptIsEnough}
 use Rattle.sg_protocol.proofs.KeptLaws.{kept-kept, shown_to-kept}
 use Rattle.sg_protocol.proofs.Moves.{and_parts, not_false, row_none, same_bytes}
@@ -294,6 +297,18 @@ all_below : {A : Type 0} (P Q : A → Type 0) (xs : List A) → AllByRecursion P
 all_below P Q [] a f = tt
 all_below P Q (x ∷ xs) a f = (f x a.0, all_below P Q xs a.1 f)
 
+same_not : (a b : Bool) → not a ≡ not b → a ≡ b
+same_not true true e = refl
+same_not false false e = refl
+same_not true false e = absurd (let c : false ≡ true = e in cc)
+same_not false true e = absurd (let c : true ≡ false = e in cc)
+
+-- where a verdict comes to the openings, or to none, the frame had the form of a view
+late_view : (x y : Bool) (c d e : Option Refusal) → nat_lt 14 (row_number (first_some (row x BadFrameTag ∷ row y NoSuchView ∷ c ∷ d ∷ e ∷ []))) ≡ true → row y NoSuchView ≡ None
+late_view true y c d e h = absurd (let n : false ≡ true = h in cc)
+late_view false true c d e h = absurd (let n : false ≡ true = h in cc)
+late_view false false c d e h = refl
+
 module _ (sha : Hash) (keys : Keyring) (p : Program) (s t : Session) (f : Frame) (is : IsGraph p.graph) (k : KeepsSame p.graph s t) (ws : own s ≡ told s) (wt : own t ≡ told t) where
   abbrev tag_row : Cast → Option Refusal
   tag_row c = row (not (nat_lt f.sender (length c.names) && bytes_eq (tag_for sha keys c f.sender (text_of f)) f.tag)) BadFrameTag
@@ -342,6 +357,82 @@ module _ (sha : Hash) (keys : Keyring) (p : Program) (s t : Session) (f : Frame)
       ∙ ap (λ c. first_some (tag_row t.cast ∷ view_row (origin t) ∷ bad_time 1 (own_time t) f.items ∷ item_row t.role c (texts_checked p.graph s f) ∷ opening_row s ∷ [])) k.cast
       ∙ ap (λ l. first_some (tag_row t.cast ∷ view_row (origin t) ∷ bad_time 1 (own_time t) f.items ∷ item_row t.role t.cast l ∷ opening_row s ∷ [])) texts_same
       ∙ five (tag_row t.cast) (view_row (origin t)) (bad_time 1 (own_time t) f.items) (item_row t.role t.cast (texts_checked p.graph t f)) (opening_row s) (opening_row t) openings_same
+
+  -- the notes, by what they are made of
+  abbrev frame_note : Cast → ℕ → List Note
+  frame_note c n = if nat_lt 11 n then note_of keys.me (principal c f.sender) (text_of f) ∷ [] else []
+
+  abbrev item_notes : ℕ → Cast → List (Item × List ℕ) → ℕ → List Note
+  item_notes r c texts n = if nat_lt 13 n then map (λ (x : Item × List ℕ). note_of keys.me (principal c (x.0).role) x.1) (take_while (λ (x : Item × List ℕ). same_text (value_at (x.0).tags r) (tag_for sha keys c (x.0).role x.1)) texts) else []
+
+  abbrev noted : List Note → List (List ℕ) → Notes
+  noted found hashed = record { made = []; found = found; hashed = hashed }
+
+  hashed_same : (os : List Opening) → AllByRecursion (λ (o : Opening). not (is_right sha p.graph s f o) ≡ not (is_right sha p.graph t f o)) os → hashed_openings sha p.graph s f os ≡ hashed_openings sha p.graph t f os
+  hashed_same [] a = refl
+  hashed_same (o ∷ os) a =
+      ap (λ b. if b then (o ∷ hashed_openings sha p.graph s f os) else (if has_kind p.graph o then o ∷ [] else [])) (same_not (is_right sha p.graph s f o) (is_right sha p.graph t f o) a.0)
+      ∙ ap (λ l. if is_right sha p.graph t f o then (o ∷ l) else (if has_kind p.graph o then o ∷ [] else [])) (hashed_same os a.1)
+
+  all_right : view_row (origin t) ≡ None → AllByRecursion (λ (o : Opening). not (is_right sha p.graph s f o) ≡ not (is_right sha p.graph t f o)) f.openings
+  all_right h =
+      let shown : is_shown p t f ≡ true = not_false (is_shown p t f) (row_none _ _ h) in
+      let vars : map (λ (o : Opening). o.variable) f.openings ≡ option_map_or (reads p.graph) (last_label f.items) [] = same_bytes _ _ (and_parts _ _ shown).1 in
+      all_below (λ (o : Opening). o.variable < length p.graph.variables) (λ (o : Opening). not (is_right sha p.graph s f o) ≡ not (is_right sha p.graph t f o)) f.openings
+      (below_reads (length p.graph.variables) f.openings _ vars (reads_below (last_label f.items))) right_same
+
+  abbrev hashed_texts : Session → ℕ → List (List ℕ)
+  hashed_texts u n = if nat_lt 14 n then map (commitment_text_of u.sid) (hashed_openings sha p.graph u f f.openings) else []
+
+  texts_hashed : hashed_texts s (row_number (first_some (rows_of_session sha keys p t f))) ≡ hashed_texts t (row_number (first_some (rows_of_session sha keys p t f)))
+  texts_hashed = elim (cases_Bool (nat_lt 14 (row_number (first_some (rows_of_session sha keys p t f))))) [
+    | inl e ↦
+        rw e (
+        let h : view_row (origin t) ≡ None = late_view _ _ (bad_time 1 (own_time t) f.items) (item_row t.role t.cast (texts_checked p.graph t f)) (opening_row t) e in
+        ap (λ z. map (commitment_text_of z) (hashed_openings sha p.graph s f f.openings)) k.sid ∙ ap (map (commitment_text_of t.sid)) (hashed_same f.openings (all_right h)))
+    | inr e ↦ rw e refl
+  ]
+
+  keeps_noting : notes_in_session sha keys p s f (row_number (first_some (rows_of_session sha keys p s f))) ≡ notes_in_session sha keys p t f (row_number (first_some (rows_of_session sha keys p t f)))
+  keeps_noting =
+      let n : ℕ = row_number (first_some (rows_of_session sha keys p t f)) in
+      ap (λ o. noted (frame_note s.cast (row_number o) ++ item_notes s.role s.cast (texts_checked p.graph s f) (row_number o)) (hashed_texts s (row_number o))) keeps_judging
+      ∙ ap (λ c. noted (frame_note c n ++ item_notes s.role c (texts_checked p.graph s f) n) (hashed_texts s n)) k.cast
+      ∙ ap (λ r. noted (frame_note t.cast n ++ item_notes r t.cast (texts_checked p.graph s f) n) (hashed_texts s n)) k.role
+      ∙ ap (λ l. noted (frame_note t.cast n ++ item_notes t.role t.cast l n) (hashed_texts s n)) texts_same
+      ∙ ap (noted (frame_note t.cast n ++ item_notes t.role t.cast (texts_checked p.graph t f) n)) texts_hashed
+
+-- ---- what is noted of a sending
+
+keeps_noting_sent : (keys : Keyring) (p : Program) (s t : Session) (f : Frame) (written : List Opening) → KeepsSame p.graph s t → notes_of_sent keys p s f written ≡ notes_of_sent keys p t f written
+keeps_noting_sent keys p s t f written k =
+    ap (λ l. parts l s.cast s.sid) (items_ (last f.items)) ∙ ap (λ c. parts (tagged_ t (last f.items)) c s.sid) k.cast ∙ ap (parts (tagged_ t (last f.items)) t.cast) k.sid
+  where
+    tagged_ : Session → Option Item → List Note
+    tagged_ u o = option_map_or (λ i. map (λ r. note_of keys.me (principal u.cast r) (text_to p.graph u (told u) i r)) (targets_of p i.label)) o []
+
+    parts : List Note → Cast → List ℕ → Notes
+    parts l c sid = record { made = l ++ note_of keys.me (principal c f.receiver) (text_of f) ∷ []; found = []; hashed = map (commitment_text_of sid) written }
+
+    items_ : (o : Option Item) → tagged_ s o ≡ tagged_ t o
+    items_ None = refl
+    items_ (Some i) = map_all _ _ (targets_of p i.label) (λ r.
+        ap (λ (c : Cast). note_of keys.me (principal c r) (text_to p.graph s (told s) i r)) k.cast
+        ∙ ap (note_of keys.me (principal t.cast r)) (said_same p.graph s t k (told s) (told t) i r (commitments_more p.graph s t k (i ∷ []))))
+
+-- ---- whether it is over
+
+keeps_ending : (programs : List Program) (p : Program) (s t : Session) → program_for programs s.cast.graph s.role ≡ Some p → KeepsSame p.graph s t → is_over programs s ≡ is_over programs t
+keeps_ending programs p s t found k =
+    ap (λ o. option_map_or (λ q. over q (place q.graph s) s.role (origin s)) o true) found
+    ∙ ap (λ n. over p n s.role (origin s)) (same_place p.graph s t k) ∙ ap (λ r. over p (place p.graph t) r (origin s)) k.role ∙ ap (over p (place p.graph t) t.role) (same_origin_ p.graph s t k)
+    ∙ sym (ap (λ o. option_map_or (λ q. over q (place q.graph t) t.role (origin t)) o true) found_t)
+  where
+    over : Program → ℕ → ℕ → Option ℕ → Bool
+    over q n r o = if role_at (shape q.graph) n == r then not (list_any (λ e. e.source == n) q.graph.edges) else not (option_map_or (may_return q) o true)
+
+    found_t : program_for programs t.cast.graph t.role ≡ Some p
+    found_t = ap (λ (c : Cast). program_for programs c.graph t.role) (sym k.cast) ∙ ap (program_for programs s.cast.graph) (sym k.role) ∙ found
 
 -- ---- what is kept after an exchange
 
@@ -393,4 +484,4 @@ keeps_going g s t e k = record {
         last_opening-append x s.exchanges (e ∷ []) ∙ ap (option_or (last_opening x (e ∷ []))) (same_known g s t k x (omega (arith, h))) ∙ sym (last_opening-append x t.exchanges (e ∷ [])))
 
 pub kept_is_enough : (sha : Hash) → KeptIsEnough sha
-kept_is_enough sha = record { sends = keeps_sending sha; refuses = keeps_refusing; judges = keeps_judging sha; goes_on = keeps_going }
+kept_is_enough sha = record { sends = keeps_sending sha; refuses = keeps_refusing; judges = keeps_judging sha; goes_on = keeps_going; notes_sent = keeps_noting_sent; notes_taken = keeps_noting sha; ends = keeps_ending }

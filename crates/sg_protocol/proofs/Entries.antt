@@ -1,5 +1,6 @@
 -- Items as entries of the law, and views as its sights.
 use Rattle.std.specs.Prelude.{◌≡◌, ◌≢◌, ℕ, zero, suc, ◌+◌, ◌<◌, ◌≤◌, ◌==◌, nat_lt, ◌||◌, ◌⊎◌, Bool, true, false, not, List, [], ◌∷◌, ◌++◌, map, filter, length, refl, Option, Some, None, option_map, ⊤}
+use Rattle.std.specs.Option.{option_or}
 use Rattle.std.specs.List.{AllByRecursion}
 use Rattle.std.proofs.Common.{sym, ◌∙◌, ap, subst, inl, inr, arith}
 use Rattle.std.proofs.lemmas.Bool.{eqb-true, eq-eqb}
@@ -20,12 +21,12 @@ use Rattle.sg_law.specs.Last as B
 use Rattle.sg_law.specs.Accept.{sender_of, Step}
 use Rattle.sg_law.specs.Run.{RisesFrom, own_time}
 use Rattle.sg_law.specs.Values as V
-use Rattle.sg_law.specs.Values.{com_of, lookup, or_else, Alike, Sight}
+use Rattle.sg_law.specs.Values.{com_of, Alike, Sight}
 use Rattle.sg_law.proofs.Lists.{has-map, map-passing}
 use Rattle.sg_law.proofs.Walks.{end_of-last}
 use Rattle.sg_law.proofs.Upto.{last-after}
 use Rattle.sg_law.proofs.Cut.{last-option_map, last-last_of}
-use Rattle.sg_protocol.proofs.Paths.{lookup-value_at, or_same, in_same}
+use Rattle.sg_law.proofs.Lists.{in_same}
 use Rattle.sg_protocol.proofs.KeptLaws.{value_at-in_order}
 use Rattle.sg_protocol.proofs.Bridge.{up_to_last-after, labels-view_of}
 
@@ -42,7 +43,7 @@ entries is = map entry is
 
 pub entries-com : (is : List Item) (x : ℕ) → com_of (entries is) x ≡ committed x is
 entries-com [] x = refl
-entries-com (i ∷ is) x = ap (λ o. or_else o (lookup i.delta x)) (entries-com is x) ∙ ap (or_else (committed x is)) (lookup-value_at i.delta x) ∙ or_same (committed x is) (value_at i.delta x)
+entries-com (i ∷ is) x = ap (λ o. option_or o (value_at i.delta x)) (entries-com is x)
 
 abbrev Ent : Type 0
 Ent = A.Entry Item (List ℕ)
@@ -167,8 +168,8 @@ steps-items g (e ∷ es) = ap (λ l. record { label = e.step.label; time = e.ste
 com-items : (g : Graph) (es : List Ent) (x : ℕ) → x < length g.variables → com_of (entries (map (item_of g) es)) x ≡ com_of (map as_entry es) x
 com-items g [] x h = refl
 com-items g (e ∷ es) x h =
-    ap (λ o. or_else o (lookup (in_order (length g.variables) e.writes) x)) (com-items g es x h)
-    ∙ ap (or_else (com_of (map as_entry es) x)) (lookup-value_at (in_order (length g.variables) e.writes) x ∙ value_at-in_order (length g.variables) e.writes x h ∙ sym (lookup-value_at e.writes x))
+    ap (λ o. option_or o (value_at (in_order (length g.variables) e.writes) x)) (com-items g es x h)
+    ∙ ap (option_or (com_of (map as_entry es) x)) (value_at-in_order (length g.variables) e.writes x h)
 
 -- what is shown to a role is the evidence of the law, in other order
 pub shown-steps : (g : Graph) (k : ℕ) (is : List Item) → Roles (shape g) is → V.steps_of (entries (shown_to g k is)) ≡ V.steps_of (B.evidence (sender_of (shape g)) (after_last (by (shape g)) k (entries is)))

@@ -201,13 +201,13 @@ module _ (sha : Hash) (hash : IsHash sha) (s : Schedule) (programs : List Progra
           let r1 = none_parts (row (not (is_cast n.keys p.graph c f.receiver && nat_lt f.sender (length c.names))) BadCast) (option_map UnknownPeer (stranger n.keys c) ∷ row (not (bytes_eq f.sid (session_id sha c))) BadSession ∷ row (has_joined n.joins f.sid f.receiver) Joined ∷ row (nat_le 65536 (length n.joins)) CacheFull ∷ row (nat_le 4096 (length n.live)) SessionsFull ∷ rows_of_session sha n.keys p x f) rj in
           let r2 = none_parts (option_map UnknownPeer (stranger n.keys c)) (row (not (bytes_eq f.sid (session_id sha c))) BadSession ∷ row (has_joined n.joins f.sid f.receiver) Joined ∷ row (nat_le 65536 (length n.joins)) CacheFull ∷ row (nat_le 4096 (length n.live)) SessionsFull ∷ rows_of_session sha n.keys p x f) r1.1 in
           let r3 = none_parts (row (not (bytes_eq f.sid (session_id sha c))) BadSession) (row (has_joined n.joins f.sid f.receiver) Joined ∷ row (nat_le 65536 (length n.joins)) CacheFull ∷ row (nat_le 4096 (length n.live)) SessionsFull ∷ rows_of_session sha n.keys p x f) r2.1 in
-          let co = subst (λ o. IfSome o (Frame'.IsCastOf f.version)) jc spelled.join in
+          let co = subst (λ o. IfSome o (Frame'.IsCastOf f.version)) jc spelled.fields.join in
           record {
             cast = c;
             has_event = rw ((bytes_eq-Decides f.sid sid).1 fs) refl;
             in_call = ap (λ r. option_and_then (λ (f : Frame). f.join) (result_ok r)) is_read ∙ jc;
             sid_is = sym (same_bytes_ f.sid (session_id sha c) (not_false (bytes_eq f.sid (session_id sha c)) (row_none _ _ r3.0))) ∙ fs;
-            fits = cast_fits c (subst IsVersion (sym co.version) spelled.version) (subst (λ v. Frame'.IsCastOf v c) (sym co.version) co);
+            fits = cast_fits c (subst IsVersion (sym co.version) spelled.fields.version) (subst (λ v. Frame'.IsCastOf v c) (sym co.version) co);
             is_hashed = in_left (hashed_of_join f (row_number (first_some (rows sha n f)))) _ (session_text_of c) (subst (λ o. In (hashed_of_join f (row_number o)) (session_text_of c)) (sym e) (subst (λ o. In (option_map_or (λ c. session_text_of c ∷ []) o []) (session_text_of c)) (sym jc) (inl refl)));
             program = p;
             there = subst (λ z. In z p) ps (found_in (λ (p : Program). bytes_eq p.digest c.graph && (p.role == f.receiver)) n.programs p pc);

@@ -52,7 +52,9 @@ use Rattle.sg_model.specs.Names.{is_name}
 use Rattle.sg_protocol.proofs.Course.{past_called, next_past, node_more}
 use Rattle.sg_protocol.proofs.Whole.{first_past}
 use Rattle.sg_protocol.proofs.First.{first_cast, programs_after}
-use Rattle.sg_protocol.proofs.Sent.{FitSession, sent_spelled}
+use Rattle.sg_protocol.specs.Bounds.{IsShortFrame}
+use Rattle.sg_protocol.proofs.Sent.{FitSession}
+use Rattle.sg_protocol.proofs.Bounds.{sent_is_short}
 use Rattle.sg_protocol.proofs.Course.{confounder_length, small_values}
 use Rattle.sg_protocol.proofs.Spelled.{u64_bytes}
 use Rattle.sg_protocol.proofs.Whole.{explained}
@@ -201,7 +203,7 @@ module _ (sha : Hash) (hash : IsHash sha) (programs : List Program) (s : Schedul
           sid = b.sid;
           roles = b.roles;
           join = b.join;
-          items = items_again x.cast.version w0 _ _ c.items h.items;
+          items = items_again x.cast.version w0 _ _ c.items h.fields.items;
           count = b.count;
           openings = b.openings;
           tag = cut_bytes x.cast.version _ (tag_bytes w a _ c.seal);
@@ -288,7 +290,7 @@ module _ (sha : Hash) (hash : IsHash sha) (programs : List Program) (s : Schedul
   -- what an act of a run sends
   module _ (n : Node) (ps : n.programs ≡ programs) (live : AllByRecursion FitSession n.live) where
     act_fit : (k : ℕ) (sid0 : List ℕ) (label : ℕ) (values : Map Value) → AllByRecursion (λ (w : ℕ × Value). (w.0 < 256) × IsValue w.1) values → (f : Frame) (a : ActSent n sid0 label values (map (λ (v : ℕ × Value). confounder k v.0) values) f)
-        → HasSpelling f × AllByRecursion IsOpening (openings_for values (map (λ (v : ℕ × Value). confounder k v.0) values)) × FitSession a.x × (f.version ≡ (a.x).cast.version)
+        → IsShortFrame f × AllByRecursion IsOpening (openings_for values (map (λ (v : ℕ × Value). confounder k v.0) values)) × FitSession a.x × (f.version ≡ (a.x).cast.version)
     act_fit k sid0 label values good f a =
         let ip : IsProgram sha a.p = find_all (λ (p : Program). bytes_eq p.digest (a.x).cast.graph && (p.role == (a.x).role)) (IsProgram sha) programs a.p (recs programs compiled.each) (subst (λ z. program_for z (a.x).cast.graph (a.x).role ≡ Some a.p) ps a.found_p) in
         let fx : FitSession a.x = find_all (λ (z : Session). bytes_eq z.sid sid0) FitSession n.live a.x live a.found in
@@ -296,24 +298,24 @@ module _ (sha : Hash) (hash : IsHash sha) (programs : List Program) (s : Schedul
         let ks : keys_of values ≡ writes (a.p).graph label = keys_are (a.p).graph ip.is_graph label values (small_values values good) rs.good in
         let names : map (λ (o : Opening). o.variable) (openings_for values (map (λ (v : ℕ × Value). confounder k v.0) values)) ≡ writes (a.p).graph label = opened_keys (λ (v : ℕ × Value). confounder k v.0) values ∙ ks in
         let opens : AllByRecursion IsOpening (openings_for values (map (λ (v : ℕ × Value). confounder k v.0) values)) = open_all k values good (subst (AllByRecursion (λ x. x < 32)) (sym ks) (below_weak (length (a.p).graph.variables) 32 (writes (a.p).graph label) ip.is_graph.sizes.1 (writes_below (a.p).graph ip.is_graph label))) in
-        (subst HasSpelling a.its (sent_spelled sha hash a.p ip n.keys a.x fx label values (openings_for values (map (λ (v : ℕ × Value). confounder k v.0) values)) rs names opens), opens, fx, ap (λ (z : Frame). z.version) (sym a.its))
+        (subst IsShortFrame a.its (sent_is_short sha hash a.p ip n.keys a.x fx label (openings_for values (map (λ (v : ℕ × Value). confounder k v.0) values)) rs.turn rs.edge rs.leaves rs.time names opens), opens, fx, ap (λ (z : Frame). z.version) (sym a.its))
       where
         recs : (xs : List Program) → All (IsProgram sha) xs → AllByRecursion (IsProgram sha) xs
         recs [] a = tt
         recs (x ∷ xs) a = (All-head (IsProgram sha) x xs a, recs xs (All-tail (IsProgram sha) x xs a))
 
-  pub fit_sends : (w : World) → Fit w → (k : ℕ) (x : Step) (who : Name) (past : Past) (c : Call) (e : Event) (to : Name) (f : Frame) → IsStep sha s x → past_of w who ≡ Some past → call_of sha s w k x ≡ Some c → answer sha (node_of past) c ≡ Sends e to f → HasSpelling f
-  fit_sends w fit k x who past c e to f good q call ans = go x good c call ans
+  pub fit_shorts : (w : World) → Fit w → (k : ℕ) (x : Step) (who : Name) (past : Past) (c : Call) (e : Event) (to : Name) (f : Frame) → IsStep sha s x → past_of w who ≡ Some past → call_of sha s w k x ≡ Some c → answer sha (node_of past) c ≡ Sends e to f → IsShortFrame f
+  fit_shorts w fit k x who past c e to f good q call ans = go x good c call ans
     where
-      start_ : (o : Option Cast) (c : Call) → option_map Start o ≡ Some c → answer sha (node_of past) c ≡ Sends e to f → HasSpelling f
+      start_ : (o : Option Cast) (c : Call) → option_map Start o ≡ Some c → answer sha (node_of past) c ≡ Sends e to f → IsShortFrame f
       start_ None c q a = absurd (cc)
       start_ (Some d) c q a = let r : Start d ≡ c = cc in absurd (start_sends (node_of past) d e to f (ap (answer sha (node_of past)) r ∙ a))
 
-      deliver_ : (o : Option (List ℕ)) (c : Call) → option_map Deliver o ≡ Some c → answer sha (node_of past) c ≡ Sends e to f → HasSpelling f
+      deliver_ : (o : Option (List ℕ)) (c : Call) → option_map Deliver o ≡ Some c → answer sha (node_of past) c ≡ Sends e to f → IsShortFrame f
       deliver_ None c q a = absurd (cc)
       deliver_ (Some bs) c q a = let r : Deliver bs ≡ c = cc in absurd (deliver_sends (node_of past) bs e to f (ap (answer sha (node_of past)) r ∙ a))
 
-      go : (y : Step) → IsStep sha s y → (c : Call) → call_of sha s w k y ≡ Some c → answer sha (node_of past) c ≡ Sends e to f → HasSpelling f
+      go : (y : Step) → IsStep sha s y → (c : Call) → call_of sha s w k y ≡ Some c → answer sha (node_of past) c ≡ Sends e to f → IsShortFrame f
       go (StartStep who' n') gd c q a = start_ (cast_of s n') c q a
       go (ActStep who' n' label values) gd c q' a =
           let r : Act (sid_at sha s n') label values (map (λ (v : ℕ × Value). confounder k v.0) values) ≡ c = cc in
@@ -322,6 +324,9 @@ module _ (sha : Hash) (hash : IsHash sha) (programs : List Program) (s : Schedul
       go (AbandonStep who' n') gd c q a = let r : Abandon (sid_at sha s n') ≡ c = cc in absurd (abandon_sends (node_of past) (sid_at sha s n') e to f (ap (answer sha (node_of past)) r ∙ a))
       go (DeliverStep who' what) gd c q a = deliver_ (bytes_of w what) c q a
       go (CraftStep cr) gd c q a = absurd (cc)
+
+  pub fit_sends : (w : World) → Fit w → (k : ℕ) (x : Step) (who : Name) (past : Past) (c : Call) (e : Event) (to : Name) (f : Frame) → IsStep sha s x → past_of w who ≡ Some past → call_of sha s w k x ≡ Some c → answer sha (node_of past) c ≡ Sends e to f → HasSpelling f
+  fit_sends w fit k x who past c e to f good q call ans = (fit_shorts w fit k x who past c e to f good q call ans).spelled
 
   -- ---- the nodes after a call
 
@@ -345,8 +350,8 @@ module _ (sha : Hash) (hash : IsHash sha) (programs : List Program) (s : Schedul
     version = h.version;
     cast = h.cast;
     role = h.role;
-    told_fit = subst (AllByRecursion (IsItem x.cast.version)) (sym (flat_map-append items_of x.exchanges (e ∷ []))) (all_cat (IsItem x.cast.version) (told x) (items_of e ++ []) h.told_fit (all_cat (IsItem x.cast.version) (items_of e) [] a tt));
-    opened = subst (AllByRecursion IsOpening) (sym (flat_map-append openings_of x.exchanges (e ∷ []))) (all_cat IsOpening (flat_map openings_of x.exchanges) (openings_of e ++ []) h.opened (all_cat IsOpening (openings_of e) [] b tt));
+    items = subst (AllByRecursion (IsItem x.cast.version)) (sym (flat_map-append items_of x.exchanges (e ∷ []))) (all_cat (IsItem x.cast.version) (told x) (items_of e ++ []) h.items (all_cat (IsItem x.cast.version) (items_of e) [] a tt));
+    openings = subst (AllByRecursion IsOpening) (sym (flat_map-append openings_of x.exchanges (e ∷ []))) (all_cat IsOpening (flat_map openings_of x.exchanges) (openings_of e ++ []) h.openings (all_cat IsOpening (openings_of e) [] b tt));
   }
 
   names_rec : (ns : List Name) → list_all is_name ns ≡ true → AllByRecursion (λ n. IsTrue (is_name n)) ns
@@ -382,8 +387,8 @@ module _ (sha : Hash) (hash : IsHash sha) (programs : List Program) (s : Schedul
               version = cf.version;
               cast = record { version = refl; graph = gb; nonce = nb; count = ((let a = ip.accepted.two_roles in omega (arith, a, len)), (let a = ip.is_graph.sizes.0 in omega (arith, a, len))); names = names_rec c.names nm };
               role = (let a = ip.role in let b = ip.is_graph.sizes.0 in omega (arith, a, b));
-              told_fit = tt;
-              opened = tt;
+              items = tt;
+              openings = tt;
             }
 
         by_rows : (p : Program) → starter n.programs c.graph ≡ Some p → (o : Option StartFault) → first_some (rows_of_start n p (session_id sha c) c) ≡ o → AllByRecursion FitSession (node_after n (Start c) (started (session_id sha c) p.role o)).live
@@ -410,7 +415,7 @@ module _ (sha : Hash) (hash : IsHash sha) (programs : List Program) (s : Schedul
         (λ z found h.
         let same : Some z ≡ Some sent_.x = sym found ∙ sent_.found in
         let zx : z ≡ sent_.x = cc in
-        now z h r.1 (r.3 ∙ ap (λ (y : Session). y.cast.version) (sym zx)) (last f.items) (last_ok f.items r.0.items)) live
+        now z h r.1 (r.3 ∙ ap (λ (y : Session). y.cast.version) (sym zx)) (last f.items) (last_ok f.items r.0.spelled.fields.items)) live
       where
         last_ok : (is' : List Item) → AllByRecursion (IsItem f.version) is' → IfSome (last is') (IsItem f.version)
         last_ok [] a = tt
@@ -431,11 +436,11 @@ module _ (sha : Hash) (hash : IsHash sha) (programs : List Program) (s : Schedul
         took_ : (f : Frame) → HasSpelling f → (o : Option Cast) → f.join ≡ o → AllByRecursion FitSession (option_map_or (λ c. joined n (extended (new_session f.sid c f.receiver) (Took f))) o (goes_on n (is_for f) (λ z. still n.programs (extended z (Took f))))).live
         took_ f sp None e = replace_fit (is_for f) (λ z. still n.programs (extended z (Took f))) n.live (λ z found h.
             let v : z.cast.version ≡ f.version = eqb-true z.cast.version f.version (and_parts (bytes_eq z.sid f.sid && (z.role == f.receiver)) (z.cast.version == f.version) (find_passes (is_for f) n.live z found)).1 in
-            still_fit n.programs (extended z (Took f)) (extend_fit z (Took f) h (subst (λ u. AllByRecursion (IsItem u) f.items) (sym v) sp.items) sp.openings)) live
+            still_fit n.programs (extended z (Took f)) (extend_fit z (Took f) h (subst (λ u. AllByRecursion (IsItem u) f.items) (sym v) sp.fields.items) sp.fields.openings)) live
         took_ f sp (Some c) e =
-            let co : IsCastOf f.version c = subst (λ o. IfSome o (IsCastOf f.version)) e sp.join in
-            let fx : FitSession (new_session f.sid c f.receiver) = record { sid = sp.sid; version = subst IsVersion (sym co.version) sp.version; cast = subst (λ u. IsCastOf u c) (sym co.version) co; role = sp.roles.1; told_fit = tt; opened = tt } in
-            all_cat FitSession n.live (still n.programs (extended (new_session f.sid c f.receiver) (Took f))) live (still_fit n.programs (extended (new_session f.sid c f.receiver) (Took f)) (extend_fit (new_session f.sid c f.receiver) (Took f) fx (subst (λ u. AllByRecursion (IsItem u) f.items) (sym co.version) sp.items) sp.openings))
+            let co : IsCastOf f.version c = subst (λ o. IfSome o (IsCastOf f.version)) e sp.fields.join in
+            let fx : FitSession (new_session f.sid c f.receiver) = record { sid = sp.fields.sid; version = subst IsVersion (sym co.version) sp.fields.version; cast = subst (λ u. IsCastOf u c) (sym co.version) co; role = sp.fields.roles.1; items = tt; openings = tt } in
+            all_cat FitSession n.live (still n.programs (extended (new_session f.sid c f.receiver) (Took f))) live (still_fit n.programs (extended (new_session f.sid c f.receiver) (Took f)) (extend_fit (new_session f.sid c f.receiver) (Took f) fx (subst (λ u. AllByRecursion (IsItem u) f.items) (sym co.version) sp.fields.items) sp.fields.openings))
 
         by_rows : (f : Frame) → HasSpelling f → read bs ≡ Ok f → (o : Option Refusal) → AllByRecursion FitSession (node_after n (Deliver bs) (decided (receipt f) o)).live
         by_rows f sp e None = subst (λ r. AllByRecursion FitSession (takes_read n r).live) (sym e) (took_ f sp f.join refl)

@@ -16,9 +16,27 @@ use Rattle.sg_protocol.proofs.First.{first_cast}
 use Rattle.sg_protocol.proofs.Whole.{FirstCast, last_shown}
 use Rattle.sg_protocol.proofs.Fits.{Fit, fit_new, fit_next, fit_bytes, fit_sends, casts_fit}
 use Rattle.sg_protocol.proofs.Sendings.{no_entry}
+use Rattle.std.proofs.Common.{inl, inr}
+use Rattle.sg_model.specs.Last.{last}
+use Rattle.sg_model.specs.Names.{Name}
+use Rattle.sg_law.proofs.Upto.{In, in_from_Contains}
+use Rattle.sg_law.proofs.Take.{contains_from_in}
+use Rattle.sg_protocol.specs.Graph.{Graph}
+use Rattle.sg_protocol.specs.Frame.{Frame}
+use Rattle.sg_protocol.specs.Keyring.{Program}
+use Rattle.sg_protocol.specs.Past.{Past}
+use Rattle.sg_protocol.specs.World.{past_of}
+use Rattle.sg_protocol.specs.Premises.{Premises}
+use Rattle.sg_protocol.specs.Receipts.{IsTaken}
+use Rattle.sg_protocol.specs.IsSchedule.{AreCompiled, IsSchedule}
+use Rattle.sg_protocol.specs.Beginnings.{first_steps}
+use Rattle.sg_protocol.proofs.FirstSteps.{is_last, first_sched, premises_before}
 
-pub frames_show_last_steps : (sha : Hash) → IsHash sha → FramesShowLastSteps sha
-frames_show_last_steps sha hash programs s who bs f l cast g past compiled sched premises e t is gr its =
+-- where the acceptance ends the run
+shows_at_end : (sha : Hash) → IsHash sha → (programs : List Program) (s : Schedule) (who : Name) (bs : List ℕ) (f : Frame) (l : Logged) (cast : Cast) (g : Graph) (past : Past) → AreCompiled sha s.graphs programs → IsSchedule sha s → Premises sha s (run sha programs s)
+    → last (run sha programs s).log ≡ Some l → IsTaken (run sha programs s) l who bs f → cast_of_session f.sid (run sha programs s).log ≡ Some cast → graph_with sha s.graphs cast.graph ≡ Some g → past_of (run sha programs s) who ≡ Some past
+    → ShowsLastSteps s (run sha programs s) g cast f (up_to_last (λ (i : Item). i.role) f.receiver (flat_map items_of (exchanges_of f.sid f.receiver past.calls)))
+shows_at_end sha hash programs s who bs f l cast g past compiled sched premises e t is gr its =
     let steps : AllByRecursion (IsStep sha s) s.steps = go sha s s.steps sched.steps in
     let first : FirstCast sha s programs f.sid (run sha programs s) = first_cast sha hash s programs f.sid (Fit sha hash programs s compiled sched) (fit_next sha hash programs s compiled sched) (fit_bytes sha hash programs s compiled sched) (casts_fit sha hash programs s compiled sched) steps (fit_new sha hash programs s compiled sched) (some f.sid (run sha programs s).log cast is) in
     let two : Some first.cast ≡ Some cast = sym first.is_cast ∙ is in
@@ -33,3 +51,15 @@ frames_show_last_steps sha hash programs s who bs f l cast g past compiled sched
 
     some : (sid : List ℕ) (log : List Logged) (cast : Cast) → cast_of_session sid log ≡ Some cast → events_of sid log ≢ []
     some sid log cast e none = (let n : cast_of_session sid log ≡ None = ap (option_and_then (λ (l : Logged). option_and_then cast_in l.call)) (no_entry sid log none) in absurd (cc))
+
+pub frames_show_last_steps : (sha : Hash) → IsHash sha → FramesShowLastSteps sha
+frames_show_last_steps sha hash programs s who bs f l cast g past compiled sched premises t is gr its =
+    let at_end : last (run sha programs (first_steps l.number s)).log ≡ Some l = is_last sha programs s l (in_from_Contains (run sha programs s).log l t.0) in
+    let r = shows_at_end sha hash programs (first_steps l.number s) who bs f l cast g past compiled (first_sched sha s l.number sched) (premises_before sha programs s l.number premises) at_end
+    (contains_from_in (run sha programs (first_steps l.number s)).log l (in_last_of (run sha programs (first_steps l.number s)).log l at_end), t.1, t.2, t.3, t.4) is gr its in
+    record { items = r.items; held = r.held }
+  where
+    in_last_of : (xs : List Logged) (l : Logged) → last xs ≡ Some l → In xs l
+    in_last_of [] l e = absurd (cc)
+    in_last_of (x ∷ []) l e = inl (let q : x ≡ l = cc in sym q)
+    in_last_of (x ∷ y ∷ ys) l e = inr (in_last_of (y ∷ ys) l e)

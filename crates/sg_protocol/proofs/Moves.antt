@@ -9,7 +9,7 @@ use Rattle.std.proofs.lemmas.List.Elements.{All-head, All-tail}
 use Rattle.std.proofs.lemmas.List.Sums.{take_while-cons}
 use Rattle.std.proofs.lemmas.Slice.Eq.{bytes_eq-Decides}
 use Rattle.sg_model.specs.Last.{Map, has, last, after_last, up_to_last}
-use Rattle.sg_model.specs.Lists.{value_at, below, range_from, first_some}
+use Rattle.sg_model.specs.Lists.{is_in, value_at, below, range_from, first_some}
 use Rattle.sg_model.specs.Shape.{Shape, Arrow}
 use Rattle.sg_model.specs.Values.{Code}
 use Rattle.sg_model.specs.Names.{Name}
@@ -264,14 +264,14 @@ writes_below g is e = go (shape g).edges (edges_below g is) e
 pub variable_below : (g : Graph) → IsGraph g → (x : ℕ) → is_variable (shape g) x ≡ true → x < length g.variables
 variable_below g is x h = go (shape g).edges (edges_below g is) h
   where
-    in_both : (xs ys : List ℕ) → V.is_in x (xs ++ ys) ≡ true → (V.is_in x xs ≡ true) ⊎ (V.is_in x ys ≡ true)
+    in_both : (xs ys : List ℕ) → is_in x (xs ++ ys) ≡ true → (is_in x xs ≡ true) ⊎ (is_in x ys ≡ true)
     in_both [] ys e = inr e
     in_both (z ∷ xs) ys e = elim (cases_Bool (z == x)) [ inl d ↦ inl (rw d refl) | inr d ↦ (let r = in_both xs ys (rw d at e) in elim r [ inl c ↦ inl (rw d c) | inr c ↦ inr c ]) ]
 
-    here : (xs : List ℕ) → AllByRecursion (λ x. x < length g.variables) xs → V.is_in x xs ≡ true → x < length g.variables
+    here : (xs : List ℕ) → AllByRecursion (λ x. x < length g.variables) xs → is_in x xs ≡ true → x < length g.variables
     here [] a e = absurd (cc)
     here (z ∷ xs) a e = elim (cases_Bool (z == x)) [ inl d ↦ subst (λ y. y < length g.variables) (eqb-true z x d) a.0 | inr d ↦ here xs a.1 (rw d at e) ]
 
-    go : (as_ : List Arrow) → AllByRecursion (WritesBelow (length g.variables)) as_ → V.is_in x (V.written_by as_) ≡ true → x < length g.variables
+    go : (as_ : List Arrow) → AllByRecursion (WritesBelow (length g.variables)) as_ → is_in x (V.written_by as_) ≡ true → x < length g.variables
     go [] a e = absurd (cc)
     go (b ∷ as_) a e = elim (in_both b.writes (V.written_by as_) e) [ inl c ↦ here b.writes a.0 c | inr c ↦ go as_ a.1 c ]

@@ -17,10 +17,9 @@ use Rattle.sg_protocol.specs.Acting.{is_typed}
 use Rattle.sg_protocol.specs.Walk as A
 use Rattle.sg_protocol.specs.Walk.{StoredStep, Act, Sends, Receives, act_if, counts, honest_acts, acts_of_event, stored, is_carried, is_written_first, are_hidden, is_typed_or_hidden, IsStoredStep, OnePath}
 use Rattle.sg_law.specs.Accept.{Step}
-use Rattle.sg_law.specs.Values as B
-use Rattle.sg_law.specs.Values.{Stored, along, Deed, Move, Commit, Followed, lookup, or_else, after_step, seen, read_values, wrote_if, read_if, deeds, carried, AllExact, Exact, named, nothing_stored, deed_of}
+use Rattle.sg_law.specs.Values.{Stored, along, Deed, Move, Commit, Followed, after_step, seen, read_values, wrote_if, read_if, deeds, carried, AllExact, Exact, named, nothing_stored, deed_of}
 use Rattle.sg_law.specs.Values.Deed.{Wrote, Read}
-use Rattle.sg_law.proofs.Com.{lookup-unnamed}
+use Rattle.sg_law.proofs.Com.{value_at-unnamed}
 use Rattle.sg_law.proofs.Carried.{named-in}
 use Rattle.sg_protocol.proofs.KeptLaws.{value_at-merge}
 
@@ -29,18 +28,6 @@ cases_Bool true = inl refl
 cases_Bool false = inr refl
 
 -- ---- the same words
-
-pub lookup-value_at : {A : Type 0} (m : Map A) (x : ℕ) → lookup m x ≡ value_at m x
-lookup-value_at [] x = refl
-lookup-value_at (w ∷ ws) x = elim (cases_Bool (w.0 == x)) [ inl e ↦ rw e refl | inr e ↦ rw e (lookup-value_at ws x) ]
-
-pub or_same : {A : Type 0} (a b : Option A) → or_else a b ≡ option_or a b
-or_same None b = refl
-or_same (Some x) b = refl
-
-pub in_same : (x : ℕ) (xs : List ℕ) → B.is_in x xs ≡ is_in x xs
-in_same x [] = refl
-in_same x (y ∷ ys) = ap (λ b. (y == x) || b) (in_same x ys)
 
 seen_same : (o : Option (Option Value)) → seen o ≡ unwrap_or o None
 seen_same None = refl
@@ -84,7 +71,7 @@ module _ (g : Graph) (honest : ℕ → Bool) where
   read_stored st store same (x ∷ xs) = ap (λ (o : Option Value). (x, o) ∷ read_values st xs) (ap seen (same x) ∙ seen_same (value_at store x)) ∙ ap (λ l. (x, unwrap_or (value_at store x) None) ∷ l) (read_stored st store same xs)
 
   store_after : (st : ℕ → Option (Option Value)) (store : Map (Option Value)) → ((x : ℕ) → st x ≡ value_at store x) → (s : Stored) (x : ℕ) → after_step st s x ≡ value_at (merge store s.values) x
-  store_after st store same s x = ap (or_else (lookup s.values x)) (same x) ∙ ap (λ o. or_else o (value_at store x)) (lookup-value_at s.values x) ∙ or_same (value_at s.values x) (value_at store x) ∙ sym (value_at-merge store s.values x)
+  store_after st store same s x = ap (option_or (value_at s.values x)) (same x) ∙ sym (value_at-merge store s.values x)
 
   wrote_acts : (b : Bool) (s : Stored) → flat_map (acts_of g) (wrote_if b s) ≡ act_if b (Sends (sender (shape g) (along s)) (along s) s.values)
   wrote_acts true s = refl
@@ -133,7 +120,7 @@ module _ (g : Graph) (honest : ℕ → Bool) where
   -- ---- hidden values
 
   pub carried_same : (early : Bool) (x : ℕ) (s : Stored) (ss : List Stored) → carried (shape g) honest early x (along s) (map along ss) ≡ is_carried g honest (not early) x (steps_of (s ∷ ss))
-  carried_same early x s [] = ap (λ i. not early && (honest (receiver (shape g) (along s)) && i)) (in_same x (reads g (along s))) ∙ go early (honest (receiver (shape g) (along s))) (is_in x (reads g (along s)))
+  carried_same early x s [] = go early (honest (receiver (shape g) (along s))) (is_in x (reads g (along s)))
     where
       go : (e h i : Bool) → (not e && (h && i)) ≡ ((h && not e && i) || (true && false))
       go true true i = refl
@@ -142,9 +129,7 @@ module _ (g : Graph) (honest : ℕ → Bool) where
       go false true false = refl
       go false false i = refl
   carried_same early x s (t ∷ ts) =
-      ap (λ i. (honest (receiver (shape g) (along s)) && i) || (not (B.is_in x (writes g (along t))) && carried (shape g) honest early x (along t) (map along ts))) (in_same x (reads g (along s)))
-      ∙ ap (λ i. (honest (receiver (shape g) (along s)) && is_in x (reads g (along s))) || (not i && carried (shape g) honest early x (along t) (map along ts))) (in_same x (writes g (along t)))
-      ∙ ap (λ c. (honest (receiver (shape g) (along s)) && is_in x (reads g (along s))) || (not (is_in x (writes g (along t))) && c)) (carried_same early x t ts)
+      ap (λ c. (honest (receiver (shape g) (along s)) && is_in x (reads g (along s))) || (not (is_in x (writes g (along t))) && c)) (carried_same early x t ts)
       ∙ ap (λ h. h || (not (is_in x (writes g (along t))) && is_carried g honest (not early) x (steps_of (t ∷ ts)))) (go (honest (receiver (shape g) (along s))) (is_in x (reads g (along s))))
     where
       go : (h i : Bool) → (h && i) ≡ (h && true && i)
@@ -194,7 +179,7 @@ module _ (g : Graph) (honest : ℕ → Bool) where
   all_parts [] ys h = (tt, h)
   all_parts (x ∷ xs) ys h = let r = all_parts xs ys h.1 in ((h.0, r.0), r.1)
 
-  read_typed : (st : ℕ → Option (Option Value)) (xs : List ℕ) (x : ℕ) (v : Value) → list_all (is_typed_or_hidden g) (read_values st xs) ≡ true → B.is_in x xs ≡ true → st x ≡ Some (Some v) → is_typed g (x, v) ≡ true
+  read_typed : (st : ℕ → Option (Option Value)) (xs : List ℕ) (x : ℕ) (v : Value) → list_all (is_typed_or_hidden g) (read_values st xs) ≡ true → is_in x xs ≡ true → st x ≡ Some (Some v) → is_typed g (x, v) ≡ true
   read_typed st [] x v t i e = absurd (cc)
   read_typed st (y ∷ ys) x v t i e =
       let ts = and_parts (is_typed_or_hidden g (y, seen (st y))) (list_all (is_typed_or_hidden g) (read_values st ys)) t in
@@ -211,7 +196,7 @@ module _ (g : Graph) (honest : ℕ → Bool) where
   deeds_parts early st s [] = refl
   deeds_parts early st s (t ∷ ts) = refl
 
-  receipt_typed : (b : Bool) (st : ℕ → Option (Option Value)) (s : Stored) (x : ℕ) (v : Value) → st x ≡ Some (Some v) → AllByRecursion TypedDeed (read_if b (shape g) st s) → (b && B.is_in x (reads g (along s))) ≡ true → is_typed g (x, v) ≡ true
+  receipt_typed : (b : Bool) (st : ℕ → Option (Option Value)) (s : Stored) (x : ℕ) (v : Value) → st x ≡ Some (Some v) → AllByRecursion TypedDeed (read_if b (shape g) st s) → (b && is_in x (reads g (along s))) ≡ true → is_typed g (x, v) ≡ true
   receipt_typed true st s x v e all c = read_typed st (reads g (along s)) x v all.0 c e
   receipt_typed false st s x v e all c = absurd (cc)
 
@@ -221,12 +206,12 @@ module _ (g : Graph) (honest : ℕ → Bool) where
   typed_carried early st s (t ∷ ts) x v names e all c =
       let parts = all_parts (read_if (honest (receiver (shape g) (along s))) (shape g) (after_step st s) s) (deeds (shape g) honest early (after_step st s) (t ∷ ts)) all in
       let later = all_parts (wrote_if (honest (sender (shape g) (along t))) t) (later_deeds early (after_step st s) t ts) (subst (AllByRecursion TypedDeed) (deeds_parts early (after_step st s) t ts) parts.1) in
-      elim (or_cases (honest (receiver (shape g) (along s)) && B.is_in x (reads g (along s))) (not (B.is_in x (writes g (along t))) && carried (shape g) honest early x (along t) (map along ts)) c) [
+      elim (or_cases (honest (receiver (shape g) (along s)) && is_in x (reads g (along s))) (not (is_in x (writes g (along t))) && carried (shape g) honest early x (along t) (map along ts)) c) [
         | inl d ↦ receipt_typed (honest (receiver (shape g) (along s))) (after_step st s) s x v e parts.0 d
         | inr d ↦
-            let ds = and_parts (not (B.is_in x (writes g (along t)))) (carried (shape g) honest early x (along t) (map along ts)) d in
-            let none : lookup t.values x ≡ None = lookup-unnamed t.values x (named-in (shape g) t x names.0 ∙ not_true (B.is_in x (writes g (along t))) ds.0) in
-            typed_carried early (after_step st s) t ts x v names.1 (ap (λ o. or_else o (after_step st s x)) none ∙ e) later.1 ds.1
+            let ds = and_parts (not (is_in x (writes g (along t)))) (carried (shape g) honest early x (along t) (map along ts)) d in
+            let none : value_at t.values x ≡ None = value_at-unnamed t.values x (named-in (shape g) t x names.0 ∙ not_true (is_in x (writes g (along t))) ds.0) in
+            typed_carried early (after_step st s) t ts x v names.1 (ap (λ o. option_or o (after_step st s x)) none ∙ e) later.1 ds.1
       ]
     where
       not_true : (b : Bool) → not b ≡ true → b ≡ false
@@ -256,20 +241,19 @@ module _ (g : Graph) (honest : ℕ → Bool) where
         rest [] h = tt
         rest (z ∷ zs) h = (all_parts (read_if (honest (receiver (shape g) (along s))) (shape g) (after_step st s) s) (deeds (shape g) honest early (after_step st s) (z ∷ zs)) h).1
 
-        looked_up : (x : ℕ) (r : Option Value) → honest (sender (shape g) (along s)) ≡ false → value_at s.values x ≡ Some r → IfSome (lookup s.values x) (λ r. Exact (shape g) honest early x r (along s) (map along ss)) → AllByRecursion TypedDeed (later_deeds early st s ss) → is_typed_or_hidden g (x, r) ≡ true
+        looked_up : (x : ℕ) (r : Option Value) → honest (sender (shape g) (along s)) ≡ false → value_at s.values x ≡ Some r → IfSome (value_at s.values x) (λ r. Exact (shape g) honest early x r (along s) (map along ss)) → AllByRecursion TypedDeed (later_deeds early st s ss) → is_typed_or_hidden g (x, r) ≡ true
         looked_up x None dis e ex h = refl
         looked_up x (Some v) dis e ex h =
-            let there : lookup s.values x ≡ Some (Some v) = lookup-value_at s.values x ∙ e in
-            let ex' : Exact (shape g) honest early x (Some v) (along s) (map along ss) = subst (λ o. IfSome o (λ r. Exact (shape g) honest early x r (along s) (map along ss))) there ex in
+            let ex' : Exact (shape g) honest early x (Some v) (along s) (map along ss) = subst (λ o. IfSome o (λ r. Exact (shape g) honest early x r (along s) (map along ss))) e ex in
             elim (cases_Bool (carried (shape g) honest early x (along s) (map along ss))) [
-              | inl c ↦ typed_carried early st s ss x v names.1 (ap (λ o. or_else o (st x)) there) h c
+              | inl c ↦ typed_carried early st s ss x v names.1 (ap (λ o. option_or o (st x)) e) h c
               | inr c ↦ (let none = ex'.shown dis c in absurd (cc))
             ]
 
     hidden_steps : (early : Bool) (ss : List Stored) → AllByRecursion (named (shape g)) ss → AllExact (shape g) honest early ss → are_hidden g honest (not early) (steps_of ss) ≡ true
     hidden_steps early [] names exact = refl
     hidden_steps early (s ∷ ss) names exact =
-        and_both _ _ (all_looked_up _ s.values 0 (ap (rises_from 0) names.0 ∙ rises (along s)) (λ x r e. at x r (subst (λ o. IfSome o (λ r. Exact (shape g) honest early x r (along s) (map along ss))) (lookup-value_at s.values x ∙ e) (exact.0 x)))) (hidden_steps early ss names.1 exact.1)
+        and_both _ _ (all_looked_up _ s.values 0 (ap (rises_from 0) names.0 ∙ rises (along s)) (λ x r e. at x r (subst (λ o. IfSome o (λ r. Exact (shape g) honest early x r (along s) (map along ss))) e (exact.0 x)))) (hidden_steps early ss names.1 exact.1)
       where
         at : (x : ℕ) (r : Option Value) → Exact (shape g) honest early x r (along s) (map along ss) → beq (is_none r) (not (honest (sender (shape g) (along s))) && not (is_carried g honest (not early) x (steps_of (s ∷ ss)))) ≡ true
         at x None ex = (let a = (ex.hidden refl).0 in let b = sym (carried_same early x s ss) ∙ (ex.hidden refl).1 in rw (a, b) refl)

@@ -637,15 +637,17 @@ read-SpellsFrame bs f b h = go (cases_Bool (nat_lt 60000 (length bs)))
         let same : Spelling.spelling f ≡ bs = sym (t.begins ∙ append-nil (Spelling.spelling f)) in
         record {
           is_frame = record {
-            version = t.version;
-            sid = t.sid;
-            roles = t.roles;
-            join = t.join;
-            count = t.count;
-            items = t.items;
-            variables = t.variables;
-            openings = t.openings;
-            tag = t.tag;
+            fields = record {
+              version = t.version;
+              sid = t.sid;
+              roles = t.roles;
+              join = t.join;
+              count = t.count;
+              items = t.items;
+              variables = t.variables;
+              openings = t.openings;
+              tag = t.tag;
+            };
             short = subst (λ x. length x ≤ 60000) (sym same) (ltb-false 60000 (length bs) e);
           };
           spelled = same;

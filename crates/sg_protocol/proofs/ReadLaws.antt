@@ -239,17 +239,17 @@ reads-frame f h =
     let items : List ℕ = flat_map (Spelling.item_bytes f.version) f.items ++ (Spelling.u8 (length f.openings) ++ openings) in
     let join : List ℕ = Spelling.join_bytes f.join ++ (Spelling.u16 (length f.items) ++ items) in
     reads-after _ _ (Spelling.u8 (Spelling.join_code f.join)) (f.sid ++ (Spelling.u8 f.sender ++ (Spelling.u8 f.receiver ++ join))) (Spelling.join_code f.join) f (reads-u8 0 1 (Spelling.join_code f.join) (omega arith) (join_code_le f.join))
-    (reads-after _ _ f.sid (Spelling.u8 f.sender ++ (Spelling.u8 f.receiver ++ join)) f.sid f (reads-any 32 f.sid h.sid.0)
-    (reads-after _ _ (Spelling.u8 f.sender) (Spelling.u8 f.receiver ++ join) f.sender f (reads-u8 0 15 f.sender (omega arith) (omega (arith, h.roles.0)))
+    (reads-after _ _ f.sid (Spelling.u8 f.sender ++ (Spelling.u8 f.receiver ++ join)) f.sid f (reads-any 32 f.sid h.fields.sid.0)
+    (reads-after _ _ (Spelling.u8 f.sender) (Spelling.u8 f.receiver ++ join) f.sender f (reads-u8 0 15 f.sender (omega arith) (omega (arith, h.fields.roles.0)))
     (reads-after _ _ (Spelling.u8 f.receiver) join (Spelling.u8 f.receiver) f
     (reads-field_of 1 (λ bs. Reading.is_within 0 15 (from_be_bytes w8 bs) && not (from_be_bytes w8 bs == f.sender)) (Spelling.u8 f.receiver) refl
-    (and_both (Reading.is_within 0 15 f.receiver) (not (f.receiver == f.sender)) (within 0 15 f.receiver (omega arith) (omega (arith, h.roles.1))) (differ f.receiver f.sender h.roles.2)))
-    (reads-after _ _ (Spelling.join_bytes f.join) (Spelling.u16 (length f.items) ++ items) f.join f (reads-join f.version f.join h.join)
-    (reads-after _ _ (Spelling.u16 (length f.items)) items (length f.items) f (reads-u16 1 65535 (length f.items) h.count.0 h.count.1 (lit< tt))
-    (reads-after _ _ (flat_map (Spelling.item_bytes f.version) f.items) (Spelling.u8 (length f.openings) ++ openings) f.items f (reads-times (Reading.read_item f.version) (Spelling.item_bytes f.version) f.items (items-read f.version f.items h.items))
-    (reads-after _ _ (Spelling.u8 (length f.openings)) openings (length f.openings) f (reads-u8 0 32 (length f.openings) (omega arith) h.variables.0)
-    (reads-after _ _ (flat_map Spelling.opening_bytes f.openings) (tag ++ []) f.openings f (reads-rising (λ o. o.variable) Reading.read_opening Spelling.opening_bytes 0 f.openings h.variables.1 (openings-read f.openings h.openings))
-    (reads-after _ _ tag [] f.tag f (reads-tag f.version f.tag h.tag)
+    (and_both (Reading.is_within 0 15 f.receiver) (not (f.receiver == f.sender)) (within 0 15 f.receiver (omega arith) (omega (arith, h.fields.roles.1))) (differ f.receiver f.sender h.fields.roles.2)))
+    (reads-after _ _ (Spelling.join_bytes f.join) (Spelling.u16 (length f.items) ++ items) f.join f (reads-join f.version f.join h.fields.join)
+    (reads-after _ _ (Spelling.u16 (length f.items)) items (length f.items) f (reads-u16 1 65535 (length f.items) h.fields.count.0 h.fields.count.1 (lit< tt))
+    (reads-after _ _ (flat_map (Spelling.item_bytes f.version) f.items) (Spelling.u8 (length f.openings) ++ openings) f.items f (reads-times (Reading.read_item f.version) (Spelling.item_bytes f.version) f.items (items-read f.version f.items h.fields.items))
+    (reads-after _ _ (Spelling.u8 (length f.openings)) openings (length f.openings) f (reads-u8 0 32 (length f.openings) (omega arith) h.fields.variables.0)
+    (reads-after _ _ (flat_map Spelling.opening_bytes f.openings) (tag ++ []) f.openings f (reads-rising (λ o. o.variable) Reading.read_opening Spelling.opening_bytes 0 f.openings h.fields.variables.1 (openings-read f.openings h.fields.openings))
+    (reads-after _ _ tag [] f.tag f (reads-tag f.version f.tag h.fields.tag)
     (reads-give f))))))))))
 
 concat-snoc : (xss : List (List ℕ)) (t : List ℕ) → concat xss ++ t ≡ concat (xss ++ t ∷ [])
@@ -264,7 +264,7 @@ fields_spelled f = concat-snoc (Spelling.magic f.version ∷ Spelling.u8 (Spelli
     ∙ sym (append-nil (Spelling.magic f.version ++ all_of f))
 
 reads-spelling : (f : Frame.Frame) → Spelling.HasSpelling f → Reads (Reading.after Reading.read_version Reading.read_frame_of) (Spelling.magic f.version ++ all_of f) f
-reads-spelling f h = reads-after Reading.read_version Reading.read_frame_of (Spelling.magic f.version) (all_of f) f.version f (reads-version f.version h.version) (reads-frame f h)
+reads-spelling f h = reads-after Reading.read_version Reading.read_frame_of (Spelling.magic f.version) (all_of f) f.version f (reads-version f.version h.fields.version) (reads-frame f h)
 
 -- a frame that has a spelling is what is read from it
 pub read-spelling : (f : Frame.Frame) → Spelling.HasSpelling f → Reading.read (Spelling.spelling f) ≡ Ok f

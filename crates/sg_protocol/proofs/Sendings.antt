@@ -211,38 +211,41 @@ module _ (sha : Hash) (hash : IsHash sha) (programs : List Program) (s : Schedul
   keys_after n c other = refl
 
   -- where an entry of the log comes from
-  record Origin (l : Logged) (c : Call) : Type 0 where
-    who : Name
-    n : Node
-    is_who : l.who ≡ Some who
-    is_outcome : l.outcome ≡ Answered (answer sha n c)
-    is_frame : l.frame ≡ frame_in (answer sha n c)
-    is_notes : l.notes ≡ notes sha n c
-    its_keys : n.keys ≡ keyring_of s.keys who
-    hon : is_honest s who ≡ true
-    live_fit : AllByRecursion FitSession n.live
-    known_ : AllByRecursion (Known who) n.live
-    spelled : (e : Event) (to : Name) (f : Frame) → answer sha n c ≡ Sends e to f → HasSpelling f
-    bytes : (bs : List ℕ) → c ≡ Deliver bs → IsBytes bs
+  pub record Origin (l : Logged) (c : Call) : Type 0 where
+    pub who : Name
+    pub n : Node
+    pub is_who : l.who ≡ Some who
+    pub is_outcome : l.outcome ≡ Answered (answer sha n c)
+    pub is_frame : l.frame ≡ frame_in (answer sha n c)
+    pub is_notes : l.notes ≡ notes sha n c
+    pub its_keys : n.keys ≡ keyring_of s.keys who
+    pub hon : is_honest s who ≡ true
+    pub live_fit : AllByRecursion FitSession n.live
+    pub known_ : AllByRecursion (Known who) n.live
+    pub spelled : (e : Event) (to : Name) (f : Frame) → answer sha n c ≡ Sends e to f → HasSpelling f
+    pub bytes : (bs : List ℕ) → c ≡ Deliver bs → IsBytes bs
+    pub starts : (d : Cast) → c ≡ Start d → CastFits d
 
   abbrev Fit_ : World → Type 0
   Fit_ w = Fit sha hash programs s compiled sched w
 
-  record LogsOk (w : World) : Type 0 where
-    logs : (l : Logged) (c : Call) → In w.log l → l.call ≡ Some c → Origin l c
-    quiet : (l : Logged) (nt : Note) → In w.log l → l.call ≡ None → In l.notes.made nt → ⊥
-    nodes : (who : Name) (p : Past) → past_of w who ≡ Some p → ((node_of p).keys ≡ keyring_of s.keys who) × (is_honest s who ≡ true) × AllByRecursion (Known who) (node_of p).live
-    fit : Fit_ w
+  pub record LogsOk (w : World) : Type 0 where
+    pub logs : (l : Logged) (c : Call) → In w.log l → l.call ≡ Some c → Origin l c
+    pub quiet : (l : Logged) (nt : Note) → In w.log l → l.call ≡ None → In l.notes.made nt → ⊥
+    pub silent : (l : Logged) (e : Event) → In w.log l → l.call ≡ None → In (events_of_outcome l.outcome) e → ⊥
+    pub nodes : (who : Name) (p : Past) → past_of w who ≡ Some p → ((node_of p).keys ≡ keyring_of s.keys who) × (is_honest s who ≡ true) × AllByRecursion (Known who) (node_of p).live
+    pub fit : Fit_ w
 
-  idle_logs : (w : World) (k : ℕ) (x : Step) → Fit_ (world_after sha s w k x) → (who : Option Name) (o : Outcome) (fr : Option (List ℕ)) → world_after sha s w k x ≡ uncalled w k who o fr → LogsOk w → LogsOk (world_after sha s w k x)
-  idle_logs w k x fit' who o fr e q = subst LogsOk (sym e) record {
+  idle_logs : (w : World) (k : ℕ) (x : Step) → Fit_ (world_after sha s w k x) → (who : Option Name) (o : Outcome) (fr : Option (List ℕ)) → events_of_outcome o ≡ [] → world_after sha s w k x ≡ uncalled w k who o fr → LogsOk w → LogsOk (world_after sha s w k x)
+  idle_logs w k x fit' who o fr none_ e q = subst LogsOk (sym e) record {
     logs = λ l c i j. elim (C.in_parts w.log _ l i) [ inl a ↦ q.logs l c a j | inr a ↦ elim a [ inl b ↦ (let h : None ≡ Some c = ap (λ (z : Logged). z.call) (sym b) ∙ j in absurd (cc)) | inr b ↦ absurd b ] ];
     quiet = λ l nt i j k'. elim (C.in_parts w.log _ l i) [ inl a ↦ q.quiet l nt a j k' | inr a ↦ elim a [ inl b ↦ absurd (subst (λ (z : Logged). In z.notes.made nt) b k') | inr b ↦ absurd b ] ];
+    silent = λ l ev i j k'. elim (C.in_parts w.log _ l i) [ inl a ↦ q.silent l ev a j k' | inr a ↦ elim a [ inl b ↦ absurd (subst (λ xs. In xs ev) none_ (subst (λ (z : Logged). In (events_of_outcome z.outcome) ev) b k')) | inr b ↦ absurd b ] ];
     nodes = q.nodes;
     fit = subst Fit_ e fit';
   }
 
-  me_is : (who : Name) (n : Node) → n.keys ≡ keyring_of s.keys who → n.keys.me ≡ who
+  pub me_is : (who : Name) (n : Node) → n.keys ≡ keyring_of s.keys who → n.keys.me ≡ who
   me_is who n e = ap (λ (z : Keyring). z.me) e
 
   call_bytes : (w : World) → Fit_ w → (k : ℕ) (x : Step) → IsStep sha s x → (c : Call) → call_of sha s w k x ≡ Some c → (bs : List ℕ) → c ≡ Deliver bs → IsBytes bs
@@ -260,6 +263,21 @@ module _ (sha : Hash) (hash : IsHash sha) (programs : List Program) (s : Schedul
   call_bytes w fit k (AbandonStep who n') good c e bs e2 = absurd (let a : Abandon (sid_at sha s n') ≡ c = cc in let b : Abandon (sid_at sha s n') ≡ Deliver bs = a ∙ e2 in cc)
   call_bytes w fit k (CraftStep cr) good c e bs e2 = absurd (cc)
 
+  call_casts : (w : World) (k : ℕ) (x : Step) (c : Call) → call_of sha s w k x ≡ Some c → (d : Cast) → c ≡ Start d → CastFits d
+  call_casts w k (StartStep who n') c e d e2 = go (cast_of s n') refl e
+    where
+      go : (o : Option Cast) → cast_of s n' ≡ o → option_map Start o ≡ Some c → CastFits d
+      go None q e = absurd (cc)
+      go (Some y) q e = (let r : Start y ≡ Start d = (let a : Start y ≡ c = cc in a ∙ e2) in let r' : y ≡ d = cc in casts_fit sha hash programs s compiled sched n' d (q ∙ ap (λ z. Some z) r'))
+  call_casts w k (DeliverStep who what) c e d e2 = go (bytes_of w what) e
+    where
+      go : (o : Option (List ℕ)) → option_map Deliver o ≡ Some c → CastFits d
+      go None e = absurd (cc)
+      go (Some zs) e = (let a : Deliver zs ≡ c = cc in let b : Deliver zs ≡ Start d = a ∙ e2 in absurd (cc))
+  call_casts w k (ActStep who n' label values) c e d e2 = absurd (let a : Act (sid_at sha s n') label values (map (λ (v : ℕ × Value). confounder k v.0) values) ≡ c = cc in let b : Act (sid_at sha s n') label values (map (λ (v : ℕ × Value). confounder k v.0) values) ≡ Start d = a ∙ e2 in cc)
+  call_casts w k (AbandonStep who n') c e d e2 = absurd (let a : Abandon (sid_at sha s n') ≡ c = cc in let b : Abandon (sid_at sha s n') ≡ Start d = a ∙ e2 in cc)
+  call_casts w k (CraftStep cr) c e d e2 = absurd (cc)
+
   called_logs : (w : World) (k : ℕ) (x : Step) → IsStep sha s x → LogsOk w → (who : Name) (past : Past) → past_of w who ≡ Some past → (c : Call) → call_of sha s w k x ≡ Some c → Fit_ (called sha w k who c past) → Suffix (k + 1) (called sha w k who c past).log wf.log → LogsOk (called sha w k who c past)
   called_logs w k x good q who past its_past c e fit' after = record {
     logs = λ l d i j. elim (C.in_parts w.log _ l i) [
@@ -267,6 +285,7 @@ module _ (sha : Hash) (hash : IsHash sha) (programs : List Program) (s : Schedul
       | inr a ↦ elim a [ inl b ↦ (let h : Some c ≡ Some d = ap (λ (z : Logged). z.call) (sym b) ∙ j in let h' : c ≡ d = cc in subst (λ z. Origin z d) (sym b) (subst (Origin entry_) h' origin)) | inr b ↦ absurd b ]
     ];
     quiet = λ l nt i j k'. elim (C.in_parts w.log _ l i) [ inl a ↦ q.quiet l nt a j k' | inr a ↦ elim a [ inl b ↦ (let h : Some c ≡ None = ap (λ (z : Logged). z.call) (sym b) ∙ j in absurd (cc)) | inr b ↦ absurd b ] ];
+    silent = λ l ev i j k'. elim (C.in_parts w.log _ l i) [ inl a ↦ q.silent l ev a j k' | inr a ↦ elim a [ inl b ↦ (let h : Some c ≡ None = ap (λ (z : Logged). z.call) (sym b) ∙ j in absurd (cc)) | inr b ↦ absurd b ] ];
     nodes = λ me p' e'. nodes_ me p' (past_of w me) refl (sym (past_called sha w k who c past me) ∙ e');
     fit = fit';
   }
@@ -292,6 +311,7 @@ module _ (sha : Hash) (hash : IsHash sha) (programs : List Program) (s : Schedul
         known_ = (q.nodes who past its_past).2;
         spelled = λ ev to f a. fit_sends sha hash programs s compiled sched w q.fit k x who past c ev to f good its_past e a;
         bytes = call_bytes w q.fit k x good c e;
+        starts = call_casts w k x c e;
       }
 
       nodes_ : (me : Name) (p' : Past) (o : Option Past) → past_of w me ≡ o → option_map (next_past sha who c) o ≡ Some p' → ((node_of p').keys ≡ keyring_of s.keys me) × (is_honest s me ≡ true) × AllByRecursion (Known me) (node_of p').live
@@ -319,42 +339,45 @@ module _ (sha : Hash) (hash : IsHash sha) (programs : List Program) (s : Schedul
   past_logs w k x good q who (Some past) e None e2 fit' after = record {
     logs = λ l d i j. elim (C.in_parts w.log _ l i) [ inl a ↦ q.logs l d a j | inr a ↦ elim a [ inl b ↦ (let h : None ≡ Some d = ap (λ (z : Logged). z.call) (sym b) ∙ j in absurd (cc)) | inr b ↦ absurd b ] ];
     quiet = λ l nt i j k'. elim (C.in_parts w.log _ l i) [ inl a ↦ q.quiet l nt a j k' | inr a ↦ elim a [ inl b ↦ absurd (subst (λ (z : Logged). In z.notes.made nt) b k') | inr b ↦ absurd b ] ];
+    silent = λ l ev i j k'. elim (C.in_parts w.log _ l i) [ inl a ↦ q.silent l ev a j k' | inr a ↦ elim a [ inl b ↦ absurd (subst (λ (z : Logged). In (events_of_outcome z.outcome) ev) b k') | inr b ↦ absurd b ] ];
     nodes = q.nodes;
     fit = fit';
   }
   past_logs w k x good q who (Some past) e (Some c) e2 fit' after = called_logs w k x good q who past e c e2 fit' after
 
   step_logs : (w : World) (k : ℕ) (x : Step) → IsStep sha s x → LogsOk w → Fit_ (world_after sha s w k x) → Suffix (k + 1) (world_after sha s w k x).log wf.log → LogsOk (world_after sha s w k x)
-  step_logs w k (CraftStep c) good q fit' after = idle_logs w k (CraftStep c) fit' None Crafted (option_map spelling (crafted sha s w c)) refl q
+  step_logs w k (CraftStep c) good q fit' after = idle_logs w k (CraftStep c) fit' None Crafted (option_map spelling (crafted sha s w c)) refl refl q
   step_logs w k (StartStep who n') good q fit' after = past_logs w k (StartStep who n') good q who (past_of w who) refl (call_of sha s w k (StartStep who n')) refl fit' after
   step_logs w k (ActStep who n' label values) good q fit' after = past_logs w k (ActStep who n' label values) good q who (past_of w who) refl (call_of sha s w k (ActStep who n' label values)) refl fit' after
   step_logs w k (AbandonStep who n') good q fit' after = past_logs w k (AbandonStep who n') good q who (past_of w who) refl (call_of sha s w k (AbandonStep who n')) refl fit' after
   step_logs w k (DeliverStep who what) good q fit' after = past_logs w k (DeliverStep who what) good q who (past_of w who) refl (call_of sha s w k (DeliverStep who what)) refl fit' after
 
-  all_logs : (w : World) (k : ℕ) (xs : List Step) → AllByRecursion (IsStep sha s) xs → LogsOk w → world_after_all sha s w k xs ≡ wf → LogsOk wf
+  pub all_logs : (w : World) (k : ℕ) (xs : List Step) → AllByRecursion (IsStep sha s) xs → LogsOk w → world_after_all sha s w k xs ≡ wf → LogsOk wf
   all_logs w k [] good q e = subst LogsOk e q
   all_logs w k (x ∷ xs) good q e =
       all_logs (world_after sha s w k x) (k + 1) xs good.1 (step_logs w k x good.0 q (fit_next sha hash programs s compiled sched w k x q.fit good.0) (subst (λ (z : World). Suffix (k + 1) (world_after sha s w k x).log z.log) e (suffix_all sha s (world_after sha s w k x) (k + 1) xs))) e
 
-  new_logs : LogsOk (new_world programs s)
+  pub new_logs : LogsOk (new_world programs s)
   new_logs = record {
     logs = λ l c i j. absurd i;
     quiet = λ l nt i j k. absurd i;
+    silent = λ l ev i j k. absurd i;
     nodes = λ who p e. let r = first_past s.keys programs s.honest who p e in subst (λ (z : Past). ((node_of z).keys ≡ keyring_of s.keys who) × (is_honest s who ≡ true) × AllByRecursion (Known who) (node_of z).live) (sym r.0) (refl, r.1, tt);
     fit = fit_new sha hash programs s compiled sched;
   }
 
   -- ---- what a receipt checked
 
-  record Took_ (who : Name) (n : Node) (f : Frame) (nts : Notes) : Type 0 where
-    cast : Cast
-    fits : CastFits cast
-    id : session_id sha cast ≡ f.sid
-    is_hashed : In (hashed s wf) (session_text_of cast)
-    me : principal cast f.receiver ≡ who
-    version : cast.version ≡ f.version
-    found : In nts.found (note_of n.keys.me (principal cast f.sender) (text_of f))
-    tag_is : tag_for sha n.keys cast f.sender (text_of f) ≡ f.tag
+  pub record Took_ (who : Name) (n : Node) (f : Frame) (nts : Notes) : Type 0 where
+    pub cast : Cast
+    pub fits : CastFits cast
+    pub id : session_id sha cast ≡ f.sid
+    pub is_hashed : In (hashed s wf) (session_text_of cast)
+    pub me : principal cast f.receiver ≡ who
+    pub version : cast.version ≡ f.version
+    pub found : In nts.found (note_of n.keys.me (principal cast f.sender) (text_of f))
+    pub tag_is : tag_for sha n.keys cast f.sender (text_of f) ≡ f.tag
+    pub joins : (c : Cast) → f.join ≡ Some c → c ≡ cast
 
   tag_row : (keys : Keyring) (p : Program) (x : Session) (f : Frame) → first_some (rows_of_session sha keys p x f) ≡ None → tag_for sha keys x.cast f.sender (text_of f) ≡ f.tag
   tag_row keys p x f h =
@@ -380,17 +403,18 @@ module _ (sha : Hash) (hash : IsHash sha) (programs : List Program) (s : Schedul
         let r5 = none_parts (row (nat_le 65536 (length n.joins)) CacheFull) (row (nat_le 4096 (length n.live)) SessionsFull ∷ rows_of_session sha n.keys p x f) r4.1 in
         let r6 = none_parts (row (nat_le 4096 (length n.live)) SessionsFull) (rows_of_session sha n.keys p x f) r5.1 in
         let ic : is_cast n.keys p.graph c f.receiver ≡ true = (and_parts (is_cast n.keys p.graph c f.receiver) (nat_lt f.sender (length c.names)) (not_false (is_cast n.keys p.graph c f.receiver && nat_lt f.sender (length c.names)) (row_none _ _ r1.0))).0 in
-        let co = subst (λ o. IfSome o (IsCastOf f.version)) j spelled.join in
+        let co = subst (λ o. IfSome o (IsCastOf f.version)) j spelled.fields.join in
         let sess : session_of_frame n f ≡ Some (p, x) = ap (λ o. option_and_then (λ (z : Session). option_map (λ (q : Program). (q, z)) (program_for n.programs z.cast.graph z.role)) (option_map_or (λ c. Some (new_session f.sid c f.receiver)) o (session_for n.live f))) j ∙ ap (λ o. option_map (λ (q : Program). (q, x)) o) pc in
         record {
           cast = c;
-          fits = TL.cast_fits c (subst IsVersion (sym co.version) spelled.version) (subst (λ v. IsCastOf v c) (sym co.version) co);
+          fits = TL.cast_fits c (subst IsVersion (sym co.version) spelled.fields.version) (subst (λ v. IsCastOf v c) (sym co.version) co);
           id = sym (same_bytes_ f.sid (session_id sha c) (not_false (bytes_eq f.sid (session_id sha c)) (row_none _ _ r3.0)));
           is_hashed = hs (session_text_of c) (in_left (hashed_of_join f (row_number (first_some (rows sha n f)))) _ (session_text_of c) (subst (λ o. In (hashed_of_join f (row_number o)) (session_text_of c)) (sym none) (subst (λ o. In (option_map_or (λ c. session_text_of c ∷ []) o []) (session_text_of c)) (sym j) (inl refl))));
           me = same_bytes_ (principal c f.receiver) n.keys.me (and_parts _ (bytes_eq (principal c f.receiver) n.keys.me) ic).1 ∙ me;
           version = co.version;
           found = note_there p x sess;
           tag_is = tag_row n.keys p x f r6.1;
+          joins = λ c' e'. (let q : Some c ≡ Some c' = sym j ∙ e' in cc);
         }
 
     took_next : f.join ≡ None → (o : Option Session) → session_for n.live f ≡ o → first_some (option_map_or (λ z. option_map_or (rows_of_next sha n f z) (program_for n.programs z.cast.graph z.role) (Some UnknownSession ∷ [])) o (Some UnknownSession ∷ [])) ≡ None → Took_ who n f (notes_of_read sha n (Ok f))
@@ -416,9 +440,10 @@ module _ (sha : Hash) (hash : IsHash sha) (programs : List Program) (s : Schedul
               version = eqb-true x.cast.version f.version w1.1;
               found = note_there p x sess;
               tag_is = tag_row n.keys p x f r1.1;
+              joins = λ c' e'. (let q : None ≡ Some c' = sym j ∙ e' in absurd (cc));
             }
 
-    took : Took_ who n f (notes_of_read sha n (Ok f))
+    pub took : Took_ who n f (notes_of_read sha n (Ok f))
     took = by_join f.join refl
       where
         by_join : (o : Option Cast) → f.join ≡ o → Took_ who n f (notes_of_read sha n (Ok f))

@@ -18,11 +18,12 @@ use Rattle.sg_protocol.specs.Spelling.{spelling, magic, join_code, HasSpelling, 
 use Rattle.sg_model.specs.Bytes.{AreBytes}
 use Rattle.sg_protocol.specs.Texts.{Hash, IsHash, commitment, cut}
 use Rattle.sg_protocol.specs.TextLaws.{IsVersion}
+pub use Rattle.sg_protocol.specs.Bounds.{IsSession as FitSession}
 use Rattle.sg_protocol.specs.Keyring.{Keyring, Program, targets_of}
-use Rattle.sg_protocol.specs.Session.{Session, Exchange, told, time, place, openings_of, opening_in, last_opening, known}
+use Rattle.sg_protocol.specs.Session.{Session, Exchange, told, time, place, at_turn, openings_of, opening_in, last_opening, known}
 use Rattle.sg_protocol.specs.Sending.{text_to, plain_item, own_item, frame_sent, item_of, entry_of, tags_left, shown_to, opening_of, tag_for}
 use Rattle.sg_law.proofs.Lists.{has-map}
-use Rattle.sg_protocol.proofs.Paths.{in_same}
+use Rattle.sg_law.proofs.Lists.{in_same}
 use Rattle.sg_protocol.proofs.Moves.{and_parts, writes_below}
 use Rattle.sg_model.specs.Lists.{rises_from, keys_of, in_order}
 use Rattle.sg_law.proofs.Upto.{after-more}
@@ -43,15 +44,6 @@ use Rattle.sg_protocol.proofs.Calls.{find_all, find_passes}
 cases_Bool : (b : Bool) → (b ≡ true) ⊎ (b ≡ false)
 cases_Bool true = inl refl
 cases_Bool false = inr refl
-
--- what is known of a live session, that what it sends has a spelling
-pub record FitSession (x : Session) : Type 0 where
-  pub sid : AreBytes 32 x.sid
-  pub version : IsVersion x.cast.version
-  pub cast : IsCastOf x.cast.version x.cast
-  pub role : x.role < 16
-  pub told_fit : AllByRecursion (IsItem x.cast.version) (told x)
-  pub opened : AllByRecursion IsOpening (flat_map openings_of x.exchanges)
 
 -- ---- numbers that differ
 
@@ -505,7 +497,8 @@ last_ok (x ∷ es) y o a e =
 
 -- ---- the frame that a session sends
 
-module _ (sha : Hash) (hash : IsHash sha) (p : Program) (ip : IsProgram sha p) (keys : Keyring) (x : Session) (fx : FitSession x) (label : ℕ) (values : Map Value) (os : List Opening) (rows : C.ActRows p.graph x label values)
+module _ (sha : Hash) (hash : IsHash sha) (p : Program) (ip : IsProgram sha p) (keys : Keyring) (x : Session) (fx : FitSession x) (label : ℕ) (os : List Opening)
+    (turn : at_turn p.graph x ≡ true) (edge : nat_lt label (length p.graph.edges) ≡ true) (leaves_place : source (shape p.graph) label ≡ place p.graph x) (early : nat_le 1000000 (time x) ≡ false)
     (names_os : map (λ (o : Opening). o.variable) os ≡ writes p.graph label) (open_os : AllByRecursion IsOpening os) where
   abbrev g : Graph
   g = p.graph
@@ -520,13 +513,13 @@ module _ (sha : Hash) (hash : IsHash sha) (p : Program) (ip : IsProgram sha p) (
   sent_frame = frame_sent sha keys p x label os
 
   in_edges : label < length g.edges
-  in_edges = C.lt_of label (length g.edges) rows.edge
+  in_edges = C.lt_of label (length g.edges) edge
 
   ends : (source (shape g) label < length g.nodes) × (target (shape g) label < length g.nodes)
   ends = ends_in (length g.nodes) g.edges ip.is_graph.ends label in_edges
 
   by_x : sender (shape g) label ≡ x.role
-  by_x = ap (role_at (shape g)) rows.leaves ∙ eqb-true (role_at (shape g) (place g x)) x.role rows.turn
+  by_x = ap (role_at (shape g)) leaves_place ∙ eqb-true (role_at (shape g) (place g x)) x.role turn
 
   apart : sender (shape g) label ≡ receiver (shape g) label → ⊥
   apart e = ip.accepted.no_self_edge label in_edges e
@@ -600,15 +593,15 @@ module _ (sha : Hash) (hash : IsHash sha) (p : Program) (ip : IsProgram sha p) (
   oi_ok = record {
     role = fx.role;
     label = (let a = in_edges in let b = ip.is_graph.sizes.3 in omega (arith, a, b));
-    time = ((omega arith), (let a = C.le_false 1000000 (time x) rows.time in omega (arith, a)));
+    time = ((omega arith), (let a = C.le_false 1000000 (time x) early in omega (arith, a)));
     variables = (oi_len, ap (rises_from 0) (oi_keys ∙ names_os) ∙ writes_rise g ip.is_graph label);
     delta = oi_delta os open_os;
     roles = ((let a = len_map {B = ℕ × List ℕ} (λ t. (t, tag_for sha keys x.cast t (text_to g x (told x) (plain_item sha x label os) t))) (targets_of p label) in let b = ts_few in omega (arith, a, b)), ap (rises_from 0) (keys_tags (λ t. tag_for sha keys x.cast t (text_to g x (told x) (plain_item sha x label os) t)) (targets_of p label)) ∙ ts_rise);
     tags = tags_of (λ t. tag_for sha keys x.cast t (text_to g x (told x) (plain_item sha x label os) t)) (λ t. tag_ok t _) (targets_of p label) (below_weak (length g.roles) 16 (targets_of p label) few_roles ts_below);
   }
 
-  all_told : AllByRecursion (IsItem v) (told x ++ oi ∷ [])
-  all_told = all_both (IsItem v) (told x) (oi ∷ []) fx.told_fit (oi_ok, tt)
+  pub all_told : AllByRecursion (IsItem v) (told x ++ oi ∷ [])
+  all_told = all_both (IsItem v) (told x) (oi ∷ []) fx.items (oi_ok, tt)
 
   items_ok : AllByRecursion (IsItem v) sent_frame.items
   items_ok = shown_fit g few_variables v (receiver (shape g) label) (told x ++ oi ∷ []) all_told
@@ -626,7 +619,7 @@ module _ (sha : Hash) (hash : IsHash sha) (p : Program) (ip : IsProgram sha p) (
   opens_ok = opens_all (opening_of x os) ok (reads g label) 0 reads_.0
     where
       ok : (y : ℕ) (o : Opening) → opening_of x os y ≡ Some o → (o.variable ≡ y) × IsOpening o
-      ok y o e = elim (or_some (opening_in os y) (known x y) o e) [ inl h ↦ opening_in_ok os y o open_os h | inr h ↦ last_ok x.exchanges y o fx.opened h ]
+      ok y o e = elim (or_some (opening_in os y) (known x y) o e) [ inl h ↦ opening_in_ok os y o open_os h | inr h ↦ last_ok x.exchanges y o fx.openings h ]
 
   opens_few : length sent_frame.openings ≤ 32
   opens_few = (let a = opens_ok.size in let b = pigeon (length g.variables) (reads g label) (rise_dist (reads g label) 0 reads_.0) reads_.1 in let c = few_variables in omega (arith, a, b, c))
@@ -636,14 +629,16 @@ module _ (sha : Hash) (hash : IsHash sha) (p : Program) (ip : IsProgram sha p) (
 
   pub sent_spelled : HasSpelling (frame_sent sha keys p x label os)
   sent_spelled = record {
-    version = fx.version;
-    sid = fx.sid;
-    roles = (fx.role, (let a = receiver_in in let b = few_roles in omega (arith, a, b)), λ e. apart (by_x ∙ sym e));
-    join = join_ok;
-    count = (items_some, (let a = items_few in omega (arith, a)));
-    items = items_ok;
-    variables = (opens_few, opens_ok.rises);
-    openings = opens_ok.fit;
-    tag = tag_ok _ _;
+    fields = record {
+      version = fx.version;
+      sid = fx.sid;
+      roles = (fx.role, (let a = receiver_in in let b = few_roles in omega (arith, a, b)), λ e. apart (by_x ∙ sym e));
+      join = join_ok;
+      count = (items_some, (let a = items_few in omega (arith, a)));
+      items = items_ok;
+      variables = (opens_few, opens_ok.rises);
+      openings = opens_ok.fit;
+      tag = tag_ok _ _;
+    };
     short = spelled_len sent_frame fx.sid.0 join_ok items_few items_ok opens_few opens_ok.fit (tag_ok _ _).bytes.0;
   }

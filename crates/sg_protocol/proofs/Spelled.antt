@@ -232,13 +232,13 @@ item_has_bytes v i h = record {
 
 pub has_bytes : (f : Frame) → HasSpelling f → BytesFrame f
 has_bytes f h = record {
-  sid = from_bytes f.sid h.sid.1;
-  roles = ((let l = h.roles.0 in omega (arith, l)), (let l = h.roles.1 in omega (arith, l)));
-  join = joined_ f.join h.join;
-  items = go f.items h.items;
-  count = (let l = h.variables.0 in omega (arith, l));
-  openings = opens f.openings h.openings;
-  tag = from_bytes f.tag h.tag.bytes.1;
+  sid = from_bytes f.sid h.fields.sid.1;
+  roles = ((let l = h.fields.roles.0 in omega (arith, l)), (let l = h.fields.roles.1 in omega (arith, l)));
+  join = joined_ f.join h.fields.join;
+  items = go f.items h.fields.items;
+  count = (let l = h.fields.variables.0 in omega (arith, l));
+  openings = opens f.openings h.fields.openings;
+  tag = from_bytes f.tag h.fields.tag.bytes.1;
 }
   where
     joined_ : (o : Option Cast) → IfSome o (IsCastOf f.version) → Bytes_ (join_bytes o)

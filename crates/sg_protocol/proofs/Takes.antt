@@ -138,7 +138,7 @@ module _ (sha : Hash) (s : Schedule) (sid : List ℕ) (cast : Cast) (keys : Keyr
   f_roles = all_roles (shape g) f.items rows.senders
 
   f_fits : FitItems f.items
-  f_fits = items_fit f.version f.items spelled.items
+  f_fits = items_fit f.version f.items spelled.fields.items
 
   own_same : own_of (shape g) st x.role ≡ entries (own x)
   own_same = ap (up_to_last (by (shape g)) x.role) m.is_told ∙ up_to-entries (shape g) x.role (told x) m.roles
@@ -168,7 +168,7 @@ module _ (sha : Hash) (s : Schedule) (sid : List ℕ) (cast : Cast) (keys : Keyr
   tagged : (a : List Item) (i j : Item) (b : List Item) → f.items ≡ a ++ i ∷ j ∷ b → honest_role s cast (sender (shape g) i.label) ≡ true → MadeItem g st.log i.label i.time (commitments g ((own x ++ a) ++ i ∷ []))
   tagged a i j b e h =
       let role : i.role ≡ sender (shape g) i.label = roles_mid (shape g) a i (j ∷ b) (subst (Roles (shape g)) e f_roles) in
-      let it : IsItem f.version i = items_mid f.version a i (j ∷ b) (subst (AllByRecursion (IsItem f.version)) e spelled.items) in
+      let it : IsItem f.version i = items_mid f.version a i (j ∷ b) (subst (AllByRecursion (IsItem f.version)) e spelled.fields.items) in
       let fits : FitItems ((own x ++ a) ++ i ∷ []) = subst FitItems (sym (append_assoc (own x) a (i ∷ []))) (fit-append (own x) (a ++ i ∷ []) own_fits (fit-left (a ++ i ∷ []) (j ∷ b) (subst FitItems (e ∙ sym (append_assoc a (i ∷ []) (j ∷ b))) f_fits))) in
       let t : List ℕ = text_to g x (own x ++ a) i x.role in
       let hon' : is_honest s (principal x.cast i.role) ≡ true = ap (λ c. is_honest s (principal c i.role)) m.same_cast ∙ ap (honest_role s cast) role ∙ h in

@@ -221,7 +221,7 @@ body_same f g h k e = ap untagged (ok_same f (with_tag f.tag g) (sym (read-spell
         ∷ Spelling.u16 (length f.items) ∷ flat_map (Spelling.item_bytes f.version) f.items ∷ Spelling.u8 (length f.openings) ∷ flat_map Spelling.opening_bytes f.openings ∷ [])
 
     version : f.version ≡ g.version
-    version = (versions_same 3 (codes "SGF2") (codes "SGF1") (after_magic f) (after_magic g) f.version g.version refl refl refl h.version k.version e).0
+    version = (versions_same 3 (codes "SGF2") (codes "SGF1") (after_magic f) (after_magic g) f.version g.version refl refl refl h.fields.version k.fields.version e).0
 
     spelled : Spelling.spelling f ≡ Spelling.spelling (with_tag f.tag g)
     spelled = ap (λ v. Spelling.body f ++ take (Frame.tag_len v) f.tag) version ∙ ap (λ bs. bs ++ take (Frame.tag_len g.version) f.tag) e
@@ -231,15 +231,17 @@ body_same f g h k e = ap untagged (ok_same f (with_tag f.tag g) (sym (read-spell
 
     fits : Spelling.HasSpelling (with_tag f.tag g)
     fits = record {
-      version = k.version;
-      sid = k.sid;
-      roles = k.roles;
-      join = k.join;
-      count = k.count;
-      items = k.items;
-      variables = k.variables;
-      openings = k.openings;
-      tag = subst (λ v. Frame.IsTag v f.tag) version h.tag;
+      fields = record {
+        version = k.fields.version;
+        sid = k.fields.sid;
+        roles = k.fields.roles;
+        join = k.fields.join;
+        count = k.fields.count;
+        items = k.fields.items;
+        variables = k.fields.variables;
+        openings = k.fields.openings;
+        tag = subst (λ v. Frame.IsTag v f.tag) version h.fields.tag;
+      };
       short = subst (λ bs. length bs ≤ 60000) spelled h.short;
     }
 

@@ -156,12 +156,12 @@ same_named (x ∷ gs) g g' d (inr i) (inr j) e = same_named gs g g' (and_parts (
 
 -- ---- look-ups
 
-all_in : {A : Type 0} (P : A → Type 0) (xs : List A) (x : A) → All P xs → In xs x → P x
+pub all_in : {A : Type 0} (P : A → Type 0) (xs : List A) (x : A) → All P xs → In xs x → P x
 all_in P [] x a i = absurd i
 all_in P (y ∷ ys) x a (inl e) = subst P (sym e) (All-head P y ys a)
 all_in P (y ∷ ys) x a (inr i) = all_in P ys x (All-tail P y ys a) i
 
-rec_in : {A : Type 0} (P : A → Type 0) (xs : List A) (x : A) → AllByRecursion P xs → In xs x → P x
+pub rec_in : {A : Type 0} (P : A → Type 0) (xs : List A) (x : A) → AllByRecursion P xs → In xs x → P x
 rec_in P [] x a i = absurd i
 rec_in P (y ∷ ys) x a (inl e) = subst P (sym e) a.0
 rec_in P (y ∷ ys) x a (inr i) = rec_in P ys x a.1 i
@@ -229,6 +229,24 @@ pub record FirstCast (sha : Hash) (s : Schedule) (programs : List Program) (sid 
   pub digest : program.digest ≡ cast.graph
   pub differ : all_differ cast.names ≡ true
   pub lengths : length cast.names ≡ length program.graph.roles
+
+-- an honest role is one of the cast
+pub honest_inside : (sha : Hash) (s : Schedule) → IsSchedule sha s → (c : Cast) (k : ℕ) → honest_role s c k ≡ true → k < length c.names
+honest_inside sha s sched c k h = elim (in_range c.names k) [
+  | inl l ↦ l
+  | inr e ↦ absurd (let n : is_name [] ≡ true = subst (λ z. is_name z ≡ true) e (named s.honest (principal c k) (and_parts (all_differ s.honest) (list_all is_name s.honest) sched.honest_names).1 h) in cc)
+]
+  where
+    in_range : (ts : List Name) (k : ℕ) → (k < length ts) ⊎ (get_or ts k [] ≡ [])
+    in_range [] k = inr refl
+    in_range (t ∷ ts) zero = inl (omega arith)
+    in_range (t ∷ ts) (suc k) = elim (in_range ts k) [ inl l ↦ inl (omega (arith, l)) | inr e ↦ inr e ]
+
+    named : (ts : List Name) (n : Name) → list_all is_name ts ≡ true → has_text n ts ≡ true → is_name n ≡ true
+    named [] n a h = absurd (cc)
+    named (t ∷ ts) n a h =
+        let p = and_parts (is_name t) (list_all is_name ts) a in
+        elim (cases_Bool (bytes_eq n t)) [ inl e ↦ subst (λ z. is_name z ≡ true) (sym (same_bytes_ n t e)) p.0 | inr e ↦ named ts n p.1 (rw e at h) ]
 
 module _ (sha : Hash) (hash : IsHash sha) (programs : List Program) (s : Schedule) (compiled : AreCompiled sha s.graphs programs) (sched : IsSchedule sha s) (premises : Premises sha s (run sha programs s)) (sid : List ℕ)
     (first : FirstCast sha s programs sid (run sha programs s))
@@ -339,21 +357,7 @@ module _ (sha : Hash) (hash : IsHash sha) (programs : List Program) (s : Schedul
 
   -- an honest role is one of the cast
   pub inside : (k : ℕ) → honest_role s first.cast k ≡ true → k < length first.cast.names
-  inside k h = elim (in_range first.cast.names k) [
-    | inl l ↦ l
-    | inr e ↦ absurd (let n : is_name [] ≡ true = subst (λ z. is_name z ≡ true) e (named s.honest (principal first.cast k) (and_parts (all_differ s.honest) (list_all is_name s.honest) sched.honest_names).1 h) in cc)
-  ]
-    where
-      in_range : (ts : List Name) (k : ℕ) → (k < length ts) ⊎ (get_or ts k [] ≡ [])
-      in_range [] k = inr refl
-      in_range (t ∷ ts) zero = inl (omega arith)
-      in_range (t ∷ ts) (suc k) = elim (in_range ts k) [ inl l ↦ inl (omega (arith, l)) | inr e ↦ inr e ]
-
-      named : (ts : List Name) (n : Name) → list_all is_name ts ≡ true → has_text n ts ≡ true → is_name n ≡ true
-      named [] n a h = absurd (cc)
-      named (t ∷ ts) n a h =
-          let p = and_parts (is_name t) (list_all is_name ts) a in
-          elim (cases_Bool (bytes_eq n t)) [ inl e ↦ subst (λ z. is_name z ≡ true) (sym (same_bytes_ n t e)) p.0 | inr e ↦ named ts n p.1 (rw e at h) ]
+  inside = honest_inside sha s sched first.cast
 
   -- what a frame that was accepted last shows
   pub last_shown : (l : Logged) (who : Name) (bs : List ℕ) (f : Frame) (y : Graph) (past : Past) → last wf.log ≡ Some l → IsTaken wf l who bs f → f.sid ≡ sid → graph_with sha s.graphs first.cast.graph ≡ Some y → past_of wf who ≡ Some past

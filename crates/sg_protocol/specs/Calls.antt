@@ -4,7 +4,6 @@ use Rattle.sg_model.specs.Last.{Map}
 use Rattle.sg_model.specs.Names.{Name}
 use Rattle.sg_model.specs.Values.{Value}
 use Rattle.sg_protocol.specs.Frame.{Cast, Frame}
-use Rattle.sg_protocol.specs.Session.{time}
 
 -- what a role did in a session. Values stand in the order of their variables
 pub data Event : Type 0 where

@@ -6,11 +6,11 @@ use Rattle.sg_model.specs.Lists.{is_in, below, keys_of}
 use Rattle.sg_model.specs.Shape.{Walk, end_of, role_at, sender}
 use Rattle.sg_protocol.specs.Graph.{Graph, shape, writes}
 
--- the set as a number that has bit x for each x in it
+-- the sum of 2 ^ x over the numbers: where all differ, the number that has just these bits
 abbrev pub mask : List ℕ → ℕ
 mask xs = sum_by (λ x. 2 ^ x) xs
 
--- the numbers of the first list are put in rising order, below n
+-- the numbers below n that stand in the list, in rising order
 abbrev pub rising : ℕ → List ℕ → List ℕ
 rising n xs = filter (λ x. is_in x xs) (below n)
 
@@ -59,7 +59,7 @@ same_origin None (Some b) = false
 same_origin (Some a) None = false
 same_origin (Some a) (Some b) = a == b
 
--- both lists see the same
+-- both lists have the same labels and variables
 abbrev pub same_items : List Seen → List Seen → Bool
 same_items [] [] = true
 same_items [] (y ∷ ys) = false

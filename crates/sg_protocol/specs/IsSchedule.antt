@@ -39,23 +39,23 @@ pub record AreCompiled (sha : Hash) (graphs : List Graph) (programs : List Progr
 
 -- ---- schedules
 
--- a declared session is of a graph, with a principal for each role
+-- a declared session is of one of the graphs, with a principal for each role, all different, and a nonce and a version
 abbrev pub IsDeclared : Hash → List Graph → Declared → Type 0
 IsDeclared sha graphs d = IsSomeAnd (graph_with sha graphs d.cast.graph) (λ g. (length d.cast.names ≡ length g.roles)
     × IsTrue (all_differ d.cast.names && list_all is_name d.cast.names) × AreBytes 16 d.cast.nonce × ((d.cast.version ≡ 1) ⊎ (d.cast.version ≡ 2)))
 
--- the key of two different principals is 32 bytes
+-- the two principals differ, and their key is 32 bytes
 abbrev pub IsPairKey : PairKey → Type 0
 IsPairKey k = (k.one ≢ k.two) × AreBytes 32 k.key
 
--- a step's variables are bytes, its values are values and its bytes are bytes. A crafted frame has a spelling, whichever tags it copies
+-- an act's variables are below 256 and its values are values, delivered bytes are bytes, and a crafted frame can be made and has a spelling with zeros for the tags that it copies
 abbrev pub IsStep : Hash → Schedule → Step → Type 0
 IsStep sha s (ActStep who n label values) = AllByRecursion (λ (w : ℕ × Value). (w.0 < 256) × IsValue w.1) values
 IsStep sha s (DeliverStep who (Bytes bs)) = IsBytes bs
 IsStep sha s (CraftStep c) = IsSomeAnd (crafted sha s (new_world [] s) c) HasSpelling
 IsStep sha s other = ⊤
 
--- the graphs are graphs and their names differ, what is declared fits, and the steps are any that can be spelled
+-- the graphs are graphs of different names, the honest principals have different names, no pair has two keys, and each key, declared session and step is one as above
 pub record IsSchedule (sha : Hash) (s : Schedule) : Type 0 where
   pub are_graphs : All IsGraph s.graphs
   pub graph_names : IsTrue (all_differ (map (λ g. g.name) s.graphs))

@@ -12,7 +12,7 @@ is_for_room (NotStarted CacheFull) = true
 is_for_room (NotStarted SessionsFull) = true
 is_for_room other = false
 
--- Below the limits, a node answers the calls of a session as a node would that gets no others
+-- Where no call was refused for want of room, a node answers the calls of a session as a node would that gets no others
 abbrev pub SessionsAreIsolated : Hash → Type 0
 SessionsAreIsolated sha = (past : Past) (sid : List ℕ) →
     AreAnswers sha (new_node past.keys past.programs past.first) past.calls →

@@ -18,6 +18,7 @@ use Rattle.sg_protocol.specs.Schedule.{Schedule, graph_with, honest_role}
 use Rattle.sg_protocol.specs.World.{Outcome, Logged, World, past_of, Answered}
 use Rattle.sg_protocol.specs.Run.{run, cast_of_session}
 use Rattle.sg_protocol.specs.Premises.{Premises}
+use Rattle.sg_protocol.specs.Beginnings.{first_steps}
 use Rattle.sg_protocol.specs.IsSchedule.{AreCompiled, IsSchedule}
 use Rattle.sg_protocol.specs.Receipts.{IsTaken}
 
@@ -59,17 +60,16 @@ abbrev pub Held : World → Graph → Cast → List ℕ → Item → List (Optio
 Held w g cast sid i held = (past : Past) × (before : List Item) × (i' : Item) × (after : List Item) ×
     (past_of w (principal cast i.role) ≡ Some past) × (flat_map items_of (exchanges_of sid i.role past.calls) ≡ before ++ i' ∷ after) × (bare i' ≡ bare i) × (held ≡ commitments g (before ++ i' ∷ []))
 
--- When an honest role has accepted a frame as the last step, its items of honest senders are their last steps since the role's own last one, and after each of them the receiver holds the commitments that its sender held
+-- the frame's items of honest senders are their last steps in the log since the receiver's own last one, and after each of them the receiver, who held the items before, holds the commitments that its sender held
 pub record ShowsLastSteps (s : Schedule) (w : World) (g : Graph) (cast : Cast) (f : Frame) (before : List Item) : Type 0 where
   pub items : map bare (filter (λ i. honest_role s cast i.role) f.items) ≡ map bare (last_of (λ i. i.role) (after_last (λ i. i.role) f.receiver (honest_items f.sid w.log)))
   pub held : (front : List Item) (i : Item) (rest : List Item) → f.items ≡ front ++ i ∷ rest → honest_role s cast i.role ≡ true → Held w g cast f.sid i (commitments g (before ++ front ++ i ∷ []))
 
--- What an accepted frame shows is what honest senders last did
+-- Where the premises hold, what an accepted frame shows of honest senders is what they last did up to that step, and the receiver holds what they held
 abbrev pub FramesShowLastSteps : Hash → Type 0
 FramesShowLastSteps sha = (programs : List Program) (s : Schedule) (who : Name) (bs : List ℕ) (f : Frame) (l : Logged) (cast : Cast) (g : Graph) (past : Past) →
-    AreCompiled sha s.graphs programs → IsSchedule sha s →
-    let w = run sha programs s in
-    Premises sha s w →
-    last w.log ≡ Some l → IsTaken w l who bs f →
+    AreCompiled sha s.graphs programs → IsSchedule sha s → Premises sha s (run sha programs s) → IsTaken (run sha programs s) l who bs f →
+    -- the run up to the acceptance
+    let w = run sha programs (first_steps l.number s) in
     cast_of_session f.sid w.log ≡ Some cast → graph_with sha s.graphs cast.graph ≡ Some g → past_of w who ≡ Some past →
     ShowsLastSteps s w g cast f (up_to_last (λ i. i.role) f.receiver (flat_map items_of (exchanges_of f.sid f.receiver past.calls)))

@@ -6,7 +6,7 @@ use Rattle.sg_model.specs.Last.{last}
 use Rattle.sg_protocol.specs.Frame.{Frame}
 use Rattle.sg_protocol.specs.Reading.{read}
 use Rattle.sg_protocol.specs.Keyring.{Program, may_return}
-use Rattle.sg_protocol.specs.Session.{Session, new_session, extended, origin, time, place, at_turn, Took, Gave}
+use Rattle.sg_protocol.specs.Session.{Session, new_session, extended, origin, place, at_turn, Took, Gave}
 use Rattle.sg_protocol.specs.Calls.{Call, Answer, Act, Started, Received, Start, Abandon, Deliver, Happened, Sends, Abandoned}
 use Rattle.sg_protocol.specs.Node.{Node, program_for, is_for}
 use Rattle.sg_protocol.specs.Acting.{openings_for}

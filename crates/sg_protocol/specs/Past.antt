@@ -43,7 +43,7 @@ abbrev pub AreAnswers : Hash → Node → List Called → Type 0
 AreAnswers sha n [] = ⊤
 AreAnswers sha n (c ∷ cs) = (c.answer ≡ answer sha n c.call) × AreAnswers sha (node_after n c.call c.answer) cs
 
--- each answer is the one that the node gives to these calls alone
+-- the answers of a node to these calls, one after another
 abbrev pub answers : Hash → Node → List Call → List Answer
 answers sha n [] = []
 answers sha n (c ∷ cs) = answer sha n c ∷ answers sha (node_after n c (answer sha n c)) cs

@@ -47,11 +47,11 @@ abbrev pub rising_times : {A : Type 0} → (A → ℕ) → ℕ → ℕ → (ℕ 
 rising_times key zero least reader = give []
 rising_times key (suc n) least reader = after (reader least) (λ x. after (rising_times key n (suc (key x)) reader) (λ xs. give (x ∷ xs)))
 
--- low to high
+-- the number is at least low and at most high
 abbrev pub is_within : ℕ → ℕ → ℕ → Bool
 is_within low high n = nat_le low n && nat_le n high
 
--- a number of this width from low to high
+-- a number of this width, at least low and at most high
 abbrev pub number : Width → ℕ → ℕ → Reader ℕ
 number w low high = after (field (byte_len w) (λ bs. is_within low high (from_be_bytes w bs))) (λ bs. give (from_be_bytes w bs))
 

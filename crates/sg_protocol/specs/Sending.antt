@@ -33,7 +33,7 @@ shown_to g r items = tags_left (map (item_of g) (evidence_for (λ i. i.role) r (
 
 -- ---- the own item
 
--- what my tag for a principal makes of a text, under the key that we share
+-- the tag of a text under the key that I share with the principal of role r, or under no bytes where I share none
 abbrev pub tag_for : Hash → Keyring → Cast → ℕ → List ℕ → List ℕ
 tag_for sha keys c r text = cut c.version (hmac sha (unwrap_or (key_of keys (principal c r)) []) text)
 

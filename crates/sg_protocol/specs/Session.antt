@@ -96,11 +96,11 @@ commitments g items = map (λ x. committed x items) (below (length g.variables))
 abbrev pub opening_in : List Opening → ℕ → Option Opening
 opening_in os x = find (λ o. o.variable == x) os
 
--- the last opening of x among the exchanges
+-- the opening of x in the last exchange that has one
 abbrev pub last_opening : ℕ → List Exchange → Option Opening
 last_opening x [] = None
 last_opening x (e ∷ es) = option_or (last_opening x es) (opening_in (openings_of e) x)
 
--- the last opening of x that was written or received
+-- the opening of x in the last frame taken, or the last own writing, that has one
 abbrev pub known : Session → ℕ → Option Opening
 known s x = last_opening x s.exchanges

@@ -86,8 +86,8 @@ body f = concat (magic f.version ∷ u8 (join_code f.join) ∷ f.sid ∷ u8 f.se
 abbrev pub spelling : Frame → List ℕ
 spelling f = body f ++ take (tag_len f.version) f.tag
 
--- each field is in its range, and there are at most 60,000 bytes
-pub record HasSpelling (f : Frame) : Type 0 where
+-- each field is in its range
+pub record IsInRange (f : Frame) : Type 0 where
   pub version : (f.version ≡ 1) ⊎ (f.version ≡ 2)
   pub sid : AreBytes 32 f.sid
   pub roles : (f.sender < 16) × (f.receiver < 16) × (f.receiver ≢ f.sender)
@@ -97,6 +97,10 @@ pub record HasSpelling (f : Frame) : Type 0 where
   pub variables : (length f.openings ≤ 32) × IsTrue (rises_from 0 (map (λ o. o.variable) f.openings))
   pub openings : AllByRecursion IsOpening f.openings
   pub tag : IsTag f.version f.tag
+
+-- each field is in its range, and there are at most 60,000 bytes
+pub record HasSpelling (f : Frame) : Type 0 where
+  pub fields : IsInRange f
   pub short : length (spelling f) ≤ 60000
 
 -- the bytes are the frame

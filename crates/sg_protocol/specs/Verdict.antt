@@ -44,7 +44,7 @@ is_shown p s f =
 
 -- ---- tags, times and openings
 
--- the frame's tag is right under the key that I share with the sender
+-- the sender is a role of the cast, and the frame's tag is what its text gives under the key that I share with the sender
 abbrev pub has_frame_tag : Hash → Keyring → Session → Frame → Bool
 has_frame_tag sha keys s f = nat_lt f.sender (length s.cast.names) && bytes_eq (tag_for sha keys s.cast f.sender (text_of f)) f.tag
 
@@ -53,7 +53,7 @@ abbrev pub bad_time : ℕ → ℕ → List Item → Option Refusal
 bad_time n before [] = None
 bad_time n before (i ∷ is) = if nat_le i.time before then Some (BadTime n i.time (before + 1)) else bad_time (n + 1) i.time is
 
--- an item's tag for me is right for the text
+-- the item has a tag for me, and it is what the text gives under the key that I share with the item's role
 abbrev pub has_item_tag : Hash → Keyring → Session → Item × List ℕ → Bool
 has_item_tag sha keys s c = same_text (value_at (c.0).tags s.role) (tag_for sha keys s.cast (c.0).role c.1)
 

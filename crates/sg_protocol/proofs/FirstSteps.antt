@@ -1,0 +1,262 @@
+-- The run of a schedule's first steps is the beginning of its run.
+use Rattle.std.specs.Prelude.{◌≡◌, ℕ, zero, suc, ◌+◌, ◌<◌, ◌≤◌, ◌⊎◌, List, [], ◌∷◌, ◌++◌, map, flat_map, length, take, refl, Option, Some, None, option_map, option_and_then, IsSomeAnd, Contains}
+use Rattle.std.specs.List.{AllByRecursion}
+use Rattle.std.specs.Option.{option_map_or}
+use Rattle.std.proofs.Common.{sym, ◌∙◌, ap, subst, inl, inr, arith}
+use Rattle.std.proofs.lemmas.List.Elements.{All-take, All-from_recursion}
+use Rattle.sg_model.specs.Last.{Map, last}
+use Rattle.sg_model.specs.Names.{Name}
+use Rattle.sg_law.proofs.Lists.{last-append}
+use Rattle.sg_law.proofs.Upto.{In, in_from_Contains}
+use Rattle.sg_law.proofs.Take.{contains_from_in}
+use Rattle.sg_protocol.specs.Graph.{Graph}
+use Rattle.sg_protocol.specs.Frame.{Cast, Item, Frame}
+use Rattle.sg_protocol.specs.Spelling.{HasSpelling, spelling}
+use Rattle.sg_protocol.specs.Texts.{Hash, cut, session_id, graph_text_of}
+use Rattle.sg_protocol.specs.Keyring.{Program}
+use Rattle.sg_protocol.specs.Session.{Session, new_session}
+use Rattle.sg_protocol.specs.Sending.{text_to, text_of}
+use Rattle.sg_protocol.specs.Schedule.{Schedule, Source, CraftItem, Craft, Step, Key, CopyItem, CopySeal, Zero, StartStep, ActStep, AbandonStep, DeliverStep, CraftStep, graph_with, cast_of}
+use Rattle.sg_protocol.specs.Calls.{Call}
+use Rattle.sg_protocol.specs.Past.{Past}
+use Rattle.sg_protocol.specs.World.{World, Logged, Crafted, new_world, call_of, past_of}
+use Rattle.sg_protocol.specs.Crafted.{tag_by, crafted_item, crafted_items, known_item, crafted_cast, crafted_frame, crafted}
+use Rattle.sg_protocol.specs.Run.{called_if, uncalled, world_after, world_after_all, run}
+use Rattle.sg_protocol.specs.Premises.{MadeBefore, hashed, Premises}
+use Rattle.sg_protocol.specs.IsSchedule.{IsSchedule, IsStep}
+use Rattle.sg_protocol.specs.Beginnings.{first_steps, IsLogUpTo, RunsGoOn, PremisesHoldBefore}
+use Rattle.sg_protocol.proofs.Acts as C
+use Rattle.sg_protocol.proofs.Course.{Suffix, suffix_refl, suffix_all, in_before, in_after, in_flat}
+use Rattle.sg_protocol.proofs.Moves.{in_left, in_right}
+use Rattle.sg_protocol.proofs.Whole.{to_rec}
+
+-- ---- the schedule's steps don't matter to one step
+
+module _ (sha : Hash) (s : Schedule) (n : ℕ) where
+  abbrev s' : Schedule
+  s' = first_steps n s
+
+  tag_same : (w : World) (text : List ℕ) (x : Source) → tag_by sha (first_steps n s) w text x ≡ tag_by sha s w text x
+  tag_same w text (Key a b) = refl
+  tag_same w text (CopyItem f i r) = refl
+  tag_same w text (CopySeal f) = refl
+  tag_same w text Zero = refl
+
+  tags_same : (w : World) (text : ℕ → List ℕ) (v : ℕ) (ts : Map Source) → map {B = ℕ × List ℕ} (λ (t : ℕ × Source). (t.0, cut v (tag_by sha (first_steps n s) w (text t.0) t.1))) ts ≡ map {B = ℕ × List ℕ} (λ (t : ℕ × Source). (t.0, cut v (tag_by sha s w (text t.0) t.1))) ts
+  tags_same w text v [] = refl
+  tags_same w text v (t ∷ ts) =
+      ap (λ (z : List ℕ). (t.0, cut v z) ∷ map {B = ℕ × List ℕ} (λ (t : ℕ × Source). (t.0, cut v (tag_by sha (first_steps n s) w (text t.0) t.1))) ts) (tag_same w (text t.0) t.1)
+      ∙ ap (λ l. (t.0, cut v (tag_by sha s w (text t.0) t.1)) ∷ l) (tags_same w text v ts)
+
+  item_same : (w : World) (g : Graph) (x : Session) (before : List Item) (c : CraftItem) → crafted_item sha (first_steps n s) w g x before c ≡ crafted_item sha s w g x before c
+  item_same w g x before c =
+      let i : Item = record (crafted_item sha s w g x before c) { tags = [] } in
+      ap (λ (ts : Map (List ℕ)). record i { tags = ts }) (tags_same w (text_to g x before i) x.cast.version c.tags)
+
+  items_same : (w : World) (g : Graph) (x : Session) (before : List Item) (cs : List CraftItem) → crafted_items sha (first_steps n s) w g x before cs ≡ crafted_items sha s w g x before cs
+  items_same w g x before [] = refl
+  items_same w g x before (c ∷ cs) =
+      ap (λ (i : Item). i ∷ crafted_items sha (first_steps n s) w g x (before ++ i ∷ []) cs) (item_same w g x before c)
+      ∙ ap (λ l. crafted_item sha s w g x before c ∷ l) (items_same w g x (before ++ crafted_item sha s w g x before c ∷ []) cs)
+
+  frame_same : (w : World) (c : Craft) (g : Graph) (x : Session) → crafted_frame sha (first_steps n s) w c g x ≡ crafted_frame sha s w c g x
+  frame_same w c g x =
+      ap finish (items_same w g x (known_item sha x.sid c.know ∷ []) c.items)
+      ∙ ap (λ (t : List ℕ). record (plain (crafted_items sha s w g x (known_item sha x.sid c.know ∷ []) c.items)) { tag = cut x.cast.version t }) (tag_same w (text_of (plain (crafted_items sha s w g x (known_item sha x.sid c.know ∷ []) c.items))) c.seal)
+    where
+      plain : List Item → Frame
+      plain is = record {
+        version = x.cast.version;
+        sid = x.sid;
+        sender = c.from;
+        receiver = c.to;
+        join = option_map (crafted_cast x.cast) c.join;
+        items = is;
+        openings = c.openings;
+        tag = [];
+      }
+
+      finish : List Item → Frame
+      finish is = record (plain is) { tag = cut x.cast.version (tag_by sha (first_steps n s) w (text_of (plain is)) c.seal) }
+
+  crafted_same : (w : World) (c : Craft) → crafted sha (first_steps n s) w c ≡ crafted sha s w c
+  crafted_same w c = by_cast (cast_of s c.session)
+    where
+      by_graph : (d : Cast) (o : Option Graph) → option_map (λ g. crafted_frame sha (first_steps n s) w c g (new_session (session_id sha d) d c.from)) o ≡ option_map (λ g. crafted_frame sha s w c g (new_session (session_id sha d) d c.from)) o
+      by_graph d None = refl
+      by_graph d (Some g) = ap (λ (f : Frame). Some f) (frame_same w c g (new_session (session_id sha d) d c.from))
+
+      by_cast : (o : Option Cast) → option_and_then (λ (d : Cast). option_map (λ g. crafted_frame sha (first_steps n s) w c g (new_session (session_id sha d) d c.from)) (graph_with sha s.graphs d.graph)) o
+          ≡ option_and_then (λ (d : Cast). option_map (λ g. crafted_frame sha s w c g (new_session (session_id sha d) d c.from)) (graph_with sha s.graphs d.graph)) o
+      by_cast None = refl
+      by_cast (Some d) = by_graph d (graph_with sha s.graphs d.graph)
+
+  step_same : (w : World) (k : ℕ) (x : Step) → world_after sha (first_steps n s) w k x ≡ world_after sha s w k x
+  step_same w k (CraftStep c) = ap (λ (o : Option Frame). uncalled w k None Crafted (option_map spelling o)) (crafted_same w c)
+  step_same w k (StartStep who m) = refl
+  step_same w k (ActStep who m label values) = refl
+  step_same w k (AbandonStep who m) = refl
+  step_same w k (DeliverStep who what) = refl
+
+  all_same : (w : World) (k : ℕ) (xs : List Step) → world_after_all sha (first_steps n s) w k xs ≡ world_after_all sha s w k xs
+  all_same w k [] = refl
+  all_same w k (x ∷ xs) = ap (λ z. world_after_all sha (first_steps n s) z (k + 1) xs) (step_same w k x) ∙ all_same (world_after sha s w k x) (k + 1) xs
+
+  -- a schedule's first steps are a schedule
+  pub first_sched : IsSchedule sha s → IsSchedule sha (first_steps n s)
+  first_sched h = record {
+    are_graphs = h.are_graphs;
+    graph_names = h.graph_names;
+    honest_names = h.honest_names;
+    keys = h.keys;
+    pairs = h.pairs;
+    sessions = h.sessions;
+    steps = All-from_recursion (IsStep sha (first_steps n s)) (take n s.steps) (go (take n s.steps) (to_rec (IsStep sha s) (take n s.steps) (All-take (IsStep sha s) n s.steps h.steps)));
+  }
+    where
+      one : (x : Step) → IsStep sha s x → IsStep sha (first_steps n s) x
+      one (CraftStep c) h = subst (λ o. IsSomeAnd o HasSpelling) (sym (crafted_same (new_world [] s) c)) h
+      one (ActStep who m label values) h = h
+      one (DeliverStep who what) h = h
+      one (StartStep who m) h = h
+      one (AbandonStep who m) h = h
+
+      go : (xs : List Step) → AllByRecursion (IsStep sha s) xs → AllByRecursion (IsStep sha (first_steps n s)) xs
+      go [] a = tt
+      go (x ∷ xs) a = (one x a.0, go xs a.1)
+
+pub run_first : (sha : Hash) (programs : List Program) (s : Schedule) (n : ℕ) → run sha programs (first_steps n s) ≡ world_after_all sha s (new_world programs s) 1 (take n s.steps)
+run_first sha programs s n = all_same sha s n (new_world programs s) 1 (take n s.steps)
+
+-- ---- the logs
+
+take_few : (n : ℕ) (xs : List Step) → length (take n xs) ≤ n
+take_few zero xs = omega arith
+take_few (suc n) [] = omega arith
+take_few (suc n) (x ∷ xs) = (let h = take_few n xs in omega (arith, h))
+
+module _ (sha : Hash) (s : Schedule) where
+  suffix_at : (j k : ℕ) (a b : List Logged) → j ≡ k → Suffix j a b → Suffix k a b
+  suffix_at j k a b e h = subst (λ z. Suffix z a b) e h
+
+  pub begins : (n : ℕ) (xs : List Step) (w : World) (k : ℕ) → Suffix (k + n) (world_after_all sha s w k (take n xs)).log (world_after_all sha s w k xs).log
+  begins zero xs w k = suffix_at k (k + 0) w.log (world_after_all sha s w k xs).log (omega arith) (suffix_all sha s w k xs)
+  begins (suc n) [] w k = suffix_refl (k + suc n) w.log
+  begins (suc n) (x ∷ xs) w k = suffix_at (k + 1 + n) (k + suc n) (world_after_all sha s w k (take (suc n) (x ∷ xs))).log (world_after_all sha s w k (x ∷ xs)).log (omega arith) (begins n xs (world_after sha s w k x) (k + 1))
+
+  -- a step adds one entry at most, with its number
+  abbrev OneMore : ℕ → List Logged → List Logged → Type 0
+  OneMore k log log' = (log' ≡ log) ⊎ ((l : Logged) × (log' ≡ log ++ l ∷ []) × (l.number ≡ k))
+
+  one_past : (w : World) (k : ℕ) (who : Name) (c : Option Call) (o : Option Past) → OneMore k w.log (option_map_or (called_if sha w k who c) o w).log
+  one_past w k who c None = inl refl
+  one_past w k who None (Some past) = inr (_, refl, refl)
+  one_past w k who (Some c) (Some past) = inr (_, refl, refl)
+
+  one_more : (w : World) (k : ℕ) (x : Step) → OneMore k w.log (world_after sha s w k x).log
+  one_more w k (CraftStep c) = inr (_, refl, refl)
+  one_more w k (StartStep who m) = one_past w k who (call_of sha s w k (StartStep who m)) (past_of w who)
+  one_more w k (ActStep who m label values) = one_past w k who (call_of sha s w k (ActStep who m label values)) (past_of w who)
+  one_more w k (AbandonStep who m) = one_past w k who (call_of sha s w k (AbandonStep who m)) (past_of w who)
+  one_more w k (DeliverStep who what) = one_past w k who (call_of sha s w k (DeliverStep who what)) (past_of w who)
+
+  -- numbers are below that of the next step
+  pub numbered : (xs : List Step) (w : World) (k : ℕ) → ((l : Logged) → In w.log l → l.number < k) → (l : Logged) → In (world_after_all sha s w k xs).log l → l.number < k + length xs
+  numbered [] w k a l i = (let h = a l i in omega (arith, h))
+  numbered (x ∷ xs) w k a l i = (let h = numbered xs (world_after sha s w k x) (k + 1) (now (one_more w k x)) l i in omega (arith, h))
+    where
+      now : OneMore k w.log (world_after sha s w k x).log → (l : Logged) → In (world_after sha s w k x).log l → l.number < k + 1
+      now (inl e) l i = (let h = a l (subst (λ z. In z l) e i) in omega (arith, h))
+      now (inr more) l i = elim (C.in_parts w.log (more.0 ∷ []) l (subst (λ z. In z l) more.1 i)) [
+        | inl j ↦ (let h = a l j in omega (arith, h))
+        | inr j ↦ elim j [ inl q ↦ (let h = ap (λ (z : Logged). z.number) q ∙ more.2 in omega (arith, h)) | inr q ↦ absurd q ]
+      ]
+
+  -- an entry is the last one after the step that it tells
+  pub last_at : (xs : List Step) (w : World) (k : ℕ) (l : Logged) → In (world_after_all sha s w k xs).log l → In w.log l ⊎ ((i : ℕ) × (l.number ≡ k + i) × (last (world_after_all sha s w k (take (suc i) xs)).log ≡ Some l))
+  last_at [] w k l i = inl i
+  last_at (x ∷ xs) w k l i = elim (last_at xs (world_after sha s w k x) (k + 1) l i) [
+    | inl j ↦ now (one_more w k x) j
+    | inr h ↦ inr (suc h.0, (let e = h.1 in omega (arith, e)), h.2)
+  ]
+    where
+      now : OneMore k w.log (world_after sha s w k x).log → In (world_after sha s w k x).log l → In w.log l ⊎ ((i : ℕ) × (l.number ≡ k + i) × (last (world_after_all sha s w k (take (suc i) (x ∷ xs))).log ≡ Some l))
+      now (inl e) j = inl (subst (λ z. In z l) e j)
+      now (inr more) j = elim (C.in_parts w.log (more.0 ∷ []) l (subst (λ z. In z l) more.1 j)) [
+        | inl a ↦ inl a
+        | inr a ↦ elim a [
+          | inl q ↦ inr (0, (let h = ap (λ (z : Logged). z.number) q ∙ more.2 in omega (arith, h)), ap last more.1 ∙ last-append w.log more.0 [] ∙ ap (λ (z : Logged). Some z) (sym q))
+          | inr q ↦ absurd q
+        ]
+      ]
+
+module _ (sha : Hash) (programs : List Program) (s : Schedule) (n : ℕ) where
+  abbrev wf : World
+  wf = run sha programs s
+
+  abbrev wb : World
+  wb = run sha programs (first_steps n s)
+
+  pub goes_on : Suffix (1 + n) (run sha programs (first_steps n s)).log (run sha programs s).log
+  goes_on = subst (λ (z : World). Suffix (1 + n) z.log (run sha programs s).log) (sym (run_first sha programs s n)) (begins sha s n s.steps (new_world programs s) 1)
+
+  pub up_to : (l : Logged) → In (run sha programs (first_steps n s)).log l → l.number ≤ n
+  up_to l i =
+      let h = numbered sha s (take n s.steps) (new_world programs s) 1 (λ l i. absurd i) l (subst (λ (z : World). In z.log l) (run_first sha programs s n) i) in
+      let k = take_few n s.steps in
+      omega (arith, h, k)
+
+  all_from_in : (P : Logged → Type 0) (xs : List Logged) → ((l : Logged) → In xs l → P l) → AllByRecursion P xs
+  all_from_in P [] f = tt
+  all_from_in P (x ∷ xs) f = (f x (inl refl), all_from_in P xs (λ l i. f l (inr i)))
+
+  all_late : (xs : List Logged) → AllByRecursion (λ (l : Logged). 1 + n ≤ l.number) xs → AllByRecursion (λ (l : Logged). n < l.number) xs
+  all_late [] a = tt
+  all_late (x ∷ xs) a = ((let h = a.0 in omega (arith, h)), all_late xs a.1)
+
+  pub is_up_to : IsLogUpTo n (run sha programs s) (run sha programs (first_steps n s))
+  is_up_to = record {
+    rest = goes_on.rest;
+    parts = goes_on.is;
+    before = All-from_recursion (λ (l : Logged). l.number ≤ n) wb.log (all_from_in (λ (l : Logged). l.number ≤ n) wb.log up_to);
+    after = All-from_recursion (λ (l : Logged). n < l.number) goes_on.rest (all_late goes_on.rest goes_on.late);
+  }
+
+  pub premises_before : Premises sha s (run sha programs s) → Premises sha (first_steps n s) (run sha programs (first_steps n s))
+  premises_before p = record {
+    unforged = λ l nt i j a b.
+        let m : MadeBefore l.number nt wf.log = p.unforged l nt (contains_from_in wf.log l (later l (in_from_Contains wb.log l i))) j a b in
+        let le = up_to l (in_from_Contains wb.log l i) in
+        let lt = m.2 in
+        (m.0, contains_from_in wb.log m.0 (in_before (1 + n) wb.log wf.log goes_on m.0 (in_from_Contains wf.log m.0 m.1) (omega (arith, le, lt))), m.2, m.3);
+    collision_free = λ a b i j e. p.collision_free a b (hashed_later a i) (hashed_later b j) e;
+  }
+    where
+      later : (l : Logged) → In wb.log l → In wf.log l
+      later l i = in_after (1 + n) wb.log wf.log goes_on l i
+
+      flat_later : (xs ys : List Logged) (t : List ℕ) → ((l : Logged) → In xs l → In ys l) → In (flat_map (λ (l : Logged). l.notes.hashed) xs) t → In (flat_map (λ (l : Logged). l.notes.hashed) ys) t
+      flat_later [] ys t f i = absurd i
+      flat_later (x ∷ xs) ys t f i = elim (C.in_parts x.notes.hashed (flat_map (λ (l : Logged). l.notes.hashed) xs) t i) [
+        | inl j ↦ in_flat (λ (l : Logged). l.notes.hashed) ys x t (f x (inl refl)) j
+        | inr j ↦ flat_later xs ys t (λ l k. f l (inr k)) j
+      ]
+
+      hashed_later : (t : List ℕ) → Contains (hashed (first_steps n s) wb) t → Contains (hashed s wf) t
+      hashed_later t i = contains_from_in (hashed s wf) t (elim (C.in_parts (map graph_text_of s.graphs) (flat_map (λ (l : Logged). l.notes.hashed) wb.log) t (in_from_Contains (hashed (first_steps n s) wb) t i)) [
+        | inl j ↦ in_left (map graph_text_of s.graphs) (flat_map (λ (l : Logged). l.notes.hashed) wf.log) t j
+        | inr j ↦ in_right (map graph_text_of s.graphs) (flat_map (λ (l : Logged). l.notes.hashed) wf.log) t (flat_later wb.log wf.log t later j)
+      ])
+
+-- a step that accepts is the last one of the run up to it
+pub is_last : (sha : Hash) (programs : List Program) (s : Schedule) (l : Logged) → In (run sha programs s).log l → last (run sha programs (first_steps l.number s)).log ≡ Some l
+is_last sha programs s l i = elim (last_at sha s s.steps (new_world programs s) 1 l i) [
+  | inl j ↦ absurd j
+  | inr h ↦ (let n : l.number ≡ suc h.0 = (let e = h.1 in omega (arith, e)) in ap (λ (z : World). last z.log) (run_first sha programs s l.number) ∙ ap (λ k. last (world_after_all sha s (new_world programs s) 1 (take k s.steps)).log) n ∙ h.2)
+]
+
+pub runs_go_on : (sha : Hash) → RunsGoOn sha
+runs_go_on sha programs s n = is_up_to sha programs s n
+
+pub premises_hold_before : (sha : Hash) → PremisesHoldBefore sha
+premises_hold_before sha programs s n p = premises_before sha programs s n p
