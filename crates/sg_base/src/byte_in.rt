@@ -13,8 +13,8 @@ pub struct Short {
     pub at: usize,
 }
 
-/// A slice and a place in it. Each call reads the field at the place and moves past it; where fewer bytes are left it answers the
-/// field's offset, and the place stays. Nothing takes memory.
+/// Reads the fields of a slice one after the other. A field that isn't there whole isn't passed, and its offset is answered. Nothing
+/// takes memory.
 #[derive(Debug, Drop)]
 pub struct ByteIn<'a> {
     bytes: &'a [u8],

@@ -1,5 +1,6 @@
-//! Fields written to a growing list of bytes, numbers with the high byte first.
+//! Fields written to a growing list of bytes: numbers with the high byte first or in digits, and bytes.
 ghost use Rattle.std.specs.Prelude.{◌≡◌, ◌++◌, [], ◌∷◌, OnOk, OnErr};
+ghost use Rattle.std.specs.Fmt.{decimal};
 ghost use Rattle.std.specs.Int.{w16, w32, to_be_bytes};
 
 use crate::OutOfMemory;
@@ -61,6 +62,15 @@ impl ByteOut {
         ensures err { OnErr result (self.new ≡ self.old) }
     {
         self.bytes.extend_from_slice(value)
+    }
+
+    /// Appends a number in decimal digits.
+    pub fn decimal(&mut self, alloc: Global, value: u64) -> Result<(), OutOfMemory>
+        ensures ok { OnOk result (self.new ≡ self.old ++ decimal value) }
+        ensures err { OnErr result (self.new ≡ self.old) }
+    {
+        let digits = format!(in alloc; "{value}")?;
+        self.bytes(digits.as_str().as_bytes())
     }
 
     /// The bytes written. It takes no memory.

@@ -6,7 +6,7 @@ ghost use Rattle.sg_model.specs.Names.{is_letter, is_name_byte, is_name, reserve
 
 use std::marker::Model;
 
-/// A letter of `A` to `Z` or `a` to `z`, then letters, digits or `_`: 1 to 32 bytes. A clause sees it as its bytes.
+/// An ASCII letter, and after it at most 31 ASCII letters, digits and underscores. A clause sees it as its bytes.
 #[derive(Debug, Clone, Copy, PartialEq, Eq, Hash)]
 pub struct Name {
     bytes: [u8; 32],

@@ -1,8 +1,8 @@
 //! Edges.
 use sg_base::{Label, NodeId, VarSet};
 
-/// An edge of a graph: its label, which is its number, the nodes that it leads from and to, the variables that its sender writes, and
-/// those that its receiver reads.
+/// An edge of a graph, with its number as its label. The role at its source sends and writes variables, the role at its target receives
+/// and reads variables.
 #[derive(Debug, Clone, Copy)]
 pub struct Edge {
     pub label: Label,

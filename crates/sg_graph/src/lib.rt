@@ -1,8 +1,8 @@
 //! Session graphs: roles, variables, nodes and edges, each kind with names of its own and numbers from 0 in the order of addition.
 //!
-//! A graph has at most 16 roles, 32 variables, 256 nodes and 512 edges. Node 0 is the start. A node has the role that acts there; an
-//! edge leads from its source's role, the sender, to its target's role, the receiver, and its number is its label. An edge lists the
-//! variables that its sender writes and those that its receiver reads; a variable lists the roles that may write it.
+//! A graph has at most 16 roles, 32 variables, 256 nodes and 512 edges. A session begins at node 0. One role acts at a node: it sends
+//! along an edge, whose number is its label, to the role of the node that the edge leads to. With an edge goes what is written before
+//! it is sent and what is read when it is received; with a variable, which roles may write it.
 //!
 //! What a graph must be to be compiled, as that each node can be reached, isn't asked here: a graph is only ever whole, with names that
 //! differ within each kind and with numbers that are there.

@@ -16,7 +16,7 @@ abbrev pub read_lines : ℕ → SoFar → List (List ℕ) → Result Schedule Li
 read_lines n d [] = Ok (schedule_of d)
 read_lines n d (l ∷ ls) = go_on n (add_line d l) (λ d'. read_lines (suc n) d' ls)
 
--- what bytes spell: lines are counted from 1, all of them
+-- what bytes spell. Each line has a number, the first one 1
 unfoldable pub read : List ℕ → Result Schedule LineFault
 read bytes = read_lines 1 nothing (lines bytes)
 

@@ -41,7 +41,7 @@ fn digest_of(alloc: Global, graph: &Graph) -> Result<[u8; 32], OutOfMemory>
     Ok(graph_digest(&text))
 }
 
-/// A number in the last eight of sixteen bytes, the others zero.
+/// Eight zeros, and the number in eight bytes, the greatest first.
 fn nonce_bytes(number: u64) -> [u8; 16]
     ensures { result ≡ nonce_of number }
 {

@@ -5,7 +5,7 @@ use thiserror::Error;
 /// What is wrong with a line, the first cause that holds.
 #[derive(Debug, Clone, Copy, PartialEq, Eq, Error)]
 pub enum Kind {
-    /// The line is in no form, out of its group or out of a range.
+    /// No form fits the line, it stands where its kind may not, or a number in it is too small or too great.
     #[error("form")]
     Form,
     /// A name that it uses isn't declared.

@@ -102,7 +102,7 @@ module _ (x : Sitting) (first second : Standing) (frames : List Message) (n : �
 
 module _ (s : Schedule) (first second : Standing) (log : List Logged) (frames : List Message) (y : Step) (who : Name) where
   setting_more : IsPairSetting s → IsPairSetting (with_step s y)
-  setting_more h = record { one_graph = h.one_graph; is_pair = h.is_pair; one_session = h.one_session; sessions = h.sessions }
+  setting_more h = record { one_graph = h.one_graph; two_roles = h.two_roles; is_pair = h.is_pair; one_session = h.one_session; sessions = h.sessions }
 
   long : (o : Outcome) → length (log ++ record { who = Some who; outcome = o } ∷ []) ≡ length log + 1
   long o = length-append log (record { who = Some who; outcome = o } ∷ [])

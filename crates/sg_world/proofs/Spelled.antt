@@ -513,6 +513,7 @@ good_schedule : (d : SoFar) → Good d → IsPairSchedule (schedule_of d)
 good_schedule d h = record {
   setting = record {
     one_graph = one_graph d.edges;
+    two_roles = two_roles d.edges;
     is_pair = pair_is_pair d.edges h.edges;
     one_session = h.one;
     sessions = All-from_recursion (IsPairSession (pair (schedule_of d)) d.honest) d.sessions h.sessions;
@@ -523,6 +524,10 @@ good_schedule d h = record {
     one_graph : (es : List Edge) → length (graphs_of es) ≤ 1
     one_graph [] = omega arith
     one_graph (e ∷ es) = omega arith
+
+    two_roles : (es : List Edge) → All (λ g. length g.roles ≡ 2) (graphs_of es)
+    two_roles [] = All-from_recursion (λ (g : Graph). length g.roles ≡ 2) [] tt
+    two_roles (e ∷ es) = All-from_recursion (λ (g : Graph). length g.roles ≡ 2) (graphs_of (e ∷ es)) (refl, tt)
 
 -- the bytes of a schedule spell one of a session of two roles
 pub spelled_pair : (bytes : List ℕ) (s : Schedule) → SpellsSchedule bytes s → IsPairSchedule s

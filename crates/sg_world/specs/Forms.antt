@@ -27,6 +27,7 @@ pub record IsPairSession (g : Graph) (honest : List Name) (d : Declared) : Type 
 -- at most one graph and one session, both of two roles
 pub record IsPairSetting (s : Schedule) : Type 0 where
   pub one_graph : length s.graphs ≤ 1
+  pub two_roles : All (λ g. length g.roles ≡ 2) s.graphs
   pub is_pair : IsPair (pair s)
   pub one_session : length s.sessions ≤ 1
   pub sessions : All (IsPairSession (pair s) s.honest) s.sessions

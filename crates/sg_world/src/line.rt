@@ -39,7 +39,7 @@ pub fn put_line(
 ) -> Result<(), OutOfMemory>
     ensures { OnOk result (out.new ≡ out.old ++ line_text (λ sid. session.now) (shown (option_copied graph.entry)) step (record { who = Some who.now; outcome = outcome_of outcome.now })) }
 {
-    put_number(alloc, out, step)?;
+    out.decimal(alloc, step as u64)?;
     out.u8(b' ')?;
     out.bytes(who.as_bytes())?;
     out.u8(b' ')?;
@@ -139,7 +139,7 @@ fn put_moved(
     out.bytes(word)?;
     put_label(out, graph, label)?;
     out.bytes(b" time ")?;
-    put_number(alloc, out, time.0)
+    out.decimal(alloc, time.0 as u64)
 }
 
 fn put_sent_to(alloc: Global, out: &mut ByteOut, to: &Name, frame: u32) -> Result<(), OutOfMemory>
@@ -148,7 +148,7 @@ fn put_sent_to(alloc: Global, out: &mut ByteOut, to: &Name, frame: u32) -> Resul
     out.bytes(b" to ")?;
     out.bytes(to.as_bytes())?;
     out.bytes(b" as f")?;
-    put_number(alloc, out, frame)
+    out.decimal(alloc, frame as u64)
 }
 
 fn put_start_fault(out: &mut ByteOut, fault: StartFault) -> Result<(), OutOfMemory>
@@ -199,16 +199,16 @@ fn put_got(alloc: Global, out: &mut ByteOut, got: Time) -> Result<(), OutOfMemor
     ensures { OnOk result (out.new ≡ out.old ++ (codes "bad-time item " ++ decimal 1 ++ codes " got " ++ decimal got)) }
 {
     out.bytes(b"bad-time item ")?;
-    put_number(alloc, out, 1)?;
+    out.decimal(alloc, 1)?;
     out.bytes(b" got ")?;
-    put_number(alloc, out, got.0)
+    out.decimal(alloc, got.0 as u64)
 }
 
 fn put_least(alloc: Global, out: &mut ByteOut, least: Time) -> Result<(), OutOfMemory>
     ensures { OnOk result (out.new ≡ out.old ++ (codes " least " ++ decimal least)) }
 {
     out.bytes(b" least ")?;
-    put_number(alloc, out, least.0)
+    out.decimal(alloc, least.0 as u64)
 }
 
 // Writes the name of a label, or nothing where there is no such edge.
@@ -249,11 +249,4 @@ fn put_role_of(out: &mut ByteOut, graph: &Graph, role: Role) -> Result<(), OutOf
     } else {
         out.bytes(b"")
     }
-}
-
-fn put_number(alloc: Global, out: &mut ByteOut, number: u32) -> Result<(), OutOfMemory>
-    ensures { OnOk result (out.new ≡ out.old ++ decimal number) }
-{
-    let text = format!(in alloc; "{number}")?;
-    out.bytes(text.as_str().as_bytes())
 }

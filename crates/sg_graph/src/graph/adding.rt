@@ -93,7 +93,7 @@ impl Graph {
         Ok(NodeId(number as u16))
     }
 
-    /// Adds an edge, the 512th at the latest, with the variables that its sender writes and those that its receiver reads.
+    /// Adds an edge, the 512th at the latest. What it `writes` is its sender's, what it `reads` its receiver's.
     pub fn add_edge(
         &mut self,
         name: Name,
