@@ -13,14 +13,14 @@ use std::alloc::Global;
 use thiserror::Error;
 use toml::{Table, Value};
 
-/// Why a key file can't be read, the first fault in the order of its entries. Entry 0 is the head, entry i the i-th peer.
+/// Why a key file can't be read: the fault of the first entry that has one. The head is entry 0, and peers are counted from 1.
 #[derive(Debug, Clone, Copy, PartialEq, Eq, Error)]
 pub enum KeyFault {
     /// The bytes are no TOML.
     #[error("not TOML")]
     NotToml,
-    /// A key of the entry is missing, unknown, or of the wrong type or form. A `peer` that is no list of tables is a fault of the
-    /// head.
+    /// The entry lacks a key, has one that it may not have, or has a value there that is no such thing. A `peer` that is no list of
+    /// tables is a fault of the head.
     #[error("entry {entry} is bad")]
     BadEntry { entry: u32 },
     /// The peer's name is the principal's own, or an earlier peer's.

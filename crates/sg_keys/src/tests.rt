@@ -8,6 +8,9 @@ const HEAD: &str = "me = \"a\"\nlisten = \"127.0.0.1:4001\"\n";
 const B: &str =
     "[[peer]]\nname = \"b\"\naddr = \"127.0.0.1:4002\"\nkey = \"1111111111111111111111111111111111111111111111111111111111111111\"\n";
 
+const KEY_LINE: &str =
+    "key = \"AAAAAAAAAAAAAAAAAAAAAAAAAAAAAAAAaaaaaaaaaaaaaaaaaaaaaaaaaaaaaaaa\"\n";
+
 // What is answered to a head and what follows it.
 fn fault(alloc: Global, head: &str, rest: &str) -> Result<Option<KeyFault>, AllocError> {
     let text = format!(in alloc; "{head}{rest}")?;
@@ -114,6 +117,22 @@ fn a_peer_is_read_or_refused(rt: HostRuntime) -> Result<(), AllocError> {
         fault(alloc, HEAD, peer(alloc, "a", "1.2.3:5")?.as_str())?
             == Some(KeyFault::BadEntry { entry: 2 })
     );
+    for bad in [
+        "[[peer]]\nname = 1\naddr = \"1.2.3.4:5\"\n",
+        "[[peer]]\nname = \"1\"\naddr = \"1.2.3.4:5\"\n",
+        "[[peer]]\nname = \"c\"\naddr = 1\n",
+        "[[peer]]\nname = \"c\"\naddr = \"1.2.3.4:0\"\n",
+    ] {
+        let text = format!(in alloc; "{B}{bad}{KEY_LINE}")?;
+        assert!(rt;
+            fault(alloc, HEAD, text.as_str())? == Some(KeyFault::BadEntry { entry: 2 }),
+            "{bad}"
+        );
+    }
+    let keyed = format!(in alloc; "{B}port = 1\n")?;
+    assert!(rt; fault(alloc, HEAD, keyed.as_str())? == Some(KeyFault::BadEntry { entry: 1 }));
+    let typed = "[[peer]]\nname = \"c\"\naddr = \"1.2.3.4:5\"\nkey = 1\n";
+    assert!(rt; fault(alloc, HEAD, typed)? == Some(KeyFault::BadEntry { entry: 1 }));
     assert!(rt;
         fault(alloc, HEAD, peer(alloc, "a", "1.2.3.4:5")?.as_str())?
             == Some(KeyFault::Twice { entry: 2 })
