@@ -1,0 +1,85 @@
+#!/usr/bin/env bash
+# Reads a graph text of 4 MiB, mostly comments before the statements of 16 roles, 32 variables, 256 nodes and 512 edges, 50 times, and the
+# statements alone 2,000 times, and prints the throughput. The program is made in a folder of its own, over this repository's crates.
+# Needs python3; no part of the gate.
+set -eu
+here=$(cd "$(dirname "${BASH_SOURCE[0]}")/.." && pwd)
+folder=$(mktemp -d)
+trap 'rm -rf "$folder"' EXIT
+mkdir -p "$folder/crates/texts/src"
+for crate in sg_model sg_law sg_protocol sg_base sg_graph sg_parse; do
+    (cd "$here/crates" && tar cf - --exclude=out "$crate") | (cd "$folder/crates" && tar xf -)
+    grep "^$crate:" "$here/crates.txt" >>"$folder/crates.txt"
+done
+echo 'texts: sg_graph sg_parse' >>"$folder/crates.txt"
+cp "$here/HANDLES" "$folder/HANDLES"
+cat >"$folder/crates/texts/src/main.rt" <<'RATTLE'
+//! One text, read again and again.
+#![tactic(auto)]
+
+use sg_parse::parse_graph;
+use std::alloc::Global;
+use std::{fs, io};
+
+fn main(rt: HostRuntime) -> Result<(), io::Error> {
+    let bytes = fs::read(&rt, "text")?;
+    let many = fs::read(&rt, "mode")?.is_empty();
+    let count = if many { 2_000u16 } else { 50 };
+    let mut right = 0u32;
+    for _ in 0..count {
+        if passes(rt.alloc(), bytes.as_slice()) {
+            right = right.wrapping_add(1);
+        }
+    }
+    println!(rt; "{right}")
+}
+
+fn passes(alloc: Global, bytes: &[u8]) -> bool {
+    match parse_graph(alloc, bytes) {
+        Ok(graph) => graph.edges() == 512,
+        Err(_) => false,
+    }
+}
+RATTLE
+python3 - "$folder/crates/texts" <<'PYTHON'
+import sys
+
+statements = ['graph g;']
+statements += [f'role r{i};' for i in range(16)]
+statements += [f'var v{i}: int by r{i % 16};' for i in range(32)]
+statements += [f'node n{i}: r{i % 16};' for i in range(256)]
+statements += [f'edge E{i}: n{i % 256} -> n{(i + 1) % 256} writes v{i % 32} reads v{(i + 1) % 32};' for i in range(512)]
+size = sum(len(s) + 1 for s in statements)
+each = (4 * 1024 * 1024 - size) // len(statements)
+line = '# ' + 'a comment of some words, ' * 3 + '\n'
+comment = (line * (each // len(line) + 1))[:each - 1] + '\n'
+assert comment.endswith('\n')
+whole = ''.join(comment + s + '\n' for s in statements)
+assert len(whole) <= 4 * 1024 * 1024
+open(sys.argv[1] + '/commented', 'w').write(whole)
+open(sys.argv[1] + '/statements', 'w').write('\n'.join(statements) + '\n')
+open(sys.argv[1] + '/text', 'w').write('\n'.join(statements) + '\n')
+open(sys.argv[1] + '/mode', 'w').close()
+PYTHON
+(cd "$folder/crates/texts" && rt run) >"$folder/log" 2>&1 || { cat "$folder/log"; exit 1; }
+python3 - "$folder/crates/texts/out/texts" "$folder/crates/texts" <<'PYTHON'
+import os
+import shutil
+import subprocess
+import sys
+import time
+
+program, folder = sys.argv[1:]
+
+
+def throughput(text, mode, count):
+    shutil.copy(f'{folder}/{text}', f'{folder}/text')
+    open(folder + '/mode', 'w').write(mode)
+    begun = time.monotonic()
+    said = subprocess.run([program], stdout=subprocess.PIPE, check=True, cwd=folder).stdout
+    assert said == b"%d\n" % count, said
+    return count * os.path.getsize(f'{folder}/text') / 1e6 / (time.monotonic() - begun)
+
+
+print(f'mostly comments {throughput("commented", "few", 50):.0f} MB/s, statements alone {throughput("statements", "", 2000):.0f} MB/s')
+PYTHON

@@ -1,0 +1,4 @@
+pub mod Grammar
+pub mod Owed
+pub mod Reading
+pub mod Tokens

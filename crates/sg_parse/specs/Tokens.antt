@@ -1,0 +1,106 @@
+-- The tokens of a graph text, each with its offset.
+use Rattle.std.specs.Prelude.{ℕ, suc, ◌+◌, ◌==◌, nat_le, Bool, true, false, not, ◌&&◌, ◌||◌, if◌then◌else◌, List, [], ◌∷◌, length, take_while, bytes_eq}
+use Rattle.sg_model.specs.Lists.{has_text}
+use Rattle.sg_model.specs.Names.{is_letter, is_name_byte, reserved}
+use Rattle.sg_parse.specs.declared.token.Token.{Token}
+use Rattle.sg_parse.specs.declared.token.Token.TheVariants.{Word, Colon, Semicolon, Arrow, End, Long, Bad}
+use Rattle.sg_parse.specs.declared.token.Placed.{Placed}
+
+-- a space, a tab, a carriage return or a line end
+abbrev pub is_separator : ℕ → Bool
+is_separator b = (b == 32) || (b == 9) || (b == 13) || (b == 10)
+
+-- what a byte is part of: a word, a comment, an arrow that it begins, or anything else
+pub data Part : Type 0 where
+  OfWord : Part
+  OfComment : Part
+  OfArrow : Part
+  Apart : Part
+
+-- the byte goes on with what the byte before it is part of
+abbrev pub goes_on : Part → ℕ → Bool
+goes_on OfWord b = is_name_byte b
+goes_on OfComment b = true
+goes_on OfArrow b = b == 62
+goes_on Apart b = false
+
+-- what a byte is part of; a comment ends at a line end
+abbrev pub part_of : Part → ℕ → Part
+part_of OfComment b = if b == 10 then Apart else OfComment
+part_of before b = if is_name_byte b then OfWord else if b == 35 then OfComment else if b == 45 then OfArrow else Apart
+
+-- a word, or the fault at its 33rd byte
+abbrev pub word_at : ℕ → List ℕ → Placed
+word_at at w = if nat_le (length w) 32 then record { token = Word w; at = at } else record { token = Long; at = at + 32 }
+
+-- the bytes begin with `>`
+abbrev pub has_head : List ℕ → Bool
+has_head [] = false
+has_head (b ∷ bs) = b == 62
+
+-- the token that a byte begins that is no letter, before `>` or not
+abbrev pub mark : ℕ → Bool → Token
+mark b head = if b == 58 then Colon else if b == 59 then Semicolon else if (b == 45) && head then Arrow else Bad
+
+-- the token that the byte b begins, before the bytes bs
+abbrev pub begun : ℕ → ℕ → List ℕ → Placed
+begun at b bs = if is_letter b then word_at at (take_while is_name_byte (b ∷ bs)) else record { token = mark b (has_head bs); at = at }
+
+-- the end of the text, or a fault: no tokens are asked for behind it
+abbrev pub is_last : Token → Bool
+is_last End = true
+is_last Long = true
+is_last Bad = true
+is_last t = false
+
+-- a token, and those behind it unless it is the last
+abbrev pub leading : Placed → List Placed → List Placed
+leading p ps = p ∷ (if is_last p.token then [] else ps)
+
+-- the tokens that begin in the bytes, the first of which stands at an offset, up to the end or to the first fault
+unfoldable pub tokens_from : Part → ℕ → List ℕ → List Placed
+tokens_from before at [] = record { token = End; at = at } ∷ []
+tokens_from before at (b ∷ bs) =
+    if goes_on before b || is_separator b || (b == 35) then tokens_from (part_of before b) (suc at) bs
+    else leading (begun at b bs) (tokens_from (part_of before b) (suc at) bs)
+
+-- the tokens of a text
+abbrev pub tokens : List ℕ → List Placed
+tokens bs = tokens_from Apart 0 bs
+
+-- ---- which token it is
+
+-- this word
+abbrev pub is_word : List ℕ → Token → Bool
+is_word w (Word v) = bytes_eq v w
+is_word w t = false
+
+-- a word that the language doesn't keep for itself
+abbrev pub is_named : Token → Bool
+is_named (Word v) = not (has_text v reserved)
+is_named t = false
+
+-- `:`
+abbrev pub is_colon : Token → Bool
+is_colon Colon = true
+is_colon t = false
+
+-- `;`
+abbrev pub is_semicolon : Token → Bool
+is_semicolon Semicolon = true
+is_semicolon t = false
+
+-- `->`
+abbrev pub is_arrow : Token → Bool
+is_arrow Arrow = true
+is_arrow t = false
+
+-- the end of the text
+abbrev pub is_end : Token → Bool
+is_end End = true
+is_end t = false
+
+-- the bytes of a word
+abbrev pub text_of : Token → List ℕ
+text_of (Word v) = v
+text_of t = []

@@ -1,0 +1,48 @@
+//! The statements of roles.
+ghost use Rattle.std.specs.Prelude.{◌≡◌, codes};
+ghost use Rattle.sg_parse.specs.Owed.{ReadsInto};
+ghost use Rattle.sg_parse.specs.Reading.{statement, up_to, read_role, read_roles};
+
+use crate::fault::{ParseFault, want};
+use crate::name;
+use crate::scanner::Scanner;
+use sg_graph::Graph;
+
+// Two roles, and up to sixteen.
+pub fn read_roles(scanner: &mut Scanner, graph: &mut Graph) -> Result<(), ParseFault>
+    ensures { ReadsInto (read_roles graph.old) scanner.old scanner.new graph.new result }
+{
+    read_statement(scanner, graph)?;
+    read_statement(scanner, graph)?;
+    read_more(scanner, graph)
+}
+
+// Up to fourteen more roles.
+fn read_more(scanner: &mut Scanner, graph: &mut Graph) -> Result<(), ParseFault>
+    ensures { ReadsInto (up_to 14 (codes "role") read_role graph.old) scanner.old scanner.new graph.new result }
+{
+    'more: for _ in 0..14u16 {
+        if !scanner.at_word(b"role") {
+            return Ok(());
+        }
+        read_statement(scanner, graph)?;
+    }
+    scanner.no_more(b"role")
+}
+
+fn read_statement(scanner: &mut Scanner, graph: &mut Graph) -> Result<(), ParseFault>
+    ensures { ReadsInto (statement (codes "role") read_role graph.old) scanner.old scanner.new graph.new result }
+{
+    scanner.word(b"role")?;
+    read_role(scanner, graph)
+}
+
+// A role, behind its first word.
+fn read_role(scanner: &mut Scanner, graph: &mut Graph) -> Result<(), ParseFault>
+    ensures { ReadsInto (read_role graph.old) scanner.old scanner.new graph.new result }
+{
+    let name = name::new_role(scanner, graph)?;
+    scanner.semicolon()?;
+    graph.add_role(name).map_err(want)?;
+    Ok(())
+}

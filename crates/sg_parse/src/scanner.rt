@@ -1,0 +1,152 @@
+//! The tokens of a text, one after the other, in one pass over the bytes.
+ghost use Rattle.std.specs.Prelude.{◌≡◌, false, Ok, IfOk};
+ghost use Rattle.sg_model.specs.Lists.{has_text};
+ghost use Rattle.sg_model.specs.Names.{reserved};
+ghost use Rattle.sg_parse.specs.Owed.{Reads};
+ghost use Rattle.sg_parse.specs.Reading.{is_next, skip, token, name, refusal, no_more, read_end};
+ghost use Rattle.sg_parse.specs.Tokens.{tokens, is_word, is_named, is_colon, is_semicolon, is_arrow, is_last};
+
+use crate::fault::ParseFault;
+use crate::scan::scan;
+use crate::token::{self, Placed, Token};
+use sg_base::Name;
+use std::marker::Model;
+
+// The tokens of a text that are not taken yet: the next one is at hand, the others are still bytes. A clause sees all of them.
+#[derive(Debug, Drop)]
+pub struct Scanner<'a> {
+    bytes: &'a [u8],
+    // Where the next token ends.
+    end: usize,
+    next: Placed,
+}
+
+impl<'a> Model for Scanner<'a> {
+    ghost use Rattle.std.specs.Prelude.{◌≤◌, List, drop, length};
+    ghost use Rattle.sg_parse.specs.Tokens.{tokens_from, leading, Part};
+    ghost use Rattle.sg_parse.specs.declared.token.Placed.{Placed};
+
+    ghost Value = { List Placed };
+
+    ghost view = { λ s. leading s.next (tokens_from Part.Apart s.end (drop s.end s.bytes.now)) };
+
+    ghost invariant = { λ s. s.end ≤ length s.bytes.now };
+}
+
+impl<'a> Scanner<'a> {
+    // All tokens of a text.
+    pub fn new(bytes: &'a [u8]) -> Scanner<'a>
+        ensures { result ≡ tokens bytes.now }
+    {
+        let (next, end) = scan(bytes, 0);
+        Scanner { bytes, end, next }
+    }
+
+    // The next token is this word.
+    pub fn at_word(&self, word: &[u8]) -> bool
+        ensures { result ≡ is_next (is_word word.now) self.now }
+    {
+        token::is_word(&self.next.token, word)
+    }
+
+    // The next token is a name, and none of the language's own words.
+    pub fn at_name(&self) -> bool
+        ensures { result ≡ is_next is_named self.now }
+    {
+        token::is_named(&self.next.token)
+    }
+
+    // The next token, behind which there are more.
+    pub fn skip(&mut self)
+        requires { is_next is_last self.old ≡ false }
+        ensures { skip self.old ≡ Ok (record { value = tt; rest = self.new }) }
+    {
+        let (next, end) = scan(self.bytes, self.end);
+        self.next = next;
+        self.end = end;
+    }
+
+    // This word.
+    pub fn word(&mut self, word: &[u8]) -> Result<(), ParseFault>
+        ensures { Reads (token (is_word word.now)) self.old self.new result }
+    {
+        if !self.at_word(word) {
+            return Err(self.refusal());
+        }
+        self.skip();
+        Ok(())
+    }
+
+    // A `:`.
+    pub fn colon(&mut self) -> Result<(), ParseFault>
+        ensures { Reads (token is_colon) self.old self.new result }
+    {
+        if !matches!(self.next.token, Token::Colon) {
+            return Err(self.refusal());
+        }
+        self.skip();
+        Ok(())
+    }
+
+    // A `;`.
+    pub fn semicolon(&mut self) -> Result<(), ParseFault>
+        ensures { Reads (token is_semicolon) self.old self.new result }
+    {
+        if !matches!(self.next.token, Token::Semicolon) {
+            return Err(self.refusal());
+        }
+        self.skip();
+        Ok(())
+    }
+
+    // A `->`.
+    pub fn arrow(&mut self) -> Result<(), ParseFault>
+        ensures { Reads (token is_arrow) self.old self.new result }
+    {
+        if !matches!(self.next.token, Token::Arrow) {
+            return Err(self.refusal());
+        }
+        self.skip();
+        Ok(())
+    }
+
+    // The end of the text.
+    pub fn end(&self) -> Result<(), ParseFault>
+        ensures { Reads read_end self.now self.now result }
+    {
+        match self.next.token {
+            Token::End => Ok(()),
+            _ => Err(self.refusal()),
+        }
+    }
+
+    // A name, and its offset.
+    pub fn name(&mut self) -> Result<(Name, usize), ParseFault>
+        ensures reads { Reads name self.old self.new result }
+        ensures free { IfOk result (λ n. has_text n.0 reserved ≡ false) }
+    {
+        let at = self.next.at;
+        let Some(name) = token::name_of(&self.next.token) else {
+            return Err(self.refusal());
+        };
+        self.skip();
+        Ok((name, at))
+    }
+
+    // The fault at the next token, where the grammar doesn't have it.
+    pub fn refusal(&self) -> ParseFault
+        ensures { result ≡ refusal self.now }
+    {
+        token::refusal(&self.next)
+    }
+
+    // This word isn't next: it would begin a statement too many.
+    pub fn no_more(&self, word: &[u8]) -> Result<(), ParseFault>
+        ensures { Reads (no_more word.now) self.now self.now result }
+    {
+        if self.at_word(word) {
+            return Err(ParseFault::TooMany { at: self.next.at });
+        }
+        Ok(())
+    }
+}

@@ -1,0 +1,70 @@
+//! Graphs from texts.
+ghost use Rattle.std.specs.Prelude.{◌≡◌, ◌≤◌, ◌↔◌, ℕ, List, length, Ok, MatchResult, IfOk};
+ghost use Rattle.sg_protocol.specs.Graph.{Graph, IsGraph, canonical};
+ghost use Rattle.sg_parse.specs.Grammar.{SpellsGraph};
+ghost use Rattle.sg_parse.specs.Owed.{Reads, Refuses};
+ghost use Rattle.sg_parse.specs.Reading.{read, read_text, read_head};
+
+use crate::edge::read_edges;
+use crate::fault::ParseFault;
+use crate::node::read_nodes;
+use crate::role::read_roles;
+use crate::scanner::Scanner;
+use crate::variable::read_vars;
+use sg_graph::Graph;
+use std::alloc::Global;
+
+/// The graph that the bytes spell, all of them, or the fault at the first wrong token from the left. One pass; the memory is the
+/// graph's own.
+pub fn parse_graph(alloc: Global, bytes: &[u8]) -> Result<Graph, ParseFault>
+    // The graph, or the first fault and its offset.
+    ensures exact { MatchResult result (λ g. read bytes.now ≡ Ok g) (Refuses (read bytes.now)) }
+    // What is read is spelled so.
+    ensures found { IfOk result (SpellsGraph bytes.now) }
+    // What is spelled so is read, unless memory runs out.
+    ensures only { (g : Graph) → SpellsGraph bytes.now g → MatchResult result (λ h. h ≡ g) (λ e. e ≡ ParseFault.OutOfMemory) }
+{
+    read_whole(alloc, bytes)
+}
+
+// The graph, or the first fault.
+fn read_whole(alloc: Global, bytes: &[u8]) -> Result<Graph, ParseFault>
+    ensures { MatchResult result (λ g. read bytes.now ≡ Ok g) (Refuses (read bytes.now)) }
+{
+    let mut scanner = Scanner::new(bytes);
+    read_text(alloc, &mut scanner)
+}
+
+// All statements, and the end.
+fn read_text(alloc: Global, scanner: &mut Scanner) -> Result<Graph, ParseFault>
+    ensures { Reads read_text scanner.old scanner.new result }
+{
+    let mut graph = read_head(alloc, scanner)?;
+    read_roles(scanner, &mut graph)?;
+    read_vars(scanner, &mut graph)?;
+    read_nodes(scanner, &mut graph)?;
+    read_edges(scanner, &mut graph)?;
+    scanner.end()?;
+    Ok(graph)
+}
+
+// The graph's name.
+fn read_head(alloc: Global, scanner: &mut Scanner) -> Result<Graph, ParseFault>
+    ensures { Reads read_head scanner.old scanner.new result }
+{
+    scanner.word(b"graph")?;
+    let (name, _) = scanner.name()?;
+    scanner.semicolon()?;
+    Ok(Graph::new(alloc, name))
+}
+
+/// What is read of bytes and what they spell by the grammar is the same, so bytes spell one graph at most.
+pub fn readings_are_spelled()
+    ensures { (bs : List ℕ) (g : Graph) → (read bs ≡ Ok g) ↔ SpellsGraph bs g }
+{}
+
+/// The canonical text of a graph that has two roles and a node spells this graph, and is read as it.
+pub fn canonical_texts_are_read()
+    ensures spelled { (g : Graph) → IsGraph g → 2 ≤ length g.roles → 1 ≤ length g.nodes → SpellsGraph (canonical g) g }
+    ensures read { (g : Graph) → IsGraph g → 2 ≤ length g.roles → 1 ≤ length g.nodes → read (canonical g) ≡ Ok g }
+{}

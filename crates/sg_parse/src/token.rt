@@ -1,0 +1,75 @@
+//! Tokens.
+ghost use Rattle.std.specs.Prelude.{◌≡◌, false, is_some, IfSome};
+ghost use Rattle.sg_model.specs.Lists.{has_text};
+ghost use Rattle.sg_model.specs.Names.{reserved};
+ghost use Rattle.sg_parse.specs.Reading.{refusal_of};
+ghost use Rattle.sg_parse.specs.Tokens.{is_word, is_named, text_of};
+
+use crate::fault::ParseFault;
+use sg_base::Name;
+
+// A token of a text, its end, or what is no token.
+#[derive(Debug, Clone, Copy)]
+pub enum Token {
+    // A letter, then letters, digits or `_`, at most 32 bytes.
+    Word(Name),
+    Colon,
+    Semicolon,
+    Arrow,
+    End,
+    // A word of more than 32 bytes, at its 33rd.
+    Long,
+    // A byte that begins no token.
+    Bad,
+}
+
+// A token and its offset in bytes.
+#[derive(Debug, Clone, Copy)]
+pub struct Placed {
+    pub token: Token,
+    pub at: usize,
+}
+
+// The token is this word.
+pub fn is_word(token: &Token, word: &[u8]) -> bool
+    ensures { result ≡ is_word word.now token.now }
+{
+    match token {
+        Token::Word(name) => name.as_bytes() == word,
+        _ => false,
+    }
+}
+
+// The token is a name, and none of the language's own words.
+pub fn is_named(token: &Token) -> bool
+    ensures { result ≡ is_named token.now }
+{
+    match token {
+        Token::Word(name) => !name.reserved(),
+        _ => false,
+    }
+}
+
+// The name that the token is.
+pub fn name_of(token: &Token) -> Option<Name>
+    ensures found { is_some result ≡ is_named token.now }
+    ensures value { IfSome result (λ n. n ≡ text_of token.now) }
+    ensures free { IfSome result (λ n. has_text n reserved ≡ false) }
+{
+    match token {
+        Token::Word(name) if !name.reserved() => Some(*name),
+        _ => None,
+    }
+}
+
+// The fault at a token that the grammar doesn't have at its place.
+pub fn refusal(placed: &Placed) -> ParseFault
+    ensures { result ≡ refusal_of placed.now.token placed.now.at }
+{
+    let at = placed.at;
+    match placed.token {
+        Token::Bad => ParseFault::BadByte { at },
+        Token::Long => ParseFault::TooMany { at },
+        _ => ParseFault::Unexpected { at },
+    }
+}
