@@ -1,0 +1,2 @@
+pub mod Blinded
+pub mod Shapes

@@ -1,0 +1,107 @@
+//! The check for blinding.
+ghost use Rattle.std.specs.Prelude.{◌≡◌, ◌<◌, ◌↔◌, length, IfErr, IfOk, IsOk, OnOk};
+ghost use Rattle.sg_model.specs.Shape.{Sighted};
+ghost use Rattle.sg_protocol.specs.Graph.{shape};
+ghost use Rattle.sg_reach.specs.Reaches.{IsWithin, LeadsPast};
+ghost use Rattle.sg_check.specs.Blind.{IsBlindFault, IsFaultAmong, IsClear, AtNode, AtPair, AtPlace};
+
+use sg_base::{Label, NodeId, Role, RoleSet, Seq};
+use sg_graph::Graph;
+use sg_reach::{Reach, Ways};
+use std::alloc::Global;
+
+/// Why a graph is refused for blinding.
+#[derive(Debug, Drop, thiserror::Error)]
+pub enum BlindFault {
+    /// The least node that blinds two roles, and the least such roles, the first below the second; with a walk to a node of the first
+    /// and one to a node of the second, neither past another node of the two.
+    #[error("a node blinds two roles")]
+    Blinding {
+        node: NodeId,
+        a: Role,
+        b: Role,
+        walk_a: Seq<Label>,
+        walk_b: Seq<Label>,
+    },
+    #[error("out of memory")]
+    OutOfMemory,
+}
+
+/// Whether no node blinds two roles. Which two walks a refusal has is free. It takes memory for them alone.
+pub fn check_blinding(alloc: Global, graph: &Graph) -> Result<(), BlindFault>
+    ensures ok { IsOk result ↔ Sighted (shape graph.now) }
+    ensures refused { IfErr result (IsBlindFault (shape graph.now)) }
+{
+    let ways = Ways::new(graph);
+    for number in 0..graph.nodes() {
+        check_node(alloc, &ways, NodeId(number))?;
+    }
+    Ok(())
+}
+
+// Whether the node blinds no two roles.
+fn check_node(alloc: Global, ways: &Ways, node: NodeId) -> Result<(), BlindFault>
+    requires { node < length ways.now.nodes }
+    ensures ok { OnOk result (IsClear (shape ways.now) (AtNode node)) }
+    ensures refused { IfErr result (IsFaultAmong (shape ways.now) (AtNode node)) }
+{
+    for number in 0..ways.graph().roles() {
+        check_pairs(alloc, ways, node, Role(number))?;
+    }
+    Ok(())
+}
+
+// Whether the node blinds no two roles of which this one is the first.
+fn check_pairs(alloc: Global, ways: &Ways, node: NodeId, a: Role) -> Result<(), BlindFault>
+    requires node { node < length ways.now.nodes }
+    requires role { a < length ways.now.roles }
+    ensures ok { OnOk result (IsClear (shape ways.now) (AtPair node a)) }
+    ensures refused { IfErr result (IsFaultAmong (shape ways.now) (AtPair node a)) }
+{
+    let roles = ways.graph().roles();
+    for number in a.0 + 1..roles {
+        check_place(alloc, ways, node, a, Role(number))?;
+    }
+    Ok(())
+}
+
+// Whether the node doesn't blind these two roles.
+fn check_place(alloc: Global, ways: &Ways, node: NodeId, a: Role, b: Role) -> Result<(), BlindFault>
+    requires node { node < length ways.now.nodes }
+    requires rising { a < b }
+    requires role { b < length ways.now.roles }
+    ensures ok { OnOk result (IsClear (shape ways.now) (AtPlace node a b)) }
+    ensures refused { IfErr result (IsFaultAmong (shape ways.now) (AtPlace node a b)) }
+{
+    let own = ways.graph().node_role(node);
+    if own == a || own == b {
+        return Ok(());
+    }
+    let reach = ways.reach(node, RoleSet::empty().with(a).with(b));
+    let Some(to_a) = reach.first_of(a) else {
+        return Ok(());
+    };
+    let Some(to_b) = reach.first_of(b) else {
+        return Ok(());
+    };
+    Err(BlindFault::Blinding {
+        node,
+        a,
+        b,
+        walk_a: walk(alloc, &reach, to_a)?,
+        walk_b: walk(alloc, &reach, to_b)?,
+    })
+}
+
+// A walk to a node that is reached.
+fn walk(alloc: Global, reach: &Reach, node: NodeId) -> Result<Seq<Label>, BlindFault>
+    requires there { node < length reach.now.graph.nodes }
+    requires within { IsWithin reach.now node }
+    ensures ok { IfOk result (LeadsPast (shape reach.now.graph) reach.now.from reach.now.past node) }
+    ensures refused { IfErr result (λ fault. fault ≡ BlindFault.OutOfMemory) }
+{
+    match reach.walk_to(alloc, node) {
+        Ok(walk) => Ok(Seq::from_vec(walk)),
+        Err(_) => Err(BlindFault::OutOfMemory),
+    }
+}

@@ -1,0 +1,5 @@
+pub mod Outgoing
+pub mod Parts
+pub mod Reads
+pub mod States
+pub mod View

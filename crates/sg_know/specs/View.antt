@@ -1,0 +1,14 @@
+-- How a list of states is kept: with a table of their places.
+use Rattle.std.specs.Prelude.{List}
+use Rattle.sg_know.specs.States.{IsTable, AreInOrder}
+use Rattle.sg_know.specs.declared.states.Reached.{Reached}
+use Rattle.sg_know.specs.declared.states.States.TheInside.{Inside}
+
+-- the states, in the order in which they were come to
+abbrev pub states_of : Inside → List Reached
+states_of s = s.list.items
+
+-- the table is right, and each state was come to from an earlier one
+pub record HoldsStates (s : Inside) : Type 0 where
+  pub table : IsTable s.list.items s.places.items
+  pub order : AreInOrder s.list.items

@@ -1,0 +1,157 @@
+//! What walks tell of one variable and one role, and the list of all that they tell.
+ghost use Rattle.std.specs.Prelude.{◌≡◌, ◌<◌, ◌≤◌, [], length, MatchOption, IfSome, IfOk, OnOk, OnErr};
+ghost use Rattle.sg_know.specs.States.{Enters, Has, IsPath, key_of, rank_of, state_at, step_at};
+
+use sg_base::{Label, NodeId, OutOfMemory};
+use std::alloc::Global;
+use std::marker::Model;
+
+/// What a walk tells of a variable and a role.
+#[derive(Debug, Clone, Copy)]
+pub(crate) enum Mark {
+    /// The variable was not written.
+    Unwritten,
+    /// It was written, and the role doesn't know it.
+    Unknown,
+    /// The role knows it.
+    Known,
+}
+
+/// Where a walk ends, and its mark.
+#[derive(Debug, Clone, Copy)]
+pub(crate) struct State {
+    pub node: NodeId,
+    pub mark: Mark,
+}
+
+/// The edge by which a state was come to, and the place of the state that it came from.
+#[derive(Debug, Clone, Copy)]
+pub(crate) struct Step {
+    pub from: usize,
+    pub label: Label,
+}
+
+/// A state, and how it was come to: that of the empty walk by no step.
+#[derive(Debug, Clone, Copy)]
+pub(crate) struct Reached {
+    pub state: State,
+    pub by: Option<Step>,
+}
+
+/// States, each once, in the order in which they were come to. There are 256 nodes and three marks at most.
+#[derive(Drop)]
+pub(crate) struct States {
+    list: Vec<Reached>,
+    places: Vec<Option<usize>>,
+}
+
+impl Model for States {
+    ghost use Rattle.std.specs.Prelude.{List};
+    ghost use Rattle.sg_know.specs.declared.states.Reached.{Reached};
+
+    ghost Value = { List Reached };
+
+    ghost use Rattle.sg_know.specs.View.{states_of, HoldsStates};
+
+    ghost view = { states_of };
+
+    ghost invariant = { HoldsStates };
+}
+
+impl States {
+    /// No states. It takes memory for the table of places.
+    pub(crate) fn new(alloc: Global) -> Result<States, OutOfMemory>
+        ensures { IfOk result (λ states. states ≡ []) }
+    {
+        Ok(States {
+            list: Vec::new(alloc),
+            places: vec![in alloc; None; 768]?,
+        })
+    }
+
+    /// The number of states, at most 768.
+    pub(crate) fn len(&self) -> usize
+        ensures count { result ≡ length self.now }
+        ensures most { length self.now ≤ 768 }
+    {
+        self.list.len()
+    }
+
+    /// The state at a place.
+    pub(crate) fn state(&self, place: usize) -> State
+        requires { place < length self.now }
+        ensures state { result ≡ state_at self.now place }
+        ensures there { result.node < 256 }
+    {
+        self.list[place].state
+    }
+
+    /// The edge by which the state at a place was come to, from an earlier one.
+    fn step(&self, place: usize) -> Option<Step>
+        requires { place < length self.now }
+        ensures step { result ≡ step_at self.now place }
+        ensures earlier { IfSome result (λ s. s.from < place) }
+    {
+        self.list[place].by
+    }
+
+    /// Puts a state at the end, unless it is there. For want of memory the list is as before.
+    pub(crate) fn enter(&mut self, reached: Reached) -> Result<(), OutOfMemory>
+        requires node { reached.state.node < 256 }
+        requires order { IfSome reached.by (λ s. s.from < length self.old) }
+        ensures ok { OnOk result (Enters self.old reached self.new) }
+        ensures err { OnErr result (self.new ≡ self.old) }
+    {
+        let key = key_of_state(&reached.state);
+        if self.places[key].is_some() {
+            return Ok(());
+        }
+        let place = self.list.len();
+        self.list.push(reached)?;
+        self.places[key] = Some(place);
+        Ok(())
+    }
+
+    /// The place of a state.
+    pub(crate) fn find(&self, state: &State) -> Option<usize>
+        requires { state.now.node < 256 }
+        ensures { MatchOption result (Has self.now state.now → ⊥) (λ i. (i < length self.now) × (state_at self.now i ≡ state.now)) }
+    {
+        self.places[key_of_state(state)]
+    }
+
+    /// The labels of the walk by which the state at a place was come to.
+    pub(crate) fn path(&self, alloc: Global, place: usize) -> Result<Vec<Label>, OutOfMemory>
+        requires { place < length self.now }
+        ensures { IfOk result (λ labels. IsPath self.now place labels.items) }
+    {
+        let mut labels = Vec::new(alloc);
+        let mut at = place;
+        while let Some(step) = self.step(at) {
+            labels.push(step.label)?;
+            at = step.from;
+        }
+        labels.reverse();
+        Ok(labels)
+    }
+}
+
+/// A number for each state.
+fn key_of_state(state: &State) -> usize
+    requires { state.now.node < 256 }
+    ensures key { result ≡ key_of state.now }
+    ensures most { result < 768 }
+{
+    3 * state.node.0 as usize + rank(state.mark)
+}
+
+fn rank(mark: Mark) -> usize
+    ensures rank { result ≡ rank_of mark }
+    ensures most { result < 3 }
+{
+    match mark {
+        Mark::Unwritten => 0,
+        Mark::Unknown => 1,
+        Mark::Known => 2,
+    }
+}

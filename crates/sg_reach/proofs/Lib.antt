@@ -1,0 +1,7 @@
+pub mod Cases
+pub mod Leads
+pub mod Leaving
+pub mod Pair
+pub mod Reached
+pub mod Searching
+pub mod There

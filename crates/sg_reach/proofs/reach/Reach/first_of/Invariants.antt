@@ -1,0 +1,8 @@
+use Rattle.std.proofs.Common.{◌≡◌, ◌<◌, ℕ}
+use Rattle.sg_model.specs.Shape.{role_at}
+use Rattle.sg_protocol.specs.Graph.{shape}
+use Rattle.sg_reach.specs.Reaches.{IsWithin}
+use Rattle.sg_reach.proofs.reach.Reach.first_of.Given as goal
+
+abbrev pub invariant-loop-number : goal.invariant-loop-number
+invariant-loop-number l = (k : ℕ) → k < l.number → role_at (shape l.self.graph) k ≡ l.fn.role → IsWithin l.self k → ⊥

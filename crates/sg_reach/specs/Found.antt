@@ -1,0 +1,53 @@
+-- What a search for the nodes that can be reached has found.
+use Rattle.std.specs.Prelude.{◌≡◌, ℕ, zero, suc, ◌<◌, ◌≤◌, true, false, List, length, get_or, count_by, is_some, Option, Some, None, option_map, ◌⊎◌}
+use Rattle.sg_model.specs.Lists.{is_in}
+use Rattle.sg_model.specs.Shape.{Shape, source, target, sender}
+use Rattle.sg_reach.specs.declared.search.Found.{Found}
+use Rattle.sg_reach.specs.declared.search.Search.{Search}
+
+-- how a node was found
+abbrev pub found_at : List (Option Found) → ℕ → Option Found
+found_at found n = get_or found n None
+
+-- the node was found
+abbrev pub IsFound : List (Option Found) → ℕ → Type 0
+IsFound found n = is_some (found_at found n) ≡ true
+
+-- the number of edges of the walk to the node
+abbrev pub edges_to : List (Option Found) → ℕ → Option ℕ
+edges_to found n = option_map (λ (f : Found). f.edges) (found_at found n)
+
+-- a walk without edges stays at m; another one is a walk to the node that its last edge leaves, and then this edge
+abbrev pub IsFoundBy : Shape → ℕ → List ℕ → List (Option Found) → ℕ → ℕ → ℕ → Type 0
+IsFoundBy g m past found n zero last = n ≡ m
+IsFoundBy g m past found n (suc k) last =
+    (last < length g.edges) × (target g last ≡ n) × (is_in (sender g last) past ≡ false) × (edges_to found (source g last) ≡ Some k)
+
+-- each node that was found is m, or an edge leads on to it from a node whose walk is shorter by one
+abbrev pub AreWalks : Shape → ℕ → List ℕ → List (Option Found) → Type 0
+AreWalks g m past found = (n : ℕ) (f : Found) → found_at found n ≡ Some f → IsFoundBy g m past found n f.edges f.last
+
+-- where an edge leaves a node that was found and has none of the roles, its target was found too, but for edges of which the last fact is true
+abbrev pub IsClosedBut : Shape → List ℕ → List (Option Found) → (ℕ → Type 0) → Type 0
+IsClosedBut g past found but = (e : ℕ) → e < length g.edges → IsFound found (source g e) → is_in (sender g e) past ≡ false → IsFound found (target g e) ⊎ but e
+
+-- the node waits in the queue
+abbrev pub Waits : Search → ℕ → Type 0
+Waits s n = (i : ℕ) × (s.at ≤ i) × (i < s.count) × (get_or s.queue i 0 ≡ n)
+
+-- each node that was found has its walk and stands in the queue once; those before `at` were followed, but for the edges that are left
+pub record IsSearch (g : Shape) (left : ℕ → Type 0) (s : Search) : Type 0 where
+  pub sizes : (length s.found ≡ 256) × (length s.queue ≡ 256)
+  pub begun : IsFound s.found s.from
+  pub walks : AreWalks g s.from s.past s.found
+  pub short : (n : ℕ) (f : Found) → found_at s.found n ≡ Some f → f.edges < s.count
+  pub queued : (i : ℕ) → i < s.count → IsFound s.found (get_or s.queue i 0)
+  pub there : (i : ℕ) → i < s.count → get_or s.queue i 0 < length g.roles
+  pub counted : s.count ≡ count_by is_some s.found
+  pub passed : s.at ≤ s.count
+  pub closed : IsClosedBut g s.past s.found (λ e. Waits s (source g e) ⊎ left e)
+
+-- the edge leaves the node, and its label is this one or a later one
+abbrev pub IsLeft : Shape → ℕ → Option ℕ → ℕ → Type 0
+IsLeft g n None e = ⊥
+IsLeft g n (Some l) e = (source g e ≡ n) × (l ≤ e)

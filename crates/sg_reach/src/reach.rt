@@ -1,0 +1,96 @@
+//! The closure of a node and some roles.
+ghost use Rattle.std.specs.Prelude.{◌≡◌, ◌<◌, ◌≤◌, ◌↔◌, length, IsTrue, IfOk};
+ghost use Rattle.sg_protocol.specs.Graph.{IsGraph, shape};
+ghost use Rattle.sg_reach.specs.Reaches.{IsFirstOf, IsWithin, LeadsPast};
+
+use crate::search::Search;
+use sg_base::{Label, NodeId, OutOfMemory, Role};
+use sg_graph::Graph;
+use std::alloc::Global;
+use std::marker::Model;
+
+/// The nodes that walks from a node reach past no node of some roles. A clause sees it as the graph, the node and the roles.
+#[derive(Debug, Drop)]
+pub struct Reach<'g> {
+    graph: &'g Graph,
+    search: Search,
+}
+
+impl<'g> Model for Reach<'g> {
+    ghost use Rattle.sg_reach.specs.Reaches.{Closure};
+
+    ghost Value = { Closure };
+
+    ghost use Rattle.sg_reach.specs.Inside.{closure_of, HoldsReach};
+
+    ghost view = { closure_of };
+
+    ghost invariant = { HoldsReach };
+}
+
+impl<'g> Reach<'g> {
+    ghost use Rattle.sg_reach.specs.Found.{IsSearch};
+
+    // The closure that a search has found once no node waits.
+    pub(crate) fn new(graph: &'g Graph, search: Search) -> Reach<'g>
+        requires search { IsSearch (shape graph.now) (λ _. ⊥) search }
+        requires followed { search.count ≤ search.at }
+        requires there { search.from < length graph.now.nodes }
+        ensures { result ≡ record { graph = graph.entry.now; from = search.from; past = search.past } }
+    {
+        // The graph's numbers are there.
+        let _edges = graph.edges();
+        Reach { graph, search }
+    }
+
+    /// The graph.
+    pub fn graph(&self) -> &'g Graph
+        ensures same { result.now ≡ self.now.graph }
+        ensures graph { IsGraph self.now.graph }
+    {
+        self.graph
+    }
+
+    /// Whether the node is reached.
+    pub fn has(&self, node: NodeId) -> bool
+        requires { node < length self.now.graph.nodes }
+        ensures { IsTrue result ↔ IsWithin self.now node }
+    {
+        let found = &self.search.found;
+        found[node.0 as usize].is_some()
+    }
+
+    /// The least node of the role that is reached.
+    pub fn first_of(&self, role: Role) -> Option<NodeId>
+        ensures { IsFirstOf self.now role result }
+    {
+        let graph = self.graph;
+        for number in 0..graph.nodes() {
+            let node = NodeId(number);
+            if graph.node_role(node) == role && self.has(node) {
+                return Some(node);
+            }
+        }
+        None
+    }
+
+    /// A walk to a node that is reached. Which of them is free. It takes memory for the walk.
+    pub fn walk_to(&self, alloc: Global, node: NodeId) -> Result<Vec<Label>, OutOfMemory>
+        requires there { node < length self.now.graph.nodes }
+        requires within { IsWithin self.now node }
+        ensures { IfOk result (λ walk. LeadsPast (shape self.now.graph) self.now.from self.now.past node walk.items) }
+    {
+        let mut walk = Vec::new(alloc);
+        let mut at = node;
+        let graph = self.graph;
+        let found = &self.search.found;
+        while let Some(way) = found[at.0 as usize]
+            && way.edges > 0
+        {
+            walk.push(way.last)?;
+            at = graph.edge(way.last).source;
+        }
+        walk.reverse();
+        Ok(walk)
+    }
+}
