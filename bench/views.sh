@@ -1,0 +1,118 @@
+#!/usr/bin/env bash
+# Lists the views of a role of a graph near both limits, 62,931 open views and 4,096 views, and prints the seconds and the greatest
+# memory. A sender's step is overtaken along the way, so that over a million edges are followed. The program is made in a folder of its
+# own, over this repository's crates. Needs python3; no part of the gate.
+set -eu
+here=$(cd "$(dirname "${BASH_SOURCE[0]}")/.." && pwd)
+folder=$(mktemp -d)
+trap 'rm -rf "$folder"' EXIT
+mkdir -p "$folder/crates/listing/src"
+for crate in sg_model sg_law sg_protocol sg_base sg_graph sg_vis; do
+    (cd "$here/crates" && tar cf - --exclude=out "$crate") | (cd "$folder/crates" && tar xf -)
+    grep "^$crate:" "$here/crates.txt" >>"$folder/crates.txt"
+done
+echo 'listing: sg_base sg_graph sg_model sg_protocol sg_vis' >>"$folder/crates.txt"
+cp "$here/HANDLES" "$folder/HANDLES"
+cat >"$folder/crates/listing/src/main.rt" <<'RATTLE'
+//! A chain of seven nodes, with so many edges from each to the next. The first three senders send again.
+#![tactic(auto)]
+
+ghost use Rattle.std.specs.Prelude.{◌≡◌, ◌<◌, false, length, IfSome};
+ghost use Rattle.sg_model.specs.Lists.{has_text};
+ghost use Rattle.sg_model.specs.Names.{reserved};
+
+use sg_base::{Name, NodeId, Role, VarSet};
+use sg_graph::Graph;
+use sg_vis::views;
+use std::alloc::Global;
+use std::io;
+
+fn main(rt: HostRuntime) -> Result<(), io::Error> {
+    match count(rt.alloc()) {
+        Some(number) => println!(rt; "{number}"),
+        None => println!(rt; "none"),
+    }
+}
+
+fn count(alloc: Global) -> Option<u16> {
+    let graph = chain(alloc)?;
+    match views(alloc, &graph, Role(3)) {
+        Ok(table) => Some(table.len()),
+        Err(_) => None,
+    }
+}
+
+fn chain(alloc: Global) -> Option<Graph> {
+    let mut graph = Graph::new(alloc, named(0)?);
+    for number in 0..4 {
+        add_role(&mut graph, number)?;
+    }
+    for role in [0u8, 1, 2, 0, 1, 2, 3] {
+        add_node(&mut graph, role)?;
+    }
+    for (from, edges) in [(0u16, 33u16), (1, 33), (2, 33), (3, 16), (4, 16), (5, 16)] {
+        for _ in 0..edges {
+            add_edge(&mut graph, from)?;
+        }
+    }
+    Some(graph)
+}
+
+fn add_role(graph: &mut Graph, number: u16) -> Option<()> {
+    let name = named(number)?;
+    match graph.add_role(name) {
+        Ok(_) => Some(()),
+        Err(_) => None,
+    }
+}
+
+fn add_node(graph: &mut Graph, role: u8) -> Option<()> {
+    let name = named(graph.nodes())?;
+    if role >= graph.roles() {
+        return None;
+    }
+    match graph.add_node(name, Role(role)) {
+        Ok(_) => Some(()),
+        Err(_) => None,
+    }
+}
+
+fn add_edge(graph: &mut Graph, from: u16) -> Option<()> {
+    let name = named(graph.edges())?;
+    if from >= 256 || from + 1 >= graph.nodes() {
+        return None;
+    }
+    let none = VarSet::empty();
+    match graph.add_edge(name, NodeId(from), NodeId(from + 1), none, none) {
+        Ok(_) => Some(()),
+        Err(_) => None,
+    }
+}
+
+// The name x and three digits.
+fn named(number: u16) -> Option<Name>
+    ensures { IfSome result (λ n. has_text n reserved ≡ false) }
+{
+    let digit = |place: u16| b'0' + (place % 10) as u8;
+    let text = [b'x', digit(number / 100), digit(number / 10), digit(number)];
+    let name = Name::new(&text)?;
+    if name.reserved() {
+        return None;
+    }
+    Some(name)
+}
+RATTLE
+(cd "$folder/crates/listing" && rt run) >"$folder/log" 2>&1 || { cat "$folder/log"; exit 1; }
+python3 - "$folder/crates/listing/out/listing" <<'PYTHON'
+import resource
+import subprocess
+import sys
+import time
+
+begun = time.monotonic()
+said = subprocess.run([sys.argv[1]], stdout=subprocess.PIPE, check=True).stdout
+seconds = time.monotonic() - begun
+assert said == b"4096\n", said
+memory = resource.getrusage(resource.RUSAGE_CHILDREN).ru_maxrss / 1024
+print(f'4,096 views of 62,931 open views in {seconds:.2f} s and {memory:.0f} MiB')
+PYTHON

@@ -1,0 +1,7 @@
+pub mod Keys
+pub mod Limits
+pub mod Order
+pub mod Origins
+pub mod Search
+pub mod Steps
+pub mod Table

@@ -1,0 +1,184 @@
+//! The views of a role.
+ghost use Rattle.std.specs.Prelude.{◌≡◌, ℕ, ◌<◌, ◌≤◌, ◌++◌, [], ◌∷◌, length, map, insert, slice_get, All, Contains, IfErr, IfOk, IfSome, OnOk};
+ghost use Rattle.sg_model.specs.Lists.{below};
+ghost use Rattle.sg_model.specs.Shape.{source, receiver};
+ghost use Rattle.sg_protocol.specs.Evidence.{IsViewTable};
+ghost use Rattle.sg_protocol.specs.Graph.{Graph, shape};
+ghost use Rattle.sg_vis.specs.Limits.{Explains, FewOpen, IsFull, MatchViews};
+ghost use Rattle.sg_vis.specs.Order.{HoldsTable, StandsAt};
+ghost use Rattle.sg_vis.specs.Search.{AreRows, FollowedBelow, Keeps, LeadBack, Searched, Shown, ShownBelow, open_places};
+ghost use Rattle.sg_vis.specs.Steps.{leaving, next_view};
+ghost use Rattle.sg_vis.specs.Table.{Shows, views_of};
+
+use crate::leaving::{edges_from, leaving_each};
+use crate::places::Places;
+use crate::search::{all_places, walk_to};
+use crate::step::next_view;
+use crate::table::{Row, ViewTable, place_of};
+use crate::{View, ViewFault};
+use sg_base::{Label, OutOfMemory, Role, Seq};
+use sg_graph::Graph;
+use std::alloc::Global;
+
+const MOST_VIEWS: usize = 4_096;
+
+/// The table of a role's views: each once, in order, with a walk that shows it, and nothing else. It takes memory for the open views and
+/// for the table.
+pub fn views(alloc: Global, graph: &Graph, role: Role) -> Result<ViewTable, ViewFault>
+    ensures table { IfOk result (λ t. IsViewTable graph.now role (views_of t)) }
+    ensures walks { IfOk result (λ t. All (λ s. Shows graph.now role s.walk s.view) t) }
+    ensures few { IfOk result (λ t. length t ≤ 4096) }
+    ensures few_open { IfOk result (λ t. FewOpen graph.now role) }
+    ensures refused { IfErr result (Explains graph.now role) }
+{
+    let lists = leaving_each(alloc, graph).map_err(|_| ViewFault::OutOfMemory)?;
+    let places = all_places(alloc, graph, role, lists.as_slice())?;
+    let rows = all_rows(alloc, graph, role, lists.as_slice(), &places)?;
+    Ok(ViewTable { rows })
+}
+
+// The rows of all views, from the places before their last edges.
+fn all_rows(
+    alloc: Global,
+    graph: &Graph,
+    role: Role,
+    lists: &[Seq<Label>],
+    places: &Places,
+) -> Result<Vec<Row>, ViewFault>
+    requires lists { lists.now ≡ map (leaving graph.now) (below (length graph.now.nodes)) }
+    requires searched { Searched graph.now role places.now }
+    requires followed { FollowedBelow graph.now role places.now (length places.now) }
+    requires few { length (open_places places.now) ≤ 65536 }
+    ensures rows { IfOk result (λ rows. AreRows graph.now role rows.items) }
+    ensures shown { IfOk result (λ rows. ShownBelow graph.now role (views_of rows.items) places.now (length places.now)) }
+    ensures refused { IfErr result (Explains graph.now role) }
+{
+    let mut rows = Vec::new(alloc);
+    for at in 0..places.len() {
+        add_rows(alloc, graph, role, lists, places, at, &mut rows)?;
+    }
+    Ok(rows)
+}
+
+// Adds the views that the edges from a place lead to.
+fn add_rows(
+    alloc: Global,
+    graph: &Graph,
+    role: Role,
+    lists: &[Seq<Label>],
+    places: &Places,
+    at: usize,
+    rows: &mut Vec<Row>,
+) -> Result<(), ViewFault>
+    requires lists { lists.now ≡ map (leaving graph.now) (below (length graph.now.nodes)) }
+    requires searched { Searched graph.now role places.now }
+    requires followed { FollowedBelow graph.now role places.now (length places.now) }
+    requires few { length (open_places places.now) ≤ 65536 }
+    requires there { at < length places.now }
+    requires rows { AreRows graph.now role rows.old.items }
+    ensures rows { OnOk result (AreRows graph.now role rows.new.items) }
+    ensures keeps { OnOk result (Keeps (views_of rows.old.items) (views_of rows.new.items)) }
+    ensures shown { OnOk result (IfSome (slice_get places.now at) (Shown graph.now role (views_of rows.new.items))) }
+    ensures refused { IfErr result (Explains graph.now role) }
+{
+    let node = places.get(at).node;
+    for label in edges_from(graph, lists, node) {
+        if graph.receiver(*label) == role {
+            add_row(alloc, graph, role, places, at, *label, rows)?;
+        }
+    }
+    Ok(())
+}
+
+// Adds the view that an edge from a place leads to, if it is new.
+fn add_row(
+    alloc: Global,
+    graph: &Graph,
+    role: Role,
+    places: &Places,
+    at: usize,
+    label: Label,
+    rows: &mut Vec<Row>,
+) -> Result<(), ViewFault>
+    requires searched { Searched graph.now role places.now }
+    requires followed { FollowedBelow graph.now role places.now (length places.now) }
+    requires few { length (open_places places.now) ≤ 65536 }
+    requires there { at < length places.now }
+    requires label { label < length graph.now.edges }
+    requires source { IfSome (slice_get places.now at) (λ p. source (shape graph.now) label ≡ p.node) }
+    requires receiver { receiver (shape graph.now) label ≡ role }
+    requires rows { AreRows graph.now role rows.old.items }
+    ensures rows { OnOk result (AreRows graph.now role rows.new.items) }
+    ensures keeps { OnOk result (Keeps (views_of rows.old.items) (views_of rows.new.items)) }
+    ensures shown { OnOk result (IfSome (slice_get places.now at) (λ p. Contains (views_of rows.new.items) (next_view graph.now role p.view label))) }
+    ensures refused { IfErr result (Explains graph.now role) }
+{
+    let view = match next_view(alloc, graph, role, &places.get(at).view, label) {
+        Ok(view) => view,
+        Err(_) => return Err(ViewFault::OutOfMemory),
+    };
+    let Err(place) = place_of(rows.as_slice(), view.from, view.items.as_slice()) else {
+        return Ok(());
+    };
+    let walk = match walk_on(alloc, places, at, label) {
+        Ok(walk) => walk,
+        Err(_) => return Err(ViewFault::OutOfMemory),
+    };
+    put_row(alloc, rows, place, Row { view, walk })
+}
+
+// A walk to a place and one edge further.
+fn walk_on(
+    alloc: Global,
+    places: &Places,
+    at: usize,
+    label: Label,
+) -> Result<Seq<Label>, OutOfMemory>
+    requires there { at < length places.now }
+    requires back { LeadBack places.now }
+    ensures { (g : Graph) (r : ℕ) → Searched g r places.now → label < length g.edges → receiver (shape g) label ≡ r
+        → IfSome (slice_get places.now at) (λ p. source (shape g) label ≡ p.node)
+        → IfOk result (λ walk. IfSome (slice_get places.now at) (λ p. Shows g r walk (next_view g r p.view label))) }
+{
+    let mut walk = walk_to(alloc, places, at)?;
+    walk.push(label)?;
+    Ok(Seq::from_vec(walk))
+}
+
+// Puts a row in its place, if there aren't as many as there may be.
+fn put_row(alloc: Global, rows: &mut Vec<Row>, place: usize, row: Row) -> Result<(), ViewFault>
+    requires table { HoldsTable rows.old.items }
+    requires place { StandsAt rows.old.items row.view place }
+    ensures table { OnOk result (HoldsTable rows.new.items) }
+    ensures put { OnOk result (rows.new.items ≡ insert rows.old.items place row) }
+    ensures full { IfErr result (IsFull rows.old.items row.view) }
+{
+    if rows.len() == MOST_VIEWS {
+        return Err(too_many(alloc, rows.as_slice(), row.view));
+    }
+    match rows.insert(place, row) {
+        Ok(()) => Ok(()),
+        Err(_) => Err(ViewFault::OutOfMemory),
+    }
+}
+
+// The refusal with the views of all rows and one more.
+fn too_many(alloc: Global, rows: &[Row], view: View) -> ViewFault
+    ensures { MatchViews result (λ list. list ≡ views_of rows.now ++ view ∷ []) }
+{
+    match with_view(alloc, rows, view) {
+        Ok(list) => ViewFault::TooManyViews { list },
+        Err(_) => ViewFault::OutOfMemory,
+    }
+}
+
+fn with_view(alloc: Global, rows: &[Row], view: View) -> Result<Seq<View>, OutOfMemory>
+    ensures { IfOk result (λ list. list ≡ views_of rows.now ++ view ∷ []) }
+{
+    let mut list = Vec::new(alloc);
+    for row in rows {
+        list.push(row.view.copy(alloc)?)?;
+    }
+    list.push(view)?;
+    Ok(Seq::from_vec(list))
+}

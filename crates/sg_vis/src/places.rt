@@ -1,0 +1,182 @@
+//! The places that a search has found: a node, and what a role sees of a walk to it.
+ghost use Rattle.std.specs.Prelude.{◌≡◌, ◌<◌, ◌≤◌, ◌^◌, ◌++◌, ◌&&◌, [], ◌∷◌, Some, if◌then◌else◌, length, map, slice_get, IfOk, OnErr, OnOk};
+ghost use Rattle.sg_base.specs.Sets.{members};
+ghost use Rattle.sg_protocol.specs.Evidence.{mask};
+ghost use Rattle.sg_vis.specs.Keys.{AreKeyed, AreSets, key_of};
+ghost use Rattle.sg_vis.specs.Search.{Adds, Puts, is_open, open_places, open_view};
+
+use crate::order::{mask_of, number_of};
+use crate::{OpenView, Origin, Seen, View};
+use indexmap::IndexMap;
+use sg_base::{Label, NodeId, OutOfMemory, Seq};
+use std::alloc::Global;
+use std::marker::Model;
+
+/// A node, what a role sees of a walk to it, the place before it on that walk, and the label that leads on from there. At the role's own
+/// nodes nothing is kept of what it sees, since it begins anew with its next step.
+#[derive(Drop)]
+pub(crate) struct Place {
+    pub node: NodeId,
+    pub view: View,
+    pub before: usize,
+    pub label: Label,
+}
+
+/// Places in the order in which they were found, all different, and the number of those that are open views.
+#[derive(Drop)]
+pub(crate) struct Places {
+    alloc: Global,
+    found: IndexMap<Vec<u32>, Place>,
+    open: usize,
+}
+
+impl Model for Places {
+    ghost use Rattle.std.specs.Prelude.{List};
+    ghost use Rattle.sg_vis.specs.declared.places.Place.{Place};
+
+    ghost Value = { List Place };
+
+    ghost use Rattle.sg_vis.specs.Keys.{places_of, HoldsPlaces};
+
+    ghost view = { places_of };
+
+    ghost invariant = { HoldsPlaces };
+}
+
+impl Places {
+    /// No place. It takes no memory.
+    pub(crate) fn new(alloc: Global) -> Places
+        ensures { result ≡ [] }
+    {
+        Places {
+            alloc,
+            found: IndexMap::new(alloc),
+            open: 0,
+        }
+    }
+
+    /// The number of places.
+    pub(crate) fn len(&self) -> usize
+        ensures len { result ≡ length self.now }
+        ensures small { result < 2 ^ 63 }
+    {
+        self.found.len()
+    }
+
+    /// The number of places that are open views.
+    pub(crate) fn open(&self) -> usize
+        ensures { result ≡ length (open_places self.now) }
+    {
+        self.open
+    }
+
+    /// The place of a number.
+    pub(crate) fn get(&self, at: usize) -> &Place
+        requires { at < length self.now }
+        ensures { slice_get self.now at ≡ Some result.now }
+    {
+        match self.found.get_index(at) {
+            Some((_, place)) => place,
+            None => unreachable!(),
+        }
+    }
+
+    /// Puts a place at the end, if its node and view are not there.
+    pub(crate) fn add(&mut self, place: Place) -> Result<(), OutOfMemory>
+        requires { length (open_places self.old) ≤ 65536 }
+        ensures added { OnOk result (Adds self.old self.new place) }
+        ensures err { OnErr result (self.new ≡ self.old) }
+    {
+        let key = key_of(self.alloc, place.node, &place.view)?;
+        let opens = is_open(&place.view);
+        let new = put(&mut self.found, key, place)?;
+        self.open += one_if(new, opens);
+        Ok(())
+    }
+
+    /// The open views, each copied.
+    pub(crate) fn open_views(&self) -> Result<Seq<OpenView>, OutOfMemory>
+        ensures { IfOk result (λ list. list ≡ map open_view (open_places self.now)) }
+    {
+        let alloc = self.alloc;
+        let mut list = Vec::new(alloc);
+        for at in 0..self.len() {
+            let place = self.get(at);
+            if is_open(&place.view) {
+                list.push(copied(alloc, place)?)?;
+            }
+        }
+        Ok(Seq::from_vec(list))
+    }
+}
+
+// The open view of a place.
+fn copied(alloc: Global, place: &Place) -> Result<OpenView, OutOfMemory>
+    ensures { IfOk result (λ o. o ≡ open_view place.now) }
+{
+    Ok(OpenView {
+        node: place.node,
+        view: place.view.copy(alloc)?,
+    })
+}
+
+// Puts a place behind its key at the end, if the key is not there, and says whether it did.
+fn put(
+    found: &mut IndexMap<Vec<u32>, Place>,
+    key: Vec<u32>,
+    place: Place,
+) -> Result<bool, OutOfMemory>
+    requires keyed { AreKeyed found.old.entries }
+    requires key { key.items ≡ key_of place.node place.view }
+    requires sets { AreSets place.view.items }
+    ensures keyed { AreKeyed found.new.entries }
+    ensures put { IfOk result (Puts (map (λ e. e.1) found.old.entries) (map (λ e. e.1) found.new.entries) place) }
+    ensures err { OnErr result (found.new.entries ≡ found.old.entries) }
+{
+    if found.contains_key(&key) {
+        return Ok(false);
+    }
+    found.insert(key, place)?;
+    Ok(true)
+}
+
+// 1 where both hold, and else 0.
+fn one_if(new: bool, opens: bool) -> usize
+    ensures { result ≡ (if new && opens then 1 else 0) }
+{
+    if new && opens { 1 } else { 0 }
+}
+
+// Whether a step was taken.
+fn is_open(view: &View) -> bool
+    ensures { result ≡ is_open view.now }
+{
+    match view.from {
+        Origin::Start => view.items.len() > 0,
+        Origin::After(_) => true,
+    }
+}
+
+// A node and a view as one list of numbers.
+fn key_of(alloc: Global, node: NodeId, view: &View) -> Result<Vec<u32>, OutOfMemory>
+    ensures key { IfOk result (λ key. key.items ≡ key_of node view.now) }
+    ensures sets { IfOk result (λ key. AreSets view.now.items) }
+{
+    let mut key = Vec::new(alloc);
+    key.push(u32::from(node.0))?;
+    key.push(number_of(view.from))?;
+    for item in view.items.as_slice() {
+        put_item(&mut key, item)?;
+    }
+    Ok(key)
+}
+
+// Puts an item's label and mask at the end.
+fn put_item(key: &mut Vec<u32>, item: &Seen) -> Result<(), OutOfMemory>
+    ensures put { OnOk result (key.new.items ≡ key.old.items ++ item.now.label ∷ mask item.now.delta ∷ []) }
+    ensures set { OnOk result (members 32 (mask item.now.delta) ≡ item.now.delta) }
+{
+    key.push(u32::from(item.label.0))?;
+    key.push(mask_of(item.delta))?;
+    Ok(())
+}
