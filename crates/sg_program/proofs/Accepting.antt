@@ -1,0 +1,28 @@
+-- What the checks of a graph say together.
+use Rattle.std.proofs.Common.{◌≤◌, length}
+use Rattle.sg_model.specs.Shape.{Sighted}
+use Rattle.sg_check.specs.Shaped.{HasShape}
+use Rattle.sg_know.specs.Reads.{AcceptedReads}
+use Rattle.sg_protocol.specs.Accepted.{Accepted}
+use Rattle.sg_protocol.specs.Graph.{Graph, shape}
+
+-- the parts of an accepted graph
+pub accepted_from : (g : Graph) → 2 ≤ length g.roles → HasShape g → AcceptedReads g → Sighted (shape g) → Accepted g
+accepted_from g two s r b = record {
+  two_roles = two;
+  each_role_has_node = s.each_role_has_node;
+  no_self_edge = s.no_self_edge;
+  all_reached = s.all_reached;
+  writers_write = r.writers_write;
+  others_read = r.others_read;
+  reads_known = r.reads_known;
+  sighted = b;
+}
+
+-- its shape
+pub shape_of : (g : Graph) → Accepted g → HasShape g
+shape_of g a = record { no_self_edge = a.no_self_edge; all_reached = a.all_reached; each_role_has_node = a.each_role_has_node }
+
+-- its writes and reads
+pub reads_of : (g : Graph) → Accepted g → AcceptedReads g
+reads_of g a = record { writers_write = a.writers_write; others_read = a.others_read; reads_known = a.reads_known }

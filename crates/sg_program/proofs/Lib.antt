@@ -1,0 +1,16 @@
+pub mod Accepting
+pub mod Adding
+pub mod Alike
+pub mod Apart
+pub mod Behind
+pub mod Canonical
+pub mod Compiling
+pub mod Lines
+pub mod Once
+pub mod OneTable
+pub mod Only
+pub mod Places
+pub mod Reading
+pub mod SameName
+pub mod Tabled
+pub mod Tables

@@ -1,0 +1,9 @@
+use Rattle.std.proofs.lemmas.Option.{slice_get-get_or}
+use Rattle.std.proofs.Common.{sym, ap, ◌∙◌, Some}
+use Rattle.sg_program.proofs.Apart.{others_compiled}
+use Rattle.sg_program.proofs.all.compile_all.Goals as goal
+
+pub add_roles-requires-clause-new : goal.add_roles-requires-clause-new
+add_roles-requires-clause-new c =
+    others_compiled c.args.graphs.now c.loop-place.place c.index-graphs-place.result c.loop-place.programs c.requires.names
+    (slice_get-get_or c.args.graphs.now c.loop-place.place c.index-graphs-place.result c.loop-place-test.true ∙ ap Some (sym c.index-graphs-place.is)) c.loop-place.invariant.all

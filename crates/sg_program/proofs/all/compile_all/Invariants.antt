@@ -1,0 +1,12 @@
+use Rattle.std.proofs.Common.{◌≡◌, take}
+use Rattle.std.specs.List.{All}
+use Rattle.sg_protocol.specs.IsSchedule.{parts}
+use Rattle.sg_program.specs.All.{pairs_of}
+use Rattle.sg_program.specs.Compiled.{IsWhole}
+use Rattle.sg_program.proofs.all.compile_all.Given as goal
+
+abbrev pub invariant-loop-place : goal.invariant-loop-place
+invariant-loop-place l = record {
+  each : All IsWhole l.programs;
+  all : pairs_of l.programs ≡ parts (take l.place l.graphs);
+}

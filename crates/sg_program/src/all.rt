@@ -1,0 +1,83 @@
+//! The programs of several graphs.
+ghost use Rattle.std.specs.List.{All};
+ghost use Rattle.std.specs.Prelude.{◌≡◌, ◌≢◌, ◌≤◌, ◌<◌, ◌^◌, ◌++◌, length, map, IfErr, IfOk, IsTrue, OnOk};
+ghost use Rattle.sg_model.specs.Lists.{all_differ};
+ghost use Rattle.sg_protocol.specs.IsSchedule.{AreCompiled};
+ghost use Rattle.sg_protocol.specs.Texts.{real};
+ghost use Rattle.sg_program.specs.All.{IsAllFault, IsGraphFault, all_fault, pairs_of, roles_of};
+ghost use Rattle.sg_program.specs.Compiled.{IsWhole};
+
+use crate::check::{CompileFault, check_graph};
+use crate::compiler::compile_accepted;
+use crate::programs::Programs;
+use sg_base::Role;
+use sg_graph::Graph;
+use std::alloc::Global;
+use thiserror::Error;
+
+/// Why graphs aren't compiled.
+#[derive(Debug, Drop, Error)]
+pub enum AllFault {
+    /// The first graph that isn't compiled for one of its roles, by its place from 0, and the fault of its first such role. The fault
+    /// isn't want of memory.
+    #[error("graph {place}: {fault}")]
+    Refused { place: u32, fault: CompileFault },
+    /// Memory was wanted, and none was to be had.
+    #[error("out of memory")]
+    OutOfMemory,
+}
+
+/// The programs of all roles of all graphs, in order: each graph is checked once, and then compiled for its roles. It takes memory as
+/// compiling each does, and for the programs.
+pub fn compile_all(alloc: Global, graphs: &[Graph]) -> Result<Programs, AllFault>
+    requires names { IsTrue (all_differ (map (λ g. g.name) graphs.now)) }
+    requires two { All (λ g. 2 ≤ length g.roles) graphs.now }
+    requires few { length graphs.now < 2 ^ 32 }
+    ensures compiled { IfOk result (AreCompiled real graphs.now) }
+    ensures refused { IfErr result (IsAllFault graphs.now) }
+{
+    let mut programs = Programs::new(alloc);
+    for (place, graph) in graphs.iter().enumerate() {
+        add_roles(alloc, &mut programs, place as u32, graph)?;
+    }
+    Ok(programs)
+}
+
+// Adds the programs of all roles of a graph, whose place is told where it isn't compiled.
+fn add_roles(
+    alloc: Global,
+    programs: &mut Programs,
+    place: u32,
+    graph: &Graph,
+) -> Result<(), AllFault>
+    requires two { 2 ≤ length graph.now.roles }
+    requires each { All IsWhole programs.old }
+    requires new { All (λ q. q.graph.name ≢ graph.now.name) programs.old }
+    ensures each { OnOk result (All IsWhole programs.new) }
+    ensures added { OnOk result (pairs_of programs.new ≡ pairs_of programs.old ++ roles_of graph.now (length graph.now.roles)) }
+    ensures refused { IfErr result (IsGraphFault programs.old place graph.now) }
+{
+    if let Err(fault) = check_graph(alloc, graph) {
+        return Err(fault_at(place, fault));
+    }
+    for number in 0..graph.roles() {
+        match compile_accepted(alloc, graph, Role(number)) {
+            Ok(program) => match programs.push(program) {
+                Ok(()) => {}
+                Err(_) => return Err(AllFault::OutOfMemory),
+            },
+            Err(fault) => return Err(fault_at(place, fault)),
+        }
+    }
+    Ok(())
+}
+
+// A fault of the graph at its place.
+fn fault_at(place: u32, fault: CompileFault) -> AllFault
+    ensures { result ≡ all_fault place fault }
+{
+    match fault {
+        CompileFault::OutOfMemory => AllFault::OutOfMemory,
+        fault => AllFault::Refused { place, fault },
+    }
+}

@@ -1,0 +1,72 @@
+//! The check of a graph.
+ghost use Rattle.std.specs.Prelude.{◌≡◌, ◌≤◌, length, IfErr, OnOk};
+ghost use Rattle.sg_protocol.specs.Accepted.{Accepted};
+ghost use Rattle.sg_program.specs.Refused.{IsRefusal, reads_fault, blind_fault};
+
+use sg_base::Role;
+use sg_check::{BlindFault, ShapeFault, check_blinding, check_shape};
+use sg_graph::Graph;
+use sg_know::{ReadFault, check_reads};
+use sg_vis::ViewFault;
+use std::alloc::Global;
+use thiserror::Error;
+
+/// Why a graph isn't compiled: the first check that refuses it, with what it found.
+#[derive(Debug, Drop, Error)]
+pub enum CompileFault {
+    /// Its shape is wrong.
+    #[error("{0}")]
+    Shape(ShapeFault),
+    /// A write or a read is wrong. The fault isn't want of memory.
+    #[error("{0}")]
+    Reads(ReadFault),
+    /// A node blinds two roles. The fault isn't want of memory.
+    #[error("{0}")]
+    Blinding(BlindFault),
+    /// Too many views can reach the role. The fault isn't want of memory.
+    #[error("{fault}")]
+    Views { role: Role, fault: ViewFault },
+    /// Memory was wanted, and none was to be had.
+    #[error("out of memory")]
+    OutOfMemory,
+}
+
+/// Whether a graph is accepted: its shape is right, only writers write and what is read is known, and no node blinds two roles. The checks
+/// are made in this order, and the first that refuses answers. It takes memory for the walks that they follow.
+pub fn check_graph(alloc: Global, graph: &Graph) -> Result<(), CompileFault>
+    requires { 2 ≤ length graph.now.roles }
+    ensures accepted { OnOk result (Accepted graph.now) }
+    ensures refused { IfErr result (IsRefusal graph.now) }
+    ensures accepts { Accepted graph.now → IfErr result (λ fault. fault ≡ CompileFault.OutOfMemory) }
+{
+    if let Err(fault) = check_shape(graph) {
+        return Err(CompileFault::Shape(fault));
+    }
+    if let Err(fault) = check_reads(alloc, graph) {
+        return Err(of_reads(fault));
+    }
+    if let Err(fault) = check_blinding(alloc, graph) {
+        return Err(of_blinding(fault));
+    }
+    Ok(())
+}
+
+// A fault of what is written and read.
+fn of_reads(fault: ReadFault) -> CompileFault
+    ensures { result ≡ reads_fault fault }
+{
+    match fault {
+        ReadFault::OutOfMemory => CompileFault::OutOfMemory,
+        fault => CompileFault::Reads(fault),
+    }
+}
+
+// A fault of blinding.
+fn of_blinding(fault: BlindFault) -> CompileFault
+    ensures { result ≡ blind_fault fault }
+{
+    match fault {
+        BlindFault::OutOfMemory => CompileFault::OutOfMemory,
+        fault => CompileFault::Blinding(fault),
+    }
+}

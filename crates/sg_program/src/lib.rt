@@ -1,0 +1,27 @@
+//! Programs: a graph compiled for a role.
+//!
+//! A graph is accepted where its shape is right, only writers write and what is read is known, and no node blinds two roles; `check_graph`
+//! tells the first of these that it lacks. `compile` gives the program of an accepted graph for one of its roles: the graph with its
+//! digest, the table of all views that can reach the role, and for each edge the roles that must be able to check it later.
+//!
+//! A program has one text, which names its version, its role, its graph and the lines of its table. `Program::load` trusts none of it: it
+//! reads the graph, compiles it again, and compares the lines. `Programs` are found by a graph's name, and by its digest and a role.
+#![tactic(auto)]
+
+mod all;
+mod check;
+mod compiler;
+mod load;
+mod program;
+mod programs;
+mod text;
+
+pub use all::{AllFault, compile_all};
+pub use check::{CompileFault, check_graph};
+pub use compiler::compile;
+pub use load::LoadFault;
+pub use program::Program;
+pub use programs::{AddProgramFault, Programs};
+
+#[cfg(test)]
+mod tests;

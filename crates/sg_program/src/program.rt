@@ -1,0 +1,77 @@
+//! Programs.
+ghost use Rattle.std.specs.Prelude.{◌≡◌, All};
+ghost use Rattle.sg_protocol.specs.IsSchedule.{IsProgram};
+ghost use Rattle.sg_protocol.specs.Texts.{real};
+ghost use Rattle.sg_vis.specs.Table.{Shows, views_of};
+
+use sg_base::Role;
+use sg_graph::Graph;
+use sg_plan::TargetTable;
+use sg_vis::ViewTable;
+use std::marker::Model;
+
+/// An accepted graph, compiled for one of its roles: the graph's digest, the table of the role's views, and for each edge the roles that
+/// must be able to check it later.
+#[derive(Debug, Drop)]
+pub struct Program {
+    pub(crate) graph: Graph,
+    pub(crate) role: Role,
+    pub(crate) digest: [u8; 32],
+    pub(crate) views: ViewTable,
+    pub(crate) targets: TargetTable,
+}
+
+impl Model for Program {
+    ghost use Rattle.sg_protocol.specs.Keyring.{Program};
+
+    ghost Value = { Program };
+
+    ghost use Rattle.sg_program.specs.Inside.{program_of, HoldsProgram};
+
+    ghost view = { program_of };
+
+    ghost invariant = { HoldsProgram };
+}
+
+impl Program {
+    /// The graph. It takes no memory.
+    pub fn graph(&self) -> &Graph
+        ensures graph { result.now ≡ self.now.graph }
+        ensures program { IsProgram real self.now }
+    {
+        &self.graph
+    }
+
+    /// The role. It takes no memory.
+    pub fn role(&self) -> Role
+        ensures role { result ≡ self.now.role }
+        ensures program { IsProgram real self.now }
+    {
+        self.role
+    }
+
+    /// The graph's digest. It takes no memory.
+    pub fn digest(&self) -> &[u8; 32]
+        ensures digest { result.now ≡ self.now.digest }
+        ensures program { IsProgram real self.now }
+    {
+        &self.digest
+    }
+
+    /// The table of the role's views. Each walk in it shows its view. It takes no memory.
+    pub fn views(&self) -> &ViewTable
+        ensures views { views_of result.now ≡ self.now.views }
+        ensures shown { All (λ s. Shows self.now.graph self.now.role s.walk s.view) result.now }
+        ensures program { IsProgram real self.now }
+    {
+        &self.views
+    }
+
+    /// The targets of each edge. It takes no memory.
+    pub fn targets(&self) -> &TargetTable
+        ensures targets { result.now ≡ self.now.targets }
+        ensures program { IsProgram real self.now }
+    {
+        &self.targets
+    }
+}
