@@ -1,21 +1,36 @@
 -- What the words of the command line ask for.
 use Rattle.std.specs.Prelude.{ℕ, ◌==◌, Bool, if◌then◌else◌, List, [], ◌∷◌, codes, slice_index, Option, Some, None, bytes_eq}
+use Rattle.std.specs.List.{list_any}
 
 -- a command of the table
 pub data Command : Type 0 where
+  Check : (file : List ℕ) → Command
+  Compile : (file : List ℕ) → (role : List ℕ) → Command
   Replay : (file : List ℕ) → Command
 
 -- the word begins with -
 abbrev pub is_option : List ℕ → Bool
 is_option word = slice_index word 0 == 45
 
--- replay FILE
-abbrev pub replay_of : List (List ℕ) → Option Command
-replay_of [] = None
-replay_of (file ∷ []) = if is_option file then None else Some (Replay file)
-replay_of (file ∷ other ∷ more) = None
+-- check FILE, or replay FILE
+abbrev pub on_file : (name file : List ℕ) → Option Command
+on_file name file =
+    if bytes_eq name (codes "check") then Some (Check file)
+    else if bytes_eq name (codes "replay") then Some (Replay file)
+    else None
 
--- the command, where the words are in the table
+-- compile FILE ROLE
+abbrev pub on_file_and_role : (name file role : List ℕ) → Option Command
+on_file_and_role name file role = if bytes_eq name (codes "compile") then Some (Compile file role) else None
+
+-- the command, where there are as many words as it takes
+abbrev pub named : List (List ℕ) → Option Command
+named [] = None
+named (name ∷ []) = None
+named (name ∷ file ∷ []) = on_file name file
+named (name ∷ file ∷ role ∷ []) = on_file_and_role name file role
+named (name ∷ file ∷ role ∷ other ∷ more) = None
+
+-- the command, where the words are in the table and none begins with -
 abbrev pub command_of : List (List ℕ) → Option Command
-command_of [] = None
-command_of (word ∷ words) = if bytes_eq word (codes "replay") then replay_of words else None
+command_of words = if list_any is_option words then None else named words

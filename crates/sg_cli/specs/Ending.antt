@@ -1,18 +1,28 @@
 -- How the program ends, with which status, and what it says of it on standard error.
 use Rattle.std.specs.Prelude.{ℕ, List, [], ◌∷◌, ◌++◌, codes, Result, Ok, Err}
 use Rattle.std.specs.Fmt.{decimal}
+use Rattle.sg_protocol.specs.Graph.{Graph}
 use Rattle.sg_protocol.specs.Schedule.{Schedule}
+use Rattle.sg_parse.specs.declared.fault.ParseFault.{ParseFault}
+use Rattle.sg_program.specs.declared.check.CompileFault.{CompileFault}
 use Rattle.sg_sched.specs.declared.fault.Kind.{Kind}
 use Rattle.sg_sched.specs.declared.fault.Kind.TheVariants.{Form, Unknown, Twice, NotHonest, TooManySteps}
 use Rattle.sg_sched.specs.declared.fault.LineFault.{LineFault}
 use Rattle.sg_sched.specs.declared.fault.LineFault.TheVariants.{Line, OutOfMemory}
+use Rattle.sg_cli.specs.Refusal.{parse_text, refusal_text}
 
 -- how the program ends
 pub data Ending : Type 0 where
-  -- the report is written whole
-  Reported : Ending
+  -- the output is written whole
+  Written : Ending
   -- the words are not in the table of commands
   NoCommand : Ending
+  -- the bytes are no graph
+  NoGraph : ParseFault → Ending
+  -- the graph isn't accepted
+  GraphRefused : Graph → CompileFault → Ending
+  -- the graph has no role of this name
+  NoRole : (role : List ℕ) → Ending
   -- this line of the schedule is the first that is wrong
   WrongLine : (line : ℕ) → Kind → Ending
   -- the file could not be read
@@ -28,8 +38,11 @@ pub data Ending : Type 0 where
 
 -- the status of an ending
 abbrev pub status_of : Ending → ℕ
-status_of Reported = 0
+status_of Written = 0
 status_of NoCommand = 2
+status_of (NoGraph fault) = 3
+status_of (GraphRefused g fault) = 3
+status_of (NoRole role) = 4
 status_of (WrongLine line kind) = 4
 status_of (FileFailed file) = 5
 status_of WriteFailed = 6
@@ -47,8 +60,11 @@ kind_text TooManySteps = codes "too-many-steps"
 
 -- the line on standard error
 abbrev pub line_of : Ending → List ℕ
-line_of Reported = []
-line_of NoCommand = codes "usage: sessiongraph replay\n"
+line_of Written = []
+line_of NoCommand = codes "usage: sessiongraph check|compile|replay\n"
+line_of (NoGraph fault) = codes "graph refused: " ++ parse_text fault ++ 10 ∷ []
+line_of (GraphRefused g fault) = codes "graph refused: " ++ refusal_text g fault ++ 10 ∷ []
+line_of (NoRole role) = codes "input refused: role " ++ role ++ 10 ∷ []
 line_of (WrongLine line kind) = codes "input refused: line " ++ decimal line ++ 32 ∷ kind_text kind ++ 10 ∷ []
 line_of (FileFailed file) = codes "file failed: " ++ file ++ 10 ∷ []
 line_of WriteFailed = []
@@ -65,6 +81,6 @@ ending_of_line n kind = WrongLine n kind
 
 -- what the reading of a schedule ends with
 abbrev pub ending_of_read : Result Schedule LineFault → Ending
-ending_of_read (Ok s) = Reported
+ending_of_read (Ok s) = Written
 ending_of_read (Err (Line n kind)) = ending_of_line n kind
 ending_of_read (Err OutOfMemory) = NoMemory

@@ -1,13 +1,29 @@
 -- What the program leaves, and why it ends as it does.
-use Rattle.std.specs.Prelude.{◌≡◌, ◌≢◌, ℕ, ◌≤◌, ◌<◌, ◌⊎◌, List, [], Option, Some, None, length, IsSomeAnd, ⊤}
+use Rattle.std.specs.Prelude.{◌≡◌, ◌≢◌, ℕ, ◌≤◌, ◌<◌, ◌⊎◌, List, [], ◌∷◌, Option, Some, None, Err, length, slice_get, IsSomeAnd, IsTrue, ⊤}
 use Rattle.sg_base.specs.Outside.{HasRisen, Appends, AppendsFront, file_at}
+use Rattle.sg_protocol.specs.Accepted.{Accepted}
+use Rattle.sg_model.specs.Lists.{has_text}
+use Rattle.sg_protocol.specs.Graph.{Graph, role_name}
+use Rattle.sg_protocol.specs.IsSchedule.{AreCompiled, IsProgram}
+use Rattle.sg_protocol.specs.Keyring.{Program}
 use Rattle.sg_protocol.specs.Schedule.{Schedule}
+use Rattle.sg_protocol.specs.Texts.{real}
+use Rattle.sg_parse.specs.Grammar.{SpellsGraph}
+use Rattle.sg_parse.specs.Reading.{read as parsed}
+use Rattle.sg_program.specs.All.{IsAllFault}
+use Rattle.sg_program.specs.Compiled.{IsRefused}
+use Rattle.sg_program.specs.Refused.{IsRefusal}
+use Rattle.sg_program.specs.Text.{program_text}
+use Rattle.sg_program.specs.declared.all.AllFault.TheVariants.{Refused}
+use Rattle.sg_program.specs.declared.check.CompileFault.{CompileFault}
+use Rattle.sg_program.specs.declared.check.CompileFault.TheVariants.{OutOfMemory}
 use Rattle.sg_sched.specs.Spelled.{SpellsSchedule, read}
 use Rattle.sg_world.specs.Account.{account}
 use Rattle.sg_world.specs.Forms.{NoneJoinsTwice}
 use Rattle.sg_world.specs.Report.{IsReport}
-use Rattle.sg_cli.specs.Command.{Command, Replay, command_of}
-use Rattle.sg_cli.specs.Ending.{Ending, Reported, NoCommand, WrongLine, FileFailed, WriteFailed, NoMemory, NoSuchFile, TooLarge, status_of, line_of, ending_of_read}
+use Rattle.sg_cli.specs.Accepted.{check_text}
+use Rattle.sg_cli.specs.Command.{Command, Check, Compile, Replay, command_of}
+use Rattle.sg_cli.specs.Ending.{Ending, Written, NoCommand, NoGraph, GraphRefused, NoRole, WrongLine, FileFailed, WriteFailed, NoMemory, NoSuchFile, TooLarge, status_of, line_of, ending_of_read}
 
 -- files, each its name and its bytes, where they are told
 abbrev pub Told : Type 0
@@ -22,40 +38,124 @@ pub record Place : Type 0 where
   pub bytes : Option (List ℕ)
   pub faults : ℕ
 
--- the text is a report of the run of the schedule that the bytes spell, and no principal of it joins a session twice
+-- the text is written whole, or a front part of it where a write failed, which the count of faults shows
+abbrev pub Writes : (old new : Place) → List ℕ → Ending → Type 0
+Writes old new text Written = Appends old.bytes new.bytes text
+Writes old new text WriteFailed = AppendsFront old.bytes new.bytes text × HasRisen old.faults new.faults
+Writes old new text ending = ⊥
+
+-- ---- graphs
+
+-- the bytes are no graph, as their reading says, or memory was wanted
+abbrev pub IsNoGraph : List ℕ → Ending → Type 0
+IsNoGraph bytes (NoGraph fault) = parsed bytes ≡ Err fault
+IsNoGraph bytes NoMemory = ⊤
+IsNoGraph bytes ending = ⊥
+
+-- of the graphs, this is the first that isn't compiled for each of its roles, with the fault of the first such role
+abbrev pub IsFirstRefused : List Graph → Graph → CompileFault → Type 0
+IsFirstRefused graphs g fault = (place : ℕ) × (slice_get graphs place ≡ Some g) × IsAllFault graphs (Refused place fault)
+
+-- a graph was refused, or memory was wanted
+abbrev pub Refuses : List Graph → Ending → Type 0
+Refuses graphs (GraphRefused g fault) = IsFirstRefused graphs g fault
+Refuses graphs NoMemory = ⊤
+Refuses graphs ending = ⊥
+
+-- ---- check
+
+-- the text says of the graph that the bytes spell that it is accepted, and how many views each role has
+pub record IsCheck (bytes text : List ℕ) : Type 0 where
+  pub graph : Graph
+  pub programs : List Program
+  pub spelled : SpellsGraph bytes graph
+  pub compiled : AreCompiled real (graph ∷ []) programs
+  pub says : text ≡ check_text graph programs
+
+-- a check of these bytes ends so: the graph that they spell is accepted and its text written; else nothing is written, and the bytes are refused at their first wrong token, or their graph at its first fault, or memory was wanted
+abbrev pub Checks : List ℕ → (old new : Place) → Ending → Type 0
+Checks bytes old new NoMemory = new.bytes ≡ old.bytes
+Checks bytes old new (NoGraph fault) = (new.bytes ≡ old.bytes) × (parsed bytes ≡ Err fault)
+Checks bytes old new (GraphRefused g fault) = (new.bytes ≡ old.bytes) × SpellsGraph bytes g × IsFirstRefused (g ∷ []) g fault
+Checks bytes old new ending = (text : List ℕ) × IsCheck bytes text × Writes old new text ending
+
+-- ---- compile
+
+-- the text is that of the program of the graph that the bytes spell for its role of this name
+pub record IsCompilation (bytes name text : List ℕ) : Type 0 where
+  pub program : Program
+  pub is_program : IsProgram real program
+  pub spelled : SpellsGraph bytes program.graph
+  pub named : role_name program.graph program.role ≡ name
+  pub says : text ≡ program_text program
+
+-- the graph isn't accepted, or it has this role, and too many views can reach it
+abbrev pub IsRefusedFor : Graph → (name : List ℕ) → CompileFault → Type 0
+IsRefusedFor g name fault = (fault ≢ OutOfMemory) × (IsRefusal g fault ⊎ ((r : ℕ) × (r < length g.roles) × (role_name g r ≡ name) × IsRefused g r fault))
+
+-- a graph without a role of this name is refused: as a graph, or for the role where it is accepted; or memory was wanted
+abbrev pub RefusesRole : Graph → (name : List ℕ) → Ending → Type 0
+RefusesRole g name (GraphRefused h fault) = (h ≡ g) × (fault ≢ OutOfMemory) × IsRefusal g fault
+RefusesRole g name (NoRole role) = (role ≡ name) × Accepted g
+RefusesRole g name NoMemory = ⊤
+RefusesRole g name ending = ⊥
+
+-- the bytes spell an accepted graph that has no role of this name
+pub record LacksRole (bytes name : List ℕ) : Type 0 where
+  pub graph : Graph
+  pub spelled : SpellsGraph bytes graph
+  pub accepted : Accepted graph
+  pub lacks : IsTrue (has_text name graph.roles) → ⊥
+
+-- a compilation of these bytes for this name ends so: the program's text is written; else nothing is written, and the bytes are refused at their first wrong token, or their graph at its first fault, or it has no such role, or memory was wanted
+abbrev pub Compiles : (name bytes : List ℕ) → (old new : Place) → Ending → Type 0
+Compiles name bytes old new NoMemory = new.bytes ≡ old.bytes
+Compiles name bytes old new (NoGraph fault) = (new.bytes ≡ old.bytes) × (parsed bytes ≡ Err fault)
+Compiles name bytes old new (GraphRefused g fault) = (new.bytes ≡ old.bytes) × SpellsGraph bytes g × IsRefusedFor g name fault
+Compiles name bytes old new (NoRole role) = (new.bytes ≡ old.bytes) × (role ≡ name) × LacksRole bytes name
+Compiles name bytes old new ending = (text : List ℕ) × IsCompilation bytes name text × Writes old new text ending
+
+-- ---- replay
+
+-- the text is a report of the run of the schedule that the bytes spell, its graphs are compiled, and no principal of it joins a session twice
 pub record IsReplay (bytes text : List ℕ) : Type 0 where
   pub schedule : Schedule
+  pub programs : List Program
   pub spelled : SpellsSchedule bytes schedule
+  pub compiled : AreCompiled real schedule.graphs programs
   pub report : IsReport (account schedule) text
   pub once : NoneJoinsTwice schedule
 
--- a replay of these bytes ends so: the report is written whole, or a front part of it where a write failed, which its count of faults shows; else nothing is written, and the bytes are refused as their reading says, or memory was wanted
+-- a replay of these bytes ends so: the report is written; else nothing is written, and the bytes are refused as their reading says, or a graph at its first fault, or memory was wanted
 abbrev pub Replays : List ℕ → (old new : Place) → Ending → Type 0
-Replays bytes old new Reported = (text : List ℕ) × IsReplay bytes text × Appends old.bytes new.bytes text
-Replays bytes old new WriteFailed = (text : List ℕ) × IsReplay bytes text × AppendsFront old.bytes new.bytes text × HasRisen old.faults new.faults
 Replays bytes old new NoMemory = new.bytes ≡ old.bytes
 Replays bytes old new (WrongLine line kind) = (new.bytes ≡ old.bytes) × (ending_of_read (read bytes) ≡ WrongLine line kind)
 Replays bytes old new (TooLarge what) = (new.bytes ≡ old.bytes) × (ending_of_read (read bytes) ≡ TooLarge what)
-Replays bytes old new ending = ⊥
+Replays bytes old new (GraphRefused g fault) = (new.bytes ≡ old.bytes) × ((s : Schedule) × SpellsSchedule bytes s × IsFirstRefused s.graphs g fault)
+Replays bytes old new ending = (text : List ℕ) × IsReplay bytes text × Writes old new text ending
 
--- a file is not read: the files failed, which their count shows, there is no such file, it has more than 16 MiB, or memory was wanted
-abbrev pub IsUnread : List ℕ → Told → (faults faults' : ℕ) → Ending → Type 0
-IsUnread file told faults faults' (FileFailed word) = (word ≡ file) × HasRisen faults faults'
-IsUnread file told faults faults' (NoSuchFile word) = (word ≡ file) × Has told file None
-IsUnread file told faults faults' (TooLarge word) = (word ≡ file) × ((files : List (List ℕ × List ℕ)) → told ≡ Some files → IsSomeAnd (file_at files file) (λ bytes. 16777216 < length bytes))
-IsUnread file told faults faults' NoMemory = ⊤
-IsUnread file told faults faults' ending = ⊥
+-- ---- files
 
--- a replay of a file ends so: it is read and replayed, or it is not read and nothing is written
-abbrev pub ReplaysFile : List ℕ → Told → (faults faults' : ℕ) → (old new : Place) → Ending → Type 0
-ReplaysFile file told faults faults' old new ending =
-    ((bytes : List ℕ) × Has told file (Some bytes) × (length bytes ≤ 16777216) × Replays bytes old new ending)
-    ⊎ ((new.bytes ≡ old.bytes) × IsUnread file told faults faults' ending)
+-- a file is not read: the files failed, which their count shows, there is no such file, it has more bytes than it may have, or memory was wanted
+abbrev pub IsUnread : ℕ → List ℕ → Told → (faults faults' : ℕ) → Ending → Type 0
+IsUnread most file told faults faults' (FileFailed word) = (word ≡ file) × HasRisen faults faults'
+IsUnread most file told faults faults' (NoSuchFile word) = (word ≡ file) × Has told file None
+IsUnread most file told faults faults' (TooLarge word) = (word ≡ file) × ((files : List (List ℕ × List ℕ)) → told ≡ Some files → IsSomeAnd (file_at files file) (λ bytes. most < length bytes))
+IsUnread most file told faults faults' NoMemory = ⊤
+IsUnread most file told faults faults' ending = ⊥
+
+-- what is done with a file of at most so many bytes ends so: it is read and done with its bytes, or it is not read and nothing is written
+abbrev pub OnFile : (List ℕ → (old new : Place) → Ending → Type 0) → ℕ → List ℕ → Told → (faults faults' : ℕ) → (old new : Place) → Ending → Type 0
+OnFile Does most file told faults faults' old new ending =
+    ((bytes : List ℕ) × Has told file (Some bytes) × (length bytes ≤ most) × Does bytes old new ending)
+    ⊎ ((new.bytes ≡ old.bytes) × IsUnread most file told faults faults' ending)
 
 -- the work that a command asks for ends so
 abbrev pub Works : Option Command → Told → (faults faults' : ℕ) → (old new : Place) → Ending → Type 0
 Works None told faults faults' old new ending = (new.bytes ≡ old.bytes) × (ending ≡ NoCommand)
-Works (Some (Replay file)) told faults faults' old new ending = ReplaysFile file told faults faults' old new ending
+Works (Some (Check file)) told faults faults' old new ending = OnFile Checks 4194304 file told faults faults' old new ending
+Works (Some (Compile file role)) told faults faults' old new ending = OnFile (Compiles role) 4194304 file told faults faults' old new ending
+Works (Some (Replay file)) told faults faults' old new ending = OnFile Replays 16777216 file told faults faults' old new ending
 
 -- a line is written and its status given, or it is not taken whole, which the count of faults shows, and the status is that of a failed write
 abbrev pub Puts : (old new : Place) → (line : List ℕ) → (wanted status : ℕ) → Type 0

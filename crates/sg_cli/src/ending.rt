@@ -1,19 +1,29 @@
 //! How the program ends, and what it says of it.
-ghost use Rattle.std.specs.Prelude.{◌≡◌, ◌≢◌, ◌++◌, ◌∷◌, [], IfOk, OnErr, codes, decimal, string_bytes};
+ghost use Rattle.std.specs.Prelude.{◌≡◌, ◌≢◌, ◌++◌, ◌∷◌, [], IfOk, OnErr, OnOk, codes, decimal};
 ghost use Rattle.sg_cli.specs.Ending.{status_of, line_of, kind_text};
 ghost use Rattle.sg_cli.specs.Held.{ending_held};
 
-use sg_base::OutOfMemory;
+use crate::refusal::{put_no_graph, put_refusal};
+use sg_base::{ByteOut, OutOfMemory};
+use sg_graph::Graph;
+use sg_parse::ParseFault;
+use sg_program::CompileFault;
 use sg_sched::Kind;
 use std::alloc::Global;
 
 /// How the program ends.
-#[derive(Debug, Clone, Copy)]
+#[derive(Debug, Drop)]
 pub enum Ending<'w> {
-    /// The report is written whole.
-    Reported,
+    /// The output is written whole.
+    Written,
     /// The words are not in the table of commands.
     NoCommand,
+    /// The bytes are no graph: the fault of their first wrong token.
+    NoGraph { fault: ParseFault },
+    /// The graph isn't accepted: its first fault.
+    GraphRefused { graph: Graph, fault: CompileFault },
+    /// The graph has no role of this name.
+    NoRole { role: &'w str },
     /// This line of the schedule, counted from 1, is the first that is wrong.
     WrongLine { line: u32, kind: Kind },
     /// The file could not be read.
@@ -34,8 +44,11 @@ impl<'w> Ending<'w> {
         ensures { result ≡ status_of (ending_held self.now) }
     {
         match self {
-            Ending::Reported => 0,
+            Ending::Written => 0,
             Ending::NoCommand => 2,
+            Ending::NoGraph { .. } => 3,
+            Ending::GraphRefused { .. } => 3,
+            Ending::NoRole { .. } => 4,
             Ending::WrongLine { .. } => 4,
             Ending::FileFailed { .. } => 5,
             Ending::WriteFailed => 6,
@@ -45,27 +58,67 @@ impl<'w> Ending<'w> {
         }
     }
 
-    /// The line on standard error, with its line end; nothing, which takes no memory, where the report was to be written.
-    pub fn line(&self, alloc: Global) -> Result<String, OutOfMemory>
-        ensures value { IfOk result (λ text. string_bytes text ≡ line_of (ending_held self.now)) }
+    /// The line on standard error, with its line end; nothing, which takes no memory, where output was to be written.
+    pub fn line(&self, alloc: Global) -> Result<Vec<u8>, OutOfMemory>
+        ensures value { IfOk result (λ text. text.items ≡ line_of (ending_held self.now)) }
+        ensures memory { OnErr result (line_of (ending_held self.now) ≢ []) }
+    {
+        let mut out = ByteOut::new(alloc);
+        self.put_line(alloc, &mut out)?;
+        Ok(out.done())
+    }
+
+    // Writes the line.
+    fn put_line(&self, alloc: Global, out: &mut ByteOut) -> Result<(), OutOfMemory>
+        ensures value { OnOk result (out.new ≡ out.old ++ line_of (ending_held self.now)) }
         ensures memory { OnErr result (line_of (ending_held self.now) ≢ []) }
     {
         match self {
-            Ending::Reported | Ending::WriteFailed => Ok(String::new(alloc)),
-            Ending::NoCommand => String::from_str(alloc, "usage: sessiongraph replay\n"),
-            Ending::WrongLine { line, kind } => wrong_line(alloc, *line, kind_word(*kind)),
-            Ending::FileFailed { file } => format!(in alloc; "file failed: {file}\n"),
-            Ending::NoMemory => String::from_str(alloc, "out of memory\n"),
-            Ending::NoSuchFile { file } => format!(in alloc; "no such file: {file}\n"),
-            Ending::TooLarge { what } => format!(in alloc; "too large: {what}\n"),
+            Ending::Written | Ending::WriteFailed => Ok(()),
+            Ending::NoCommand => out.bytes(b"usage: sessiongraph check|compile|replay\n"),
+            Ending::NoGraph { fault } => put_no_graph(alloc, out, fault),
+            Ending::GraphRefused { graph, fault } => put_refusal(out, graph, fault),
+            Ending::NoRole { role } => put_word(out, b"input refused: role ", role),
+            Ending::WrongLine { line, kind } => put_wrong_line(alloc, out, *line, kind_word(*kind)),
+            Ending::FileFailed { file } => put_word(out, b"file failed: ", file),
+            Ending::NoMemory => out.bytes(b"out of memory\n"),
+            Ending::NoSuchFile { file } => put_word(out, b"no such file: ", file),
+            Ending::TooLarge { what } => put_word(out, b"too large: ", what),
         }
     }
 }
 
-fn wrong_line(alloc: Global, line: u32, word: &str) -> Result<String, OutOfMemory>
-    ensures { IfOk result (λ text. string_bytes text ≡ codes "input refused: line " ++ decimal line ++ 32 ∷ word.now ++ 10 ∷ []) }
+// Writes a line that ends with a word.
+fn put_word(out: &mut ByteOut, text: &[u8], word: &str) -> Result<(), OutOfMemory>
+    ensures { OnOk result (out.new ≡ out.old ++ (text.now ++ word.now ++ 10 ∷ [])) }
 {
-    format!(in alloc; "input refused: line {line} {word}\n")
+    out.bytes(text)?;
+    out.bytes(word.as_bytes())?;
+    out.u8(b'\n')
+}
+
+fn put_wrong_line(
+    alloc: Global,
+    out: &mut ByteOut,
+    line: u32,
+    word: &str,
+) -> Result<(), OutOfMemory>
+    ensures { OnOk result (out.new ≡ out.old ++ (codes "input refused: line " ++ decimal line ++ 32 ∷ word.now ++ 10 ∷ [])) }
+{
+    out.bytes(b"input refused: line ")?;
+    put_number_and_word(alloc, out, line, word)
+}
+
+fn put_number_and_word(
+    alloc: Global,
+    out: &mut ByteOut,
+    number: u32,
+    word: &str,
+) -> Result<(), OutOfMemory>
+    ensures { OnOk result (out.new ≡ out.old ++ (decimal number ++ 32 ∷ word.now ++ 10 ∷ [])) }
+{
+    out.decimal(alloc, number as u64)?;
+    put_word(out, b" ", word)
 }
 
 fn kind_word(kind: Kind) -> &'static str

@@ -1,9 +1,14 @@
-//! `sessiongraph`: replays schedules over session graphs.
+//! `sessiongraph`: checks and compiles session graphs, and replays schedules over them.
 #![tactic(auto)]
 
+mod check;
 mod command;
+mod compile;
 mod ending;
+mod file;
+mod graph;
 mod program;
+mod refusal;
 mod replay;
 #[cfg(test)]
 mod tests;

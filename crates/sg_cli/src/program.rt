@@ -4,7 +4,9 @@ ghost use Rattle.sg_cli.specs.Ends.{Works, Says, Puts, Ends};
 ghost use Rattle.sg_cli.specs.Command.{command_of};
 ghost use Rattle.sg_cli.specs.Held.{ending_held};
 
+use crate::check::check;
 use crate::command::{Command, read_command};
+use crate::compile::compile;
 use crate::ending::Ending;
 use crate::replay::replay;
 use sg_base::{Files, Sink, write_all};
@@ -12,8 +14,10 @@ use std::alloc::Global;
 
 /// Does what the words ask for, those after the program's name, and gives the exit status.
 ///
-/// `replay SCHEDULE` reads a schedule from a file, runs it, and writes the report of the run to `out`. Whatever comes, `err` gets one
-/// line that says why, but where the report was written.
+/// `check GRAPH` reads a graph from a file, compiles it for each of its roles, and writes to `out` that it is accepted, and how many views
+/// each role has. `compile GRAPH ROLE` compiles it for one role and writes the program. `replay SCHEDULE` reads a schedule from a file,
+/// compiles its graphs, runs it, and writes the report of the run. Whatever comes, `err` gets one line that says why, but where
+/// the output was written.
 pub fn top<F: Files, O: Sink, E: Sink>(
     alloc: Global,
     words: &[String],
@@ -40,6 +44,8 @@ fn work<'w, F: Files, O: Sink>(
 {
     match read_command(words) {
         None => Ending::NoCommand,
+        Some(Command::Check { file }) => check(alloc, file, files, out),
+        Some(Command::Compile { file, role }) => compile(alloc, file, role, files, out),
         Some(Command::Replay { file }) => replay(alloc, file, files, out),
     }
 }
@@ -49,7 +55,7 @@ fn say<E: Sink>(alloc: Global, work: &Ending<'_>, err: &mut E) -> u8
     ensures { Says (ending_held work.now) (record { bytes = E.written err.old; faults = E.faults err.old }) (record { bytes = E.written err.new; faults = E.faults err.new }) result }
 {
     match work.line(alloc) {
-        Ok(line) => put(err, line.as_str().as_bytes(), work.status()),
+        Ok(line) => put(err, line.as_slice(), work.status()),
         Err(_) => put(err, b"out of memory\n", 8),
     }
 }

@@ -1,6 +1,9 @@
-//! The command `replay`: reads a schedule, runs it, and writes the report of the run.
-ghost use Rattle.std.specs.Prelude.{◌≡◌, ◌≤◌, Some, Err, IfOk, IfErr, length};
-ghost use Rattle.sg_cli.specs.Ends.{Has, Replays, IsUnread, ReplaysFile};
+//! The command `replay`: reads a schedule, compiles its graphs, runs it, and writes the report of the run.
+ghost use Rattle.std.specs.Prelude.{◌≡◌, ◌≤◌, Err, IfOk, length};
+ghost use Rattle.sg_program.specs.All.{IsAllFault};
+ghost use Rattle.sg_protocol.specs.IsSchedule.{AreCompiled};
+ghost use Rattle.sg_protocol.specs.Texts.{real};
+ghost use Rattle.sg_cli.specs.Ends.{OnFile, Refuses, Replays};
 ghost use Rattle.sg_cli.specs.Ending.{ending_of_read};
 ghost use Rattle.sg_cli.specs.Held.{ending_held};
 ghost use Rattle.sg_sched.specs.Spelled.{SpellsSchedule};
@@ -9,7 +12,10 @@ ghost use Rattle.sg_world.specs.Forms.{IsPairSchedule};
 ghost use Rattle.sg_world.specs.Report.{IsReport};
 
 use crate::ending::Ending;
-use sg_base::{FileFault, Files, OutOfMemory, Sink, write_all};
+use crate::file::read_file;
+use sg_base::{Files, OutOfMemory, Sink, write_all};
+use sg_graph::Graph;
+use sg_program::{AllFault, Programs, compile_all};
 use sg_sched::{Kind, LineFault, Schedule, read_schedule};
 use sg_world::World;
 use std::alloc::Global;
@@ -24,30 +30,12 @@ pub fn replay<'w, F: Files, O: Sink>(
     files: &mut F,
     out: &mut O,
 ) -> Ending<'w>
-    ensures { ReplaysFile file.now (F.held files.old) (F.faults files.old) (F.faults files.new)
+    ensures { OnFile Replays 16_777_216 file.now (F.held files.old) (F.faults files.old) (F.faults files.new)
         (record { bytes = O.written out.old; faults = O.faults out.old }) (record { bytes = O.written out.new; faults = O.faults out.new }) (ending_held result) }
 {
-    match read_file(alloc, file, files) {
+    match read_file(alloc, file, files, MOST_BYTES) {
         Ok(bytes) => replay_bytes(alloc, bytes.as_slice(), out),
         Err(ending) => ending,
-    }
-}
-
-fn read_file<'w, F: Files>(
-    alloc: Global,
-    file: &'w str,
-    files: &mut F,
-) -> Result<Vec<u8>, Ending<'w>>
-    ensures few { IfOk result (λ bytes. length bytes.items ≤ 16_777_216) }
-    ensures found { IfOk result (λ bytes. Has (F.held files.old) file.now (Some bytes.items)) }
-    ensures unread { IfErr result (λ ending. IsUnread file.now (F.held files.old) (F.faults files.old) (F.faults files.new) (ending_held ending)) }
-{
-    match files.read(alloc, file, MOST_BYTES) {
-        Ok(Some(bytes)) => Ok(bytes),
-        Ok(None) => Err(Ending::NoSuchFile { file }),
-        Err(FileFault::Failed) => Err(Ending::FileFailed { file }),
-        Err(FileFault::TooLong) => Err(Ending::TooLarge { what: file }),
-        Err(FileFault::OutOfMemory) => Err(Ending::NoMemory),
     }
 }
 
@@ -61,7 +49,7 @@ fn replay_bytes<O: Sink>(alloc: Global, bytes: &[u8], out: &mut O) -> Ending<'st
     }
 }
 
-// Runs the schedule that the bytes spell, and writes the report.
+// Compiles the graphs of the schedule that the bytes spell, and runs it.
 fn replay_schedule<O: Sink>(
     alloc: Global,
     bytes: &[u8],
@@ -71,9 +59,41 @@ fn replay_schedule<O: Sink>(
     requires { SpellsSchedule bytes.now schedule.now }
     ensures { Replays bytes.now (record { bytes = O.written out.old; faults = O.faults out.old }) (record { bytes = O.written out.new; faults = O.faults out.new }) (ending_held result) }
 {
+    match compile_all(alloc, schedule.graphs.as_slice()) {
+        Ok(programs) => run_schedule(alloc, bytes, schedule, &programs, out),
+        Err(fault) => refused_graph(alloc, schedule.graphs.as_slice(), fault),
+    }
+}
+
+// How the program ends where a graph isn't compiled.
+fn refused_graph(alloc: Global, graphs: &[Graph], fault: AllFault) -> Ending<'static>
+    requires { IsAllFault graphs.now fault }
+    ensures { Refuses graphs.now (ending_held result) }
+{
+    let AllFault::Refused { place, fault } = fault else {
+        return Ending::NoMemory;
+    };
+    match graphs[place as usize].copy(alloc) {
+        Ok(graph) => Ending::GraphRefused { graph, fault },
+        Err(_) => Ending::NoMemory,
+    }
+}
+
+// Runs the schedule that the bytes spell, and writes the report.
+fn run_schedule<O: Sink>(
+    alloc: Global,
+    bytes: &[u8],
+    schedule: &Schedule,
+    programs: &Programs,
+    out: &mut O,
+) -> Ending<'static>
+    requires spelled { SpellsSchedule bytes.now schedule.now }
+    requires compiled { AreCompiled real schedule.now.graphs programs.now }
+    ensures { Replays bytes.now (record { bytes = O.written out.old; faults = O.faults out.old }) (record { bytes = O.written out.new; faults = O.faults out.new }) (ending_held result) }
+{
     match report_of(alloc, schedule) {
         Ok(text) => match write_all(out, text.as_slice()) {
-            Ok(()) => Ending::Reported,
+            Ok(()) => Ending::Written,
             Err(_) => Ending::WriteFailed,
         },
         Err(_) => Ending::NoMemory,

@@ -19,7 +19,7 @@ fn run(alloc: Global, words: &[&str], bytes: Vec<u8>, room: u32) -> Result<Left,
         held.push(String::from_str(alloc, word)?)?;
     }
     let mut out = MemSink::new(alloc, room, Vec::new(alloc))?;
-    let mut err = MemSink::new(alloc, 100, Vec::new(alloc))?;
+    let mut err = MemSink::new(alloc, 1_000, Vec::new(alloc))?;
     let status = top(alloc, held.as_slice(), &mut files, &mut out, &mut err);
     Ok(Left { status, out, err })
 }
@@ -87,37 +87,79 @@ fn reports_no_steps_as_two_premises(rt: HostRuntime) -> Result<(), OutOfMemory> 
     Ok(())
 }
 
-// Whether a run ends with this status and line, and writes no report.
-fn ends(left: &Left, status: u8, line: &str) -> bool {
-    left.status == status && left.out.bytes().is_empty() && left.err.bytes() == line.as_bytes()
+// Whether a run of the words over a file of the bytes ends with this status and line, and writes
+// no report.
+fn refuses(
+    alloc: Global,
+    words: &[&str],
+    bytes: Vec<u8>,
+    status: u8,
+    line: &str,
+) -> Result<bool, OutOfMemory> {
+    let left = run(alloc, words, bytes, 10)?;
+    let written = left.out.bytes().is_empty() && left.err.bytes() == line.as_bytes();
+    Ok(left.status == status && written)
+}
+
+// Whether a run of the words over a file of the text ends with this status and line.
+fn refuses_text(
+    alloc: Global,
+    words: &[&str],
+    text: &str,
+    status: u8,
+    line: &str,
+) -> Result<bool, OutOfMemory> {
+    let bytes = Vec::from_slice(alloc, text.as_bytes())?;
+    refuses(alloc, words, bytes, status, line)
+}
+
+// Whether the words are no command.
+fn is_no_command(alloc: Global, words: &[&str]) -> Result<bool, OutOfMemory> {
+    refuses(
+        alloc,
+        words,
+        Vec::new(alloc),
+        2,
+        "usage: sessiongraph check|compile|replay\n",
+    )
+}
+
+// Whether a file of this many bytes is too large for the words.
+fn is_too_large(alloc: Global, words: &[&str], count: usize) -> Result<bool, OutOfMemory> {
+    let bytes = vec![in alloc; 10; count]?;
+    refuses(alloc, words, bytes, 10, "too large: f\n")
 }
 
 #[test]
 fn refuses_what_is_no_schedule(rt: HostRuntime) -> Result<(), OutOfMemory> {
     let alloc = rt.alloc();
-    let left = replayed(alloc, "honest 9\n")?;
-    assert!(rt; ends(&left, 4, "input refused: line 1 form\n"));
-    let left = replayed(alloc, "honest a\nhonest a\n")?;
-    assert!(rt; ends(&left, 4, "input refused: line 2 twice\n"));
+    let line = "input refused: line 1 form\n";
+    assert!(rt; refuses_text(alloc, &["replay", "f"], "honest 9\n", 4, line)?);
+    let line = "input refused: line 2 twice\n";
+    assert!(rt; refuses_text(alloc, &["replay", "f"], "honest a\nhonest a\n", 4, line)?);
     Ok(())
 }
 
 #[test]
-fn refuses_words_and_files(rt: HostRuntime) -> Result<(), OutOfMemory> {
+fn refuses_words_that_are_no_command(rt: HostRuntime) -> Result<(), OutOfMemory> {
     let alloc = rt.alloc();
-    let usage = "usage: sessiongraph replay\n";
-    let left = run(alloc, &[], Vec::new(alloc), 10)?;
-    assert!(rt; ends(&left, 2, usage));
-    let left = run(alloc, &["replay"], Vec::new(alloc), 10)?;
-    assert!(rt; ends(&left, 2, usage));
-    let left = run(alloc, &["replay", "-f"], Vec::new(alloc), 10)?;
-    assert!(rt; ends(&left, 2, usage));
-    let left = run(alloc, &["replay", "f", "f"], Vec::new(alloc), 10)?;
-    assert!(rt; ends(&left, 2, usage));
-    let left = run(alloc, &["replay", "g"], Vec::new(alloc), 10)?;
-    assert!(rt; ends(&left, 9, "no such file: g\n"));
-    let left = run(alloc, &["replay", "f"], vec![in alloc; 10; 16_777_217]?, 10)?;
-    assert!(rt; ends(&left, 10, "too large: f\n"));
+    assert!(rt; is_no_command(alloc, &[])?);
+    assert!(rt; is_no_command(alloc, &["check"])?);
+    assert!(rt; is_no_command(alloc, &["draw", "f"])?);
+    assert!(rt; is_no_command(alloc, &["compile", "f"])?);
+    assert!(rt; is_no_command(alloc, &["compile", "f", "-b"])?);
+    assert!(rt; is_no_command(alloc, &["replay"])?);
+    assert!(rt; is_no_command(alloc, &["replay", "-f"])?);
+    assert!(rt; is_no_command(alloc, &["replay", "f", "f"])?);
+    Ok(())
+}
+
+#[test]
+fn refuses_files(rt: HostRuntime) -> Result<(), OutOfMemory> {
+    let alloc = rt.alloc();
+    assert!(rt; refuses_text(alloc, &["replay", "g"], "", 9, "no such file: g\n")?);
+    assert!(rt; is_too_large(alloc, &["replay", "f"], 16_777_217)?);
+    assert!(rt; is_too_large(alloc, &["check", "f"], 4_194_305)?);
     Ok(())
 }
 
@@ -128,5 +170,98 @@ fn a_report_that_is_not_taken_ends_with_6(rt: HostRuntime) -> Result<(), OutOfMe
     assert!(rt; left.status == 6);
     assert!(rt; left.out.bytes() == b"premise un".as_slice());
     assert!(rt; left.err.bytes().is_empty());
+    Ok(())
+}
+
+const NOTE: &str = "graph note;role a;role b;var x:int by a b;node n0:a;node n1:b;node n2:a;\
+    edge Bid:n0->n1 writes x reads x;edge Ask:n1->n2 writes x reads x;";
+
+const SKIPPED: &str = "graph g;role c;role p;role w;var x:int by c;node n0:c;node n1:p;node n2:w;\
+    edge Give:n0->n1 writes x reads x;edge Skip:n0->n1;edge Tell:n1->n2 reads x;";
+
+const BLINDED: &str =
+    "graph g;role c;role d;role a;role b;node n0:c;node n1:d;node n2:d;node n3:a;node n4:b;\
+    edge L1:n0->n1;edge L2:n0->n2;edge DA:n1->n3;edge DB:n2->n4;";
+
+#[test]
+fn accepts_a_graph(rt: HostRuntime) -> Result<(), OutOfMemory> {
+    let alloc = rt.alloc();
+    let bytes = Vec::from_slice(alloc, NOTE.as_bytes())?;
+    let left = run(alloc, &["check", "f"], bytes, 100)?;
+    assert!(rt; left.status == 0);
+    assert!(rt; left.out.bytes() == b"accepted note\nviews a 1\nviews b 1\n".as_slice());
+    assert!(rt; left.err.bytes().is_empty());
+    Ok(())
+}
+
+// What `note` compiles to for its role `b`.
+const PROGRAM: &str = "sg-program 2\n\
+    role b\n\
+    graph note;\n\
+    role a;\n\
+    role b;\n\
+    var x: int by a b;\n\
+    node n0: a;\n\
+    node n1: b;\n\
+    node n2: a;\n\
+    edge Bid: n0 -> n1 writes x reads x;\n\
+    edge Ask: n1 -> n2 writes x reads x;\n\
+    table\n\
+    turn n1: Ask\n\
+    view start: Bid/00000001\n\
+    end\n";
+
+#[test]
+fn compiles_a_graph(rt: HostRuntime) -> Result<(), OutOfMemory> {
+    let alloc = rt.alloc();
+    let bytes = Vec::from_slice(alloc, NOTE.as_bytes())?;
+    let left = run(alloc, &["compile", "f", "b"], bytes, 1_000)?;
+    assert!(rt; left.status == 0);
+    assert!(rt; left.out.bytes() == PROGRAM.as_bytes());
+    assert!(rt; left.err.bytes().is_empty());
+    Ok(())
+}
+
+#[test]
+fn refuses_a_role_after_the_graph(rt: HostRuntime) -> Result<(), OutOfMemory> {
+    let alloc = rt.alloc();
+    let line = "input refused: role z\n";
+    assert!(rt; refuses_text(alloc, &["compile", "f", "z"], NOTE, 4, line)?);
+    let line = "graph refused: blinding at n0 for a and b: L1 DA / L2 DB\n";
+    assert!(rt; refuses_text(alloc, &["compile", "f", "z"], BLINDED, 3, line)?);
+    Ok(())
+}
+
+// Whether the graph is refused with this line.
+fn refuses_graph(alloc: Global, graph: &str, line: &str) -> Result<bool, OutOfMemory> {
+    refuses_text(alloc, &["check", "f"], graph, 3, line)
+}
+
+#[test]
+fn refuses_what_is_no_graph(rt: HostRuntime) -> Result<(), OutOfMemory> {
+    let graph = "graph g;role a;role b;var x:int by a a;";
+    assert!(rt; refuses_graph(rt.alloc(), graph, "graph refused: twice at 37\n")?);
+    Ok(())
+}
+
+#[test]
+fn refuses_a_read_of_what_is_unknown(rt: HostRuntime) -> Result<(), OutOfMemory> {
+    let line = "graph refused: bad read Tell x on Skip Tell\n";
+    assert!(rt; refuses_graph(rt.alloc(), SKIPPED, line)?);
+    Ok(())
+}
+
+#[test]
+fn refuses_a_blinding(rt: HostRuntime) -> Result<(), OutOfMemory> {
+    let line = "graph refused: blinding at n0 for a and b: L1 DA / L2 DB\n";
+    assert!(rt; refuses_graph(rt.alloc(), BLINDED, line)?);
+    Ok(())
+}
+
+#[test]
+fn refuses_a_schedule_whose_graph_is_refused(rt: HostRuntime) -> Result<(), OutOfMemory> {
+    let schedule = "edge Request 0 1\nedge Late 2 3\n";
+    let line = "graph refused: unreachable n2\n";
+    assert!(rt; refuses_text(rt.alloc(), &["replay", "f"], schedule, 3, line)?);
     Ok(())
 }

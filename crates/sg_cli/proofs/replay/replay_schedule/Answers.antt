@@ -1,27 +1,17 @@
-use Rattle.std.proofs.Common.{sym, subst}
-use Rattle.sg_world.specs.Account.{account}
-use Rattle.sg_world.specs.Report.{IsReport}
-use Rattle.sg_world.proofs.Once.{none_twice}
-use Rattle.sg_world.proofs.Spelled.{spelled_pair, spelled_few}
+use Rattle.std.proofs.Common.{◌≤◌, length, ap, ◌∙◌, arith}
+use Rattle.sg_protocol.specs.Schedule.{Schedule}
+use Rattle.sg_cli.proofs.TwoRoles.{two_roles, one_graph, names_differ}
 use Rattle.sg_cli.proofs.replay.replay_schedule.Goals as goal
 
-pub report_of-requires-clause-form : goal.report_of-requires-clause-form
-report_of-requires-clause-form g c = spelled_pair c.args.bytes.now c.args.schedule.now c.requires
+pub compile_all-requires-clause-names : goal.compile_all-requires-clause-names
+compile_all-requires-clause-names g c =
+    names_differ c.as_slice.result.now (one_graph c.args.bytes.now c.args.schedule.now c.as_slice.result.now c.requires (c.as_slice.ensures ∙ ap (λ (s : Schedule). s.graphs) c.schedule.view_is))
 
-pub report_of-requires-clause-few : goal.report_of-requires-clause-few
-report_of-requires-clause-few g c = spelled_few c.args.bytes.now c.args.schedule.now c.requires
+pub compile_all-requires-clause-two : goal.compile_all-requires-clause-two
+compile_all-requires-clause-two g c =
+    two_roles c.args.bytes.now c.args.schedule.now c.as_slice.result.now c.requires (c.as_slice.ensures ∙ ap (λ (s : Schedule). s.graphs) c.schedule.view_is)
 
-pub returns-in-Ok-write_all : goal.returns-in-Ok-write_all
-returns-in-Ok-write_all g c = (
-  c.as_slice.result.now,
-  record { schedule = c.args.schedule.now; spelled = c.requires; report = subst (IsReport (account c.args.schedule.now)) (sym c.as_slice.ensures.value) c.in-Ok.ensures; once = none_twice c.args.schedule.now },
-  c.in-Ok-write_all.ensures.whole,
-)
-
-pub returns-in-Ok : goal.returns-in-Ok
-returns-in-Ok g c = (
-  c.as_slice.result.now,
-  record { schedule = c.args.schedule.now; spelled = c.requires; report = subst (IsReport (account c.args.schedule.now)) (sym c.as_slice.ensures.value) c.in-Ok.ensures; once = none_twice c.args.schedule.now },
-  c.in-Err-write_all.ensures.front,
-  c.in-Err-write_all.ensures.failed,
-)
+pub compile_all-requires-clause-few : goal.compile_all-requires-clause-few
+compile_all-requires-clause-few g c =
+    let one : length c.as_slice.result.now ≤ 1 = one_graph c.args.bytes.now c.args.schedule.now c.as_slice.result.now c.requires (c.as_slice.ensures ∙ ap (λ (s : Schedule). s.graphs) c.schedule.view_is) in
+    omega (arith, one)

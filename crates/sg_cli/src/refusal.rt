@@ -1,0 +1,261 @@
+//! Why a graph is refused, in words.
+ghost use Rattle.std.specs.Prelude.{◌≡◌, ◌++◌, ◌∷◌, [], OnOk, codes, decimal};
+ghost use Rattle.sg_protocol.specs.Graph.{role_name, variable_name, node_name};
+ghost use Rattle.sg_graph.specs.Parts.{edge_name};
+ghost use Rattle.sg_cli.specs.Refusal.{parse_text, shape_text, reads_text, roles_text, blinded_text, walks_text, blinding_text, views_text, refusal_text, place_text, walk_text};
+
+use sg_base::{ByteOut, Label, NodeId, OutOfMemory, Role, Var};
+use sg_check::{BlindFault, ShapeFault};
+use sg_graph::Graph;
+use sg_know::ReadFault;
+use sg_parse::ParseFault;
+use sg_program::CompileFault;
+use sg_vis::ViewFault;
+use std::alloc::Global;
+
+/// Writes the line that says where bytes are no graph.
+pub fn put_no_graph(alloc: Global, out: &mut ByteOut, fault: &ParseFault) -> Result<(), OutOfMemory>
+    ensures { OnOk result (out.new ≡ out.old ++ (codes "graph refused: " ++ parse_text fault.now ++ 10 ∷ [])) }
+{
+    out.bytes(b"graph refused: ")?;
+    put_parse(alloc, out, fault)?;
+    out.u8(b'\n')
+}
+
+fn put_parse(alloc: Global, out: &mut ByteOut, fault: &ParseFault) -> Result<(), OutOfMemory>
+    ensures { OnOk result (out.new ≡ out.old ++ parse_text fault.now) }
+{
+    match fault {
+        ParseFault::BadByte { at } => put_offset(alloc, out, b"bad byte at ", *at),
+        ParseFault::Unexpected { at } => put_offset(alloc, out, b"unexpected at ", *at),
+        ParseFault::UnknownName { at } => put_offset(alloc, out, b"unknown name at ", *at),
+        ParseFault::Twice { at } => put_offset(alloc, out, b"twice at ", *at),
+        ParseFault::TooMany { at } => put_offset(alloc, out, b"too many at ", *at),
+        ParseFault::OutOfMemory => Ok(()),
+    }
+}
+
+fn put_offset(alloc: Global, out: &mut ByteOut, text: &[u8], at: usize) -> Result<(), OutOfMemory>
+    ensures { OnOk result (out.new ≡ out.old ++ (text.now ++ decimal at)) }
+{
+    out.bytes(text)?;
+    out.decimal(alloc, at as u64)
+}
+
+/// Writes the line that says why a graph isn't accepted.
+pub fn put_refusal(
+    out: &mut ByteOut,
+    graph: &Graph,
+    fault: &CompileFault,
+) -> Result<(), OutOfMemory>
+    ensures { OnOk result (out.new ≡ out.old ++ (codes "graph refused: " ++ refusal_text graph.now fault.now ++ 10 ∷ [])) }
+{
+    out.bytes(b"graph refused: ")?;
+    put_cause(out, graph, fault)?;
+    out.u8(b'\n')
+}
+
+fn put_cause(out: &mut ByteOut, graph: &Graph, fault: &CompileFault) -> Result<(), OutOfMemory>
+    ensures { OnOk result (out.new ≡ out.old ++ refusal_text graph.now fault.now) }
+{
+    match fault {
+        CompileFault::Shape(fault) => put_shape(out, graph, fault),
+        CompileFault::Reads(fault) => put_reads(out, graph, fault),
+        CompileFault::Blinding(fault) => put_blinding(out, graph, fault),
+        CompileFault::Views { role, fault } => put_views(out, graph, *role, fault),
+        CompileFault::OutOfMemory => Ok(()),
+    }
+}
+
+fn put_shape(out: &mut ByteOut, graph: &Graph, fault: &ShapeFault) -> Result<(), OutOfMemory>
+    ensures { OnOk result (out.new ≡ out.old ++ shape_text graph.now fault.now) }
+{
+    match fault {
+        ShapeFault::SelfEdge { label } => {
+            out.bytes(b"self edge ")?;
+            put_label(out, graph, *label)
+        }
+        ShapeFault::Unreachable { node } => put_unreachable(out, graph, *node),
+        ShapeFault::IdleRole { role } => {
+            out.bytes(b"idle role ")?;
+            put_role(out, graph, *role)
+        }
+    }
+}
+
+fn put_unreachable(out: &mut ByteOut, graph: &Graph, node: NodeId) -> Result<(), OutOfMemory>
+    ensures { OnOk result (out.new ≡ out.old ++ (codes "unreachable " ++ node_name graph.now node)) }
+{
+    out.bytes(b"unreachable ")?;
+    put_node(out, graph, node)
+}
+
+fn put_reads(out: &mut ByteOut, graph: &Graph, fault: &ReadFault) -> Result<(), OutOfMemory>
+    ensures { OnOk result (out.new ≡ out.old ++ reads_text graph.now fault.now) }
+{
+    match fault {
+        ReadFault::NotWriter { label, var } => {
+            out.bytes(b"not writer ")?;
+            put_place(out, graph, *label, *var)
+        }
+        ReadFault::ReadsOwn { label, var } => {
+            out.bytes(b"reads own ")?;
+            put_place(out, graph, *label, *var)
+        }
+        ReadFault::BadRead { label, var, walk } => {
+            out.bytes(b"bad read ")?;
+            put_place(out, graph, *label, *var)?;
+            out.bytes(b" on")?;
+            put_walk(out, graph, walk.as_slice())
+        }
+        ReadFault::OutOfMemory => Ok(()),
+    }
+}
+
+fn put_blinding(out: &mut ByteOut, graph: &Graph, fault: &BlindFault) -> Result<(), OutOfMemory>
+    ensures { OnOk result (out.new ≡ out.old ++ blinding_text graph.now fault.now) }
+{
+    match fault {
+        BlindFault::Blinding {
+            node,
+            a,
+            b,
+            walk_a,
+            walk_b,
+        } => {
+            put_blinded(out, graph, *node, *a, *b)?;
+            put_walks(out, graph, walk_a.as_slice(), walk_b.as_slice())
+        }
+        BlindFault::OutOfMemory => Ok(()),
+    }
+}
+
+// Writes where two roles are blinded.
+fn put_blinded(
+    out: &mut ByteOut,
+    graph: &Graph,
+    node: NodeId,
+    a: Role,
+    b: Role,
+) -> Result<(), OutOfMemory>
+    ensures { OnOk result (out.new ≡ out.old ++ blinded_text graph.now node a b) }
+{
+    out.bytes(b"blinding at ")?;
+    put_node(out, graph, node)?;
+    put_roles(out, graph, a, b)
+}
+
+// Writes two roles.
+fn put_roles(out: &mut ByteOut, graph: &Graph, a: Role, b: Role) -> Result<(), OutOfMemory>
+    ensures { OnOk result (out.new ≡ out.old ++ roles_text graph.now a b) }
+{
+    out.bytes(b" for ")?;
+    put_role(out, graph, a)?;
+    out.bytes(b" and ")?;
+    put_role(out, graph, b)
+}
+
+// Writes a walk to each of two roles.
+fn put_walks(
+    out: &mut ByteOut,
+    graph: &Graph,
+    walk_a: &[Label],
+    walk_b: &[Label],
+) -> Result<(), OutOfMemory>
+    ensures { OnOk result (out.new ≡ out.old ++ walks_text graph.now walk_a.now walk_b.now) }
+{
+    out.bytes(b":")?;
+    put_walk(out, graph, walk_a)?;
+    out.bytes(b" /")?;
+    put_walk(out, graph, walk_b)
+}
+
+fn put_views(
+    out: &mut ByteOut,
+    graph: &Graph,
+    role: Role,
+    fault: &ViewFault,
+) -> Result<(), OutOfMemory>
+    ensures { OnOk result (out.new ≡ out.old ++ views_text graph.now role fault.now) }
+{
+    match fault {
+        ViewFault::TooManyOpen { .. } => put_many(out, graph, b"too many open views for ", role),
+        ViewFault::TooManyViews { .. } => put_many(out, graph, b"too many views for ", role),
+        ViewFault::OutOfMemory => Ok(()),
+    }
+}
+
+// Writes of which role there is too much.
+fn put_many(out: &mut ByteOut, graph: &Graph, text: &[u8], role: Role) -> Result<(), OutOfMemory>
+    ensures { OnOk result (out.new ≡ out.old ++ (text.now ++ role_name graph.now role)) }
+{
+    out.bytes(text)?;
+    put_role(out, graph, role)
+}
+
+// Writes a label and a variable.
+fn put_place(out: &mut ByteOut, graph: &Graph, label: Label, var: Var) -> Result<(), OutOfMemory>
+    ensures { OnOk result (out.new ≡ out.old ++ place_text graph.now label var) }
+{
+    put_label(out, graph, label)?;
+    out.u8(b' ')?;
+    put_var(out, graph, var)
+}
+
+// Writes the labels of a walk, each after a space.
+fn put_walk(out: &mut ByteOut, graph: &Graph, walk: &[Label]) -> Result<(), OutOfMemory>
+    ensures { OnOk result (out.new ≡ out.old ++ walk_text graph.now walk.now) }
+{
+    for label in walk {
+        put_next(out, graph, *label)?;
+    }
+    Ok(())
+}
+
+// Writes a label of a walk.
+fn put_next(out: &mut ByteOut, graph: &Graph, label: Label) -> Result<(), OutOfMemory>
+    ensures { OnOk result (out.new ≡ out.old ++ 32 ∷ edge_name graph.now label) }
+{
+    out.u8(b' ')?;
+    put_label(out, graph, label)
+}
+
+// Writes the name of a label's edge, nothing where no edge has the label.
+fn put_label(out: &mut ByteOut, graph: &Graph, label: Label) -> Result<(), OutOfMemory>
+    ensures { OnOk result (out.new ≡ out.old ++ edge_name graph.now label) }
+{
+    if label.0 >= graph.edges() {
+        return Ok(());
+    }
+    out.bytes(graph.edge_name(label).as_bytes())
+}
+
+// Writes the name of a node, nothing where the graph has no such node.
+fn put_node(out: &mut ByteOut, graph: &Graph, node: NodeId) -> Result<(), OutOfMemory>
+    ensures { OnOk result (out.new ≡ out.old ++ node_name graph.now node) }
+{
+    if node.0 >= graph.nodes() {
+        return Ok(());
+    }
+    out.bytes(graph.node_name(node).as_bytes())
+}
+
+// Writes the name of a role, nothing where the graph has no such role.
+fn put_role(out: &mut ByteOut, graph: &Graph, role: Role) -> Result<(), OutOfMemory>
+    ensures { OnOk result (out.new ≡ out.old ++ role_name graph.now role) }
+{
+    if role.0 >= graph.roles() {
+        return Ok(());
+    }
+    out.bytes(graph.role_name(role).as_bytes())
+}
+
+// Writes the name of a variable, nothing where the graph has no such variable.
+fn put_var(out: &mut ByteOut, graph: &Graph, var: Var) -> Result<(), OutOfMemory>
+    ensures { OnOk result (out.new ≡ out.old ++ variable_name graph.now var) }
+{
+    if var.0 >= graph.vars() {
+        return Ok(());
+    }
+    out.bytes(graph.var_name(var).as_bytes())
+}
