@@ -9,6 +9,7 @@ pub mod Loops
 pub mod Middle
 pub mod Names
 pub mod Readings
+pub mod Room
 pub mod Scanning
 pub mod Sets
 pub mod Sound

@@ -1,5 +1,5 @@
 //! The statements of edges.
-ghost use Rattle.std.specs.Prelude.{◌≡◌, codes, length, IfOk};
+ghost use Rattle.std.specs.Prelude.{◌≡◌, ◌<◌, codes, length, IfOk};
 ghost use Rattle.sg_protocol.specs.Graph.{AreNumbers};
 ghost use Rattle.sg_graph.specs.Parts.{variable_names};
 ghost use Rattle.sg_parse.specs.Owed.{ReadsInto, Reads};
@@ -11,8 +11,9 @@ use crate::scanner::Scanner;
 use sg_base::VarSet;
 use sg_graph::Graph;
 
-// Up to 512 edges.
+// Up to 512 edges, where the graph has none.
 pub fn read_edges(scanner: &mut Scanner, graph: &mut Graph) -> Result<(), ParseFault>
+    requires { length graph.old.edges ≡ 0 }
     ensures { ReadsInto (read_edges graph.old) scanner.old scanner.new graph.new result }
 {
     'edges: for _ in 0..512u16 {
@@ -25,6 +26,7 @@ pub fn read_edges(scanner: &mut Scanner, graph: &mut Graph) -> Result<(), ParseF
 }
 
 fn read_statement(scanner: &mut Scanner, graph: &mut Graph) -> Result<(), ParseFault>
+    requires { length graph.old.edges < 512 }
     ensures { ReadsInto (statement (codes "edge") read_edge graph.old) scanner.old scanner.new graph.new result }
 {
     scanner.word(b"edge")?;
@@ -33,6 +35,7 @@ fn read_statement(scanner: &mut Scanner, graph: &mut Graph) -> Result<(), ParseF
 
 // An edge, behind its first word.
 fn read_edge(scanner: &mut Scanner, graph: &mut Graph) -> Result<(), ParseFault>
+    requires { length graph.old.edges < 512 }
     ensures { ReadsInto (read_edge graph.old) scanner.old scanner.new graph.new result }
 {
     let name = name::new_label(scanner, graph)?;
@@ -43,10 +46,10 @@ fn read_edge(scanner: &mut Scanner, graph: &mut Graph) -> Result<(), ParseFault>
     let writes = read_clause(scanner, graph, b"writes")?;
     let reads = read_clause(scanner, graph, b"reads")?;
     scanner.semicolon()?;
-    graph
-        .add_edge(name, source, target, writes, reads)
-        .map_err(want)?;
-    Ok(())
+    match graph.add_edge(name, source, target, writes, reads) {
+        Ok(_) => Ok(()),
+        Err(fault) => Err(want(fault)),
+    }
 }
 
 // The variables after the word, or none where the word isn't there.

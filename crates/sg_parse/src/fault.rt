@@ -27,8 +27,9 @@ pub enum ParseFault {
     OutOfMemory,
 }
 
-// The fault where a part isn't added. Its name is new and there is room for it, so memory was wanted.
-pub fn want(_: AddFault) -> ParseFault
+// The fault where a part isn't added for want of memory.
+pub fn want(fault: AddFault) -> ParseFault
+    requires { fault ≡ AddFault.OutOfMemory }
     ensures { result ≡ ParseFault.OutOfMemory }
 {
     ParseFault::OutOfMemory

@@ -16,6 +16,7 @@ use sg_graph::Graph;
 pub fn new_role(scanner: &mut Scanner, graph: &Graph) -> Result<Name, ParseFault>
     ensures reads { Reads (new_name graph.now.roles) scanner.old scanner.new result }
     ensures free { IfOk result (λ n. has_text n reserved ≡ false) }
+    ensures new { IfOk result (λ n. has_text n graph.now.roles ≡ false) }
 {
     let (name, at) = scanner.name()?;
     if graph.find_role(&name).is_some() {
@@ -28,6 +29,7 @@ pub fn new_role(scanner: &mut Scanner, graph: &Graph) -> Result<Name, ParseFault
 pub fn new_var(scanner: &mut Scanner, graph: &Graph) -> Result<Name, ParseFault>
     ensures reads { Reads (new_name (variable_names graph.now)) scanner.old scanner.new result }
     ensures free { IfOk result (λ n. has_text n reserved ≡ false) }
+    ensures new { IfOk result (λ n. has_text n (variable_names graph.now) ≡ false) }
 {
     let (name, at) = scanner.name()?;
     if graph.find_var(&name).is_some() {
@@ -40,6 +42,7 @@ pub fn new_var(scanner: &mut Scanner, graph: &Graph) -> Result<Name, ParseFault>
 pub fn new_node(scanner: &mut Scanner, graph: &Graph) -> Result<Name, ParseFault>
     ensures reads { Reads (new_name (node_names graph.now)) scanner.old scanner.new result }
     ensures free { IfOk result (λ n. has_text n reserved ≡ false) }
+    ensures new { IfOk result (λ n. has_text n (node_names graph.now) ≡ false) }
 {
     let (name, at) = scanner.name()?;
     if graph.find_node(&name).is_some() {
@@ -52,6 +55,7 @@ pub fn new_node(scanner: &mut Scanner, graph: &Graph) -> Result<Name, ParseFault
 pub fn new_label(scanner: &mut Scanner, graph: &Graph) -> Result<Name, ParseFault>
     ensures reads { Reads (new_name (edge_names graph.now)) scanner.old scanner.new result }
     ensures free { IfOk result (λ n. has_text n reserved ≡ false) }
+    ensures new { IfOk result (λ n. has_text n (edge_names graph.now) ≡ false) }
 {
     let (name, at) = scanner.name()?;
     if graph.find_edge(&name).is_some() {

@@ -1,5 +1,5 @@
 //! The statements of nodes.
-ghost use Rattle.std.specs.Prelude.{◌≡◌, codes};
+ghost use Rattle.std.specs.Prelude.{◌≡◌, ◌<◌, codes, length};
 ghost use Rattle.sg_parse.specs.Owed.{ReadsInto};
 ghost use Rattle.sg_parse.specs.Reading.{statement, up_to, read_node, read_nodes};
 
@@ -8,16 +8,18 @@ use crate::name;
 use crate::scanner::Scanner;
 use sg_graph::Graph;
 
-// A node, and up to 256.
+// A node, and up to 256, where the graph has none.
 pub fn read_nodes(scanner: &mut Scanner, graph: &mut Graph) -> Result<(), ParseFault>
+    requires { length graph.old.nodes ≡ 0 }
     ensures { ReadsInto (read_nodes graph.old) scanner.old scanner.new graph.new result }
 {
     read_statement(scanner, graph)?;
     read_more(scanner, graph)
 }
 
-// Up to 255 more nodes.
+// Up to 255 more nodes, where the graph has one.
 fn read_more(scanner: &mut Scanner, graph: &mut Graph) -> Result<(), ParseFault>
+    requires { length graph.old.nodes ≡ 1 }
     ensures { ReadsInto (up_to 255 (codes "node") read_node graph.old) scanner.old scanner.new graph.new result }
 {
     'more: for _ in 0..255u16 {
@@ -30,6 +32,7 @@ fn read_more(scanner: &mut Scanner, graph: &mut Graph) -> Result<(), ParseFault>
 }
 
 fn read_statement(scanner: &mut Scanner, graph: &mut Graph) -> Result<(), ParseFault>
+    requires { length graph.old.nodes < 256 }
     ensures { ReadsInto (statement (codes "node") read_node graph.old) scanner.old scanner.new graph.new result }
 {
     scanner.word(b"node")?;
@@ -38,12 +41,15 @@ fn read_statement(scanner: &mut Scanner, graph: &mut Graph) -> Result<(), ParseF
 
 // A node, behind its first word.
 fn read_node(scanner: &mut Scanner, graph: &mut Graph) -> Result<(), ParseFault>
+    requires { length graph.old.nodes < 256 }
     ensures { ReadsInto (read_node graph.old) scanner.old scanner.new graph.new result }
 {
     let name = name::new_node(scanner, graph)?;
     scanner.colon()?;
     let role = name::known_role(scanner, graph)?;
     scanner.semicolon()?;
-    graph.add_node(name, role).map_err(want)?;
-    Ok(())
+    match graph.add_node(name, role) {
+        Ok(_) => Ok(()),
+        Err(fault) => Err(want(fault)),
+    }
 }

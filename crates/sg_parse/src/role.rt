@@ -1,5 +1,5 @@
 //! The statements of roles.
-ghost use Rattle.std.specs.Prelude.{◌≡◌, codes};
+ghost use Rattle.std.specs.Prelude.{◌≡◌, ◌<◌, codes, length};
 ghost use Rattle.sg_parse.specs.Owed.{ReadsInto};
 ghost use Rattle.sg_parse.specs.Reading.{statement, up_to, read_role, read_roles};
 
@@ -8,8 +8,9 @@ use crate::name;
 use crate::scanner::Scanner;
 use sg_graph::Graph;
 
-// Two roles, and up to sixteen.
+// Two roles, and up to sixteen, where the graph has none.
 pub fn read_roles(scanner: &mut Scanner, graph: &mut Graph) -> Result<(), ParseFault>
+    requires { length graph.old.roles ≡ 0 }
     ensures { ReadsInto (read_roles graph.old) scanner.old scanner.new graph.new result }
 {
     read_statement(scanner, graph)?;
@@ -17,8 +18,9 @@ pub fn read_roles(scanner: &mut Scanner, graph: &mut Graph) -> Result<(), ParseF
     read_more(scanner, graph)
 }
 
-// Up to fourteen more roles.
+// Up to fourteen more roles, where the graph has two.
 fn read_more(scanner: &mut Scanner, graph: &mut Graph) -> Result<(), ParseFault>
+    requires { length graph.old.roles ≡ 2 }
     ensures { ReadsInto (up_to 14 (codes "role") read_role graph.old) scanner.old scanner.new graph.new result }
 {
     'more: for _ in 0..14u16 {
@@ -31,6 +33,7 @@ fn read_more(scanner: &mut Scanner, graph: &mut Graph) -> Result<(), ParseFault>
 }
 
 fn read_statement(scanner: &mut Scanner, graph: &mut Graph) -> Result<(), ParseFault>
+    requires { length graph.old.roles < 16 }
     ensures { ReadsInto (statement (codes "role") read_role graph.old) scanner.old scanner.new graph.new result }
 {
     scanner.word(b"role")?;
@@ -39,10 +42,13 @@ fn read_statement(scanner: &mut Scanner, graph: &mut Graph) -> Result<(), ParseF
 
 // A role, behind its first word.
 fn read_role(scanner: &mut Scanner, graph: &mut Graph) -> Result<(), ParseFault>
+    requires { length graph.old.roles < 16 }
     ensures { ReadsInto (read_role graph.old) scanner.old scanner.new graph.new result }
 {
     let name = name::new_role(scanner, graph)?;
     scanner.semicolon()?;
-    graph.add_role(name).map_err(want)?;
-    Ok(())
+    match graph.add_role(name) {
+        Ok(_) => Ok(()),
+        Err(fault) => Err(want(fault)),
+    }
 }

@@ -1,5 +1,5 @@
 //! The statements of variables.
-ghost use Rattle.std.specs.Prelude.{◌≡◌, codes};
+ghost use Rattle.std.specs.Prelude.{◌≡◌, ◌<◌, codes, length};
 ghost use Rattle.sg_graph.specs.Parts.{kind_of_type};
 ghost use Rattle.sg_parse.specs.Owed.{ReadsInto, ReadsSeen};
 ghost use Rattle.sg_parse.specs.Reading.{statement, up_to, read_kind, read_variable, read_variables};
@@ -10,8 +10,9 @@ use crate::scanner::Scanner;
 use sg_base::VarType;
 use sg_graph::Graph;
 
-// Up to 32 variables.
+// Up to 32 variables, where the graph has none.
 pub fn read_vars(scanner: &mut Scanner, graph: &mut Graph) -> Result<(), ParseFault>
+    requires { length graph.old.variables ≡ 0 }
     ensures { ReadsInto (read_variables graph.old) scanner.old scanner.new graph.new result }
 {
     'vars: for _ in 0..32u16 {
@@ -24,6 +25,7 @@ pub fn read_vars(scanner: &mut Scanner, graph: &mut Graph) -> Result<(), ParseFa
 }
 
 fn read_statement(scanner: &mut Scanner, graph: &mut Graph) -> Result<(), ParseFault>
+    requires { length graph.old.variables < 32 }
     ensures { ReadsInto (statement (codes "var") read_variable graph.old) scanner.old scanner.new graph.new result }
 {
     scanner.word(b"var")?;
@@ -32,6 +34,7 @@ fn read_statement(scanner: &mut Scanner, graph: &mut Graph) -> Result<(), ParseF
 
 // A variable, behind its first word.
 fn read_var(scanner: &mut Scanner, graph: &mut Graph) -> Result<(), ParseFault>
+    requires { length graph.old.variables < 32 }
     ensures { ReadsInto (read_variable graph.old) scanner.old scanner.new graph.new result }
 {
     let name = name::new_var(scanner, graph)?;
@@ -40,8 +43,10 @@ fn read_var(scanner: &mut Scanner, graph: &mut Graph) -> Result<(), ParseFault>
     scanner.word(b"by")?;
     let writers = name::some_roles(scanner, graph)?;
     scanner.semicolon()?;
-    graph.add_var(name, kind, writers).map_err(want)?;
-    Ok(())
+    match graph.add_var(name, kind, writers) {
+        Ok(_) => Ok(()),
+        Err(fault) => Err(want(fault)),
+    }
 }
 
 // A type.

@@ -1,11 +1,15 @@
 -- The graph `pair`, node by node and edge by edge.
-use Rattle.std.proofs.Common.{◌≡◌, ℕ, zero, suc, ◌+◌, max, List, [], ◌∷◌, ◌++◌, length, map, refl, sym, ap, ◌∙◌, arith, add-one, add-zero}
+use Rattle.std.proofs.Common.{◌≡◌, ℕ, zero, suc, ◌+◌, ◌^◌, ◌<◌, ◌≤◌, max, Bool, true, false, ◌||◌, List, [], ◌∷◌, ◌++◌, length, map, bytes_eq, refl, sym, ap, ◌∙◌, arith, add-one, add-zero}
+use Rattle.std.specs.Fmt.{decimal}
+use Rattle.std.proofs.lemmas.Fmt.{decimal_injective}
+use Rattle.std.proofs.lemmas.Slice.Eq.{bytes_eq-Decides}
 use Rattle.std.proofs.lemmas.List.{map_push, length-map}
 use Rattle.std.proofs.lemmas.Grind.{common_steps}
 use Rattle.sg_model.specs.Names.{Name}
-use Rattle.sg_model.specs.Lists.{below, range_from}
+use Rattle.sg_model.specs.Lists.{has_text, below, range_from}
 use Rattle.sg_protocol.specs.Graph.{Graph, Edge}
 use Rattle.sg_graph.specs.Adding.{with_node, with_edge}
+use Rattle.sg_graph.specs.Parts.{node_names}
 use Rattle.sg_sched.specs.Pair.{edge, node, node_count, pair_graph}
 
 range_push : (a k : ℕ) → range_from a (suc k) ≡ range_from a k ++ (a + k) ∷ []
@@ -22,6 +26,33 @@ nodes_push n = ap (map node) (range_push 0 n ∙ ap (λ m. below n ++ m ∷ []) 
 
 pub length_nodes : (n : ℕ) → length (map node (below n)) ≡ n
 length_nodes n = length-map (below n) node ∙ length_range 0 n
+
+-- nodes of different numbers have different names
+name_apart : (n m : ℕ) → n < 2 ^ 64 → m < n → bytes_eq (110 ∷ decimal n) (110 ∷ decimal m) ≡ false
+name_apart n m small below_n = by (bytes_eq (110 ∷ decimal n) (110 ∷ decimal m)) refl
+  where
+    by : (b : Bool) → bytes_eq (110 ∷ decimal n) (110 ∷ decimal m) ≡ b → bytes_eq (110 ∷ decimal n) (110 ∷ decimal m) ≡ false
+    by true e =
+        let names : 110 ∷ decimal n ≡ 110 ∷ decimal m = (bytes_eq-Decides (110 ∷ decimal n) (110 ∷ decimal m)).0 e in
+        let texts : decimal n ≡ decimal m = cc names in
+        let numbers : n ≡ m = decimal_injective n m small (omega arith) texts in
+        absurd (omega arith)
+    by false e = e
+
+-- no node of a smaller number has the name
+names_apart : (n : ℕ) → n < 2 ^ 64 → (a k : ℕ) → a + k ≤ n → has_text (110 ∷ decimal n) (map (λ v. v.name) (map node (range_from a k))) ≡ false
+names_apart n small a zero h = refl
+names_apart n small a (suc k) h =
+    ap (λ b. b || has_text (110 ∷ decimal n) (map (λ v. v.name) (map node (range_from (suc a) k)))) (name_apart n a small (omega arith))
+    ∙ names_apart n small (suc a) k (omega arith)
+
+-- the next node has a new name
+pub name_new : (g : Graph) (n : ℕ) → n < 2 ^ 64 → g.nodes ≡ map node (below n) → has_text (110 ∷ decimal n) (node_names g) ≡ false
+name_new g n small e = ap (λ ns. has_text (110 ∷ decimal n) (map (λ v. v.name) ns)) e ∙ names_apart n small 0 n (omega arith)
+
+-- the nodes have as many names as they are
+pub names_there : (g : Graph) (n : ℕ) → g.nodes ≡ map node (below n) → length (node_names g) ≡ n
+names_there g n e = length-map g.nodes (λ v. v.name) ∙ ap length e ∙ length_nodes n
 
 -- one edge more
 node_count-push : (es : List Edge) (e : Edge) → node_count (es ++ e ∷ []) ≡ max (node_count es) (suc (max e.source e.target))

@@ -9,7 +9,7 @@ ghost use Rattle.sg_graph.specs.Adding.{with_role, with_node};
 
 use crate::node_name::{name_of, node_name};
 use sg_base::{Label, Name, NodeId, OutOfMemory, Role, Seq, VarSet};
-use sg_graph::Graph;
+use sg_graph::{AddFault, Graph};
 use std::alloc::{AllocError, Global};
 use std::marker::Model;
 
@@ -121,12 +121,14 @@ fn empty_pair(alloc: Global) -> Result<Graph, OutOfMemory>
 }
 
 fn add_role(graph: &mut Graph, name: Name) -> Result<(), OutOfMemory>
-    requires { has_text name reserved ≡ false }
+    requires plain { has_text name reserved ≡ false }
+    requires new_name { has_text name graph.old.roles ≡ false }
+    requires room { length graph.old.roles < 16 }
     ensures { OnOk result (graph.new ≡ with_role graph.old name) }
 {
     match graph.add_role(name) {
         Ok(_) => Ok(()),
-        Err(_) => Err(AllocError),
+        Err(fault) => Err(want(fault)),
     }
 }
 
@@ -134,6 +136,8 @@ fn add_role(graph: &mut Graph, name: Name) -> Result<(), OutOfMemory>
 fn add_edge(graph: &mut Graph, label: Name, from: u8, to: u8) -> Result<(), OutOfMemory>
     requires pair { graph.old ≡ pair_graph graph.old.edges }
     requires plain { has_text label reserved ≡ false }
+    requires new_label { has_text label (labels graph.old.edges) ≡ false }
+    requires room { length graph.old.edges < 512 }
     ensures { OnOk result (graph.new ≡ pair_graph (graph.old.edges ++ edge label from to ∷ [])) }
 {
     add_nodes(graph, u16::from(from.max(to)) + 1)?;
@@ -146,7 +150,7 @@ fn add_edge(graph: &mut Graph, label: Name, from: u8, to: u8) -> Result<(), OutO
         none,
     ) {
         Ok(_) => Ok(()),
-        Err(_) => Err(AllocError),
+        Err(fault) => Err(want(fault)),
     }
 }
 
@@ -167,11 +171,18 @@ fn add_nodes(graph: &mut Graph, count: u16) -> Result<(), OutOfMemory>
 // The graph with the node of the next number.
 fn add_node(graph: &mut Graph, number: u8) -> Result<(), OutOfMemory>
     requires roles { length graph.old.roles ≡ 2 }
-    requires next { length graph.old.nodes ≡ number }
+    requires nodes { graph.old.nodes ≡ map node (below number) }
     ensures { OnOk result (graph.new ≡ with_node graph.old (node number)) }
 {
     match graph.add_node(node_name(number), Role(number % 2)) {
         Ok(_) => Ok(()),
-        Err(_) => Err(AllocError),
+        Err(fault) => Err(want(fault)),
     }
+}
+
+// The fault where a part isn't added for want of memory.
+fn want(fault: AddFault) -> OutOfMemory
+    requires { fault ≡ AddFault.OutOfMemory }
+{
+    AllocError
 }
