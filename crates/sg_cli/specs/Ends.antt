@@ -1,17 +1,17 @@
 -- What the program leaves, and why it ends as it does.
-use Rattle.std.specs.Prelude.{◌≡◌, ◌≢◌, ℕ, ◌≤◌, ◌<◌, ◌⊎◌, List, [], ◌∷◌, Option, Some, None, Err, length, slice_get, IsSomeAnd, IsTrue, ⊤}
+use Rattle.std.specs.Prelude.{◌≡◌, ◌≢◌, ℕ, ◌≤◌, ◌<◌, ◌⊎◌, List, [], ◌∷◌, All, Option, Some, None, Err, length, slice_get, IsSomeAnd, IsTrue, ⊤}
 use Rattle.sg_base.specs.Outside.{HasRisen, Appends, AppendsFront, file_at}
 use Rattle.sg_protocol.specs.Accepted.{Accepted}
 use Rattle.sg_model.specs.Lists.{has_text}
 use Rattle.sg_protocol.specs.Graph.{Graph, role_name}
-use Rattle.sg_protocol.specs.IsSchedule.{AreCompiled, IsProgram}
+use Rattle.sg_protocol.specs.IsSchedule.{AreCompiled}
 use Rattle.sg_protocol.specs.Keyring.{Program}
 use Rattle.sg_protocol.specs.Schedule.{Schedule}
 use Rattle.sg_protocol.specs.Texts.{real}
 use Rattle.sg_parse.specs.Grammar.{SpellsGraph}
 use Rattle.sg_parse.specs.Reading.{read as parsed}
 use Rattle.sg_program.specs.All.{IsAllFault}
-use Rattle.sg_program.specs.Compiled.{IsRefused}
+use Rattle.sg_program.specs.Compiled.{IsCompiled, IsRefused, IsWhole}
 use Rattle.sg_program.specs.Refused.{IsRefusal}
 use Rattle.sg_program.specs.Text.{program_text}
 use Rattle.sg_program.specs.declared.all.AllFault.TheVariants.{Refused}
@@ -70,6 +70,7 @@ pub record IsCheck (bytes text : List ℕ) : Type 0 where
   pub programs : List Program
   pub spelled : SpellsGraph bytes graph
   pub compiled : AreCompiled real (graph ∷ []) programs
+  pub few : All IsWhole programs
   pub says : text ≡ check_text graph programs
 
 -- a check of these bytes ends so: the graph that they spell is accepted and its text written; else nothing is written, and the bytes are refused at their first wrong token, or their graph at its first fault, or memory was wanted
@@ -83,10 +84,12 @@ Checks bytes old new ending = (text : List ℕ) × IsCheck bytes text × Writes 
 
 -- the text is that of the program of the graph that the bytes spell for its role of this name
 pub record IsCompilation (bytes name text : List ℕ) : Type 0 where
+  pub graph : Graph
+  pub role : ℕ
   pub program : Program
-  pub is_program : IsProgram real program
-  pub spelled : SpellsGraph bytes program.graph
-  pub named : role_name program.graph program.role ≡ name
+  pub spelled : SpellsGraph bytes graph
+  pub named : role_name graph role ≡ name
+  pub compiled : IsCompiled graph role program
   pub says : text ≡ program_text program
 
 -- the graph isn't accepted, or it has this role, and too many views can reach it
@@ -123,6 +126,7 @@ pub record IsReplay (bytes text : List ℕ) : Type 0 where
   pub programs : List Program
   pub spelled : SpellsSchedule bytes schedule
   pub compiled : AreCompiled real schedule.graphs programs
+  pub few : All IsWhole programs
   pub report : IsReport (account schedule) text
   pub once : NoneJoinsTwice schedule
 

@@ -1,8 +1,9 @@
 //! The command `check`: parses a graph, compiles it, and says whether it is accepted, and how many views each role has.
-ghost use Rattle.std.specs.Prelude.{◌≡◌, ◌++◌, ◌∷◌, [], IfOk, OnOk};
+ghost use Rattle.std.specs.Prelude.{◌≡◌, ◌++◌, ◌∷◌, [], All, IfOk, OnOk};
 ghost use Rattle.sg_protocol.specs.IsSchedule.{AreCompiled};
 ghost use Rattle.sg_protocol.specs.Texts.{real};
 ghost use Rattle.sg_parse.specs.Grammar.{SpellsGraph};
+ghost use Rattle.sg_program.specs.Compiled.{IsWhole};
 ghost use Rattle.sg_cli.specs.Accepted.{accepted_line, check_text, views_line};
 ghost use Rattle.sg_cli.specs.Ends.{Checks, OnFile};
 ghost use Rattle.sg_cli.specs.Held.{ending_held};
@@ -63,6 +64,7 @@ fn say_accepted<O: Sink>(
 ) -> Ending<'static>
     requires spelled { SpellsGraph bytes.now graph.now }
     requires compiled { AreCompiled real (graph.now ∷ []) programs.now }
+    requires few { All IsWhole programs.now }
     ensures { Checks bytes.now (record { bytes = O.written out.old; faults = O.faults out.old }) (record { bytes = O.written out.new; faults = O.faults out.new }) (ending_held result) }
 {
     match accepted_text(alloc, graph, programs.as_slice()) {

@@ -3,6 +3,7 @@ ghost use Rattle.std.specs.Prelude.{◌≡◌, ◌<◌, ◌≤◌, length, IsTru
 ghost use Rattle.sg_model.specs.Lists.{has_text};
 ghost use Rattle.sg_protocol.specs.Graph.{role_name};
 ghost use Rattle.sg_parse.specs.Grammar.{SpellsGraph};
+ghost use Rattle.sg_program.specs.Compiled.{IsCompiled};
 ghost use Rattle.sg_cli.specs.Ends.{Compiles, OnFile, RefusesRole};
 ghost use Rattle.sg_cli.specs.Held.{ending_held};
 
@@ -70,7 +71,7 @@ fn compile_role<O: Sink>(
     ensures { Compiles name.now bytes.now (record { bytes = O.written out.old; faults = O.faults out.old }) (record { bytes = O.written out.new; faults = O.faults out.new }) (ending_held result) }
 {
     match program_of(alloc, &graph, role) {
-        Ok(program) => say_program(alloc, bytes, &program, name, out),
+        Ok(program) => say_program(alloc, bytes, &graph, role, &program, name, out),
         Err(CompileFault::OutOfMemory) => Ending::NoMemory,
         Err(fault) => Ending::GraphRefused { graph, fault },
     }
@@ -92,16 +93,17 @@ fn refuse_role<'w>(alloc: Global, graph: Graph, name: &'w str) -> Ending<'w>
 fn say_program<O: Sink>(
     alloc: Global,
     bytes: &[u8],
+    graph: &Graph,
+    role: Role,
     program: &Program,
     name: &str,
     out: &mut O,
 ) -> Ending<'static>
-    requires spelled { SpellsGraph bytes.now program.now.graph }
-    requires named { role_name program.now.graph program.now.role ≡ name.now }
+    requires spelled { SpellsGraph bytes.now graph.now }
+    requires named { role_name graph.now role ≡ name.now }
+    requires compiled { IsCompiled graph.now role program.now }
     ensures { Compiles name.now bytes.now (record { bytes = O.written out.old; faults = O.faults out.old }) (record { bytes = O.written out.new; faults = O.faults out.new }) (ending_held result) }
 {
-    // What it is stands in its accessors' clauses.
-    let _role = program.role();
     match program.encode(alloc) {
         Ok(text) => match write_all(out, text.as_slice()) {
             Ok(()) => Ending::Written,

@@ -1,6 +1,7 @@
 //! The command `replay`: reads a schedule, compiles its graphs, runs it, and writes the report of the run.
-ghost use Rattle.std.specs.Prelude.{◌≡◌, ◌≤◌, Err, IfOk, length};
+ghost use Rattle.std.specs.Prelude.{◌≡◌, ◌≤◌, All, Err, IfOk, length};
 ghost use Rattle.sg_program.specs.All.{IsAllFault};
+ghost use Rattle.sg_program.specs.Compiled.{IsWhole};
 ghost use Rattle.sg_protocol.specs.IsSchedule.{AreCompiled};
 ghost use Rattle.sg_protocol.specs.Texts.{real};
 ghost use Rattle.sg_cli.specs.Ends.{OnFile, Refuses, Replays};
@@ -89,6 +90,7 @@ fn run_schedule<O: Sink>(
 ) -> Ending<'static>
     requires spelled { SpellsSchedule bytes.now schedule.now }
     requires compiled { AreCompiled real schedule.now.graphs programs.now }
+    requires few { All IsWhole programs.now }
     ensures { Replays bytes.now (record { bytes = O.written out.old; faults = O.faults out.old }) (record { bytes = O.written out.new; faults = O.faults out.new }) (ending_held result) }
 {
     match report_of(alloc, schedule) {

@@ -34,6 +34,7 @@ pub fn compile_all(alloc: Global, graphs: &[Graph]) -> Result<Programs, AllFault
     requires two { All (λ g. 2 ≤ length g.roles) graphs.now }
     requires few { length graphs.now < 2 ^ 32 }
     ensures compiled { IfOk result (AreCompiled real graphs.now) }
+    ensures few { IfOk result (All IsWhole) }
     ensures refused { IfErr result (IsAllFault graphs.now) }
 {
     let mut programs = Programs::new(alloc);

@@ -14,13 +14,13 @@ report_of-requires-clause-few g c = spelled_few c.args.bytes.now c.args.schedule
 pub returns-in-Ok-write_all : goal.returns-in-Ok-write_all
 returns-in-Ok-write_all g c = (
   c.as_slice.result.now,
-  record { schedule = c.args.schedule.now; programs = c.args.programs.now; spelled = c.requires.spelled; compiled = c.requires.compiled; report = subst (IsReport (account c.args.schedule.now)) (sym c.as_slice.ensures.value) c.in-Ok.ensures; once = none_twice c.args.schedule.now },
+  record { schedule = c.args.schedule.now; programs = c.args.programs.now; spelled = c.requires.spelled; compiled = c.requires.compiled; few = c.requires.few; report = subst (IsReport (account c.args.schedule.now)) (sym c.as_slice.ensures.value) c.in-Ok.ensures; once = none_twice c.args.schedule.now },
   c.in-Ok-write_all.ensures.whole,
 )
 
 pub returns-in-Ok : goal.returns-in-Ok
 returns-in-Ok g c = (
   c.as_slice.result.now,
-  record { schedule = c.args.schedule.now; programs = c.args.programs.now; spelled = c.requires.spelled; compiled = c.requires.compiled; report = subst (IsReport (account c.args.schedule.now)) (sym c.as_slice.ensures.value) c.in-Ok.ensures; once = none_twice c.args.schedule.now },
+  record { schedule = c.args.schedule.now; programs = c.args.programs.now; spelled = c.requires.spelled; compiled = c.requires.compiled; few = c.requires.few; report = subst (IsReport (account c.args.schedule.now)) (sym c.as_slice.ensures.value) c.in-Ok.ensures; once = none_twice c.args.schedule.now },
   (c.in-Err-write_all.ensures.front, c.in-Err-write_all.ensures.failed),
 )
