@@ -1,18 +1,18 @@
 -- An awaited frame is accepted.
-use Rattle.std.specs.Prelude.{◌≡◌, ◌≢◌, ℕ, zero, suc, ◌+◌, ◌<◌, ◌≤◌, ◌==◌, nat_lt, nat_le, ◌||◌, ◌&&◌, ◌⊎◌, Bool, true, false, not, if◌then◌else◌, List, [], ◌∷◌, ◌++◌, map, filter, find, length, get_or, bytes_eq, refl, Option, Some, None, option_map, option_and_then, is_some, All, Contains}
-use Rattle.std.specs.List.{AllByRecursion, list_any}
+use Rattle.std.specs.Prelude.{◌≡◌, ◌≢◌, ℕ, zero, suc, ◌+◌, ◌-◌, ◌<◌, ◌≤◌, ◌==◌, nat_lt, nat_le, ◌||◌, ◌&&◌, ◌⊎◌, Bool, true, false, not, if◌then◌else◌, List, [], ◌∷◌, ◌++◌, map, filter, find, length, get_or, bytes_eq, refl, Option, Some, None, option_map, option_and_then, is_some, All, Contains, filter_map, slice_get}
+use Rattle.std.specs.List.{AllByRecursion, list_any, cons_option}
 use Rattle.std.specs.Option.{option_map_or}
 use Rattle.std.proofs.Common.{sym, ◌∙◌, ap, subst, inl, inr, arith}
 use Rattle.std.proofs.lemmas.Bool.{cases_Bool, eqb-true, eq-eqb, ne_eqb}
 use Rattle.std.proofs.lemmas.Bool.Decides.{nat_tests}
 use Rattle.std.proofs.lemmas.List.Elements.{All-head, All-tail}
 use Rattle.std.proofs.lemmas.Slice.Eq.{bytes_eq-Decides}
-use Rattle.sg_model.specs.Last.{has, last, after_last}
+use Rattle.sg_model.specs.Last.{Map, has, last, after_last}
 use Rattle.sg_model.specs.Lists.{all_differ, below, range_from, first_some}
-use Rattle.sg_model.specs.Shape.{role_at, sender, receiver}
+use Rattle.sg_model.specs.Shape.{Arrow, role_at, source, sender, receiver}
 use Rattle.sg_model.specs.Names.{Name}
-use Rattle.sg_model.specs.Values.{Opening}
-use Rattle.sg_protocol.specs.Graph.{Graph, IsGraph, shape, reads}
+use Rattle.sg_model.specs.Values.{Opening, Value}
+use Rattle.sg_protocol.specs.Graph.{Graph, Edge, IsGraph, shape, reads}
 use Rattle.sg_protocol.specs.Evidence.{View, IsView, IsViewTable, same_origin}
 use Rattle.sg_protocol.specs.Targets.{IsTargetTable}
 use Rattle.sg_protocol.specs.Frame.{Cast, Frame, Item}
@@ -20,20 +20,21 @@ use Rattle.sg_protocol.specs.Spelling.{spelling}
 use Rattle.sg_protocol.specs.Reading.{read}
 use Rattle.sg_protocol.specs.Texts.{Hash, IsHash, session_id, graph_digest}
 use Rattle.sg_protocol.specs.Keyring.{Keyring, Program, targets_of, may_return}
-use Rattle.sg_protocol.specs.Session.{Session, principal, origin, place, at_turn, new_session}
-use Rattle.sg_protocol.specs.Calls.{Refusal, UnknownGraph, BadCast, UnknownPeer, BadSession, Joined, CacheFull, SessionsFull, UnknownSession, NotWaiting, Event, Call, Start, Act, Abandon, Deliver, Answer, Happened, Sends, Abandoned, sid_of}
-use Rattle.sg_protocol.specs.Node.{Node, is_for, is_cast, stranger, session_for, program_for, starter, has_joined}
+use Rattle.sg_protocol.specs.Session.{Session, principal, origin, place, time, at_turn, new_session}
+use Rattle.sg_protocol.specs.Calls.{Refusal, UnknownGraph, BadCast, UnknownPeer, BadSession, Joined, CacheFull, SessionsFull, UnknownSession, NotWaiting, Event, Call, Start, Act, Abandon, Deliver, Answer, Happened, Sends, Abandoned, NotStarted, NotActed, NotAbandoned, NotDelivered, sid_of, ActFault, NotYourTurn, Send, NoSuchLabel, BadValues, TimeSpent}
+use Rattle.sg_protocol.specs.Node.{Node, is_for, is_cast, stranger, session_with, session_for, program_for, starter, has_joined}
 use Rattle.sg_protocol.specs.NodeAfter.{is_over}
-use Rattle.sg_protocol.specs.Acting.{answer}
+use Rattle.sg_protocol.specs.Acting.{answer, acted, sent, is_bad, leaves, rows_of_act}
 use Rattle.sg_protocol.specs.Verdict.{row, seen, rows_of_session, rows_of_join, rows_of_next, join_rows, next_rows, rows, receipt, decided, verdict_on}
 use Rattle.sg_protocol.specs.Past.{Past, Called, node_of, new_node, node_after_all}
-use Rattle.sg_protocol.specs.Schedule.{Schedule, PairKey, Step, DeliverStep, Whole, is_honest, honest_role}
-use Rattle.sg_protocol.specs.World.{World, Logged, Answered, frame_at, keyring_of, past_of, new_world}
+use Rattle.sg_protocol.specs.Schedule.{Schedule, PairKey, Step, DeliverStep, Whole, is_honest, honest_role, graph_with}
+use Rattle.sg_protocol.specs.World.{World, Logged, Outcome, Answered, Crafted, NoFrame, frames, frame_at, keyring_of, past_of, new_world}
 use Rattle.sg_protocol.specs.Run.{run, world_after, world_after_all, frame_in, called_if, events_of, cast_in, cast_of_session}
 use Rattle.sg_protocol.specs.Premises.{Premises}
 use Rattle.sg_protocol.specs.IsSchedule.{IsSchedule, IsStep, IsProgram, IsPairKey, AreCompiled, parts}
 use Rattle.sg_protocol.specs.Receipts.{IsTaken, WasSent}
-use Rattle.sg_protocol.specs.Completeness.{IsAwaited, HadAnswer, DeliveryIsComplete}
+use Rattle.sg_protocol.specs.Completeness.{IsSentTo, IsAwaited, HadAnswer, DeliveryIsComplete}
+use Rattle.sg_protocol.specs.GoesOn.{place_in, IsAtEnd, WasAbandoned, CanAct, IsUnderWay, SessionsGoOn}
 use Rattle.sg_protocol.specs.LastSteps.{honest_items}
 use Rattle.sg_law.proofs.Upto.{In, in_from_Contains}
 use Rattle.sg_law.proofs.Take.{contains_from_in}
@@ -42,17 +43,17 @@ use Rattle.sg_protocol.proofs.Moves.{and_parts, in_map}
 use Rattle.sg_protocol.proofs.Isolation.{of_sid, find-filter}
 use Rattle.sg_protocol.proofs.ReadLaws.{read-spelling}
 use Rattle.sg_protocol.proofs.Calls.{find_passes, find_all, one_place}
-use Rattle.sg_protocol.proofs.Course.{in_flat}
+use Rattle.sg_protocol.proofs.Course.{in_flat, filter_map-append}
 use Rattle.sg_protocol.proofs.Whole.{FirstCast, found_in, find_some, to_rec, program_graph, first_past}
 use Rattle.sg_protocol.proofs.Whole as W
 use Rattle.sg_protocol.proofs.First.{first_cast}
 use Rattle.sg_protocol.proofs.Fits.{Fit, fit_new, fit_next, fit_bytes, fit_sends, casts_fit, start_sends, abandon_sends, deliver_sends}
 use Rattle.sg_protocol.proofs.Sendings.{no_entry, act_event, keys_after, receipts_have_sends}
 use Rattle.sg_protocol.proofs.Reduced.{by_role, has-both, reduced}
-use Rattle.sg_protocol.proofs.Relay.{StepsOk, RelayOk, OpensAt, relay_new}
+use Rattle.sg_protocol.proofs.Relay.{StepsOk, RelayOk, OpensAt, relay_new, at_end}
 use Rattle.sg_protocol.proofs.Rows.{rows_none, viewed}
 use Rattle.sg_protocol.proofs.Flight.{Flight, FrameOk, Taken, Track, New, Here, Gone, SessOk, flight}
-use Rattle.sg_protocol.proofs.Splits.{in_split, role_small}
+use Rattle.sg_protocol.proofs.Splits.{in_split, split_in, role_small}
 use Rattle.sg_protocol.proofs.Flight as L
 use Rattle.sg_protocol.proofs.Keys as Keys'
 use Rattle.sg_protocol.specs.Notes.{notes}
@@ -103,6 +104,64 @@ rec_in P (y ∷ ys) x a (inr i) = rec_in P ys x a.1 i
 pairs_apart : (ks : List PairKey) → All IsPairKey ks → AllByRecursion (λ (z : PairKey). z.one ≢ z.two) ks
 pairs_apart [] a = tt
 pairs_apart (k ∷ ks) a = ((All-head IsPairKey k ks a).0, pairs_apart ks (All-tail IsPairKey k ks a))
+
+-- the principal left the session, or did not
+had_left : (who : Name) (sid : List ℕ) (log : List Logged) → HadAnswer log who (Abandon sid) Abandoned ⊎ (HadAnswer log who (Abandon sid) Abandoned → ⊥)
+had_left who sid log = elim (go log) [
+  | inl r ↦ inl (r.0, contains_from_in log r.0 r.1, (r.2).0, (r.2).1, (r.2).2)
+  | inr n ↦ inr (λ had. n had.0 (in_from_Contains log had.0 had.1) (had.2, had.3, had.4))
+]
+  where
+    by_who : (o : Option Name) → (o ≡ Some who) ⊎ (o ≡ Some who → ⊥)
+    by_who None = inr (λ e. absurd (let z : None ≡ Some who = e in cc))
+    by_who (Some x) = elim (cases_Bool (bytes_eq x who)) [ inl e ↦ inl (ap (λ z. Some z) (same_bytes_ x who e)) | inr e ↦ inr (λ q. let z : x ≡ who = cc in clash (bytes_eq x who) (bytes_same x who z) e) ]
+
+    by_call : (o : Option Call) → (o ≡ Some (Abandon sid)) ⊎ (o ≡ Some (Abandon sid) → ⊥)
+    by_call None = inr (λ e. absurd (let z : None ≡ Some (Abandon sid) = e in cc))
+    by_call (Some (Abandon x)) = elim (cases_Bool (bytes_eq x sid)) [ inl e ↦ inl (ap (λ z. Some (Abandon z)) (same_bytes_ x sid e)) | inr e ↦ inr (λ q. let y : Some (Abandon x) ≡ Some (Abandon sid) = q in let z : x ≡ sid = cc in clash (bytes_eq x sid) (bytes_same x sid z) e) ]
+    by_call (Some (Start c)) = inr (λ e. absurd (let z : Some (Start c) ≡ Some (Abandon sid) = e in cc))
+    by_call (Some (Act a b c d)) = inr (λ e. absurd (let z : Some (Act a b c d) ≡ Some (Abandon sid) = e in cc))
+    by_call (Some (Deliver bs)) = inr (λ e. absurd (let z : Some (Deliver bs) ≡ Some (Abandon sid) = e in cc))
+
+    by_outcome : (o : Outcome) → (o ≡ Answered Abandoned) ⊎ (o ≡ Answered Abandoned → ⊥)
+    by_outcome (Answered Abandoned) = inl refl
+    by_outcome (Answered (Happened e)) = inr (λ q. absurd (let z : Answered (Happened e) ≡ Answered Abandoned = q in cc))
+    by_outcome (Answered (Sends e to f)) = inr (λ q. absurd (let z : Answered (Sends e to f) ≡ Answered Abandoned = q in cc))
+    by_outcome (Answered (NotStarted f)) = inr (λ q. absurd (let z : Answered (NotStarted f) ≡ Answered Abandoned = q in cc))
+    by_outcome (Answered (NotActed f)) = inr (λ q. absurd (let z : Answered (NotActed f) ≡ Answered Abandoned = q in cc))
+    by_outcome (Answered NotAbandoned) = inr (λ q. absurd (let z : Answered NotAbandoned ≡ Answered Abandoned = q in cc))
+    by_outcome (Answered (NotDelivered r)) = inr (λ q. absurd (let z : Answered (NotDelivered r) ≡ Answered Abandoned = q in cc))
+    by_outcome Crafted = inr (λ q. absurd (let z : Crafted ≡ Answered Abandoned = q in cc))
+    by_outcome NoFrame = inr (λ q. absurd (let z : NoFrame ≡ Answered Abandoned = q in cc))
+
+    one : (l : Logged) → ((l.who ≡ Some who) × (l.call ≡ Some (Abandon sid)) × (l.outcome ≡ Answered Abandoned)) ⊎ (((l.who ≡ Some who) × (l.call ≡ Some (Abandon sid)) × (l.outcome ≡ Answered Abandoned)) → ⊥)
+    one l = elim (by_who l.who) [
+      | inr n ↦ inr (λ q. n q.0)
+      | inl a ↦ elim (by_call l.call) [
+        | inr n ↦ inr (λ q. n q.1)
+        | inl b ↦ elim (by_outcome l.outcome) [ inr n ↦ inr (λ q. n q.2) | inl c ↦ inl (a, b, c) ]
+      ]
+    ]
+
+    go : (ls : List Logged) → ((l : Logged) × In ls l × ((l.who ≡ Some who) × (l.call ≡ Some (Abandon sid)) × (l.outcome ≡ Answered Abandoned))) ⊎ ((l : Logged) → In ls l → ((l.who ≡ Some who) × (l.call ≡ Some (Abandon sid)) × (l.outcome ≡ Answered Abandoned)) → ⊥)
+    go [] = inr (λ l i. absurd i)
+    go (x ∷ xs) = elim (one x) [
+      | inl q ↦ inl (x, inl refl, q)
+      | inr n ↦ elim (go xs) [
+        | inl r ↦ inl (r.0, inr r.1, r.2)
+        | inr m ↦ inr (λ l i q. elim i [ inl e ↦ n (subst (λ (z : Logged). (z.who ≡ Some who) × (z.call ≡ Some (Abandon sid)) × (z.outcome ≡ Answered Abandoned)) e q) | inr j ↦ m l j q ])
+      ]
+    ]
+
+abbrev arrow_of : Edge → Arrow
+arrow_of e = record { source = e.source; target = e.target; writes = e.writes; reads = e.reads }
+
+at_number : (w : World) (k : ℕ) → frame_at w (suc k) ≡ slice_get (frames w) k
+at_number w k = ap (λ b. if b then None else slice_get (frames w) (suc k - 1)) (ne_eqb (suc k) 0 (λ q. omega (arith, q))) ∙ ap (slice_get (frames w)) (let e : suc k - 1 ≡ k = omega arith in e)
+
+at_length : {A : Type 0} (xs : List A) (y : A) (ys : List A) → slice_get (xs ++ y ∷ ys) (length xs) ≡ Some y
+at_length [] y ys = refl
+at_length (x ∷ xs) y ys = at_length xs y ys
 
 module _ (sha : Hash) (hash : IsHash sha) (programs : List Program) (s : Schedule) (compiled : AreCompiled sha s.graphs programs) (sched : IsSchedule sha s) (premises : Premises sha s (run sha programs s)) (sid : List ℕ) (first : FirstCast sha s programs sid (run sha programs s)) (all_honest : All (λ n. is_honest s n ≡ true) first.cast.names) where
   abbrev wf : World
@@ -188,6 +247,174 @@ module _ (sha : Hash) (hash : IsHash sha) (programs : List Program) (s : Schedul
 
   flown : Flight_ (run sha programs s)
   flown = flight sha hash s programs sid first.cast first.program.graph tp.is_graph tp.accepted first.fits.version (W.long sha hash programs s compiled sched premises sid first (Fit sha hash programs s compiled sched) (fit_new sha hash programs s compiled sched) (fit_next sha hash programs s compiled sched) (fit_bytes sha hash programs s compiled sched) (fit_sends sha hash programs s compiled sched) (casts_fit sha hash programs s compiled sched)) first.differ (W.prog sha hash programs s compiled sched premises sid first (Fit sha hash programs s compiled sched) (fit_new sha hash programs s compiled sched) (fit_next sha hash programs s compiled sched) (fit_bytes sha hash programs s compiled sched) (fit_sends sha hash programs s compiled sched) (casts_fit sha hash programs s compiled sched)) (run sha programs s) premises.unforged (W.the_cast sha hash programs s compiled sched premises sid first (Fit sha hash programs s compiled sched) (fit_new sha hash programs s compiled sched) (fit_next sha hash programs s compiled sched) (fit_bytes sha hash programs s compiled sched) (fit_sends sha hash programs s compiled sched) (casts_fit sha hash programs s compiled sched)) (Fit sha hash programs s compiled sched) (fit_next sha hash programs s compiled sched) (fit_bytes sha hash programs s compiled sched) (fit_sends sha hash programs s compiled sched) (casts_fit sha hash programs s compiled sched) (W.binding sha hash programs s compiled sched premises sid first (Fit sha hash programs s compiled sched) (fit_new sha hash programs s compiled sched) (fit_next sha hash programs s compiled sched) (fit_bytes sha hash programs s compiled sched) (fit_sends sha hash programs s compiled sched) (casts_fit sha hash programs s compiled sched)) (W.inside sha hash programs s compiled sched premises sid first (Fit sha hash programs s compiled sched) (fit_new sha hash programs s compiled sched) (fit_next sha hash programs s compiled sched) (fit_bytes sha hash programs s compiled sched) (fit_sends sha hash programs s compiled sched) (casts_fit sha hash programs s compiled sched)) everyone targets same_targets was_sent_ keys_kept starts sends_sid (new_world programs s) 1 (W.begins sha hash programs s compiled sched premises sid first (Fit sha hash programs s compiled sched) (fit_new sha hash programs s compiled sched) (fit_next sha hash programs s compiled sched) (fit_bytes sha hash programs s compiled sched) (fit_sends sha hash programs s compiled sched) (casts_fit sha hash programs s compiled sched)) begins_flight s.steps all_steps_ok (fit_new sha hash programs s compiled sched) refl
+
+  -- ---- who has the turn, or which frame is under way
+
+  coursed : L.Course_ sha hash s programs sid first.cast first.program.graph tp.is_graph tp.accepted first.fits.version (W.long sha hash programs s compiled sched premises sid first (Fit sha hash programs s compiled sched) (fit_new sha hash programs s compiled sched) (fit_next sha hash programs s compiled sched) (fit_bytes sha hash programs s compiled sched) (fit_sends sha hash programs s compiled sched) (casts_fit sha hash programs s compiled sched)) first.differ (W.prog sha hash programs s compiled sched premises sid first (Fit sha hash programs s compiled sched) (fit_new sha hash programs s compiled sched) (fit_next sha hash programs s compiled sched) (fit_bytes sha hash programs s compiled sched) (fit_sends sha hash programs s compiled sched) (casts_fit sha hash programs s compiled sched)) (run sha programs s) premises.unforged (W.the_cast sha hash programs s compiled sched premises sid first (Fit sha hash programs s compiled sched) (fit_new sha hash programs s compiled sched) (fit_next sha hash programs s compiled sched) (fit_bytes sha hash programs s compiled sched) (fit_sends sha hash programs s compiled sched) (casts_fit sha hash programs s compiled sched)) (Fit sha hash programs s compiled sched) (fit_next sha hash programs s compiled sched) (fit_bytes sha hash programs s compiled sched) (fit_sends sha hash programs s compiled sched) (casts_fit sha hash programs s compiled sched) (W.binding sha hash programs s compiled sched premises sid first (Fit sha hash programs s compiled sched) (fit_new sha hash programs s compiled sched) (fit_next sha hash programs s compiled sched) (fit_bytes sha hash programs s compiled sched) (fit_sends sha hash programs s compiled sched) (casts_fit sha hash programs s compiled sched)) (W.inside sha hash programs s compiled sched premises sid first (Fit sha hash programs s compiled sched) (fit_new sha hash programs s compiled sched) (fit_next sha hash programs s compiled sched) (fit_bytes sha hash programs s compiled sched) (fit_sends sha hash programs s compiled sched) (casts_fit sha hash programs s compiled sched)) everyone targets same_targets was_sent_ keys_kept starts sends_sid (run sha programs s)
+  coursed = L.course sha hash s programs sid first.cast first.program.graph tp.is_graph tp.accepted first.fits.version (W.long sha hash programs s compiled sched premises sid first (Fit sha hash programs s compiled sched) (fit_new sha hash programs s compiled sched) (fit_next sha hash programs s compiled sched) (fit_bytes sha hash programs s compiled sched) (fit_sends sha hash programs s compiled sched) (casts_fit sha hash programs s compiled sched)) first.differ (W.prog sha hash programs s compiled sched premises sid first (Fit sha hash programs s compiled sched) (fit_new sha hash programs s compiled sched) (fit_next sha hash programs s compiled sched) (fit_bytes sha hash programs s compiled sched) (fit_sends sha hash programs s compiled sched) (casts_fit sha hash programs s compiled sched)) (run sha programs s) premises.unforged (W.the_cast sha hash programs s compiled sched premises sid first (Fit sha hash programs s compiled sched) (fit_new sha hash programs s compiled sched) (fit_next sha hash programs s compiled sched) (fit_bytes sha hash programs s compiled sched) (fit_sends sha hash programs s compiled sched) (casts_fit sha hash programs s compiled sched)) (Fit sha hash programs s compiled sched) (fit_next sha hash programs s compiled sched) (fit_bytes sha hash programs s compiled sched) (fit_sends sha hash programs s compiled sched) (casts_fit sha hash programs s compiled sched) (W.binding sha hash programs s compiled sched premises sid first (Fit sha hash programs s compiled sched) (fit_new sha hash programs s compiled sched) (fit_next sha hash programs s compiled sched) (fit_bytes sha hash programs s compiled sched) (fit_sends sha hash programs s compiled sched) (casts_fit sha hash programs s compiled sched)) (W.inside sha hash programs s compiled sched premises sid first (Fit sha hash programs s compiled sched) (fit_new sha hash programs s compiled sched) (fit_next sha hash programs s compiled sched) (fit_bytes sha hash programs s compiled sched) (fit_sends sha hash programs s compiled sched) (casts_fit sha hash programs s compiled sched)) everyone targets same_targets was_sent_ keys_kept starts sends_sid has_program (new_world programs s) 1 (W.begins sha hash programs s compiled sched premises sid first (Fit sha hash programs s compiled sched) (fit_new sha hash programs s compiled sched) (fit_next sha hash programs s compiled sched) (fit_bytes sha hash programs s compiled sched) (fit_sends sha hash programs s compiled sched) (casts_fit sha hash programs s compiled sched)) (record {
+    flight_ = begins_flight;
+    sourced = λ m f i. absurd i;
+    baton = inl refl;
+    left_from = λ l me i. absurd i;
+    said = λ l bs e f i. absurd i;
+  }) s.steps all_steps_ok (fit_new sha hash programs s compiled sched) refl
+
+  all_fit : Fit sha hash programs s compiled sched (run sha programs s)
+  all_fit = go (new_world programs s) 1 s.steps all_steps_ok (fit_new sha hash programs s compiled sched)
+    where
+      go : (w : World) (k : ℕ) (xs : List Step) → AllByRecursion (IsStep sha s) xs → Fit sha hash programs s compiled sched w → Fit sha hash programs s compiled sched (world_after_all sha s w k xs)
+      go w k [] a h = h
+      go w k (x ∷ xs) a h = go (world_after sha s w k x) (k + 1) xs a.1 (fit_next sha hash programs s compiled sched w k x h a.0)
+
+  abandoned_by : (who : Name) → HadAnswer (run sha programs s).log who (Abandon sid) Abandoned → WasAbandoned first.cast sid (run sha programs s).log
+  abandoned_by who had =
+      let r = coursed.left_from had.0 who (in_from_Contains (run sha programs s).log had.0 had.1) had.2 had.3 had.4 in
+      (r.0, r.1, subst (λ z. HadAnswer (run sha programs s).log z (Abandon sid) Abandoned) (sym r.2) had)
+
+  at_end_ : (m : ℕ) → list_any (λ (e : Edge). e.source == m) first.program.graph.edges ≡ false → (e : ℕ) → e < length first.program.graph.edges → source (shape first.program.graph) e ≢ m
+  at_end_ m none = go first.program.graph.edges none
+    where
+      go : (es : List Edge) → list_any (λ (e : Edge). e.source == m) es ≡ false → (e : ℕ) → e < length es → (get_or {A = Arrow} (map arrow_of es) e (record { source = 0; target = 0; writes = []; reads = [] })).source ≢ m
+      go [] h e l q = omega (arith, l)
+      go (x ∷ es) h zero l q = clash (x.source == m) (eq-eqb x.source m q) (first_no (x.source == m) _ h)
+        where
+          first_no : (a b : Bool) → (a || b) ≡ false → a ≡ false
+          first_no true b h = absurd (let z : true ≡ false = h in cc)
+          first_no false b h = refl
+      go (x ∷ es) h (suc e) l q = go es (rest_no (x.source == m) _ h) e (omega (arith, l)) q
+        where
+          rest_no : (a b : Bool) → (a || b) ≡ false → b ≡ false
+          rest_no true b h = absurd (let z : true ≡ false = h in cc)
+          rest_no false b h = h
+
+  -- a session at its turn sends along each edge from its place
+  acts_at : (who : Name) (past : Past) → past_of (run sha programs s) who ≡ Some past → (x : Session) → filter (of_sid sid) (node_of past).live ≡ x ∷ [] → at_turn first.program.graph x ≡ true → L.SessOk sha hash s programs sid first.cast first.program.graph tp.is_graph tp.accepted first.fits.version (W.long sha hash programs s compiled sched premises sid first (Fit sha hash programs s compiled sched) (fit_new sha hash programs s compiled sched) (fit_next sha hash programs s compiled sched) (fit_bytes sha hash programs s compiled sched) (fit_sends sha hash programs s compiled sched) (casts_fit sha hash programs s compiled sched)) first.differ (W.prog sha hash programs s compiled sched premises sid first (Fit sha hash programs s compiled sched) (fit_new sha hash programs s compiled sched) (fit_next sha hash programs s compiled sched) (fit_bytes sha hash programs s compiled sched) (fit_sends sha hash programs s compiled sched) (casts_fit sha hash programs s compiled sched)) (run sha programs s) premises.unforged (W.the_cast sha hash programs s compiled sched premises sid first (Fit sha hash programs s compiled sched) (fit_new sha hash programs s compiled sched) (fit_next sha hash programs s compiled sched) (fit_bytes sha hash programs s compiled sched) (fit_sends sha hash programs s compiled sched) (casts_fit sha hash programs s compiled sched)) (Fit sha hash programs s compiled sched) (fit_next sha hash programs s compiled sched) (fit_bytes sha hash programs s compiled sched) (fit_sends sha hash programs s compiled sched) (casts_fit sha hash programs s compiled sched) (W.binding sha hash programs s compiled sched premises sid first (Fit sha hash programs s compiled sched) (fit_new sha hash programs s compiled sched) (fit_next sha hash programs s compiled sched) (fit_bytes sha hash programs s compiled sched) (fit_sends sha hash programs s compiled sched) (casts_fit sha hash programs s compiled sched)) (W.inside sha hash programs s compiled sched premises sid first (Fit sha hash programs s compiled sched) (fit_new sha hash programs s compiled sched) (fit_next sha hash programs s compiled sched) (fit_bytes sha hash programs s compiled sched) (fit_sends sha hash programs s compiled sched) (casts_fit sha hash programs s compiled sched)) everyone targets same_targets was_sent_ keys_kept starts sends_sid (run sha programs s).log who x → CanAct sha (run sha programs s) first.cast first.program.graph sid
+  acts_at who past its_past x alone turn ok = record {
+    who = who;
+    has_turn = ap (principal first.cast) (ap (role_at (shape first.program.graph)) (sym end_is) ∙ role_is) ∙ ok.is_who;
+    past = past;
+    is_past = its_past;
+    session = x;
+    is_live = found;
+    program = the_p.0;
+    is_program = prog_x;
+    sends = λ label values confounders l src right t.
+        ap (λ o. option_map_or (λ (z : Session). option_map_or (λ (p : Program). acted (sent sha (node_of past).keys p z label values confounders) (first_some (rows_of_act p z label values))) (program_for (node_of past).programs z.cast.graph z.role) (NotActed ActFault.UnknownSession)) o (NotActed ActFault.UnknownSession)) found
+        ∙ ap (λ o. option_map_or (λ (p : Program). acted (sent sha (node_of past).keys p x label values confounders) (first_some (rows_of_act p x label values))) o (NotActed ActFault.UnknownSession)) prog_x
+        ∙ ap (acted (sent sha (node_of past).keys the_p.0 x label values confounders)) (no_rows label values l src right t);
+  }
+    where
+      end_is : place first.program.graph x ≡ place_in first.program.graph sid (run sha programs s).log
+      end_is = at_end sha s.keys sid first.cast targets first.program.graph (honest_items sid (run sha programs s).log) x ok.relay turn
+
+      role_is : role_at (shape first.program.graph) (place first.program.graph x) ≡ x.role
+      role_is = eqb-true (role_at (shape first.program.graph) (place first.program.graph x)) x.role turn
+
+      the_p : (p : Program) × (program_for programs first.cast.graph x.role ≡ Some p)
+      the_p = has_program x.role (subst (λ z. z < length first.program.graph.roles) role_is (role_small first.program.graph tp.is_graph tp.accepted (place first.program.graph x)))
+
+      p_graph : (the_p.0).graph ≡ first.program.graph
+      p_graph = (prog x.role the_p.0 the_p.1).0
+
+      prog_x : program_for (node_of past).programs x.cast.graph x.role ≡ Some the_p.0
+      prog_x = ap (λ ps. program_for ps x.cast.graph x.role) (all_fit.nodes who past its_past).0 ∙ ap (λ (c : Cast). program_for programs c.graph x.role) ok.same_cast ∙ the_p.1
+
+      found : session_with (node_of past).live sid ≡ Some x
+      found = sym (find-filter (λ (z : Session). bytes_eq z.sid sid) (of_sid sid) (λ z e. e) (node_of past).live) ∙ ap (find (λ (z : Session). bytes_eq z.sid sid)) alone ∙ rw (bytes_same x.sid sid ok.same_sid) refl
+
+      none_of : (a b c d : Bool) (e : Option ℕ) → a ≡ true → b ≡ true → c ≡ false → e ≡ None → first_some (row (not a) NotYourTurn ∷ map (option_map Send) (row (not b) NoSuchLabel ∷ option_map BadValues e ∷ row c TimeSpent ∷ [])) ≡ None
+      none_of a b c d e p q r t = rw (p, q, r, t) refl
+
+      no_rows : (label : ℕ) (values : Map Value) → label < length first.program.graph.edges → source (shape first.program.graph) label ≡ place_in first.program.graph sid (run sha programs s).log → find (is_bad first.program.graph label values) (below 256) ≡ None → time x < 1000000 → first_some (rows_of_act the_p.0 x label values) ≡ None
+      no_rows label values l src right t = none_of (at_turn (the_p.0).graph x) (leaves (the_p.0).graph x label) (nat_le 1000000 (time x)) true (find (is_bad (the_p.0).graph label values) (below 256))
+          (subst (λ z. at_turn z x ≡ true) (sym p_graph) turn)
+          (subst (λ z. leaves z x label ≡ true) (sym p_graph) (and_both (nat_lt label (length first.program.graph.edges)) (source (shape first.program.graph) label == place first.program.graph x) (less label (length first.program.graph.edges) l) (eq-eqb (source (shape first.program.graph) label) (place first.program.graph x) (src ∙ sym end_is))))
+          (not_over (time x) 1000000 t)
+          (subst (λ z. find (is_bad z label values) (below 256) ≡ None) (sym p_graph) right)
+
+  holds : L.Holder sha hash s programs sid first.cast first.program.graph tp.is_graph tp.accepted first.fits.version (W.long sha hash programs s compiled sched premises sid first (Fit sha hash programs s compiled sched) (fit_new sha hash programs s compiled sched) (fit_next sha hash programs s compiled sched) (fit_bytes sha hash programs s compiled sched) (fit_sends sha hash programs s compiled sched) (casts_fit sha hash programs s compiled sched)) first.differ (W.prog sha hash programs s compiled sched premises sid first (Fit sha hash programs s compiled sched) (fit_new sha hash programs s compiled sched) (fit_next sha hash programs s compiled sched) (fit_bytes sha hash programs s compiled sched) (fit_sends sha hash programs s compiled sched) (casts_fit sha hash programs s compiled sched)) (run sha programs s) premises.unforged (W.the_cast sha hash programs s compiled sched premises sid first (Fit sha hash programs s compiled sched) (fit_new sha hash programs s compiled sched) (fit_next sha hash programs s compiled sched) (fit_bytes sha hash programs s compiled sched) (fit_sends sha hash programs s compiled sched) (casts_fit sha hash programs s compiled sched)) (Fit sha hash programs s compiled sched) (fit_next sha hash programs s compiled sched) (fit_bytes sha hash programs s compiled sched) (fit_sends sha hash programs s compiled sched) (casts_fit sha hash programs s compiled sched) (W.binding sha hash programs s compiled sched premises sid first (Fit sha hash programs s compiled sched) (fit_new sha hash programs s compiled sched) (fit_next sha hash programs s compiled sched) (fit_bytes sha hash programs s compiled sched) (fit_sends sha hash programs s compiled sched) (casts_fit sha hash programs s compiled sched)) (W.inside sha hash programs s compiled sched premises sid first (Fit sha hash programs s compiled sched) (fit_new sha hash programs s compiled sched) (fit_next sha hash programs s compiled sched) (fit_bytes sha hash programs s compiled sched) (fit_sends sha hash programs s compiled sched) (casts_fit sha hash programs s compiled sched)) everyone targets same_targets was_sent_ keys_kept starts sends_sid (run sha programs s) → CanAct sha (run sha programs s) first.cast first.program.graph sid
+  holds h = elim (flown.tracks h.who h.past h.its_past) [
+    | inl t ↦ absurd (let z : h.x ∷ [] ≡ [] = sym h.alone ∙ t.alone in cc)
+    | inr r ↦ elim r [
+      | inl t ↦
+          let z : t.x ∷ [] ≡ h.x ∷ [] = sym t.alone ∙ h.alone in
+          let q : t.x ≡ h.x = cc in
+          acts_at h.who h.past h.its_past t.x t.alone (ap (at_turn first.program.graph) q ∙ h.turn) t.ok
+      | inr t ↦ absurd (let z : h.x ∷ [] ≡ [] = sym h.alone ∙ t.alone in cc)
+    ]
+  ]
+
+  -- the last frame
+  flies : L.Flying sha hash s programs sid first.cast first.program.graph tp.is_graph tp.accepted first.fits.version (W.long sha hash programs s compiled sched premises sid first (Fit sha hash programs s compiled sched) (fit_new sha hash programs s compiled sched) (fit_next sha hash programs s compiled sched) (fit_bytes sha hash programs s compiled sched) (fit_sends sha hash programs s compiled sched) (casts_fit sha hash programs s compiled sched)) first.differ (W.prog sha hash programs s compiled sched premises sid first (Fit sha hash programs s compiled sched) (fit_new sha hash programs s compiled sched) (fit_next sha hash programs s compiled sched) (fit_bytes sha hash programs s compiled sched) (fit_sends sha hash programs s compiled sched) (casts_fit sha hash programs s compiled sched)) (run sha programs s) premises.unforged (W.the_cast sha hash programs s compiled sched premises sid first (Fit sha hash programs s compiled sched) (fit_new sha hash programs s compiled sched) (fit_next sha hash programs s compiled sched) (fit_bytes sha hash programs s compiled sched) (fit_sends sha hash programs s compiled sched) (casts_fit sha hash programs s compiled sched)) (Fit sha hash programs s compiled sched) (fit_next sha hash programs s compiled sched) (fit_bytes sha hash programs s compiled sched) (fit_sends sha hash programs s compiled sched) (casts_fit sha hash programs s compiled sched) (W.binding sha hash programs s compiled sched premises sid first (Fit sha hash programs s compiled sched) (fit_new sha hash programs s compiled sched) (fit_next sha hash programs s compiled sched) (fit_bytes sha hash programs s compiled sched) (fit_sends sha hash programs s compiled sched) (casts_fit sha hash programs s compiled sched)) (W.inside sha hash programs s compiled sched premises sid first (Fit sha hash programs s compiled sched) (fit_new sha hash programs s compiled sched) (fit_next sha hash programs s compiled sched) (fit_bytes sha hash programs s compiled sched) (fit_sends sha hash programs s compiled sched) (casts_fit sha hash programs s compiled sched)) everyone targets same_targets was_sent_ keys_kept starts sends_sid (run sha programs s).log → WasAbandoned first.cast sid (run sha programs s).log ⊎ IsUnderWay sha s (run sha programs s) first.cast sid
+  flies fy = elim (had_left fy.to sid (run sha programs s).log) [
+    | inl had ↦ inl (abandoned_by fy.to had)
+    | inr not_left_ ↦ inr (under_way not_left_)
+  ]
+    where
+      fo : L.FrameOk sha hash s programs sid first.cast first.program.graph tp.is_graph tp.accepted first.fits.version (W.long sha hash programs s compiled sched premises sid first (Fit sha hash programs s compiled sched) (fit_new sha hash programs s compiled sched) (fit_next sha hash programs s compiled sched) (fit_bytes sha hash programs s compiled sched) (fit_sends sha hash programs s compiled sched) (casts_fit sha hash programs s compiled sched)) first.differ (W.prog sha hash programs s compiled sched premises sid first (Fit sha hash programs s compiled sched) (fit_new sha hash programs s compiled sched) (fit_next sha hash programs s compiled sched) (fit_bytes sha hash programs s compiled sched) (fit_sends sha hash programs s compiled sched) (casts_fit sha hash programs s compiled sched)) (run sha programs s) premises.unforged (W.the_cast sha hash programs s compiled sched premises sid first (Fit sha hash programs s compiled sched) (fit_new sha hash programs s compiled sched) (fit_next sha hash programs s compiled sched) (fit_bytes sha hash programs s compiled sched) (fit_sends sha hash programs s compiled sched) (casts_fit sha hash programs s compiled sched)) (Fit sha hash programs s compiled sched) (fit_next sha hash programs s compiled sched) (fit_bytes sha hash programs s compiled sched) (fit_sends sha hash programs s compiled sched) (casts_fit sha hash programs s compiled sched) (W.binding sha hash programs s compiled sched premises sid first (Fit sha hash programs s compiled sched) (fit_new sha hash programs s compiled sched) (fit_next sha hash programs s compiled sched) (fit_bytes sha hash programs s compiled sched) (fit_sends sha hash programs s compiled sched) (casts_fit sha hash programs s compiled sched)) (W.inside sha hash programs s compiled sched premises sid first (Fit sha hash programs s compiled sched) (fit_new sha hash programs s compiled sched) (fit_next sha hash programs s compiled sched) (fit_bytes sha hash programs s compiled sched) (fit_sends sha hash programs s compiled sched) (casts_fit sha hash programs s compiled sched)) everyone targets same_targets was_sent_ keys_kept starts sends_sid (run sha programs s).log fy.before fy.after fy.l fy.to fy.f
+      fo = flown.frames fy.before fy.l fy.after fy.e fy.to fy.f fy.parts fy.outcome fy.of_session
+
+      in_log : In (run sha programs s).log fy.l
+      in_log = subst (λ z. In z fy.l) (sym fy.parts) (split_in fy.before fy.l fy.after)
+
+      earlier : List (List ℕ)
+      earlier = filter_map (λ (l : Logged). l.frame) fy.before
+
+      all_frames : frames (run sha programs s) ≡ filter_map (λ (l : Logged). l.frame) fy.before ++ spelling fy.f ∷ filter_map (λ (l : Logged). l.frame) fy.after
+      all_frames = ap (filter_map (λ (l : Logged). l.frame)) fy.parts ∙ filter_map-append (λ (l : Logged). l.frame) fy.before (fy.l ∷ fy.after) ∙ ap (λ o. filter_map (λ (l : Logged). l.frame) fy.before ++ cons_option o (filter_map (λ (l : Logged). l.frame) fy.after)) fo.framed
+
+      there : frame_at (run sha programs s) (suc (length (filter_map (λ (l : Logged). l.frame) fy.before))) ≡ Some (spelling fy.f)
+      there = at_number (run sha programs s) (length (filter_map (λ (l : Logged). l.frame) fy.before)) ∙ ap (λ l. slice_get l (length (filter_map (λ (l : Logged). l.frame) fy.before))) all_frames ∙ at_length (filter_map (λ (l : Logged). l.frame) fy.before) (spelling fy.f) (filter_map (λ (l : Logged). l.frame) fy.after)
+
+      sent_to : IsSentTo (run sha programs s).log (spelling fy.f) fy.to fy.f
+      sent_to = (fy.l, fy.e, contains_from_in (run sha programs s).log fy.l in_log, fy.outcome, fo.framed)
+
+      done_is : honest_items sid (run sha programs s).log ≡ honest_items sid fy.before ++ fo.item ∷ []
+      done_is = ap (honest_items sid) fy.parts ∙ L.split_items sha hash s programs sid first.cast first.program.graph tp.is_graph tp.accepted first.fits.version (W.long sha hash programs s compiled sched premises sid first (Fit sha hash programs s compiled sched) (fit_new sha hash programs s compiled sched) (fit_next sha hash programs s compiled sched) (fit_bytes sha hash programs s compiled sched) (fit_sends sha hash programs s compiled sched) (casts_fit sha hash programs s compiled sched)) first.differ (W.prog sha hash programs s compiled sched premises sid first (Fit sha hash programs s compiled sched) (fit_new sha hash programs s compiled sched) (fit_next sha hash programs s compiled sched) (fit_bytes sha hash programs s compiled sched) (fit_sends sha hash programs s compiled sched) (casts_fit sha hash programs s compiled sched)) (run sha programs s) premises.unforged (W.the_cast sha hash programs s compiled sched premises sid first (Fit sha hash programs s compiled sched) (fit_new sha hash programs s compiled sched) (fit_next sha hash programs s compiled sched) (fit_bytes sha hash programs s compiled sched) (fit_sends sha hash programs s compiled sched) (casts_fit sha hash programs s compiled sched)) (Fit sha hash programs s compiled sched) (fit_next sha hash programs s compiled sched) (fit_bytes sha hash programs s compiled sched) (fit_sends sha hash programs s compiled sched) (casts_fit sha hash programs s compiled sched) (W.binding sha hash programs s compiled sched premises sid first (Fit sha hash programs s compiled sched) (fit_new sha hash programs s compiled sched) (fit_next sha hash programs s compiled sched) (fit_bytes sha hash programs s compiled sched) (fit_sends sha hash programs s compiled sched) (casts_fit sha hash programs s compiled sched)) (W.inside sha hash programs s compiled sched premises sid first (Fit sha hash programs s compiled sched) (fit_new sha hash programs s compiled sched) (fit_next sha hash programs s compiled sched) (fit_bytes sha hash programs s compiled sched) (fit_sends sha hash programs s compiled sched) (casts_fit sha hash programs s compiled sched)) everyone targets same_targets was_sent_ keys_kept starts sends_sid fy.before fy.l fy.after fy.e fy.to fy.f fo.item fy.outcome fy.of_session fo.its_last ∙ ap (λ l. honest_items sid fy.before ++ fo.item ∷ l) fy.nothing_later
+
+      untaken_ : (e : Event) → HadAnswer (run sha programs s).log fy.to (Deliver (spelling fy.f)) (Happened e) → ⊥
+      untaken_ e had =
+          let i = in_from_Contains (run sha programs s).log had.0 had.1 in
+          let q : e ≡ receipt fy.f = coursed.said had.0 (spelling fy.f) e fy.f i had.3 had.4 (read-spelling fy.f fo.spelled) in
+          fy.untaken (had.0, i, had.2, had.3, had.4 ∙ ap (λ z. Answered (Happened z)) q)
+
+      under_way : (HadAnswer (run sha programs s).log fy.to (Abandon sid) Abandoned → ⊥) → IsUnderWay sha s (run sha programs s) first.cast sid
+      under_way not_left_ = record {
+        number = suc (length (filter_map (λ (l : Logged). l.frame) fy.before));
+        who = fy.to;
+        frame = fy.f;
+        recorded = there;
+        is_sent = sent_to;
+        of_session = fo.sid_is;
+        receiver = sym fo.to_is;
+        newest = fo.its_last ∙ sym (ap last done_is ∙ last-append (honest_items sid fy.before) fo.item []);
+        not_taken = untaken_;
+        awaited = λ past its_past covered room. record {
+          bytes = spelling fy.f;
+          recorded = there;
+          sent = sent_to;
+          cast = first.cast;
+          is_cast = ap (λ z. cast_of_session z (run sha programs s).log) fo.sid_is ∙ first.is_cast;
+          all_honest = all_honest;
+          covered = covered;
+          not_taken = untaken_;
+          not_left = λ had. not_left_ (subst (λ z. HadAnswer (run sha programs s).log fy.to (Abandon z) Abandoned) fo.sid_is had);
+          room = room;
+        };
+      }
+
+  pub is_never_stuck : events_of sid (run sha programs s).log ≢ [] →
+      IsAtEnd first.program.graph sid (run sha programs s).log ⊎ (WasAbandoned first.cast sid (run sha programs s).log ⊎ (CanAct sha (run sha programs s) first.cast first.program.graph sid ⊎ IsUnderWay sha s (run sha programs s) first.cast sid))
+  is_never_stuck some = elim coursed.baton [
+    | inl n ↦ absurd (some n)
+    | inr r ↦ elim r [
+      | inl l ↦ inr (inl (abandoned_by l.0 l.1))
+      | inr r2 ↦ elim r2 [
+        | inl e ↦ inl (at_end_ (place_in first.program.graph sid (run sha programs s).log) e)
+        | inr r3 ↦ elim r3 [ inl h ↦ inr (inr (inl (holds h))) | inr f ↦ elim (flies f) [ inl l ↦ inr (inl l) | inr u ↦ inr (inr (inr u)) ] ]
+      ]
+    ]
+  ]
 
   module _ (number : ℕ) (who : Name) (past : Past) (f : Frame) (its_past : past_of (run sha programs s) who ≡ Some past) (aw : IsAwaited sha s (run sha programs s) number who past f) (of_sid_ : f.sid ≡ sid) where
     abbrev n : Node
@@ -441,3 +668,19 @@ delivery_is_complete sha hash programs s compiled sched premises number who past
   where
     some : (sid : List ℕ) (log : List Logged) (cast : Cast) → cast_of_session sid log ≡ Some cast → events_of sid log ≢ []
     some sid log cast e none = (let n : cast_of_session sid log ≡ None = ap (option_and_then (λ (l : Logged). option_and_then cast_in l.call)) (no_entry sid log none) in absurd (cc))
+
+pub sessions_go_on : (sha : Hash) → IsHash sha → SessionsGoOn sha
+sessions_go_on sha hash programs s compiled sched premises sid cast g its_cast its_graph honest =
+    let steps : AllByRecursion (IsStep sha s) s.steps = to_rec (IsStep sha s) s.steps sched.steps in
+    let some : events_of sid (run sha programs s).log ≢ [] = some_event sid (run sha programs s).log cast its_cast in
+    let first : FirstCast sha s programs sid (run sha programs s) = first_cast sha hash s programs sid (Fit sha hash programs s compiled sched) (fit_next sha hash programs s compiled sched) (fit_bytes sha hash programs s compiled sched) (casts_fit sha hash programs s compiled sched) steps (fit_new sha hash programs s compiled sched) some in
+    let two : Some first.cast ≡ Some cast = sym first.is_cast ∙ its_cast in
+    let same : first.cast ≡ cast = cc in
+    let three : Some first.program.graph ≡ Some g = sym (W.graph_is sha hash programs s compiled sched premises sid first (Fit sha hash programs s compiled sched) (fit_new sha hash programs s compiled sched) (fit_next sha hash programs s compiled sched) (fit_bytes sha hash programs s compiled sched) (fit_sends sha hash programs s compiled sched) (casts_fit sha hash programs s compiled sched)) ∙ ap (λ (c : Cast). graph_with sha s.graphs c.graph) same ∙ its_graph in
+    let graph : first.program.graph ≡ g = cc in
+    subst (λ z. IsAtEnd z sid (run sha programs s).log ⊎ (WasAbandoned cast sid (run sha programs s).log ⊎ (CanAct sha (run sha programs s) cast z sid ⊎ IsUnderWay sha s (run sha programs s) cast sid))) graph
+    (subst (λ c. IsAtEnd first.program.graph sid (run sha programs s).log ⊎ (WasAbandoned c sid (run sha programs s).log ⊎ (CanAct sha (run sha programs s) c first.program.graph sid ⊎ IsUnderWay sha s (run sha programs s) c sid))) same
+    (is_never_stuck sha hash programs s compiled sched premises sid first (subst (λ (c : Cast). All (λ n. is_honest s n ≡ true) c.names) (sym same) honest) some))
+  where
+    some_event : (sid : List ℕ) (log : List Logged) (cast : Cast) → cast_of_session sid log ≡ Some cast → events_of sid log ≢ []
+    some_event sid log cast e none = (let n : cast_of_session sid log ≡ None = ap (option_and_then (λ (l : Logged). option_and_then cast_in l.call)) (no_entry sid log none) in absurd (cc))

@@ -13,7 +13,7 @@ use Rattle.sg_model.specs.Shape.{role_at, target, sender, receiver}
 use Rattle.sg_model.specs.Values.{Value, Opening, Code}
 use Rattle.sg_model.specs.Names.{Name}
 use Rattle.sg_protocol.specs.Graph.{Graph, IsGraph, shape}
-use Rattle.sg_protocol.specs.Evidence.{IsViewTable}
+use Rattle.sg_protocol.specs.Evidence.{IsView, IsViewTable}
 use Rattle.sg_protocol.specs.Frame.{Cast, Item, Frame, IsItem, IsTag, IsValue, IsOpening}
 use Rattle.sg_protocol.specs.Spelling.{HasSpelling, body}
 use Rattle.sg_protocol.specs.Texts.{Hash, IsHash, commitment, commitment_text_of, session_id, session_text_of}
@@ -330,6 +330,7 @@ module _ (sha : Hash) (hash : IsHash sha) (s : Schedule) (programs : List Progra
     pub told : (r : ℕ) → principal cast r ≡ who → r < length cast.names → ((moved_all commit st moves).told r ≡ st.told r ++ entries (told_in r c a)) × Roles (shape g) (told_in r c a)
     pub sent : ((moved_all commit st moves).world.sent ≡ st.world.sent ++ map step (sent_in a)) × Roles (shape g) (sent_in a)
     pub took : (f : Frame) → TookFrame c a f → TakesFrame who moves f
+    pub views : (f : Frame) → TookFrame c a f → IsView g f.receiver (record { origin = option_map (λ (t : LawStep). t.label) (st.world.at f.receiver).own; items = map seen f.items })
     pub life : Life who n (node_after n c a) c a
     pub more_joins : (r : ℕ) → has_joined n.joins sid r ≡ true → has_joined (node_after n c a).joins sid r ≡ true
 
@@ -468,6 +469,7 @@ module _ (sha : Hash) (hash : IsHash sha) (s : Schedule) (programs : List Progra
     told = λ r e l. rw (quiet_told r c a q) (sym (append-nil (st.told r)), tt);
     sent = rw (quiet_items a q) (sym (append-nil st.world.sent), tt);
     took = λ f t. absurd (quiet_took c a f q t);
+    views = λ f t. absurd (quiet_took c a f q t);
     life = elim lf [ inl e ↦ inl record { quiet = q; same = e; fewer = fj } | inr w ↦ inr (inl w) ];
     more_joins = mj;
   }
@@ -549,6 +551,7 @@ module _ (sha : Hash) (hash : IsHash sha) (s : Schedule) (programs : List Progra
                 told = λ r e l. start_told r;
                 sent = (sym (append-nil st.world.sent), tt);
                 took = λ f t. (let e = t.is_call in absurd (cc));
+                views = λ f t. (let e = t.is_call in absurd (cc));
                 life = inr (inr (inl record {
                   role = p.role;
                   program = p;
@@ -786,6 +789,7 @@ module _ (sha : Hash) (hash : IsHash sha) (s : Schedule) (programs : List Progra
                     (rw (act_told gv.gi gv.its_last m.same_sid) (told_step st (moved commit st (Writes x.role label os)) who x (Gave gv.gi os) m gv.matches));
                 sent = rw (act_sent gv.gi gv.its_last m.same_sid) (ap (λ z. st.world.sent ++ V.step_of z ∷ []) (sym gv.made), (told_step st (moved commit st (Writes x.role label os)) who x (Gave gv.gi os) m gv.matches).1);
                 took = λ f t. (let e = t.is_call in absurd (cc));
+                views = λ f t. (let e = t.is_call in absurd (cc));
                 life = inr (inr (inr (inr record {
                   x = x;
                   same_sid = m.same_sid;
@@ -890,6 +894,7 @@ module _ (sha : Hash) (hash : IsHash sha) (s : Schedule) (programs : List Progra
           is_last : last f.items ≡ Some last_one
           by_me : receiver (shape z) last_one.label ≡ x.role
           no_own : has (λ (i : Item). i.role) x.role f.items ≡ false
+          view : IsView z x.role (record { origin = option_map (λ (t : LawStep). t.label) (st.world.at x.role).own; items = map seen f.items })
           typed : list_all (is_typed_or_hidden z) (V.values_of f.openings) ≡ true
 
         taken_at : (x : Session) (p : Program) → p.graph ≡ g → IsViewTable p.graph x.role p.views → Matches g sid cast st who x → at_turn g x ≡ false → f.sid ≡ sid → f.receiver ≡ x.role → T.Rows sha n.keys p x f
@@ -906,6 +911,7 @@ module _ (sha : Hash) (hash : IsHash sha) (s : Schedule) (programs : List Progra
               last_one = (T.last_item sha s sid cast n.keys p x f st who is' m' ok.me hon views version long wait' spelled fs fr rs found').0;
               is_last = (T.last_item sha s sid cast n.keys p x f st who is' m' ok.me hon views version long wait' spelled fs fr rs found').1;
               no_own = T.no_own sha s sid cast n.keys p x f st who is' m' ok.me hon views version long wait' spelled fs fr rs found';
+              view = T.law_view sha s sid cast n.keys p x f st who is' m' ok.me hon views version long wait' spelled fs fr rs found';
               by_me = T.by_me sha s sid cast n.keys p x f st who is' m' ok.me hon views version long wait' spelled fs fr rs found';
               typed = T.values_typed sha s sid cast n.keys p x f st who is' m' ok.me hon views version long wait' spelled fs fr rs found';
             }
@@ -969,6 +975,13 @@ module _ (sha : Hash) (hash : IsHash sha) (s : Schedule) (programs : List Progra
                 no_own = subst (λ r. has (λ (i : Item). i.role) r f.items ≡ false) (sym fr) t.no_own;
                 roles = (told_step st (moved commit st (Takes x.role t.node (entries f.items) f.openings)) who x (Took f) m t.matches).1;
               }
+              );
+          views = λ f' q. (
+              let same : Deliver bs ≡ Deliver q.bs = q.is_call in
+              let same' : bs ≡ q.bs = cc in
+              let ff : f ≡ f' = ok_same (read bs) f f' is_read (ap read same' ∙ q.is_read) in
+              subst (λ (f : Frame). IsView g f.receiver (record { origin = option_map (λ (t : LawStep). t.label) (st.world.at f.receiver).own; items = map seen f.items })) ff
+              (subst (λ r. IsView g r (record { origin = option_map (λ (t : LawStep). t.label) (st.world.at r).own; items = map seen f.items })) (sym fr) t.view)
               );
           life = inr (inr (inr (inl record {
             f = f;

@@ -259,7 +259,7 @@ module _ (sha : Hash) (hash : IsHash sha) (s : Schedule) (programs : List Progra
     pub pasts : (who : Name) → is_honest s who ≡ true → (p : Past) × (past_of w who ≡ Some p)
 
   -- a step without a call
-  idle : (w : World) (k : ℕ) (who : Option Name) (o : Outcome) (fr : Option (List ℕ)) → events_of_outcome o ≡ [] → Progress w → Progress (uncalled w k who o fr)
+  pub idle : (w : World) (k : ℕ) (who : Option Name) (o : Outcome) (fr : Option (List ℕ)) → events_of_outcome o ≡ [] → Progress w → Progress (uncalled w k who o fr)
   idle w k who o fr e p = record {
     moves = p.moves;
     may = p.may;
@@ -279,6 +279,10 @@ module _ (sha : Hash) (hash : IsHash sha) (s : Schedule) (programs : List Progra
       no_item : (o : Outcome) → events_of_outcome o ≡ [] → sent_item sid o ≡ None
       no_item (Answered (Sends ev to f)) h = absurd (cc)
       no_item other h = refl
+
+  pub idle_moves : (w : World) (k : ℕ) (who : Option Name) (o : Outcome) (fr : Option (List ℕ)) (e : events_of_outcome o ≡ []) (p : Progress w) → (idle w k who o fr e p).moves ≡ p.moves
+  unfolding idle
+  idle_moves w k who o fr e p = refl
 
   module _ (w : World) (k : ℕ) (p : Progress w) (x : Step) (good : IsStep sha s x) (fit : Fit w) (who : Name) (past : Past) (its_past : past_of w who ≡ Some past) where
     abbrev pub st : State
@@ -431,11 +435,6 @@ module _ (sha : Hash) (hash : IsHash sha) (s : Schedule) (programs : List Progra
   one_step w k p (AbandonStep who n') good fit after = by_past w k p (AbandonStep who n') good fit who (past_of w who) refl (call_of sha s w k (AbandonStep who n')) refl after
   one_step w k p (DeliverStep who what) good fit after = by_past w k p (DeliverStep who what) good fit who (past_of w who) refl (call_of sha s w k (DeliverStep who what)) refl after
 
-  pub all_steps : (w : World) (k : ℕ) → Progress w → (xs : List Step) → AllByRecursion (IsStep sha s) xs → Fit w → world_after_all sha s w k xs ≡ wf → Progress wf
-  all_steps w k p [] good fit e = subst Progress e p
-  all_steps w k p (x ∷ xs) good fit e =
-      all_steps (world_after sha s w k x) (k + 1) (one_step w k p x good.0 fit (subst (λ (z : World). Suffix (k + 1) (world_after sha s w k x).log z.log) e (suffix_all sha s (world_after sha s w k x) (k + 1) xs))) xs good.1 (fit_next w k x fit good.0) e
-
   -- what each call keeps, and each step without a call, holds in the end
   module _ (P : World → Type 0) (P_idle : (w : World) (k : ℕ) → Progress w → P w → (who : Option Name) (o : Outcome) (fr : Option (List ℕ)) → events_of_outcome o ≡ [] → P (uncalled w k who o fr))
       (P_called : (w : World) (k : ℕ) (p : Progress w) → P w → (x : Step) (good : IsStep sha s x) (fit : Fit w) (who : Name) (past : Past) (its_past : past_of w who ≡ Some past) (c : Call) → call_of sha s w k x ≡ Some c → Suffix (k + 1) (called sha w k who c past).log wf.log → Outs w k p x good fit who past its_past c → P (called sha w k who c past)) where
@@ -456,3 +455,30 @@ module _ (sha : Hash) (hash : IsHash sha) (s : Schedule) (programs : List Progra
     keep_all w k p h (x ∷ xs) good fit e =
         let after : Suffix (k + 1) (world_after sha s w k x).log wf.log = subst (λ (z : World). Suffix (k + 1) (world_after sha s w k x).log z.log) e (suffix_all sha s (world_after sha s w k x) (k + 1) xs) in
         keep_all (world_after sha s w k x) (k + 1) (one_step w k p x good.0 fit after) (keep_step w k p h x good.0 fit after) xs good.1 (fit_next w k x fit good.0) e
+
+  -- what each call keeps of a world and of what it is to the law, and each step without a call, holds in the end
+  module _ (P : (w : World) → Progress w → Type 0) (P_idle : (w : World) (k : ℕ) (p : Progress w) → P w p → (who : Option Name) (o : Outcome) (fr : Option (List ℕ)) (e : events_of_outcome o ≡ []) → P (uncalled w k who o fr) (idle w k who o fr e p))
+      (P_called : (w : World) (k : ℕ) (p : Progress w) → P w p → (x : Step) (good : IsStep sha s x) (fit : Fit w) (who : Name) (past : Past) (its_past : past_of w who ≡ Some past) (c : Call) → call_of sha s w k x ≡ Some c → (after : Suffix (k + 1) (called sha w k who c past).log wf.log) (out : Outs w k p x good fit who past its_past c)
+      → P (called sha w k who c past) (progress_called w k p x good fit who past its_past c after out)) where
+    abbrev pub With : World → Type 0
+    With w = (p : Progress w) × P w p
+
+    with_past : (w : World) (k : ℕ) → With w → (x : Step) → IsStep sha s x → Fit w → (who : Name) (o : Option Past) → past_of w who ≡ o → (c : Option Call) → call_of sha s w k x ≡ c → Suffix (k + 1) (option_map_or (called_if sha w k who c) o w).log wf.log → With (option_map_or (called_if sha w k who c) o w)
+    with_past w k p x good fit who None q c e after = p
+    with_past w k p x good fit who (Some past) q None e after = (idle w k (Some who) NoFrame None refl p.0, P_idle w k p.0 p.1 (Some who) NoFrame None refl)
+    with_past w k p x good fit who (Some past) q (Some c) e after =
+        let out = out_of w k p.0 x good fit who past q c e (founds w k p.0 x good fit who past q c after) (hs_of w k p.0 x good fit who past q c after) (lefts w k p.0 x good fit who past q c after) in
+        (progress_called w k p.0 x good fit who past q c after out, P_called w k p.0 p.1 x good fit who past q c e after out)
+
+    with_step : (w : World) (k : ℕ) → With w → (x : Step) → IsStep sha s x → Fit w → Suffix (k + 1) (world_after sha s w k x).log wf.log → With (world_after sha s w k x)
+    with_step w k p (CraftStep c) good fit after = (idle w k None Crafted _ refl p.0, P_idle w k p.0 p.1 None Crafted _ refl)
+    with_step w k p (StartStep who n') good fit after = with_past w k p (StartStep who n') good fit who (past_of w who) refl (call_of sha s w k (StartStep who n')) refl after
+    with_step w k p (ActStep who n' label values) good fit after = with_past w k p (ActStep who n' label values) good fit who (past_of w who) refl (call_of sha s w k (ActStep who n' label values)) refl after
+    with_step w k p (AbandonStep who n') good fit after = with_past w k p (AbandonStep who n') good fit who (past_of w who) refl (call_of sha s w k (AbandonStep who n')) refl after
+    with_step w k p (DeliverStep who what) good fit after = with_past w k p (DeliverStep who what) good fit who (past_of w who) refl (call_of sha s w k (DeliverStep who what)) refl after
+
+    pub with_all : (w : World) (k : ℕ) → With w → (xs : List Step) → AllByRecursion (IsStep sha s) xs → Fit w → world_after_all sha s w k xs ≡ wf → With wf
+    with_all w k p [] good fit e = subst With e p
+    with_all w k p (x ∷ xs) good fit e =
+        let after : Suffix (k + 1) (world_after sha s w k x).log wf.log = subst (λ (z : World). Suffix (k + 1) (world_after sha s w k x).log z.log) e (suffix_all sha s (world_after sha s w k x) (k + 1) xs) in
+        with_all (world_after sha s w k x) (k + 1) (with_step w k p x good.0 fit after) xs good.1 (fit_next w k x fit good.0) e

@@ -83,7 +83,7 @@ filter_map_below : {A : Type 0} (n : ℕ) (f h : ℕ → Option A) (xs : List �
 filter_map_below n f h [] a e = refl
 filter_map_below n f h (x ∷ xs) a e = ap (λ o. cons_option o (filter_map f xs)) (e x a.0) ∙ ap (cons_option (h x)) (filter_map_below n f h xs a.1 e)
 
-up_free : {A : Type 0} (key : A → ℕ) (k : ℕ) (ys : List A) → has key k ys ≡ false → up_to_last key k ys ≡ []
+pub up_free : {A : Type 0} (key : A → ℕ) (k : ℕ) (ys : List A) → has key k ys ≡ false → up_to_last key k ys ≡ []
 up_free key k [] h = refl
 up_free key k (y ∷ ys) h =
     elim (cases_Bool (key y == k)) [
@@ -94,7 +94,7 @@ up_free key k (y ∷ ys) h =
     clash : true ≡ false → ⊥
     clash e = cc
 
-up_later : {A : Type 0} (key : A → ℕ) (k : ℕ) (xs ys : List A) → has key k ys ≡ true → up_to_last key k (xs ++ ys) ≡ xs ++ up_to_last key k ys
+pub up_later : {A : Type 0} (key : A → ℕ) (k : ℕ) (xs ys : List A) → has key k ys ≡ true → up_to_last key k (xs ++ ys) ≡ xs ++ up_to_last key k ys
 up_later key k [] ys h = refl
 up_later key k (x ∷ xs) ys h = rw (has-append key k xs ys ∙ ap (λ b. has key k xs || b) h ∙ or_true (has key k xs)) (ap (λ l. x ∷ l) (up_later key k xs ys h))
   where
@@ -102,7 +102,7 @@ up_later key k (x ∷ xs) ys h = rw (has-append key k xs ys ∙ ap (λ b. has ke
     or_true true = refl
     or_true false = refl
 
-up_before : {A : Type 0} (key : A → ℕ) (k : ℕ) (xs ys : List A) → has key k ys ≡ false → up_to_last key k (xs ++ ys) ≡ up_to_last key k xs
+pub up_before : {A : Type 0} (key : A → ℕ) (k : ℕ) (xs ys : List A) → has key k ys ≡ false → up_to_last key k (xs ++ ys) ≡ up_to_last key k xs
 up_before key k [] ys h = up_free key k ys h
 up_before key k (x ∷ xs) ys h =
     rw (has-append key k xs ys ∙ ap (λ b. has key k xs || b) h ∙ or_false (has key k xs)) (
@@ -219,7 +219,7 @@ module _ (g : Graph) (s t : Session) (k : KeepsSame g s t) where
     same_tagged i = ap (λ ts. record i { tags = ts }) (map_all _ _ (targets_of p label) (λ r.
         ap (λ (c : Cast). (r, tag_for sha keys c r (text_to g s (told s) i r))) k.cast ∙ ap (λ z. (r, tag_for sha keys t.cast r z)) (said_same (told s) (told t) i r (commitments_more (i ∷ [])))))
 
-    same_own : tagged s (plain_item sha s label written) ≡ tagged t (plain_item sha t label written)
+    pub same_own : tagged s (plain_item sha s label written) ≡ tagged t (plain_item sha t label written)
     same_own = same_tagged (plain_item sha s label written) ∙ ap (tagged t) same_plain
 
     same_shown : (r : ℕ) (more : List Item) → shown_to g r (told s ++ more) ≡ shown_to g r (told t ++ more)
@@ -282,7 +282,7 @@ five None (Some x) c d e e' h = refl
 five None None c d e e' h = ap (λ o. first_some (c ∷ d ∷ o ∷ [])) (h refl)
 
 -- the variables of these openings are those
-below_reads : (n : ℕ) (os : List Opening) (xs : List ℕ) → map (λ (o : Opening). o.variable) os ≡ xs → AllByRecursion (λ x. x < n) xs → AllByRecursion (λ (o : Opening). o.variable < n) os
+pub below_reads : (n : ℕ) (os : List Opening) (xs : List ℕ) → map (λ (o : Opening). o.variable) os ≡ xs → AllByRecursion (λ x. x < n) xs → AllByRecursion (λ (o : Opening). o.variable < n) os
 below_reads n [] xs e a = tt
 below_reads n (o ∷ os) [] e a = absurd (clash e)
   where

@@ -184,7 +184,7 @@ shown-com g k is r x h =
 
 -- ---- what is seen
 
-abbrev Wal : Type 0
+abbrev pub Wal : Type 0
 Wal = A.Entry ℕ (Unit {0})
 
 abbrev names : {A : Type 0} → Map A → List ℕ
@@ -313,7 +313,7 @@ alike_seen n (i ∷ is) (a ∷ ws) (y ∷ ys) e b h =
 
 -- ---- from a view to a sight
 
-walked_after : (g : Graph) (k : ℕ) (es : List ℕ) → after_last (λ (y : Wal). sender (shape g) y.step) k (walked g es) ≡ walked g (after_last (sender (shape g)) k es)
+pub walked_after : (g : Graph) (k : ℕ) (es : List ℕ) → after_last (λ (y : Wal). sender (shape g) y.step) k (walked g es) ≡ walked g (after_last (sender (shape g)) k es)
 walked_after g k [] = refl
 walked_after g k (e ∷ es) = rw (has-map (λ e. record { step = e; writes = map (λ x. (x, tt)) (writes g e) }) (λ (y : Wal). sender (shape g) y.step) k es) (elim (cases_Bool (has (sender (shape g)) k es)) [
   | inl d ↦ rw d (walked_after g k es)
@@ -359,6 +359,12 @@ sight g b h v i own items o l t =
           (below-evidence (length g.variables) (sender (shape g)) (walked g since) (below_walked g b since)) (keyed-evidence (shape g) (walked g since) (map (V.entry (shape g)) since) (keyed_walked g since));
       rises = t;
     }
+
+-- its steps since are those of the walk after the role's own last one
+pub sight-since : (g : Graph) (b : (e : ℕ) → Below (length g.variables) (writes g e)) (h : ℕ) (v : View) (i : IsView g h v) (own : Option Step) (items : List Item) (o : v.origin ≡ option_map (λ (t : Step). t.label) own) (l : v.items ≡ map seen items) (t : RisesFrom (own_time own) (V.steps_of (entries items)))
+    → (sight g b h v i own items o l t).since ≡ after_last (sender (shape g)) h i.walk
+unfolding sight
+sight-since g b h v i own items o l t = refl
 
 pub seen_labels : (items : List Item) → map (λ (s : Seen). s.label) (map seen items) ≡ map (λ (i : Item). i.label) items
 seen_labels [] = refl

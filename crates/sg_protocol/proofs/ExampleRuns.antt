@@ -1,15 +1,16 @@
 -- Whole runs, with a quick hash in the place of SHA-256, and the walks that explain them.
-use Rattle.std.specs.Prelude.{◌≡◌, ℕ, Bool, true, false, not, nat_eq, List, [], ◌∷◌, map, codes, refl, Some, None, Option, pos}
+use Rattle.std.specs.Prelude.{◌≡◌, ℕ, ◌==◌, if◌then◌else◌, Bool, true, false, not, nat_eq, List, [], ◌∷◌, map, codes, refl, Some, None, Option, pos}
 use Rattle.std.specs.Str.{is_utf8, chars}
 use Rattle.std.specs.Char.{encode_utf8}
 use Rattle.std.proofs.Common.{lit<}
 use Rattle.sg_model.specs.Values.{Value, TextValue, IntValue, Opening}
-use Rattle.sg_protocol.specs.Calls.{Answer, Happened, Sends, Abandoned, NotDelivered, BadEvidence, BadOpening, BadTime, NotActed, Send, BadValues}
+use Rattle.sg_protocol.specs.Calls.{Received, Answer, Happened, Sends, Abandoned, NotDelivered, BadEvidence, BadOpening, BadTime, NotActed, Send, BadValues}
 use Rattle.sg_protocol.specs.Walk.{OnePath, StoredStep, are_hidden}
 use Rattle.sg_protocol.specs.Schedule.{Schedule, Step, StartStep, ActStep, DeliverStep, CraftStep, Whole, Key, CopyItem, Zero, confounder, sid_at}
 use Rattle.sg_protocol.specs.World.{World, Outcome, Answered, Crafted, NoFrame}
 use Rattle.sg_protocol.specs.Run.{run, events_of}
 use Rattle.sg_protocol.specs.Premises.{hashed}
+use Rattle.sg_protocol.specs.Grown.{filled, grown_by, walk_grown}
 use Rattle.sg_protocol.proofs.Examples.{shop, pair, order, ask, offer, refuse, pass, deny, retry, programs, alice, bob, carl, shop_schedule, pair_schedule, outcomes, toy, forged, colliding}
 
 -- a word for what came of a step
@@ -183,3 +184,31 @@ to_come = refl
 -- a value that an honest role wrote is never hidden
 written : are_hidden shop (λ r. not (nat_eq r 1)) true (order_of None) ≡ false
 written = refl
+
+-- ---- the walk that is made event by event
+
+-- the warehouse receives the order on a walk whose customer and shop nobody saw, and so learns the value that was hidden
+learnt : grown_by shop warehouse [] (Received [] 2 ask 2 ((0, tea) ∷ []) true) (order ∷ ask ∷ []) ≡ order_of (Some tea)
+learnt = refl
+
+-- only the last write of a variable is filled in
+last_filled : filled ((0, tea) ∷ []) (step order ((0, None) ∷ []) ∷ step retry ((0, None) ∷ []) ∷ []) ≡ step order ((0, None) ∷ []) ∷ step retry ((0, Some tea) ∷ []) ∷ []
+last_filled = refl
+
+-- of a walk that shows a role what it received, only the steps after its own last one and after the last honest one are added
+added : grown_by shop (λ r. nat_eq r 0) (step order ((0, Some tea) ∷ []) ∷ []) (Received [] 0 pass 5 ((1, forty) ∷ []) false) (order ∷ ask ∷ offer ∷ pass ∷ [])
+    ≡ step order ((0, Some tea) ∷ []) ∷ step ask [] ∷ step offer ((1, Some forty) ∷ []) ∷ step pass [] ∷ []
+added = refl
+
+-- the shop is compromised and passes on what is right
+abbrev passed_run : Schedule
+passed_run = ordered (passes_on tea tea ∷ deliver carl 2 ∷ ActStep carl 0 offer ((1, forty) ∷ []) ∷ passes_offer 4 ∷ deliver alice 4 ∷ [])
+
+-- the walks that show what steps 4 and 7 took
+abbrev beside : ℕ → List ℕ
+beside k = if k == 4 then (order ∷ ask ∷ []) else (order ∷ ask ∷ offer ∷ pass ∷ [])
+
+grown : walk_grown shop (λ r. not (nat_eq r 1)) (sid_at toy passed_run 0) [] (map (λ l. (l, beside l.number)) (run toy (programs toy shop 12) passed_run).log)
+    ≡ step order ((0, Some tea) ∷ []) ∷ step ask [] ∷ step offer ((1, Some forty) ∷ []) ∷ step pass [] ∷ []
+unfolding is_utf8 chars encode_utf8
+grown = refl

@@ -98,7 +98,7 @@ module _ (sha : Hash) (s : Schedule) (n : ℕ) where
   step_same w k (AbandonStep who m) = refl
   step_same w k (DeliverStep who what) = refl
 
-  all_same : (w : World) (k : ℕ) (xs : List Step) → world_after_all sha (first_steps n s) w k xs ≡ world_after_all sha s w k xs
+  pub all_same : (w : World) (k : ℕ) (xs : List Step) → world_after_all sha (first_steps n s) w k xs ≡ world_after_all sha s w k xs
   all_same w k [] = refl
   all_same w k (x ∷ xs) = ap (λ z. world_after_all sha (first_steps n s) z (k + 1) xs) (step_same w k x) ∙ all_same (world_after sha s w k x) (k + 1) xs
 

@@ -1,12 +1,12 @@
 -- In a session of honest principals, each frame but the last one was taken, and each role holds what was done until its last step or receipt.
-use Rattle.std.specs.Prelude.{◌||◌, ◌≡◌, ◌≢◌, ℕ, ◌+◌, ◌<◌, ◌==◌, ◌⊎◌, Bool, true, false, if◌then◌else◌, List, [], ◌∷◌, ◌++◌, map, filter, length, bytes_eq, refl, Option, Some, None, option_map, IfSome}
+use Rattle.std.specs.Prelude.{◌||◌, ◌≡◌, ◌≢◌, ℕ, ◌+◌, ◌<◌, ◌==◌, ◌⊎◌, Bool, true, false, not, if◌then◌else◌, List, [], ◌∷◌, ◌++◌, map, filter, flat_map, find, length, bytes_eq, refl, Option, Some, None, option_map, IfSome, Ok}
 use Rattle.std.specs.List.{AllByRecursion, cons_option, list_any}
-use Rattle.std.proofs.Common.{sym, ◌∙◌, ap, subst, inl, inr, arith, append-nil}
+use Rattle.std.proofs.Common.{sym, ◌∙◌, ap, subst, inl, inr, arith, append-nil, append_assoc}
 use Rattle.std.proofs.lemmas.Bool.{cases_Bool, eqb-true, eq-eqb, ne_eqb}
 use Rattle.std.proofs.lemmas.List.{map-append}
 use Rattle.std.proofs.lemmas.Slice.Eq.{bytes_eq-Decides}
 use Rattle.sg_model.specs.Last.{has, last, last_or, last_of, after_last}
-use Rattle.sg_model.specs.Lists.{all_differ}
+use Rattle.sg_model.specs.Lists.{all_differ, first_some}
 use Rattle.sg_model.specs.Shape.{end_of, role_at, source, receiver}
 use Rattle.sg_model.specs.Values.{Opening}
 use Rattle.sg_model.specs.Names.{Name}
@@ -18,19 +18,20 @@ use Rattle.sg_protocol.specs.Frame.{Cast, Frame, Item}
 use Rattle.sg_protocol.specs.Spelling.{HasSpelling, spelling}
 use Rattle.sg_protocol.specs.Texts.{Hash, IsHash, commitment, commitment_text_of, session_id, session_text_of}
 use Rattle.sg_protocol.specs.TextLaws.{IsVersion, CastFits, OpeningFits}
-use Rattle.sg_protocol.specs.Keyring.{Keyring, Program, targets_of}
-use Rattle.sg_protocol.specs.Session.{Session, Took, Gave, principal, place, time, at_turn, extended, new_session}
+use Rattle.sg_protocol.specs.Keyring.{Keyring, Program, targets_of, may_return}
+use Rattle.sg_protocol.specs.Session.{Session, Took, Gave, principal, origin, place, time, at_turn, extended, new_session}
+use Rattle.sg_protocol.specs.Reading.{read}
 use Rattle.sg_protocol.specs.Sending.{tag_for, text_of, frame_sent, own_item}
-use Rattle.sg_protocol.specs.Calls.{Event, Started, Sent, Call, Abandon, Deliver, Answer, Happened, Sends, Abandoned, sid_of, events_of_answer}
-use Rattle.sg_protocol.specs.Node.{Node, program_for, starter, has_joined}
+use Rattle.sg_protocol.specs.Calls.{Refusal, Event, Started, Sent, Call, Abandon, Deliver, Answer, Happened, Sends, Abandoned, NotAbandoned, NotDelivered, sid_of, events_of_answer}
+use Rattle.sg_protocol.specs.Node.{Node, program_for, starter, has_joined, session_with}
 use Rattle.sg_protocol.specs.NodeAfter.{node_after, still, is_over}
 use Rattle.sg_protocol.specs.Acting.{answer, openings_for}
-use Rattle.sg_protocol.specs.Verdict.{receipt}
+use Rattle.sg_protocol.specs.Verdict.{receipt, decided, rows, verdict_on}
 use Rattle.sg_protocol.specs.Notes.{no_notes, notes}
 use Rattle.sg_protocol.specs.Past.{Past, node_of, new_node, past_after}
 use Rattle.sg_protocol.specs.Schedule.{Schedule, honest_role, Step, DeliverStep, What, cast_of}
 use Rattle.sg_protocol.specs.World.{World, Logged, Outcome, Answered, past_of, call_of, bytes_of, keyring_of}
-use Rattle.sg_protocol.specs.Run.{called, uncalled, world_after, world_after_all, frame_in, events_of_outcome}
+use Rattle.sg_protocol.specs.Run.{called, uncalled, world_after, world_after_all, frame_in, events_of_outcome, events_of}
 use Rattle.sg_protocol.specs.Premises.{hashed, Unforged}
 use Rattle.sg_protocol.specs.IsSchedule.{IsStep}
 use Rattle.sg_protocol.specs.Completeness.{HadAnswer}
@@ -43,7 +44,9 @@ use Rattle.sg_law.proofs.Upto as Upto'
 use Rattle.sg_law.proofs.Take.{contains_from_in}
 use Rattle.sg_law.proofs.Cut as Cut'
 use Rattle.sg_law.proofs.Lists.{last-append}
-use Rattle.sg_protocol.proofs.Isolation.{of_sid}
+use Rattle.sg_protocol.proofs.Isolation.{of_sid, filter-append, find-filter}
+use Rattle.sg_protocol.proofs.Paths.{flat_map-append}
+use Rattle.sg_protocol.proofs.ReadLaws.{read-spelling}
 use Rattle.sg_protocol.proofs.Entries.{Roles}
 use Rattle.sg_protocol.proofs.Moves.{step, in_left}
 use Rattle.sg_protocol.proofs.Acts as C
@@ -162,6 +165,66 @@ module _ (sha : Hash) (hash : IsHash sha) (s : Schedule) (programs : List Progra
     pub tracks : (who : Name) (p : Past) → past_of w who ≡ Some p → Track w.log who (node_of p)
     pub frames : (before : List Logged) (l : Logged) (after : List Logged) (e : Event) (to : Name) (f : Frame) → w.log ≡ before ++ l ∷ after → l.outcome ≡ Answered (Sends e to f) → sid_of e ≡ sid → FrameOk w.log before after l to f
 
+  -- ---- who has the turn, or which frame is under way
+
+  -- each role has a program
+  abbrev pub HasPrograms : Type 0
+  HasPrograms = (r : ℕ) → r < length g.roles → (p : Program) × (program_for programs cast.graph r ≡ Some p)
+
+  -- a principal's session is at its turn
+  pub record Holder (w : World) : Type 0 where
+    pub who : Name
+    pub past : Past
+    pub its_past : past_of w who ≡ Some past
+    pub x : Session
+    pub alone : filter (of_sid sid) (node_of past).live ≡ x ∷ []
+    pub turn : at_turn g x ≡ true
+
+  -- the frame that was sent last was not taken
+  pub record Flying (log : List Logged) : Type 0 where
+    pub before : List Logged
+    pub l : Logged
+    pub after : List Logged
+    pub e : Event
+    pub to : Name
+    pub f : Frame
+    pub parts : log ≡ before ++ l ∷ after
+    pub outcome : l.outcome ≡ Answered (Sends e to f)
+    pub of_session : sid_of e ≡ sid
+    pub is_sid : f.sid ≡ sid
+    pub nothing_later : honest_items sid after ≡ []
+    pub untaken : Taken log to f → ⊥
+
+  -- no edge leaves the place where the steps end
+  abbrev pub NoEdge : List Logged → Type 0
+  NoEdge log = list_any (λ e. e.source == end_of (shape g) 0 (labels (honest_items sid log))) g.edges ≡ false
+
+  abbrev pub BatonOf : List Logged → Type 0 → Type 0
+  BatonOf log H = (events_of sid log ≡ []) ⊎ (((who : Name) × LeftBy' who) ⊎ (NoEdge log ⊎ (H ⊎ Flying log)))
+
+  -- the session has no event, or was left, or is at its end, or a role has the turn, or a frame is under way
+  abbrev pub Baton : World → Type 0
+  Baton w = BatonOf w.log (Holder w)
+
+  -- what was taken in the session had been sent
+  abbrev pub Sourced : List Logged → Type 0
+  Sourced log = (m : Logged) (f : Frame) → In log m → m.call ≡ Some (Deliver (spelling f)) → m.outcome ≡ Answered (Happened (receipt f)) → f.sid ≡ sid → HasSpelling f → (l : Logged) × (e : Event) × (to : Name) × In log l × (l.outcome ≡ Answered (Sends e to f)) × (sid_of e ≡ sid)
+
+  -- who abandoned the session was of the cast
+  abbrev pub LeftFrom : List Logged → Type 0
+  LeftFrom log = (l : Logged) (who : Name) → In log l → l.who ≡ Some who → l.call ≡ Some (Abandon sid) → l.outcome ≡ Answered Abandoned → (r : ℕ) × (r < length cast.names) × (principal cast r ≡ who)
+
+  -- what happened at a delivery is the receipt of the frame
+  abbrev pub Said : List Logged → Type 0
+  Said log = (l : Logged) (bs : List ℕ) (e : Event) (f : Frame) → In log l → l.call ≡ Some (Deliver bs) → l.outcome ≡ Answered (Happened e) → read bs ≡ Ok f → e ≡ receipt f
+
+  pub record Course_ (w : World) : Type 0 where
+    pub flight_ : Flight w
+    pub sourced : Sourced w.log
+    pub baton : Baton w
+    pub left_from : LeftFrom w.log
+    pub said : Said w.log
+
   -- ---- later logs
 
   taken_more : (log : List Logged) (l0 : Logged) (to : Name) (f : Frame) → Taken log to f → Taken (log ++ l0 ∷ []) to f
@@ -254,6 +317,80 @@ module _ (sha : Hash) (hash : IsHash sha) (s : Schedule) (programs : List Progra
     where
       quiet : Silent (record { number = k; who = who; call = None; outcome = o; frame = fr; notes = no_notes })
       quiet e to f h i = (let z : e ∷ [] ≡ [] = ap events_of_outcome (sym h) ∙ ev in absurd (cc))
+
+  -- ---- steps that leave the session as it is
+
+  -- an entry that takes nothing in the session
+  abbrev NoTake : Logged → Type 0
+  NoTake l = (f : Frame) → f.sid ≡ sid → l.outcome ≡ Answered (Happened (receipt f)) → ⊥
+
+  none_filter : (q : Event → Bool) (xs : List Event) → list_any q xs ≡ false → filter q xs ≡ []
+  none_filter q [] h = refl
+  none_filter q (x ∷ xs) h = elim (cases_Bool (q x)) [ inl e ↦ absurd (let z : true ≡ false = (rw e at h) in cc) | inr e ↦ rw e (none_filter q xs (rw e at h)) ]
+
+  events_more : (log : List Logged) (l0 : Logged) → filter (λ e. bytes_eq (sid_of e) sid) (events_of_outcome l0.outcome) ≡ [] → events_of sid (log ++ l0 ∷ []) ≡ events_of sid log
+  events_more log l0 h =
+      ap (filter (λ e. bytes_eq (sid_of e) sid)) (flat_map-append (λ (l : Logged). events_of_outcome l.outcome) log (l0 ∷ []) ∙ ap (λ l. flat_map (λ (l : Logged). events_of_outcome l.outcome) log ++ l) (append-nil (events_of_outcome l0.outcome)))
+      ∙ filter-append (λ e. bytes_eq (sid_of e) sid) (flat_map (λ (l : Logged). events_of_outcome l.outcome) log) (events_of_outcome l0.outcome)
+      ∙ ap (λ l. events_of sid log ++ l) h ∙ append-nil (events_of sid log)
+
+  flying_more : (log : List Logged) (l0 : Logged) → Silent l0 → NoTake l0 → Flying log → Flying (log ++ l0 ∷ [])
+  flying_more log l0 q nt fy = record {
+    before = fy.before;
+    l = fy.l;
+    after = fy.after ++ l0 ∷ [];
+    e = fy.e;
+    to = fy.to;
+    f = fy.f;
+    parts = ap (λ z. z ++ l0 ∷ []) fy.parts ∙ append_assoc fy.before (fy.l ∷ fy.after) (l0 ∷ []);
+    outcome = fy.outcome;
+    of_session = fy.of_session;
+    is_sid = fy.is_sid;
+    nothing_later = same_items fy.after l0 q ∙ fy.nothing_later;
+    untaken = λ t. elim (C.in_parts log (l0 ∷ []) t.0 t.1) [
+      | inl j ↦ fy.untaken (t.0, j, t.2, t.3, t.4)
+      | inr j ↦ elim j [ inl k ↦ nt fy.f fy.is_sid (ap (λ (z : Logged). z.outcome) (sym k) ∙ t.4) | inr k ↦ absurd k ]
+    ];
+  }
+
+  baton_more : (log : List Logged) (l0 : Logged) (H H' : Type 0) → Silent l0 → NoTake l0 → filter (λ e. bytes_eq (sid_of e) sid) (events_of_outcome l0.outcome) ≡ [] → (H → H') → BatonOf log H → BatonOf (log ++ l0 ∷ []) H'
+  baton_more log l0 H H' q nt ev t b = elim b [
+    | inl n ↦ inl (events_more log l0 ev ∙ n)
+    | inr r ↦ elim r [
+      | inl l ↦ inr (inl l)
+      | inr r2 ↦ elim r2 [
+        | inl e ↦ inr (inr (inl (subst (λ is. list_any (λ e. e.source == end_of (shape g) 0 (labels is)) g.edges ≡ false) (sym (same_items log l0 q)) e)))
+        | inr r3 ↦ elim r3 [ inl h ↦ inr (inr (inr (inl (t h)))) | inr f ↦ inr (inr (inr (inr (flying_more log l0 q nt f)))) ]
+      ]
+    ]
+  ]
+
+  sourced_more : (log : List Logged) (l0 : Logged) → NoTake l0 → Sourced log → Sourced (log ++ l0 ∷ [])
+  sourced_more log l0 nt so m f i call o q sp = elim (C.in_parts log (l0 ∷ []) m i) [
+    | inl j ↦ let r = so m f j call o q sp in (r.0, r.1, r.2, in_left log (l0 ∷ []) r.0 r.3, r.4, r.5)
+    | inr j ↦ elim j [ inl k ↦ absurd (nt f q (ap (λ (z : Logged). z.outcome) (sym k) ∙ o)) | inr k ↦ absurd k ]
+  ]
+
+  course_idle : (w : World) (k : ℕ) → Prog w → Course_ w → (who : Option Name) (o : Outcome) (fr : Option (List ℕ)) → events_of_outcome o ≡ [] → Course_ (uncalled w k who o fr)
+  course_idle w k p co who o fr ev = record {
+    flight_ = flight_idle w k p co.flight_ who o fr ev;
+    sourced = sourced_more w.log (record { number = k; who = who; call = None; outcome = o; frame = fr; notes = no_notes }) untook co.sourced;
+    baton = baton_more w.log (record { number = k; who = who; call = None; outcome = o; frame = fr; notes = no_notes }) (Holder w) (Holder (uncalled w k who o fr)) quiet untook (ap (filter (λ e. bytes_eq (sid_of e) sid)) ev) (λ h. record { who = h.who; past = h.past; its_past = h.its_past; x = h.x; alone = h.alone; turn = h.turn }) co.baton;
+    left_from = λ l me i q call out. elim (C.in_parts w.log (record { number = k; who = who; call = None; outcome = o; frame = fr; notes = no_notes } ∷ []) l i) [
+      | inl j ↦ co.left_from l me j q call out
+      | inr j ↦ elim j [ inl e ↦ absurd (let z : None ≡ Some (Abandon sid) = ap (λ (z : Logged). z.call) (sym e) ∙ call in cc) | inr e ↦ absurd e ]
+    ];
+    said = λ l bs e f i call out r. elim (C.in_parts w.log (record { number = k; who = who; call = None; outcome = o; frame = fr; notes = no_notes } ∷ []) l i) [
+      | inl j ↦ co.said l bs e f j call out r
+      | inr j ↦ elim j [ inl q ↦ absurd (let z : None ≡ Some (Deliver bs) = ap (λ (z : Logged). z.call) (sym q) ∙ call in cc) | inr q ↦ absurd q ]
+    ];
+  }
+    where
+      quiet : Silent (record { number = k; who = who; call = None; outcome = o; frame = fr; notes = no_notes })
+      quiet e to f h i = (let z : e ∷ [] ≡ [] = ap events_of_outcome (sym h) ∙ ev in absurd (cc))
+
+      untook : NoTake (record { number = k; who = who; call = None; outcome = o; frame = fr; notes = no_notes })
+      untook f i h = (let z : receipt f ∷ [] ≡ [] = ap events_of_outcome (sym h) ∙ ev in absurd (cc))
 
   -- ---- what is sent stands among the items
 
@@ -389,6 +526,65 @@ module _ (sha : Hash) (hash : IsHash sha) (s : Schedule) (programs : List Progra
       | inr o ↦ inr (inl record { x = y; alone = e ∙ rw o refl; ok = ok; was_joined = j })
     ]
 
+    past_now : past_of (called sha w k who c past) who ≡ Some (next_past sha who c past)
+    past_now = past_called sha w k who c past who ∙ ap (option_map (next_past sha who c)) its_past
+
+    -- the node of a principal after the call
+    node_now : (y : Past) → past_of w who ≡ Some y → node_of (next_past sha who c y) ≡ n'
+    node_now y q =
+        let two : Some y ≡ Some past = sym q ∙ its_past in
+        let same : y ≡ past = cc in
+        let is_me : y.keys.me ≡ who = same_bytes_ y.keys.me who (find_passes (λ (z : Past). bytes_eq z.keys.me who) w.pasts y q) in
+        let here : bytes_eq y.keys.me who ≡ true = (bytes_eq-Decides y.keys.me who).1 is_me in
+        ap node_of (ap (λ b. if b then past_after sha y c else y) here) ∙ ap (λ z. node_of (past_after sha z c)) same ∙ node_more (new_node past.keys past.programs past.first) past.calls (record { call = c; answer = answer sha (node_of past) c })
+
+    -- who had the turn has it still, where the call changes nothing in the session
+    holder_more : filter (of_sid sid) n'.live ≡ filter (of_sid sid) n.live → Holder w → Holder (called sha w k who c past)
+    holder_more e h = record {
+      who = h.who;
+      past = next_past sha who c h.past;
+      its_past = past_called sha w k who c past h.who ∙ ap (option_map (next_past sha who c)) h.its_past;
+      x = h.x;
+      alone = elim (cases_Bool (bytes_eq h.past.keys.me who)) [
+        | inl b ↦
+            let is_me : h.past.keys.me ≡ h.who = same_bytes_ h.past.keys.me h.who (find_passes (λ (z : Past). bytes_eq z.keys.me h.who) w.pasts h.past h.its_past) in
+            let same : h.who ≡ who = sym is_me ∙ same_bytes_ h.past.keys.me who b in
+            let at_who : past_of w who ≡ Some h.past = ap (past_of w) (sym same) ∙ h.its_past in
+            let two : Some h.past ≡ Some past = sym at_who ∙ its_past in
+            let its : h.past ≡ past = cc in
+            ap (λ (z : Node). filter (of_sid sid) z.live) (node_now h.past at_who) ∙ e ∙ ap (λ z. filter (of_sid sid) (node_of z).live) (sym its) ∙ h.alone
+        | inr b ↦ ap (λ z. filter (of_sid sid) (node_of (if z then past_after sha h.past c else h.past)).live) b ∙ h.alone
+      ];
+      turn = h.turn;
+    }
+
+    -- a session that comes to its turn has it, or is at its end
+    held : HasPrograms → (y : Session) → filter (of_sid sid) n'.live ≡ still programs y → y.cast ≡ cast → Relay_ (honest_items sid log') y → at_turn g y ≡ true → Baton (called sha w k who c past)
+    held has y e its_cast relay turn = elim (cases_Bool (is_over programs y)) [
+      | inl o ↦ inr (inr (inl (over o)))
+      | inr o ↦ inr (inr (inr (inl record { who = who; past = next_past sha who c past; its_past = past_now; x = y; alone = ap (λ (z : Node). filter (of_sid sid) z.live) (node_now past its_past) ∙ e ∙ rw o refl; turn = turn })))
+    ]
+      where
+        not_true : (b : Bool) → not b ≡ true → b ≡ false
+        not_true true h = absurd (let z : false ≡ true = h in cc)
+        not_true false h = refl
+
+        small : y.role < length g.roles
+        small = subst (λ z. z < length g.roles) (eqb-true (role_at (shape g) (place g y)) y.role turn) (role_small g is acc (place g y))
+
+        the_p : (p : Program) × (program_for programs cast.graph y.role ≡ Some p)
+        the_p = has y.role small
+
+        over : is_over programs y ≡ true → NoEdge log'
+        over o =
+            let p_graph : (the_p.0).graph ≡ g = (prog y.role the_p.0 the_p.1).0 in
+            let prog_y : program_for programs y.cast.graph y.role ≡ Some the_p.0 = ap (λ (c : Cast). program_for programs c.graph y.role) its_cast ∙ the_p.1 in
+            let none : not (list_any (λ e. e.source == place (the_p.0).graph y) (the_p.0).graph.edges) ≡ true =
+            sym (ap (λ q. option_map_or (λ (p : Program). if at_turn p.graph y then not (list_any (λ e. e.source == place p.graph y) p.graph.edges) else not (option_map_or (may_return p) (origin y) true)) q true) prog_y
+            ∙ ap (λ b. if b then not (list_any (λ e. e.source == place (the_p.0).graph y) (the_p.0).graph.edges) else not (option_map_or (may_return the_p.0) (origin y) true)) (subst (λ z. at_turn z y ≡ true) (sym p_graph) turn)) ∙ o in
+            ap (λ m. list_any (λ e. e.source == m) g.edges) (sym (at_end sha s.keys sid cast targets g (honest_items sid log') y relay turn))
+            ∙ subst (λ (z : Graph). list_any (λ e. e.source == place z y) z.edges ≡ false) p_graph (not_true _ none)
+
     happened_silent : (ev : Event) → a ≡ Happened ev → Silent l0
     happened_silent ev e1 e to f o i = (let z : Answered (Happened ev) ≡ Answered (Sends e to f) = ap (λ z. Answered z) (sym e1) ∙ o in absurd (cc))
 
@@ -420,6 +616,28 @@ module _ (sha : Hash) (hash : IsHash sha) (s : Schedule) (programs : List Progra
         left (inl t) = inl record { alone = u.none; none = λ r a b. ap (has by_role r) (same_items w.log l0 quiet) ∙ t.none r a b; unjoined = λ r a b h. t.unjoined r a b (u.fewer r h) }
         left (inr (inl t)) = inr (inr record { x = t.x; alone = u.none; ok = sess_more w.log l0 who t.x quiet t.ok; was_joined = out.more_joins (t.x).role t.was_joined; why = inr u.by })
         left (inr (inr t)) = inr (inr record { x = t.x; alone = u.none; ok = sess_more w.log l0 who t.x quiet t.ok; was_joined = out.more_joins (t.x).role t.was_joined; why = t.why })
+
+    -- an answer without an event of the session
+    quiet_silent : list_any (λ e. bytes_eq (sid_of e) sid) (events_of_answer a) ≡ false → Silent l0
+    quiet_silent u e to f o i =
+        let z : answer sha (node_of past) c ≡ Sends e to f = cc in
+        clash (bytes_eq (sid_of e) sid) ((bytes_eq-Decides (sid_of e) sid).1 i) (alone_ (bytes_eq (sid_of e) sid) (subst (λ (b : Answer). list_any (λ e. bytes_eq (sid_of e) sid) (events_of_answer b) ≡ false) z u))
+      where
+        alone_ : (b : Bool) → (b || false) ≡ false → b ≡ false
+        alone_ true h = absurd (cc)
+        alone_ false h = refl
+
+    quiet_take : list_any (λ e. bytes_eq (sid_of e) sid) (events_of_answer a) ≡ false → NoTake l0
+    quiet_take u f i o =
+        let z : answer sha (node_of past) c ≡ Happened (receipt f) = cc in
+        clash (bytes_eq f.sid sid) ((bytes_eq-Decides f.sid sid).1 i) (alone_ (bytes_eq f.sid sid) (subst (λ (b : Answer). list_any (λ e. bytes_eq (sid_of e) sid) (events_of_answer b) ≡ false) z u))
+      where
+        alone_ : (b : Bool) → (b || false) ≡ false → b ≡ false
+        alone_ true h = absurd (cc)
+        alone_ false h = refl
+
+    unmoved_baton : Baton w → Unmoved_ n n' a → Baton (called sha w k who c past)
+    unmoved_baton b u = baton_more w.log l0 (Holder w) (Holder (called sha w k who c past)) (quiet_silent u.quiet) (quiet_take u.quiet) (none_filter (λ e. bytes_eq (sid_of e) sid) (events_of_answer a) u.quiet) (holder_more u.same) b
 
     -- a role that has sent nothing is at its turn only at the start
     at_start : (r : ℕ) (done : List Item) → Steps_ done → has by_role r done ≡ false → (role_at (shape g) 0 == r) ≡ true → done ≡ []
@@ -462,6 +680,16 @@ module _ (sha : Hash) (hash : IsHash sha) (s : Schedule) (programs : List Progra
           taken = st.taken_;
           stepped = λ t. absurd (clash (at_turn g (new_session sid cast h.role)) first t);
         }) h.was_joined)
+
+    started_baton : HasPrograms → HasStarted_ who n n' a → Baton (called sha w k who c past)
+    started_baton has h =
+        let q : Silent l0 = happened_silent (Started sid h.role) h.is_answer in
+        let st : Starting h.role = unjoined_new h.role h.is_who h.inside h.none h.unjoined (fl.tracks who past its_past) in
+        let first : at_turn g (new_session sid cast h.role) ≡ true = eq-eqb (role_at (shape g) 0) h.role (starts h.program h.found_p ∙ h.its_role) in
+        held has (new_session sid cast h.role) h.now refl (subst (λ l. Relay_ l (new_session sid cast h.role)) (sym (same_items w.log l0 q)) st.relay_) first
+
+    started_take : HasStarted_ who n n' a → NoTake l0
+    started_take h f i o = (let z : Answered (Happened (Started sid h.role)) ≡ Answered (Happened (receipt f)) = ap (λ z. Answered z) (sym h.is_answer) ∙ o in absurd (cc))
 
     -- ---- a frame is taken
 
@@ -514,9 +742,6 @@ module _ (sha : Hash) (hash : IsHash sha) (s : Schedule) (programs : List Progra
 
       items_are : honest_items sid w.log ≡ honest_items sid sp.0 ++ fo.item ∷ honest_items sid sp.1
       items_are = ap (honest_items sid) sp.2 ∙ split_items sp.0 ws.0 sp.1 ws.1 ws.2 h.f fo.item ws.7 ws_sid fo.its_last
-
-      past_now : past_of (called sha w k who c past) who ≡ Some (next_past sha who c past)
-      past_now = past_called sha w k who c past who ∙ ap (option_map (next_past sha who c)) its_past
 
       shows_ : map bare (filter (λ (i : Item). honest_role s cast i.role) f.items) ≡ map bare (last_of by_role (after_last by_role f.receiver (honest_items f.sid log')))
       shows_ = (shows_called sha hash s programs sid cast g is acc version long differ prog wf unforged one_cast Fit fit_next fit_bytes fit_sends casts_fit binding inside w k p x good fit who past its_past c after out
@@ -591,6 +816,23 @@ module _ (sha : Hash) (hash : IsHash sha) (s : Schedule) (programs : List Progra
         taken = λ e. all_taken;
         stepped = λ e. absurd (clash (at_turn g (extended h.x (Took h.f))) h.turn e);
       } h.was_joined)
+
+      taken_baton : HasPrograms → Baton (called sha w k who c past)
+      taken_baton has = held has (extended h.x (Took h.f)) h.now h.same_cast (subst (λ l. Relay_ l (extended h.x (Took h.f))) (sym (same_items w.log l0 silent_)) taken_relay) h.turn
+
+      taken_sourced : Sourced w.log → Sourced log'
+      taken_sourced so m f2 i call o q sp2 = elim (C.in_parts w.log (l0 ∷ []) m i) [
+        | inl j ↦ let r = so m f2 j call o q sp2 in (r.0, r.1, r.2, in_left w.log (l0 ∷ []) r.0 r.3, r.4, r.5)
+        | inr j ↦ elim j [ inl e ↦ this e | inr e ↦ absurd e ]
+      ]
+        where
+          this : m ≡ l0 → (l : Logged) × (e : Event) × (to : Name) × In log' l × (l.outcome ≡ Answered (Sends e to f2)) × (sid_of e ≡ sid)
+          this e =
+              let one : Some (Deliver (spelling f2)) ≡ Some (Deliver h.took.bs) = sym call ∙ ap (λ (z : Logged). z.call) e ∙ ap (λ z. Some z) h.took.is_call in
+              let two : spelling f2 ≡ h.took.bs = cc in
+              let three : Ok f2 ≡ Ok h.f = sym (read-spelling f2 sp2) ∙ ap read two ∙ h.took.is_read in
+              let same : h.f ≡ f2 = cc in
+              (ws.0, ws.1, ws.2, in_left w.log (l0 ∷ []) ws.0 ws_in, subst (λ (y : Frame). (ws.0).outcome ≡ Answered (Sends ws.1 ws.2 y)) same ws.7, ws_sid)
 
     -- ---- a step is sent
 
@@ -734,6 +976,53 @@ module _ (sha : Hash) (hash : IsHash sha) (s : Schedule) (programs : List Progra
             stepped = λ t. ap (has by_role (h.x).role) items_now ∙ has-both (h.x).role done (h.item ∷ []) ∙ rw (eq-eqb (h.item).role (h.x).role given.item_role) (either (has by_role (h.x).role done));
           } (out.more_joins (h.x).role (here (fl.tracks who past its_past)).1)) others frames_
 
+      -- the frame is new, so nobody has taken it
+      given_untaken : Sourced w.log → Taken log' (principal (h.x).cast (receiver (shape (h.p).graph) h.label)) fr → ⊥
+      given_untaken so t = elim (C.in_parts w.log (l0 ∷ []) t.0 t.1) [
+        | inl j ↦ old (so t.0 fr j t.3 t.4 h.same_sid h.spelled)
+        | inr j ↦ elim j [ inl e ↦ absurd (let z : Answered (Sends ev (principal (h.x).cast (receiver (shape (h.p).graph) h.label)) fr) ≡ Answered (Happened (receipt fr)) = ap (λ z. Answered z) (sym h.is_answer) ∙ ap (λ (z : Logged). z.outcome) (sym e) ∙ t.4 in cc) | inr e ↦ absurd e ]
+      ]
+        where
+          ends : (b : List Item) (i : Item) → (c0 : Item) × (cs : List Item) × (b ++ i ∷ [] ≡ c0 ∷ cs) × (last_or c0 cs ≡ i)
+          ends [] i = (i, [], refl, refl)
+          ends (c0 ∷ cs) i = (c0, cs ++ i ∷ [], refl, go c0 cs)
+            where
+              go : (d : Item) (ds : List Item) → last_or d (ds ++ i ∷ []) ≡ i
+              go d [] = refl
+              go d (d' ∷ ds) = go d' ds
+
+          old : (l : Logged) × (e : Event) × (to : Name) × In w.log l × (l.outcome ≡ Answered (Sends e to fr)) × (sid_of e ≡ sid) → ⊥
+          old r =
+              let sp = in_split w.log r.0 r.3 in
+              let fo : FrameOk w.log sp.0 sp.1 r.0 r.2 fr = fl.frames sp.0 r.0 sp.1 r.1 r.2 fr sp.2 r.4 r.5 in
+              let z : Some fo.item ≡ Some h.item = sym fo.its_last ∙ h.its_last in
+              let same : fo.item ≡ h.item = cc in
+              let parts : done ≡ honest_items sid sp.0 ++ fo.item ∷ honest_items sid sp.1 = ap (honest_items sid) sp.2 ∙ split_items sp.0 r.0 sp.1 r.1 r.2 fr fo.item r.4 r.5 fo.its_last in
+              let en = ends (honest_items sid sp.1) h.item in
+              let all : done ++ h.item ∷ [] ≡ honest_items sid sp.0 ++ fo.item ∷ en.0 ∷ en.1 = ap (λ l. l ++ h.item ∷ []) parts ∙ append_assoc (honest_items sid sp.0) (fo.item ∷ honest_items sid sp.1) (h.item ∷ []) ∙ ap (λ l. honest_items sid sp.0 ++ fo.item ∷ l) en.2 in
+              let lt : (fo.item).time < (last_or en.0 en.1).time = rises_mid 0 (honest_items sid sp.0) fo.item en.0 en.1 (subst (λ l. R.RisesFrom 0 (map step l)) all given.steps_.times) in
+              let eq : (last_or en.0 en.1).time ≡ (fo.item).time = ap (λ (i : Item). i.time) (en.3 ∙ sym same) in
+              absurd (omega (arith, lt, eq))
+
+      given_take : NoTake l0
+      given_take f2 i o = (let z : Answered (Sends ev (principal (h.x).cast (receiver (shape (h.p).graph) h.label)) fr) ≡ Answered (Happened (receipt f2)) = ap (λ z. Answered z) (sym h.is_answer) ∙ o in absurd (cc))
+
+      given_baton : Sourced w.log → Baton (called sha w k who c past)
+      given_baton so = inr (inr (inr (inr record {
+        before = w.log;
+        l = l0;
+        after = [];
+        e = ev;
+        to = principal (h.x).cast (receiver (shape (h.p).graph) h.label);
+        f = fr;
+        parts = refl;
+        outcome = ap (λ z. Answered z) h.is_answer;
+        of_session = h.same_sid;
+        is_sid = h.same_sid;
+        nothing_later = refl;
+        untaken = given_untaken so;
+      })))
+
     pub flight_called : Flight (called sha w k who c past)
     flight_called = elim out.life [
       | inl u ↦ on_unmoved u
@@ -746,6 +1035,66 @@ module _ (sha : Hash) (hash : IsHash sha) (s : Schedule) (programs : List Progra
       ]
     ]
 
+    course_called : HasPrograms → Sourced w.log → Baton w → LeftFrom w.log → Said w.log → Course_ (called sha w k who c past)
+    course_called has so b lf sd = record {
+      flight_ = flight_called;
+      sourced = both.0;
+      baton = both.1;
+      left_from = λ l me i q call out'. elim (C.in_parts w.log (l0 ∷ []) l i) [
+        | inl j ↦ lf l me j q call out'
+        | inr j ↦ elim j [
+          | inl e ↦
+              let z : Some who ≡ Some me = ap (λ (z : Logged). z.who) (sym e) ∙ q in
+              let same : who ≡ me = cc in
+              let y : Some c ≡ Some (Abandon sid) = ap (λ (z : Logged). z.call) (sym e) ∙ call in
+              let c_is : c ≡ Abandon sid = cc in
+              let x' : Answered (answer sha (node_of past) c) ≡ Answered Abandoned = ap (λ (z : Logged). z.outcome) (sym e) ∙ out' in
+              let a_is : answer sha (node_of past) c ≡ Abandoned = cc in
+              let r = leaves_ (fl.tracks who past its_past) (ap (answer sha (node_of past)) (sym c_is) ∙ a_is) in (r.0, r.1, r.2 ∙ same)
+          | inr e ↦ absurd e
+        ]
+      ];
+      said = λ l bs e f i call out' r. elim (C.in_parts w.log (l0 ∷ []) l i) [
+        | inl j ↦ sd l bs e f j call out' r
+        | inr j ↦ elim j [
+          | inl q ↦
+              let y : Some c ≡ Some (Deliver bs) = ap (λ (z : Logged). z.call) (sym q) ∙ call in
+              let c_is : c ≡ Deliver bs = cc in
+              let x' : Answered (answer sha (node_of past) c) ≡ Answered (Happened e) = ap (λ (z : Logged). z.outcome) (sym q) ∙ out' in
+              let a_is : answer sha (node_of past) c ≡ Happened e = cc in
+              decided_is (receipt f) (first_some (rows sha (node_of past) f)) e (ap (verdict_on sha (node_of past)) (sym r) ∙ ap (answer sha (node_of past)) (sym c_is) ∙ a_is)
+          | inr q ↦ absurd q
+        ]
+      ];
+    }
+      where
+        decided_is : (r : Event) (o : Option Refusal) (e : Event) → decided r o ≡ Happened e → e ≡ r
+        decided_is r None e h = (let z : r ≡ e = cc in sym z)
+        decided_is r (Some x) e h = absurd (let z : NotDelivered x ≡ Happened e = h in cc)
+
+        leaves_ : Track w.log who n → answer sha (node_of past) (Abandon sid) ≡ Abandoned → (r : ℕ) × (r < length cast.names) × (principal cast r ≡ who)
+        leaves_ (inl t) q =
+            let none : session_with (node_of past).live sid ≡ None = sym (find-filter (λ (z : Session). bytes_eq z.sid sid) (of_sid sid) (λ z e. e) (node_of past).live) ∙ ap (find (λ (z : Session). bytes_eq z.sid sid)) t.alone in
+            absurd (let z : NotAbandoned ≡ Abandoned = sym (ap (λ o. option_map_or (λ s. Abandoned) o NotAbandoned) none) ∙ q in cc)
+        leaves_ (inr (inl t)) q = ((t.x).role, t.ok.inside_, t.ok.is_who)
+        leaves_ (inr (inr t)) q = ((t.x).role, t.ok.inside_, t.ok.is_who)
+
+        both : Sourced log' × Baton (called sha w k who c past)
+        both = elim out.life [
+          | inl u ↦ (sourced_more w.log l0 (quiet_take u.quiet) so, unmoved_baton b u)
+          | inr r ↦ elim r [
+            | inl u ↦ (sourced_more w.log l0 (quiet_take u.quiet) so, inr (inl (who, u.by)))
+            | inr r2 ↦ elim r2 [
+              | inl u ↦ (sourced_more w.log l0 (started_take u) so, started_baton has u)
+              | inr r3 ↦ elim r3 [ inl u ↦ (taken_sourced u so, taken_baton u has) | inr u ↦ (sourced_more w.log l0 (given_take u) so, given_baton u so) ]
+            ]
+          ]
+        ]
+
   pub flight : (w : World) (k : ℕ) → Prog w → Flight w → (xs : List Step) → AllByRecursion (IsStep sha s) xs → Fit w → world_after_all sha s w k xs ≡ wf → Flight wf
   flight w k p h xs good fit e = keep_all sha hash s programs sid cast g is acc version long differ prog wf unforged one_cast Fit fit_next fit_bytes fit_sends casts_fit Flight flight_idle
       (λ w k p h x good fit who past its_past c call after out. flight_called w k p h x good fit who past its_past c call after out) w k p h xs good fit e
+
+  pub course : HasPrograms → (w : World) (k : ℕ) → Prog w → Course_ w → (xs : List Step) → AllByRecursion (IsStep sha s) xs → Fit w → world_after_all sha s w k xs ≡ wf → Course_ wf
+  course has w k p h xs good fit e = keep_all sha hash s programs sid cast g is acc version long differ prog wf unforged one_cast Fit fit_next fit_bytes fit_sends casts_fit Course_ course_idle
+      (λ w k p h x good fit who past its_past c call after out. course_called w k p h.flight_ x good fit who past its_past c call after out has h.sourced h.baton h.left_from h.said) w k p h xs good fit e

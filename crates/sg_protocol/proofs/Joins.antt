@@ -62,17 +62,17 @@ found p q (y ∷ ys) x e h = elim (cases_Bool (p y)) [
     some_same : {A : Type 0} (a b : A) → Some a ≡ Some b → a ≡ b
     some_same a b h = cc
 
-none_parts : {F : Type 0} (o : Option F) (os : List (Option F)) → first_some (o ∷ os) ≡ None → (o ≡ None) × (first_some os ≡ None)
+pub none_parts : {F : Type 0} (o : Option F) (os : List (Option F)) → first_some (o ∷ os) ≡ None → (o ≡ None) × (first_some os ≡ None)
 none_parts None os h = (refl, h)
 none_parts (Some x) os h = cc
 
-row_none : {F : Type 0} (b : Bool) (x : F) → row b x ≡ None → b ≡ false
+pub row_none : {F : Type 0} (b : Bool) (x : F) → row b x ≡ None → b ≡ false
 row_none true x h = cc
 row_none false x h = refl
 
 -- ---- the pair of each live session was joined
 
-abbrev Owns : List (List ℕ × ℕ) → List Session → Type 0
+abbrev pub Owns : List (List ℕ × ℕ) → List Session → Type 0
 Owns joins ss = list_all (λ s. has_joined joins s.sid s.role) ss ≡ true
 
 more : (p : List ℕ × ℕ → Bool) (js ks : List (List ℕ × ℕ)) → list_any p js ≡ true → list_any p (js ++ ks) ≡ true
@@ -123,7 +123,7 @@ owns_act : (n : Node) (os : List Opening) (o : Option Item) (s : Session) → ha
 owns_act n os None s h = and_both (has_joined n.joins s.sid s.role) true h refl
 owns_act n os (Some i) s h = owns_still n.joins n.programs (extended s (Gave i os)) h
 
-owns_after : (n : Node) (c : Call) (a : Answer) → Owns n.joins n.live → Owns (node_after n c a).joins (node_after n c a).live
+pub owns_after : (n : Node) (c : Call) (a : Answer) → Owns n.joins n.live → Owns (node_after n c a).joins (node_after n c a).live
 owns_after n (Start c) (Happened (Started sid r)) h = own_pair n (new_session sid c r) h
 owns_after n (Act sid label values confounders) (Sends e to f) h = owns_replace n.joins (λ s. bytes_eq s.sid sid) _ (λ s k. owns_act n (openings_for values confounders) (last f.items) s k) n.live h
 owns_after n (Abandon sid) Abandoned h = owns_replace n.joins (λ s. bytes_eq s.sid sid) (λ s. []) (λ s k. refl) n.live h
@@ -132,10 +132,10 @@ owns_after n c other h = h
 
 -- ---- one call
 
-third : {F : Type 0} (a b c : Option F) (os : List (Option F)) → first_some (a ∷ b ∷ c ∷ os) ≡ None → c ≡ None
+pub third : {F : Type 0} (a b c : Option F) (os : List (Option F)) → first_some (a ∷ b ∷ c ∷ os) ≡ None → c ≡ None
 third a b c os h = (none_parts c os (none_parts b (c ∷ os) (none_parts a (b ∷ c ∷ os) h).1).1).0
 
-fourth : {F : Type 0} (a b c d : Option F) (os : List (Option F)) → first_some (a ∷ b ∷ c ∷ d ∷ os) ≡ None → d ≡ None
+pub fourth : {F : Type 0} (a b c d : Option F) (os : List (Option F)) → first_some (a ∷ b ∷ c ∷ d ∷ os) ≡ None → d ≡ None
 fourth a b c d os h = third b c d os (none_parts a (b ∷ c ∷ d ∷ os) h).1
 
 -- the first four rows and the others
@@ -243,7 +243,7 @@ nodes_join_once sha past d a = record { first = d; events = once sha (new_node p
 
 -- ---- whole runs
 
-abbrev Right : Hash → Past → Type 0
+abbrev pub Right : Hash → Past → Type 0
 Right sha past = AreAnswers sha (new_node past.keys past.programs past.first) past.calls × (past.first ≡ [])
 
 answers_more : (sha : Hash) (n : Node) (cs : List Called) (c : Call) → AreAnswers sha n cs → AreAnswers sha n (cs ++ record { call = c; answer = answer sha (node_after_all n cs) c } ∷ [])
@@ -277,11 +277,11 @@ module _ (sha : Hash) (s : Schedule) (w : World) (k : ℕ) (a : AllByRecursion (
   right_step (AbandonStep who n) = right_call (call_of sha s w k (AbandonStep who n)) (Some who)
   right_step (DeliverStep who what) = right_call (call_of sha s w k (DeliverStep who what)) (Some who)
 
-right_all : (sha : Hash) (s : Schedule) (w : World) (k : ℕ) (xs : List Step) → AllByRecursion (Right sha) w.pasts → AllByRecursion (Right sha) (world_after_all sha s w k xs).pasts
+pub right_all : (sha : Hash) (s : Schedule) (w : World) (k : ℕ) (xs : List Step) → AllByRecursion (Right sha) w.pasts → AllByRecursion (Right sha) (world_after_all sha s w k xs).pasts
 right_all sha s w k [] a = a
 right_all sha s w k (x ∷ xs) a = right_all sha s (world_after sha s w k x) (k + 1) xs (right_step sha s w k a x)
 
-right_new : (sha : Hash) (keys : List PairKey) (programs : List Program) (names : List Name) → AllByRecursion (Right sha) (map (λ me. record { keys = keyring_of keys me; programs = programs; first = []; calls = [] }) names)
+pub right_new : (sha : Hash) (keys : List PairKey) (programs : List Program) (names : List Name) → AllByRecursion (Right sha) (map (λ me. record { keys = keyring_of keys me; programs = programs; first = []; calls = [] }) names)
 right_new sha keys programs [] = tt
 right_new sha keys programs (n ∷ ns) = ((tt, refl), right_new sha keys programs ns)
 

@@ -48,7 +48,7 @@ in-append x (a ∷ ps) bs = ap (λ b. (a == x) || b) (in-append x ps bs) ∙ ass
     assoc true b c = refl
     assoc false b c = refl
 
-in_merge : {A : Type 0} (x : ℕ) (a b : Map A) → is_in x (keys_of (merge a b)) ≡ (is_in x (keys_of a) || is_in x (keys_of b))
+pub in_merge : {A : Type 0} (x : ℕ) (a b : Map A) → is_in x (keys_of (merge a b)) ≡ (is_in x (keys_of a) || is_in x (keys_of b))
 in_merge {A = A} x a b = ap (is_in x) (map-append (λ (w : ℕ × A). w.0) (filter (λ (w : ℕ × A). not (has (λ (y : ℕ × A). y.0) w.0 b)) a) b) ∙ in-append x (keys_of (filter (λ (w : ℕ × A). not (has (λ (y : ℕ × A). y.0) w.0 b)) a)) (keys_of b) ∙ go a
   where
     has_in : (x : ℕ) (m : Map A) → has (λ (y : ℕ × A). y.0) x m ≡ is_in x (keys_of m)
@@ -78,7 +78,7 @@ filter_below p q k (suc j) e =
 pub rising_same : (n : ℕ) (ps bs : List ℕ) → ((x : ℕ) → x < n → is_in x ps ≡ is_in x bs) → rising n ps ≡ rising n bs
 rising_same n ps bs e = filter_below (λ x. is_in x ps) (λ x. is_in x bs) 0 n (λ x l. e x (omega (arith, l)))
 
-in_rising : (n : ℕ) (ps : List ℕ) (x : ℕ) → x < n → is_in x (rising n ps) ≡ is_in x ps
+pub in_rising : (n : ℕ) (ps : List ℕ) (x : ℕ) → x < n → is_in x (rising n ps) ≡ is_in x ps
 in_rising n ps x l = go 0 n (omega arith) (omega (arith, l))
   where
     above : (k j : ℕ) → x < k → is_in x (filter (λ y. is_in y ps) (range_from k j)) ≡ false

@@ -84,7 +84,7 @@ rows_of sha keys p x f h =
       openings = no_find (is_right sha p.graph x f) f.openings (map_none _ _ five.0);
     }
 
-all_roles : (g : Shape) (is : List Item) → list_all (λ (i : Item). i.role == sender g i.label) is ≡ true → Roles g is
+pub all_roles : (g : Shape) (is : List Item) → list_all (λ (i : Item). i.role == sender g i.label) is ≡ true → Roles g is
 all_roles g [] h = tt
 all_roles g (i ∷ is) h = let ps = and_parts (i.role == sender g i.label) (list_all (λ (i : Item). i.role == sender g i.label) is) h in (eqb-true i.role (sender g i.label) ps.0, all_roles g is ps.1)
 
@@ -104,7 +104,7 @@ items_fit v (i ∷ is) h = (go i.delta h.0.delta, items_fit v is h.1)
     go [] k = tt
     go (d ∷ m) k = (k.0.1.0, go m k.1)
 
-same_some : (o : Option (List ℕ)) (t : List ℕ) → same_text o t ≡ true → o ≡ Some t
+pub same_some : (o : Option (List ℕ)) (t : List ℕ) → same_text o t ≡ true → o ≡ Some t
 same_some None t h = absurd (cc)
 same_some (Some u) t h = ap (λ z. Some z) (same_bytes u t h)
 
@@ -152,6 +152,10 @@ module _ (sha : Hash) (s : Schedule) (sid : List ℕ) (cast : Cast) (keys : Keyr
   own_label : (o : Option Item) → option_map (λ (i : Item). i.label) o ≡ option_map (λ (t : Step). t.label) (option_map step o)
   own_label None = refl
   own_label (Some i) = refl
+
+  -- what it is shown, from the law's own last step on
+  pub law_view : IsView g x.role (record { origin = option_map (λ (t : Step). t.label) (st.world.at x.role).own; items = map seen f.items })
+  law_view = subst (λ o. IsView g x.role (record { origin = o; items = map seen f.items })) (own_label (last (own x)) ∙ ap (option_map (λ (t : Step). t.label)) (sym m.is_own)) viewed
 
   own_times : (o : Option Item) → unwrap_or (option_map (λ (i : Item). i.time) o) 0 ≡ R.own_time (option_map step o)
   own_times None = refl

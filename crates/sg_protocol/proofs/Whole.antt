@@ -52,11 +52,16 @@ use Rattle.sg_law.proofs.Upto.{in_from_Contains}
 use Rattle.sg_protocol.proofs.Calls.{NodeOk, find_passes, find_all}
 use Rattle.sg_model.specs.Names.{is_name, is_name_byte, is_letter, reserved}
 use Rattle.sg_law.specs.Values.{Binding, Followed}
-use Rattle.sg_law.proofs.Follow.{followed}
-use Rattle.sg_protocol.proofs.Paths.{one_path}
+use Rattle.sg_law.proofs.Follow.{grown_follows}
+use Rattle.sg_law.proofs.Lists.{nil_from_map}
+use Rattle.sg_law.specs.Grown.{IsFollowed, moves_of}
+use Rattle.sg_protocol.specs.Grown.{AllShown, walk_grown}
+use Rattle.sg_protocol.specs.Walk.{OnePath}
+use Rattle.sg_protocol.proofs.Grown.{Grows, grows_idle, grows_called, Shown, shown_idle, shown_called}
+use Rattle.sg_protocol.proofs.Paths.{one_path, acts_of, steps_of, TypedDeed}
 use Rattle.sg_protocol.proofs.TextLaws.{one_opening, one_cast, one_canonical}
 use Rattle.sg_protocol.proofs.TextLaws as TL
-use Rattle.sg_protocol.proofs.Course.{Progress, all_steps}
+use Rattle.sg_protocol.proofs.Course.{Progress, keep_all, with_all}
 
 cases_Bool : (b : Bool) → (b ≡ true) ⊎ (b ≡ false)
 cases_Bool true = inl refl
@@ -322,10 +327,6 @@ module _ (sha : Hash) (hash : IsHash sha) (programs : List Program) (s : Schedul
       fresh_node : (who : Name) → NodeOk sha hash s programs sid first.cast g the_program.is_graph the_program.accepted first.fits.version long first.differ prog (λ t. In (hashed s wf) t) the_cast (λ who. HadAnswer wf.log who (Abandon sid) Abandoned) (V.at_first (shape g)) who (node_of (new_past s.keys programs who))
       fresh_node who = record { me = refl; has_programs = refl; lengths = tt; status = inl record { alone = refl; all = λ h p l. record { none = refl; start = refl } } }
 
-  pub finished : Prog wf
-  finished = all_steps sha hash s programs sid first.cast g the_program.is_graph the_program.accepted first.fits.version long first.differ prog wf premises.unforged the_cast Fit fit_next fit_bytes fit_sends casts_fit
-      (new_world programs s) 1 begins s.steps (to_rec (IsStep sha s) s.steps sched.steps) fit_new refl
-
   abbrev commit : Commit
   commit o = commitment sha sid o
 
@@ -335,25 +336,64 @@ module _ (sha : Hash) (hash : IsHash sha) (programs : List Program) (s : Schedul
       let b = rec_in _ (all_openings ms) p used (in_from_Contains (all_openings ms) p j) in
       ap (λ (z : Opening). z.value) (one_opening sid sid o p long long a.1 b.1 (same_text_same (commitment_text_of sid o) (commitment_text_of sid p) a.0 b.0 e)).1
 
-  the_walk : Followed (shape g) (honest_role s first.cast) commit finished.moves
-  the_walk = followed (shape g) (honest_role s first.cast) commit finished.moves the_program.accepted.sighted (binding finished.moves finished.used) finished.may
-
   found_graph : (y : Graph) × (graph_with sha s.graphs first.cast.graph ≡ Some y)
   found_graph = find_some (λ z. bytes_eq (graph_digest sha z) first.cast.graph) s.graphs g g_there ((bytes_eq-Decides (graph_digest sha g) first.cast.graph).1 (sym the_program.digest ∙ first.digest))
 
-  graph_is : graph_with sha s.graphs first.cast.graph ≡ Some g
+  pub graph_is : graph_with sha s.graphs first.cast.graph ≡ Some g
   graph_is = found_graph.1 ∙ ap (λ z. Some z) (same_digest found_graph.0 g (found_in _ s.graphs found_graph.0 found_graph.1) g_there
       (same_bytes_ (graph_digest sha found_graph.0) first.cast.graph (find_passes (λ z. bytes_eq (graph_digest sha z) first.cast.graph) s.graphs found_graph.0 found_graph.1) ∙ sym first.digest ∙ the_program.digest))
 
+  -- nothing is made at first
+  nothing_made : Grows sha hash s programs sid first.cast g the_program.is_graph the_program.accepted first.fits.version long first.differ prog wf premises.unforged the_cast Fit fit_next fit_bytes fit_sends casts_fit binding (new_world programs s) begins
+  unfolding begins
+  nothing_made log e a = record { ms = []; are = refl; shown = tt; same = ap (walk_grown g (honest_role s first.cast) sid []) (nil_from_map (λ (x : Logged × List ℕ). x.0) log e) }
+
+  -- whichever walks stand beside the steps, the walk that is made so explains the events
+  pub grown_path : (log : List (Logged × List ℕ)) → map (λ (x : Logged × List ℕ). x.0) log ≡ wf.log → AllShown g sid [] log → OnePath g (honest_role s first.cast) (events_of sid wf.log) (walk_grown g (honest_role s first.cast) sid [] log)
+  grown_path log e a =
+      let h = honest_role s first.cast in
+      let q = with_all sha hash s programs sid first.cast g the_program.is_graph the_program.accepted first.fits.version long first.differ prog wf premises.unforged the_cast Fit fit_next fit_bytes fit_sends casts_fit
+      (Grows sha hash s programs sid first.cast g the_program.is_graph the_program.accepted first.fits.version long first.differ prog wf premises.unforged the_cast Fit fit_next fit_bytes fit_sends casts_fit binding)
+      (grows_idle sha hash s programs sid first.cast g the_program.is_graph the_program.accepted first.fits.version long first.differ prog wf premises.unforged the_cast Fit fit_next fit_bytes fit_sends casts_fit binding)
+      (λ w k p h x good fit who past its_past c call_is after out. grows_called sha hash s programs sid first.cast g the_program.is_graph the_program.accepted first.fits.version long first.differ prog wf premises.unforged the_cast Fit fit_next fit_bytes fit_sends casts_fit binding w k p x good fit who past its_past c call_is after out h)
+      (new_world programs s) 1 (begins, nothing_made) s.steps (to_rec (IsStep sha s) s.steps sched.steps) fit_new refl
+      in
+      let m = q.1 log e a in
+      let f : IsFollowed (shape g) h commit m.ms = grown_follows (shape g) h commit m.ms the_program.accepted.sighted (subst (λ l. Binding commit (all_openings l)) (sym m.are) (binding q.0.moves q.0.used)) (subst (AllMay (shape g) h commit (V.at_first (shape g))) (sym m.are) q.0.may) m.shown in
+      subst (OnePath g h (events_of sid wf.log)) (ap steps_of f.1 ∙ sym m.same)
+      (one_path g h commit (moves_of m.ms) (events_of sid wf.log) the_program.is_graph f.0 (q.0.events ∙ ap (λ l. flat_map (acts_of g) (map deed_of l)) (sym m.are)) (subst (λ l. AllByRecursion (TypedDeed g h) (map deed_of l)) (sym m.are) q.0.typed))
+
+  -- beside each step that took a frame there can stand a walk that shows it
+  pub all_shown : Shown sha hash s programs sid first.cast g the_program.is_graph the_program.accepted first.fits.version long first.differ prog wf premises.unforged the_cast Fit fit_next fit_bytes fit_sends casts_fit binding wf
+  all_shown =
+      keep_all sha hash s programs sid first.cast g the_program.is_graph the_program.accepted first.fits.version long first.differ prog wf premises.unforged the_cast Fit fit_next fit_bytes fit_sends casts_fit
+      (Shown sha hash s programs sid first.cast g the_program.is_graph the_program.accepted first.fits.version long first.differ prog wf premises.unforged the_cast Fit fit_next fit_bytes fit_sends casts_fit binding)
+      (shown_idle sha hash s programs sid first.cast g the_program.is_graph the_program.accepted first.fits.version long first.differ prog wf premises.unforged the_cast Fit fit_next fit_bytes fit_sends casts_fit binding)
+      (shown_called sha hash s programs sid first.cast g the_program.is_graph the_program.accepted first.fits.version long first.differ prog wf premises.unforged the_cast Fit fit_next fit_bytes fit_sends casts_fit binding)
+      (new_world programs s) 1 begins (λ before l after e. absurd (nothing_before before l after e)) s.steps (to_rec (IsStep sha s) s.steps sched.steps) fit_new refl
+    where
+      nothing_before : (before : List Logged) (l : Logged) (after : List Logged) → [] ≡ before ++ l ∷ after → ⊥
+      nothing_before [] l after e = cc
+      nothing_before (b ∷ before) l after e = cc
+
+  beside : (before rest : List Logged) → wf.log ≡ before ++ rest → (log : List (Logged × List ℕ)) × (map (λ (x : Logged × List ℕ). x.0) log ≡ rest) × AllShown g sid before log
+  beside before [] e = ([], refl, tt)
+  beside before (l ∷ ls) e =
+      let walk = all_shown before l ls e in
+      let r = beside (before ++ l ∷ []) ls (e ∙ sym (append_assoc before (l ∷ []) ls)) in
+      ((l, walk.0) ∷ r.0, ap (λ z. l ∷ z) r.1, (walk.1, r.2))
+
   pub explained : IsExplained sha s wf sid
-  explained = record {
-    cast = first.cast;
-    is_cast = first.is_cast;
-    graph = g;
-    is_graph = graph_is;
-    steps = _;
-    path = one_path g (honest_role s first.cast) commit finished.moves (events_of sid wf.log) the_program.is_graph the_walk finished.events finished.typed;
-  }
+  explained =
+      let b = beside [] wf.log refl in
+      record {
+        cast = first.cast;
+        is_cast = first.is_cast;
+        graph = g;
+        is_graph = graph_is;
+        steps = walk_grown g (honest_role s first.cast) sid [] b.0;
+        path = grown_path b.0 b.1 b.2;
+      }
 
   -- an honest role is one of the cast
   pub inside : (k : ℕ) → honest_role s first.cast k ≡ true → k < length first.cast.names

@@ -13,14 +13,25 @@ ghost use Rattle.sg_protocol.specs.Reading.{read};
 ghost use Rattle.sg_protocol.specs.Texts.{IsHash, real};
 ghost use Rattle.sg_protocol.specs.TextLaws.{OneCast, OneOpening, OneItem, OneTextTo, OneBody, OneFrame, OneCanonical, OneGraph, KindsDiffer, VersionsDiffer};
 ghost use Rattle.sg_protocol.specs.Bounds.{ShownOnce, ShownAreFew, FramesAreShort, SentAreShort, RunsSendShort};
+ghost use Rattle.sg_protocol.specs.Ranges.{SessionsStayInRange, NodesStayInRange};
+ghost use Rattle.sg_protocol.specs.Live.{SessionsAreSound, NodesAreSound};
+ghost use Rattle.sg_protocol.specs.NodeStates.{NodeStatesStand};
+ghost use Rattle.sg_protocol.specs.Backed.{StatesAreBacked};
 ghost use Rattle.sg_protocol.specs.Enough.{KeptIsEnough, OwnItemIsLast};
 ghost use Rattle.sg_protocol.specs.Returns.{TablesShowReturns};
+ghost use Rattle.sg_protocol.specs.Following.{KeptFollowsWalks};
+ghost use Rattle.sg_protocol.specs.Standing.{StatesStand};
 ghost use Rattle.sg_protocol.specs.Headline.{Headline, SessionsFollowWalks, NoneJoinsTwice, NodesJoinOnce, SessionsHaveOneCast, NoneTakesTwoRoles};
-ghost use Rattle.sg_protocol.specs.Isolation.{SessionsAreIsolated};
+ghost use Rattle.sg_protocol.specs.Grown.{WalksAreGrown, FramesShowViews};
+ghost use Rattle.sg_protocol.specs.Isolation.{SessionsAreIsolated, AnswersAreOfSessions, CallsKeepAlike, CallsLeaveOthers};
 ghost use Rattle.sg_protocol.specs.Receipts.{ReceiptsHaveSends};
 ghost use Rattle.sg_protocol.specs.Beginnings.{RunsGoOn, PremisesHoldBefore};
+ghost use Rattle.sg_protocol.specs.Broken.{ForgedIsFirst, CollisionIsFirst};
+ghost use Rattle.sg_protocol.specs.Steps.{RunsGoByStep, LogsAreNumbered, StepsAddEntries, StepsAddLittle};
 ghost use Rattle.sg_protocol.specs.LastSteps.{FramesShowLastSteps};
 ghost use Rattle.sg_protocol.specs.Completeness.{DeliveryIsComplete};
+ghost use Rattle.sg_protocol.specs.GoesOn.{SessionsGoOn};
+ghost use Rattle.sg_protocol.specs.Turn.{TurnIsOfSession};
 
 /// What is read from the spelling of a frame is this frame, so no two frames have one spelling.
 pub fn frames_read()
@@ -58,6 +69,25 @@ pub fn kept_is_enough()
     ensures { (sha : List ℕ → List ℕ) → KeptIsEnough sha }
 {}
 
+/// What a role keeps of a session follows a walk from the start, whoever sent what it accepted. A new session follows the
+/// empty walk. At its turn in an accepted graph it still does after an own step along an edge from its place that writes
+/// what the edge writes, and then the role waits. Where all that it was told is up to its own last item, it still does under
+/// the program of its role after a frame on which no row holds, and then the role is at its turn. At its turn the walk ends
+/// at its place, and else with its own last label. So at its turn in an accepted graph what an edge from its place reads is
+/// written by the edge or has a kept opening, whose commitment is the current one, also after the step.
+pub fn kept_follows()
+    ensures { (sha : List ℕ → List ℕ) → KeptFollowsWalks sha }
+{}
+
+/// What a role holds stands for each session of which it keeps the same. A new state stands for a new session, which begins
+/// where its role starts the graph, and else waits. At its turn in an accepted graph it stands, after an own step along an
+/// edge from its place, for each such session with the step, and waits. Where all that was told is up to the own last item,
+/// it stands, under the program of its role and after a frame on which no row holds, for each such session with the frame,
+/// at its turn. The kept items afterwards are what is kept of the kept and the new ones.
+pub fn states_stand()
+    ensures { (sha : List ℕ → List ℕ) → StatesStand sha }
+{}
+
 /// The frame that a step sends to another role ends with the step's own item, with a tag for each of its targets: where
 /// what the role was told last, if anything, is not its own, and the written variables are the graph's, in rising order.
 pub fn own_item_is_last()
@@ -83,6 +113,41 @@ pub fn sent_are_short()
     ensures in_runs { (sha : List ℕ → List ℕ) → IsHash sha → RunsSendShort sha }
 {}
 
+/// A session of any node stays in range: a new one of a sid and a cast in range and a role below 16, one that a frame with a
+/// spelling joins, one after a step under a program on which no row holds, with values in range, and one after a frame of
+/// its version with a spelling. So after each call in range the live sessions of a node are in range, where they were before
+/// and its programs are programs, and each frame that it sends has a spelling, at most fifteen items, and so few bytes.
+pub fn stay_in_range()
+    ensures by_sessions { (sha : List ℕ → List ℕ) → IsHash sha → SessionsStayInRange sha }
+    ensures at_nodes { (sha : List ℕ → List ℕ) → IsHash sha → NodesStayInRange sha }
+{}
+
+/// Each live session of a node is sound under its program, whatever was delivered: it is in range, what is kept of it
+/// follows a walk, and it ends with a frame where it is at its turn and with an own item where it waits, unless it is new.
+/// So it is after each call in range, where it was before and the node's programs are programs, and after all calls of each
+/// past whose answers are those of the node. Then the frame that a step sends ends with the step's own item.
+pub fn live_are_sound()
+    ensures by_sessions { (sha : List ℕ → List ℕ) → IsHash sha → SessionsAreSound sha }
+    ensures at_nodes { (sha : List ℕ → List ℕ) → IsHash sha → NodesAreSound sha }
+{}
+
+/// A state of a role keeps its invariant: some sound session, for which it stands, is behind it. So has a new state of a
+/// program and a cast in range, and so has what is held after a step or a frame on which no row holds, in any session for
+/// which the state stands: with values in range, and with a frame of the cast's version that was read. By it what a state
+/// keeps follows a walk, and at a turn what an edge from the kept place reads is written by the edge or has a kept opening,
+/// whose commitment is the current one.
+pub fn states_are_backed()
+    ensures { (sha : List ℕ → List ℕ) → IsHash sha → StatesAreBacked sha }
+{}
+
+/// A node's state stands for each past of which it has the keys, the programs and the joins, and of whose live sessions it
+/// holds what their roles keep. A new state stands for the past without calls. After a call in range with the node's answer
+/// it stands for the past with this call, where its programs are programs, and the past's calls were in range and answered as
+/// the node answers.
+pub fn node_states_stand()
+    ensures { (sha : List ℕ → List ℕ) → IsHash sha → NodeStatesStand sha }
+{}
+
 /// A program's table has a view from an own label of its role, which keeps a waiting session live, exactly where some
 /// walk from the end of that edge leads to a node of the role.
 pub fn tables_show_returns()
@@ -93,6 +158,15 @@ pub fn tables_show_returns()
 /// others, whatever hashes.
 pub fn sessions_isolated()
     ensures { (sha : List ℕ → List ℕ) → SessionsAreIsolated sha }
+{}
+
+/// The answer to a call of a session depends only on the node's keys and programs, on its joins and live sessions with that
+/// sid, and on how many joins and how many live sessions there are: nodes that have these alike answer it alike, and have
+/// them alike afterwards. What a node has of a sid stays as it was in each call that is not of this sid.
+pub fn calls_isolated()
+    ensures answers { (sha : List ℕ → List ℕ) → AnswersAreOfSessions sha }
+    ensures alike { (sha : List ℕ → List ℕ) → CallsKeepAlike sha }
+    ensures others { (sha : List ℕ → List ℕ) → CallsLeaveOthers sha }
 {}
 
 /// No node joins a pair of session and role twice, where the pairs that it was made with differ, and no honest principal
@@ -109,9 +183,26 @@ pub fn one_role()
     ensures one_role { (sha : List ℕ → List ℕ) → IsHash sha → NoneTakesTwoRoles sha }
 {}
 
+/// Where no two hashed texts of a run have one digest, the first live session with a sid that is at its turn is the session
+/// with this sid, so the node at which it stands is that session's, if it is at its turn, and there is none if it is not.
+pub fn turns()
+    ensures { (sha : List ℕ → List ℕ) → IsHash sha → TurnIsOfSession sha }
+{}
+
 /// Where the premises hold, each session follows one walk.
 pub fn sessions_follow()
     ensures { (sha : List ℕ → List ℕ) → IsHash sha → SessionsFollowWalks sha }
+{}
+
+/// A walk that explains a session can be made event by event. A step that was sent is added with its values. Where a frame
+/// was taken, let any walk from the start be given that shows the receiver the frame's view, its own last label and the
+/// frame's labels and variables: of this walk's steps since the receiver's own last one, those after the last one of an honest
+/// sender are added, hidden, and each value received is filled in at the last step that writes its variable. Whichever such
+/// walks are given, where the premises hold, what is made so is one path of the session's events: for each schedule, for the
+/// programs compiled from its graphs, and for each session with an event, under the graph of its first event's cast.
+pub fn walks_grown()
+    ensures grown { (sha : List ℕ → List ℕ) → IsHash sha → WalksAreGrown sha }
+    ensures shown { (sha : List ℕ → List ℕ) → IsHash sha → FramesShowViews sha }
 {}
 
 /// Whatever the schedule: where the premises hold, each session follows one walk, and, whatever holds, no honest principal
@@ -138,6 +229,25 @@ pub fn beginnings()
     ensures premises { (sha : List ℕ → List ℕ) → PremisesHoldBefore sha }
 {}
 
+/// A run goes on by a step: the run of a schedule with one more step is the world after this step, whose number is one more
+/// than that of the steps before. Where each step is a craft or an honest principal's, the log has an entry for each, and
+/// the entries' numbers are their places, counted from 1. A step logs one entry or none, and the record's size grows by
+/// the lengths of the entry's frame and of the texts that it notes: by less than 4,194,304 bytes for a step in range.
+pub fn single_steps()
+    ensures goes_on { (sha : List ℕ → List ℕ) → RunsGoByStep sha }
+    ensures numbered { (sha : List ℕ → List ℕ) → LogsAreNumbered sha }
+    ensures sizes { (sha : List ℕ → List ℕ) → StepsAddEntries sha }
+    ensures little { (sha : List ℕ → List ℕ) → IsHash sha → StepsAddLittle sha }
+{}
+
+/// What breaks a premise first is computed: there is no first forged note exactly where no tag of two honest principals was
+/// forged, and no first collision exactly where no two texts have the same hash. Otherwise the note is the first that was
+/// found so, step by step. Of the pairs that collide the later text stands first, and then the earlier one.
+pub fn first_breaks()
+    ensures forged { ForgedIsFirst }
+    ensures collision { (sha : List ℕ → List ℕ) → CollisionIsFirst sha }
+{}
+
 /// Where the premises hold, what an accepted frame shows of honest senders is the last step of each since the receiver's
 /// own, up to the acceptance, and after each of these items the receiver holds the commitments that its sender held.
 pub fn last_steps()
@@ -149,4 +259,13 @@ pub fn last_steps()
 /// and shares keys with the cast, and, where the frame joins, has room to join and for a session.
 pub fn delivery()
     ensures { (sha : List ℕ → List ℕ) → IsHash sha → DeliveryIsComplete sha }
+{}
+
+/// Where the premises hold, a session in which something happened and whose principals are all honest is never stuck: no
+/// edge leaves the place where its steps end, or one of its principals has abandoned it, or the principal at its turn can
+/// send a step along each edge that leaves the place, with right values and while the last time has not come, or the frame
+/// that was sent last in it was not taken, and is awaited by a receiver that shares keys with the cast and, where the frame
+/// joins, has room.
+pub fn never_stuck()
+    ensures { (sha : List ℕ → List ℕ) → IsHash sha → SessionsGoOn sha }
 {}

@@ -1,0 +1,118 @@
+-- A role's states keep their invariants.
+use Rattle.std.specs.Prelude.{◌≡◌, ℕ, ◌<◌, ◌⊎◌, true, false, List, length, refl, Some, None}
+use Rattle.std.proofs.Common.{sym, ◌∙◌, ap, subst, arith}
+use Rattle.std.proofs.lemmas.Bool.{eqb-true, eq-eqb}
+use Rattle.sg_model.specs.Bytes.{AreBytes}
+use Rattle.sg_model.specs.Last.{Map, last}
+use Rattle.sg_model.specs.Lists.{is_in, first_some}
+use Rattle.sg_model.specs.Shape.{role_at, source}
+use Rattle.sg_model.specs.Values.{Value, Opening}
+use Rattle.sg_protocol.specs.Graph.{shape, writes, reads}
+use Rattle.sg_protocol.specs.Frame.{Cast, Frame}
+use Rattle.sg_protocol.specs.Spelling.{HasSpelling}
+use Rattle.sg_protocol.specs.Texts.{Hash, IsHash}
+use Rattle.sg_protocol.specs.Keyring.{Keyring, Program}
+use Rattle.sg_protocol.specs.Session.{Session, Took, Gave, new_session, extended, place}
+use Rattle.sg_protocol.specs.Sending.{own_item, frame_sent}
+use Rattle.sg_protocol.specs.Kept.{kept}
+use Rattle.sg_protocol.specs.Enough.{KeepsSame}
+use Rattle.sg_protocol.specs.Verdict.{rows_of_session}
+use Rattle.sg_protocol.specs.Acting.{openings_for, rows_of_act, leaves}
+use Rattle.sg_protocol.specs.IsSchedule.{IsProgram}
+use Rattle.sg_protocol.specs.Bounds.{IsShortFrame}
+use Rattle.sg_protocol.specs.Following.{IsOpened, FollowsWalk}
+use Rattle.sg_protocol.specs.Ranges.{IsCast, AreValues}
+use Rattle.sg_protocol.specs.Standing.{Held, held, StandsBefore, StandsWaiting, StandsAtTurn, held_after}
+use Rattle.sg_protocol.specs.Backed.{IsBackedBefore, IsBackedWaiting, IsBackedAtTurn, StatesAreBacked}
+use Rattle.sg_protocol.proofs.Enough.{kept_is_enough, same_own}
+use Rattle.sg_protocol.proofs.Following as Following'
+use Rattle.sg_protocol.proofs.Live.{new_sound, GivesSound, gives_sound, taken_sound}
+use Rattle.sg_protocol.proofs.Ranges.{new_in_range}
+use Rattle.sg_protocol.proofs.RowLemmas.{less}
+use Rattle.sg_protocol.proofs.Standing.{states_stand, after}
+
+module _ (sha : Hash) (hash : IsHash sha) (p : Program) where
+  -- what is said of what is held of a session is said of the state that stands for it
+  at_held : (P : Held → Type 0) (h : Held) (s : Session) → h ≡ held p.graph s → P (held p.graph s) → P h
+  at_held P h s e k = subst P (sym e) k
+
+  keeps_same : (h : Held) (s t : Session) → h ≡ held p.graph s → h ≡ held p.graph t → KeepsSame p.graph s t
+  keeps_same h s t a b = (states_stand sha).keeps_same p.graph h s t a b
+
+  waiting_before : (h : Held) → IsBackedWaiting sha p h → IsBackedBefore sha p h
+  waiting_before h b = record {
+    session = b.session;
+    stands = b.stands.before;
+    sound = b.sound;
+    follows = at_held (λ z. FollowsWalk sha p.graph z.sid z.role false z.kept) h b.session b.stands.before.holds
+        (subst (λ t. FollowsWalk sha p.graph (b.session).sid (b.session).role t (kept p.graph b.session)) b.stands.waits b.sound.follows);
+  }
+
+  at_place : (h : Held) → IsBackedAtTurn sha p h → FollowsWalk sha p.graph h.sid h.role true h.kept × (role_at (shape p.graph) (h.kept).place ≡ h.role)
+  at_place h b = at_held (λ z. FollowsWalk sha p.graph z.sid z.role true z.kept × (role_at (shape p.graph) (z.kept).place ≡ z.role)) h b.session b.stands.holds (
+    subst (λ t. FollowsWalk sha p.graph (b.session).sid (b.session).role t (kept p.graph b.session)) b.stands.turn b.sound.follows,
+    eqb-true (role_at (shape p.graph) (place p.graph b.session)) (b.session).role b.stands.turn,
+  )
+
+  module _ (ip : IsProgram sha p) where
+    is_new : (sid : List ℕ) (c : Cast) → AreBytes 32 sid → IsCast c → c.graph ≡ p.digest → IsBackedBefore sha p (held p.graph (new_session sid c p.role))
+    is_new sid c b h g = record {
+      session = new_session sid c p.role;
+      stands = record { holds = refl; ends = refl };
+      sound = new_sound sha p (new_session sid c p.role) refl (new_in_range sid c p.role b h (let a = ip.role in let b = ip.is_graph.sizes.0 in omega (arith, a, b))) g refl;
+      follows = Following'.new_follows sha p.graph sid c p.role false;
+    }
+
+    keeps_reads : (h : Held) (label x : ℕ) → IsBackedAtTurn sha p h → label < length p.graph.edges → source (shape p.graph) label ≡ (h.kept).place → is_in x (reads p.graph label) ≡ true → (is_in x (writes p.graph label) ≡ true) ⊎ IsOpened sha h.sid h.kept x
+    keeps_reads h label x b l e r =
+        let s : Session = b.session in
+        let at : source (shape p.graph) label ≡ place p.graph s = e ∙ ap (λ (z : Held). (z.kept).place) b.stands.holds in
+        let leave : leaves p.graph s label ≡ true = rw (less label (length p.graph.edges) l) (eq-eqb (source (shape p.graph) label) (place p.graph s) at) in
+        at_held (λ z. (is_in x (writes p.graph label) ≡ true) ⊎ IsOpened sha z.sid z.kept x) h s b.stands.holds (Following'.keeps_reads sha p.graph ip.accepted s label b.stands.turn leave ip.is_graph b.sound.follows x r)
+
+    gives : (keys : Keyring) (h : Held) (s : Session) (label : ℕ) (values : Map Value) (confounders : List (List ℕ)) → IsBackedAtTurn sha p h → StandsAtTurn p.graph h s → first_some (rows_of_act p s label values) ≡ None → AreValues values confounders →
+        (last (frame_sent sha keys p s label (openings_for values confounders)).items ≡ Some (own_item sha keys p s label (openings_for values confounders)))
+        × IsShortFrame (frame_sent sha keys p s label (openings_for values confounders))
+        × IsBackedWaiting sha p (held_after p.graph h (Gave (own_item sha keys p s label (openings_for values confounders)) (openings_for values confounders)))
+    gives keys h s label values confounders b st none good =
+        let written : List Opening = openings_for values confounders in
+        let t : Session = b.session in
+        let k : KeepsSame p.graph t s = keeps_same h t s b.stands.holds st.holds in
+        let r : GivesSound sha keys p t label written = gives_sound sha hash keys p t label values confounders ip b.sound (ap first_some ((kept_is_enough sha).refuses p t s label values k) ∙ none) good in
+        let frames : frame_sent sha keys p t label written ≡ frame_sent sha keys p s label written = (kept_is_enough sha).sends keys p t s label written ip.is_graph k in
+        let items : own_item sha keys p t label written ≡ own_item sha keys p s label written = same_own p.graph t s k sha keys p refl ip.is_graph label written in
+        let its : StandsWaiting p.graph (held_after p.graph h (Gave (own_item sha keys p t label written) written)) (extended t (Gave (own_item sha keys p t label written) written)) = record {
+          before = record { holds = after p.graph h t (Gave (own_item sha keys p t label written) written) b.stands.holds; ends = r.sound.ends_waiting r.waits };
+          waits = r.waits;
+        } in
+        let backed : IsBackedWaiting sha p (held_after p.graph h (Gave (own_item sha keys p t label written) written)) = record { session = extended t (Gave (own_item sha keys p t label written) written); stands = its; sound = r.sound } in (
+          ap (λ (f : Frame). last f.items) (sym frames) ∙ r.own_last ∙ ap (λ i. Some i) items,
+          subst IsShortFrame frames r.short,
+          subst (λ i. IsBackedWaiting sha p (held_after p.graph h (Gave i written))) items backed,
+        )
+
+    takes : (keys : Keyring) (h : Held) (s : Session) (f : Frame) → IsBackedBefore sha p h → StandsBefore p.graph h s → HasSpelling f → f.version ≡ (h.cast).version → first_some (rows_of_session sha keys p s f) ≡ None → IsBackedAtTurn sha p (held_after p.graph h (Took f))
+    takes keys h s f b st sp v none =
+        let t : Session = b.session in
+        let k : KeepsSame p.graph t s = keeps_same h t s b.stands.holds st.holds in
+        let rows : first_some (rows_of_session sha keys p t f) ≡ None = (kept_is_enough sha).judges keys p t s f ip.is_graph k b.stands.ends st.ends ∙ none in
+        let fo : FollowsWalk sha p.graph t.sid t.role false (kept p.graph t) = subst (λ (z : Held). FollowsWalk sha p.graph z.sid z.role false z.kept) b.stands.holds b.follows in
+        let version : f.version ≡ t.cast.version = v ∙ ap (λ (z : Held). (z.cast).version) b.stands.holds in
+        let r = taken_sound sha keys p t f ip b.sound.graph b.sound.role b.sound.in_range fo b.stands.ends sp version rows in
+        record {
+          session = extended t (Took f);
+          stands = record { holds = after p.graph h t (Took f) b.stands.holds; ends = r.0.ends_at_turn r.1; turn = r.1 };
+          sound = r.0;
+        }
+
+pub states_are_backed : (sha : Hash) → IsHash sha → StatesAreBacked sha
+states_are_backed sha hash = record {
+  is_new = λ p sid c ip b h g. is_new sha hash p ip sid c b h g;
+  begins = λ p h b o r. record { session = b.session; stands = (states_stand sha).begins p.graph h b.session b.stands o r; sound = b.sound };
+  joins = λ p h b o r. record { session = b.session; stands = (states_stand sha).joins p.graph h b.session b.stands o r; sound = b.sound };
+  before = waiting_before sha hash;
+  gives = λ keys p h s label values confounders ip. gives sha hash p ip keys h s label values confounders;
+  takes = λ keys p h s f ip. takes sha hash p ip keys h s f;
+  at_place = at_place sha hash;
+  keeps_reads = λ p h label x ip. keeps_reads sha hash p ip h label x;
+}
