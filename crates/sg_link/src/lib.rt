@@ -1,0 +1,10 @@
+//! The edge to the network: frames as UDP datagrams.
+//!
+//! A frame has at most 60,000 bytes, and a datagram over IPv4 carries up to 65,507 (RFC 768, RFC 791), so each frame is one datagram.
+//! What comes is handed on as it is: whether it is a frame, and whose, is for the node to say. A link tells nothing of its content,
+//! and that the system sends and receives what it is given is trusted; a test over the loopback shows it once.
+#![tactic(auto)]
+
+mod udp;
+
+pub use udp::UdpLink;

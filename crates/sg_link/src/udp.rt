@@ -1,0 +1,153 @@
+//! A link over a UDP socket.
+ghost use Rattle.std.specs.Prelude.{◌≡◌};
+
+use sg_base::{Addr, Failed, Link, LinkFault, Sealed};
+use std::alloc::Global;
+use std::net::{Ipv4Addr, Net, SocketAddr, SocketAddrV4, UdpSocket};
+
+/// A link over a UDP socket. It has no socket until it is opened. `recv` waits for a datagram, for as long as it takes, and never comes
+/// to an end.
+#[derive(Drop)]
+pub struct UdpLink<R: Net> {
+    rt: R,
+    socket: Option<UdpSocket>,
+    faults: u64,
+}
+
+impl<R: Net + Drop> UdpLink<R> {
+    /// A link that is not open, with a count of faults of 0.
+    pub fn new(rt: R) -> UdpLink<R>
+        ensures { ⟦<UdpLink<R> as Link>⟧.faults result ≡ 0 }
+    {
+        UdpLink {
+            rt,
+            socket: None,
+            faults: 0,
+        }
+    }
+}
+
+// The address as the system's sockets take it.
+fn socket_addr(at: Addr) -> SocketAddr {
+    let [a, b, c, d] = at.ip;
+    SocketAddr::V4(SocketAddrV4::new(Ipv4Addr::new(a, b, c, d), at.port))
+}
+
+// Room for the longest datagram and one byte more, so that none is cut short unseen. `None` is want of memory.
+fn longest_datagram(alloc: Global) -> Option<Vec<u8>> {
+    match vec![in alloc; 0u8; 65_508] {
+        Ok(bytes) => Some(bytes),
+        Err(_) => None,
+    }
+}
+
+// The next datagram, in the room that is given. `None` where there is no socket, or the system failed.
+fn receive(socket: &Option<UdpSocket>, mut bytes: Vec<u8>) -> Option<Vec<u8>> {
+    match socket {
+        Some(socket) => match socket.recv_from(&mut bytes) {
+            Ok((count, _)) => {
+                bytes.truncate(count);
+                Some(bytes)
+            }
+            Err(_) => None,
+        },
+        None => None,
+    }
+}
+
+// Whether the whole datagram was taken.
+fn sends_whole(socket: &UdpSocket, bytes: &[u8], to: Addr) -> bool {
+    match socket.send_to(bytes, socket_addr(to)) {
+        Ok(count) => count == bytes.len(),
+        Err(_) => false,
+    }
+}
+
+impl<R: Net + Drop> Link for UdpLink<R> {
+    ghost use Rattle.std.specs.Prelude.{None};
+
+    ghost faults = { λ l. l.faults };
+
+    ghost deliveries = { λ _. None };
+
+    ghost sent = { λ _. None };
+
+    fn open(&mut self, at: Addr) -> Result<(), Failed> {
+        match UdpSocket::bind(&self.rt, socket_addr(at)) {
+            Ok(socket) => {
+                self.socket = Some(socket);
+                Ok(())
+            }
+            Err(_) => {
+                self.faults = self.faults.saturating_add(1);
+                Err(Failed)
+            }
+        }
+    }
+
+    fn recv(&mut self, alloc: Global) -> Result<Option<Vec<u8>>, LinkFault> {
+        let Some(bytes) = longest_datagram(alloc) else {
+            return Err(LinkFault::OutOfMemory);
+        };
+        match receive(&self.socket, bytes) {
+            Some(bytes) => Ok(Some(bytes)),
+            None => {
+                self.faults = self.faults.saturating_add(1);
+                Err(LinkFault::Failed)
+            }
+        }
+    }
+
+    fn send(&mut self, to: Addr, frame: Sealed) -> Result<(), (Sealed, Failed)> {
+        let whole = match &self.socket {
+            Some(socket) => sends_whole(socket, frame.bytes(), to),
+            None => false,
+        };
+        if whole {
+            let _ = frame.release();
+            Ok(())
+        } else {
+            self.faults = self.faults.saturating_add(1);
+            Err((frame, Failed))
+        }
+    }
+}
+
+#[cfg(test)]
+mod tests {
+    use super::*;
+    use sg_base::Name;
+
+    // The loopback, at a port.
+    fn at(port: u16) -> Addr {
+        Addr {
+            ip: [127, 0, 0, 1],
+            port,
+        }
+    }
+
+    #[test]
+    fn a_frame_comes_back_over_the_loopback(rt: HostRuntime) {
+        let alloc = rt.alloc();
+        let mut link = UdpLink::new(rt.clone().expect(&rt, "a runtime"));
+        assert!(rt; matches!(link.recv(alloc), Err(LinkFault::Failed)));
+        assert!(rt; link.open(at(47_301)) == Ok(()));
+        let mut bytes = vec![in alloc; 7u8; 60_000].expect(&rt, "memory");
+        bytes[59_999] = 9;
+        let name = Name::new(b"b").expect(&rt, "a name");
+        match link.send(at(47_301), Sealed::seal(name, bytes)) {
+            Ok(()) => {}
+            Err((frame, _)) => {
+                let _ = frame.release();
+                assert!(rt; false);
+            }
+        }
+        match link.recv(alloc) {
+            Ok(Some(came)) => {
+                assert_eq!(rt; came.len(), 60_000);
+                assert!(rt; came[..59_999].iter().all(|b| *b == 7) && came[59_999] == 9);
+            }
+            _ => assert!(rt; false),
+        }
+    }
+}
