@@ -8,7 +8,7 @@ use Rattle.sg_model.specs.Last.{Map}
 use Rattle.sg_model.specs.Lists.{keys_of, rises_from}
 use Rattle.sg_model.specs.Names.{Name, is_name}
 use Rattle.sg_model.specs.Values.{Value, IntValue, TextValue, Opening}
-use Rattle.sg_protocol.specs.Graph.{Kind, Int, Text}
+use Rattle.sg_protocol.specs.Graph.{VariableKind, Int, Text}
 
 -- who takes part: version 1 or 2, the digest of the graph, sixteen bytes, and the principal of each role
 pub record Cast : Type 0 where
@@ -37,7 +37,7 @@ pub record Frame : Type 0 where
   pub tag : List ℕ
 
 -- the type of a value
-abbrev pub kind_of_value : Value → Kind
+abbrev pub kind_of_value : Value → VariableKind
 kind_of_value (IntValue z) = Int
 kind_of_value (TextValue t) = Text
 

@@ -7,14 +7,14 @@ use Rattle.sg_model.specs.Shape.{Shape}
 use Rattle.sg_model.specs.Shape as Arrows
 
 -- the type of a variable
-pub data Kind : Type 0 where
-  Int : Kind
-  Text : Kind
+pub data VariableKind : Type 0 where
+  Int : VariableKind
+  Text : VariableKind
 
 -- a variable, and the roles that may write it, in rising order
 pub record Variable : Type 0 where
   pub name : Name
-  pub kind : Kind
+  pub kind : VariableKind
   pub writers : List ℕ
 
 -- a node and its role
@@ -54,7 +54,7 @@ abbrev pub reads : Graph → ℕ → List ℕ
 reads g e = Arrows.reads (shape g) e
 
 -- the type of a variable
-abbrev pub kind_of : Graph → ℕ → Kind
+abbrev pub kind_of : Graph → ℕ → VariableKind
 kind_of g x = (get_or g.variables x (record { name = []; kind = Int; writers = [] })).kind
 
 -- the roles that may write a variable
@@ -76,7 +76,7 @@ node_name g n = (get_or g.nodes n (record { name = []; role = 0 })).name
 -- ---- the canonical text
 
 -- the word for a type
-abbrev pub kind_text : Kind → List ℕ
+abbrev pub kind_text : VariableKind → List ℕ
 kind_text Int = codes "int"
 kind_text Text = codes "text"
 
