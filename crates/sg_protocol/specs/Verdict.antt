@@ -6,6 +6,7 @@ use Rattle.sg_model.specs.Last.{last, has}
 use Rattle.sg_model.specs.Lists.{keys_of, same_text, first_some, value_at}
 use Rattle.sg_model.specs.Shape.{sender}
 use Rattle.sg_model.specs.Values.{Opening}
+use Rattle.sg_model.specs.Limits.{most_joins, most_live}
 use Rattle.sg_protocol.specs.Graph.{VariableKind, Graph, shape, reads, kind_of, Int, Text}
 use Rattle.sg_protocol.specs.Evidence.{Seen, has_view}
 use Rattle.sg_protocol.specs.Frame.{Cast, Item, Frame, kind_of_value}
@@ -91,8 +92,8 @@ rows_of_join sha n f c p =
     ∷ option_map UnknownPeer (stranger n.keys c)
     ∷ row (not (bytes_eq f.sid (session_id sha c))) BadSession
     ∷ row (has_joined n.joins f.sid f.receiver) Joined
-    ∷ row (nat_le 65536 (length n.joins)) CacheFull
-    ∷ row (nat_le 4096 (length n.live)) SessionsFull
+    ∷ row (nat_le most_joins (length n.joins)) CacheFull
+    ∷ row (nat_le most_live (length n.live)) SessionsFull
     ∷ rows_of_session sha n.keys p (new_session f.sid c f.receiver) f
 
 -- what is looked at in a frame that continues a session, under a program
