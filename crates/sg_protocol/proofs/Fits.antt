@@ -73,15 +73,9 @@ declared_in A P (y ∷ ys) (suc n) x a e = declared_in A P ys n x (All-tail P y 
 module _ (sha : Hash) (hash : IsHash sha) (programs : List Program) (s : Schedule) (compiled : AreCompiled sha s.graphs programs) (sched : IsSchedule sha s) where
   -- a declared session's cast can be read
   declared_fits : (d : Declared) → IsDeclared sha s.graphs d → CastFits d.cast × AreBytes 32 d.cast.graph × AreBytes 16 d.cast.nonce × (list_all is_name d.cast.names ≡ true)
-  declared_fits d h = go (graph_with sha s.graphs d.cast.graph) refl h
-    where
-      go : (o : Option Graph) → graph_with sha s.graphs d.cast.graph ≡ o → IsSomeAnd o (λ g. (length d.cast.names ≡ length g.roles) × IsTrue (all_differ d.cast.names && list_all is_name d.cast.names) × AreBytes 16 d.cast.nonce × ((d.cast.version ≡ 1) ⊎ (d.cast.version ≡ 2)))
-          → CastFits d.cast × AreBytes 32 d.cast.graph × AreBytes 16 d.cast.nonce × (list_all is_name d.cast.names ≡ true)
-      go None e h = absurd h
-      go (Some y) e h =
-          let same : graph_digest sha y ≡ d.cast.graph = same_bytes_ (graph_digest sha y) d.cast.graph (find_passes (λ z. bytes_eq (graph_digest sha z) d.cast.graph) s.graphs y e) in
-          let bytes : AreBytes 32 d.cast.graph = subst (AreBytes 32) same (hash (graph_text_of y)) in
-          (record { version = h.3; graph = bytes.0; nonce = h.2.0 }, bytes, h.2, (and_parts (all_differ d.cast.names) (list_all is_name d.cast.names) h.1).1)
+  declared_fits d h =
+      let bytes : AreBytes 32 d.cast.graph = subst (AreBytes 32) (sym h.digest) (hash (graph_text_of h.graph)) in
+      (record { version = h.version; graph = bytes.0; nonce = h.nonce.0 }, bytes, h.nonce, (and_parts (all_differ d.cast.names) (list_all is_name d.cast.names) h.names).1)
 
   pub casts_fit : (n : ℕ) (c : Cast) → cast_of s n ≡ Some c → CastFits c
   casts_fit n c e = go (slice_get s.sessions n) refl e

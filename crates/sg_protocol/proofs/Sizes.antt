@@ -26,6 +26,8 @@ use Rattle.sg_protocol.specs.Past.{Past, node_of}
 use Rattle.sg_protocol.specs.Reading.{read}
 use Rattle.sg_protocol.specs.Acting.{answer, openings_for}
 use Rattle.sg_protocol.specs.Schedule.{Schedule, Source, Craft, CraftItem, Declared, Step, StartStep, ActStep, AbandonStep, DeliverStep, CraftStep, confounder, cast_of, sid_at, graph_with}
+use Rattle.sg_protocol.proofs.Whole.{rec_in}
+use Rattle.sg_law.proofs.Upto.{in_from_Contains}
 use Rattle.sg_protocol.specs.World.{World, Logged, Answered, Crafted, NoFrame, past_of, new_world, call_of, bytes_of}
 use Rattle.sg_protocol.specs.Crafted.{tag_by, crafted_item, crafted_items, known_item, crafted_frame, crafted}
 use Rattle.sg_protocol.specs.Run.{frame_in, recorded, called_if, world_after, world_after_all, run}
@@ -527,19 +529,17 @@ module _ (sha : Hash) (hash : IsHash sha) (programs : List Program) (s : Schedul
   declared_len : (n : ℕ) (c : Cast) → cast_of s n ≡ Some c → length (session_text_of c) ≤ 589
   declared_len n c e = by_declared (slice_get s.sessions n) refl e
     where
-      by_graph : (d : Declared) (o : Option Graph) → graph_with sha s.graphs d.cast.graph ≡ o → IsSomeAnd o (λ g. (length d.cast.names ≡ length g.roles) × IsTrue (all_differ d.cast.names && list_all is_name d.cast.names) × AreBytes 16 d.cast.nonce × ((d.cast.version ≡ 1) ⊎ (d.cast.version ≡ 2))) → length (session_text_of d.cast) ≤ 589
-      by_graph d None q h = absurd h
-      by_graph d (Some y) q h =
-          let same : graph_digest sha y ≡ d.cast.graph = (bytes_eq-Decides (graph_digest sha y) d.cast.graph).0 (find_passes (λ z. bytes_eq (graph_digest sha z) d.cast.graph) s.graphs y q) in
-          let long : length d.cast.graph ≡ 32 = subst (λ z. length z ≡ 32) same (hash (graph_text_of y)).0 in
-          let ig : IsGraph y = find_all (λ z. bytes_eq (graph_digest sha z) d.cast.graph) IsGraph s.graphs y (to_rec IsGraph s.graphs sched.are_graphs) q in
+      by_graph : (d : Declared) → IsDeclared sha s.graphs d → length (session_text_of d.cast) ≤ 589
+      by_graph d h =
+          let long : length d.cast.graph ≡ 32 = subst (λ z. length z ≡ 32) (sym h.digest) (hash (graph_text_of h.graph)).0 in
+          let ig : IsGraph h.graph = rec_in IsGraph s.graphs h.graph (to_rec IsGraph s.graphs sched.are_graphs) (in_from_Contains s.graphs h.graph h.is_there) in
           let few = ig.sizes.0 in
-          let count = h.0 in
-          cast_len d.cast long h.2.0 (omega (arith, few, count)) (and_parts (all_differ d.cast.names) (list_all is_name d.cast.names) h.1).1
+          let count = h.count in
+          cast_len d.cast long h.nonce.0 (omega (arith, few, count)) (and_parts (all_differ d.cast.names) (list_all is_name d.cast.names) h.names).1
 
       by_declared : (o : Option Declared) → slice_get s.sessions n ≡ o → option_map (λ (d : Declared). d.cast) o ≡ Some c → length (session_text_of c) ≤ 589
       by_declared None q e = absurd (let z : None ≡ Some c = e in cc)
-      by_declared (Some d) q e = (let r : d.cast ≡ c = cc in subst (λ z. length (session_text_of z) ≤ 589) r (by_graph d (graph_with sha s.graphs d.cast.graph) refl (declared_in Declared (IsDeclared sha s.graphs) s.sessions n d sched.sessions q)))
+      by_declared (Some d) q e = (let r : d.cast ≡ c = cc in subst (λ z. length (session_text_of z) ≤ 589) r (by_graph d (declared_in Declared (IsDeclared sha s.graphs) s.sessions n d sched.sessions q)))
 
   module _ (w : World) (fit : Fit sha hash programs s compiled sched w) (k : ℕ) where
     start_bytes : (c : Cast) → length (session_text_of c) ≤ 589 → (a : Answer) → notes_bytes (notes_of_start c a) ≤ 589
