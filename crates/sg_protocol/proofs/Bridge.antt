@@ -1,12 +1,13 @@
 -- What is seen on a walk and in a frame, in the words of the law of a session.
-use Rattle.std.specs.Prelude.{◌≡◌, ℕ, suc, ◌+◌, ◌<◌, ◌==◌, nat_le, ◌||◌, ◌&&◌, ◌⊎◌, Bool, true, false, not, if◌then◌else◌, List, [], ◌∷◌, ◌++◌, map, find, position, refl, Option, Some, None, option_map, unwrap_or, Contains, ⊤}
+use Rattle.std.specs.Prelude.{◌≡◌, ℕ, suc, ◌+◌, ◌<◌, ◌==◌, nat_le, ◌||◌, Bool, true, false, not, if◌then◌else◌, List, [], ◌∷◌, ◌++◌, map, find, position, refl, Option, Some, None, option_map, unwrap_or, Contains, ⊤}
 use Rattle.std.proofs.Common.{sym, ◌∙◌, ap, subst, inl, inr, arith}
 use Rattle.std.proofs.lemmas.Slice.Eq.{bytes_eq-Decides}
-use Rattle.std.proofs.lemmas.Bool.{eqb-true}
+use Rattle.std.proofs.lemmas.Bool.{eqb-true, cases_Bool}
 use Rattle.std.proofs.lemmas.Bool.Decides.{nat_tests}
 use Rattle.sg_model.specs.Last.{has, last, last_of, after_last, up_to_last, Entry, carry, evidence, evidence_for}
 use Rattle.sg_model.specs.Lists.{first_some}
 use Rattle.sg_model.specs.Shape.{Shape, Walk, end_of, role_at, sender}
+use Rattle.sg_model.proofs.Small.{and_left, and_right, not_false, none_parts}
 use Rattle.sg_protocol.specs.Graph.{Graph, shape}
 use Rattle.sg_protocol.specs.Evidence.{View, Seen, IsView, IsViewTable, view_of, walked, same_origin, same_items, same_view, has_view}
 use Rattle.sg_protocol.specs.Frame.{Frame, Item}
@@ -16,10 +17,6 @@ use Rattle.sg_protocol.specs.Session.{Session, own, own_time, origin}
 use Rattle.sg_protocol.specs.Checks.{texts_checked}
 use Rattle.sg_protocol.specs.Calls.{Refusal, BadFrameTag, NoSuchView, BadTime, BadEvidence, BadOpening}
 use Rattle.sg_protocol.specs.Verdict.{row, rows_of_session, has_frame_tag, is_shown, bad_time, has_item_tag, is_right, seen}
-
-cases_Bool : (b : Bool) → (b ≡ true) ⊎ (b ≡ false)
-cases_Bool true = inl refl
-cases_Bool false = inr refl
 
 -- a list is its part up to the last of a key, and the part after it
 pub up_to_last-after : {A : Type 0} (key : A → ℕ) (k : ℕ) (xs : List A) → up_to_last key k xs ++ after_last key k xs ≡ xs
@@ -125,18 +122,6 @@ view_of_walk g r v i own items o l t =
 
 -- ---- from the rows of the verdict
 
-and_left : (a b : Bool) → (a && b) ≡ true → a ≡ true
-and_left true b h = refl
-and_left false b h = h
-
-and_right : (a b : Bool) → (a && b) ≡ true → b ≡ true
-and_right true b h = h
-and_right false b h = cc
-
-not_false : (b : Bool) → not b ≡ false → b ≡ true
-not_false true h = refl
-not_false false h = cc
-
 same_origins : (a b : Option ℕ) → same_origin a b ≡ true → a ≡ b
 same_origins None None h = refl
 same_origins None (Some b) h = cc
@@ -179,10 +164,6 @@ no_bad_time n before (i ∷ is) h = elim (cases_Bool (nat_le i.time before)) [
   where
     some_none : {A : Type 0} (x : A) → Some x ≡ None → ⊥
     some_none x h = cc
-
-none_parts : {F : Type 0} (o : Option F) (os : List (Option F)) → first_some (o ∷ os) ≡ None → (o ≡ None) × (first_some os ≡ None)
-none_parts None os h = (refl, h)
-none_parts (Some x) os h = cc
 
 row_none : {F : Type 0} (b : Bool) (x : F) → row b x ≡ None → b ≡ false
 row_none true x h = cc

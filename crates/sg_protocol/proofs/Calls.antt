@@ -4,7 +4,7 @@ use Rattle.std.specs.Prelude.{filter_map, ◌≡◌, ℕ, zero, suc, ◌+◌, �
 use Rattle.std.specs.List.{list_all, list_any, AllByRecursion}
 use Rattle.std.specs.Option.{option_map_or}
 use Rattle.std.proofs.Common.{sym, ◌∙◌, ap, subst, inl, inr, arith, append-nil}
-use Rattle.std.proofs.lemmas.Bool.{eqb-true, eq-eqb, ne_eqb}
+use Rattle.std.proofs.lemmas.Bool.{eqb-true, eq-eqb, ne_eqb, cases_Bool, and_parts}
 use Rattle.std.proofs.lemmas.List.{map-append}
 use Rattle.std.proofs.lemmas.Slice.Eq.{bytes_eq-Decides}
 use Rattle.sg_model.specs.Last.{Map, has, last, up_to_last}
@@ -39,7 +39,7 @@ use Rattle.sg_law.proofs.Upto.{In}
 use Rattle.sg_law.proofs.Cut.{last-option_map}
 use Rattle.sg_protocol.proofs.Bridge.{has_view-Contains}
 use Rattle.sg_protocol.proofs.Entries.{entry, entries, Roles}
-use Rattle.sg_protocol.proofs.Moves.{step, NoteOk, Matches, and_parts, not_false, none_parts, row_none, note_text, in_map, in_left, in_right}
+use Rattle.sg_protocol.proofs.Moves.{step, NoteOk, Matches, row_none, note_text}
 use Rattle.sg_model.specs.Lists.{keys_of}
 use Rattle.sg_law.specs.Values.{MayWrite}
 use Rattle.sg_protocol.specs.Acting.{rows_of_act, openings_for, answer, answer_act, started, acted, sent, rows_of_start}
@@ -47,8 +47,11 @@ use Rattle.sg_protocol.proofs.TextLaws.{kinds_differ}
 use Rattle.sg_protocol.specs.Accepted.{Accepted}
 use Rattle.sg_protocol.proofs.Gives.{item_sid, frame_sid, opened_values}
 use Rattle.std.specs.Prelude.{Result, Ok, Err, option_and_then}
+use Rattle.std.proofs.lemmas.List.Elements.{filter-append}
 use Rattle.sg_model.specs.Lists.{has_text}
 use Rattle.sg_model.specs.Bytes.{IsBytes}
+use Rattle.sg_model.proofs.Small.{not_false, clash, none_parts}
+use Rattle.sg_law.proofs.Members.{in_left, in_right, in_map, in_parts}
 use Rattle.sg_protocol.specs.Reading.{read}
 use Rattle.sg_protocol.specs.Node.{Node, is_for, is_cast, stranger, session_with, session_for, has_joined, program_for, starter}
 use Rattle.sg_protocol.specs.NodeAfter.{node_after, joined, goes_on, replace, still, is_over, takes_read}
@@ -56,20 +59,13 @@ use Rattle.sg_protocol.specs.Walk as Walk'
 use Rattle.sg_protocol.specs.Frame as Frame'
 use Rattle.sg_law.specs.Values.{AllMay, May, moved_all, Deed, deed_of, all_openings}
 use Rattle.sg_protocol.proofs.Paths.{flat_map-append, acts_of, TypedDeed}
-use Rattle.sg_protocol.proofs.Isolation.{of_sid, find-filter, filter-append, replace-other, replace-own, still-own, still-other}
+use Rattle.sg_protocol.proofs.Isolation.{of_sid, find-filter, replace-other, replace-own, still-own, still-other}
 use Rattle.sg_protocol.proofs.TextLaws.{cast_fits, opening_fits}
 use Rattle.sg_protocol.proofs.ReadBack.{read-SpellsFrame}
 use Rattle.sg_protocol.proofs.Bridge.{has_view-Contains}
 use Rattle.sg_protocol.proofs.Entries.{not_start}
 use Rattle.sg_protocol.proofs.Takes as T
 use Rattle.sg_protocol.proofs.Acts as C
-
-cases_Bool : (b : Bool) → (b ≡ true) ⊎ (b ≡ false)
-cases_Bool true = inl refl
-cases_Bool false = inr refl
-
-clash : {A : Type 0} (b : Bool) → b ≡ true → b ≡ false → A
-clash b t f = absurd (cc)
 
 -- names that all differ stand at one place each
 pub one_place : (ts : List (List ℕ)) (h k : ℕ) → all_differ ts ≡ true → h < length ts → k < length ts → get_or ts h [] ≡ get_or ts k [] → h ≡ k
@@ -636,7 +632,7 @@ module _ (sha : Hash) (hash : IsHash sha) (s : Schedule) (programs : List Progra
 
     -- a note of another session says nothing of this one
     note_other : (x : Session) (p : Program) (f : Frame) (os : List Opening) → length x.sid ≡ 32 → bytes_eq x.sid sid ≡ false → f.sid ≡ x.sid → (nt : Note) → In (notes_of_sent n.keys p x f os).made nt → NoteOk g sid st.log nt
-    note_other x p f os l h fs nt i = elim (C.in_parts _ (note_of n.keys.me (principal x.cast f.receiver) (text_of f) ∷ []) nt i) [
+    note_other x p f os l h fs nt i = elim (in_parts _ (note_of n.keys.me (principal x.cast f.receiver) (text_of f) ∷ []) nt i) [
       | inl j ↦ items_of_frame (last f.items) j
       | inr j ↦ elim j [ inl e ↦ subst (NoteOk g sid st.log) (sym e) frame_note | inr k ↦ absurd k ]
     ]

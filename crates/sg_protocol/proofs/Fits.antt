@@ -1,11 +1,10 @@
 -- What a run records are bytes, and what its nodes send has a spelling.
-use Rattle.std.specs.Prelude.{filter_map, ◌≡◌, ◌≢◌, ℕ, zero, suc, ◌<◌, ◌≤◌, ◌==◌, nat_lt, if◌then◌else◌, All, ◌&&◌, ◌⊎◌, Bool, true, false, List, [], ◌∷◌, ◌++◌, map, length, bytes_eq, refl, Option, Some, None, option_map, unwrap_or, IfSome}
+use Rattle.std.specs.Prelude.{filter_map, ◌≡◌, ◌≢◌, ℕ, zero, suc, ◌<◌, ◌≤◌, ◌==◌, nat_lt, if◌then◌else◌, All, ◌&&◌, ◌⊎◌, true, List, [], ◌∷◌, ◌++◌, map, length, bytes_eq, refl, Option, Some, None, option_map, unwrap_or, IfSome}
 use Rattle.std.specs.List.{cons_option, list_all, AllByRecursion}
 use Rattle.std.specs.Option.{option_map_or}
 use Rattle.std.proofs.Common.{sym, ◌∙◌, ap, subst, inl, inr, arith}
-use Rattle.std.proofs.lemmas.Bool.{eqb-true}
-use Rattle.std.proofs.lemmas.List.Elements.{All-head, All-tail}
-use Rattle.std.proofs.lemmas.Slice.Eq.{bytes_eq-Decides}
+use Rattle.std.proofs.lemmas.Bool.{eqb-true, cases_Bool, and_parts}
+use Rattle.std.proofs.lemmas.List.Elements.{All-head, All-tail, recursion_from_All}
 use Rattle.sg_model.specs.Last.{Map}
 use Rattle.sg_model.specs.Lists.{value_at, all_differ}
 use Rattle.sg_model.specs.Shape.{role_at}
@@ -22,7 +21,6 @@ use Rattle.sg_protocol.specs.Keyring.{Program}
 use Rattle.sg_protocol.specs.Session.{Session, principal, new_session}
 use Rattle.sg_protocol.specs.Calls.{Event, Call, Start, Act, Abandon, Deliver, Answer, Sends}
 use Rattle.sg_protocol.specs.Schedule.{Schedule, is_honest, honest_role, Step, StartStep, ActStep, AbandonStep, DeliverStep, CraftStep, What, Declared, PairKey, cast_of, sid_at, confounder, graph_with}
-use Rattle.sg_protocol.proofs.Moves.{and_parts}
 use Rattle.sg_protocol.specs.Acting.{answer}
 use Rattle.std.specs.Prelude.{Result, Ok, Err, option_and_then}
 use Rattle.sg_model.specs.Bytes.{IsBytes}
@@ -44,6 +42,7 @@ use Rattle.sg_protocol.specs.IsSchedule.{IsSchedule, IsStep, IsDeclared, AreComp
 use Rattle.sg_protocol.specs.Headline.{IsExplained, SessionsFollowWalks}
 use Rattle.sg_protocol.proofs.Calls.{find_passes, find_all}
 use Rattle.sg_model.specs.Names.{is_name}
+use Rattle.sg_model.proofs.Small.{same_bytes}
 use Rattle.sg_protocol.proofs.Course.{past_called, next_past, node_more}
 use Rattle.sg_protocol.proofs.Whole.{first_past}
 use Rattle.sg_protocol.proofs.First.{first_cast, programs_after}
@@ -52,18 +51,11 @@ use Rattle.sg_protocol.proofs.Sent.{FitSession}
 use Rattle.sg_protocol.specs.Ranges.{AreValues}
 use Rattle.sg_protocol.proofs.Nodes.{start_all}
 use Rattle.sg_protocol.proofs.Nodes as Nodes'
-use Rattle.sg_protocol.proofs.Ranges.{by_recursion, new_in_range, act_in_range, node_in_range}
+use Rattle.sg_protocol.proofs.Ranges.{new_in_range, act_in_range, node_in_range}
 use Rattle.sg_protocol.proofs.Course.{confounder_length}
 use Rattle.sg_protocol.proofs.Spelled.{u64_bytes}
 use Rattle.sg_protocol.proofs.Whole.{explained}
 use Rattle.sg_protocol.proofs.Spelled.{Bytes_, BytesItem, BytesFrame, to_bytes, from_bytes, bytes-append, bytes-take, bytes-zeros, bytes-flipped, item_has_bytes, has_bytes, spelling_bytes}
-
-cases_Bool : (b : Bool) → (b ≡ true) ⊎ (b ≡ false)
-cases_Bool true = inl refl
-cases_Bool false = inr refl
-
-same_bytes_ : (a b : List ℕ) → bytes_eq a b ≡ true → a ≡ b
-same_bytes_ a b h = (bytes_eq-Decides a b).0 h
 
 pub declared_in : (A : Type 0) (P : A → Type 0) (xs : List A) (n : ℕ) (x : A) → All P xs → slice_get xs n ≡ Some x → P x
 declared_in A P [] n x a e = absurd (cc)
@@ -79,7 +71,7 @@ module _ (sha : Hash) (hash : IsHash sha) (programs : List Program) (s : Schedul
           → CastFits d.cast × AreBytes 32 d.cast.graph × AreBytes 16 d.cast.nonce × (list_all is_name d.cast.names ≡ true)
       go None e h = absurd h
       go (Some y) e h =
-          let same : graph_digest sha y ≡ d.cast.graph = same_bytes_ (graph_digest sha y) d.cast.graph (find_passes (λ z. bytes_eq (graph_digest sha z) d.cast.graph) s.graphs y e) in
+          let same : graph_digest sha y ≡ d.cast.graph = same_bytes (graph_digest sha y) d.cast.graph (find_passes (λ z. bytes_eq (graph_digest sha z) d.cast.graph) s.graphs y e) in
           let bytes : AreBytes 32 d.cast.graph = subst (AreBytes 32) same (hash (graph_text_of y)) in
           (record { version = h.3; graph = bytes.0; nonce = h.2.0 }, bytes, h.2, (and_parts (all_differ d.cast.names) (list_all is_name d.cast.names) h.1).1)
 
@@ -249,7 +241,7 @@ module _ (sha : Hash) (hash : IsHash sha) (programs : List Program) (s : Schedul
       bytes (v ∷ vs) = ((confounder_length k v.0, to_bytes (u64 k ++ u64 v.0) (bytes-append (u64 k) (u64 v.0) (u64_bytes k) (u64_bytes v.0))), bytes vs)
 
   compiled_in : (n : Node) → n.programs ≡ programs → AllByRecursion (IsProgram sha) n.programs
-  compiled_in n ps = subst (AllByRecursion (IsProgram sha)) (sym ps) (by_recursion (IsProgram sha) programs compiled.each)
+  compiled_in n ps = subst (AllByRecursion (IsProgram sha)) (sym ps) (recursion_from_All (IsProgram sha) programs compiled.each)
 
   -- what an act of a run sends, and the session that sends it
   pub act_fit : (n : Node) → n.programs ≡ programs → AllByRecursion FitSession n.live → (k : ℕ) (sid0 : List ℕ) (label : ℕ) (values : Map Value) → AllByRecursion (λ (w : ℕ × Value). (w.0 < 256) × IsValue w.1) values → (f : Frame) (a : ActSent n sid0 label values (map (λ (v : ℕ × Value). confounder k v.0) values) f)
@@ -347,10 +339,10 @@ module _ (sha : Hash) (hash : IsHash sha) (programs : List Program) (s : Schedul
         nodes_ me p' None q' e' = absurd (cc)
         nodes_ me p' (Some y) q' e' =
             let r : next_past sha who c y ≡ p' = cc in
-            let is_me : y.keys.me ≡ me = same_bytes_ y.keys.me me (find_passes (λ (z : Past). bytes_eq z.keys.me me) w.pasts y q') in
+            let is_me : y.keys.me ≡ me = same_bytes y.keys.me me (find_passes (λ (z : Past). bytes_eq z.keys.me me) w.pasts y q') in
             elim (cases_Bool (bytes_eq y.keys.me who)) [
               | inl h ↦
-                  let same : me ≡ who = sym is_me ∙ same_bytes_ y.keys.me who h in
+                  let same : me ≡ who = sym is_me ∙ same_bytes y.keys.me who h in
                   let two : Some y ≡ Some past = sym q' ∙ ap (past_of w) same ∙ q in
                   let y_past : y ≡ past = cc in
                   let after_ : past_after sha past c ≡ p' = ap (λ z. past_after sha z c) (sym y_past) ∙ (rw h at r) in
