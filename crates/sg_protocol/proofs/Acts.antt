@@ -65,7 +65,7 @@ commit_lengths : (sha : Hash) → IsHash sha → (sid : List ℕ) (os : List Ope
 commit_lengths sha hash sid [] = tt
 commit_lengths sha hash sid (o ∷ os) = ((hash (commitment_text_of sid o)).0, commit_lengths sha hash sid os)
 
-keys_of_commits : (sha : Hash) (sid : List ℕ) (os : List Opening) → keys_of (map (λ (o : Opening). (o.variable, commitment sha sid o)) os) ≡ map (λ (o : Opening). o.variable) os
+pub keys_of_commits : (sha : Hash) (sid : List ℕ) (os : List Opening) → keys_of (map (λ (o : Opening). (o.variable, commitment sha sid o)) os) ≡ map (λ (o : Opening). o.variable) os
 keys_of_commits sha sid [] = refl
 keys_of_commits sha sid (o ∷ os) = ap (λ l. o.variable ∷ l) (keys_of_commits sha sid os)
 

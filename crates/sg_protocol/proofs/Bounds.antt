@@ -24,7 +24,7 @@ use Rattle.sg_protocol.specs.Session.{Session, told, place, time, at_turn}
 use Rattle.sg_protocol.specs.IsSchedule.{IsProgram}
 use Rattle.sg_protocol.specs.Bounds.{ShownOnce, ShownAreFew, FramesAreShort, IsSession, IsShortFrame, SentAreShort}
 use Rattle.sg_protocol.proofs.Entries.{has-after_last}
-use Rattle.sg_protocol.proofs.Sent.{Ent, Dist, sent_spelled, all_told, dist_ev, has-ev, len_map, len_left, roles_below, evidence_fit, after_fit, ents_fit, pigeon, len_concat, flat33, flat1046, opening_len, join_len, item_len}
+use Rattle.sg_protocol.proofs.Sent.{Ent, Dist, sent_spelled, all_told, dist_ev, has-ev, len_map, len_left, roles_below, evidence_fit, after_fit, ents_fit, pigeon, len_concat, flat33, flat1046, opening_len, join_len, item_len, flat1527}
 
 -- ---- items
 
@@ -71,10 +71,6 @@ shown_are_few g v k is h a =
     omega (arith, l1, l2, l3, p)
 
 -- ---- lengths
-
-flat1527 : {A : Type 0} (f : A → List ℕ) (xs : List A) → AllByRecursion (λ x. length (f x) ≤ 1527) xs → length (flat_map f xs) ≤ length xs * 1527
-flat1527 f [] a = omega arith
-flat1527 f (x ∷ xs) a = let l = length-append (f x) (flat_map f xs) in let m = flat1527 f xs a.1 in let h = a.0 in omega (arith, l, m, h)
 
 flat1303 : {A : Type 0} (f : A → List ℕ) (xs : List A) → AllByRecursion (λ x. length (f x) ≤ 1303) xs → length (flat_map f xs) ≤ length xs * 1303
 flat1303 f [] a = omega arith

@@ -112,9 +112,6 @@ joined_now : (js : List (List ℕ × ℕ)) (sid : List ℕ) (r : ℕ) → has_jo
 joined_now [] sid r = rw ((bytes_eq-Decides sid sid).1 refl, eq-eqb r r refl) refl
 joined_now (j ∷ js) sid r = elim (cases_Bool (bytes_eq j.0 sid && (j.1 == r))) [ inl e ↦ rw e refl | inr e ↦ rw e (joined_now js sid r) ]
 
-filter-nil : {A : Type 0} (xs : List A) → xs ++ [] ≡ xs
-filter-nil xs = append-nil xs
-
 -- the head of a filtered list
 find_head : {A : Type 0} (p : A → Bool) (xs : List A) (x y : A) → xs ≡ x ∷ [] → find p xs ≡ Some y → y ≡ x
 find_head p xs x y e f = go (cases_Bool (p x)) (rw e at f)

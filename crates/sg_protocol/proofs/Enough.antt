@@ -11,6 +11,7 @@ use Rattle.sg_model.specs.Values.{Value, Opening}
 use Rattle.sg_model.proofs.Evidence.{evidence_again, evidence_since, has-evidence}
 use Rattle.sg_model.proofs.Small.{not_false, same_bytes, range_same, range_at}
 use Rattle.sg_law.proofs.Lists.{has-append, has-map, last-append}
+use Rattle.sg_law.proofs.Com.{option_or-assoc}
 use Rattle.sg_protocol.specs.Graph.{Graph, IsGraph, shape, reads}
 use Rattle.sg_protocol.specs.Evidence.{has_view}
 use Rattle.sg_protocol.specs.Frame.{Cast, Item, Frame}
@@ -31,24 +32,17 @@ use Rattle.sg_protocol.proofs.KeptLaws.{kept-kept, shown_to-kept}
 use Rattle.sg_protocol.proofs.Moves.{row_none}
 use Rattle.sg_protocol.proofs.Paths.{flat_map-append}
 use Rattle.sg_protocol.proofs.Sent.{reads_in}
+use Rattle.sg_protocol.proofs.Ends.{committed-append}
 
 -- ---- lists
-
-or_in_turn : {A : Type 0} (a b c : Option A) → option_or (option_or a b) c ≡ option_or a (option_or b c)
-or_in_turn None b c = refl
-or_in_turn (Some x) b c = refl
 
 or_none : {A : Type 0} (o : Option A) → o ≡ option_or o None
 or_none None = refl
 or_none (Some x) = refl
 
-committed-append : (x : ℕ) (xs ys : List Item) → committed x (xs ++ ys) ≡ option_or (committed x ys) (committed x xs)
-committed-append x [] ys = or_none (committed x ys)
-committed-append x (i ∷ is) ys = ap (λ o. option_or o (value_at i.delta x)) (committed-append x is ys) ∙ or_in_turn (committed x ys) (committed x is) (value_at i.delta x)
-
 last_opening-append : (x : ℕ) (es fs : List Exchange) → last_opening x (es ++ fs) ≡ option_or (last_opening x fs) (last_opening x es)
 last_opening-append x [] fs = or_none (last_opening x fs)
-last_opening-append x (e ∷ es) fs = ap (λ o. option_or o (opening_in (openings_of e) x)) (last_opening-append x es fs) ∙ or_in_turn (last_opening x fs) (last_opening x es) (opening_in (openings_of e) x)
+last_opening-append x (e ∷ es) fs = ap (λ o. option_or o (opening_in (openings_of e) x)) (last_opening-append x es fs) ∙ option_or-assoc (last_opening x fs) (last_opening x es) (opening_in (openings_of e) x)
 
 map_all : {A B : Type 0} (f h : A → B) (xs : List A) → ((x : A) → f x ≡ h x) → map f xs ≡ map h xs
 map_all f h [] e = refl

@@ -187,9 +187,6 @@ module _ (sha : Hash) (sid : List ℕ) (n n' : Node) (b : Beside sid n n') where
 
 -- ---- the nodes after a call
 
-has_joined-append : (p : List ℕ × ℕ → Bool) (xs ys zs : List (List ℕ × ℕ)) → list_any p xs ≡ list_any p ys → list_any p (xs ++ zs) ≡ list_any p (ys ++ zs)
-has_joined-append p xs ys zs h = any-append p xs ys zs h
-
 length-snoc : {A : Type 0} (xs : List A) (x : A) → length (xs ++ x ∷ []) ≡ length xs + 1
 length-snoc [] x = refl
 length-snoc (y ∷ ys) x = omega (arith, length-snoc ys x)

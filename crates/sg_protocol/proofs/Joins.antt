@@ -14,7 +14,7 @@ use Rattle.sg_protocol.specs.Session.{Session, Took, Gave, extended, last_label,
 use Rattle.sg_protocol.specs.Keyring.{Program}
 use Rattle.sg_protocol.specs.Node.{Node, is_for, session_with, session_for, has_joined, program_for, starter}
 use Rattle.sg_protocol.specs.Calls.{Event, Started, Received, Call, Start, Act, Abandon, Deliver, Answer, Happened, Sends, Abandoned, NotStarted, NotActed, NotAbandoned, Refusal, StartFault, ActFault, UnknownGraph, UnknownSession, events_of_answer}
-use Rattle.sg_protocol.specs.Verdict.{row, decided, rows_of_join, rows_of_next, join_rows, next_rows, rows, receipt, verdict_on}
+use Rattle.sg_protocol.specs.Verdict.{decided, rows_of_join, rows_of_next, join_rows, next_rows, rows, receipt, verdict_on}
 use Rattle.sg_protocol.specs.Acting.{started, acted, sent, rows_of_start, rows_of_act, answer, openings_for}
 use Rattle.sg_protocol.specs.NodeAfter.{node_after, takes_read, joined, goes_on, replace, still, is_over}
 use Rattle.sg_protocol.specs.Past.{Called, Past, AreAnswers, joins_once, pairs_differ, JoinedOnce, new_node, node_after_all, past_after}
@@ -24,6 +24,7 @@ use Rattle.sg_protocol.specs.Schedule.{Schedule, PairKey, Step, StartStep, ActSt
 use Rattle.sg_protocol.specs.World.{World, new_world, keyring_of, call_of, past_of}
 use Rattle.sg_protocol.specs.Run.{run, world_after, world_after_all, called_if}
 use Rattle.sg_protocol.specs.Headline.{NoneJoinsTwice, NodesJoinOnce}
+use Rattle.sg_protocol.proofs.Moves.{row_none}
 use Rattle.std.proofs.lemmas.List.Elements.{All-nil, All-cons}
 
 found : {A : Type 0} (p q : A → Bool) (xs : List A) (x : A) → find p xs ≡ Some x → list_all q xs ≡ true → (p x ≡ true) × (q x ≡ true)
@@ -35,10 +36,6 @@ found p q (y ∷ ys) x e h = elim (cases_Bool (p y)) [
   where
     some_same : {A : Type 0} (a b : A) → Some a ≡ Some b → a ≡ b
     some_same a b h = cc
-
-pub row_none : {F : Type 0} (b : Bool) (x : F) → row b x ≡ None → b ≡ false
-row_none true x h = cc
-row_none false x h = refl
 
 -- ---- the pair of each live session was joined
 

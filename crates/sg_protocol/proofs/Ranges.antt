@@ -35,6 +35,7 @@ use Rattle.sg_protocol.proofs.Nodes.{Begun, ActSent, act_sends, start_sends, aba
 use Rattle.sg_protocol.proofs.Paths.{flat_map-append}
 use Rattle.sg_protocol.proofs.ReadBack.{read-SpellsFrame}
 use Rattle.sg_protocol.proofs.Sent.{all_told}
+use Rattle.sg_protocol.proofs.Course.{small_values}
 
 -- ---- lists
 
@@ -88,10 +89,6 @@ below_weak : (m n : ℕ) (xs : List ℕ) → m ≤ n → AllByRecursion (λ x. x
 below_weak m n [] l b = tt
 below_weak m n (x ∷ xs) l b = ((let h = b.0 in omega (arith, h, l)), below_weak m n xs l b.1)
 
-small_keys : (vs : Map Value) → AllByRecursion (λ (w : ℕ × Value). (w.0 < 256) × IsValue w.1) vs → AllByRecursion (λ k. k < 256) (keys_of vs)
-small_keys [] h = tt
-small_keys (v ∷ vs) h = (h.0.0, small_keys vs h.1)
-
 -- ---- a step
 
 pub record GivesInRange (sha : Hash) (keys : Keyring) (p : Program) (s : Session) (label : ℕ) (written : List Opening) : Type 0 where
@@ -105,7 +102,7 @@ pub gives_in_range : (sha : Hash) → IsHash sha → (keys : Keyring) (p : Progr
 gives_in_range sha hash keys p s label values confounders ip fx none good =
     let written : List Opening = openings_for values confounders in
     let rs : C.ActRows p.graph s label values = C.act_rows p s label values none in
-    let ks : keys_of values ≡ writes p.graph label = keys_are p.graph ip.is_graph label values (small_keys values good.each) rs.good in
+    let ks : keys_of values ≡ writes p.graph label = keys_are p.graph ip.is_graph label values (small_values values good.each) rs.good in
     let names : map (λ (o : Opening). o.variable) written ≡ writes p.graph label = opened_keys values confounders good.count ∙ ks in
     let opens : AllByRecursion IsOpening written = opened_fit values confounders good.each good.bytes (subst (AllByRecursion (λ x. x < 32)) (sym ks) (below_weak (length p.graph.variables) 32 (writes p.graph label) ip.is_graph.sizes.1 (writes_below p.graph ip.is_graph label))) in
     record {

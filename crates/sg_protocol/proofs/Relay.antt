@@ -30,10 +30,6 @@ use Rattle.sg_protocol.proofs.Reduced.{by_role, has-both, reduced, reduced_again
 use Rattle.sg_protocol.proofs.Ends.{committed-append, last_opening-append, labels, place_is, after_all}
 use Rattle.sg_protocol.proofs.Known.{knows_past, unlearned, opening_there, opening_not, opening_all, not_committed}
 
-pub all-left : {A : Type 0} (P : A → Type 0) (xs ys : List A) → AllByRecursion P (xs ++ ys) → AllByRecursion P xs
-all-left P [] ys a = tt
-all-left P (x ∷ xs) ys a = (a.0, all-left P xs ys a.1)
-
 module _ (sha : Hash) (keys : List PairKey) (sid : List ℕ) (cast : Cast) (targets : ℕ → List ℕ) where
   module _ (g : Graph) where
     -- the tag of an item for a role, after the items before it

@@ -1,5 +1,5 @@
 -- What is seen of reduced items is what is seen of their walk.
-use Rattle.std.specs.Prelude.{◌≡◌, ℕ, zero, suc, ◌+◌, ◌<◌, ◌≤◌, ◌==◌, ◌||◌, ◌&&◌, Bool, true, false, not, List, [], ◌∷◌, ◌++◌, map, filter, filter_map, length, refl, Option, Some, None, option_map, bytes_eq, Contains, ⊤}
+use Rattle.std.specs.Prelude.{◌≡◌, ℕ, zero, suc, ◌+◌, ◌<◌, ◌≤◌, ◌==◌, ◌||◌, ◌&&◌, Bool, true, false, not, List, [], ◌∷◌, map, filter, filter_map, length, refl, Option, Some, None, option_map, bytes_eq, Contains, ⊤}
 use Rattle.std.specs.List.{AllByRecursion}
 use Rattle.std.proofs.Common.{sym, ◌∙◌, ap, subst, inl, inr, arith}
 use Rattle.std.proofs.lemmas.Bool.{cases_Bool, eqb-true, eq-eqb, ne_eqb, and_from}
@@ -14,6 +14,7 @@ use Rattle.sg_protocol.specs.Evidence.{View, Seen, view_of, walked, rising, same
 use Rattle.sg_protocol.specs.Frame.{Item}
 use Rattle.sg_protocol.specs.Verdict.{seen}
 use Rattle.sg_law.proofs.Cut as Cut'
+use Rattle.sg_law.proofs.Lists.{is_in-append}
 use Rattle.sg_protocol.proofs.Entries.{Roles}
 use Rattle.sg_protocol.proofs.Reduced.{by_role, lead, reduced}
 use Rattle.sg_protocol.proofs.Ends.{labels}
@@ -33,16 +34,8 @@ keys_picked m (x ∷ xs) = elim (cases_Bool (is_in x (keys_of m))) [
 pub keys_in_order : (n : ℕ) (m : Map (List ℕ)) → keys_of (in_order n m) ≡ rising n (keys_of m)
 keys_in_order n m = keys_picked m (below n)
 
-in-append : (x : ℕ) (ps bs : List ℕ) → is_in x (ps ++ bs) ≡ (is_in x ps || is_in x bs)
-in-append x [] bs = refl
-in-append x (a ∷ ps) bs = ap (λ b. (a == x) || b) (in-append x ps bs) ∙ assoc (a == x) (is_in x ps) (is_in x bs)
-  where
-    assoc : (a b c : Bool) → (a || (b || c)) ≡ ((a || b) || c)
-    assoc true b c = refl
-    assoc false b c = refl
-
 pub in_merge : {A : Type 0} (x : ℕ) (a b : Map A) → is_in x (keys_of (merge a b)) ≡ (is_in x (keys_of a) || is_in x (keys_of b))
-in_merge {A = A} x a b = ap (is_in x) (map-append (λ (w : ℕ × A). w.0) (filter (λ (w : ℕ × A). not (has (λ (y : ℕ × A). y.0) w.0 b)) a) b) ∙ in-append x (keys_of (filter (λ (w : ℕ × A). not (has (λ (y : ℕ × A). y.0) w.0 b)) a)) (keys_of b) ∙ go a
+in_merge {A = A} x a b = ap (is_in x) (map-append (λ (w : ℕ × A). w.0) (filter (λ (w : ℕ × A). not (has (λ (y : ℕ × A). y.0) w.0 b)) a) b) ∙ is_in-append x (keys_of (filter (λ (w : ℕ × A). not (has (λ (y : ℕ × A). y.0) w.0 b)) a)) (keys_of b) ∙ go a
   where
     has_in : (x : ℕ) (m : Map A) → has (λ (y : ℕ × A). y.0) x m ≡ is_in x (keys_of m)
     has_in x [] = refl

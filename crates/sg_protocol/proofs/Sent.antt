@@ -305,7 +305,7 @@ pub flat33 : {A : Type 0} (f : A → List ℕ) (xs : List A) → AllByRecursion 
 flat33 f [] a = omega arith
 flat33 f (x ∷ xs) a = let l = length-append (f x) (flat_map f xs) in let m = flat33 f xs a.1 in let h = a.0 in omega (arith, l, m, h)
 
-flat1527 : {A : Type 0} (f : A → List ℕ) (xs : List A) → AllByRecursion (λ x. length (f x) ≤ 1527) xs → length (flat_map f xs) ≤ length xs * 1527
+pub flat1527 : {A : Type 0} (f : A → List ℕ) (xs : List A) → AllByRecursion (λ x. length (f x) ≤ 1527) xs → length (flat_map f xs) ≤ length xs * 1527
 flat1527 f [] a = omega arith
 flat1527 f (x ∷ xs) a = let l = length-append (f x) (flat_map f xs) in let m = flat1527 f xs a.1 in let h = a.0 in omega (arith, l, m, h)
 

@@ -35,9 +35,9 @@ use Rattle.sg_protocol.specs.Run.{frame_in, recorded, called_if, world_after, wo
 use Rattle.sg_protocol.specs.Steps.{logged_size, record_size, StepsAddLittle}
 use Rattle.sg_protocol.specs.IsSchedule.{IsProgram, AreCompiled, IsDeclared, IsStep, IsSchedule}
 use Rattle.sg_protocol.specs.Checks.{checked_texts, texts_checked}
-use Rattle.sg_protocol.specs.Notes.{Note, Notes, note_of, hashed_openings, text_before, notes_in_session, notes_of_sent, notes_of_act, notes_of_read, hashed_of_join, session_of_frame, row_number, no_notes, notes_of_start, notes}
+use Rattle.sg_protocol.specs.Notes.{Note, Notes, note_of, hashed_openings, notes_in_session, notes_of_sent, notes_of_act, notes_of_read, hashed_of_join, session_of_frame, row_number, no_notes, notes_of_start, notes}
 use Rattle.sg_protocol.proofs.Calls.{find_all, find_passes}
-use Rattle.sg_protocol.proofs.Moves.{writes_below}
+use Rattle.sg_protocol.proofs.Moves.{writes_below, note_text}
 use Rattle.sg_protocol.proofs.Paths.{writes_rise}
 use Rattle.sg_protocol.proofs.Fits.{Fit, fit_new, fit_next, fit_bytes, fit_sends, declared_in, ActSent, act_sends, act_fit}
 use Rattle.sg_protocol.proofs.ReadBack.{read-SpellsFrame}
@@ -211,9 +211,6 @@ note_bytes ns = sum_by (λ n. length n.text) ns
 
 abbrev text_bytes : List (List ℕ) → ℕ
 text_bytes ts = sum_by (λ t. length t) ts
-
-note_text : (a b : Name) (t : List ℕ) → (note_of a b t).text ≡ t
-note_text a b t = elim (cases_Bool (text_before b a)) [ inl e ↦ rw e refl | inr e ↦ rw e refl ]
 
 note_cons : (n : Note) (ns : List Note) → note_bytes (n ∷ ns) ≡ length n.text + note_bytes ns
 note_cons n ns = sum_cons (λ n. length n.text) n ns
