@@ -8,14 +8,14 @@ use Rattle.sg_reach.specs.Reaches.{IsWithin, LeadsPast}
 use Rattle.sg_reach.proofs.Cases.{less_or, same_or_not}
 use Rattle.sg_reach.proofs.Pair.{pair, leads_first, leads_second, first_leads, second_leads}
 use Rattle.sg_reach.proofs.There.{ends_there, end_there, role_there}
-use Rattle.sg_check.specs.Blind.{Place, IsBefore, IsBlind, IsClear, IsLeastBlinding, IsFaultAmong, AtNode, AtPair, AtPlace}
+use Rattle.sg_check.specs.Blind.{PairAtNode, IsBefore, IsBlind, IsClear, IsLeastBlinding, IsFaultAmong, AtNode, AtPair, AtPlace}
 use Rattle.sg_check.specs.declared.blinding.BlindFault.{BlindFault}
 use Rattle.sg_check.specs.declared.blinding.BlindFault.TheVariants.{Blinding as Blinds, OutOfMemory}
 
 -- the fault among some places is that among more, where what comes before is one of the first or has no blinding
-pub widened : (g : Shape) (some more : Place → Type 0) (f : BlindFault) → ((p : Place) → some p → more p) → ((p q : Place) → some p → more q → IsBefore q p → some q ⊎ (IsBlind g q → ⊥)) → IsFaultAmong g some f → IsFaultAmong g more f
+pub widened : (g : Shape) (some more : PairAtNode → Type 0) (f : BlindFault) → ((p : PairAtNode) → some p → more p) → ((p q : PairAtNode) → some p → more q → IsBefore q p → some q ⊎ (IsBlind g q → ⊥)) → IsFaultAmong g some f → IsFaultAmong g more f
 widened g some more (Blinds node a b walk_a walk_b) up rest x =
-    let p : Place = record { node = node; a = a; b = b } in
+    let p : PairAtNode = record { node = node; a = a; b = b } in
     record {
       one = up p x.one;
       rising = x.rising;
@@ -53,7 +53,7 @@ clear_sighted g h m a b x =
     above le d = omega arith
 
 -- a fault shows a blinding
-pub fault_blind : (g : Shape) (among : Place → Type 0) (f : BlindFault) → IsFaultAmong g among f → (p : Place) × among p × IsBlind g p
+pub fault_blind : (g : Shape) (among : PairAtNode → Type 0) (f : BlindFault) → IsFaultAmong g among f → (p : PairAtNode) × among p × IsBlind g p
 fault_blind g among (Blinds node a b walk_a walk_b) x =
     (record { node = node; a = a; b = b }, x.one, (x.rising, record { apart = below x.rising; not_a = x.not_a; not_b = x.not_b; to_a = walk_a; to_b = walk_b; leads_a = x.leads_a; leads_b = x.leads_b }))
   where
@@ -88,7 +88,7 @@ shown g m a b n k walk_a walk_b rising small not_a not_b role_a role_b to_a to_b
 
 -- nodes of both roles in the closure make a blinding
 pub blind_at : (g : Graph) (m a b n k : ℕ) → a < b → b < 16 → role_at (shape g) m ≢ a → role_at (shape g) m ≢ b → role_at (shape g) n ≡ a → role_at (shape g) k ≡ b
-    → IsWithin (record { graph = g; from = m; past = pair a b }) n → IsWithin (record { graph = g; from = m; past = pair a b }) k → (p : Place) × AtPlace m a b p × IsBlind (shape g) p
+    → IsWithin (record { graph = g; from = m; past = pair a b }) n → IsWithin (record { graph = g; from = m; past = pair a b }) k → (p : PairAtNode) × AtPlace m a b p × IsBlind (shape g) p
 blind_at g m a b n k rising small not_a not_b role_a role_b to_a to_b =
     let x = shown g m a b n k to_a.0 to_b.0 rising small not_a not_b role_a role_b to_a.1 to_b.1 in
     (record { node = m; a = a; b = b }, x.one, (x.rising, record { apart = apart; not_a = x.not_a; not_b = x.not_b; to_a = to_a.0; to_b = to_b.0; leads_a = x.leads_a; leads_b = x.leads_b }))
@@ -97,19 +97,19 @@ blind_at g m a b n k rising small not_a not_b role_a role_b to_a to_b =
     apart e = omega arith
 
 -- a fault at one place is one among those of its node and first role, where the lesser second roles have none
-pub fault_of_pair : (g : Shape) (m a b : ℕ) (f : BlindFault) → ((p : Place) → p.node ≡ m → p.a ≡ a → p.b < b → IsBlind g p → ⊥) → IsFaultAmong g (AtPlace m a b) f → IsFaultAmong g (AtPair m a) f
+pub fault_of_pair : (g : Shape) (m a b : ℕ) (f : BlindFault) → ((p : PairAtNode) → p.node ≡ m → p.a ≡ a → p.b < b → IsBlind g p → ⊥) → IsFaultAmong g (AtPlace m a b) f → IsFaultAmong g (AtPair m a) f
 fault_of_pair g m a b f clear x =
     widened g (AtPlace m a b) (AtPair m a) f (λ p at. (at.0, at.1))
     (λ p q one at before. inr (clear q at.0 at.1 (elim before [ inl l ↦ absurd (omega (arith, one.0, at.0, l)) | inr r ↦ elim r.1 [ inl l ↦ absurd (omega (arith, one.1, at.1, l)) | inr s ↦ omega (arith, one.2, s.1) ] ]))) x
 
 -- and that among those of its node, where the lesser first roles have none
-pub fault_of_node : (g : Shape) (m a : ℕ) (f : BlindFault) → ((p : Place) → p.node ≡ m → p.a < a → IsBlind g p → ⊥) → IsFaultAmong g (AtPair m a) f → IsFaultAmong g (AtNode m) f
+pub fault_of_node : (g : Shape) (m a : ℕ) (f : BlindFault) → ((p : PairAtNode) → p.node ≡ m → p.a < a → IsBlind g p → ⊥) → IsFaultAmong g (AtPair m a) f → IsFaultAmong g (AtNode m) f
 fault_of_node g m a f clear x =
     widened g (AtPair m a) (AtNode m) f (λ p at. at.0)
     (λ p q one at before. elim before [ inl l ↦ absurd (omega (arith, one.0, at, l)) | inr r ↦ elim r.1 [ inl l ↦ inr (clear q at (omega (arith, one.1, l))) | inr s ↦ inl (at, omega (arith, one.1, s.0)) ] ]) x
 
 -- and that among all, where the lesser nodes have none
-pub fault_of_graph : (g : Shape) (m : ℕ) (f : BlindFault) → ((p : Place) → p.node < m → IsBlind g p → ⊥) → IsFaultAmong g (AtNode m) f → IsFaultAmong g (λ p. ⊤) f
+pub fault_of_graph : (g : Shape) (m : ℕ) (f : BlindFault) → ((p : PairAtNode) → p.node < m → IsBlind g p → ⊥) → IsFaultAmong g (AtNode m) f → IsFaultAmong g (λ p. ⊤) f
 fault_of_graph g m f clear x =
     widened g (AtNode m) (λ p. ⊤) f (λ p at. tt)
     (λ p q one at before. elim before [ inl l ↦ inr (clear q (omega (arith, one, l))) | inr r ↦ inl (omega (arith, one, r.0)) ]) x

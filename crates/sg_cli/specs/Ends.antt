@@ -34,12 +34,12 @@ abbrev pub Has : Told → List ℕ → Option (List ℕ) → Type 0
 Has told file found = (files : List (List ℕ × List ℕ)) → told ≡ Some files → file_at files file ≡ found
 
 -- a place that is written to: its bytes, where they are told, and its count of faults
-pub record Place : Type 0 where
+pub record Output : Type 0 where
   pub bytes : Option (List ℕ)
   pub faults : ℕ
 
 -- the text is written whole, or a front part of it where a write failed, which the count of faults shows
-abbrev pub Writes : (old new : Place) → List ℕ → Ending → Type 0
+abbrev pub Writes : (old new : Output) → List ℕ → Ending → Type 0
 Writes old new text Written = Appends old.bytes new.bytes text
 Writes old new text WriteFailed = AppendsFront old.bytes new.bytes text × HasRisen old.faults new.faults
 Writes old new text ending = ⊥
@@ -74,7 +74,7 @@ pub record IsCheck (bytes text : List ℕ) : Type 0 where
   pub says : text ≡ check_text graph programs
 
 -- a check of these bytes ends so: the graph that they spell is accepted and its text written; else nothing is written, and the bytes are refused at their first wrong token, or their graph at its first fault, or memory was wanted
-abbrev pub Checks : List ℕ → (old new : Place) → Ending → Type 0
+abbrev pub Checks : List ℕ → (old new : Output) → Ending → Type 0
 Checks bytes old new NoMemory = new.bytes ≡ old.bytes
 Checks bytes old new (NoGraph fault) = (new.bytes ≡ old.bytes) × (parsed bytes ≡ Err fault)
 Checks bytes old new (GraphRefused g fault) = (new.bytes ≡ old.bytes) × SpellsGraph bytes g × IsFirstRefused (g ∷ []) g fault
@@ -111,7 +111,7 @@ pub record LacksRole (bytes name : List ℕ) : Type 0 where
   pub lacks : IsTrue (has_text name graph.roles) → ⊥
 
 -- a compilation of these bytes for this name ends so: the program's text is written; else nothing is written, and the bytes are refused at their first wrong token, or their graph at its first fault, or it has no such role, or memory was wanted
-abbrev pub Compiles : (name bytes : List ℕ) → (old new : Place) → Ending → Type 0
+abbrev pub Compiles : (name bytes : List ℕ) → (old new : Output) → Ending → Type 0
 Compiles name bytes old new NoMemory = new.bytes ≡ old.bytes
 Compiles name bytes old new (NoGraph fault) = (new.bytes ≡ old.bytes) × (parsed bytes ≡ Err fault)
 Compiles name bytes old new (GraphRefused g fault) = (new.bytes ≡ old.bytes) × SpellsGraph bytes g × IsRefusedFor g name fault
@@ -131,7 +131,7 @@ pub record IsReplay (bytes text : List ℕ) : Type 0 where
   pub once : NoneJoinsTwice schedule
 
 -- a replay of these bytes ends so: the report is written; else nothing is written, and the bytes are refused as their reading says, or a graph at its first fault, or memory was wanted
-abbrev pub Replays : List ℕ → (old new : Place) → Ending → Type 0
+abbrev pub Replays : List ℕ → (old new : Output) → Ending → Type 0
 Replays bytes old new NoMemory = new.bytes ≡ old.bytes
 Replays bytes old new (WrongLine line kind) = (new.bytes ≡ old.bytes) × (ending_of_read (read bytes) ≡ WrongLine line kind)
 Replays bytes old new (TooLarge what) = (new.bytes ≡ old.bytes) × (ending_of_read (read bytes) ≡ TooLarge what)
@@ -149,32 +149,32 @@ IsUnread most file told faults faults' NoMemory = ⊤
 IsUnread most file told faults faults' ending = ⊥
 
 -- what is done with a file of at most so many bytes ends so: it is read and done with its bytes, or it is not read and nothing is written
-abbrev pub OnFile : (List ℕ → (old new : Place) → Ending → Type 0) → ℕ → List ℕ → Told → (faults faults' : ℕ) → (old new : Place) → Ending → Type 0
+abbrev pub OnFile : (List ℕ → (old new : Output) → Ending → Type 0) → ℕ → List ℕ → Told → (faults faults' : ℕ) → (old new : Output) → Ending → Type 0
 OnFile Does most file told faults faults' old new ending =
     ((bytes : List ℕ) × Has told file (Some bytes) × (length bytes ≤ most) × Does bytes old new ending)
     ⊎ ((new.bytes ≡ old.bytes) × IsUnread most file told faults faults' ending)
 
 -- the work that a command asks for ends so
-abbrev pub Works : Option Command → Told → (faults faults' : ℕ) → (old new : Place) → Ending → Type 0
+abbrev pub Works : Option Command → Told → (faults faults' : ℕ) → (old new : Output) → Ending → Type 0
 Works None told faults faults' old new ending = (new.bytes ≡ old.bytes) × (ending ≡ NoCommand)
 Works (Some (Check file)) told faults faults' old new ending = OnFile Checks 4194304 file told faults faults' old new ending
 Works (Some (Compile file role)) told faults faults' old new ending = OnFile (Compiles role) 4194304 file told faults faults' old new ending
 Works (Some (Replay file)) told faults faults' old new ending = OnFile Replays 16777216 file told faults faults' old new ending
 
 -- a line is written and its status given, or it is not taken whole, which the count of faults shows, and the status is that of a failed write
-abbrev pub Puts : (old new : Place) → (line : List ℕ) → (wanted status : ℕ) → Type 0
+abbrev pub Puts : (old new : Output) → (line : List ℕ) → (wanted status : ℕ) → Type 0
 Puts old new line wanted status =
     ((status ≡ wanted) × Appends old.bytes new.bytes line)
     ⊎ ((status ≡ 6) × HasRisen old.faults new.faults × AppendsFront old.bytes new.bytes line)
 
 -- how the program says how its work ended: by the ending's line and status, or, where memory was wanted for a line, by saying this
-abbrev pub Says : Ending → (old new : Place) → (status : ℕ) → Type 0
+abbrev pub Says : Ending → (old new : Output) → (status : ℕ) → Type 0
 Says work old new status =
     Puts old new (line_of work) (status_of work) status
     ⊎ ((line_of work ≢ []) × Puts old new (line_of NoMemory) (status_of NoMemory) status)
 
 -- the program ended with this status: its work ended in some way, and so it says
-pub record Ends (words : List (List ℕ)) (told : Told) (faults faults' : ℕ) (out out' err err' : Place) (status : ℕ) : Type 0 where
+pub record Ends (words : List (List ℕ)) (told : Told) (faults faults' : ℕ) (out out' err err' : Output) (status : ℕ) : Type 0 where
   pub work : Ending
   pub works : Works (command_of words) told faults faults' out out' work
   pub says : Says work err err' status

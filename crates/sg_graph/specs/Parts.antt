@@ -2,10 +2,10 @@
 use Rattle.std.specs.Prelude.{ℕ, List, [], map, get_or}
 use Rattle.sg_base.specs.declared.value.VarType.{VarType}
 use Rattle.sg_base.specs.declared.value.VarType.TheVariants.{Int as IntType, Text as TextType}
-use Rattle.sg_protocol.specs.Graph.{Graph, Name, Variable, Node, Edge, Kind, Int, Text}
+use Rattle.sg_protocol.specs.Graph.{Graph, Name, Variable, Node, Edge, VariableKind, Int, Text}
 
 -- the type of a variable, as the definitions have it
-abbrev pub kind_of_type : VarType → Kind
+abbrev pub kind_of_type : VarType → VariableKind
 kind_of_type IntType = Int
 kind_of_type TextType = Text
 

@@ -1,6 +1,6 @@
 //! The canonical text of a graph: one statement on each line.
 ghost use Rattle.std.specs.Prelude.{◌≡◌, ◌<◌, ◌++◌, [], ◌∷◌, length, codes, flat_map, map, IfOk, OnOk};
-ghost use Rattle.sg_protocol.specs.Graph.{Kind, AreNumbers, canonical, clause, edge_line, ended, kind_text, node_line, role_name, spaced, variable_line, variable_name};
+ghost use Rattle.sg_protocol.specs.Graph.{VariableKind, AreNumbers, canonical, clause, edge_line, ended, kind_text, node_line, role_name, spaced, variable_line, variable_name};
 ghost use Rattle.sg_graph.specs.Parts.{kind_of_type, variable_at, node_at, edge_at};
 
 use crate::Graph;

@@ -6,7 +6,7 @@ use Rattle.std.proofs.lemmas.List.{length-map, get_or-map}
 use Rattle.std.proofs.lemmas.Bool.{eq-eqb}
 use Rattle.sg_model.specs.Lists.{has_text, all_differ, is_in, rises_from}
 use Rattle.sg_model.specs.Names.{Name, is_name, reserved}
-use Rattle.sg_protocol.specs.Graph.{Graph, IsGraph, Variable, Node, Edge, Kind, Int, Text, kind_text, role_name, variable_name, node_name, AreNumbers, AreNames, spaced, clause, ended, variable_line, node_line, edge_line, canonical}
+use Rattle.sg_protocol.specs.Graph.{Graph, IsGraph, Variable, Node, Edge, VariableKind, Int, Text, kind_text, role_name, variable_name, node_name, AreNumbers, AreNames, spaced, clause, ended, variable_line, node_line, edge_line, canonical}
 use Rattle.sg_graph.specs.Parts.{variable_names, node_names}
 use Rattle.sg_graph.proofs.Growth.{both}
 use Rattle.sg_parse.specs.Grammar.{IsOrderOf, named, head_tokens, role_tokens, node_tokens, SpellsVariable, SpellsClause, Without, With, SpellsEdge, InTurn, Done, Then, SpellsGraph}
@@ -69,7 +69,7 @@ lex-head n rest ts is h =
     lexes-as _ (codes "graph" ++ 32 ∷ (n ++ 59 ∷ 10 ∷ rest)) _ (simp append_assoc)
     (lex-word (codes "graph") (32 ∷ (n ++ 59 ∷ 10 ∷ rest)) _ refl refl (lex-space _ _ (lex-word n (59 ∷ 10 ∷ rest) (Semicolon ∷ ts) is refl (lex-ended rest ts h))))
 
-kind-is : (k : Kind) → is_name (kind_text k) ≡ true
+kind-is : (k : VariableKind) → is_name (kind_text k) ≡ true
 kind-is Int = refl
 kind-is Text = refl
 

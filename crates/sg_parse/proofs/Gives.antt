@@ -4,7 +4,7 @@ use Rattle.std.specs.List.{list_all}
 use Rattle.std.proofs.lemmas.Slice.Eq.{bytes_eq-Decides}
 use Rattle.sg_model.specs.Lists.{has_text, all_differ}
 use Rattle.sg_model.specs.Names.{Name, is_name, reserved}
-use Rattle.sg_protocol.specs.Graph.{Kind, Int, Text, kind_text, AreNames}
+use Rattle.sg_protocol.specs.Graph.{VariableKind, Int, Text, kind_text, AreNames}
 use Rattle.sg_graph.proofs.Growth.{both}
 use Rattle.sg_parse.specs.Tokens.{is_word}
 use Rattle.sg_parse.specs.Reading.{Reader, after, give, is_next, branch, token, skip, name, new_name, known_name, read_kind, fail}
@@ -98,6 +98,6 @@ gives-known names r us are l = record {
       (f.1, f.2, known_read names ps f.1 (get_or names r []) f.0 r f.3 (named_there names r l) (place_there names r parts.1 l));
 }
 
-pub gives-kind : (k : Kind) (us : List Token) → Gives read_kind (Word (kind_text k) ∷ []) us k
+pub gives-kind : (k : VariableKind) (us : List Token) → Gives read_kind (Word (kind_text k) ∷ []) us k
 gives-kind Int us = gives-first (is_word (codes "int")) _ _ (Word (codes "int") ∷ []) us Int refl (gives-after skip _ (Word (codes "int") ∷ []) [] us tt Int (gives-skip (Word (codes "int")) us) (gives-give Int us))
 gives-kind Text us = gives-second (is_word (codes "int")) _ _ (Word (codes "text") ∷ []) us Text refl (gives-after (token (is_word (codes "text"))) _ (Word (codes "text") ∷ []) [] us tt Text (gives-word (codes "text") us) (gives-give Text us))

@@ -2,7 +2,7 @@
 use Rattle.std.proofs.Common.{◌≡◌, ℕ, ◌<◌, ◌≤◌, true, false, List, [], ◌∷◌, ◌++◌, length, get_or, codes, Ok, refl, ap, subst, ◌∙◌, arith, inl, inr, ◌⊎◌}
 use Rattle.std.proofs.lemmas.List.{length-map, get_or-map}
 use Rattle.sg_model.specs.Names.{Name}
-use Rattle.sg_protocol.specs.Graph.{Graph, IsGraph, Variable, Node, Edge, Kind, Int, Text, kind_text, role_name, node_name}
+use Rattle.sg_protocol.specs.Graph.{Graph, IsGraph, Variable, Node, Edge, VariableKind, Int, Text, kind_text, role_name, node_name}
 use Rattle.sg_graph.specs.Adding.{with_role, with_variable, with_node, with_edge}
 use Rattle.sg_graph.specs.Parts.{variable_names, node_names, edge_names}
 use Rattle.sg_graph.proofs.Growth.{IsGraph-with_role, IsGraph-with_variable, IsGraph-with_node, IsGraph-with_edge}
@@ -48,7 +48,7 @@ took-role g ps o is room s h =
       took = took-both ps i.0 o (Word (i.0).value ∷ []) (Semicolon ∷ []) n.0 (took-both (i.0).rest j.0 o (Semicolon ∷ []) [] t e.1);
     }
 
-pub took-kind : (ps : List Placed) (o : Read Kind) → Sound ps → read_kind ps ≡ Ok o → Took ps o (Word (kind_text o.value) ∷ [])
+pub took-kind : (ps : List Placed) (o : Read VariableKind) → Sound ps → read_kind ps ≡ Ok o → Took ps o (Word (kind_text o.value) ∷ [])
 took-kind ps o s h = pick (branch-inv (is_word (codes "int")) (after skip λ _. give Int) (after (token (is_word (codes "text"))) λ _. give Text) ps o h)
   where
     there : (ps : List Placed) → Sound ps → is_next (is_word (codes "int")) ps ≡ true → on (skip ps) (λ _. give Int) ≡ Ok o → Took ps o (Word (kind_text o.value) ∷ [])

@@ -2,7 +2,7 @@
 use Rattle.std.specs.Prelude.{ℕ, zero, suc, Bool, false, if◌then◌else◌, List, [], ◌∷◌, codes, bytes_eq, Result, Ok, Err}
 use Rattle.sg_base.specs.Sets.{with_member}
 use Rattle.sg_model.specs.Lists.{has_text, is_in}
-use Rattle.sg_protocol.specs.Graph.{Graph, Name, Kind, Int, Text}
+use Rattle.sg_protocol.specs.Graph.{Graph, Name, VariableKind, Int, Text}
 use Rattle.sg_graph.specs.Adding.{no_parts, with_role, with_variable, with_node, with_edge}
 use Rattle.sg_graph.specs.Parts.{variable_names, node_names, edge_names}
 use Rattle.sg_parse.specs.Tokens.{tokens, is_word, is_named, is_colon, is_semicolon, is_arrow, is_end, text_of}
@@ -142,7 +142,7 @@ read_role g =
     give (with_role g n)
 
 -- a type
-abbrev pub read_kind : Reader Kind
+abbrev pub read_kind : Reader VariableKind
 read_kind = branch (is_word (codes "int")) (after skip λ _. give Int) (after (token (is_word (codes "text"))) λ _. give Text)
 
 -- a variable

@@ -3,7 +3,7 @@ use Rattle.std.proofs.Common.{◌≡◌, ℕ, ◌==◌, Bool, true, false, not, 
 use Rattle.std.specs.Prelude.{codes, flat_map}
 use Rattle.std.specs.List.{list_all}
 use Rattle.sg_model.specs.Lists.{all_differ, has_text}
-use Rattle.sg_protocol.specs.Graph.{Graph, IsGraph, AreNames, Name, Kind, Int, Text, Variable, Node, Edge, is_name, reserved, canonical, clause, edge_line, ended, kind_text, node_line, node_name, role_name, spaced, variable_line, variable_name}
+use Rattle.sg_protocol.specs.Graph.{Graph, IsGraph, AreNames, Name, VariableKind, Int, Text, Variable, Node, Edge, is_name, reserved, canonical, clause, edge_line, ended, kind_text, node_line, node_name, role_name, spaced, variable_line, variable_name}
 use Rattle.sg_program.specs.Loading.{at_table}
 use Rattle.sg_program.specs.Text.{line}
 use Rattle.sg_program.proofs.Reading.{is_free, is_inner, name_free}
@@ -87,7 +87,7 @@ clause_free : (word : List ℕ) (name : ℕ → Name) → is_free word ≡ true 
 clause_free word name fw each [] = refl
 clause_free word name fw each (k ∷ ks) = free_append word (spaced (map name (k ∷ ks))) fw (spaced_free name each (k ∷ ks))
 
-kind_free : (k : Kind) → is_free (kind_text k) ≡ true
+kind_free : (k : VariableKind) → is_free (kind_text k) ≡ true
 kind_free Int = refl
 kind_free Text = refl
 

@@ -1,5 +1,5 @@
 -- A session that gives a step is to the law a role that sends.
-use Rattle.sg_law.specs.Accept.{Step as LawStep, sender_of}
+use Rattle.sg_law.specs.Accept.{TimedLabel, sender_of}
 use Rattle.std.specs.Prelude.{◌≡◌, ◌≢◌, ℕ, ◌+◌, ◌<◌, ◌==◌, nat_lt, nat_le, true, false, not, List, [], ◌∷◌, ◌++◌, map, length, find, refl, Option, Some, None, option_map, unwrap_or, IfSome, MatchOption, Contains}
 use Rattle.std.specs.List.{list_all, AllByRecursion}
 use Rattle.std.specs.Option.{option_map_or}
@@ -29,7 +29,7 @@ use Rattle.sg_law.specs.Last as B
 use Rattle.sg_law.specs.Run.{RisesFrom, Turn}
 use Rattle.sg_law.specs.Run as R
 use Rattle.sg_law.specs.Values as V
-use Rattle.sg_law.specs.Values.{State, Made, whole, com_of, Move, Commit, moved, MayTake, Tagged, Framed, Opened, own_of, is_variable, put}
+use Rattle.sg_law.specs.Values.{State, Made, told_with_item, com_of, Move, Commit, moved, MayTake, Tagged, Framed, Opened, own_of, is_variable, put}
 use Rattle.sg_law.specs.Values.Move.{Writes, Takes}
 use Rattle.sg_law.proofs.Lists.{eqb_same}
 use Rattle.sg_law.proofs.Upto.{In}
@@ -151,10 +151,10 @@ module _ (sha : Hash) (hash : IsHash sha) (s : Schedule) (sid : List ℕ) (cast 
   all_roles = roles-append (shape g) (told x) (oi ∷ []) m.roles (oi_role, tt)
 
   -- the item before was not the role's own
-  other_last : IfSome (last (after_last (by (shape g)) to (entries (told x)))) (λ (i : B.Entry LawStep Code). has (by (shape g)) (sender (shape g) i.step.label) (entry oi ∷ []) ≡ false)
+  other_last : IfSome (last (after_last (by (shape g)) to (entries (told x)))) (λ (i : B.Entry TimedLabel Code). has (by (shape g)) (sender (shape g) i.step.label) (entry oi ∷ []) ≡ false)
   other_last = go (after_last (by (shape g)) to (entries (told x))) refl
     where
-      one : (o : Option Item) → last (told x) ≡ o → IfSome o (λ (i : Item). i.label < length g.edges) → IfSome (option_map entry o) (λ (i : B.Entry LawStep Code). has (by (shape g)) (sender (shape g) i.step.label) (entry oi ∷ []) ≡ false)
+      one : (o : Option Item) → last (told x) ≡ o → IfSome o (λ (i : Item). i.label < length g.edges) → IfSome (option_map entry o) (λ (i : B.Entry TimedLabel Code). has (by (shape g)) (sender (shape g) i.step.label) (entry oi ∷ []) ≡ false)
       one None e h = tt
       one (Some i) e h =
           let at : place g x ≡ target (shape g) i.label = ap (λ o. unwrap_or (option_map (target (shape g)) (option_map (λ (i : Item). i.label) o)) 0) e in
@@ -162,9 +162,9 @@ module _ (sha : Hash) (hash : IsHash sha) (s : Schedule) (sid : List ℕ) (cast 
           let ne : (sender (shape g) label == sender (shape g) i.label) ≡ false = ne_eqb (sender (shape g) label) (sender (shape g) i.label) (λ q. acc.no_self_edge i.label h (sym q ∙ by_x ∙ sym mine)) in
           rw ne refl
 
-      go : (ys : List (B.Entry LawStep Code)) → after_last (by (shape g)) to (entries (told x)) ≡ ys → IfSome (last (after_last (by (shape g)) to (entries (told x)))) (λ (i : B.Entry LawStep Code). has (by (shape g)) (sender (shape g) i.step.label) (entry oi ∷ []) ≡ false)
-      go [] e = subst (λ l. IfSome (last l) (λ (i : B.Entry LawStep Code). has (by (shape g)) (sender (shape g) i.step.label) (entry oi ∷ []) ≡ false)) (sym e) tt
-      go (y ∷ ys) e = subst (λ o. IfSome o (λ (i : B.Entry LawStep Code). has (by (shape g)) (sender (shape g) i.step.label) (entry oi ∷ []) ≡ false))
+      go : (ys : List (B.Entry TimedLabel Code)) → after_last (by (shape g)) to (entries (told x)) ≡ ys → IfSome (last (after_last (by (shape g)) to (entries (told x)))) (λ (i : B.Entry TimedLabel Code). has (by (shape g)) (sender (shape g) i.step.label) (entry oi ∷ []) ≡ false)
+      go [] e = subst (λ l. IfSome (last l) (λ (i : B.Entry TimedLabel Code). has (by (shape g)) (sender (shape g) i.step.label) (entry oi ∷ []) ≡ false)) (sym e) tt
+      go (y ∷ ys) e = subst (λ o. IfSome o (λ (i : B.Entry TimedLabel Code). has (by (shape g)) (sender (shape g) i.step.label) (entry oi ∷ []) ≡ false))
           (sym (last-option_map entry (told x)) ∙ last-after (by (shape g)) to (entries (told x)) y ys e ∙ ap last (sym e)) (one (last (told x)) refl m.last_edge)
 
   rising_delta : in_order (length g.variables) oi.delta ≡ oi.delta
@@ -175,14 +175,14 @@ module _ (sha : Hash) (hash : IsHash sha) (s : Schedule) (sid : List ℕ) (cast 
   abbrev es : List (A.Entry Item (List ℕ))
   es = evidence_for (λ (i : Item). i.role) to (map entry_of (told x ++ oi ∷ []))
 
-  abbrev X : List (B.Entry LawStep Code)
+  abbrev X : List (B.Entry TimedLabel Code)
   X = after_last (by (shape g)) to (entries (told x))
 
   -- what the frame ends with
   pub gave : (i : Item) × (last f.items ≡ Some i) × (entry i ≡ entry oi) × (i.role ≡ x.role)
   gave = from (last es) refl
     where
-      cut : (T : List (B.Entry LawStep Code)) × (B.evidence (sender_of (shape g)) (X ++ entry oi ∷ []) ≡ T ++ entry oi ∷ []) × (option_map label_of (last T) ≡ option_map label_of (last X))
+      cut : (T : List (B.Entry TimedLabel Code)) × (B.evidence (sender_of (shape g)) (X ++ entry oi ∷ []) ≡ T ++ entry oi ∷ []) × (option_map label_of (last T) ≡ option_map label_of (last X))
       cut = cut_evidence (sender_of (shape g)) (after_last (by (shape g)) to (entries (told x))) (entry oi ∷ []) other_last
 
       whole_is : map as_entry es ≡ cut.0 ++ entry oi ∷ []
@@ -198,8 +198,8 @@ module _ (sha : Hash) (hash : IsHash sha) (s : Schedule) (sid : List ℕ) (cast 
           let a : Some (as_entry e0) ≡ Some (entry oi) = sym (last-option_map as_entry es ∙ ap (option_map as_entry) e) ∙ ap last whole_is ∙ last-append cut.0 (entry oi) [] in
           let b : as_entry e0 ≡ entry oi = cc in
           let t = last_tags (map (item_of g) es) (item_of g e0) (last-option_map (item_of g) es ∙ ap (option_map (item_of g)) e) in
-          let ent : entry (item_of g e0) ≡ entry oi = ap (λ (z : B.Entry LawStep Code). record { step = z.step; writes = in_order (length g.variables) z.writes }) b ∙ ap (λ d. record { step = record { label = oi.label; time = oi.time }; writes = d }) rising_delta in
-          let role : e0.step.role ≡ x.role = evidence_for-role (shape g) to (told x ++ oi ∷ []) e0 all_roles e ∙ ap (λ (z : B.Entry LawStep Code). sender (shape g) z.step.label) b ∙ by_x in
+          let ent : entry (item_of g e0) ≡ entry oi = ap (λ (z : B.Entry TimedLabel Code). record { step = z.step; writes = in_order (length g.variables) z.writes }) b ∙ ap (λ d. record { step = record { label = oi.label; time = oi.time }; writes = d }) rising_delta in
+          let role : e0.step.role ≡ x.role = evidence_for-role (shape g) to (told x ++ oi ∷ []) e0 all_roles e ∙ ap (λ (z : B.Entry TimedLabel Code). sender (shape g) z.step.label) b ∙ by_x in
           (t.0, t.1, t.2 ∙ ent, t.3 ∙ role)
 
   abbrev pub gi : Item
@@ -219,13 +219,13 @@ module _ (sha : Hash) (hash : IsHash sha) (s : Schedule) (sid : List ℕ) (cast 
 
   pub entry_made : entry gi ≡ V.item_for commit st x.role label os
   entry_made = gave.2 ∙ ap (λ t. record { step = record { label = label; time = t + 1 }; writes = map (λ (o : Opening). (o.variable, commitment sha x.sid o)) os }) (sym (ap R.turn_time (m.turns rows.turn)))
-      ∙ ap (λ z. record { step = record { label = label; time = R.turn_time (st.world.at x.role).turn + 1 }; writes = map (λ (o : Opening). (o.variable, commitment sha z o)) os }) m.same_sid
+      ∙ ap (λ z. record { step = record { label = label; time = R.turn_time (st.machine.at x.role).turn + 1 }; writes = map (λ (o : Opening). (o.variable, commitment sha z o)) os }) m.same_sid
 
-  whole_made : whole (V.made_by commit st x.role label os) ≡ entries (told x ++ gi ∷ [])
+  whole_made : told_with_item (V.made_by commit st x.role label os) ≡ entries (told x ++ gi ∷ [])
   whole_made = ap (λ l. l ++ V.item_for commit st x.role label os ∷ []) m.is_told ∙ ap (λ z. entries (told x) ++ z ∷ []) (sym entry_made) ∙ sym (map-append entry (told x) (gi ∷ []))
 
   label_gi : gi.label ≡ label
-  label_gi = ap (λ (z : B.Entry LawStep Code). z.step.label) gave.2
+  label_gi = ap (λ (z : B.Entry TimedLabel Code). z.step.label) gave.2
 
   place_later : place g later ≡ target (shape g) label
   place_later = ap (λ l. unwrap_or (option_map (target (shape g)) (option_map (λ (i : Item). i.label) (last l))) 0) told_later
@@ -241,7 +241,7 @@ module _ (sha : Hash) (hash : IsHash sha) (s : Schedule) (sid : List ℕ) (cast 
     is_who = m.is_who;
     inside = m.inside;
     is_told = rw (eqb_same x.role) (whole_made ∙ ap entries (sym told_later));
-    is_own = rw (eqb_same x.role) (ap (λ (z : B.Entry LawStep Code). Some (V.step_of z)) (sym entry_made) ∙ sym (ap (λ l. option_map step (last l)) own_later ∙ ap (option_map step) (last-append (told x) gi [])));
+    is_own = rw (eqb_same x.role) (ap (λ (z : B.Entry TimedLabel Code). Some (V.step_of z)) (sym entry_made) ∙ sym (ap (λ l. option_map step (last l)) own_later ∙ ap (option_map step) (last-append (told x) gi [])));
     turns = λ e. absurd (apart (ap (role_at (shape g)) (sym place_later) ∙ eqb-true (role_at (shape g) (place g later)) x.role e));
     waits = λ e. rw (eqb_same x.role) refl;
     roles = subst (Roles (shape g)) (sym told_later) (roles-append (shape g) (told x) (gi ∷ []) m.roles (gave.3 ∙ sym by_x ∙ ap (sender (shape g)) (sym label_gi), tt));
@@ -250,7 +250,7 @@ module _ (sha : Hash) (hash : IsHash sha) (s : Schedule) (sid : List ℕ) (cast 
   }
     where
       gi_fits : FitItem gi
-      gi_fits = subst (AllByRecursion (λ (d : ℕ × List ℕ). length d.1 ≡ 32)) (ap (λ (z : B.Entry LawStep Code). z.writes) (sym gave.2)) (commit_lengths sha hash x.sid os)
+      gi_fits = subst (AllByRecursion (λ (d : ℕ × List ℕ). length d.1 ≡ 32)) (ap (λ (z : B.Entry TimedLabel Code). z.writes) (sym gave.2)) (commit_lengths sha hash x.sid os)
 
   -- ---- what was noted
 
@@ -260,8 +260,8 @@ module _ (sha : Hash) (hash : IsHash sha) (s : Schedule) (sid : List ℕ) (cast 
   there_now : Contains log_later (V.made_by commit st x.role label os)
   there_now = contains_from_in log_later (V.made_by commit st x.role label os) (in_last st.log (V.made_by commit st x.role label os))
 
-  held_now : commitments g (told x ++ gi ∷ []) ≡ map (λ y. com_of (whole (V.made_by commit st x.role label os)) y) (below (length g.variables))
-  held_now = map_same (λ y. committed y (told x ++ gi ∷ [])) (λ y. com_of (whole (V.made_by commit st x.role label os)) y) (below (length g.variables)) (λ y. sym (entries-com (told x ++ gi ∷ []) y) ∙ ap (λ l. com_of l y) (sym whole_made))
+  held_now : commitments g (told x ++ gi ∷ []) ≡ map (λ y. com_of (told_with_item (V.made_by commit st x.role label os)) y) (below (length g.variables))
+  held_now = map_same (λ y. committed y (told x ++ gi ∷ [])) (λ y. com_of (told_with_item (V.made_by commit st x.role label os)) y) (below (length g.variables)) (λ y. sym (entries-com (told x ++ gi ∷ []) y) ∙ ap (λ l. com_of l y) (sym whole_made))
 
   fits_now : FitItems (told x ++ gi ∷ [])
   fits_now = subst FitItems told_later given.fits
@@ -274,7 +274,7 @@ module _ (sha : Hash) (hash : IsHash sha) (s : Schedule) (sid : List ℕ) (cast 
     version = version_x;
     sid = ap length m.same_sid ∙ long;
     label = (let a = label_gi in let b = in_edges in let c = is.sizes.3 in omega arith);
-    time = (let a : gi.time ≡ time x + 1 = ap (λ (z : B.Entry LawStep Code). z.step.time) gave.2 in let b : time x < 1000000 = le_false 1000000 (time x) rows.time in omega arith);
+    time = (let a : gi.time ≡ time x + 1 = ap (λ (z : B.Entry TimedLabel Code). z.step.time) gave.2 in let b : time x < 1000000 = le_false 1000000 (time x) rows.time in omega arith);
     held = are_held g (told x ++ gi ∷ []) fits_now;
   }
 
@@ -299,7 +299,7 @@ module _ (sha : Hash) (hash : IsHash sha) (s : Schedule) (sid : List ℕ) (cast 
         let u : untagged f' ≡ untagged f = one_frame v f.version f' f spelled' spelled (sym e ∙ note_text a b (text_of f)) in
         let its : f'.items ≡ shown_to g to (told x ++ oi ∷ []) = ap (λ (z : Frame). z.items) u in
         let rec : f'.receiver ≡ to = ap (λ (z : Frame). z.receiver) u in
-        let ents : entries (told x ++ oi ∷ []) ≡ whole (V.made_by commit st x.role label os) = map-append entry (told x) (oi ∷ []) ∙ ap (λ z. entries (told x) ++ z ∷ []) (sym gave.2) ∙ sym (map-append entry (told x) (gi ∷ [])) ∙ sym whole_made in
+        let ents : entries (told x ++ oi ∷ []) ≡ told_with_item (V.made_by commit st x.role label os) = map-append entry (told x) (oi ∷ []) ∙ ap (λ z. entries (told x) ++ z ∷ []) (sym gave.2) ∙ sym (map-append entry (told x) (gi ∷ [])) ∙ sym whole_made in
         record {
           made = V.made_by commit st x.role label os;
           there = there_now;

@@ -197,7 +197,7 @@ module _ (sha : Hash) (hash : IsHash sha) (programs : List Program) (s : Schedul
   sends_sid n (Start c) e to f a = absurd (start_sends sha hash programs s compiled sched n c e to f a)
   sends_sid n (Abandon sid0) e to f a = absurd (abandon_sends sha hash programs s compiled sched n sid0 e to f a)
   sends_sid n (Deliver bs) e to f a = absurd (deliver_sends sha hash programs s compiled sched n bs e to f a)
-  sends_sid n (Act sid0 label values confs) e to f a = act_event sha hash programs s compiled sched (run sha programs s) n sid0 label values confs e to f a
+  sends_sid n (Act sid0 label values confs) e to f a = (act_event sha hash programs s compiled sched (run sha programs s) n sid0 label values confs e to f a).0
 
   was_sent_ : (l : Logged) (who : Name) (bs : List ℕ) (f : Frame) → IsTaken (run sha programs s) l who bs f → f.sid ≡ sid → honest_role s first.cast f.sender ≡ true → WasSent (run sha programs s) l.number (principal first.cast f.sender) bs f
   was_sent_ l who bs f t q h = receipts_have_sends sha hash programs s compiled sched premises l who bs f first.cast t (ap (λ z. cast_of_session z (run sha programs s).log) q ∙ first.is_cast) h

@@ -1,5 +1,5 @@
 -- What a call at a node is to the law.
-use Rattle.sg_law.specs.Accept.{Step as LawStep}
+use Rattle.sg_law.specs.Accept.{TimedLabel}
 use Rattle.std.specs.Prelude.{filter_map, ◌≡◌, ℕ, zero, suc, ◌+◌, ◌<◌, ◌==◌, nat_lt, nat_le, get_or, ◌&&◌, ◌||◌, ◌⊎◌, Bool, true, false, not, cond, List, [], ◌∷◌, ◌++◌, map, filter, flat_map, length, find, bytes_eq, refl, Option, Some, None, option_map, unwrap_or, IfSome}
 use Rattle.std.specs.List.{list_all, list_any, AllByRecursion}
 use Rattle.std.specs.Option.{option_map_or}
@@ -32,9 +32,9 @@ use Rattle.sg_law.specs.Last as B
 use Rattle.sg_law.specs.Run.{RisesFrom, Turn}
 use Rattle.sg_law.specs.Run as R
 use Rattle.sg_law.specs.Values as V
-use Rattle.sg_law.specs.Values.{State, Made, whole, com_of, Move, Commit, moved, MayTake, Tagged, Framed, Opened, own_of, is_variable, put}
+use Rattle.sg_law.specs.Values.{State, Made, told_with_item, com_of, Move, Commit, moved, MayTake, Tagged, Framed, Opened, own_of, is_variable, put}
 use Rattle.sg_law.specs.Values.Move.{Writes, Takes}
-use Rattle.sg_law.specs.Values.Deed.{Read as Reads}
+use Rattle.sg_law.specs.Values.Deed.{ReadAlong}
 use Rattle.sg_law.proofs.Upto.{In}
 use Rattle.sg_law.proofs.Cut.{last-option_map}
 use Rattle.sg_protocol.proofs.Bridge.{has_view-Contains}
@@ -150,7 +150,7 @@ module _ (sha : Hash) (hash : IsHash sha) (s : Schedule) (programs : List Progra
   -- the law has nothing of the role yet
   pub record Untouched (st : State) (h : ℕ) : Type 0 where
     pub none : st.told h ≡ []
-    pub start : st.world.at h ≡ (R.start (shape g)).at h
+    pub start : st.machine.at h ≡ (R.start (shape g)).at h
 
   pub record Fresh (st : State) (who : Name) (n : Node) : Type 0 where
     pub alone : filter (of_sid sid) n.live ≡ []
@@ -183,7 +183,7 @@ module _ (sha : Hash) (hash : IsHash sha) (s : Schedule) (programs : List Progra
   -- only roles of who have changed
   pub record Kept (who : Name) (st st' : State) : Type 0 where
     pub told : (h : ℕ) → (principal cast h ≡ who → ⊥) → st'.told h ≡ st.told h
-    pub world : (h : ℕ) → (principal cast h ≡ who → ⊥) → st'.world.at h ≡ st.world.at h
+    pub machine : (h : ℕ) → (principal cast h ≡ who → ⊥) → st'.machine.at h ≡ st.machine.at h
 
   -- the items of the session that role r took or gave in a call
   abbrev pub told_in : ℕ → Call → Answer → List Item
@@ -321,25 +321,25 @@ module _ (sha : Hash) (hash : IsHash sha) (s : Schedule) (programs : List Progra
     pub made : (nt : Note) → In nts.made nt → NoteOk g sid (moved_all commit st moves).log nt
     pub log : (mk : Made) → In st.log mk → In (moved_all commit st moves).log mk
     pub told : (r : ℕ) → principal cast r ≡ who → r < length cast.names → ((moved_all commit st moves).told r ≡ st.told r ++ entries (told_in r c a)) × Roles (shape g) (told_in r c a)
-    pub sent : ((moved_all commit st moves).world.sent ≡ st.world.sent ++ map step (sent_in a)) × Roles (shape g) (sent_in a)
+    pub sent : ((moved_all commit st moves).machine.sent ≡ st.machine.sent ++ map step (sent_in a)) × Roles (shape g) (sent_in a)
     pub took : (f : Frame) → TookFrame c a f → TakesFrame who moves f
-    pub views : (f : Frame) → TookFrame c a f → IsView g f.receiver (record { origin = option_map (λ (t : LawStep). t.label) (st.world.at f.receiver).own; items = map seen f.items })
+    pub views : (f : Frame) → TookFrame c a f → IsView g f.receiver (record { origin = option_map (λ (t : TimedLabel). t.label) (st.machine.at f.receiver).own; items = map seen f.items })
     pub life : Life who n (node_after n c a) c a
     pub more_joins : (r : ℕ) → has_joined n.joins sid r ≡ true → has_joined (node_after n c a).joins sid r ≡ true
 
   kept_same : (who : Name) (st : State) → Kept who st st
-  kept_same who st = record { told = λ h ne. refl; world = λ h ne. refl }
+  kept_same who st = record { told = λ h ne. refl; machine = λ h ne. refl }
 
   kept_writes : (who : Name) (st : State) (r e : ℕ) (os : List Opening) → principal cast r ≡ who → Kept who st (moved commit st (Writes r e os))
   kept_writes who st r e os is = record {
     told = λ h ne. rw (ne_eqb h r (λ q. ne (ap (principal cast) q ∙ is))) refl;
-    world = λ h ne. rw (ne_eqb h r (λ q. ne (ap (principal cast) q ∙ is))) refl;
+    machine = λ h ne. rw (ne_eqb h r (λ q. ne (ap (principal cast) q ∙ is))) refl;
   }
 
-  kept_takes : (who : Name) (st : State) (r k : ℕ) (items : List (B.Entry LawStep Code)) (os : List Opening) → principal cast r ≡ who → Kept who st (moved commit st (Takes r k items os))
+  kept_takes : (who : Name) (st : State) (r k : ℕ) (items : List (B.Entry TimedLabel Code)) (os : List Opening) → principal cast r ≡ who → Kept who st (moved commit st (Takes r k items os))
   kept_takes who st r k items os is = record {
     told = λ h ne. rw (ne_eqb h r (λ q. ne (ap (principal cast) q ∙ is))) refl;
-    world = λ h ne. rw (ne_eqb h r (λ q. ne (ap (principal cast) q ∙ is))) refl;
+    machine = λ h ne. rw (ne_eqb h r (λ q. ne (ap (principal cast) q ∙ is))) refl;
   }
 
   -- a node of another principal
@@ -350,7 +350,7 @@ module _ (sha : Hash) (hash : IsHash sha) (s : Schedule) (programs : List Progra
       matches_kept x m =
           let other : principal cast x.role ≡ who → ⊥ = λ q. ne (sym m.is_who ∙ q) in
           let t : st'.told x.role ≡ st.told x.role = k.told x.role other in
-          let w : st'.world.at x.role ≡ st.world.at x.role = k.world x.role other in
+          let w : st'.machine.at x.role ≡ st.machine.at x.role = k.machine x.role other in
           record {
             same_sid = m.same_sid;
             same_cast = m.same_cast;
@@ -366,7 +366,7 @@ module _ (sha : Hash) (hash : IsHash sha) (s : Schedule) (programs : List Progra
           }
 
       go : Status st me n → Status st' me n
-      go (inl f) = inl record { alone = f.alone; all = λ h is l. let u = f.all h is l in record { none = k.told h (λ q. ne (sym is ∙ q)) ∙ u.none; start = k.world h (λ q. ne (sym is ∙ q)) ∙ u.start } }
+      go (inl f) = inl record { alone = f.alone; all = λ h is l. let u = f.all h is l in record { none = k.told h (λ q. ne (sym is ∙ q)) ∙ u.none; start = k.machine h (λ q. ne (sym is ∙ q)) ∙ u.start } }
       go (inr (inl h)) = inr (inl record { x = h.x; alone = h.alone; was_joined = h.was_joined; matches = matches_kept h.x h.matches })
       go (inr (inr h)) = inr (inr record { x = h.x; alone = h.alone; was_joined = h.was_joined; matches = matches_kept h.x h.matches; why = h.why })
 
@@ -460,7 +460,7 @@ module _ (sha : Hash) (hash : IsHash sha) (s : Schedule) (programs : List Progra
     made = md;
     log = λ mk i. i;
     told = λ r e l. rw (quiet_told r c a q) (sym (append-nil (st.told r)), tt);
-    sent = rw (quiet_items a q) (sym (append-nil st.world.sent), tt);
+    sent = rw (quiet_items a q) (sym (append-nil st.machine.sent), tt);
     took = λ f t. absurd (quiet_took c a f q t);
     views = λ f t. absurd (quiet_took c a f q t);
     life = elim lf [ inl e ↦ inl record { quiet = q; same = e; fewer = fj } | inr w ↦ inr (inl w) ];
@@ -542,7 +542,7 @@ module _ (sha : Hash) (hash : IsHash sha) (s : Schedule) (programs : List Progra
                 made = λ nt i. absurd i;
                 log = λ mk i. i;
                 told = λ r e l. start_told r;
-                sent = (sym (append-nil st.world.sent), tt);
+                sent = (sym (append-nil st.machine.sent), tt);
                 took = λ f t. (let e = t.is_call in absurd (cc));
                 views = λ f t. (let e = t.is_call in absurd (cc));
                 life = inr (inr (inl record {
@@ -780,7 +780,7 @@ module _ (sha : Hash) (hash : IsHash sha) (s : Schedule) (programs : List Progra
                 told = λ r e l. subst (λ k. ((moved commit st (Writes x.role label os)).told k ≡ st.told k ++ entries (told_in k (Act sid0 label values (map F values)) its_answer)) × Roles (shape g) (told_in k (Act sid0 label values (map F values)) its_answer))
                     (one_place cast.names x.role r differ m.inside l (m.is_who ∙ sym e))
                     (rw (act_told gv.gi gv.its_last m.same_sid) (told_step st (moved commit st (Writes x.role label os)) who x (Gave gv.gi os) m gv.matches));
-                sent = rw (act_sent gv.gi gv.its_last m.same_sid) (ap (λ z. st.world.sent ++ V.step_of z ∷ []) (sym gv.made), (told_step st (moved commit st (Writes x.role label os)) who x (Gave gv.gi os) m gv.matches).1);
+                sent = rw (act_sent gv.gi gv.its_last m.same_sid) (ap (λ z. st.machine.sent ++ V.step_of z ∷ []) (sym gv.made), (told_step st (moved commit st (Writes x.role label os)) who x (Gave gv.gi os) m gv.matches).1);
                 took = λ f t. (let e = t.is_call in absurd (cc));
                 views = λ f t. (let e = t.is_call in absurd (cc));
                 life = inr (inr (inr (inr record {
@@ -814,7 +814,7 @@ module _ (sha : Hash) (hash : IsHash sha) (s : Schedule) (programs : List Progra
               no_turn_now who_x in_x y m' (inr b) = b
               no_turn_now who_x in_x y m' (inl a) = absurd (no_turn_law y.role (m'.turns a) (one_place cast.names y.role x.role differ m'.inside in_x (m'.is_who ∙ sym who_x)))
                 where
-                  no_turn_law : (r : ℕ) → ((moved commit st (Writes x.role label os)).world.at r).turn ≡ Some (record { node = place g y; time = time y }) → r ≡ x.role → ⊥
+                  no_turn_law : (r : ℕ) → ((moved commit st (Writes x.role label os)).machine.at r).turn ≡ Some (record { node = place g y; time = time y }) → r ≡ x.role → ⊥
                   no_turn_law r e q = none_some (record { node = place g y; time = time y }) (rw (eq-eqb r x.role q) at e)
 
               used_in : (zs : List Opening) → AllByRecursion OpeningFits zs → ((o : Opening) → In zs o → In os o) → AllByRecursion (λ (o : Opening). In (notes_of_sent n.keys p x f os).hashed (commitment_text_of sid o) × OpeningFits o) (zs ++ [])
@@ -887,7 +887,7 @@ module _ (sha : Hash) (hash : IsHash sha) (s : Schedule) (programs : List Progra
           is_last : last f.items ≡ Some last_one
           by_me : receiver (shape z) last_one.label ≡ x.role
           no_own : has (λ (i : Item). i.role) x.role f.items ≡ false
-          view : IsView z x.role (record { origin = option_map (λ (t : LawStep). t.label) (st.world.at x.role).own; items = map seen f.items })
+          view : IsView z x.role (record { origin = option_map (λ (t : TimedLabel). t.label) (st.machine.at x.role).own; items = map seen f.items })
           typed : list_all (is_typed_or_hidden z) (V.values_of f.openings) ≡ true
 
         taken_at : (x : Session) (p : Program) → p.graph ≡ g → IsViewTable p.graph x.role p.views → Matches g sid cast st who x → at_turn g x ≡ false → f.sid ≡ sid → f.receiver ≡ x.role → T.Rows sha n.keys p x f
@@ -947,7 +947,7 @@ module _ (sha : Hash) (hash : IsHash sha) (s : Schedule) (programs : List Progra
               ap (λ o. Walk'.Receives f.receiver (unwrap_or (option_map (λ (i : Item). i.label) o) 0) (shown (map (λ (o : Opening). (o.variable, o.value)) f.openings)) ∷ []) t.is_last
               ∙ ap (λ l. Walk'.Receives f.receiver (t.last_one).label l ∷ []) (shown_openings f.openings)
               ∙ ap (λ r. Walk'.Receives r (t.last_one).label (V.values_of f.openings) ∷ []) (fr ∙ sym t.by_me)
-              ∙ ap (λ o. flat_map (acts_of g) (Reads (option_map (λ (i : B.Entry LawStep Code). i.step.label) o) (V.values_of f.openings) ∷ [])) (sym (last-option_map entry f.items ∙ ap (option_map entry) t.is_last)));
+              ∙ ap (λ o. flat_map (acts_of g) (ReadAlong (option_map (λ (i : B.Entry TimedLabel Code). i.step.label) o) (V.values_of f.openings) ∷ [])) (sym (last-option_map entry f.items ∙ ap (option_map entry) t.is_last)));
           typed = (t.typed, tt);
           used = used_in f.openings (fit_openings f.openings spelled.fields.openings) (λ o i. i);
           made = λ nt i. absurd (no_made 16 (Some (p, x)) nt i);
@@ -955,7 +955,7 @@ module _ (sha : Hash) (hash : IsHash sha) (s : Schedule) (programs : List Progra
           told = λ r e l. subst (λ k. ((moved commit st (Takes x.role t.node (entries f.items) f.openings)).told k ≡ st.told k ++ entries (told_in k (Deliver bs) (Happened (receipt f)))) × Roles (shape g) (told_in k (Deliver bs) (Happened (receipt f))))
               (one_place cast.names x.role r differ m.inside l (m.is_who ∙ sym e))
               (rw took_told (told_step st (moved commit st (Takes x.role t.node (entries f.items) f.openings)) who x (Took f) m t.matches));
-          sent = (sym (append-nil st.world.sent), tt);
+          sent = (sym (append-nil st.machine.sent), tt);
           took = λ f' q. (
               let same : Deliver bs ≡ Deliver q.bs = q.is_call in
               let same' : bs ≡ q.bs = cc in
@@ -973,8 +973,8 @@ module _ (sha : Hash) (hash : IsHash sha) (s : Schedule) (programs : List Progra
               let same : Deliver bs ≡ Deliver q.bs = q.is_call in
               let same' : bs ≡ q.bs = cc in
               let ff : f ≡ f' = ok_same (read bs) f f' is_read (ap read same' ∙ q.is_read) in
-              subst (λ (f : Frame). IsView g f.receiver (record { origin = option_map (λ (t : LawStep). t.label) (st.world.at f.receiver).own; items = map seen f.items })) ff
-              (subst (λ r. IsView g r (record { origin = option_map (λ (t : LawStep). t.label) (st.world.at r).own; items = map seen f.items })) (sym fr) t.view)
+              subst (λ (f : Frame). IsView g f.receiver (record { origin = option_map (λ (t : TimedLabel). t.label) (st.machine.at f.receiver).own; items = map seen f.items })) ff
+              (subst (λ r. IsView g r (record { origin = option_map (λ (t : TimedLabel). t.label) (st.machine.at r).own; items = map seen f.items })) (sym fr) t.view)
               );
           life = inr (inr (inr (inl record {
             f = f;
@@ -1000,7 +1000,7 @@ module _ (sha : Hash) (hash : IsHash sha) (s : Schedule) (programs : List Progra
           where
             turn_now : (at_turn g (extended x (Took f)) ≡ true) ⊎ (at_turn g (extended x (Took f)) ≡ false) → at_turn g (extended x (Took f)) ≡ true
             turn_now (inl a) = a
-            turn_now (inr b) = absurd (none_some (record { node = t.node; time = R.last_time (R.own_time (st.world.at x.role).own) (V.steps_of (entries f.items)) }) (sym (rw (eq-eqb x.role x.role refl) at (t.matches.waits b))))
+            turn_now (inr b) = absurd (none_some (record { node = t.node; time = R.time_after (R.time_of_own (st.machine.at x.role).own) (V.steps_of (entries f.items)) }) (sym (rw (eq-eqb x.role x.role refl) at (t.matches.waits b))))
 
             took_told : told_in x.role (Deliver bs) (Happened (receipt f)) ≡ f.items
             took_told = rw ((bytes_eq-Decides f.sid sid).1 fs, eq-eqb f.receiver x.role fr, is_read) (append-nil f.items)

@@ -23,9 +23,9 @@ use Rattle.sg_protocol.specs.Keyring.{Program}
 use Rattle.sg_protocol.specs.Notes.{Note, notes}
 use Rattle.sg_protocol.specs.Schedule.{Schedule, is_honest, honest_role, Step, StartStep, ActStep, AbandonStep, DeliverStep, CraftStep, What, cast_of, sid_at, confounder}
 use Rattle.sg_law.specs.Values as V
-use Rattle.sg_law.specs.Values.{State, Made, whole, com_of, Move, Commit, moved, MayTake, Tagged, Framed, Opened, own_of, is_variable, put}
+use Rattle.sg_law.specs.Values.{State, Made, told_with_item, com_of, Move, Commit, moved, MayTake, Tagged, Framed, Opened, own_of, is_variable, put}
 use Rattle.sg_law.specs.Values.Move.{Writes, Takes}
-use Rattle.sg_law.specs.Values.Deed.{Read as Reads}
+use Rattle.sg_law.specs.Values.Deed.{ReadAlong}
 use Rattle.sg_law.proofs.Upto.{In}
 use Rattle.sg_law.proofs.Take.{contains_from_in}
 use Rattle.sg_protocol.proofs.Paths.{flat_map-append}
@@ -238,7 +238,7 @@ module _ (sha : Hash) (hash : IsHash sha) (s : Schedule) (programs : List Progra
     pub typed : AllByRecursion (TypedDeed g honest) (map deed_of moves)
     pub used : AllByRecursion (λ (o : Opening). Hashed (commitment_text_of sid o) × OpeningFits o) (all_openings moves)
     pub told : (who : Name) (p : Past) → past_of w who ≡ Some p → (r : ℕ) → principal cast r ≡ who → r < length cast.names → Told (moved_all commit (V.at_first (shape g)) moves) r p.calls
-    pub sent : ((moved_all commit (V.at_first (shape g)) moves).world.sent ≡ map step (honest_items sid w.log)) × Roles (shape g) (honest_items sid w.log)
+    pub sent : ((moved_all commit (V.at_first (shape g)) moves).machine.sent ≡ map step (honest_items sid w.log)) × Roles (shape g) (honest_items sid w.log)
     pub pasts : (who : Name) → is_honest s who ≡ true → (p : Past) × (past_of w who ≡ Some p)
 
   -- a step without a call
@@ -256,7 +256,7 @@ module _ (sha : Hash) (hash : IsHash sha) (s : Schedule) (programs : List Progra
     used = p.used;
     told = p.told;
     pasts = p.pasts;
-    sent = subst (λ l. ((moved_all commit (V.at_first (shape g)) p.moves).world.sent ≡ map step l) × Roles (shape g) l) (sym (honest_items-append w.log _ ∙ ap (λ z. honest_items sid w.log ++ cons_option z []) (no_item o e) ∙ append-nil (honest_items sid w.log))) p.sent;
+    sent = subst (λ l. ((moved_all commit (V.at_first (shape g)) p.moves).machine.sent ≡ map step l) × Roles (shape g) l) (sym (honest_items-append w.log _ ∙ ap (λ z. honest_items sid w.log ++ cons_option z []) (no_item o e) ∙ append-nil (honest_items sid w.log))) p.sent;
   }
     where
       no_item : (o : Outcome) → events_of_outcome o ≡ [] → sent_item sid o ≡ None
@@ -347,8 +347,8 @@ module _ (sha : Hash) (hash : IsHash sha) (s : Schedule) (programs : List Progra
       used = subst (AllByRecursion (λ (o : Opening). Hashed (commitment_text_of sid o) × OpeningFits o)) (sym (openings-append p.moves out.moves)) (all-append (λ (o : Opening). Hashed (commitment_text_of sid o) × OpeningFits o) (all_openings p.moves) (all_openings out.moves) p.used (all_weaker _ _ (λ o h. (hs_of c after (commitment_text_of sid o) h.0, h.1)) (all_openings out.moves) out.used));
       pasts = λ me is. (let o = p.pasts me is in (next_past sha who c o.0, past_called sha w k who c past me ∙ ap (option_map (next_past sha who c)) o.1));
       told = λ me p' e r is l. subst (λ (z : State). Told z r p'.calls) (sym (moved-append commit (V.at_first (shape g)) p.moves out.moves)) (told_ me p' (past_of w me) refl (sym (past_called sha w k who c past me) ∙ e) r is l);
-      sent = subst (λ l. ((moved_all commit (V.at_first (shape g)) (p.moves ++ out.moves)).world.sent ≡ map step l) × Roles (shape g) l) (sym (honest_items-append w.log (entry_ c ∷ [])))
-          (ap (λ (z : State). z.world.sent) (moved-append commit (V.at_first (shape g)) p.moves out.moves) ∙ out.sent.0 ∙ ap (λ l. l ++ map step (honest_items sid (entry_ c ∷ []))) p.sent.0 ∙ sym (map-append step (honest_items sid w.log) (honest_items sid (entry_ c ∷ []))), roles-append (shape g) (honest_items sid w.log) (honest_items sid (entry_ c ∷ [])) p.sent.1 out.sent.1);
+      sent = subst (λ l. ((moved_all commit (V.at_first (shape g)) (p.moves ++ out.moves)).machine.sent ≡ map step l) × Roles (shape g) l) (sym (honest_items-append w.log (entry_ c ∷ [])))
+          (ap (λ (z : State). z.machine.sent) (moved-append commit (V.at_first (shape g)) p.moves out.moves) ∙ out.sent.0 ∙ ap (λ l. l ++ map step (honest_items sid (entry_ c ∷ []))) p.sent.0 ∙ sym (map-append step (honest_items sid w.log) (honest_items sid (entry_ c ∷ []))), roles-append (shape g) (honest_items sid w.log) (honest_items sid (entry_ c ∷ [])) p.sent.1 out.sent.1);
     }
       where
         told_ : (me : Name) (p' : Past) (o : Option Past) → past_of w me ≡ o → option_map (next_past sha who c) o ≡ Some p' → (r : ℕ) → principal cast r ≡ me → r < length cast.names → Told (moved_all commit st out.moves) r p'.calls

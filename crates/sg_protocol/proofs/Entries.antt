@@ -18,8 +18,8 @@ use Rattle.sg_protocol.specs.Session.{committed}
 use Rattle.sg_protocol.specs.Sending.{entry_of, item_of, tags_left, shown_to}
 use Rattle.sg_protocol.specs.Verdict.{seen}
 use Rattle.sg_law.specs.Last as B
-use Rattle.sg_law.specs.Accept.{sender_of, Step}
-use Rattle.sg_law.specs.Run.{RisesFrom, own_time}
+use Rattle.sg_law.specs.Accept.{sender_of, TimedLabel}
+use Rattle.sg_law.specs.Run.{RisesFrom, time_of_own}
 use Rattle.sg_law.specs.Values as V
 use Rattle.sg_law.specs.Values.{com_of, Alike, Sight}
 use Rattle.sg_law.proofs.Lists.{has-map, map-passing}
@@ -31,10 +31,10 @@ use Rattle.sg_protocol.proofs.KeptLaws.{value_at-in_order}
 use Rattle.sg_protocol.proofs.Bridge.{up_to_last-after, labels-view_of}
 
 -- an item as an entry of the law
-abbrev pub entry : Item → B.Entry Step Code
+abbrev pub entry : Item → B.Entry TimedLabel Code
 entry i = record { step = record { label = i.label; time = i.time }; writes = i.delta }
 
-abbrev pub entries : List Item → List (B.Entry Step Code)
+abbrev pub entries : List Item → List (B.Entry TimedLabel Code)
 entries is = map entry is
 
 pub entries-com : (is : List Item) (x : ℕ) → com_of (entries is) x ≡ committed x is
@@ -45,7 +45,7 @@ abbrev Ent : Type 0
 Ent = A.Entry Item (List ℕ)
 
 -- an entry of an item as an entry of the law
-abbrev pub as_entry : Ent → B.Entry Step Code
+abbrev pub as_entry : Ent → B.Entry TimedLabel Code
 as_entry e = record { step = record { label = e.step.label; time = e.step.time }; writes = e.writes }
 
 pub entries-entry_of : (is : List Item) → map as_entry (map entry_of is) ≡ entries is
@@ -53,7 +53,7 @@ entries-entry_of [] = refl
 entries-entry_of (i ∷ is) = ap (λ l. entry i ∷ l) (entries-entry_of is)
 
 module _ (g : Shape) where
-  abbrev pub by : B.Entry Step Code → ℕ
+  abbrev pub by : B.Entry TimedLabel Code → ℕ
   by e = sender g e.step.label
 
   -- each item's role is the sender of its label
@@ -204,32 +204,32 @@ names-merge {A = A} a b =
         ]
 
 -- the same labels and names
-abbrev Keyed : List Wal → List (B.Entry Step Code) → Type 0
+abbrev Keyed : List Wal → List (B.Entry TimedLabel Code) → Type 0
 Keyed [] [] = ⊤
 Keyed [] (b ∷ bs) = ⊥
 Keyed (a ∷ ps) [] = ⊥
 Keyed (a ∷ ps) (b ∷ bs) = (a.step ≡ b.step.label) × (names a.writes ≡ names b.writes) × Keyed ps bs
 
 module _ (g : Shape) where
-  keyed-has : (k : ℕ) (xs : List Wal) (ys : List (B.Entry Step Code)) → Keyed xs ys → has (λ (y : Wal). sender g y.step) k xs ≡ has (λ (y : B.Entry Step Code). sender g y.step.label) k ys
+  keyed-has : (k : ℕ) (xs : List Wal) (ys : List (B.Entry TimedLabel Code)) → Keyed xs ys → has (λ (y : Wal). sender g y.step) k xs ≡ has (λ (y : B.Entry TimedLabel Code). sender g y.step.label) k ys
   keyed-has k [] [] h = refl
   keyed-has k [] (y ∷ ys) h = absurd h
   keyed-has k (x ∷ xs) [] h = absurd h
   keyed-has k (x ∷ xs) (y ∷ ys) h = ap (λ n. (sender g n == k) || has (λ (y : Wal). sender g y.step) k xs) h.0 ∙ ap (λ b. (sender g y.step.label == k) || b) (keyed-has k xs ys h.2)
 
-  keyed-carry : (u : Map (Unit {0})) (v : Map Code) → names u ≡ names v → (xs : List Wal) (ys : List (B.Entry Step Code)) → Keyed xs ys → Keyed (A.carry u xs) (B.carry v ys)
+  keyed-carry : (u : Map (Unit {0})) (v : Map Code) → names u ≡ names v → (xs : List Wal) (ys : List (B.Entry TimedLabel Code)) → Keyed xs ys → Keyed (A.carry u xs) (B.carry v ys)
   keyed-carry u v e [] [] h = tt
   keyed-carry u v e [] (y ∷ ys) h = absurd h
   keyed-carry u v e (x ∷ xs) [] h = absurd h
   keyed-carry u v e (x ∷ xs) (y ∷ ys) h = (h.0, names-merge u x.writes ∙ ap (λ a. name_merge a (names x.writes)) e ∙ ap (name_merge (names v)) h.1 ∙ sym (names-merge v y.writes), h.2)
 
-  keyed-evidence : (xs : List Wal) (ys : List (B.Entry Step Code)) → Keyed xs ys → Keyed (A.evidence (sender g) xs) (B.evidence (sender_of g) ys)
+  keyed-evidence : (xs : List Wal) (ys : List (B.Entry TimedLabel Code)) → Keyed xs ys → Keyed (A.evidence (sender g) xs) (B.evidence (sender_of g) ys)
   keyed-evidence [] [] h = tt
   keyed-evidence [] (y ∷ ys) h = absurd h
   keyed-evidence (x ∷ xs) [] h = absurd h
   keyed-evidence (x ∷ xs) (y ∷ ys) h =
-      let same : has (λ (y : Wal). sender g y.step) (sender g x.step) xs ≡ has (λ (y : B.Entry Step Code). sender g y.step.label) (sender g y.step.label) ys = keyed-has (sender g x.step) xs ys h.2 ∙ ap (λ n. has (λ (y : B.Entry Step Code). sender g y.step.label) (sender g n) ys) h.0 in
-      elim (cases_Bool (has (λ (y : B.Entry Step Code). sender g y.step.label) (sender g y.step.label) ys)) [
+      let same : has (λ (y : Wal). sender g y.step) (sender g x.step) xs ≡ has (λ (y : B.Entry TimedLabel Code). sender g y.step.label) (sender g y.step.label) ys = keyed-has (sender g x.step) xs ys h.2 ∙ ap (λ n. has (λ (y : B.Entry TimedLabel Code). sender g y.step.label) (sender g n) ys) h.0 in
+      elim (cases_Bool (has (λ (y : B.Entry TimedLabel Code). sender g y.step.label) (sender g y.step.label) ys)) [
         | inl e ↦ rw (same ∙ e, e) (keyed-carry x.writes y.writes h.1 (A.evidence (sender g) xs) (B.evidence (sender_of g) ys) (keyed-evidence xs ys h.2))
         | inr e ↦ rw (same ∙ e, e) (h.0, h.1, keyed-evidence xs ys h.2)
       ]
@@ -294,7 +294,7 @@ rising-has n K x b = elim (cases_Bool (nat_lt x n)) [
 ]
 
 -- items that are seen as the evidence of a walk are alike to it
-alike_seen : (n : ℕ) (items : List Item) (ws : List Wal) (bs : List (B.Entry Step Code)) → map seen items ≡ map (λ (i : Wal). record { label = i.step; delta = rising n (keys_of i.writes) }) ws → AllBelow n ws → Keyed ws bs → Alike (entries items) bs
+alike_seen : (n : ℕ) (items : List Item) (ws : List Wal) (bs : List (B.Entry TimedLabel Code)) → map seen items ≡ map (λ (i : Wal). record { label = i.step; delta = rising n (keys_of i.writes) }) ws → AllBelow n ws → Keyed ws bs → Alike (entries items) bs
 alike_seen n [] [] [] e b h = tt
 alike_seen n [] [] (y ∷ ys) e b h = absurd h
 alike_seen n [] (a ∷ ws) bs e b h = absurd (cc)
@@ -335,8 +335,8 @@ has-after_last key k (x ∷ xs) = elim (cases_Bool (has key k xs)) [
   | inr e ↦ rw e (elim (cases_Bool (key x == k)) [ inl f ↦ rw f e | inr f ↦ rw f (rw f e) ])
 ]
 
-pub sight : (g : Graph) → ((e : ℕ) → Below (length g.variables) (writes g e)) → (h : ℕ) (v : View) (i : IsView g h v) (own : Option Step) (items : List Item) →
-    v.origin ≡ option_map (λ (t : Step). t.label) own → v.items ≡ map seen items → RisesFrom (own_time own) (V.steps_of (entries items)) → Sight (shape g) h own (end_of (shape g) 0 i.walk) (entries items)
+pub sight : (g : Graph) → ((e : ℕ) → Below (length g.variables) (writes g e)) → (h : ℕ) (v : View) (i : IsView g h v) (own : Option TimedLabel) (items : List Item) →
+    v.origin ≡ option_map (λ (t : TimedLabel). t.label) own → v.items ≡ map seen items → RisesFrom (time_of_own own) (V.steps_of (entries items)) → Sight (shape g) h own (end_of (shape g) 0 i.walk) (entries items)
 sight g b h v i own items o l t =
     let whole : up_to_last (sender (shape g)) h i.walk ++ after_last (sender (shape g)) h i.walk ≡ i.walk = up_to_last-after (sender (shape g)) h i.walk in
     let since : List ℕ = after_last (sender (shape g)) h i.walk in
@@ -357,7 +357,7 @@ sight g b h v i own items o l t =
     }
 
 -- its steps since are those of the walk after the role's own last one
-pub sight-since : (g : Graph) (b : (e : ℕ) → Below (length g.variables) (writes g e)) (h : ℕ) (v : View) (i : IsView g h v) (own : Option Step) (items : List Item) (o : v.origin ≡ option_map (λ (t : Step). t.label) own) (l : v.items ≡ map seen items) (t : RisesFrom (own_time own) (V.steps_of (entries items)))
+pub sight-since : (g : Graph) (b : (e : ℕ) → Below (length g.variables) (writes g e)) (h : ℕ) (v : View) (i : IsView g h v) (own : Option TimedLabel) (items : List Item) (o : v.origin ≡ option_map (λ (t : TimedLabel). t.label) own) (l : v.items ≡ map seen items) (t : RisesFrom (time_of_own own) (V.steps_of (entries items)))
     → (sight g b h v i own items o l t).since ≡ after_last (sender (shape g)) h i.walk
 unfolding sight
 sight-since g b h v i own items o l t = refl

@@ -238,7 +238,10 @@ is_schedule = record {
   pairs = AllPairs-cons (λ (j k : PairKey). ((j.one ≢ k.one) ⊎ (j.two ≢ k.two)) × ((j.one ≢ k.two) ⊎ (j.two ≢ k.one))) first_key (second_key ∷ [])
       (All-from_recursion (λ (k : PairKey). ((alice ≢ k.one) ⊎ (bob ≢ k.two)) × ((alice ≢ k.two) ⊎ (bob ≢ k.one))) (second_key ∷ []) ((inl (λ e. absurd (cc)), inl (λ e. absurd (cc))), tt))
       (AllPairs-cons (λ (j k : PairKey). ((j.one ≢ k.one) ⊎ (j.two ≢ k.two)) × ((j.one ≢ k.two) ⊎ (j.two ≢ k.one))) second_key [] (All-from_recursion (λ (k : PairKey). ((bob ≢ k.one) ⊎ (carl ≢ k.two)) × ((bob ≢ k.two) ⊎ (carl ≢ k.one))) [] tt) (no_pairs (λ (j k : PairKey). ((j.one ≢ k.one) ⊎ (j.two ≢ k.two)) × ((j.one ≢ k.two) ⊎ (j.two ≢ k.one)))));
-  sessions = All-from_recursion (IsDeclared toy played.graphs) played.sessions ((refl, refl, (refl, bytes_all (nonce_of 1) refl), inl refl), ((refl, refl, (refl, bytes_all (nonce_of 2) refl), inl refl), tt));
+  sessions = All-from_recursion (IsDeclared toy played.graphs) played.sessions (
+    record { graph = one_edge ping; is_there = contains_from_in played.graphs (one_edge ping) (inl refl); digest = refl; count = refl; names = refl; nonce = (refl, bytes_all (nonce_of 1) refl); version = inl refl },
+    (record { graph = one_edge pong; is_there = contains_from_in played.graphs (one_edge pong) (inr (inl refl)); digest = refl; count = refl; names = refl; nonce = (refl, bytes_all (nonce_of 2) refl); version = inl refl }, tt),
+  );
   steps = All-from_recursion (IsStep toy played) played.steps (tt, (tt, (tt, (spelled, (tt, tt)))));
 }
   where

@@ -1,5 +1,5 @@
 -- What a run records are bytes, and what its nodes send has a spelling.
-use Rattle.std.specs.Prelude.{filter_map, ◌≡◌, ◌≢◌, ℕ, zero, suc, ◌<◌, ◌≤◌, ◌==◌, nat_lt, if◌then◌else◌, All, ◌&&◌, ◌⊎◌, true, List, [], ◌∷◌, ◌++◌, map, length, bytes_eq, refl, Option, Some, None, option_map, unwrap_or, IfSome}
+use Rattle.std.specs.Prelude.{filter_map, ◌≡◌, ◌≢◌, ℕ, zero, suc, ◌<◌, ◌≤◌, ◌==◌, nat_lt, if◌then◌else◌, All, ◌&&◌, true, List, [], ◌∷◌, ◌++◌, map, length, bytes_eq, refl, Option, Some, None, option_map, unwrap_or, IfSome}
 use Rattle.std.specs.List.{cons_option, list_all, AllByRecursion}
 use Rattle.std.specs.Option.{option_map_or}
 use Rattle.std.proofs.Common.{sym, ◌∙◌, ap, subst, inl, inr, arith}
@@ -15,7 +15,7 @@ use Rattle.sg_protocol.specs.Frame.{Cast, Item, Frame, IsItem, IsTag, IsValue, I
 use Rattle.sg_protocol.specs.Acting.{openings_for}
 use Rattle.sg_protocol.specs.Spelling.{spelling, HasSpelling, u64}
 use Rattle.sg_model.specs.Bytes.{AreBytes}
-use Rattle.sg_protocol.specs.Texts.{Hash, IsHash, session_id, session_text_of, cut, graph_text_of, graph_digest}
+use Rattle.sg_protocol.specs.Texts.{Hash, IsHash, session_id, session_text_of, cut, graph_text_of}
 use Rattle.sg_protocol.specs.TextLaws.{CastFits}
 use Rattle.sg_protocol.specs.Keyring.{Program}
 use Rattle.sg_protocol.specs.Session.{Session, principal, new_session}
@@ -65,15 +65,9 @@ declared_in A P (y ∷ ys) (suc n) x a e = declared_in A P ys n x (All-tail P y 
 module _ (sha : Hash) (hash : IsHash sha) (programs : List Program) (s : Schedule) (compiled : AreCompiled sha s.graphs programs) (sched : IsSchedule sha s) where
   -- a declared session's cast can be read
   declared_fits : (d : Declared) → IsDeclared sha s.graphs d → CastFits d.cast × AreBytes 32 d.cast.graph × AreBytes 16 d.cast.nonce × (list_all is_name d.cast.names ≡ true)
-  declared_fits d h = go (graph_with sha s.graphs d.cast.graph) refl h
-    where
-      go : (o : Option Graph) → graph_with sha s.graphs d.cast.graph ≡ o → IsSomeAnd o (λ g. (length d.cast.names ≡ length g.roles) × IsTrue (all_differ d.cast.names && list_all is_name d.cast.names) × AreBytes 16 d.cast.nonce × ((d.cast.version ≡ 1) ⊎ (d.cast.version ≡ 2)))
-          → CastFits d.cast × AreBytes 32 d.cast.graph × AreBytes 16 d.cast.nonce × (list_all is_name d.cast.names ≡ true)
-      go None e h = absurd h
-      go (Some y) e h =
-          let same : graph_digest sha y ≡ d.cast.graph = same_bytes (graph_digest sha y) d.cast.graph (find_passes (λ z. bytes_eq (graph_digest sha z) d.cast.graph) s.graphs y e) in
-          let bytes : AreBytes 32 d.cast.graph = subst (AreBytes 32) same (hash (graph_text_of y)) in
-          (record { version = h.3; graph = bytes.0; nonce = h.2.0 }, bytes, h.2, (and_parts (all_differ d.cast.names) (list_all is_name d.cast.names) h.1).1)
+  declared_fits d h =
+      let bytes : AreBytes 32 d.cast.graph = subst (AreBytes 32) (sym h.digest) (hash (graph_text_of h.graph)) in
+      (record { version = h.version; graph = bytes.0; nonce = h.nonce.0 }, bytes, h.nonce, (and_parts (all_differ d.cast.names) (list_all is_name d.cast.names) h.names).1)
 
   pub casts_fit : (n : ℕ) (c : Cast) → cast_of s n ≡ Some c → CastFits c
   casts_fit n c e = go (slice_get s.sessions n) refl e

@@ -12,7 +12,7 @@ use Rattle.std.proofs.lemmas.Bool.{ltb-true}
 use Rattle.sg_model.specs.Lists.{has_text, all_differ, rises_from}
 use Rattle.sg_model.specs.Names.{Name, is_letter, is_name_byte, is_name, reserved}
 use Rattle.sg_model.proofs.Small.{and_left, and_right, all-append, all_weaker}
-use Rattle.sg_protocol.specs.Graph.{Kind, Int, Text, Variable, Node, Edge, Graph, IsGraph, AreNumbers, ended, spaced, clause, kind_text, variable_line, node_line, edge_line, canonical}
+use Rattle.sg_protocol.specs.Graph.{VariableKind, Int, Text, Variable, Node, Edge, Graph, IsGraph, AreNumbers, ended, spaced, clause, kind_text, variable_line, node_line, edge_line, canonical}
 use Rattle.sg_protocol.specs.TextLaws.{OneGraph}
 use Rattle.sg_protocol.proofs.TextLaws.{one_canonical}
 
@@ -212,7 +212,7 @@ IsVariable n v = (good v.name ≡ true) × AreBelow n v.writers
 less_apart : (m n : ℕ) → m < n → m ≢ n
 less_apart m n h e = omega arith
 
-kind_same : (a b : Kind) (s t : List ℕ) → kind_text a ++ s ≡ kind_text b ++ t → (a ≡ b) × (s ≡ t)
+kind_same : (a b : VariableKind) (s t : List ℕ) → kind_text a ++ s ≡ kind_text b ++ t → (a ≡ b) × (s ≡ t)
 kind_same Int Int s t e = (refl, append_cancel_left (codes "int") s t e)
 kind_same Int Text s t e = absurd (less_apart 105 116 (omega arith) (ap (λ l. get_or l 0 0) e))
 kind_same Text Int s t e = absurd (less_apart 105 116 (omega arith) (sym (ap (λ l. get_or l 0 0) e)))
@@ -221,7 +221,7 @@ kind_same Text Text s t e = (refl, append_cancel_left (codes "text") s t e)
 variables : (n : ℕ) (f : ℕ → Name) → Names n f → Pieces (IsVariable n) AnyRest 118 (variable_of f)
 variables n f p = record { same = variable_same; begins = λ x s. refl; next = λ x s. tt }
   where
-    made : Name → Kind → List ℕ → Variable
+    made : Name → VariableKind → List ℕ → Variable
     made a k w = record { name = a; kind = k; writers = w }
 
     spelled : (a k w s : List ℕ) → ended (codes "var " ++ a ++ codes ": " ++ k ++ codes " by" ++ w) ++ s ≡ codes "var " ++ (a ++ (codes ": " ++ (k ++ (codes " by" ++ (w ++ 59 ∷ 10 ∷ s)))))

@@ -37,7 +37,7 @@ use Rattle.sg_protocol.specs.Run.{called, uncalled, events_of, events_of_outcome
 use Rattle.sg_protocol.specs.Premises.{hashed, Unforged}
 use Rattle.sg_protocol.specs.IsSchedule.{IsStep}
 use Rattle.sg_protocol.specs.Grown.{hidden_steps, is_written, filled, grown_by_all, walk_grown, label_sent, view_in, IsExample, IsShown, AllShown}
-use Rattle.sg_law.specs.Accept.{Step as LawStep}
+use Rattle.sg_law.specs.Accept.{TimedLabel}
 use Rattle.sg_law.specs.Last as B
 use Rattle.sg_law.specs.Run as R
 use Rattle.sg_law.specs.Values as V
@@ -48,8 +48,8 @@ use Rattle.sg_law.specs.Grown.{unless_later, found, reveal, unknown, after_hones
 use Rattle.sg_law.proofs.Com.{option_or-none}
 use Rattle.sg_law.proofs.Lists.{nil_from_map, last-append_some}
 use Rattle.sg_law.proofs.Cut.{last-option_map, last-last_of}
-use Rattle.sg_law.proofs.Upto.{In, labels-evidence}
-use Rattle.sg_law.proofs.Take.{alike-labels, labels-entries}
+use Rattle.sg_law.proofs.Upto.{In, step_labels-evidence}
+use Rattle.sg_law.proofs.Take.{alike-labels, step_labels-entries}
 use Rattle.sg_law.proofs.Walks.{end_of_same}
 use Rattle.sg_law.proofs.Follow.{own_is_sent}
 use Rattle.sg_protocol.proofs.Paths.{acts_of, steps_of}
@@ -132,18 +132,18 @@ walk_grown-last g honest sid steps (y ∷ m) x = walk_grown-last g honest sid (g
 -- ---- moves that stand beside steps
 
 module _ (g : Graph) (honest : ℕ → Bool) (commit : Commit) where
-  grown-last : (st : State) (S : List Stored) (ms : List (Move × List ℕ)) (m : Move × List ℕ) → G.grown (shape g) honest st.world S (ms ++ m ∷ []) ≡ G.grown_by (shape g) honest (moved_all commit st (moves_of ms)).world (G.grown (shape g) honest st.world S ms) m.0 m.1
+  grown-last : (st : State) (S : List Stored) (ms : List (Move × List ℕ)) (m : Move × List ℕ) → G.grown (shape g) honest st.machine S (ms ++ m ∷ []) ≡ G.grown_by_move (shape g) honest (moved_all commit st (moves_of ms)).machine (G.grown (shape g) honest st.machine S ms) m.0 m.1
   grown-last st S [] m = refl
-  grown-last st S ((Writes h e os, since) ∷ ms) m = grown-last (moved commit st (Writes h e os)) (G.grown_by (shape g) honest st.world S (Writes h e os) since) ms m
-  grown-last st S ((Takes h n items os, since) ∷ ms) m = grown-last (moved commit st (Takes h n items os)) (G.grown_by (shape g) honest st.world S (Takes h n items os) since) ms m
+  grown-last st S ((Writes h e os, since) ∷ ms) m = grown-last (moved commit st (Writes h e os)) (G.grown_by_move (shape g) honest st.machine S (Writes h e os) since) ms m
+  grown-last st S ((Takes h n items os, since) ∷ ms) m = grown-last (moved commit st (Takes h n items os)) (G.grown_by_move (shape g) honest st.machine S (Takes h n items os) since) ms m
 
-  shown-last : (st : State) (ms : List (Move × List ℕ)) (m : Move × List ℕ) → G.AllShown (shape g) st.world ms → G.ShownBy (shape g) (moved_all commit st (moves_of ms)).world m.0 m.1 → G.AllShown (shape g) st.world (ms ++ m ∷ [])
+  shown-last : (st : State) (ms : List (Move × List ℕ)) (m : Move × List ℕ) → G.AllShownBy (shape g) st.machine ms → G.ShownBy (shape g) (moved_all commit st (moves_of ms)).machine m.0 m.1 → G.AllShownBy (shape g) st.machine (ms ++ m ∷ [])
   shown-last st [] m a b = (b, tt)
   shown-last st ((Writes h e os, since) ∷ ms) m a b = (a.0, shown-last (moved commit st (Writes h e os)) ms m a.1 b)
   shown-last st ((Takes h n items os, since) ∷ ms) m a b = (a.0, shown-last (moved commit st (Takes h n items os)) ms m a.1 b)
 
   -- a taking receives along the last label that is shown
-  takes_act : (items : List (B.Entry LawStep Code)) → items ≢ [] → (ws : Map (Option Value)) → (a : Act) × (acts_of g (V.Read (option_map (λ (i : B.Entry LawStep Code). i.step.label) (last items)) ws) ≡ a ∷ []) × ((r label : ℕ) (us : Map (Option Value)) → a ≡ W.Sends r label us → ⊥)
+  takes_act : (items : List (B.Entry TimedLabel Code)) → items ≢ [] → (ws : Map (Option Value)) → (a : Act) × (acts_of g (V.ReadAlong (option_map (λ (i : B.Entry TimedLabel Code). i.step.label) (last items)) ws) ≡ a ∷ []) × ((r label : ℕ) (us : Map (Option Value)) → a ≡ W.Sends r label us → ⊥)
   takes_act [] some ws = absurd (some refl)
   takes_act (i ∷ is) some ws = (_, refl, λ r label us e. absurd (cc))
 
@@ -181,36 +181,36 @@ module _ (g : Graph) (honest : ℕ → Bool) (commit : Commit) where
   labels_sent r (Sent sid r' label time values ∷ es) = ap (cons_option (if r' == r then Some label else None)) (labels_sent r es)
   labels_sent r (Received sid r' label time values joins ∷ es) = labels_sent r es
 
-  abbrev by_role : ℕ → LawStep → Bool
+  abbrev by_role : ℕ → TimedLabel → Bool
   by_role r t = sender (shape g) t.label == r
 
-  labels_of : (r : ℕ) (st : State) (ms : List Move) → map (λ (t : LawStep). t.label) (filter (by_role r) (moved_all commit st ms).world.sent) ≡ map (λ (t : LawStep). t.label) (filter (by_role r) st.world.sent) ++ filter_map (label_of_act r) (flat_map (acts_of g) (map deed_of ms))
+  labels_of : (r : ℕ) (st : State) (ms : List Move) → map (λ (t : TimedLabel). t.label) (filter (by_role r) (moved_all commit st ms).machine.sent) ≡ map (λ (t : TimedLabel). t.label) (filter (by_role r) st.machine.sent) ++ filter_map (label_of_act r) (flat_map (acts_of g) (map deed_of ms))
   labels_of r st [] = sym (append-nil _)
   labels_of r st (Writes h e os ∷ ms) =
-      let t : LawStep = record { label = e; time = R.turn_time (st.world.at h).turn + 1 } in
+      let t : TimedLabel = record { label = e; time = R.turn_time (st.machine.at h).turn + 1 } in
       let rest : List ℕ = filter_map (label_of_act r) (flat_map (acts_of g) (map deed_of ms)) in
       labels_of r (moved commit st (Writes h e os)) ms
-      ∙ ap (λ l. map (λ (t : LawStep). t.label) l ++ rest) (filter-append (by_role r) st.world.sent (t ∷ []))
-      ∙ ap (λ l. l ++ rest) (map-append (λ (t : LawStep). t.label) (filter (by_role r) st.world.sent) (filter (by_role r) (t ∷ [])))
-      ∙ append_assoc (map (λ (t : LawStep). t.label) (filter (by_role r) st.world.sent)) (map (λ (t : LawStep). t.label) (filter (by_role r) (t ∷ []))) rest
-      ∙ ap (λ l. map (λ (t : LawStep). t.label) (filter (by_role r) st.world.sent) ++ l) (one t rest)
+      ∙ ap (λ l. map (λ (t : TimedLabel). t.label) l ++ rest) (filter-append (by_role r) st.machine.sent (t ∷ []))
+      ∙ ap (λ l. l ++ rest) (map-append (λ (t : TimedLabel). t.label) (filter (by_role r) st.machine.sent) (filter (by_role r) (t ∷ [])))
+      ∙ append_assoc (map (λ (t : TimedLabel). t.label) (filter (by_role r) st.machine.sent)) (map (λ (t : TimedLabel). t.label) (filter (by_role r) (t ∷ []))) rest
+      ∙ ap (λ l. map (λ (t : TimedLabel). t.label) (filter (by_role r) st.machine.sent) ++ l) (one t rest)
     where
-      one : (t : LawStep) (rest : List ℕ) → map (λ (t : LawStep). t.label) (filter (by_role r) (t ∷ [])) ++ rest ≡ cons_option (if sender (shape g) t.label == r then Some t.label else None) rest
+      one : (t : TimedLabel) (rest : List ℕ) → map (λ (t : TimedLabel). t.label) (filter (by_role r) (t ∷ [])) ++ rest ≡ cons_option (if sender (shape g) t.label == r then Some t.label else None) rest
       one t rest = elim (cases_Bool (sender (shape g) t.label == r)) [ inl d ↦ rw d refl | inr d ↦ rw d refl ]
-  labels_of r st (Takes h n items os ∷ ms) = labels_of r (moved commit st (Takes h n items os)) ms ∙ ap (λ l. map (λ (t : LawStep). t.label) (filter (by_role r) st.world.sent) ++ l) (sym (none (option_map (λ (i : B.Entry LawStep Code). i.step.label) (last items))))
+  labels_of r st (Takes h n items os ∷ ms) = labels_of r (moved commit st (Takes h n items os)) ms ∙ ap (λ l. map (λ (t : TimedLabel). t.label) (filter (by_role r) st.machine.sent) ++ l) (sym (none (option_map (λ (i : B.Entry TimedLabel Code). i.step.label) (last items))))
     where
-      none : (o : Option ℕ) → filter_map (label_of_act r) (acts_of g (V.Read o (V.values_of os)) ++ flat_map (acts_of g) (map deed_of ms)) ≡ filter_map (label_of_act r) (flat_map (acts_of g) (map deed_of ms))
+      none : (o : Option ℕ) → filter_map (label_of_act r) (acts_of g (V.ReadAlong o (V.values_of os)) ++ flat_map (acts_of g) (map deed_of ms)) ≡ filter_map (label_of_act r) (flat_map (acts_of g) (map deed_of ms))
       none None = refl
       none (Some e) = refl
 
   -- where a sight ends
-  sight_ends : (h : ℕ) (own : Option LawStep) (n : ℕ) (items : List (B.Entry LawStep Code)) (i : B.Entry LawStep Code) → (v : Sight (shape g) h own n items) → last items ≡ Some i → n ≡ target (shape g) i.step.label
+  sight_ends : (h : ℕ) (own : Option TimedLabel) (n : ℕ) (items : List (B.Entry TimedLabel Code)) (i : B.Entry TimedLabel Code) → (v : Sight (shape g) h own n items) → last items ≡ Some i → n ≡ target (shape g) i.step.label
   sight_ends h own n items i v e = sym v.ends ∙ end_of_same (shape g) 0 (v.before ++ v.since) (i.step.label ∷ []) (last-append_some v.before v.since i.step.label at)
     where
       at : last v.since ≡ Some i.step.label
       at = sym (last-last_of (sender (shape g)) v.since)
-          ∙ ap last (sym (alike-labels items (B.evidence (λ (t : LawStep). sender (shape g) t.label) (map (V.entry (shape g)) v.since)) v.alike ∙ labels-evidence (shape g) (map (V.entry (shape g)) v.since) ∙ ap (B.last_of (sender (shape g))) (labels-entries (shape g) v.since)))
-          ∙ last-option_map (λ (i : B.Entry LawStep Code). i.step.label) items ∙ ap (option_map (λ (i : B.Entry LawStep Code). i.step.label)) e
+          ∙ ap last (sym (alike-labels items (B.evidence (λ (t : TimedLabel). sender (shape g) t.label) (map (V.entry (shape g)) v.since)) v.alike ∙ step_labels-evidence (shape g) (map (V.entry (shape g)) v.since) ∙ ap (B.last_of (sender (shape g))) (step_labels-entries (shape g) v.since)))
+          ∙ last-option_map (λ (i : B.Entry TimedLabel Code). i.step.label) items ∙ ap (option_map (λ (i : B.Entry TimedLabel Code). i.step.label)) e
 
 -- ---- a run
 
@@ -233,17 +233,17 @@ module _ (sha : Hash) (hash : IsHash sha) (s : Schedule) (programs : List Progra
   Prog w = Progress sha hash s programs sid cast g is acc version long differ prog wf unforged one_cast Fit fit_next fit_bytes fit_sends casts_fit w
 
   -- an honest role's own last label is the last that it sent
-  own_label : (w : World) (p : Prog w) (r : ℕ) → honest r ≡ true → last (filter_map (label_sent r) (events_of sid w.log)) ≡ option_map (λ (t : LawStep). t.label) ((moved_all commit (V.at_first (shape g)) p.moves).world.at r).own
+  own_label : (w : World) (p : Prog w) (r : ℕ) → honest r ≡ true → last (filter_map (label_sent r) (events_of sid w.log)) ≡ option_map (λ (t : TimedLabel). t.label) ((moved_all commit (V.at_first (shape g)) p.moves).machine.at r).own
   own_label w p r hon =
       ap last (labels_sent g honest commit r (events_of sid w.log) ∙ ap (filter_map (label_of_act g honest commit r)) p.events ∙ sym (labels_of g honest commit r (V.at_first (shape g)) p.moves))
-      ∙ last-option_map (λ (t : LawStep). t.label) (filter (by_role g honest commit r) (moved_all commit (V.at_first (shape g)) p.moves).world.sent)
-      ∙ ap (option_map (λ (t : LawStep). t.label)) (sym (own_is_sent (shape g) honest commit p.moves acc.sighted (binding p.moves p.used) p.may r hon))
+      ∙ last-option_map (λ (t : TimedLabel). t.label) (filter (by_role g honest commit r) (moved_all commit (V.at_first (shape g)) p.moves).machine.sent)
+      ∙ ap (option_map (λ (t : TimedLabel). t.label)) (sym (own_is_sent (shape g) honest commit p.moves acc.sighted (binding p.moves p.used) p.may r hon))
 
   -- the moves, each beside steps that show it, make the walk that the events make
   pub record Made (moves : List Move) (log : List (Logged × List ℕ)) : Type 0 where
     pub ms : List (Move × List ℕ)
     pub are : moves_of ms ≡ moves
-    pub shown : G.AllShown (shape g) (R.start (shape g)) ms
+    pub shown : G.AllShownBy (shape g) (R.start (shape g)) ms
     pub same : walk_grown g honest sid [] log ≡ steps_of (G.grown (shape g) honest (R.start (shape g)) [] ms)
 
   abbrev pub Grows : (w : World) → Prog w → Type 0
@@ -268,16 +268,16 @@ module _ (sha : Hash) (hash : IsHash sha) (s : Schedule) (programs : List Progra
   add_none moves m x k e = record { ms = k.ms; are = k.are; shown = k.shown; same = walk_grown-last g honest sid [] m x ∙ e (walk_grown g honest sid [] m) ∙ k.same }
 
   -- a step with a move
-  add_one : (moves : List Move) (m : List (Logged × List ℕ)) (x : Logged × List ℕ) (mv : Move) (since : List ℕ) → Made moves m → G.ShownBy (shape g) (moved_all commit (V.at_first (shape g)) moves).world mv since
-      → ((S : List Stored) → grown_by_all g honest (steps_of S) (events_of sid (x.0 ∷ [])) x.1 ≡ steps_of (G.grown_by (shape g) honest (moved_all commit (V.at_first (shape g)) moves).world S mv since)) → Made (moves ++ mv ∷ []) (m ++ x ∷ [])
+  add_one : (moves : List Move) (m : List (Logged × List ℕ)) (x : Logged × List ℕ) (mv : Move) (since : List ℕ) → Made moves m → G.ShownBy (shape g) (moved_all commit (V.at_first (shape g)) moves).machine mv since
+      → ((S : List Stored) → grown_by_all g honest (steps_of S) (events_of sid (x.0 ∷ [])) x.1 ≡ steps_of (G.grown_by_move (shape g) honest (moved_all commit (V.at_first (shape g)) moves).machine S mv since)) → Made (moves ++ mv ∷ []) (m ++ x ∷ [])
   add_one moves m x mv since k by e =
       let S : List Stored = G.grown (shape g) honest (R.start (shape g)) [] k.ms in
       record {
         ms = k.ms ++ (mv, since) ∷ [];
         are = map-append (λ (m : Move × List ℕ). m.0) k.ms ((mv, since) ∷ []) ∙ ap (λ l. l ++ mv ∷ []) k.are;
-        shown = shown-last g honest commit (V.at_first (shape g)) k.ms (mv, since) k.shown (subst (λ l. G.ShownBy (shape g) (moved_all commit (V.at_first (shape g)) l).world mv since) (sym k.are) by);
+        shown = shown-last g honest commit (V.at_first (shape g)) k.ms (mv, since) k.shown (subst (λ l. G.ShownBy (shape g) (moved_all commit (V.at_first (shape g)) l).machine mv since) (sym k.are) by);
         same = walk_grown-last g honest sid [] m x ∙ ap (λ l. grown_by_all g honest l (events_of sid (x.0 ∷ [])) x.1) k.same ∙ e S
-            ∙ ap (λ l. steps_of (G.grown_by (shape g) honest (moved_all commit (V.at_first (shape g)) l).world S mv since)) (sym k.are)
+            ∙ ap (λ l. steps_of (G.grown_by_move (shape g) honest (moved_all commit (V.at_first (shape g)) l).machine S mv since)) (sym k.are)
             ∙ ap steps_of (sym (grown-last g honest commit (V.at_first (shape g)) [] k.ms (mv, since)));
       }
 
@@ -340,7 +340,7 @@ module _ (sha : Hash) (hash : IsHash sha) (s : Schedule) (programs : List Progra
           (add_one p.moves m (l, walk) (Writes wr.0 label wr.1) [] made tt (λ S.
           ap (λ es. grown_by_all g honest (steps_of S) es walk) (here_is ∙ one)
           ∙ ap (λ (ws : Map (Option Value)). steps_of S ++ record { label = label; writes = ws } ∷ []) wr.3
-          ∙ sym (map-append (λ (t : Stored). record { label = V.along t; writes = t.values }) S (record { step = record { label = label; time = R.turn_time (st.world.at wr.0).turn + 1 }; values = V.values_of wr.1 } ∷ []))))
+          ∙ sym (map-append (λ (t : Stored). record { label = V.along t; writes = t.values }) S (record { step = record { label = label; time = R.turn_time (st.machine.at wr.0).turn + 1 }; values = V.values_of wr.1 } ∷ []))))
 
       -- a frame was taken
       module _ (f : Frame) (took : IsExample g f.receiver (view_in (events_of sid (map (λ (x : Logged × List ℕ). x.0) m)) f) walk) (t : (n : ℕ) × (out.moves ≡ Takes f.receiver n (entries f.items) f.openings ∷ [])) where
@@ -353,23 +353,23 @@ module _ (sha : Hash) (hash : IsHash sha) (s : Schedule) (programs : List Progra
         abbrev v : View
         v = view_in (events_of sid (map (λ (x : Logged × List ℕ). x.0) m)) f
 
-        origin_is : (view_in (events_of sid (map (λ (x : Logged × List ℕ). x.0) m)) f).origin ≡ option_map (λ (t : LawStep). t.label) (st.world.at f.receiver).own
+        origin_is : (view_in (events_of sid (map (λ (x : Logged × List ℕ). x.0) m)) f).origin ≡ option_map (λ (t : TimedLabel). t.label) (st.machine.at f.receiver).own
         origin_is = ap (λ l. last (filter_map (label_sent f.receiver) (events_of sid l))) log_is ∙ own_label w p f.receiver al.is_honest
 
-        seen_by : Sight (shape g) f.receiver (st.world.at f.receiver).own (end_of (shape g) 0 (took.0).walk) (entries f.items)
-        seen_by = sight g (writes_below g is) f.receiver (view_in (events_of sid (map (λ (x : Logged × List ℕ). x.0) m)) f) took.0 (st.world.at f.receiver).own f.items origin_is refl al.sight.rises
+        seen_by : Sight (shape g) f.receiver (st.machine.at f.receiver).own (end_of (shape g) 0 (took.0).walk) (entries f.items)
+        seen_by = sight g (writes_below g is) f.receiver (view_in (events_of sid (map (λ (x : Logged × List ℕ). x.0) m)) f) took.0 (st.machine.at f.receiver).own f.items origin_is refl al.sight.rises
 
         since_is : seen_by.since ≡ after_last (sender (shape g)) f.receiver walk
         unfolding seen_by
-        since_is = sight-since g (writes_below g is) f.receiver (view_in (events_of sid (map (λ (x : Logged × List ℕ). x.0) m)) f) took.0 (st.world.at f.receiver).own f.items origin_is refl al.sight.rises ∙ ap (after_last (sender (shape g)) f.receiver) took.1
+        since_is = sight-since g (writes_below g is) f.receiver (view_in (events_of sid (map (λ (x : Logged × List ℕ). x.0) m)) f) took.0 (st.machine.at f.receiver).own f.items origin_is refl al.sight.rises ∙ ap (after_last (sender (shape g)) f.receiver) took.1
 
         last_one : (o : Option Item) → last f.items ≡ o → end_of (shape g) 0 (took.0).walk ≡ t.0
         last_one None e = absurd (al.some (ap entries (no_last f.items e)))
         last_one (Some i) e =
             view_ends g f.receiver (view_in (events_of sid (map (λ (x : Logged × List ℕ). x.0) m)) f) took.0 f.items i refl e
-            ∙ sym (sight_ends g honest commit f.receiver (st.world.at f.receiver).own t.0 (entries f.items) (record { step = record { label = i.label; time = i.time }; writes = i.delta }) al.sight (last-option_map (λ (i : Item). record { step = record { label = i.label; time = i.time }; writes = i.delta }) f.items ∙ ap (option_map (λ (i : Item). record { step = record { label = i.label; time = i.time }; writes = i.delta })) e))
+            ∙ sym (sight_ends g honest commit f.receiver (st.machine.at f.receiver).own t.0 (entries f.items) (record { step = record { label = i.label; time = i.time }; writes = i.delta }) al.sight (last-option_map (λ (i : Item). record { step = record { label = i.label; time = i.time }; writes = i.delta }) f.items ∙ ap (option_map (λ (i : Item). record { step = record { label = i.label; time = i.time }; writes = i.delta })) e))
 
-        shown_by : G.Shows (shape g) f.receiver (st.world.at f.receiver).own t.0 (entries f.items) (after_last (sender (shape g)) f.receiver walk)
+        shown_by : G.Shows (shape g) f.receiver (st.machine.at f.receiver).own t.0 (entries f.items) (after_last (sender (shape g)) f.receiver walk)
         shown_by = (record { before = seen_by.before; since = seen_by.since; walk = seen_by.walk; ends = seen_by.ends ∙ last_one (last f.items) refl; turn = al.sight.turn; own_last = seen_by.own_last; no_own = seen_by.no_own; alike = seen_by.alike; rises = seen_by.rises }, since_is)
 
         taken_case : answer sha (node_of past) c ≡ Happened (receipt f) → f.sid ≡ sid → Made (p.moves ++ out.moves) (m ++ (l, walk) ∷ [])

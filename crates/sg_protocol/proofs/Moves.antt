@@ -24,16 +24,16 @@ use Rattle.sg_protocol.specs.Checks.{checked_texts}
 use Rattle.sg_protocol.specs.Verdict.{row, bad_time}
 use Rattle.sg_protocol.specs.Notes.{Note, note_of, text_before}
 use Rattle.sg_law.specs.Last as B
-use Rattle.sg_law.specs.Accept.{sender_of, Step}
+use Rattle.sg_law.specs.Accept.{sender_of, TimedLabel}
 use Rattle.sg_law.specs.Run.{RisesFrom}
 use Rattle.sg_law.specs.Values as V
-use Rattle.sg_law.specs.Values.{State, Made, whole, com_of, Move, Commit, moved, MayTake, Tagged, Framed, Opened, own_of, is_variable, put}
+use Rattle.sg_law.specs.Values.{State, Made, told_with_item, com_of, Move, Commit, moved, MayTake, Tagged, Framed, Opened, own_of, is_variable, put}
 use Rattle.sg_law.specs.Values.Move.{Writes, Takes}
 use Rattle.sg_law.proofs.Upto.{In}
 use Rattle.sg_protocol.proofs.Entries.{entry, entries, by, Roles}
 
 -- a step of the law
-abbrev pub step : Item → Step
+abbrev pub step : Item → TimedLabel
 step i = record { label = i.label; time = i.time }
 
 -- each commitment of an item has 32 bytes
@@ -49,14 +49,14 @@ module _ (g : Graph) where
     pub made : Made
     pub there : Contains log made
     pub same : V.step_of made.item ≡ record { label = label; time = time }
-    pub is_held : held ≡ map (λ x. com_of (whole made) x) (below (length g.variables))
+    pub is_held : held ≡ map (λ x. com_of (told_with_item made) x) (below (length g.variables))
 
   -- a frame that was made shows what one of the law's log shows
   pub record MadeFrame (log : List Made) (f : Frame) : Type 0 where
     pub made : Made
     pub there : Contains log made
-    pub steps : V.steps_of (entries f.items) ≡ V.steps_of (B.evidence (sender_of (shape g)) (after_last (by (shape g)) f.receiver (whole made)))
-    pub written : (x : ℕ) → x < length g.variables → com_of (entries f.items) x ≡ com_of (B.evidence (sender_of (shape g)) (after_last (by (shape g)) f.receiver (whole made))) x
+    pub steps : V.steps_of (entries f.items) ≡ V.steps_of (B.evidence (sender_of (shape g)) (after_last (by (shape g)) f.receiver (told_with_item made)))
+    pub written : (x : ℕ) → x < length g.variables → com_of (entries f.items) x ≡ com_of (B.evidence (sender_of (shape g)) (after_last (by (shape g)) f.receiver (told_with_item made))) x
 
   -- what a note says of the session was made in it
   pub record NoteOk (sid : List ℕ) (log : List Made) (n : Note) : Type 0 where
@@ -70,9 +70,9 @@ module _ (g : Graph) where
     pub is_who : principal cast x.role ≡ who
     pub inside : x.role < length cast.names
     pub is_told : st.told x.role ≡ entries (told x)
-    pub is_own : (st.world.at x.role).own ≡ option_map step (last (own x))
-    pub turns : at_turn g x ≡ true → (st.world.at x.role).turn ≡ Some (record { node = place g x; time = time x })
-    pub waits : at_turn g x ≡ false → (st.world.at x.role).turn ≡ None
+    pub is_own : (st.machine.at x.role).own ≡ option_map step (last (own x))
+    pub turns : at_turn g x ≡ true → (st.machine.at x.role).turn ≡ Some (record { node = place g x; time = time x })
+    pub waits : at_turn g x ≡ false → (st.machine.at x.role).turn ≡ None
     pub roles : Roles (shape g) (told x)
     pub fits : FitItems (told x)
     pub last_edge : IfSome (last (told x)) (λ (i : Item). i.label < length g.edges)
@@ -163,7 +163,7 @@ are_held g is h = go (below (length g.variables))
     go (x ∷ xs) = (committed_fits x is h, go xs)
 
 -- a list of entries that is split
-pub record Split (is : List Item) (a : List (B.Entry Step Code)) (i : B.Entry Step Code) (b : List (B.Entry Step Code)) : Type 0 where
+pub record Split (is : List Item) (a : List (B.Entry TimedLabel Code)) (i : B.Entry TimedLabel Code) (b : List (B.Entry TimedLabel Code)) : Type 0 where
   pub front : List Item
   pub mid : Item
   pub rest : List Item
@@ -172,7 +172,7 @@ pub record Split (is : List Item) (a : List (B.Entry Step Code)) (i : B.Entry St
   pub same_mid : i ≡ entry mid
   pub same_rest : b ≡ entries rest
 
-pub split : (is : List Item) (a : List (B.Entry Step Code)) (i : B.Entry Step Code) (b : List (B.Entry Step Code)) → entries is ≡ a ++ i ∷ b → Split is a i b
+pub split : (is : List Item) (a : List (B.Entry TimedLabel Code)) (i : B.Entry TimedLabel Code) (b : List (B.Entry TimedLabel Code)) → entries is ≡ a ++ i ∷ b → Split is a i b
 split [] [] i b e = absurd (cc)
 split [] (c ∷ a) i b e = absurd (cc)
 split (x ∷ is) [] i b e = record { front = []; mid = x; rest = is; parts = refl; same_front = refl; same_mid = (let s : entry x ≡ i = cc in sym s); same_rest = (let s : entries is ≡ b = cc in sym s) }

@@ -16,16 +16,16 @@ use Rattle.sg_protocol.specs.Calls.{Event}
 use Rattle.sg_protocol.specs.Acting.{is_typed}
 use Rattle.sg_protocol.specs.Walk as A
 use Rattle.sg_protocol.specs.Walk.{StoredStep, Act, Sends, Receives, act_if, counts, honest_acts, acts_of_event, stored, is_carried, is_written_first, are_hidden, is_typed_or_hidden, IsStoredStep, OnePath}
-use Rattle.sg_law.specs.Accept.{Step}
-use Rattle.sg_law.specs.Values.{Stored, along, Deed, Move, Commit, Followed, after_step, seen, read_values, wrote_if, read_if, deeds, carried, AllExact, Exact, named, nothing_stored, deed_of}
-use Rattle.sg_law.specs.Values.Deed.{Wrote, Read}
+use Rattle.sg_law.specs.Accept.{TimedLabel}
+use Rattle.sg_law.specs.Values.{Stored, along, Deed, Move, Commit, Followed, after_step, value_read, read_values, wrote_if, read_if, deeds, carried, AllExact, Exact, named, nothing_stored, deed_of}
+use Rattle.sg_law.specs.Values.Deed.{WroteAlong, ReadAlong}
 use Rattle.sg_law.proofs.Com.{value_at-unnamed}
 use Rattle.sg_law.proofs.Carried.{named-in}
 use Rattle.sg_protocol.proofs.KeptLaws.{value_at-merge}
 
 -- ---- the same words
 
-seen_same : (o : Option (Option Value)) → seen o ≡ unwrap_or o None
+seen_same : (o : Option (Option Value)) → value_read o ≡ unwrap_or o None
 seen_same None = refl
 seen_same (Some r) = refl
 
@@ -39,9 +39,9 @@ flat_map-append f (x ∷ xs) ys = ap (λ l. f x ++ l) (flat_map-append f xs ys) 
 
 -- what a deed of the law does on a stored walk
 abbrev pub acts_of : Graph → Deed → List Act
-acts_of g (Wrote e ws) = Sends (sender (shape g) e) e ws ∷ []
-acts_of g (Read None ws) = []
-acts_of g (Read (Some e) ws) = Receives (receiver (shape g) e) e ws ∷ []
+acts_of g (WroteAlong e ws) = Sends (sender (shape g) e) e ws ∷ []
+acts_of g (ReadAlong None ws) = []
+acts_of g (ReadAlong (Some e) ws) = Receives (receiver (shape g) e) e ws ∷ []
 
 abbrev pub step_of : Stored → StoredStep
 step_of s = record { label = along s; writes = s.values }
@@ -57,14 +57,14 @@ last_steps (s ∷ ss) = go s ss
     go s [] = refl
     go s (t ∷ ts) = go t ts
 
-labels_same : (ss : List Stored) → A.labels (steps_of ss) ≡ map (λ (t : Step). t.label) (map (λ (s : Stored). s.step) ss)
+labels_same : (ss : List Stored) → A.labels (steps_of ss) ≡ map (λ (t : TimedLabel). t.label) (map (λ (s : Stored). s.step) ss)
 labels_same [] = refl
 labels_same (s ∷ ss) = ap (λ l. along s ∷ l) (labels_same ss)
 
 module _ (g : Graph) (honest : ℕ → Bool) where
   read_stored : (st : ℕ → Option (Option Value)) (store : Map (Option Value)) → ((x : ℕ) → st x ≡ value_at store x) → (xs : List ℕ) → read_values st xs ≡ stored store xs
   read_stored st store same [] = refl
-  read_stored st store same (x ∷ xs) = ap (λ (o : Option Value). (x, o) ∷ read_values st xs) (ap seen (same x) ∙ seen_same (value_at store x)) ∙ ap (λ l. (x, unwrap_or (value_at store x) None) ∷ l) (read_stored st store same xs)
+  read_stored st store same (x ∷ xs) = ap (λ (o : Option Value). (x, o) ∷ read_values st xs) (ap value_read (same x) ∙ seen_same (value_at store x)) ∙ ap (λ l. (x, unwrap_or (value_at store x) None) ∷ l) (read_stored st store same xs)
 
   store_after : (st : ℕ → Option (Option Value)) (store : Map (Option Value)) → ((x : ℕ) → st x ≡ value_at store x) → (s : Stored) (x : ℕ) → after_step st s x ≡ value_at (merge store s.values) x
   store_after st store same s x = ap (option_or (value_at s.values x)) (same x) ∙ sym (value_at-merge store s.values x)
@@ -168,8 +168,8 @@ module _ (g : Graph) (honest : ℕ → Bool) where
   -- ---- types
 
   abbrev pub TypedDeed : Deed → Type 0
-  TypedDeed (Wrote e ws) = list_all (is_typed_or_hidden g) ws ≡ true
-  TypedDeed (Read o ws) = list_all (is_typed_or_hidden g) ws ≡ true
+  TypedDeed (WroteAlong e ws) = list_all (is_typed_or_hidden g) ws ≡ true
+  TypedDeed (ReadAlong o ws) = list_all (is_typed_or_hidden g) ws ≡ true
 
   all_parts : (xs ys : List Deed) → AllByRecursion TypedDeed (xs ++ ys) → AllByRecursion TypedDeed xs × AllByRecursion TypedDeed ys
   all_parts [] ys h = (tt, h)
@@ -178,9 +178,9 @@ module _ (g : Graph) (honest : ℕ → Bool) where
   read_typed : (st : ℕ → Option (Option Value)) (xs : List ℕ) (x : ℕ) (v : Value) → list_all (is_typed_or_hidden g) (read_values st xs) ≡ true → is_in x xs ≡ true → st x ≡ Some (Some v) → is_typed g (x, v) ≡ true
   read_typed st [] x v t i e = absurd (cc)
   read_typed st (y ∷ ys) x v t i e =
-      let ts = and_parts (is_typed_or_hidden g (y, seen (st y))) (list_all (is_typed_or_hidden g) (read_values st ys)) t in
+      let ts = and_parts (is_typed_or_hidden g (y, value_read (st y))) (list_all (is_typed_or_hidden g) (read_values st ys)) t in
       elim (cases_Bool (y == x)) [
-        | inl d ↦ subst (λ r. is_typed_or_hidden g (x, seen r) ≡ true) e (subst (λ z. is_typed_or_hidden g (z, seen (st z)) ≡ true) (eqb-true y x d) ts.0)
+        | inl d ↦ subst (λ r. is_typed_or_hidden g (x, value_read r) ≡ true) e (subst (λ z. is_typed_or_hidden g (z, value_read (st z)) ≡ true) (eqb-true y x d) ts.0)
         | inr d ↦ read_typed st ys x v ts.1 (rw d at i) e
       ]
 
@@ -281,7 +281,7 @@ pub one_path : (g : Graph) (honest : ℕ → Bool) (commit : Commit) (moves : Li
 one_path g honest commit moves events is f same typed = record {
   taken = not f.early;
   walk = record {
-    walk = subst (Walk (shape g) 0) (sym (labels_same f.steps ∙ ap (λ l. map (λ (t : Step). t.label) l) f.same)) f.plain.walk;
+    walk = subst (Walk (shape g) 0) (sym (labels_same f.steps ∙ ap (λ l. map (λ (t : TimedLabel). t.label) l) f.same)) f.plain.walk;
     values = typed_steps g honest (writes_rise g is) f.early nothing_stored f.steps f.names (subst (AllByRecursion (TypedDeed g honest)) (sym f.done) typed) f.exact;
   };
   held = subst (λ o. IfSome o (λ s. IsTrue (honest (sender (shape g) s.label) || honest (receiver (shape g) s.label)))) (sym (last_steps f.steps)) (held_of (last f.steps) f.ends);

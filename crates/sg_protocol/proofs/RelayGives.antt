@@ -121,7 +121,7 @@ module _ (sha : Hash) (keys : List PairKey) (sid : List ℕ) (cast : Cast) (targ
       let l : last fr.items ≡ Some (record oi { delta = r.0; tags = tags_but [] oi.tags }) = ap last (items_are oi) ∙ ap (λ z. last (reduced p.graph z)) (after_one to done oi not_to) ∙ r.1 in
       let s : Some item ≡ Some (record oi { delta = r.0; tags = tags_but [] oi.tags }) = sym its_last ∙ l in
       let s' : item ≡ record oi { delta = r.0; tags = tags_but [] oi.tags } = cc in
-      let d : r.0 ≡ oi.delta = ap (λ (z : Item). z.delta) (sym s') ∙ ap (λ (z : B.Entry A.Step (List ℕ)). z.writes) is_entry in
+      let d : r.0 ≡ oi.delta = ap (λ (z : Item). z.delta) (sym s') ∙ ap (λ (z : B.Entry A.TimedLabel (List ℕ)). z.writes) is_entry in
       s' ∙ ap (λ m. record oi { delta = m; tags = tags_but [] oi.tags }) d ∙ ap (λ m. record oi { tags = m }) (tags_all oi.tags)
 
   abbrev after : List Item
@@ -150,15 +150,15 @@ module _ (sha : Hash) (keys : List PairKey) (sid : List ℕ) (cast : Cast) (targ
       ∙ ap (λ l. map (λ t. (t, tag_for sha me cast t (item_text_of cast.version sid x.role t label (time x + 1) (commitments p.graph (done ++ item ∷ []))))) l) same_targets
       ∙ ap (λ (z : Item). map (λ t. (t, tag_for sha (keyring_of keys (principal cast z.role)) cast t (item_text_of cast.version sid z.role t z.label z.time (commitments p.graph (done ++ item ∷ []))))) (targets z.label)) (sym item_is)
 
-  time_done : R.last_time 0 (map step done) ≡ time x
+  time_done : R.time_after 0 (map step done) ≡ time x
   time_done = go (cases_Option (last done))
     where
       time_at : time x ≡ last_time done
       time_at = time_is p.graph x done held_is
 
-      go : (last done ≡ None) ⊎ ((i : Item) × (last done ≡ Some i)) → R.last_time 0 (map step done) ≡ time x
-      go (inl e) = ap (λ l. R.last_time 0 (map step l)) (no_last done e) ∙ sym (time_at ∙ ap (λ o. unwrap_or (option_map (λ (i : Item). i.time) o) 0) e)
-      go (inr e) = Times.last_time-last 0 (map step done) (step e.0) (Cut'.last-option_map step done ∙ ap (option_map step) e.1) ∙ sym (time_at ∙ ap (λ o. unwrap_or (option_map (λ (i : Item). i.time) o) 0) e.1)
+      go : (last done ≡ None) ⊎ ((i : Item) × (last done ≡ Some i)) → R.time_after 0 (map step done) ≡ time x
+      go (inl e) = ap (λ l. R.time_after 0 (map step l)) (no_last done e) ∙ sym (time_at ∙ ap (λ o. unwrap_or (option_map (λ (i : Item). i.time) o) 0) e)
+      go (inr e) = Times.time_after-last 0 (map step done) (step e.0) (Cut'.last-option_map step done ∙ ap (option_map step) e.1) ∙ sym (time_at ∙ ap (λ o. unwrap_or (option_map (λ (i : Item). i.time) o) 0) e.1)
 
   pub steps_ok : StepsOk sha keys sid cast targets p.graph (done ++ item ∷ [])
   steps_ok = record {

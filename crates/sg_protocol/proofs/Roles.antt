@@ -152,7 +152,7 @@ module _ (sha : Hash) (hash : IsHash sha) (programs : List Program) (s : Schedul
             record {
               cast = (a.x).cast;
               fits = TL.cast_fits (a.x).cast fx.version fx.cast;
-              id = k.id ∙ ap (λ (z : Frame). z.sid) a.its ∙ sym (act_event sha hash programs s compiled sched wf or.n sid0 label values confs e' to f q) ∙ sym (ap sid_of i);
+              id = k.id ∙ ap (λ (z : Frame). z.sid) a.its ∙ sym (act_event sha hash programs s compiled sched wf or.n sid0 label values confs e' to f q).0 ∙ sym (ap sid_of i);
               is_hashed = k.is_hashed;
               me = ap (principal (a.x).cast) (ap role_of i ∙ r.0 ∙ ap (λ (z : Frame). z.sender) (sym a.its)) ∙ k.me;
               joins = λ h. absurd (let n : true ≡ false = sym h ∙ ap does_join i ∙ r.1 in cc);

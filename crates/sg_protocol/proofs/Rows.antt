@@ -183,15 +183,15 @@ module _ (sha : Hash) (keys : List PairKey) (sid : List ℕ) (cast : Cast) (targ
 
   -- ---- times
 
-  own_time_is : R.last_time 0 (map step k.past) ≡ own_time x
+  own_time_is : R.time_after 0 (map step k.past) ≡ own_time x
   own_time_is = go (cases_Option (last k.past))
     where
-      go : (last k.past ≡ None) ⊎ ((i : Item) × (last k.past ≡ Some i)) → R.last_time 0 (map step k.past) ≡ own_time x
+      go : (last k.past ≡ None) ⊎ ((i : Item) × (last k.past ≡ Some i)) → R.time_after 0 (map step k.past) ≡ own_time x
       go (inl e) =
           let n : k.past ≡ [] = no_last k.past e in
-          ap (λ l. R.last_time 0 (map step l)) n ∙ sym (ap (λ o. unwrap_or (option_map (λ (i : Item). i.time) o) 0) (k.last_own ∙ ap (λ l. last (up_to_last by_role x.role l)) n))
+          ap (λ l. R.time_after 0 (map step l)) n ∙ sym (ap (λ o. unwrap_or (option_map (λ (i : Item). i.time) o) 0) (k.last_own ∙ ap (λ l. last (up_to_last by_role x.role l)) n))
       go (inr e) =
-          Times.last_time-last 0 (map step k.past) (step e.0) (Cut'.last-option_map step k.past ∙ ap (option_map step) e.1)
+          Times.time_after-last 0 (map step k.past) (step e.0) (Cut'.last-option_map step k.past ∙ ap (option_map step) e.1)
           ∙ sym (ap (λ o. unwrap_or (option_map (λ (i : Item). i.time) o) 0) (k.last_own ∙ ap last (last_of_role x.role k.past (k.waits wait)) ∙ e.1))
 
   times_ok : bad_time 1 (own_time x) f.items ≡ None

@@ -17,7 +17,7 @@ use Rattle.sg_protocol.specs.Keyring.{Keyring, Program, targets_of, key_of}
 use Rattle.sg_protocol.specs.Session.{Session, Exchange, Took, Gave, principal, told, own_time, time, at_turn, commitments, extended, new_session}
 use Rattle.sg_protocol.specs.Sending.{text_of, text_to, frame_sent, tag_for}
 use Rattle.sg_protocol.specs.Checks.{texts_checked}
-use Rattle.sg_protocol.specs.Calls.{Refusal, BadFrameTag, NoSuchView, BadEvidence, BadOpening, ActFault, Event, Started, Sent, Received, Call, Start, Act, Abandon, Deliver, Answer, Happened, Sends, Abandoned, NotStarted, NotActed, StartFault, UnknownGraph, UnknownSession, NotWaiting, BadCast, BadSession, UnknownPeer, Joined, CacheFull, SessionsFull, sid_of}
+use Rattle.sg_protocol.specs.Calls.{Refusal, BadFrameTag, NoSuchView, BadEvidence, BadOpening, ActFault, Event, Started, Sent, Received, Call, Start, Act, Abandon, Deliver, Answer, Happened, Sends, Abandoned, NotStarted, NotActed, StartFault, UnknownGraph, UnknownSession, NotWaiting, BadCast, BadSession, UnknownPeer, Joined, CacheFull, SessionsFull, sid_of, role_of}
 use Rattle.sg_protocol.specs.Verdict.{row, rows_of_session, has_frame_tag, is_shown, bad_time, has_item_tag, is_right, decided, receipt, verdict_on, rows_of_join, rows_of_next, join_rows, next_rows, rows}
 use Rattle.sg_protocol.specs.Notes.{Note, note_of, notes_in_session, notes_of_sent, Notes, notes, notes_of_start, notes_of_act, no_notes, notes_of_read, session_of_frame, hashed_of_join, row_number}
 use Rattle.sg_protocol.specs.Schedule.{Schedule, is_honest, honest_role, Step, StartStep, ActStep, AbandonStep, DeliverStep, CraftStep, PairKey, cast_of, sid_at, confounder}
@@ -436,21 +436,21 @@ module _ (sha : Hash) (hash : IsHash sha) (programs : List Program) (s : Schedul
 
   -- ---- where a note was made
 
-  pub act_event : (n : Node) (sid0 : List ℕ) (label : ℕ) (values : Map Value) (confs : List (List ℕ)) (e : Event) (to : Name) (f : Frame) → answer sha n (Act sid0 label values confs) ≡ Sends e to f → sid_of e ≡ f.sid
+  pub act_event : (n : Node) (sid0 : List ℕ) (label : ℕ) (values : Map Value) (confs : List (List ℕ)) (e : Event) (to : Name) (f : Frame) → answer sha n (Act sid0 label values confs) ≡ Sends e to f → (sid_of e ≡ f.sid) × (role_of e ≡ f.sender)
   act_event n sid0 label values confs e to f a = by_session (session_with n.live sid0) a
     where
-      by_rows : (x : Session) (p : Program) (o : Option ActFault) → acted (sent sha n.keys p x label values confs) o ≡ Sends e to f → sid_of e ≡ f.sid
+      by_rows : (x : Session) (p : Program) (o : Option ActFault) → acted (sent sha n.keys p x label values confs) o ≡ Sends e to f → (sid_of e ≡ f.sid) × (role_of e ≡ f.sender)
       by_rows x p (Some fault) a = absurd (cc)
       by_rows x p None a =
           let q : Sent x.sid x.role label (time x + 1) values ≡ e = cc in
           let r : frame_sent sha n.keys p x label (openings_for values confs) ≡ f = cc in
-          ap sid_of (sym q) ∙ ap (λ (z : Frame). z.sid) r
+          (ap sid_of (sym q) ∙ ap (λ (z : Frame). z.sid) r, ap role_of (sym q) ∙ ap (λ (z : Frame). z.sender) r)
 
-      by_session : (o : Option Session) → option_map_or (λ x. option_map_or (λ p. acted (sent sha n.keys p x label values confs) (first_some (rows_of_act p x label values))) (program_for n.programs x.cast.graph x.role) (NotActed ActFault.UnknownSession)) o (NotActed ActFault.UnknownSession) ≡ Sends e to f → sid_of e ≡ f.sid
+      by_session : (o : Option Session) → option_map_or (λ x. option_map_or (λ p. acted (sent sha n.keys p x label values confs) (first_some (rows_of_act p x label values))) (program_for n.programs x.cast.graph x.role) (NotActed ActFault.UnknownSession)) o (NotActed ActFault.UnknownSession) ≡ Sends e to f → (sid_of e ≡ f.sid) × (role_of e ≡ f.sender)
       by_session None a = absurd (cc)
       by_session (Some x) a = by_program (program_for n.programs x.cast.graph x.role) a
         where
-          by_program : (o : Option Program) → option_map_or (λ p. acted (sent sha n.keys p x label values confs) (first_some (rows_of_act p x label values))) o (NotActed ActFault.UnknownSession) ≡ Sends e to f → sid_of e ≡ f.sid
+          by_program : (o : Option Program) → option_map_or (λ p. acted (sent sha n.keys p x label values confs) (first_some (rows_of_act p x label values))) o (NotActed ActFault.UnknownSession) ≡ Sends e to f → (sid_of e ≡ f.sid) × (role_of e ≡ f.sender)
           by_program None a = absurd (cc)
           by_program (Some p) a = by_rows x p (first_some (rows_of_act p x label values)) a
 
@@ -462,6 +462,7 @@ module _ (sha : Hash) (hash : IsHash sha) (programs : List Program) (s : Schedul
     there : In n.live x
     is_answer : answer sha n c ≡ Sends e to f
     same_sid : sid_of e ≡ f.sid
+    same_role : role_of e ≡ f.sender
     sid_is : f.sid ≡ x.sid
     sender_is : f.sender ≡ x.role
     tag_is : f.tag ≡ tag_for sha n.keys x.cast f.receiver (text_of f)
@@ -498,7 +499,8 @@ module _ (sha : Hash) (hash : IsHash sha) (programs : List Program) (s : Schedul
             x = a.x;
             there = found_in (λ (z : Session). bytes_eq z.sid sid0) n.live a.x a.found;
             is_answer = q;
-            same_sid = act_event n sid0 label values confs e to f q;
+            same_sid = (act_event n sid0 label values confs e to f q).0;
+            same_role = (act_event n sid0 label values confs e to f q).1;
             sid_is = ap (λ (z : Frame). z.sid) (sym a.its);
             sender_is = ap (λ (z : Frame). z.sender) (sym a.its);
             tag_is = subst (λ (z : Frame). z.tag ≡ tag_for sha n.keys (a.x).cast z.receiver (text_of z)) a.its refl;
@@ -610,6 +612,7 @@ module _ (sha : Hash) (hash : IsHash sha) (programs : List Program) (s : Schedul
               o'.is_frame ∙ ap frame_in g.is_answer ∙ ap (λ (z : Frame). Some (spelling z)) whole_ ∙ ap (λ z. Some z) spells.spelled,
               o'.is_outcome ∙ ap (λ z. Answered z) (g.is_answer ∙ ap (Sends g.e g.to) whole_),
               g.same_sid ∙ sym sid_same,
+              g.same_role ∙ sym (ap (λ (z : Frame). z.sender) u),
             )
           where
             pairs_ : (ks : List PairKey) → All IsPairKey ks → AllByRecursion (λ (z : PairKey). z.one ≢ z.two) ks

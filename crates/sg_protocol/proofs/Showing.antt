@@ -33,12 +33,12 @@ use Rattle.sg_protocol.specs.Premises.{hashed, Unforged}
 use Rattle.sg_protocol.specs.IsSchedule.{IsStep}
 use Rattle.sg_protocol.specs.Completeness.{HadAnswer}
 use Rattle.sg_protocol.specs.Receipts.{IsTaken}
-use Rattle.sg_protocol.specs.LastSteps.{ShowsLastSteps, Held, Bare, bare, exchanges_of, honest_items}
+use Rattle.sg_protocol.specs.LastSteps.{ShowsLastSteps, HeldBySender, Bare, bare, exchanges_of, honest_items}
 use Rattle.sg_law.specs.Accept.{honest_part}
 use Rattle.sg_law.specs.Accept as A
 use Rattle.sg_law.specs.Run as R
 use Rattle.sg_law.specs.Values as V
-use Rattle.sg_law.specs.Values.{State, Made, whole, com_of, Move, Commit, moved, own_of, put, AllMay, moved_all, all_openings, Binding, Agreed}
+use Rattle.sg_law.specs.Values.{State, Made, told_with_item, com_of, Move, Commit, moved, own_of, put, AllMay, moved_all, all_openings, Binding, Agreed}
 use Rattle.sg_law.specs.Values.Move.{Writes, Takes}
 use Rattle.sg_law.proofs.Upto.{In, upto-more}
 use Rattle.sg_law.proofs.Cut.{last-option_map, split_end}
@@ -55,7 +55,7 @@ use Rattle.sg_protocol.proofs.Course.{Progress, progress_called, progress_moves,
 
 module _ (g : Graph) (honest : ℕ → Bool) where
   -- a step's item, whose role is the sender of its label
-  abbrev of_step : A.Step → Bare
+  abbrev of_step : A.TimedLabel → Bare
   of_step t = record { role = sender (shape g) t.label; label = t.label; time = t.time }
 
   bare_steps : (is : List Item) → Roles (shape g) is → map bare is ≡ map of_step (map step is)
@@ -70,7 +70,7 @@ module _ (g : Graph) (honest : ℕ → Bool) where
   ]
 
   -- the key of a step, and of its item
-  abbrev by_step : A.Step → ℕ
+  abbrev by_step : A.TimedLabel → ℕ
   by_step t = sender (shape g) t.label
 
   last_steps : (k : ℕ) (is : List Item) → Roles (shape g) is → map step (last_of (λ (i : Item). i.role) (after_last (λ (i : Item). i.role) k is)) ≡ last_of by_step (after_last by_step k (map step is))
@@ -82,7 +82,7 @@ module _ (g : Graph) (honest : ℕ → Bool) where
 
   module _ (st : State) (f : Frame) (roles : Roles (shape g) f.items) (agreed : Agreed (shape g) honest st f.receiver (entries f.items)) where
     -- the items of honest senders are their last ones
-    pub shown_items : (done : List Item) → Roles (shape g) done → st.world.sent ≡ map step done → map bare (filter (λ (i : Item). honest i.role) f.items) ≡ map bare (last_of (λ (i : Item). i.role) (after_last (λ (i : Item). i.role) f.receiver done))
+    pub shown_items : (done : List Item) → Roles (shape g) done → st.machine.sent ≡ map step done → map bare (filter (λ (i : Item). honest i.role) f.items) ≡ map bare (last_of (λ (i : Item). i.role) (after_last (λ (i : Item). i.role) f.receiver done))
     shown_items done r e =
         let P : Item → Type 0 = λ i. i.role ≡ sender (shape g) i.label in
         bare_steps (filter (λ (i : Item). honest i.role) f.items) (all-filter P (λ (i : Item). honest i.role) f.items roles)
@@ -105,7 +105,7 @@ module _ (g : Graph) (honest : ℕ → Bool) where
 
 -- ---- a run
 
-split_some : (f : Item → A.Step) (o : Option Item) (t : A.Step) → option_map f o ≡ Some t → (i : Item) × (o ≡ Some i) × (f i ≡ t)
+split_some : (f : Item → A.TimedLabel) (o : Option Item) (t : A.TimedLabel) → option_map f o ≡ Some t → (i : Item) × (o ≡ Some i) × (f i ≡ t)
 split_some f None t e = absurd (cc)
 split_some f (Some i) t e = (i, refl, cc)
 
@@ -139,17 +139,17 @@ module _ (sha : Hash) (hash : IsHash sha) (s : Schedule) (programs : List Progra
   Ok' st who n = Ok_ sha hash s programs sid cast g is acc version long differ prog wf unforged one_cast Fit fit_next fit_bytes fit_sends casts_fit st who n
 
   -- a role's own last step, in the law's words
-  own_last : (st : State) (k : ℕ) (n : Node) → Ok' st (principal cast k) n → k < length cast.names → (st.world.at k).own ≡ last (V.steps_of (own_of (shape g) st k))
+  own_last : (st : State) (k : ℕ) (n : Node) → Ok' st (principal cast k) n → k < length cast.names → (st.machine.at k).own ≡ last (V.steps_of (own_of (shape g) st k))
   own_last st k n ok l = go ok.status
     where
-      of_session : (x : Session) → Matches g sid cast st (principal cast k) x → x.role ≡ k → (st.world.at k).own ≡ last (V.steps_of (own_of (shape g) st k))
-      of_session x m e = subst (λ r. (st.world.at r).own ≡ last (V.steps_of (own_of (shape g) st r))) e
+      of_session : (x : Session) → Matches g sid cast st (principal cast k) x → x.role ≡ k → (st.machine.at k).own ≡ last (V.steps_of (own_of (shape g) st k))
+      of_session x m e = subst (λ r. (st.machine.at r).own ≡ last (V.steps_of (own_of (shape g) st r))) e
           (m.is_own ∙ sym (steps_entries (own x)) ∙ ap (λ l. last (V.steps_of l)) (sym (own_entries g honest st x.role (told x) m.is_told m.roles)))
 
       place_of : (x : Session) → Matches g sid cast st (principal cast k) x → x.role ≡ k
       place_of x m = one_place cast.names x.role k differ m.inside l m.is_who
 
-      go : Status sha hash s programs sid cast g is acc version long differ prog (λ t. In (hashed s wf) t) one_cast (λ who. HadAnswer wf.log who (Abandon sid) Abandoned) st (principal cast k) n → (st.world.at k).own ≡ last (V.steps_of (own_of (shape g) st k))
+      go : Status sha hash s programs sid cast g is acc version long differ prog (λ t. In (hashed s wf) t) one_cast (λ who. HadAnswer wf.log who (Abandon sid) Abandoned) st (principal cast k) n → (st.machine.at k).own ≡ last (V.steps_of (own_of (shape g) st k))
       go (inl f) = (let u = f.all k refl l in ap (λ (z : R.Local). z.own) u.start ∙ sym (ap (λ l. last (V.steps_of (up_to_last (by (shape g)) k l))) u.none))
       go (inr (inl h)) = of_session h.x h.matches (place_of h.x h.matches)
       go (inr (inr h)) = of_session h.x h.matches (place_of h.x h.matches)
@@ -193,8 +193,8 @@ module _ (sha : Hash) (hash : IsHash sha) (s : Schedule) (programs : List Progra
       agreed : Agreed (shape g) honest st f.receiver (entries f.items)
       agreed = all_agreed (shape g) honest commit p.moves f.receiver t.node (entries f.items) f.openings acc.sighted (binding p.moves p.used) all_may
 
-      sent_is : st.world.sent ≡ map step (honest_items sid (called sha w k who c past).log)
-      sent_is = ap (λ (z : State). z.world.sent) (sym st_is) ∙ next.sent.0
+      sent_is : st.machine.sent ≡ map step (honest_items sid (called sha w k who c past).log)
+      sent_is = ap (λ (z : State). z.machine.sent) (sym st_is) ∙ next.sent.0
 
       -- what a role was told until the frame
       told_before : (r : ℕ) (pk : Past) → past_of (called sha w k who c past) (principal cast r) ≡ Some pk → r < length cast.names → (r == f.receiver) ≡ false → st.told r ≡ entries (flat_map items_of (exchanges_of sid r pk.calls))
@@ -207,12 +207,12 @@ module _ (sha : Hash) (hash : IsHash sha) (s : Schedule) (programs : List Progra
           ∙ ap (up_to_last (by (shape g)) f.receiver) (sym (rw (eqb_same f.receiver) refl))
           ∙ own_entries g honest st' f.receiver (flat_map items_of (exchanges_of sid f.receiver pk.calls)) (ap (λ (z : State). z.told f.receiver) (sym st_is) ∙ told_r.0) told_r.1
 
-      last_of_own : (r : ℕ) (us : List Item) (t : A.Step) → (st.world.at r).own ≡ Some t → (st.world.at r).own ≡ last (V.steps_of (own_of (shape g) st r)) → own_of (shape g) st r ≡ entries us → (i : Item) × (last us ≡ Some i) × (step i ≡ t)
+      last_of_own : (r : ℕ) (us : List Item) (t : A.TimedLabel) → (st.machine.at r).own ≡ Some t → (st.machine.at r).own ≡ last (V.steps_of (own_of (shape g) st r)) → own_of (shape g) st r ≡ entries us → (i : Item) × (last us ≡ Some i) × (step i ≡ t)
       last_of_own r us t e o u = split_some step (last us) t (sym (steps_entries us) ∙ ap (λ l. last (V.steps_of l)) (sym u) ∙ sym o ∙ e)
 
       -- the sender of an item held the commitments that its receiver holds
       held_by : (pr : Past) → past_of (called sha w k who c past) who ≡ Some pr → (front : List Item) (i : Item) (rest : List Item) → f.items ≡ front ++ i ∷ rest → honest i.role ≡ true
-          → Held (called sha w k who c past) g cast sid i (commitments g (up_to_last (λ (i : Item). i.role) f.receiver (flat_map items_of (exchanges_of sid f.receiver pr.calls)) ++ front ++ i ∷ []))
+          → HeldBySender (called sha w k who c past) g cast sid i (commitments g (up_to_last (λ (i : Item). i.role) f.receiver (flat_map items_of (exchanges_of sid f.receiver pr.calls)) ++ front ++ i ∷ []))
       held_by pr pr_is front i rest e h =
           let ne : (i.role == f.receiver) ≡ false = has-mid (λ (i : Item). i.role) f.receiver front i rest (subst (λ l. has (λ (i : Item). i.role) f.receiver l ≡ false) e t.no_own) in
           let l : i.role < length cast.names = inside i.role h in
@@ -223,7 +223,7 @@ module _ (sha : Hash) (hash : IsHash sha) (s : Schedule) (programs : List Progra
           let all : List Item = flat_map items_of (exchanges_of sid i.role (pk.0).calls) in
           let told_i = next.told (principal cast i.role) pk.0 pk.1 i.role refl l in
           let own_i : own_of (shape g) st i.role ≡ entries (up_to_last (λ (i : Item). i.role) i.role (flat_map items_of (exchanges_of sid i.role (pk.0).calls))) = own_entries g honest st i.role (flat_map items_of (exchanges_of sid i.role (pk.0).calls)) (told_before i.role pk.0 pk.1 l ne) told_i.1 in
-          let current : (st.world.at i.role).own ≡ Some (step i) = ap (λ r. (st.world.at r).own) role ∙ agreed.current (entries front) (entries rest) (entry i) (ap entries e ∙ map-append entry front (i ∷ rest)) (ap honest (sym role) ∙ h) in
+          let current : (st.machine.at i.role).own ≡ Some (step i) = ap (λ r. (st.machine.at r).own) role ∙ agreed.current (entries front) (entries rest) (entry i) (ap entries e ∙ map-append entry front (i ∷ rest)) (ap honest (sym role) ∙ h) in
           let found = last_of_own i.role (up_to_last (λ (i : Item). i.role) i.role (flat_map items_of (exchanges_of sid i.role (pk.0).calls))) (step i) current (own_last st i.role (node_of pk0.0) ok l) own_i in
           let cut = split_end (up_to_last (λ (i : Item). i.role) i.role (flat_map items_of (exchanges_of sid i.role (pk.0).calls))) found.0 found.1 in
           let role' : (found.0).role ≡ sender (shape g) (found.0).label = all-mid (λ (i : Item). i.role ≡ sender (shape g) i.label) cut.0 found.0 [] (subst (Roles (shape g)) cut.1 (all-up_to_last (λ (i : Item). i.role ≡ sender (shape g) i.label) (λ (i : Item). i.role) i.role (flat_map items_of (exchanges_of sid i.role (pk.0).calls)) told_i.1)) in (
@@ -233,7 +233,7 @@ module _ (sha : Hash) (hash : IsHash sha) (s : Schedule) (programs : List Progra
             after_last (λ (i : Item). i.role) i.role (flat_map items_of (exchanges_of sid i.role (pk.0).calls)),
             pk.1,
             sym (up_to_last-after (λ (i : Item). i.role) i.role (flat_map items_of (exchanges_of sid i.role (pk.0).calls))) ∙ ap (λ l. l ++ after_last (λ (i : Item). i.role) i.role (flat_map items_of (exchanges_of sid i.role (pk.0).calls))) cut.1 ∙ append_assoc cut.0 (found.0 ∷ []) (after_last (λ (i : Item). i.role) i.role (flat_map items_of (exchanges_of sid i.role (pk.0).calls))),
-            ap (λ r. record { role = r; label = (found.0).label; time = (found.0).time }) (role' ∙ ap (λ (z : A.Step). sender (shape g) z.label) found.2 ∙ sym role) ∙ ap (λ (z : A.Step). record { role = i.role; label = z.label; time = z.time }) found.2,
+            ap (λ r. record { role = r; label = (found.0).label; time = (found.0).time }) (role' ∙ ap (λ (z : A.TimedLabel). sender (shape g) z.label) found.2 ∙ sym role) ∙ ap (λ (z : A.TimedLabel). record { role = i.role; label = z.label; time = z.time }) found.2,
             same_held g honest st f t.roles agreed (up_to_last (λ (i : Item). i.role) f.receiver (flat_map items_of (exchanges_of sid f.receiver pr.calls))) front i rest (up_to_last (λ (i : Item). i.role) i.role (flat_map items_of (exchanges_of sid i.role (pk.0).calls))) (own_receiver pr pr_is) e h own_i
                 ∙ ap (commitments g) cut.1,
           )
@@ -242,7 +242,7 @@ module _ (sha : Hash) (hash : IsHash sha) (s : Schedule) (programs : List Progra
       shows_last pr pr_is q = record {
         items = subst (λ z. map bare (filter (λ (i : Item). honest_role s cast i.role) f.items) ≡ map bare (last_of (λ (i : Item). i.role) (after_last (λ (i : Item). i.role) f.receiver (honest_items z (called sha w k who c past).log)))) (sym q)
             (shown_items g honest st f t.roles agreed (honest_items sid (called sha w k who c past).log) next.sent.1 sent_is);
-        held = λ front i rest e h. subst (λ z. Held (called sha w k who c past) g cast z i (commitments g (up_to_last (λ (i : Item). i.role) f.receiver (flat_map items_of (exchanges_of z f.receiver pr.calls)) ++ front ++ i ∷ []))) (sym q) (held_by pr pr_is front i rest e h);
+        held = λ front i rest e h. subst (λ z. HeldBySender (called sha w k who c past) g cast z i (commitments g (up_to_last (λ (i : Item). i.role) f.receiver (flat_map items_of (exchanges_of z f.receiver pr.calls)) ++ front ++ i ∷ []))) (sym q) (held_by pr pr_is front i rest e h);
       }
 
     pub shows_called : Shows (called sha w k who c past)

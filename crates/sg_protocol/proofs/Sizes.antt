@@ -1,5 +1,5 @@
 -- How many bytes a step adds to the record.
-use Rattle.std.specs.Prelude.{◌≡◌, ℕ, zero, suc, ◌+◌, ◌*◌, ◌<◌, ◌≤◌, ◌==◌, nat_lt, nat_le, ◌&&◌, ◌⊎◌, Bool, true, false, not, if◌then◌else◌, List, [], ◌∷◌, ◌++◌, map, flat_map, length, codes, sum_by, take, take_while, bytes_eq, refl, Option, Some, None, option_map, option_and_then, IfSome, IsSomeAnd, IsTrue, slice_get, Result, Ok, Err}
+use Rattle.std.specs.Prelude.{◌≡◌, ℕ, zero, suc, ◌+◌, ◌*◌, ◌<◌, ◌≤◌, ◌==◌, nat_lt, nat_le, ◌&&◌, Bool, true, false, not, if◌then◌else◌, List, [], ◌∷◌, ◌++◌, map, flat_map, length, codes, sum_by, take, take_while, bytes_eq, refl, Option, Some, None, option_map, option_and_then, IfSome, IsSomeAnd, IsTrue, slice_get, Result, Ok, Err}
 use Rattle.std.specs.List.{AllByRecursion, list_all, prefix_len}
 use Rattle.std.specs.Option.{option_or, option_map_or}
 use Rattle.std.proofs.Common.{sym, ◌∙◌, ap, subst, inl, inr, arith}
@@ -12,13 +12,12 @@ use Rattle.sg_model.specs.Names.{Name, is_name, is_name_byte, is_letter}
 use Rattle.sg_model.specs.Values.{Value, Opening}
 use Rattle.sg_model.specs.Bytes.{IsBytes, AreBytes}
 use Rattle.sg_model.proofs.Small.{all-append, take_most}
-use Rattle.std.proofs.lemmas.Slice.Eq.{bytes_eq-Decides}
 use Rattle.std.proofs.lemmas.List.{length-append, length-take-le}
 use Rattle.std.proofs.lemmas.List.Elements.{recursion_from_All}
 use Rattle.sg_protocol.specs.Graph.{Graph, IsGraph, writes}
 use Rattle.sg_protocol.specs.Frame.{Cast, Item, Frame, IsValue, IsItem, IsTag, IsOpening, IsCastOf, tag_len}
 use Rattle.sg_protocol.specs.Spelling.{spelling, body, u8, u16, u32, short_text, item_bytes, map_bytes, pair_bytes, opening_bytes, join_bytes, join_code, magic, HasSpelling}
-use Rattle.sg_protocol.specs.Texts.{Hash, IsHash, cut, session_id, graph_digest, graph_text_of, session_text_of, commitment_text_of, maybe_commitment}
+use Rattle.sg_protocol.specs.Texts.{Hash, IsHash, cut, session_id, graph_text_of, session_text_of, commitment_text_of, maybe_commitment}
 use Rattle.sg_protocol.specs.Session.{Session, new_session, told, own, committed, commitments, principal}
 use Rattle.sg_protocol.specs.Keyring.{Keyring, Program, targets_of}
 use Rattle.sg_protocol.specs.Sending.{text_to, text_of}
@@ -29,6 +28,8 @@ use Rattle.sg_protocol.specs.Past.{Past, node_of}
 use Rattle.sg_protocol.specs.Reading.{read}
 use Rattle.sg_protocol.specs.Acting.{answer, openings_for}
 use Rattle.sg_protocol.specs.Schedule.{Schedule, Source, Craft, CraftItem, Declared, Step, StartStep, ActStep, AbandonStep, DeliverStep, CraftStep, confounder, cast_of, sid_at, graph_with}
+use Rattle.sg_law.proofs.Members.{rec_in}
+use Rattle.sg_law.proofs.Upto.{in_from_Contains}
 use Rattle.sg_protocol.specs.World.{World, Logged, Answered, Crafted, NoFrame, past_of, new_world, call_of, bytes_of}
 use Rattle.sg_protocol.specs.Crafted.{tag_by, crafted_item, crafted_items, known_item, crafted_frame, crafted}
 use Rattle.sg_protocol.specs.Run.{frame_in, recorded, called_if, world_after, world_after_all, run}
@@ -36,7 +37,7 @@ use Rattle.sg_protocol.specs.Steps.{logged_size, record_size, StepsAddLittle}
 use Rattle.sg_protocol.specs.IsSchedule.{IsProgram, AreCompiled, IsDeclared, IsStep, IsSchedule}
 use Rattle.sg_protocol.specs.Checks.{checked_texts, texts_checked}
 use Rattle.sg_protocol.specs.Notes.{Note, Notes, note_of, hashed_openings, notes_in_session, notes_of_sent, notes_of_act, notes_of_read, hashed_of_join, session_of_frame, row_number, no_notes, notes_of_start, notes}
-use Rattle.sg_protocol.proofs.Calls.{find_all, find_passes}
+use Rattle.sg_protocol.proofs.Calls.{find_all}
 use Rattle.sg_protocol.proofs.Moves.{writes_below, note_text}
 use Rattle.sg_protocol.proofs.Paths.{writes_rise}
 use Rattle.sg_protocol.proofs.Fits.{Fit, fit_new, fit_next, fit_bytes, fit_sends, declared_in, ActSent, act_sends, act_fit}
@@ -508,19 +509,17 @@ module _ (sha : Hash) (hash : IsHash sha) (programs : List Program) (s : Schedul
   declared_len : (n : ℕ) (c : Cast) → cast_of s n ≡ Some c → length (session_text_of c) ≤ 589
   declared_len n c e = by_declared (slice_get s.sessions n) refl e
     where
-      by_graph : (d : Declared) (o : Option Graph) → graph_with sha s.graphs d.cast.graph ≡ o → IsSomeAnd o (λ g. (length d.cast.names ≡ length g.roles) × IsTrue (all_differ d.cast.names && list_all is_name d.cast.names) × AreBytes 16 d.cast.nonce × ((d.cast.version ≡ 1) ⊎ (d.cast.version ≡ 2))) → length (session_text_of d.cast) ≤ 589
-      by_graph d None q h = absurd h
-      by_graph d (Some y) q h =
-          let same : graph_digest sha y ≡ d.cast.graph = (bytes_eq-Decides (graph_digest sha y) d.cast.graph).0 (find_passes (λ z. bytes_eq (graph_digest sha z) d.cast.graph) s.graphs y q) in
-          let long : length d.cast.graph ≡ 32 = subst (λ z. length z ≡ 32) same (hash (graph_text_of y)).0 in
-          let ig : IsGraph y = find_all (λ z. bytes_eq (graph_digest sha z) d.cast.graph) IsGraph s.graphs y (recursion_from_All IsGraph s.graphs sched.are_graphs) q in
+      by_graph : (d : Declared) → IsDeclared sha s.graphs d → length (session_text_of d.cast) ≤ 589
+      by_graph d h =
+          let long : length d.cast.graph ≡ 32 = subst (λ z. length z ≡ 32) (sym h.digest) (hash (graph_text_of h.graph)).0 in
+          let ig : IsGraph h.graph = rec_in IsGraph s.graphs h.graph (recursion_from_All IsGraph s.graphs sched.are_graphs) (in_from_Contains s.graphs h.graph h.is_there) in
           let few = ig.sizes.0 in
-          let count = h.0 in
-          cast_len d.cast long h.2.0 (omega (arith, few, count)) (and_parts (all_differ d.cast.names) (list_all is_name d.cast.names) h.1).1
+          let count = h.count in
+          cast_len d.cast long h.nonce.0 (omega (arith, few, count)) (and_parts (all_differ d.cast.names) (list_all is_name d.cast.names) h.names).1
 
       by_declared : (o : Option Declared) → slice_get s.sessions n ≡ o → option_map (λ (d : Declared). d.cast) o ≡ Some c → length (session_text_of c) ≤ 589
       by_declared None q e = absurd (let z : None ≡ Some c = e in cc)
-      by_declared (Some d) q e = (let r : d.cast ≡ c = cc in subst (λ z. length (session_text_of z) ≤ 589) r (by_graph d (graph_with sha s.graphs d.cast.graph) refl (declared_in Declared (IsDeclared sha s.graphs) s.sessions n d sched.sessions q)))
+      by_declared (Some d) q e = (let r : d.cast ≡ c = cc in subst (λ z. length (session_text_of z) ≤ 589) r (by_graph d (declared_in Declared (IsDeclared sha s.graphs) s.sessions n d sched.sessions q)))
 
   module _ (w : World) (fit : Fit sha hash programs s compiled sched w) (k : ℕ) where
     start_bytes : (c : Cast) → length (session_text_of c) ≤ 589 → (a : Answer) → notes_bytes (notes_of_start c a) ≤ 589

@@ -29,16 +29,16 @@ use Rattle.sg_protocol.specs.Notes.{Note, note_of, notes_in_session}
 use Rattle.sg_protocol.specs.Walk.{is_typed_or_hidden}
 use Rattle.sg_protocol.specs.Schedule.{Schedule, is_honest, honest_role}
 use Rattle.sg_law.specs.Last as B
-use Rattle.sg_law.specs.Accept.{sender_of, Step}
+use Rattle.sg_law.specs.Accept.{sender_of, TimedLabel}
 use Rattle.sg_law.specs.Run.{RisesFrom, Turn}
 use Rattle.sg_law.specs.Run as R
 use Rattle.sg_law.specs.Values as V
-use Rattle.sg_law.specs.Values.{State, Made, whole, com_of, Move, Commit, moved, MayTake, Tagged, Framed, Opened, own_of, is_variable, put}
+use Rattle.sg_law.specs.Values.{State, Made, told_with_item, com_of, Move, Commit, moved, MayTake, Tagged, Framed, Opened, own_of, is_variable, put}
 use Rattle.sg_law.specs.Values.Move.{Writes, Takes}
 use Rattle.sg_law.proofs.Lists.{has-map, has-last_of, eqb_same, last-append_some}
 use Rattle.sg_law.proofs.Upto.{In, upto-more}
 use Rattle.sg_law.proofs.Cut.{last-option_map}
-use Rattle.sg_law.proofs.Times.{last_time-last}
+use Rattle.sg_law.proofs.Times.{time_after-last}
 use Rattle.sg_protocol.proofs.Paths.{flat_map-append}
 use Rattle.sg_protocol.proofs.Bridge.{labels-view_of, has_view-Contains}
 use Rattle.sg_protocol.proofs.Entries.{entry, entries, entries-com, by, Roles, has-entries, up_to-entries, sight, view_ends, view_last_edge, seen_labels, has-after_last}
@@ -143,15 +143,15 @@ module _ (sha : Hash) (s : Schedule) (sid : List ℕ) (cast : Cast) (keys : Keyr
   honest_role_is : honest_role s cast x.role ≡ true
   honest_role_is = ap (is_honest s) m.is_who ∙ hon
 
-  own_label : (o : Option Item) → option_map (λ (i : Item). i.label) o ≡ option_map (λ (t : Step). t.label) (option_map step o)
+  own_label : (o : Option Item) → option_map (λ (i : Item). i.label) o ≡ option_map (λ (t : TimedLabel). t.label) (option_map step o)
   own_label None = refl
   own_label (Some i) = refl
 
   -- what it is shown, from the law's own last step on
-  pub law_view : IsView g x.role (record { origin = option_map (λ (t : Step). t.label) (st.world.at x.role).own; items = map seen f.items })
-  law_view = subst (λ o. IsView g x.role (record { origin = o; items = map seen f.items })) (own_label (last (own x)) ∙ ap (option_map (λ (t : Step). t.label)) (sym m.is_own)) viewed
+  pub law_view : IsView g x.role (record { origin = option_map (λ (t : TimedLabel). t.label) (st.machine.at x.role).own; items = map seen f.items })
+  law_view = subst (λ o. IsView g x.role (record { origin = o; items = map seen f.items })) (own_label (last (own x)) ∙ ap (option_map (λ (t : TimedLabel). t.label)) (sym m.is_own)) viewed
 
-  own_times : (o : Option Item) → unwrap_or (option_map (λ (i : Item). i.time) o) 0 ≡ R.own_time (option_map step o)
+  own_times : (o : Option Item) → unwrap_or (option_map (λ (i : Item). i.time) o) 0 ≡ R.time_of_own (option_map step o)
   own_times None = refl
   own_times (Some i) = refl
 
@@ -175,7 +175,7 @@ module _ (sha : Hash) (s : Schedule) (sid : List ℕ) (cast : Cast) (keys : Keyr
       (record { version = subst (λ (c : Cast). IsVersion c.version) (sym m.same_cast) version; sid = long; label = (let l = it.label in omega arith); time = (let l = it.time.1 in omega arith); held = are_held g ((own x ++ a) ++ i ∷ []) fits })
       (note_text keys.me (principal x.cast i.role) t ∙ ap (λ z. item_text_of x.cast.version z i.role x.role i.label i.time (commitments g ((own x ++ a) ++ i ∷ []))) m.same_sid)
 
-  law_tag : (a b : List (B.Entry Step Code)) (i j : B.Entry Step Code) → entries f.items ≡ a ++ i ∷ j ∷ b → honest_role s cast (sender (shape g) i.step.label) ≡ true → Tagged (shape g) st.log (own_of (shape g) st x.role ++ (a ++ i ∷ [])) i
+  law_tag : (a b : List (B.Entry TimedLabel Code)) (i j : B.Entry TimedLabel Code) → entries f.items ≡ a ++ i ∷ j ∷ b → honest_role s cast (sender (shape g) i.step.label) ≡ true → Tagged (shape g) st.log (own_of (shape g) st x.role ++ (a ++ i ∷ [])) i
   law_tag a b i j e h = go (split f.items a i (j ∷ b) e)
     where
       go : Split f.items a i (j ∷ b) → Tagged (shape g) st.log (own_of (shape g) st x.role ++ (a ++ i ∷ [])) i
@@ -184,7 +184,7 @@ module _ (sha : Hash) (s : Schedule) (sid : List ℕ) (cast : Cast) (keys : Keyr
           more : (rest : List Item) → j ∷ b ≡ entries rest → f.items ≡ r.front ++ r.mid ∷ rest → Tagged (shape g) st.log (own_of (shape g) st x.role ++ (a ++ i ∷ [])) i
           more [] q w = absurd (cc)
           more (j' ∷ b') q w =
-              let t = tagged r.front r.mid j' b' w (ap (λ (z : B.Entry Step Code). honest_role s cast (sender (shape g) z.step.label)) (sym r.same_mid) ∙ h) in
+              let t = tagged r.front r.mid j' b' w (ap (λ (z : B.Entry TimedLabel Code). honest_role s cast (sender (shape g) z.step.label)) (sym r.same_mid) ∙ h) in
               let whole_list : own_of (shape g) st x.role ++ (a ++ i ∷ []) ≡ entries ((own x ++ r.front) ++ r.mid ∷ []) =
               ap (λ l. l ++ (a ++ i ∷ [])) own_same ∙ ap (λ l. entries (own x) ++ (l ++ i ∷ [])) r.same_front ∙ ap (λ z. entries (own x) ++ (entries r.front ++ z ∷ [])) r.same_mid
               ∙ ap (λ l. entries (own x) ++ l) (sym (map-append entry r.front (r.mid ∷ []))) ∙ sym (map-append entry (own x) (r.front ++ r.mid ∷ [])) ∙ ap entries (sym (append_assoc (own x) r.front (r.mid ∷ []))) in
@@ -192,7 +192,7 @@ module _ (sha : Hash) (s : Schedule) (sid : List ℕ) (cast : Cast) (keys : Keyr
                 made = t.made;
                 there = t.there;
                 same = t.same ∙ ap V.step_of (sym r.same_mid);
-                held = λ y var. sym (range_at (λ z. committed z ((own x ++ r.front) ++ r.mid ∷ [])) (λ z. com_of (whole t.made) z) 0 (length g.variables) t.is_held y (omega arith) (let l = variable_below g is y var in omega arith))
+                held = λ y var. sym (range_at (λ z. committed z ((own x ++ r.front) ++ r.mid ∷ [])) (λ z. com_of (told_with_item t.made) z) 0 (length g.variables) t.is_held y (omega arith) (let l = variable_below g is y var in omega arith))
                     ∙ sym (entries-com ((own x ++ r.front) ++ r.mid ∷ []) y) ∙ ap (λ l. com_of l y) (sym whole_list);
               }
 
@@ -204,8 +204,8 @@ module _ (sha : Hash) (s : Schedule) (sid : List ℕ) (cast : Cast) (keys : Keyr
       let ok = found note (in_left (note ∷ []) _ note (inl refl)) both.0 both.1 in
       ok.frame f.version f spelled its_sid (note_text keys.me (principal x.cast f.sender) (text_of f))
 
-  law_frame : IfSome (last (entries f.items)) (λ (i : B.Entry Step Code). honest_role s cast (sender (shape g) i.step.label) ≡ true → Framed (shape g) st.log x.role (entries f.items))
-  law_frame = subst (λ o. IfSome o (λ (i : B.Entry Step Code). honest_role s cast (sender (shape g) i.step.label) ≡ true → Framed (shape g) st.log x.role (entries f.items)))
+  law_frame : IfSome (last (entries f.items)) (λ (i : B.Entry TimedLabel Code). honest_role s cast (sender (shape g) i.step.label) ≡ true → Framed (shape g) st.log x.role (entries f.items))
+  law_frame = subst (λ o. IfSome o (λ (i : B.Entry TimedLabel Code). honest_role s cast (sender (shape g) i.step.label) ≡ true → Framed (shape g) st.log x.role (entries f.items)))
       (sym (last-option_map entry f.items ∙ ap (option_map entry) last_item.1)) from
     where
       from : honest_role s cast (sender (shape g) (last_item.0).label) ≡ true → Framed (shape g) st.log x.role (entries f.items)
@@ -215,8 +215,8 @@ module _ (sha : Hash) (s : Schedule) (sid : List ℕ) (cast : Cast) (keys : Keyr
           record {
             made = t.made;
             there = t.there;
-            steps = t.steps ∙ ap (λ k. V.steps_of (B.evidence (sender_of (shape g)) (after_last (by (shape g)) k (whole t.made)))) its_role;
-            written = λ y var. t.written y (variable_below g is y var) ∙ ap (λ k. com_of (B.evidence (sender_of (shape g)) (after_last (by (shape g)) k (whole t.made))) y) its_role;
+            steps = t.steps ∙ ap (λ k. V.steps_of (B.evidence (sender_of (shape g)) (after_last (by (shape g)) k (told_with_item t.made)))) its_role;
+            written = λ y var. t.written y (variable_below g is y var) ∙ ap (λ k. com_of (B.evidence (sender_of (shape g)) (after_last (by (shape g)) k (told_with_item t.made))) y) its_role;
           }
         where
           last_role : (is' : List Item) (i : Item) → last is' ≡ Some i → Roles (shape g) is' → i.role ≡ sender (shape g) i.label
@@ -250,7 +250,7 @@ module _ (sha : Hash) (s : Schedule) (sid : List ℕ) (cast : Cast) (keys : Keyr
       reads_last : (o : Option Item) → o ≡ Some (last_item.0) → option_map_or (reads g) (option_map (λ (i : Item). i.label) o) [] ≡ V.last_reads (shape g) (Some (entry (last_item.0)))
       reads_last o e = ap (λ o. option_map_or (reads g) (option_map (λ (i : Item). i.label) o) []) e
 
-      last_two : (xs ys : List (B.Entry Step Code)) (z : B.Entry Step Code) → last ys ≡ Some z → last (xs ++ ys) ≡ Some z
+      last_two : (xs ys : List (B.Entry TimedLabel Code)) (z : B.Entry TimedLabel Code) → last ys ≡ Some z → last (xs ++ ys) ≡ Some z
       last_two xs ys z e = last-append_some xs ys z e
 
   not_empty : entries f.items ≢ []
@@ -261,8 +261,8 @@ module _ (sha : Hash) (s : Schedule) (sid : List ℕ) (cast : Cast) (keys : Keyr
     is_honest = honest_role_is;
     waits = m.waits wait;
     some = not_empty;
-    sight = sight g (writes_below g is) x.role (record { origin = origin x; items = map seen f.items }) viewed (st.world.at x.role).own f.items (own_label (last (own x)) ∙ ap (option_map (λ (t : Step). t.label)) (sym m.is_own)) refl
-        (subst (λ t. RisesFrom t (V.steps_of (entries f.items))) (own_times (last (own x)) ∙ ap R.own_time (sym m.is_own)) (rising_times 1 (own_time x) f.items rows.times));
+    sight = sight g (writes_below g is) x.role (record { origin = origin x; items = map seen f.items }) viewed (st.machine.at x.role).own f.items (own_label (last (own x)) ∙ ap (option_map (λ (t : TimedLabel). t.label)) (sym m.is_own)) refl
+        (subst (λ t. RisesFrom t (V.steps_of (entries f.items))) (own_times (last (own x)) ∙ ap R.time_of_own (sym m.is_own)) (rising_times 1 (own_time x) f.items rows.times));
     tags = law_tag;
     frame = law_frame;
     opened = opened;
@@ -308,8 +308,8 @@ module _ (sha : Hash) (s : Schedule) (sid : List ℕ) (cast : Cast) (keys : Keyr
     inside = m.inside;
     is_told = rw (eqb_same x.role) (ap (λ l. l ++ entries f.items) m.is_told ∙ sym (map-append entry (told x) f.items) ∙ ap entries (sym told_later));
     is_own = rw (eqb_same x.role) (m.is_own ∙ ap (λ l. option_map step (last l)) (sym own_later));
-    turns = λ _. rw (eqb_same x.role) (ap (λ k. Some (record { node = k; time = R.last_time (R.own_time (st.world.at x.role).own) (V.steps_of (entries f.items)) })) (sym place_later)
-        ∙ ap (λ t. Some (record { node = place g later; time = t })) (last_time-last (R.own_time (st.world.at x.role).own) (V.steps_of (entries f.items)) (step (last_item.0)) last_step ∙ sym time_later));
+    turns = λ _. rw (eqb_same x.role) (ap (λ k. Some (record { node = k; time = R.time_after (R.time_of_own (st.machine.at x.role).own) (V.steps_of (entries f.items)) })) (sym place_later)
+        ∙ ap (λ t. Some (record { node = place g later; time = t })) (time_after-last (R.time_of_own (st.machine.at x.role).own) (V.steps_of (entries f.items)) (step (last_item.0)) last_step ∙ sym time_later));
     waits = λ e. (let t = turn_later in absurd (cc));
     roles = subst (Roles (shape g)) (sym told_later) (roles-append (shape g) (told x) f.items m.roles f_roles);
     fits = subst FitItems (sym told_later) (fit-append (told x) f.items m.fits f_fits);

@@ -25,9 +25,9 @@ use Rattle.sg_protocol.specs.Texts.{Hash, IsHash, commitment, commitment_text_of
 use Rattle.sg_protocol.specs.Keyring.{Program}
 use Rattle.sg_protocol.specs.Schedule.{Schedule, honest_role, Step, DeliverStep, What, PairKey, cast_of, graph_with}
 use Rattle.sg_law.specs.Values as V
-use Rattle.sg_law.specs.Values.{State, Made, whole, com_of, Move, Commit, moved, MayTake, Tagged, Framed, Opened, own_of, is_variable, put}
+use Rattle.sg_law.specs.Values.{State, Made, told_with_item, com_of, Move, Commit, moved, MayTake, Tagged, Framed, Opened, own_of, is_variable, put}
 use Rattle.sg_law.specs.Values.Move.{Writes, Takes}
-use Rattle.sg_law.specs.Values.Deed.{Read as Reads}
+use Rattle.sg_law.specs.Values.Deed.{ReadAlong}
 use Rattle.sg_law.proofs.Upto.{In}
 use Rattle.sg_law.proofs.Take.{contains_from_in}
 use Rattle.sg_law.specs.Values.{MayWrite}
@@ -55,7 +55,7 @@ use Rattle.sg_law.proofs.Members.{in_left, in_map, rec_in, all_in, in_parts}
 use Rattle.sg_law.specs.Values.{Binding, Followed}
 use Rattle.sg_law.proofs.Follow.{grown_follows}
 use Rattle.sg_law.proofs.Lists.{nil_from_map}
-use Rattle.sg_law.specs.Grown.{IsFollowed, moves_of}
+use Rattle.sg_law.specs.Grown.{IsFollowedAsGrown, moves_of}
 use Rattle.sg_protocol.specs.Grown.{AllShown, walk_grown}
 use Rattle.sg_protocol.specs.Walk.{OnePath}
 use Rattle.sg_protocol.proofs.Grown.{Grows, grows_idle, grows_called, Shown, shown_idle, shown_called}
@@ -339,7 +339,7 @@ module _ (sha : Hash) (hash : IsHash sha) (programs : List Program) (s : Schedul
       (new_world programs s) 1 (begins, nothing_made) s.steps (recursion_from_All (IsStep sha s) s.steps sched.steps) fit_new refl
       in
       let m = q.1 log e a in
-      let f : IsFollowed (shape g) h commit m.ms = grown_follows (shape g) h commit m.ms the_program.accepted.sighted (subst (λ l. Binding commit (all_openings l)) (sym m.are) (binding q.0.moves q.0.used)) (subst (AllMay (shape g) h commit (V.at_first (shape g))) (sym m.are) q.0.may) m.shown in
+      let f : IsFollowedAsGrown (shape g) h commit m.ms = grown_follows (shape g) h commit m.ms the_program.accepted.sighted (subst (λ l. Binding commit (all_openings l)) (sym m.are) (binding q.0.moves q.0.used)) (subst (AllMay (shape g) h commit (V.at_first (shape g))) (sym m.are) q.0.may) m.shown in
       subst (OnePath g h (events_of sid wf.log)) (ap steps_of f.1 ∙ sym m.same)
       (one_path g h commit (moves_of m.ms) (events_of sid wf.log) the_program.is_graph f.0 (q.0.events ∙ ap (λ l. flat_map (acts_of g) (map deed_of l)) (sym m.are)) (subst (λ l. AllByRecursion (TypedDeed g h) (map deed_of l)) (sym m.are) q.0.typed))
 

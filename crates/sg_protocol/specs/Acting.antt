@@ -6,6 +6,7 @@ use Rattle.sg_model.specs.Last.{Map}
 use Rattle.sg_model.specs.Lists.{is_in, below, keys_of, first_some}
 use Rattle.sg_model.specs.Shape.{receiver, source}
 use Rattle.sg_model.specs.Values.{Value, Opening}
+use Rattle.sg_model.specs.Limits.{most_joins, most_live, most_time}
 use Rattle.sg_protocol.specs.Graph.{Graph, shape, writes}
 use Rattle.sg_protocol.specs.Frame.{Cast}
 use Rattle.sg_protocol.specs.Texts.{Hash, session_id}
@@ -29,8 +30,8 @@ rows_of_start n p sid c =
     row (not (is_cast n.keys p.graph c p.role)) BadCast
     ∷ option_map UnknownPeer (stranger n.keys c)
     ∷ row (has_joined n.joins sid p.role) Joined
-    ∷ row (nat_le 65536 (length n.joins)) CacheFull
-    ∷ row (nat_le 4096 (length n.live)) SessionsFull
+    ∷ row (nat_le most_joins (length n.joins)) CacheFull
+    ∷ row (nat_le most_live (length n.live)) SessionsFull
     ∷ []
 
 -- the answer to a start
@@ -80,7 +81,7 @@ abbrev pub rows_of_send : Program → Session → ℕ → Map Value → List (Op
 rows_of_send p s label values =
     row (not (leaves p.graph s label)) NoSuchLabel
     ∷ option_map BadValues (find (is_bad p.graph label values) (below 256))
-    ∷ row (nat_le 1000000 (time s)) TimeSpent
+    ∷ row (nat_le most_time (time s)) TimeSpent
     ∷ []
 
 -- what is looked at in an act

@@ -4,6 +4,7 @@ use Rattle.std.specs.List.{AllByRecursion}
 use Rattle.sg_model.specs.Bytes.{AreBytes}
 use Rattle.sg_model.specs.Names.{Name}
 use Rattle.sg_model.specs.Values.{Opening}
+use Rattle.sg_model.specs.Limits.{most_roles, most_time, most_sent_bytes}
 use Rattle.sg_protocol.specs.Graph.{Graph, writes}
 use Rattle.sg_protocol.specs.Frame.{Item, Frame, IsItem, IsCastOf, IsOpening}
 use Rattle.sg_protocol.specs.Spelling.{IsInRange, HasSpelling, spelling}
@@ -26,13 +27,13 @@ ShownOnce = (g : Graph) (r : ℕ) (items : List Item) → AllPairs (λ i j. i.ro
 
 -- Of items whose fields are in range, a role below 16 is shown at most 15
 abbrev pub ShownAreFew : Type 0
-ShownAreFew = (g : Graph) (version r : ℕ) (items : List Item) → r < 16 → AllByRecursion (IsItem version) items → length (shown_to g r items) ≤ 15
+ShownAreFew = (g : Graph) (version r : ℕ) (items : List Item) → r < most_roles → AllByRecursion (IsItem version) items → length (shown_to g r items) ≤ 15
 
 -- ---- bytes
 
 -- at most 57,028 bytes, or 53,652 in version 2
 abbrev pub IsShort : Frame → Type 0
-IsShort f = length (spelling f) ≤ (if f.version == 2 then 53652 else 57028)
+IsShort f = length (spelling f) ≤ most_sent_bytes f.version
 
 -- A frame whose fields are in range and which has at most 15 items is short
 abbrev pub FramesAreShort : Type 0
@@ -45,7 +46,7 @@ pub record IsSession (s : Session) : Type 0 where
   pub sid : AreBytes 32 s.sid
   pub version : (s.cast.version ≡ 1) ⊎ (s.cast.version ≡ 2)
   pub cast : IsCastOf s.cast.version s.cast
-  pub role : s.role < 16
+  pub role : s.role < most_roles
   pub items : AllByRecursion (IsItem s.cast.version) (told s)
   pub openings : AllByRecursion IsOpening (flat_map openings_of s.exchanges)
 
@@ -58,7 +59,7 @@ pub record IsShortFrame (f : Frame) : Type 0 where
 -- At its turn, along an edge from its place and before the last time, a session in range sends a short frame, where the written openings are those of the edge and in range
 abbrev pub SentAreShort : Hash → Type 0
 SentAreShort sha = (keys : Keyring) (p : Program) (s : Session) (label : ℕ) (written : List Opening) → IsProgram sha p → IsSession s →
-    at_turn p.graph s ≡ true → leaves p.graph s label ≡ true → time s < 1000000 →
+    at_turn p.graph s ≡ true → leaves p.graph s label ≡ true → time s < most_time →
     map (λ o. o.variable) written ≡ writes p.graph label → AllByRecursion IsOpening written →
     IsShortFrame (frame_sent sha keys p s label written)
 

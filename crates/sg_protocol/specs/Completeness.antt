@@ -2,6 +2,7 @@
 use Rattle.std.specs.Prelude.{◌≡◌, ℕ, ◌<◌, List, length, IsTrue, true, Some, None, Contains, ◌+◌, All, option_map, is_some}
 use Rattle.sg_model.specs.Last.{last}
 use Rattle.sg_model.specs.Names.{Name}
+use Rattle.sg_model.specs.Limits.{most_joins, most_live}
 use Rattle.sg_protocol.specs.Frame.{Cast, Frame}
 use Rattle.sg_protocol.specs.Texts.{Hash}
 use Rattle.sg_protocol.specs.Keyring.{Program}
@@ -34,7 +35,7 @@ pub record IsAwaited (sha : Hash) (s : Schedule) (w : World) (number : ℕ) (who
   pub covered : stranger past.keys cast ≡ None
   pub not_taken : (e : Event) → HadAnswer w.log who (Deliver bytes) (Happened e) → ⊥
   pub not_left : HadAnswer w.log who (Abandon f.sid) Abandoned → ⊥
-  pub room : IsTrue (is_some f.join) → (length (node_of past).joins < 65536) × (length (node_of past).live < 4096)
+  pub room : IsTrue (is_some f.join) → (length (node_of past).joins < most_joins) × (length (node_of past).live < most_live)
 
 -- Where the premises hold, an awaited frame that is delivered next is accepted
 abbrev pub DeliveryIsComplete : Hash → Type 0

@@ -5,6 +5,7 @@ use Rattle.sg_model.specs.Lists.{below}
 use Rattle.sg_model.specs.Names.{Name}
 use Rattle.sg_model.specs.Shape.{source, role_at, end_of}
 use Rattle.sg_model.specs.Values.{Value}
+use Rattle.sg_model.specs.Limits.{most_joins, most_live, most_time}
 use Rattle.sg_protocol.specs.Graph.{Graph, shape}
 use Rattle.sg_protocol.specs.Frame.{Cast, Frame}
 use Rattle.sg_protocol.specs.Spelling.{spelling}
@@ -46,7 +47,7 @@ pub record CanAct (sha : Hash) (w : World) (cast : Cast) (g : Graph) (sid : List
   pub program : Program
   pub is_program : program_for (node_of past).programs session.cast.graph session.role ≡ Some program
   pub sends : (label : ℕ) (values : Map Value) (confounders : List (List ℕ)) → label < length g.edges → source (shape g) label ≡ place_in g sid w.log →
-      find (is_bad g label values) (below 256) ≡ None → time session < 1000000 →
+      find (is_bad g label values) (below 256) ≡ None → time session < most_time →
       answer sha (node_of past) (Act sid label values confounders) ≡ sent sha (node_of past).keys program session label values confounders
 
 -- the frame that was sent last in the session was not taken, and is awaited where its receiver shares keys with the cast and, if it joins, has room
@@ -61,7 +62,7 @@ pub record IsUnderWay (sha : Hash) (s : Schedule) (w : World) (cast : Cast) (sid
   pub newest : last frame.items ≡ last (honest_items sid w.log)
   pub not_taken : (e : Event) → HadAnswer w.log who (Deliver (spelling frame)) (Happened e) → ⊥
   pub awaited : (past : Past) → past_of w who ≡ Some past → stranger past.keys cast ≡ None →
-      (IsTrue (is_some frame.join) → (length (node_of past).joins < 65536) × (length (node_of past).live < 4096)) → IsAwaited sha s w number who past frame
+      (IsTrue (is_some frame.join) → (length (node_of past).joins < most_joins) × (length (node_of past).live < most_live)) → IsAwaited sha s w number who past frame
 
 -- Where the premises hold and all principals of a session are honest, it is at its end, or was abandoned by one of them, or the one at its turn can act, or the newest frame is under way
 abbrev pub SessionsGoOn : Hash → Type 0

@@ -5,16 +5,17 @@ use Rattle.sg_model.specs.Lists.{all_differ, has_text, rises_from}
 pub use Rattle.sg_model.specs.Names.{Name, is_letter, is_name_byte, is_name, reserved}
 use Rattle.sg_model.specs.Shape.{Shape}
 use Rattle.sg_model.specs.Shape as Arrows
+use Rattle.sg_model.specs.Limits.{most_roles, most_variables, most_nodes, most_edges}
 
 -- the type of a variable
-pub data Kind : Type 0 where
-  Int : Kind
-  Text : Kind
+pub data VariableKind : Type 0 where
+  Int : VariableKind
+  Text : VariableKind
 
 -- a variable, and the roles that may write it, in rising order
 pub record Variable : Type 0 where
   pub name : Name
-  pub kind : Kind
+  pub kind : VariableKind
   pub writers : List ℕ
 
 -- a node and its role
@@ -54,7 +55,7 @@ abbrev pub reads : Graph → ℕ → List ℕ
 reads g e = Arrows.reads (shape g) e
 
 -- the type of a variable
-abbrev pub kind_of : Graph → ℕ → Kind
+abbrev pub kind_of : Graph → ℕ → VariableKind
 kind_of g x = (get_or g.variables x (record { name = []; kind = Int; writers = [] })).kind
 
 -- the roles that may write a variable
@@ -76,7 +77,7 @@ node_name g n = (get_or g.nodes n (record { name = []; role = 0 })).name
 -- ---- the canonical text
 
 -- the word for a type
-abbrev pub kind_text : Kind → List ℕ
+abbrev pub kind_text : VariableKind → List ℕ
 kind_text Int = codes "int"
 kind_text Text = codes "text"
 
@@ -124,7 +125,7 @@ AreNames names = IsTrue (list_all (λ n. is_name n && not (has_text n reserved))
 abbrev pub AreNumbers : ℕ → List ℕ → Type 0
 AreNumbers n ns = IsTrue (rises_from 0 ns && list_all (λ k. nat_lt k n) ns)
 
--- each number that the graph uses is there, its names are names, and it has at most 16 roles, 32 variables, 256 nodes and 512 edges
+-- each number that the graph uses is there, its names are names, and it has no more roles, variables, nodes and edges than there may be
 pub record IsGraph (g : Graph) : Type 0 where
   pub named : AreNames (g.name ∷ [])
   pub role_names : AreNames g.roles
@@ -135,4 +136,4 @@ pub record IsGraph (g : Graph) : Type 0 where
   pub roles : All (λ n. n.role < length g.roles) g.nodes
   pub ends : All (λ e. (e.source < length g.nodes) × (e.target < length g.nodes)) g.edges
   pub variables : All (λ e. AreNumbers (length g.variables) e.writes × AreNumbers (length g.variables) e.reads) g.edges
-  pub sizes : (length g.roles ≤ 16) × (length g.variables ≤ 32) × (length g.nodes ≤ 256) × (length g.edges ≤ 512)
+  pub sizes : (length g.roles ≤ most_roles) × (length g.variables ≤ most_variables) × (length g.nodes ≤ most_nodes) × (length g.edges ≤ most_edges)

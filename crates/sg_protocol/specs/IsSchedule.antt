@@ -1,5 +1,5 @@
 -- Which schedules and programs are meant.
-use Rattle.std.specs.Prelude.{◌≡◌, ◌≢◌, ℕ, ◌<◌, List, [], length, IsTrue, ◌&&◌, map, ◌⊎◌, flat_map, All, AllPairs, IsSomeAnd, ⊤}
+use Rattle.std.specs.Prelude.{◌≡◌, ◌≢◌, ℕ, ◌<◌, List, [], length, IsTrue, ◌&&◌, map, ◌⊎◌, flat_map, All, AllPairs, IsSomeAnd, Contains, ⊤}
 use Rattle.std.specs.List.{AllByRecursion, list_all}
 use Rattle.sg_model.specs.Bytes.{IsBytes, AreBytes}
 use Rattle.sg_model.specs.Lists.{below, all_differ}
@@ -13,7 +13,7 @@ use Rattle.sg_protocol.specs.Frame.{IsValue}
 use Rattle.sg_protocol.specs.Spelling.{HasSpelling}
 use Rattle.sg_protocol.specs.Texts.{Hash, graph_digest}
 use Rattle.sg_protocol.specs.Keyring.{Program}
-use Rattle.sg_protocol.specs.Schedule.{PairKey, Declared, Step, Schedule, graph_with, Bytes, ActStep, DeliverStep, CraftStep}
+use Rattle.sg_protocol.specs.Schedule.{PairKey, Declared, Step, Schedule, Bytes, ActStep, DeliverStep, CraftStep}
 use Rattle.sg_protocol.specs.World.{new_world}
 use Rattle.sg_protocol.specs.Crafted.{crafted}
 
@@ -39,10 +39,16 @@ pub record AreCompiled (sha : Hash) (graphs : List Graph) (programs : List Progr
 
 -- ---- schedules
 
--- a declared session is of one of the graphs, with a principal for each role, all different, and a nonce and a version
-abbrev pub IsDeclared : Hash → List Graph → Declared → Type 0
-IsDeclared sha graphs d = IsSomeAnd (graph_with sha graphs d.cast.graph) (λ g. (length d.cast.names ≡ length g.roles)
-    × IsTrue (all_differ d.cast.names && list_all is_name d.cast.names) × AreBytes 16 d.cast.nonce × ((d.cast.version ≡ 1) ⊎ (d.cast.version ≡ 2)))
+-- A declared session is of some graph of these, by its digest, with a principal for each of its roles, all different, and a nonce and a version.
+-- Another graph before it may have the same digest: that no two texts do is a premise, and no part of the format
+pub record IsDeclared (sha : Hash) (graphs : List Graph) (d : Declared) : Type 0 where
+  pub graph : Graph
+  pub is_there : Contains graphs graph
+  pub digest : d.cast.graph ≡ graph_digest sha graph
+  pub count : length d.cast.names ≡ length graph.roles
+  pub names : IsTrue (all_differ d.cast.names && list_all is_name d.cast.names)
+  pub nonce : AreBytes 16 d.cast.nonce
+  pub version : (d.cast.version ≡ 1) ⊎ (d.cast.version ≡ 2)
 
 -- the two principals differ, and their key is 32 bytes
 abbrev pub IsPairKey : PairKey → Type 0

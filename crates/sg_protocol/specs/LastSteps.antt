@@ -56,14 +56,14 @@ abbrev pub bare : Item → Bare
 bare i = record { role = i.role; label = i.label; time = i.time }
 
 -- the sender of an item, when it had sent it, held these commitments
-abbrev pub Held : World → Graph → Cast → List ℕ → Item → List (Option (List ℕ)) → Type 0
-Held w g cast sid i held = (past : Past) × (before : List Item) × (i' : Item) × (after : List Item) ×
+abbrev pub HeldBySender : World → Graph → Cast → List ℕ → Item → List (Option (List ℕ)) → Type 0
+HeldBySender w g cast sid i held = (past : Past) × (before : List Item) × (i' : Item) × (after : List Item) ×
     (past_of w (principal cast i.role) ≡ Some past) × (flat_map items_of (exchanges_of sid i.role past.calls) ≡ before ++ i' ∷ after) × (bare i' ≡ bare i) × (held ≡ commitments g (before ++ i' ∷ []))
 
 -- the frame's items of honest senders are their last steps in the log since the receiver's own last one, and after each of them the receiver, who held the items before, holds the commitments that its sender held
 pub record ShowsLastSteps (s : Schedule) (w : World) (g : Graph) (cast : Cast) (f : Frame) (before : List Item) : Type 0 where
   pub items : map bare (filter (λ i. honest_role s cast i.role) f.items) ≡ map bare (last_of (λ i. i.role) (after_last (λ i. i.role) f.receiver (honest_items f.sid w.log)))
-  pub held : (front : List Item) (i : Item) (rest : List Item) → f.items ≡ front ++ i ∷ rest → honest_role s cast i.role ≡ true → Held w g cast f.sid i (commitments g (before ++ front ++ i ∷ []))
+  pub held : (front : List Item) (i : Item) (rest : List Item) → f.items ≡ front ++ i ∷ rest → honest_role s cast i.role ≡ true → HeldBySender w g cast f.sid i (commitments g (before ++ front ++ i ∷ []))
 
 -- Where the premises hold, what an accepted frame shows of honest senders is what they last did up to that step, and the receiver holds what they held
 abbrev pub FramesShowLastSteps : Hash → Type 0

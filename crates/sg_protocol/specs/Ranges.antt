@@ -6,6 +6,7 @@ use Rattle.sg_model.specs.Last.{Map}
 use Rattle.sg_model.specs.Lists.{first_some}
 use Rattle.sg_model.specs.Names.{Name}
 use Rattle.sg_model.specs.Values.{Value}
+use Rattle.sg_model.specs.Limits.{most_roles}
 use Rattle.sg_protocol.specs.Graph.{writes}
 use Rattle.sg_protocol.specs.Frame.{Cast, Frame, IsValue, IsCastOf}
 use Rattle.sg_protocol.specs.Spelling.{HasSpelling}
@@ -40,7 +41,7 @@ IsCallInRange (Deliver bytes) = IsBytes bytes
 
 -- A session in range stays so, whatever it sends and accepts
 pub record SessionsStayInRange (sha : Hash) : Type 0 where
-  pub begins : (sid : List ℕ) (c : Cast) (r : ℕ) → AreBytes 32 sid → IsCast c → r < 16 → IsSession (new_session sid c r)
+  pub begins : (sid : List ℕ) (c : Cast) (r : ℕ) → AreBytes 32 sid → IsCast c → r < most_roles → IsSession (new_session sid c r)
   -- the session that a frame joins
   pub joins : (f : Frame) (c : Cast) → HasSpelling f → f.join ≡ Some c → IsSession (new_session f.sid c f.receiver)
   -- a step on which no row holds writes what its edge writes, sends a short frame, and leaves the session in range

@@ -5,6 +5,7 @@ use Rattle.std.specs.Str.{is_utf8}
 use Rattle.sg_model.specs.Last.{Map}
 use Rattle.sg_model.specs.Names.{Name, is_name}
 use Rattle.sg_model.specs.Values.{Value, IntValue, TextValue, Opening}
+use Rattle.sg_model.specs.Limits.{most_roles, most_time, most_text_bytes, most_frame_bytes}
 use Rattle.sg_protocol.specs.Frame.{Cast, Item, Frame, tag_len}
 use Rattle.sg_protocol.specs.Spelling.{magic}
 
@@ -74,7 +75,7 @@ abbrev pub read_cast : ℕ → Reader (Option Cast)
 read_cast version =
     after (any_bytes 32) λ graph.
     after (any_bytes 16) λ nonce.
-    after (number w8 2 16) λ count.
+    after (number w8 2 most_roles) λ count.
     after (times count read_name) λ names.
     give (Some (record { version = version; graph = graph; nonce = nonce; names = names }))
 
@@ -91,7 +92,7 @@ abbrev pub read_item : ℕ → Reader Item
 read_item version =
     after (number w8 0 15) λ role.
     after (number w16 0 511) λ label.
-    after (number w32 1 1000000) λ time.
+    after (number w32 1 most_time) λ time.
     after (read_map 32 31 (any_bytes 32)) λ delta.
     after (read_map 14 15 (read_tag version)) λ tags.
     give (record { role = role; label = label; time = time; delta = delta; tags = tags })
@@ -102,7 +103,7 @@ read_int = after (number w32 8 8) λ n. after (any_bytes 8) λ bs. give (IntValu
 
 -- a text after its length
 abbrev pub read_text : Reader Value
-read_text = after (number w32 0 1024) λ n. after (field n is_utf8) λ bs. give (TextValue bs)
+read_text = after (number w32 0 most_text_bytes) λ n. after (field n is_utf8) λ bs. give (TextValue bs)
 
 -- an opening of a variable from least on
 abbrev pub read_opening : ℕ → Reader Opening
@@ -144,4 +145,4 @@ whole (Ok r) = if_none_left r.value r.at r.rest
 
 -- the frame, or the offset of the first fault
 abbrev pub read : List ℕ → Result Frame ℕ
-read bs = if nat_lt 60000 (length bs) then Err 60000 else whole (after read_version read_frame_of 0 bs)
+read bs = if nat_lt most_frame_bytes (length bs) then Err most_frame_bytes else whole (after read_version read_frame_of 0 bs)

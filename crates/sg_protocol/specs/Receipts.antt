@@ -6,7 +6,7 @@ use Rattle.sg_protocol.specs.Reading.{read}
 use Rattle.sg_protocol.specs.Texts.{Hash}
 use Rattle.sg_protocol.specs.Keyring.{Program}
 use Rattle.sg_protocol.specs.Session.{principal}
-use Rattle.sg_protocol.specs.Calls.{Event, sid_of, Deliver, Happened, Sends}
+use Rattle.sg_protocol.specs.Calls.{Event, sid_of, role_of, Deliver, Happened, Sends}
 use Rattle.sg_protocol.specs.Verdict.{receipt}
 use Rattle.sg_protocol.specs.Schedule.{Schedule, honest_role}
 use Rattle.sg_protocol.specs.World.{Logged, World, Answered}
@@ -18,12 +18,12 @@ use Rattle.sg_protocol.specs.IsSchedule.{AreCompiled, IsSchedule}
 abbrev pub IsTaken : World → Logged → Name → List ℕ → Frame → Type 0
 IsTaken w l who bs f = Contains w.log l × (l.who ≡ Some who) × (l.call ≡ Some (Deliver bs)) × (read bs ≡ Ok f) × (l.outcome ≡ Answered (Happened (receipt f)))
 
--- an earlier step in which the principal sent just these bytes in this session
+-- an earlier step in which the principal sent just these bytes in this session, by the role that the frame names as its sender
 abbrev pub WasSent : World → ℕ → Name → List ℕ → Frame → Type 0
 WasSent w k who bs f = (l : Logged) × (e : Event) × (to : Name) ×
-    Contains w.log l × (l.number < k) × (l.who ≡ Some who) × (l.frame ≡ Some bs) × (l.outcome ≡ Answered (Sends e to f)) × (sid_of e ≡ f.sid)
+    Contains w.log l × (l.number < k) × (l.who ≡ Some who) × (l.frame ≡ Some bs) × (l.outcome ≡ Answered (Sends e to f)) × (sid_of e ≡ f.sid) × (role_of e ≡ f.sender)
 
--- Where the premises hold, a receipt from an honest sender was given by bytes that this sender sent before, in that session
+-- Where the premises hold, a receipt from an honest sender was given by bytes that this sender sent before, in that session and role
 abbrev pub ReceiptsHaveSends : Hash → Type 0
 ReceiptsHaveSends sha = (programs : List Program) (s : Schedule) → AreCompiled sha s.graphs programs → IsSchedule sha s →
     let w = run sha programs s in

@@ -6,6 +6,7 @@ use Rattle.sg_model.specs.Bytes.{AreBytes}
 use Rattle.sg_model.specs.Last.{Map}
 use Rattle.sg_model.specs.Lists.{rises_from}
 use Rattle.sg_model.specs.Values.{Value, IntValue, TextValue, Opening}
+use Rattle.sg_model.specs.Limits.{most_roles, most_variables, most_frame_bytes}
 use Rattle.sg_protocol.specs.Frame.{Cast, Item, Frame, tag_len, IsTag, IsCastOf, IsItem, IsOpening}
 
 -- ---- fields
@@ -90,18 +91,18 @@ spelling f = body f ++ take (tag_len f.version) f.tag
 pub record IsInRange (f : Frame) : Type 0 where
   pub version : (f.version ≡ 1) ⊎ (f.version ≡ 2)
   pub sid : AreBytes 32 f.sid
-  pub roles : (f.sender < 16) × (f.receiver < 16) × (f.receiver ≢ f.sender)
+  pub roles : (f.sender < most_roles) × (f.receiver < most_roles) × (f.receiver ≢ f.sender)
   pub join : IfSome f.join (IsCastOf f.version)
   pub count : (1 ≤ length f.items) × (length f.items ≤ 65535)
   pub items : AllByRecursion (IsItem f.version) f.items
-  pub variables : (length f.openings ≤ 32) × IsTrue (rises_from 0 (map (λ o. o.variable) f.openings))
+  pub variables : (length f.openings ≤ most_variables) × IsTrue (rises_from 0 (map (λ o. o.variable) f.openings))
   pub openings : AllByRecursion IsOpening f.openings
   pub tag : IsTag f.version f.tag
 
 -- each field is in its range, and there are at most 60,000 bytes
 pub record HasSpelling (f : Frame) : Type 0 where
   pub fields : IsInRange f
-  pub short : length (spelling f) ≤ 60000
+  pub short : length (spelling f) ≤ most_frame_bytes
 
 -- the bytes are the frame
 pub record SpellsFrame (bs : List ℕ) (f : Frame) : Type 0 where

@@ -3,6 +3,7 @@ use Rattle.std.specs.Prelude.{◌≡◌, ℕ, ◌+◌, ◌<◌, ◌≤◌, Bool,
 use Rattle.std.specs.List.{list_all}
 use Rattle.std.specs.Option.{option_map_or}
 use Rattle.sg_model.specs.Lists.{range_from}
+use Rattle.sg_model.specs.Limits.{most_added_bytes}
 use Rattle.sg_protocol.specs.Texts.{Hash, graph_text_of}
 use Rattle.sg_protocol.specs.Keyring.{Program}
 use Rattle.sg_protocol.specs.Schedule.{Step, Schedule, who_of, is_honest}
@@ -54,4 +55,4 @@ StepsAddEntries sha = (s : Schedule) (w : World) (k : ℕ) (x : Step) → Added 
 abbrev pub StepsAddLittle : Hash → Type 0
 StepsAddLittle sha = (programs : List Program) (s : Schedule) → AreCompiled sha s.graphs programs → IsSchedule sha s → (k : ℕ) (x : Step) → IsStep sha s x →
     let w = run sha programs s in
-    record_size s (world_after sha s w k x) < record_size s w + 4194304
+    record_size s (world_after sha s w k x) < record_size s w + most_added_bytes

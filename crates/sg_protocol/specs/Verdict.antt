@@ -6,7 +6,8 @@ use Rattle.sg_model.specs.Last.{last, has}
 use Rattle.sg_model.specs.Lists.{keys_of, same_text, first_some, value_at}
 use Rattle.sg_model.specs.Shape.{sender}
 use Rattle.sg_model.specs.Values.{Opening}
-use Rattle.sg_protocol.specs.Graph.{Kind, Graph, shape, reads, kind_of, Int, Text}
+use Rattle.sg_model.specs.Limits.{most_joins, most_live}
+use Rattle.sg_protocol.specs.Graph.{VariableKind, Graph, shape, reads, kind_of, Int, Text}
 use Rattle.sg_protocol.specs.Evidence.{Seen, has_view}
 use Rattle.sg_protocol.specs.Frame.{Cast, Item, Frame, kind_of_value}
 use Rattle.sg_protocol.specs.Reading.{read}
@@ -58,7 +59,7 @@ abbrev pub has_item_tag : Hash → Keyring → Session → Item × List ℕ → 
 has_item_tag sha keys s c = same_text (value_at (c.0).tags s.role) (tag_for sha keys s.cast (c.0).role c.1)
 
 -- both types are the same
-abbrev pub same_kind : Kind → Kind → Bool
+abbrev pub same_kind : VariableKind → VariableKind → Bool
 same_kind Int Int = true
 same_kind Int Text = false
 same_kind Text Int = false
@@ -91,8 +92,8 @@ rows_of_join sha n f c p =
     ∷ option_map UnknownPeer (stranger n.keys c)
     ∷ row (not (bytes_eq f.sid (session_id sha c))) BadSession
     ∷ row (has_joined n.joins f.sid f.receiver) Joined
-    ∷ row (nat_le 65536 (length n.joins)) CacheFull
-    ∷ row (nat_le 4096 (length n.live)) SessionsFull
+    ∷ row (nat_le most_joins (length n.joins)) CacheFull
+    ∷ row (nat_le most_live (length n.live)) SessionsFull
     ∷ rows_of_session sha n.keys p (new_session f.sid c f.receiver) f
 
 -- what is looked at in a frame that continues a session, under a program

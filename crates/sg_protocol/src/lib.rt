@@ -3,6 +3,12 @@
 //! The definitions stand in `specs/`, one file for each subject. Code in the crates above computes what they say,
 //! and its contracts cite them. Each function here is a law about the definitions: it does nothing, and its contract
 //! is the law.
+//!
+//! Reading order, shortest way first. What the headline says: `Graph`, `Evidence`, `Accepted`, `Frame`, `Session`, `Sending`,
+//! `Verdict`, `Acting`, `Calls`, `Past`, `Schedule`, `World`, `Run`, `Premises`, `Walk`, `Headline`. What code keeps and may
+//! rely on: `Kept`, `Standing`, `Following`, `Live`, `Backed`, `NodeStates`, `Ranges`. What a replay tells: `Grown`, `Steps`,
+//! `Broken`, `Turn`. What else holds: `Isolation`, `Receipts`, `LastSteps`, `Completeness`, `GoesOn`. Examples are computed in
+//! `proofs/Example*.antt`; of the proofs read `proofs/Whole.antt` first, which puts the headline together.
 #![tactic(auto)]
 
 ghost use Rattle.std.specs.Prelude.{◌≡◌, ◌++◌, ℕ, List, [], Ok};
@@ -217,7 +223,7 @@ pub fn headline_of_sha256()
 {}
 
 /// Where the premises hold, a receipt from an honest sender was given by bytes that this sender sent before, in that
-/// session.
+/// session and in the role that the frame names as its sender.
 pub fn receipts()
     ensures { (sha : List ℕ → List ℕ) → IsHash sha → ReceiptsHaveSends sha }
 {}
