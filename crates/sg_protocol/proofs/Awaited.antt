@@ -52,7 +52,7 @@ use Rattle.sg_protocol.proofs.Sendings.{no_entry, act_event, keys_after, receipt
 use Rattle.sg_protocol.proofs.Reduced.{by_role, has-both, reduced}
 use Rattle.sg_protocol.proofs.Relay.{StepsOk, RelayOk, OpensAt, relay_new, at_end}
 use Rattle.sg_protocol.proofs.Rows.{rows_none, viewed}
-use Rattle.sg_protocol.proofs.Flight.{Flight, FrameOk, Taken, Track, New, Here, Gone, SessOk, flight}
+use Rattle.sg_protocol.proofs.Flight.{HonestSession, Flight, FrameOk, Taken, Track, New, Here, Gone, SessOk, flight}
 use Rattle.sg_protocol.proofs.Splits.{in_split, split_in, role_small}
 use Rattle.sg_protocol.proofs.Flight as L
 use Rattle.sg_protocol.proofs.Keys as Keys'
@@ -205,8 +205,33 @@ module _ (sha : Hash) (hash : IsHash sha) (programs : List Program) (s : Schedul
   keys_kept : (n : Node) (c : Call) (a : Answer) → (NodeAfter'.node_after n c a).keys ≡ n.keys
   keys_kept n c a = keys_after sha hash programs s compiled sched (run sha programs s) n c a
 
+  known_of_session : HonestSession sha s programs sid first.cast first.program.graph (run sha programs s) (Fit sha hash programs s compiled sched) targets
+  known_of_session = record {
+    is_hash = hash;
+    is_graph = tp.is_graph;
+    accepted = tp.accepted;
+    is_version = first.fits.version;
+    long_sid = W.long sha hash programs s compiled sched premises sid first (Fit sha hash programs s compiled sched) (fit_new sha hash programs s compiled sched) (fit_next sha hash programs s compiled sched) (fit_bytes sha hash programs s compiled sched) (fit_sends sha hash programs s compiled sched) (casts_fit sha hash programs s compiled sched);
+    names_differ = first.differ;
+    programs_of = W.prog sha hash programs s compiled sched premises sid first (Fit sha hash programs s compiled sched) (fit_new sha hash programs s compiled sched) (fit_next sha hash programs s compiled sched) (fit_bytes sha hash programs s compiled sched) (fit_sends sha hash programs s compiled sched) (casts_fit sha hash programs s compiled sched);
+    unforged = premises.unforged;
+    one_cast = W.the_cast sha hash programs s compiled sched premises sid first (Fit sha hash programs s compiled sched) (fit_new sha hash programs s compiled sched) (fit_next sha hash programs s compiled sched) (fit_bytes sha hash programs s compiled sched) (fit_sends sha hash programs s compiled sched) (casts_fit sha hash programs s compiled sched);
+    fit_next = fit_next sha hash programs s compiled sched;
+    fit_bytes = fit_bytes sha hash programs s compiled sched;
+    fit_sends = fit_sends sha hash programs s compiled sched;
+    casts_fit = casts_fit sha hash programs s compiled sched;
+    binding = W.binding sha hash programs s compiled sched premises sid first (Fit sha hash programs s compiled sched) (fit_new sha hash programs s compiled sched) (fit_next sha hash programs s compiled sched) (fit_bytes sha hash programs s compiled sched) (fit_sends sha hash programs s compiled sched) (casts_fit sha hash programs s compiled sched);
+    inside = W.inside sha hash programs s compiled sched premises sid first (Fit sha hash programs s compiled sched) (fit_new sha hash programs s compiled sched) (fit_next sha hash programs s compiled sched) (fit_bytes sha hash programs s compiled sched) (fit_sends sha hash programs s compiled sched) (casts_fit sha hash programs s compiled sched);
+    everyone = everyone;
+    same_targets = same_targets;
+    was_sent = was_sent_;
+    keys_kept = keys_kept;
+    starts = starts;
+    sends_sid = sends_sid;
+  }
+
   abbrev Flight_ : World → Type 0
-  Flight_ w = Flight sha hash s programs sid first.cast first.program.graph tp.is_graph tp.accepted first.fits.version (W.long sha hash programs s compiled sched premises sid first (Fit sha hash programs s compiled sched) (fit_new sha hash programs s compiled sched) (fit_next sha hash programs s compiled sched) (fit_bytes sha hash programs s compiled sched) (fit_sends sha hash programs s compiled sched) (casts_fit sha hash programs s compiled sched)) first.differ (W.prog sha hash programs s compiled sched premises sid first (Fit sha hash programs s compiled sched) (fit_new sha hash programs s compiled sched) (fit_next sha hash programs s compiled sched) (fit_bytes sha hash programs s compiled sched) (fit_sends sha hash programs s compiled sched) (casts_fit sha hash programs s compiled sched)) (run sha programs s) premises.unforged (W.the_cast sha hash programs s compiled sched premises sid first (Fit sha hash programs s compiled sched) (fit_new sha hash programs s compiled sched) (fit_next sha hash programs s compiled sched) (fit_bytes sha hash programs s compiled sched) (fit_sends sha hash programs s compiled sched) (casts_fit sha hash programs s compiled sched)) (Fit sha hash programs s compiled sched) (fit_next sha hash programs s compiled sched) (fit_bytes sha hash programs s compiled sched) (fit_sends sha hash programs s compiled sched) (casts_fit sha hash programs s compiled sched) (W.binding sha hash programs s compiled sched premises sid first (Fit sha hash programs s compiled sched) (fit_new sha hash programs s compiled sched) (fit_next sha hash programs s compiled sched) (fit_bytes sha hash programs s compiled sched) (fit_sends sha hash programs s compiled sched) (casts_fit sha hash programs s compiled sched)) (W.inside sha hash programs s compiled sched premises sid first (Fit sha hash programs s compiled sched) (fit_new sha hash programs s compiled sched) (fit_next sha hash programs s compiled sched) (fit_bytes sha hash programs s compiled sched) (fit_sends sha hash programs s compiled sched) (casts_fit sha hash programs s compiled sched)) everyone targets same_targets was_sent_ keys_kept starts sends_sid w
+  Flight_ w = Flight sha s programs sid first.cast first.program.graph (run sha programs s) (Fit sha hash programs s compiled sched) targets known_of_session w
 
   all_steps_ok : AllByRecursion (IsStep sha s) s.steps
   all_steps_ok = recursion_from_All (IsStep sha s) s.steps sched.steps
@@ -216,7 +241,7 @@ module _ (sha : Hash) (hash : IsHash sha) (programs : List Program) (s : Schedul
     sids = λ l e to f i h. absurd i;
     keys_are = λ who p e. let r = first_past s.keys programs s.honest who p e in subst (λ (z : Past). (node_of z).keys ≡ keyring_of s.keys who) (sym r.0) refl;
     steps = record { walk = tt; roles = tt; delta_keys = tt; tags = tt; times = tt };
-    tracks = λ who p e. let r = first_past s.keys programs s.honest who p e in subst (λ (z : Past). Track sha hash s programs sid first.cast first.program.graph tp.is_graph tp.accepted first.fits.version (W.long sha hash programs s compiled sched premises sid first (Fit sha hash programs s compiled sched) (fit_new sha hash programs s compiled sched) (fit_next sha hash programs s compiled sched) (fit_bytes sha hash programs s compiled sched) (fit_sends sha hash programs s compiled sched) (casts_fit sha hash programs s compiled sched)) first.differ (W.prog sha hash programs s compiled sched premises sid first (Fit sha hash programs s compiled sched) (fit_new sha hash programs s compiled sched) (fit_next sha hash programs s compiled sched) (fit_bytes sha hash programs s compiled sched) (fit_sends sha hash programs s compiled sched) (casts_fit sha hash programs s compiled sched)) (run sha programs s) premises.unforged (W.the_cast sha hash programs s compiled sched premises sid first (Fit sha hash programs s compiled sched) (fit_new sha hash programs s compiled sched) (fit_next sha hash programs s compiled sched) (fit_bytes sha hash programs s compiled sched) (fit_sends sha hash programs s compiled sched) (casts_fit sha hash programs s compiled sched)) (Fit sha hash programs s compiled sched) (fit_next sha hash programs s compiled sched) (fit_bytes sha hash programs s compiled sched) (fit_sends sha hash programs s compiled sched) (casts_fit sha hash programs s compiled sched) (W.binding sha hash programs s compiled sched premises sid first (Fit sha hash programs s compiled sched) (fit_new sha hash programs s compiled sched) (fit_next sha hash programs s compiled sched) (fit_bytes sha hash programs s compiled sched) (fit_sends sha hash programs s compiled sched) (casts_fit sha hash programs s compiled sched)) (W.inside sha hash programs s compiled sched premises sid first (Fit sha hash programs s compiled sched) (fit_new sha hash programs s compiled sched) (fit_next sha hash programs s compiled sched) (fit_bytes sha hash programs s compiled sched) (fit_sends sha hash programs s compiled sched) (casts_fit sha hash programs s compiled sched)) everyone targets same_targets was_sent_ keys_kept starts sends_sid [] who (node_of z)) (sym r.0) (inl record { alone = refl; none = λ r a b. refl; unjoined = λ r a b h. absurd (cc) });
+    tracks = λ who p e. let r = first_past s.keys programs s.honest who p e in subst (λ (z : Past). Track sha s programs sid first.cast first.program.graph (run sha programs s) (Fit sha hash programs s compiled sched) targets known_of_session [] who (node_of z)) (sym r.0) (inl record { alone = refl; none = λ r a b. refl; unjoined = λ r a b h. absurd (cc) });
     frames = λ before l after e to f h o i. absurd (no_split before l after h);
   }
     where
@@ -225,12 +250,14 @@ module _ (sha : Hash) (hash : IsHash sha) (programs : List Program) (s : Schedul
       no_split (b ∷ before) l after e = absurd (cc)
 
   flown : Flight_ (run sha programs s)
-  flown = flight sha hash s programs sid first.cast first.program.graph tp.is_graph tp.accepted first.fits.version (W.long sha hash programs s compiled sched premises sid first (Fit sha hash programs s compiled sched) (fit_new sha hash programs s compiled sched) (fit_next sha hash programs s compiled sched) (fit_bytes sha hash programs s compiled sched) (fit_sends sha hash programs s compiled sched) (casts_fit sha hash programs s compiled sched)) first.differ (W.prog sha hash programs s compiled sched premises sid first (Fit sha hash programs s compiled sched) (fit_new sha hash programs s compiled sched) (fit_next sha hash programs s compiled sched) (fit_bytes sha hash programs s compiled sched) (fit_sends sha hash programs s compiled sched) (casts_fit sha hash programs s compiled sched)) (run sha programs s) premises.unforged (W.the_cast sha hash programs s compiled sched premises sid first (Fit sha hash programs s compiled sched) (fit_new sha hash programs s compiled sched) (fit_next sha hash programs s compiled sched) (fit_bytes sha hash programs s compiled sched) (fit_sends sha hash programs s compiled sched) (casts_fit sha hash programs s compiled sched)) (Fit sha hash programs s compiled sched) (fit_next sha hash programs s compiled sched) (fit_bytes sha hash programs s compiled sched) (fit_sends sha hash programs s compiled sched) (casts_fit sha hash programs s compiled sched) (W.binding sha hash programs s compiled sched premises sid first (Fit sha hash programs s compiled sched) (fit_new sha hash programs s compiled sched) (fit_next sha hash programs s compiled sched) (fit_bytes sha hash programs s compiled sched) (fit_sends sha hash programs s compiled sched) (casts_fit sha hash programs s compiled sched)) (W.inside sha hash programs s compiled sched premises sid first (Fit sha hash programs s compiled sched) (fit_new sha hash programs s compiled sched) (fit_next sha hash programs s compiled sched) (fit_bytes sha hash programs s compiled sched) (fit_sends sha hash programs s compiled sched) (casts_fit sha hash programs s compiled sched)) everyone targets same_targets was_sent_ keys_kept starts sends_sid (new_world programs s) 1 (W.begins sha hash programs s compiled sched premises sid first (Fit sha hash programs s compiled sched) (fit_new sha hash programs s compiled sched) (fit_next sha hash programs s compiled sched) (fit_bytes sha hash programs s compiled sched) (fit_sends sha hash programs s compiled sched) (casts_fit sha hash programs s compiled sched)) begins_flight s.steps all_steps_ok (fit_new sha hash programs s compiled sched) refl
+  unfolding known_of_session
+  flown = flight sha s programs sid first.cast first.program.graph (run sha programs s) (Fit sha hash programs s compiled sched) targets known_of_session (new_world programs s) 1 (W.begins sha hash programs s compiled sched premises sid first (Fit sha hash programs s compiled sched) (fit_new sha hash programs s compiled sched) (fit_next sha hash programs s compiled sched) (fit_bytes sha hash programs s compiled sched) (fit_sends sha hash programs s compiled sched) (casts_fit sha hash programs s compiled sched)) begins_flight s.steps all_steps_ok (fit_new sha hash programs s compiled sched) refl
 
   -- ---- who has the turn, or which frame is under way
 
-  coursed : L.Course_ sha hash s programs sid first.cast first.program.graph tp.is_graph tp.accepted first.fits.version (W.long sha hash programs s compiled sched premises sid first (Fit sha hash programs s compiled sched) (fit_new sha hash programs s compiled sched) (fit_next sha hash programs s compiled sched) (fit_bytes sha hash programs s compiled sched) (fit_sends sha hash programs s compiled sched) (casts_fit sha hash programs s compiled sched)) first.differ (W.prog sha hash programs s compiled sched premises sid first (Fit sha hash programs s compiled sched) (fit_new sha hash programs s compiled sched) (fit_next sha hash programs s compiled sched) (fit_bytes sha hash programs s compiled sched) (fit_sends sha hash programs s compiled sched) (casts_fit sha hash programs s compiled sched)) (run sha programs s) premises.unforged (W.the_cast sha hash programs s compiled sched premises sid first (Fit sha hash programs s compiled sched) (fit_new sha hash programs s compiled sched) (fit_next sha hash programs s compiled sched) (fit_bytes sha hash programs s compiled sched) (fit_sends sha hash programs s compiled sched) (casts_fit sha hash programs s compiled sched)) (Fit sha hash programs s compiled sched) (fit_next sha hash programs s compiled sched) (fit_bytes sha hash programs s compiled sched) (fit_sends sha hash programs s compiled sched) (casts_fit sha hash programs s compiled sched) (W.binding sha hash programs s compiled sched premises sid first (Fit sha hash programs s compiled sched) (fit_new sha hash programs s compiled sched) (fit_next sha hash programs s compiled sched) (fit_bytes sha hash programs s compiled sched) (fit_sends sha hash programs s compiled sched) (casts_fit sha hash programs s compiled sched)) (W.inside sha hash programs s compiled sched premises sid first (Fit sha hash programs s compiled sched) (fit_new sha hash programs s compiled sched) (fit_next sha hash programs s compiled sched) (fit_bytes sha hash programs s compiled sched) (fit_sends sha hash programs s compiled sched) (casts_fit sha hash programs s compiled sched)) everyone targets same_targets was_sent_ keys_kept starts sends_sid (run sha programs s)
-  coursed = L.course sha hash s programs sid first.cast first.program.graph tp.is_graph tp.accepted first.fits.version (W.long sha hash programs s compiled sched premises sid first (Fit sha hash programs s compiled sched) (fit_new sha hash programs s compiled sched) (fit_next sha hash programs s compiled sched) (fit_bytes sha hash programs s compiled sched) (fit_sends sha hash programs s compiled sched) (casts_fit sha hash programs s compiled sched)) first.differ (W.prog sha hash programs s compiled sched premises sid first (Fit sha hash programs s compiled sched) (fit_new sha hash programs s compiled sched) (fit_next sha hash programs s compiled sched) (fit_bytes sha hash programs s compiled sched) (fit_sends sha hash programs s compiled sched) (casts_fit sha hash programs s compiled sched)) (run sha programs s) premises.unforged (W.the_cast sha hash programs s compiled sched premises sid first (Fit sha hash programs s compiled sched) (fit_new sha hash programs s compiled sched) (fit_next sha hash programs s compiled sched) (fit_bytes sha hash programs s compiled sched) (fit_sends sha hash programs s compiled sched) (casts_fit sha hash programs s compiled sched)) (Fit sha hash programs s compiled sched) (fit_next sha hash programs s compiled sched) (fit_bytes sha hash programs s compiled sched) (fit_sends sha hash programs s compiled sched) (casts_fit sha hash programs s compiled sched) (W.binding sha hash programs s compiled sched premises sid first (Fit sha hash programs s compiled sched) (fit_new sha hash programs s compiled sched) (fit_next sha hash programs s compiled sched) (fit_bytes sha hash programs s compiled sched) (fit_sends sha hash programs s compiled sched) (casts_fit sha hash programs s compiled sched)) (W.inside sha hash programs s compiled sched premises sid first (Fit sha hash programs s compiled sched) (fit_new sha hash programs s compiled sched) (fit_next sha hash programs s compiled sched) (fit_bytes sha hash programs s compiled sched) (fit_sends sha hash programs s compiled sched) (casts_fit sha hash programs s compiled sched)) everyone targets same_targets was_sent_ keys_kept starts sends_sid has_program (new_world programs s) 1 (W.begins sha hash programs s compiled sched premises sid first (Fit sha hash programs s compiled sched) (fit_new sha hash programs s compiled sched) (fit_next sha hash programs s compiled sched) (fit_bytes sha hash programs s compiled sched) (fit_sends sha hash programs s compiled sched) (casts_fit sha hash programs s compiled sched)) (record {
+  coursed : L.Course_ sha s programs sid first.cast first.program.graph (run sha programs s) (Fit sha hash programs s compiled sched) targets known_of_session (run sha programs s)
+  unfolding known_of_session
+  coursed = L.course sha s programs sid first.cast first.program.graph (run sha programs s) (Fit sha hash programs s compiled sched) targets known_of_session has_program (new_world programs s) 1 (W.begins sha hash programs s compiled sched premises sid first (Fit sha hash programs s compiled sched) (fit_new sha hash programs s compiled sched) (fit_next sha hash programs s compiled sched) (fit_bytes sha hash programs s compiled sched) (fit_sends sha hash programs s compiled sched) (casts_fit sha hash programs s compiled sched)) (record {
     flight_ = begins_flight;
     sourced = λ m f i. absurd i;
     baton = inl refl;
@@ -267,7 +294,7 @@ module _ (sha : Hash) (hash : IsHash sha) (programs : List Program) (s : Schedul
           rest_no false b h = h
 
   -- a session at its turn sends along each edge from its place
-  acts_at : (who : Name) (past : Past) → past_of (run sha programs s) who ≡ Some past → (x : Session) → filter (of_sid sid) (node_of past).live ≡ x ∷ [] → at_turn first.program.graph x ≡ true → L.SessOk sha hash s programs sid first.cast first.program.graph tp.is_graph tp.accepted first.fits.version (W.long sha hash programs s compiled sched premises sid first (Fit sha hash programs s compiled sched) (fit_new sha hash programs s compiled sched) (fit_next sha hash programs s compiled sched) (fit_bytes sha hash programs s compiled sched) (fit_sends sha hash programs s compiled sched) (casts_fit sha hash programs s compiled sched)) first.differ (W.prog sha hash programs s compiled sched premises sid first (Fit sha hash programs s compiled sched) (fit_new sha hash programs s compiled sched) (fit_next sha hash programs s compiled sched) (fit_bytes sha hash programs s compiled sched) (fit_sends sha hash programs s compiled sched) (casts_fit sha hash programs s compiled sched)) (run sha programs s) premises.unforged (W.the_cast sha hash programs s compiled sched premises sid first (Fit sha hash programs s compiled sched) (fit_new sha hash programs s compiled sched) (fit_next sha hash programs s compiled sched) (fit_bytes sha hash programs s compiled sched) (fit_sends sha hash programs s compiled sched) (casts_fit sha hash programs s compiled sched)) (Fit sha hash programs s compiled sched) (fit_next sha hash programs s compiled sched) (fit_bytes sha hash programs s compiled sched) (fit_sends sha hash programs s compiled sched) (casts_fit sha hash programs s compiled sched) (W.binding sha hash programs s compiled sched premises sid first (Fit sha hash programs s compiled sched) (fit_new sha hash programs s compiled sched) (fit_next sha hash programs s compiled sched) (fit_bytes sha hash programs s compiled sched) (fit_sends sha hash programs s compiled sched) (casts_fit sha hash programs s compiled sched)) (W.inside sha hash programs s compiled sched premises sid first (Fit sha hash programs s compiled sched) (fit_new sha hash programs s compiled sched) (fit_next sha hash programs s compiled sched) (fit_bytes sha hash programs s compiled sched) (fit_sends sha hash programs s compiled sched) (casts_fit sha hash programs s compiled sched)) everyone targets same_targets was_sent_ keys_kept starts sends_sid (run sha programs s).log who x → CanAct sha (run sha programs s) first.cast first.program.graph sid
+  acts_at : (who : Name) (past : Past) → past_of (run sha programs s) who ≡ Some past → (x : Session) → filter (of_sid sid) (node_of past).live ≡ x ∷ [] → at_turn first.program.graph x ≡ true → L.SessOk sha s programs sid first.cast first.program.graph (run sha programs s) (Fit sha hash programs s compiled sched) targets known_of_session (run sha programs s).log who x → CanAct sha (run sha programs s) first.cast first.program.graph sid
   acts_at who past its_past x alone turn ok = record {
     who = who;
     has_turn = ap (principal first.cast) (ap (role_at (shape first.program.graph)) (sym end_is) ∙ role_is) ∙ ok.is_who;
@@ -311,7 +338,7 @@ module _ (sha : Hash) (hash : IsHash sha) (programs : List Program) (s : Schedul
           (not_over (time x) 1000000 t)
           (subst (λ z. find (is_bad z label values) (below 256) ≡ None) (sym p_graph) right)
 
-  holds : L.Holder sha hash s programs sid first.cast first.program.graph tp.is_graph tp.accepted first.fits.version (W.long sha hash programs s compiled sched premises sid first (Fit sha hash programs s compiled sched) (fit_new sha hash programs s compiled sched) (fit_next sha hash programs s compiled sched) (fit_bytes sha hash programs s compiled sched) (fit_sends sha hash programs s compiled sched) (casts_fit sha hash programs s compiled sched)) first.differ (W.prog sha hash programs s compiled sched premises sid first (Fit sha hash programs s compiled sched) (fit_new sha hash programs s compiled sched) (fit_next sha hash programs s compiled sched) (fit_bytes sha hash programs s compiled sched) (fit_sends sha hash programs s compiled sched) (casts_fit sha hash programs s compiled sched)) (run sha programs s) premises.unforged (W.the_cast sha hash programs s compiled sched premises sid first (Fit sha hash programs s compiled sched) (fit_new sha hash programs s compiled sched) (fit_next sha hash programs s compiled sched) (fit_bytes sha hash programs s compiled sched) (fit_sends sha hash programs s compiled sched) (casts_fit sha hash programs s compiled sched)) (Fit sha hash programs s compiled sched) (fit_next sha hash programs s compiled sched) (fit_bytes sha hash programs s compiled sched) (fit_sends sha hash programs s compiled sched) (casts_fit sha hash programs s compiled sched) (W.binding sha hash programs s compiled sched premises sid first (Fit sha hash programs s compiled sched) (fit_new sha hash programs s compiled sched) (fit_next sha hash programs s compiled sched) (fit_bytes sha hash programs s compiled sched) (fit_sends sha hash programs s compiled sched) (casts_fit sha hash programs s compiled sched)) (W.inside sha hash programs s compiled sched premises sid first (Fit sha hash programs s compiled sched) (fit_new sha hash programs s compiled sched) (fit_next sha hash programs s compiled sched) (fit_bytes sha hash programs s compiled sched) (fit_sends sha hash programs s compiled sched) (casts_fit sha hash programs s compiled sched)) everyone targets same_targets was_sent_ keys_kept starts sends_sid (run sha programs s) → CanAct sha (run sha programs s) first.cast first.program.graph sid
+  holds : L.Holder sha s programs sid first.cast first.program.graph (run sha programs s) (Fit sha hash programs s compiled sched) targets known_of_session (run sha programs s) → CanAct sha (run sha programs s) first.cast first.program.graph sid
   holds h = elim (flown.tracks h.who h.past h.its_past) [
     | inl t ↦ absurd (let z : h.x ∷ [] ≡ [] = sym h.alone ∙ t.alone in cc)
     | inr r ↦ elim r [
@@ -324,13 +351,13 @@ module _ (sha : Hash) (hash : IsHash sha) (programs : List Program) (s : Schedul
   ]
 
   -- the last frame
-  flies : L.Flying sha hash s programs sid first.cast first.program.graph tp.is_graph tp.accepted first.fits.version (W.long sha hash programs s compiled sched premises sid first (Fit sha hash programs s compiled sched) (fit_new sha hash programs s compiled sched) (fit_next sha hash programs s compiled sched) (fit_bytes sha hash programs s compiled sched) (fit_sends sha hash programs s compiled sched) (casts_fit sha hash programs s compiled sched)) first.differ (W.prog sha hash programs s compiled sched premises sid first (Fit sha hash programs s compiled sched) (fit_new sha hash programs s compiled sched) (fit_next sha hash programs s compiled sched) (fit_bytes sha hash programs s compiled sched) (fit_sends sha hash programs s compiled sched) (casts_fit sha hash programs s compiled sched)) (run sha programs s) premises.unforged (W.the_cast sha hash programs s compiled sched premises sid first (Fit sha hash programs s compiled sched) (fit_new sha hash programs s compiled sched) (fit_next sha hash programs s compiled sched) (fit_bytes sha hash programs s compiled sched) (fit_sends sha hash programs s compiled sched) (casts_fit sha hash programs s compiled sched)) (Fit sha hash programs s compiled sched) (fit_next sha hash programs s compiled sched) (fit_bytes sha hash programs s compiled sched) (fit_sends sha hash programs s compiled sched) (casts_fit sha hash programs s compiled sched) (W.binding sha hash programs s compiled sched premises sid first (Fit sha hash programs s compiled sched) (fit_new sha hash programs s compiled sched) (fit_next sha hash programs s compiled sched) (fit_bytes sha hash programs s compiled sched) (fit_sends sha hash programs s compiled sched) (casts_fit sha hash programs s compiled sched)) (W.inside sha hash programs s compiled sched premises sid first (Fit sha hash programs s compiled sched) (fit_new sha hash programs s compiled sched) (fit_next sha hash programs s compiled sched) (fit_bytes sha hash programs s compiled sched) (fit_sends sha hash programs s compiled sched) (casts_fit sha hash programs s compiled sched)) everyone targets same_targets was_sent_ keys_kept starts sends_sid (run sha programs s).log → WasAbandoned first.cast sid (run sha programs s).log ⊎ IsUnderWay sha s (run sha programs s) first.cast sid
+  flies : L.Flying sha s programs sid first.cast first.program.graph (run sha programs s) (Fit sha hash programs s compiled sched) targets known_of_session (run sha programs s).log → WasAbandoned first.cast sid (run sha programs s).log ⊎ IsUnderWay sha s (run sha programs s) first.cast sid
   flies fy = elim (had_left fy.to sid (run sha programs s).log) [
     | inl had ↦ inl (abandoned_by fy.to had)
     | inr not_left_ ↦ inr (under_way not_left_)
   ]
     where
-      fo : L.FrameOk sha hash s programs sid first.cast first.program.graph tp.is_graph tp.accepted first.fits.version (W.long sha hash programs s compiled sched premises sid first (Fit sha hash programs s compiled sched) (fit_new sha hash programs s compiled sched) (fit_next sha hash programs s compiled sched) (fit_bytes sha hash programs s compiled sched) (fit_sends sha hash programs s compiled sched) (casts_fit sha hash programs s compiled sched)) first.differ (W.prog sha hash programs s compiled sched premises sid first (Fit sha hash programs s compiled sched) (fit_new sha hash programs s compiled sched) (fit_next sha hash programs s compiled sched) (fit_bytes sha hash programs s compiled sched) (fit_sends sha hash programs s compiled sched) (casts_fit sha hash programs s compiled sched)) (run sha programs s) premises.unforged (W.the_cast sha hash programs s compiled sched premises sid first (Fit sha hash programs s compiled sched) (fit_new sha hash programs s compiled sched) (fit_next sha hash programs s compiled sched) (fit_bytes sha hash programs s compiled sched) (fit_sends sha hash programs s compiled sched) (casts_fit sha hash programs s compiled sched)) (Fit sha hash programs s compiled sched) (fit_next sha hash programs s compiled sched) (fit_bytes sha hash programs s compiled sched) (fit_sends sha hash programs s compiled sched) (casts_fit sha hash programs s compiled sched) (W.binding sha hash programs s compiled sched premises sid first (Fit sha hash programs s compiled sched) (fit_new sha hash programs s compiled sched) (fit_next sha hash programs s compiled sched) (fit_bytes sha hash programs s compiled sched) (fit_sends sha hash programs s compiled sched) (casts_fit sha hash programs s compiled sched)) (W.inside sha hash programs s compiled sched premises sid first (Fit sha hash programs s compiled sched) (fit_new sha hash programs s compiled sched) (fit_next sha hash programs s compiled sched) (fit_bytes sha hash programs s compiled sched) (fit_sends sha hash programs s compiled sched) (casts_fit sha hash programs s compiled sched)) everyone targets same_targets was_sent_ keys_kept starts sends_sid (run sha programs s).log fy.before fy.after fy.l fy.to fy.f
+      fo : L.FrameOk sha s programs sid first.cast first.program.graph (run sha programs s) (Fit sha hash programs s compiled sched) targets known_of_session (run sha programs s).log fy.before fy.after fy.l fy.to fy.f
       fo = flown.frames fy.before fy.l fy.after fy.e fy.to fy.f fy.parts fy.outcome fy.of_session
 
       in_log : In (run sha programs s).log fy.l
@@ -349,7 +376,7 @@ module _ (sha : Hash) (hash : IsHash sha) (programs : List Program) (s : Schedul
       sent_to = (fy.l, fy.e, contains_from_in (run sha programs s).log fy.l in_log, fy.outcome, fo.framed)
 
       done_is : honest_items sid (run sha programs s).log ≡ honest_items sid fy.before ++ fo.item ∷ []
-      done_is = ap (honest_items sid) fy.parts ∙ L.split_items sha hash s programs sid first.cast first.program.graph tp.is_graph tp.accepted first.fits.version (W.long sha hash programs s compiled sched premises sid first (Fit sha hash programs s compiled sched) (fit_new sha hash programs s compiled sched) (fit_next sha hash programs s compiled sched) (fit_bytes sha hash programs s compiled sched) (fit_sends sha hash programs s compiled sched) (casts_fit sha hash programs s compiled sched)) first.differ (W.prog sha hash programs s compiled sched premises sid first (Fit sha hash programs s compiled sched) (fit_new sha hash programs s compiled sched) (fit_next sha hash programs s compiled sched) (fit_bytes sha hash programs s compiled sched) (fit_sends sha hash programs s compiled sched) (casts_fit sha hash programs s compiled sched)) (run sha programs s) premises.unforged (W.the_cast sha hash programs s compiled sched premises sid first (Fit sha hash programs s compiled sched) (fit_new sha hash programs s compiled sched) (fit_next sha hash programs s compiled sched) (fit_bytes sha hash programs s compiled sched) (fit_sends sha hash programs s compiled sched) (casts_fit sha hash programs s compiled sched)) (Fit sha hash programs s compiled sched) (fit_next sha hash programs s compiled sched) (fit_bytes sha hash programs s compiled sched) (fit_sends sha hash programs s compiled sched) (casts_fit sha hash programs s compiled sched) (W.binding sha hash programs s compiled sched premises sid first (Fit sha hash programs s compiled sched) (fit_new sha hash programs s compiled sched) (fit_next sha hash programs s compiled sched) (fit_bytes sha hash programs s compiled sched) (fit_sends sha hash programs s compiled sched) (casts_fit sha hash programs s compiled sched)) (W.inside sha hash programs s compiled sched premises sid first (Fit sha hash programs s compiled sched) (fit_new sha hash programs s compiled sched) (fit_next sha hash programs s compiled sched) (fit_bytes sha hash programs s compiled sched) (fit_sends sha hash programs s compiled sched) (casts_fit sha hash programs s compiled sched)) everyone targets same_targets was_sent_ keys_kept starts sends_sid fy.before fy.l fy.after fy.e fy.to fy.f fo.item fy.outcome fy.of_session fo.its_last ∙ ap (λ l. honest_items sid fy.before ++ fo.item ∷ l) fy.nothing_later
+      done_is = ap (honest_items sid) fy.parts ∙ L.split_items sha s programs sid first.cast first.program.graph (run sha programs s) (Fit sha hash programs s compiled sched) targets known_of_session fy.before fy.l fy.after fy.e fy.to fy.f fo.item fy.outcome fy.of_session fo.its_last ∙ ap (λ l. honest_items sid fy.before ++ fo.item ∷ l) fy.nothing_later
 
       untaken_ : (e : Event) → HadAnswer (run sha programs s).log fy.to (Deliver (spelling fy.f)) (Happened e) → ⊥
       untaken_ e had =
@@ -402,13 +429,13 @@ module _ (sha : Hash) (hash : IsHash sha) (programs : List Program) (s : Schedul
     sp : (before : List Logged) × (after : List Logged) × ((run sha programs s).log ≡ before ++ (aw.sent).0 ∷ after)
     sp = in_split (run sha programs s).log (aw.sent).0 (in_from_Contains (run sha programs s).log (aw.sent).0 (aw.sent).2)
 
-    fo : FrameOk sha hash s programs sid first.cast first.program.graph tp.is_graph tp.accepted first.fits.version (W.long sha hash programs s compiled sched premises sid first (Fit sha hash programs s compiled sched) (fit_new sha hash programs s compiled sched) (fit_next sha hash programs s compiled sched) (fit_bytes sha hash programs s compiled sched) (fit_sends sha hash programs s compiled sched) (casts_fit sha hash programs s compiled sched)) first.differ (W.prog sha hash programs s compiled sched premises sid first (Fit sha hash programs s compiled sched) (fit_new sha hash programs s compiled sched) (fit_next sha hash programs s compiled sched) (fit_bytes sha hash programs s compiled sched) (fit_sends sha hash programs s compiled sched) (casts_fit sha hash programs s compiled sched)) (run sha programs s) premises.unforged (W.the_cast sha hash programs s compiled sched premises sid first (Fit sha hash programs s compiled sched) (fit_new sha hash programs s compiled sched) (fit_next sha hash programs s compiled sched) (fit_bytes sha hash programs s compiled sched) (fit_sends sha hash programs s compiled sched) (casts_fit sha hash programs s compiled sched)) (Fit sha hash programs s compiled sched) (fit_next sha hash programs s compiled sched) (fit_bytes sha hash programs s compiled sched) (fit_sends sha hash programs s compiled sched) (casts_fit sha hash programs s compiled sched) (W.binding sha hash programs s compiled sched premises sid first (Fit sha hash programs s compiled sched) (fit_new sha hash programs s compiled sched) (fit_next sha hash programs s compiled sched) (fit_bytes sha hash programs s compiled sched) (fit_sends sha hash programs s compiled sched) (casts_fit sha hash programs s compiled sched)) (W.inside sha hash programs s compiled sched premises sid first (Fit sha hash programs s compiled sched) (fit_new sha hash programs s compiled sched) (fit_next sha hash programs s compiled sched) (fit_bytes sha hash programs s compiled sched) (fit_sends sha hash programs s compiled sched) (casts_fit sha hash programs s compiled sched)) everyone targets same_targets was_sent_ keys_kept starts sends_sid (run sha programs s).log sp.0 sp.1 (aw.sent).0 who f
+    fo : FrameOk sha s programs sid first.cast first.program.graph (run sha programs s) (Fit sha hash programs s compiled sched) targets known_of_session (run sha programs s).log sp.0 sp.1 (aw.sent).0 who f
     fo = flown.frames sp.0 (aw.sent).0 sp.1 (aw.sent).1 who f sp.2 (aw.sent).3 (flown.sids (aw.sent).0 (aw.sent).1 who f (in_from_Contains (run sha programs s).log (aw.sent).0 (aw.sent).2) (aw.sent).3 ∙ of_sid_)
 
     bytes_are : aw.bytes ≡ spelling f
     bytes_are = (let z : Some aw.bytes ≡ Some (spelling f) = sym (aw.sent).4 ∙ fo.framed in cc)
 
-    untaken : Taken sha hash s programs sid first.cast first.program.graph tp.is_graph tp.accepted first.fits.version (W.long sha hash programs s compiled sched premises sid first (Fit sha hash programs s compiled sched) (fit_new sha hash programs s compiled sched) (fit_next sha hash programs s compiled sched) (fit_bytes sha hash programs s compiled sched) (fit_sends sha hash programs s compiled sched) (casts_fit sha hash programs s compiled sched)) first.differ (W.prog sha hash programs s compiled sched premises sid first (Fit sha hash programs s compiled sched) (fit_new sha hash programs s compiled sched) (fit_next sha hash programs s compiled sched) (fit_bytes sha hash programs s compiled sched) (fit_sends sha hash programs s compiled sched) (casts_fit sha hash programs s compiled sched)) (run sha programs s) premises.unforged (W.the_cast sha hash programs s compiled sched premises sid first (Fit sha hash programs s compiled sched) (fit_new sha hash programs s compiled sched) (fit_next sha hash programs s compiled sched) (fit_bytes sha hash programs s compiled sched) (fit_sends sha hash programs s compiled sched) (casts_fit sha hash programs s compiled sched)) (Fit sha hash programs s compiled sched) (fit_next sha hash programs s compiled sched) (fit_bytes sha hash programs s compiled sched) (fit_sends sha hash programs s compiled sched) (casts_fit sha hash programs s compiled sched) (W.binding sha hash programs s compiled sched premises sid first (Fit sha hash programs s compiled sched) (fit_new sha hash programs s compiled sched) (fit_next sha hash programs s compiled sched) (fit_bytes sha hash programs s compiled sched) (fit_sends sha hash programs s compiled sched) (casts_fit sha hash programs s compiled sched)) (W.inside sha hash programs s compiled sched premises sid first (Fit sha hash programs s compiled sched) (fit_new sha hash programs s compiled sched) (fit_next sha hash programs s compiled sched) (fit_bytes sha hash programs s compiled sched) (fit_sends sha hash programs s compiled sched) (casts_fit sha hash programs s compiled sched)) everyone targets same_targets was_sent_ keys_kept starts sends_sid (run sha programs s).log who f → ⊥
+    untaken : Taken sha s programs sid first.cast first.program.graph (run sha programs s) (Fit sha hash programs s compiled sched) targets known_of_session (run sha programs s).log who f → ⊥
     untaken t = aw.not_taken (receipt f) (t.0, contains_from_in (run sha programs s).log t.0 t.1, t.2, t.3 ∙ ap (λ z. Some (Deliver z)) (sym bytes_are), t.4)
 
     nothing_after : honest_items sid sp.1 ≡ []
@@ -423,7 +450,7 @@ module _ (sha : Hash) (hash : IsHash sha) (programs : List Program) (s : Schedul
 
     done_is : honest_items sid (run sha programs s).log ≡ honest_items sid sp.0 ++ fo.item ∷ []
     done_is = ap (honest_items sid) sp.2
-        ∙ L.split_items sha hash s programs sid first.cast first.program.graph tp.is_graph tp.accepted first.fits.version (W.long sha hash programs s compiled sched premises sid first (Fit sha hash programs s compiled sched) (fit_new sha hash programs s compiled sched) (fit_next sha hash programs s compiled sched) (fit_bytes sha hash programs s compiled sched) (fit_sends sha hash programs s compiled sched) (casts_fit sha hash programs s compiled sched)) first.differ (W.prog sha hash programs s compiled sched premises sid first (Fit sha hash programs s compiled sched) (fit_new sha hash programs s compiled sched) (fit_next sha hash programs s compiled sched) (fit_bytes sha hash programs s compiled sched) (fit_sends sha hash programs s compiled sched) (casts_fit sha hash programs s compiled sched)) (run sha programs s) premises.unforged (W.the_cast sha hash programs s compiled sched premises sid first (Fit sha hash programs s compiled sched) (fit_new sha hash programs s compiled sched) (fit_next sha hash programs s compiled sched) (fit_bytes sha hash programs s compiled sched) (fit_sends sha hash programs s compiled sched) (casts_fit sha hash programs s compiled sched)) (Fit sha hash programs s compiled sched) (fit_next sha hash programs s compiled sched) (fit_bytes sha hash programs s compiled sched) (fit_sends sha hash programs s compiled sched) (casts_fit sha hash programs s compiled sched) (W.binding sha hash programs s compiled sched premises sid first (Fit sha hash programs s compiled sched) (fit_new sha hash programs s compiled sched) (fit_next sha hash programs s compiled sched) (fit_bytes sha hash programs s compiled sched) (fit_sends sha hash programs s compiled sched) (casts_fit sha hash programs s compiled sched)) (W.inside sha hash programs s compiled sched premises sid first (Fit sha hash programs s compiled sched) (fit_new sha hash programs s compiled sched) (fit_next sha hash programs s compiled sched) (fit_bytes sha hash programs s compiled sched) (fit_sends sha hash programs s compiled sched) (casts_fit sha hash programs s compiled sched)) everyone targets same_targets was_sent_ keys_kept starts sends_sid sp.0 (aw.sent).0 sp.1 (aw.sent).1 who f fo.item (aw.sent).3 (flown.sids (aw.sent).0 (aw.sent).1 who f (in_from_Contains (run sha programs s).log (aw.sent).0 (aw.sent).2) (aw.sent).3 ∙ of_sid_) fo.its_last
+        ∙ L.split_items sha s programs sid first.cast first.program.graph (run sha programs s) (Fit sha hash programs s compiled sched) targets known_of_session sp.0 (aw.sent).0 sp.1 (aw.sent).1 who f fo.item (aw.sent).3 (flown.sids (aw.sent).0 (aw.sent).1 who f (in_from_Contains (run sha programs s).log (aw.sent).0 (aw.sent).2) (aw.sent).3 ∙ of_sid_) fo.its_last
         ∙ ap (λ l. honest_items sid sp.0 ++ fo.item ∷ l) nothing_after
 
     r_small : f.receiver < length first.program.graph.roles
@@ -488,13 +515,13 @@ module _ (sha : Hash) (hash : IsHash sha) (programs : List Program) (s : Schedul
           }
 
     -- the receiver waits
-    waits_ : (x : Session) → SessOk sha hash s programs sid first.cast first.program.graph tp.is_graph tp.accepted first.fits.version (W.long sha hash programs s compiled sched premises sid first (Fit sha hash programs s compiled sched) (fit_new sha hash programs s compiled sched) (fit_next sha hash programs s compiled sched) (fit_bytes sha hash programs s compiled sched) (fit_sends sha hash programs s compiled sched) (casts_fit sha hash programs s compiled sched)) first.differ (W.prog sha hash programs s compiled sched premises sid first (Fit sha hash programs s compiled sched) (fit_new sha hash programs s compiled sched) (fit_next sha hash programs s compiled sched) (fit_bytes sha hash programs s compiled sched) (fit_sends sha hash programs s compiled sched) (casts_fit sha hash programs s compiled sched)) (run sha programs s) premises.unforged (W.the_cast sha hash programs s compiled sched premises sid first (Fit sha hash programs s compiled sched) (fit_new sha hash programs s compiled sched) (fit_next sha hash programs s compiled sched) (fit_bytes sha hash programs s compiled sched) (fit_sends sha hash programs s compiled sched) (casts_fit sha hash programs s compiled sched)) (Fit sha hash programs s compiled sched) (fit_next sha hash programs s compiled sched) (fit_bytes sha hash programs s compiled sched) (fit_sends sha hash programs s compiled sched) (casts_fit sha hash programs s compiled sched) (W.binding sha hash programs s compiled sched premises sid first (Fit sha hash programs s compiled sched) (fit_new sha hash programs s compiled sched) (fit_next sha hash programs s compiled sched) (fit_bytes sha hash programs s compiled sched) (fit_sends sha hash programs s compiled sched) (casts_fit sha hash programs s compiled sched)) (W.inside sha hash programs s compiled sched premises sid first (Fit sha hash programs s compiled sched) (fit_new sha hash programs s compiled sched) (fit_next sha hash programs s compiled sched) (fit_bytes sha hash programs s compiled sched) (fit_sends sha hash programs s compiled sched) (casts_fit sha hash programs s compiled sched)) everyone targets same_targets was_sent_ keys_kept starts sends_sid (run sha programs s).log who x → at_turn first.program.graph x ≡ false
+    waits_ : (x : Session) → SessOk sha s programs sid first.cast first.program.graph (run sha programs s) (Fit sha hash programs s compiled sched) targets known_of_session (run sha programs s).log who x → at_turn first.program.graph x ≡ false
     waits_ x ok = elim (cases_Bool (at_turn first.program.graph x)) [
       | inl t ↦ absurd (untaken (ok.taken t (aw.sent).0 (aw.sent).1 who f (in_from_Contains (run sha programs s).log (aw.sent).0 (aw.sent).2) (aw.sent).3 (flown.sids (aw.sent).0 (aw.sent).1 who f (in_from_Contains (run sha programs s).log (aw.sent).0 (aw.sent).2) (aw.sent).3 ∙ of_sid_)))
       | inr b ↦ b
     ]
 
-    role_of_ : (x : Session) → SessOk sha hash s programs sid first.cast first.program.graph tp.is_graph tp.accepted first.fits.version (W.long sha hash programs s compiled sched premises sid first (Fit sha hash programs s compiled sched) (fit_new sha hash programs s compiled sched) (fit_next sha hash programs s compiled sched) (fit_bytes sha hash programs s compiled sched) (fit_sends sha hash programs s compiled sched) (casts_fit sha hash programs s compiled sched)) first.differ (W.prog sha hash programs s compiled sched premises sid first (Fit sha hash programs s compiled sched) (fit_new sha hash programs s compiled sched) (fit_next sha hash programs s compiled sched) (fit_bytes sha hash programs s compiled sched) (fit_sends sha hash programs s compiled sched) (casts_fit sha hash programs s compiled sched)) (run sha programs s) premises.unforged (W.the_cast sha hash programs s compiled sched premises sid first (Fit sha hash programs s compiled sched) (fit_new sha hash programs s compiled sched) (fit_next sha hash programs s compiled sched) (fit_bytes sha hash programs s compiled sched) (fit_sends sha hash programs s compiled sched) (casts_fit sha hash programs s compiled sched)) (Fit sha hash programs s compiled sched) (fit_next sha hash programs s compiled sched) (fit_bytes sha hash programs s compiled sched) (fit_sends sha hash programs s compiled sched) (casts_fit sha hash programs s compiled sched) (W.binding sha hash programs s compiled sched premises sid first (Fit sha hash programs s compiled sched) (fit_new sha hash programs s compiled sched) (fit_next sha hash programs s compiled sched) (fit_bytes sha hash programs s compiled sched) (fit_sends sha hash programs s compiled sched) (casts_fit sha hash programs s compiled sched)) (W.inside sha hash programs s compiled sched premises sid first (Fit sha hash programs s compiled sched) (fit_new sha hash programs s compiled sched) (fit_next sha hash programs s compiled sched) (fit_bytes sha hash programs s compiled sched) (fit_sends sha hash programs s compiled sched) (casts_fit sha hash programs s compiled sched)) everyone targets same_targets was_sent_ keys_kept starts sends_sid (run sha programs s).log who x → x.role ≡ f.receiver
+    role_of_ : (x : Session) → SessOk sha s programs sid first.cast first.program.graph (run sha programs s) (Fit sha hash programs s compiled sched) targets known_of_session (run sha programs s).log who x → x.role ≡ f.receiver
     role_of_ x ok = one_place first.cast.names x.role f.receiver first.differ ok.inside_ r_in (ok.is_who ∙ sym who_is)
 
     program_n : program_for n.programs first.cast.graph f.receiver ≡ Some the_p.0
@@ -509,7 +536,7 @@ module _ (sha : Hash) (hash : IsHash sha) (programs : List Program) (s : Schedul
         go true h = refl
         go false h = absurd (let z : false ≡ true = h in cc)
 
-    continues : (x : Session) → filter (of_sid sid) n.live ≡ x ∷ [] → SessOk sha hash s programs sid first.cast first.program.graph tp.is_graph tp.accepted first.fits.version (W.long sha hash programs s compiled sched premises sid first (Fit sha hash programs s compiled sched) (fit_new sha hash programs s compiled sched) (fit_next sha hash programs s compiled sched) (fit_bytes sha hash programs s compiled sched) (fit_sends sha hash programs s compiled sched) (casts_fit sha hash programs s compiled sched)) first.differ (W.prog sha hash programs s compiled sched premises sid first (Fit sha hash programs s compiled sched) (fit_new sha hash programs s compiled sched) (fit_next sha hash programs s compiled sched) (fit_bytes sha hash programs s compiled sched) (fit_sends sha hash programs s compiled sched) (casts_fit sha hash programs s compiled sched)) (run sha programs s) premises.unforged (W.the_cast sha hash programs s compiled sched premises sid first (Fit sha hash programs s compiled sched) (fit_new sha hash programs s compiled sched) (fit_next sha hash programs s compiled sched) (fit_bytes sha hash programs s compiled sched) (fit_sends sha hash programs s compiled sched) (casts_fit sha hash programs s compiled sched)) (Fit sha hash programs s compiled sched) (fit_next sha hash programs s compiled sched) (fit_bytes sha hash programs s compiled sched) (fit_sends sha hash programs s compiled sched) (casts_fit sha hash programs s compiled sched) (W.binding sha hash programs s compiled sched premises sid first (Fit sha hash programs s compiled sched) (fit_new sha hash programs s compiled sched) (fit_next sha hash programs s compiled sched) (fit_bytes sha hash programs s compiled sched) (fit_sends sha hash programs s compiled sched) (casts_fit sha hash programs s compiled sched)) (W.inside sha hash programs s compiled sched premises sid first (Fit sha hash programs s compiled sched) (fit_new sha hash programs s compiled sched) (fit_next sha hash programs s compiled sched) (fit_bytes sha hash programs s compiled sched) (fit_sends sha hash programs s compiled sched) (casts_fit sha hash programs s compiled sched)) everyone targets same_targets was_sent_ keys_kept starts sends_sid (run sha programs s).log who x → first_some (rows sha n f) ≡ None
+    continues : (x : Session) → filter (of_sid sid) n.live ≡ x ∷ [] → SessOk sha s programs sid first.cast first.program.graph (run sha programs s) (Fit sha hash programs s compiled sched) targets known_of_session (run sha programs s).log who x → first_some (rows sha n f) ≡ None
     continues x alone ok =
         let role : x.role ≡ f.receiver = role_of_ x ok in
         let wt : at_turn first.program.graph x ≡ false = waits_ x ok in
@@ -528,7 +555,7 @@ module _ (sha : Hash) (hash : IsHash sha) (programs : List Program) (s : Schedul
 
     -- ---- a session that is gone
 
-    is_over_not : (x : Session) → SessOk sha hash s programs sid first.cast first.program.graph tp.is_graph tp.accepted first.fits.version (W.long sha hash programs s compiled sched premises sid first (Fit sha hash programs s compiled sched) (fit_new sha hash programs s compiled sched) (fit_next sha hash programs s compiled sched) (fit_bytes sha hash programs s compiled sched) (fit_sends sha hash programs s compiled sched) (casts_fit sha hash programs s compiled sched)) first.differ (W.prog sha hash programs s compiled sched premises sid first (Fit sha hash programs s compiled sched) (fit_new sha hash programs s compiled sched) (fit_next sha hash programs s compiled sched) (fit_bytes sha hash programs s compiled sched) (fit_sends sha hash programs s compiled sched) (casts_fit sha hash programs s compiled sched)) (run sha programs s) premises.unforged (W.the_cast sha hash programs s compiled sched premises sid first (Fit sha hash programs s compiled sched) (fit_new sha hash programs s compiled sched) (fit_next sha hash programs s compiled sched) (fit_bytes sha hash programs s compiled sched) (fit_sends sha hash programs s compiled sched) (casts_fit sha hash programs s compiled sched)) (Fit sha hash programs s compiled sched) (fit_next sha hash programs s compiled sched) (fit_bytes sha hash programs s compiled sched) (fit_sends sha hash programs s compiled sched) (casts_fit sha hash programs s compiled sched) (W.binding sha hash programs s compiled sched premises sid first (Fit sha hash programs s compiled sched) (fit_new sha hash programs s compiled sched) (fit_next sha hash programs s compiled sched) (fit_bytes sha hash programs s compiled sched) (fit_sends sha hash programs s compiled sched) (casts_fit sha hash programs s compiled sched)) (W.inside sha hash programs s compiled sched premises sid first (Fit sha hash programs s compiled sched) (fit_new sha hash programs s compiled sched) (fit_next sha hash programs s compiled sched) (fit_bytes sha hash programs s compiled sched) (fit_sends sha hash programs s compiled sched) (casts_fit sha hash programs s compiled sched)) everyone targets same_targets was_sent_ keys_kept starts sends_sid (run sha programs s).log who x → is_over programs x ≡ true → ⊥
+    is_over_not : (x : Session) → SessOk sha s programs sid first.cast first.program.graph (run sha programs s) (Fit sha hash programs s compiled sched) targets known_of_session (run sha programs s).log who x → is_over programs x ≡ true → ⊥
     is_over_not x ok o =
         let role : x.role ≡ f.receiver = role_of_ x ok in
         let wt : at_turn first.program.graph x ≡ false = waits_ x ok in
@@ -566,7 +593,7 @@ module _ (sha : Hash) (hash : IsHash sha) (programs : List Program) (s : Schedul
     cast_aw : aw.cast ≡ first.cast
     cast_aw = (let z : Some aw.cast ≡ Some first.cast = sym aw.is_cast ∙ ap (λ z. cast_of_session z (run sha programs s).log) of_sid_ ∙ first.is_cast in cc)
 
-    joins : New sha hash s programs sid first.cast first.program.graph tp.is_graph tp.accepted first.fits.version (W.long sha hash programs s compiled sched premises sid first (Fit sha hash programs s compiled sched) (fit_new sha hash programs s compiled sched) (fit_next sha hash programs s compiled sched) (fit_bytes sha hash programs s compiled sched) (fit_sends sha hash programs s compiled sched) (casts_fit sha hash programs s compiled sched)) first.differ (W.prog sha hash programs s compiled sched premises sid first (Fit sha hash programs s compiled sched) (fit_new sha hash programs s compiled sched) (fit_next sha hash programs s compiled sched) (fit_bytes sha hash programs s compiled sched) (fit_sends sha hash programs s compiled sched) (casts_fit sha hash programs s compiled sched)) (run sha programs s) premises.unforged (W.the_cast sha hash programs s compiled sched premises sid first (Fit sha hash programs s compiled sched) (fit_new sha hash programs s compiled sched) (fit_next sha hash programs s compiled sched) (fit_bytes sha hash programs s compiled sched) (fit_sends sha hash programs s compiled sched) (casts_fit sha hash programs s compiled sched)) (Fit sha hash programs s compiled sched) (fit_next sha hash programs s compiled sched) (fit_bytes sha hash programs s compiled sched) (fit_sends sha hash programs s compiled sched) (casts_fit sha hash programs s compiled sched) (W.binding sha hash programs s compiled sched premises sid first (Fit sha hash programs s compiled sched) (fit_new sha hash programs s compiled sched) (fit_next sha hash programs s compiled sched) (fit_bytes sha hash programs s compiled sched) (fit_sends sha hash programs s compiled sched) (casts_fit sha hash programs s compiled sched)) (W.inside sha hash programs s compiled sched premises sid first (Fit sha hash programs s compiled sched) (fit_new sha hash programs s compiled sched) (fit_next sha hash programs s compiled sched) (fit_bytes sha hash programs s compiled sched) (fit_sends sha hash programs s compiled sched) (casts_fit sha hash programs s compiled sched)) everyone targets same_targets was_sent_ keys_kept starts sends_sid (run sha programs s).log who n → first_some (rows sha n f) ≡ None
+    joins : New sha s programs sid first.cast first.program.graph (run sha programs s) (Fit sha hash programs s compiled sched) targets known_of_session (run sha programs s).log who n → first_some (rows sha n f) ≡ None
     joins t =
         let none_r : has by_role f.receiver (honest_items sid (run sha programs s).log) ≡ false = t.none f.receiver who_is r_in in
         let none_before : has by_role f.receiver (honest_items sid sp.0) ≡ false = first_no (has by_role f.receiver (honest_items sid sp.0)) _ (sym (has-both f.receiver (honest_items sid sp.0) (fo.item ∷ [])) ∙ ap (has by_role f.receiver) (sym done_is) ∙ none_r) in
@@ -618,7 +645,7 @@ module _ (sha : Hash) (hash : IsHash sha) (programs : List Program) (s : Schedul
     no_row : first_some (rows sha n f) ≡ None
     no_row = go (flown.tracks who past its_past)
       where
-        go : Track sha hash s programs sid first.cast first.program.graph tp.is_graph tp.accepted first.fits.version (W.long sha hash programs s compiled sched premises sid first (Fit sha hash programs s compiled sched) (fit_new sha hash programs s compiled sched) (fit_next sha hash programs s compiled sched) (fit_bytes sha hash programs s compiled sched) (fit_sends sha hash programs s compiled sched) (casts_fit sha hash programs s compiled sched)) first.differ (W.prog sha hash programs s compiled sched premises sid first (Fit sha hash programs s compiled sched) (fit_new sha hash programs s compiled sched) (fit_next sha hash programs s compiled sched) (fit_bytes sha hash programs s compiled sched) (fit_sends sha hash programs s compiled sched) (casts_fit sha hash programs s compiled sched)) (run sha programs s) premises.unforged (W.the_cast sha hash programs s compiled sched premises sid first (Fit sha hash programs s compiled sched) (fit_new sha hash programs s compiled sched) (fit_next sha hash programs s compiled sched) (fit_bytes sha hash programs s compiled sched) (fit_sends sha hash programs s compiled sched) (casts_fit sha hash programs s compiled sched)) (Fit sha hash programs s compiled sched) (fit_next sha hash programs s compiled sched) (fit_bytes sha hash programs s compiled sched) (fit_sends sha hash programs s compiled sched) (casts_fit sha hash programs s compiled sched) (W.binding sha hash programs s compiled sched premises sid first (Fit sha hash programs s compiled sched) (fit_new sha hash programs s compiled sched) (fit_next sha hash programs s compiled sched) (fit_bytes sha hash programs s compiled sched) (fit_sends sha hash programs s compiled sched) (casts_fit sha hash programs s compiled sched)) (W.inside sha hash programs s compiled sched premises sid first (Fit sha hash programs s compiled sched) (fit_new sha hash programs s compiled sched) (fit_next sha hash programs s compiled sched) (fit_bytes sha hash programs s compiled sched) (fit_sends sha hash programs s compiled sched) (casts_fit sha hash programs s compiled sched)) everyone targets same_targets was_sent_ keys_kept starts sends_sid (run sha programs s).log who n → first_some (rows sha n f) ≡ None
+        go : Track sha s programs sid first.cast first.program.graph (run sha programs s) (Fit sha hash programs s compiled sched) targets known_of_session (run sha programs s).log who n → first_some (rows sha n f) ≡ None
         go (inl t) = joins t
         go (inr (inl t)) = continues t.x t.alone t.ok
         go (inr (inr t)) = elim t.why [

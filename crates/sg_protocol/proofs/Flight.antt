@@ -65,22 +65,94 @@ use Rattle.sg_protocol.proofs.Course.{Progress, keep_all, Suffix, Outs, past_cal
 use Rattle.sg_protocol.proofs.Showing.{shows_called}
 use Rattle.sg_protocol.proofs.Splits.{split_at_end, in_split, split_in, two_splits, rises_mid, role_small}
 
-module _ (sha : Hash) (hash : IsHash sha) (s : Schedule) (programs : List Program) (sid : List ℕ) (cast : Cast) (g : Graph) (is : IsGraph g) (acc : Accepted g) (version : IsVersion cast.version) (long : length sid ≡ 32) (differ : all_differ cast.names ≡ true)
-    (prog : (r : ℕ) (p : Program) → program_for programs cast.graph r ≡ Some p → (p.graph ≡ g) × IsViewTable p.graph r p.views)
-    (wf : World) (unforged : Unforged s wf)
-    (one_cast : (c : Cast) → CastFits c → In (hashed s wf) (session_text_of c) → session_id sha c ≡ sid → c ≡ cast)
-    (Fit : World → Type 0) (fit_next : (w : World) (k : ℕ) (x : Step) → Fit w → IsStep sha s x → Fit (world_after sha s w k x))
-    (fit_bytes : (w : World) → Fit w → (who : Name) (what : What) (bs : List ℕ) → IsStep sha s (DeliverStep who what) → bytes_of w what ≡ Some bs → IsBytes bs)
-    (fit_sends : (w : World) → Fit w → (k : ℕ) (x : Step) (who : Name) (past : Past) (c : Call) (e : Event) (to : Name) (f : Frame) → IsStep sha s x → past_of w who ≡ Some past → call_of sha s w k x ≡ Some c → answer sha (node_of past) c ≡ Sends e to f → HasSpelling f)
-    (casts_fit : (n : ℕ) (c : Cast) → cast_of s n ≡ Some c → CastFits c)
-    (binding : (ms : List Move) → AllByRecursion (λ (o : Opening). In (hashed s wf) (commitment_text_of sid o) × OpeningFits o) (all_openings ms) → Binding (λ o. commitment sha sid o) (all_openings ms))
-    (inside : (k : ℕ) → honest_role s cast k ≡ true → k < length cast.names)
-    (everyone : (r : ℕ) → r < length g.roles → honest_role s cast r ≡ true)
-    (targets : ℕ → List ℕ) (same_targets : (r : ℕ) (p : Program) → program_for programs cast.graph r ≡ Some p → (e : ℕ) → targets_of p e ≡ targets e)
-    (was_sent : (l : Logged) (who : Name) (bs : List ℕ) (f : Frame) → IsTaken wf l who bs f → f.sid ≡ sid → honest_role s cast f.sender ≡ true → WasSent wf l.number (principal cast f.sender) bs f)
-    (keys_kept : (n : Node) (c : Call) (a : Answer) → (node_after n c a).keys ≡ n.keys)
-    (starts : (p : Program) → starter programs cast.graph ≡ Some p → role_at (shape g) 0 ≡ p.role)
-    (sends_sid : (n : Node) (c : Call) (e : Event) (to : Name) (f : Frame) → answer sha n c ≡ Sends e to f → sid_of e ≡ f.sid) where
+-- what is known of a session whose principals are all honest, in a run that ends in the world wf, where Fit holds of each world on the way
+pub record HonestSession (sha : Hash) (s : Schedule) (programs : List Program) (sid : List ℕ) (cast : Cast) (g : Graph) (wf : World) (Fit : World → Type 0) (targets : ℕ → List ℕ) : Type 0 where
+  pub is_hash : IsHash sha
+  pub is_graph : IsGraph g
+  pub accepted : Accepted g
+  pub is_version : IsVersion cast.version
+  pub long_sid : length sid ≡ 32
+  pub names_differ : all_differ cast.names ≡ true
+  pub programs_of : (r : ℕ) (p : Program) → program_for programs cast.graph r ≡ Some p → (p.graph ≡ g) × IsViewTable p.graph r p.views
+  pub unforged : Unforged s wf
+  pub one_cast : (c : Cast) → CastFits c → In (hashed s wf) (session_text_of c) → session_id sha c ≡ sid → c ≡ cast
+  pub fit_next : (w : World) (k : ℕ) (x : Step) → Fit w → IsStep sha s x → Fit (world_after sha s w k x)
+  pub fit_bytes : (w : World) → Fit w → (who : Name) (what : What) (bs : List ℕ) → IsStep sha s (DeliverStep who what) → bytes_of w what ≡ Some bs → IsBytes bs
+  pub fit_sends : (w : World) → Fit w → (k : ℕ) (x : Step) (who : Name) (past : Past) (c : Call) (e : Event) (to : Name) (f : Frame) → IsStep sha s x → past_of w who ≡ Some past → call_of sha s w k x ≡ Some c → answer sha (node_of past) c ≡ Sends e to f → HasSpelling f
+  pub casts_fit : (n : ℕ) (c : Cast) → cast_of s n ≡ Some c → CastFits c
+  pub binding : (ms : List Move) → AllByRecursion (λ (o : Opening). In (hashed s wf) (commitment_text_of sid o) × OpeningFits o) (all_openings ms) → Binding (λ o. commitment sha sid o) (all_openings ms)
+  pub inside : (k : ℕ) → honest_role s cast k ≡ true → k < length cast.names
+  pub everyone : (r : ℕ) → r < length g.roles → honest_role s cast r ≡ true
+  pub same_targets : (r : ℕ) (p : Program) → program_for programs cast.graph r ≡ Some p → (e : ℕ) → targets_of p e ≡ targets e
+  pub was_sent : (l : Logged) (who : Name) (bs : List ℕ) (f : Frame) → IsTaken wf l who bs f → f.sid ≡ sid → honest_role s cast f.sender ≡ true → WasSent wf l.number (principal cast f.sender) bs f
+  pub keys_kept : (n : Node) (c : Call) (a : Answer) → (node_after n c a).keys ≡ n.keys
+  pub starts : (p : Program) → starter programs cast.graph ≡ Some p → role_at (shape g) 0 ≡ p.role
+  pub sends_sid : (n : Node) (c : Call) (e : Event) (to : Name) (f : Frame) → answer sha n c ≡ Sends e to f → sid_of e ≡ f.sid
+
+module _ (sha : Hash) (s : Schedule) (programs : List Program) (sid : List ℕ) (cast : Cast) (g : Graph) (wf : World) (Fit : World → Type 0) (targets : ℕ → List ℕ) (known : HonestSession sha s programs sid cast g wf Fit targets) where
+  abbrev hash : IsHash sha
+  hash = known.is_hash
+
+  abbrev is : IsGraph g
+  is = known.is_graph
+
+  abbrev acc : Accepted g
+  acc = known.accepted
+
+  abbrev version : IsVersion cast.version
+  version = known.is_version
+
+  abbrev long : length sid ≡ 32
+  long = known.long_sid
+
+  abbrev differ : all_differ cast.names ≡ true
+  differ = known.names_differ
+
+  abbrev prog : (r : ℕ) (p : Program) → program_for programs cast.graph r ≡ Some p → (p.graph ≡ g) × IsViewTable p.graph r p.views
+  prog = known.programs_of
+
+  abbrev unforged : Unforged s wf
+  unforged = known.unforged
+
+  abbrev one_cast : (c : Cast) → CastFits c → In (hashed s wf) (session_text_of c) → session_id sha c ≡ sid → c ≡ cast
+  one_cast = known.one_cast
+
+  abbrev fit_next : (w : World) (k : ℕ) (x : Step) → Fit w → IsStep sha s x → Fit (world_after sha s w k x)
+  fit_next = known.fit_next
+
+  abbrev fit_bytes : (w : World) → Fit w → (who : Name) (what : What) (bs : List ℕ) → IsStep sha s (DeliverStep who what) → bytes_of w what ≡ Some bs → IsBytes bs
+  fit_bytes = known.fit_bytes
+
+  abbrev fit_sends : (w : World) → Fit w → (k : ℕ) (x : Step) (who : Name) (past : Past) (c : Call) (e : Event) (to : Name) (f : Frame) → IsStep sha s x → past_of w who ≡ Some past → call_of sha s w k x ≡ Some c → answer sha (node_of past) c ≡ Sends e to f → HasSpelling f
+  fit_sends = known.fit_sends
+
+  abbrev casts_fit : (n : ℕ) (c : Cast) → cast_of s n ≡ Some c → CastFits c
+  casts_fit = known.casts_fit
+
+  abbrev binding : (ms : List Move) → AllByRecursion (λ (o : Opening). In (hashed s wf) (commitment_text_of sid o) × OpeningFits o) (all_openings ms) → Binding (λ o. commitment sha sid o) (all_openings ms)
+  binding = known.binding
+
+  abbrev inside : (k : ℕ) → honest_role s cast k ≡ true → k < length cast.names
+  inside = known.inside
+
+  abbrev everyone : (r : ℕ) → r < length g.roles → honest_role s cast r ≡ true
+  everyone = known.everyone
+
+  abbrev same_targets : (r : ℕ) (p : Program) → program_for programs cast.graph r ≡ Some p → (e : ℕ) → targets_of p e ≡ targets e
+  same_targets = known.same_targets
+
+  abbrev was_sent : (l : Logged) (who : Name) (bs : List ℕ) (f : Frame) → IsTaken wf l who bs f → f.sid ≡ sid → honest_role s cast f.sender ≡ true → WasSent wf l.number (principal cast f.sender) bs f
+  was_sent = known.was_sent
+
+  abbrev keys_kept : (n : Node) (c : Call) (a : Answer) → (node_after n c a).keys ≡ n.keys
+  keys_kept = known.keys_kept
+
+  abbrev starts : (p : Program) → starter programs cast.graph ≡ Some p → role_at (shape g) 0 ≡ p.role
+  starts = known.starts
+
+  abbrev sends_sid : (n : Node) (c : Call) (e : Event) (to : Name) (f : Frame) → answer sha n c ≡ Sends e to f → sid_of e ≡ f.sid
+  sends_sid = known.sends_sid
+
   abbrev pub honest : ℕ → Bool
   honest k = honest_role s cast k
 
