@@ -42,7 +42,7 @@ use Rattle.sg_law.proofs.Take.{contains_from_in}
 use Rattle.sg_law.proofs.Lists.{last-append}
 use Rattle.sg_protocol.proofs.Isolation.{of_sid, find-filter}
 use Rattle.sg_protocol.proofs.ReadLaws.{read-spelling}
-use Rattle.sg_protocol.proofs.Calls.{find_passes, find_all, one_place}
+use Rattle.sg_protocol.proofs.Finding.{find_passes, find_all, one_place}
 use Rattle.sg_protocol.proofs.Course.{filter_map-append}
 use Rattle.sg_protocol.proofs.Whole.{FirstCast, found_in, find_some, program_graph, first_past}
 use Rattle.sg_protocol.proofs.Whole as W

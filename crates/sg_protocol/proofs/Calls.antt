@@ -1,9 +1,9 @@
 -- What a call at a node is to the law.
 use Rattle.sg_law.specs.Accept.{TimedLabel}
-use Rattle.std.specs.Prelude.{filter_map, ◌≡◌, ℕ, zero, suc, ◌+◌, ◌<◌, ◌==◌, nat_lt, nat_le, get_or, ◌&&◌, ◌||◌, ◌⊎◌, Bool, true, false, not, cond, List, [], ◌∷◌, ◌++◌, map, filter, flat_map, length, find, bytes_eq, refl, Option, Some, None, option_map, unwrap_or, IfSome}
+use Rattle.std.specs.Prelude.{filter_map, ◌≡◌, ℕ, ◌+◌, ◌<◌, ◌==◌, nat_lt, nat_le, ◌&&◌, ◌||◌, ◌⊎◌, Bool, true, false, not, List, [], ◌∷◌, ◌++◌, map, filter, flat_map, length, find, bytes_eq, refl, Option, Some, None, option_map, unwrap_or, IfSome}
 use Rattle.std.specs.List.{list_all, list_any, AllByRecursion}
 use Rattle.std.specs.Option.{option_map_or}
-use Rattle.std.proofs.Common.{sym, ◌∙◌, ap, subst, inl, inr, arith, append-nil}
+use Rattle.std.proofs.Common.{sym, ◌∙◌, ap, subst, inl, inr, append-nil}
 use Rattle.std.proofs.lemmas.Bool.{eqb-true, eq-eqb, ne_eqb, cases_Bool, and_parts}
 use Rattle.std.proofs.lemmas.List.{map-append}
 use Rattle.std.proofs.lemmas.Slice.Eq.{bytes_eq-Decides}
@@ -48,7 +48,6 @@ use Rattle.sg_protocol.specs.Accepted.{Accepted}
 use Rattle.sg_protocol.proofs.Gives.{item_sid, frame_sid, opened_values}
 use Rattle.std.specs.Prelude.{Result, Ok, Err, option_and_then}
 use Rattle.std.proofs.lemmas.List.Elements.{filter-append}
-use Rattle.sg_model.specs.Lists.{has_text}
 use Rattle.sg_model.specs.Bytes.{IsBytes}
 use Rattle.sg_model.proofs.Small.{not_false, clash, none_parts}
 use Rattle.sg_law.proofs.Members.{in_left, in_right, in_map, in_parts}
@@ -66,76 +65,13 @@ use Rattle.sg_protocol.proofs.Bridge.{has_view-Contains}
 use Rattle.sg_protocol.proofs.Entries.{not_start}
 use Rattle.sg_protocol.proofs.Takes as T
 use Rattle.sg_protocol.proofs.Acts as C
-
--- names that all differ stand at one place each
-pub one_place : (ts : List (List ℕ)) (h k : ℕ) → all_differ ts ≡ true → h < length ts → k < length ts → get_or ts h [] ≡ get_or ts k [] → h ≡ k
-one_place [] h k d l m e = absurd (omega arith)
-one_place (t ∷ ts) zero zero d l m e = refl
-one_place (t ∷ ts) zero (suc k) d l m e = absurd (clash (has_text t ts) (there t ts k (omega arith) e) (not_true (has_text t ts) (and_parts (not (has_text t ts)) (all_differ ts) d).0))
-  where
-    there : (t : List ℕ) (ts : List (List ℕ)) (k : ℕ) → k < length ts → t ≡ get_or ts k [] → has_text t ts ≡ true
-    there t [] k l e = absurd (omega arith)
-    there t (u ∷ us) zero l e = rw ((bytes_eq-Decides t u).1 e) refl
-    there t (u ∷ us) (suc k) l e = elim (cases_Bool (bytes_eq t u)) [ inl f ↦ rw f refl | inr f ↦ rw f (there t us k (omega arith) e) ]
-
-    not_true : (b : Bool) → not b ≡ true → b ≡ false
-    not_true true h = sym h
-    not_true false h = refl
-one_place (t ∷ ts) (suc h) zero d l m e = absurd (clash (has_text t ts) (there t ts h (omega arith) (sym e)) (not_true (has_text t ts) (and_parts (not (has_text t ts)) (all_differ ts) d).0))
-  where
-    there : (t : List ℕ) (ts : List (List ℕ)) (k : ℕ) → k < length ts → t ≡ get_or ts k [] → has_text t ts ≡ true
-    there t [] k l e = absurd (omega arith)
-    there t (u ∷ us) zero l e = rw ((bytes_eq-Decides t u).1 e) refl
-    there t (u ∷ us) (suc k) l e = elim (cases_Bool (bytes_eq t u)) [ inl f ↦ rw f refl | inr f ↦ rw f (there t us k (omega arith) e) ]
-
-    not_true : (b : Bool) → not b ≡ true → b ≡ false
-    not_true true h = sym h
-    not_true false h = refl
-one_place (t ∷ ts) (suc h) (suc k) d l m e = ap suc (one_place ts h k (and_parts (not (has_text t ts)) (all_differ ts) d).1 (omega arith) (omega arith) e)
+use Rattle.sg_protocol.proofs.Finding.{one_place, joined_more, joined_less, joined_now, find_head, find_nil, find_passes, find_all}
 
 ok_same : (r : Result Frame ℕ) (f f' : Frame) → r ≡ Ok f → r ≡ Ok f' → f ≡ f'
 ok_same r f f' a b = cc
 
 none_some : (t : Turn) → None ≡ Some t → ⊥
 none_some t e = absurd (cc)
-
--- pairs that are joined later
-joined_more : (js : List (List ℕ × ℕ)) (j : List ℕ × ℕ) (sid : List ℕ) (r : ℕ) → has_joined js sid r ≡ true → has_joined (js ++ j ∷ []) sid r ≡ true
-joined_more [] j sid r h = absurd (cc)
-joined_more (i ∷ js) j sid r h = elim (cases_Bool (bytes_eq i.0 sid && (i.1 == r))) [ inl e ↦ rw e refl | inr e ↦ rw e (joined_more js j sid r (rw e at h)) ]
-
-joined_less : (js : List (List ℕ × ℕ)) (j : List ℕ × ℕ) (sid : List ℕ) (r : ℕ) → bytes_eq j.0 sid ≡ false → has_joined (js ++ j ∷ []) sid r ≡ true → has_joined js sid r ≡ true
-joined_less [] j sid r n h = absurd (let f : false ≡ true = rw n at h in cc)
-joined_less (i ∷ js) j sid r n h = elim (cases_Bool (bytes_eq i.0 sid && (i.1 == r))) [ inl e ↦ rw e refl | inr e ↦ rw e (joined_less js j sid r n (rw e at h)) ]
-
-joined_now : (js : List (List ℕ × ℕ)) (sid : List ℕ) (r : ℕ) → has_joined (js ++ (sid, r) ∷ []) sid r ≡ true
-joined_now [] sid r = rw ((bytes_eq-Decides sid sid).1 refl, eq-eqb r r refl) refl
-joined_now (j ∷ js) sid r = elim (cases_Bool (bytes_eq j.0 sid && (j.1 == r))) [ inl e ↦ rw e refl | inr e ↦ rw e (joined_now js sid r) ]
-
--- the head of a filtered list
-find_head : {A : Type 0} (p : A → Bool) (xs : List A) (x y : A) → xs ≡ x ∷ [] → find p xs ≡ Some y → y ≡ x
-find_head p xs x y e f = go (cases_Bool (p x)) (rw e at f)
-  where
-    go : (p x ≡ true) ⊎ (p x ≡ false) → cond (p x) (Some x) None ≡ Some y → y ≡ x
-    go (inl h) k = (let f : Some x ≡ Some y = rw h at k in cc)
-    go (inr h) k = (let f : None ≡ Some y = rw h at k in absurd (cc))
-
-find_nil : {A : Type 0} (p : A → Bool) (xs : List A) (y : A) → xs ≡ [] → find p xs ≡ Some y → ⊥
-find_nil p xs y e f = (let g : None ≡ Some y = rw e at f in absurd (cc))
-
-pub find_passes : {A : Type 0} (p : A → Bool) (xs : List A) (y : A) → find p xs ≡ Some y → p y ≡ true
-find_passes p [] y e = absurd (cc)
-find_passes p (x ∷ xs) y e = elim (cases_Bool (p x)) [
-  | inl h ↦ (let f : Some x ≡ Some y = rw h at e in let s : x ≡ y = cc in subst (λ z. p z ≡ true) s h)
-  | inr h ↦ find_passes p xs y (rw h at e)
-]
-
-pub find_all : {A : Type 0} (p : A → Bool) (P : A → Type 0) (xs : List A) (y : A) → AllByRecursion P xs → find p xs ≡ Some y → P y
-find_all p P [] y a e = absurd (cc)
-find_all p P (x ∷ xs) y a e = elim (cases_Bool (p x)) [
-  | inl h ↦ (let f : Some x ≡ Some y = rw h at e in let s : x ≡ y = cc in subst P s a.0)
-  | inr h ↦ find_all p P xs y a.1 (rw h at e)
-]
 
 module _ (sha : Hash) (hash : IsHash sha) (s : Schedule) (programs : List Program) (sid : List ℕ) (cast : Cast) (g : Graph) (is : IsGraph g) (acc : Accepted g) (version : IsVersion cast.version) (long : length sid ≡ 32) (differ : all_differ cast.names ≡ true)
     (prog : (r : ℕ) (p : Program) → program_for programs cast.graph r ≡ Some p → (p.graph ≡ g) × IsViewTable p.graph r p.views)

@@ -41,7 +41,7 @@ use Rattle.sg_protocol.specs.Past.{Past, node_of, new_node, past_after}
 use Rattle.sg_protocol.specs.World.{World, Logged, Answered, past_of, new_world, call_of, bytes_of}
 use Rattle.sg_protocol.specs.Run.{called, called_if, world_after, world_after_all, run, frame_in, events_of, events_of_outcome, cast_in}
 use Rattle.sg_protocol.specs.IsSchedule.{IsStep}
-use Rattle.sg_protocol.proofs.Calls.{find_passes}
+use Rattle.sg_protocol.proofs.Finding.{find_passes}
 use Rattle.sg_protocol.proofs.Course.{past_called, next_past, node_more, Suffix, suffix_all}
 use Rattle.sg_protocol.proofs.Whole.{FirstCast, first_past, found_in}
 use Rattle.std.specs.Result.{result_ok}

@@ -40,7 +40,7 @@ use Rattle.sg_protocol.specs.Schedule as Schedule'
 use Rattle.sg_protocol.specs.Crafted as Crafted'
 use Rattle.sg_protocol.specs.IsSchedule.{IsSchedule, IsStep, IsDeclared, AreCompiled, IsProgram}
 use Rattle.sg_protocol.specs.Headline.{IsExplained, SessionsFollowWalks}
-use Rattle.sg_protocol.proofs.Calls.{find_passes, find_all}
+use Rattle.sg_protocol.proofs.Finding.{find_passes, find_all}
 use Rattle.sg_model.specs.Names.{is_name}
 use Rattle.sg_model.proofs.Small.{same_bytes}
 use Rattle.sg_protocol.proofs.Course.{past_called, next_past, node_more}

@@ -60,7 +60,8 @@ use Rattle.sg_protocol.proofs.Entries as Entries'
 use Rattle.sg_protocol.proofs.Keys as Keys'
 use Rattle.std.specs.Option.{option_map_or}
 use Rattle.std.proofs.lemmas.List.Elements.{filter-append}
-use Rattle.sg_protocol.proofs.Calls.{Life, Unmoved, WasLeft, HasStarted, HasTaken, HasGiven, TakesFrame, one_place, find_passes}
+use Rattle.sg_protocol.proofs.Finding.{one_place, find_passes}
+use Rattle.sg_protocol.proofs.Calls.{Life, Unmoved, WasLeft, HasStarted, HasTaken, HasGiven, TakesFrame}
 use Rattle.sg_protocol.proofs.Course.{Progress, keep_all, Suffix, Outs, past_called, next_past, node_more, in_after, in_before, suffix_trans, suffix_one, filter_map-append}
 use Rattle.sg_protocol.proofs.Showing.{shows_called}
 use Rattle.sg_protocol.proofs.Splits.{split_at_end, in_split, split_in, two_splits, rises_mid, role_small}

@@ -32,7 +32,7 @@ use Rattle.sg_protocol.specs.Standing.{EndsWithOwn, EndsWithOther}
 use Rattle.sg_protocol.specs.Live.{IsSound, IsLive, SessionsAreSound, NodesAreSound}
 use Rattle.sg_protocol.proofs.Acts as C
 use Rattle.sg_protocol.proofs.Bridge.{has_view-Contains}
-use Rattle.sg_protocol.proofs.Calls.{find_passes, find_all}
+use Rattle.sg_protocol.proofs.Finding.{find_passes, find_all}
 use Rattle.sg_protocol.proofs.Entries.{not_start}
 use Rattle.sg_protocol.proofs.Enough.{below_reads}
 use Rattle.sg_protocol.proofs.First.{programs_after}

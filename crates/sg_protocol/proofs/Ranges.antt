@@ -28,7 +28,7 @@ use Rattle.sg_protocol.specs.Bounds.{IsSession, IsShortFrame}
 use Rattle.sg_protocol.specs.Ranges.{IsCast, AreValues, IsCallInRange, SessionsStayInRange, NodesStayInRange}
 use Rattle.sg_protocol.proofs.Acts as C
 use Rattle.sg_protocol.proofs.Bounds.{sent_is_short}
-use Rattle.sg_protocol.proofs.Calls.{find_passes, find_all}
+use Rattle.sg_protocol.proofs.Finding.{find_passes, find_all}
 use Rattle.sg_protocol.proofs.Gives.{keys_are}
 use Rattle.sg_protocol.proofs.Moves.{writes_below}
 use Rattle.sg_protocol.proofs.Nodes.{Begun, ActSent, act_sends, start_sends, abandon_sends, deliver_sends, start_all, abandon_all, act_all, deliver_all}

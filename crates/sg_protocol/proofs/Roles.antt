@@ -38,7 +38,7 @@ use Rattle.sg_protocol.proofs.TextLaws as TL
 use Rattle.sg_protocol.proofs.ReadBack.{read-SpellsFrame}
 use Rattle.sg_protocol.proofs.Moves.{row_none}
 use Rattle.sg_protocol.proofs.Sent.{FitSession}
-use Rattle.sg_protocol.proofs.Calls.{one_place, find_all}
+use Rattle.sg_protocol.proofs.Finding.{one_place, find_all}
 use Rattle.sg_protocol.proofs.First.{first_cast}
 use Rattle.sg_protocol.proofs.Fits.{Fit, fit_new, fit_next, fit_bytes, casts_fit, ActSent, act_sends}
 use Rattle.sg_protocol.proofs.Sendings.{Known, Origin, LogsOk, took, all_logs, new_logs, me_is, act_event}

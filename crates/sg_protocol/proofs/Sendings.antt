@@ -44,7 +44,7 @@ use Rattle.sg_protocol.specs.Crafted.{crafted}
 use Rattle.sg_protocol.specs.Premises.{hashed, MadeBefore, Premises}
 use Rattle.sg_protocol.specs.IsSchedule.{IsSchedule, IsStep, AreCompiled, IsPairKey}
 use Rattle.sg_law.proofs.Upto.{in_from_Contains}
-use Rattle.sg_protocol.proofs.Calls.{find_passes, find_all}
+use Rattle.sg_protocol.proofs.Finding.{find_passes, find_all}
 use Rattle.sg_protocol.proofs.TextLaws.{one_opening, one_cast, one_canonical}
 use Rattle.sg_protocol.proofs.TextLaws as TL
 use Rattle.sg_protocol.proofs.Course.{past_called, next_past, node_more, Suffix, suffix_all, in_after}

@@ -40,7 +40,7 @@ use Rattle.std.specs.Prelude.{drop, ◌*◌}
 use Rattle.sg_protocol.specs.Targets.{IsTarget}
 use Rattle.sg_protocol.specs.Graph as G
 use Rattle.sg_protocol.proofs.Spelled.{to_bytes, from_bytes, bytes-append, bytes-take, bytes-zeros}
-use Rattle.sg_protocol.proofs.Calls.{find_all, find_passes}
+use Rattle.sg_protocol.proofs.Finding.{find_all, find_passes}
 
 -- ---- numbers that differ
 

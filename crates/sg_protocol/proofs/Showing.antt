@@ -48,7 +48,8 @@ use Rattle.sg_protocol.proofs.Bridge.{up_to_last-after}
 use Rattle.sg_protocol.proofs.Entries.{entry, entries, entries-com, by, Roles, has-entries, up_to-entries}
 use Rattle.sg_protocol.proofs.Moves.{step, Matches}
 use Rattle.sg_protocol.proofs.Keys.{last_of-keys, after_last-keys, last_of-map, after_last-map, all-filter, all-last_of, all-after_last, all-up_to_last, all-mid, has-mid}
-use Rattle.sg_protocol.proofs.Calls.{Status, TakesFrame, one_place}
+use Rattle.sg_protocol.proofs.Finding.{one_place}
+use Rattle.sg_protocol.proofs.Calls.{Status, TakesFrame}
 use Rattle.sg_protocol.proofs.Course.{Progress, progress_called, progress_moves, keep_all, Suffix, may-append, moved-append, Outs, Ok_}
 
 -- ---- one state of the law, and the items of a frame

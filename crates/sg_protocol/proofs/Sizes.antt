@@ -37,7 +37,7 @@ use Rattle.sg_protocol.specs.Steps.{logged_size, record_size, StepsAddLittle}
 use Rattle.sg_protocol.specs.IsSchedule.{IsProgram, AreCompiled, IsDeclared, IsStep, IsSchedule}
 use Rattle.sg_protocol.specs.Checks.{checked_texts, texts_checked}
 use Rattle.sg_protocol.specs.Notes.{Note, Notes, note_of, hashed_openings, notes_in_session, notes_of_sent, notes_of_act, notes_of_read, hashed_of_join, session_of_frame, row_number, no_notes, notes_of_start, notes}
-use Rattle.sg_protocol.proofs.Calls.{find_all}
+use Rattle.sg_protocol.proofs.Finding.{find_all}
 use Rattle.sg_protocol.proofs.Moves.{writes_below, note_text}
 use Rattle.sg_protocol.proofs.Paths.{writes_rise}
 use Rattle.sg_protocol.proofs.Fits.{Fit, fit_new, fit_next, fit_bytes, fit_sends, declared_in, ActSent, act_sends, act_fit}

@@ -34,7 +34,7 @@ use Rattle.sg_law.proofs.Upto.{In}
 use Rattle.sg_law.proofs.Take.{contains_from_in}
 use Rattle.sg_protocol.proofs.Isolation.{of_sid, find-filter}
 use Rattle.sg_protocol.proofs.Joins.{Owns, owns_after, third, fourth, Right, right_all, right_new}
-use Rattle.sg_protocol.proofs.Calls.{one_place}
+use Rattle.sg_protocol.proofs.Finding.{one_place}
 use Rattle.sg_protocol.proofs.Whole.{found_in, honest_inside}
 use Rattle.sg_protocol.proofs.Sent.{FitSession}
 use Rattle.sg_protocol.proofs.Sendings.{Known, LogsOk, all_logs, new_logs}

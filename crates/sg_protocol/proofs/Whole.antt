@@ -48,7 +48,8 @@ use Rattle.sg_protocol.specs.Premises.{hashed, Premises}
 use Rattle.sg_protocol.specs.IsSchedule.{IsSchedule, IsStep, AreCompiled, IsProgram, parts}
 use Rattle.sg_protocol.specs.Headline.{IsExplained}
 use Rattle.sg_law.proofs.Upto.{in_from_Contains}
-use Rattle.sg_protocol.proofs.Calls.{NodeOk, find_passes, find_all}
+use Rattle.sg_protocol.proofs.Finding.{find_passes, find_all}
+use Rattle.sg_protocol.proofs.Calls.{NodeOk}
 use Rattle.sg_model.specs.Names.{is_name, is_name_byte, is_letter, reserved}
 use Rattle.sg_model.proofs.Small.{same_bytes}
 use Rattle.sg_law.proofs.Members.{in_left, in_map, rec_in, all_in, in_parts}
