@@ -4,35 +4,22 @@ use Rattle.std.specs.List.{AllByRecursion}
 use Rattle.std.proofs.Common.{sym, ap, subst, inl, inr, arith}
 use Rattle.std.proofs.lemmas.Bool.{eq-eqb, cases_Bool, and_parts}
 use Rattle.std.proofs.lemmas.Slice.Eq.{bytes_eq-Decides}
-use Rattle.sg_model.specs.Lists.{all_differ}
-use Rattle.sg_model.specs.Lists.{has_text}
-use Rattle.sg_model.proofs.Small.{clash}
+use Rattle.sg_model.specs.Lists.{all_differ, has_text}
+use Rattle.sg_model.proofs.Small.{clash, not_true}
 use Rattle.sg_protocol.specs.Node.{has_joined}
+
+-- what stands at a place of a list of names is among them
+text_there : (t : List ℕ) (ts : List (List ℕ)) (k : ℕ) → k < length ts → t ≡ get_or ts k [] → has_text t ts ≡ true
+text_there t [] k l e = absurd (omega arith)
+text_there t (u ∷ us) zero l e = rw ((bytes_eq-Decides t u).1 e) refl
+text_there t (u ∷ us) (suc k) l e = elim (cases_Bool (bytes_eq t u)) [ inl f ↦ rw f refl | inr f ↦ rw f (text_there t us k (omega arith) e) ]
 
 -- names that all differ stand at one place each
 pub one_place : (ts : List (List ℕ)) (h k : ℕ) → all_differ ts ≡ true → h < length ts → k < length ts → get_or ts h [] ≡ get_or ts k [] → h ≡ k
 one_place [] h k d l m e = absurd (omega arith)
 one_place (t ∷ ts) zero zero d l m e = refl
-one_place (t ∷ ts) zero (suc k) d l m e = absurd (clash (has_text t ts) (there t ts k (omega arith) e) (not_true (has_text t ts) (and_parts (not (has_text t ts)) (all_differ ts) d).0))
-  where
-    there : (t : List ℕ) (ts : List (List ℕ)) (k : ℕ) → k < length ts → t ≡ get_or ts k [] → has_text t ts ≡ true
-    there t [] k l e = absurd (omega arith)
-    there t (u ∷ us) zero l e = rw ((bytes_eq-Decides t u).1 e) refl
-    there t (u ∷ us) (suc k) l e = elim (cases_Bool (bytes_eq t u)) [ inl f ↦ rw f refl | inr f ↦ rw f (there t us k (omega arith) e) ]
-
-    not_true : (b : Bool) → not b ≡ true → b ≡ false
-    not_true true h = sym h
-    not_true false h = refl
-one_place (t ∷ ts) (suc h) zero d l m e = absurd (clash (has_text t ts) (there t ts h (omega arith) (sym e)) (not_true (has_text t ts) (and_parts (not (has_text t ts)) (all_differ ts) d).0))
-  where
-    there : (t : List ℕ) (ts : List (List ℕ)) (k : ℕ) → k < length ts → t ≡ get_or ts k [] → has_text t ts ≡ true
-    there t [] k l e = absurd (omega arith)
-    there t (u ∷ us) zero l e = rw ((bytes_eq-Decides t u).1 e) refl
-    there t (u ∷ us) (suc k) l e = elim (cases_Bool (bytes_eq t u)) [ inl f ↦ rw f refl | inr f ↦ rw f (there t us k (omega arith) e) ]
-
-    not_true : (b : Bool) → not b ≡ true → b ≡ false
-    not_true true h = sym h
-    not_true false h = refl
+one_place (t ∷ ts) zero (suc k) d l m e = absurd (clash (has_text t ts) (text_there t ts k (omega arith) e) (not_true (has_text t ts) (and_parts (not (has_text t ts)) (all_differ ts) d).0))
+one_place (t ∷ ts) (suc h) zero d l m e = absurd (clash (has_text t ts) (text_there t ts h (omega arith) (sym e)) (not_true (has_text t ts) (and_parts (not (has_text t ts)) (all_differ ts) d).0))
 one_place (t ∷ ts) (suc h) (suc k) d l m e = ap suc (one_place ts h k (and_parts (not (has_text t ts)) (all_differ ts) d).1 (omega arith) (omega arith) e)
 
 -- pairs that are joined later

@@ -42,7 +42,7 @@ use Rattle.sg_protocol.specs.IsSchedule.{IsSchedule, IsStep, IsDeclared, AreComp
 use Rattle.sg_protocol.specs.Headline.{IsExplained, SessionsFollowWalks}
 use Rattle.sg_protocol.proofs.Finding.{find_passes, find_all}
 use Rattle.sg_model.specs.Names.{is_name}
-use Rattle.sg_model.proofs.Small.{same_bytes}
+use Rattle.sg_model.proofs.Small.{same_bytes, all-append}
 use Rattle.sg_protocol.proofs.Course.{past_called, next_past, node_more}
 use Rattle.sg_protocol.proofs.Whole.{first_past}
 use Rattle.sg_protocol.proofs.First.{first_cast, programs_after}
@@ -268,10 +268,6 @@ module _ (sha : Hash) (hash : IsHash sha) (programs : List Program) (s : Schedul
 
   -- ---- the nodes after a call
 
-  all_cat : {A : Type 0} (P : A → Type 0) (xs ys : List A) → AllByRecursion P xs → AllByRecursion P ys → AllByRecursion P (xs ++ ys)
-  all_cat P [] ys a b = b
-  all_cat P (x ∷ xs) ys a b = (a.0, all_cat P xs ys a.1 b)
-
   cast_facts : (n : ℕ) (c : Cast) → cast_of s n ≡ Some c → CastFits c × AreBytes 32 c.graph × AreBytes 16 c.nonce × (list_all is_name c.names ≡ true)
   cast_facts n c e = go (slice_get s.sessions n) refl e
     where
@@ -317,7 +313,7 @@ module _ (sha : Hash) (hash : IsHash sha) (programs : List Program) (s : Schedul
         go (CraftStep cr) gd c e = absurd (cc)
 
     idle_fit : (who : Option Name) (o : Outcome) (fr : Option (List ℕ)) → IfSome fr Bytes_ → Fit (uncalled w k who o fr)
-    idle_fit who o fr h = record { frames = all_cat (λ (l : Logged). IfSome l.frame Bytes_) w.log _ fit.frames (h, tt); nodes = fit.nodes }
+    idle_fit who o fr h = record { frames = all-append (λ (l : Logged). IfSome l.frame Bytes_) w.log _ fit.frames (h, tt); nodes = fit.nodes }
 
     answer_bytes : (a : Answer) → ((e : Event) (to : Name) (f : Frame) → a ≡ Sends e to f → HasSpelling f) → IfSome (frame_in a) Bytes_
     answer_bytes (Sends e to f) h = spelling_bytes f (has_bytes f (h e to f refl))
@@ -325,7 +321,7 @@ module _ (sha : Hash) (hash : IsHash sha) (programs : List Program) (s : Schedul
 
     called_fit : (x : Step) → IsStep sha s x → (who : Name) (past : Past) → past_of w who ≡ Some past → (c : Call) → call_of sha s w k x ≡ Some c → Fit (called sha w k who c past)
     called_fit x good who past q c e = record {
-      frames = all_cat (λ (l : Logged). IfSome l.frame Bytes_) w.log _ fit.frames (answer_bytes (answer sha (node_of past) c) (λ ev to f a. fit_sends w fit k x who past c ev to f good q e a), tt);
+      frames = all-append (λ (l : Logged). IfSome l.frame Bytes_) w.log _ fit.frames (answer_bytes (answer sha (node_of past) c) (λ ev to f a. fit_sends w fit k x who past c ev to f good q e a), tt);
       nodes = λ me p' e'. nodes_ me p' (past_of w me) refl (sym (past_called sha w k who c past me) ∙ e');
     }
       where

@@ -11,7 +11,7 @@ use Rattle.sg_model.specs.Shape.{end_of, role_at, source, receiver}
 use Rattle.sg_model.specs.Values.{Opening}
 use Rattle.sg_model.specs.Names.{Name}
 use Rattle.sg_model.specs.Bytes.{IsBytes}
-use Rattle.sg_model.proofs.Small.{clash, same_bytes}
+use Rattle.sg_model.proofs.Small.{clash, same_bytes, not_true}
 use Rattle.sg_law.proofs.Members.{in_left, in_parts}
 use Rattle.sg_protocol.specs.Graph.{Graph, IsGraph, shape, reads}
 use Rattle.sg_protocol.specs.Accepted.{Accepted}
@@ -635,10 +635,6 @@ module _ (sha : Hash) (s : Schedule) (programs : List Program) (sid : List ℕ) 
       | inr o ↦ inr (inr (inr (inl record { who = who; past = next_past sha who c past; its_past = past_now; x = y; alone = ap (λ (z : Node). filter (of_sid sid) z.live) (node_now past its_past) ∙ e ∙ rw o refl; turn = turn })))
     ]
       where
-        not_true : (b : Bool) → not b ≡ true → b ≡ false
-        not_true true h = absurd (let z : false ≡ true = h in cc)
-        not_true false h = refl
-
         small : y.role < length g.roles
         small = subst (λ z. z < length g.roles) (eqb-true (role_at (shape g) (place g y)) y.role turn) (role_small g is acc (place g y))
 

@@ -17,7 +17,7 @@ use Rattle.sg_law.specs.Values.{State, Made, told_with_item, com_of, Move, Commi
 use Rattle.sg_law.specs.Values.Move.{Writes, Takes}
 use Rattle.sg_protocol.proofs.Moves.{writes_below}
 use Rattle.sg_model.specs.Lists.{rises_from, keys_of, in_order}
-use Rattle.sg_model.proofs.Small.{not_false}
+use Rattle.sg_model.proofs.Small.{not_false, clash}
 use Rattle.sg_law.specs.Values.{MayWrite}
 use Rattle.sg_protocol.specs.Acting.{is_bad, is_typed, is_out_of_order, openings_for}
 use Rattle.sg_protocol.proofs.Paths.{writes_rise}
@@ -178,9 +178,6 @@ same_rising (x ∷ xs) (y ∷ ys) n r q s t f =
           ]
         ]
       where
-        clash : (b : Bool) → b ≡ true → b ≡ false → ⊥
-        clash b h k = absurd (cc)
-
         lt_of : (a b : ℕ) → nat_lt a b ≡ true → a < b
         lt_of a b h = grind (arith, nat_tests)
 

@@ -18,7 +18,7 @@ use Rattle.sg_protocol.specs.Spelling
 use Rattle.sg_protocol.specs.Frame
 use Rattle.sg_model.specs.Bytes
 use Rattle.sg_model.specs.Values
-use Rattle.sg_model.proofs.Small.{and_left, and_right}
+use Rattle.sg_model.proofs.Small.{and_left, and_right, not_true}
 
 -- the reader reads x from these bytes, wherever they stand and whatever follows
 pub record Reads {A : Type 0} (r : Reading.Reader A) (bs : List ℕ) (x : A) : Type 0 where
@@ -55,10 +55,6 @@ reads-rising key r spell least (x ∷ xs) up h =
     reads-after (r least) (λ y. Reading.after (Reading.rising_times key (length xs) (suc (key y)) r) (λ ys. Reading.give (y ∷ ys))) (spell x) (flat_map spell xs) x (x ∷ xs)
     (h.0 least (ltb-false (key x) least (not_true (nat_lt (key x) least) (and_left _ _ up))))
     (reads-map (Reading.rising_times key (length xs) (suc (key x)) r) (λ ys. x ∷ ys) (flat_map spell xs) xs (reads-rising key r spell (suc (key x)) xs (and_right (not (nat_lt (key x) least)) _ up) h.1))
-  where
-    not_true : (b : Bool) → not b ≡ true → b ≡ false
-    not_true true e = cc
-    not_true false e = refl
 
 within : (low high n : ℕ) → low ≤ n → n ≤ high → Reading.is_within low high n ≡ true
 within low high n l h = and_from (nat_le low n) (nat_le n high) (le-leb low n l) (le-leb n high h)

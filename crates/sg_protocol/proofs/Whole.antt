@@ -51,7 +51,7 @@ use Rattle.sg_law.proofs.Upto.{in_from_Contains}
 use Rattle.sg_protocol.proofs.Finding.{find_passes, find_all}
 use Rattle.sg_protocol.proofs.Calls.{NodeOk}
 use Rattle.sg_model.specs.Names.{is_name, is_name_byte, is_letter, reserved}
-use Rattle.sg_model.proofs.Small.{same_bytes}
+use Rattle.sg_model.proofs.Small.{same_bytes, clash, not_true}
 use Rattle.sg_law.proofs.Members.{in_left, in_map, rec_in, all_in, in_parts}
 use Rattle.sg_law.specs.Values.{Binding, Followed}
 use Rattle.sg_law.proofs.Follow.{grown_follows}
@@ -125,13 +125,6 @@ same_named (x ∷ gs) g g' d (inl p) (inr j) e = absurd (differs x gs g' d j (ap
     differs : (x : Graph) (gs : List Graph) (y : Graph) → all_differ (map (λ (g : Graph). g.name) (x ∷ gs)) ≡ true → In gs y → x.name ≡ y.name → ⊥
     differs x gs y d j e = clash (has_text x.name (map (λ (g : Graph). g.name) gs)) (there gs j) (not_true (has_text x.name (map (λ (g : Graph). g.name) gs)) (and_parts (not (has_text x.name (map (λ (g : Graph). g.name) gs))) (all_differ (map (λ (g : Graph). g.name) gs)) d).0)
       where
-        clash : (b : Bool) → b ≡ true → b ≡ false → ⊥
-        clash b t f = absurd (cc)
-
-        not_true : (b : Bool) → not b ≡ true → b ≡ false
-        not_true true h = sym h
-        not_true false h = refl
-
         there : (zs : List Graph) → In zs y → has_text x.name (map (λ (g : Graph). g.name) zs) ≡ true
         there [] i = absurd i
         there (z ∷ zs) (inl p) = rw ((bytes_eq-Decides x.name z.name).1 (e ∙ ap (λ (z : Graph). z.name) p)) refl
@@ -141,13 +134,6 @@ same_named (x ∷ gs) g g' d (inr i) (inl q) e = absurd (differs x gs g d i (ap 
     differs : (x : Graph) (gs : List Graph) (y : Graph) → all_differ (map (λ (g : Graph). g.name) (x ∷ gs)) ≡ true → In gs y → x.name ≡ y.name → ⊥
     differs x gs y d j e = clash (has_text x.name (map (λ (g : Graph). g.name) gs)) (there gs j) (not_true (has_text x.name (map (λ (g : Graph). g.name) gs)) (and_parts (not (has_text x.name (map (λ (g : Graph). g.name) gs))) (all_differ (map (λ (g : Graph). g.name) gs)) d).0)
       where
-        clash : (b : Bool) → b ≡ true → b ≡ false → ⊥
-        clash b t f = absurd (cc)
-
-        not_true : (b : Bool) → not b ≡ true → b ≡ false
-        not_true true h = sym h
-        not_true false h = refl
-
         there : (zs : List Graph) → In zs y → has_text x.name (map (λ (g : Graph). g.name) zs) ≡ true
         there [] i = absurd i
         there (z ∷ zs) (inl p) = rw ((bytes_eq-Decides x.name z.name).1 (e ∙ ap (λ (z : Graph). z.name) p)) refl
