@@ -1,9 +1,9 @@
 -- A run, a step at a time.
-use Rattle.std.specs.Prelude.{◌≡◌, ℕ, suc, ◌+◌, ◌⊎◌, true, false, List, [], ◌∷◌, ◌++◌, map, find, length, bytes_eq, refl, Option, Some, None, option_map}
+use Rattle.std.specs.Prelude.{◌≡◌, ℕ, suc, ◌+◌, ◌⊎◌, true, false, List, [], ◌∷◌, ◌++◌, map, find, length, bytes_eq, refl, Option, Some, None, option_map, filter_map, slice_get, if◌then◌else◌, ◌-◌}
 use Rattle.std.specs.List.{list_all, list_any}
 use Rattle.std.specs.Option.{option_map_or}
 use Rattle.std.proofs.Common.{sym, ◌∙◌, ap, subst, inl, inr, arith, append_assoc, append-nil}
-use Rattle.std.proofs.lemmas.Bool.{cases_Bool, and_parts}
+use Rattle.std.proofs.lemmas.Bool.{cases_Bool, and_parts, ne_eqb}
 use Rattle.std.proofs.lemmas.List.{map-append}
 use Rattle.std.proofs.Math.Seq.{take-append_seam}
 use Rattle.std.proofs.lemmas.List.Sums.{sum_by-append}
@@ -15,10 +15,10 @@ use Rattle.sg_protocol.specs.Keyring.{Program}
 use Rattle.sg_protocol.specs.Calls.{Call}
 use Rattle.sg_protocol.specs.Past.{Past}
 use Rattle.sg_protocol.specs.Schedule.{PairKey, Step, Schedule, is_honest, StartStep, ActStep, AbandonStep, DeliverStep, CraftStep}
-use Rattle.sg_protocol.specs.World.{World, Logged, past_of, new_world, keyring_of, call_of}
+use Rattle.sg_protocol.specs.World.{World, Logged, frames, past_of, new_world, keyring_of, call_of}
 use Rattle.sg_protocol.specs.Run.{called_if, world_after, world_after_all, run}
 use Rattle.sg_protocol.specs.Beginnings.{first_steps}
-use Rattle.sg_protocol.specs.Steps.{with_step, RunsGoByStep, is_taken, LogsAreNumbered, logged_size, Added, StepsAddEntries}
+use Rattle.sg_protocol.specs.Steps.{with_step, RunsGoByStep, is_taken, LogsAreNumbered, logged_size, Added, StepsAddEntries, frame_number, FramesAreNumbered, FitsOutcome}
 use Rattle.sg_protocol.proofs.Course.{past_called, next_past}
 use Rattle.sg_protocol.proofs.FirstSteps.{all_same}
 
@@ -99,25 +99,44 @@ begins keys programs (n ∷ ns) who h = elim (cases_Bool (bytes_eq n who)) [
 pub logs_are_numbered : (sha : Hash) → LogsAreNumbered sha
 logs_are_numbered sha programs s e = numbered sha s (new_world programs s) 1 s.steps (begins s.keys programs s.honest) e
 
+-- ---- the frames that are recorded
+
+frame_found : (before : List Logged) (l : Logged) (after : List Logged) (bs : List ℕ) → l.frame ≡ Some bs
+    → slice_get (filter_map (λ (l : Logged). l.frame) (before ++ l ∷ after)) (length (filter_map (λ (l : Logged). l.frame) before)) ≡ Some bs
+frame_found [] l after bs e = rw e refl
+frame_found (b ∷ before) l after bs e = go (frame_found before l after bs e) b.frame refl
+  where
+    go : slice_get (filter_map (λ (l : Logged). l.frame) (before ++ l ∷ after)) (length (filter_map (λ (l : Logged). l.frame) before)) ≡ Some bs → (o : Option (List ℕ)) → b.frame ≡ o
+        → slice_get (filter_map (λ (l : Logged). l.frame) (b ∷ (before ++ l ∷ after))) (length (filter_map (λ (l : Logged). l.frame) (b ∷ before))) ≡ Some bs
+    go h None q = rw q h
+    go h (Some x) q = rw q h
+
+pub frames_are_numbered : FramesAreNumbered
+frames_are_numbered w before l after bs parts e =
+    ap (λ b. if b then None else slice_get (frames w) (frame_number before - 1)) (ne_eqb (frame_number before) 0 (λ q. omega (arith, q)))
+    ∙ ap (slice_get (frames w)) (let q : frame_number before - 1 ≡ length (filter_map (λ (l : Logged). l.frame) before) = omega arith in q)
+    ∙ ap (λ (log : List Logged). slice_get (filter_map (λ (l : Logged). l.frame) log) (length (filter_map (λ (l : Logged). l.frame) before))) parts
+    ∙ frame_found before l after bs e
+
 -- ---- the size of the record
 
 module _ (sha : Hash) (s : Schedule) (w : World) (k : ℕ) where
   nothing : Added s w w
-  nothing = record { entries = []; log = sym (append-nil w.log); one = omega arith; size = omega arith }
+  nothing = record { entries = []; log = sym (append-nil w.log); one = omega arith; fits = tt; size = omega arith }
 
-  entry_added : (ps : List Past) (l : Logged) → Added s w (record { pasts = ps; log = w.log ++ l ∷ [] })
-  entry_added ps l = record { entries = l ∷ []; log = refl; one = omega arith; size = (let i = sum_by-append logged_size w.log (l ∷ []) in omega (arith, i)) }
+  entry_added : (ps : List Past) (l : Logged) → FitsOutcome l → Added s w (record { pasts = ps; log = w.log ++ l ∷ [] })
+  entry_added ps l h = record { entries = l ∷ []; log = refl; one = omega arith; fits = (h, tt); size = (let i = sum_by-append logged_size w.log (l ∷ []) in omega (arith, i)) }
 
   call_added : (who : Name) (o : Option Call) (p : Past) → Added s w (called_if sha w k who o p)
-  call_added who None p = entry_added w.pasts _
-  call_added who (Some c) p = entry_added _ _
+  call_added who None p = entry_added w.pasts _ refl
+  call_added who (Some c) p = entry_added _ _ refl
 
   who_added : (who : Name) (o : Option Call) (q : Option Past) → Added s w (option_map_or (called_if sha w k who o) q w)
   who_added who o None = nothing
   who_added who o (Some p) = call_added who o p
 
   step_added : (x : Step) → Added s w (world_after sha s w k x)
-  step_added (CraftStep c) = entry_added w.pasts _
+  step_added (CraftStep c) = entry_added w.pasts _ tt
   step_added (StartStep who n) = who_added who (call_of sha s w k (StartStep who n)) (past_of w who)
   step_added (ActStep who n label values) = who_added who (call_of sha s w k (ActStep who n label values)) (past_of w who)
   step_added (AbandonStep who n) = who_added who (call_of sha s w k (AbandonStep who n)) (past_of w who)

@@ -1,14 +1,14 @@
 -- A run, a step at a time, and how much it records.
-use Rattle.std.specs.Prelude.{◌≡◌, ℕ, ◌+◌, ◌<◌, ◌≤◌, Bool, true, List, [], ◌∷◌, ◌++◌, map, length, sum_by}
-use Rattle.std.specs.List.{list_all}
+use Rattle.std.specs.Prelude.{◌≡◌, ℕ, suc, ◌+◌, ◌<◌, ◌≤◌, Bool, true, List, [], ◌∷◌, ◌++◌, map, filter_map, length, sum_by, Option, Some, None, ⊤}
+use Rattle.std.specs.List.{list_all, AllByRecursion}
 use Rattle.std.specs.Option.{option_map_or}
 use Rattle.sg_model.specs.Lists.{range_from}
 use Rattle.sg_model.specs.Limits.{most_added_bytes}
 use Rattle.sg_protocol.specs.Texts.{Hash, graph_text_of}
 use Rattle.sg_protocol.specs.Keyring.{Program}
 use Rattle.sg_protocol.specs.Schedule.{Step, Schedule, who_of, is_honest}
-use Rattle.sg_protocol.specs.World.{Logged, World}
-use Rattle.sg_protocol.specs.Run.{world_after, run}
+use Rattle.sg_protocol.specs.World.{Outcome, Answered, Crafted, NoFrame, Logged, World, frame_at}
+use Rattle.sg_protocol.specs.Run.{frame_in, world_after, run}
 use Rattle.sg_protocol.specs.IsSchedule.{AreCompiled, IsSchedule, IsStep}
 
 -- the schedule with one more step
@@ -26,6 +26,26 @@ is_taken s x = option_map_or (is_honest s) (who_of x) true
 -- Where each step is a craft or an honest principal's, the log has them all, and their numbers are their places, from 1 on
 abbrev pub LogsAreNumbered : Hash → Type 0
 LogsAreNumbered sha = (programs : List Program) (s : Schedule) → list_all (is_taken s) s.steps ≡ true → map (λ l. l.number) (run sha programs s).log ≡ range_from 1 (length s.steps)
+
+-- ---- the frames that are recorded
+
+-- the number of a frame that is recorded after these entries: one more than there are frames in them
+abbrev pub frame_number : List Logged → ℕ
+frame_number before = suc (length (filter_map (λ l. l.frame) before))
+
+-- A recorded frame is found by its number
+abbrev pub FramesAreNumbered : Type 0
+FramesAreNumbered = (w : World) (before : List Logged) (l : Logged) (after : List Logged) (bs : List ℕ) → w.log ≡ before ++ l ∷ after → l.frame ≡ Some bs → frame_at w (frame_number before) ≡ Some bs
+
+-- the frame is that of the outcome
+abbrev pub FitsFrame : Outcome → Option (List ℕ) → Type 0
+FitsFrame (Answered a) frame = frame ≡ frame_in a
+FitsFrame Crafted frame = ⊤
+FitsFrame NoFrame frame = frame ≡ None
+
+-- what was recorded fits what came of the step: of an answer the frame that it sends, if it sends one, and nothing where there was no frame to deliver
+abbrev pub FitsOutcome : Logged → Type 0
+FitsOutcome l = FitsFrame l.outcome l.frame
 
 -- ---- the size of the record
 
@@ -45,9 +65,10 @@ pub record Added (s : Schedule) (w now : World) : Type 0 where
   pub entries : List Logged
   pub log : now.log ≡ w.log ++ entries
   pub one : length entries ≤ 1
+  pub fits : AllByRecursion FitsOutcome entries
   pub size : record_size s now ≡ record_size s w + sum_by logged_size entries
 
--- A step logs one entry or none, and the record grows by its size
+-- A step logs one entry or none, whose frame fits its outcome, and the record grows by its size
 abbrev pub StepsAddEntries : Hash → Type 0
 StepsAddEntries sha = (s : Schedule) (w : World) (k : ℕ) (x : Step) → Added s w (world_after sha s w k x)
 

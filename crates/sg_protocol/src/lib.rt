@@ -33,7 +33,7 @@ ghost use Rattle.sg_protocol.specs.Isolation.{SessionsAreIsolated, AnswersAreOfS
 ghost use Rattle.sg_protocol.specs.Receipts.{ReceiptsHaveSends};
 ghost use Rattle.sg_protocol.specs.Beginnings.{RunsGoOn, PremisesHoldBefore};
 ghost use Rattle.sg_protocol.specs.Broken.{ForgedIsFirst, CollisionIsFirst};
-ghost use Rattle.sg_protocol.specs.Steps.{RunsGoByStep, LogsAreNumbered, StepsAddEntries, StepsAddLittle};
+ghost use Rattle.sg_protocol.specs.Steps.{RunsGoByStep, LogsAreNumbered, FramesAreNumbered, StepsAddEntries, StepsAddLittle};
 ghost use Rattle.sg_protocol.specs.LastSteps.{FramesShowLastSteps};
 ghost use Rattle.sg_protocol.specs.Completeness.{DeliveryIsComplete};
 ghost use Rattle.sg_protocol.specs.GoesOn.{SessionsGoOn};
@@ -237,11 +237,13 @@ pub fn beginnings()
 
 /// A run goes on by a step: the run of a schedule with one more step is the world after this step, whose number is one more
 /// than that of the steps before. Where each step is a craft or an honest principal's, the log has an entry for each, and
-/// the entries' numbers are their places, counted from 1. A step logs one entry or none, and the record's size grows by
-/// the lengths of the entry's frame and of the texts that it notes: by less than 4,194,304 bytes for a step in range.
+/// the entries' numbers are their places, counted from 1. A recorded frame is found by the number that is one more than
+/// there are frames before it. A step logs one entry or none, whose frame is the one that its outcome sends, if it sends
+/// one, and the record's size grows by the lengths of the entry's frame and of the texts that it notes: by less than 4,194,304 bytes for a step in range.
 pub fn single_steps()
     ensures goes_on { (sha : List ℕ → List ℕ) → RunsGoByStep sha }
     ensures numbered { (sha : List ℕ → List ℕ) → LogsAreNumbered sha }
+    ensures framed { FramesAreNumbered }
     ensures sizes { (sha : List ℕ → List ℕ) → StepsAddEntries sha }
     ensures little { (sha : List ℕ → List ℕ) → IsHash sha → StepsAddLittle sha }
 {}
