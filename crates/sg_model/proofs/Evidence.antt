@@ -125,7 +125,7 @@ evidence_again {K = K} {A = A} role (x ∷ xs) ys =
     step (inr f) ih = evidence-keep role x (evidence role xs ++ ys) (same ∙ f) ∙ ap (λ l. x ∷ l) ih ∙ sym (evidence-keep role x (xs ++ ys) f)
 
 -- the steps of the evidence
-has-steps : {K A : Type 0} (role : K → ℕ) (k : ℕ) (xs : List (Entry K A)) → has role k (map (λ (y : Entry K A). y.step) xs) ≡ has (λ y. role y.step) k xs
+pub has-steps : {K A : Type 0} (role : K → ℕ) (k : ℕ) (xs : List (Entry K A)) → has role k (map (λ (y : Entry K A). y.step) xs) ≡ has (λ y. role y.step) k xs
 has-steps role k [] = refl
 has-steps role k (x ∷ xs) = ap (λ b. (role x.step == k) || b) (has-steps role k xs)
 

@@ -1,3 +1,4 @@
+pub mod Small
 pub mod LastOf
 pub mod Evidence
 pub mod Walks

@@ -1,10 +1,10 @@
 -- A session that gives a step is to the law a role that sends.
 use Rattle.sg_law.specs.Accept.{TimedLabel, sender_of}
-use Rattle.std.specs.Prelude.{◌≡◌, ◌≢◌, ℕ, ◌+◌, ◌<◌, ◌==◌, nat_lt, nat_le, ◌⊎◌, Bool, true, false, not, List, [], ◌∷◌, ◌++◌, map, length, find, refl, Option, Some, None, option_map, unwrap_or, IfSome, MatchOption, Contains}
+use Rattle.std.specs.Prelude.{◌≡◌, ◌≢◌, ℕ, ◌+◌, ◌<◌, ◌==◌, nat_lt, nat_le, true, false, not, List, [], ◌∷◌, ◌++◌, map, length, find, refl, Option, Some, None, option_map, unwrap_or, IfSome, MatchOption, Contains}
 use Rattle.std.specs.List.{list_all, AllByRecursion}
 use Rattle.std.specs.Option.{option_map_or}
 use Rattle.std.proofs.Common.{sym, ◌∙◌, ap, subst, inl, inr, arith}
-use Rattle.std.proofs.lemmas.Bool.{eqb-true, ne_eqb}
+use Rattle.std.proofs.lemmas.Bool.{eqb-true, ne_eqb, and_parts}
 use Rattle.std.proofs.lemmas.Bool.Decides.{nat_tests}
 use Rattle.std.proofs.lemmas.List.{map-append}
 use Rattle.sg_model.specs.Last as A
@@ -37,8 +37,10 @@ use Rattle.sg_law.proofs.Take.{contains_from_in}
 use Rattle.sg_law.proofs.Cut.{last-option_map}
 use Rattle.sg_protocol.proofs.Paths.{flat_map-append}
 use Rattle.sg_protocol.proofs.Entries.{entry, entries, entries-com, by, Roles, edges_same, evidence_for-ents, evidence_for-role, last_tags, shown-steps, shown-com, as_entry}
-use Rattle.sg_protocol.proofs.Moves.{step, FitItem, FitItems, NoteOk, Matches, and_parts, not_false, none_parts, row_none, map_none, note_text, fit-append, roles-append, are_held, writes_below}
+use Rattle.sg_protocol.proofs.Moves.{step, FitItem, FitItems, NoteOk, Matches, row_none, map_none, note_text, fit-append, roles-append, are_held, writes_below}
 use Rattle.sg_model.specs.Lists.{rises_from, keys_of, in_order}
+use Rattle.sg_model.proofs.Small.{not_false, none_parts, map_same}
+use Rattle.sg_law.proofs.Members.{in_parts}
 use Rattle.sg_law.specs.Values.{MayWrite}
 use Rattle.sg_law.proofs.Upto.{upto-at, last-after, after-more}
 use Rattle.sg_law.proofs.Cut.{cut_evidence, label_of}
@@ -50,15 +52,6 @@ use Rattle.sg_protocol.proofs.TextLaws.{one_item, one_frame, kinds_differ}
 use Rattle.sg_protocol.specs.Accepted.{Accepted}
 use Rattle.sg_protocol.proofs.Gives.{in_order-all, keys_are, typed_values, opened_keys, opened_values}
 
-cases_Bool : (b : Bool) → (b ≡ true) ⊎ (b ≡ false)
-cases_Bool true = inl refl
-cases_Bool false = inr refl
-
-pub in_parts : {A : Type 0} (xs ys : List A) (m : A) → In (xs ++ ys) m → In xs m ⊎ In ys m
-in_parts [] ys m i = inr i
-in_parts (x ∷ xs) ys m (inl e) = inl (inl e)
-in_parts (x ∷ xs) ys m (inr i) = elim (in_parts xs ys m i) [ inl f ↦ inl (inr f) | inr f ↦ inr f ]
-
 pub of_map : {A B : Type 0} (f : A → B) (xs : List A) (m : B) → In (map f xs) m → (x : A) × (m ≡ f x)
 of_map f [] m i = absurd i
 of_map f (x ∷ xs) m (inl e) = (x, e)
@@ -68,15 +61,11 @@ pub in_last : {A : Type 0} (xs : List A) (x : A) → In (xs ++ x ∷ []) x
 in_last [] x = inl refl
 in_last (y ∷ ys) x = inr (in_last ys x)
 
-map_same : {A : Type 0} (f h : ℕ → A) (xs : List ℕ) → ((x : ℕ) → f x ≡ h x) → map f xs ≡ map h xs
-map_same f h [] e = refl
-map_same f h (x ∷ xs) e = ap (λ z. z ∷ map f xs) (e x) ∙ ap (λ l. h x ∷ l) (map_same f h xs e)
-
 commit_lengths : (sha : Hash) → IsHash sha → (sid : List ℕ) (os : List Opening) → AllByRecursion (λ (d : ℕ × List ℕ). length d.1 ≡ 32) (map (λ (o : Opening). (o.variable, commitment sha sid o)) os)
 commit_lengths sha hash sid [] = tt
 commit_lengths sha hash sid (o ∷ os) = ((hash (commitment_text_of sid o)).0, commit_lengths sha hash sid os)
 
-keys_of_commits : (sha : Hash) (sid : List ℕ) (os : List Opening) → keys_of (map (λ (o : Opening). (o.variable, commitment sha sid o)) os) ≡ map (λ (o : Opening). o.variable) os
+pub keys_of_commits : (sha : Hash) (sid : List ℕ) (os : List Opening) → keys_of (map (λ (o : Opening). (o.variable, commitment sha sid o)) os) ≡ map (λ (o : Opening). o.variable) os
 keys_of_commits sha sid [] = refl
 keys_of_commits sha sid (o ∷ os) = ap (λ l. o.variable ∷ l) (keys_of_commits sha sid os)
 

@@ -3,15 +3,16 @@ use Rattle.std.specs.Prelude.{◌≡◌, ◌≢◌, ℕ, zero, suc, ◌+◌, ◌
 use Rattle.std.specs.List.{AllByRecursion, list_any, cons_option}
 use Rattle.std.specs.Option.{option_map_or}
 use Rattle.std.proofs.Common.{sym, ◌∙◌, ap, subst, inl, inr, arith}
-use Rattle.std.proofs.lemmas.Bool.{cases_Bool, eqb-true, eq-eqb, ne_eqb}
+use Rattle.std.proofs.lemmas.Bool.{cases_Bool, eqb-true, eq-eqb, ne_eqb, and_from, and_parts, lt-ltb}
 use Rattle.std.proofs.lemmas.Bool.Decides.{nat_tests}
-use Rattle.std.proofs.lemmas.List.Elements.{All-head, All-tail}
-use Rattle.std.proofs.lemmas.Slice.Eq.{bytes_eq-Decides}
+use Rattle.std.proofs.lemmas.List.Elements.{All-head, All-tail, recursion_from_All}
 use Rattle.sg_model.specs.Last.{Map, has, last, after_last}
 use Rattle.sg_model.specs.Lists.{all_differ, below, range_from, first_some}
 use Rattle.sg_model.specs.Shape.{Arrow, role_at, source, sender, receiver}
 use Rattle.sg_model.specs.Names.{Name}
 use Rattle.sg_model.specs.Values.{Opening, Value}
+use Rattle.sg_model.proofs.Small.{clash, same_bytes, bytes_same}
+use Rattle.sg_law.proofs.Members.{in_map, in_flat, rec_in}
 use Rattle.sg_protocol.specs.Graph.{Graph, Edge, IsGraph, shape, reads}
 use Rattle.sg_protocol.specs.Evidence.{View, IsView, IsViewTable, same_origin}
 use Rattle.sg_protocol.specs.Targets.{IsTargetTable}
@@ -39,12 +40,11 @@ use Rattle.sg_protocol.specs.LastSteps.{honest_items}
 use Rattle.sg_law.proofs.Upto.{In, in_from_Contains}
 use Rattle.sg_law.proofs.Take.{contains_from_in}
 use Rattle.sg_law.proofs.Lists.{last-append}
-use Rattle.sg_protocol.proofs.Moves.{and_parts, in_map}
 use Rattle.sg_protocol.proofs.Isolation.{of_sid, find-filter}
 use Rattle.sg_protocol.proofs.ReadLaws.{read-spelling}
-use Rattle.sg_protocol.proofs.Calls.{find_passes, find_all, one_place}
-use Rattle.sg_protocol.proofs.Course.{in_flat, filter_map-append}
-use Rattle.sg_protocol.proofs.Whole.{FirstCast, found_in, find_some, to_rec, program_graph, first_past}
+use Rattle.sg_protocol.proofs.Finding.{find_passes, find_all, one_place}
+use Rattle.sg_protocol.proofs.Course.{filter_map-append}
+use Rattle.sg_protocol.proofs.Whole.{FirstCast, found_in, find_some, program_graph, first_past}
 use Rattle.sg_protocol.proofs.Whole as W
 use Rattle.sg_protocol.proofs.First.{first_cast}
 use Rattle.sg_protocol.proofs.Fits.{Fit, fit_new, fit_next, fit_bytes, fit_sends, casts_fit, start_sends, abandon_sends, deliver_sends}
@@ -52,29 +52,13 @@ use Rattle.sg_protocol.proofs.Sendings.{no_entry, act_event, keys_after, receipt
 use Rattle.sg_protocol.proofs.Reduced.{by_role, has-both, reduced}
 use Rattle.sg_protocol.proofs.Relay.{StepsOk, RelayOk, OpensAt, relay_new, at_end}
 use Rattle.sg_protocol.proofs.Rows.{rows_none, viewed}
-use Rattle.sg_protocol.proofs.Flight.{Flight, FrameOk, Taken, Track, New, Here, Gone, SessOk, flight}
+use Rattle.sg_protocol.proofs.Flight.{HonestSession, Flight, FrameOk, Taken, Track, New, Here, Gone, SessOk, flight}
 use Rattle.sg_protocol.proofs.Splits.{in_split, split_in, role_small}
 use Rattle.sg_protocol.proofs.Flight as L
 use Rattle.sg_protocol.proofs.Keys as Keys'
 use Rattle.sg_protocol.specs.Notes.{notes}
 use Rattle.sg_protocol.specs.NodeAfter as NodeAfter'
 use Rattle.sg_protocol.proofs.OneTable.{one_table, reads_small}
-
-clash : (b : Bool) → b ≡ true → b ≡ false → ⊥
-clash b t f = absurd (cc)
-
-same_bytes_ : (a b : List ℕ) → bytes_eq a b ≡ true → a ≡ b
-same_bytes_ a b h = (bytes_eq-Decides a b).0 h
-
-bytes_same : (a b : List ℕ) → a ≡ b → bytes_eq a b ≡ true
-bytes_same a b h = (bytes_eq-Decides a b).1 h
-
-and_both : (a b : Bool) → a ≡ true → b ≡ true → (a && b) ≡ true
-and_both true b h k = k
-and_both false b h k = h
-
-less : (a b : ℕ) → a < b → nat_lt a b ≡ true
-less a b l = elim (cases_Bool (nat_lt a b)) [ inl e ↦ e | inr e ↦ absurd (let m : b ≤ a = grind (arith, nat_tests) in omega (arith, l, m)) ]
 
 not_over : (a b : ℕ) → a < b → nat_le b a ≡ false
 not_over a b l = elim (cases_Bool (nat_le b a)) [ inl e ↦ absurd (let m : b ≤ a = grind (arith, nat_tests) in omega (arith, l, m)) | inr e ↦ e ]
@@ -96,11 +80,6 @@ in_below n x l = go 0 n (omega arith) (omega (arith, l))
     go k zero a b = absurd (omega (arith, a, b))
     go k (suc j) a b = elim (cases_Bool (k == x)) [ inl e ↦ inl (sym (eqb-true k x e)) | inr e ↦ inr (go (suc k) j (grind (arith, nat_tests)) (omega (arith, b))) ]
 
-rec_in : {A : Type 0} (P : A → Type 0) (xs : List A) (x : A) → AllByRecursion P xs → In xs x → P x
-rec_in P [] x a i = absurd i
-rec_in P (y ∷ ys) x a (inl e) = subst P (sym e) a.0
-rec_in P (y ∷ ys) x a (inr i) = rec_in P ys x a.1 i
-
 pairs_apart : (ks : List PairKey) → All IsPairKey ks → AllByRecursion (λ (z : PairKey). z.one ≢ z.two) ks
 pairs_apart [] a = tt
 pairs_apart (k ∷ ks) a = ((All-head IsPairKey k ks a).0, pairs_apart ks (All-tail IsPairKey k ks a))
@@ -114,11 +93,11 @@ had_left who sid log = elim (go log) [
   where
     by_who : (o : Option Name) → (o ≡ Some who) ⊎ (o ≡ Some who → ⊥)
     by_who None = inr (λ e. absurd (let z : None ≡ Some who = e in cc))
-    by_who (Some x) = elim (cases_Bool (bytes_eq x who)) [ inl e ↦ inl (ap (λ z. Some z) (same_bytes_ x who e)) | inr e ↦ inr (λ q. let z : x ≡ who = cc in clash (bytes_eq x who) (bytes_same x who z) e) ]
+    by_who (Some x) = elim (cases_Bool (bytes_eq x who)) [ inl e ↦ inl (ap (λ z. Some z) (same_bytes x who e)) | inr e ↦ inr (λ q. let z : x ≡ who = cc in clash (bytes_eq x who) (bytes_same x who z) e) ]
 
     by_call : (o : Option Call) → (o ≡ Some (Abandon sid)) ⊎ (o ≡ Some (Abandon sid) → ⊥)
     by_call None = inr (λ e. absurd (let z : None ≡ Some (Abandon sid) = e in cc))
-    by_call (Some (Abandon x)) = elim (cases_Bool (bytes_eq x sid)) [ inl e ↦ inl (ap (λ z. Some (Abandon z)) (same_bytes_ x sid e)) | inr e ↦ inr (λ q. let y : Some (Abandon x) ≡ Some (Abandon sid) = q in let z : x ≡ sid = cc in clash (bytes_eq x sid) (bytes_same x sid z) e) ]
+    by_call (Some (Abandon x)) = elim (cases_Bool (bytes_eq x sid)) [ inl e ↦ inl (ap (λ z. Some (Abandon z)) (same_bytes x sid e)) | inr e ↦ inr (λ q. let y : Some (Abandon x) ≡ Some (Abandon sid) = q in let z : x ≡ sid = cc in clash (bytes_eq x sid) (bytes_same x sid z) e) ]
     by_call (Some (Start c)) = inr (λ e. absurd (let z : Some (Start c) ≡ Some (Abandon sid) = e in cc))
     by_call (Some (Act a b c d)) = inr (λ e. absurd (let z : Some (Act a b c d) ≡ Some (Abandon sid) = e in cc))
     by_call (Some (Deliver bs)) = inr (λ e. absurd (let z : Some (Deliver bs) ≡ Some (Abandon sid) = e in cc))
@@ -186,7 +165,7 @@ module _ (sha : Hash) (hash : IsHash sha) (programs : List Program) (s : Schedul
   table_of p ip q e = one_table g p.targets first.program.targets (subst (λ z. IsTargetTable z p.targets) q ip.targets) tp.targets e
 
   programs_ok : AllByRecursion (IsProgram sha) programs
-  programs_ok = to_rec (IsProgram sha) programs compiled.each
+  programs_ok = recursion_from_All (IsProgram sha) programs compiled.each
 
   is_program : (r : ℕ) (p : Program) → program_for programs first.cast.graph r ≡ Some p → IsProgram sha p
   is_program r p e = find_all (λ (p : Program). bytes_eq p.digest first.cast.graph && (p.role == r)) (IsProgram sha) programs p programs_ok e
@@ -202,7 +181,7 @@ module _ (sha : Hash) (hash : IsHash sha) (programs : List Program) (s : Schedul
       let h = and_parts (bytes_eq p.digest first.cast.graph) (p.role == role_at (shape p.graph) 0) (find_passes (λ (p : Program). bytes_eq p.digest first.cast.graph && (p.role == role_at (shape p.graph) 0)) programs p e) in
       let there : In programs p = found_in (λ (p : Program). bytes_eq p.digest first.cast.graph && (p.role == role_at (shape p.graph) 0)) programs p e in
       let ip : IsProgram sha p = rec_in (IsProgram sha) programs p programs_ok there in
-      let q : p.graph ≡ first.program.graph = W.same_digest sha hash programs s compiled sched premises sid first (Fit sha hash programs s compiled sched) (fit_new sha hash programs s compiled sched) (fit_next sha hash programs s compiled sched) (fit_bytes sha hash programs s compiled sched) (fit_sends sha hash programs s compiled sched) (casts_fit sha hash programs s compiled sched) p.graph first.program.graph (program_graph sha s.graphs programs compiled p there) (W.g_there sha hash programs s compiled sched premises sid first (Fit sha hash programs s compiled sched) (fit_new sha hash programs s compiled sched) (fit_next sha hash programs s compiled sched) (fit_bytes sha hash programs s compiled sched) (fit_sends sha hash programs s compiled sched) (casts_fit sha hash programs s compiled sched)) (sym ip.digest ∙ same_bytes_ p.digest first.cast.graph h.0 ∙ sym first.digest ∙ tp.digest) in
+      let q : p.graph ≡ first.program.graph = W.same_digest sha hash programs s compiled sched premises sid first (Fit sha hash programs s compiled sched) (fit_new sha hash programs s compiled sched) (fit_next sha hash programs s compiled sched) (fit_bytes sha hash programs s compiled sched) (fit_sends sha hash programs s compiled sched) (casts_fit sha hash programs s compiled sched) p.graph first.program.graph (program_graph sha s.graphs programs compiled p there) (W.g_there sha hash programs s compiled sched premises sid first (Fit sha hash programs s compiled sched) (fit_new sha hash programs s compiled sched) (fit_next sha hash programs s compiled sched) (fit_bytes sha hash programs s compiled sched) (fit_sends sha hash programs s compiled sched) (casts_fit sha hash programs s compiled sched)) (sym ip.digest ∙ same_bytes p.digest first.cast.graph h.0 ∙ sym first.digest ∙ tp.digest) in
       ap (λ z. role_at (shape z) 0) (sym q) ∙ sym (eqb-true p.role (role_at (shape p.graph) 0) h.1)
 
   -- each role has a program
@@ -212,7 +191,7 @@ module _ (sha : Hash) (hash : IsHash sha) (programs : List Program) (s : Schedul
       let b = in_map_back (λ (p : Program). (p.graph, p.role)) programs (first.program.graph, r) (subst (λ z. In z (first.program.graph, r)) (sym compiled.all) i) in
       let ip : IsProgram sha b.0 = rec_in (IsProgram sha) programs b.0 programs_ok b.1 in
       let d : (b.0).digest ≡ first.cast.graph = ip.digest ∙ ap (λ (y : Graph × ℕ). graph_digest sha y.0) b.2 ∙ sym tp.digest ∙ first.digest in
-      find_some (λ (p : Program). bytes_eq p.digest first.cast.graph && (p.role == r)) programs b.0 b.1 (and_both (bytes_eq (b.0).digest first.cast.graph) ((b.0).role == r) (bytes_same (b.0).digest first.cast.graph d) (eq-eqb (b.0).role r (ap (λ (y : Graph × ℕ). y.1) b.2)))
+      find_some (λ (p : Program). bytes_eq p.digest first.cast.graph && (p.role == r)) programs b.0 b.1 (and_from (bytes_eq (b.0).digest first.cast.graph) ((b.0).role == r) (bytes_same (b.0).digest first.cast.graph d) (eq-eqb (b.0).role r (ap (λ (y : Graph × ℕ). y.1) b.2)))
 
   sends_sid : (n : Node) (c : Call) (e : Event) (to : Name) (f : Frame) → answer sha n c ≡ Sends e to f → sid_of e ≡ f.sid
   sends_sid n (Start c) e to f a = absurd (start_sends sha hash programs s compiled sched n c e to f a)
@@ -226,18 +205,43 @@ module _ (sha : Hash) (hash : IsHash sha) (programs : List Program) (s : Schedul
   keys_kept : (n : Node) (c : Call) (a : Answer) → (NodeAfter'.node_after n c a).keys ≡ n.keys
   keys_kept n c a = keys_after sha hash programs s compiled sched (run sha programs s) n c a
 
+  known_of_session : HonestSession sha s programs sid first.cast first.program.graph (run sha programs s) (Fit sha hash programs s compiled sched) targets
+  known_of_session = record {
+    is_hash = hash;
+    is_graph = tp.is_graph;
+    accepted = tp.accepted;
+    is_version = first.fits.version;
+    long_sid = W.long sha hash programs s compiled sched premises sid first (Fit sha hash programs s compiled sched) (fit_new sha hash programs s compiled sched) (fit_next sha hash programs s compiled sched) (fit_bytes sha hash programs s compiled sched) (fit_sends sha hash programs s compiled sched) (casts_fit sha hash programs s compiled sched);
+    names_differ = first.differ;
+    programs_of = W.prog sha hash programs s compiled sched premises sid first (Fit sha hash programs s compiled sched) (fit_new sha hash programs s compiled sched) (fit_next sha hash programs s compiled sched) (fit_bytes sha hash programs s compiled sched) (fit_sends sha hash programs s compiled sched) (casts_fit sha hash programs s compiled sched);
+    unforged = premises.unforged;
+    one_cast = W.the_cast sha hash programs s compiled sched premises sid first (Fit sha hash programs s compiled sched) (fit_new sha hash programs s compiled sched) (fit_next sha hash programs s compiled sched) (fit_bytes sha hash programs s compiled sched) (fit_sends sha hash programs s compiled sched) (casts_fit sha hash programs s compiled sched);
+    fit_next = fit_next sha hash programs s compiled sched;
+    fit_bytes = fit_bytes sha hash programs s compiled sched;
+    fit_sends = fit_sends sha hash programs s compiled sched;
+    casts_fit = casts_fit sha hash programs s compiled sched;
+    binding = W.binding sha hash programs s compiled sched premises sid first (Fit sha hash programs s compiled sched) (fit_new sha hash programs s compiled sched) (fit_next sha hash programs s compiled sched) (fit_bytes sha hash programs s compiled sched) (fit_sends sha hash programs s compiled sched) (casts_fit sha hash programs s compiled sched);
+    inside = W.inside sha hash programs s compiled sched premises sid first (Fit sha hash programs s compiled sched) (fit_new sha hash programs s compiled sched) (fit_next sha hash programs s compiled sched) (fit_bytes sha hash programs s compiled sched) (fit_sends sha hash programs s compiled sched) (casts_fit sha hash programs s compiled sched);
+    everyone = everyone;
+    same_targets = same_targets;
+    was_sent = was_sent_;
+    keys_kept = keys_kept;
+    starts = starts;
+    sends_sid = sends_sid;
+  }
+
   abbrev Flight_ : World → Type 0
-  Flight_ w = Flight sha hash s programs sid first.cast first.program.graph tp.is_graph tp.accepted first.fits.version (W.long sha hash programs s compiled sched premises sid first (Fit sha hash programs s compiled sched) (fit_new sha hash programs s compiled sched) (fit_next sha hash programs s compiled sched) (fit_bytes sha hash programs s compiled sched) (fit_sends sha hash programs s compiled sched) (casts_fit sha hash programs s compiled sched)) first.differ (W.prog sha hash programs s compiled sched premises sid first (Fit sha hash programs s compiled sched) (fit_new sha hash programs s compiled sched) (fit_next sha hash programs s compiled sched) (fit_bytes sha hash programs s compiled sched) (fit_sends sha hash programs s compiled sched) (casts_fit sha hash programs s compiled sched)) (run sha programs s) premises.unforged (W.the_cast sha hash programs s compiled sched premises sid first (Fit sha hash programs s compiled sched) (fit_new sha hash programs s compiled sched) (fit_next sha hash programs s compiled sched) (fit_bytes sha hash programs s compiled sched) (fit_sends sha hash programs s compiled sched) (casts_fit sha hash programs s compiled sched)) (Fit sha hash programs s compiled sched) (fit_next sha hash programs s compiled sched) (fit_bytes sha hash programs s compiled sched) (fit_sends sha hash programs s compiled sched) (casts_fit sha hash programs s compiled sched) (W.binding sha hash programs s compiled sched premises sid first (Fit sha hash programs s compiled sched) (fit_new sha hash programs s compiled sched) (fit_next sha hash programs s compiled sched) (fit_bytes sha hash programs s compiled sched) (fit_sends sha hash programs s compiled sched) (casts_fit sha hash programs s compiled sched)) (W.inside sha hash programs s compiled sched premises sid first (Fit sha hash programs s compiled sched) (fit_new sha hash programs s compiled sched) (fit_next sha hash programs s compiled sched) (fit_bytes sha hash programs s compiled sched) (fit_sends sha hash programs s compiled sched) (casts_fit sha hash programs s compiled sched)) everyone targets same_targets was_sent_ keys_kept starts sends_sid w
+  Flight_ w = Flight sha s programs sid first.cast first.program.graph (run sha programs s) (Fit sha hash programs s compiled sched) targets known_of_session w
 
   all_steps_ok : AllByRecursion (IsStep sha s) s.steps
-  all_steps_ok = to_rec (IsStep sha s) s.steps sched.steps
+  all_steps_ok = recursion_from_All (IsStep sha s) s.steps sched.steps
 
   begins_flight : Flight_ (new_world programs s)
   begins_flight = record {
     sids = λ l e to f i h. absurd i;
     keys_are = λ who p e. let r = first_past s.keys programs s.honest who p e in subst (λ (z : Past). (node_of z).keys ≡ keyring_of s.keys who) (sym r.0) refl;
     steps = record { walk = tt; roles = tt; delta_keys = tt; tags = tt; times = tt };
-    tracks = λ who p e. let r = first_past s.keys programs s.honest who p e in subst (λ (z : Past). Track sha hash s programs sid first.cast first.program.graph tp.is_graph tp.accepted first.fits.version (W.long sha hash programs s compiled sched premises sid first (Fit sha hash programs s compiled sched) (fit_new sha hash programs s compiled sched) (fit_next sha hash programs s compiled sched) (fit_bytes sha hash programs s compiled sched) (fit_sends sha hash programs s compiled sched) (casts_fit sha hash programs s compiled sched)) first.differ (W.prog sha hash programs s compiled sched premises sid first (Fit sha hash programs s compiled sched) (fit_new sha hash programs s compiled sched) (fit_next sha hash programs s compiled sched) (fit_bytes sha hash programs s compiled sched) (fit_sends sha hash programs s compiled sched) (casts_fit sha hash programs s compiled sched)) (run sha programs s) premises.unforged (W.the_cast sha hash programs s compiled sched premises sid first (Fit sha hash programs s compiled sched) (fit_new sha hash programs s compiled sched) (fit_next sha hash programs s compiled sched) (fit_bytes sha hash programs s compiled sched) (fit_sends sha hash programs s compiled sched) (casts_fit sha hash programs s compiled sched)) (Fit sha hash programs s compiled sched) (fit_next sha hash programs s compiled sched) (fit_bytes sha hash programs s compiled sched) (fit_sends sha hash programs s compiled sched) (casts_fit sha hash programs s compiled sched) (W.binding sha hash programs s compiled sched premises sid first (Fit sha hash programs s compiled sched) (fit_new sha hash programs s compiled sched) (fit_next sha hash programs s compiled sched) (fit_bytes sha hash programs s compiled sched) (fit_sends sha hash programs s compiled sched) (casts_fit sha hash programs s compiled sched)) (W.inside sha hash programs s compiled sched premises sid first (Fit sha hash programs s compiled sched) (fit_new sha hash programs s compiled sched) (fit_next sha hash programs s compiled sched) (fit_bytes sha hash programs s compiled sched) (fit_sends sha hash programs s compiled sched) (casts_fit sha hash programs s compiled sched)) everyone targets same_targets was_sent_ keys_kept starts sends_sid [] who (node_of z)) (sym r.0) (inl record { alone = refl; none = λ r a b. refl; unjoined = λ r a b h. absurd (cc) });
+    tracks = λ who p e. let r = first_past s.keys programs s.honest who p e in subst (λ (z : Past). Track sha s programs sid first.cast first.program.graph (run sha programs s) (Fit sha hash programs s compiled sched) targets known_of_session [] who (node_of z)) (sym r.0) (inl record { alone = refl; none = λ r a b. refl; unjoined = λ r a b h. absurd (cc) });
     frames = λ before l after e to f h o i. absurd (no_split before l after h);
   }
     where
@@ -246,12 +250,14 @@ module _ (sha : Hash) (hash : IsHash sha) (programs : List Program) (s : Schedul
       no_split (b ∷ before) l after e = absurd (cc)
 
   flown : Flight_ (run sha programs s)
-  flown = flight sha hash s programs sid first.cast first.program.graph tp.is_graph tp.accepted first.fits.version (W.long sha hash programs s compiled sched premises sid first (Fit sha hash programs s compiled sched) (fit_new sha hash programs s compiled sched) (fit_next sha hash programs s compiled sched) (fit_bytes sha hash programs s compiled sched) (fit_sends sha hash programs s compiled sched) (casts_fit sha hash programs s compiled sched)) first.differ (W.prog sha hash programs s compiled sched premises sid first (Fit sha hash programs s compiled sched) (fit_new sha hash programs s compiled sched) (fit_next sha hash programs s compiled sched) (fit_bytes sha hash programs s compiled sched) (fit_sends sha hash programs s compiled sched) (casts_fit sha hash programs s compiled sched)) (run sha programs s) premises.unforged (W.the_cast sha hash programs s compiled sched premises sid first (Fit sha hash programs s compiled sched) (fit_new sha hash programs s compiled sched) (fit_next sha hash programs s compiled sched) (fit_bytes sha hash programs s compiled sched) (fit_sends sha hash programs s compiled sched) (casts_fit sha hash programs s compiled sched)) (Fit sha hash programs s compiled sched) (fit_next sha hash programs s compiled sched) (fit_bytes sha hash programs s compiled sched) (fit_sends sha hash programs s compiled sched) (casts_fit sha hash programs s compiled sched) (W.binding sha hash programs s compiled sched premises sid first (Fit sha hash programs s compiled sched) (fit_new sha hash programs s compiled sched) (fit_next sha hash programs s compiled sched) (fit_bytes sha hash programs s compiled sched) (fit_sends sha hash programs s compiled sched) (casts_fit sha hash programs s compiled sched)) (W.inside sha hash programs s compiled sched premises sid first (Fit sha hash programs s compiled sched) (fit_new sha hash programs s compiled sched) (fit_next sha hash programs s compiled sched) (fit_bytes sha hash programs s compiled sched) (fit_sends sha hash programs s compiled sched) (casts_fit sha hash programs s compiled sched)) everyone targets same_targets was_sent_ keys_kept starts sends_sid (new_world programs s) 1 (W.begins sha hash programs s compiled sched premises sid first (Fit sha hash programs s compiled sched) (fit_new sha hash programs s compiled sched) (fit_next sha hash programs s compiled sched) (fit_bytes sha hash programs s compiled sched) (fit_sends sha hash programs s compiled sched) (casts_fit sha hash programs s compiled sched)) begins_flight s.steps all_steps_ok (fit_new sha hash programs s compiled sched) refl
+  unfolding known_of_session
+  flown = flight sha s programs sid first.cast first.program.graph (run sha programs s) (Fit sha hash programs s compiled sched) targets known_of_session (new_world programs s) 1 (W.begins sha hash programs s compiled sched premises sid first (Fit sha hash programs s compiled sched) (fit_new sha hash programs s compiled sched) (fit_next sha hash programs s compiled sched) (fit_bytes sha hash programs s compiled sched) (fit_sends sha hash programs s compiled sched) (casts_fit sha hash programs s compiled sched)) begins_flight s.steps all_steps_ok (fit_new sha hash programs s compiled sched) refl
 
   -- ---- who has the turn, or which frame is under way
 
-  coursed : L.Course_ sha hash s programs sid first.cast first.program.graph tp.is_graph tp.accepted first.fits.version (W.long sha hash programs s compiled sched premises sid first (Fit sha hash programs s compiled sched) (fit_new sha hash programs s compiled sched) (fit_next sha hash programs s compiled sched) (fit_bytes sha hash programs s compiled sched) (fit_sends sha hash programs s compiled sched) (casts_fit sha hash programs s compiled sched)) first.differ (W.prog sha hash programs s compiled sched premises sid first (Fit sha hash programs s compiled sched) (fit_new sha hash programs s compiled sched) (fit_next sha hash programs s compiled sched) (fit_bytes sha hash programs s compiled sched) (fit_sends sha hash programs s compiled sched) (casts_fit sha hash programs s compiled sched)) (run sha programs s) premises.unforged (W.the_cast sha hash programs s compiled sched premises sid first (Fit sha hash programs s compiled sched) (fit_new sha hash programs s compiled sched) (fit_next sha hash programs s compiled sched) (fit_bytes sha hash programs s compiled sched) (fit_sends sha hash programs s compiled sched) (casts_fit sha hash programs s compiled sched)) (Fit sha hash programs s compiled sched) (fit_next sha hash programs s compiled sched) (fit_bytes sha hash programs s compiled sched) (fit_sends sha hash programs s compiled sched) (casts_fit sha hash programs s compiled sched) (W.binding sha hash programs s compiled sched premises sid first (Fit sha hash programs s compiled sched) (fit_new sha hash programs s compiled sched) (fit_next sha hash programs s compiled sched) (fit_bytes sha hash programs s compiled sched) (fit_sends sha hash programs s compiled sched) (casts_fit sha hash programs s compiled sched)) (W.inside sha hash programs s compiled sched premises sid first (Fit sha hash programs s compiled sched) (fit_new sha hash programs s compiled sched) (fit_next sha hash programs s compiled sched) (fit_bytes sha hash programs s compiled sched) (fit_sends sha hash programs s compiled sched) (casts_fit sha hash programs s compiled sched)) everyone targets same_targets was_sent_ keys_kept starts sends_sid (run sha programs s)
-  coursed = L.course sha hash s programs sid first.cast first.program.graph tp.is_graph tp.accepted first.fits.version (W.long sha hash programs s compiled sched premises sid first (Fit sha hash programs s compiled sched) (fit_new sha hash programs s compiled sched) (fit_next sha hash programs s compiled sched) (fit_bytes sha hash programs s compiled sched) (fit_sends sha hash programs s compiled sched) (casts_fit sha hash programs s compiled sched)) first.differ (W.prog sha hash programs s compiled sched premises sid first (Fit sha hash programs s compiled sched) (fit_new sha hash programs s compiled sched) (fit_next sha hash programs s compiled sched) (fit_bytes sha hash programs s compiled sched) (fit_sends sha hash programs s compiled sched) (casts_fit sha hash programs s compiled sched)) (run sha programs s) premises.unforged (W.the_cast sha hash programs s compiled sched premises sid first (Fit sha hash programs s compiled sched) (fit_new sha hash programs s compiled sched) (fit_next sha hash programs s compiled sched) (fit_bytes sha hash programs s compiled sched) (fit_sends sha hash programs s compiled sched) (casts_fit sha hash programs s compiled sched)) (Fit sha hash programs s compiled sched) (fit_next sha hash programs s compiled sched) (fit_bytes sha hash programs s compiled sched) (fit_sends sha hash programs s compiled sched) (casts_fit sha hash programs s compiled sched) (W.binding sha hash programs s compiled sched premises sid first (Fit sha hash programs s compiled sched) (fit_new sha hash programs s compiled sched) (fit_next sha hash programs s compiled sched) (fit_bytes sha hash programs s compiled sched) (fit_sends sha hash programs s compiled sched) (casts_fit sha hash programs s compiled sched)) (W.inside sha hash programs s compiled sched premises sid first (Fit sha hash programs s compiled sched) (fit_new sha hash programs s compiled sched) (fit_next sha hash programs s compiled sched) (fit_bytes sha hash programs s compiled sched) (fit_sends sha hash programs s compiled sched) (casts_fit sha hash programs s compiled sched)) everyone targets same_targets was_sent_ keys_kept starts sends_sid has_program (new_world programs s) 1 (W.begins sha hash programs s compiled sched premises sid first (Fit sha hash programs s compiled sched) (fit_new sha hash programs s compiled sched) (fit_next sha hash programs s compiled sched) (fit_bytes sha hash programs s compiled sched) (fit_sends sha hash programs s compiled sched) (casts_fit sha hash programs s compiled sched)) (record {
+  coursed : L.Course_ sha s programs sid first.cast first.program.graph (run sha programs s) (Fit sha hash programs s compiled sched) targets known_of_session (run sha programs s)
+  unfolding known_of_session
+  coursed = L.course sha s programs sid first.cast first.program.graph (run sha programs s) (Fit sha hash programs s compiled sched) targets known_of_session has_program (new_world programs s) 1 (W.begins sha hash programs s compiled sched premises sid first (Fit sha hash programs s compiled sched) (fit_new sha hash programs s compiled sched) (fit_next sha hash programs s compiled sched) (fit_bytes sha hash programs s compiled sched) (fit_sends sha hash programs s compiled sched) (casts_fit sha hash programs s compiled sched)) (record {
     flight_ = begins_flight;
     sourced = λ m f i. absurd i;
     baton = inl refl;
@@ -288,7 +294,7 @@ module _ (sha : Hash) (hash : IsHash sha) (programs : List Program) (s : Schedul
           rest_no false b h = h
 
   -- a session at its turn sends along each edge from its place
-  acts_at : (who : Name) (past : Past) → past_of (run sha programs s) who ≡ Some past → (x : Session) → filter (of_sid sid) (node_of past).live ≡ x ∷ [] → at_turn first.program.graph x ≡ true → L.SessOk sha hash s programs sid first.cast first.program.graph tp.is_graph tp.accepted first.fits.version (W.long sha hash programs s compiled sched premises sid first (Fit sha hash programs s compiled sched) (fit_new sha hash programs s compiled sched) (fit_next sha hash programs s compiled sched) (fit_bytes sha hash programs s compiled sched) (fit_sends sha hash programs s compiled sched) (casts_fit sha hash programs s compiled sched)) first.differ (W.prog sha hash programs s compiled sched premises sid first (Fit sha hash programs s compiled sched) (fit_new sha hash programs s compiled sched) (fit_next sha hash programs s compiled sched) (fit_bytes sha hash programs s compiled sched) (fit_sends sha hash programs s compiled sched) (casts_fit sha hash programs s compiled sched)) (run sha programs s) premises.unforged (W.the_cast sha hash programs s compiled sched premises sid first (Fit sha hash programs s compiled sched) (fit_new sha hash programs s compiled sched) (fit_next sha hash programs s compiled sched) (fit_bytes sha hash programs s compiled sched) (fit_sends sha hash programs s compiled sched) (casts_fit sha hash programs s compiled sched)) (Fit sha hash programs s compiled sched) (fit_next sha hash programs s compiled sched) (fit_bytes sha hash programs s compiled sched) (fit_sends sha hash programs s compiled sched) (casts_fit sha hash programs s compiled sched) (W.binding sha hash programs s compiled sched premises sid first (Fit sha hash programs s compiled sched) (fit_new sha hash programs s compiled sched) (fit_next sha hash programs s compiled sched) (fit_bytes sha hash programs s compiled sched) (fit_sends sha hash programs s compiled sched) (casts_fit sha hash programs s compiled sched)) (W.inside sha hash programs s compiled sched premises sid first (Fit sha hash programs s compiled sched) (fit_new sha hash programs s compiled sched) (fit_next sha hash programs s compiled sched) (fit_bytes sha hash programs s compiled sched) (fit_sends sha hash programs s compiled sched) (casts_fit sha hash programs s compiled sched)) everyone targets same_targets was_sent_ keys_kept starts sends_sid (run sha programs s).log who x → CanAct sha (run sha programs s) first.cast first.program.graph sid
+  acts_at : (who : Name) (past : Past) → past_of (run sha programs s) who ≡ Some past → (x : Session) → filter (of_sid sid) (node_of past).live ≡ x ∷ [] → at_turn first.program.graph x ≡ true → L.SessOk sha s programs sid first.cast first.program.graph (run sha programs s) (Fit sha hash programs s compiled sched) targets known_of_session (run sha programs s).log who x → CanAct sha (run sha programs s) first.cast first.program.graph sid
   acts_at who past its_past x alone turn ok = record {
     who = who;
     has_turn = ap (principal first.cast) (ap (role_at (shape first.program.graph)) (sym end_is) ∙ role_is) ∙ ok.is_who;
@@ -328,11 +334,11 @@ module _ (sha : Hash) (hash : IsHash sha) (programs : List Program) (s : Schedul
       no_rows : (label : ℕ) (values : Map Value) → label < length first.program.graph.edges → source (shape first.program.graph) label ≡ place_in first.program.graph sid (run sha programs s).log → find (is_bad first.program.graph label values) (below 256) ≡ None → time x < 1000000 → first_some (rows_of_act the_p.0 x label values) ≡ None
       no_rows label values l src right t = none_of (at_turn (the_p.0).graph x) (leaves (the_p.0).graph x label) (nat_le 1000000 (time x)) true (find (is_bad (the_p.0).graph label values) (below 256))
           (subst (λ z. at_turn z x ≡ true) (sym p_graph) turn)
-          (subst (λ z. leaves z x label ≡ true) (sym p_graph) (and_both (nat_lt label (length first.program.graph.edges)) (source (shape first.program.graph) label == place first.program.graph x) (less label (length first.program.graph.edges) l) (eq-eqb (source (shape first.program.graph) label) (place first.program.graph x) (src ∙ sym end_is))))
+          (subst (λ z. leaves z x label ≡ true) (sym p_graph) (and_from (nat_lt label (length first.program.graph.edges)) (source (shape first.program.graph) label == place first.program.graph x) (lt-ltb label (length first.program.graph.edges) l) (eq-eqb (source (shape first.program.graph) label) (place first.program.graph x) (src ∙ sym end_is))))
           (not_over (time x) 1000000 t)
           (subst (λ z. find (is_bad z label values) (below 256) ≡ None) (sym p_graph) right)
 
-  holds : L.Holder sha hash s programs sid first.cast first.program.graph tp.is_graph tp.accepted first.fits.version (W.long sha hash programs s compiled sched premises sid first (Fit sha hash programs s compiled sched) (fit_new sha hash programs s compiled sched) (fit_next sha hash programs s compiled sched) (fit_bytes sha hash programs s compiled sched) (fit_sends sha hash programs s compiled sched) (casts_fit sha hash programs s compiled sched)) first.differ (W.prog sha hash programs s compiled sched premises sid first (Fit sha hash programs s compiled sched) (fit_new sha hash programs s compiled sched) (fit_next sha hash programs s compiled sched) (fit_bytes sha hash programs s compiled sched) (fit_sends sha hash programs s compiled sched) (casts_fit sha hash programs s compiled sched)) (run sha programs s) premises.unforged (W.the_cast sha hash programs s compiled sched premises sid first (Fit sha hash programs s compiled sched) (fit_new sha hash programs s compiled sched) (fit_next sha hash programs s compiled sched) (fit_bytes sha hash programs s compiled sched) (fit_sends sha hash programs s compiled sched) (casts_fit sha hash programs s compiled sched)) (Fit sha hash programs s compiled sched) (fit_next sha hash programs s compiled sched) (fit_bytes sha hash programs s compiled sched) (fit_sends sha hash programs s compiled sched) (casts_fit sha hash programs s compiled sched) (W.binding sha hash programs s compiled sched premises sid first (Fit sha hash programs s compiled sched) (fit_new sha hash programs s compiled sched) (fit_next sha hash programs s compiled sched) (fit_bytes sha hash programs s compiled sched) (fit_sends sha hash programs s compiled sched) (casts_fit sha hash programs s compiled sched)) (W.inside sha hash programs s compiled sched premises sid first (Fit sha hash programs s compiled sched) (fit_new sha hash programs s compiled sched) (fit_next sha hash programs s compiled sched) (fit_bytes sha hash programs s compiled sched) (fit_sends sha hash programs s compiled sched) (casts_fit sha hash programs s compiled sched)) everyone targets same_targets was_sent_ keys_kept starts sends_sid (run sha programs s) → CanAct sha (run sha programs s) first.cast first.program.graph sid
+  holds : L.Holder sha s programs sid first.cast first.program.graph (run sha programs s) (Fit sha hash programs s compiled sched) targets known_of_session (run sha programs s) → CanAct sha (run sha programs s) first.cast first.program.graph sid
   holds h = elim (flown.tracks h.who h.past h.its_past) [
     | inl t ↦ absurd (let z : h.x ∷ [] ≡ [] = sym h.alone ∙ t.alone in cc)
     | inr r ↦ elim r [
@@ -345,13 +351,13 @@ module _ (sha : Hash) (hash : IsHash sha) (programs : List Program) (s : Schedul
   ]
 
   -- the last frame
-  flies : L.Flying sha hash s programs sid first.cast first.program.graph tp.is_graph tp.accepted first.fits.version (W.long sha hash programs s compiled sched premises sid first (Fit sha hash programs s compiled sched) (fit_new sha hash programs s compiled sched) (fit_next sha hash programs s compiled sched) (fit_bytes sha hash programs s compiled sched) (fit_sends sha hash programs s compiled sched) (casts_fit sha hash programs s compiled sched)) first.differ (W.prog sha hash programs s compiled sched premises sid first (Fit sha hash programs s compiled sched) (fit_new sha hash programs s compiled sched) (fit_next sha hash programs s compiled sched) (fit_bytes sha hash programs s compiled sched) (fit_sends sha hash programs s compiled sched) (casts_fit sha hash programs s compiled sched)) (run sha programs s) premises.unforged (W.the_cast sha hash programs s compiled sched premises sid first (Fit sha hash programs s compiled sched) (fit_new sha hash programs s compiled sched) (fit_next sha hash programs s compiled sched) (fit_bytes sha hash programs s compiled sched) (fit_sends sha hash programs s compiled sched) (casts_fit sha hash programs s compiled sched)) (Fit sha hash programs s compiled sched) (fit_next sha hash programs s compiled sched) (fit_bytes sha hash programs s compiled sched) (fit_sends sha hash programs s compiled sched) (casts_fit sha hash programs s compiled sched) (W.binding sha hash programs s compiled sched premises sid first (Fit sha hash programs s compiled sched) (fit_new sha hash programs s compiled sched) (fit_next sha hash programs s compiled sched) (fit_bytes sha hash programs s compiled sched) (fit_sends sha hash programs s compiled sched) (casts_fit sha hash programs s compiled sched)) (W.inside sha hash programs s compiled sched premises sid first (Fit sha hash programs s compiled sched) (fit_new sha hash programs s compiled sched) (fit_next sha hash programs s compiled sched) (fit_bytes sha hash programs s compiled sched) (fit_sends sha hash programs s compiled sched) (casts_fit sha hash programs s compiled sched)) everyone targets same_targets was_sent_ keys_kept starts sends_sid (run sha programs s).log → WasAbandoned first.cast sid (run sha programs s).log ⊎ IsUnderWay sha s (run sha programs s) first.cast sid
+  flies : L.Flying sha s programs sid first.cast first.program.graph (run sha programs s) (Fit sha hash programs s compiled sched) targets known_of_session (run sha programs s).log → WasAbandoned first.cast sid (run sha programs s).log ⊎ IsUnderWay sha s (run sha programs s) first.cast sid
   flies fy = elim (had_left fy.to sid (run sha programs s).log) [
     | inl had ↦ inl (abandoned_by fy.to had)
     | inr not_left_ ↦ inr (under_way not_left_)
   ]
     where
-      fo : L.FrameOk sha hash s programs sid first.cast first.program.graph tp.is_graph tp.accepted first.fits.version (W.long sha hash programs s compiled sched premises sid first (Fit sha hash programs s compiled sched) (fit_new sha hash programs s compiled sched) (fit_next sha hash programs s compiled sched) (fit_bytes sha hash programs s compiled sched) (fit_sends sha hash programs s compiled sched) (casts_fit sha hash programs s compiled sched)) first.differ (W.prog sha hash programs s compiled sched premises sid first (Fit sha hash programs s compiled sched) (fit_new sha hash programs s compiled sched) (fit_next sha hash programs s compiled sched) (fit_bytes sha hash programs s compiled sched) (fit_sends sha hash programs s compiled sched) (casts_fit sha hash programs s compiled sched)) (run sha programs s) premises.unforged (W.the_cast sha hash programs s compiled sched premises sid first (Fit sha hash programs s compiled sched) (fit_new sha hash programs s compiled sched) (fit_next sha hash programs s compiled sched) (fit_bytes sha hash programs s compiled sched) (fit_sends sha hash programs s compiled sched) (casts_fit sha hash programs s compiled sched)) (Fit sha hash programs s compiled sched) (fit_next sha hash programs s compiled sched) (fit_bytes sha hash programs s compiled sched) (fit_sends sha hash programs s compiled sched) (casts_fit sha hash programs s compiled sched) (W.binding sha hash programs s compiled sched premises sid first (Fit sha hash programs s compiled sched) (fit_new sha hash programs s compiled sched) (fit_next sha hash programs s compiled sched) (fit_bytes sha hash programs s compiled sched) (fit_sends sha hash programs s compiled sched) (casts_fit sha hash programs s compiled sched)) (W.inside sha hash programs s compiled sched premises sid first (Fit sha hash programs s compiled sched) (fit_new sha hash programs s compiled sched) (fit_next sha hash programs s compiled sched) (fit_bytes sha hash programs s compiled sched) (fit_sends sha hash programs s compiled sched) (casts_fit sha hash programs s compiled sched)) everyone targets same_targets was_sent_ keys_kept starts sends_sid (run sha programs s).log fy.before fy.after fy.l fy.to fy.f
+      fo : L.FrameOk sha s programs sid first.cast first.program.graph (run sha programs s) (Fit sha hash programs s compiled sched) targets known_of_session (run sha programs s).log fy.before fy.after fy.l fy.to fy.f
       fo = flown.frames fy.before fy.l fy.after fy.e fy.to fy.f fy.parts fy.outcome fy.of_session
 
       in_log : In (run sha programs s).log fy.l
@@ -370,7 +376,7 @@ module _ (sha : Hash) (hash : IsHash sha) (programs : List Program) (s : Schedul
       sent_to = (fy.l, fy.e, contains_from_in (run sha programs s).log fy.l in_log, fy.outcome, fo.framed)
 
       done_is : honest_items sid (run sha programs s).log ≡ honest_items sid fy.before ++ fo.item ∷ []
-      done_is = ap (honest_items sid) fy.parts ∙ L.split_items sha hash s programs sid first.cast first.program.graph tp.is_graph tp.accepted first.fits.version (W.long sha hash programs s compiled sched premises sid first (Fit sha hash programs s compiled sched) (fit_new sha hash programs s compiled sched) (fit_next sha hash programs s compiled sched) (fit_bytes sha hash programs s compiled sched) (fit_sends sha hash programs s compiled sched) (casts_fit sha hash programs s compiled sched)) first.differ (W.prog sha hash programs s compiled sched premises sid first (Fit sha hash programs s compiled sched) (fit_new sha hash programs s compiled sched) (fit_next sha hash programs s compiled sched) (fit_bytes sha hash programs s compiled sched) (fit_sends sha hash programs s compiled sched) (casts_fit sha hash programs s compiled sched)) (run sha programs s) premises.unforged (W.the_cast sha hash programs s compiled sched premises sid first (Fit sha hash programs s compiled sched) (fit_new sha hash programs s compiled sched) (fit_next sha hash programs s compiled sched) (fit_bytes sha hash programs s compiled sched) (fit_sends sha hash programs s compiled sched) (casts_fit sha hash programs s compiled sched)) (Fit sha hash programs s compiled sched) (fit_next sha hash programs s compiled sched) (fit_bytes sha hash programs s compiled sched) (fit_sends sha hash programs s compiled sched) (casts_fit sha hash programs s compiled sched) (W.binding sha hash programs s compiled sched premises sid first (Fit sha hash programs s compiled sched) (fit_new sha hash programs s compiled sched) (fit_next sha hash programs s compiled sched) (fit_bytes sha hash programs s compiled sched) (fit_sends sha hash programs s compiled sched) (casts_fit sha hash programs s compiled sched)) (W.inside sha hash programs s compiled sched premises sid first (Fit sha hash programs s compiled sched) (fit_new sha hash programs s compiled sched) (fit_next sha hash programs s compiled sched) (fit_bytes sha hash programs s compiled sched) (fit_sends sha hash programs s compiled sched) (casts_fit sha hash programs s compiled sched)) everyone targets same_targets was_sent_ keys_kept starts sends_sid fy.before fy.l fy.after fy.e fy.to fy.f fo.item fy.outcome fy.of_session fo.its_last ∙ ap (λ l. honest_items sid fy.before ++ fo.item ∷ l) fy.nothing_later
+      done_is = ap (honest_items sid) fy.parts ∙ L.split_items sha s programs sid first.cast first.program.graph (run sha programs s) (Fit sha hash programs s compiled sched) targets known_of_session fy.before fy.l fy.after fy.e fy.to fy.f fo.item fy.outcome fy.of_session fo.its_last ∙ ap (λ l. honest_items sid fy.before ++ fo.item ∷ l) fy.nothing_later
 
       untaken_ : (e : Event) → HadAnswer (run sha programs s).log fy.to (Deliver (spelling fy.f)) (Happened e) → ⊥
       untaken_ e had =
@@ -423,13 +429,13 @@ module _ (sha : Hash) (hash : IsHash sha) (programs : List Program) (s : Schedul
     sp : (before : List Logged) × (after : List Logged) × ((run sha programs s).log ≡ before ++ (aw.sent).0 ∷ after)
     sp = in_split (run sha programs s).log (aw.sent).0 (in_from_Contains (run sha programs s).log (aw.sent).0 (aw.sent).2)
 
-    fo : FrameOk sha hash s programs sid first.cast first.program.graph tp.is_graph tp.accepted first.fits.version (W.long sha hash programs s compiled sched premises sid first (Fit sha hash programs s compiled sched) (fit_new sha hash programs s compiled sched) (fit_next sha hash programs s compiled sched) (fit_bytes sha hash programs s compiled sched) (fit_sends sha hash programs s compiled sched) (casts_fit sha hash programs s compiled sched)) first.differ (W.prog sha hash programs s compiled sched premises sid first (Fit sha hash programs s compiled sched) (fit_new sha hash programs s compiled sched) (fit_next sha hash programs s compiled sched) (fit_bytes sha hash programs s compiled sched) (fit_sends sha hash programs s compiled sched) (casts_fit sha hash programs s compiled sched)) (run sha programs s) premises.unforged (W.the_cast sha hash programs s compiled sched premises sid first (Fit sha hash programs s compiled sched) (fit_new sha hash programs s compiled sched) (fit_next sha hash programs s compiled sched) (fit_bytes sha hash programs s compiled sched) (fit_sends sha hash programs s compiled sched) (casts_fit sha hash programs s compiled sched)) (Fit sha hash programs s compiled sched) (fit_next sha hash programs s compiled sched) (fit_bytes sha hash programs s compiled sched) (fit_sends sha hash programs s compiled sched) (casts_fit sha hash programs s compiled sched) (W.binding sha hash programs s compiled sched premises sid first (Fit sha hash programs s compiled sched) (fit_new sha hash programs s compiled sched) (fit_next sha hash programs s compiled sched) (fit_bytes sha hash programs s compiled sched) (fit_sends sha hash programs s compiled sched) (casts_fit sha hash programs s compiled sched)) (W.inside sha hash programs s compiled sched premises sid first (Fit sha hash programs s compiled sched) (fit_new sha hash programs s compiled sched) (fit_next sha hash programs s compiled sched) (fit_bytes sha hash programs s compiled sched) (fit_sends sha hash programs s compiled sched) (casts_fit sha hash programs s compiled sched)) everyone targets same_targets was_sent_ keys_kept starts sends_sid (run sha programs s).log sp.0 sp.1 (aw.sent).0 who f
+    fo : FrameOk sha s programs sid first.cast first.program.graph (run sha programs s) (Fit sha hash programs s compiled sched) targets known_of_session (run sha programs s).log sp.0 sp.1 (aw.sent).0 who f
     fo = flown.frames sp.0 (aw.sent).0 sp.1 (aw.sent).1 who f sp.2 (aw.sent).3 (flown.sids (aw.sent).0 (aw.sent).1 who f (in_from_Contains (run sha programs s).log (aw.sent).0 (aw.sent).2) (aw.sent).3 ∙ of_sid_)
 
     bytes_are : aw.bytes ≡ spelling f
     bytes_are = (let z : Some aw.bytes ≡ Some (spelling f) = sym (aw.sent).4 ∙ fo.framed in cc)
 
-    untaken : Taken sha hash s programs sid first.cast first.program.graph tp.is_graph tp.accepted first.fits.version (W.long sha hash programs s compiled sched premises sid first (Fit sha hash programs s compiled sched) (fit_new sha hash programs s compiled sched) (fit_next sha hash programs s compiled sched) (fit_bytes sha hash programs s compiled sched) (fit_sends sha hash programs s compiled sched) (casts_fit sha hash programs s compiled sched)) first.differ (W.prog sha hash programs s compiled sched premises sid first (Fit sha hash programs s compiled sched) (fit_new sha hash programs s compiled sched) (fit_next sha hash programs s compiled sched) (fit_bytes sha hash programs s compiled sched) (fit_sends sha hash programs s compiled sched) (casts_fit sha hash programs s compiled sched)) (run sha programs s) premises.unforged (W.the_cast sha hash programs s compiled sched premises sid first (Fit sha hash programs s compiled sched) (fit_new sha hash programs s compiled sched) (fit_next sha hash programs s compiled sched) (fit_bytes sha hash programs s compiled sched) (fit_sends sha hash programs s compiled sched) (casts_fit sha hash programs s compiled sched)) (Fit sha hash programs s compiled sched) (fit_next sha hash programs s compiled sched) (fit_bytes sha hash programs s compiled sched) (fit_sends sha hash programs s compiled sched) (casts_fit sha hash programs s compiled sched) (W.binding sha hash programs s compiled sched premises sid first (Fit sha hash programs s compiled sched) (fit_new sha hash programs s compiled sched) (fit_next sha hash programs s compiled sched) (fit_bytes sha hash programs s compiled sched) (fit_sends sha hash programs s compiled sched) (casts_fit sha hash programs s compiled sched)) (W.inside sha hash programs s compiled sched premises sid first (Fit sha hash programs s compiled sched) (fit_new sha hash programs s compiled sched) (fit_next sha hash programs s compiled sched) (fit_bytes sha hash programs s compiled sched) (fit_sends sha hash programs s compiled sched) (casts_fit sha hash programs s compiled sched)) everyone targets same_targets was_sent_ keys_kept starts sends_sid (run sha programs s).log who f → ⊥
+    untaken : Taken sha s programs sid first.cast first.program.graph (run sha programs s) (Fit sha hash programs s compiled sched) targets known_of_session (run sha programs s).log who f → ⊥
     untaken t = aw.not_taken (receipt f) (t.0, contains_from_in (run sha programs s).log t.0 t.1, t.2, t.3 ∙ ap (λ z. Some (Deliver z)) (sym bytes_are), t.4)
 
     nothing_after : honest_items sid sp.1 ≡ []
@@ -444,7 +450,7 @@ module _ (sha : Hash) (hash : IsHash sha) (programs : List Program) (s : Schedul
 
     done_is : honest_items sid (run sha programs s).log ≡ honest_items sid sp.0 ++ fo.item ∷ []
     done_is = ap (honest_items sid) sp.2
-        ∙ L.split_items sha hash s programs sid first.cast first.program.graph tp.is_graph tp.accepted first.fits.version (W.long sha hash programs s compiled sched premises sid first (Fit sha hash programs s compiled sched) (fit_new sha hash programs s compiled sched) (fit_next sha hash programs s compiled sched) (fit_bytes sha hash programs s compiled sched) (fit_sends sha hash programs s compiled sched) (casts_fit sha hash programs s compiled sched)) first.differ (W.prog sha hash programs s compiled sched premises sid first (Fit sha hash programs s compiled sched) (fit_new sha hash programs s compiled sched) (fit_next sha hash programs s compiled sched) (fit_bytes sha hash programs s compiled sched) (fit_sends sha hash programs s compiled sched) (casts_fit sha hash programs s compiled sched)) (run sha programs s) premises.unforged (W.the_cast sha hash programs s compiled sched premises sid first (Fit sha hash programs s compiled sched) (fit_new sha hash programs s compiled sched) (fit_next sha hash programs s compiled sched) (fit_bytes sha hash programs s compiled sched) (fit_sends sha hash programs s compiled sched) (casts_fit sha hash programs s compiled sched)) (Fit sha hash programs s compiled sched) (fit_next sha hash programs s compiled sched) (fit_bytes sha hash programs s compiled sched) (fit_sends sha hash programs s compiled sched) (casts_fit sha hash programs s compiled sched) (W.binding sha hash programs s compiled sched premises sid first (Fit sha hash programs s compiled sched) (fit_new sha hash programs s compiled sched) (fit_next sha hash programs s compiled sched) (fit_bytes sha hash programs s compiled sched) (fit_sends sha hash programs s compiled sched) (casts_fit sha hash programs s compiled sched)) (W.inside sha hash programs s compiled sched premises sid first (Fit sha hash programs s compiled sched) (fit_new sha hash programs s compiled sched) (fit_next sha hash programs s compiled sched) (fit_bytes sha hash programs s compiled sched) (fit_sends sha hash programs s compiled sched) (casts_fit sha hash programs s compiled sched)) everyone targets same_targets was_sent_ keys_kept starts sends_sid sp.0 (aw.sent).0 sp.1 (aw.sent).1 who f fo.item (aw.sent).3 (flown.sids (aw.sent).0 (aw.sent).1 who f (in_from_Contains (run sha programs s).log (aw.sent).0 (aw.sent).2) (aw.sent).3 ∙ of_sid_) fo.its_last
+        ∙ L.split_items sha s programs sid first.cast first.program.graph (run sha programs s) (Fit sha hash programs s compiled sched) targets known_of_session sp.0 (aw.sent).0 sp.1 (aw.sent).1 who f fo.item (aw.sent).3 (flown.sids (aw.sent).0 (aw.sent).1 who f (in_from_Contains (run sha programs s).log (aw.sent).0 (aw.sent).2) (aw.sent).3 ∙ of_sid_) fo.its_last
         ∙ ap (λ l. honest_items sid sp.0 ++ fo.item ∷ l) nothing_after
 
     r_small : f.receiver < length first.program.graph.roles
@@ -509,13 +515,13 @@ module _ (sha : Hash) (hash : IsHash sha) (programs : List Program) (s : Schedul
           }
 
     -- the receiver waits
-    waits_ : (x : Session) → SessOk sha hash s programs sid first.cast first.program.graph tp.is_graph tp.accepted first.fits.version (W.long sha hash programs s compiled sched premises sid first (Fit sha hash programs s compiled sched) (fit_new sha hash programs s compiled sched) (fit_next sha hash programs s compiled sched) (fit_bytes sha hash programs s compiled sched) (fit_sends sha hash programs s compiled sched) (casts_fit sha hash programs s compiled sched)) first.differ (W.prog sha hash programs s compiled sched premises sid first (Fit sha hash programs s compiled sched) (fit_new sha hash programs s compiled sched) (fit_next sha hash programs s compiled sched) (fit_bytes sha hash programs s compiled sched) (fit_sends sha hash programs s compiled sched) (casts_fit sha hash programs s compiled sched)) (run sha programs s) premises.unforged (W.the_cast sha hash programs s compiled sched premises sid first (Fit sha hash programs s compiled sched) (fit_new sha hash programs s compiled sched) (fit_next sha hash programs s compiled sched) (fit_bytes sha hash programs s compiled sched) (fit_sends sha hash programs s compiled sched) (casts_fit sha hash programs s compiled sched)) (Fit sha hash programs s compiled sched) (fit_next sha hash programs s compiled sched) (fit_bytes sha hash programs s compiled sched) (fit_sends sha hash programs s compiled sched) (casts_fit sha hash programs s compiled sched) (W.binding sha hash programs s compiled sched premises sid first (Fit sha hash programs s compiled sched) (fit_new sha hash programs s compiled sched) (fit_next sha hash programs s compiled sched) (fit_bytes sha hash programs s compiled sched) (fit_sends sha hash programs s compiled sched) (casts_fit sha hash programs s compiled sched)) (W.inside sha hash programs s compiled sched premises sid first (Fit sha hash programs s compiled sched) (fit_new sha hash programs s compiled sched) (fit_next sha hash programs s compiled sched) (fit_bytes sha hash programs s compiled sched) (fit_sends sha hash programs s compiled sched) (casts_fit sha hash programs s compiled sched)) everyone targets same_targets was_sent_ keys_kept starts sends_sid (run sha programs s).log who x → at_turn first.program.graph x ≡ false
+    waits_ : (x : Session) → SessOk sha s programs sid first.cast first.program.graph (run sha programs s) (Fit sha hash programs s compiled sched) targets known_of_session (run sha programs s).log who x → at_turn first.program.graph x ≡ false
     waits_ x ok = elim (cases_Bool (at_turn first.program.graph x)) [
       | inl t ↦ absurd (untaken (ok.taken t (aw.sent).0 (aw.sent).1 who f (in_from_Contains (run sha programs s).log (aw.sent).0 (aw.sent).2) (aw.sent).3 (flown.sids (aw.sent).0 (aw.sent).1 who f (in_from_Contains (run sha programs s).log (aw.sent).0 (aw.sent).2) (aw.sent).3 ∙ of_sid_)))
       | inr b ↦ b
     ]
 
-    role_of_ : (x : Session) → SessOk sha hash s programs sid first.cast first.program.graph tp.is_graph tp.accepted first.fits.version (W.long sha hash programs s compiled sched premises sid first (Fit sha hash programs s compiled sched) (fit_new sha hash programs s compiled sched) (fit_next sha hash programs s compiled sched) (fit_bytes sha hash programs s compiled sched) (fit_sends sha hash programs s compiled sched) (casts_fit sha hash programs s compiled sched)) first.differ (W.prog sha hash programs s compiled sched premises sid first (Fit sha hash programs s compiled sched) (fit_new sha hash programs s compiled sched) (fit_next sha hash programs s compiled sched) (fit_bytes sha hash programs s compiled sched) (fit_sends sha hash programs s compiled sched) (casts_fit sha hash programs s compiled sched)) (run sha programs s) premises.unforged (W.the_cast sha hash programs s compiled sched premises sid first (Fit sha hash programs s compiled sched) (fit_new sha hash programs s compiled sched) (fit_next sha hash programs s compiled sched) (fit_bytes sha hash programs s compiled sched) (fit_sends sha hash programs s compiled sched) (casts_fit sha hash programs s compiled sched)) (Fit sha hash programs s compiled sched) (fit_next sha hash programs s compiled sched) (fit_bytes sha hash programs s compiled sched) (fit_sends sha hash programs s compiled sched) (casts_fit sha hash programs s compiled sched) (W.binding sha hash programs s compiled sched premises sid first (Fit sha hash programs s compiled sched) (fit_new sha hash programs s compiled sched) (fit_next sha hash programs s compiled sched) (fit_bytes sha hash programs s compiled sched) (fit_sends sha hash programs s compiled sched) (casts_fit sha hash programs s compiled sched)) (W.inside sha hash programs s compiled sched premises sid first (Fit sha hash programs s compiled sched) (fit_new sha hash programs s compiled sched) (fit_next sha hash programs s compiled sched) (fit_bytes sha hash programs s compiled sched) (fit_sends sha hash programs s compiled sched) (casts_fit sha hash programs s compiled sched)) everyone targets same_targets was_sent_ keys_kept starts sends_sid (run sha programs s).log who x → x.role ≡ f.receiver
+    role_of_ : (x : Session) → SessOk sha s programs sid first.cast first.program.graph (run sha programs s) (Fit sha hash programs s compiled sched) targets known_of_session (run sha programs s).log who x → x.role ≡ f.receiver
     role_of_ x ok = one_place first.cast.names x.role f.receiver first.differ ok.inside_ r_in (ok.is_who ∙ sym who_is)
 
     program_n : program_for n.programs first.cast.graph f.receiver ≡ Some the_p.0
@@ -530,12 +536,12 @@ module _ (sha : Hash) (hash : IsHash sha) (programs : List Program) (s : Schedul
         go true h = refl
         go false h = absurd (let z : false ≡ true = h in cc)
 
-    continues : (x : Session) → filter (of_sid sid) n.live ≡ x ∷ [] → SessOk sha hash s programs sid first.cast first.program.graph tp.is_graph tp.accepted first.fits.version (W.long sha hash programs s compiled sched premises sid first (Fit sha hash programs s compiled sched) (fit_new sha hash programs s compiled sched) (fit_next sha hash programs s compiled sched) (fit_bytes sha hash programs s compiled sched) (fit_sends sha hash programs s compiled sched) (casts_fit sha hash programs s compiled sched)) first.differ (W.prog sha hash programs s compiled sched premises sid first (Fit sha hash programs s compiled sched) (fit_new sha hash programs s compiled sched) (fit_next sha hash programs s compiled sched) (fit_bytes sha hash programs s compiled sched) (fit_sends sha hash programs s compiled sched) (casts_fit sha hash programs s compiled sched)) (run sha programs s) premises.unforged (W.the_cast sha hash programs s compiled sched premises sid first (Fit sha hash programs s compiled sched) (fit_new sha hash programs s compiled sched) (fit_next sha hash programs s compiled sched) (fit_bytes sha hash programs s compiled sched) (fit_sends sha hash programs s compiled sched) (casts_fit sha hash programs s compiled sched)) (Fit sha hash programs s compiled sched) (fit_next sha hash programs s compiled sched) (fit_bytes sha hash programs s compiled sched) (fit_sends sha hash programs s compiled sched) (casts_fit sha hash programs s compiled sched) (W.binding sha hash programs s compiled sched premises sid first (Fit sha hash programs s compiled sched) (fit_new sha hash programs s compiled sched) (fit_next sha hash programs s compiled sched) (fit_bytes sha hash programs s compiled sched) (fit_sends sha hash programs s compiled sched) (casts_fit sha hash programs s compiled sched)) (W.inside sha hash programs s compiled sched premises sid first (Fit sha hash programs s compiled sched) (fit_new sha hash programs s compiled sched) (fit_next sha hash programs s compiled sched) (fit_bytes sha hash programs s compiled sched) (fit_sends sha hash programs s compiled sched) (casts_fit sha hash programs s compiled sched)) everyone targets same_targets was_sent_ keys_kept starts sends_sid (run sha programs s).log who x → first_some (rows sha n f) ≡ None
+    continues : (x : Session) → filter (of_sid sid) n.live ≡ x ∷ [] → SessOk sha s programs sid first.cast first.program.graph (run sha programs s) (Fit sha hash programs s compiled sched) targets known_of_session (run sha programs s).log who x → first_some (rows sha n f) ≡ None
     continues x alone ok =
         let role : x.role ≡ f.receiver = role_of_ x ok in
         let wt : at_turn first.program.graph x ≡ false = waits_ x ok in
         let jn : f.join ≡ None = joined_before (subst (λ r. has by_role r (honest_items sid (run sha programs s).log) ≡ true) role (ok.stepped wt)) in
-        let for_x : is_for f x ≡ true = and_both (bytes_eq x.sid f.sid && (x.role == f.receiver)) (x.cast.version == f.version) (and_both (bytes_eq x.sid f.sid) (x.role == f.receiver) (bytes_same x.sid f.sid (ok.same_sid ∙ sym of_sid_)) (eq-eqb x.role f.receiver role)) (eq-eqb x.cast.version f.version (ap (λ (c : Cast). c.version) ok.same_cast ∙ sym fo.version_is)) in
+        let for_x : is_for f x ≡ true = and_from (bytes_eq x.sid f.sid && (x.role == f.receiver)) (x.cast.version == f.version) (and_from (bytes_eq x.sid f.sid) (x.role == f.receiver) (bytes_same x.sid f.sid (ok.same_sid ∙ sym of_sid_)) (eq-eqb x.role f.receiver role)) (eq-eqb x.cast.version f.version (ap (λ (c : Cast). c.version) ok.same_cast ∙ sym fo.version_is)) in
         let found : session_for n.live f ≡ Some x = sym (find-filter (is_for f) (of_sid sid) (λ z e. own z e) n.live) ∙ ap (find (is_for f)) alone ∙ rw for_x refl in
         let prog_x : program_for n.programs x.cast.graph x.role ≡ Some the_p.0 = ap (λ (c : Cast). program_for n.programs c.graph x.role) ok.same_cast ∙ ap (program_for n.programs first.cast.graph) role ∙ program_n in
         let rs = rows_of_ x ok.same_sid ok.same_cast role ok.relay wt in
@@ -545,11 +551,11 @@ module _ (sha : Hash) (hash : IsHash sha) (programs : List Program) (s : Schedul
         ∙ ap (λ b. first_some (row b NotWaiting ∷ rows_of_session sha n.keys the_p.0 x f)) (subst (λ z. at_turn z x ≡ false) (sym p_graph) wt) ∙ rs.rows_
       where
         own : (z : Session) → is_for f z ≡ true → of_sid sid z ≡ true
-        own z e = bytes_same z.sid sid (same_bytes_ z.sid f.sid (and_parts (bytes_eq z.sid f.sid) (z.role == f.receiver) (and_parts (bytes_eq z.sid f.sid && (z.role == f.receiver)) (z.cast.version == f.version) e).0).0 ∙ of_sid_)
+        own z e = bytes_same z.sid sid (same_bytes z.sid f.sid (and_parts (bytes_eq z.sid f.sid) (z.role == f.receiver) (and_parts (bytes_eq z.sid f.sid && (z.role == f.receiver)) (z.cast.version == f.version) e).0).0 ∙ of_sid_)
 
     -- ---- a session that is gone
 
-    is_over_not : (x : Session) → SessOk sha hash s programs sid first.cast first.program.graph tp.is_graph tp.accepted first.fits.version (W.long sha hash programs s compiled sched premises sid first (Fit sha hash programs s compiled sched) (fit_new sha hash programs s compiled sched) (fit_next sha hash programs s compiled sched) (fit_bytes sha hash programs s compiled sched) (fit_sends sha hash programs s compiled sched) (casts_fit sha hash programs s compiled sched)) first.differ (W.prog sha hash programs s compiled sched premises sid first (Fit sha hash programs s compiled sched) (fit_new sha hash programs s compiled sched) (fit_next sha hash programs s compiled sched) (fit_bytes sha hash programs s compiled sched) (fit_sends sha hash programs s compiled sched) (casts_fit sha hash programs s compiled sched)) (run sha programs s) premises.unforged (W.the_cast sha hash programs s compiled sched premises sid first (Fit sha hash programs s compiled sched) (fit_new sha hash programs s compiled sched) (fit_next sha hash programs s compiled sched) (fit_bytes sha hash programs s compiled sched) (fit_sends sha hash programs s compiled sched) (casts_fit sha hash programs s compiled sched)) (Fit sha hash programs s compiled sched) (fit_next sha hash programs s compiled sched) (fit_bytes sha hash programs s compiled sched) (fit_sends sha hash programs s compiled sched) (casts_fit sha hash programs s compiled sched) (W.binding sha hash programs s compiled sched premises sid first (Fit sha hash programs s compiled sched) (fit_new sha hash programs s compiled sched) (fit_next sha hash programs s compiled sched) (fit_bytes sha hash programs s compiled sched) (fit_sends sha hash programs s compiled sched) (casts_fit sha hash programs s compiled sched)) (W.inside sha hash programs s compiled sched premises sid first (Fit sha hash programs s compiled sched) (fit_new sha hash programs s compiled sched) (fit_next sha hash programs s compiled sched) (fit_bytes sha hash programs s compiled sched) (fit_sends sha hash programs s compiled sched) (casts_fit sha hash programs s compiled sched)) everyone targets same_targets was_sent_ keys_kept starts sends_sid (run sha programs s).log who x → is_over programs x ≡ true → ⊥
+    is_over_not : (x : Session) → SessOk sha s programs sid first.cast first.program.graph (run sha programs s) (Fit sha hash programs s compiled sched) targets known_of_session (run sha programs s).log who x → is_over programs x ≡ true → ⊥
     is_over_not x ok o =
         let role : x.role ≡ f.receiver = role_of_ x ok in
         let wt : at_turn first.program.graph x ≡ false = waits_ x ok in
@@ -587,7 +593,7 @@ module _ (sha : Hash) (hash : IsHash sha) (programs : List Program) (s : Schedul
     cast_aw : aw.cast ≡ first.cast
     cast_aw = (let z : Some aw.cast ≡ Some first.cast = sym aw.is_cast ∙ ap (λ z. cast_of_session z (run sha programs s).log) of_sid_ ∙ first.is_cast in cc)
 
-    joins : New sha hash s programs sid first.cast first.program.graph tp.is_graph tp.accepted first.fits.version (W.long sha hash programs s compiled sched premises sid first (Fit sha hash programs s compiled sched) (fit_new sha hash programs s compiled sched) (fit_next sha hash programs s compiled sched) (fit_bytes sha hash programs s compiled sched) (fit_sends sha hash programs s compiled sched) (casts_fit sha hash programs s compiled sched)) first.differ (W.prog sha hash programs s compiled sched premises sid first (Fit sha hash programs s compiled sched) (fit_new sha hash programs s compiled sched) (fit_next sha hash programs s compiled sched) (fit_bytes sha hash programs s compiled sched) (fit_sends sha hash programs s compiled sched) (casts_fit sha hash programs s compiled sched)) (run sha programs s) premises.unforged (W.the_cast sha hash programs s compiled sched premises sid first (Fit sha hash programs s compiled sched) (fit_new sha hash programs s compiled sched) (fit_next sha hash programs s compiled sched) (fit_bytes sha hash programs s compiled sched) (fit_sends sha hash programs s compiled sched) (casts_fit sha hash programs s compiled sched)) (Fit sha hash programs s compiled sched) (fit_next sha hash programs s compiled sched) (fit_bytes sha hash programs s compiled sched) (fit_sends sha hash programs s compiled sched) (casts_fit sha hash programs s compiled sched) (W.binding sha hash programs s compiled sched premises sid first (Fit sha hash programs s compiled sched) (fit_new sha hash programs s compiled sched) (fit_next sha hash programs s compiled sched) (fit_bytes sha hash programs s compiled sched) (fit_sends sha hash programs s compiled sched) (casts_fit sha hash programs s compiled sched)) (W.inside sha hash programs s compiled sched premises sid first (Fit sha hash programs s compiled sched) (fit_new sha hash programs s compiled sched) (fit_next sha hash programs s compiled sched) (fit_bytes sha hash programs s compiled sched) (fit_sends sha hash programs s compiled sched) (casts_fit sha hash programs s compiled sched)) everyone targets same_targets was_sent_ keys_kept starts sends_sid (run sha programs s).log who n → first_some (rows sha n f) ≡ None
+    joins : New sha s programs sid first.cast first.program.graph (run sha programs s) (Fit sha hash programs s compiled sched) targets known_of_session (run sha programs s).log who n → first_some (rows sha n f) ≡ None
     joins t =
         let none_r : has by_role f.receiver (honest_items sid (run sha programs s).log) ≡ false = t.none f.receiver who_is r_in in
         let none_before : has by_role f.receiver (honest_items sid sp.0) ≡ false = first_no (has by_role f.receiver (honest_items sid sp.0)) _ (sym (has-both f.receiver (honest_items sid sp.0) (fo.item ∷ [])) ∙ ap (has by_role f.receiver) (sym done_is) ∙ none_r) in
@@ -597,13 +603,13 @@ module _ (sha : Hash) (hash : IsHash sha) (programs : List Program) (s : Schedul
         let relay : RelayOk sha s.keys sid first.cast targets first.program.graph (honest_items sid (run sha programs s).log) (new_session f.sid first.cast f.receiver) = relay_new sha s.keys sid first.cast targets first.program.graph (honest_items sid (run sha programs s).log) f.sid first.cast f.receiver none_r (λ e. absurd (clash (at_turn first.program.graph (new_session f.sid first.cast f.receiver)) e wt)) in
         let rs = rows_of_ (new_session f.sid first.cast f.receiver) of_sid_ refl refl relay wt in
         let cast_ok : is_cast n.keys (the_p.0).graph first.cast f.receiver ≡ true =
-        and_both _ (bytes_eq (principal first.cast f.receiver) n.keys.me) (and_both _ (nat_lt f.receiver (length first.cast.names)) (and_both (length first.cast.names == length (the_p.0).graph.roles) (all_differ first.cast.names) (eq-eqb (length first.cast.names) (length (the_p.0).graph.roles) (first.lengths ∙ ap (λ (z : Graph). length z.roles) (sym p_graph))) first.differ) (less f.receiver (length first.cast.names) r_in))
+        and_from _ (bytes_eq (principal first.cast f.receiver) n.keys.me) (and_from _ (nat_lt f.receiver (length first.cast.names)) (and_from (length first.cast.names == length (the_p.0).graph.roles) (all_differ first.cast.names) (eq-eqb (length first.cast.names) (length (the_p.0).graph.roles) (first.lengths ∙ ap (λ (z : Graph). length z.roles) (sym p_graph))) first.differ) (lt-ltb f.receiver (length first.cast.names) r_in))
         (bytes_same (principal first.cast f.receiver) n.keys.me (who_is ∙ sym (ap (λ (z : Keyring). z.me) n_keys))) in
         let stranger_ok : stranger n.keys first.cast ≡ None = ap (λ z. stranger z first.cast) keys_of_past ∙ ap (stranger past.keys) (sym cast_aw) ∙ aw.covered in
         ap (λ o. first_some (option_map_or (join_rows sha n f) o (next_rows sha n f))) jn
         ∙ ap (λ o. first_some (option_map_or (rows_of_join sha n f first.cast) o (Some UnknownGraph ∷ []))) program_n
         ∙ all_none (rows_of_session sha n.keys the_p.0 (new_session f.sid first.cast f.receiver) f) (row (not (is_cast n.keys (the_p.0).graph first.cast f.receiver && nat_lt f.sender (length first.cast.names))) BadCast) (option_map UnknownPeer (stranger n.keys first.cast)) (row (not (bytes_eq f.sid (session_id sha first.cast))) BadSession) (row (has_joined n.joins f.sid f.receiver) Joined) (row (nat_le 65536 (length n.joins)) CacheFull) (row (nat_le 4096 (length n.live)) SessionsFull)
-        (ap (λ b. row (not b) BadCast) (and_both (is_cast n.keys (the_p.0).graph first.cast f.receiver) (nat_lt f.sender (length first.cast.names)) cast_ok (less f.sender (length first.cast.names) sender_small)))
+        (ap (λ b. row (not b) BadCast) (and_from (is_cast n.keys (the_p.0).graph first.cast f.receiver) (nat_lt f.sender (length first.cast.names)) cast_ok (lt-ltb f.sender (length first.cast.names) sender_small)))
         (ap (option_map UnknownPeer) stranger_ok)
         (ap (λ b. row (not b) BadSession) (bytes_same f.sid (session_id sha first.cast) (of_sid_ ∙ sym first.sid_is)))
         (ap (λ b. row b Joined) (ap (λ z. has_joined n.joins z f.receiver) of_sid_ ∙ not_joined (cases_Bool (has_joined n.joins sid f.receiver))))
@@ -639,7 +645,7 @@ module _ (sha : Hash) (hash : IsHash sha) (programs : List Program) (s : Schedul
     no_row : first_some (rows sha n f) ≡ None
     no_row = go (flown.tracks who past its_past)
       where
-        go : Track sha hash s programs sid first.cast first.program.graph tp.is_graph tp.accepted first.fits.version (W.long sha hash programs s compiled sched premises sid first (Fit sha hash programs s compiled sched) (fit_new sha hash programs s compiled sched) (fit_next sha hash programs s compiled sched) (fit_bytes sha hash programs s compiled sched) (fit_sends sha hash programs s compiled sched) (casts_fit sha hash programs s compiled sched)) first.differ (W.prog sha hash programs s compiled sched premises sid first (Fit sha hash programs s compiled sched) (fit_new sha hash programs s compiled sched) (fit_next sha hash programs s compiled sched) (fit_bytes sha hash programs s compiled sched) (fit_sends sha hash programs s compiled sched) (casts_fit sha hash programs s compiled sched)) (run sha programs s) premises.unforged (W.the_cast sha hash programs s compiled sched premises sid first (Fit sha hash programs s compiled sched) (fit_new sha hash programs s compiled sched) (fit_next sha hash programs s compiled sched) (fit_bytes sha hash programs s compiled sched) (fit_sends sha hash programs s compiled sched) (casts_fit sha hash programs s compiled sched)) (Fit sha hash programs s compiled sched) (fit_next sha hash programs s compiled sched) (fit_bytes sha hash programs s compiled sched) (fit_sends sha hash programs s compiled sched) (casts_fit sha hash programs s compiled sched) (W.binding sha hash programs s compiled sched premises sid first (Fit sha hash programs s compiled sched) (fit_new sha hash programs s compiled sched) (fit_next sha hash programs s compiled sched) (fit_bytes sha hash programs s compiled sched) (fit_sends sha hash programs s compiled sched) (casts_fit sha hash programs s compiled sched)) (W.inside sha hash programs s compiled sched premises sid first (Fit sha hash programs s compiled sched) (fit_new sha hash programs s compiled sched) (fit_next sha hash programs s compiled sched) (fit_bytes sha hash programs s compiled sched) (fit_sends sha hash programs s compiled sched) (casts_fit sha hash programs s compiled sched)) everyone targets same_targets was_sent_ keys_kept starts sends_sid (run sha programs s).log who n → first_some (rows sha n f) ≡ None
+        go : Track sha s programs sid first.cast first.program.graph (run sha programs s) (Fit sha hash programs s compiled sched) targets known_of_session (run sha programs s).log who n → first_some (rows sha n f) ≡ None
         go (inl t) = joins t
         go (inr (inl t)) = continues t.x t.alone t.ok
         go (inr (inr t)) = elim t.why [
@@ -660,7 +666,7 @@ module _ (sha : Hash) (hash : IsHash sha) (programs : List Program) (s : Schedul
 
 pub delivery_is_complete : (sha : Hash) → IsHash sha → DeliveryIsComplete sha
 delivery_is_complete sha hash programs s compiled sched premises number who past f its_past aw =
-    let steps : AllByRecursion (IsStep sha s) s.steps = to_rec (IsStep sha s) s.steps sched.steps in
+    let steps : AllByRecursion (IsStep sha s) s.steps = recursion_from_All (IsStep sha s) s.steps sched.steps in
     let first : FirstCast sha s programs f.sid (run sha programs s) = first_cast sha hash s programs f.sid (Fit sha hash programs s compiled sched) (fit_next sha hash programs s compiled sched) (fit_bytes sha hash programs s compiled sched) (casts_fit sha hash programs s compiled sched) steps (fit_new sha hash programs s compiled sched) (some f.sid (run sha programs s).log aw.cast aw.is_cast) in
     let two : Some first.cast ≡ Some aw.cast = sym first.is_cast ∙ aw.is_cast in
     let same : first.cast ≡ aw.cast = cc in
@@ -671,7 +677,7 @@ delivery_is_complete sha hash programs s compiled sched premises number who past
 
 pub sessions_go_on : (sha : Hash) → IsHash sha → SessionsGoOn sha
 sessions_go_on sha hash programs s compiled sched premises sid cast g its_cast its_graph honest =
-    let steps : AllByRecursion (IsStep sha s) s.steps = to_rec (IsStep sha s) s.steps sched.steps in
+    let steps : AllByRecursion (IsStep sha s) s.steps = recursion_from_All (IsStep sha s) s.steps sched.steps in
     let some : events_of sid (run sha programs s).log ≢ [] = some_event sid (run sha programs s).log cast its_cast in
     let first : FirstCast sha s programs sid (run sha programs s) = first_cast sha hash s programs sid (Fit sha hash programs s compiled sched) (fit_next sha hash programs s compiled sched) (fit_bytes sha hash programs s compiled sched) (casts_fit sha hash programs s compiled sched) steps (fit_new sha hash programs s compiled sched) some in
     let two : Some first.cast ≡ Some cast = sym first.is_cast ∙ its_cast in

@@ -1,7 +1,7 @@
 -- A role's states keep their invariants.
 use Rattle.std.specs.Prelude.{◌≡◌, ℕ, ◌<◌, ◌⊎◌, true, false, List, length, refl, Some, None}
 use Rattle.std.proofs.Common.{sym, ◌∙◌, ap, subst, arith}
-use Rattle.std.proofs.lemmas.Bool.{eqb-true, eq-eqb}
+use Rattle.std.proofs.lemmas.Bool.{eqb-true, eq-eqb, lt-ltb}
 use Rattle.sg_model.specs.Bytes.{AreBytes}
 use Rattle.sg_model.specs.Last.{Map, last}
 use Rattle.sg_model.specs.Lists.{is_in, first_some}
@@ -28,7 +28,6 @@ use Rattle.sg_protocol.proofs.Enough.{kept_is_enough, same_own}
 use Rattle.sg_protocol.proofs.Following as Following'
 use Rattle.sg_protocol.proofs.Live.{new_sound, GivesSound, gives_sound, taken_sound}
 use Rattle.sg_protocol.proofs.Ranges.{new_in_range}
-use Rattle.sg_protocol.proofs.RowLemmas.{less}
 use Rattle.sg_protocol.proofs.Standing.{states_stand, after}
 
 module _ (sha : Hash) (hash : IsHash sha) (p : Program) where
@@ -67,7 +66,7 @@ module _ (sha : Hash) (hash : IsHash sha) (p : Program) where
     keeps_reads h label x b l e r =
         let s : Session = b.session in
         let at : source (shape p.graph) label ≡ place p.graph s = e ∙ ap (λ (z : Held). (z.kept).place) b.stands.holds in
-        let leave : leaves p.graph s label ≡ true = rw (less label (length p.graph.edges) l) (eq-eqb (source (shape p.graph) label) (place p.graph s) at) in
+        let leave : leaves p.graph s label ≡ true = rw (lt-ltb label (length p.graph.edges) l) (eq-eqb (source (shape p.graph) label) (place p.graph s) at) in
         at_held (λ z. (is_in x (writes p.graph label) ≡ true) ⊎ IsOpened sha z.sid z.kept x) h s b.stands.holds (Following'.keeps_reads sha p.graph ip.accepted s label b.stands.turn leave ip.is_graph b.sound.follows x r)
 
     gives : (keys : Keyring) (h : Held) (s : Session) (label : ℕ) (values : Map Value) (confounders : List (List ℕ)) → IsBackedAtTurn sha p h → StandsAtTurn p.graph h s → first_some (rows_of_act p s label values) ≡ None → AreValues values confounders →

@@ -1,11 +1,12 @@
 -- How many items are shown, and how long the frames are that steps send.
-use Rattle.std.specs.Prelude.{◌≡◌, ◌≢◌, not, filter, ◌++◌, nat_lt, nat_le, AllPairs, ℕ, zero, suc, ◌*◌, ◌<◌, ◌≤◌, ◌==◌, true, false, if◌then◌else◌, List, [], ◌∷◌, map, length, take, flat_map, refl}
+use Rattle.std.specs.Prelude.{◌≡◌, ◌≢◌, not, filter, ◌++◌, nat_lt, nat_le, AllPairs, ℕ, ◌*◌, ◌<◌, ◌≤◌, ◌==◌, true, false, if◌then◌else◌, List, [], ◌∷◌, map, length, take, flat_map, refl}
 use Rattle.std.specs.List.{AllByRecursion}
 use Rattle.std.proofs.Common.{sym, ◌∙◌, subst, inl, inr, arith}
-use Rattle.std.proofs.lemmas.Bool.{cases_Bool, eq-eqb, eqb-true, or_parts}
+use Rattle.std.proofs.lemmas.Bool.{cases_Bool, eq-eqb, eqb-true, or_parts, and_parts}
 use Rattle.std.proofs.lemmas.Bool.Decides.{nat_tests}
 use Rattle.std.proofs.lemmas.List.Elements.{All-from_recursion}
 use Rattle.std.proofs.lemmas.List.Kept.{AllPairs-cons}
+use Rattle.std.proofs.lemmas.List.{length-append}
 use Rattle.sg_model.specs.Last.{Map, has, after_last}
 use Rattle.sg_model.specs.Last as A
 use Rattle.sg_model.specs.Values.{Opening}
@@ -16,14 +17,14 @@ use Rattle.sg_protocol.specs.Spelling.{u8, u16, u32, pair_bytes, map_bytes, item
 use Rattle.sg_protocol.specs.Sending.{entry_of, item_of, tags_left, own_item, frame_sent}
 use Rattle.sg_protocol.specs.Graph.{Graph, shape, writes}
 use Rattle.sg_model.specs.Shape.{source, receiver}
+use Rattle.sg_model.proofs.Small.{take_most}
 use Rattle.sg_protocol.specs.Texts.{Hash, IsHash}
 use Rattle.sg_protocol.specs.Keyring.{Keyring, Program}
 use Rattle.sg_protocol.specs.Session.{Session, told, place, time, at_turn}
 use Rattle.sg_protocol.specs.IsSchedule.{IsProgram}
-use Rattle.sg_protocol.proofs.Moves.{and_parts}
 use Rattle.sg_protocol.specs.Bounds.{ShownOnce, ShownAreFew, FramesAreShort, IsSession, IsShortFrame, SentAreShort}
 use Rattle.sg_protocol.proofs.Entries.{has-after_last}
-use Rattle.sg_protocol.proofs.Sent.{Ent, Dist, sent_spelled, all_told, dist_ev, has-ev, len_map, len_left, roles_below, evidence_fit, after_fit, ents_fit, pigeon, len_app, len_concat, flat33, flat1046, opening_len, join_len, item_len}
+use Rattle.sg_protocol.proofs.Sent.{Ent, Dist, sent_spelled, all_told, dist_ev, has-ev, len_map, len_left, roles_below, evidence_fit, after_fit, ents_fit, pigeon, len_concat, flat33, flat1046, opening_len, join_len, item_len, flat1527}
 
 -- ---- items
 
@@ -71,22 +72,13 @@ shown_are_few g v k is h a =
 
 -- ---- lengths
 
-flat1527 : {A : Type 0} (f : A → List ℕ) (xs : List A) → AllByRecursion (λ x. length (f x) ≤ 1527) xs → length (flat_map f xs) ≤ length xs * 1527
-flat1527 f [] a = omega arith
-flat1527 f (x ∷ xs) a = let l = len_app (f x) (flat_map f xs) in let m = flat1527 f xs a.1 in let h = a.0 in omega (arith, l, m, h)
-
 flat1303 : {A : Type 0} (f : A → List ℕ) (xs : List A) → AllByRecursion (λ x. length (f x) ≤ 1303) xs → length (flat_map f xs) ≤ length xs * 1303
 flat1303 f [] a = omega arith
-flat1303 f (x ∷ xs) a = let l = len_app (f x) (flat_map f xs) in let m = flat1303 f xs a.1 in let h = a.0 in omega (arith, l, m, h)
+flat1303 f (x ∷ xs) a = let l = length-append (f x) (flat_map f xs) in let m = flat1303 f xs a.1 in let h = a.0 in omega (arith, l, m, h)
 
 flat17 : {A : Type 0} (f : A → List ℕ) (xs : List A) → AllByRecursion (λ x. length (f x) ≤ 17) xs → length (flat_map f xs) ≤ length xs * 17
 flat17 f [] a = omega arith
-flat17 f (x ∷ xs) a = let l = len_app (f x) (flat_map f xs) in let m = flat17 f xs a.1 in let h = a.0 in omega (arith, l, m, h)
-
-take_most : (n : ℕ) (t : List ℕ) → length (take n t) ≤ n
-take_most zero t = omega arith
-take_most (suc n) [] = omega arith
-take_most (suc n) (x ∷ t) = let l = take_most n t in omega (arith, l)
+flat17 f (x ∷ xs) a = let l = length-append (f x) (flat_map f xs) in let m = flat17 f xs a.1 in let h = a.0 in omega (arith, l, m, h)
 
 -- an item of version 2
 short_item : (v : ℕ) (i : Item) → (v == 2) ≡ true → IsItem v i → length (item_bytes v i) ≤ 1303
@@ -120,7 +112,7 @@ module _ (f : Frame) (h : IsInRange f) (few : length f.items ≤ 15) where
   long : length (spelling f) ≤ 57028
   long =
       let c = len_concat (magic f.version ∷ u8 (join_code f.join) ∷ f.sid ∷ u8 f.sender ∷ u8 f.receiver ∷ join_bytes f.join ∷ u16 (length f.items) ∷ flat_map (item_bytes f.version) f.items ∷ u8 (length f.openings) ∷ flat_map opening_bytes f.openings ∷ []) in
-      let d = len_app (body f) (take (tag_len f.version) f.tag) in
+      let d = length-append (body f) (take (tag_len f.version) f.tag) in
       let e = most f.version in
       let e' = take_most (tag_len f.version) f.tag in
       let g = flat1527 (item_bytes f.version) f.items (go f.items h.items) in
@@ -141,7 +133,7 @@ module _ (f : Frame) (h : IsInRange f) (few : length f.items ≤ 15) where
   short : (f.version == 2) ≡ true → length (spelling f) ≤ 53652
   short two =
       let c = len_concat (magic f.version ∷ u8 (join_code f.join) ∷ f.sid ∷ u8 f.sender ∷ u8 f.receiver ∷ join_bytes f.join ∷ u16 (length f.items) ∷ flat_map (item_bytes f.version) f.items ∷ u8 (length f.openings) ∷ flat_map opening_bytes f.openings ∷ []) in
-      let d = len_app (body f) (take (tag_len f.version) f.tag) in
+      let d = length-append (body f) (take (tag_len f.version) f.tag) in
       let e : tag_len f.version ≡ 16 = rw two refl in
       let e' = take_most (tag_len f.version) f.tag in
       let g = flat1303 (item_bytes f.version) f.items (go f.items h.items) in

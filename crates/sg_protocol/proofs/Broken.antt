@@ -3,10 +3,11 @@ use Rattle.std.specs.Prelude.{◌≡◌, ◌≢◌, ℕ, ◌<◌, ◌⊎◌, Boo
 use Rattle.std.specs.List.{list_any}
 use Rattle.std.specs.Option.{option_or}
 use Rattle.std.proofs.Common.{sym, ◌∙◌, ap, subst, inl, inr, arith, append_assoc, append-nil}
-use Rattle.std.proofs.lemmas.Bool.{cases_Bool}
+use Rattle.std.proofs.lemmas.Bool.{cases_Bool, and_from, and_parts}
 use Rattle.std.proofs.lemmas.Bool.Decides.{nat_tests}
-use Rattle.std.proofs.lemmas.Slice.Eq.{bytes_eq-Decides}
 use Rattle.std.proofs.lemmas.List.Elements.{All-nil, All-cons}
+use Rattle.sg_model.proofs.Small.{not_true, clash, same_bytes, bytes_same}
+use Rattle.sg_law.proofs.Members.{in_left, in_right, in_parts, in_map, in_flat}
 use Rattle.sg_protocol.specs.Texts.{Hash}
 use Rattle.sg_protocol.specs.Notes.{Note}
 use Rattle.sg_protocol.specs.Schedule.{Schedule, is_honest}
@@ -15,26 +16,6 @@ use Rattle.sg_protocol.specs.Premises.{MadeBefore, Unforged, CollisionFree}
 use Rattle.sg_protocol.specs.Broken.{same_note, was_made_before, is_forged, found_notes, first_forged, IsForged, IsFirstForged, ForgedIsFirst, collide, collision_after, first_collision, IsFirstCollision, CollisionIsFirst}
 use Rattle.sg_law.proofs.Upto.{In, in_from_Contains}
 use Rattle.sg_law.proofs.Take.{contains_from_in}
-
-clash : {A : Type 0} (b : Bool) → b ≡ true → b ≡ false → A
-clash b t f = cc
-
-and_parts : (a b : Bool) → (a && b) ≡ true → (a ≡ true) × (b ≡ true)
-and_parts true b h = (refl, h)
-and_parts false b h = absurd (let z : false ≡ true = h in cc)
-
-and_both : (a b : Bool) → a ≡ true → b ≡ true → (a && b) ≡ true
-and_both a b h k = rw (h, k) refl
-
-not_true : (b : Bool) → not b ≡ true → b ≡ false
-not_true true h = absurd (let z : false ≡ true = h in cc)
-not_true false h = refl
-
-same_bytes : (a b : List ℕ) → bytes_eq a b ≡ true → a ≡ b
-same_bytes a b h = (bytes_eq-Decides a b).0 h
-
-bytes_same : (a b : List ℕ) → a ≡ b → bytes_eq a b ≡ true
-bytes_same a b h = (bytes_eq-Decides a b).1 h
 
 -- ---- lists
 
@@ -50,38 +31,14 @@ in_any p [] x i h = absurd i
 in_any p (y ∷ xs) x (inl e) h = rw (ap p (sym e) ∙ h) refl
 in_any p (y ∷ xs) x (inr i) h = elim (cases_Bool (p y)) [ inl e ↦ rw e refl | inr e ↦ rw e (in_any p xs x i h) ]
 
-in_parts : {A : Type 0} (xs ys : List A) (x : A) → In (xs ++ ys) x → In xs x ⊎ In ys x
-in_parts [] ys x i = inr i
-in_parts (y ∷ xs) ys x (inl e) = inl (inl e)
-in_parts (y ∷ xs) ys x (inr i) = elim (in_parts xs ys x i) [ inl j ↦ inl (inr j) | inr j ↦ inr j ]
-
-in_left : {A : Type 0} (xs ys : List A) (x : A) → In xs x → In (xs ++ ys) x
-in_left [] ys x i = absurd i
-in_left (y ∷ xs) ys x (inl e) = inl e
-in_left (y ∷ xs) ys x (inr i) = inr (in_left xs ys x i)
-
-in_right : {A : Type 0} (xs ys : List A) (x : A) → In ys x → In (xs ++ ys) x
-in_right [] ys x i = i
-in_right (y ∷ xs) ys x i = inr (in_right xs ys x i)
-
 all_in : {A : Type 0} (P : A → Type 0) (xs : List A) → ((x : A) → In xs x → P x) → All P xs
 all_in P [] h = All-nil P
 all_in P (x ∷ xs) h = All-cons P x xs (h x (inl refl)) (all_in P xs (λ y i. h y (inr i)))
-
-in_map : {A B : Type 0} (f : A → B) (xs : List A) (x : A) → In xs x → In (map f xs) (f x)
-in_map f [] x i = absurd i
-in_map f (y ∷ xs) x (inl e) = inl (ap f e)
-in_map f (y ∷ xs) x (inr i) = inr (in_map f xs x i)
 
 map_in : {A B : Type 0} (f : A → B) (xs : List A) (y : B) → In (map f xs) y → (x : A) × In xs x × (y ≡ f x)
 map_in f [] y i = absurd i
 map_in f (x ∷ xs) y (inl e) = (x, inl refl, e)
 map_in f (x ∷ xs) y (inr i) = let r = map_in f xs y i in (r.0, inr r.1, r.2)
-
-in_flat : {A B : Type 0} (f : A → List B) (xs : List A) (x : A) (y : B) → In xs x → In (f x) y → In (flat_map f xs) y
-in_flat f [] x y i j = absurd i
-in_flat f (z ∷ xs) x y (inl e) j = in_left (f z) (flat_map f xs) y (subst (λ v. In (f v) y) e j)
-in_flat f (z ∷ xs) x y (inr i) j = in_right (f z) (flat_map f xs) y (in_flat f xs x y i j)
 
 flat_in : {A B : Type 0} (f : A → List B) (xs : List A) (y : B) → In (flat_map f xs) y → (x : A) × In xs x × In (f x) y
 flat_in f [] y i = absurd i
@@ -148,7 +105,7 @@ made k n log h =
 was_made : (k : ℕ) (n : Note) (log : List Logged) → MadeBefore k n log → was_made_before k n log ≡ true
 was_made k n log m =
     in_any (λ (l : Logged). nat_lt l.number k && list_any (same_note n) l.notes.made) log m.0 (in_from_Contains log m.0 m.1)
-    (and_both (nat_lt (m.0).number k) (list_any (same_note n) (m.0).notes.made) (less (m.0).number m.2) (in_any (same_note n) (m.0).notes.made n (in_from_Contains (m.0).notes.made n m.3) (is_same n)))
+    (and_from (nat_lt (m.0).number k) (list_any (same_note n) (m.0).notes.made) (less (m.0).number m.2) (in_any (same_note n) (m.0).notes.made n (in_from_Contains (m.0).notes.made n m.3) (is_same n)))
   where
     less : (a : ℕ) → a < k → nat_lt a k ≡ true
     less a h = grind (arith, nat_tests)

@@ -1,10 +1,10 @@
 -- What a call at a node is to the law.
 use Rattle.sg_law.specs.Accept.{TimedLabel}
-use Rattle.std.specs.Prelude.{filter_map, ◌≡◌, ℕ, zero, suc, ◌+◌, ◌<◌, ◌==◌, nat_lt, nat_le, get_or, ◌&&◌, ◌||◌, ◌⊎◌, Bool, true, false, not, cond, List, [], ◌∷◌, ◌++◌, map, filter, flat_map, length, find, bytes_eq, refl, Option, Some, None, option_map, unwrap_or, IfSome}
+use Rattle.std.specs.Prelude.{filter_map, ◌≡◌, ℕ, ◌+◌, ◌<◌, ◌==◌, nat_lt, nat_le, ◌&&◌, ◌||◌, ◌⊎◌, Bool, true, false, not, List, [], ◌∷◌, ◌++◌, map, filter, flat_map, length, find, bytes_eq, refl, Option, Some, None, option_map, unwrap_or, IfSome}
 use Rattle.std.specs.List.{list_all, list_any, AllByRecursion}
 use Rattle.std.specs.Option.{option_map_or}
-use Rattle.std.proofs.Common.{sym, ◌∙◌, ap, subst, inl, inr, arith, append-nil}
-use Rattle.std.proofs.lemmas.Bool.{eqb-true, eq-eqb, ne_eqb}
+use Rattle.std.proofs.Common.{sym, ◌∙◌, ap, subst, inl, inr, append-nil}
+use Rattle.std.proofs.lemmas.Bool.{eqb-true, eq-eqb, ne_eqb, cases_Bool, and_parts}
 use Rattle.std.proofs.lemmas.List.{map-append}
 use Rattle.std.proofs.lemmas.Slice.Eq.{bytes_eq-Decides}
 use Rattle.sg_model.specs.Last.{Map, has, last, up_to_last}
@@ -39,7 +39,7 @@ use Rattle.sg_law.proofs.Upto.{In}
 use Rattle.sg_law.proofs.Cut.{last-option_map}
 use Rattle.sg_protocol.proofs.Bridge.{has_view-Contains}
 use Rattle.sg_protocol.proofs.Entries.{entry, entries, Roles}
-use Rattle.sg_protocol.proofs.Moves.{step, NoteOk, Matches, and_parts, not_false, none_parts, row_none, note_text, in_map, in_left, in_right}
+use Rattle.sg_protocol.proofs.Moves.{step, NoteOk, Matches, row_none, note_text}
 use Rattle.sg_model.specs.Lists.{keys_of}
 use Rattle.sg_law.specs.Values.{MayWrite}
 use Rattle.sg_protocol.specs.Acting.{rows_of_act, openings_for, answer, answer_act, started, acted, sent, rows_of_start}
@@ -47,8 +47,10 @@ use Rattle.sg_protocol.proofs.TextLaws.{kinds_differ}
 use Rattle.sg_protocol.specs.Accepted.{Accepted}
 use Rattle.sg_protocol.proofs.Gives.{item_sid, frame_sid, opened_values}
 use Rattle.std.specs.Prelude.{Result, Ok, Err, option_and_then}
-use Rattle.sg_model.specs.Lists.{has_text}
+use Rattle.std.proofs.lemmas.List.Elements.{filter-append}
 use Rattle.sg_model.specs.Bytes.{IsBytes}
+use Rattle.sg_model.proofs.Small.{not_false, clash, none_parts, all-append, same_bytes}
+use Rattle.sg_law.proofs.Members.{in_left, in_right, in_map, in_parts}
 use Rattle.sg_protocol.specs.Reading.{read}
 use Rattle.sg_protocol.specs.Node.{Node, is_for, is_cast, stranger, session_with, session_for, has_joined, program_for, starter}
 use Rattle.sg_protocol.specs.NodeAfter.{node_after, joined, goes_on, replace, still, is_over, takes_read}
@@ -56,93 +58,20 @@ use Rattle.sg_protocol.specs.Walk as Walk'
 use Rattle.sg_protocol.specs.Frame as Frame'
 use Rattle.sg_law.specs.Values.{AllMay, May, moved_all, Deed, deed_of, all_openings}
 use Rattle.sg_protocol.proofs.Paths.{flat_map-append, acts_of, TypedDeed}
-use Rattle.sg_protocol.proofs.Isolation.{of_sid, find-filter, filter-append, replace-other, replace-own, still-own, still-other}
+use Rattle.sg_protocol.proofs.Isolation.{of_sid, find-filter, replace-other, replace-own, still-own, still-other}
 use Rattle.sg_protocol.proofs.TextLaws.{cast_fits, opening_fits}
 use Rattle.sg_protocol.proofs.ReadBack.{read-SpellsFrame}
 use Rattle.sg_protocol.proofs.Bridge.{has_view-Contains}
 use Rattle.sg_protocol.proofs.Entries.{not_start}
 use Rattle.sg_protocol.proofs.Takes as T
 use Rattle.sg_protocol.proofs.Acts as C
-
-cases_Bool : (b : Bool) → (b ≡ true) ⊎ (b ≡ false)
-cases_Bool true = inl refl
-cases_Bool false = inr refl
-
-clash : {A : Type 0} (b : Bool) → b ≡ true → b ≡ false → A
-clash b t f = absurd (cc)
-
--- names that all differ stand at one place each
-pub one_place : (ts : List (List ℕ)) (h k : ℕ) → all_differ ts ≡ true → h < length ts → k < length ts → get_or ts h [] ≡ get_or ts k [] → h ≡ k
-one_place [] h k d l m e = absurd (omega arith)
-one_place (t ∷ ts) zero zero d l m e = refl
-one_place (t ∷ ts) zero (suc k) d l m e = absurd (clash (has_text t ts) (there t ts k (omega arith) e) (not_true (has_text t ts) (and_parts (not (has_text t ts)) (all_differ ts) d).0))
-  where
-    there : (t : List ℕ) (ts : List (List ℕ)) (k : ℕ) → k < length ts → t ≡ get_or ts k [] → has_text t ts ≡ true
-    there t [] k l e = absurd (omega arith)
-    there t (u ∷ us) zero l e = rw ((bytes_eq-Decides t u).1 e) refl
-    there t (u ∷ us) (suc k) l e = elim (cases_Bool (bytes_eq t u)) [ inl f ↦ rw f refl | inr f ↦ rw f (there t us k (omega arith) e) ]
-
-    not_true : (b : Bool) → not b ≡ true → b ≡ false
-    not_true true h = sym h
-    not_true false h = refl
-one_place (t ∷ ts) (suc h) zero d l m e = absurd (clash (has_text t ts) (there t ts h (omega arith) (sym e)) (not_true (has_text t ts) (and_parts (not (has_text t ts)) (all_differ ts) d).0))
-  where
-    there : (t : List ℕ) (ts : List (List ℕ)) (k : ℕ) → k < length ts → t ≡ get_or ts k [] → has_text t ts ≡ true
-    there t [] k l e = absurd (omega arith)
-    there t (u ∷ us) zero l e = rw ((bytes_eq-Decides t u).1 e) refl
-    there t (u ∷ us) (suc k) l e = elim (cases_Bool (bytes_eq t u)) [ inl f ↦ rw f refl | inr f ↦ rw f (there t us k (omega arith) e) ]
-
-    not_true : (b : Bool) → not b ≡ true → b ≡ false
-    not_true true h = sym h
-    not_true false h = refl
-one_place (t ∷ ts) (suc h) (suc k) d l m e = ap suc (one_place ts h k (and_parts (not (has_text t ts)) (all_differ ts) d).1 (omega arith) (omega arith) e)
+use Rattle.sg_protocol.proofs.Finding.{one_place, joined_more, joined_less, joined_now, find_head, find_nil, find_passes, find_all}
 
 ok_same : (r : Result Frame ℕ) (f f' : Frame) → r ≡ Ok f → r ≡ Ok f' → f ≡ f'
 ok_same r f f' a b = cc
 
 none_some : (t : Turn) → None ≡ Some t → ⊥
 none_some t e = absurd (cc)
-
--- pairs that are joined later
-joined_more : (js : List (List ℕ × ℕ)) (j : List ℕ × ℕ) (sid : List ℕ) (r : ℕ) → has_joined js sid r ≡ true → has_joined (js ++ j ∷ []) sid r ≡ true
-joined_more [] j sid r h = absurd (cc)
-joined_more (i ∷ js) j sid r h = elim (cases_Bool (bytes_eq i.0 sid && (i.1 == r))) [ inl e ↦ rw e refl | inr e ↦ rw e (joined_more js j sid r (rw e at h)) ]
-
-joined_less : (js : List (List ℕ × ℕ)) (j : List ℕ × ℕ) (sid : List ℕ) (r : ℕ) → bytes_eq j.0 sid ≡ false → has_joined (js ++ j ∷ []) sid r ≡ true → has_joined js sid r ≡ true
-joined_less [] j sid r n h = absurd (let f : false ≡ true = rw n at h in cc)
-joined_less (i ∷ js) j sid r n h = elim (cases_Bool (bytes_eq i.0 sid && (i.1 == r))) [ inl e ↦ rw e refl | inr e ↦ rw e (joined_less js j sid r n (rw e at h)) ]
-
-joined_now : (js : List (List ℕ × ℕ)) (sid : List ℕ) (r : ℕ) → has_joined (js ++ (sid, r) ∷ []) sid r ≡ true
-joined_now [] sid r = rw ((bytes_eq-Decides sid sid).1 refl, eq-eqb r r refl) refl
-joined_now (j ∷ js) sid r = elim (cases_Bool (bytes_eq j.0 sid && (j.1 == r))) [ inl e ↦ rw e refl | inr e ↦ rw e (joined_now js sid r) ]
-
-filter-nil : {A : Type 0} (xs : List A) → xs ++ [] ≡ xs
-filter-nil xs = append-nil xs
-
--- the head of a filtered list
-find_head : {A : Type 0} (p : A → Bool) (xs : List A) (x y : A) → xs ≡ x ∷ [] → find p xs ≡ Some y → y ≡ x
-find_head p xs x y e f = go (cases_Bool (p x)) (rw e at f)
-  where
-    go : (p x ≡ true) ⊎ (p x ≡ false) → cond (p x) (Some x) None ≡ Some y → y ≡ x
-    go (inl h) k = (let f : Some x ≡ Some y = rw h at k in cc)
-    go (inr h) k = (let f : None ≡ Some y = rw h at k in absurd (cc))
-
-find_nil : {A : Type 0} (p : A → Bool) (xs : List A) (y : A) → xs ≡ [] → find p xs ≡ Some y → ⊥
-find_nil p xs y e f = (let g : None ≡ Some y = rw e at f in absurd (cc))
-
-pub find_passes : {A : Type 0} (p : A → Bool) (xs : List A) (y : A) → find p xs ≡ Some y → p y ≡ true
-find_passes p [] y e = absurd (cc)
-find_passes p (x ∷ xs) y e = elim (cases_Bool (p x)) [
-  | inl h ↦ (let f : Some x ≡ Some y = rw h at e in let s : x ≡ y = cc in subst (λ z. p z ≡ true) s h)
-  | inr h ↦ find_passes p xs y (rw h at e)
-]
-
-pub find_all : {A : Type 0} (p : A → Bool) (P : A → Type 0) (xs : List A) (y : A) → AllByRecursion P xs → find p xs ≡ Some y → P y
-find_all p P [] y a e = absurd (cc)
-find_all p P (x ∷ xs) y a e = elim (cases_Bool (p x)) [
-  | inl h ↦ (let f : Some x ≡ Some y = rw h at e in let s : x ≡ y = cc in subst P s a.0)
-  | inr h ↦ find_all p P xs y a.1 (rw h at e)
-]
 
 module _ (sha : Hash) (hash : IsHash sha) (s : Schedule) (programs : List Program) (sid : List ℕ) (cast : Cast) (g : Graph) (is : IsGraph g) (acc : Accepted g) (version : IsVersion cast.version) (long : length sid ≡ 32) (differ : all_differ cast.names ≡ true)
     (prog : (r : ℕ) (p : Program) → program_for programs cast.graph r ≡ Some p → (p.graph ≡ g) × IsViewTable p.graph r p.views)
@@ -437,13 +366,9 @@ module _ (sha : Hash) (hash : IsHash sha) (s : Schedule) (programs : List Progra
   still_lengths : (ps : List Program) (x : Session) → length x.sid ≡ 32 → AllByRecursion (λ (x : Session). length x.sid ≡ 32) (still ps x)
   still_lengths ps x l = elim (cases_Bool (is_over ps x)) [ inl e ↦ rw e tt | inr e ↦ rw e (l, tt) ]
 
-  all_both : {A : Type 0} (P : A → Type 0) (xs ys : List A) → AllByRecursion P xs → AllByRecursion P ys → AllByRecursion P (xs ++ ys)
-  all_both P [] ys a b = b
-  all_both P (x ∷ xs) ys a b = (a.0, all_both P xs ys a.1 b)
-
   replace_lengths : (which : Session → Bool) (now : Session → List Session) (xs : List Session) → ((z : Session) → length z.sid ≡ 32 → AllByRecursion (λ (x : Session). length x.sid ≡ 32) (now z)) → AllByRecursion (λ (x : Session). length x.sid ≡ 32) xs → AllByRecursion (λ (x : Session). length x.sid ≡ 32) (replace which now xs)
   replace_lengths which now [] f a = tt
-  replace_lengths which now (x ∷ xs) f a = elim (cases_Bool (which x)) [ inl e ↦ rw e (all_both (λ (x : Session). length x.sid ≡ 32) (now x) xs (f x a.0) a.1) | inr e ↦ rw e (a.0, replace_lengths which now xs f a.1) ]
+  replace_lengths which now (x ∷ xs) f a = elim (cases_Bool (which x)) [ inl e ↦ rw e (all-append (λ (x : Session). length x.sid ≡ 32) (now x) xs (f x a.0) a.1) | inr e ↦ rw e (a.0, replace_lengths which now xs f a.1) ]
 
   -- another session
   other_status : (st : State) (who : Name) (n n' : Node) → filter (of_sid sid) n'.live ≡ filter (of_sid sid) n.live → ((r : ℕ) → has_joined n.joins sid r ≡ true → has_joined n'.joins sid r ≡ true) → Status st who n → Status st who n'
@@ -486,15 +411,12 @@ module _ (sha : Hash) (hash : IsHash sha) (s : Schedule) (programs : List Progra
       let same : (h.x).role ≡ r = one_place cast.names (h.x).role r differ h.matches.inside l (h.matches.is_who ∙ sym p) in
       absurd (clash (has_joined n.joins sid r) (subst (λ z. has_joined n.joins sid z ≡ true) same h.was_joined) j)
 
-  same_bytes_ : (a b : List ℕ) → bytes_eq a b ≡ true → a ≡ b
-  same_bytes_ a b h = (bytes_eq-Decides a b).0 h
-
   -- what the test of a cast says
   cast_parts : (keys : Keyring) (g' : Graph) (c : Cast) (r : ℕ) → is_cast keys g' c r ≡ true → (r < length c.names) × (principal c r ≡ keys.me)
   cast_parts keys g' c r h =
       let a = and_parts _ (bytes_eq (principal c r) keys.me) h in
       let b = and_parts _ (nat_lt r (length c.names)) a.0 in
-      (C.lt_of r (length c.names) b.1, same_bytes_ (principal c r) keys.me a.1)
+      (C.lt_of r (length c.names) b.1, same_bytes (principal c r) keys.me a.1)
 
   -- ---- a start
 
@@ -509,7 +431,7 @@ module _ (sha : Hash) (hash : IsHash sha) (s : Schedule) (programs : List Progra
 
   module _ (st : State) (who : Name) (n : Node) (ok : NodeOk st who n) where
     joined_ok : (x : Session) (st' : State) → length x.sid ≡ 32 → Status st' who (joined n x) → NodeOk st' who (joined n x)
-    joined_ok x st' l h = record { me = ok.me; has_programs = ok.has_programs; lengths = all_both (λ (x : Session). length x.sid ≡ 32) n.live (still n.programs x) ok.lengths (still_lengths n.programs x l); status = h }
+    joined_ok x st' l h = record { me = ok.me; has_programs = ok.has_programs; lengths = all-append (λ (x : Session). length x.sid ≡ 32) n.live (still n.programs x) ok.lengths (still_lengths n.programs x l); status = h }
 
     other_joined : (x : Session) → bytes_eq x.sid sid ≡ false → length x.sid ≡ 32 → NodeOk st who (joined n x)
     other_joined x h l = joined_ok x st l (other_status st who n (joined n x) (joined_other n x h) (λ r j. joined_more n.joins (x.sid, x.role) sid r j) ok.status)
@@ -527,7 +449,7 @@ module _ (sha : Hash) (hash : IsHash sha) (s : Schedule) (programs : List Progra
         where
           mine : bytes_eq (session_id sha c) sid ≡ true → Out st who n (Start c) (Happened (Started (session_id sha c) p.role)) (record { made = []; found = []; hashed = session_text_of c ∷ [] })
           mine h =
-              let same : session_id sha c ≡ sid = same_bytes_ (session_id sha c) sid h in
+              let same : session_id sha c ≡ sid = same_bytes (session_id sha c) sid h in
               let its : c ≡ cast = one_cast c fits (hs (session_text_of c) (inl refl)) same in
               let one : (row (not (is_cast n.keys p.graph c p.role)) StartFault.BadCast ≡ None) × (first_some (option_map StartFault.UnknownPeer (stranger n.keys c) ∷ row (has_joined n.joins (session_id sha c) p.role) StartFault.Joined ∷ row (nat_le 65536 (length n.joins)) StartFault.CacheFull ∷ row (nat_le 4096 (length n.live)) StartFault.SessionsFull ∷ []) ≡ None) = none_parts _ _ e in
               let two = none_parts (option_map StartFault.UnknownPeer (stranger n.keys c)) (row (has_joined n.joins (session_id sha c) p.role) StartFault.Joined ∷ row (nat_le 65536 (length n.joins)) StartFault.CacheFull ∷ row (nat_le 4096 (length n.live)) StartFault.SessionsFull ∷ []) one.1 in
@@ -592,8 +514,8 @@ module _ (sha : Hash) (hash : IsHash sha) (s : Schedule) (programs : List Progra
       has_programs = ok.has_programs;
       lengths = replace_lengths (λ (x : Session). bytes_eq x.sid sid0) (λ x. []) n.live (λ z l. tt) ok.lengths;
       status = elim (cases_Bool (bytes_eq sid0 sid)) [
-        | inl h ↦ mine (same_bytes_ sid0 sid h) ok.status
-        | inr h ↦ other_status st who n (goes_on n (λ (x : Session). bytes_eq x.sid sid0) (λ x. [])) (replace-other (λ (x : Session). bytes_eq x.sid sid0) (λ x. []) (λ x e. subst (λ y. bytes_eq y sid ≡ false) (sym (same_bytes_ x.sid sid0 e)) h) (λ x e. refl) n.live) (λ r j. j) ok.status
+        | inl h ↦ mine (same_bytes sid0 sid h) ok.status
+        | inr h ↦ other_status st who n (goes_on n (λ (x : Session). bytes_eq x.sid sid0) (λ x. [])) (replace-other (λ (x : Session). bytes_eq x.sid sid0) (λ x. []) (λ x e. subst (λ y. bytes_eq y sid ≡ false) (sym (same_bytes x.sid sid0 e)) h) (λ x e. refl) n.live) (λ r j. j) ok.status
       ];
     }
       where
@@ -613,8 +535,8 @@ module _ (sha : Hash) (hash : IsHash sha) (s : Schedule) (programs : List Progra
 
     abandon_life : (sid0 : List ℕ) → (sid0 ≡ sid → LeftBy who) → (filter (of_sid sid) (replace (λ (x : Session). bytes_eq x.sid sid0) (λ x. []) n.live) ≡ filter (of_sid sid) n.live) ⊎ WasLeft who n (goes_on n (λ (x : Session). bytes_eq x.sid sid0) (λ x. [])) Abandoned
     abandon_life sid0 left = elim (cases_Bool (bytes_eq sid0 sid)) [
-      | inl h ↦ inr record { quiet = refl; none = mine (same_bytes_ sid0 sid h) ok.status; by = left (same_bytes_ sid0 sid h); fewer = λ r j. j }
-      | inr h ↦ inl (replace-other (λ (x : Session). bytes_eq x.sid sid0) (λ x. []) (λ x e. subst (λ y. bytes_eq y sid ≡ false) (sym (same_bytes_ x.sid sid0 e)) h) (λ x e. refl) n.live)
+      | inl h ↦ inr record { quiet = refl; none = mine (same_bytes sid0 sid h) ok.status; by = left (same_bytes sid0 sid h); fewer = λ r j. j }
+      | inr h ↦ inl (replace-other (λ (x : Session). bytes_eq x.sid sid0) (λ x. []) (λ x e. subst (λ y. bytes_eq y sid ≡ false) (sym (same_bytes x.sid sid0 e)) h) (λ x e. refl) n.live)
     ]
       where
         after : sid0 ≡ sid → filter (of_sid sid) (replace (λ (x : Session). bytes_eq x.sid sid0) (λ x. []) n.live) ≡ replace (λ (x : Session). bytes_eq x.sid sid0) (λ x. []) (filter (of_sid sid) n.live)
@@ -636,7 +558,7 @@ module _ (sha : Hash) (hash : IsHash sha) (s : Schedule) (programs : List Progra
 
     -- a note of another session says nothing of this one
     note_other : (x : Session) (p : Program) (f : Frame) (os : List Opening) → length x.sid ≡ 32 → bytes_eq x.sid sid ≡ false → f.sid ≡ x.sid → (nt : Note) → In (notes_of_sent n.keys p x f os).made nt → NoteOk g sid st.log nt
-    note_other x p f os l h fs nt i = elim (C.in_parts _ (note_of n.keys.me (principal x.cast f.receiver) (text_of f) ∷ []) nt i) [
+    note_other x p f os l h fs nt i = elim (in_parts _ (note_of n.keys.me (principal x.cast f.receiver) (text_of f) ∷ []) nt i) [
       | inl j ↦ items_of_frame (last f.items) j
       | inr j ↦ elim j [ inl e ↦ subst (NoteOk g sid st.log) (sym e) frame_note | inr k ↦ absurd k ]
     ]
@@ -694,7 +616,7 @@ module _ (sha : Hash) (hash : IsHash sha) (s : Schedule) (programs : List Progra
           now z = option_map_or (λ (i : Item). still n.programs (extended z (Gave i os))) (last f.items) (z ∷ [])
 
           x_sid : x.sid ≡ sid0
-          x_sid = same_bytes_ x.sid sid0 (find_passes which n.live x found_x)
+          x_sid = same_bytes x.sid sid0 (find_passes which n.live x found_x)
 
           x_long : length x.sid ≡ 32
           x_long = find_all which (λ (z : Session). length z.sid ≡ 32) n.live x ok.lengths found_x
@@ -760,7 +682,7 @@ module _ (sha : Hash) (hash : IsHash sha) (s : Schedule) (programs : List Progra
 
           act_mine : bytes_eq sid0 sid ≡ true → Out st who n (Act sid0 label values (map F values)) its_answer (notes_of_sent n.keys p x f os)
           act_mine h =
-              let q : sid0 ≡ sid = same_bytes_ sid0 sid h in
+              let q : sid0 ≡ sid = same_bytes sid0 sid h in
               let own : (z : Session) → which z ≡ true → of_sid sid z ≡ true = λ z w. subst (λ y. bytes_eq z.sid y ≡ true) q w in
               let t = the_session which own x found_x in
               let alone_ : filter (of_sid sid) n.live ≡ x ∷ [] = (t.0).alone ∙ ap (λ z. z ∷ []) (sym t.1) in
@@ -826,7 +748,7 @@ module _ (sha : Hash) (hash : IsHash sha) (s : Schedule) (programs : List Progra
 
               used_in : (zs : List Opening) → AllByRecursion OpeningFits zs → ((o : Opening) → In zs o → In os o) → AllByRecursion (λ (o : Opening). In (notes_of_sent n.keys p x f os).hashed (commitment_text_of sid o) × OpeningFits o) (zs ++ [])
               used_in [] a w = tt
-              used_in (o ∷ zs) a w = ((subst (λ y. In (map (commitment_text_of y) os) (commitment_text_of sid o)) (sym (x_sid ∙ same_bytes_ sid0 sid h)) (in_map (commitment_text_of sid) os o (w o (inl refl))), a.0), used_in zs a.1 (λ z i. w z (inr i)))
+              used_in (o ∷ zs) a w = ((subst (λ y. In (map (commitment_text_of y) os) (commitment_text_of sid o)) (sym (x_sid ∙ same_bytes sid0 sid h)) (in_map (commitment_text_of sid) os o (w o (inl refl))), a.0), used_in zs a.1 (λ z i. w z (inr i)))
 
               used_all : AllByRecursion (λ (o : Opening). In (notes_of_sent n.keys p x f os).hashed (commitment_text_of sid o) × OpeningFits o) (os ++ [])
               used_all = used_in os opens (λ o i. i)
@@ -838,14 +760,14 @@ module _ (sha : Hash) (hash : IsHash sha) (s : Schedule) (programs : List Progra
           ]
             where
               other_live : bytes_eq sid0 sid ≡ false → filter (of_sid sid) (replace which now n.live) ≡ filter (of_sid sid) n.live
-              other_live h = replace-other which now (λ z e. subst (λ y. bytes_eq y sid ≡ false) (sym (same_bytes_ z.sid sid0 e)) h) (λ z e. now_other z (subst (λ y. bytes_eq y sid ≡ false) (sym (same_bytes_ z.sid sid0 e)) h)) n.live
+              other_live h = replace-other which now (λ z e. subst (λ y. bytes_eq y sid ≡ false) (sym (same_bytes z.sid sid0 e)) h) (λ z e. now_other z (subst (λ y. bytes_eq y sid ≡ false) (sym (same_bytes z.sid sid0 e)) h)) n.live
 
               other : bytes_eq sid0 sid ≡ false → NodeOk st who (goes_on n which now)
               other h = record {
                 me = ok.me;
                 has_programs = ok.has_programs;
                 lengths = replace_lengths which now n.live now_long ok.lengths;
-                status = other_status st who n (goes_on n which now) (replace-other which now (λ z e. subst (λ y. bytes_eq y sid ≡ false) (sym (same_bytes_ z.sid sid0 e)) h) (λ z e. now_other z (subst (λ y. bytes_eq y sid ≡ false) (sym (same_bytes_ z.sid sid0 e)) h)) n.live) (λ r j. j) ok.status;
+                status = other_status st who n (goes_on n which now) (replace-other which now (λ z e. subst (λ y. bytes_eq y sid ≡ false) (sym (same_bytes z.sid sid0 e)) h) (λ z e. now_other z (subst (λ y. bytes_eq y sid ≡ false) (sym (same_bytes z.sid sid0 e)) h)) n.live) (λ r j. j) ok.status;
               }
 
         abbrev act_of_rows : Session → Program → Option ActFault → Answer
@@ -1033,7 +955,7 @@ module _ (sha : Hash) (hash : IsHash sha) (s : Schedule) (programs : List Progra
           nexts o = option_map_or (λ c. joined n (extended (new_session f.sid c f.receiver) (Took f))) o (goes_on n (is_for f) took)
 
           for_sid : (z : Session) → is_for f z ≡ true → z.sid ≡ f.sid
-          for_sid z e = same_bytes_ z.sid f.sid (and_parts _ (z.role == f.receiver) (and_parts _ (z.cast.version == f.version) e).0).0
+          for_sid z e = same_bytes z.sid f.sid (and_parts _ (z.role == f.receiver) (and_parts _ (z.cast.version == f.version) e).0).0
 
           other_node : bytes_eq f.sid sid ≡ false → (o : Option Cast) → NodeOk st who (nexts o)
           other_node h (Some c) = other_joined (extended (new_session f.sid c f.receiver) (Took f)) h spelled.fields.sid.0
@@ -1075,7 +997,7 @@ module _ (sha : Hash) (hash : IsHash sha) (s : Schedule) (programs : List Progra
               let rs : T.Rows sha n.keys p x f = T.rows_of sha n.keys p x f r6.1 in
               let sess : session_of_frame n f ≡ Some (p, x) = ap (λ o. option_and_then (λ (z : Session). option_map (λ (q : Program). (q, z)) (program_for n.programs z.cast.graph z.role)) (option_map_or (λ c. Some (new_session f.sid c f.receiver)) o (session_for n.live f))) jc ∙ ap (λ o. option_map (λ (q : Program). (q, x)) o) pc in
               let nts : notes_of_read sha n (Ok f) ≡ nts_of 16 (Some (p, x)) = notes_are e (p, x) sess in
-              let of_c : session_id sha c ≡ sid = sym (same_bytes_ f.sid (session_id sha c) (not_false (bytes_eq f.sid (session_id sha c)) (row_none _ _ r3.0))) ∙ fs in
+              let of_c : session_id sha c ≡ sid = sym (same_bytes f.sid (session_id sha c) (not_false (bytes_eq f.sid (session_id sha c)) (row_none _ _ r3.0))) ∙ fs in
               let co = subst (λ o. IfSome o (Frame'.IsCastOf f.version)) jc spelled.fields.join in
               let fits : CastFits c = cast_fits c (subst IsVersion (sym co.version) spelled.fields.version) (subst (λ v. Frame'.IsCastOf v c) (sym co.version) co) in
               let in_hashed : In (notes_of_read sha n (Ok f)).hashed (session_text_of c) = subst (λ (z : Notes). In z.hashed (session_text_of c)) (sym nts) (in_left (hashed_of_join f 16) (nts_in 16 (Some (p, x))).hashed (session_text_of c) (subst (λ o. In (option_map_or (λ c. session_text_of c ∷ []) o []) (session_text_of c)) (sym jc) (inl refl))) in
@@ -1157,7 +1079,7 @@ module _ (sha : Hash) (hash : IsHash sha) (s : Schedule) (programs : List Progra
 
           by_rows : (o : Option Refusal) → first_some (rows sha n f) ≡ o → Out st who n (Deliver bs) (decided (receipt f) o) (notes_of_read sha n (Ok f))
           by_rows (Some r) e = nothing st who n (Deliver bs) (NotDelivered r) (notes_of_read sha n (Ok f)) ok refl refl (λ nt i. absurd (no_made (row_number (first_some (rows sha n f))) (session_of_frame n f) nt i)) (inl refl) (λ r j. j) (λ r j. j)
-          by_rows None e = elim (cases_Bool (bytes_eq f.sid sid)) [ inl h ↦ by_join e (same_bytes_ f.sid sid h) f.join refl | inr h ↦ other_done h ]
+          by_rows None e = elim (cases_Bool (bytes_eq f.sid sid)) [ inl h ↦ by_join e (same_bytes f.sid sid h) f.join refl | inr h ↦ other_done h ]
 
       pub deliver_out : (bs : List ℕ) → IsBytes bs → ((nt : Note) → In (notes sha n (Deliver bs)).found nt → is_honest s nt.one ≡ true → is_honest s nt.two ≡ true → NoteOk g sid st.log nt) → ((t : List ℕ) → In (notes sha n (Deliver bs)).hashed t → Hashed t)
           → Out st who n (Deliver bs) (answer sha n (Deliver bs)) (notes sha n (Deliver bs))

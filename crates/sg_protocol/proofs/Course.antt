@@ -29,7 +29,7 @@ use Rattle.sg_law.specs.Values.Deed.{ReadAlong}
 use Rattle.sg_law.proofs.Upto.{In}
 use Rattle.sg_law.proofs.Take.{contains_from_in}
 use Rattle.sg_protocol.proofs.Paths.{flat_map-append}
-use Rattle.sg_protocol.proofs.Moves.{step, NoteOk, in_left, in_right, roles-append}
+use Rattle.sg_protocol.proofs.Moves.{step, NoteOk, roles-append}
 use Rattle.sg_protocol.proofs.Entries.{entry, entries, Roles}
 use Rattle.sg_model.specs.Lists.{keys_of}
 use Rattle.sg_law.specs.Values.{MayWrite}
@@ -42,17 +42,21 @@ use Rattle.sg_protocol.specs.NodeAfter.{node_after}
 use Rattle.sg_protocol.specs.Walk.{acts_of_event}
 use Rattle.sg_law.specs.Values.{AllMay, May, moved_all, Deed, deed_of, all_openings}
 use Rattle.sg_protocol.proofs.Paths.{acts_of, TypedDeed}
-use Rattle.sg_protocol.proofs.Isolation.{filter-append}
 use Rattle.sg_protocol.proofs.Acts as C
 use Rattle.std.proofs.lemmas.List.{length-append}
+use Rattle.std.proofs.lemmas.Bool.{cases_Bool}
+use Rattle.std.proofs.lemmas.List.Elements.{filter-append}
 use Rattle.sg_model.specs.Values.{IntValue, TextValue}
+use Rattle.sg_model.proofs.Small.{same_bytes, all-append, all_weaker}
+use Rattle.sg_law.proofs.Members.{in_left, in_right, in_flat, in_parts}
 use Rattle.sg_protocol.specs.Past.{Past, Called, node_of, new_node, node_after_all, past_after}
 use Rattle.sg_protocol.specs.World.{World, Logged, Outcome, Answered, Crafted, NoFrame, past_of, call_of, bytes_of}
 use Rattle.sg_protocol.specs.Run.{called, called_if, uncalled, world_after, world_after_all, frame_in, events_of, events_of_outcome}
 use Rattle.sg_protocol.specs.Premises.{hashed, Unforged}
 use Rattle.sg_protocol.specs.IsSchedule.{IsStep}
 use Rattle.sg_law.proofs.Upto.{in_from_Contains}
-use Rattle.sg_protocol.proofs.Calls.{Out, NodeOk, node_kept, start_out, abandon_out, act_out, deliver_out, find_passes}
+use Rattle.sg_protocol.proofs.Finding.{find_passes}
+use Rattle.sg_protocol.proofs.Calls.{Out, NodeOk, node_kept, start_out, abandon_out, act_out, deliver_out}
 
 pub filter_map-append : {X Y : Type 0} (f : X → Option Y) (xs ys : List X) → filter_map f (xs ++ ys) ≡ filter_map f xs ++ filter_map f ys
 filter_map-append f [] ys = refl
@@ -61,13 +65,6 @@ filter_map-append f (x ∷ xs) ys = ap (cons_option (f x)) (filter_map-append f 
     moved_in : {A : Type 0} (o : Option A) (l m : List A) → cons_option o (l ++ m) ≡ cons_option o l ++ m
     moved_in None l m = refl
     moved_in (Some a) l m = refl
-
-cases_Bool : (b : Bool) → (b ≡ true) ⊎ (b ≡ false)
-cases_Bool true = inl refl
-cases_Bool false = inr refl
-
-same_bytes_ : (a b : List ℕ) → bytes_eq a b ≡ true → a ≡ b
-same_bytes_ a b h = (bytes_eq-Decides a b).0 h
 
 -- ---- pasts
 
@@ -107,19 +104,11 @@ suffix_refl k log = record { rest = []; is = sym (append-nil log); late = tt }
 pub suffix_one : (k : ℕ) (log : List Logged) (l : Logged) → l.number ≡ k → Suffix k log (log ++ l ∷ [])
 suffix_one k log l e = record { rest = l ∷ []; is = refl; late = (omega (arith, e), tt) }
 
-all_both : {A : Type 0} (P : A → Type 0) (xs ys : List A) → AllByRecursion P xs → AllByRecursion P ys → AllByRecursion P (xs ++ ys)
-all_both P [] ys a b = b
-all_both P (x ∷ xs) ys a b = (a.0, all_both P xs ys a.1 b)
-
-all_weak : {A : Type 0} (P Q : A → Type 0) → ((x : A) → P x → Q x) → (xs : List A) → AllByRecursion P xs → AllByRecursion Q xs
-all_weak P Q f [] a = tt
-all_weak P Q f (x ∷ xs) a = (f x a.0, all_weak P Q f xs a.1)
-
 pub suffix_trans : (k j : ℕ) (a b c : List Logged) → k ≤ j → Suffix k a b → Suffix j b c → Suffix k a c
 suffix_trans k j a b c l s t = record {
   rest = s.rest ++ t.rest;
   is = t.is ∙ ap (λ z. z ++ t.rest) s.is ∙ append_assoc a s.rest t.rest;
-  late = all_both (λ (l : Logged). k ≤ l.number) s.rest t.rest s.late (all_weak (λ (l : Logged). j ≤ l.number) (λ (l : Logged). k ≤ l.number) (λ x h. omega (arith, h, l)) t.rest t.late);
+  late = all-append (λ (l : Logged). k ≤ l.number) s.rest t.rest s.late (all_weaker (λ (l : Logged). j ≤ l.number) (λ (l : Logged). k ≤ l.number) (λ x h. omega (arith, h, l)) t.rest t.late);
 }
 
 suffix_called_if : (sha : Hash) (w : World) (k : ℕ) (who : Name) (c : Option Call) (past : Past) → Suffix k w.log (called_if sha w k who c past).log
@@ -148,18 +137,13 @@ all_in_rest k (x ∷ xs) l a (inr i) = all_in_rest k xs l a.1 i
 
 -- an entry of a number below those of the rest stood before
 pub in_before : (k : ℕ) (log log' : List Logged) → Suffix k log log' → (l : Logged) → In log' l → l.number < k → In log l
-in_before k log log' s l i lt = elim (C.in_parts log s.rest l (subst (λ z. In z l) s.is i)) [
+in_before k log log' s l i lt = elim (in_parts log s.rest l (subst (λ z. In z l) s.is i)) [
   | inl j ↦ j
   | inr j ↦ absurd (let h : k ≤ l.number = all_in_rest k s.rest l s.late j in omega (arith, h, lt))
 ]
 
 pub in_after : (k : ℕ) (log log' : List Logged) → Suffix k log log' → (l : Logged) → In log l → In log' l
 in_after k log log' s l i = subst (λ z. In z l) (sym s.is) (in_left log s.rest l i)
-
-pub in_flat : {A B : Type 0} (f : A → List B) (xs : List A) (x : A) (y : B) → In xs x → In (f x) y → In (flat_map f xs) y
-in_flat f [] x y i j = absurd i
-in_flat f (z ∷ xs) x y (inl e) j = in_left (f z) (flat_map f xs) y (subst (λ w. In (f w) y) e j)
-in_flat f (z ∷ xs) x y (inr i) j = in_right (f z) (flat_map f xs) y (in_flat f xs x y i j)
 
 -- ---- moves, one after another
 
@@ -264,7 +248,7 @@ module _ (sha : Hash) (hash : IsHash sha) (s : Schedule) (programs : List Progra
     moves = p.moves;
     may = p.may;
     nodes = p.nodes;
-    noted = λ l nt i j. elim (C.in_parts w.log _ l i) [
+    noted = λ l nt i j. elim (in_parts w.log _ l i) [
       | inl a ↦ p.noted l nt a j
       | inr a ↦ elim a [ inl b ↦ absurd (subst (λ (z : Logged). In z.notes.made nt) b j) | inr b ↦ absurd b ]
     ];
@@ -353,15 +337,15 @@ module _ (sha : Hash) (hash : IsHash sha) (s : Schedule) (programs : List Progra
       moves = p.moves ++ out.moves;
       may = may-append (shape g) honest commit (V.at_first (shape g)) p.moves out.moves p.may out.may;
       nodes = λ me p' e. subst (λ z. Ok_ z me (node_of p') × (is_honest s me ≡ true)) (sym (moved-append commit (V.at_first (shape g)) p.moves out.moves)) (nodes_ me p' (past_of w me) refl (sym (past_called sha w k who c past me) ∙ e));
-      noted = λ l nt i j. subst (λ (z : State). NoteOk g sid z.log nt) (sym (moved-append commit (V.at_first (shape g)) p.moves out.moves)) (elim (C.in_parts w.log (entry_ c ∷ []) l i) [
+      noted = λ l nt i j. subst (λ (z : State). NoteOk g sid z.log nt) (sym (moved-append commit (V.at_first (shape g)) p.moves out.moves)) (elim (in_parts w.log (entry_ c ∷ []) l i) [
         | inl a ↦ note_more g sid st.log (moved_all commit st out.moves).log out.log nt (p.noted l nt a j)
         | inr a ↦ elim a [ inl b ↦ out.made nt (subst (λ (z : Logged). In z.notes.made nt) b j) | inr b ↦ absurd b ]
       ]);
       events = events-append sid w.log (entry_ c ∷ []) ∙ ap (λ l. l ++ flat_map acts_of_event (events_of sid (entry_ c ∷ []))) p.events
           ∙ ap (λ l. flat_map (acts_of g) (map deed_of p.moves) ++ flat_map acts_of_event (filter (λ e. bytes_eq (sid_of e) sid) l)) (append-nil (events_of_answer (answer sha n c)))
           ∙ ap (λ l. flat_map (acts_of g) (map deed_of p.moves) ++ l) out.events ∙ sym (flat_map-append (acts_of g) (map deed_of p.moves) (map deed_of out.moves)) ∙ ap (flat_map (acts_of g)) (sym (map-append deed_of p.moves out.moves));
-      typed = subst (AllByRecursion (TypedDeed g honest)) (sym (map-append deed_of p.moves out.moves)) (all_both (TypedDeed g honest) (map deed_of p.moves) (map deed_of out.moves) p.typed out.typed);
-      used = subst (AllByRecursion (λ (o : Opening). Hashed (commitment_text_of sid o) × OpeningFits o)) (sym (openings-append p.moves out.moves)) (all_both (λ (o : Opening). Hashed (commitment_text_of sid o) × OpeningFits o) (all_openings p.moves) (all_openings out.moves) p.used (all_weak _ _ (λ o h. (hs_of c after (commitment_text_of sid o) h.0, h.1)) (all_openings out.moves) out.used));
+      typed = subst (AllByRecursion (TypedDeed g honest)) (sym (map-append deed_of p.moves out.moves)) (all-append (TypedDeed g honest) (map deed_of p.moves) (map deed_of out.moves) p.typed out.typed);
+      used = subst (AllByRecursion (λ (o : Opening). Hashed (commitment_text_of sid o) × OpeningFits o)) (sym (openings-append p.moves out.moves)) (all-append (λ (o : Opening). Hashed (commitment_text_of sid o) × OpeningFits o) (all_openings p.moves) (all_openings out.moves) p.used (all_weaker _ _ (λ o h. (hs_of c after (commitment_text_of sid o) h.0, h.1)) (all_openings out.moves) out.used));
       pasts = λ me is. (let o = p.pasts me is in (next_past sha who c o.0, past_called sha w k who c past me ∙ ap (option_map (next_past sha who c)) o.1));
       told = λ me p' e r is l. subst (λ (z : State). Told z r p'.calls) (sym (moved-append commit (V.at_first (shape g)) p.moves out.moves)) (told_ me p' (past_of w me) refl (sym (past_called sha w k who c past me) ∙ e) r is l);
       sent = subst (λ l. ((moved_all commit (V.at_first (shape g)) (p.moves ++ out.moves)).machine.sent ≡ map step l) × Roles (shape g) l) (sym (honest_items-append w.log (entry_ c ∷ [])))
@@ -372,10 +356,10 @@ module _ (sha : Hash) (hash : IsHash sha) (s : Schedule) (programs : List Progra
         told_ me p' None q e r is l = absurd (cc)
         told_ me p' (Some y) q e r is l =
             let nx : next_past sha who c y ≡ p' = cc in
-            let is_me : y.keys.me ≡ me = same_bytes_ y.keys.me me (find_passes (λ (z : Past). bytes_eq z.keys.me me) w.pasts y q) in
+            let is_me : y.keys.me ≡ me = same_bytes y.keys.me me (find_passes (λ (z : Past). bytes_eq z.keys.me me) w.pasts y q) in
             elim (cases_Bool (bytes_eq y.keys.me who)) [
               | inl h ↦
-                  let same : me ≡ who = sym is_me ∙ same_bytes_ y.keys.me who h in
+                  let same : me ≡ who = sym is_me ∙ same_bytes y.keys.me who h in
                   let two : Some y ≡ Some past = sym q ∙ ap (past_of w) same ∙ its_past in
                   let y_past : y ≡ past = cc in
                   let after_ : past_after sha past c ≡ p' = ap (λ z. past_after sha z c) (sym y_past) ∙ (rw h at nx) in
@@ -399,10 +383,10 @@ module _ (sha : Hash) (hash : IsHash sha) (s : Schedule) (programs : List Progra
         nodes_ me p' None q e = absurd (cc)
         nodes_ me p' (Some y) q e =
             let r : next_past sha who c y ≡ p' = cc in
-            let is_me : y.keys.me ≡ me = same_bytes_ y.keys.me me (find_passes (λ (z : Past). bytes_eq z.keys.me me) w.pasts y q) in
+            let is_me : y.keys.me ≡ me = same_bytes y.keys.me me (find_passes (λ (z : Past). bytes_eq z.keys.me me) w.pasts y q) in
             elim (cases_Bool (bytes_eq y.keys.me who)) [
               | inl h ↦
-                  let same : me ≡ who = sym is_me ∙ same_bytes_ y.keys.me who h in
+                  let same : me ≡ who = sym is_me ∙ same_bytes y.keys.me who h in
                   let two : Some y ≡ Some past = sym q ∙ ap (past_of w) same ∙ its_past in
                   let y_past : y ≡ past = cc in
                   let after_ : past_after sha past c ≡ p' = ap (λ z. past_after sha z c) (sym y_past) ∙ (rw h at r) in

@@ -1,10 +1,10 @@
 -- Where items end, and what they commit to, is where what they reduce to ends, and what it commits to.
-use Rattle.std.specs.Prelude.{◌≡◌, ℕ, zero, suc, ◌+◌, ◌<◌, ◌==◌, ◌⊎◌, true, false, List, [], ◌∷◌, ◌++◌, map, length, refl, Option, Some, None, option_map, unwrap_or, IfSome}
+use Rattle.std.specs.Prelude.{◌≡◌, ℕ, ◌<◌, ◌==◌, ◌⊎◌, true, false, List, [], ◌∷◌, ◌++◌, map, length, refl, Option, Some, None, option_map, unwrap_or, IfSome}
 use Rattle.std.specs.Option.{option_or}
 use Rattle.std.proofs.Common.{sym, ◌∙◌, ap, subst, inl, inr, arith}
 use Rattle.std.proofs.lemmas.Bool.{cases_Bool}
 use Rattle.sg_model.specs.Last.{Map, has, last, last_or, last_of, after_last, up_to_last}
-use Rattle.sg_model.specs.Lists.{value_at, in_order, below, range_from}
+use Rattle.sg_model.specs.Lists.{value_at, in_order, below}
 use Rattle.sg_model.specs.Shape.{end_of, target}
 use Rattle.sg_model.specs.Values.{Opening}
 use Rattle.sg_protocol.specs.Graph.{Graph, shape}
@@ -13,26 +13,15 @@ use Rattle.sg_protocol.specs.Session.{Session, Exchange, openings_of, told, time
 use Rattle.sg_protocol.specs.LastSteps.{Bare, bare}
 use Rattle.sg_model.specs.Last as Last'
 use Rattle.sg_model.proofs.Evidence as Evid
+use Rattle.sg_model.proofs.Small.{cases_Option, no_last, range_same}
 use Rattle.sg_law.proofs.Upto as Upto'
 use Rattle.sg_law.proofs.Cut.{split_end}
 use Rattle.sg_law.proofs.Walks.{end_of-last}
 use Rattle.sg_protocol.proofs.Reduced.{by_role, tags_but, lead, left_by, reduced, has-reduced, committed_reduced}
 
-cases_Option : {A : Type 0} (o : Option A) → (o ≡ None) ⊎ ((x : A) × (o ≡ Some x))
-cases_Option None = inl refl
-cases_Option (Some x) = inr (x, refl)
-
 pub tags_all : (ts : Map (List ℕ)) → tags_but [] ts ≡ ts
 tags_all [] = refl
 tags_all (t ∷ ts) = ap (λ l. t ∷ l) (tags_all ts)
-
-pub no_last : {A : Type 0} (xs : List A) → last xs ≡ None → xs ≡ []
-no_last [] e = refl
-no_last (x ∷ xs) e = absurd (cc)
-
-pub range_same : {A : Type 0} (f h : ℕ → A) (k j : ℕ) → ((x : ℕ) → x < k + j → f x ≡ h x) → map f (range_from k j) ≡ map h (range_from k j)
-range_same f h k zero e = refl
-range_same f h k (suc j) e = ap (λ z. z ∷ map f (range_from (suc k) j)) (e k (omega arith)) ∙ ap (λ l. h k ∷ l) (range_same f h (suc k) j (λ x l. e x (omega (arith, l))))
 
 pub below_same : {A : Type 0} (f h : ℕ → A) (n : ℕ) → ((x : ℕ) → x < n → f x ≡ h x) → map f (below n) ≡ map h (below n)
 below_same f h n e = range_same f h 0 n (λ x l. e x (omega (arith, l)))

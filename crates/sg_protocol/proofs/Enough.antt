@@ -1,16 +1,17 @@
 -- What a role keeps is enough.
-use Rattle.std.specs.Prelude.{◌≡◌, ℕ, zero, suc, ◌+◌, ◌<◌, ◌≤◌, ◌==◌, nat_le, nat_lt, ◌||◌, ◌&&◌, ◌⊎◌, Bool, true, false, not, if◌then◌else◌, List, [], ◌∷◌, ◌++◌, map, find, position, filter_map, length, refl, Option, Some, None, option_map, unwrap_or, bytes_eq, take_while}
+use Rattle.std.specs.Prelude.{◌≡◌, ℕ, ◌+◌, ◌<◌, ◌==◌, nat_le, nat_lt, ◌||◌, ◌&&◌, Bool, true, false, not, if◌then◌else◌, List, [], ◌∷◌, ◌++◌, map, find, position, filter_map, length, refl, Option, Some, None, option_map, unwrap_or, bytes_eq, take_while}
 use Rattle.std.specs.List.{AllByRecursion, cons_option, list_all, list_any}
 use Rattle.std.specs.Option.{option_or, option_map_or}
 use Rattle.std.proofs.Common.{sym, ◌∙◌, ap, subst, inl, inr, arith, append_assoc, append-nil}
-use Rattle.std.proofs.lemmas.Bool.{cases_Bool}
-use Rattle.std.proofs.lemmas.Bool.Decides.{nat_tests}
+use Rattle.std.proofs.lemmas.Bool.{cases_Bool, and_parts}
 use Rattle.sg_model.specs.Last.{Map, Entry, has, last, up_to_last, evidence}
-use Rattle.sg_model.specs.Lists.{below, range_from, first_some, same_text, value_at}
+use Rattle.sg_model.specs.Lists.{below, first_some, same_text, value_at}
 use Rattle.sg_model.specs.Shape.{sender, receiver, target, role_at, source}
 use Rattle.sg_model.specs.Values.{Value, Opening}
 use Rattle.sg_model.proofs.Evidence.{evidence_again, evidence_since, has-evidence}
+use Rattle.sg_model.proofs.Small.{not_false, same_bytes, range_same, range_at}
 use Rattle.sg_law.proofs.Lists.{has-append, has-map, last-append}
+use Rattle.sg_law.proofs.Com.{option_or-assoc}
 use Rattle.sg_protocol.specs.Graph.{Graph, IsGraph, shape, reads}
 use Rattle.sg_protocol.specs.Evidence.{has_view}
 use Rattle.sg_protocol.specs.Frame.{Cast, Item, Frame}
@@ -28,48 +29,20 @@ use Rattle.sg_protocol.specs.NodeAfter.{is_over}
 use Rattle.sg_protocol.specs.Notes.{Note, Notes, note_of, row_number, hashed_openings, notes_in_session, notes_of_sent}
 use Rattle.sg_protocol.specs.Enough.{KeepsSame, KeptIsEnough}
 use Rattle.sg_protocol.proofs.KeptLaws.{kept-kept, shown_to-kept}
-use Rattle.sg_protocol.proofs.Moves.{and_parts, not_false, row_none, same_bytes}
+use Rattle.sg_protocol.proofs.Moves.{row_none}
 use Rattle.sg_protocol.proofs.Paths.{flat_map-append}
 use Rattle.sg_protocol.proofs.Sent.{reads_in}
+use Rattle.sg_protocol.proofs.Ends.{committed-append}
 
 -- ---- lists
-
-or_in_turn : {A : Type 0} (a b c : Option A) → option_or (option_or a b) c ≡ option_or a (option_or b c)
-or_in_turn None b c = refl
-or_in_turn (Some x) b c = refl
 
 or_none : {A : Type 0} (o : Option A) → o ≡ option_or o None
 or_none None = refl
 or_none (Some x) = refl
 
-committed-append : (x : ℕ) (xs ys : List Item) → committed x (xs ++ ys) ≡ option_or (committed x ys) (committed x xs)
-committed-append x [] ys = or_none (committed x ys)
-committed-append x (i ∷ is) ys = ap (λ o. option_or o (value_at i.delta x)) (committed-append x is ys) ∙ or_in_turn (committed x ys) (committed x is) (value_at i.delta x)
-
 last_opening-append : (x : ℕ) (es fs : List Exchange) → last_opening x (es ++ fs) ≡ option_or (last_opening x fs) (last_opening x es)
 last_opening-append x [] fs = or_none (last_opening x fs)
-last_opening-append x (e ∷ es) fs = ap (λ o. option_or o (opening_in (openings_of e) x)) (last_opening-append x es fs) ∙ or_in_turn (last_opening x fs) (last_opening x es) (opening_in (openings_of e) x)
-
--- two functions on the numbers below n
-from_range : {A : Type 0} (f h : ℕ → A) (k j : ℕ) → map f (range_from k j) ≡ map h (range_from k j) → (x : ℕ) → k ≤ x → x < k + j → f x ≡ h x
-from_range f h k zero e x a b = absurd (omega (arith, a, b))
-from_range f h k (suc j) e x a b =
-    let hd : f k ≡ h k = heads (f k) (h k) (map f (range_from (suc k) j)) (map h (range_from (suc k) j)) e in
-    let tl : map f (range_from (suc k) j) ≡ map h (range_from (suc k) j) = tails (f k) (h k) (map f (range_from (suc k) j)) (map h (range_from (suc k) j)) e in
-    elim (at_or_above k x a) [ inl q ↦ subst (λ y. f y ≡ h y) q hd | inr l ↦ from_range f h (suc k) j tl x l (omega (arith, b)) ]
-  where
-    heads : {A : Type 0} (x y : A) (xs ys : List A) → x ∷ xs ≡ y ∷ ys → x ≡ y
-    heads x y xs ys e = cc
-
-    tails : {A : Type 0} (x y : A) (xs ys : List A) → x ∷ xs ≡ y ∷ ys → xs ≡ ys
-    tails x y xs ys e = cc
-
-    at_or_above : (k x : ℕ) → k ≤ x → (k ≡ x) ⊎ (suc k ≤ x)
-    at_or_above k x h = elim (cases_Bool (nat_le (suc k) x)) [ inl e ↦ inr (grind (arith, nat_tests)) | inr e ↦ inl (grind (arith, nat_tests)) ]
-
-to_range : {A : Type 0} (f h : ℕ → A) (k j : ℕ) → ((x : ℕ) → x < k + j → f x ≡ h x) → map f (range_from k j) ≡ map h (range_from k j)
-to_range f h k zero e = refl
-to_range f h k (suc j) e = ap (λ y. y ∷ map f (range_from (suc k) j)) (e k (omega arith)) ∙ ap (λ l. h k ∷ l) (to_range f h (suc k) j (λ x l. e x (omega (arith, l))))
+last_opening-append x (e ∷ es) fs = ap (λ o. option_or o (opening_in (openings_of e) x)) (last_opening-append x es fs) ∙ option_or-assoc (last_opening x fs) (last_opening x es) (opening_in (openings_of e) x)
 
 map_all : {A B : Type 0} (f h : A → B) (xs : List A) → ((x : A) → f x ≡ h x) → map f xs ≡ map h xs
 map_all f h [] e = refl
@@ -178,16 +151,16 @@ module _ (g : Graph) (s t : Session) (k : KeepsSame g s t) where
   same_items = ap (λ (z : Kept). z.items) k.kept
 
   same_committed : (x : ℕ) → x < n → committed x (told s) ≡ committed x (told t)
-  same_committed x h = from_range (λ x. committed x (told s)) (λ x. committed x (told t)) 0 n (ap (λ (z : Kept). z.commitments) k.kept) x (omega arith) (omega (arith, h))
+  same_committed x h = range_at (λ x. committed x (told s)) (λ x. committed x (told t)) 0 n (ap (λ (z : Kept). z.commitments) k.kept) x (omega arith) (omega (arith, h))
 
   same_known : (x : ℕ) → x < n → known s x ≡ known t x
-  same_known x h = from_range (known s) (known t) 0 n (ap (λ (z : Kept). z.openings) k.kept) x (omega arith) (omega (arith, h))
+  same_known x h = range_at (known s) (known t) 0 n (ap (λ (z : Kept). z.openings) k.kept) x (omega arith) (omega (arith, h))
 
   committed_more : (more : List Item) (x : ℕ) → x < n → committed x (told s ++ more) ≡ committed x (told t ++ more)
   committed_more more x h = committed-append x (told s) more ∙ ap (option_or (committed x more)) (same_committed x h) ∙ sym (committed-append x (told t) more)
 
   commitments_more : (more : List Item) → commitments g (told s ++ more) ≡ commitments g (told t ++ more)
-  commitments_more more = to_range (λ x. committed x (told s ++ more)) (λ x. committed x (told t ++ more)) 0 n (λ x h. committed_more more x (omega (arith, h)))
+  commitments_more more = range_same (λ x. committed x (told s ++ more)) (λ x. committed x (told t ++ more)) 0 n (λ x h. committed_more more x (omega (arith, h)))
 
   said_same : (xs ys : List Item) (i : Item) (r : ℕ) → commitments g (xs ++ i ∷ []) ≡ commitments g (ys ++ i ∷ []) → text_to g s xs i r ≡ text_to g t ys i r
   said_same xs ys i r e =
@@ -480,7 +453,7 @@ keeps_going g s t e k = record {
     later_commitments = ap (commitments g) (told-extended s e) ∙ commitments_more g s t k more ∙ sym (ap (commitments g) (told-extended t e))
 
     later_openings : map (known (extended s e)) (below (length g.variables)) ≡ map (known (extended t e)) (below (length g.variables))
-    later_openings = to_range (known (extended s e)) (known (extended t e)) 0 (length g.variables) (λ x h.
+    later_openings = range_same (known (extended s e)) (known (extended t e)) 0 (length g.variables) (λ x h.
         last_opening-append x s.exchanges (e ∷ []) ∙ ap (option_or (last_opening x (e ∷ []))) (same_known g s t k x (omega (arith, h))) ∙ sym (last_opening-append x t.exchanges (e ∷ [])))
 
 pub kept_is_enough : (sha : Hash) → KeptIsEnough sha

@@ -3,7 +3,7 @@ use Rattle.std.specs.Prelude.{◌≡◌, ◌≢◌, ℕ, zero, suc, ◌+◌, ◌
 use Rattle.std.specs.Option.{option_or}
 use Rattle.std.specs.List.{AllByRecursion}
 use Rattle.std.proofs.Common.{sym, ◌∙◌, ap, subst, inl, inr, arith}
-use Rattle.std.proofs.lemmas.Bool.{eqb-true, eq-eqb}
+use Rattle.std.proofs.lemmas.Bool.{eqb-true, eq-eqb, cases_Bool}
 use Rattle.std.proofs.lemmas.Bool.Decides.{nat_tests}
 use Rattle.std.proofs.lemmas.List.{map-append}
 use Rattle.sg_model.specs.Last.{Map, merge, has, last, last_or, last_of, after_last, up_to_last, evidence_for}
@@ -29,10 +29,6 @@ use Rattle.sg_law.proofs.Cut.{last-option_map, last-last_of}
 use Rattle.sg_law.proofs.Lists.{in_same}
 use Rattle.sg_protocol.proofs.KeptLaws.{value_at-in_order}
 use Rattle.sg_protocol.proofs.Bridge.{up_to_last-after, labels-view_of}
-
-cases_Bool : (b : Bool) → (b ≡ true) ⊎ (b ≡ false)
-cases_Bool true = inl refl
-cases_Bool false = inr refl
 
 -- an item as an entry of the law
 abbrev pub entry : Item → B.Entry TimedLabel Code

@@ -3,7 +3,7 @@ use Rattle.std.specs.Prelude.{◌≡◌, ◌≢◌, ℕ, ◌+◌, ◌==◌, nat_
 use Rattle.std.specs.List.{list_any, AllByRecursion}
 use Rattle.std.specs.Option.{option_map_or}
 use Rattle.std.proofs.Common.{sym, ◌∙◌, ap, subst, inl, inr, append_assoc, append-nil}
-use Rattle.std.proofs.lemmas.Bool.{eqb-true}
+use Rattle.std.proofs.lemmas.Bool.{eqb-true, cases_Bool, and_parts}
 use Rattle.std.proofs.lemmas.Slice.Eq.{bytes_eq-Decides}
 use Rattle.sg_model.specs.Last.{Map, last}
 use Rattle.sg_model.specs.Lists.{first_some, all_differ}
@@ -22,43 +22,34 @@ use Rattle.sg_protocol.specs.Verdict.{row, rows_of_session, decided, receipt, ve
 use Rattle.sg_protocol.specs.Schedule.{Schedule, Step, StartStep, ActStep, AbandonStep, DeliverStep, CraftStep, What, cast_of, sid_at, confounder}
 use Rattle.sg_law.proofs.Upto.{In}
 use Rattle.sg_protocol.proofs.Paths.{flat_map-append}
-use Rattle.sg_protocol.proofs.Moves.{and_parts, not_false, none_parts, row_none, in_left, in_right}
+use Rattle.sg_protocol.proofs.Moves.{row_none}
 use Rattle.sg_protocol.specs.Sending.{frame_sent}
 use Rattle.sg_protocol.specs.Acting.{rows_of_act, openings_for, answer, started, acted, sent, rows_of_start}
 use Rattle.sg_protocol.specs.Notes.{Notes, notes, notes_of_start, notes_of_read, hashed_of_join, row_number}
 use Rattle.std.specs.Prelude.{Result, Ok, Err, option_and_then}
 use Rattle.sg_model.specs.Bytes.{IsBytes}
+use Rattle.sg_model.proofs.Small.{not_false, same_bytes, none_parts, both_nil}
+use Rattle.sg_law.proofs.Members.{in_left, in_right, in_flat}
 use Rattle.sg_protocol.specs.Reading.{read}
 use Rattle.sg_protocol.specs.Node.{Node, is_for, is_cast, stranger, session_with, session_for, has_joined, program_for, starter}
 use Rattle.sg_protocol.specs.NodeAfter.{node_after, joined, goes_on, replace, still, takes_read}
 use Rattle.sg_protocol.specs.Frame as Frame'
-use Rattle.sg_protocol.proofs.Isolation.{of_sid, find-filter, filter-append, replace-other, replace-own, still-other}
+use Rattle.sg_protocol.proofs.Isolation.{of_sid, find-filter, replace-other, replace-own, still-other}
 use Rattle.sg_protocol.proofs.TextLaws.{cast_fits}
 use Rattle.sg_protocol.proofs.ReadBack.{read-SpellsFrame}
 use Rattle.sg_protocol.specs.Past.{Past, node_of, new_node, past_after}
 use Rattle.sg_protocol.specs.World.{World, Logged, Answered, past_of, new_world, call_of, bytes_of}
 use Rattle.sg_protocol.specs.Run.{called, called_if, world_after, world_after_all, run, frame_in, events_of, events_of_outcome, cast_in}
 use Rattle.sg_protocol.specs.IsSchedule.{IsStep}
-use Rattle.sg_protocol.proofs.Calls.{find_passes}
-use Rattle.sg_protocol.proofs.Course.{in_flat}
+use Rattle.sg_protocol.proofs.Finding.{find_passes}
 use Rattle.sg_protocol.proofs.Course.{past_called, next_past, node_more, Suffix, suffix_all}
 use Rattle.sg_protocol.proofs.Whole.{FirstCast, first_past, found_in}
 use Rattle.std.specs.Result.{result_ok}
-
-cases_Bool : (b : Bool) → (b ≡ true) ⊎ (b ≡ false)
-cases_Bool true = inl refl
-cases_Bool false = inr refl
-
-same_bytes_ : (a b : List ℕ) → bytes_eq a b ≡ true → a ≡ b
-same_bytes_ a b h = (bytes_eq-Decides a b).0 h
+use Rattle.std.proofs.lemmas.List.Elements.{filter-append}
 
 none_any : {A : Type 0} (q : A → Bool) (xs : List A) → filter q xs ≡ [] → list_any q xs ≡ false
 none_any q [] e = refl
 none_any q (x ∷ xs) e = elim (cases_Bool (q x)) [ inl h ↦ (let f = rw h at e in absurd (cc)) | inr h ↦ rw h (none_any q xs (rw h at e)) ]
-
-both_nil : {A : Type 0} (xs ys : List A) → xs ++ ys ≡ [] → (xs ≡ []) × (ys ≡ [])
-both_nil [] ys e = (refl, e)
-both_nil (x ∷ xs) ys e = absurd (cc)
 
 takes_programs : (n : Node) (f : Frame) (o : Option Cast) → (option_map_or (λ c. joined n (extended (new_session f.sid c f.receiver) (Took f))) o (goes_on n (is_for f) (λ z. still n.programs (extended z (Took f))))).programs ≡ n.programs
 takes_programs n f None = refl
@@ -117,12 +108,12 @@ module _ (sha : Hash) (hash : IsHash sha) (s : Schedule) (programs : List Progra
             cast = c;
             has_event = rw h refl;
             in_call = refl;
-            sid_is = same_bytes_ (session_id sha c) sid h;
+            sid_is = same_bytes (session_id sha c) sid h;
             fits = fits;
             is_hashed = inl refl;
             program = p;
             there = subst (λ z. In z p) ps (found_in (λ (p : Program). bytes_eq p.digest c.graph && (p.role == role_at (shape p.graph) 0)) n.programs p sp);
-            digest = same_bytes_ p.digest c.graph (and_parts (bytes_eq p.digest c.graph) (p.role == role_at (shape p.graph) 0) (find_passes (λ (p : Program). bytes_eq p.digest c.graph && (p.role == role_at (shape p.graph) 0)) n.programs p sp)).0;
+            digest = same_bytes p.digest c.graph (and_parts (bytes_eq p.digest c.graph) (p.role == role_at (shape p.graph) 0) (find_passes (λ (p : Program). bytes_eq p.digest c.graph && (p.role == role_at (shape p.graph) 0)) n.programs p sp)).0;
             differ = cast_differ n.keys p.graph c p.role (not_false (is_cast n.keys p.graph c p.role) (row_none _ _ one.0));
             lengths = cast_length n.keys p.graph c p.role (not_false (is_cast n.keys p.graph c p.role) (row_none _ _ one.0));
           }
@@ -149,8 +140,8 @@ module _ (sha : Hash) (hash : IsHash sha) (s : Schedule) (programs : List Progra
       where
         left : filter (of_sid sid) (replace (λ (x : Session). bytes_eq x.sid sid0) (λ x. []) n.live) ≡ []
         left = elim (cases_Bool (bytes_eq sid0 sid)) [
-          | inl h ↦ sym (replace-own (λ (x : Session). bytes_eq x.sid sid0) (λ x. []) (λ x e. subst (λ y. bytes_eq x.sid y ≡ true) (same_bytes_ sid0 sid h) e) (λ x e. refl) n.live) ∙ ap (replace (λ (x : Session). bytes_eq x.sid sid0) (λ x. [])) quiet
-          | inr h ↦ replace-other (λ (x : Session). bytes_eq x.sid sid0) (λ x. []) (λ x e. subst (λ y. bytes_eq y sid ≡ false) (sym (same_bytes_ x.sid sid0 e)) h) (λ x e. refl) n.live ∙ quiet
+          | inl h ↦ sym (replace-own (λ (x : Session). bytes_eq x.sid sid0) (λ x. []) (λ x e. subst (λ y. bytes_eq x.sid y ≡ true) (same_bytes sid0 sid h) e) (λ x e. refl) n.live) ∙ ap (replace (λ (x : Session). bytes_eq x.sid sid0) (λ x. [])) quiet
+          | inr h ↦ replace-other (λ (x : Session). bytes_eq x.sid sid0) (λ x. []) (λ x e. subst (λ y. bytes_eq y sid ≡ false) (sym (same_bytes x.sid sid0 e)) h) (λ x e. refl) n.live ∙ quiet
         ]
 
         go : (o : Option Session) → Either n (Abandon sid0) (option_map_or (λ (x : Session). Abandoned) o NotAbandoned) nts
@@ -159,7 +150,7 @@ module _ (sha : Hash) (hash : IsHash sha) (s : Schedule) (programs : List Progra
 
     act_first : (sid0 : List ℕ) (label : ℕ) (values : Map Value) (confs : List (List ℕ)) (nts : Notes) → Either n (Act sid0 label values confs) (answer sha n (Act sid0 label values confs)) nts
     act_first sid0 label values confs nts = elim (cases_Bool (bytes_eq sid0 sid)) [
-      | inl h ↦ subst (λ o. Either n (Act sid0 label values confs) (option_map_or (λ x. option_map_or (λ p. acted (sent sha n.keys p x label values confs) (first_some (rows_of_act p x label values))) (program_for n.programs x.cast.graph x.role) (NotActed ActFault.UnknownSession)) o (NotActed ActFault.UnknownSession)) nts) (sym (none_with (λ (z : Session). bytes_eq z.sid sid0) (λ z e. subst (λ y. bytes_eq z.sid y ≡ true) (same_bytes_ sid0 sid h) e))) (inl (refl, quiet))
+      | inl h ↦ subst (λ o. Either n (Act sid0 label values confs) (option_map_or (λ x. option_map_or (λ p. acted (sent sha n.keys p x label values confs) (first_some (rows_of_act p x label values))) (program_for n.programs x.cast.graph x.role) (NotActed ActFault.UnknownSession)) o (NotActed ActFault.UnknownSession)) nts) (sym (none_with (λ (z : Session). bytes_eq z.sid sid0) (λ z e. subst (λ y. bytes_eq z.sid y ≡ true) (same_bytes sid0 sid h) e))) (inl (refl, quiet))
       | inr h ↦ by_session h (session_with n.live sid0) refl
     ]
       where
@@ -168,7 +159,7 @@ module _ (sha : Hash) (hash : IsHash sha) (s : Schedule) (programs : List Progra
         by_rows h x xs p None = inl (
           rw (ap (λ y. bytes_eq y sid) xs ∙ h) refl,
           replace-other (λ (z : Session). bytes_eq z.sid sid0) (λ z. option_map_or (λ (i : Item). still n.programs (extended z (Gave i (openings_for values confs)))) (last (frame_sent sha n.keys p x label (openings_for values confs)).items) (z ∷ []))
-              (λ z e. subst (λ y. bytes_eq y sid ≡ false) (sym (same_bytes_ z.sid sid0 e)) h) (λ z e. other_now z (subst (λ y. bytes_eq y sid ≡ false) (sym (same_bytes_ z.sid sid0 e)) h) (last (frame_sent sha n.keys p x label (openings_for values confs)).items)) n.live ∙ quiet,
+              (λ z e. subst (λ y. bytes_eq y sid ≡ false) (sym (same_bytes z.sid sid0 e)) h) (λ z e. other_now z (subst (λ y. bytes_eq y sid ≡ false) (sym (same_bytes z.sid sid0 e)) h) (last (frame_sent sha n.keys p x label (openings_for values confs)).items)) n.live ∙ quiet,
         )
           where
             other_now : (z : Session) → bytes_eq z.sid sid ≡ false → (o : Option Item) → filter (of_sid sid) (option_map_or (λ (i : Item). still n.programs (extended z (Gave i (openings_for values confs)))) o (z ∷ [])) ≡ []
@@ -182,11 +173,11 @@ module _ (sha : Hash) (hash : IsHash sha) (s : Schedule) (programs : List Progra
         by_session : bytes_eq sid0 sid ≡ false → (o : Option Session) → session_with n.live sid0 ≡ o → Either n (Act sid0 label values confs) (answer sha n (Act sid0 label values confs)) nts
         by_session h None e = subst (λ o. Either n (Act sid0 label values confs) (option_map_or (λ x. option_map_or (λ p. acted (sent sha n.keys p x label values confs) (first_some (rows_of_act p x label values))) (program_for n.programs x.cast.graph x.role) (NotActed ActFault.UnknownSession)) o (NotActed ActFault.UnknownSession)) nts) (sym e) (inl (refl, quiet))
         by_session h (Some x) e = subst (λ o. Either n (Act sid0 label values confs) (option_map_or (λ x. option_map_or (λ p. acted (sent sha n.keys p x label values confs) (first_some (rows_of_act p x label values))) (program_for n.programs x.cast.graph x.role) (NotActed ActFault.UnknownSession)) o (NotActed ActFault.UnknownSession)) nts) (sym e)
-            (by_program h x (same_bytes_ x.sid sid0 (find_passes (λ (z : Session). bytes_eq z.sid sid0) n.live x e)) (program_for n.programs x.cast.graph x.role))
+            (by_program h x (same_bytes x.sid sid0 (find_passes (λ (z : Session). bytes_eq z.sid sid0) n.live x e)) (program_for n.programs x.cast.graph x.role))
 
     module _ (bs : List ℕ) (f : Frame) (spelled : HasSpelling f) (is_read : read bs ≡ Ok f) where
       for_sid : (z : Session) → is_for f z ≡ true → z.sid ≡ f.sid
-      for_sid z e = same_bytes_ z.sid f.sid (and_parts _ (z.role == f.receiver) (and_parts _ (z.cast.version == f.version) e).0).0
+      for_sid z e = same_bytes z.sid f.sid (and_parts _ (z.role == f.receiver) (and_parts _ (z.cast.version == f.version) e).0).0
 
       abbrev nexts : Option Cast → Node
       nexts o = option_map_or (λ c. joined n (extended (new_session f.sid c f.receiver) (Took f))) o (goes_on n (is_for f) (λ z. still n.programs (extended z (Took f))))
@@ -206,12 +197,12 @@ module _ (sha : Hash) (hash : IsHash sha) (s : Schedule) (programs : List Progra
             cast = c;
             has_event = rw ((bytes_eq-Decides f.sid sid).1 fs) refl;
             in_call = ap (λ r. option_and_then (λ (f : Frame). f.join) (result_ok r)) is_read ∙ jc;
-            sid_is = sym (same_bytes_ f.sid (session_id sha c) (not_false (bytes_eq f.sid (session_id sha c)) (row_none _ _ r3.0))) ∙ fs;
+            sid_is = sym (same_bytes f.sid (session_id sha c) (not_false (bytes_eq f.sid (session_id sha c)) (row_none _ _ r3.0))) ∙ fs;
             fits = cast_fits c (subst IsVersion (sym co.version) spelled.fields.version) (subst (λ v. Frame'.IsCastOf v c) (sym co.version) co);
             is_hashed = in_left (hashed_of_join f (row_number (first_some (rows sha n f)))) _ (session_text_of c) (subst (λ o. In (hashed_of_join f (row_number o)) (session_text_of c)) (sym e) (subst (λ o. In (option_map_or (λ c. session_text_of c ∷ []) o []) (session_text_of c)) (sym jc) (inl refl)));
             program = p;
             there = subst (λ z. In z p) ps (found_in (λ (p : Program). bytes_eq p.digest c.graph && (p.role == f.receiver)) n.programs p pc);
-            digest = same_bytes_ p.digest c.graph (and_parts (bytes_eq p.digest c.graph) (p.role == f.receiver) (find_passes (λ (p : Program). bytes_eq p.digest c.graph && (p.role == f.receiver)) n.programs p pc)).0;
+            digest = same_bytes p.digest c.graph (and_parts (bytes_eq p.digest c.graph) (p.role == f.receiver) (find_passes (λ (p : Program). bytes_eq p.digest c.graph && (p.role == f.receiver)) n.programs p pc)).0;
             differ = cast_differ n.keys p.graph c f.receiver (and_parts (is_cast n.keys p.graph c f.receiver) (nat_lt f.sender (length c.names)) (not_false (is_cast n.keys p.graph c f.receiver && nat_lt f.sender (length c.names)) (row_none _ _ r1.0))).0;
             lengths = cast_length n.keys p.graph c f.receiver (and_parts (is_cast n.keys p.graph c f.receiver) (nat_lt f.sender (length c.names)) (not_false (is_cast n.keys p.graph c f.receiver && nat_lt f.sender (length c.names)) (row_none _ _ r1.0))).0;
           }
@@ -232,7 +223,7 @@ module _ (sha : Hash) (hash : IsHash sha) (s : Schedule) (programs : List Progra
       by_rows_ : (o : Option Refusal) → first_some (rows sha n f) ≡ o → Either n (Deliver bs) (decided (receipt f) o) (notes_of_read sha n (Ok f))
       by_rows_ (Some r) e = inl (refl, quiet)
       by_rows_ None e = elim (cases_Bool (bytes_eq f.sid sid)) [
-        | inl h ↦ inr (by_join e (same_bytes_ f.sid sid h) f.join refl)
+        | inl h ↦ inr (by_join e (same_bytes f.sid sid h) f.join refl)
         | inr h ↦ inl (rw h refl, ap (λ (m : Node). filter (of_sid sid) m.live) (ap (takes_read n) is_read) ∙ other_quiet h f.join)
       ]
 
@@ -318,10 +309,10 @@ module _ (sha : Hash) (hash : IsHash sha) (s : Schedule) (programs : List Progra
           nodes_ me p' None q' e = absurd (cc)
           nodes_ me p' (Some y) q' e =
               let r : next_past sha who c y ≡ p' = cc in
-              let is_me : y.keys.me ≡ me = same_bytes_ y.keys.me me (find_passes (λ (z : Past). bytes_eq z.keys.me me) w.pasts y q') in
+              let is_me : y.keys.me ≡ me = same_bytes y.keys.me me (find_passes (λ (z : Past). bytes_eq z.keys.me me) w.pasts y q') in
               elim (cases_Bool (bytes_eq y.keys.me who)) [
                 | inl h ↦
-                    let same : me ≡ who = sym is_me ∙ same_bytes_ y.keys.me who h in
+                    let same : me ≡ who = sym is_me ∙ same_bytes y.keys.me who h in
                     let two : Some y ≡ Some past = sym q' ∙ ap (past_of w) same ∙ its_past in
                     let y_past : y ≡ past = cc in
                     let after_ : past_after sha past c ≡ p' = ap (λ z. past_after sha z c) (sym y_past) ∙ (rw h at r) in

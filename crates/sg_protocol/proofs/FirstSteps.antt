@@ -3,9 +3,10 @@ use Rattle.std.specs.Prelude.{◌≡◌, ℕ, zero, suc, ◌+◌, ◌<◌, ◌�
 use Rattle.std.specs.List.{AllByRecursion}
 use Rattle.std.specs.Option.{option_map_or}
 use Rattle.std.proofs.Common.{sym, ◌∙◌, ap, subst, inl, inr, arith}
-use Rattle.std.proofs.lemmas.List.Elements.{All-take, All-from_recursion}
+use Rattle.std.proofs.lemmas.List.Elements.{All-take, All-from_recursion, recursion_from_All}
 use Rattle.sg_model.specs.Last.{Map, last}
 use Rattle.sg_model.specs.Names.{Name}
+use Rattle.sg_law.proofs.Members.{in_left, in_right, in_flat, in_parts}
 use Rattle.sg_law.proofs.Lists.{last-append}
 use Rattle.sg_law.proofs.Upto.{In, in_from_Contains}
 use Rattle.sg_law.proofs.Take.{contains_from_in}
@@ -25,10 +26,7 @@ use Rattle.sg_protocol.specs.Run.{called_if, uncalled, world_after, world_after_
 use Rattle.sg_protocol.specs.Premises.{MadeBefore, hashed, Premises}
 use Rattle.sg_protocol.specs.IsSchedule.{IsSchedule, IsStep}
 use Rattle.sg_protocol.specs.Beginnings.{first_steps, IsLogUpTo, RunsGoOn, PremisesHoldBefore}
-use Rattle.sg_protocol.proofs.Acts as C
-use Rattle.sg_protocol.proofs.Course.{Suffix, suffix_refl, suffix_all, in_before, in_after, in_flat}
-use Rattle.sg_protocol.proofs.Moves.{in_left, in_right}
-use Rattle.sg_protocol.proofs.Whole.{to_rec}
+use Rattle.sg_protocol.proofs.Course.{Suffix, suffix_refl, suffix_all, in_before, in_after}
 
 -- ---- the schedule's steps don't matter to one step
 
@@ -111,7 +109,7 @@ module _ (sha : Hash) (s : Schedule) (n : ℕ) where
     keys = h.keys;
     pairs = h.pairs;
     sessions = h.sessions;
-    steps = All-from_recursion (IsStep sha (first_steps n s)) (take n s.steps) (go (take n s.steps) (to_rec (IsStep sha s) (take n s.steps) (All-take (IsStep sha s) n s.steps h.steps)));
+    steps = All-from_recursion (IsStep sha (first_steps n s)) (take n s.steps) (go (take n s.steps) (recursion_from_All (IsStep sha s) (take n s.steps) (All-take (IsStep sha s) n s.steps h.steps)));
   }
     where
       one : (x : Step) → IsStep sha s x → IsStep sha (first_steps n s) x
@@ -167,7 +165,7 @@ module _ (sha : Hash) (s : Schedule) where
     where
       now : OneMore k w.log (world_after sha s w k x).log → (l : Logged) → In (world_after sha s w k x).log l → l.number < k + 1
       now (inl e) l i = (let h = a l (subst (λ z. In z l) e i) in omega (arith, h))
-      now (inr more) l i = elim (C.in_parts w.log (more.0 ∷ []) l (subst (λ z. In z l) more.1 i)) [
+      now (inr more) l i = elim (in_parts w.log (more.0 ∷ []) l (subst (λ z. In z l) more.1 i)) [
         | inl j ↦ (let h = a l j in omega (arith, h))
         | inr j ↦ elim j [ inl q ↦ (let h = ap (λ (z : Logged). z.number) q ∙ more.2 in omega (arith, h)) | inr q ↦ absurd q ]
       ]
@@ -182,7 +180,7 @@ module _ (sha : Hash) (s : Schedule) where
     where
       now : OneMore k w.log (world_after sha s w k x).log → In (world_after sha s w k x).log l → In w.log l ⊎ ((i : ℕ) × (l.number ≡ k + i) × (last (world_after_all sha s w k (take (suc i) (x ∷ xs))).log ≡ Some l))
       now (inl e) j = inl (subst (λ z. In z l) e j)
-      now (inr more) j = elim (C.in_parts w.log (more.0 ∷ []) l (subst (λ z. In z l) more.1 j)) [
+      now (inr more) j = elim (in_parts w.log (more.0 ∷ []) l (subst (λ z. In z l) more.1 j)) [
         | inl a ↦ inl a
         | inr a ↦ elim a [
           | inl q ↦ inr (0, (let h = ap (λ (z : Logged). z.number) q ∙ more.2 in omega (arith, h)), ap last more.1 ∙ last-append w.log more.0 [] ∙ ap (λ (z : Logged). Some z) (sym q))
@@ -237,13 +235,13 @@ module _ (sha : Hash) (programs : List Program) (s : Schedule) (n : ℕ) where
 
       flat_later : (xs ys : List Logged) (t : List ℕ) → ((l : Logged) → In xs l → In ys l) → In (flat_map (λ (l : Logged). l.notes.hashed) xs) t → In (flat_map (λ (l : Logged). l.notes.hashed) ys) t
       flat_later [] ys t f i = absurd i
-      flat_later (x ∷ xs) ys t f i = elim (C.in_parts x.notes.hashed (flat_map (λ (l : Logged). l.notes.hashed) xs) t i) [
+      flat_later (x ∷ xs) ys t f i = elim (in_parts x.notes.hashed (flat_map (λ (l : Logged). l.notes.hashed) xs) t i) [
         | inl j ↦ in_flat (λ (l : Logged). l.notes.hashed) ys x t (f x (inl refl)) j
         | inr j ↦ flat_later xs ys t (λ l k. f l (inr k)) j
       ]
 
       hashed_later : (t : List ℕ) → Contains (hashed (first_steps n s) wb) t → Contains (hashed s wf) t
-      hashed_later t i = contains_from_in (hashed s wf) t (elim (C.in_parts (map graph_text_of s.graphs) (flat_map (λ (l : Logged). l.notes.hashed) wb.log) t (in_from_Contains (hashed (first_steps n s) wb) t i)) [
+      hashed_later t i = contains_from_in (hashed s wf) t (elim (in_parts (map graph_text_of s.graphs) (flat_map (λ (l : Logged). l.notes.hashed) wb.log) t (in_from_Contains (hashed (first_steps n s) wb) t i)) [
         | inl j ↦ in_left (map graph_text_of s.graphs) (flat_map (λ (l : Logged). l.notes.hashed) wf.log) t j
         | inr j ↦ in_right (map graph_text_of s.graphs) (flat_map (λ (l : Logged). l.notes.hashed) wf.log) t (flat_later wb.log wf.log t later j)
       ])

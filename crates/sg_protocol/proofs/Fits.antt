@@ -1,11 +1,10 @@
 -- What a run records are bytes, and what its nodes send has a spelling.
-use Rattle.std.specs.Prelude.{filter_map, ◌≡◌, ◌≢◌, ℕ, zero, suc, ◌<◌, ◌≤◌, ◌==◌, nat_lt, if◌then◌else◌, All, ◌&&◌, ◌⊎◌, Bool, true, false, List, [], ◌∷◌, ◌++◌, map, length, bytes_eq, refl, Option, Some, None, option_map, unwrap_or, IfSome}
+use Rattle.std.specs.Prelude.{filter_map, ◌≡◌, ◌≢◌, ℕ, zero, suc, ◌<◌, ◌≤◌, ◌==◌, nat_lt, if◌then◌else◌, All, ◌&&◌, true, List, [], ◌∷◌, ◌++◌, map, length, bytes_eq, refl, Option, Some, None, option_map, unwrap_or, IfSome}
 use Rattle.std.specs.List.{cons_option, list_all, AllByRecursion}
 use Rattle.std.specs.Option.{option_map_or}
 use Rattle.std.proofs.Common.{sym, ◌∙◌, ap, subst, inl, inr, arith}
-use Rattle.std.proofs.lemmas.Bool.{eqb-true}
-use Rattle.std.proofs.lemmas.List.Elements.{All-head, All-tail}
-use Rattle.std.proofs.lemmas.Slice.Eq.{bytes_eq-Decides}
+use Rattle.std.proofs.lemmas.Bool.{eqb-true, cases_Bool, and_parts}
+use Rattle.std.proofs.lemmas.List.Elements.{All-head, All-tail, recursion_from_All}
 use Rattle.sg_model.specs.Last.{Map}
 use Rattle.sg_model.specs.Lists.{value_at, all_differ}
 use Rattle.sg_model.specs.Shape.{role_at}
@@ -16,13 +15,12 @@ use Rattle.sg_protocol.specs.Frame.{Cast, Item, Frame, IsItem, IsTag, IsValue, I
 use Rattle.sg_protocol.specs.Acting.{openings_for}
 use Rattle.sg_protocol.specs.Spelling.{spelling, HasSpelling, u64}
 use Rattle.sg_model.specs.Bytes.{AreBytes}
-use Rattle.sg_protocol.specs.Texts.{Hash, IsHash, session_id, session_text_of, cut, graph_text_of, graph_digest}
+use Rattle.sg_protocol.specs.Texts.{Hash, IsHash, session_id, session_text_of, cut, graph_text_of}
 use Rattle.sg_protocol.specs.TextLaws.{CastFits}
 use Rattle.sg_protocol.specs.Keyring.{Program}
 use Rattle.sg_protocol.specs.Session.{Session, principal, new_session}
 use Rattle.sg_protocol.specs.Calls.{Event, Call, Start, Act, Abandon, Deliver, Answer, Sends}
 use Rattle.sg_protocol.specs.Schedule.{Schedule, is_honest, honest_role, Step, StartStep, ActStep, AbandonStep, DeliverStep, CraftStep, What, Declared, PairKey, cast_of, sid_at, confounder, graph_with}
-use Rattle.sg_protocol.proofs.Moves.{and_parts}
 use Rattle.sg_protocol.specs.Acting.{answer}
 use Rattle.std.specs.Prelude.{Result, Ok, Err, option_and_then}
 use Rattle.sg_model.specs.Bytes.{IsBytes}
@@ -42,8 +40,9 @@ use Rattle.sg_protocol.specs.Schedule as Schedule'
 use Rattle.sg_protocol.specs.Crafted as Crafted'
 use Rattle.sg_protocol.specs.IsSchedule.{IsSchedule, IsStep, IsDeclared, AreCompiled, IsProgram}
 use Rattle.sg_protocol.specs.Headline.{IsExplained, SessionsFollowWalks}
-use Rattle.sg_protocol.proofs.Calls.{find_passes, find_all}
+use Rattle.sg_protocol.proofs.Finding.{find_passes, find_all}
 use Rattle.sg_model.specs.Names.{is_name}
+use Rattle.sg_model.proofs.Small.{same_bytes, all-append}
 use Rattle.sg_protocol.proofs.Course.{past_called, next_past, node_more}
 use Rattle.sg_protocol.proofs.Whole.{first_past}
 use Rattle.sg_protocol.proofs.First.{first_cast, programs_after}
@@ -52,18 +51,11 @@ use Rattle.sg_protocol.proofs.Sent.{FitSession}
 use Rattle.sg_protocol.specs.Ranges.{AreValues}
 use Rattle.sg_protocol.proofs.Nodes.{start_all}
 use Rattle.sg_protocol.proofs.Nodes as Nodes'
-use Rattle.sg_protocol.proofs.Ranges.{by_recursion, new_in_range, act_in_range, node_in_range}
+use Rattle.sg_protocol.proofs.Ranges.{new_in_range, act_in_range, node_in_range}
 use Rattle.sg_protocol.proofs.Course.{confounder_length}
 use Rattle.sg_protocol.proofs.Spelled.{u64_bytes}
 use Rattle.sg_protocol.proofs.Whole.{explained}
 use Rattle.sg_protocol.proofs.Spelled.{Bytes_, BytesItem, BytesFrame, to_bytes, from_bytes, bytes-append, bytes-take, bytes-zeros, bytes-flipped, item_has_bytes, has_bytes, spelling_bytes}
-
-cases_Bool : (b : Bool) → (b ≡ true) ⊎ (b ≡ false)
-cases_Bool true = inl refl
-cases_Bool false = inr refl
-
-same_bytes_ : (a b : List ℕ) → bytes_eq a b ≡ true → a ≡ b
-same_bytes_ a b h = (bytes_eq-Decides a b).0 h
 
 pub declared_in : (A : Type 0) (P : A → Type 0) (xs : List A) (n : ℕ) (x : A) → All P xs → slice_get xs n ≡ Some x → P x
 declared_in A P [] n x a e = absurd (cc)
@@ -243,7 +235,7 @@ module _ (sha : Hash) (hash : IsHash sha) (programs : List Program) (s : Schedul
       bytes (v ∷ vs) = ((confounder_length k v.0, to_bytes (u64 k ++ u64 v.0) (bytes-append (u64 k) (u64 v.0) (u64_bytes k) (u64_bytes v.0))), bytes vs)
 
   compiled_in : (n : Node) → n.programs ≡ programs → AllByRecursion (IsProgram sha) n.programs
-  compiled_in n ps = subst (AllByRecursion (IsProgram sha)) (sym ps) (by_recursion (IsProgram sha) programs compiled.each)
+  compiled_in n ps = subst (AllByRecursion (IsProgram sha)) (sym ps) (recursion_from_All (IsProgram sha) programs compiled.each)
 
   -- what an act of a run sends, and the session that sends it
   pub act_fit : (n : Node) → n.programs ≡ programs → AllByRecursion FitSession n.live → (k : ℕ) (sid0 : List ℕ) (label : ℕ) (values : Map Value) → AllByRecursion (λ (w : ℕ × Value). (w.0 < 256) × IsValue w.1) values → (f : Frame) (a : ActSent n sid0 label values (map (λ (v : ℕ × Value). confounder k v.0) values) f)
@@ -275,10 +267,6 @@ module _ (sha : Hash) (hash : IsHash sha) (programs : List Program) (s : Schedul
   fit_sends w fit k x who past c e to f good q call ans = (fit_shorts w fit k x who past c e to f good q call ans).spelled
 
   -- ---- the nodes after a call
-
-  all_cat : {A : Type 0} (P : A → Type 0) (xs ys : List A) → AllByRecursion P xs → AllByRecursion P ys → AllByRecursion P (xs ++ ys)
-  all_cat P [] ys a b = b
-  all_cat P (x ∷ xs) ys a b = (a.0, all_cat P xs ys a.1 b)
 
   cast_facts : (n : ℕ) (c : Cast) → cast_of s n ≡ Some c → CastFits c × AreBytes 32 c.graph × AreBytes 16 c.nonce × (list_all is_name c.names ≡ true)
   cast_facts n c e = go (slice_get s.sessions n) refl e
@@ -325,7 +313,7 @@ module _ (sha : Hash) (hash : IsHash sha) (programs : List Program) (s : Schedul
         go (CraftStep cr) gd c e = absurd (cc)
 
     idle_fit : (who : Option Name) (o : Outcome) (fr : Option (List ℕ)) → IfSome fr Bytes_ → Fit (uncalled w k who o fr)
-    idle_fit who o fr h = record { frames = all_cat (λ (l : Logged). IfSome l.frame Bytes_) w.log _ fit.frames (h, tt); nodes = fit.nodes }
+    idle_fit who o fr h = record { frames = all-append (λ (l : Logged). IfSome l.frame Bytes_) w.log _ fit.frames (h, tt); nodes = fit.nodes }
 
     answer_bytes : (a : Answer) → ((e : Event) (to : Name) (f : Frame) → a ≡ Sends e to f → HasSpelling f) → IfSome (frame_in a) Bytes_
     answer_bytes (Sends e to f) h = spelling_bytes f (has_bytes f (h e to f refl))
@@ -333,7 +321,7 @@ module _ (sha : Hash) (hash : IsHash sha) (programs : List Program) (s : Schedul
 
     called_fit : (x : Step) → IsStep sha s x → (who : Name) (past : Past) → past_of w who ≡ Some past → (c : Call) → call_of sha s w k x ≡ Some c → Fit (called sha w k who c past)
     called_fit x good who past q c e = record {
-      frames = all_cat (λ (l : Logged). IfSome l.frame Bytes_) w.log _ fit.frames (answer_bytes (answer sha (node_of past) c) (λ ev to f a. fit_sends w fit k x who past c ev to f good q e a), tt);
+      frames = all-append (λ (l : Logged). IfSome l.frame Bytes_) w.log _ fit.frames (answer_bytes (answer sha (node_of past) c) (λ ev to f a. fit_sends w fit k x who past c ev to f good q e a), tt);
       nodes = λ me p' e'. nodes_ me p' (past_of w me) refl (sym (past_called sha w k who c past me) ∙ e');
     }
       where
@@ -341,10 +329,10 @@ module _ (sha : Hash) (hash : IsHash sha) (programs : List Program) (s : Schedul
         nodes_ me p' None q' e' = absurd (cc)
         nodes_ me p' (Some y) q' e' =
             let r : next_past sha who c y ≡ p' = cc in
-            let is_me : y.keys.me ≡ me = same_bytes_ y.keys.me me (find_passes (λ (z : Past). bytes_eq z.keys.me me) w.pasts y q') in
+            let is_me : y.keys.me ≡ me = same_bytes y.keys.me me (find_passes (λ (z : Past). bytes_eq z.keys.me me) w.pasts y q') in
             elim (cases_Bool (bytes_eq y.keys.me who)) [
               | inl h ↦
-                  let same : me ≡ who = sym is_me ∙ same_bytes_ y.keys.me who h in
+                  let same : me ≡ who = sym is_me ∙ same_bytes y.keys.me who h in
                   let two : Some y ≡ Some past = sym q' ∙ ap (past_of w) same ∙ q in
                   let y_past : y ≡ past = cc in
                   let after_ : past_after sha past c ≡ p' = ap (λ z. past_after sha z c) (sym y_past) ∙ (rw h at r) in

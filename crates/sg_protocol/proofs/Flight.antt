@@ -11,6 +11,8 @@ use Rattle.sg_model.specs.Shape.{end_of, role_at, source, receiver}
 use Rattle.sg_model.specs.Values.{Opening}
 use Rattle.sg_model.specs.Names.{Name}
 use Rattle.sg_model.specs.Bytes.{IsBytes}
+use Rattle.sg_model.proofs.Small.{clash, same_bytes, not_true}
+use Rattle.sg_law.proofs.Members.{in_left, in_parts}
 use Rattle.sg_protocol.specs.Graph.{Graph, IsGraph, shape, reads}
 use Rattle.sg_protocol.specs.Accepted.{Accepted}
 use Rattle.sg_protocol.specs.Evidence.{IsViewTable}
@@ -44,11 +46,11 @@ use Rattle.sg_law.proofs.Upto as Upto'
 use Rattle.sg_law.proofs.Take.{contains_from_in}
 use Rattle.sg_law.proofs.Cut as Cut'
 use Rattle.sg_law.proofs.Lists.{last-append}
-use Rattle.sg_protocol.proofs.Isolation.{of_sid, filter-append, find-filter}
+use Rattle.sg_protocol.proofs.Isolation.{of_sid, find-filter}
 use Rattle.sg_protocol.proofs.Paths.{flat_map-append}
 use Rattle.sg_protocol.proofs.ReadLaws.{read-spelling}
 use Rattle.sg_protocol.proofs.Entries.{Roles}
-use Rattle.sg_protocol.proofs.Moves.{step, in_left}
+use Rattle.sg_protocol.proofs.Moves.{step}
 use Rattle.sg_protocol.proofs.Acts as C
 use Rattle.sg_protocol.proofs.Reduced.{by_role, has-both, reduced}
 use Rattle.sg_protocol.proofs.Ends.{labels}
@@ -57,33 +59,101 @@ use Rattle.sg_protocol.proofs.RelayGives as Y
 use Rattle.sg_protocol.proofs.Entries as Entries'
 use Rattle.sg_protocol.proofs.Keys as Keys'
 use Rattle.std.specs.Option.{option_map_or}
-use Rattle.sg_protocol.proofs.Calls.{Life, Unmoved, WasLeft, HasStarted, HasTaken, HasGiven, TakesFrame, one_place, find_passes}
+use Rattle.std.proofs.lemmas.List.Elements.{filter-append}
+use Rattle.sg_protocol.proofs.Finding.{one_place, find_passes}
+use Rattle.sg_protocol.proofs.Calls.{Life, Unmoved, WasLeft, HasStarted, HasTaken, HasGiven, TakesFrame}
 use Rattle.sg_protocol.proofs.Course.{Progress, keep_all, Suffix, Outs, past_called, next_past, node_more, in_after, in_before, suffix_trans, suffix_one, filter_map-append}
 use Rattle.sg_protocol.proofs.Showing.{shows_called}
 use Rattle.sg_protocol.proofs.Splits.{split_at_end, in_split, split_in, two_splits, rises_mid, role_small}
 
-clash : (b : Bool) → b ≡ true → b ≡ false → ⊥
-clash b t f = absurd (cc)
+-- what is known of a session whose principals are all honest, in a run that ends in the world wf, where Fit holds of each world on the way
+pub record HonestSession (sha : Hash) (s : Schedule) (programs : List Program) (sid : List ℕ) (cast : Cast) (g : Graph) (wf : World) (Fit : World → Type 0) (targets : ℕ → List ℕ) : Type 0 where
+  pub is_hash : IsHash sha
+  pub is_graph : IsGraph g
+  pub accepted : Accepted g
+  pub is_version : IsVersion cast.version
+  pub long_sid : length sid ≡ 32
+  pub names_differ : all_differ cast.names ≡ true
+  pub programs_of : (r : ℕ) (p : Program) → program_for programs cast.graph r ≡ Some p → (p.graph ≡ g) × IsViewTable p.graph r p.views
+  pub unforged : Unforged s wf
+  pub one_cast : (c : Cast) → CastFits c → In (hashed s wf) (session_text_of c) → session_id sha c ≡ sid → c ≡ cast
+  pub fit_next : (w : World) (k : ℕ) (x : Step) → Fit w → IsStep sha s x → Fit (world_after sha s w k x)
+  pub fit_bytes : (w : World) → Fit w → (who : Name) (what : What) (bs : List ℕ) → IsStep sha s (DeliverStep who what) → bytes_of w what ≡ Some bs → IsBytes bs
+  pub fit_sends : (w : World) → Fit w → (k : ℕ) (x : Step) (who : Name) (past : Past) (c : Call) (e : Event) (to : Name) (f : Frame) → IsStep sha s x → past_of w who ≡ Some past → call_of sha s w k x ≡ Some c → answer sha (node_of past) c ≡ Sends e to f → HasSpelling f
+  pub casts_fit : (n : ℕ) (c : Cast) → cast_of s n ≡ Some c → CastFits c
+  pub binding : (ms : List Move) → AllByRecursion (λ (o : Opening). In (hashed s wf) (commitment_text_of sid o) × OpeningFits o) (all_openings ms) → Binding (λ o. commitment sha sid o) (all_openings ms)
+  pub inside : (k : ℕ) → honest_role s cast k ≡ true → k < length cast.names
+  pub everyone : (r : ℕ) → r < length g.roles → honest_role s cast r ≡ true
+  pub same_targets : (r : ℕ) (p : Program) → program_for programs cast.graph r ≡ Some p → (e : ℕ) → targets_of p e ≡ targets e
+  pub was_sent : (l : Logged) (who : Name) (bs : List ℕ) (f : Frame) → IsTaken wf l who bs f → f.sid ≡ sid → honest_role s cast f.sender ≡ true → WasSent wf l.number (principal cast f.sender) bs f
+  pub keys_kept : (n : Node) (c : Call) (a : Answer) → (node_after n c a).keys ≡ n.keys
+  pub starts : (p : Program) → starter programs cast.graph ≡ Some p → role_at (shape g) 0 ≡ p.role
+  pub sends_sid : (n : Node) (c : Call) (e : Event) (to : Name) (f : Frame) → answer sha n c ≡ Sends e to f → sid_of e ≡ f.sid
 
-same_bytes_ : (a b : List ℕ) → bytes_eq a b ≡ true → a ≡ b
-same_bytes_ a b h = (bytes_eq-Decides a b).0 h
+module _ (sha : Hash) (s : Schedule) (programs : List Program) (sid : List ℕ) (cast : Cast) (g : Graph) (wf : World) (Fit : World → Type 0) (targets : ℕ → List ℕ) (known : HonestSession sha s programs sid cast g wf Fit targets) where
+  abbrev hash : IsHash sha
+  hash = known.is_hash
 
-module _ (sha : Hash) (hash : IsHash sha) (s : Schedule) (programs : List Program) (sid : List ℕ) (cast : Cast) (g : Graph) (is : IsGraph g) (acc : Accepted g) (version : IsVersion cast.version) (long : length sid ≡ 32) (differ : all_differ cast.names ≡ true)
-    (prog : (r : ℕ) (p : Program) → program_for programs cast.graph r ≡ Some p → (p.graph ≡ g) × IsViewTable p.graph r p.views)
-    (wf : World) (unforged : Unforged s wf)
-    (one_cast : (c : Cast) → CastFits c → In (hashed s wf) (session_text_of c) → session_id sha c ≡ sid → c ≡ cast)
-    (Fit : World → Type 0) (fit_next : (w : World) (k : ℕ) (x : Step) → Fit w → IsStep sha s x → Fit (world_after sha s w k x))
-    (fit_bytes : (w : World) → Fit w → (who : Name) (what : What) (bs : List ℕ) → IsStep sha s (DeliverStep who what) → bytes_of w what ≡ Some bs → IsBytes bs)
-    (fit_sends : (w : World) → Fit w → (k : ℕ) (x : Step) (who : Name) (past : Past) (c : Call) (e : Event) (to : Name) (f : Frame) → IsStep sha s x → past_of w who ≡ Some past → call_of sha s w k x ≡ Some c → answer sha (node_of past) c ≡ Sends e to f → HasSpelling f)
-    (casts_fit : (n : ℕ) (c : Cast) → cast_of s n ≡ Some c → CastFits c)
-    (binding : (ms : List Move) → AllByRecursion (λ (o : Opening). In (hashed s wf) (commitment_text_of sid o) × OpeningFits o) (all_openings ms) → Binding (λ o. commitment sha sid o) (all_openings ms))
-    (inside : (k : ℕ) → honest_role s cast k ≡ true → k < length cast.names)
-    (everyone : (r : ℕ) → r < length g.roles → honest_role s cast r ≡ true)
-    (targets : ℕ → List ℕ) (same_targets : (r : ℕ) (p : Program) → program_for programs cast.graph r ≡ Some p → (e : ℕ) → targets_of p e ≡ targets e)
-    (was_sent : (l : Logged) (who : Name) (bs : List ℕ) (f : Frame) → IsTaken wf l who bs f → f.sid ≡ sid → honest_role s cast f.sender ≡ true → WasSent wf l.number (principal cast f.sender) bs f)
-    (keys_kept : (n : Node) (c : Call) (a : Answer) → (node_after n c a).keys ≡ n.keys)
-    (starts : (p : Program) → starter programs cast.graph ≡ Some p → role_at (shape g) 0 ≡ p.role)
-    (sends_sid : (n : Node) (c : Call) (e : Event) (to : Name) (f : Frame) → answer sha n c ≡ Sends e to f → sid_of e ≡ f.sid) where
+  abbrev is : IsGraph g
+  is = known.is_graph
+
+  abbrev acc : Accepted g
+  acc = known.accepted
+
+  abbrev version : IsVersion cast.version
+  version = known.is_version
+
+  abbrev long : length sid ≡ 32
+  long = known.long_sid
+
+  abbrev differ : all_differ cast.names ≡ true
+  differ = known.names_differ
+
+  abbrev prog : (r : ℕ) (p : Program) → program_for programs cast.graph r ≡ Some p → (p.graph ≡ g) × IsViewTable p.graph r p.views
+  prog = known.programs_of
+
+  abbrev unforged : Unforged s wf
+  unforged = known.unforged
+
+  abbrev one_cast : (c : Cast) → CastFits c → In (hashed s wf) (session_text_of c) → session_id sha c ≡ sid → c ≡ cast
+  one_cast = known.one_cast
+
+  abbrev fit_next : (w : World) (k : ℕ) (x : Step) → Fit w → IsStep sha s x → Fit (world_after sha s w k x)
+  fit_next = known.fit_next
+
+  abbrev fit_bytes : (w : World) → Fit w → (who : Name) (what : What) (bs : List ℕ) → IsStep sha s (DeliverStep who what) → bytes_of w what ≡ Some bs → IsBytes bs
+  fit_bytes = known.fit_bytes
+
+  abbrev fit_sends : (w : World) → Fit w → (k : ℕ) (x : Step) (who : Name) (past : Past) (c : Call) (e : Event) (to : Name) (f : Frame) → IsStep sha s x → past_of w who ≡ Some past → call_of sha s w k x ≡ Some c → answer sha (node_of past) c ≡ Sends e to f → HasSpelling f
+  fit_sends = known.fit_sends
+
+  abbrev casts_fit : (n : ℕ) (c : Cast) → cast_of s n ≡ Some c → CastFits c
+  casts_fit = known.casts_fit
+
+  abbrev binding : (ms : List Move) → AllByRecursion (λ (o : Opening). In (hashed s wf) (commitment_text_of sid o) × OpeningFits o) (all_openings ms) → Binding (λ o. commitment sha sid o) (all_openings ms)
+  binding = known.binding
+
+  abbrev inside : (k : ℕ) → honest_role s cast k ≡ true → k < length cast.names
+  inside = known.inside
+
+  abbrev everyone : (r : ℕ) → r < length g.roles → honest_role s cast r ≡ true
+  everyone = known.everyone
+
+  abbrev same_targets : (r : ℕ) (p : Program) → program_for programs cast.graph r ≡ Some p → (e : ℕ) → targets_of p e ≡ targets e
+  same_targets = known.same_targets
+
+  abbrev was_sent : (l : Logged) (who : Name) (bs : List ℕ) (f : Frame) → IsTaken wf l who bs f → f.sid ≡ sid → honest_role s cast f.sender ≡ true → WasSent wf l.number (principal cast f.sender) bs f
+  was_sent = known.was_sent
+
+  abbrev keys_kept : (n : Node) (c : Call) (a : Answer) → (node_after n c a).keys ≡ n.keys
+  keys_kept = known.keys_kept
+
+  abbrev starts : (p : Program) → starter programs cast.graph ≡ Some p → role_at (shape g) 0 ≡ p.role
+  starts = known.starts
+
+  abbrev sends_sid : (n : Node) (c : Call) (e : Event) (to : Name) (f : Frame) → answer sha n c ≡ Sends e to f → sid_of e ≡ f.sid
+  sends_sid = known.sends_sid
+
   abbrev pub honest : ℕ → Bool
   honest k = honest_role s cast k
 
@@ -241,7 +311,7 @@ module _ (sha : Hash) (hash : IsHash sha) (s : Schedule) (programs : List Progra
   silent_item l q = go l.outcome refl
     where
       answered : (a : Answer) → l.outcome ≡ Answered a → sent_item sid (Answered a) ≡ None
-      answered (Sends e to f) h = elim (cases_Bool (bytes_eq (sid_of e) sid)) [ inl k ↦ absurd (q e to f h (same_bytes_ (sid_of e) sid k)) | inr k ↦ rw k refl ]
+      answered (Sends e to f) h = elim (cases_Bool (bytes_eq (sid_of e) sid)) [ inl k ↦ absurd (q e to f h (same_bytes (sid_of e) sid k)) | inr k ↦ rw k refl ]
       answered other h = refl
 
       go : (o : Outcome) → l.outcome ≡ o → sent_item sid o ≡ None
@@ -252,7 +322,7 @@ module _ (sha : Hash) (hash : IsHash sha) (s : Schedule) (programs : List Progra
   same_items log l0 q = items-append log (l0 ∷ []) ∙ ap (λ o. honest_items sid log ++ cons_option o []) (silent_item l0 q) ∙ append-nil (honest_items sid log)
 
   all_taken_more : (log : List Logged) (l0 : Logged) → Silent l0 → AllTaken log → AllTaken (log ++ l0 ∷ [])
-  all_taken_more log l0 q a l e to f i o h = elim (C.in_parts log (l0 ∷ []) l i) [
+  all_taken_more log l0 q a l e to f i o h = elim (in_parts log (l0 ∷ []) l i) [
     | inl j ↦ taken_more log l0 to f (a l e to f j o h)
     | inr j ↦ elim j [ inl k ↦ absurd (q e to f (ap (λ (z : Logged). z.outcome) (sym k) ∙ o) h) | inr k ↦ absurd k ]
   ]
@@ -308,7 +378,7 @@ module _ (sha : Hash) (hash : IsHash sha) (s : Schedule) (programs : List Progra
   flight_idle w k p fl who o fr ev =
       let l0 : Logged = record { number = k; who = who; call = None; outcome = o; frame = fr; notes = no_notes } in
       record {
-        sids = λ l e to f i h. elim (C.in_parts w.log (record { number = k; who = who; call = None; outcome = o; frame = fr; notes = no_notes } ∷ []) l i) [ inl j ↦ fl.sids l e to f j h | inr j ↦ elim j [ inl q ↦ absurd (let z : e ∷ [] ≡ [] = ap events_of_outcome (sym (ap (λ (z : Logged). z.outcome) (sym q) ∙ h)) ∙ ev in cc) | inr q ↦ absurd q ] ];
+        sids = λ l e to f i h. elim (in_parts w.log (record { number = k; who = who; call = None; outcome = o; frame = fr; notes = no_notes } ∷ []) l i) [ inl j ↦ fl.sids l e to f j h | inr j ↦ elim j [ inl q ↦ absurd (let z : e ∷ [] ≡ [] = ap events_of_outcome (sym (ap (λ (z : Logged). z.outcome) (sym q) ∙ h)) ∙ ev in cc) | inr q ↦ absurd q ] ];
         keys_are = fl.keys_are;
         steps = subst Steps_ (sym (same_items w.log (record { number = k; who = who; call = None; outcome = o; frame = fr; notes = no_notes }) quiet)) fl.steps;
         tracks = λ me y e. track_more w.log (record { number = k; who = who; call = None; outcome = o; frame = fr; notes = no_notes }) me (node_of y) (node_of y) quiet refl (λ r j. j) (λ r j. j) (fl.tracks me y e);
@@ -347,7 +417,7 @@ module _ (sha : Hash) (hash : IsHash sha) (s : Schedule) (programs : List Progra
     of_session = fy.of_session;
     is_sid = fy.is_sid;
     nothing_later = same_items fy.after l0 q ∙ fy.nothing_later;
-    untaken = λ t. elim (C.in_parts log (l0 ∷ []) t.0 t.1) [
+    untaken = λ t. elim (in_parts log (l0 ∷ []) t.0 t.1) [
       | inl j ↦ fy.untaken (t.0, j, t.2, t.3, t.4)
       | inr j ↦ elim j [ inl k ↦ nt fy.f fy.is_sid (ap (λ (z : Logged). z.outcome) (sym k) ∙ t.4) | inr k ↦ absurd k ]
     ];
@@ -366,7 +436,7 @@ module _ (sha : Hash) (hash : IsHash sha) (s : Schedule) (programs : List Progra
   ]
 
   sourced_more : (log : List Logged) (l0 : Logged) → NoTake l0 → Sourced log → Sourced (log ++ l0 ∷ [])
-  sourced_more log l0 nt so m f i call o q sp = elim (C.in_parts log (l0 ∷ []) m i) [
+  sourced_more log l0 nt so m f i call o q sp = elim (in_parts log (l0 ∷ []) m i) [
     | inl j ↦ let r = so m f j call o q sp in (r.0, r.1, r.2, in_left log (l0 ∷ []) r.0 r.3, r.4, r.5)
     | inr j ↦ elim j [ inl k ↦ absurd (nt f q (ap (λ (z : Logged). z.outcome) (sym k) ∙ o)) | inr k ↦ absurd k ]
   ]
@@ -376,11 +446,11 @@ module _ (sha : Hash) (hash : IsHash sha) (s : Schedule) (programs : List Progra
     flight_ = flight_idle w k p co.flight_ who o fr ev;
     sourced = sourced_more w.log (record { number = k; who = who; call = None; outcome = o; frame = fr; notes = no_notes }) untook co.sourced;
     baton = baton_more w.log (record { number = k; who = who; call = None; outcome = o; frame = fr; notes = no_notes }) (Holder w) (Holder (uncalled w k who o fr)) quiet untook (ap (filter (λ e. bytes_eq (sid_of e) sid)) ev) (λ h. record { who = h.who; past = h.past; its_past = h.its_past; x = h.x; alone = h.alone; turn = h.turn }) co.baton;
-    left_from = λ l me i q call out. elim (C.in_parts w.log (record { number = k; who = who; call = None; outcome = o; frame = fr; notes = no_notes } ∷ []) l i) [
+    left_from = λ l me i q call out. elim (in_parts w.log (record { number = k; who = who; call = None; outcome = o; frame = fr; notes = no_notes } ∷ []) l i) [
       | inl j ↦ co.left_from l me j q call out
       | inr j ↦ elim j [ inl e ↦ absurd (let z : None ≡ Some (Abandon sid) = ap (λ (z : Logged). z.call) (sym e) ∙ call in cc) | inr e ↦ absurd e ]
     ];
-    said = λ l bs e f i call out r. elim (C.in_parts w.log (record { number = k; who = who; call = None; outcome = o; frame = fr; notes = no_notes } ∷ []) l i) [
+    said = λ l bs e f i call out r. elim (in_parts w.log (record { number = k; who = who; call = None; outcome = o; frame = fr; notes = no_notes } ∷ []) l i) [
       | inl j ↦ co.said l bs e f j call out r
       | inr j ↦ elim j [ inl q ↦ absurd (let z : None ≡ Some (Deliver bs) = ap (λ (z : Logged). z.call) (sym q) ∙ call in cc) | inr q ↦ absurd q ]
     ];
@@ -485,7 +555,7 @@ module _ (sha : Hash) (hash : IsHash sha) (s : Schedule) (programs : List Progra
     assemble : Steps_ (honest_items sid log') → Track log' who n' → ((me : Name) (y : Past) → (me ≡ who → ⊥) → Track w.log me (node_of y) → Track log' me (node_of y))
         → ((before : List Logged) (l : Logged) (after : List Logged) (e : Event) (to : Name) (f : Frame) → log' ≡ before ++ l ∷ after → l.outcome ≡ Answered (Sends e to f) → sid_of e ≡ sid → FrameOk log' before after l to f) → Flight (called sha w k who c past)
     assemble so mine others frames_ = record {
-      sids = λ l e to f i h. elim (C.in_parts w.log (l0 ∷ []) l i) [
+      sids = λ l e to f i h. elim (in_parts w.log (l0 ∷ []) l i) [
         | inl j ↦ fl.sids l e to f j h
         | inr j ↦ elim j [ inl q ↦ (let z : Answered (answer sha (node_of past) c) ≡ Answered (Sends e to f) = ap (λ (z : Logged). z.outcome) (sym q) ∙ h in sends_sid (node_of past) c e to f (cc)) | inr q ↦ absurd q ]
       ];
@@ -499,10 +569,10 @@ module _ (sha : Hash) (hash : IsHash sha) (s : Schedule) (programs : List Progra
         nodes_ me p' None q e = absurd (cc)
         nodes_ me p' (Some y) q e =
             let r : next_past sha who c y ≡ p' = cc in
-            let is_me : y.keys.me ≡ me = same_bytes_ y.keys.me me (find_passes (λ (z : Past). bytes_eq z.keys.me me) w.pasts y q) in
+            let is_me : y.keys.me ≡ me = same_bytes y.keys.me me (find_passes (λ (z : Past). bytes_eq z.keys.me me) w.pasts y q) in
             elim (cases_Bool (bytes_eq y.keys.me who)) [
               | inl h ↦
-                  let same : me ≡ who = sym is_me ∙ same_bytes_ y.keys.me who h in
+                  let same : me ≡ who = sym is_me ∙ same_bytes y.keys.me who h in
                   let two : Some y ≡ Some past = sym q ∙ ap (past_of w) same ∙ its_past in
                   let y_past : y ≡ past = cc in
                   let after_ : past_after sha past c ≡ p' = ap (λ z. past_after sha z c) (sym y_past) ∙ (rw h at r) in
@@ -534,7 +604,7 @@ module _ (sha : Hash) (hash : IsHash sha) (s : Schedule) (programs : List Progra
     node_now y q =
         let two : Some y ≡ Some past = sym q ∙ its_past in
         let same : y ≡ past = cc in
-        let is_me : y.keys.me ≡ who = same_bytes_ y.keys.me who (find_passes (λ (z : Past). bytes_eq z.keys.me who) w.pasts y q) in
+        let is_me : y.keys.me ≡ who = same_bytes y.keys.me who (find_passes (λ (z : Past). bytes_eq z.keys.me who) w.pasts y q) in
         let here : bytes_eq y.keys.me who ≡ true = (bytes_eq-Decides y.keys.me who).1 is_me in
         ap node_of (ap (λ b. if b then past_after sha y c else y) here) ∙ ap (λ z. node_of (past_after sha z c)) same ∙ node_more (new_node past.keys past.programs past.first) past.calls (record { call = c; answer = answer sha (node_of past) c })
 
@@ -547,8 +617,8 @@ module _ (sha : Hash) (hash : IsHash sha) (s : Schedule) (programs : List Progra
       x = h.x;
       alone = elim (cases_Bool (bytes_eq h.past.keys.me who)) [
         | inl b ↦
-            let is_me : h.past.keys.me ≡ h.who = same_bytes_ h.past.keys.me h.who (find_passes (λ (z : Past). bytes_eq z.keys.me h.who) w.pasts h.past h.its_past) in
-            let same : h.who ≡ who = sym is_me ∙ same_bytes_ h.past.keys.me who b in
+            let is_me : h.past.keys.me ≡ h.who = same_bytes h.past.keys.me h.who (find_passes (λ (z : Past). bytes_eq z.keys.me h.who) w.pasts h.past h.its_past) in
+            let same : h.who ≡ who = sym is_me ∙ same_bytes h.past.keys.me who b in
             let at_who : past_of w who ≡ Some h.past = ap (past_of w) (sym same) ∙ h.its_past in
             let two : Some h.past ≡ Some past = sym at_who ∙ its_past in
             let its : h.past ≡ past = cc in
@@ -565,10 +635,6 @@ module _ (sha : Hash) (hash : IsHash sha) (s : Schedule) (programs : List Progra
       | inr o ↦ inr (inr (inr (inl record { who = who; past = next_past sha who c past; its_past = past_now; x = y; alone = ap (λ (z : Node). filter (of_sid sid) z.live) (node_now past its_past) ∙ e ∙ rw o refl; turn = turn })))
     ]
       where
-        not_true : (b : Bool) → not b ≡ true → b ≡ false
-        not_true true h = absurd (let z : false ≡ true = h in cc)
-        not_true false h = refl
-
         small : y.role < length g.roles
         small = subst (λ z. z < length g.roles) (eqb-true (role_at (shape g) (place g y)) y.role turn) (role_small g is acc (place g y))
 
@@ -779,7 +845,7 @@ module _ (sha : Hash) (hash : IsHash sha) (s : Schedule) (programs : List Progra
       taken_this = (l0, C.in_last w.log l0, ap (λ z. Some z) (sym to_who), ap (λ z. Some z) (h.took.is_call ∙ ap (λ z. Deliver z) bytes_are), ap (λ z. Answered z) h.took.is_answer)
 
       all_taken : AllTaken log'
-      all_taken l e to f2 i o hs = elim (C.in_parts w.log (l0 ∷ []) l i) [
+      all_taken l e to f2 i o hs = elim (in_parts w.log (l0 ∷ []) l i) [
         | inr j ↦ elim j [ inl q ↦ absurd (silent_ e to f2 (ap (λ (z : Logged). z.outcome) (sym q) ∙ o) hs) | inr q ↦ absurd q ]
         | inl j ↦ (let r = in_split w.log l j in by_after r.0 r.1 r.2 (fl.frames r.0 l r.1 e to f2 r.2 o hs) (honest_items sid r.1) refl)
       ]
@@ -821,7 +887,7 @@ module _ (sha : Hash) (hash : IsHash sha) (s : Schedule) (programs : List Progra
       taken_baton has = held has (extended h.x (Took h.f)) h.now h.same_cast (subst (λ l. Relay_ l (extended h.x (Took h.f))) (sym (same_items w.log l0 silent_)) taken_relay) h.turn
 
       taken_sourced : Sourced w.log → Sourced log'
-      taken_sourced so m f2 i call o q sp2 = elim (C.in_parts w.log (l0 ∷ []) m i) [
+      taken_sourced so m f2 i call o q sp2 = elim (in_parts w.log (l0 ∷ []) m i) [
         | inl j ↦ let r = so m f2 j call o q sp2 in (r.0, r.1, r.2, in_left w.log (l0 ∷ []) r.0 r.3, r.4, r.5)
         | inr j ↦ elim j [ inl e ↦ this e | inr e ↦ absurd e ]
       ]
@@ -978,7 +1044,7 @@ module _ (sha : Hash) (hash : IsHash sha) (s : Schedule) (programs : List Progra
 
       -- the frame is new, so nobody has taken it
       given_untaken : Sourced w.log → Taken log' (principal (h.x).cast (receiver (shape (h.p).graph) h.label)) fr → ⊥
-      given_untaken so t = elim (C.in_parts w.log (l0 ∷ []) t.0 t.1) [
+      given_untaken so t = elim (in_parts w.log (l0 ∷ []) t.0 t.1) [
         | inl j ↦ old (so t.0 fr j t.3 t.4 h.same_sid h.spelled)
         | inr j ↦ elim j [ inl e ↦ absurd (let z : Answered (Sends ev (principal (h.x).cast (receiver (shape (h.p).graph) h.label)) fr) ≡ Answered (Happened (receipt fr)) = ap (λ z. Answered z) (sym h.is_answer) ∙ ap (λ (z : Logged). z.outcome) (sym e) ∙ t.4 in cc) | inr e ↦ absurd e ]
       ]
@@ -1040,7 +1106,7 @@ module _ (sha : Hash) (hash : IsHash sha) (s : Schedule) (programs : List Progra
       flight_ = flight_called;
       sourced = both.0;
       baton = both.1;
-      left_from = λ l me i q call out'. elim (C.in_parts w.log (l0 ∷ []) l i) [
+      left_from = λ l me i q call out'. elim (in_parts w.log (l0 ∷ []) l i) [
         | inl j ↦ lf l me j q call out'
         | inr j ↦ elim j [
           | inl e ↦
@@ -1054,7 +1120,7 @@ module _ (sha : Hash) (hash : IsHash sha) (s : Schedule) (programs : List Progra
           | inr e ↦ absurd e
         ]
       ];
-      said = λ l bs e f i call out' r. elim (C.in_parts w.log (l0 ∷ []) l i) [
+      said = λ l bs e f i call out' r. elim (in_parts w.log (l0 ∷ []) l i) [
         | inl j ↦ sd l bs e f j call out' r
         | inr j ↦ elim j [
           | inl q ↦

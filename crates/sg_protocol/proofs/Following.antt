@@ -1,14 +1,15 @@
 -- What a role keeps follows a walk, by no premise of honesty.
 use Rattle.std.specs.Prelude.{◌≡◌, ◌≢◌, ℕ, zero, suc, ◌+◌, ◌<◌, ◌==◌, nat_lt, ◌||◌, ◌&&◌, ◌⊎◌, Bool, true, false, List, [], ◌∷◌, ◌++◌, map, length, get_or, refl, Option, Some, None, option_map, unwrap_or, IfSome}
-use Rattle.std.specs.List.{AllByRecursion, list_all, list_any}
+use Rattle.std.specs.List.{AllByRecursion, list_any}
 use Rattle.std.specs.Option.{option_or, option_map_or}
 use Rattle.std.proofs.Common.{sym, ◌∙◌, ap, subst, inl, inr, arith, append-nil}
-use Rattle.std.proofs.lemmas.Bool.{cases_Bool, eqb-true, eq-eqb, ne_eqb, or_from, or_parts, and_right}
+use Rattle.std.proofs.lemmas.Bool.{cases_Bool, eqb-true, eq-eqb, ne_eqb, or_from, or_parts, and_right, and_parts}
 use Rattle.std.proofs.lemmas.Bool.Decides.{nat_tests}
 use Rattle.sg_model.specs.Last.{Map, has, last, last_of, after_last, up_to_last, carry, evidence, evidence_for}
 use Rattle.sg_model.specs.Lists.{is_in, below, range_from, keys_of, value_at, from_last}
 use Rattle.sg_model.specs.Shape.{Walk, end_of, role_at, source, target, sender, receiver}
 use Rattle.sg_model.specs.Values.{Opening}
+use Rattle.sg_model.proofs.Small.{same_bytes, all_tests}
 use Rattle.sg_law.proofs.Lists.{has-last_of, last-append, last-append_some}
 use Rattle.sg_law.proofs.Upto.{upto-at, upto-more}
 use Rattle.sg_law.proofs.Cut.{last-option_map, last-last_of}
@@ -30,7 +31,7 @@ use Rattle.sg_protocol.specs.Following.{IsOpened, FollowsWalk, IsFollowed, IsOpe
 use Rattle.sg_protocol.proofs.Paths.{flat_map-append}
 use Rattle.sg_protocol.proofs.Bridge.{labels-view_of, has_view-Contains, up_to_last-after}
 use Rattle.sg_protocol.proofs.Entries.{Wal, Roles, view_ends, seen_labels, has-after_last, walked_after, edges_same}
-use Rattle.sg_protocol.proofs.Moves.{and_parts, same_bytes, writes_below}
+use Rattle.sg_protocol.proofs.Moves.{writes_below}
 use Rattle.sg_protocol.proofs.Takes.{Rows, rows_of, all_roles, same_some}
 use Rattle.sg_protocol.proofs.SeenItems.{in_merge, in_rising}
 use Rattle.sg_protocol.proofs.Ends.{committed-append, last_opening-append}
@@ -67,10 +68,6 @@ from_some f p (x ∷ xs) h = elim (cases_Bool (list_any p xs)) [
 -- what is known was written, so it is a variable of the graph
 pub knows_below : (g : Graph) → IsGraph g → (r x : ℕ) (w : List ℕ) → knows g r x w ≡ true → x < length g.variables
 knows_below g is r x w h = let y = from_some (learns g r x) (λ e. is_in x (writes g e)) w h in in_all (length g.variables) x (writes g y.0) (writes_below g is y.0) y.1
-
-all_tests : {A : Type 0} (p : A → Bool) (xs : List A) → list_all p xs ≡ true → AllByRecursion (λ x. p x ≡ true) xs
-all_tests p [] h = tt
-all_tests p (x ∷ xs) h = let q = and_parts (p x) (list_all p xs) h in (q.0, all_tests p xs q.1)
 
 -- ---- what a session holds of a variable
 

@@ -1,8 +1,8 @@
 -- A step that a session gives is what the law lets its role send.
-use Rattle.std.specs.Prelude.{filter_map, codes, ◌≡◌, ℕ, zero, suc, ◌+◌, ◌<◌, ◌≤◌, ◌==◌, nat_lt, nat_le, if◌then◌else◌, ◌||◌, ◌&&◌, ◌⊎◌, Bool, true, false, not, List, [], ◌∷◌, ◌++◌, map, length, find, refl, Option, Some, None, option_map}
+use Rattle.std.specs.Prelude.{filter_map, codes, ◌≡◌, ℕ, zero, suc, ◌+◌, ◌<◌, ◌≤◌, ◌==◌, nat_lt, nat_le, if◌then◌else◌, ◌||◌, ◌&&◌, Bool, true, false, not, List, [], ◌∷◌, ◌++◌, map, length, find, refl, Option, Some, None, option_map}
 use Rattle.std.specs.List.{cons_option, list_all, list_any, AllByRecursion}
 use Rattle.std.proofs.Common.{sym, ◌∙◌, ap, subst, inl, inr, arith}
-use Rattle.std.proofs.lemmas.Bool.{eqb-true, eq-eqb, or_parts}
+use Rattle.std.proofs.lemmas.Bool.{eqb-true, eq-eqb, or_parts, cases_Bool, and_parts}
 use Rattle.std.proofs.lemmas.Bool.Decides.{nat_tests}
 use Rattle.sg_model.specs.Last.{Map}
 use Rattle.sg_model.specs.Lists.{is_in, value_at, below, range_from}
@@ -15,16 +15,13 @@ use Rattle.sg_protocol.specs.Walk.{is_typed_or_hidden, shown}
 use Rattle.sg_law.specs.Values as V
 use Rattle.sg_law.specs.Values.{State, Made, told_with_item, com_of, Move, Commit, moved, MayTake, Tagged, Framed, Opened, own_of, is_variable, put}
 use Rattle.sg_law.specs.Values.Move.{Writes, Takes}
-use Rattle.sg_protocol.proofs.Moves.{and_parts, not_false, writes_below}
+use Rattle.sg_protocol.proofs.Moves.{writes_below}
 use Rattle.sg_model.specs.Lists.{rises_from, keys_of, in_order}
+use Rattle.sg_model.proofs.Small.{not_false, clash}
 use Rattle.sg_law.specs.Values.{MayWrite}
 use Rattle.sg_protocol.specs.Acting.{is_bad, is_typed, is_out_of_order, openings_for}
 use Rattle.sg_protocol.proofs.Paths.{writes_rise}
 use Rattle.sg_protocol.proofs.TextLaws.{parts}
-
-cases_Bool : (b : Bool) → (b ≡ true) ⊎ (b ≡ false)
-cases_Bool true = inl refl
-cases_Bool false = inr refl
 
 -- ---- maps in order
 
@@ -181,9 +178,6 @@ same_rising (x ∷ xs) (y ∷ ys) n r q s t f =
           ]
         ]
       where
-        clash : (b : Bool) → b ≡ true → b ≡ false → ⊥
-        clash b h k = absurd (cc)
-
         lt_of : (a b : ℕ) → nat_lt a b ≡ true → a < b
         lt_of a b h = grind (arith, nat_tests)
 

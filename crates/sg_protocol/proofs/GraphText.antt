@@ -11,17 +11,10 @@ use Rattle.std.proofs.lemmas.Slice.Eq.{bytes_eq-Decides}
 use Rattle.std.proofs.lemmas.Bool.{ltb-true}
 use Rattle.sg_model.specs.Lists.{has_text, all_differ, rises_from}
 use Rattle.sg_model.specs.Names.{Name, is_letter, is_name_byte, is_name, reserved}
+use Rattle.sg_model.proofs.Small.{and_left, and_right, all-append, all_weaker}
 use Rattle.sg_protocol.specs.Graph.{VariableKind, Int, Text, Variable, Node, Edge, Graph, IsGraph, AreNumbers, ended, spaced, clause, kind_text, variable_line, node_line, edge_line, canonical}
 use Rattle.sg_protocol.specs.TextLaws.{OneGraph}
 use Rattle.sg_protocol.proofs.TextLaws.{one_canonical}
-
-and_left : (a b : Bool) → (a && b) ≡ true → a ≡ true
-and_left true b h = refl
-and_left false b h = h
-
-and_right : (a b : Bool) → (a && b) ≡ true → b ≡ true
-and_right true b h = h
-and_right false b h = cc
 
 -- ---- pieces, one after another
 
@@ -181,10 +174,6 @@ numbers_same n f p (k ∷ ks) (l ∷ ls) h j e =
     let b : ks ≡ ls = numbers_same n f p ks ls (and_right (nat_lt k n) _ h) (and_right (nat_lt l n) _ j) r in
     cc
 
-all_weaker : {A : Type 0} (P Q : A → Type 0) → ((x : A) → P x → Q x) → (xs : List A) → AllByRecursion P xs → AllByRecursion Q xs
-all_weaker P Q f [] h = tt
-all_weaker P Q f (x ∷ xs) h = (f x h.0, all_weaker P Q f xs h.1)
-
 all_both : {A : Type 0} (P Q : A → Type 0) (xs : List A) → AllByRecursion P xs → AllByRecursion Q xs → AllByRecursion (λ x. P x × Q x) xs
 all_both P Q [] h k = tt
 all_both P Q (x ∷ xs) h k = ((h.0, k.0), all_both P Q xs h.1 k.1)
@@ -327,10 +316,6 @@ led_words : (word : List ℕ) → IsWord word → (ns : List Name) → AllByRecu
 led_words word w [] h = tt
 led_words word w (n ∷ ns) h = (w, h)
 
-all_append : {A : Type 0} (P : A → Type 0) (xs ys : List A) → AllByRecursion P xs → AllByRecursion P ys → AllByRecursion P (xs ++ ys)
-all_append P [] ys h k = k
-all_append P (x ∷ xs) ys h k = (h.0, all_append P xs ys h.1 k)
-
 -- the words and names after an edge's target
 abbrev uses : List Name → List Name → List Name
 uses ws rs = led (codes "writes") ws ++ led (codes "reads") rs
@@ -343,7 +328,7 @@ uses_spelled ws rs t =
     ∙ ap (λ l. l ++ t) (sym (flat_map-append (λ n. 32 ∷ n) (led (codes "writes") ws) (led (codes "reads") rs)))
 
 uses_words : (ws rs : List Name) → AllByRecursion (λ a. good a ≡ true) ws → AllByRecursion (λ a. good a ≡ true) rs → AllByRecursion IsWord (uses ws rs)
-uses_words ws rs h k = all_append IsWord (led (codes "writes") ws) (led (codes "reads") rs)
+uses_words ws rs h k = all-append IsWord (led (codes "writes") ws) (led (codes "reads") rs)
     (led_words (codes "writes") refl ws (all_weaker (λ a. good a ≡ true) IsWord good_word ws h)) (led_words (codes "reads") refl rs (all_weaker (λ a. good a ≡ true) IsWord good_word rs k))
 
 uses_same : (ws xs rs ys : List Name) → AllByRecursion (λ a. good a ≡ true) ws → AllByRecursion (λ a. good a ≡ true) xs → uses ws rs ≡ uses xs ys → (ws ≡ xs) × (rs ≡ ys)

@@ -13,6 +13,7 @@ use Rattle.sg_model.specs.Shape.{sender, target, end_of}
 use Rattle.sg_model.specs.Values.{Value, Opening, Code}
 use Rattle.sg_model.specs.Names.{Name}
 use Rattle.sg_model.specs.Bytes.{IsBytes}
+use Rattle.sg_model.proofs.Small.{no_last}
 use Rattle.sg_protocol.specs.Graph.{Graph, IsGraph, shape, writes}
 use Rattle.sg_protocol.specs.Accepted.{Accepted}
 use Rattle.sg_protocol.specs.Evidence.{View, IsView, IsViewTable}
@@ -45,7 +46,6 @@ use Rattle.sg_law.specs.Values.Move.{Writes, Takes}
 use Rattle.sg_law.specs.Grown as G
 use Rattle.sg_law.specs.Grown.{unless_later, found, reveal, unknown, after_honest, moves_of}
 use Rattle.sg_law.proofs.Com.{option_or-none}
-use Rattle.sg_law.proofs.Run.{nothing_last}
 use Rattle.sg_law.proofs.Lists.{nil_from_map, last-append_some}
 use Rattle.sg_law.proofs.Cut.{last-option_map, last-last_of}
 use Rattle.sg_law.proofs.Upto.{In, step_labels-evidence}
@@ -364,7 +364,7 @@ module _ (sha : Hash) (hash : IsHash sha) (s : Schedule) (programs : List Progra
         since_is = sight-since g (writes_below g is) f.receiver (view_in (events_of sid (map (λ (x : Logged × List ℕ). x.0) m)) f) took.0 (st.machine.at f.receiver).own f.items origin_is refl al.sight.rises ∙ ap (after_last (sender (shape g)) f.receiver) took.1
 
         last_one : (o : Option Item) → last f.items ≡ o → end_of (shape g) 0 (took.0).walk ≡ t.0
-        last_one None e = absurd (al.some (ap entries (nothing_last f.items e)))
+        last_one None e = absurd (al.some (ap entries (no_last f.items e)))
         last_one (Some i) e =
             view_ends g f.receiver (view_in (events_of sid (map (λ (x : Logged × List ℕ). x.0) m)) f) took.0 f.items i refl e
             ∙ sym (sight_ends g honest commit f.receiver (st.machine.at f.receiver).own t.0 (entries f.items) (record { step = record { label = i.label; time = i.time }; writes = i.delta }) al.sight (last-option_map (λ (i : Item). record { step = record { label = i.label; time = i.time }; writes = i.delta }) f.items ∙ ap (option_map (λ (i : Item). record { step = record { label = i.label; time = i.time }; writes = i.delta })) e))

@@ -3,13 +3,13 @@ use Rattle.std.specs.Prelude.{◌≡◌, ℕ, ◌+◌, ◌≤◌, ◌==◌, ◌|
 use Rattle.std.specs.List.{list_any}
 use Rattle.std.specs.Option.{option_map_or}
 use Rattle.std.proofs.Common.{sym, ◌∙◌, ap, subst, inl, inr, arith}
-use Rattle.std.proofs.lemmas.Slice.Eq.{bytes_eq-Decides}
-use Rattle.std.proofs.lemmas.List.Elements.{All-head, All-tail}
-use Rattle.std.proofs.lemmas.Bool.{le-leb, leb-true}
+use Rattle.std.proofs.lemmas.List.Elements.{All-head, All-tail, filter-append}
+use Rattle.std.proofs.lemmas.Bool.{le-leb, leb-true, cases_Bool}
 use Rattle.sg_model.specs.Last.{last, Map}
 use Rattle.sg_model.specs.Lists.{first_some}
 use Rattle.sg_protocol.specs.Frame.{Frame, Cast, Item}
 use Rattle.sg_model.specs.Values.{Opening, Value}
+use Rattle.sg_model.proofs.Small.{and_left, clash, same_bytes, length_filter}
 use Rattle.sg_protocol.specs.Reading.{read}
 use Rattle.sg_protocol.specs.Texts.{Hash, session_id}
 use Rattle.sg_protocol.specs.Session.{Session, Took, Gave, extended, new_session}
@@ -22,20 +22,6 @@ use Rattle.sg_protocol.specs.NodeAfter.{node_after, takes_read, joined, goes_on,
 use Rattle.sg_protocol.specs.Past.{Called, AreAnswers, calls_of_session, is_call_of, is_frame_of, answers, new_node}
 use Rattle.sg_protocol.specs.Isolation.{is_for_room, SessionsAreIsolated}
 
-cases_Bool : (b : Bool) → (b ≡ true) ⊎ (b ≡ false)
-cases_Bool true = inl refl
-cases_Bool false = inr refl
-
-clash : {A : Type 0} (b : Bool) → b ≡ true → b ≡ false → A
-clash b t f = cc
-
-and_left : (a b : Bool) → (a && b) ≡ true → a ≡ true
-and_left true b h = refl
-and_left false b h = h
-
-same_bytes : (a b : List ℕ) → bytes_eq a b ≡ true → a ≡ b
-same_bytes a b h = (bytes_eq-Decides a b).0 h
-
 -- ---- look-ups in a part of a list
 
 pub find-filter : {A : Type 0} (p q : A → Bool) → ((x : A) → p x ≡ true → q x ≡ true) → (xs : List A) → find p (filter q xs) ≡ find p xs
@@ -43,20 +29,6 @@ find-filter p q h [] = refl
 find-filter p q h (x ∷ xs) = elim (cases_Bool (q x)) [
   | inl e ↦ rw e (elim (cases_Bool (p x)) [ inl f ↦ rw f refl | inr f ↦ rw f (find-filter p q h xs) ])
   | inr e ↦ rw e (elim (cases_Bool (p x)) [ inl f ↦ clash (q x) (h x f) e | inr f ↦ rw f (find-filter p q h xs) ])
-]
-
-length-filter_le : {A : Type 0} (q : A → Bool) (xs : List A) → length (filter q xs) ≤ length xs
-length-filter_le q [] = omega arith
-length-filter_le q (x ∷ xs) = elim (cases_Bool (q x)) [
-  | inl e ↦ rw e (omega (arith, length-filter_le q xs))
-  | inr e ↦ rw e (omega (arith, length-filter_le q xs))
-]
-
-pub filter-append : {A : Type 0} (q : A → Bool) (xs ys : List A) → filter q (xs ++ ys) ≡ filter q xs ++ filter q ys
-filter-append q [] ys = refl
-filter-append q (x ∷ xs) ys = elim (cases_Bool (q x)) [
-  | inl e ↦ rw e (ap (λ l. x ∷ l) (filter-append q xs ys))
-  | inr e ↦ rw e (filter-append q xs ys)
 ]
 
 any-append : {A : Type 0} (p : A → Bool) (xs ys zs : List A) → list_any p xs ≡ list_any p ys → list_any p (xs ++ zs) ≡ list_any p (ys ++ zs)
@@ -129,7 +101,7 @@ record Beside (sid : List ℕ) (n n' : Node) : Type 0 where
   fewer : length n'.joins ≤ length n.joins
 
 fewer_live : (sid : List ℕ) (n n' : Node) → Beside sid n n' → length n'.live ≤ length n.live
-fewer_live sid n n' b = rw b.live (length-filter_le (of_sid sid) n.live)
+fewer_live sid n n' b = rw b.live (length_filter (of_sid sid) n.live)
 
 -- ---- the same answers
 
@@ -214,9 +186,6 @@ module _ (sha : Hash) (sid : List ℕ) (n n' : Node) (b : Beside sid n n') where
   same_answer (Deliver bs) h k = same_verdict (read bs) h k
 
 -- ---- the nodes after a call
-
-has_joined-append : (p : List ℕ × ℕ → Bool) (xs ys zs : List (List ℕ × ℕ)) → list_any p xs ≡ list_any p ys → list_any p (xs ++ zs) ≡ list_any p (ys ++ zs)
-has_joined-append p xs ys zs h = any-append p xs ys zs h
 
 length-snoc : {A : Type 0} (xs : List A) (x : A) → length (xs ++ x ∷ []) ≡ length xs + 1
 length-snoc [] x = refl

@@ -1,18 +1,14 @@
 -- What an item says to a role is of one session, role, step and list of commitments.
-use Rattle.std.specs.Prelude.{◌≡◌, ◌≢◌, ℕ, ◌<◌, ◌≤◌, ◌^◌, ◌==◌, Bool, true, false, if◌then◌else◌, List, [], ◌∷◌, ◌++◌, length, map, Option, Some, None, IfSome}
+use Rattle.std.specs.Prelude.{◌≡◌, ℕ, ◌==◌, Bool, true, false, if◌then◌else◌, List, [], ◌∷◌, ◌++◌, length, map, Option, Some, None, IfSome}
 use Rattle.std.specs.Option.{option_or}
 use Rattle.std.specs.List.{AllByRecursion}
-use Rattle.std.proofs.Common.{arith}
 use Rattle.sg_model.specs.Last.{Map}
 use Rattle.sg_model.specs.Lists.{value_at, below}
 use Rattle.sg_protocol.specs.Graph.{Graph}
-use Rattle.sg_protocol.specs.Frame.{Item, IsItem, Frame}
-use Rattle.sg_protocol.specs.Spelling.{HasSpelling}
-use Rattle.sg_model.specs.Bytes.{AreBytes}
+use Rattle.sg_protocol.specs.Frame.{Item}
 use Rattle.sg_protocol.specs.Session.{Session, committed, commitments}
-use Rattle.sg_protocol.specs.Sending.{text_to, text_of}
-use Rattle.sg_protocol.specs.TextLaws.{IsVersion, AreHeld, ItemFits, DeltaFits, TextFits, OneTextTo, untagged}
-use Rattle.sg_protocol.proofs.TextLaws.{one_item, one_frame, kinds_differ}
+use Rattle.sg_protocol.specs.TextLaws.{AreHeld, ItemFits, DeltaFits, TextFits, OneTextTo}
+use Rattle.sg_protocol.proofs.TextLaws.{one_item}
 
 abbrev Fits32 : Option (List ℕ) → Type 0
 Fits32 o = IfSome o (λ c. length c ≡ 32)
@@ -41,34 +37,6 @@ held_fits g items h = go (below (length g.variables))
     go [] = tt
     go (x ∷ xs) = (committed_fits x items h, go xs)
 
-pub delta_fits : (v : ℕ) (i : Item) → IsItem v i → DeltaFits i
-delta_fits v i h = go i.delta h.delta
-  where
-    go : (m : Map (List ℕ)) → AllByRecursion (λ (d : ℕ × List ℕ). (d.0 < 32) × AreBytes 32 d.1) m → AllByRecursion (λ (d : ℕ × List ℕ). length d.1 ≡ 32) m
-    go [] k = tt
-    go (d ∷ ds) k = (((k.0).1).0, go ds k.1)
-
--- from the ranges of frames
-pub text_fits : (s : Session) (before : List Item) (i : Item) → IsVersion s.cast.version → length s.sid ≡ 32 → AllByRecursion (IsItem s.cast.version) before → IsItem s.cast.version i → TextFits s before i
-text_fits s before i v l h k = record {
-  version = v;
-  sid = l;
-  label = below_label i.label k.label;
-  time = below_time i.time k.time.1;
-  before_fits = go before h;
-  item_fits = delta_fits s.cast.version i k;
-}
-  where
-    below_label : (n : ℕ) → n < 512 → n < 2 ^ 16
-    below_label n h = omega arith
-
-    below_time : (n : ℕ) → n ≤ 1000000 → n < 2 ^ 32
-    below_time n h = omega arith
-
-    go : (is : List Item) → AllByRecursion (IsItem s.cast.version) is → AllByRecursion DeltaFits is
-    go [] h = tt
-    go (i ∷ is) h = (delta_fits s.cast.version i h.0, go is h.1)
-
 -- what the text says
 says : (g : Graph) (s : Session) (before : List Item) (i : Item) → TextFits s before i → ItemFits s.cast.version s.sid i.label i.time (commitments g (before ++ i ∷ []))
 says g s before i h = record { version = h.version; sid = h.sid; label = h.label; time = h.time; held = held_fits g (before ++ i ∷ []) (go before h.before_fits) }
@@ -81,11 +49,3 @@ says g s before i h = record { version = h.version; sid = h.sid; label = h.label
 pub text_to_same : OneTextTo
 text_to_same g h s t before before' i j a b p q e =
     one_item s.cast.version t.cast.version s.sid t.sid i.role j.role a b i.label j.label i.time j.time _ _ (says g s before i p) (says h t before' j q) e
-
--- equal frame texts are of one frame, but for its tag
-pub text_of_same : (f f' : Frame) → HasSpelling f → HasSpelling f' → text_of f ≡ text_of f' → untagged f ≡ untagged f'
-text_of_same f f' h k e = one_frame f.version f'.version f f' h k e
-
--- what an item says is no frame's text
-pub text_to_not_text_of : (g : Graph) (s : Session) (before : List Item) (i : Item) (t : ℕ) (f : Frame) → text_to g s before i t ≢ text_of f
-text_to_not_text_of g s before i t f = kinds_differ.item_frame s.cast.version s.sid i.role t i.label i.time (commitments g (before ++ i ∷ [])) f.version _

@@ -1,10 +1,9 @@
 -- No pair of session and role is joined twice.
-use Rattle.std.specs.Prelude.{◌≡◌, ℕ, ◌+◌, ◌==◌, ◌||◌, ◌&&◌, ◌⊎◌, Bool, true, false, cond, not, if◌then◌else◌, List, [], ◌∷◌, ◌++◌, map, flat_map, find, refl, Option, Some, None, unwrap_or, bytes_eq, Result, Ok, Err, All}
+use Rattle.std.specs.Prelude.{◌≡◌, ℕ, ◌+◌, ◌==◌, ◌||◌, ◌&&◌, Bool, true, false, cond, not, if◌then◌else◌, List, [], ◌∷◌, ◌++◌, map, flat_map, find, refl, Option, Some, None, unwrap_or, bytes_eq, Result, Ok, Err, All}
 use Rattle.std.specs.List.{list_any, list_all, AllByRecursion}
 use Rattle.std.specs.Option.{option_map_or}
 use Rattle.std.proofs.Common.{ap, sym, subst, inl, inr}
-use Rattle.std.proofs.lemmas.Slice.Eq.{bytes_eq-Decides}
-use Rattle.std.proofs.lemmas.Bool.{eqb-true, eq-eqb}
+use Rattle.std.proofs.lemmas.Bool.{eqb-true, eq-eqb, cases_Bool, and_from}
 use Rattle.sg_model.specs.Last.{last, Map}
 use Rattle.sg_model.specs.Lists.{first_some}
 use Rattle.sg_protocol.specs.Frame.{Frame, Cast, Item}
@@ -15,42 +14,18 @@ use Rattle.sg_protocol.specs.Session.{Session, Took, Gave, extended, last_label,
 use Rattle.sg_protocol.specs.Keyring.{Program}
 use Rattle.sg_protocol.specs.Node.{Node, is_for, session_with, session_for, has_joined, program_for, starter}
 use Rattle.sg_protocol.specs.Calls.{Event, Started, Received, Call, Start, Act, Abandon, Deliver, Answer, Happened, Sends, Abandoned, NotStarted, NotActed, NotAbandoned, Refusal, StartFault, ActFault, UnknownGraph, UnknownSession, events_of_answer}
-use Rattle.sg_protocol.specs.Verdict.{row, decided, rows_of_join, rows_of_next, join_rows, next_rows, rows, receipt, verdict_on}
+use Rattle.sg_protocol.specs.Verdict.{decided, rows_of_join, rows_of_next, join_rows, next_rows, rows, receipt, verdict_on}
 use Rattle.sg_protocol.specs.Acting.{started, acted, sent, rows_of_start, rows_of_act, answer, openings_for}
 use Rattle.sg_protocol.specs.NodeAfter.{node_after, takes_read, joined, goes_on, replace, still, is_over}
 use Rattle.sg_protocol.specs.Past.{Called, Past, AreAnswers, joins_once, pairs_differ, JoinedOnce, new_node, node_after_all, past_after}
 use Rattle.sg_model.specs.Names.{Name}
+use Rattle.sg_model.proofs.Small.{and_left, and_right, same_bytes, bytes_refl, none_parts}
 use Rattle.sg_protocol.specs.Schedule.{Schedule, PairKey, Step, StartStep, ActStep, AbandonStep, DeliverStep, CraftStep}
 use Rattle.sg_protocol.specs.World.{World, new_world, keyring_of, call_of, past_of}
 use Rattle.sg_protocol.specs.Run.{run, world_after, world_after_all, called_if}
 use Rattle.sg_protocol.specs.Headline.{NoneJoinsTwice, NodesJoinOnce}
+use Rattle.sg_protocol.proofs.Moves.{row_none}
 use Rattle.std.proofs.lemmas.List.Elements.{All-nil, All-cons}
-
-cases_Bool : (b : Bool) → (b ≡ true) ⊎ (b ≡ false)
-cases_Bool true = inl refl
-cases_Bool false = inr refl
-
-cases_Option : {A : Type 0} (o : Option A) → (o ≡ None) ⊎ ((x : A) × (o ≡ Some x))
-cases_Option None = inl refl
-cases_Option (Some x) = inr (x, refl)
-
-and_both : (a b : Bool) → a ≡ true → b ≡ true → (a && b) ≡ true
-and_both true b h k = k
-and_both false b h k = h
-
-and_left : (a b : Bool) → (a && b) ≡ true → a ≡ true
-and_left true b h = refl
-and_left false b h = h
-
-and_right : (a b : Bool) → (a && b) ≡ true → b ≡ true
-and_right true b h = h
-and_right false b h = cc
-
-same_bytes : (a b : List ℕ) → bytes_eq a b ≡ true → a ≡ b
-same_bytes a b h = (bytes_eq-Decides a b).0 h
-
-bytes_refl : (a : List ℕ) → bytes_eq a a ≡ true
-bytes_refl a = (bytes_eq-Decides a a).1 refl
 
 found : {A : Type 0} (p q : A → Bool) (xs : List A) (x : A) → find p xs ≡ Some x → list_all q xs ≡ true → (p x ≡ true) × (q x ≡ true)
 found p q [] x e h = cc
@@ -61,14 +36,6 @@ found p q (y ∷ ys) x e h = elim (cases_Bool (p y)) [
   where
     some_same : {A : Type 0} (a b : A) → Some a ≡ Some b → a ≡ b
     some_same a b h = cc
-
-pub none_parts : {F : Type 0} (o : Option F) (os : List (Option F)) → first_some (o ∷ os) ≡ None → (o ≡ None) × (first_some os ≡ None)
-none_parts None os h = (refl, h)
-none_parts (Some x) os h = cc
-
-pub row_none : {F : Type 0} (b : Bool) (x : F) → row b x ≡ None → b ≡ false
-row_none true x h = cc
-row_none false x h = refl
 
 -- ---- the pair of each live session was joined
 
@@ -89,25 +56,25 @@ at_end p (j ∷ js) k h = or_true (p j) (list_any p (js ++ k ∷ [])) (at_end p 
 
 owns_more : (js ks : List (List ℕ × ℕ)) (ss : List Session) → Owns js ss → Owns (js ++ ks) ss
 owns_more js ks [] h = refl
-owns_more js ks (s ∷ ss) h = and_both _ _ (more (λ j. bytes_eq j.0 s.sid && (j.1 == s.role)) js ks (and_left _ _ h)) (owns_more js ks ss (and_right _ _ h))
+owns_more js ks (s ∷ ss) h = and_from _ _ (more (λ j. bytes_eq j.0 s.sid && (j.1 == s.role)) js ks (and_left _ _ h)) (owns_more js ks ss (and_right _ _ h))
 
 owns_both : (js : List (List ℕ × ℕ)) (ss ts : List Session) → Owns js ss → Owns js ts → Owns js (ss ++ ts)
 owns_both js [] ts h k = k
-owns_both js (s ∷ ss) ts h k = and_both _ _ (and_left _ _ h) (owns_both js ss ts (and_right _ _ h) k)
+owns_both js (s ∷ ss) ts h k = and_from _ _ (and_left _ _ h) (owns_both js ss ts (and_right _ _ h) k)
 
 owns_still : (js : List (List ℕ × ℕ)) (ps : List Program) (s : Session) → has_joined js s.sid s.role ≡ true → Owns js (still ps s)
-owns_still js ps s h = elim (cases_Bool (is_over ps s)) [ inl e ↦ rw e refl | inr e ↦ rw e (and_both (has_joined js s.sid s.role) true h refl) ]
+owns_still js ps s h = elim (cases_Bool (is_over ps s)) [ inl e ↦ rw e refl | inr e ↦ rw e (and_from (has_joined js s.sid s.role) true h refl) ]
 
 owns_replace : (js : List (List ℕ × ℕ)) (which : Session → Bool) (now : Session → List Session) → ((s : Session) → has_joined js s.sid s.role ≡ true → Owns js (now s)) → (ss : List Session) → Owns js ss → Owns js (replace which now ss)
 owns_replace js which now k [] h = refl
 owns_replace js which now k (s ∷ ss) h = elim (cases_Bool (which s)) [
   | inl e ↦ rw e (owns_both js (now s) ss (k s (and_left (has_joined js s.sid s.role) _ h)) (and_right (has_joined js s.sid s.role) _ h))
-  | inr e ↦ rw e (and_both (has_joined js s.sid s.role) _ (and_left (has_joined js s.sid s.role) _ h) (owns_replace js which now k ss (and_right (has_joined js s.sid s.role) _ h)))
+  | inr e ↦ rw e (and_from (has_joined js s.sid s.role) _ (and_left (has_joined js s.sid s.role) _ h) (owns_replace js which now k ss (and_right (has_joined js s.sid s.role) _ h)))
 ]
 
 own_pair : (n : Node) (s : Session) → Owns n.joins n.live → Owns (joined n s).joins (joined n s).live
 own_pair n s h = owns_both (n.joins ++ (s.sid, s.role) ∷ []) n.live (still n.programs s) (owns_more n.joins ((s.sid, s.role) ∷ []) n.live h)
-    (owns_still (n.joins ++ (s.sid, s.role) ∷ []) n.programs s (at_end (λ j. bytes_eq j.0 s.sid && (j.1 == s.role)) n.joins (s.sid, s.role) (and_both _ _ (bytes_refl s.sid) (eq-eqb s.role s.role refl))))
+    (owns_still (n.joins ++ (s.sid, s.role) ∷ []) n.programs s (at_end (λ j. bytes_eq j.0 s.sid && (j.1 == s.role)) n.joins (s.sid, s.role) (and_from _ _ (bytes_refl s.sid) (eq-eqb s.role s.role refl))))
 
 owns_takes : (n : Node) (f : Frame) (o : Option Cast) → Owns n.joins n.live →
     let m : Node = option_map_or (λ c. joined n (extended (new_session f.sid c f.receiver) (Took f))) o (goes_on n (is_for f) (λ s. still n.programs (extended s (Took f)))) in
@@ -120,7 +87,7 @@ owns_read n (Err at) h = h
 owns_read n (Ok f) h = owns_takes n f f.join h
 
 owns_act : (n : Node) (os : List Opening) (o : Option Item) (s : Session) → has_joined n.joins s.sid s.role ≡ true → Owns n.joins (option_map_or (λ i. still n.programs (extended s (Gave i os))) o (s ∷ []))
-owns_act n os None s h = and_both (has_joined n.joins s.sid s.role) true h refl
+owns_act n os None s h = and_from (has_joined n.joins s.sid s.role) true h refl
 owns_act n os (Some i) s h = owns_still n.joins n.programs (extended s (Gave i os)) h
 
 pub owns_after : (n : Node) (c : Call) (a : Answer) → Owns n.joins n.live → Owns (node_after n c a).joins (node_after n c a).live
@@ -149,7 +116,7 @@ tail_of (o ∷ os) = os
 
 joins_new : (js : List (List ℕ × ℕ)) (e : Event) (sid : List ℕ) (r : ℕ) (es : List Event) → has_joined js sid r ≡ false → joins_once (js ++ (sid, r) ∷ []) es ≡ true →
     (not (has_joined js sid r) && joins_once (js ++ (sid, r) ∷ []) es) ≡ true
-joins_new js e sid r es h k = and_both (not (has_joined js sid r)) (joins_once (js ++ (sid, r) ∷ []) es) (rw h refl) k
+joins_new js e sid r es h k = and_from (not (has_joined js sid r)) (joins_once (js ++ (sid, r) ∷ []) es) (rw h refl) k
 
 module _ (sha : Hash) (n : Node) (h : Owns n.joins n.live) (es : List Event) where
   start_rows : (c : Cast) (p : Program) (o : Option StartFault) → first_some (rows_of_start n p (session_id sha c) c) ≡ o →
@@ -187,7 +154,7 @@ module _ (sha : Hash) (n : Node) (h : Owns n.joins n.live) (es : List Event) whe
   receipt_step : (f : Frame) (label time : ℕ) (values : Map Value) (o : Option Cast) → first_some (option_map_or (join_rows sha n f) o (next_rows sha n f)) ≡ None →
       joins_once (option_map_or (λ c. joined n (extended (new_session f.sid c f.receiver) (Took f))) o (goes_on n (is_for f) (λ s. still n.programs (extended s (Took f))))).joins es ≡ true →
       joins_once n.joins (Received f.sid f.receiver label time values (option_map_or (λ c. true) o false) ∷ es) ≡ true
-  receipt_step f label time values None e k = and_both (has_joined n.joins f.sid f.receiver) _ (next_joined f (session_for n.live f) refl e) k
+  receipt_step f label time values None e k = and_from (has_joined n.joins f.sid f.receiver) _ (next_joined f (session_for n.live f) refl e) k
   receipt_step f label time values (Some c) e k = joins_new n.joins (Received f.sid f.receiver label time values true) f.sid f.receiver es (not_joined f c (program_for n.programs c.graph f.receiver) e) k
 
   frame_step : (bs : List ℕ) (f : Frame) → read bs ≡ Ok f → (o : Option Refusal) → first_some (rows sha n f) ≡ o →
@@ -202,7 +169,7 @@ module _ (sha : Hash) (n : Node) (h : Owns n.joins n.live) (es : List Event) whe
   act_rows : (sid : List ℕ) (label : ℕ) (values : Map Value) (confounders : List (List ℕ)) (p : Program) (s : Session) → has_joined n.joins s.sid s.role ≡ true → (o : Option ActFault) →
       joins_once (node_after n (Act sid label values confounders) (acted (sent sha n.keys p s label values confounders) o)).joins es ≡ true →
       joins_once n.joins (events_of_answer (acted (sent sha n.keys p s label values confounders) o) ++ es) ≡ true
-  act_rows sid label values confounders p s j None k = and_both (has_joined n.joins s.sid s.role) _ j k
+  act_rows sid label values confounders p s j None k = and_from (has_joined n.joins s.sid s.role) _ j k
   act_rows sid label values confounders p s j (Some fault) k = k
 
   act_program : (sid : List ℕ) (label : ℕ) (values : Map Value) (confounders : List (List ℕ)) (s : Session) → has_joined n.joins s.sid s.role ≡ true → (o : Option Program) →

@@ -7,14 +7,12 @@ use Rattle.sg_model.specs.Last.{Map, has, last}
 use Rattle.sg_model.specs.Lists.{value_at, keys_of, is_in, from_last}
 use Rattle.sg_model.specs.Shape.{Walk, role_at, target, sender, receiver}
 use Rattle.sg_model.specs.Values.{Opening}
+use Rattle.sg_model.proofs.Small.{clash}
 use Rattle.sg_protocol.specs.Graph.{Graph, shape, writes, reads}
 use Rattle.sg_protocol.specs.Knowledge.{learns, knows}
 use Rattle.sg_protocol.specs.Frame.{Item}
 use Rattle.sg_protocol.specs.Session.{committed, opening_in}
 use Rattle.sg_protocol.proofs.Ends.{labels}
-
-clash : (b : Bool) → b ≡ true → b ≡ false → ⊥
-clash b t f = absurd (cc)
 
 any-append : {A : Type 0} (p : A → Bool) (xs ys : List A) → list_any p (xs ++ ys) ≡ (list_any p xs || list_any p ys)
 any-append p [] ys = refl

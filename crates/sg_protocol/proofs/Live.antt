@@ -2,12 +2,13 @@
 use Rattle.std.specs.Prelude.{◌≡◌, ◌≢◌, ℕ, ◌<◌, ◌==◌, ◌&&◌, Bool, true, false, List, [], ◌∷◌, map, length, find, bytes_eq, refl, Some, None, IfSome, IsSomeAnd}
 use Rattle.std.specs.List.{AllByRecursion}
 use Rattle.std.proofs.Common.{sym, ◌∙◌, ap, subst, inl, inr, arith}
-use Rattle.std.proofs.lemmas.Bool.{cases_Bool, eqb-true, eq-eqb}
-use Rattle.std.proofs.lemmas.List.Elements.{All-from_recursion}
+use Rattle.std.proofs.lemmas.Bool.{cases_Bool, eqb-true, eq-eqb, and_parts}
+use Rattle.std.proofs.lemmas.List.Elements.{All-from_recursion, recursion_from_All}
 use Rattle.sg_model.specs.Last.{Map, last}
 use Rattle.sg_model.specs.Lists.{first_some, rises_from}
 use Rattle.sg_model.specs.Shape.{role_at}
 use Rattle.sg_model.specs.Values.{Value, Opening}
+use Rattle.sg_model.proofs.Small.{clash, same_bytes}
 use Rattle.sg_protocol.specs.Graph.{shape, writes}
 use Rattle.sg_protocol.specs.Evidence.{View}
 use Rattle.sg_protocol.specs.Frame.{Cast, Item, Frame, IsCastOf}
@@ -31,21 +32,18 @@ use Rattle.sg_protocol.specs.Standing.{EndsWithOwn, EndsWithOther}
 use Rattle.sg_protocol.specs.Live.{IsSound, IsLive, SessionsAreSound, NodesAreSound}
 use Rattle.sg_protocol.proofs.Acts as C
 use Rattle.sg_protocol.proofs.Bridge.{has_view-Contains}
-use Rattle.sg_protocol.proofs.Calls.{find_passes, find_all}
+use Rattle.sg_protocol.proofs.Finding.{find_passes, find_all}
 use Rattle.sg_protocol.proofs.Entries.{not_start}
 use Rattle.sg_protocol.proofs.Enough.{below_reads}
 use Rattle.sg_protocol.proofs.First.{programs_after}
 use Rattle.sg_protocol.proofs.Following.{new_follows, not_me, own_now, waits_now, gives_follows, turn_later, other_later, takes_follows}
-use Rattle.sg_protocol.proofs.Moves.{and_parts, same_bytes, writes_below}
+use Rattle.sg_protocol.proofs.Moves.{writes_below}
 use Rattle.sg_protocol.proofs.Nodes.{Begun, ActSent, NextTaken, JoinTaken, start_all, abandon_all, act_all, deliver_all}
 use Rattle.sg_protocol.proofs.OwnItem.{own_item_is_last}
 use Rattle.sg_protocol.proofs.Paths.{writes_rise}
-use Rattle.sg_protocol.proofs.Ranges.{by_recursion, new_in_range, extended_in_range, taken_in_range, joined_in_range, GivesInRange, gives_in_range}
+use Rattle.sg_protocol.proofs.Ranges.{new_in_range, extended_in_range, taken_in_range, joined_in_range, GivesInRange, gives_in_range}
 use Rattle.sg_protocol.proofs.ReadBack.{read-SpellsFrame}
 use Rattle.sg_protocol.proofs.Takes.{Rows, rows_of}
-
-clash : {A : Type 0} (b : Bool) → b ≡ true → b ≡ false → A
-clash b t f = let c : true ≡ false = sym t ∙ f in absurd (cc)
 
 -- ---- sessions
 
@@ -223,7 +221,7 @@ all_sound sha hash ps ip n e live (c ∷ cs) good its =
 
 pub nodes_are_sound : (sha : Hash) → IsHash sha → NodesAreSound sha
 nodes_are_sound sha hash = record {
-  after_call = λ n c programs live h. All-from_recursion (IsLive sha n.programs) (node_after n c (answer sha n c)).live (node_sound sha hash n (by_recursion (IsProgram sha) n.programs programs) (by_recursion (IsLive sha n.programs) n.live live) c h);
+  after_call = λ n c programs live h. All-from_recursion (IsLive sha n.programs) (node_after n c (answer sha n c)).live (node_sound sha hash n (recursion_from_All (IsProgram sha) n.programs programs) (recursion_from_All (IsLive sha n.programs) n.live live) c h);
   in_pasts = λ past programs good its. All-from_recursion (IsLive sha past.programs) (node_of past).live
-      (all_sound sha hash past.programs (by_recursion (IsProgram sha) past.programs programs) (new_node past.keys past.programs past.first) refl tt past.calls (by_recursion (λ (c : Called). IsCallInRange c.call) past.calls good) its);
+      (all_sound sha hash past.programs (recursion_from_All (IsProgram sha) past.programs programs) (new_node past.keys past.programs past.first) refl tt past.calls (recursion_from_All (λ (c : Called). IsCallInRange c.call) past.calls good) its);
 }

@@ -1,18 +1,18 @@
 -- What the sessions of a run are to the law of one session.
-use Rattle.std.specs.Prelude.{◌≡◌, ℕ, zero, suc, ◌+◌, ◌<◌, ◌≤◌, ◌==◌, nat_lt, nat_le, get_or, All, ◌&&◌, ◌⊎◌, Bool, true, false, not, cond, List, [], ◌∷◌, ◌++◌, map, length, find, position, take_while, bytes_eq, refl, Option, Some, None, option_map, IfSome, Contains}
+use Rattle.std.specs.Prelude.{◌≡◌, ℕ, zero, suc, ◌+◌, ◌<◌, ◌==◌, nat_lt, nat_le, get_or, All, ◌⊎◌, Bool, true, false, not, cond, List, [], ◌∷◌, ◌++◌, map, length, find, position, take_while, refl, Option, Some, None, option_map, IfSome, Contains}
 use Rattle.std.specs.List.{prefix_len, list_all, AllByRecursion}
 use Rattle.std.specs.Option.{option_or}
 use Rattle.std.proofs.Common.{sym, ◌∙◌, ap, subst, inl, inr, arith, append_assoc, append-nil}
-use Rattle.std.proofs.lemmas.Bool.{eqb-true}
+use Rattle.std.proofs.lemmas.Bool.{eqb-true, cases_Bool, and_parts}
 use Rattle.std.proofs.lemmas.Bool.Decides.{nat_tests}
 use Rattle.std.proofs.lemmas.List.Elements.{All-head, All-tail}
 use Rattle.std.proofs.lemmas.List.Sums.{take_while-cons}
-use Rattle.std.proofs.lemmas.Slice.Eq.{bytes_eq-Decides}
 use Rattle.sg_model.specs.Last.{Map, has, last, after_last, up_to_last}
-use Rattle.sg_model.specs.Lists.{is_in, value_at, below, range_from, first_some}
+use Rattle.sg_model.specs.Lists.{is_in, value_at, below}
 use Rattle.sg_model.specs.Shape.{Shape, Arrow}
 use Rattle.sg_model.specs.Values.{Code}
 use Rattle.sg_model.specs.Names.{Name}
+use Rattle.sg_model.proofs.Small.{all_below}
 use Rattle.sg_protocol.specs.Graph.{Graph, Edge, IsGraph, AreNumbers, shape, writes}
 use Rattle.sg_protocol.specs.Frame.{Cast, Item, Frame}
 use Rattle.sg_protocol.specs.Spelling.{HasSpelling, body}
@@ -31,10 +31,6 @@ use Rattle.sg_law.specs.Values.{State, Made, told_with_item, com_of, Move, Commi
 use Rattle.sg_law.specs.Values.Move.{Writes, Takes}
 use Rattle.sg_law.proofs.Upto.{In}
 use Rattle.sg_protocol.proofs.Entries.{entry, entries, by, Roles}
-
-cases_Bool : (b : Bool) → (b ≡ true) ⊎ (b ≡ false)
-cases_Bool true = inl refl
-cases_Bool false = inr refl
 
 -- a step of the law
 abbrev pub step : Item → TimedLabel
@@ -83,18 +79,6 @@ module _ (g : Graph) where
 
 -- ---- small lemmas
 
-pub and_parts : (a b : Bool) → (a && b) ≡ true → (a ≡ true) × (b ≡ true)
-and_parts true b h = (refl, h)
-and_parts false b h = absurd (cc)
-
-pub not_false : (b : Bool) → not b ≡ false → b ≡ true
-not_false true h = refl
-not_false false h = absurd (cc)
-
-pub none_parts : {F : Type 0} (o : Option F) (os : List (Option F)) → first_some (o ∷ os) ≡ None → (o ≡ None) × (first_some os ≡ None)
-none_parts None os h = (refl, h)
-none_parts (Some x) os h = absurd (cc)
-
 pub row_none : {F : Type 0} (b : Bool) (x : F) → row b x ≡ None → b ≡ false
 row_none true x h = absurd (cc)
 row_none false x h = refl
@@ -132,9 +116,6 @@ no_find p (x ∷ xs) h = elim (cases_Bool (p x)) [
   | inl e ↦ rw e (no_find p xs (rw e at h))
   | inr e ↦ (let f = rw e at h in absurd (cc))
 ]
-
-pub same_bytes : (a b : List ℕ) → bytes_eq a b ≡ true → a ≡ b
-same_bytes a b h = (bytes_eq-Decides a b).0 h
 
 -- two principals' note
 pub note_text : (a b : Name) (t : List ℕ) → (note_of a b t).text ≡ t
@@ -181,14 +162,6 @@ are_held g is h = go (below (length g.variables))
     go [] = tt
     go (x ∷ xs) = (committed_fits x is h, go xs)
 
--- what agrees on a range agrees at each number of it
-pub at_each : {A : Type 0} (f h : ℕ → A) (k j : ℕ) → map f (range_from k j) ≡ map h (range_from k j) → (x : ℕ) → k ≤ x → x < k + j → f x ≡ h x
-at_each f h k zero e x l u = absurd (omega arith)
-at_each f h k (suc j) e x l u = elim (cases_Bool (k == x)) [
-  | inl d ↦ (let s : k ≡ x = eqb-true k x d in let hd : f k ≡ h k = cc in subst (λ y. f y ≡ h y) s hd)
-  | inr d ↦ (let tl : map f (range_from (suc k) j) ≡ map h (range_from (suc k) j) = cc in at_each f h (suc k) j tl x (grind (arith, nat_tests)) (omega arith))
-]
-
 -- a list of entries that is split
 pub record Split (is : List Item) (a : List (B.Entry TimedLabel Code)) (i : B.Entry TimedLabel Code) (b : List (B.Entry TimedLabel Code)) : Type 0 where
   pub front : List Item
@@ -215,20 +188,6 @@ checked_in g x before [] i j b = inl (ap (λ l. (i, text_to g x l i x.role)) (ap
 checked_in g x before (c ∷ []) i j b = inr (subst (λ l. In (checked_texts g x (before ++ c ∷ []) (i ∷ j ∷ b)) (i, text_to g x l i x.role)) (append-nil (before ++ c ∷ [])) (checked_in g x (before ++ c ∷ []) [] i j b))
 checked_in g x before (c ∷ d ∷ a) i j b = inr (subst (λ l. In (checked_texts g x (before ++ c ∷ []) (d ∷ a ++ i ∷ j ∷ b)) (i, text_to g x l i x.role)) (append_assoc before (c ∷ []) (d ∷ a)) (checked_in g x (before ++ c ∷ []) (d ∷ a) i j b))
 
-pub in_map : {A B : Type 0} (f : A → B) (xs : List A) (x : A) → In xs x → In (map f xs) (f x)
-in_map f [] x i = absurd i
-in_map f (y ∷ ys) x (inl e) = inl (ap f e)
-in_map f (y ∷ ys) x (inr i) = inr (in_map f ys x i)
-
-pub in_left : {A : Type 0} (xs ys : List A) (m : A) → In xs m → In (xs ++ ys) m
-in_left [] ys m i = absurd i
-in_left (x ∷ xs) ys m (inl e) = inl e
-in_left (x ∷ xs) ys m (inr i) = inr (in_left xs ys m i)
-
-pub in_right : {A : Type 0} (xs ys : List A) (m : A) → In ys m → In (xs ++ ys) m
-in_right [] ys m i = i
-in_right (x ∷ xs) ys m i = inr (in_right xs ys m i)
-
 -- times that rise
 pub rising_times : (n before : ℕ) (items : List Item) → bad_time n before items ≡ None → RisesFrom before (V.steps_of (entries items))
 rising_times n before [] h = tt
@@ -241,10 +200,6 @@ rising_times n before (i ∷ is) h = elim (cases_Bool (nat_le i.time before)) [
 edge_fact : (P : Edge → Type 0) (Q : Arrow → Type 0) → ((e : Edge) → P e → Q (record { source = e.source; target = e.target; writes = e.writes; reads = e.reads })) → (es : List Edge) → All P es → AllByRecursion Q (map (λ (e : Edge). record { source = e.source; target = e.target; writes = e.writes; reads = e.reads }) es)
 edge_fact P Q f [] all = tt
 edge_fact P Q f (e ∷ es) all = (f e (All-head P e es all), edge_fact P Q f es (All-tail P e es all))
-
-all_below : (n : ℕ) (xs : List ℕ) → list_all (λ k. nat_lt k n) xs ≡ true → AllByRecursion (λ x. x < n) xs
-all_below n [] h = tt
-all_below n (x ∷ xs) h = let ps = and_parts (nat_lt x n) (list_all (λ k. nat_lt k n) xs) h in (grind (arith, nat_tests, ps.0), all_below n xs ps.1)
 
 abbrev WritesBelow : ℕ → Arrow → Type 0
 WritesBelow n a = AllByRecursion (λ x. x < n) a.writes

@@ -4,6 +4,7 @@ use Rattle.std.specs.List.{AllByRecursion}
 use Rattle.std.specs.Option.{option_map_or}
 use Rattle.std.proofs.Common.{sym, ◌∙◌, ap, subst, inl, inr}
 use Rattle.std.proofs.lemmas.Bool.{cases_Bool}
+use Rattle.std.proofs.lemmas.List.Elements.{recursion_from_All}
 use Rattle.sg_model.specs.Last.{Map, last}
 use Rattle.sg_model.specs.Values.{Value}
 use Rattle.sg_protocol.specs.Frame.{Cast, Item, Frame}
@@ -25,7 +26,6 @@ use Rattle.sg_protocol.specs.NodeStates.{NodeState, StandsLive, StandEach, Stand
 use Rattle.sg_protocol.proofs.Course.{node_more}
 use Rattle.sg_protocol.proofs.First.{programs_after}
 use Rattle.sg_protocol.proofs.Live.{node_sound, all_sound}
-use Rattle.sg_protocol.proofs.Ranges.{by_recursion}
 use Rattle.sg_protocol.proofs.Standing.{held_more}
 
 module _ (ps : List Program) where
@@ -239,12 +239,12 @@ node_states_stand sha hash = record {
   is_new = λ keys programs first. record { keys = refl; programs = refl; joins = refl; live = tt };
   finds_session = λ ps hs ss sid a. found ps (has_sid sid) (λ s. bytes_eq s.sid sid) (same_sid ps sid) hs ss a;
   finds_for_frame = λ ps hs ss f a. found ps (is_held_for f) (is_for f) (same_for ps f) hs ss a;
-  after_call = λ st n c programs live good s. after_call sha hash st n c (by_recursion (IsProgram sha) n.programs programs) (by_recursion (IsLive sha n.programs) n.live live) good s;
+  after_call = λ st n c programs live good s. after_call sha hash st n c (recursion_from_All (IsProgram sha) n.programs programs) (recursion_from_All (IsLive sha n.programs) n.live live) good s;
   after_past = λ st past c programs good its now s.
       let first : Node = new_node past.keys past.programs past.first in
       let same : (node_of past).programs ≡ past.programs = programs_past first past.calls in
-      let ip : AllByRecursion (IsProgram sha) past.programs = by_recursion (IsProgram sha) past.programs programs in
-      let live : AllByRecursion (IsLive sha past.programs) (node_of past).live = all_sound sha hash past.programs ip first refl tt past.calls (by_recursion (λ (c : Called). IsCallInRange c.call) past.calls good) its in
+      let ip : AllByRecursion (IsProgram sha) past.programs = recursion_from_All (IsProgram sha) past.programs programs in
+      let live : AllByRecursion (IsLive sha past.programs) (node_of past).live = all_sound sha hash past.programs ip first refl tt past.calls (recursion_from_All (λ (c : Called). IsCallInRange c.call) past.calls good) its in
       subst (StandsForNode (state_after st c (answer sha (node_of past) c))) (sym (node_more first past.calls (record { call = c; answer = answer sha (node_of past) c })))
       (after_call sha hash st (node_of past) c (subst (AllByRecursion (IsProgram sha)) (sym same) ip) (subst (λ ps. AllByRecursion (IsLive sha ps) (node_of past).live) (sym same) live) now s);
 }

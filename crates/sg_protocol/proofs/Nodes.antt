@@ -3,11 +3,12 @@ use Rattle.std.specs.Prelude.{◌≡◌, ℕ, nat_lt, nat_le, ◌&&◌, Bool, tr
 use Rattle.std.specs.List.{AllByRecursion}
 use Rattle.std.specs.Option.{option_map_or}
 use Rattle.std.proofs.Common.{sym, ◌∙◌, subst, inl, inr}
-use Rattle.std.proofs.lemmas.Bool.{cases_Bool}
+use Rattle.std.proofs.lemmas.Bool.{cases_Bool, and_parts}
 use Rattle.sg_model.specs.Last.{Map, last}
 use Rattle.sg_model.specs.Lists.{first_some}
 use Rattle.sg_model.specs.Values.{Value}
 use Rattle.sg_model.specs.Names.{Name}
+use Rattle.sg_model.proofs.Small.{not_false, same_bytes, none_parts}
 use Rattle.sg_protocol.specs.Frame.{Cast, Item, Frame}
 use Rattle.sg_protocol.specs.Reading.{read}
 use Rattle.sg_protocol.specs.Texts.{Hash, session_id}
@@ -19,7 +20,7 @@ use Rattle.sg_protocol.specs.Node.{Node, is_for, is_cast, stranger, session_with
 use Rattle.sg_protocol.specs.Verdict.{row, rows, rows_of_session, rows_of_join, rows_of_next, join_rows, next_rows, decided, receipt, verdict_on}
 use Rattle.sg_protocol.specs.Acting.{rows_of_start, rows_of_act, openings_for, answer, started, acted, sent}
 use Rattle.sg_protocol.specs.NodeAfter.{node_after, joined, goes_on, replace, still, is_over, takes_read}
-use Rattle.sg_protocol.proofs.Moves.{and_parts, not_false, none_parts, row_none, same_bytes}
+use Rattle.sg_protocol.proofs.Moves.{row_none}
 
 module _ (sha : Hash) (n : Node) where
   -- ---- a start

@@ -2,23 +2,19 @@
 use Rattle.std.specs.Prelude.{◌≡◌, ℕ, zero, suc, ◌<◌, ◌≤◌, ◌==◌, nat_lt, Bool, true, false, List, [], ◌∷◌, map, length, get_or, refl, All}
 use Rattle.std.specs.List.{AllByRecursion, list_all}
 use Rattle.std.proofs.Common.{sym, ◌∙◌, ap, subst, inl, inr, arith}
-use Rattle.std.proofs.lemmas.Bool.{cases_Bool, eqb-true}
+use Rattle.std.proofs.lemmas.Bool.{cases_Bool, eqb-true, and_parts}
 use Rattle.std.proofs.lemmas.Bool.Decides.{nat_tests}
 use Rattle.std.proofs.lemmas.List.Elements.{All-head, All-tail}
 use Rattle.sg_model.specs.Last.{Map}
 use Rattle.sg_model.specs.Lists.{keys_of, is_in, rises_from}
 use Rattle.sg_model.specs.Shape.{Arrow}
+use Rattle.sg_model.proofs.Small.{all_below}
 use Rattle.sg_protocol.specs.Graph.{Graph, Edge, IsGraph, AreNumbers, reads}
 use Rattle.sg_protocol.specs.Evidence.{View, IsView, IsViewTable, same_origin}
 use Rattle.sg_protocol.specs.Targets.{IsTargetTable}
-use Rattle.sg_protocol.proofs.Moves.{and_parts}
 use Rattle.sg_protocol.proofs.Gives.{in_order-all}
 use Rattle.sg_protocol.proofs.SeenItems.{keys_in_order, rising_same}
 use Rattle.sg_protocol.specs.Evidence as Evidence'
-
-all_less : (n : ℕ) (xs : List ℕ) → list_all (λ k. nat_lt k n) xs ≡ true → AllByRecursion (λ x. x < n) xs
-all_less n [] h = tt
-all_less n (x ∷ xs) h = let ps = and_parts (nat_lt x n) (list_all (λ k. nat_lt k n) xs) h in (grind (arith, nat_tests, ps.0), all_less n xs ps.1)
 
 -- numbers that rise are known by their set
 numbers_by_set : (n : ℕ) (xs ys : List ℕ) → AreNumbers n xs → AreNumbers n ys → ((t : ℕ) → t < n → is_in t xs ≡ is_in t ys) → xs ≡ ys
@@ -33,7 +29,7 @@ numbers_by_set n xs ys a b e = sym (own xs a) ∙ rising_same n xs ys e ∙ own 
         let ps = and_parts (rises_from 0 zs) (list_all (λ k. nat_lt k n) zs) h in
         let m : Map (List ℕ) = map (λ z. (z, [])) zs in
         ap (Evidence'.rising n) (sym (keys_named zs)) ∙ sym (keys_in_order n (map (λ z. (z, [])) zs))
-        ∙ ap keys_of (in_order-all n (map (λ z. (z, [])) zs) (ap (rises_from 0) (keys_named zs) ∙ ps.0) (subst (AllByRecursion (λ x. x < n)) (sym (keys_named zs)) (all_less n zs ps.1)))
+        ∙ ap keys_of (in_order-all n (map (λ z. (z, [])) zs) (ap (rises_from 0) (keys_named zs) ∙ ps.0) (subst (AllByRecursion (λ x. x < n)) (sym (keys_named zs)) (all_below n zs ps.1)))
         ∙ keys_named zs
 
 get_out : (ts : List (List ℕ)) (e : ℕ) → length ts ≤ e → get_or ts e [] ≡ []
@@ -67,5 +63,5 @@ reads_small g is e v h = go g.edges is.variables e h
     go : (es : List Edge) → All (λ (e : Edge). AreNumbers (length g.variables) e.writes × AreNumbers (length g.variables) e.reads) es → (k : ℕ)
         → is_in v (get_or {A = Arrow} (map (λ (e : Edge). record { source = e.source; target = e.target; writes = e.writes; reads = e.reads }) es) k (record { source = 0; target = 0; writes = []; reads = [] })).reads ≡ true → v < length g.variables
     go [] a k i = absurd (cc)
-    go (x ∷ es) a zero i = in_less x.reads (all_less (length g.variables) x.reads (and_parts (rises_from 0 x.reads) (list_all (λ k. nat_lt k (length g.variables)) x.reads) (All-head (λ (e : Edge). AreNumbers (length g.variables) e.writes × AreNumbers (length g.variables) e.reads) x es a).1).1) i
+    go (x ∷ es) a zero i = in_less x.reads (all_below (length g.variables) x.reads (and_parts (rises_from 0 x.reads) (list_all (λ k. nat_lt k (length g.variables)) x.reads) (All-head (λ (e : Edge). AreNumbers (length g.variables) e.writes × AreNumbers (length g.variables) e.reads) x es a).1).1) i
     go (x ∷ es) a (suc k) i = go es (All-tail (λ (e : Edge). AreNumbers (length g.variables) e.writes × AreNumbers (length g.variables) e.reads) x es a) k i

@@ -14,12 +14,13 @@ use Rattle.std.proofs.lemmas.List.{map-append}
 use Rattle.sg_law.proofs.Upto.{after-more, last-after}
 use Rattle.sg_protocol.specs.Graph.{Graph, shape}
 use Rattle.sg_protocol.specs.Frame.{Item}
-use Rattle.sg_protocol.specs.Texts.{Hash, commitment}
+use Rattle.sg_protocol.specs.Texts.{Hash}
 use Rattle.sg_protocol.specs.Keyring.{Keyring, Program}
 use Rattle.sg_protocol.specs.Session.{Session, told}
 use Rattle.sg_protocol.specs.Sending.{entry_of, item_of, tags_left, own_item}
 use Rattle.sg_protocol.specs.Enough.{OwnItemIsLast}
 use Rattle.sg_protocol.proofs.Gives.{in_order-all}
+use Rattle.sg_protocol.proofs.Acts.{keys_of_commits}
 
 -- ---- evidence that one more entry of another role ends
 
@@ -79,10 +80,6 @@ last_tagged [] i l = absurd (cc)
 last_tagged (x ∷ []) i l = ap (λ ts. Some (record x { tags = ts })) (all_left x.tags) ∙ l
 last_tagged (x ∷ y ∷ ys) i l = last_tagged (y ∷ ys) i l
 
-keys_written : (sha : Hash) (sid : List ℕ) (os : List Opening) → keys_of (map (λ (o : Opening). (o.variable, commitment sha sid o)) os) ≡ map (λ (o : Opening). o.variable) os
-keys_written sha sid [] = refl
-keys_written sha sid (o ∷ os) = ap (λ l. o.variable ∷ l) (keys_written sha sid os)
-
 map_below : (n : ℕ) (os : List Opening) → AllByRecursion (λ (o : Opening). o.variable < n) os → AllByRecursion (λ x. x < n) (map (λ (o : Opening). o.variable) os)
 map_below n [] a = tt
 map_below n (o ∷ os) a = (a.0, map_below n os a.1)
@@ -120,7 +117,7 @@ module _ (sha : Hash) (keys : Keyring) (p : Program) (s : Session) (label : ℕ)
 
 pub own_item_is_last : (sha : Hash) → OwnItemIsLast sha
 own_item_is_last sha keys p s label written other before rise below =
-    let same : keys_of (oi sha keys p s label written other before).delta ≡ map (λ (o : Opening). o.variable) written = keys_written sha s.sid written in
+    let same : keys_of (oi sha keys p s label written other before).delta ≡ map (λ (o : Opening). o.variable) written = keys_of_commits sha s.sid written in
     last_tagged _ _ (last_map (item_of p.graph) _ _ (shown_last sha keys p s label written other before)
     ∙ ap (λ d. Some (record (own_item sha keys p s label written) { delta = d }))
     (in_order-all (length p.graph.variables) (own_item sha keys p s label written).delta (ap (rises_from 0) same ∙ rise) (subst (AllByRecursion (λ x. x < length p.graph.variables)) (sym same) (map_below (length p.graph.variables) written below))))

@@ -4,13 +4,14 @@ use Rattle.std.specs.List.{list_all, AllByRecursion}
 use Rattle.std.specs.Option.{option_or}
 use Rattle.std.specs.Bool.{beq}
 use Rattle.std.proofs.Common.{sym, ◌∙◌, ap, subst, inl, inr, arith, append_assoc}
-use Rattle.std.proofs.lemmas.Bool.{eqb-true, eq-eqb, or_cases}
+use Rattle.std.proofs.lemmas.Bool.{eqb-true, eq-eqb, or_cases, cases_Bool, and_from}
 use Rattle.std.proofs.lemmas.List.Elements.{All-head, All-tail}
 use Rattle.std.proofs.lemmas.Bool.Decides.{nat_tests}
 use Rattle.sg_model.specs.Last.{Map, merge, last, last_or}
 use Rattle.sg_model.specs.Lists.{is_in, value_at, keys_of, rises_from}
 use Rattle.sg_model.specs.Shape.{Arrow, Walk, sender, receiver}
 use Rattle.sg_model.specs.Values.{Value}
+use Rattle.sg_model.proofs.Small.{not_true, not_false}
 use Rattle.sg_protocol.specs.Graph.{Graph, Edge, IsGraph, AreNumbers, shape, writes, reads}
 use Rattle.sg_protocol.specs.Calls.{Event}
 use Rattle.sg_protocol.specs.Acting.{is_typed}
@@ -22,10 +23,6 @@ use Rattle.sg_law.specs.Values.Deed.{WroteAlong, ReadAlong}
 use Rattle.sg_law.proofs.Com.{value_at-unnamed}
 use Rattle.sg_law.proofs.Carried.{named-in}
 use Rattle.sg_protocol.proofs.KeptLaws.{value_at-merge}
-
-cases_Bool : (b : Bool) → (b ≡ true) ⊎ (b ≡ false)
-cases_Bool true = inl refl
-cases_Bool false = inr refl
 
 -- ---- the same words
 
@@ -148,10 +145,6 @@ module _ (g : Graph) (honest : ℕ → Bool) where
         ]
       ]
 
-  and_both : (a b : Bool) → a ≡ true → b ≡ true → (a && b) ≡ true
-  and_both true b h k = k
-  and_both false b h k = h
-
   and_parts : (a b : Bool) → (a && b) ≡ true → (a ≡ true) × (b ≡ true)
   and_parts true b h = (refl, h)
   and_parts false b h = absurd (cc)
@@ -161,7 +154,7 @@ module _ (g : Graph) (honest : ℕ → Bool) where
   all_looked_up P [] n up f = refl
   all_looked_up P (w ∷ ws) n up f =
       let ups = and_parts (not (nat_lt w.0 n)) (rises_from (suc w.0) (keys_of ws)) up in
-      and_both (P w) (list_all P ws) (f w.0 w.1 (rw (eq-eqb w.0 w.0 refl) refl)) (all_looked_up P ws (suc w.0) ups.1 (λ x r e. f x r (at x r e ups.1)))
+      and_from (P w) (list_all P ws) (f w.0 w.1 (rw (eq-eqb w.0 w.0 refl) refl)) (all_looked_up P ws (suc w.0) ups.1 (λ x r e. f x r (at x r e ups.1)))
     where
       at : (x : ℕ) (r : Option Value) → value_at ws x ≡ Some r → rises_from (suc w.0) (keys_of ws) ≡ true → value_at (w ∷ ws) x ≡ Some r
       at x r e up' = elim (cases_Bool (w.0 == x)) [
@@ -213,10 +206,6 @@ module _ (g : Graph) (honest : ℕ → Bool) where
             let none : value_at t.values x ≡ None = value_at-unnamed t.values x (named-in (shape g) t x names.0 ∙ not_true (is_in x (writes g (along t))) ds.0) in
             typed_carried early (after_step st s) t ts x v names.1 (ap (λ o. option_or o (after_step st s x)) none ∙ e) later.1 ds.1
       ]
-    where
-      not_true : (b : Bool) → not b ≡ true → b ≡ false
-      not_true true h = sym h
-      not_true false h = refl
 
   module _ (rises : (e : ℕ) → rises_from 0 (writes g e) ≡ true) where
     typed_steps : (early : Bool) (st : ℕ → Option (Option Value)) (ss : List Stored) → AllByRecursion (named (shape g)) ss → AllByRecursion TypedDeed (deeds (shape g) honest early st ss) → AllExact (shape g) honest early ss → AllByRecursion (IsStoredStep g) (steps_of ss)
@@ -253,7 +242,7 @@ module _ (g : Graph) (honest : ℕ → Bool) where
     hidden_steps : (early : Bool) (ss : List Stored) → AllByRecursion (named (shape g)) ss → AllExact (shape g) honest early ss → are_hidden g honest (not early) (steps_of ss) ≡ true
     hidden_steps early [] names exact = refl
     hidden_steps early (s ∷ ss) names exact =
-        and_both _ _ (all_looked_up _ s.values 0 (ap (rises_from 0) names.0 ∙ rises (along s)) (λ x r e. at x r (subst (λ o. IfSome o (λ r. Exact (shape g) honest early x r (along s) (map along ss))) e (exact.0 x)))) (hidden_steps early ss names.1 exact.1)
+        and_from _ _ (all_looked_up _ s.values 0 (ap (rises_from 0) names.0 ∙ rises (along s)) (λ x r e. at x r (subst (λ o. IfSome o (λ r. Exact (shape g) honest early x r (along s) (map along ss))) e (exact.0 x)))) (hidden_steps early ss names.1 exact.1)
       where
         at : (x : ℕ) (r : Option Value) → Exact (shape g) honest early x r (along s) (map along ss) → beq (is_none r) (not (honest (sender (shape g) (along s))) && not (is_carried g honest (not early) x (steps_of (s ∷ ss)))) ≡ true
         at x None ex = (let a = (ex.hidden refl).0 in let b = sym (carried_same early x s ss) ∙ (ex.hidden refl).1 in rw (a, b) refl)
@@ -302,10 +291,6 @@ one_path g honest commit moves events is f same typed = record {
     and_true : (a b : Bool) → a ≡ true → b ≡ true → (a && b) ≡ true
     and_true true b h k = k
     and_true false b h k = h
-
-    not_false : (b : Bool) → not b ≡ false → b ≡ true
-    not_false true h = refl
-    not_false false h = absurd (cc)
 
     held_of : (o : Option Stored) → IfSome o (λ (s : Stored). (honest (sender (shape g) (along s)) ≡ true) ⊎ (honest (receiver (shape g) (along s)) ≡ true)) → IfSome (option_map step_of o) (λ s. IsTrue (honest (sender (shape g) s.label) || honest (receiver (shape g) s.label)))
     held_of None h = tt

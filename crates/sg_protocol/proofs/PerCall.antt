@@ -4,10 +4,12 @@ use Rattle.std.specs.List.{list_any}
 use Rattle.std.specs.Option.{option_map_or}
 use Rattle.std.proofs.Common.{sym, ◌∙◌, ap, subst, inl, inr, arith, append-nil}
 use Rattle.std.proofs.lemmas.Bool.{cases_Bool}
-use Rattle.std.proofs.lemmas.Slice.Eq.{bytes_eq-Decides}
+use Rattle.std.proofs.lemmas.List.{length-append}
+use Rattle.std.proofs.lemmas.List.Elements.{filter-append}
 use Rattle.sg_model.specs.Last.{last, Map}
 use Rattle.sg_model.specs.Lists.{first_some}
 use Rattle.sg_model.specs.Values.{Opening, Value}
+use Rattle.sg_model.proofs.Small.{and_left, clash, same_bytes}
 use Rattle.sg_protocol.specs.Frame.{Frame, Cast, Item}
 use Rattle.sg_protocol.specs.Reading.{read}
 use Rattle.sg_protocol.specs.Texts.{Hash, session_id}
@@ -20,17 +22,7 @@ use Rattle.sg_protocol.specs.Acting.{started, rows_of_start, answer, openings_fo
 use Rattle.sg_protocol.specs.NodeAfter.{node_after, takes_read, joined, goes_on, replace, still}
 use Rattle.sg_protocol.specs.Past.{is_call_of, is_frame_of}
 use Rattle.sg_protocol.specs.Isolation.{joins_with, sessions_with, AreAlike, IsLeft, AnswersAreOfSessions, CallsKeepAlike, CallsLeaveOthers}
-use Rattle.sg_protocol.proofs.Isolation.{of_sid, find-filter, filter-append, replace-other, replace-own, still-own, still-other}
-
-clash : {A : Type 0} (b : Bool) → b ≡ true → b ≡ false → A
-clash b t f = cc
-
-and_left : (a b : Bool) → (a && b) ≡ true → a ≡ true
-and_left true b h = refl
-and_left false b h = h
-
-same_bytes : (a b : List ℕ) → bytes_eq a b ≡ true → a ≡ b
-same_bytes a b h = (bytes_eq-Decides a b).0 h
+use Rattle.sg_protocol.proofs.Isolation.{of_sid, find-filter, replace-other, replace-own, still-own, still-other}
 
 -- what has one of two equal texts has the other
 moved : (a b sid : List ℕ) (v : Bool) → bytes_eq a b ≡ true → bytes_eq b sid ≡ v → bytes_eq a sid ≡ v
@@ -43,16 +35,12 @@ any-filter p q h (x ∷ xs) = elim (cases_Bool (q x)) [
   | inr e ↦ rw e (elim (cases_Bool (p x)) [ inl f ↦ clash (q x) (h x f) e | inr f ↦ rw f (any-filter p q h xs) ])
 ]
 
-length-cat : {A : Type 0} (xs ys : List A) → length (xs ++ ys) ≡ length xs + length ys
-length-cat [] ys = omega arith
-length-cat (x ∷ xs) ys = omega (arith, length-cat xs ys)
-
 -- the change of a list's length shows in the part that changes
 replace-length : (q which : Session → Bool) (now : Session → List Session) → ((s : Session) → which s ≡ true → q s ≡ true) → (ss : List Session) →
     length (replace which now ss) + length (filter q ss) ≡ length (replace which now (filter q ss)) + length ss
 replace-length q which now h [] = refl
 replace-length q which now h (s ∷ ss) = elim (cases_Bool (which s)) [
-  | inl e ↦ rw (h s e, e) (let a = length-cat (now s) ss in let b = length-cat (now s) (filter q ss) in omega (arith, a, b))
+  | inl e ↦ rw (h s e, e) (let a = length-append (now s) ss in let b = length-append (now s) (filter q ss) in omega (arith, a, b))
   | inr e ↦ elim (cases_Bool (q s)) [
     | inl f ↦ rw (f, e) (let i = replace-length q which now h ss in omega (arith, i))
     | inr f ↦ rw (f, e) (let i = replace-length q which now h ss in omega (arith, i))
@@ -110,8 +98,8 @@ module _ (sid : List ℕ) (n n' : Node) (b : AreAlike sid n n') where
     programs = b.programs;
     joins = filter-append (λ (j : List ℕ × ℕ). bytes_eq j.0 sid) n.joins ((x.sid, x.role) ∷ []) ∙ ap (λ l. l ++ joins_with ((x.sid, x.role) ∷ []) sid) b.joins ∙ sym (filter-append (λ (j : List ℕ × ℕ). bytes_eq j.0 sid) n'.joins ((x.sid, x.role) ∷ []));
     live = filter-append (of_sid sid) n.live (still n.programs x) ∙ ap (λ l. l ++ sessions_with (still n.programs x) sid) b.live ∙ ap (λ ps. sessions_with n'.live sid ++ sessions_with (still ps x) sid) b.programs ∙ sym (filter-append (of_sid sid) n'.live (still n'.programs x));
-    join_count = length-cat n.joins ((x.sid, x.role) ∷ []) ∙ ap (λ k. k + 1) b.join_count ∙ sym (length-cat n'.joins ((x.sid, x.role) ∷ []));
-    live_count = length-cat n.live (still n.programs x) ∙ ap (λ k. k + length (still n.programs x)) b.live_count ∙ ap (λ ps. length n'.live + length (still ps x)) b.programs ∙ sym (length-cat n'.live (still n'.programs x));
+    join_count = length-append n.joins ((x.sid, x.role) ∷ []) ∙ ap (λ k. k + 1) b.join_count ∙ sym (length-append n'.joins ((x.sid, x.role) ∷ []));
+    live_count = length-append n.live (still n.programs x) ∙ ap (λ k. k + length (still n.programs x)) b.live_count ∙ ap (λ ps. length n'.live + length (still ps x)) b.programs ∙ sym (length-append n'.live (still n'.programs x));
   }
 
   alike_goes_on : (which : Session → Bool) (now : Session → List Session) → ((s : Session) → which s ≡ true → of_sid sid s ≡ true) → ((s : Session) → which s ≡ true → filter (of_sid sid) (now s) ≡ now s) → AreAlike sid (goes_on n which now) (goes_on n' which now)

@@ -1,9 +1,9 @@
 -- The sessions of any node stay in range.
-use Rattle.std.specs.Prelude.{◌≡◌, ℕ, ◌<◌, ◌≤◌, ◌==◌, ◌&&◌, All, List, [], ◌∷◌, ◌++◌, map, flat_map, length, bytes_eq, refl, Option, Some, None, IfSome}
+use Rattle.std.specs.Prelude.{◌≡◌, ℕ, ◌<◌, ◌≤◌, ◌==◌, ◌&&◌, List, [], ◌∷◌, ◌++◌, map, flat_map, length, bytes_eq, refl, Option, Some, None, IfSome}
 use Rattle.std.specs.List.{AllByRecursion}
 use Rattle.std.proofs.Common.{sym, ◌∙◌, ap, subst, arith}
-use Rattle.std.proofs.lemmas.Bool.{eqb-true}
-use Rattle.std.proofs.lemmas.List.Elements.{All-head, All-tail, All-from_recursion}
+use Rattle.std.proofs.lemmas.Bool.{eqb-true, and_parts}
+use Rattle.std.proofs.lemmas.List.Elements.{All-from_recursion, recursion_from_All}
 use Rattle.sg_model.specs.Bytes.{AreBytes}
 use Rattle.sg_model.specs.Last.{Map, last, last_or}
 use Rattle.sg_model.specs.Lists.{first_some, keys_of}
@@ -19,6 +19,7 @@ use Rattle.sg_protocol.specs.Session.{Session, Exchange, Took, Gave, items_of, o
 use Rattle.sg_protocol.specs.Sending.{own_item, frame_sent}
 use Rattle.sg_protocol.specs.Calls.{Event, Call, Start, Act, Abandon, Deliver, Sends}
 use Rattle.sg_model.specs.Names.{Name}
+use Rattle.sg_model.proofs.Small.{all-append, all_end}
 use Rattle.sg_protocol.specs.Node.{Node, is_for}
 use Rattle.sg_protocol.specs.Acting.{openings_for, rows_of_act, answer}
 use Rattle.sg_protocol.specs.NodeAfter.{node_after}
@@ -27,27 +28,16 @@ use Rattle.sg_protocol.specs.Bounds.{IsSession, IsShortFrame}
 use Rattle.sg_protocol.specs.Ranges.{IsCast, AreValues, IsCallInRange, SessionsStayInRange, NodesStayInRange}
 use Rattle.sg_protocol.proofs.Acts as C
 use Rattle.sg_protocol.proofs.Bounds.{sent_is_short}
-use Rattle.sg_protocol.proofs.Calls.{find_passes, find_all}
+use Rattle.sg_protocol.proofs.Finding.{find_passes, find_all}
 use Rattle.sg_protocol.proofs.Gives.{keys_are}
-use Rattle.sg_protocol.proofs.Moves.{and_parts, writes_below}
+use Rattle.sg_protocol.proofs.Moves.{writes_below}
 use Rattle.sg_protocol.proofs.Nodes.{Begun, ActSent, act_sends, start_sends, abandon_sends, deliver_sends, start_all, abandon_all, act_all, deliver_all}
 use Rattle.sg_protocol.proofs.Paths.{flat_map-append}
 use Rattle.sg_protocol.proofs.ReadBack.{read-SpellsFrame}
 use Rattle.sg_protocol.proofs.Sent.{all_told}
+use Rattle.sg_protocol.proofs.Course.{small_values}
 
 -- ---- lists
-
-all_cat : {A : Type 0} (P : A → Type 0) (xs ys : List A) → AllByRecursion P xs → AllByRecursion P ys → AllByRecursion P (xs ++ ys)
-all_cat P [] ys a b = b
-all_cat P (x ∷ xs) ys a b = (a.0, all_cat P xs ys a.1 b)
-
-all_end : {A : Type 0} (P : A → Type 0) (xs : List A) (y : A) → AllByRecursion P (xs ++ y ∷ []) → P y
-all_end P [] y a = a.0
-all_end P (x ∷ xs) y a = all_end P xs y a.1
-
-pub by_recursion : {A : Type 0} (P : A → Type 0) (xs : List A) → All P xs → AllByRecursion P xs
-by_recursion P [] a = tt
-by_recursion P (x ∷ xs) a = (All-head P x xs a, by_recursion P xs (All-tail P x xs a))
 
 if_last : {A : Type 0} (P : A → Type 0) (xs : List A) → AllByRecursion P xs → IfSome (last xs) P
 if_last P [] a = tt
@@ -68,8 +58,8 @@ extended_in_range x e h a b = record {
   version = h.version;
   cast = h.cast;
   role = h.role;
-  items = subst (AllByRecursion (IsItem x.cast.version)) (sym (flat_map-append items_of x.exchanges (e ∷ []))) (all_cat (IsItem x.cast.version) (told x) (items_of e ++ []) h.items (all_cat (IsItem x.cast.version) (items_of e) [] a tt));
-  openings = subst (AllByRecursion IsOpening) (sym (flat_map-append openings_of x.exchanges (e ∷ []))) (all_cat IsOpening (flat_map openings_of x.exchanges) (openings_of e ++ []) h.openings (all_cat IsOpening (openings_of e) [] b tt));
+  items = subst (AllByRecursion (IsItem x.cast.version)) (sym (flat_map-append items_of x.exchanges (e ∷ []))) (all-append (IsItem x.cast.version) (told x) (items_of e ++ []) h.items (all-append (IsItem x.cast.version) (items_of e) [] a tt));
+  openings = subst (AllByRecursion IsOpening) (sym (flat_map-append openings_of x.exchanges (e ∷ []))) (all-append IsOpening (flat_map openings_of x.exchanges) (openings_of e ++ []) h.openings (all-append IsOpening (openings_of e) [] b tt));
 }
 
 pub taken_in_range : (s : Session) (f : Frame) → IsSession s → HasSpelling f → f.version ≡ s.cast.version → IsSession (extended s (Took f))
@@ -99,10 +89,6 @@ below_weak : (m n : ℕ) (xs : List ℕ) → m ≤ n → AllByRecursion (λ x. x
 below_weak m n [] l b = tt
 below_weak m n (x ∷ xs) l b = ((let h = b.0 in omega (arith, h, l)), below_weak m n xs l b.1)
 
-small_keys : (vs : Map Value) → AllByRecursion (λ (w : ℕ × Value). (w.0 < 256) × IsValue w.1) vs → AllByRecursion (λ k. k < 256) (keys_of vs)
-small_keys [] h = tt
-small_keys (v ∷ vs) h = (h.0.0, small_keys vs h.1)
-
 -- ---- a step
 
 pub record GivesInRange (sha : Hash) (keys : Keyring) (p : Program) (s : Session) (label : ℕ) (written : List Opening) : Type 0 where
@@ -116,7 +102,7 @@ pub gives_in_range : (sha : Hash) → IsHash sha → (keys : Keyring) (p : Progr
 gives_in_range sha hash keys p s label values confounders ip fx none good =
     let written : List Opening = openings_for values confounders in
     let rs : C.ActRows p.graph s label values = C.act_rows p s label values none in
-    let ks : keys_of values ≡ writes p.graph label = keys_are p.graph ip.is_graph label values (small_keys values good.each) rs.good in
+    let ks : keys_of values ≡ writes p.graph label = keys_are p.graph ip.is_graph label values (small_values values good.each) rs.good in
     let names : map (λ (o : Opening). o.variable) written ≡ writes p.graph label = opened_keys values confounders good.count ∙ ks in
     let opens : AllByRecursion IsOpening written = opened_fit values confounders good.each good.bytes (subst (AllByRecursion (λ x. x < 32)) (sym ks) (below_weak (length p.graph.variables) 32 (writes p.graph label) ip.is_graph.sizes.1 (writes_below p.graph ip.is_graph label))) in
     record {
@@ -180,6 +166,6 @@ module _ (sha : Hash) (hash : IsHash sha) (n : Node) (programs : AllByRecursion 
 
 pub nodes_stay_in_range : (sha : Hash) → IsHash sha → NodesStayInRange sha
 nodes_stay_in_range sha hash = record {
-  live = λ n c programs live h. All-from_recursion IsSession (node_after n c (answer sha n c)).live (node_in_range sha hash n (by_recursion (IsProgram sha) n.programs programs) (by_recursion IsSession n.live live) c h);
-  sent = λ n c e to f programs live h a. sent_in_range sha hash n (by_recursion (IsProgram sha) n.programs programs) (by_recursion IsSession n.live live) c h e to f a;
+  live = λ n c programs live h. All-from_recursion IsSession (node_after n c (answer sha n c)).live (node_in_range sha hash n (recursion_from_All (IsProgram sha) n.programs programs) (recursion_from_All IsSession n.live live) c h);
+  sent = λ n c e to f programs live h a. sent_in_range sha hash n (recursion_from_All (IsProgram sha) n.programs programs) (recursion_from_All IsSession n.live live) c h e to f a;
 }

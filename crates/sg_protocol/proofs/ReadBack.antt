@@ -9,7 +9,7 @@ use Rattle.std.proofs.lemmas.List.{append_assoc, append-nil, take-append-drop, l
 use Rattle.std.proofs.Math.Facts.{sfits_to_z, Fits-of_lt}
 use Rattle.std.proofs.lemmas.Int.{of_z-to_z}
 use Rattle.std.proofs.Math.Seq.{take-append_seam, drop-append_seam}
-use Rattle.std.proofs.lemmas.Bool.{leb-true, ltb-false, le-ltb, eq-eqb}
+use Rattle.std.proofs.lemmas.Bool.{leb-true, ltb-false, le-ltb, eq-eqb, cases_Bool, and_from}
 use Rattle.std.proofs.lemmas.Nat.{be_bytes_2, be_bytes_4, be_bytes_8}
 use Rattle.sg_model.specs.Last.{Map}
 use Rattle.sg_model.specs.Lists.{rises_from, keys_of}
@@ -19,22 +19,7 @@ use Rattle.sg_protocol.specs.Reading
 use Rattle.sg_protocol.specs.Spelling
 use Rattle.sg_protocol.specs.Frame
 use Rattle.sg_model.specs.Values
-
-cases_Bool : (b : Bool) → (b ≡ true) ⊎ (b ≡ false)
-cases_Bool true = inl refl
-cases_Bool false = inr refl
-
-and_left : (a b : Bool) → (a && b) ≡ true → a ≡ true
-and_left true b h = refl
-and_left false b h = h
-
-and_right : (a b : Bool) → (a && b) ≡ true → b ≡ true
-and_right true b h = h
-and_right false b h = cc
-
-and_both : (a b : Bool) → a ≡ true → b ≡ true → (a && b) ≡ true
-and_both true b h k = k
-and_both false b h k = h
+use Rattle.sg_model.proofs.Small.{and_left, and_right}
 
 -- ---- bytes
 
@@ -191,7 +176,7 @@ took-rising {A = A} key r spell P each (suc n) least at bs o s h =
     subst (λ (o : Reading.Read (List A)). Took bs o (flat_map spell o.value) × (length o.value ≡ suc n) × (rises_from least (map key o.value) ≡ true) × AllByRecursion P o.value) (give-inv (a.value ∷ q.value) q.at q.rest o j.2) (
       took-cons bs a out (spell a.value) (flat_map spell q.value) t.0 (record { begins = (u.0).begins; small = (u.0).small; rest = (u.0).rest }),
       ap suc u.1,
-      and_both (not (nat_lt (key a.value) least)) (rises_from (suc (key a.value)) (map key q.value)) (rw (le-ltb (key a.value) least (t.1).0) refl) u.2,
+      and_from (not (nat_lt (key a.value) least)) (rises_from (suc (key a.value)) (map key q.value)) (rw (le-ltb (key a.value) least (t.1).0) refl) u.2,
       ((t.1).1, u.3),
     )
 

@@ -8,7 +8,7 @@ use Rattle.std.proofs.Math.Facts.{Fits-lt-pow, Fits-of_z}
 use Rattle.std.proofs.lemmas.Int.{to_z-of_z}
 use Rattle.std.proofs.Math.Seq.{take-append_seam, drop-append_seam}
 use Rattle.std.proofs.lemmas.List.{append_assoc, length-append, append-nil, take-append-drop, length-take-le}
-use Rattle.std.proofs.lemmas.Bool.{le-leb, leb-true, ltb-false, le-ltb, eqb-true}
+use Rattle.std.proofs.lemmas.Bool.{le-leb, leb-true, ltb-false, le-ltb, eqb-true, and_from}
 use Rattle.std.proofs.lemmas.Nat.{from_be_bytes-to_be_bytes_2, from_be_bytes-to_be_bytes_4, from_be_bytes-to_be_bytes_8}
 use Rattle.sg_model.specs.Last.{Map}
 use Rattle.sg_model.specs.Lists.{rises_from, keys_of}
@@ -18,18 +18,7 @@ use Rattle.sg_protocol.specs.Spelling
 use Rattle.sg_protocol.specs.Frame
 use Rattle.sg_model.specs.Bytes
 use Rattle.sg_model.specs.Values
-
-and_both : (a b : Bool) → a ≡ true → b ≡ true → (a && b) ≡ true
-and_both true b h k = k
-and_both false b h k = h
-
-and_left : (a b : Bool) → (a && b) ≡ true → a ≡ true
-and_left true b h = refl
-and_left false b h = h
-
-and_right : (a b : Bool) → (a && b) ≡ true → b ≡ true
-and_right true b h = h
-and_right false b h = cc
+use Rattle.sg_model.proofs.Small.{and_left, and_right, not_true}
 
 -- the reader reads x from these bytes, wherever they stand and whatever follows
 pub record Reads {A : Type 0} (r : Reading.Reader A) (bs : List ℕ) (x : A) : Type 0 where
@@ -66,13 +55,9 @@ reads-rising key r spell least (x ∷ xs) up h =
     reads-after (r least) (λ y. Reading.after (Reading.rising_times key (length xs) (suc (key y)) r) (λ ys. Reading.give (y ∷ ys))) (spell x) (flat_map spell xs) x (x ∷ xs)
     (h.0 least (ltb-false (key x) least (not_true (nat_lt (key x) least) (and_left _ _ up))))
     (reads-map (Reading.rising_times key (length xs) (suc (key x)) r) (λ ys. x ∷ ys) (flat_map spell xs) xs (reads-rising key r spell (suc (key x)) xs (and_right (not (nat_lt (key x) least)) _ up) h.1))
-  where
-    not_true : (b : Bool) → not b ≡ true → b ≡ false
-    not_true true e = cc
-    not_true false e = refl
 
 within : (low high n : ℕ) → low ≤ n → n ≤ high → Reading.is_within low high n ≡ true
-within low high n l h = and_both (nat_le low n) (nat_le n high) (le-leb low n l) (le-leb n high h)
+within low high n l h = and_from (nat_le low n) (nat_le n high) (le-leb low n l) (le-leb n high h)
 
 reads-number : (w : Width) (low high n : ℕ) (bs : List ℕ) → length bs ≡ byte_len w → from_be_bytes w bs ≡ n → low ≤ n → n ≤ high → Reads (Reading.number w low high) bs n
 reads-number w low high n bs l e a b =
@@ -243,7 +228,7 @@ reads-frame f h =
     (reads-after _ _ (Spelling.u8 f.sender) (Spelling.u8 f.receiver ++ join) f.sender f (reads-u8 0 15 f.sender (omega arith) (omega (arith, h.fields.roles.0)))
     (reads-after _ _ (Spelling.u8 f.receiver) join (Spelling.u8 f.receiver) f
     (reads-field_of 1 (λ bs. Reading.is_within 0 15 (from_be_bytes w8 bs) && not (from_be_bytes w8 bs == f.sender)) (Spelling.u8 f.receiver) refl
-    (and_both (Reading.is_within 0 15 f.receiver) (not (f.receiver == f.sender)) (within 0 15 f.receiver (omega arith) (omega (arith, h.fields.roles.1))) (differ f.receiver f.sender h.fields.roles.2)))
+    (and_from (Reading.is_within 0 15 f.receiver) (not (f.receiver == f.sender)) (within 0 15 f.receiver (omega arith) (omega (arith, h.fields.roles.1))) (differ f.receiver f.sender h.fields.roles.2)))
     (reads-after _ _ (Spelling.join_bytes f.join) (Spelling.u16 (length f.items) ++ items) f.join f (reads-join f.version f.join h.fields.join)
     (reads-after _ _ (Spelling.u16 (length f.items)) items (length f.items) f (reads-u16 1 65535 (length f.items) h.fields.count.0 h.fields.count.1 (lit< tt))
     (reads-after _ _ (flat_map (Spelling.item_bytes f.version) f.items) (Spelling.u8 (length f.openings) ++ openings) f.items f (reads-times (Reading.read_item f.version) (Spelling.item_bytes f.version) f.items (items-read f.version f.items h.fields.items))

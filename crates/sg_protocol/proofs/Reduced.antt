@@ -3,6 +3,7 @@ use Rattle.std.specs.Prelude.{◌≡◌, ℕ, ◌<◌, ◌==◌, ◌||◌, ◌�
 use Rattle.std.specs.Option.{option_or}
 use Rattle.std.proofs.Common.{sym, ◌∙◌, ap, subst, inl, inr, append-nil}
 use Rattle.std.proofs.lemmas.Bool.{cases_Bool, eqb-true}
+use Rattle.std.proofs.lemmas.List.Elements.{filter_agree}
 use Rattle.sg_model.specs.Last.{Map, Entry, merge, has, after_last, carry, evidence}
 use Rattle.sg_model.specs.Lists.{value_at, in_order}
 use Rattle.sg_protocol.specs.Graph.{Graph}
@@ -45,16 +46,12 @@ filter-filter p q r f h (x ∷ xs) = elim (cases_Bool (p x)) [
     not_r (inl e) k = absurd (k e)
     not_r (inr e) k = e
 
-filter-same : {A : Type 0} (p q : A → Bool) → ((x : A) → p x ≡ q x) → (xs : List A) → filter p xs ≡ filter q xs
-filter-same p q e [] = refl
-filter-same p q e (x ∷ xs) = elim (cases_Bool (q x)) [ inl h ↦ rw (e x ∙ h, h) (ap (λ l. x ∷ l) (filter-same p q e xs)) | inr h ↦ rw (e x ∙ h, h) (filter-same p q e xs) ]
-
 -- the tags for roles that have no item in a list
 abbrev pub tags_but : List Item → Map (List ℕ) → Map (List ℕ)
 tags_but xs ts = filter (λ (t : ℕ × List ℕ). not (has by_role t.0 xs)) ts
 
 tags_but-same : (xs ys : List Item) → ((k : ℕ) → has by_role k xs ≡ has by_role k ys) → (ts : Map (List ℕ)) → tags_but xs ts ≡ tags_but ys ts
-tags_but-same xs ys e ts = filter-same (λ (t : ℕ × List ℕ). not (has by_role t.0 xs)) (λ (t : ℕ × List ℕ). not (has by_role t.0 ys)) (λ t. ap not (e t.0)) ts
+tags_but-same xs ys e ts = filter_agree (λ (t : ℕ × List ℕ). not (has by_role t.0 xs)) (λ (t : ℕ × List ℕ). not (has by_role t.0 ys)) (λ t. ap not (e t.0)) ts
 
 tags_but-both : (xs ys zs : List Item) → ((k : ℕ) → has by_role k zs ≡ (has by_role k xs || has by_role k ys)) → (ts : Map (List ℕ)) → tags_but zs (tags_but xs ts) ≡ tags_but zs ts
 tags_but-both xs ys zs e ts = filter-filter (λ (t : ℕ × List ℕ). not (has by_role t.0 xs)) (λ (t : ℕ × List ℕ). not (has by_role t.0 zs)) (λ (t : ℕ × List ℕ). not (has by_role t.0 zs))

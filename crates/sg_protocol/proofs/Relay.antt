@@ -1,5 +1,5 @@
 -- In a session of honest principals, each role holds the evidence of the steps that were taken.
-use Rattle.std.specs.Prelude.{◌≡◌, ◌≢◌, ℕ, ◌==◌, Bool, true, false, List, [], ◌∷◌, ◌++◌, map, refl, Option, Some, None, IfSome, ⊤}
+use Rattle.std.specs.Prelude.{◌≡◌, ◌≢◌, ℕ, ◌==◌, true, false, List, [], ◌∷◌, ◌++◌, map, refl, Option, Some, None, IfSome, ⊤}
 use Rattle.std.specs.List.{AllByRecursion}
 use Rattle.std.specs.Option.{option_or}
 use Rattle.std.proofs.Common.{sym, ◌∙◌, ap, subst, inl, inr, append_assoc, append-nil}
@@ -9,6 +9,7 @@ use Rattle.sg_model.specs.Last.{has, last, last_or, after_last, up_to_last}
 use Rattle.sg_model.specs.Lists.{keys_of, is_in}
 use Rattle.sg_model.specs.Shape.{Walk, end_of, sender}
 use Rattle.sg_model.specs.Values.{Opening}
+use Rattle.sg_model.proofs.Small.{clash, all-right}
 use Rattle.sg_protocol.specs.Graph.{Graph, shape, writes, reads}
 use Rattle.sg_protocol.specs.Knowledge.{knows}
 use Rattle.sg_protocol.specs.Frame.{Cast, Item, Frame}
@@ -28,21 +29,6 @@ use Rattle.sg_protocol.proofs.Moves.{step}
 use Rattle.sg_protocol.proofs.Reduced.{by_role, has-both, reduced, reduced_again, reduced_after}
 use Rattle.sg_protocol.proofs.Ends.{committed-append, last_opening-append, labels, place_is, after_all}
 use Rattle.sg_protocol.proofs.Known.{knows_past, unlearned, opening_there, opening_not, opening_all, not_committed}
-
-clash : (b : Bool) → b ≡ true → b ≡ false → ⊥
-clash b t f = absurd (cc)
-
-pub all-cat : {A : Type 0} (P : A → Type 0) (xs ys : List A) → AllByRecursion P xs → AllByRecursion P ys → AllByRecursion P (xs ++ ys)
-all-cat P [] ys a b = b
-all-cat P (x ∷ xs) ys a b = (a.0, all-cat P xs ys a.1 b)
-
-pub all-right : {A : Type 0} (P : A → Type 0) (xs ys : List A) → AllByRecursion P (xs ++ ys) → AllByRecursion P ys
-all-right P [] ys a = a
-all-right P (x ∷ xs) ys a = all-right P xs ys a.1
-
-pub all-left : {A : Type 0} (P : A → Type 0) (xs ys : List A) → AllByRecursion P (xs ++ ys) → AllByRecursion P xs
-all-left P [] ys a = tt
-all-left P (x ∷ xs) ys a = (a.0, all-left P xs ys a.1)
 
 module _ (sha : Hash) (keys : List PairKey) (sid : List ℕ) (cast : Cast) (targets : ℕ → List ℕ) where
   module _ (g : Graph) where

@@ -3,12 +3,13 @@ use Rattle.std.specs.Prelude.{◌≡◌, ◌≢◌, ℕ, ◌+◌, ◌<◌, ◌==
 use Rattle.std.specs.List.{AllByRecursion, list_all}
 use Rattle.std.specs.Option.{option_or}
 use Rattle.std.proofs.Common.{sym, ◌∙◌, ap, subst, inl, inr, arith, append-nil}
-use Rattle.std.proofs.lemmas.Bool.{cases_Bool, eqb-true, eq-eqb, ne_eqb}
+use Rattle.std.proofs.lemmas.Bool.{cases_Bool, eqb-true, eq-eqb, ne_eqb, and_parts}
 use Rattle.std.proofs.lemmas.List.{map-append}
 use Rattle.sg_model.specs.Last.{Map, has, last, after_last, up_to_last}
 use Rattle.sg_model.specs.Lists.{value_at, keys_of, is_in}
 use Rattle.sg_model.specs.Shape.{Walk, role_at, sender, receiver}
 use Rattle.sg_model.specs.Values.{Value, Opening}
+use Rattle.sg_model.proofs.Small.{cases_Option, all-append, no_last}
 use Rattle.sg_protocol.specs.Graph.{Graph, IsGraph, shape, writes, reads}
 use Rattle.sg_protocol.specs.Knowledge.{learns, knows}
 use Rattle.sg_protocol.specs.Frame.{Cast, Item, Frame}
@@ -33,20 +34,15 @@ use Rattle.sg_protocol.specs.Acting.{openings_for}
 use Rattle.sg_protocol.proofs.Gives.{opened_keys, opened_values, keys_are, typed_values}
 use Rattle.sg_protocol.proofs.Acts as C
 use Rattle.sg_protocol.proofs.Entries.{edges_same}
-use Rattle.sg_protocol.proofs.Moves.{and_parts}
 use Rattle.sg_law.proofs.Lists.{last-append}
 use Rattle.sg_law.proofs.Walks.{walk_join}
 use Rattle.sg_protocol.proofs.Paths.{flat_map-append}
 use Rattle.sg_protocol.proofs.Entries.{entry}
 use Rattle.sg_protocol.proofs.Moves.{step, roles-append}
 use Rattle.sg_protocol.proofs.Reduced.{by_role, tags_but, reduced, reduced_again, after_reduced, shown_reduced}
-use Rattle.sg_protocol.proofs.Ends.{tags_all, no_last, committed-append, last_opening-append, labels, last_reduced, time_is, commitments_same, has_same, after_one}
+use Rattle.sg_protocol.proofs.Ends.{tags_all, committed-append, last_opening-append, labels, last_reduced, time_is, commitments_same, has_same, after_one}
 use Rattle.sg_protocol.proofs.Known.{knows_more, opening_there, opening_not, opening_all, value_of_opening}
-use Rattle.sg_protocol.proofs.Relay.{all-cat, tag_said, tags-append, StepsOk, OpensAt, RelayOk, at_end}
-
-cases_Option : {A : Type 0} (o : Option A) → (o ≡ None) ⊎ ((x : A) × (o ≡ Some x))
-cases_Option None = inl refl
-cases_Option (Some x) = inr (x, refl)
+use Rattle.sg_protocol.proofs.Relay.{tag_said, tags-append, StepsOk, OpensAt, RelayOk, at_end}
 
 -- openings that are there for all variables
 pub openings_there : (P : Opening → Type 0) (G : ℕ → Option Opening) (xs : List ℕ) → ((v : ℕ) → is_in v xs ≡ true → (o : Opening) × (G v ≡ Some o) × (o.variable ≡ v) × P o) → (map (λ (o : Opening). o.variable) (filter_map G xs) ≡ xs) × AllByRecursion P (filter_map G xs)
@@ -168,7 +164,7 @@ module _ (sha : Hash) (keys : List PairKey) (sid : List ℕ) (cast : Cast) (targ
   steps_ok = record {
     walk = subst (Walk (shape p.graph) 0) (sym labels_after) (walk_join (shape p.graph) 0 (labels done) (label ∷ []) so.walk ((let l = in_edges in omega (arith, l, edges_same p.graph)), rows.leaves ∙ at_end sha keys sid cast targets p.graph done x k rows.turn, tt));
     roles = roles-append (shape p.graph) done (item ∷ []) so.roles (ap (λ (z : Item). z.role) item_is ∙ sym by_x ∙ ap (λ (z : Item). sender (shape p.graph) z.label) (sym item_is), tt);
-    delta_keys = all-cat (λ (i : Item). keys_of i.delta ≡ writes p.graph i.label) done (item ∷ []) so.delta_keys (keys_delta ∙ ap (λ (z : Item). writes p.graph z.label) (sym item_is), tt);
+    delta_keys = all-append (λ (i : Item). keys_of i.delta ≡ writes p.graph i.label) done (item ∷ []) so.delta_keys (keys_delta ∙ ap (λ (z : Item). writes p.graph z.label) (sym item_is), tt);
     tags = tags-append sha keys sid cast targets p.graph [] done item so.tags tags_are;
     times = subst (R.RisesFrom 0) (sym (map-append step done (item ∷ []))) (Times.rises_push 0 (map step done) (step item) so.times (let a = time_done in let b : item.time ≡ time x + 1 = ap (λ (z : Item). z.time) item_is in omega (arith, a, b)));
   }

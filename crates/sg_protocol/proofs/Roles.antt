@@ -1,17 +1,19 @@
 -- All events of a session are of one cast, and so a principal has one role in it.
-use Rattle.std.specs.Prelude.{◌≡◌, ◌≢◌, ℕ, ◌+◌, ◌<◌, ◌⊎◌, Bool, true, false, not, nat_le, List, [], ◌∷◌, ◌++◌, map, filter, flat_map, length, refl, Option, Some, None, option_map, option_and_then, bytes_eq, Result, Ok, Err}
+use Rattle.std.specs.Prelude.{◌≡◌, ◌≢◌, ℕ, ◌+◌, ◌<◌, true, false, not, nat_le, List, [], ◌∷◌, map, filter, flat_map, length, refl, Option, Some, None, option_map, option_and_then, bytes_eq, Result, Ok, Err}
 use Rattle.std.specs.List.{AllByRecursion}
 use Rattle.std.specs.Option.{option_map_or}
 use Rattle.std.specs.Result.{result_ok}
 use Rattle.std.proofs.Common.{sym, ◌∙◌, ap, subst, inl, inr}
 use Rattle.sg_law.proofs.Take.{contains_from_in}
 use Rattle.std.proofs.lemmas.Slice.Eq.{bytes_eq-Decides}
-use Rattle.sg_protocol.proofs.Isolation.{filter-append}
-use Rattle.sg_protocol.proofs.Course.{in_flat}
+use Rattle.std.proofs.lemmas.Bool.{cases_Bool, and_parts}
+use Rattle.std.proofs.lemmas.List.Elements.{filter-append, recursion_from_All}
 use Rattle.sg_model.specs.Lists.{first_some}
 use Rattle.sg_model.specs.Last.{Map}
 use Rattle.sg_model.specs.Names.{Name}
 use Rattle.sg_model.specs.Values.{Value}
+use Rattle.sg_model.proofs.Small.{not_false, same_bytes, none_parts, both_nil}
+use Rattle.sg_law.proofs.Members.{in_right, in_flat, all_in}
 use Rattle.sg_law.proofs.Upto.{In, in_from_Contains}
 use Rattle.sg_protocol.specs.Graph.{Graph}
 use Rattle.sg_protocol.specs.Frame.{Cast, Frame}
@@ -34,20 +36,13 @@ use Rattle.sg_protocol.specs.IsSchedule.{AreCompiled, IsSchedule, IsStep, IsProg
 use Rattle.sg_protocol.specs.Headline.{IsOfCast, SessionsHaveOneCast, NoneTakesTwoRoles}
 use Rattle.sg_protocol.proofs.TextLaws as TL
 use Rattle.sg_protocol.proofs.ReadBack.{read-SpellsFrame}
-use Rattle.sg_protocol.proofs.Moves.{and_parts, not_false, none_parts, row_none, in_right}
+use Rattle.sg_protocol.proofs.Moves.{row_none}
 use Rattle.sg_protocol.proofs.Sent.{FitSession}
-use Rattle.sg_protocol.proofs.Calls.{one_place, find_all}
+use Rattle.sg_protocol.proofs.Finding.{one_place, find_all}
 use Rattle.sg_protocol.proofs.First.{first_cast}
 use Rattle.sg_protocol.proofs.Fits.{Fit, fit_new, fit_next, fit_bytes, casts_fit, ActSent, act_sends}
 use Rattle.sg_protocol.proofs.Sendings.{Known, Origin, LogsOk, took, all_logs, new_logs, me_is, act_event}
-use Rattle.sg_protocol.proofs.Whole.{FirstCast, honest_inside, to_rec, all_in, find_some, program_graph}
-
-cases_Bool : (b : Bool) → (b ≡ true) ⊎ (b ≡ false)
-cases_Bool true = inl refl
-cases_Bool false = inr refl
-
-same_bytes_ : (a b : List ℕ) → bytes_eq a b ≡ true → a ≡ b
-same_bytes_ a b h = (bytes_eq-Decides a b).0 h
+use Rattle.sg_protocol.proofs.Whole.{FirstCast, honest_inside, find_some, program_graph}
 
 any_false : (sid : List ℕ) (es : List Event) → filter (λ e. bytes_eq (sid_of e) sid) es ≡ [] → (e : Event) → In es e → bytes_eq (sid_of e) sid ≡ false
 any_false sid [] h e i = absurd i
@@ -55,10 +50,6 @@ any_false sid (x ∷ xs) h e i = elim (cases_Bool (bytes_eq (sid_of x) sid)) [
   | inl k ↦ (let f = rw k at h in absurd (cc))
   | inr k ↦ elim i [ inl q ↦ ap (λ z. bytes_eq (sid_of z) sid) q ∙ k | inr j ↦ any_false sid xs (rw k at h) e j ]
 ]
-
-both_nil : {A : Type 0} (xs ys : List A) → xs ++ ys ≡ [] → (xs ≡ []) × (ys ≡ [])
-both_nil [] ys e = (refl, e)
-both_nil (x ∷ xs) ys e = absurd (cc)
 
 -- a session that has an event has events
 has_events : (sid : List ℕ) (log : List Logged) (l : Logged) (e : Event) → In log l → In (events_of_outcome l.outcome) e → sid_of e ≡ sid → events_of sid log ≢ []
@@ -133,7 +124,7 @@ module _ (sha : Hash) (hash : IsHash sha) (programs : List Program) (s : Schedul
               fits = fits;
               id = sym (ap sid_of i);
               is_hashed = h (session_text_of c) (inl refl);
-              me = ap (λ z. principal c (role_of z)) i ∙ same_bytes_ (principal c p.role) n.keys.me (and_parts _ (bytes_eq (principal c p.role) n.keys.me) ic).1 ∙ me;
+              me = ap (λ z. principal c (role_of z)) i ∙ same_bytes (principal c p.role) n.keys.me (and_parts _ (bytes_eq (principal c p.role) n.keys.me) ic).1 ∙ me;
               joins = λ _. refl;
             }
 
@@ -197,7 +188,7 @@ module _ (sha : Hash) (hash : IsHash sha) (programs : List Program) (s : Schedul
 pub sessions_have_one_cast : (sha : Hash) → IsHash sha → SessionsHaveOneCast sha
 sessions_have_one_cast sha hash programs s compiled sched free l who e had =
     let wf : World = run sha programs s in
-    let steps : AllByRecursion (IsStep sha s) s.steps = to_rec (IsStep sha s) s.steps sched.steps in
+    let steps : AllByRecursion (IsStep sha s) s.steps = recursion_from_All (IsStep sha s) s.steps sched.steps in
     let q : LogsOk sha hash programs s compiled sched wf wf = all_logs sha hash programs s compiled sched wf (new_world programs s) 1 s.steps steps (new_logs sha hash programs s compiled sched wf) refl in
     let l_in : In wf.log l = in_from_Contains wf.log l had.0 in
     let e_in : In (events_of_outcome l.outcome) e = in_from_Contains (events_of_outcome l.outcome) e had.2 in

@@ -7,6 +7,7 @@ use Rattle.std.proofs.lemmas.Bool.Decides.{nat_tests}
 use Rattle.sg_model.specs.Last.{Map, has, last, up_to_last}
 use Rattle.sg_model.specs.Lists.{value_at, keys_of, is_in, first_some}
 use Rattle.sg_model.specs.Shape.{sender}
+use Rattle.sg_model.proofs.Small.{cases_Option, no_last}
 use Rattle.sg_protocol.specs.Graph.{Graph, shape}
 use Rattle.sg_protocol.specs.Frame.{Item}
 use Rattle.sg_protocol.specs.Verdict.{bad_time}
@@ -18,11 +19,6 @@ use Rattle.sg_protocol.proofs.Entries.{Roles}
 use Rattle.sg_protocol.proofs.Moves.{step}
 use Rattle.sg_protocol.proofs.Reduced.{by_role, tags_but, lead, reduced, lead-lead, lead-in_order}
 use Rattle.sg_protocol.proofs.KeptLaws.{in_order-in_order}
-use Rattle.sg_protocol.proofs.Ends.{no_last}
-
-cases_Option : {A : Type 0} (o : Option A) → (o ≡ None) ⊎ ((x : A) × (o ≡ Some x))
-cases_Option None = inl refl
-cases_Option (Some x) = inr (x, refl)
 
 -- ---- tests that all pass
 
@@ -61,10 +57,6 @@ pub tag_there : (T : ℕ → List ℕ) (ts : List ℕ) (r : ℕ) → is_in r ts 
 tag_there T [] r h = absurd (cc)
 tag_there T (t ∷ ts) r h = elim (cases_Bool (t == r)) [ inl e ↦ rw e (ap (λ z. Some (T z)) (eqb-true t r e)) | inr e ↦ rw e (tag_there T ts r (rw e at h)) ]
 
-pub filter_same : (q r : ℕ → Bool) → ((x : ℕ) → q x ≡ r x) → (xs : List ℕ) → filter q xs ≡ filter r xs
-filter_same q r e [] = refl
-filter_same q r e (x ∷ xs) = elim (cases_Bool (r x)) [ inl h ↦ rw (e x ∙ h, h) (ap (λ l. x ∷ l) (filter_same q r e xs)) | inr h ↦ rw (e x ∙ h, h) (filter_same q r e xs) ]
-
 pub lead_nil : (g : Graph) (xs : List Item) → lead g [] (reduced g xs) ≡ reduced g xs
 lead_nil g [] = refl
 lead_nil g (i ∷ xs) = elim (cases_Bool (has by_role i.role xs)) [
@@ -86,9 +78,6 @@ roles_reduced g (i ∷ xs) r = elim (cases_Bool (has by_role i.role xs)) [
 pub roles_test : (g : Graph) (xs : List Item) → Roles (shape g) xs → list_all (λ (i : Item). i.role == sender (shape g) i.label) xs ≡ true
 roles_test g [] r = refl
 roles_test g (i ∷ xs) r = rw (eq-eqb i.role (sender (shape g) i.label) r.0) (roles_test g xs r.1)
-
-pub less : (a b : ℕ) → a < b → nat_lt a b ≡ true
-less a b l = elim (cases_Bool (nat_lt a b)) [ inl e ↦ e | inr e ↦ absurd (let m : b ≤ a = grind (arith, nat_tests) in omega (arith, l, m)) ]
 
 -- ---- times
 

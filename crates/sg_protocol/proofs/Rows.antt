@@ -1,15 +1,17 @@
 -- A frame that shows what was done since a role's last step meets every row.
-use Rattle.std.specs.Prelude.{◌≡◌, ◌≢◌, ℕ, ◌+◌, ◌<◌, ◌==◌, nat_lt, ◌||◌, ◌&&◌, ◌⊎◌, Bool, true, false, not, List, [], ◌∷◌, ◌++◌, map, filter, find, position, length, refl, Option, Some, None, option_map, unwrap_or, IfSome, bytes_eq}
+use Rattle.std.specs.Prelude.{◌≡◌, ◌≢◌, ℕ, ◌+◌, ◌<◌, ◌==◌, nat_lt, ◌||◌, ◌⊎◌, Bool, true, false, not, List, [], ◌∷◌, ◌++◌, map, filter, find, position, length, refl, Option, Some, None, option_map, unwrap_or, IfSome, bytes_eq}
 use Rattle.std.specs.List.{AllByRecursion, list_all}
 use Rattle.std.specs.Option.{option_or, option_map_or}
 use Rattle.std.proofs.Common.{sym, ◌∙◌, ap, subst, inl, inr, arith, append_assoc, append-nil}
-use Rattle.std.proofs.lemmas.Bool.{cases_Bool, eq-eqb}
+use Rattle.std.proofs.lemmas.Bool.{cases_Bool, eq-eqb, and_from, lt-ltb}
 use Rattle.std.proofs.lemmas.List.{map-append}
 use Rattle.std.proofs.lemmas.Slice.Eq.{bytes_eq-Decides}
+use Rattle.std.proofs.lemmas.List.Elements.{filter_agree}
 use Rattle.sg_model.specs.Last.{Map, merge, has, last, after_last, up_to_last}
 use Rattle.sg_model.specs.Lists.{value_at, in_order, keys_of, is_in, same_text, first_some}
 use Rattle.sg_model.specs.Shape.{Walk, end_of, role_at, target, sender, receiver}
 use Rattle.sg_model.specs.Values.{Opening}
+use Rattle.sg_model.proofs.Small.{clash, bytes_refl, cases_Option, all-right, no_last}
 use Rattle.sg_protocol.specs.Graph.{Graph, IsGraph, shape, writes, reads}
 use Rattle.sg_protocol.specs.Evidence.{IsView, IsViewTable, has_view}
 use Rattle.sg_protocol.specs.Targets.{IsTargetTable}
@@ -36,24 +38,10 @@ use Rattle.sg_protocol.proofs.Entries.{Roles, edges_same}
 use Rattle.sg_protocol.proofs.Moves.{step}
 use Rattle.sg_protocol.proofs.Reduced.{by_role, tags_but, lead, left_by, reduced, has-reduced, lead-lead, committed_reduced}
 use Rattle.sg_protocol.proofs.KeptLaws.{value_at-in_order, value_at-merge}
-use Rattle.sg_protocol.proofs.Ends.{no_last, below_same, committed-append, labels, last_bare, same_last, committed_same, after_all}
-use Rattle.sg_protocol.proofs.Relay.{all-right, tag_said, TagsOk, StepsOk, OpensAt, RelayOk}
+use Rattle.sg_protocol.proofs.Ends.{below_same, committed-append, labels, last_bare, same_last, committed_same, after_all}
+use Rattle.sg_protocol.proofs.Relay.{tag_said, TagsOk, StepsOk, OpensAt, RelayOk}
 use Rattle.sg_protocol.proofs.SeenItems.{view_is, view_there}
-use Rattle.sg_protocol.proofs.RowLemmas.{all_position, all_find, tags_keys, tag_kept, tag_there, filter_same, lead_nil, roles_reduced, roles_test, less, rises_reduced, times_good, last_of_role, none5}
-
-cases_Option : {A : Type 0} (o : Option A) → (o ≡ None) ⊎ ((x : A) × (o ≡ Some x))
-cases_Option None = inl refl
-cases_Option (Some x) = inr (x, refl)
-
-clash : (b : Bool) → b ≡ true → b ≡ false → ⊥
-clash b t f = absurd (cc)
-
-and_both : (a b : Bool) → a ≡ true → b ≡ true → (a && b) ≡ true
-and_both true b h k = k
-and_both false b h k = h
-
-same_self : (t : List ℕ) → bytes_eq t t ≡ true
-same_self t = (bytes_eq-Decides t t).1 refl
+use Rattle.sg_protocol.proofs.RowLemmas.{all_position, all_find, tags_keys, tag_kept, tag_there, lead_nil, roles_reduced, roles_test, rises_reduced, times_good, last_of_role, none5}
 
 module _ (sha : Hash) (keys : List PairKey) (sid : List ℕ) (cast : Cast) (targets : ℕ → List ℕ) (p : Program) (x : Session) (f : Frame) (done before : List Item) (item : Item) (me : Keyring)
     (is : IsGraph p.graph) (so : StepsOk sha keys sid cast targets p.graph done) (k : RelayOk sha keys sid cast targets p.graph done x) (wait : at_turn p.graph x ≡ false) (views : IsViewTable p.graph x.role p.views) (table : IsTargetTable p.graph p.targets) (same_targets : (e : ℕ) → targets_of p e ≡ targets e)
@@ -124,7 +112,7 @@ module _ (sha : Hash) (keys : List PairKey) (sid : List ℕ) (cast : Cast) (targ
 
   frame_tag_ok : has_frame_tag sha me x f ≡ true
   frame_tag_ok =
-      and_both (nat_lt f.sender (length x.cast.names)) (bytes_eq (tag_for sha me x.cast f.sender (text_of f)) f.tag) (subst (λ (c : Cast). nat_lt f.sender (length c.names) ≡ true) (sym same_cast) (less f.sender (length cast.names) small))
+      and_from (nat_lt f.sender (length x.cast.names)) (bytes_eq (tag_for sha me x.cast f.sender (text_of f)) f.tag) (subst (λ (c : Cast). nat_lt f.sender (length c.names) ≡ true) (sym same_cast) (lt-ltb f.sender (length cast.names) small))
       ((bytes_eq-Decides (tag_for sha me x.cast f.sender (text_of f)) f.tag).1 (ap (λ c. tag_for sha me c f.sender (text_of f)) same_cast ∙ key_pair f.sender (text_of f) ∙ ap (λ r. tag_for sha (keyring_of keys (principal cast f.sender)) cast r (text_of f)) (sym role_is) ∙ sym tag_is))
 
   -- ---- the form of the frame
@@ -172,9 +160,9 @@ module _ (sha : Hash) (keys : List PairKey) (sid : List ℕ) (cast : Cast) (targ
   right_tags b [] h = refl
   right_tags b (i ∷ xs) h = elim (cases_Bool (has by_role i.role xs)) [
     | inl e ↦ rw e (tags_lead i.delta (reduced g xs) ∙ right_tags (b ++ i ∷ []) xs h.1)
-    | inr e ↦ rw e (and_both (bytes_eq (keys_of (tags_but xs i.tags)) (filter (λ t. not (has by_role t (reduced g xs))) (targets_of p i.label))) (has_right_tags p (reduced g xs)) ((bytes_eq-Decides (keys_of (tags_but xs i.tags)) (filter (λ t. not (has by_role t (reduced g xs))) (targets_of p i.label))).1 (
+    | inr e ↦ rw e (and_from (bytes_eq (keys_of (tags_but xs i.tags)) (filter (λ t. not (has by_role t (reduced g xs))) (targets_of p i.label))) (has_right_tags p (reduced g xs)) ((bytes_eq-Decides (keys_of (tags_but xs i.tags)) (filter (λ t. not (has by_role t (reduced g xs))) (targets_of p i.label))).1 (
         tags_keys xs i.tags ∙ ap (filter (λ t. not (has by_role t xs))) (ap keys_of h.0 ∙ keys_same (tag_said sha keys sid cast targets g b i) (targets i.label) ∙ sym (same_targets i.label))
-        ∙ filter_same (λ t. not (has by_role t xs)) (λ t. not (has by_role t (reduced g xs))) (λ t. ap not (sym (has-reduced g t xs))) (targets_of p i.label))) (right_tags (b ++ i ∷ []) xs h.1))
+        ∙ filter_agree (λ t. not (has by_role t xs)) (λ t. not (has by_role t (reduced g xs))) (λ t. ap not (sym (has-reduced g t xs))) (targets_of p i.label))) (right_tags (b ++ i ∷ []) xs h.1))
   ]
     where
       keys_same : (T : ℕ → List ℕ) (ts : List ℕ) → keys_of (map (λ t. (t, T t)) ts) ≡ ts
@@ -183,10 +171,10 @@ module _ (sha : Hash) (keys : List PairKey) (sid : List ℕ) (cast : Cast) (targ
 
   shown_ok : is_shown p x f ≡ true
   shown_ok =
-      and_both _ (bytes_eq (map (λ (o : Opening). o.variable) f.openings) (option_map_or (reads p.graph) (last_label f.items) [])) (
-      and_both _ (has_right_tags p f.items) (
-      and_both _ (option_map_or (λ (i : Item). i.role == f.sender) (last f.items) false) (
-      and_both (has_view p.views (record { origin = origin x; items = map seen f.items })) (list_all (λ (i : Item). i.role == sender (shape p.graph) i.label) f.items)
+      and_from _ (bytes_eq (map (λ (o : Opening). o.variable) f.openings) (option_map_or (reads p.graph) (last_label f.items) [])) (
+      and_from _ (has_right_tags p f.items) (
+      and_from _ (option_map_or (λ (i : Item). i.role == f.sender) (last f.items) false) (
+      and_from (has_view p.views (record { origin = origin x; items = map seen f.items })) (list_all (λ (i : Item). i.role == sender (shape p.graph) i.label) f.items)
       (view_there p.views (record { origin = origin x; items = map seen f.items }) ((views.each (record { origin = origin x; items = map seen f.items })).1 viewed))
       (subst (λ l. list_all (λ (i : Item). i.role == sender (shape p.graph) i.label) l ≡ true) (sym items_since) (roles_test g (reduced g k.since) (roles_reduced g k.since roles_since))))
       (ap (λ o. option_map_or (λ (i : Item). i.role == f.sender) o false) last_shown.1 ∙ eq-eqb (last_shown.0).role f.sender (ap (λ b. b.role) last_shown.2 ∙ sym sender_is)))
@@ -217,15 +205,15 @@ module _ (sha : Hash) (keys : List PairKey) (sid : List ℕ) (cast : Cast) (targ
       ∙ ap (option_or (committed v k.since)) (own_committed v l) ∙ sym (committed-append v k.past k.since) ∙ ap (committed v) (sym k.parts)
 
   opening_ok : (o : Opening) → o.variable < length g.variables → OpensAt sha keys sid cast targets g done o → is_right sha p.graph x f o ≡ true
-  opening_ok o l h = and_both (has_kind p.graph o) (same_text (shown_commitments x f o.variable) (commitment sha x.sid o)) h.kind
-      (ap (λ z. same_text z (commitment sha x.sid o)) (shown_committed o.variable l ∙ h.fits) ∙ ap (λ z. bytes_eq (commitment sha z o) (commitment sha x.sid o)) (sym same_sid) ∙ same_self (commitment sha x.sid o))
+  opening_ok o l h = and_from (has_kind p.graph o) (same_text (shown_commitments x f o.variable) (commitment sha x.sid o)) h.kind
+      (ap (λ z. same_text z (commitment sha x.sid o)) (shown_committed o.variable l ∙ h.fits) ∙ ap (λ z. bytes_eq (commitment sha z o) (commitment sha x.sid o)) (sym same_sid) ∙ bytes_refl (commitment sha x.sid o))
 
   openings_ok : list_all (is_right sha p.graph x f) f.openings ≡ true
   openings_ok = go f.openings (λ v h. reads_small item.label v (ap (is_in v) (sym opened.0) ∙ h)) opened.1
     where
       go : (os : List Opening) → ((v : ℕ) → is_in v (map (λ (o : Opening). o.variable) os) ≡ true → v < length g.variables) → AllByRecursion (OpensAt sha keys sid cast targets p.graph done) os → list_all (is_right sha p.graph x f) os ≡ true
       go [] l h = refl
-      go (o ∷ os) l h = and_both (is_right sha p.graph x f o) (list_all (is_right sha p.graph x f) os) (opening_ok o (l o.variable (rw (eq-eqb o.variable o.variable refl) refl)) h.0) (go os (λ v i. l v (later v i (cases_Bool (o.variable == v)))) h.1)
+      go (o ∷ os) l h = and_from (is_right sha p.graph x f o) (list_all (is_right sha p.graph x f) os) (opening_ok o (l o.variable (rw (eq-eqb o.variable o.variable refl) refl)) h.0) (go os (λ v i. l v (later v i (cases_Bool (o.variable == v)))) h.1)
         where
           later : (v : ℕ) → is_in v (map (λ (o : Opening). o.variable) os) ≡ true → ((o.variable == v) ≡ true) ⊎ ((o.variable == v) ≡ false) → is_in v (map (λ (o : Opening). o.variable) (o ∷ os)) ≡ true
           later v i (inl e) = rw e refl
@@ -310,7 +298,7 @@ module _ (sha : Hash) (keys : List PairKey) (sid : List ℕ) (cast : Cast) (targ
 
       one : (front : List Item) (j : Item) (zs : List Item) → list_all (has_item_tag sha me x) (checked_texts g x (front ++ j ∷ []) zs) ≡ true → (zs ≢ [] → has_item_tag sha me x (j, text_to g x front j x.role) ≡ true) → list_all (has_item_tag sha me x) (checked_texts g x front (j ∷ zs)) ≡ true
       one front j [] l h = refl
-      one front j (z ∷ zs) l h = and_both (has_item_tag sha me x (j, text_to g x front j x.role)) (list_all (has_item_tag sha me x) (checked_texts g x (front ++ j ∷ []) (z ∷ zs))) (h (λ q. (let y : z ∷ zs ≡ [] = q in absurd (cc)))) l
+      one front j (z ∷ zs) l h = and_from (has_item_tag sha me x (j, text_to g x front j x.role)) (list_all (has_item_tag sha me x) (checked_texts g x (front ++ j ∷ []) (z ∷ zs))) (h (λ q. (let y : z ∷ zs ≡ [] = q in absurd (cc)))) l
 
       target_of : (ys : List Item) → reduced g ys ≢ [] → has by_role i.role ys ≡ false → has by_role x.role ys ≡ false → Roles (shape g) (i ∷ ys) → Walk (shape g) m (labels (i ∷ ys)) → role_at (shape g) (end_of (shape g) m (labels (i ∷ ys))) ≡ x.role → has by_role x.role (i ∷ ys) ≡ false → is_in x.role (targets i.label) ≡ true
       target_of [] some h n' r w e n = absurd (some refl)

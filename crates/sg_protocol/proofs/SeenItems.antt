@@ -1,30 +1,24 @@
 -- What is seen of reduced items is what is seen of their walk.
-use Rattle.std.specs.Prelude.{◌≡◌, ℕ, zero, suc, ◌+◌, ◌<◌, ◌≤◌, ◌==◌, ◌||◌, ◌&&◌, Bool, true, false, not, List, [], ◌∷◌, ◌++◌, map, filter, filter_map, length, refl, Option, Some, None, option_map, bytes_eq, Contains, ⊤}
+use Rattle.std.specs.Prelude.{◌≡◌, ℕ, zero, suc, ◌+◌, ◌<◌, ◌≤◌, ◌==◌, ◌||◌, ◌&&◌, Bool, true, false, not, List, [], ◌∷◌, map, filter, filter_map, length, refl, Option, Some, None, option_map, bytes_eq, Contains, ⊤}
 use Rattle.std.specs.List.{AllByRecursion}
 use Rattle.std.proofs.Common.{sym, ◌∙◌, ap, subst, inl, inr, arith}
-use Rattle.std.proofs.lemmas.Bool.{cases_Bool, eqb-true, eq-eqb, ne_eqb}
+use Rattle.std.proofs.lemmas.Bool.{cases_Bool, eqb-true, eq-eqb, ne_eqb, and_from}
 use Rattle.std.proofs.lemmas.Bool.Decides.{nat_tests}
 use Rattle.std.proofs.lemmas.List.{map-append}
-use Rattle.std.proofs.lemmas.Slice.Eq.{bytes_eq-Decides}
 use Rattle.sg_model.specs.Last.{Map, Entry, merge, has, last, after_last, up_to_last, carry, evidence, evidence_for}
 use Rattle.sg_model.specs.Lists.{value_at, in_order, below, range_from, keys_of, is_in}
 use Rattle.sg_model.specs.Shape.{sender}
+use Rattle.sg_model.proofs.Small.{bytes_refl}
 use Rattle.sg_protocol.specs.Graph.{Graph, shape, writes}
 use Rattle.sg_protocol.specs.Evidence.{View, Seen, view_of, walked, rising, same_origin, same_items, same_view, has_view}
 use Rattle.sg_protocol.specs.Frame.{Item}
 use Rattle.sg_protocol.specs.Verdict.{seen}
 use Rattle.sg_law.proofs.Cut as Cut'
+use Rattle.sg_law.proofs.Lists.{is_in-append}
 use Rattle.sg_protocol.proofs.Entries.{Roles}
 use Rattle.sg_protocol.proofs.Reduced.{by_role, lead, reduced}
 use Rattle.sg_protocol.proofs.Ends.{labels}
 use Rattle.sg_protocol.proofs.Known.{value_none}
-
-and_both : (a b : Bool) → a ≡ true → b ≡ true → (a && b) ≡ true
-and_both true b h k = k
-and_both false b h k = h
-
-same_self : (t : List ℕ) → bytes_eq t t ≡ true
-same_self t = (bytes_eq-Decides t t).1 refl
 
 keys_picked : (m : Map (List ℕ)) (xs : List ℕ) → keys_of (filter_map (λ x. option_map (λ v. (x, v)) (value_at m x)) xs) ≡ filter (λ x. is_in x (keys_of m)) xs
 keys_picked m [] = refl
@@ -40,16 +34,8 @@ keys_picked m (x ∷ xs) = elim (cases_Bool (is_in x (keys_of m))) [
 pub keys_in_order : (n : ℕ) (m : Map (List ℕ)) → keys_of (in_order n m) ≡ rising n (keys_of m)
 keys_in_order n m = keys_picked m (below n)
 
-in-append : (x : ℕ) (ps bs : List ℕ) → is_in x (ps ++ bs) ≡ (is_in x ps || is_in x bs)
-in-append x [] bs = refl
-in-append x (a ∷ ps) bs = ap (λ b. (a == x) || b) (in-append x ps bs) ∙ assoc (a == x) (is_in x ps) (is_in x bs)
-  where
-    assoc : (a b c : Bool) → (a || (b || c)) ≡ ((a || b) || c)
-    assoc true b c = refl
-    assoc false b c = refl
-
 pub in_merge : {A : Type 0} (x : ℕ) (a b : Map A) → is_in x (keys_of (merge a b)) ≡ (is_in x (keys_of a) || is_in x (keys_of b))
-in_merge {A = A} x a b = ap (is_in x) (map-append (λ (w : ℕ × A). w.0) (filter (λ (w : ℕ × A). not (has (λ (y : ℕ × A). y.0) w.0 b)) a) b) ∙ in-append x (keys_of (filter (λ (w : ℕ × A). not (has (λ (y : ℕ × A). y.0) w.0 b)) a)) (keys_of b) ∙ go a
+in_merge {A = A} x a b = ap (is_in x) (map-append (λ (w : ℕ × A). w.0) (filter (λ (w : ℕ × A). not (has (λ (y : ℕ × A). y.0) w.0 b)) a) b) ∙ is_in-append x (keys_of (filter (λ (w : ℕ × A). not (has (λ (y : ℕ × A). y.0) w.0 b)) a)) (keys_of b) ∙ go a
   where
     has_in : (x : ℕ) (m : Map A) → has (λ (y : ℕ × A). y.0) x m ≡ is_in x (keys_of m)
     has_in x [] = refl
@@ -192,9 +178,9 @@ same_origin_self (Some a) = eq-eqb a a refl
 
 same_items_self : (xs : List Seen) → same_items xs xs ≡ true
 same_items_self [] = refl
-same_items_self (x ∷ xs) = and_both ((x.label == x.label) && bytes_eq x.delta x.delta) (same_items xs xs) (and_both (x.label == x.label) (bytes_eq x.delta x.delta) (eq-eqb x.label x.label refl) (same_self x.delta)) (same_items_self xs)
+same_items_self (x ∷ xs) = and_from ((x.label == x.label) && bytes_eq x.delta x.delta) (same_items xs xs) (and_from (x.label == x.label) (bytes_eq x.delta x.delta) (eq-eqb x.label x.label refl) (bytes_refl x.delta)) (same_items_self xs)
 
 pub view_there : (table : List View) (v : View) → Contains table v → has_view table v ≡ true
 view_there [] v c = absurd (let l = c.1 in omega (arith, l))
-view_there (w ∷ ws) v (zero, l, e) = rw (subst (λ z. same_view v z ≡ true) (sym e) (and_both (same_origin v.origin v.origin) (same_items v.items v.items) (same_origin_self v.origin) (same_items_self v.items))) refl
+view_there (w ∷ ws) v (zero, l, e) = rw (subst (λ z. same_view v z ≡ true) (sym e) (and_from (same_origin v.origin v.origin) (same_items v.items v.items) (same_origin_self v.origin) (same_items_self v.items))) refl
 view_there (w ∷ ws) v (suc k, l, e) = elim (cases_Bool (same_view v w)) [ inl h ↦ rw h refl | inr h ↦ rw h (view_there ws v (k, omega (arith, l), e)) ]

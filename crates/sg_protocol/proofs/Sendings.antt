@@ -3,9 +3,8 @@ use Rattle.std.specs.Prelude.{◌≡◌, ◌≢◌, ℕ, ◌+◌, ◌==◌, nat_
 use Rattle.std.specs.List.{list_any, AllByRecursion}
 use Rattle.std.specs.Option.{option_map_or}
 use Rattle.std.proofs.Common.{sym, ◌∙◌, ap, subst, inl, inr}
-use Rattle.std.proofs.lemmas.Bool.{eqb-true}
-use Rattle.std.proofs.lemmas.List.Elements.{All-head, All-tail}
-use Rattle.std.proofs.lemmas.Slice.Eq.{bytes_eq-Decides}
+use Rattle.std.proofs.lemmas.Bool.{eqb-true, cases_Bool, and_parts}
+use Rattle.std.proofs.lemmas.List.Elements.{All-head, All-tail, filter-append}
 use Rattle.sg_model.specs.Last.{Map, last}
 use Rattle.sg_model.specs.Lists.{first_some}
 use Rattle.sg_model.specs.Values.{Value}
@@ -24,16 +23,17 @@ use Rattle.sg_protocol.specs.Notes.{Note, note_of, notes_in_session, notes_of_se
 use Rattle.sg_protocol.specs.Schedule.{Schedule, is_honest, honest_role, Step, StartStep, ActStep, AbandonStep, DeliverStep, CraftStep, PairKey, cast_of, sid_at, confounder}
 use Rattle.sg_law.proofs.Upto.{In}
 use Rattle.sg_law.proofs.Take.{contains_from_in}
-use Rattle.sg_protocol.proofs.Moves.{and_parts, not_false, none_parts, row_none, note_text, note_both, in_left, in_right}
+use Rattle.sg_protocol.proofs.Moves.{row_none, note_text, note_both}
 use Rattle.sg_protocol.specs.Acting.{rows_of_act, openings_for, answer, answer_act, started, acted, sent, rows_of_start}
 use Rattle.sg_protocol.proofs.TextLaws.{one_item, one_body, one_frame, kinds_differ}
 use Rattle.std.specs.Prelude.{Result, Ok, Err, option_and_then}
 use Rattle.sg_model.specs.Bytes.{IsBytes}
+use Rattle.sg_model.proofs.Small.{not_false, same_bytes, none_parts, both_nil, all-append}
+use Rattle.sg_law.proofs.Members.{in_left, in_right, in_flat, in_parts}
 use Rattle.sg_protocol.specs.Reading.{read}
 use Rattle.sg_protocol.specs.Node.{Node, is_for, is_cast, stranger, session_with, session_for, has_joined, program_for, starter}
 use Rattle.sg_protocol.specs.NodeAfter.{node_after, joined, goes_on, replace, still, is_over, takes_read}
 use Rattle.sg_protocol.specs.Spelling as Spelling'
-use Rattle.sg_protocol.proofs.Isolation.{filter-append}
 use Rattle.sg_protocol.proofs.TextLaws.{cast_fits, opening_fits}
 use Rattle.sg_protocol.proofs.ReadBack.{read-SpellsFrame}
 use Rattle.sg_protocol.proofs.Acts as C
@@ -44,10 +44,9 @@ use Rattle.sg_protocol.specs.Crafted.{crafted}
 use Rattle.sg_protocol.specs.Premises.{hashed, MadeBefore, Premises}
 use Rattle.sg_protocol.specs.IsSchedule.{IsSchedule, IsStep, AreCompiled, IsPairKey}
 use Rattle.sg_law.proofs.Upto.{in_from_Contains}
-use Rattle.sg_protocol.proofs.Calls.{find_passes, find_all}
+use Rattle.sg_protocol.proofs.Finding.{find_passes, find_all}
 use Rattle.sg_protocol.proofs.TextLaws.{one_opening, one_cast, one_canonical}
 use Rattle.sg_protocol.proofs.TextLaws as TL
-use Rattle.sg_protocol.proofs.Course.{in_flat}
 use Rattle.sg_protocol.proofs.Course.{past_called, next_past, node_more, Suffix, suffix_all, in_after}
 use Rattle.sg_protocol.proofs.Whole.{FirstCast, first_past, found_in}
 use Rattle.sg_protocol.proofs.First.{first_cast}
@@ -56,31 +55,16 @@ use Rattle.sg_protocol.specs.Receipts.{ReceiptsHaveSends, IsTaken, WasSent}
 use Rattle.sg_protocol.proofs.Fits.{Fit, fit_new, fit_next, fit_bytes, fit_sends, casts_fit, ActSent, act_sends}
 use Rattle.sg_protocol.proofs.TextLaws as TL
 
-cases_Bool : (b : Bool) → (b ≡ true) ⊎ (b ≡ false)
-cases_Bool true = inl refl
-cases_Bool false = inr refl
-
-same_bytes_ : (a b : List ℕ) → bytes_eq a b ≡ true → a ≡ b
-same_bytes_ a b h = (bytes_eq-Decides a b).0 h
-
-all_cat : {A : Type 0} (P : A → Type 0) (xs ys : List A) → AllByRecursion P xs → AllByRecursion P ys → AllByRecursion P (xs ++ ys)
-all_cat P [] ys a b = b
-all_cat P (x ∷ xs) ys a b = (a.0, all_cat P xs ys a.1 b)
-
 replace_all : {P : Session → Type 0} (which : Session → Bool) (now : Session → List Session) (xs : List Session) → ((z : Session) → which z ≡ true → P z → AllByRecursion P (now z)) → AllByRecursion P xs → AllByRecursion P (replace which now xs)
 replace_all which now [] f a = tt
 replace_all {P} which now (x ∷ xs) f a = elim (cases_Bool (which x)) [
-  | inl e ↦ rw e (all_cat P (now x) xs (f x e a.0) a.1)
+  | inl e ↦ rw e (all-append P (now x) xs (f x e a.0) a.1)
   | inr e ↦ rw e (a.0, replace_all {P = P} which now xs f a.1)
 ]
 
 any_none : (sid : List ℕ) (es : List Event) → filter (λ e. bytes_eq (sid_of e) sid) es ≡ [] → list_any (λ e. bytes_eq (sid_of e) sid) es ≡ false
 any_none sid [] h = refl
 any_none sid (e ∷ es) h = elim (cases_Bool (bytes_eq (sid_of e) sid)) [ inl k ↦ (let f = rw k at h in absurd (cc)) | inr k ↦ rw k (any_none sid es (rw k at h)) ]
-
-both_nil : {A : Type 0} (xs ys : List A) → xs ++ ys ≡ [] → (xs ≡ []) × (ys ≡ [])
-both_nil [] ys e = (refl, e)
-both_nil (x ∷ xs) ys e = absurd (cc)
 
 -- where a session has no event, no entry is of it
 pub no_entry : (sid : List ℕ) (log : List Logged) → events_of sid log ≡ [] → find (λ (l : Logged). list_any (λ e. bytes_eq (sid_of e) sid) (events_of_outcome l.outcome)) log ≡ None
@@ -96,7 +80,7 @@ key_same [] h a b = refl
 key_same (k ∷ ks) h a b = go (cases_Bool (bytes_eq k.one a)) (cases_Bool (bytes_eq k.one b)) (cases_Bool (bytes_eq k.two a)) (cases_Bool (bytes_eq k.two b)) (key_same ks h.1 a b)
   where
     differ : (x : Name) → bytes_eq k.one x ≡ true → bytes_eq k.two x ≡ true → ⊥
-    differ x p q = h.0 (same_bytes_ k.one x p ∙ sym (same_bytes_ k.two x q))
+    differ x p q = h.0 (same_bytes k.one x p ∙ sym (same_bytes k.two x q))
 
     go : ((bytes_eq k.one a ≡ true) ⊎ (bytes_eq k.one a ≡ false)) → ((bytes_eq k.one b ≡ true) ⊎ (bytes_eq k.one b ≡ false)) → ((bytes_eq k.two a ≡ true) ⊎ (bytes_eq k.two a ≡ false)) → ((bytes_eq k.two b ≡ true) ⊎ (bytes_eq k.two b ≡ false)) → key_of (keyring_of ks a) b ≡ key_of (keyring_of ks b) a → key_of (keyring_of (k ∷ ks) a) b ≡ key_of (keyring_of (k ∷ ks) b) a
     go (inl p) (inl q) (inl r) (inl t) ih = absurd (differ a p r)
@@ -138,7 +122,7 @@ module _ (sha : Hash) (hash : IsHash sha) (programs : List Program) (s : Schedul
         by_rows p None e hs =
             let one = none_parts (row (not (is_cast n.keys p.graph c p.role)) StartFault.BadCast) (option_map StartFault.UnknownPeer (stranger n.keys c) ∷ row (has_joined n.joins (session_id sha c) p.role) StartFault.Joined ∷ row (nat_le 65536 (length n.joins)) StartFault.CacheFull ∷ row (nat_le 4096 (length n.live)) StartFault.SessionsFull ∷ []) e in
             let ic : is_cast n.keys p.graph c p.role ≡ true = not_false (is_cast n.keys p.graph c p.role) (row_none _ _ one.0) in
-            all_cat (Known who) n.live (still n.programs (new_session (session_id sha c) c p.role)) live (still_known who n.programs (new_session (session_id sha c) c p.role) record { id = refl; is_hashed = hs (session_text_of c) (inl refl); me = same_bytes_ (principal c p.role) n.keys.me (and_parts _ (bytes_eq (principal c p.role) n.keys.me) ic).1 ∙ me })
+            all-append (Known who) n.live (still n.programs (new_session (session_id sha c) c p.role)) live (still_known who n.programs (new_session (session_id sha c) c p.role) record { id = refl; is_hashed = hs (session_text_of c) (inl refl); me = same_bytes (principal c p.role) n.keys.me (and_parts _ (bytes_eq (principal c p.role) n.keys.me) ic).1 ∙ me })
 
         by_program : (o : Option Program) → let a : Answer = option_map_or (λ (p : Program). started (session_id sha c) p.role (first_some (rows_of_start n p (session_id sha c) c))) o (NotStarted StartFault.UnknownGraph) in
             ((t : List ℕ) → In (notes_of_start c a).hashed t → In (hashed s wf) t) → AllByRecursion (Known who) (node_after n (Start c) a).live
@@ -175,7 +159,7 @@ module _ (sha : Hash) (hash : IsHash sha) (programs : List Program) (s : Schedul
                 let r3 = none_parts (row (not (bytes_eq f.sid (session_id sha c))) BadSession) (row (has_joined n.joins f.sid f.receiver) Joined ∷ row (nat_le 65536 (length n.joins)) CacheFull ∷ row (nat_le 4096 (length n.live)) SessionsFull ∷ rows_of_session sha n.keys p x f) r2.1 in
                 let ic : is_cast n.keys p.graph c f.receiver ≡ true = (and_parts (is_cast n.keys p.graph c f.receiver) (nat_lt f.sender (length c.names)) (not_false (is_cast n.keys p.graph c f.receiver && nat_lt f.sender (length c.names)) (row_none _ _ r1.0))).0 in
                 let in_hashed : In (notes_of_read sha n (Ok f)).hashed (session_text_of c) = in_left (hashed_of_join f (row_number (first_some (rows sha n f)))) _ (session_text_of c) (subst (λ o. In (hashed_of_join f (row_number o)) (session_text_of c)) (sym e) (subst (λ o. In (option_map_or (λ c. session_text_of c ∷ []) o []) (session_text_of c)) (sym j) (inl refl))) in
-                all_cat (Known who) n.live (still n.programs (extended x (Took f))) live (still_known who n.programs (extended x (Took f)) record { id = sym (same_bytes_ f.sid (session_id sha c) (not_false (bytes_eq f.sid (session_id sha c)) (row_none _ _ r3.0))); is_hashed = hs (session_text_of c) in_hashed; me = same_bytes_ (principal c f.receiver) n.keys.me (and_parts _ (bytes_eq (principal c f.receiver) n.keys.me) ic).1 ∙ me })
+                all-append (Known who) n.live (still n.programs (extended x (Took f))) live (still_known who n.programs (extended x (Took f)) record { id = sym (same_bytes f.sid (session_id sha c) (not_false (bytes_eq f.sid (session_id sha c)) (row_none _ _ r3.0))); is_hashed = hs (session_text_of c) in_hashed; me = same_bytes (principal c f.receiver) n.keys.me (and_parts _ (bytes_eq (principal c f.receiver) n.keys.me) ic).1 ∙ me })
 
             by_program : (o : Option Program) → program_for n.programs c.graph f.receiver ≡ o → AllByRecursion (Known who) (joined n (extended (new_session f.sid c f.receiver) (Took f))).live
             by_program None pc = (let q : Some UnknownGraph ≡ None = rows_join None pc in absurd (cc))
@@ -238,9 +222,9 @@ module _ (sha : Hash) (hash : IsHash sha) (programs : List Program) (s : Schedul
 
   idle_logs : (w : World) (k : ℕ) (x : Step) → Fit_ (world_after sha s w k x) → (who : Option Name) (o : Outcome) (fr : Option (List ℕ)) → events_of_outcome o ≡ [] → world_after sha s w k x ≡ uncalled w k who o fr → LogsOk w → LogsOk (world_after sha s w k x)
   idle_logs w k x fit' who o fr none_ e q = subst LogsOk (sym e) record {
-    logs = λ l c i j. elim (C.in_parts w.log _ l i) [ inl a ↦ q.logs l c a j | inr a ↦ elim a [ inl b ↦ (let h : None ≡ Some c = ap (λ (z : Logged). z.call) (sym b) ∙ j in absurd (cc)) | inr b ↦ absurd b ] ];
-    quiet = λ l nt i j k'. elim (C.in_parts w.log _ l i) [ inl a ↦ q.quiet l nt a j k' | inr a ↦ elim a [ inl b ↦ absurd (subst (λ (z : Logged). In z.notes.made nt) b k') | inr b ↦ absurd b ] ];
-    silent = λ l ev i j k'. elim (C.in_parts w.log _ l i) [ inl a ↦ q.silent l ev a j k' | inr a ↦ elim a [ inl b ↦ absurd (subst (λ xs. In xs ev) none_ (subst (λ (z : Logged). In (events_of_outcome z.outcome) ev) b k')) | inr b ↦ absurd b ] ];
+    logs = λ l c i j. elim (in_parts w.log _ l i) [ inl a ↦ q.logs l c a j | inr a ↦ elim a [ inl b ↦ (let h : None ≡ Some c = ap (λ (z : Logged). z.call) (sym b) ∙ j in absurd (cc)) | inr b ↦ absurd b ] ];
+    quiet = λ l nt i j k'. elim (in_parts w.log _ l i) [ inl a ↦ q.quiet l nt a j k' | inr a ↦ elim a [ inl b ↦ absurd (subst (λ (z : Logged). In z.notes.made nt) b k') | inr b ↦ absurd b ] ];
+    silent = λ l ev i j k'. elim (in_parts w.log _ l i) [ inl a ↦ q.silent l ev a j k' | inr a ↦ elim a [ inl b ↦ absurd (subst (λ xs. In xs ev) none_ (subst (λ (z : Logged). In (events_of_outcome z.outcome) ev) b k')) | inr b ↦ absurd b ] ];
     nodes = q.nodes;
     fit = subst Fit_ e fit';
   }
@@ -280,12 +264,12 @@ module _ (sha : Hash) (hash : IsHash sha) (programs : List Program) (s : Schedul
 
   called_logs : (w : World) (k : ℕ) (x : Step) → IsStep sha s x → LogsOk w → (who : Name) (past : Past) → past_of w who ≡ Some past → (c : Call) → call_of sha s w k x ≡ Some c → Fit_ (called sha w k who c past) → Suffix (k + 1) (called sha w k who c past).log wf.log → LogsOk (called sha w k who c past)
   called_logs w k x good q who past its_past c e fit' after = record {
-    logs = λ l d i j. elim (C.in_parts w.log _ l i) [
+    logs = λ l d i j. elim (in_parts w.log _ l i) [
       | inl a ↦ q.logs l d a j
       | inr a ↦ elim a [ inl b ↦ (let h : Some c ≡ Some d = ap (λ (z : Logged). z.call) (sym b) ∙ j in let h' : c ≡ d = cc in subst (λ z. Origin z d) (sym b) (subst (Origin entry_) h' origin)) | inr b ↦ absurd b ]
     ];
-    quiet = λ l nt i j k'. elim (C.in_parts w.log _ l i) [ inl a ↦ q.quiet l nt a j k' | inr a ↦ elim a [ inl b ↦ (let h : Some c ≡ None = ap (λ (z : Logged). z.call) (sym b) ∙ j in absurd (cc)) | inr b ↦ absurd b ] ];
-    silent = λ l ev i j k'. elim (C.in_parts w.log _ l i) [ inl a ↦ q.silent l ev a j k' | inr a ↦ elim a [ inl b ↦ (let h : Some c ≡ None = ap (λ (z : Logged). z.call) (sym b) ∙ j in absurd (cc)) | inr b ↦ absurd b ] ];
+    quiet = λ l nt i j k'. elim (in_parts w.log _ l i) [ inl a ↦ q.quiet l nt a j k' | inr a ↦ elim a [ inl b ↦ (let h : Some c ≡ None = ap (λ (z : Logged). z.call) (sym b) ∙ j in absurd (cc)) | inr b ↦ absurd b ] ];
+    silent = λ l ev i j k'. elim (in_parts w.log _ l i) [ inl a ↦ q.silent l ev a j k' | inr a ↦ elim a [ inl b ↦ (let h : Some c ≡ None = ap (λ (z : Logged). z.call) (sym b) ∙ j in absurd (cc)) | inr b ↦ absurd b ] ];
     nodes = λ me p' e'. nodes_ me p' (past_of w me) refl (sym (past_called sha w k who c past me) ∙ e');
     fit = fit';
   }
@@ -318,10 +302,10 @@ module _ (sha : Hash) (hash : IsHash sha) (programs : List Program) (s : Schedul
       nodes_ me p' None q' e' = absurd (cc)
       nodes_ me p' (Some y) q' e' =
           let r : next_past sha who c y ≡ p' = cc in
-          let is_me : y.keys.me ≡ me = same_bytes_ y.keys.me me (find_passes (λ (z : Past). bytes_eq z.keys.me me) w.pasts y q') in
+          let is_me : y.keys.me ≡ me = same_bytes y.keys.me me (find_passes (λ (z : Past). bytes_eq z.keys.me me) w.pasts y q') in
           elim (cases_Bool (bytes_eq y.keys.me who)) [
             | inl h ↦
-                let same : me ≡ who = sym is_me ∙ same_bytes_ y.keys.me who h in
+                let same : me ≡ who = sym is_me ∙ same_bytes y.keys.me who h in
                 let two : Some y ≡ Some past = sym q' ∙ ap (past_of w) same ∙ its_past in
                 let y_past : y ≡ past = cc in
                 let after_ : past_after sha past c ≡ p' = ap (λ z. past_after sha z c) (sym y_past) ∙ (rw h at r) in
@@ -337,9 +321,9 @@ module _ (sha : Hash) (hash : IsHash sha) (programs : List Program) (s : Schedul
   past_logs : (w : World) (k : ℕ) (x : Step) → IsStep sha s x → LogsOk w → (who : Name) (o : Option Past) → past_of w who ≡ o → (c : Option Call) → call_of sha s w k x ≡ c → Fit_ (option_map_or (called_if sha w k who c) o w) → Suffix (k + 1) (option_map_or (called_if sha w k who c) o w).log wf.log → LogsOk (option_map_or (called_if sha w k who c) o w)
   past_logs w k x good q who None e c e2 fit' after = q
   past_logs w k x good q who (Some past) e None e2 fit' after = record {
-    logs = λ l d i j. elim (C.in_parts w.log _ l i) [ inl a ↦ q.logs l d a j | inr a ↦ elim a [ inl b ↦ (let h : None ≡ Some d = ap (λ (z : Logged). z.call) (sym b) ∙ j in absurd (cc)) | inr b ↦ absurd b ] ];
-    quiet = λ l nt i j k'. elim (C.in_parts w.log _ l i) [ inl a ↦ q.quiet l nt a j k' | inr a ↦ elim a [ inl b ↦ absurd (subst (λ (z : Logged). In z.notes.made nt) b k') | inr b ↦ absurd b ] ];
-    silent = λ l ev i j k'. elim (C.in_parts w.log _ l i) [ inl a ↦ q.silent l ev a j k' | inr a ↦ elim a [ inl b ↦ absurd (subst (λ (z : Logged). In (events_of_outcome z.outcome) ev) b k') | inr b ↦ absurd b ] ];
+    logs = λ l d i j. elim (in_parts w.log _ l i) [ inl a ↦ q.logs l d a j | inr a ↦ elim a [ inl b ↦ (let h : None ≡ Some d = ap (λ (z : Logged). z.call) (sym b) ∙ j in absurd (cc)) | inr b ↦ absurd b ] ];
+    quiet = λ l nt i j k'. elim (in_parts w.log _ l i) [ inl a ↦ q.quiet l nt a j k' | inr a ↦ elim a [ inl b ↦ absurd (subst (λ (z : Logged). In z.notes.made nt) b k') | inr b ↦ absurd b ] ];
+    silent = λ l ev i j k'. elim (in_parts w.log _ l i) [ inl a ↦ q.silent l ev a j k' | inr a ↦ elim a [ inl b ↦ absurd (subst (λ (z : Logged). In (events_of_outcome z.outcome) ev) b k') | inr b ↦ absurd b ] ];
     nodes = q.nodes;
     fit = fit';
   }
@@ -382,7 +366,7 @@ module _ (sha : Hash) (hash : IsHash sha) (programs : List Program) (s : Schedul
   tag_row : (keys : Keyring) (p : Program) (x : Session) (f : Frame) → first_some (rows_of_session sha keys p x f) ≡ None → tag_for sha keys x.cast f.sender (text_of f) ≡ f.tag
   tag_row keys p x f h =
       let one = none_parts (row (not (has_frame_tag sha keys x f)) BadFrameTag) (row (not (is_shown p x f)) NoSuchView ∷ bad_time 1 (own_time x) f.items ∷ option_map (λ n. BadEvidence (n + 1)) (position (λ c. not (has_item_tag sha keys x c)) (texts_checked p.graph x f)) ∷ option_map (λ o. BadOpening o.variable) (find (λ o. not (is_right sha p.graph x f o)) f.openings) ∷ []) h in
-      same_bytes_ (tag_for sha keys x.cast f.sender (text_of f)) f.tag (and_parts (nat_lt f.sender (length x.cast.names)) (bytes_eq (tag_for sha keys x.cast f.sender (text_of f)) f.tag) (not_false (has_frame_tag sha keys x f) (row_none _ _ one.0))).1
+      same_bytes (tag_for sha keys x.cast f.sender (text_of f)) f.tag (and_parts (nat_lt f.sender (length x.cast.names)) (bytes_eq (tag_for sha keys x.cast f.sender (text_of f)) f.tag) (not_false (has_frame_tag sha keys x f) (row_none _ _ one.0))).1
 
   module _ (who : Name) (n : Node) (me : n.keys.me ≡ who) (live : AllByRecursion (Known who) n.live) (fit : AllByRecursion FitSession n.live) (f : Frame) (spelled : HasSpelling f) (none : first_some (rows sha n f) ≡ None)
       (hs : (t : List ℕ) → In (notes_of_read sha n (Ok f)).hashed t → In (hashed s wf) t) where
@@ -408,9 +392,9 @@ module _ (sha : Hash) (hash : IsHash sha) (programs : List Program) (s : Schedul
         record {
           cast = c;
           fits = TL.cast_fits c (subst IsVersion (sym co.version) spelled.fields.version) (subst (λ v. IsCastOf v c) (sym co.version) co);
-          id = sym (same_bytes_ f.sid (session_id sha c) (not_false (bytes_eq f.sid (session_id sha c)) (row_none _ _ r3.0)));
+          id = sym (same_bytes f.sid (session_id sha c) (not_false (bytes_eq f.sid (session_id sha c)) (row_none _ _ r3.0)));
           is_hashed = hs (session_text_of c) (in_left (hashed_of_join f (row_number (first_some (rows sha n f)))) _ (session_text_of c) (subst (λ o. In (hashed_of_join f (row_number o)) (session_text_of c)) (sym none) (subst (λ o. In (option_map_or (λ c. session_text_of c ∷ []) o []) (session_text_of c)) (sym j) (inl refl))));
-          me = same_bytes_ (principal c f.receiver) n.keys.me (and_parts _ (bytes_eq (principal c f.receiver) n.keys.me) ic).1 ∙ me;
+          me = same_bytes (principal c f.receiver) n.keys.me (and_parts _ (bytes_eq (principal c f.receiver) n.keys.me) ic).1 ∙ me;
           version = co.version;
           found = note_there p x sess;
           tag_is = tag_row n.keys p x f r6.1;
@@ -434,7 +418,7 @@ module _ (sha : Hash) (hash : IsHash sha) (programs : List Program) (s : Schedul
             record {
               cast = x.cast;
               fits = TL.cast_fits x.cast fx.version fx.cast;
-              id = k.id ∙ same_bytes_ x.sid f.sid w2.0;
+              id = k.id ∙ same_bytes x.sid f.sid w2.0;
               is_hashed = k.is_hashed;
               me = ap (principal x.cast) (sym (eqb-true x.role f.receiver w2.1)) ∙ k.me;
               version = eqb-true x.cast.version f.version w1.1;
@@ -527,7 +511,7 @@ module _ (sha : Hash) (hash : IsHash sha) (programs : List Program) (s : Schedul
           i_of x p f o e i = subst (λ o. In (option_map_or (λ p. notes_of_sent n.keys p x f (openings_for values confs)) o no_notes).made nt) e i
 
           of_sent : (x : Session) (p : Program) (f : Frame) → In (notes_of_sent n.keys p x f (openings_for values confs)).made nt → nt.text ≡ text_of f
-          of_sent x p f i = elim (C.in_parts _ (note_of n.keys.me (principal x.cast f.receiver) (text_of f) ∷ []) nt i) [
+          of_sent x p f i = elim (in_parts _ (note_of n.keys.me (principal x.cast f.receiver) (text_of f) ∷ []) nt i) [
             | inl j ↦ absurd (items_ (last f.items) j)
             | inr j ↦ elim j [ inl e ↦ ap (λ (z : Note). z.text) e ∙ note_text n.keys.me (principal x.cast f.receiver) (text_of f) | inr k ↦ absurd k ]
           ]

@@ -3,9 +3,9 @@ use Rattle.std.specs.Prelude.{filter_map, ◌≡◌, ℕ, zero, suc, ◌+◌, �
 use Rattle.std.specs.List.{cons_option, list_all, AllByRecursion}
 use Rattle.std.specs.Option.{option_or}
 use Rattle.std.proofs.Common.{sym, ◌∙◌, ap, subst, inl, inr, arith, append-nil}
-use Rattle.std.proofs.lemmas.Bool.{eqb-true, eq-eqb, or_parts, ne_eqb}
+use Rattle.std.proofs.lemmas.Bool.{eqb-true, eq-eqb, or_parts, ne_eqb, cases_Bool, and_parts}
 use Rattle.std.proofs.lemmas.Bool.Decides.{nat_tests}
-use Rattle.std.proofs.lemmas.List.{map-append}
+use Rattle.std.proofs.lemmas.List.{map-append, length-append, length-take-le}
 use Rattle.std.proofs.lemmas.List.Elements.{All-head, All-tail}
 use Rattle.sg_model.specs.Last as A
 use Rattle.sg_model.specs.Last.{evidence_for, Map, has, last, last_or, last_of, after_last, up_to_last}
@@ -24,7 +24,7 @@ use Rattle.sg_protocol.specs.Session.{Session, Exchange, told, time, place, at_t
 use Rattle.sg_protocol.specs.Sending.{text_to, plain_item, own_item, frame_sent, item_of, entry_of, tags_left, shown_to, opening_of, tag_for}
 use Rattle.sg_law.proofs.Lists.{has-map}
 use Rattle.sg_law.proofs.Lists.{in_same}
-use Rattle.sg_protocol.proofs.Moves.{and_parts, writes_below}
+use Rattle.sg_protocol.proofs.Moves.{writes_below}
 use Rattle.sg_model.specs.Lists.{rises_from, keys_of, in_order}
 use Rattle.sg_law.proofs.Upto.{after-more}
 use Rattle.sg_protocol.proofs.Paths.{writes_rise}
@@ -32,6 +32,7 @@ use Rattle.sg_protocol.proofs.Acts as C
 use Rattle.std.specs.Prelude.{IsTrue}
 use Rattle.sg_model.specs.Values.{IntValue, TextValue}
 use Rattle.sg_model.specs.Names.{is_name, is_name_byte, is_letter}
+use Rattle.sg_model.proofs.Small.{all-append, all_filter, length_filter}
 use Rattle.sg_protocol.specs.IsSchedule.{IsProgram}
 use Rattle.std.specs.Prelude.{replicate, take}
 use Rattle.std.specs.List.{concat}
@@ -39,11 +40,7 @@ use Rattle.std.specs.Prelude.{drop, ◌*◌}
 use Rattle.sg_protocol.specs.Targets.{IsTarget}
 use Rattle.sg_protocol.specs.Graph as G
 use Rattle.sg_protocol.proofs.Spelled.{to_bytes, from_bytes, bytes-append, bytes-take, bytes-zeros}
-use Rattle.sg_protocol.proofs.Calls.{find_all, find_passes}
-
-cases_Bool : (b : Bool) → (b ≡ true) ⊎ (b ≡ false)
-cases_Bool true = inl refl
-cases_Bool false = inr refl
+use Rattle.sg_protocol.proofs.Finding.{find_all, find_passes}
 
 -- ---- numbers that differ
 
@@ -131,18 +128,6 @@ rise_filter q (w ∷ ws) n r =
     up : (y n : ℕ) → not (nat_lt y n) ≡ true → n ≤ suc y
     up y n h = grind (arith, nat_tests)
 
-length_filter : {A : Type 0} (q : A → Bool) (xs : List A) → length (filter q xs) ≤ length xs
-length_filter q [] = omega arith
-length_filter q (x ∷ xs) = elim (cases_Bool (q x)) [ inl e ↦ rw e (let l = length_filter q xs in omega (arith, l)) | inr e ↦ rw e (let l = length_filter q xs in omega (arith, l)) ]
-
-all_filter : {A : Type 0} (P : A → Type 0) (q : A → Bool) (xs : List A) → AllByRecursion P xs → AllByRecursion P (filter q xs)
-all_filter P q [] a = tt
-all_filter P q (x ∷ xs) a = elim (cases_Bool (q x)) [ inl e ↦ rw e (a.0, all_filter P q xs a.1) | inr e ↦ rw e (all_filter P q xs a.1) ]
-
-all_both : {A : Type 0} (P : A → Type 0) (xs ys : List A) → AllByRecursion P xs → AllByRecursion P ys → AllByRecursion P (xs ++ ys)
-all_both P [] ys a b = b
-all_both P (x ∷ xs) ys a b = (a.0, all_both P xs ys a.1 b)
-
 abbrev pub Coms : Map (List ℕ) → Type 0
 Coms m = AllByRecursion (λ (d : ℕ × List ℕ). AreBytes 32 d.1) m
 
@@ -171,7 +156,7 @@ ordered_picks m c k (suc j) = go (value_at m k) (value_com m k c) (filter_map (�
         same k = grind (arith, nat_tests)
 
 coms_merge : (a b : Map (List ℕ)) → Coms a → Coms b → Coms (A.merge a b)
-coms_merge a b c d = all_both (λ (d : ℕ × List ℕ). AreBytes 32 d.1) _ b (all_filter (λ (d : ℕ × List ℕ). AreBytes 32 d.1) _ a c) d
+coms_merge a b c d = all-append (λ (d : ℕ × List ℕ). AreBytes 32 d.1) _ b (all_filter (λ (d : ℕ × List ℕ). AreBytes 32 d.1) _ a c) d
 
 -- ---- items
 
@@ -308,39 +293,30 @@ shown_some g k is i ne =
 
 -- ---- lengths
 
-pub len_app : {A : Type 0} (xs ys : List A) → length (xs ++ ys) ≡ length xs + length ys
-len_app [] ys = omega arith
-len_app (x ∷ xs) ys = let l = len_app xs ys in omega (arith, l)
-
 abbrev pub total : List ℕ → ℕ
 total [] = 0
 total (n ∷ ns) = n + total ns
 
 pub len_concat : (ps : List (List ℕ)) → length (concat ps) ≡ total (map (λ (p : List ℕ). length p) ps)
 len_concat [] = refl
-len_concat (p ∷ ps) = let l = len_app p (concat ps) in let m = len_concat ps in omega (arith, l, m)
+len_concat (p ∷ ps) = let l = length-append p (concat ps) in let m = len_concat ps in omega (arith, l, m)
 
 pub flat33 : {A : Type 0} (f : A → List ℕ) (xs : List A) → AllByRecursion (λ x. length (f x) ≤ 33) xs → length (flat_map f xs) ≤ length xs * 33
 flat33 f [] a = omega arith
-flat33 f (x ∷ xs) a = let l = len_app (f x) (flat_map f xs) in let m = flat33 f xs a.1 in let h = a.0 in omega (arith, l, m, h)
+flat33 f (x ∷ xs) a = let l = length-append (f x) (flat_map f xs) in let m = flat33 f xs a.1 in let h = a.0 in omega (arith, l, m, h)
 
-flat1527 : {A : Type 0} (f : A → List ℕ) (xs : List A) → AllByRecursion (λ x. length (f x) ≤ 1527) xs → length (flat_map f xs) ≤ length xs * 1527
+pub flat1527 : {A : Type 0} (f : A → List ℕ) (xs : List A) → AllByRecursion (λ x. length (f x) ≤ 1527) xs → length (flat_map f xs) ≤ length xs * 1527
 flat1527 f [] a = omega arith
-flat1527 f (x ∷ xs) a = let l = len_app (f x) (flat_map f xs) in let m = flat1527 f xs a.1 in let h = a.0 in omega (arith, l, m, h)
+flat1527 f (x ∷ xs) a = let l = length-append (f x) (flat_map f xs) in let m = flat1527 f xs a.1 in let h = a.0 in omega (arith, l, m, h)
 
 pub flat1046 : {A : Type 0} (f : A → List ℕ) (xs : List A) → AllByRecursion (λ x. length (f x) ≤ 1046) xs → length (flat_map f xs) ≤ length xs * 1046
 flat1046 f [] a = omega arith
-flat1046 f (x ∷ xs) a = let l = len_app (f x) (flat_map f xs) in let m = flat1046 f xs a.1 in let h = a.0 in omega (arith, l, m, h)
+flat1046 f (x ∷ xs) a = let l = length-append (f x) (flat_map f xs) in let m = flat1046 f xs a.1 in let h = a.0 in omega (arith, l, m, h)
 
 len_take : (n : ℕ) (t : List ℕ) → length (take n t) ≤ length t
 len_take zero t = omega arith
 len_take (suc n) [] = omega arith
 len_take (suc n) (x ∷ t) = let l = len_take n t in omega (arith, l)
-
-len_take_all : (n : ℕ) (t : List ℕ) → n ≤ length t → length (take n t) ≡ n
-len_take_all zero t h = refl
-len_take_all (suc n) [] h = absurd (omega arith)
-len_take_all (suc n) (x ∷ t) h = let l = len_take_all n t (omega arith) in omega (arith, l)
 
 drop_app : (n : ℕ) (a b : List ℕ) → length a ≡ n → drop n (a ++ b) ≡ b
 drop_app zero [] b e = refl
@@ -372,7 +348,7 @@ value_len (TextValue t) h = h.1
 pub opening_len : (o : Opening) → IsOpening o → length (opening_bytes o) ≤ 1046
 opening_len o h =
     let c = len_concat (u8 o.variable ∷ o.confounder ∷ u8 (kind_code o.value) ∷ sized o.value ∷ []) in
-    let a = len_app (u32 (length (value_bytes o.value))) (value_bytes o.value) in
+    let a = length-append (u32 (length (value_bytes o.value))) (value_bytes o.value) in
     let b = value_len o.value h.value in
     let d = h.confounder.0 in
     omega (arith, c, a, b, d)
@@ -401,7 +377,7 @@ join_len v (Some c) h =
 spelled_len : (f : Frame) → length f.sid ≡ 32 → IfSome f.join (IsCastOf f.version) → length f.items ≤ 16 → AllByRecursion (IsItem f.version) f.items → length f.openings ≤ 32 → AllByRecursion IsOpening f.openings → length f.tag ≡ 32 → length (spelling f) ≤ 60000
 spelled_len f l j n a m b t =
     let c = len_concat (magic f.version ∷ u8 (join_code f.join) ∷ f.sid ∷ u8 f.sender ∷ u8 f.receiver ∷ join_bytes f.join ∷ u16 (length f.items) ∷ flat_map (item_bytes f.version) f.items ∷ u8 (length f.openings) ∷ flat_map opening_bytes f.openings ∷ []) in
-    let d = len_app (body f) (take (tag_len f.version) f.tag) in
+    let d = length-append (body f) (take (tag_len f.version) f.tag) in
     let e = len_take (tag_len f.version) f.tag in
     let g = flat1527 (item_bytes f.version) f.items (items_ f.items a) in
     let h = flat1046 opening_bytes f.openings (opens_ f.openings b) in
@@ -425,8 +401,8 @@ spelled_len f l j n a m b t =
 cut_tag : (v : ℕ) → IsVersion v → (t : List ℕ) → AreBytes 32 t → IsTag v (cut v t)
 cut_tag v (inl e) t h = subst (λ v. IsTag v (cut v t)) (sym e) record { bytes = h; zeros = ap (drop 32) (sym (append-nil t)) ∙ drop_app 32 t [] h.0 }
 cut_tag v (inr e) t h = subst (λ v. IsTag v (cut v t)) (sym e) record {
-  bytes = ((let a = len_app (take 16 t) (replicate 16 0) in let b : length (take 16 t) ≡ 16 = len_take_all 16 t (let l = h.0 in omega (arith, l)) in omega (arith, a, b)), to_bytes _ (bytes-append (take 16 t) (replicate 16 0) (bytes-take 16 t (from_bytes t h.1)) (bytes-zeros 16)));
-  zeros = drop_app 16 (take 16 t) (replicate 16 0) (len_take_all 16 t (let l = h.0 in omega (arith, l)));
+  bytes = ((let a = length-append (take 16 t) (replicate 16 0) in let b : length (take 16 t) ≡ 16 = length-take-le 16 t (let l = h.0 in omega (arith, l)) in omega (arith, a, b)), to_bytes _ (bytes-append (take 16 t) (replicate 16 0) (bytes-take 16 t (from_bytes t h.1)) (bytes-zeros 16)));
+  zeros = drop_app 16 (take 16 t) (replicate 16 0) (length-take-le 16 t (let l = h.0 in omega (arith, l)));
 }
 
 -- ---- edges
@@ -601,7 +577,7 @@ module _ (sha : Hash) (hash : IsHash sha) (p : Program) (ip : IsProgram sha p) (
   }
 
   pub all_told : AllByRecursion (IsItem v) (told x ++ oi ∷ [])
-  all_told = all_both (IsItem v) (told x) (oi ∷ []) fx.items (oi_ok, tt)
+  all_told = all-append (IsItem v) (told x) (oi ∷ []) fx.items (oi_ok, tt)
 
   items_ok : AllByRecursion (IsItem v) sent_frame.items
   items_ok = shown_fit g few_variables v (receiver (shape g) label) (told x ++ oi ∷ []) all_told

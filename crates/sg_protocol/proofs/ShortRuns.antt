@@ -2,7 +2,9 @@
 use Rattle.std.specs.Prelude.{◌≡◌, ℕ, ◌+◌, List, [], ◌∷◌, ◌++◌, Option, Some, None, refl}
 use Rattle.std.specs.List.{AllByRecursion}
 use Rattle.std.specs.Option.{option_map_or}
+use Rattle.std.proofs.lemmas.List.Elements.{recursion_from_All}
 use Rattle.sg_model.specs.Names.{Name}
+use Rattle.sg_law.proofs.Members.{rec_in}
 use Rattle.sg_protocol.specs.Frame.{Frame}
 use Rattle.sg_protocol.specs.Texts.{Hash, IsHash}
 use Rattle.sg_protocol.specs.Keyring.{Program}
@@ -15,7 +17,6 @@ use Rattle.sg_protocol.specs.Run.{called_if, world_after, world_after_all, run}
 use Rattle.sg_protocol.specs.IsSchedule.{AreCompiled, IsSchedule, IsStep}
 use Rattle.sg_protocol.specs.Bounds.{IsShortFrame, RunsSendShort}
 use Rattle.sg_law.proofs.Upto.{in_from_Contains}
-use Rattle.sg_protocol.proofs.Whole.{rec_in, to_rec}
 use Rattle.sg_protocol.proofs.Fits.{Fit, fit_new, fit_next, fit_shorts}
 
 module _ (sha : Hash) (hash : IsHash sha) (programs : List Program) (s : Schedule) (compiled : AreCompiled sha s.graphs programs) (sched : IsSchedule sha s) where
@@ -49,4 +50,4 @@ module _ (sha : Hash) (hash : IsHash sha) (programs : List Program) (s : Schedul
 
 pub runs_send_short : (sha : Hash) → IsHash sha → RunsSendShort sha
 runs_send_short sha hash programs s compiled sched l e to f there is =
-    rec_in _ (run sha programs s).log l (all_short sha hash programs s compiled sched (new_world programs s) 1 s.steps (to_rec (IsStep sha s) s.steps sched.steps) (fit_new sha hash programs s compiled sched) tt) (in_from_Contains (run sha programs s).log l there) e to f is
+    rec_in _ (run sha programs s).log l (all_short sha hash programs s compiled sched (new_world programs s) 1 s.steps (recursion_from_All (IsStep sha s) s.steps sched.steps) (fit_new sha hash programs s compiled sched) tt) (in_from_Contains (run sha programs s).log l there) e to f is

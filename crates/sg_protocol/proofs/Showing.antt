@@ -10,6 +10,7 @@ use Rattle.sg_model.specs.Shape.{sender}
 use Rattle.sg_model.specs.Values.{Opening}
 use Rattle.sg_model.specs.Names.{Name}
 use Rattle.sg_model.specs.Bytes.{IsBytes}
+use Rattle.sg_model.proofs.Small.{map_same}
 use Rattle.sg_protocol.specs.Graph.{Graph, IsGraph, shape}
 use Rattle.sg_protocol.specs.Accepted.{Accepted}
 use Rattle.sg_protocol.specs.Evidence.{IsViewTable}
@@ -47,12 +48,9 @@ use Rattle.sg_protocol.proofs.Bridge.{up_to_last-after}
 use Rattle.sg_protocol.proofs.Entries.{entry, entries, entries-com, by, Roles, has-entries, up_to-entries}
 use Rattle.sg_protocol.proofs.Moves.{step, Matches}
 use Rattle.sg_protocol.proofs.Keys.{last_of-keys, after_last-keys, last_of-map, after_last-map, all-filter, all-last_of, all-after_last, all-up_to_last, all-mid, has-mid}
-use Rattle.sg_protocol.proofs.Calls.{Status, TakesFrame, one_place}
+use Rattle.sg_protocol.proofs.Finding.{one_place}
+use Rattle.sg_protocol.proofs.Calls.{Status, TakesFrame}
 use Rattle.sg_protocol.proofs.Course.{Progress, progress_called, progress_moves, keep_all, Suffix, may-append, moved-append, Outs, Ok_}
-
-map_same : {A : Type 0} (f h : ℕ → A) (xs : List ℕ) → ((x : ℕ) → f x ≡ h x) → map f xs ≡ map h xs
-map_same f h [] e = refl
-map_same f h (x ∷ xs) e = ap (λ z. z ∷ map f xs) (e x) ∙ ap (λ l. h x ∷ l) (map_same f h xs e)
 
 -- ---- one state of the law, and the items of a frame
 

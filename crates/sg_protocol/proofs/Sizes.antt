@@ -1,9 +1,9 @@
 -- How many bytes a step adds to the record.
-use Rattle.std.specs.Prelude.{◌≡◌, ℕ, zero, suc, ◌+◌, ◌*◌, ◌<◌, ◌≤◌, ◌==◌, nat_lt, nat_le, ◌&&◌, ◌⊎◌, Bool, true, false, not, if◌then◌else◌, List, [], ◌∷◌, ◌++◌, map, flat_map, length, codes, sum_by, take, take_while, bytes_eq, refl, Option, Some, None, option_map, option_and_then, IfSome, IsSomeAnd, IsTrue, slice_get, Result, Ok, Err}
+use Rattle.std.specs.Prelude.{◌≡◌, ℕ, zero, suc, ◌+◌, ◌*◌, ◌<◌, ◌≤◌, ◌==◌, nat_lt, nat_le, ◌&&◌, Bool, true, false, not, if◌then◌else◌, List, [], ◌∷◌, ◌++◌, map, flat_map, length, codes, sum_by, take, take_while, bytes_eq, refl, Option, Some, None, option_map, option_and_then, IfSome, IsSomeAnd, IsTrue, slice_get, Result, Ok, Err}
 use Rattle.std.specs.List.{AllByRecursion, list_all, prefix_len}
 use Rattle.std.specs.Option.{option_or, option_map_or}
 use Rattle.std.proofs.Common.{sym, ◌∙◌, ap, subst, inl, inr, arith}
-use Rattle.std.proofs.lemmas.Bool.{cases_Bool}
+use Rattle.std.proofs.lemmas.Bool.{cases_Bool, and_parts}
 use Rattle.std.proofs.lemmas.Bool.Decides.{nat_tests}
 use Rattle.std.proofs.lemmas.List.Sums.{sum_by-append}
 use Rattle.sg_model.specs.Last.{Map, last, last_or, has, up_to_last}
@@ -11,11 +11,13 @@ use Rattle.sg_model.specs.Lists.{below, range_from, rises_from, value_at, same_t
 use Rattle.sg_model.specs.Names.{Name, is_name, is_name_byte, is_letter}
 use Rattle.sg_model.specs.Values.{Value, Opening}
 use Rattle.sg_model.specs.Bytes.{IsBytes, AreBytes}
-use Rattle.std.proofs.lemmas.Slice.Eq.{bytes_eq-Decides}
+use Rattle.sg_model.proofs.Small.{all-append, take_most}
+use Rattle.std.proofs.lemmas.List.{length-append, length-take-le}
+use Rattle.std.proofs.lemmas.List.Elements.{recursion_from_All}
 use Rattle.sg_protocol.specs.Graph.{Graph, IsGraph, writes}
 use Rattle.sg_protocol.specs.Frame.{Cast, Item, Frame, IsValue, IsItem, IsTag, IsOpening, IsCastOf, tag_len}
 use Rattle.sg_protocol.specs.Spelling.{spelling, body, u8, u16, u32, short_text, item_bytes, map_bytes, pair_bytes, opening_bytes, join_bytes, join_code, magic, HasSpelling}
-use Rattle.sg_protocol.specs.Texts.{Hash, IsHash, cut, session_id, graph_digest, graph_text_of, session_text_of, commitment_text_of, maybe_commitment}
+use Rattle.sg_protocol.specs.Texts.{Hash, IsHash, cut, session_id, graph_text_of, session_text_of, commitment_text_of, maybe_commitment}
 use Rattle.sg_protocol.specs.Session.{Session, new_session, told, own, committed, commitments, principal}
 use Rattle.sg_protocol.specs.Keyring.{Keyring, Program, targets_of}
 use Rattle.sg_protocol.specs.Sending.{text_to, text_of}
@@ -26,7 +28,7 @@ use Rattle.sg_protocol.specs.Past.{Past, node_of}
 use Rattle.sg_protocol.specs.Reading.{read}
 use Rattle.sg_protocol.specs.Acting.{answer, openings_for}
 use Rattle.sg_protocol.specs.Schedule.{Schedule, Source, Craft, CraftItem, Declared, Step, StartStep, ActStep, AbandonStep, DeliverStep, CraftStep, confounder, cast_of, sid_at, graph_with}
-use Rattle.sg_protocol.proofs.Whole.{rec_in}
+use Rattle.sg_law.proofs.Members.{rec_in}
 use Rattle.sg_law.proofs.Upto.{in_from_Contains}
 use Rattle.sg_protocol.specs.World.{World, Logged, Answered, Crafted, NoFrame, past_of, new_world, call_of, bytes_of}
 use Rattle.sg_protocol.specs.Crafted.{tag_by, crafted_item, crafted_items, known_item, crafted_frame, crafted}
@@ -34,14 +36,13 @@ use Rattle.sg_protocol.specs.Run.{frame_in, recorded, called_if, world_after, wo
 use Rattle.sg_protocol.specs.Steps.{logged_size, record_size, StepsAddLittle}
 use Rattle.sg_protocol.specs.IsSchedule.{IsProgram, AreCompiled, IsDeclared, IsStep, IsSchedule}
 use Rattle.sg_protocol.specs.Checks.{checked_texts, texts_checked}
-use Rattle.sg_protocol.specs.Notes.{Note, Notes, note_of, hashed_openings, text_before, notes_in_session, notes_of_sent, notes_of_act, notes_of_read, hashed_of_join, session_of_frame, row_number, no_notes, notes_of_start, notes}
-use Rattle.sg_protocol.proofs.Calls.{find_all, find_passes}
-use Rattle.sg_protocol.proofs.Whole.{to_rec}
-use Rattle.sg_protocol.proofs.Moves.{writes_below}
+use Rattle.sg_protocol.specs.Notes.{Note, Notes, note_of, hashed_openings, notes_in_session, notes_of_sent, notes_of_act, notes_of_read, hashed_of_join, session_of_frame, row_number, no_notes, notes_of_start, notes}
+use Rattle.sg_protocol.proofs.Finding.{find_all}
+use Rattle.sg_protocol.proofs.Moves.{writes_below, note_text}
 use Rattle.sg_protocol.proofs.Paths.{writes_rise}
 use Rattle.sg_protocol.proofs.Fits.{Fit, fit_new, fit_next, fit_bytes, fit_sends, declared_in, ActSent, act_sends, act_fit}
 use Rattle.sg_protocol.proofs.ReadBack.{read-SpellsFrame}
-use Rattle.sg_protocol.proofs.Sent.{FitSession, len_app, len_concat, flat33, len_map, opening_len}
+use Rattle.sg_protocol.proofs.Sent.{FitSession, len_concat, flat33, len_map, opening_len}
 
 -- ---- sums
 
@@ -53,10 +54,6 @@ while_true p x xs e = rw e (ap (λ k. take k (x ∷ xs)) (let q : 1 + prefix_len
 
 while_false : {A : Type 0} (p : A → Bool) (x : A) (xs : List A) → p x ≡ false → take_while p (x ∷ xs) ≡ []
 while_false p x xs e = rw e refl
-
-and_parts : (a b : Bool) → (a && b) ≡ true → (a ≡ true) × (b ≡ true)
-and_parts true b h = (refl, h)
-and_parts false b h = absurd (let z : false ≡ true = h in cc)
 
 -- ---- commitments
 
@@ -76,10 +73,6 @@ sized_item v i h = go i.delta h.delta
 sized_items : (v : ℕ) (is : List Item) → AllByRecursion (IsItem v) is → AllByRecursion Sized is
 sized_items v [] a = tt
 sized_items v (i ∷ is) a = (sized_item v i a.0, sized_items v is a.1)
-
-all_cat : {A : Type 0} (P : A → Type 0) (xs ys : List A) → AllByRecursion P xs → AllByRecursion P ys → AllByRecursion P (xs ++ ys)
-all_cat P [] ys a b = b
-all_cat P (x ∷ xs) ys a b = (a.0, all_cat P xs ys a.1 b)
 
 abbrev Fits32 : Option (List ℕ) → Type 0
 Fits32 o = IfSome o (λ c. length c ≤ 32)
@@ -124,8 +117,8 @@ text_len g few x long before i t a =
 
 frame_len : (f : Frame) → HasSpelling f → length (text_of f) ≤ 60010
 frame_len f h =
-    let a = len_app (if f.version == 2 then codes "sg-frame-2" else codes "sg-frame-1") (body f) in
-    let b = len_app (body f) (take (tag_len f.version) f.tag) in
+    let a = length-append (if f.version == 2 then codes "sg-frame-2" else codes "sg-frame-1") (body f) in
+    let b = length-append (body f) (take (tag_len f.version) f.tag) in
     let c = head f.version in
     let d = h.short in
     omega (arith, a, b, c, d)
@@ -169,17 +162,12 @@ session_len v c h = cast_len c h.graph.0 h.nonce.0 h.count.1 (all_names c.names 
 
 -- ---- the texts of item tags that were checked
 
-take_all : (n : ℕ) (t : List ℕ) → n ≤ length t → length (take n t) ≡ n
-take_all zero t h = refl
-take_all (suc n) [] h = absurd (omega (arith, h))
-take_all (suc n) (x ∷ t) h = (let l = take_all n t (omega (arith, h)) in omega (arith, l))
-
 -- an item with a tag has at least 26 bytes
 tagged_len : (v : ℕ) (i : Item) (r : ℕ) (text : List ℕ) → IsItem v i → same_text (value_at i.tags r) text ≡ true → 26 ≤ length (item_bytes v i)
 tagged_len v i r text h s =
     let c = len_concat (u8 i.role ∷ u16 i.label ∷ u32 i.time ∷ map_bytes (λ c. c) i.delta ∷ map_bytes (take (tag_len v)) i.tags ∷ []) in
     let d = go i.tags h.tags s in
-    let e = len_app (u8 (length i.delta)) (flat_map (pair_bytes (λ c. c)) i.delta) in
+    let e = length-append (u8 (length i.delta)) (flat_map (pair_bytes (λ c. c)) i.delta) in
     omega (arith, c, d, e)
   where
     least : 16 ≤ tag_len v
@@ -191,8 +179,8 @@ tagged_len v i r text h s =
     go : (m : Map (List ℕ)) → AllByRecursion (λ (t : ℕ × List ℕ). (t.0 < 16) × IsTag v t.1) m → same_text (value_at m r) text ≡ true → 18 ≤ length (map_bytes (take (tag_len v)) m)
     go [] a q = absurd (let z : false ≡ true = q in cc)
     go (d ∷ m) a q =
-        let b = len_app (pair_bytes (take (tag_len v)) d) (flat_map (pair_bytes (take (tag_len v))) m) in
-        let t = take_all (tag_len v) d.1 (let l = a.0.1.bytes.0 in let k = most in omega (arith, l, k)) in
+        let b = length-append (pair_bytes (take (tag_len v)) d) (flat_map (pair_bytes (take (tag_len v))) m) in
+        let t = length-take-le (tag_len v) d.1 (let l = a.0.1.bytes.0 in let k = most in omega (arith, l, k)) in
         let k = least in
         omega (arith, b, t, k)
 
@@ -207,11 +195,11 @@ seen_len sha keys g few x long v before (i ∷ j ∷ is) b a = elim (cases_Bool 
       let y : sum_by (λ (c : Item × List ℕ). length c.1) [] ≡ 0 = refl in
       omega (arith, z, y)
   | inl e ↦
-      let now : AllByRecursion Sized (before ++ i ∷ []) = all_cat Sized before (i ∷ []) b (sized_item v i a.0, tt) in
+      let now : AllByRecursion Sized (before ++ i ∷ []) = all-append Sized before (i ∷ []) b (sized_item v i a.0, tt) in
       let t = text_len g few x long before i x.role now in
       let m = tagged_len v i x.role _ a.0 e in
       let r = seen_len sha keys g few x long v (before ++ i ∷ []) (j ∷ is) now a.1 in
-      let l = len_app (item_bytes v i) (flat_map (item_bytes v) (j ∷ is)) in
+      let l = length-append (item_bytes v i) (flat_map (item_bytes v) (j ∷ is)) in
       let s = sum_cons (λ (c : Item × List ℕ). length c.1) (i, text_to g x before i x.role) (take_while (has_item_tag sha keys x) (checked_texts g x (before ++ i ∷ []) (j ∷ is))) in
       let z = ap (sum_by (λ (c : Item × List ℕ). length c.1)) (while_true (has_item_tag sha keys x) (i, text_to g x before i x.role) (checked_texts g x (before ++ i ∷ []) (j ∷ is)) e) in
       omega (arith, t, m, r, l, s, z)
@@ -224,9 +212,6 @@ note_bytes ns = sum_by (λ n. length n.text) ns
 
 abbrev text_bytes : List (List ℕ) → ℕ
 text_bytes ts = sum_by (λ t. length t) ts
-
-note_text : (a b : Name) (t : List ℕ) → (note_of a b t).text ≡ t
-note_text a b t = elim (cases_Bool (text_before b a)) [ inl e ↦ rw e refl | inr e ↦ rw e refl ]
 
 note_cons : (n : Note) (ns : List Note) → note_bytes (n ∷ ns) ≡ length n.text + note_bytes ns
 note_cons n ns = sum_cons (λ n. length n.text) n ns
@@ -289,7 +274,7 @@ record Bounded (p : Program) (x : Session) : Type 0 where
 items_bytes : (f : Frame) → HasSpelling f → length (flat_map (item_bytes f.version) f.items) ≤ 60000
 items_bytes f h =
     let c = len_concat (magic f.version ∷ u8 (join_code f.join) ∷ f.sid ∷ u8 f.sender ∷ u8 f.receiver ∷ join_bytes f.join ∷ u16 (length f.items) ∷ flat_map (item_bytes f.version) f.items ∷ u8 (length f.openings) ∷ flat_map opening_bytes f.openings ∷ []) in
-    let d = len_app (body f) (take (tag_len f.version) f.tag) in
+    let d = length-append (body f) (take (tag_len f.version) f.tag) in
     let e = h.short in
     omega (arith, c, d, e)
 
@@ -392,7 +377,7 @@ sent_bytes sha keys p ip x fx f h os a few_ =
     by_last None e = omega arith
     by_last (Some i) e =
         let z : Sized i = sized_item f.version i (last_fits (IsItem f.version) f.items i h.fields.items e) in
-        let m = made_bytes keys.me p.graph ip.is_graph.sizes.1 x fx.sid.0 i (all_cat Sized (told x) (i ∷ []) (sized_items x.cast.version (told x) fx.items) (z, tt)) (targets_of p i.label) in
+        let m = made_bytes keys.me p.graph ip.is_graph.sizes.1 x fx.sid.0 i (all-append Sized (told x) (i ∷ []) (sized_items x.cast.version (told x) fx.items) (z, tt)) (targets_of p i.label) in
         let t = targets_few sha p ip i.label in
         omega (arith, m, t)
 
@@ -408,7 +393,7 @@ up_to_fits P r (i ∷ is) a = elim (cases_Bool (has (λ (i : Item). i.role) r is
 module _ (sha : Hash) (hash : IsHash sha) (programs : List Program) (s : Schedule) (compiled : AreCompiled sha s.graphs programs) (sched : IsSchedule sha s) where
   module _ (n : Node) (ps : n.programs ≡ programs) (live : AllByRecursion FitSession n.live) where
     its_program : (d : List ℕ) (r : ℕ) (p : Program) → program_for n.programs d r ≡ Some p → IsProgram sha p
-    its_program d r p e = find_all (λ (p : Program). bytes_eq p.digest d && (p.role == r)) (IsProgram sha) programs p (to_rec (IsProgram sha) programs compiled.each) (subst (λ z. program_for z d r ≡ Some p) ps e)
+    its_program d r p e = find_all (λ (p : Program). bytes_eq p.digest d && (p.role == r)) (IsProgram sha) programs p (recursion_from_All (IsProgram sha) programs compiled.each) (subst (λ z. program_for z d r ≡ Some p) ps e)
 
     deliver_bytes : (r : Result Frame ℕ) → ((f : Frame) → r ≡ Ok f → HasSpelling f) → notes_bytes (notes_of_read sha n r) ≤ 2800000
     deliver_bytes (Err at) h = omega arith
@@ -470,11 +455,6 @@ module _ (sha : Hash) (hash : IsHash sha) (programs : List Program) (s : Schedul
 
 -- ---- crafted frames
 
-take_most : (n : ℕ) (t : List ℕ) → length (take n t) ≤ n
-take_most zero t = omega arith
-take_most (suc n) [] = omega arith
-take_most (suc n) (x ∷ t) = let l = take_most n t in omega (arith, l)
-
 tag_short : (v : ℕ) → tag_len v ≤ 32
 tag_short v = elim (cases_Bool (v == 2)) [ inl e ↦ rw e (omega arith) | inr e ↦ rw e (omega arith) ]
 
@@ -485,9 +465,9 @@ tags_le v F G [] a = omega arith
 tags_le v F G (t ∷ ts) a =
     let i = tags_le v F G ts a.1 in
     let m = take_most (tag_len v) (G t) in
-    let e = take_all (tag_len v) (F t) (let l = a.0.1.bytes.0 in let k = tag_short v in omega (arith, l, k)) in
-    let x = len_app (pair_bytes (take (tag_len v)) (t.0, G t)) (flat_map (pair_bytes (take (tag_len v))) (map {B = ℕ × List ℕ} (λ (t : ℕ × Source). (t.0, G t)) ts)) in
-    let y = len_app (pair_bytes (take (tag_len v)) (t.0, F t)) (flat_map (pair_bytes (take (tag_len v))) (map {B = ℕ × List ℕ} (λ (t : ℕ × Source). (t.0, F t)) ts)) in
+    let e = length-take-le (tag_len v) (F t) (let l = a.0.1.bytes.0 in let k = tag_short v in omega (arith, l, k)) in
+    let x = length-append (pair_bytes (take (tag_len v)) (t.0, G t)) (flat_map (pair_bytes (take (tag_len v))) (map {B = ℕ × List ℕ} (λ (t : ℕ × Source). (t.0, G t)) ts)) in
+    let y = length-append (pair_bytes (take (tag_len v)) (t.0, F t)) (flat_map (pair_bytes (take (tag_len v))) (map {B = ℕ × List ℕ} (λ (t : ℕ × Source). (t.0, F t)) ts)) in
     omega (arith, i, m, e, x, y)
 
 module _ (sha : Hash) (s : Schedule) (w0 w : World) (g : Graph) (x : Session) where
@@ -505,8 +485,8 @@ module _ (sha : Hash) (s : Schedule) (w0 w : World) (g : Graph) (x : Session) wh
   items_le v before0 before (c ∷ cs) a =
       let i = item_le v before0 before c a.0 in
       let r = items_le v (before0 ++ crafted_item sha s w0 g x before0 c ∷ []) (before ++ crafted_item sha s w g x before c ∷ []) cs a.1 in
-      let p = len_app (item_bytes v (crafted_item sha s w g x before c)) (flat_map (item_bytes v) (crafted_items sha s w g x (before ++ crafted_item sha s w g x before c ∷ []) cs)) in
-      let q = len_app (item_bytes v (crafted_item sha s w0 g x before0 c)) (flat_map (item_bytes v) (crafted_items sha s w0 g x (before0 ++ crafted_item sha s w0 g x before0 c ∷ []) cs)) in
+      let p = length-append (item_bytes v (crafted_item sha s w g x before c)) (flat_map (item_bytes v) (crafted_items sha s w g x (before ++ crafted_item sha s w g x before c ∷ []) cs)) in
+      let q = length-append (item_bytes v (crafted_item sha s w0 g x before0 c)) (flat_map (item_bytes v) (crafted_items sha s w0 g x (before0 ++ crafted_item sha s w0 g x before0 c ∷ []) cs)) in
       omega (arith, i, r, p, q)
 
   crafted_le : (c : Craft) → HasSpelling (crafted_frame sha s w0 c g x) → length (spelling (crafted_frame sha s w c g x)) ≤ 60000
@@ -515,11 +495,11 @@ module _ (sha : Hash) (s : Schedule) (w0 w : World) (g : Graph) (x : Session) wh
       let f1 : Frame = crafted_frame sha s w c g x in
       let a = len_concat (magic f0.version ∷ u8 (join_code f0.join) ∷ f0.sid ∷ u8 f0.sender ∷ u8 f0.receiver ∷ join_bytes f0.join ∷ u16 (length f0.items) ∷ flat_map (item_bytes f0.version) f0.items ∷ u8 (length f0.openings) ∷ flat_map opening_bytes f0.openings ∷ []) in
       let b = len_concat (magic f1.version ∷ u8 (join_code f1.join) ∷ f1.sid ∷ u8 f1.sender ∷ u8 f1.receiver ∷ join_bytes f1.join ∷ u16 (length f1.items) ∷ flat_map (item_bytes f1.version) f1.items ∷ u8 (length f1.openings) ∷ flat_map opening_bytes f1.openings ∷ []) in
-      let d = len_app (body f0) (take (tag_len f0.version) f0.tag) in
-      let e = len_app (body f1) (take (tag_len f1.version) f1.tag) in
+      let d = length-append (body f0) (take (tag_len f0.version) f0.tag) in
+      let e = length-append (body f1) (take (tag_len f1.version) f1.tag) in
       let i = items_le x.cast.version (known_item sha x.sid c.know ∷ []) (known_item sha x.sid c.know ∷ []) c.items h.fields.items in
       let m = take_most (tag_len f1.version) f1.tag in
-      let t = take_all (tag_len f0.version) f0.tag (let l = h.fields.tag.bytes.0 in let k = tag_short f0.version in omega (arith, l, k)) in
+      let t = length-take-le (tag_len f0.version) f0.tag (let l = h.fields.tag.bytes.0 in let k = tag_short f0.version in omega (arith, l, k)) in
       let k = h.short in
       omega (arith, a, b, d, e, i, m, t, k)
 
@@ -532,7 +512,7 @@ module _ (sha : Hash) (hash : IsHash sha) (programs : List Program) (s : Schedul
       by_graph : (d : Declared) → IsDeclared sha s.graphs d → length (session_text_of d.cast) ≤ 589
       by_graph d h =
           let long : length d.cast.graph ≡ 32 = subst (λ z. length z ≡ 32) (sym h.digest) (hash (graph_text_of h.graph)).0 in
-          let ig : IsGraph h.graph = rec_in IsGraph s.graphs h.graph (to_rec IsGraph s.graphs sched.are_graphs) (in_from_Contains s.graphs h.graph h.is_there) in
+          let ig : IsGraph h.graph = rec_in IsGraph s.graphs h.graph (recursion_from_All IsGraph s.graphs sched.are_graphs) (in_from_Contains s.graphs h.graph h.is_there) in
           let few = ig.sizes.0 in
           let count = h.count in
           cast_len d.cast long h.nonce.0 (omega (arith, few, count)) (and_parts (all_differ d.cast.names) (list_all is_name d.cast.names) h.names).1
@@ -620,4 +600,4 @@ module _ (sha : Hash) (hash : IsHash sha) (programs : List Program) (s : Schedul
 pub steps_add_little : (sha : Hash) → IsHash sha → StepsAddLittle sha
 steps_add_little sha hash programs s compiled sched k x good =
     step_little sha hash programs s compiled sched (run sha programs s)
-    (all_fit sha hash programs s compiled sched (new_world programs s) 1 s.steps (to_rec (IsStep sha s) s.steps sched.steps) (fit_new sha hash programs s compiled sched)) k x good
+    (all_fit sha hash programs s compiled sched (new_world programs s) 1 s.steps (recursion_from_All (IsStep sha s) s.steps sched.steps) (fit_new sha hash programs s compiled sched)) k x good

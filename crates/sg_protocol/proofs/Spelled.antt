@@ -1,9 +1,9 @@
 -- The bytes of frames.
-use Rattle.std.specs.Prelude.{◌≡◌, ℕ, zero, suc, ◌+◌, ◌<◌, ◌≤◌, ◌==◌, nat_lt, nat_le, ◌&&◌, ◌⊎◌, Bool, true, false, List, [], ◌∷◌, ◌++◌, flat_map, length, refl, Option, Some, None, IfSome}
+use Rattle.std.specs.Prelude.{◌≡◌, ℕ, zero, suc, ◌+◌, ◌<◌, ◌≤◌, ◌==◌, nat_lt, nat_le, ◌&&◌, Bool, true, false, List, [], ◌∷◌, ◌++◌, flat_map, length, refl, Option, Some, None, IfSome}
 use Rattle.std.specs.List.{list_all, AllByRecursion}
 use Rattle.std.specs.Option.{option_map_or}
 use Rattle.std.proofs.Common.{subst, inl, inr, arith}
-use Rattle.std.proofs.lemmas.Bool.{eqb-true}
+use Rattle.std.proofs.lemmas.Bool.{eqb-true, cases_Bool, and_parts}
 use Rattle.std.proofs.lemmas.Bool.Decides.{nat_tests}
 use Rattle.sg_model.specs.Last.{Map}
 use Rattle.sg_model.specs.Lists.{below, range_from}
@@ -11,7 +11,6 @@ use Rattle.sg_model.specs.Values.{Value, Opening}
 use Rattle.sg_protocol.specs.Frame.{Cast, Item, Frame, IsItem, IsTag, IsValue, IsOpening, IsCastOf, tag_len}
 use Rattle.sg_protocol.specs.Spelling.{spelling, magic, join_code, HasSpelling, body, u64, u8, u16, u32, item_bytes, pair_bytes, map_bytes, join_bytes, short_text, opening_bytes, sized, value_bytes, kind_code}
 use Rattle.sg_model.specs.Bytes.{AreBytes}
-use Rattle.sg_protocol.proofs.Moves.{and_parts}
 use Rattle.sg_model.specs.Bytes.{IsBytes}
 use Rattle.sg_protocol.proofs.Acts as C
 use Rattle.std.specs.Prelude.{slice_get, IsTrue}
@@ -22,10 +21,6 @@ use Rattle.sg_model.specs.Names.{is_name, is_name_byte, is_letter}
 use Rattle.sg_model.specs.Lists.{below}
 use Rattle.std.specs.Prelude.{replicate, take, set, bit_xor, ◌%◌, ◌/◌}
 use Rattle.std.specs.List.{concat}
-
-cases_Bool : (b : Bool) → (b ≡ true) ⊎ (b ≡ false)
-cases_Bool true = inl refl
-cases_Bool false = inr refl
 
 -- the list is of bytes, by recursion
 abbrev pub Bytes_ : List ℕ → Type 0

@@ -4,13 +4,14 @@ use Rattle.std.proofs.Common.{sym, ◌∙◌, ap, subst, inl, inr, arith}
 use Rattle.std.proofs.lemmas.List.Elements.{All-head, All-tail}
 use Rattle.sg_model.specs.Last.{last_or}
 use Rattle.sg_model.specs.Shape.{role_at}
+use Rattle.sg_law.proofs.Members.{in_right}
 use Rattle.sg_protocol.specs.Graph as G'
 use Rattle.sg_protocol.specs.Graph.{Graph, IsGraph, shape, reads}
 use Rattle.sg_protocol.specs.Accepted.{Accepted}
 use Rattle.sg_protocol.specs.Frame.{Item}
 use Rattle.sg_law.specs.Run as R
 use Rattle.sg_law.proofs.Upto.{In}
-use Rattle.sg_protocol.proofs.Moves.{step, in_right}
+use Rattle.sg_protocol.proofs.Moves.{step}
 
 pub split_at_end : {A : Type 0} (xs : List A) (y : A) (before : List A) (l : A) (after : List A) → xs ++ y ∷ [] ≡ before ++ l ∷ after → ((rest : List A) × (after ≡ rest ++ y ∷ []) × (xs ≡ before ++ l ∷ rest)) ⊎ ((l ≡ y) × (before ≡ xs) × (after ≡ []))
 split_at_end [] y [] l after e = inr (let h : y ≡ l = cc in let t : [] ≡ after = cc in (sym h, refl, sym t))

@@ -7,6 +7,7 @@ use Rattle.sg_model.specs.Last.{has, last, up_to_last}
 use Rattle.sg_model.specs.Lists.{below}
 use Rattle.sg_model.specs.Shape.{role_at, target}
 use Rattle.sg_model.proofs.Evidence.{evidence_again, evidence_since}
+use Rattle.sg_model.proofs.Small.{no_last}
 use Rattle.sg_law.proofs.Cut.{last-both}
 use Rattle.sg_protocol.specs.Graph.{Graph, shape}
 use Rattle.sg_protocol.specs.Frame.{Item}
@@ -17,7 +18,7 @@ use Rattle.sg_protocol.specs.Kept.{Kept, kept, kept_items}
 use Rattle.sg_protocol.specs.Standing.{Held, held, EndsWithOwn, StandsBefore, StandsWaiting, StandsAtTurn, kept_with, held_after, StatesStand}
 use Rattle.sg_protocol.proofs.Paths.{flat_map-append}
 use Rattle.sg_protocol.proofs.KeptLaws.{kept-kept}
-use Rattle.sg_protocol.proofs.Ends.{no_last, below_same, committed-append, last_opening-append}
+use Rattle.sg_protocol.proofs.Ends.{below_same, committed-append, last_opening-append}
 use Rattle.sg_protocol.proofs.Enough.{up_later, up_before, up_free}
 use Rattle.sg_protocol.proofs.Takes.{rows_of}
 use Rattle.sg_protocol.proofs.Following.{get_below, own_now, waits_now, turn_later, other_later}

@@ -1,15 +1,15 @@
 -- A run, a step at a time.
-use Rattle.std.specs.Prelude.{◌≡◌, ℕ, suc, ◌+◌, ◌⊎◌, ◌&&◌, Bool, true, false, List, [], ◌∷◌, ◌++◌, map, find, length, bytes_eq, refl, Option, Some, None, option_map, filter_map, slice_get, if◌then◌else◌, ◌-◌}
+use Rattle.std.specs.Prelude.{◌≡◌, ℕ, suc, ◌+◌, ◌⊎◌, true, false, List, [], ◌∷◌, ◌++◌, map, find, length, bytes_eq, refl, Option, Some, None, option_map, filter_map, slice_get, if◌then◌else◌, ◌-◌}
 use Rattle.std.specs.List.{list_all, list_any}
 use Rattle.std.specs.Option.{option_map_or}
 use Rattle.std.proofs.Common.{sym, ◌∙◌, ap, subst, inl, inr, arith, append_assoc, append-nil}
-use Rattle.std.proofs.lemmas.Bool.{cases_Bool, ne_eqb}
+use Rattle.std.proofs.lemmas.Bool.{cases_Bool, and_parts, ne_eqb}
 use Rattle.std.proofs.lemmas.List.{map-append}
-use Rattle.std.proofs.lemmas.Slice.Eq.{bytes_eq-Decides}
 use Rattle.std.proofs.Math.Seq.{take-append_seam}
 use Rattle.std.proofs.lemmas.List.Sums.{sum_by-append}
 use Rattle.sg_model.specs.Lists.{range_from}
 use Rattle.sg_model.specs.Names.{Name}
+use Rattle.sg_model.proofs.Small.{same_bytes, bytes_same}
 use Rattle.sg_protocol.specs.Texts.{Hash}
 use Rattle.sg_protocol.specs.Keyring.{Program}
 use Rattle.sg_protocol.specs.Calls.{Call}
@@ -41,10 +41,6 @@ runs_go_by_step sha programs s x =
     same = ap (λ (xs : List Step). record s { steps = xs }) (take-append_seam s.steps (x ∷ []))
 
 -- ---- numbers
-
-and_parts : (a b : Bool) → (a && b) ≡ true → (a ≡ true) × (b ≡ true)
-and_parts true b h = (refl, h)
-and_parts false b h = absurd (let z : false ≡ true = h in cc)
 
 -- each honest principal has a past
 abbrev Peopled : Schedule → World → Type 0
@@ -85,12 +81,6 @@ module _ (sha : Hash) (s : Schedule) where
       ∙ ap (λ (l : List ℕ). l ++ range_from (k + 1) (length xs)) (ap (map (λ (l : Logged). l.number)) o.log ∙ map-append (λ (l : Logged). l.number) w.log (o.entry ∷ []) ∙ ap (λ n. map (λ (l : Logged). l.number) w.log ++ n ∷ []) o.number)
       ∙ append_assoc (map (λ (l : Logged). l.number) w.log) (k ∷ []) (range_from (k + 1) (length xs))
       ∙ ap (λ n. map (λ (l : Logged). l.number) w.log ++ k ∷ range_from n (length xs)) (let q : k + 1 ≡ suc k = omega arith in q)
-
-same_bytes : (a b : List ℕ) → bytes_eq a b ≡ true → a ≡ b
-same_bytes a b h = (bytes_eq-Decides a b).0 h
-
-bytes_same : (a b : List ℕ) → a ≡ b → bytes_eq a b ≡ true
-bytes_same a b h = (bytes_eq-Decides a b).1 h
 
 abbrev new_past : List PairKey → List Program → Name → Past
 new_past keys programs me = record { keys = keyring_of keys me; programs = programs; first = []; calls = [] }

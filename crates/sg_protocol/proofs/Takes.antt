@@ -1,9 +1,9 @@
 -- A frame that a session takes is what the law lets its role take.
-use Rattle.std.specs.Prelude.{◌≡◌, ◌≢◌, ℕ, ◌+◌, ◌<◌, ◌==◌, ◌⊎◌, Bool, true, false, not, List, [], ◌∷◌, ◌++◌, map, length, find, position, bytes_eq, refl, Option, Some, None, option_map, unwrap_or, IfSome}
+use Rattle.std.specs.Prelude.{◌≡◌, ◌≢◌, ℕ, ◌+◌, ◌<◌, ◌==◌, true, false, not, List, [], ◌∷◌, ◌++◌, map, length, find, position, bytes_eq, refl, Option, Some, None, option_map, unwrap_or, IfSome}
 use Rattle.std.specs.List.{list_all, AllByRecursion}
 use Rattle.std.specs.Option.{option_map_or}
-use Rattle.std.proofs.Common.{sym, ◌∙◌, ap, subst, inl, inr, arith, append_assoc, append-nil}
-use Rattle.std.proofs.lemmas.Bool.{eqb-true, eq-eqb}
+use Rattle.std.proofs.Common.{sym, ◌∙◌, ap, subst, inl, arith, append_assoc, append-nil}
+use Rattle.std.proofs.lemmas.Bool.{eqb-true, eq-eqb, and_parts}
 use Rattle.std.proofs.lemmas.List.{map-append}
 use Rattle.sg_model.specs.Last.{Map, has, last, last_or, last_of, after_last, up_to_last}
 use Rattle.sg_model.specs.Lists.{first_some, same_text}
@@ -15,6 +15,8 @@ use Rattle.sg_protocol.specs.Evidence.{Seen, View, IsView, IsViewTable, has_view
 use Rattle.sg_protocol.specs.Frame.{Cast, Item, Frame, IsItem}
 use Rattle.sg_protocol.specs.Spelling.{HasSpelling}
 use Rattle.sg_model.specs.Bytes.{AreBytes}
+use Rattle.sg_model.proofs.Small.{not_false, same_bytes, none_parts, range_at}
+use Rattle.sg_law.proofs.Members.{in_left, in_right, in_map}
 use Rattle.sg_protocol.specs.Texts.{Hash, commitment, item_text_of}
 use Rattle.sg_protocol.specs.TextLaws.{IsVersion}
 use Rattle.sg_protocol.specs.Keyring.{Keyring, Program}
@@ -40,15 +42,7 @@ use Rattle.sg_law.proofs.Times.{time_after-last}
 use Rattle.sg_protocol.proofs.Paths.{flat_map-append}
 use Rattle.sg_protocol.proofs.Bridge.{labels-view_of, has_view-Contains}
 use Rattle.sg_protocol.proofs.Entries.{entry, entries, entries-com, by, Roles, has-entries, up_to-entries, sight, view_ends, view_last_edge, seen_labels, has-after_last}
-use Rattle.sg_protocol.proofs.Moves.{step, FitItems, MadeItem, MadeFrame, NoteOk, Matches, and_parts, not_false, none_parts, row_none, map_none, no_position, take_all, no_find, same_bytes, note_text, note_both, fit-append, fit-left, roles-append, fit_up_to, are_held, at_each, Split, split, checked_in, in_map, in_left, in_right, rising_times, writes_below, variable_below}
-
-cases_Bool : (b : Bool) → (b ≡ true) ⊎ (b ≡ false)
-cases_Bool true = inl refl
-cases_Bool false = inr refl
-
-cases_Option : {A : Type 0} (o : Option A) → (o ≡ None) ⊎ ((x : A) × (o ≡ Some x))
-cases_Option None = inl refl
-cases_Option (Some x) = inr (x, refl)
+use Rattle.sg_protocol.proofs.Moves.{step, FitItems, MadeItem, MadeFrame, NoteOk, Matches, row_none, map_none, no_position, take_all, no_find, note_text, note_both, fit-append, fit-left, roles-append, fit_up_to, are_held, Split, split, checked_in, rising_times, writes_below, variable_below}
 
 -- what the rows of a session say where none holds
 pub record Rows (sha : Hash) (keys : Keyring) (p : Program) (x : Session) (f : Frame) : Type 0 where
@@ -198,7 +192,7 @@ module _ (sha : Hash) (s : Schedule) (sid : List ℕ) (cast : Cast) (keys : Keyr
                 made = t.made;
                 there = t.there;
                 same = t.same ∙ ap V.step_of (sym r.same_mid);
-                held = λ y var. sym (at_each (λ z. committed z ((own x ++ r.front) ++ r.mid ∷ [])) (λ z. com_of (told_with_item t.made) z) 0 (length g.variables) t.is_held y (omega arith) (let l = variable_below g is y var in omega arith))
+                held = λ y var. sym (range_at (λ z. committed z ((own x ++ r.front) ++ r.mid ∷ [])) (λ z. com_of (told_with_item t.made) z) 0 (length g.variables) t.is_held y (omega arith) (let l = variable_below g is y var in omega arith))
                     ∙ sym (entries-com ((own x ++ r.front) ++ r.mid ∷ []) y) ∙ ap (λ l. com_of l y) (sym whole_list);
               }
 

@@ -1,13 +1,16 @@
 -- Of one session identifier a node has at most one live session, where no two hashed texts have one digest.
-use Rattle.std.specs.Prelude.{◌≡◌, ℕ, ◌<◌, ◌≤◌, ◌+◌, ◌==◌, ◌&&◌, nat_lt, nat_le, Bool, true, false, not, List, [], ◌∷◌, ◌++◌, map, filter, find, length, bytes_eq, refl, Option, Some, None, option_map, option_and_then, Result, Ok, Err}
+use Rattle.std.specs.Prelude.{◌≡◌, ℕ, ◌<◌, ◌≤◌, ◌==◌, ◌&&◌, nat_lt, nat_le, Bool, true, false, not, List, [], ◌∷◌, ◌++◌, map, filter, find, length, bytes_eq, refl, Option, Some, None, option_map, option_and_then, Result, Ok, Err}
 use Rattle.std.specs.List.{AllByRecursion, list_all}
 use Rattle.std.specs.Option.{option_map_or}
 use Rattle.std.proofs.Common.{sym, ◌∙◌, ap, subst, inl, inr, arith}
-use Rattle.std.proofs.lemmas.Bool.{cases_Bool, eqb-true, eq-eqb}
-use Rattle.std.proofs.lemmas.Slice.Eq.{bytes_eq-Decides}
+use Rattle.std.proofs.lemmas.Bool.{cases_Bool, eqb-true, eq-eqb, and_from, and_parts}
+use Rattle.std.proofs.lemmas.List.{length-append}
+use Rattle.std.proofs.lemmas.List.Elements.{filter-append, recursion_from_All}
 use Rattle.sg_model.specs.Last.{Map, last}
 use Rattle.sg_model.specs.Lists.{first_some, all_differ}
 use Rattle.sg_model.specs.Values.{Value}
+use Rattle.sg_model.proofs.Small.{not_false, clash, same_bytes, none_parts}
+use Rattle.sg_law.proofs.Members.{rec_in}
 use Rattle.sg_protocol.specs.Frame.{Frame, Cast, Item}
 use Rattle.sg_protocol.specs.Reading.{read}
 use Rattle.sg_protocol.specs.Texts.{Hash, IsHash, session_id, session_text_of}
@@ -29,53 +32,25 @@ use Rattle.sg_protocol.specs.Isolation.{sessions_with}
 use Rattle.sg_protocol.specs.Turn.{turn_in, turn_of, TurnIsOfSession}
 use Rattle.sg_law.proofs.Upto.{In}
 use Rattle.sg_law.proofs.Take.{contains_from_in}
-use Rattle.sg_protocol.proofs.Isolation.{of_sid, find-filter, filter-append}
-use Rattle.sg_protocol.proofs.Joins.{Owns, owns_after, third, fourth, Right, right_all, right_new, none_parts, row_none}
-use Rattle.sg_protocol.proofs.Calls.{one_place}
-use Rattle.sg_protocol.proofs.Whole.{to_rec, found_in, honest_inside}
+use Rattle.sg_protocol.proofs.Isolation.{of_sid, find-filter}
+use Rattle.sg_protocol.proofs.Joins.{Owns, owns_after, third, fourth, Right, right_all, right_new}
+use Rattle.sg_protocol.proofs.Finding.{one_place}
+use Rattle.sg_protocol.proofs.Whole.{found_in, honest_inside}
 use Rattle.sg_protocol.proofs.Sent.{FitSession}
 use Rattle.sg_protocol.proofs.Sendings.{Known, LogsOk, all_logs, new_logs}
 use Rattle.sg_protocol.proofs.TextLaws as TL
-
-clash : {A : Type 0} (b : Bool) → b ≡ true → b ≡ false → A
-clash b t f = cc
-
-and_parts : (a b : Bool) → (a && b) ≡ true → (a ≡ true) × (b ≡ true)
-and_parts true b h = (refl, h)
-and_parts false b h = absurd (let z : false ≡ true = h in cc)
-
-and_both : (a b : Bool) → a ≡ true → b ≡ true → (a && b) ≡ true
-and_both a b h k = rw (h, k) refl
-
-not_false : (b : Bool) → not b ≡ false → b ≡ true
-not_false true h = refl
-not_false false h = absurd (let z : true ≡ false = h in cc)
-
-same_bytes : (a b : List ℕ) → bytes_eq a b ≡ true → a ≡ b
-same_bytes a b h = (bytes_eq-Decides a b).0 h
-
-bytes_same : (a b : List ℕ) → a ≡ b → bytes_eq a b ≡ true
-bytes_same a b h = (bytes_eq-Decides a b).1 h
+use Rattle.sg_protocol.proofs.Moves.{row_none}
 
 -- ---- lists
 
-length-cat : {A : Type 0} (xs ys : List A) → length (xs ++ ys) ≡ length xs + length ys
-length-cat [] ys = omega arith
-length-cat (x ∷ xs) ys = omega (arith, length-cat xs ys)
-
 all-cat : {A : Type 0} (q : A → Bool) (xs ys : List A) → list_all q xs ≡ true → list_all q ys ≡ true → list_all q (xs ++ ys) ≡ true
 all-cat q [] ys a b = b
-all-cat q (x ∷ xs) ys a b = let p = and_parts (q x) (list_all q xs) a in and_both (q x) (list_all q (xs ++ ys)) p.0 (all-cat q xs ys p.1 b)
+all-cat q (x ∷ xs) ys a b = let p = and_parts (q x) (list_all q xs) a in and_from (q x) (list_all q (xs ++ ys)) p.0 (all-cat q xs ys p.1 b)
 
 all_at : {A : Type 0} (q : A → Bool) (xs : List A) (x : A) → list_all q xs ≡ true → In xs x → q x ≡ true
 all_at q [] x a i = absurd i
 all_at q (y ∷ xs) x a (inl e) = ap q e ∙ (and_parts (q y) (list_all q xs) a).0
 all_at q (y ∷ xs) x a (inr i) = all_at q xs x (and_parts (q y) (list_all q xs) a).1 i
-
-rec_at : {A : Type 0} (P : A → Type 0) (xs : List A) (x : A) → AllByRecursion P xs → In xs x → P x
-rec_at P [] x a i = absurd i
-rec_at P (y ∷ ys) x a (inl e) = subst P (sym e) a.0
-rec_at P (y ∷ ys) x a (inr i) = rec_at P ys x a.1 i
 
 in_filter : {A : Type 0} (q : A → Bool) (xs : List A) (x : A) → In (filter q xs) x → In xs x × (q x ≡ true)
 in_filter q [] x i = absurd i
@@ -115,7 +90,7 @@ few_still : (ps : List Program) (x : Session) (q : Session → Bool) → length 
 few_still ps x q = elim (cases_Bool (is_over ps x)) [ inl e ↦ rw e (omega arith) | inr e ↦ rw e (elim (cases_Bool (q x)) [ inl f ↦ rw f (omega arith) | inr f ↦ rw f (omega arith) ]) ]
 
 all_still : (ps : List Program) (x : Session) (q : Session → Bool) → q x ≡ true → list_all q (still ps x) ≡ true
-all_still ps x q h = elim (cases_Bool (is_over ps x)) [ inl e ↦ rw e refl | inr e ↦ rw e (and_both (q x) true h refl) ]
+all_still ps x q h = elim (cases_Bool (is_over ps x)) [ inl e ↦ rw e refl | inr e ↦ rw e (and_from (q x) true h refl) ]
 
 none_still : (ps : List Program) (x : Session) (q : Session → Bool) → q x ≡ false → filter q (still ps x) ≡ []
 none_still ps x q h = elim (cases_Bool (is_over ps x)) [ inl e ↦ rw e refl | inr e ↦ rw e (rw h refl) ]
@@ -125,8 +100,8 @@ few_replace q which now h [] = omega arith
 few_replace q which now h (x ∷ xs) = elim (cases_Bool (which x)) [
   | inl e ↦
       let a = h x e in
-      let b = length-cat (filter q (now x)) (filter q xs) in
-      let c = length-cat (filter q (x ∷ [])) (filter q xs) in
+      let b = length-append (filter q (now x)) (filter q xs) in
+      let c = length-append (filter q (x ∷ [])) (filter q xs) in
       let d = ap (λ l. length l) (filter-append q (now x) xs) in
       let f = ap (λ l. length l) (filter-append q (x ∷ []) xs) in
       rw e (omega (arith, a, b, c, d, f))
@@ -142,7 +117,7 @@ all_replace q which now h (x ∷ xs) a =
     let p = and_parts (q x) (list_all q xs) a in
     elim (cases_Bool (which x)) [
       | inl e ↦ rw e (all-cat q (now x) xs (h x p.0) p.1)
-      | inr e ↦ rw e (and_both (q x) (list_all q (replace which now xs)) p.0 (all_replace q which now h xs p.1))
+      | inr e ↦ rw e (and_from (q x) (list_all q (replace which now xs)) p.0 (all_replace q which now h xs p.1))
     ]
 
 -- how a session goes on
@@ -178,14 +153,14 @@ module _ (sha : Hash) (n : Node) (t : Tidy n) where
           let none : filter (pair sid r) n.live ≡ [] = none_filter (pair sid r) (λ s. has_joined n.joins s.sid s.role) n.live t.owns (λ y e o. let q = and_parts (bytes_eq y.sid sid) (y.role == r) e in
           clash (has_joined n.joins x.sid x.role) (ap (λ s. has_joined n.joins s x.role) (same_bytes x.sid sid p.0 ∙ sym (same_bytes y.sid sid q.0)) ∙ ap (has_joined n.joins y.sid) (eqb-true x.role r p.1 ∙ sym (eqb-true y.role r q.1)) ∙ o) j) in
           let a = ap (λ l. length l) (filter-append (pair sid r) n.live (still n.programs x)) in
-          let b = length-cat (filter (pair sid r) n.live) (filter (pair sid r) (still n.programs x)) in
+          let b = length-append (filter (pair sid r) n.live) (filter (pair sid r) (still n.programs x)) in
           let c = ap (λ l. length l) none in
           let f = few_still n.programs x (pair sid r) in
           omega (arith, a, b, c, f)
       | inr h ↦
           let none : filter (pair sid r) (still n.programs x) ≡ [] = none_still n.programs x (pair sid r) h in
           let a = ap (λ l. length l) (filter-append (pair sid r) n.live (still n.programs x)) in
-          let b = length-cat (filter (pair sid r) n.live) (filter (pair sid r) (still n.programs x)) in
+          let b = length-append (filter (pair sid r) n.live) (filter (pair sid r) (still n.programs x)) in
           let c = ap (λ l. length l) none in
           let f = t.once sid r in
           omega (arith, a, b, c, f)
@@ -239,7 +214,7 @@ module _ (sha : Hash) (n : Node) (t : Tidy n) where
   tidy_act sid label values confounders (Sends e to f) = tidy_goes_on (λ s. bytes_eq s.sid sid) (λ s. option_map_or (λ i. still n.programs (extended s (Gave i (openings_for values confounders)))) (last f.items) (s ∷ [])) (keeps (last f.items)) (owns_after n (Act sid label values confounders) (Sends e to f) t.owns)
     where
       keeps : (o : Option Item) → Keeps (λ s. option_map_or (λ i. still n.programs (extended s (Gave i (openings_for values confounders)))) o (s ∷ []))
-      keeps None = record { few = λ x sid r. omega arith; all = λ x h. and_both (differs x) true h refl }
+      keeps None = record { few = λ x sid r. omega arith; all = λ x h. and_from (differs x) true h refl }
       keeps (Some i) = keeps_still n.programs (λ s. extended s (Gave i (openings_for values confounders))) (λ x. refl) (λ x. refl) (λ x. refl)
   tidy_act sid label values confounders other = t
 
@@ -261,9 +236,9 @@ tidy_all sha n (c ∷ cs) t a = tidy_all sha (node_after n c.call c.answer) cs (
 
 pub turn_is_of_session : (sha : Hash) → IsHash sha → TurnIsOfSession sha
 turn_is_of_session sha hash programs s compiled sched free who past sid its =
-    let steps : AllByRecursion (IsStep sha s) s.steps = to_rec (IsStep sha s) s.steps sched.steps in
+    let steps : AllByRecursion (IsStep sha s) s.steps = recursion_from_All (IsStep sha s) s.steps sched.steps in
     let q : LogsOk sha hash programs s compiled sched (run sha programs s) (run sha programs s) = all_logs sha hash programs s compiled sched (run sha programs s) (new_world programs s) 1 s.steps steps (new_logs sha hash programs s compiled sched (run sha programs s)) refl in
-    let right : Right sha past = rec_at (Right sha) (run sha programs s).pasts past (right_all sha s (new_world programs s) 1 s.steps (right_new sha s.keys programs s.honest)) (found_in (λ (p : Past). bytes_eq p.keys.me who) (run sha programs s).pasts past its) in
+    let right : Right sha past = rec_in (Right sha) (run sha programs s).pasts past (right_all sha s (new_world programs s) 1 s.steps (right_new sha s.keys programs s.honest)) (found_in (λ (p : Past). bytes_eq p.keys.me who) (run sha programs s).pasts past its) in
     let tidy : Tidy (node_of past) = tidy_all sha (new_node past.keys past.programs past.first) past.calls (record { owns = refl; differ = refl; once = λ sid r. omega arith }) right.0 in
     let ns = q.nodes who past its in
     by_list (run sha programs s) free tidy ns.1 ns.2 (q.fit.nodes who past its).1 (sessions_with (node_of past).live sid) refl
@@ -285,10 +260,10 @@ turn_is_of_session sha hash programs s compiled sched free who past sid its =
     by_list wf lc tidy hon known fits (x ∷ y ∷ rest) e =
         let i = in_filter (of_sid sid) (node_of past).live x (subst (λ l. In l x) (sym e) (inl refl)) in
         let j = in_filter (of_sid sid) (node_of past).live y (subst (λ l. In l y) (sym e) (inr (inl refl))) in
-        let kx : Known sha hash programs s compiled sched wf who x = rec_at (Known sha hash programs s compiled sched wf who) (node_of past).live x known i.0 in
-        let ky : Known sha hash programs s compiled sched wf who y = rec_at (Known sha hash programs s compiled sched wf who) (node_of past).live y known j.0 in
-        let fx : FitSession x = rec_at FitSession (node_of past).live x fits i.0 in
-        let fy : FitSession y = rec_at FitSession (node_of past).live y fits j.0 in
+        let kx : Known sha hash programs s compiled sched wf who x = rec_in (Known sha hash programs s compiled sched wf who) (node_of past).live x known i.0 in
+        let ky : Known sha hash programs s compiled sched wf who y = rec_in (Known sha hash programs s compiled sched wf who) (node_of past).live y known j.0 in
+        let fx : FitSession x = rec_in FitSession (node_of past).live x fits i.0 in
+        let fy : FitSession y = rec_in FitSession (node_of past).live y fits j.0 in
         let sids : x.sid ≡ y.sid = same_bytes x.sid sid i.1 ∙ sym (same_bytes y.sid sid j.1) in
         let text : session_text_of x.cast ≡ session_text_of y.cast = lc (session_text_of x.cast) (session_text_of y.cast) (contains_from_in (hashed s wf) (session_text_of x.cast) kx.is_hashed) (contains_from_in (hashed s wf) (session_text_of y.cast) ky.is_hashed) (kx.id ∙ sids ∙ sym ky.id) in
         let cast : x.cast ≡ y.cast = TL.one_cast x.cast y.cast (TL.cast_fits x.cast fx.version fx.cast) (TL.cast_fits y.cast fy.version fy.cast) text in
@@ -297,7 +272,7 @@ turn_is_of_session sha hash programs s compiled sched free who past sid its =
         let in_y : y.role < length y.cast.names = honest_inside sha s sched y.cast y.role (ap (is_honest s) ky.me ∙ hon) in
         let roles : x.role ≡ y.role = one_place x.cast.names x.role y.role differ in_x (subst (λ (c : Cast). y.role < length c.names) (sym cast) in_y) (kx.me ∙ sym ky.me ∙ ap (λ (c : Cast). principal c y.role) (sym cast)) in
         let two : filter (pair sid x.role) (node_of past).live ≡ filter (pair sid x.role) (x ∷ y ∷ rest) = sym (filter-filter (pair sid x.role) (of_sid sid) (λ z h. (and_parts (bytes_eq z.sid sid) (z.role == x.role) h).0) (node_of past).live) ∙ ap (filter (pair sid x.role)) e in
-        let three : filter (pair sid x.role) (x ∷ y ∷ rest) ≡ x ∷ y ∷ filter (pair sid x.role) rest = both (pair sid x.role) x y rest (and_both (bytes_eq x.sid sid) (x.role == x.role) i.1 (eq-eqb x.role x.role refl)) (and_both (bytes_eq y.sid sid) (y.role == x.role) j.1 (eq-eqb y.role x.role (sym roles))) in
+        let three : filter (pair sid x.role) (x ∷ y ∷ rest) ≡ x ∷ y ∷ filter (pair sid x.role) rest = both (pair sid x.role) x y rest (and_from (bytes_eq x.sid sid) (x.role == x.role) i.1 (eq-eqb x.role x.role refl)) (and_from (bytes_eq y.sid sid) (y.role == x.role) j.1 (eq-eqb y.role x.role (sym roles))) in
         let many = ap (λ l. length l) (two ∙ three) in
         let few = tidy.once sid x.role in
         absurd (omega (arith, many, few))

@@ -1,9 +1,9 @@
 -- Each session of a run follows one walk.
-use Rattle.std.specs.Prelude.{codes, ◌≡◌, ℕ, ◌==◌, nat_le, All, ◌||◌, ◌&&◌, ◌⊎◌, Bool, true, false, not, List, [], ◌∷◌, ◌++◌, map, flat_map, length, find, bytes_eq, refl, Some}
+use Rattle.std.specs.Prelude.{codes, ◌≡◌, ℕ, ◌==◌, nat_le, ◌||◌, ◌&&◌, ◌⊎◌, Bool, true, false, not, List, [], ◌∷◌, ◌++◌, map, flat_map, length, find, bytes_eq, refl, Some}
 use Rattle.std.specs.List.{list_all, AllByRecursion}
 use Rattle.std.proofs.Common.{sym, ◌∙◌, ap, subst, inl, inr, append_assoc}
-use Rattle.std.proofs.lemmas.Bool.{eqb-true}
-use Rattle.std.proofs.lemmas.List.Elements.{All-head, All-tail}
+use Rattle.std.proofs.lemmas.Bool.{eqb-true, cases_Bool, and_parts}
+use Rattle.std.proofs.lemmas.List.Elements.{recursion_from_All}
 use Rattle.std.proofs.lemmas.Slice.Eq.{bytes_eq-Decides}
 use Rattle.sg_model.specs.Lists.{below, all_differ}
 use Rattle.sg_model.specs.Values.{Opening}
@@ -30,7 +30,6 @@ use Rattle.sg_law.specs.Values.Move.{Writes, Takes}
 use Rattle.sg_law.specs.Values.Deed.{ReadAlong}
 use Rattle.sg_law.proofs.Upto.{In}
 use Rattle.sg_law.proofs.Take.{contains_from_in}
-use Rattle.sg_protocol.proofs.Moves.{and_parts, in_map, in_left}
 use Rattle.sg_law.specs.Values.{MayWrite}
 use Rattle.sg_protocol.proofs.TextLaws.{one_item, one_body, one_frame, kinds_differ}
 use Rattle.sg_model.specs.Lists.{has_text}
@@ -49,8 +48,11 @@ use Rattle.sg_protocol.specs.Premises.{hashed, Premises}
 use Rattle.sg_protocol.specs.IsSchedule.{IsSchedule, IsStep, AreCompiled, IsProgram, parts}
 use Rattle.sg_protocol.specs.Headline.{IsExplained}
 use Rattle.sg_law.proofs.Upto.{in_from_Contains}
-use Rattle.sg_protocol.proofs.Calls.{NodeOk, find_passes, find_all}
+use Rattle.sg_protocol.proofs.Finding.{find_passes, find_all}
+use Rattle.sg_protocol.proofs.Calls.{NodeOk}
 use Rattle.sg_model.specs.Names.{is_name, is_name_byte, is_letter, reserved}
+use Rattle.sg_model.proofs.Small.{same_bytes, clash, not_true}
+use Rattle.sg_law.proofs.Members.{in_left, in_map, rec_in, all_in, in_parts}
 use Rattle.sg_law.specs.Values.{Binding, Followed}
 use Rattle.sg_law.proofs.Follow.{grown_follows}
 use Rattle.sg_law.proofs.Lists.{nil_from_map}
@@ -62,13 +64,6 @@ use Rattle.sg_protocol.proofs.Paths.{one_path, acts_of, steps_of, TypedDeed}
 use Rattle.sg_protocol.proofs.TextLaws.{one_opening, one_cast, one_canonical}
 use Rattle.sg_protocol.proofs.TextLaws as TL
 use Rattle.sg_protocol.proofs.Course.{Progress, keep_all, with_all}
-
-cases_Bool : (b : Bool) → (b ≡ true) ⊎ (b ≡ false)
-cases_Bool true = inl refl
-cases_Bool false = inr refl
-
-same_bytes_ : (a b : List ℕ) → bytes_eq a b ≡ true → a ≡ b
-same_bytes_ a b h = (bytes_eq-Decides a b).0 h
 
 -- ---- graphs with one text
 
@@ -130,13 +125,6 @@ same_named (x ∷ gs) g g' d (inl p) (inr j) e = absurd (differs x gs g' d j (ap
     differs : (x : Graph) (gs : List Graph) (y : Graph) → all_differ (map (λ (g : Graph). g.name) (x ∷ gs)) ≡ true → In gs y → x.name ≡ y.name → ⊥
     differs x gs y d j e = clash (has_text x.name (map (λ (g : Graph). g.name) gs)) (there gs j) (not_true (has_text x.name (map (λ (g : Graph). g.name) gs)) (and_parts (not (has_text x.name (map (λ (g : Graph). g.name) gs))) (all_differ (map (λ (g : Graph). g.name) gs)) d).0)
       where
-        clash : (b : Bool) → b ≡ true → b ≡ false → ⊥
-        clash b t f = absurd (cc)
-
-        not_true : (b : Bool) → not b ≡ true → b ≡ false
-        not_true true h = sym h
-        not_true false h = refl
-
         there : (zs : List Graph) → In zs y → has_text x.name (map (λ (g : Graph). g.name) zs) ≡ true
         there [] i = absurd i
         there (z ∷ zs) (inl p) = rw ((bytes_eq-Decides x.name z.name).1 (e ∙ ap (λ (z : Graph). z.name) p)) refl
@@ -146,13 +134,6 @@ same_named (x ∷ gs) g g' d (inr i) (inl q) e = absurd (differs x gs g d i (ap 
     differs : (x : Graph) (gs : List Graph) (y : Graph) → all_differ (map (λ (g : Graph). g.name) (x ∷ gs)) ≡ true → In gs y → x.name ≡ y.name → ⊥
     differs x gs y d j e = clash (has_text x.name (map (λ (g : Graph). g.name) gs)) (there gs j) (not_true (has_text x.name (map (λ (g : Graph). g.name) gs)) (and_parts (not (has_text x.name (map (λ (g : Graph). g.name) gs))) (all_differ (map (λ (g : Graph). g.name) gs)) d).0)
       where
-        clash : (b : Bool) → b ≡ true → b ≡ false → ⊥
-        clash b t f = absurd (cc)
-
-        not_true : (b : Bool) → not b ≡ true → b ≡ false
-        not_true true h = sym h
-        not_true false h = refl
-
         there : (zs : List Graph) → In zs y → has_text x.name (map (λ (g : Graph). g.name) zs) ≡ true
         there [] i = absurd i
         there (z ∷ zs) (inl p) = rw ((bytes_eq-Decides x.name z.name).1 (e ∙ ap (λ (z : Graph). z.name) p)) refl
@@ -160,20 +141,6 @@ same_named (x ∷ gs) g g' d (inr i) (inl q) e = absurd (differs x gs g d i (ap 
 same_named (x ∷ gs) g g' d (inr i) (inr j) e = same_named gs g g' (and_parts (not (has_text x.name (map (λ (g : Graph). g.name) gs))) (all_differ (map (λ (g : Graph). g.name) gs)) d).1 i j e
 
 -- ---- look-ups
-
-pub all_in : {A : Type 0} (P : A → Type 0) (xs : List A) (x : A) → All P xs → In xs x → P x
-all_in P [] x a i = absurd i
-all_in P (y ∷ ys) x a (inl e) = subst P (sym e) (All-head P y ys a)
-all_in P (y ∷ ys) x a (inr i) = all_in P ys x (All-tail P y ys a) i
-
-pub rec_in : {A : Type 0} (P : A → Type 0) (xs : List A) (x : A) → AllByRecursion P xs → In xs x → P x
-rec_in P [] x a i = absurd i
-rec_in P (y ∷ ys) x a (inl e) = subst P (sym e) a.0
-rec_in P (y ∷ ys) x a (inr i) = rec_in P ys x a.1 i
-
-pub to_rec : {A : Type 0} (P : A → Type 0) (xs : List A) → All P xs → AllByRecursion P xs
-to_rec P [] a = tt
-to_rec P (x ∷ xs) a = (All-head P x xs a, to_rec P xs (All-tail P x xs a))
 
 pub found_in : {A : Type 0} (p : A → Bool) (xs : List A) (x : A) → find p xs ≡ Some x → In xs x
 found_in p [] x e = absurd (cc)
@@ -198,7 +165,7 @@ find_some p (y ∷ ys) x i h = elim (cases_Bool (p y)) [
 -- a program's graph is one of the graphs
 in_parts_of : (gs : List Graph) (y : Graph × ℕ) → In (parts gs) y → In gs y.0
 in_parts_of [] y i = absurd i
-in_parts_of (g ∷ gs) y i = elim (C.in_parts (map (λ r. (g, r)) (below (length g.roles))) (parts gs) y i) [
+in_parts_of (g ∷ gs) y i = elim (in_parts (map (λ r. (g, r)) (below (length g.roles))) (parts gs) y i) [
   | inl j ↦ (let r = C.of_map (λ r. (g, r)) (below (length g.roles)) y j in inl (ap (λ (z : Graph × ℕ). z.0) r.1))
   | inr j ↦ inr (in_parts_of gs y j)
 ]
@@ -214,7 +181,7 @@ new_past keys programs me = record { keys = keyring_of keys me; programs = progr
 pub first_past : (keys : List PairKey) (programs : List Program) (names : List Name) (who : Name) (p : Past) → find (λ (p : Past). bytes_eq p.keys.me who) (map (new_past keys programs) names) ≡ Some p → (p ≡ new_past keys programs who) × (has_text who names ≡ true)
 first_past keys programs [] who p e = absurd (cc)
 first_past keys programs (n ∷ ns) who p e = elim (cases_Bool (bytes_eq n who)) [
-  | inl h ↦ (let f : Some (new_past keys programs n) ≡ Some p = rw h at e in let q : new_past keys programs n ≡ p = cc in let same : n ≡ who = same_bytes_ n who h in (sym q ∙ ap (new_past keys programs) same, rw ((bytes_eq-Decides who n).1 (sym same)) refl))
+  | inl h ↦ (let f : Some (new_past keys programs n) ≡ Some p = rw h at e in let q : new_past keys programs n ≡ p = cc in let same : n ≡ who = same_bytes n who h in (sym q ∙ ap (new_past keys programs) same, rw ((bytes_eq-Decides who n).1 (sym same)) refl))
   | inr h ↦ (let r = first_past keys programs ns who p (rw h at e) in (r.0, or_more (bytes_eq who n) r.1))
 ]
   where
@@ -251,7 +218,7 @@ honest_inside sha s sched c k h = elim (in_range c.names k) [
     named [] n a h = absurd (cc)
     named (t ∷ ts) n a h =
         let p = and_parts (is_name t) (list_all is_name ts) a in
-        elim (cases_Bool (bytes_eq n t)) [ inl e ↦ subst (λ z. is_name z ≡ true) (sym (same_bytes_ n t e)) p.0 | inr e ↦ named ts n p.1 (rw e at h) ]
+        elim (cases_Bool (bytes_eq n t)) [ inl e ↦ subst (λ z. is_name z ≡ true) (sym (same_bytes n t e)) p.0 | inr e ↦ named ts n p.1 (rw e at h) ]
 
 module _ (sha : Hash) (hash : IsHash sha) (programs : List Program) (s : Schedule) (compiled : AreCompiled sha s.graphs programs) (sched : IsSchedule sha s) (premises : Premises sha s (run sha programs s)) (sid : List ℕ)
     (first : FirstCast sha s programs sid (run sha programs s))
@@ -281,9 +248,9 @@ module _ (sha : Hash) (hash : IsHash sha) (programs : List Program) (s : Schedul
 
   pub prog : (r : ℕ) (p : Program) → program_for programs first.cast.graph r ≡ Some p → (p.graph ≡ g) × IsViewTable p.graph r p.views
   prog r p e =
-      let is : IsProgram sha p = find_all (λ (p : Program). bytes_eq p.digest first.cast.graph && (p.role == r)) (IsProgram sha) programs p (to_rec (IsProgram sha) programs compiled.each) e in
+      let is : IsProgram sha p = find_all (λ (p : Program). bytes_eq p.digest first.cast.graph && (p.role == r)) (IsProgram sha) programs p (recursion_from_All (IsProgram sha) programs compiled.each) e in
       let t = and_parts (bytes_eq p.digest first.cast.graph) (p.role == r) (find_passes (λ (p : Program). bytes_eq p.digest first.cast.graph && (p.role == r)) programs p e) in (
-        same_digest p.graph g (program_graph sha s.graphs programs compiled p (found_in _ programs p e)) g_there (sym is.digest ∙ same_bytes_ p.digest first.cast.graph t.0 ∙ sym first.digest ∙ the_program.digest),
+        same_digest p.graph g (program_graph sha s.graphs programs compiled p (found_in _ programs p e)) g_there (sym is.digest ∙ same_bytes p.digest first.cast.graph t.0 ∙ sym first.digest ∙ the_program.digest),
         subst (λ z. IsViewTable p.graph z p.views) (eqb-true p.role r t.1) is.views,
       )
 
@@ -314,7 +281,7 @@ module _ (sha : Hash) (hash : IsHash sha) (programs : List Program) (s : Schedul
       has_past [] who h = absurd (cc)
       has_past (n ∷ ns) who h = elim (cases_Bool (bytes_eq n who)) [
         | inl e ↦ (new_past s.keys programs n, rw e refl)
-        | inr e ↦ (let r = has_past ns who (later (bytes_eq who n) (λ q. differs (bytes_eq n who) ((bytes_eq-Decides n who).1 (sym (same_bytes_ who n q))) e) h) in (r.0, rw e r.1))
+        | inr e ↦ (let r = has_past ns who (later (bytes_eq who n) (λ q. differs (bytes_eq n who) ((bytes_eq-Decides n who).1 (sym (same_bytes who n q))) e) h) in (r.0, rw e r.1))
       ]
         where
           later : (b : Bool) → (b ≡ true → ⊥) → (b || has_text who ns) ≡ true → has_text who ns ≡ true
@@ -341,7 +308,7 @@ module _ (sha : Hash) (hash : IsHash sha) (programs : List Program) (s : Schedul
 
   pub graph_is : graph_with sha s.graphs first.cast.graph ≡ Some g
   graph_is = found_graph.1 ∙ ap (λ z. Some z) (same_digest found_graph.0 g (found_in _ s.graphs found_graph.0 found_graph.1) g_there
-      (same_bytes_ (graph_digest sha found_graph.0) first.cast.graph (find_passes (λ z. bytes_eq (graph_digest sha z) first.cast.graph) s.graphs found_graph.0 found_graph.1) ∙ sym first.digest ∙ the_program.digest))
+      (same_bytes (graph_digest sha found_graph.0) first.cast.graph (find_passes (λ z. bytes_eq (graph_digest sha z) first.cast.graph) s.graphs found_graph.0 found_graph.1) ∙ sym first.digest ∙ the_program.digest))
 
   -- nothing is made at first
   nothing_made : Grows sha hash s programs sid first.cast g the_program.is_graph the_program.accepted first.fits.version long first.differ prog wf premises.unforged the_cast Fit fit_next fit_bytes fit_sends casts_fit binding (new_world programs s) begins
@@ -356,7 +323,7 @@ module _ (sha : Hash) (hash : IsHash sha) (programs : List Program) (s : Schedul
       (Grows sha hash s programs sid first.cast g the_program.is_graph the_program.accepted first.fits.version long first.differ prog wf premises.unforged the_cast Fit fit_next fit_bytes fit_sends casts_fit binding)
       (grows_idle sha hash s programs sid first.cast g the_program.is_graph the_program.accepted first.fits.version long first.differ prog wf premises.unforged the_cast Fit fit_next fit_bytes fit_sends casts_fit binding)
       (λ w k p h x good fit who past its_past c call_is after out. grows_called sha hash s programs sid first.cast g the_program.is_graph the_program.accepted first.fits.version long first.differ prog wf premises.unforged the_cast Fit fit_next fit_bytes fit_sends casts_fit binding w k p x good fit who past its_past c call_is after out h)
-      (new_world programs s) 1 (begins, nothing_made) s.steps (to_rec (IsStep sha s) s.steps sched.steps) fit_new refl
+      (new_world programs s) 1 (begins, nothing_made) s.steps (recursion_from_All (IsStep sha s) s.steps sched.steps) fit_new refl
       in
       let m = q.1 log e a in
       let f : IsFollowedAsGrown (shape g) h commit m.ms = grown_follows (shape g) h commit m.ms the_program.accepted.sighted (subst (λ l. Binding commit (all_openings l)) (sym m.are) (binding q.0.moves q.0.used)) (subst (AllMay (shape g) h commit (V.at_first (shape g))) (sym m.are) q.0.may) m.shown in
@@ -370,7 +337,7 @@ module _ (sha : Hash) (hash : IsHash sha) (programs : List Program) (s : Schedul
       (Shown sha hash s programs sid first.cast g the_program.is_graph the_program.accepted first.fits.version long first.differ prog wf premises.unforged the_cast Fit fit_next fit_bytes fit_sends casts_fit binding)
       (shown_idle sha hash s programs sid first.cast g the_program.is_graph the_program.accepted first.fits.version long first.differ prog wf premises.unforged the_cast Fit fit_next fit_bytes fit_sends casts_fit binding)
       (shown_called sha hash s programs sid first.cast g the_program.is_graph the_program.accepted first.fits.version long first.differ prog wf premises.unforged the_cast Fit fit_next fit_bytes fit_sends casts_fit binding)
-      (new_world programs s) 1 begins (λ before l after e. absurd (nothing_before before l after e)) s.steps (to_rec (IsStep sha s) s.steps sched.steps) fit_new refl
+      (new_world programs s) 1 begins (λ before l after e. absurd (nothing_before before l after e)) s.steps (recursion_from_All (IsStep sha s) s.steps sched.steps) fit_new refl
     where
       nothing_before : (before : List Logged) (l : Logged) (after : List Logged) → [] ≡ before ++ l ∷ after → ⊥
       nothing_before [] l after e = cc
@@ -407,4 +374,4 @@ module _ (sha : Hash) (hash : IsHash sha) (programs : List Program) (s : Schedul
       let same : g ≡ y = cc in
       subst (λ z. ShowsLastSteps s wf z first.cast f (up_to_last (λ (i : Item). i.role) f.receiver (flat_map items_of (exchanges_of f.sid f.receiver past.calls)))) same
       (shows sha hash s programs sid first.cast g the_program.is_graph the_program.accepted first.fits.version long first.differ prog wf premises.unforged the_cast Fit fit_next fit_bytes fit_sends casts_fit binding inside
-      (new_world programs s) 1 begins (λ l who bs f past e. absurd (let n : None ≡ Some l = e in cc)) s.steps (to_rec (IsStep sha s) s.steps sched.steps) fit_new refl l who bs f past e t q its)
+      (new_world programs s) 1 begins (λ l who bs f past e. absurd (let n : None ≡ Some l = e in cc)) s.steps (recursion_from_All (IsStep sha s) s.steps sched.steps) fit_new refl l who bs f past e t q its)

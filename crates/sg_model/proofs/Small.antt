@@ -1,0 +1,115 @@
+-- Small lemmas that many proofs open with: on answers, bytes, options, lists, what holds of each element, and ranges of numbers.
+use Rattle.std.specs.Prelude.{◌≡◌, ℕ, zero, suc, ◌+◌, ◌<◌, ◌≤◌, ◌==◌, nat_lt, ◌&&◌, ◌⊎◌, Bool, true, false, not, List, [], ◌∷◌, ◌++◌, map, filter, take, length, bytes_eq, refl, Option, Some, None}
+use Rattle.std.specs.List.{list_all, AllByRecursion}
+use Rattle.std.proofs.Common.{◌∙◌, ap, subst, inl, inr, arith}
+use Rattle.std.proofs.lemmas.Bool.{cases_Bool, and_parts, eqb-true}
+use Rattle.std.proofs.lemmas.Bool.Decides.{nat_tests}
+use Rattle.std.proofs.lemmas.Slice.Eq.{bytes_eq-Decides}
+use Rattle.sg_model.specs.Last.{last}
+use Rattle.sg_model.specs.Lists.{range_from, first_some}
+
+-- two truths of one answer, and the two cases of an option
+pub clash : {A : Type 0} (b : Bool) → b ≡ true → b ≡ false → A
+clash b t f = cc
+
+pub cases_Option : {A : Type 0} (o : Option A) → (o ≡ None) ⊎ ((x : A) × (o ≡ Some x))
+cases_Option None = inl refl
+cases_Option (Some x) = inr (x, refl)
+
+-- parts of answers
+pub and_left : (a b : Bool) → (a && b) ≡ true → a ≡ true
+and_left true b h = refl
+and_left false b h = h
+
+pub and_right : (a b : Bool) → (a && b) ≡ true → b ≡ true
+and_right true b h = h
+and_right false b h = cc
+
+pub not_false : (b : Bool) → not b ≡ false → b ≡ true
+not_false true h = refl
+not_false false h = absurd (cc)
+
+pub not_true : (b : Bool) → not b ≡ true → b ≡ false
+not_true true h = absurd (let z : false ≡ true = h in cc)
+not_true false h = refl
+
+-- bytes
+pub same_bytes : (a b : List ℕ) → bytes_eq a b ≡ true → a ≡ b
+same_bytes a b h = (bytes_eq-Decides a b).0 h
+
+pub bytes_same : (a b : List ℕ) → a ≡ b → bytes_eq a b ≡ true
+bytes_same a b h = (bytes_eq-Decides a b).1 h
+
+pub bytes_refl : (t : List ℕ) → bytes_eq t t ≡ true
+bytes_refl t = (bytes_eq-Decides t t).1 refl
+
+-- lists
+pub none_parts : {F : Type 0} (o : Option F) (os : List (Option F)) → first_some (o ∷ os) ≡ None → (o ≡ None) × (first_some os ≡ None)
+none_parts None os h = (refl, h)
+none_parts (Some x) os h = absurd (cc)
+
+pub both_nil : {A : Type 0} (xs ys : List A) → xs ++ ys ≡ [] → (xs ≡ []) × (ys ≡ [])
+both_nil [] ys e = (refl, e)
+both_nil (x ∷ xs) ys e = absurd (cc)
+
+pub no_last : {A : Type 0} (xs : List A) → last xs ≡ None → xs ≡ []
+no_last [] e = refl
+no_last (x ∷ xs) e = absurd (cc)
+
+pub map_same : {A : Type 0} (f h : ℕ → A) (xs : List ℕ) → ((x : ℕ) → f x ≡ h x) → map f xs ≡ map h xs
+map_same f h [] e = refl
+map_same f h (x ∷ xs) e = ap (λ z. z ∷ map f xs) (e x) ∙ ap (λ l. h x ∷ l) (map_same f h xs e)
+
+pub length_filter : {A : Type 0} (q : A → Bool) (xs : List A) → length (filter q xs) ≤ length xs
+length_filter q [] = omega arith
+length_filter q (x ∷ xs) = elim (cases_Bool (q x)) [ inl e ↦ rw e (let l = length_filter q xs in omega (arith, l)) | inr e ↦ rw e (let l = length_filter q xs in omega (arith, l)) ]
+
+pub take_most : (n : ℕ) (t : List ℕ) → length (take n t) ≤ n
+take_most zero t = omega arith
+take_most (suc n) [] = omega arith
+take_most (suc n) (x ∷ t) = let l = take_most n t in omega (arith, l)
+
+-- what holds of each element
+pub all-append : {A : Type 0} (P : A → Type 0) (xs ys : List A) → AllByRecursion P xs → AllByRecursion P ys → AllByRecursion P (xs ++ ys)
+all-append P [] ys a b = b
+all-append P (x ∷ xs) ys a b = (a.0, all-append P xs ys a.1 b)
+
+pub all-parts : {A : Type 0} (P : A → Type 0) (xs ys : List A) → AllByRecursion P (xs ++ ys) → AllByRecursion P xs × AllByRecursion P ys
+all-parts P [] ys a = (tt, a)
+all-parts P (x ∷ xs) ys a = let r = all-parts P xs ys a.1 in ((a.0, r.0), r.1)
+
+pub all-right : {A : Type 0} (P : A → Type 0) (xs ys : List A) → AllByRecursion P (xs ++ ys) → AllByRecursion P ys
+all-right P [] ys a = a
+all-right P (x ∷ xs) ys a = all-right P xs ys a.1
+
+pub all_end : {A : Type 0} (P : A → Type 0) (xs : List A) (y : A) → AllByRecursion P (xs ++ y ∷ []) → P y
+all_end P [] y a = a.0
+all_end P (x ∷ xs) y a = all_end P xs y a.1
+
+pub all_weaker : {A : Type 0} (P Q : A → Type 0) → ((x : A) → P x → Q x) → (xs : List A) → AllByRecursion P xs → AllByRecursion Q xs
+all_weaker P Q f [] a = tt
+all_weaker P Q f (x ∷ xs) a = (f x a.0, all_weaker P Q f xs a.1)
+
+pub all_filter : {A : Type 0} (P : A → Type 0) (q : A → Bool) (xs : List A) → AllByRecursion P xs → AllByRecursion P (filter q xs)
+all_filter P q [] a = tt
+all_filter P q (x ∷ xs) a = elim (cases_Bool (q x)) [ inl e ↦ rw e (a.0, all_filter P q xs a.1) | inr e ↦ rw e (all_filter P q xs a.1) ]
+
+pub all_tests : {A : Type 0} (p : A → Bool) (xs : List A) → list_all p xs ≡ true → AllByRecursion (λ x. p x ≡ true) xs
+all_tests p [] h = tt
+all_tests p (x ∷ xs) h = let q = and_parts (p x) (list_all p xs) h in (q.0, all_tests p xs q.1)
+
+pub all_below : (n : ℕ) (xs : List ℕ) → list_all (λ k. nat_lt k n) xs ≡ true → AllByRecursion (λ x. x < n) xs
+all_below n [] h = tt
+all_below n (x ∷ xs) h = let ps = and_parts (nat_lt x n) (list_all (λ k. nat_lt k n) xs) h in (grind (arith, nat_tests, ps.0), all_below n xs ps.1)
+
+-- what agrees on a range of numbers, and at each number of it
+pub range_same : {A : Type 0} (f h : ℕ → A) (k j : ℕ) → ((x : ℕ) → x < k + j → f x ≡ h x) → map f (range_from k j) ≡ map h (range_from k j)
+range_same f h k zero e = refl
+range_same f h k (suc j) e = ap (λ z. z ∷ map f (range_from (suc k) j)) (e k (omega arith)) ∙ ap (λ l. h k ∷ l) (range_same f h (suc k) j (λ x l. e x (omega (arith, l))))
+
+pub range_at : {A : Type 0} (f h : ℕ → A) (k j : ℕ) → map f (range_from k j) ≡ map h (range_from k j) → (x : ℕ) → k ≤ x → x < k + j → f x ≡ h x
+range_at f h k zero e x l u = absurd (omega arith)
+range_at f h k (suc j) e x l u = elim (cases_Bool (k == x)) [
+  | inl d ↦ (let s : k ≡ x = eqb-true k x d in let hd : f k ≡ h k = cc in subst (λ y. f y ≡ h y) s hd)
+  | inr d ↦ (let tl : map f (range_from (suc k) j) ≡ map h (range_from (suc k) j) = cc in range_at f h (suc k) j tl x (grind (arith, nat_tests)) (omega arith))
+]
