@@ -1,5 +1,6 @@
 //! Tags.
-ghost use Rattle.std.specs.Prelude.{◌≡◌, ◌↔◌, ◌≤◌, ◌++◌, length, drop, IsTrue};
+ghost use Rattle.std.specs.Prelude.{◌≡◌, ◌↔◌, ◌≤◌, ◌++◌, length, drop, IsTrue, List, ℕ};
+ghost use Rattle.sha2.specs.Hashers.{Holds256};
 ghost use Rattle.sg_protocol.specs.Texts.{real, key_block, padded, hmac, cut};
 ghost use Rattle.sg_protocol.specs.TextLaws.{IsVersion};
 
@@ -11,14 +12,18 @@ pub fn tag(key: &[u8], head: &[u8], rest: &[u8]) -> Tag
     ensures { result ≡ hmac real key.now (head.now ++ rest.now) }
 {
     let block = key_block(key);
-    let mut inner = Sha256::new();
-    inner.update(padded(0x36, &block));
+    let inner = Sha256::new_with_prefix(padded(0x36, &block));
+    let outer = Sha256::new_with_prefix(padded(0x5C, &block));
+    tag_from(inner, outer, head, rest)
+}
+
+// The tag of `head` followed by `rest`, where the hashers hold the key's block under each pad.
+pub(crate) fn tag_from(mut inner: Sha256, mut outer: Sha256, head: &[u8], rest: &[u8]) -> Tag
+    ensures { (a b : List ℕ) → Holds256 inner a → Holds256 outer b → result ≡ real (b ++ real (a ++ (head.now ++ rest.now))) }
+{
     inner.update(head);
     inner.update(rest);
-    let digest = inner.finalize();
-    let mut outer = Sha256::new();
-    outer.update(padded(0x5C, &block));
-    outer.update(digest);
+    outer.update(inner.finalize());
     Tag(outer.finalize())
 }
 
@@ -52,14 +57,15 @@ pub fn cut_matches(version: u8, key: &[u8], head: &[u8], rest: &[u8], tag: &Tag)
     same(&cut(version, crate::hmac::tag(key, head, rest)), tag)
 }
 
-fn same(one: &Tag, other: &Tag) -> bool
+// Whether the tags are equal.
+pub(crate) fn same(one: &Tag, other: &Tag) -> bool
     ensures { IsTrue result ↔ (one.now ≡ other.now) }
 {
     one.0 == other.0
 }
 
 // The key as a block of 64 bytes: a longer one hashed, and zeros after it.
-fn key_block(key: &[u8]) -> [u8; 64]
+pub(crate) fn key_block(key: &[u8]) -> [u8; 64]
     ensures { result ≡ key_block real key.now }
 {
     let mut block = [0u8; 64];
@@ -79,7 +85,7 @@ fn put_front(block: &mut [u8; 64], front: &[u8])
     block[..front.len()].copy_from_slice(front);
 }
 
-fn padded(pad: u8, block: &[u8; 64]) -> [u8; 64]
+pub(crate) fn padded(pad: u8, block: &[u8; 64]) -> [u8; 64]
     ensures { result ≡ padded pad block.now }
 {
     let mut out = *block;

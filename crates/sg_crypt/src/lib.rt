@@ -9,6 +9,7 @@
 mod cast;
 mod digest;
 mod hmac;
+mod key;
 mod note;
 mod put;
 mod text;
@@ -16,6 +17,7 @@ mod text;
 pub use cast::Cast;
 pub use digest::{commit, graph_digest, session_id};
 pub use hmac::{cut, cut_matches, tag, tag_matches};
+pub use key::Key;
 pub use note::{Counts, Note, Notes};
 pub use put::{put_name, put_opening};
 pub use text::{commit_text, frame_text, graph_text, item_text, session_text};

@@ -7,16 +7,16 @@ ghost use Rattle.sg_protocol.specs.Node.{stranger};
 
 use indexmap::IndexMap;
 use sg_base::{Addr, Name, OutOfMemory};
-use sg_crypt::Cast;
+use sg_crypt::{Cast, Key};
 use std::alloc::Global;
 use std::marker::Model;
 use thiserror::Error;
 
 /// Where a peer is, and the key shared with it.
-#[derive(Clone, Copy)]
+#[derive(Drop)]
 struct Contact {
     addr: Addr,
-    key: [u8; 32],
+    key: Key,
 }
 
 /// One principal's name and address, and its peers in the order in which they were added. All names differ. It has no `Debug`, which
@@ -77,7 +77,14 @@ impl Keyring {
         if self.has_name(&peer) {
             return Err(PeerFault::Twice);
         }
-        match put_last(&mut self.peers, peer, Contact { addr, key }) {
+        match put_last(
+            &mut self.peers,
+            peer,
+            Contact {
+                addr,
+                key: Key::new(key),
+            },
+        ) {
             Ok(()) => Ok(()),
             Err(_) => Err(PeerFault::OutOfMemory),
         }
@@ -101,6 +108,16 @@ impl Keyring {
 
     /// The key shared with a peer. It takes no memory.
     pub fn key(&self, peer: &Name) -> Option<&[u8; 32]>
+        ensures { option_copied result ≡ key_of self.now peer.now }
+    {
+        match self.ready_key(peer) {
+            Some(key) => Some(key.bytes()),
+            None => None,
+        }
+    }
+
+    /// The key shared with a peer, ready to tag. It takes no memory.
+    pub fn ready_key(&self, peer: &Name) -> Option<&Key>
         ensures { option_copied result ≡ key_of self.now peer.now }
     {
         match self.peers.get(peer) {

@@ -1,4 +1,4 @@
-use crate::{cut, cut_matches, tag, tag_matches};
+use crate::{Key, cut, cut_matches, tag, tag_matches};
 use sg_base::Tag;
 use sha2::{Digest, Sha256};
 
@@ -67,4 +67,22 @@ fn the_digest_of_no_bytes(rt: HostRuntime) {
         0xb8, 0x55,
     ];
     assert_eq!(rt; Sha256::digest(b""), digest);
+}
+
+// Test case 3 of RFC 4231 has a key of twenty bytes; zeros behind it change nothing (RFC 2104 section 2).
+#[test]
+fn tags_of_a_ready_key(rt: HostRuntime) {
+    let mut bytes = [0u8; 32];
+    bytes[..20].copy_from_slice(&[0xaa; 20]);
+    let three = [
+        0x77, 0x3e, 0xa9, 0x1e, 0x36, 0x80, 0x0e, 0x46, 0x85, 0x4d, 0xb8, 0xeb, 0xd0, 0x91, 0x81,
+        0xa7, 0x29, 0x59, 0x09, 0x8b, 0x3e, 0xf8, 0xc1, 0x22, 0xd9, 0x63, 0x55, 0x14, 0xce, 0xd5,
+        0x65, 0xfe,
+    ];
+    let key = Key::new(bytes);
+    assert_eq!(rt; *key.bytes(), bytes);
+    assert_eq!(rt; key.tag(&[0xdd; 20], &[0xdd; 30]), Tag(three));
+    assert_eq!(rt; key.tag(&[0xdd; 50], b""), Tag(three));
+    assert!(rt; key.cut_matches(1, &[0xdd; 25], &[0xdd; 25], &Tag(three)));
+    assert!(rt; !key.cut_matches(2, &[0xdd; 25], &[0xdd; 25], &Tag(three)));
 }

@@ -1,7 +1,7 @@
 use Rattle.std.proofs.Common.{ap, refl, ◌∙◌, option_map}
 use Rattle.sg_keys.specs.declared.keyring.Contact.{Contact}
 use Rattle.sg_keys.proofs.Contacts.{lookup-find}
-use Rattle.sg_keys.proofs.keyring.Keyring.key.Goals as goal
+use Rattle.sg_keys.proofs.keyring.Keyring.ready_key.Goals as goal
 
 pub returns-in-Some : goal.returns-in-Some
 returns-in-Some c =
