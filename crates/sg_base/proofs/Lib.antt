@@ -1,5 +1,6 @@
 mod Lookup
 mod Pieces
+pub mod Ranges
 pub mod SameName
 mod Seeded
 pub mod SetLaws
