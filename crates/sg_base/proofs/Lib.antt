@@ -1,4 +1,7 @@
 mod Lookup
 mod Pieces
+pub mod Ranges
+pub mod SameName
 mod Seeded
 pub mod SetLaws
+pub mod WordLaws

@@ -2,7 +2,8 @@ use Rattle.std.proofs.Common.{◌≡◌, refl, ap, ◌∙◌, ◌+◌, ◌*◌, 
 use Rattle.std.proofs.lemmas.List.{map-append}
 use Rattle.rand_core.specs.Steps.{fill_via_u32, word_bytes}
 use Rattle.rand_chacha.specs.ChaCha.{ChaCha, next_word, key_of}
-use Rattle.sg_model.specs.Lists.{range_from, below}
+use Rattle.sg_model.specs.Lists.{below}
+use Rattle.sg_base.proofs.Ranges.{below-suc}
 use Rattle.sg_base.specs.Seeded.{stream_word, seeded_words}
 
 -- four words from a generator that does not wrap
@@ -16,14 +17,8 @@ next_four g small =
     let four : (g.word_pos + 3 + 1) % 2 ^ 68 ≡ g.word_pos + 4 = omega arith in
     rw (one, two, three, four) refl
 
-range_from-suc : (n k : ℕ) → range_from n (suc k) ≡ range_from n k ++ (n + k) ∷ []
-range_from-suc n zero = rw (add-zero n) refl
-range_from-suc n (suc k) =
-    ap (λ l. n ∷ l) (range_from-suc (suc n) k ∙ ap (λ m. range_from (suc n) k ++ m ∷ []) (omega arith))
-
 -- one more word of a seed
 pub seeded_words-suc : (seed : List ℕ) (n : ℕ)
     → seeded_words seed (n + 1) ≡ seeded_words seed n ++ stream_word (key_of seed) 0 (4 * n) ∷ []
 seeded_words-suc seed n =
-    let more : below (n + 1) ≡ below n ++ n ∷ [] = rw add-one (range_from-suc 0 n ∙ ap (λ m. below n ++ m ∷ []) (zero-add n)) in
-    rw more (map-append (λ i. stream_word (key_of seed) 0 (4 * i)) (below n) (n ∷ []))
+    rw (below-suc n) (map-append (λ i. stream_word (key_of seed) 0 (4 * i)) (below n) (n ∷ []))

@@ -8,3 +8,4 @@ pub mod Seeded
 pub mod Sets
 pub mod SetsBack
 pub mod Values
+pub mod Words

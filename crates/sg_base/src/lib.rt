@@ -14,6 +14,7 @@ mod seq;
 mod sets;
 mod system;
 mod value;
+mod word;
 
 pub use address::Addr;
 pub use byte_in::{ByteIn, Short};
@@ -28,6 +29,7 @@ pub use seq::Seq;
 pub use sets::{RoleSet, VarSet};
 pub use system::{StdFiles, StdSink};
 pub use value::{Opening, Value, VarType};
+pub use word::{read_hex, read_number};
 
 /// The answer where memory was wanted and none was to be had.
 pub type OutOfMemory = std::alloc::AllocError;

@@ -1,7 +1,7 @@
-//! Each call that takes memory succeeds with ample memory, and the fields of a short slice.
+//! Each call that takes memory succeeds with ample memory, the fields of a short slice, and what words spell.
 use crate::{
     ByteIn, ByteOut, Chars, CharsFault, Name, Opening, Role, RoleSet, Seq, Short, Value, Var,
-    VarSet,
+    VarSet, read_hex, read_number,
 };
 use std::test::Fail;
 
@@ -74,4 +74,33 @@ fn lists_and_sets(rt: HostRuntime) -> Result<(), Fail> {
     let vars = VarSet::empty().with(Var(31));
     assert!(rt; vars.0 == 0x8000_0000 && vars.has(Var(31)) && !vars.has(Var(32)));
     Ok(())
+}
+
+#[test]
+fn what_words_spell(rt: HostRuntime) {
+    assert_eq!(rt; read_number(b"0", 0), Some(0));
+    assert_eq!(rt;
+        read_number(b"18446744073709551615", u64::MAX),
+        Some(u64::MAX)
+    );
+    for wrong in [
+        b"".as_slice(),
+        b"256",
+        b"00",
+        b"+1",
+        b"1 ",
+        b"18446744073709551616",
+    ] {
+        assert_eq!(rt; read_number(wrong, 255), None);
+    }
+    assert_eq!(rt; read_hex(b"00fFAa"), Some([0u8, 255, 170]));
+    for wrong in [
+        b"00fFA".as_slice(),
+        b"00fF",
+        b"00fFAaAa",
+        b"0x00fF",
+        b"00fF g",
+    ] {
+        assert!(rt; read_hex::<3>(wrong).is_none());
+    }
 }

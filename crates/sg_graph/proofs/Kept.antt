@@ -12,7 +12,7 @@ use Rattle.sg_graph.specs.declared.graph.NamedEdge.{NamedEdge}
 use Rattle.sg_graph.specs.declared.graph.Graph.TheInside.{Inside}
 use Rattle.sg_model.specs.Lists.{below}
 use Rattle.sg_graph.proofs.Found.{position-map}
-use Rattle.sg_graph.proofs.Growth.{below-suc, below-at}
+use Rattle.sg_base.proofs.Ranges.{below-suc, below-at}
 
 -- a place among the roles
 pub role_place : (g : Inside) (now : Graph) (seen : List Name) (name : Name) (o : Option ℕ) → graph_of g ≡ now → seen ≡ g.roles.items

@@ -4,7 +4,8 @@ use Rattle.std.specs.List.{slice_split, position_or_len}
 use Rattle.std.proofs.lemmas.List.{get_or_default}
 use Rattle.std.proofs.lemmas.List.Sums.{position_or_len_is}
 use Rattle.std.proofs.lemmas.List.Splits.{slice_split_first, slice_split_none, length-slice_split}
-use Rattle.sg_keys.specs.Words.{number, four, address_of}
+use Rattle.sg_base.specs.Words.{number}
+use Rattle.sg_keys.specs.Words.{four, address_of}
 
 -- the first mark stands at i
 pub split_found : (c : ℕ) (xs : List ℕ) (i : ℕ) → i < length xs → ((k : ℕ) → k < i → (get_or xs k 0 == c) ≡ false) → (get_or xs i 0 == c) ≡ true

@@ -11,7 +11,8 @@ use Rattle.toml.specs.Parse.{parse_document}
 use Rattle.sg_keys.specs.declared.key_file.KeyFault.{KeyFault}
 use Rattle.sg_keys.specs.declared.key_file.KeyFault.TheVariants.{NotToml, BadEntry, Twice}
 use Rattle.sg_keys.specs.Names.{names_of, peer_at}
-use Rattle.sg_keys.specs.Words.{name, address, hex_key}
+use Rattle.sg_base.specs.Words.{name, hex_bytes}
+use Rattle.sg_keys.specs.Words.{address}
 
 -- ---- tables
 
@@ -48,7 +49,7 @@ is_peer_key k = (bytes_eq k (codes "name") || bytes_eq k (codes "addr")) || byte
 abbrev pub peer_in : Members → Option Peer
 peer_in table =
     if has_keys_alone is_peer_key table
-    then peer_from (at name (codes "name") table) (at address (codes "addr") table) (at hex_key (codes "key") table)
+    then peer_from (at name (codes "name") table) (at address (codes "addr") table) (at (hex_bytes 32) (codes "key") table)
     else None
 
 -- the peer of an entry

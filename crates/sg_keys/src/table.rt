@@ -5,10 +5,11 @@ ghost use Rattle.std.specs.BTreeMap.{keys};
 ghost use Rattle.toml.specs.Data.{as_str, as_array, as_table, get_member};
 ghost use Rattle.toml.specs.View.{view, items_view, table_view};
 ghost use Rattle.sg_keys.specs.KeyFile.{has_keys_alone, text_at, at, is_head_key, is_peer_key, tables_in, tables_of};
-ghost use Rattle.sg_keys.specs.Words.{name, address, hex_key};
+ghost use Rattle.sg_base.specs.Words.{name, hex_bytes};
+ghost use Rattle.sg_keys.specs.Words.{address};
 
-use crate::word::{read_address, read_key};
-use sg_base::{Addr, Name};
+use crate::word::read_address;
+use sg_base::{Addr, Name, read_hex};
 use toml::{Table, Value};
 
 // The text at a key.
@@ -22,7 +23,7 @@ fn text_at<'a>(table: &'a Table, key: &str) -> Option<&'a str>
 }
 
 /// The name that the text at a key spells.
-#[tactic(auto, unfolding(crate::specs::Words::name))]
+#[tactic(auto, unfolding(sg_base::specs::Words::name))]
 pub(crate) fn name_at(table: &Table, key: &str) -> Option<Name>
     ensures { result ≡ at name key.now (table_view table.now) }
 {
@@ -38,9 +39,9 @@ pub(crate) fn address_at(table: &Table, key: &str) -> Option<Addr>
 
 /// The 32 bytes that the text at a key spells.
 pub(crate) fn key_at(table: &Table, key: &str) -> Option<[u8; 32]>
-    ensures { result ≡ at hex_key key.now (table_view table.now) }
+    ensures { result ≡ at (hex_bytes 32) key.now (table_view table.now) }
 {
-    read_key(text_at(table, key)?.as_bytes())
+    read_hex(text_at(table, key)?.as_bytes())
 }
 
 fn is_head_key(key: &str) -> bool

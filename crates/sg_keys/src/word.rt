@@ -1,57 +1,10 @@
-//! What the texts of a key file spell: numbers, addresses and keys.
-ghost use Rattle.std.specs.Prelude.{◌≡◌, ◌+◌, ◌-◌, ◌*◌, ◌≤◌, ◌==◌, [], ◌∷◌, if◌then◌else◌, IfSome, MatchOption};
-ghost use Rattle.std.specs.List.{list_all, slice_split};
-ghost use Rattle.sg_keys.specs.Words.{is_digit, has_needless_zero, value, up_to, number, ip, port, address, hex_key};
+//! What the addresses of a key file spell.
+ghost use Rattle.std.specs.Prelude.{◌≡◌, ◌==◌, [], ◌∷◌, MatchOption};
+ghost use Rattle.std.specs.List.{slice_split};
+ghost use Rattle.sg_base.specs.Words.{number};
+ghost use Rattle.sg_keys.specs.Words.{ip, port, address};
 
-use sg_base::Addr;
-
-/// A number up to `most`, in decimal digits without a needless leading zero.
-#[tactic(auto, unfolding(crate::specs::Words::number))]
-fn read_number(word: &[u8], most: u16) -> Option<u16>
-    ensures value { result ≡ number most word.now }
-    ensures within { IfSome result (λ n. n ≤ most) }
-{
-    if word.is_empty() {
-        return None;
-    }
-    if has_needless_zero(word) {
-        return None;
-    }
-    read_digits(word, most)
-}
-
-fn has_needless_zero(word: &[u8]) -> bool
-    ensures { result ≡ has_needless_zero word.now }
-{
-    matches!(word, [b'0', _, ..])
-}
-
-// The number that digits spell, where all are digits and it is at most `most`.
-fn read_digits(word: &[u8], most: u16) -> Option<u16>
-    ensures value { result ≡ (if list_all is_digit word.now then up_to most (value word.now) else None) }
-    ensures within { IfSome result (λ n. n ≤ most) }
-{
-    let mut value = 0u16;
-    'digits: for digit in word {
-        if !digit.is_ascii_digit() {
-            return None;
-        }
-        value = next_value(value, *digit, most)?;
-    }
-    Some(value)
-}
-
-// The number `value` with one digit more, if that is at most `most`.
-fn next_value(value: u16, digit: u8, most: u16) -> Option<u16>
-    requires { 48 ≤ digit }
-    ensures { result ≡ up_to most (value * 10 + (digit - 48)) }
-{
-    let next = value.checked_mul(10)?.checked_add(u16::from(digit - b'0'))?;
-    if next > most {
-        return None;
-    }
-    Some(next)
-}
+use sg_base::{Addr, read_number};
 
 // What stands before the first byte `mark`, and after it.
 fn split_once(word: &[u8], mark: u8) -> Option<(&[u8], &[u8])>
@@ -101,7 +54,7 @@ fn read_port(word: &[u8]) -> Option<u16>
     if number == 0 {
         return None;
     }
-    Some(number)
+    Some(number as u16)
 }
 
 /// An address: four numbers up to 255 with dots between them, a colon, and a number from 1 to 65535.
@@ -116,16 +69,4 @@ pub(crate) fn read_address(word: &[u8]) -> Option<Addr>
     let ip = read_ip(host)?;
     let port = read_port(door)?;
     Some(Addr { ip, port })
-}
-
-/// A key of 64 hexadecimal digits of either case.
-#[tactic(auto, unfolding(crate::specs::Words::hex_key))]
-pub(crate) fn read_key(word: &[u8]) -> Option<[u8; 32]>
-    ensures { result ≡ hex_key word.now }
-{
-    let mut key = [0u8; 32];
-    match hex::decode_to_slice(word, &mut key) {
-        Ok(()) => Some(key),
-        Err(_) => None,
-    }
 }

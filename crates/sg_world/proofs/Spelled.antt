@@ -13,7 +13,7 @@ use Rattle.sg_model.specs.Lists.{has_text, all_differ}
 use Rattle.sg_model.specs.Lists.{below}
 use Rattle.sg_model.specs.Shape.{edge_at, role_at, source, target}
 use Rattle.sg_protocol.specs.Graph.{Graph, Node, Edge, shape}
-use Rattle.sg_graph.proofs.Growth.{below-at}
+use Rattle.sg_base.proofs.Ranges.{below-at}
 use Rattle.sg_sched.proofs.PairLaws.{length_nodes}
 use Rattle.sg_protocol.specs.Frame.{Cast}
 use Rattle.sg_protocol.specs.Schedule.{Schedule, PairKey, Declared, Step, StartStep, ActStep, DeliverStep, Whole}

@@ -1,6 +1,6 @@
 use Rattle.std.proofs.Common.{◌∙◌}
 use Rattle.indexmap.proofs.CallerLemmas.{insert_entry-new}
-use Rattle.sg_keys.proofs.SameName.{same}
+use Rattle.sg_base.proofs.SameName.{same}
 use Rattle.sg_keys.proofs.Contacts.{lookup-absent}
 use Rattle.sg_keys.proofs.keyring.put_last.Goals as goal
 

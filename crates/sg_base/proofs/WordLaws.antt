@@ -2,7 +2,7 @@
 use Rattle.std.proofs.Common.{◌≡◌, ℕ, ◌+◌, ◌-◌, ◌*◌, ◌<◌, ◌≤◌, List, [], ◌∷◌, fold, Option, None, arith, if◌then◌else◌}
 use Rattle.std.specs.List.{list_all}
 use Rattle.std.proofs.lemmas.Grind.{common_steps}
-use Rattle.sg_keys.specs.Words.{is_digit, up_to}
+use Rattle.sg_base.specs.Words.{is_digit, up_to}
 
 -- the number n with the digits after it
 abbrev pub digits_from : ℕ → ℕ → List ℕ → Option ℕ

@@ -1,7 +1,7 @@
 use Rattle.std.proofs.Common.{arith, ◌∙◌, get_or, drop, ◌+◌, sym, ap}
 use Rattle.std.proofs.lemmas.List.{drop_more}
-use Rattle.sg_keys.proofs.WordLaws.{digits_over, digits_from}
-use Rattle.sg_keys.proofs.word.read_digits.Goals as goal
+use Rattle.sg_base.proofs.WordLaws.{digits_over, digits_from}
+use Rattle.sg_base.proofs.word.read_digits.Goals as goal
 
 pub returns-in_err-value-clause-value : goal.returns-in_err-value-clause-value
 returns-in_err-value-clause-value c =
