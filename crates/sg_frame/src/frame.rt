@@ -7,17 +7,21 @@ use std::marker::Model;
 /// What one role of a session sends to another. With its cast it joins, without it continues.
 #[derive(Debug, Drop)]
 pub struct Frame {
-    /// 1 or 2.
+    /// The version of the texts under its tags, 1 or 2.
     pub version: u8,
+    /// The session.
     pub sid: Sid,
+    /// The role that sends it.
     pub sender: Role,
+    /// The role that receives it.
     pub receiver: Role,
+    /// The cast of the session, in a frame that joins.
     pub join: Option<Cast>,
-    /// At least one; the last is the sender's own step.
+    /// What the sender has seen of the session, at least one item; the last is its own step.
     pub items: Seq<Item>,
-    /// Of variables that rise.
+    /// Of variables that rise strictly.
     pub openings: Seq<Opening>,
-    /// In version 2 its last sixteen bytes are zero, and are not sent.
+    /// The tag of the whole frame. In version 2 its last sixteen bytes are zero, and are not sent.
     pub tag: Tag,
 }
 

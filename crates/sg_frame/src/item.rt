@@ -13,10 +13,15 @@ use std::marker::Model;
 /// roles rise.
 #[derive(Debug, Drop)]
 pub struct Item {
+    /// The role that sent.
     pub role: Role,
+    /// The label of the edge along which it sent.
     pub label: Label,
+    /// When it sent, in steps of the session.
     pub time: Time,
+    /// Variables with their commitments, of 32 bytes each.
     pub delta: Seq<(Var, [u8; 32])>,
+    /// Other roles with the tag of the step for each.
     pub tags: Seq<(Role, Tag)>,
 }
 

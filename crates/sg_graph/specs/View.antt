@@ -1,8 +1,9 @@
--- How a graph is kept: a list for each kind of part.
+-- How a graph is kept: a list for each kind of part, and the labels that leave each node.
 use Rattle.std.specs.Prelude.{◌≡◌, map, length}
 use Rattle.sg_model.specs.Lists.{below}
 use Rattle.sg_protocol.specs.Graph as Protocol
 use Rattle.sg_protocol.specs.Graph.{Graph, IsGraph}
+use Rattle.sg_graph.specs.Edges.{leaving_of}
 use Rattle.sg_graph.specs.Parts.{kind_of_type}
 use Rattle.sg_graph.specs.declared.graph.Variable.{Variable}
 use Rattle.sg_graph.specs.declared.graph.Node.{Node}
@@ -31,7 +32,8 @@ graph_of g = record {
   edges = map edge_of g.edges.items;
 }
 
--- a graph is kept, and each edge has its place as its label
+-- a graph is kept, each edge has its place as its label, and each node the labels that leave it
 pub record HoldsGraph (g : Inside) : Type 0 where
   pub graph : IsGraph (graph_of g)
   pub labels : map (λ e. e.edge.label) g.edges.items ≡ below (length g.edges.items)
+  pub leaving : g.leaving.items ≡ leaving_of (graph_of g)

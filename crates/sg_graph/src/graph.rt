@@ -1,8 +1,8 @@
 //! The graph, its counts and its parts by their numbers.
-ghost use Rattle.std.specs.Prelude.{◌≡◌, ◌<◌, false, length, IfOk};
+ghost use Rattle.std.specs.Prelude.{◌≡◌, ℕ, ◌<◌, false, length, All, Contains, IfOk};
 ghost use Rattle.sg_model.specs.Lists.{has_text};
 ghost use Rattle.sg_model.specs.Names.{reserved};
-ghost use Rattle.sg_model.specs.Shape.{role_at, sender, receiver};
+ghost use Rattle.sg_model.specs.Shape.{role_at, source, sender, receiver};
 ghost use Rattle.sg_protocol.specs.Graph.{IsGraph, AreNumbers, shape, role_name, variable_name, node_name, kind_of, writers};
 ghost use Rattle.sg_graph.specs.Parts.{kind_of_type, edge_name};
 
@@ -11,11 +11,12 @@ mod finding;
 
 use crate::Edge;
 pub use adding::AddFault;
-use sg_base::{Label, Name, NodeId, OutOfMemory, Role, RoleSet, Var, VarType};
+use sg_base::{Label, Name, NodeId, OutOfMemory, Role, RoleSet, Seq, Var, VarType};
 use std::alloc::Global;
 use std::marker::Model;
 
-/// A graph. A clause sees its name and the lists of its parts, each part at its number.
+/// A graph. A clause sees its name and the lists of its parts, each part at its number. The labels that leave a node are looked up
+/// without a search.
 #[derive(Debug, Drop)]
 pub struct Graph {
     name: Name,
@@ -23,6 +24,8 @@ pub struct Graph {
     vars: Vec<Variable>,
     nodes: Vec<Node>,
     edges: Vec<NamedEdge>,
+    // The labels that leave each node, in rising order.
+    leaving: Vec<Seq<Label>>,
 }
 
 #[derive(Debug, Clone, Copy)]
@@ -58,7 +61,7 @@ impl Model for Graph {
 
 impl Graph {
     ghost use Rattle.sg_graph.specs.Adding.{no_parts};
-    ghost use Rattle.sg_graph.specs.Edges.{edge_of_label};
+    ghost use Rattle.sg_graph.specs.Edges.{edge_of_label, leaving_from};
 
     /// The graph of this name with no parts yet. It takes no memory.
     pub fn new(alloc: Global, name: Name) -> Graph
@@ -73,6 +76,7 @@ impl Graph {
             vars: Vec::new(alloc),
             nodes: Vec::new(alloc),
             edges: Vec::new(alloc),
+            leaving: Vec::new(alloc),
         }
     }
 
@@ -176,6 +180,18 @@ impl Graph {
         &self.edges[label.0 as usize].edge
     }
 
+    /// The labels of the edges that leave a node, in rising order; none for a node that isn't there. It takes no memory.
+    pub fn edges_from(&self, node: NodeId) -> &[Label]
+        ensures labels { result.now ≡ leaving_from self.now node }
+        ensures each { All (λ e. (e < length self.now.edges) × (source (shape self.now) e ≡ node)) result.now }
+        ensures all { (e : ℕ) → e < length self.now.edges → source (shape self.now) e ≡ node → Contains result.now e }
+    {
+        match self.leaving.get(node.0 as usize) {
+            Some(labels) => labels.as_slice(),
+            None => &[],
+        }
+    }
+
     /// The name of a label's edge.
     pub fn edge_name(&self, label: Label) -> Name
         requires { label < length self.now.edges }
@@ -212,6 +228,18 @@ impl Graph {
             vars: self.vars.as_slice().to_vec(alloc)?,
             nodes: self.nodes.as_slice().to_vec(alloc)?,
             edges: self.edges.as_slice().to_vec(alloc)?,
+            leaving: copy_lists(alloc, self.leaving.as_slice())?,
         })
     }
+}
+
+// Equal lists.
+fn copy_lists(alloc: Global, lists: &[Seq<Label>]) -> Result<Vec<Seq<Label>>, OutOfMemory>
+    ensures { IfOk result (λ copies. copies.items ≡ lists.now) }
+{
+    let mut copies = Vec::new(alloc);
+    for list in lists {
+        copies.push(Seq::from_vec(list.as_slice().to_vec(alloc)?))?;
+    }
+    Ok(copies)
 }

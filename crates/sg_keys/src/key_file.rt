@@ -1,5 +1,5 @@
 //! The reader of key files.
-ghost use Rattle.std.specs.Prelude.{◌≡◌, ◌≢◌, ◌+◌, ◌<◌, ◌^◌, ◌⊎◌, Some, None, map, option_map, IfErr, IfOk, OnOk};
+ghost use Rattle.std.specs.Prelude.{◌≡◌, ◌≢◌, ◌⊎◌, Some, None, map, option_map, IfErr, IfOk, OnOk};
 ghost use Rattle.toml.specs.View.{view, table_view};
 ghost use Rattle.sg_keys.specs.KeyFile.{document, key_file, head_of, peer_of, with_entry, with_entries, SpellsKeys};
 ghost use Rattle.sg_keys.specs.Names.{peer_at};
@@ -22,10 +22,16 @@ pub enum KeyFault {
     /// The entry lacks a key, has one that it may not have, or has a value there that is no such thing. A `peer` that is no list of
     /// tables is a fault of the head.
     #[error("entry {entry} is bad")]
-    BadEntry { entry: u32 },
+    BadEntry {
+        /// The entry's number: 0 for the head, and from 1 on for the peers in order.
+        entry: usize,
+    },
     /// The peer's name is the principal's own, or an earlier peer's.
     #[error("entry {entry} is there twice")]
-    Twice { entry: u32 },
+    Twice {
+        /// The later peer's entry, from 1 on.
+        entry: usize,
+    },
     /// Memory was wanted, and none was to be had.
     #[error("out of memory")]
     OutOfMemory,
@@ -127,7 +133,7 @@ fn read_peer(value: &Value) -> Option<PeerEntry>
 }
 
 // Adds the peer of the entry of this number. After a refusal the keyring is as before.
-fn add_entry(keys: &mut Keyring, number: u32, value: &Value) -> Result<(), KeyFault>
+fn add_entry(keys: &mut Keyring, number: usize, value: &Value) -> Result<(), KeyFault>
     ensures ok { OnOk result (with_entry keys.old number (peer_of (view value.now)) ≡ Ok keys.new) }
     ensures fault { IfErr result (λ e. e ≢ KeyFault.OutOfMemory → with_entry keys.old number (peer_of (view value.now)) ≡ Err e) }
 {
@@ -147,19 +153,7 @@ fn add_entries(mut keys: Keyring, values: &[Value]) -> Result<Keyring, KeyFault>
     ensures fault { IfErr result (λ e. e ≢ KeyFault.OutOfMemory → with_entries keys 1 (map peer_of (map view values.now)) ≡ Err e) }
 {
     for (at, value) in values.iter().enumerate() {
-        add_entry(&mut keys, number_of(at)?, value)?;
+        add_entry(&mut keys, at + 1, value)?;
     }
     Ok(keys)
-}
-
-// The number of the entry of the peer at this place. A file of fewer than 2^32 bytes has fewer entries.
-fn number_of(at: usize) -> Result<u32, KeyFault>
-    requires { at < 2 ^ 63 }
-    ensures ok { IfOk result (λ n. n ≡ at + 1) }
-    ensures only { IfErr result (λ e. e ≡ KeyFault.OutOfMemory) }
-{
-    match u32::try_from(at + 1) {
-        Ok(number) => Ok(number),
-        Err(_) => Err(KeyFault::OutOfMemory),
-    }
 }

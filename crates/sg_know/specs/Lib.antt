@@ -1,4 +1,3 @@
-pub mod Outgoing
 pub mod Parts
 pub mod Reads
 pub mod States

@@ -5,11 +5,9 @@ ghost use Rattle.sg_model.specs.Shape.{sender};
 ghost use Rattle.sg_protocol.specs.Graph.{reads, shape};
 ghost use Rattle.sg_know.specs.Reads.{HasBadRead};
 ghost use Rattle.sg_know.specs.Parts.{IsBadOf, IsBadOfVar, IsFirstBad, earlier, is_up_to};
-ghost use Rattle.sg_know.specs.Outgoing.{leaving_of};
 ghost use Rattle.sg_know.specs.States.{IsClosure, IsFirstUnknown, IsUnknownAfter, IsUnknownRead, is_known, state_at};
 
 use crate::closure::{closure, mark_along};
-use crate::leaving::leaving;
 use crate::states::{Mark, State, States};
 use sg_base::{Label, OutOfMemory, Role, RoleSet, Seq, Var};
 use sg_graph::Graph;
@@ -30,23 +28,16 @@ pub(crate) fn first_bad_read(alloc: Global, graph: &Graph) -> Result<Option<BadR
     if graph.nodes() == 0 {
         return Ok(None);
     }
-    let leaving = leaving(alloc, graph)?;
     let mut first = None;
     for number in 0..graph.vars() {
-        let found = bad_read_of_var(alloc, graph, leaving.as_slice(), Var(number))?;
+        let found = bad_read_of_var(alloc, graph, Var(number))?;
         first = earlier(first, found);
     }
     Ok(first)
 }
 
 /// The bad read of a variable with the least label.
-fn bad_read_of_var(
-    alloc: Global,
-    graph: &Graph,
-    leaving: &[Seq<Label>],
-    var: Var,
-) -> Result<Option<BadRead>, OutOfMemory>
-    requires index { leaving.now ≡ leaving_of graph.now }
+fn bad_read_of_var(alloc: Global, graph: &Graph, var: Var) -> Result<Option<BadRead>, OutOfMemory>
     requires start { 0 < length graph.now.nodes }
     ensures { IfOk result (IsFirstBad graph.now (IsBadOfVar graph.now var)) }
 {
@@ -55,7 +46,7 @@ fn bad_read_of_var(
     for number in 0..graph.roles() {
         let role = Role(number);
         if senders.has(role) {
-            let found = bad_read_of(alloc, graph, leaving, role, var)?;
+            let found = bad_read_of(alloc, graph, role, var)?;
             first = earlier(first, found);
         }
     }
@@ -101,15 +92,13 @@ fn is_up_to(one: &BadRead, other: &BadRead) -> bool
 fn bad_read_of(
     alloc: Global,
     graph: &Graph,
-    leaving: &[Seq<Label>],
     role: Role,
     var: Var,
 ) -> Result<Option<BadRead>, OutOfMemory>
-    requires index { leaving.now ≡ leaving_of graph.now }
     requires start { 0 < length graph.now.nodes }
     ensures { IfOk result (IsFirstBad graph.now (IsBadOf graph.now role var)) }
 {
-    let states = closure(alloc, graph, leaving, role, var)?;
+    let states = closure(alloc, graph, role, var)?;
     let Some(unknown) = first_unknown(graph, &states, role, var) else {
         return Ok(None);
     };

@@ -4,12 +4,10 @@ ghost use Rattle.sg_model.specs.Lists.{is_in};
 ghost use Rattle.sg_model.specs.Shape.{source};
 ghost use Rattle.sg_protocol.specs.Graph.{shape, writes};
 ghost use Rattle.sg_protocol.specs.Knowledge.{learns};
-ghost use Rattle.sg_know.specs.Outgoing.{leaving_of};
 ghost use Rattle.sg_know.specs.States.{AreReached, AreThere, Extends, Has, IsClosure, known_if, mark_after, state_along, state_at};
 
-use crate::leaving::labels_from;
 use crate::states::{Mark, Reached, State, States, Step};
-use sg_base::{Label, NodeId, OutOfMemory, Role, Seq, Var};
+use sg_base::{Label, NodeId, OutOfMemory, Role, Var};
 use sg_graph::Graph;
 use std::alloc::Global;
 
@@ -17,11 +15,9 @@ use std::alloc::Global;
 pub(crate) fn closure(
     alloc: Global,
     graph: &Graph,
-    leaving: &[Seq<Label>],
     role: Role,
     var: Var,
 ) -> Result<States, OutOfMemory>
-    requires index { leaving.now ≡ leaving_of graph.now }
     requires start { 0 < length graph.now.nodes }
     ensures { IfOk result (IsClosure graph.now role var) }
 {
@@ -35,7 +31,7 @@ pub(crate) fn closure(
     })?;
     let mut at: usize = 0;
     while at < states.len() {
-        follow(graph, leaving, role, var, at, &mut states)?;
+        follow(graph, role, var, at, &mut states)?;
         at += 1;
     }
     Ok(states)
@@ -44,13 +40,11 @@ pub(crate) fn closure(
 /// Enters each state that one edge leads to from the state at a place.
 fn follow(
     graph: &Graph,
-    leaving: &[Seq<Label>],
     role: Role,
     var: Var,
     at: usize,
     states: &mut States,
 ) -> Result<(), OutOfMemory>
-    requires index { leaving.now ≡ leaving_of graph.now }
     requires there { at < length states.old }
     requires reached { AreReached graph.now role var states.old }
     requires nodes { AreThere graph.now states.old }
@@ -60,7 +54,7 @@ fn follow(
     ensures followed { OnOk result ((e : ℕ) → e < length graph.now.edges → source (shape graph.now) e ≡ (state_at states.old at).node → Has states.new (state_along graph.now role var e (state_at states.old at))) }
 {
     let state = states.state(at);
-    for label in labels_from(leaving, state.node) {
+    for label in graph.edges_from(state.node) {
         states.enter(Reached {
             state: along(graph, role, var, *label, &state),
             by: Some(Step {

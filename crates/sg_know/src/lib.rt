@@ -11,7 +11,6 @@
 mod bad;
 mod closure;
 mod fault;
-mod leaving;
 mod reads;
 mod states;
 

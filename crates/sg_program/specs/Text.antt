@@ -3,11 +3,12 @@ use Rattle.std.specs.Prelude.{ℕ, ◌+◌, ◌==◌, if◌then◌else◌, List,
 use Rattle.std.specs.List.{list_all}
 use Rattle.hex.specs.Hex.{encode_lower}
 use Rattle.sg_model.specs.Lists.{below}
-use Rattle.sg_model.specs.Shape.{role_at, source}
+use Rattle.sg_model.specs.Shape.{role_at}
 use Rattle.sg_protocol.specs.Graph.{Graph, shape, canonical, role_name, node_name, spaced}
 use Rattle.sg_protocol.specs.Evidence.{Seen, View, mask}
 use Rattle.sg_protocol.specs.Spelling.{u32}
 use Rattle.sg_protocol.specs.Keyring.{Program}
+use Rattle.sg_graph.specs.Edges.{leaving_from}
 use Rattle.sg_graph.specs.Parts.{edge_name}
 
 -- a line with its end
@@ -30,13 +31,9 @@ role_line g r = codes "role " ++ role_name g r
 abbrev pub nodes_of : Graph → ℕ → List ℕ
 nodes_of g r = filter (λ n. role_at (shape g) n == r) (below (length g.nodes))
 
--- the labels of the edges that leave a node
-abbrev pub leaving : Graph → ℕ → List ℕ
-leaving g n = filter (λ e. source (shape g) e == n) (below (length g.edges))
-
 -- a node, and the labels among which its role chooses there
 abbrev pub turn_line : Graph → ℕ → List ℕ
-turn_line g n = codes "turn " ++ node_name g n ++ 58 ∷ spaced (map (edge_name g) (leaving g n))
+turn_line g n = codes "turn " ++ node_name g n ++ 58 ∷ spaced (map (edge_name g) (leaving_from g n))
 
 -- a set of variables as eight hexadecimal digits, with bit x for variable x
 abbrev pub mask_text : List ℕ → List ℕ

@@ -9,7 +9,8 @@ ghost use Rattle.sg_protocol.specs.Spelling.{u32};
 ghost use Rattle.sg_graph.specs.Parts.{edge_name};
 ghost use Rattle.sg_vis.specs.Origins.{origin_of};
 ghost use Rattle.sg_vis.specs.Table.{views_of};
-ghost use Rattle.sg_program.specs.Text.{item_text, leaving, line, mask_text, nodes_of, origin_text, program_text, role_line, start_line, table_lines, turn_line, version, view_line};
+ghost use Rattle.sg_graph.specs.Edges.{leaving_from};
+ghost use Rattle.sg_program.specs.Text.{item_text, line, mask_text, nodes_of, origin_text, program_text, role_line, start_line, table_lines, turn_line, version, view_line};
 
 use crate::Program;
 use sg_base::{ByteOut, Label, Name, NodeId, OutOfMemory, Role, RoleSet, Var, VarSet};
@@ -121,13 +122,10 @@ fn put_turn(out: &mut ByteOut, graph: &Graph, node: NodeId) -> Result<(), OutOfM
 }
 
 fn put_leaving(out: &mut ByteOut, graph: &Graph, node: NodeId) -> Result<(), OutOfMemory>
-    ensures { OnOk result (out.new ≡ out.old ++ spaced (map (edge_name graph.now) (leaving graph.now node))) }
+    ensures { OnOk result (out.new ≡ out.old ++ spaced (map (edge_name graph.now) (leaving_from graph.now node))) }
 {
-    for number in 0..graph.edges() {
-        let label = Label(number);
-        if graph.edge(label).source == node {
-            put_spaced(out, &graph.edge_name(label))?;
-        }
+    for label in graph.edges_from(node) {
+        put_spaced(out, &graph.edge_name(*label))?;
     }
     Ok(())
 }

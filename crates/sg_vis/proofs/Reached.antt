@@ -15,7 +15,7 @@ use Rattle.sg_vis.specs.Limits.{FewOpen, ManyOpen}
 use Rattle.sg_vis.specs.Search.{nothing, is_open, open_view, settled, next_place, HasPlace, Arrives, Searched, open_places, Followed, FollowedBelow, Shown, ShownBelow, AreRows}
 use Rattle.sg_vis.specs.Steps.{items_after, joined, next_view}
 use Rattle.sg_vis.specs.Table.{ShownView, Shows, views_of}
-use Rattle.sg_vis.proofs.Lists.{Contains-filter}
+use Rattle.sg_graph.proofs.Leaving.{Contains-filter}
 use Rattle.sg_vis.proofs.Next.{view_of-snoc}
 use Rattle.sg_vis.proofs.Ordered.{ordered}
 

@@ -1,13 +1,9 @@
 -- What is seen of a walk with one edge more.
 use Rattle.std.specs.Prelude.{ℕ, ◌<◌, ◌==◌, ◌||◌, if◌then◌else◌, List, [], ◌∷◌, filter, length, Some, All}
 use Rattle.sg_model.specs.Lists.{is_in, below}
-use Rattle.sg_model.specs.Shape.{source, sender}
+use Rattle.sg_model.specs.Shape.{sender}
 use Rattle.sg_protocol.specs.Graph.{Graph, shape, writes}
 use Rattle.sg_protocol.specs.Evidence.{Seen, View}
-
--- the labels of the edges that leave a node
-abbrev pub leaving : Graph → ℕ → List ℕ
-leaving g n = filter (λ e. source (shape g) e == n) (below (length g.edges))
 
 -- the variables of both sets, in rising order
 unfoldable pub joined : List ℕ → List ℕ → List ℕ

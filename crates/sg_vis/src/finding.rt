@@ -1,16 +1,14 @@
 //! The views of a role.
-ghost use Rattle.std.specs.Prelude.{◌≡◌, ℕ, ◌<◌, ◌≤◌, ◌++◌, [], ◌∷◌, length, map, insert, slice_get, All, Contains, IfErr, IfOk, IfSome, OnOk};
-ghost use Rattle.sg_model.specs.Lists.{below};
+ghost use Rattle.std.specs.Prelude.{◌≡◌, ℕ, ◌<◌, ◌≤◌, ◌++◌, [], ◌∷◌, length, insert, slice_get, All, Contains, IfErr, IfOk, IfSome, OnOk};
 ghost use Rattle.sg_model.specs.Shape.{source, receiver};
 ghost use Rattle.sg_protocol.specs.Evidence.{IsViewTable};
 ghost use Rattle.sg_protocol.specs.Graph.{Graph, shape};
 ghost use Rattle.sg_vis.specs.Limits.{Explains, FewOpen, IsFull, MatchViews};
 ghost use Rattle.sg_vis.specs.Order.{HoldsTable, StandsAt};
 ghost use Rattle.sg_vis.specs.Search.{AreRows, FollowedBelow, Keeps, LeadBack, Searched, Shown, ShownBelow, open_places};
-ghost use Rattle.sg_vis.specs.Steps.{leaving, next_view};
+ghost use Rattle.sg_vis.specs.Steps.{next_view};
 ghost use Rattle.sg_vis.specs.Table.{Shows, views_of};
 
-use crate::leaving::{edges_from, leaving_each};
 use crate::places::Places;
 use crate::search::{all_places, walk_to};
 use crate::step::next_view;
@@ -31,9 +29,8 @@ pub fn views(alloc: Global, graph: &Graph, role: Role) -> Result<ViewTable, View
     ensures few_open { IfOk result (λ t. FewOpen graph.now role) }
     ensures refused { IfErr result (Explains graph.now role) }
 {
-    let lists = leaving_each(alloc, graph).map_err(|_| ViewFault::OutOfMemory)?;
-    let places = all_places(alloc, graph, role, lists.as_slice())?;
-    let rows = all_rows(alloc, graph, role, lists.as_slice(), &places)?;
+    let places = all_places(alloc, graph, role)?;
+    let rows = all_rows(alloc, graph, role, &places)?;
     Ok(ViewTable { rows })
 }
 
@@ -42,10 +39,8 @@ fn all_rows(
     alloc: Global,
     graph: &Graph,
     role: Role,
-    lists: &[Seq<Label>],
     places: &Places,
 ) -> Result<Vec<Row>, ViewFault>
-    requires lists { lists.now ≡ map (leaving graph.now) (below (length graph.now.nodes)) }
     requires searched { Searched graph.now role places.now }
     requires followed { FollowedBelow graph.now role places.now (length places.now) }
     requires few { length (open_places places.now) ≤ 65536 }
@@ -55,7 +50,7 @@ fn all_rows(
 {
     let mut rows = Vec::new(alloc);
     for at in 0..places.len() {
-        add_rows(alloc, graph, role, lists, places, at, &mut rows)?;
+        add_rows(alloc, graph, role, places, at, &mut rows)?;
     }
     Ok(rows)
 }
@@ -65,12 +60,10 @@ fn add_rows(
     alloc: Global,
     graph: &Graph,
     role: Role,
-    lists: &[Seq<Label>],
     places: &Places,
     at: usize,
     rows: &mut Vec<Row>,
 ) -> Result<(), ViewFault>
-    requires lists { lists.now ≡ map (leaving graph.now) (below (length graph.now.nodes)) }
     requires searched { Searched graph.now role places.now }
     requires followed { FollowedBelow graph.now role places.now (length places.now) }
     requires few { length (open_places places.now) ≤ 65536 }
@@ -82,7 +75,7 @@ fn add_rows(
     ensures refused { IfErr result (Explains graph.now role) }
 {
     let node = places.get(at).node;
-    for label in edges_from(graph, lists, node) {
+    for label in graph.edges_from(node) {
         if graph.receiver(*label) == role {
             add_row(alloc, graph, role, places, at, *label, rows)?;
         }

@@ -12,7 +12,6 @@
 
 mod fault;
 mod finding;
-mod leaving;
 mod order;
 mod places;
 mod search;

@@ -1,13 +1,11 @@
 //! The search for all places, and the walk to each.
-ghost use Rattle.std.specs.Prelude.{◌≡◌, ℕ, ◌+◌, ◌<◌, ◌≤◌, [], length, map, slice_get, IfErr, IfOk, IfSome, OnErr, OnOk};
-ghost use Rattle.sg_model.specs.Lists.{below};
+ghost use Rattle.std.specs.Prelude.{◌≡◌, ℕ, ◌+◌, ◌<◌, ◌≤◌, [], length, slice_get, IfErr, IfOk, IfSome, OnErr, OnOk};
 ghost use Rattle.sg_model.specs.Shape.{source};
 ghost use Rattle.sg_protocol.specs.Graph.{Graph, shape};
 ghost use Rattle.sg_vis.specs.Limits.{Explains};
 ghost use Rattle.sg_vis.specs.Search.{Arrives, Extends, Followed, FollowedBelow, LeadBack, LeadsInto, Searched, next_place, nothing, open_places};
-ghost use Rattle.sg_vis.specs.Steps.{HasLabels, leaving};
+ghost use Rattle.sg_vis.specs.Steps.{HasLabels};
 
-use crate::leaving::edges_from;
 use crate::places::{Place, Places};
 use crate::step::next_view;
 use crate::{Origin, View, ViewFault};
@@ -18,13 +16,7 @@ use std::alloc::Global;
 const MOST_OPEN: usize = 65_536;
 
 /// All places that walks from the start lead to. Among them are all open views.
-pub(crate) fn all_places(
-    alloc: Global,
-    graph: &Graph,
-    role: Role,
-    lists: &[Seq<Label>],
-) -> Result<Places, ViewFault>
-    requires { lists.now ≡ map (leaving graph.now) (below (length graph.now.nodes)) }
+pub(crate) fn all_places(alloc: Global, graph: &Graph, role: Role) -> Result<Places, ViewFault>
     ensures searched { IfOk result (Searched graph.now role) }
     ensures followed { IfOk result (λ places. FollowedBelow graph.now role places (length places)) }
     ensures few { IfOk result (λ places. length (open_places places) ≤ 65536) }
@@ -33,7 +25,7 @@ pub(crate) fn all_places(
     let mut places = first_place(alloc, graph)?;
     let mut at = 0;
     while at < places.len() {
-        follow(alloc, graph, role, lists, &mut places, at)?;
+        follow(alloc, graph, role, &mut places, at)?;
         at += 1;
     }
     Ok(places)
@@ -75,11 +67,9 @@ fn follow(
     alloc: Global,
     graph: &Graph,
     role: Role,
-    lists: &[Seq<Label>],
     places: &mut Places,
     at: usize,
 ) -> Result<(), ViewFault>
-    requires lists { lists.now ≡ map (leaving graph.now) (below (length graph.now.nodes)) }
     requires there { at < length places.old }
     requires searched { Searched graph.now role places.old }
     requires few { length (open_places places.old) ≤ 65536 }
@@ -90,7 +80,7 @@ fn follow(
     ensures refused { IfErr result (Explains graph.now role) }
 {
     let node = places.get(at).node;
-    for label in edges_from(graph, lists, node) {
+    for label in graph.edges_from(node) {
         follow_edge(alloc, graph, role, places, at, *label)?;
     }
     Ok(())

@@ -1,5 +1,5 @@
 //! Parts added one by one.
-ghost use Rattle.std.specs.Prelude.{◌≡◌, ◌<◌, false, length};
+ghost use Rattle.std.specs.Prelude.{◌≡◌, ◌<◌, ◌++◌, [], ◌∷◌, false, length, slice_set, slice_index_or, vec_len, vec_capacity, OnOk, OnErr};
 ghost use Rattle.sg_model.specs.Lists.{has_text};
 ghost use Rattle.sg_model.specs.Names.{reserved};
 ghost use Rattle.sg_protocol.specs.Graph.{AreNumbers};
@@ -8,7 +8,7 @@ ghost use Rattle.sg_graph.specs.Parts.{kind_of_type, variable_names, node_names,
 
 use super::{Graph, NamedEdge, Node, Variable};
 use crate::Edge;
-use sg_base::{Label, Name, NodeId, Role, RoleSet, Var, VarSet, VarType};
+use sg_base::{Label, Name, NodeId, OutOfMemory, Role, RoleSet, Seq, Var, VarSet, VarType};
 use thiserror::Error;
 
 /// Why a part isn't added, the first cause that holds.
@@ -87,9 +87,11 @@ impl Graph {
         if number >= 256 {
             return Err(AddFault::TooMany);
         }
-        self.nodes
-            .push(Node { name, role })
-            .map_err(|_| AddFault::OutOfMemory)?;
+        // Room first, so that both lists grow or neither does.
+        self.nodes.reserve(1).map_err(|_| AddFault::OutOfMemory)?;
+        let none = Seq::new(*self.nodes.allocator());
+        self.leaving.push(none).map_err(|_| AddFault::OutOfMemory)?;
+        put(&mut self.nodes, Node { name, role });
         Ok(NodeId(number as u16))
     }
 
@@ -120,16 +122,36 @@ impl Graph {
         if number >= 512 {
             return Err(AddFault::TooMany);
         }
+        let label = Label(number as u16);
         let edge = Edge {
-            label: Label(number as u16),
+            label,
             source,
             target,
             writes,
             reads,
         };
-        self.edges
-            .push(NamedEdge { name, edge })
-            .map_err(|_| AddFault::OutOfMemory)?;
-        Ok(Label(number as u16))
+        // Room first, so that both lists grow or neither does.
+        self.edges.reserve(1).map_err(|_| AddFault::OutOfMemory)?;
+        put_label(&mut self.leaving, source, label).map_err(|_| AddFault::OutOfMemory)?;
+        put(&mut self.edges, NamedEdge { name, edge });
+        Ok(label)
     }
+}
+
+// Puts a value at the end of a list that has room.
+fn put<T: Drop>(items: &mut Vec<T>, value: T)
+    requires { vec_len items.old < vec_capacity items.old }
+    ensures { items.new.items ≡ items.old.items ++ value ∷ [] }
+{
+    let _put = items.push(value);
+}
+
+// Puts a label at the end of a node's list.
+fn put_label(lists: &mut Vec<Seq<Label>>, node: NodeId, label: Label) -> Result<(), OutOfMemory>
+    requires { node < length lists.old.items }
+    ensures ok { OnOk result (lists.new.items ≡ slice_set lists.old.items node (slice_index_or lists.old.items node [] ++ label ∷ [])) }
+    ensures err { OnErr result (lists.new.items ≡ lists.old.items) }
+{
+    lists[node.0 as usize].push(label)?;
+    Ok(())
 }

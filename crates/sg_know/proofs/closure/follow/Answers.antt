@@ -6,23 +6,17 @@ use Rattle.sg_model.specs.Shape.{source}
 use Rattle.sg_protocol.specs.Graph.{shape}
 use Rattle.sg_know.specs.declared.states.State.{State}
 use Rattle.sg_know.specs.declared.states.Reached.{Reached}
-use Rattle.sg_know.specs.Outgoing.{leaving_from}
+use Rattle.sg_graph.specs.Edges.{leaving_from}
 use Rattle.sg_know.specs.States.{Has, Enters, state_along, state_at}
-use Rattle.sg_know.proofs.Outgoing.{length-leaving_of, leaves_in, listed, listed_leaves, taken_more}
+use Rattle.sg_know.proofs.Outgoing.{leaves_in, listed_leaves, taken_more}
 use Rattle.sg_know.proofs.Reaching.{AreReached-enters, AreThere-enters, Extends-enters, Extends-length, Extends-more, Has-enters, Has-extends, state_stays}
 use Rattle.sg_know.proofs.closure.follow.Goals as goal
-
-pub labels_from-label-items-requires : goal.labels_from-label-items-requires
-labels_from-label-items-requires c =
-    let there : c.state-state.result.node < length c.args.graph.now.nodes = rw (c.state-state.ensures.state) (c.requires.nodes c.args.at c.requires.there) in
-    rw (c.requires.index, length-leaving_of c.args.graph.now) there
 
 pub along-requires : goal.along-requires
 along-requires c =
     let g = c.args.graph.now in
-    let there : c.state-state.result.node < length g.nodes = rw (c.state-state.ensures.state) (c.requires.nodes c.args.at c.requires.there) in
-    let is = listed g c.args.leaving.now c.labels_from-label-items.result.now c.state-state.result.node c.requires.index there c.labels_from-label-items.ensures in
-    (listed_leaves g c.labels_from-label-items.result.now c.state-state.result.node c.loop-label.label-index c.label-item.result is c.loop-label-test.true c.label-item.is).0
+    let is = c.edges_from-label-items.ensures.labels in
+    (listed_leaves g c.edges_from-label-items.result.now c.state-state.result.node c.loop-label.label-index c.label-item.result is c.loop-label-test.true c.label-item.is).0
 
 pub loop-label-preserved : goal.loop-label-preserved
 loop-label-preserved c =
@@ -34,10 +28,9 @@ loop-label-preserved c =
     let first = c.args.states.now in
     let old = c.loop-label.states in
     let new = c.enter.new.self in
-    let labels = c.labels_from-label-items.result.now in
+    let labels = c.edges_from-label-items.result.now in
     let held = c.loop-label.invariant in
-    let there : c.state-state.result.node < length g.nodes = rw (c.state-state.ensures.state) (c.requires.nodes at c.requires.there) in
-    let is = listed g c.args.leaving.now labels c.state-state.result.node c.requires.index there c.labels_from-label-items.ensures in
+    let is = c.edges_from-label-items.ensures.labels in
     let edge = listed_leaves g labels c.state-state.result.node c.loop-label.label-index e is c.loop-label-test.true c.label-item.is in
     let same : state_at old at ≡ state_at first at = state_stays first old at held.grows c.requires.there in
     let here : c.state-state.result ≡ state_at old at = c.state-state.ensures.state ∙ sym same in
@@ -58,9 +51,8 @@ loop-label-preserved c =
 pub returns-clause-followed : goal.returns-clause-followed
 returns-clause-followed c e l leaves =
     let g = c.args.graph.now in
-    let labels = c.labels_from-label-items.result.now in
-    let there : c.state-state.result.node < length g.nodes = rw (c.state-state.ensures.state) (c.requires.nodes c.args.at c.requires.there) in
-    let is = listed g c.args.leaving.now labels c.state-state.result.node c.requires.index there c.labels_from-label-items.ensures in
+    let labels = c.edges_from-label-items.result.now in
+    let is = c.edges_from-label-items.ensures.labels in
     let whole : take c.loop-label.label-index labels ≡ leaving_from g c.state-state.result.node = take_all c.loop-label.label-index labels c.loop-label-test.false ∙ is in
     let leaves' : source (shape g) e ≡ c.state-state.result.node = leaves ∙ ap (λ (s : State). s.node) (sym c.state-state.ensures.state) in
     c.loop-label.invariant.followed e (ap (is_in e) whole ∙ leaves_in g c.state-state.result.node e l leaves')

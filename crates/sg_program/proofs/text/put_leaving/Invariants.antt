@@ -1,9 +1,7 @@
-use Rattle.std.proofs.Common.{◌≡◌, ◌==◌, ◌++◌, map, filter}
-use Rattle.sg_model.specs.Lists.{below}
-use Rattle.sg_model.specs.Shape.{source}
-use Rattle.sg_protocol.specs.Graph.{shape, spaced}
+use Rattle.std.proofs.Common.{◌≡◌, ◌++◌, map, take}
+use Rattle.sg_protocol.specs.Graph.{spaced}
 use Rattle.sg_graph.specs.Parts.{edge_name}
 use Rattle.sg_program.proofs.text.put_leaving.Given as goal
 
-abbrev pub invariant-loop-number : goal.invariant-loop-number
-invariant-loop-number l = l.out ≡ l.initial.out ++ spaced (map (edge_name l.graph) (filter (λ e. source (shape l.graph) e == l.node) (below l.number)))
+abbrev pub invariant-loop-label : goal.invariant-loop-label
+invariant-loop-label l = l.out ≡ l.initial.out ++ spaced (map (edge_name l.graph) (take l.label-index l.label-items))

@@ -1,19 +1,22 @@
-use Rattle.std.proofs.Common.{◌≡◌, ◌<◌, false, List, [], ◌∷◌, ◌++◌, map, length, sym, ◌∙◌, ap, subst, arith, rules}
+use Rattle.std.proofs.Common.{◌≡◌, ℕ, ◌<◌, false, List, [], ◌∷◌, ◌++◌, map, length, sym, ◌∙◌, ap, subst, arith, rules}
 use Rattle.std.proofs.lemmas.List.{map-append, length-map}
 use Rattle.sg_model.specs.Lists.{has_text}
 use Rattle.sg_protocol.specs.Graph.{Graph, IsGraph, Node}
+use Rattle.sg_graph.specs.Adding.{with_node}
+use Rattle.sg_graph.specs.Edges.{leaving_of}
 use Rattle.sg_graph.specs.Parts.{node_names}
 use Rattle.sg_graph.specs.View.{graph_of, node_of}
 use Rattle.sg_graph.specs.declared.graph.Node.{Node as Kept}
 use Rattle.sg_graph.proofs.Found.{unfound}
 use Rattle.sg_graph.proofs.Growth.{IsGraph-with_node}
+use Rattle.sg_graph.proofs.Leaving.{leaving_of-node}
 use Rattle.sg_graph.proofs.graph.Graph.add_node.Goals as goal
 
 pub invariant_of-self-2 : goal.invariant_of-self-2
 invariant_of-self-2 c =
     let part : Kept = record { name = c.args.name; role = c.args.role } in
-    let pushed : c.self.inside.nodes.items ++ part ∷ [] ≡ c.push.new.self.items = search rules in
-    let items : map node_of c.self.inside.nodes.items ++ node_of part ∷ [] ≡ map node_of c.push.new.self.items =
+    let pushed : c.self.inside.nodes.items ++ part ∷ [] ≡ c.put.new.items.items = search rules in
+    let items : map node_of c.self.inside.nodes.items ++ node_of part ∷ [] ≡ map node_of c.put.new.items.items =
     sym (map-append node_of c.self.inside.nodes.items (part ∷ [])) ∙ ap (map node_of) pushed in
     let new : has_text c.args.name (node_names (graph_of c.self.inside)) ≡ false =
     ap (λ (g : Graph). has_text c.args.name (node_names g)) c.self.view_is
@@ -22,7 +25,11 @@ invariant_of-self-2 c =
     let kept : length c.self.inside.nodes.items < 256 = omega arith in
     let room : length (graph_of c.self.inside).nodes < 256 = rw length-map kept in
     let whole = IsGraph-with_node (graph_of c.self.inside) (node_of part) c.self.invariant.graph c.as_bytes-bytes.ensures.name c.requires.name new there room in
+    let pushed' : c.push.new.self.items ≡ c.self.inside.leaving.items ++ [] ∷ [] = search rules in
+    let lists : c.push.new.self.items ≡ leaving_of (with_node (graph_of c.self.inside) (node_of part)) =
+    pushed' ∙ ap (λ (ls : List (List ℕ)). ls ++ [] ∷ []) c.self.invariant.leaving ∙ sym (leaving_of-node (graph_of c.self.inside) (node_of part) c.self.invariant.graph) in
     record {
       graph = subst (λ (xs : List Node). IsGraph (record (graph_of c.self.inside) { nodes = xs })) items whole;
       labels = c.self.invariant.labels;
+      leaving = lists ∙ ap (λ (xs : List Node). leaving_of (record (graph_of c.self.inside) { nodes = xs })) items;
     }

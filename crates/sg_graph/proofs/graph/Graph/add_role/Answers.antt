@@ -15,4 +15,5 @@ invariant_of-self-2 c =
     record {
       graph = subst (λ (rs : List Name). IsGraph (record (graph_of c.self.inside) { roles = rs })) items whole;
       labels = c.self.invariant.labels;
+      leaving = c.self.invariant.leaving;
     }

@@ -25,4 +25,5 @@ invariant_of-self-2 c =
     record {
       graph = subst (λ (xs : List Variable). IsGraph (record (graph_of c.self.inside) { variables = xs })) items whole;
       labels = c.self.invariant.labels;
+      leaving = c.self.invariant.leaving;
     }
