@@ -1,5 +1,5 @@
 //! Fields written to a growing list of bytes: numbers with the high byte first or in digits, and bytes.
-ghost use Rattle.std.specs.Prelude.{◌≡◌, ◌++◌, [], ◌∷◌, OnOk, OnErr};
+ghost use Rattle.std.specs.Prelude.{◌≡◌, ◌++◌, [], ◌∷◌, length, take, OnOk, OnErr};
 ghost use Rattle.std.specs.Fmt.{decimal};
 ghost use Rattle.std.specs.Int.{w16, w32, to_be_bytes};
 
@@ -71,6 +71,20 @@ impl ByteOut {
     {
         let digits = format!(in alloc; "{value}")?;
         self.bytes(digits.as_str().as_bytes())
+    }
+
+    /// How many bytes there are. It takes no memory.
+    pub fn len(&self) -> usize
+        ensures { result ≡ length self.now }
+    {
+        self.bytes.len()
+    }
+
+    /// Keeps the first `count` bytes, or all where there are fewer. It takes no memory.
+    pub fn truncate(&mut self, count: usize)
+        ensures { self.new ≡ take count self.old }
+    {
+        self.bytes.truncate(count);
     }
 
     /// The bytes written. It takes no memory.

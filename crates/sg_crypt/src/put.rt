@@ -1,31 +1,61 @@
 //! Fields that texts and frames share, written to a growing list of bytes.
-ghost use Rattle.std.specs.Prelude.{◌≡◌, ◌++◌, OnOk};
+ghost use Rattle.std.specs.Prelude.{◌≡◌, ◌++◌, length, take, OnOk, OnErr};
 ghost use Rattle.sg_base.specs.Values.{value_of};
 ghost use Rattle.sg_protocol.specs.Spelling.{u8, short_text, kind_code, sized, opening_bytes};
 
 use sg_base::{ByteOut, Name, Opening, OutOfMemory, Value};
 
-/// Appends a name after its length. For want of memory a part of it may stand there.
+/// Appends a name after its length. For want of memory the list is as before.
 pub fn put_name(out: &mut ByteOut, name: &Name) -> Result<(), OutOfMemory>
-    ensures { OnOk result (out.new ≡ out.old ++ short_text name.now) }
+    ensures ok { OnOk result (out.new ≡ out.old ++ short_text name.now) }
+    ensures err { OnErr result (out.new ≡ out.old) }
+{
+    let start = out.len();
+    let put = put_name_parts(out, name);
+    if put.is_err() {
+        out.truncate(start);
+    }
+    put
+}
+
+/// Appends an opening: its variable, its confounder, its type, and its value after its length. For want of memory the list is as
+/// before.
+pub fn put_opening(out: &mut ByteOut, opening: &Opening) -> Result<(), OutOfMemory>
+    ensures ok { OnOk result (out.new ≡ out.old ++ opening_bytes opening.now) }
+    ensures err { OnErr result (out.new ≡ out.old) }
+{
+    let start = out.len();
+    let put = put_opening_parts(out, opening);
+    if put.is_err() {
+        out.truncate(start);
+    }
+    put
+}
+
+// Appends a name after its length, or a front part of this.
+fn put_name_parts(out: &mut ByteOut, name: &Name) -> Result<(), OutOfMemory>
+    ensures ok { OnOk result (out.new ≡ out.old ++ short_text name.now) }
+    ensures front { OnErr result (take (length out.old) out.new ≡ out.old) }
 {
     let bytes = name.as_bytes();
     out.u8(bytes.len() as u8)?;
     out.bytes(bytes)
 }
 
-/// Appends an opening: its variable, its confounder, its type, and its value after its length. For want of memory a part of it
-/// may stand there.
-pub fn put_opening(out: &mut ByteOut, opening: &Opening) -> Result<(), OutOfMemory>
-    ensures { OnOk result (out.new ≡ out.old ++ opening_bytes opening.now) }
+// Appends an opening, or a front part of it.
+fn put_opening_parts(out: &mut ByteOut, opening: &Opening) -> Result<(), OutOfMemory>
+    ensures ok { OnOk result (out.new ≡ out.old ++ opening_bytes opening.now) }
+    ensures front { OnErr result (take (length out.old) out.new ≡ out.old) }
 {
     out.u8(opening.var.0)?;
     out.bytes(&opening.confounder)?;
     put_value(out, &opening.value)
 }
 
+// Appends a value after its type and its length, or a front part of this.
 fn put_value(out: &mut ByteOut, value: &Value) -> Result<(), OutOfMemory>
-    ensures { OnOk result (out.new ≡ out.old ++ (u8 (kind_code (value_of value.now)) ++ sized (value_of value.now))) }
+    ensures ok { OnOk result (out.new ≡ out.old ++ (u8 (kind_code (value_of value.now)) ++ sized (value_of value.now))) }
+    ensures front { OnErr result (take (length out.old) out.new ≡ out.old) }
 {
     match value {
         Value::Int(number) => {
