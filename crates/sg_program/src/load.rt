@@ -30,7 +30,7 @@ pub enum LoadFault {
     /// The lines after `table` aren't those of the program: the number of the first line that differs, is missing or follows the end,
     /// counted from 1.
     #[error("line {entry} of the table differs")]
-    NotTheTable { entry: u32 },
+    NotTheTable { entry: usize },
     /// Memory was wanted, and none was to be had.
     #[error("out of memory")]
     OutOfMemory,
@@ -189,8 +189,8 @@ fn with_table(alloc: Global, program: Program, table: &[u8]) -> Result<Program, 
     }
 }
 
-// The number of the first line that isn't as in the program's table. A table has fewer than 2^32 lines.
-fn wrong_line(alloc: Global, program: &Program, table: &[u8]) -> Result<Option<u32>, LoadFault>
+// The number of the first line that isn't as in the program's table.
+fn wrong_line(alloc: Global, program: &Program, table: &[u8]) -> Result<Option<usize>, LoadFault>
     ensures ok { IfOk result (λ line. MatchOption line (table.now ≡ table_text program.now)
         (λ n. (table.now ≢ table_text program.now) × (n ≡ first_wrong (table_text program.now) table.now))) }
     ensures only { IfErr result (λ fault. fault ≡ LoadFault.OutOfMemory) }
@@ -202,10 +202,7 @@ fn wrong_line(alloc: Global, program: &Program, table: &[u8]) -> Result<Option<u
     if wanted.as_slice() == table {
         return Ok(None);
     }
-    match u32::try_from(first_wrong(wanted.as_slice(), table)) {
-        Ok(number) => Ok(Some(number)),
-        Err(_) => Err(LoadFault::OutOfMemory),
-    }
+    Ok(Some(first_wrong(wanted.as_slice(), table)))
 }
 
 // The lines of a program's table.

@@ -101,7 +101,7 @@ fn loads_the_warehouse_of_shop(rt: HostRuntime) -> Result<(), Fail> {
 }
 
 // Where a text is malformed, if it is.
-fn malformed(alloc: Global, text: &str) -> Result<Option<u32>, Fail> {
+fn malformed(alloc: Global, text: &str) -> Result<Option<usize>, Fail> {
     match Program::load(alloc, text.as_bytes()) {
         Ok(_) => Ok(None),
         Err(LoadFault::Malformed { at }) => Ok(Some(at)),
@@ -136,7 +136,7 @@ fn refuses_the_other_version(rt: HostRuntime) -> Result<(), Fail> {
 }
 
 // The first line of a table that differs, if one does.
-fn wrong_line(alloc: Global, table: &str) -> Result<Option<u32>, Fail> {
+fn wrong_line(alloc: Global, table: &str) -> Result<Option<usize>, Fail> {
     let text = format!(in alloc; "{HEAD}{SHOP}table\n{table}")?;
     match Program::load(alloc, text.as_bytes()) {
         Ok(_) => Ok(None),
