@@ -11,7 +11,7 @@ use Rattle.sg_model.specs.Lists.{keys_of}
 use Rattle.sg_model.specs.Last.{Map}
 use Rattle.sg_model.specs.Names.{Name}
 use Rattle.sg_model.specs.Values.{Value}
-use Rattle.sg_model.proofs.Small.{same_bytes}
+use Rattle.sg_model.proofs.Small.{same_bytes, bytes_same}
 use Rattle.sg_law.proofs.Members.{in_left, in_right, in_flat, in_map, in_parts, rec_in, all_in}
 use Rattle.sg_law.proofs.Take.{contains_from_in}
 use Rattle.sg_law.proofs.Upto.{In, in_from_Contains}
@@ -38,7 +38,7 @@ use Rattle.sg_protocol.specs.Told.{IsTold, GivesVariables, IsAnswered, EntriesAr
 use Rattle.sg_protocol.proofs.TextLaws as TL
 use Rattle.sg_protocol.proofs.Course.{Suffix, suffix_all}
 use Rattle.sg_protocol.proofs.Finding.{find_passes}
-use Rattle.sg_protocol.proofs.First.{first_cast}
+use Rattle.sg_protocol.proofs.First.{first_cast, first_of_live}
 use Rattle.sg_protocol.proofs.FirstSteps.{run_first}
 use Rattle.sg_protocol.proofs.Fits.{Fit, fit_new, fit_next, fit_bytes, casts_fit}
 use Rattle.sg_protocol.proofs.Ranges.{joined_in_range}
@@ -290,7 +290,7 @@ module _ (sha : Hash) (hash : IsHash sha) (programs : List Program) (s : Schedul
       let y = find_some test s.graphs p.graph there ((bytes_eq-Decides (graph_digest sha p.graph) digest).1 (sym ip.digest ∙ sym d)) in
       y.1 ∙ ap (λ z. Some z) (same_digest free y.0 p.graph (found_in test s.graphs y.0 y.1) there (same_bytes (graph_digest sha y.0) digest (find_passes test s.graphs y.0 y.1) ∙ d ∙ ip.digest))
 
-  one_graph : CollisionFree sha (hashed s w) → (u : IsTold sha n' c (answer sha n' c)) → IsOfOneGraph sha s w (answer sha n' c) u.program u.session
+  one_graph : CollisionFree sha (hashed s w) → (u : IsTold sha n' c (answer sha n' c)) → IsOfOneGraph sha s w n' (answer sha n' c) u.program u.session
   one_graph free u =
       let two : Some (t.told.program, t.told.session) ≡ Some (u.program, u.session) = sym t.told.is_session ∙ u.is_session in
       let pair : (t.told.program, t.told.session) ≡ (u.program, u.session) = cc in
@@ -298,8 +298,16 @@ module _ (sha : Hash) (hash : IsHash sha) (programs : List Program) (s : Schedul
       let ps : t.told.program ≡ u.program = ap (λ (z : Program × Session). z.0) pair in
       let there : In programs u.program = subst (In programs) ps (subst (λ z. In z t.told.program) (programs_are sha hash programs s compiled sched l c r) t.there) in
       let same : (cast : Cast) → cast_of_session u.session.sid w.log ≡ Some cast → u.session.cast ≡ cast = same_cast free u.session (subst IsNoted xs (noted t.told.session t.is_from)) in
-      record { graph = graph_found free u.program there u.session.cast.graph u.is_graph; cast = same; event = had same }
+      record { graph = graph_found free u.program there u.session.cast.graph u.is_graph; cast = same; event = had same; live = λ j. is_live same (in_from_Contains n'.live u.session j) }
     where
+      is_live : ((cast : Cast) → cast_of_session u.session.sid w.log ≡ Some cast → u.session.cast ≡ cast) → In n'.live u.session → cast_of_session u.session.sid w.log ≡ Some u.session.cast
+      is_live same j =
+          let good = subst (AllByRecursion (IsStep sha s)) r.parts (steps_are sha hash programs s compiled sched) in
+          let f0 : FirstCast sha s programs u.session.sid (world_after_all sha s (new_world programs s) 1 (r.before ++ r.step ∷ r.after)) = first_of_live sha hash s programs u.session.sid (Fit sha hash programs s compiled sched) (fit_next sha hash programs s compiled sched) (fit_bytes sha hash programs s compiled sched) (casts_fit sha hash programs s compiled sched)
+          r.before (r.step ∷ r.after) (all_front (IsStep sha s) r.before (r.step ∷ r.after) good) (fit_new sha hash programs s compiled sched) r.one.who r.one.past r.one.is_past u.session j (bytes_same u.session.sid u.session.sid refl) in
+          let f : FirstCast sha s programs u.session.sid w = subst (λ xs. FirstCast sha s programs u.session.sid (world_after_all sha s (new_world programs s) 1 xs)) (sym r.parts) f0 in
+          f.is_cast ∙ ap (λ z. Some z) (sym (same f.cast f.is_cast))
+
       had : ((cast : Cast) → cast_of_session u.session.sid w.log ≡ Some cast → u.session.cast ≡ cast) → (v : Event) → Contains (events_of_answer (answer sha n' c)) v → cast_of_session u.session.sid w.log ≡ Some u.session.cast
       had same v j =
           let o : IsOfCast sha s w l r.one.who v = sessions_have_one_cast sha hash programs s compiled sched free l r.one.who v (contains_from_in w.log l i, r.one.is_who, subst (λ z. Contains (events_of_outcome z) v) (sym r.one.outcome) j) in
@@ -308,7 +316,7 @@ module _ (sha : Hash) (hash : IsHash sha) (programs : List Program) (s : Schedul
 
 -- what is claimed of an entry, with the past of its principal
 abbrev HasOneGraph : (sha : Hash) (programs : List Program) (s : Schedule) (c : Call) → Past → Type 0
-HasOneGraph sha programs s c p = names_numbers (answer sha (node_of p) c) ≡ true → (u : IsTold sha (node_of p) c (answer sha (node_of p) c)) → IsOfOneGraph sha s (run sha programs s) (answer sha (node_of p) c) u.program u.session
+HasOneGraph sha programs s c p = names_numbers (answer sha (node_of p) c) ≡ true → (u : IsTold sha (node_of p) c (answer sha (node_of p) c)) → IsOfOneGraph sha s (run sha programs s) (node_of p) (answer sha (node_of p) c) u.program u.session
 
 pub entries_have_one_graph : (sha : Hash) → IsHash sha → EntriesHaveOneGraph sha
 entries_have_one_graph sha hash programs s compiled sched free l c i e a =

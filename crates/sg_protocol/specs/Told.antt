@@ -106,18 +106,19 @@ abbrev pub EntriesAreTold : Hash → Type 0
 EntriesAreTold sha = (programs : List Program) (s : Schedule) → AreCompiled sha s.graphs programs → IsSchedule sha s → (l : Logged) (c : Call) → Contains (run sha programs s).log l → l.call ≡ Some c →
     (a : IsAnswered sha programs s l c) → names_numbers (answer sha (node_of a.past) c) ≡ true → IsTold sha (node_of a.past) c (answer sha (node_of a.past) c)
 
--- the session and its program are of the graph that the schedule has for its cast, and the cast is the one of its sid, if that has an event, as that of an event has
-pub record IsOfOneGraph (sha : Hash) (s : Schedule) (w : World) (a : Answer) (p : Program) (x : Session) : Type 0 where
+-- the session and its program are of the graph that the schedule has for its cast, and the cast is the one of its sid, if that has an event, as that of an event and of a live session has
+pub record IsOfOneGraph (sha : Hash) (s : Schedule) (w : World) (n : Node) (a : Answer) (p : Program) (x : Session) : Type 0 where
   pub graph : graph_with sha s.graphs x.cast.graph ≡ Some p.graph
   pub cast : (cast : Cast) → cast_of_session x.sid w.log ≡ Some cast → x.cast ≡ cast
   pub event : (e : Event) → Contains (events_of_answer a) e → cast_of_session x.sid w.log ≡ Some x.cast
+  pub live : Contains n.live x → cast_of_session x.sid w.log ≡ Some x.cast
 
 -- Where no two hashed texts of a run have one digest, each such entry is told by the graph of the one cast of its session
 abbrev pub EntriesHaveOneGraph : Hash → Type 0
 EntriesHaveOneGraph sha = (programs : List Program) (s : Schedule) → AreCompiled sha s.graphs programs → IsSchedule sha s →
     let w = run sha programs s in
     CollisionFree sha (hashed s w) → (l : Logged) (c : Call) → Contains w.log l → l.call ≡ Some c → (a : IsAnswered sha programs s l c) → names_numbers (answer sha (node_of a.past) c) ≡ true →
-    (t : IsTold sha (node_of a.past) c (answer sha (node_of a.past) c)) → IsOfOneGraph sha s w (answer sha (node_of a.past) c) t.program t.session
+    (t : IsTold sha (node_of a.past) c (answer sha (node_of a.past) c)) → IsOfOneGraph sha s w (node_of a.past) (answer sha (node_of a.past) c) t.program t.session
 
 -- what is told of the steps of a run
 pub record StepsAreTold (sha : Hash) : Type 0 where

@@ -255,7 +255,7 @@ pub fn single_steps()
 /// variable for which the call gave a value; an event has the session's sid and role. So it is at any node whose programs are
 /// programs. Each entry of a run with a call is what the node of its principal's past, before the step, answers to the call, so
 /// each such entry is told so. Where no two hashed texts of the run have one digest, the graph is the one that the schedule has
-/// for the session's cast, and this is the cast of the sid's first event, where there is one, as there is for an event.
+/// for the session's cast, and this is the cast of the sid's first event, where there is one, as for an event and a live session.
 pub fn steps_are_told()
     ensures { (sha : List ℕ → List ℕ) → IsHash sha → StepsAreTold sha }
 {}
