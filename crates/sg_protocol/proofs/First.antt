@@ -362,6 +362,24 @@ module _ (sha : Hash) (hash : IsHash sha) (s : Schedule) (programs : List Progra
       lengths = b.begun.lengths;
     }
 
+    none_there : (p : Session → Bool) (xs : List Session) (x : Session) → filter p xs ≡ [] → In xs x → p x ≡ true → ⊥
+    none_there p [] x e i h = i
+    none_there p (y ∷ ys) x e i h = elim (cases_Bool (p y)) [
+      | inl k ↦ (let f = rw k at e in absurd (cc))
+      | inr k ↦ elim i [ inl q ↦ absurd (let f : true ≡ false = sym h ∙ ap p q ∙ k in cc) | inr j ↦ none_there p ys x (rw k at e) j h ]
+    ]
+
+    -- where a node has a live session, the session has had an event
+    begun_live : (w : World) (k : ℕ) → QuietIn w → (xs ys : List Step) → AllByRecursion (IsStep sha s) xs → Fit w → (who : Name) (p : Past) → past_of (world_after_all sha s w k xs) who ≡ Some p → (x : Session) → In (node_of p).live x → of_sid sid x ≡ true → BegunIn (world_after_all sha s w k (xs ++ ys))
+    begun_live w k q [] ys good fit who p e x i h = absurd (none_there (of_sid sid) (node_of p).live x (q.nodes who p e).1 i h)
+    begun_live w k q (y ∷ xs) ys good fit who p e x i h = elim (step_first w k q y good.0 fit) [
+      | inl q' ↦ begun_live (world_after sha s w k y) (k + 1) q' xs ys good.1 (fit_next w k y fit good.0) who p e x i h
+      | inr b ↦ begun_later (k + 1) (world_after sha s w k y) (world_after_all sha s (world_after sha s w k y) (k + 1) (xs ++ ys)) (suffix_all sha s (world_after sha s w k y) (k + 1) (xs ++ ys)) b
+    ]
+
+    pub first_of_live : (xs ys : List Step) → AllByRecursion (IsStep sha s) xs → Fit (new_world programs s) → (who : Name) (p : Past) → past_of (world_after_all sha s (new_world programs s) 1 xs) who ≡ Some p → (x : Session) → In (node_of p).live x → of_sid sid x ≡ true → FirstCast sha s programs sid (world_after_all sha s (new_world programs s) 1 (xs ++ ys))
+    first_of_live xs ys good fit who p e x i h = from_begun (world_after_all sha s (new_world programs s) 1 (xs ++ ys)) (begun_live (new_world programs s) 1 quiet_new xs ys good fit who p e x i h)
+
     pub first_cast : AllByRecursion (IsStep sha s) s.steps → Fit (new_world programs s) → events_of sid (run sha programs s).log ≢ [] → FirstCast sha s programs sid (run sha programs s)
     first_cast good fit some = elim (all_first (new_world programs s) 1 quiet_new s.steps good fit) [
       | inl q ↦ absurd (some q.none)

@@ -329,7 +329,7 @@ module _ (sha : Hash) (hash : IsHash sha) (programs : List Program) (s : Schedul
   }
   past_logs w k x good q who (Some past) e (Some c) e2 fit' after = called_logs w k x good q who past e c e2 fit' after
 
-  step_logs : (w : World) (k : ℕ) (x : Step) → IsStep sha s x → LogsOk w → Fit_ (world_after sha s w k x) → Suffix (k + 1) (world_after sha s w k x).log wf.log → LogsOk (world_after sha s w k x)
+  pub step_logs : (w : World) (k : ℕ) (x : Step) → IsStep sha s x → LogsOk w → Fit_ (world_after sha s w k x) → Suffix (k + 1) (world_after sha s w k x).log wf.log → LogsOk (world_after sha s w k x)
   step_logs w k (CraftStep c) good q fit' after = idle_logs w k (CraftStep c) fit' None Crafted (option_map spelling (crafted sha s w c)) refl refl q
   step_logs w k (StartStep who n') good q fit' after = past_logs w k (StartStep who n') good q who (past_of w who) refl (call_of sha s w k (StartStep who n')) refl fit' after
   step_logs w k (ActStep who n' label values) good q fit' after = past_logs w k (ActStep who n' label values) good q who (past_of w who) refl (call_of sha s w k (ActStep who n' label values)) refl fit' after

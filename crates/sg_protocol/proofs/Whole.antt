@@ -110,14 +110,14 @@ front g =
     five : (w n a b c d : List ℕ) → ((((((w ++ n) ++ 59 ∷ 10 ∷ []) ++ a) ++ b) ++ c) ++ d) ≡ w ++ (n ++ 59 ∷ 10 ∷ (a ++ (b ++ (c ++ d))))
     five w n a b c d = simp append_assoc
 
-same_name : (g g' : Graph) → IsGraph g → IsGraph g' → canonical g ≡ canonical g' → g.name ≡ g'.name
+pub same_name : (g g' : Graph) → IsGraph g → IsGraph g' → canonical g ≡ canonical g' → g.name ≡ g'.name
 same_name g g' is is' e =
     let f = front g in
     let f' = front g' in
     let t = TL.parts (codes "graph ") (codes "graph ") (g.name ++ 59 ∷ f.0) (g'.name ++ 59 ∷ f'.0) refl (sym f.1 ∙ e ∙ f'.1) in
     cut_at g.name g'.name f.0 f'.0 (graph_name_free g is) (graph_name_free g' is') t.1
 
-same_named : (gs : List Graph) (g g' : Graph) → all_differ (map (λ (g : Graph). g.name) gs) ≡ true → In gs g → In gs g' → g.name ≡ g'.name → g ≡ g'
+pub same_named : (gs : List Graph) (g g' : Graph) → all_differ (map (λ (g : Graph). g.name) gs) ≡ true → In gs g → In gs g' → g.name ≡ g'.name → g ≡ g'
 same_named [] g g' d i j e = absurd i
 same_named (x ∷ gs) g g' d (inl p) (inl q) e = p ∙ sym q
 same_named (x ∷ gs) g g' d (inl p) (inr j) e = absurd (differs x gs g' d j (ap (λ (z : Graph). z.name) (sym p) ∙ e))

@@ -7,7 +7,7 @@
 //! Reading order, shortest way first. What the headline says: `Graph`, `Evidence`, `Accepted`, `Frame`, `Session`, `Sending`,
 //! `Verdict`, `Acting`, `Calls`, `Past`, `Schedule`, `World`, `Run`, `Premises`, `Walk`, `Headline`. What code keeps and may
 //! rely on: `Kept`, `Standing`, `Following`, `Live`, `Backed`, `NodeStates`, `Ranges`. What a replay tells: `Grown`, `Steps`,
-//! `Broken`, `Turn`. What else holds: `Isolation`, `Receipts`, `LastSteps`, `Completeness`, `GoesOn`. Examples are computed in
+//! `Broken`, `Turn`, `Told`. What else holds: `Isolation`, `Receipts`, `LastSteps`, `Completeness`, `GoesOn`. Examples are computed in
 //! `proofs/Example*.antt`; of the proofs read `proofs/Whole.antt` first, which puts the headline together.
 #![tactic(auto)]
 
@@ -38,6 +38,7 @@ ghost use Rattle.sg_protocol.specs.LastSteps.{FramesShowLastSteps};
 ghost use Rattle.sg_protocol.specs.Completeness.{DeliveryIsComplete};
 ghost use Rattle.sg_protocol.specs.GoesOn.{SessionsGoOn};
 ghost use Rattle.sg_protocol.specs.Turn.{TurnIsOfSession};
+ghost use Rattle.sg_protocol.specs.Told.{StepsAreTold};
 
 /// What is read from the spelling of a frame is this frame, so no two frames have one spelling.
 pub fn frames_read()
@@ -246,6 +247,17 @@ pub fn single_steps()
     ensures framed { FramesAreNumbered }
     ensures sizes { (sha : List ℕ → List ℕ) → StepsAddEntries sha }
     ensures little { (sha : List ℕ → List ℕ) → IsHash sha → StepsAddLittle sha }
+{}
+
+/// An answer that is an event, or that refuses a variable by number, is told by the graph of the call's session: that of the
+/// starter of a start's cast, of the live session with an act's sid, or of the joining frame's cast, else of the live session
+/// that the frame is for. This graph is there, and has each role, label and variable that the answer names, but for a refused
+/// variable for which the call gave a value; an event has the session's sid and role. So it is at any node whose programs are
+/// programs. Each entry of a run with a call is what the node of its principal's past, before the step, answers to the call, so
+/// each such entry is told so. Where no two hashed texts of the run have one digest, the graph is the one that the schedule has
+/// for the session's cast, and this is the cast of the sid's first event, where there is one, as for an event and a live session.
+pub fn steps_are_told()
+    ensures { (sha : List ℕ → List ℕ) → IsHash sha → StepsAreTold sha }
 {}
 
 /// What breaks a premise first is computed: there is no first forged note exactly where no tag of two honest principals was

@@ -1,0 +1,327 @@
+-- The entries of a run are told by the graphs of their calls.
+use Rattle.std.specs.Prelude.{◌≡◌, ℕ, suc, ◌+◌, ◌-◌, ◌<◌, ◌⊎◌, true, List, [], ◌∷◌, ◌++◌, map, flat_map, take, length, bytes_eq, refl, Option, Some, None, option_map, option_and_then, Result, Ok, Err, Contains}
+use Rattle.std.specs.List.{AllByRecursion}
+use Rattle.std.specs.Option.{option_map_or}
+use Rattle.std.specs.Result.{result_ok}
+use Rattle.std.proofs.Common.{sym, ◌∙◌, ap, subst, inl, inr, arith}
+use Rattle.std.proofs.lemmas.List.Elements.{recursion_from_All}
+use Rattle.std.proofs.lemmas.Slice.Eq.{bytes_eq-Decides}
+use Rattle.std.proofs.Math.Seq.{take-append_seam}
+use Rattle.sg_model.specs.Lists.{keys_of}
+use Rattle.sg_model.specs.Last.{Map}
+use Rattle.sg_model.specs.Names.{Name}
+use Rattle.sg_model.specs.Values.{Value}
+use Rattle.sg_model.proofs.Small.{same_bytes, bytes_same}
+use Rattle.sg_law.proofs.Members.{in_left, in_right, in_flat, in_map, in_parts, rec_in, all_in}
+use Rattle.sg_law.proofs.Take.{contains_from_in}
+use Rattle.sg_law.proofs.Upto.{In, in_from_Contains}
+use Rattle.sg_protocol.specs.Graph.{Graph, IsGraph}
+use Rattle.sg_protocol.specs.Frame.{Cast, Frame, IsValue}
+use Rattle.sg_protocol.specs.Reading.{read}
+use Rattle.sg_protocol.specs.Texts.{Hash, IsHash, session_id, session_text_of, graph_text_of, graph_digest}
+use Rattle.sg_protocol.specs.TextLaws.{CastFits}
+use Rattle.sg_protocol.specs.Keyring.{Program}
+use Rattle.sg_protocol.specs.Session.{Session, new_session}
+use Rattle.sg_protocol.specs.Calls.{Event, events_of_answer, Call, Start, Act, Abandon, Deliver}
+use Rattle.sg_protocol.specs.Node.{Node}
+use Rattle.sg_protocol.specs.Acting.{answer}
+use Rattle.sg_protocol.specs.Notes.{notes}
+use Rattle.sg_protocol.specs.Past.{Past, node_of}
+use Rattle.sg_protocol.specs.Schedule.{Schedule, Step, StartStep, ActStep, AbandonStep, DeliverStep, CraftStep, graph_with, cast_of, sid_at, confounder}
+use Rattle.sg_protocol.specs.World.{World, Logged, past_of, call_of, bytes_of, new_world, Answered}
+use Rattle.sg_protocol.specs.Run.{called_if, world_after, world_after_all, run, events_of_outcome, cast_in, cast_of_session}
+use Rattle.sg_protocol.specs.Premises.{hashed, CollisionFree}
+use Rattle.sg_protocol.specs.Beginnings.{first_steps}
+use Rattle.sg_protocol.specs.IsSchedule.{IsProgram, AreCompiled, IsSchedule, IsStep}
+use Rattle.sg_protocol.specs.Headline.{IsOfCast}
+use Rattle.sg_protocol.specs.Told.{IsTold, GivesVariables, IsAnswered, EntriesAreAnswered, EntriesAreTold, EntriesHaveOneGraph, IsOfOneGraph, StepsAreTold, names_numbers}
+use Rattle.sg_protocol.proofs.TextLaws as TL
+use Rattle.sg_protocol.proofs.Course.{Suffix, suffix_all}
+use Rattle.sg_protocol.proofs.Finding.{find_passes}
+use Rattle.sg_protocol.proofs.First.{first_cast, first_of_live}
+use Rattle.sg_protocol.proofs.FirstSteps.{run_first}
+use Rattle.sg_protocol.proofs.Fits.{Fit, fit_new, fit_next, fit_bytes, casts_fit}
+use Rattle.sg_protocol.proofs.Ranges.{joined_in_range}
+use Rattle.sg_protocol.proofs.ReadBack.{read-SpellsFrame}
+use Rattle.sg_protocol.proofs.Roles.{sessions_have_one_cast}
+use Rattle.sg_protocol.proofs.Sendings.{Known, LogsOk, all_logs, new_logs, step_logs, no_entry}
+use Rattle.sg_protocol.proofs.Sent.{FitSession}
+use Rattle.sg_protocol.proofs.Told.{TellsFrom, call_told, answers_are_told}
+use Rattle.sg_protocol.proofs.Whole.{FirstCast, find_some, found_in, program_graph, same_name, same_named}
+
+-- ---- the step of an entry
+
+module _ (sha : Hash) (s : Schedule) (l : Logged) (c : Call) where
+  -- the entry is what step k of this world came to
+  record OneStep (w : World) (k : ℕ) (x : Step) : Type 0 where
+    who : Name
+    past : Past
+    is_past : past_of w who ≡ Some past
+    call : call_of sha s w k x ≡ Some c
+    number : l.number ≡ k
+    is_who : l.who ≡ Some who
+    outcome : l.outcome ≡ Answered (answer sha (node_of past) c)
+    is_notes : l.notes ≡ notes sha (node_of past) c
+
+  record StepOf (w : World) (k : ℕ) (xs : List Step) : Type 0 where
+    before : List Step
+    step : Step
+    after : List Step
+    parts : xs ≡ before ++ step ∷ after
+    one : OneStep (world_after_all sha s w k before) (k + length before) step
+
+  module _ (e : l.call ≡ Some c) (w : World) (k : ℕ) (x : Step) where
+    by_call : (who : Name) (o : Option Call) → call_of sha s w k x ≡ o → (past : Past) → past_of w who ≡ Some past → In (called_if sha w k who o past).log l → In w.log l ⊎ OneStep w k x
+    by_call who None q past q2 i = elim (in_parts w.log _ l i) [
+      | inl a ↦ inl a
+      | inr a ↦ elim a [ inl b ↦ (let h : None ≡ Some c = ap (λ (z : Logged). z.call) (sym b) ∙ e in absurd (cc)) | inr b ↦ absurd b ]
+    ]
+    by_call who (Some d) q past q2 i = elim (in_parts w.log _ l i) [
+      | inl a ↦ inl a
+      | inr a ↦ elim a [
+        | inl b ↦ (let h : Some d ≡ Some c = ap (λ (z : Logged). z.call) (sym b) ∙ e in let same : d ≡ c = cc in inr record {
+          who = who;
+          past = past;
+          is_past = q2;
+          call = q ∙ h;
+          number = ap (λ (z : Logged). z.number) b;
+          is_who = ap (λ (z : Logged). z.who) b;
+          outcome = ap (λ (z : Logged). z.outcome) b ∙ ap (λ z. Answered (answer sha (node_of past) z)) same;
+          is_notes = ap (λ (z : Logged). z.notes) b ∙ ap (notes sha (node_of past)) same;
+        })
+        | inr b ↦ absurd b
+      ]
+    ]
+
+    by_past : (who : Name) (o : Option Past) → past_of w who ≡ o → In (option_map_or (called_if sha w k who (call_of sha s w k x)) o w).log l → In w.log l ⊎ OneStep w k x
+    by_past who None q i = inl i
+    by_past who (Some past) q i = by_call who (call_of sha s w k x) refl past q i
+
+  one_step : l.call ≡ Some c → (w : World) (k : ℕ) (x : Step) → In (world_after sha s w k x).log l → In w.log l ⊎ OneStep w k x
+  one_step e w k (CraftStep d) i = elim (in_parts w.log _ l i) [
+    | inl a ↦ inl a
+    | inr a ↦ elim a [ inl b ↦ (let h : None ≡ Some c = ap (λ (z : Logged). z.call) (sym b) ∙ e in absurd (cc)) | inr b ↦ absurd b ]
+  ]
+  one_step e w k (StartStep who n) i = by_past e w k (StartStep who n) who (past_of w who) refl i
+  one_step e w k (ActStep who n label values) i = by_past e w k (ActStep who n label values) who (past_of w who) refl i
+  one_step e w k (AbandonStep who n) i = by_past e w k (AbandonStep who n) who (past_of w who) refl i
+  one_step e w k (DeliverStep who what) i = by_past e w k (DeliverStep who what) who (past_of w who) refl i
+
+  step_of : l.call ≡ Some c → (w : World) (k : ℕ) (xs : List Step) → In (world_after_all sha s w k xs).log l → In w.log l ⊎ StepOf w k xs
+  step_of e w k [] i = inl i
+  step_of e w k (x ∷ xs) i = elim (step_of e (world_after sha s w k x) (k + 1) xs i) [
+    | inl a ↦ elim (one_step e w k x a) [
+      | inl b ↦ inl b
+      | inr b ↦ inr record { before = []; step = x; after = xs; parts = refl; one = subst (λ z. OneStep w z x) (let q : k ≡ k + 0 = omega arith in q) b }
+    ]
+    | inr r ↦ inr record {
+      before = x ∷ r.before;
+      step = r.step;
+      after = r.after;
+      parts = ap (λ l. x ∷ l) r.parts;
+      one = subst (λ z. OneStep (world_after_all sha s (world_after sha s w k x) (k + 1) r.before) z r.step) (let q : (k + 1) + length r.before ≡ k + suc (length r.before) = omega arith in q) r.one;
+    }
+  ]
+
+run_step : (sha : Hash) (programs : List Program) (s : Schedule) (l : Logged) (c : Call) → Contains (run sha programs s).log l → l.call ≡ Some c → StepOf sha s l c (new_world programs s) 1 s.steps
+run_step sha programs s l c i e = elim (step_of sha s l c e (new_world programs s) 1 s.steps (in_from_Contains (run sha programs s).log l i)) [ inl a ↦ absurd a | inr r ↦ r ]
+
+answered_by : (sha : Hash) (programs : List Program) (s : Schedule) (l : Logged) (c : Call) (r : StepOf sha s l c (new_world programs s) 1 s.steps) → past_of (run sha programs (first_steps (l.number - 1) s)) r.one.who ≡ Some r.one.past
+answered_by sha programs s l c r =
+    let n : l.number - 1 ≡ length r.before = (let h : l.number ≡ 1 + length r.before = r.one.number in omega (arith, h)) in
+    ap (λ w. past_of w r.one.who) (run_first sha programs s (l.number - 1)
+    ∙ ap (λ n. world_after_all sha s (new_world programs s) 1 (take n s.steps)) n
+    ∙ ap (λ xs. world_after_all sha s (new_world programs s) 1 (take (length r.before) xs)) r.parts
+    ∙ ap (world_after_all sha s (new_world programs s) 1) (take-append_seam r.before (r.step ∷ r.after)))
+    ∙ r.one.is_past
+
+pub entries_are_answered : (sha : Hash) → EntriesAreAnswered sha
+entries_are_answered sha programs s l c i e =
+    let r = run_step sha programs s l c i e in
+    record { who = r.one.who; past = r.one.past; is_who = r.one.is_who; is_past = answered_by sha programs s l c r; outcome = r.one.outcome }
+
+-- the past of an entry is the one of its step
+same_past : (sha : Hash) (programs : List Program) (s : Schedule) (l : Logged) (c : Call) (r : StepOf sha s l c (new_world programs s) 1 s.steps) (a : IsAnswered sha programs s l c) → r.one.past ≡ a.past
+same_past sha programs s l c r a =
+    let two : Some r.one.who ≡ Some a.who = sym r.one.is_who ∙ a.is_who in
+    let who : r.one.who ≡ a.who = cc in
+    let pasts : Some r.one.past ≡ Some a.past = sym (answered_by sha programs s l c r) ∙ ap (past_of (run sha programs (first_steps (l.number - 1) s))) who ∙ a.is_past in
+    let same : r.one.past ≡ a.past = cc in
+    same
+
+-- ---- what is known of the node before a step
+
+all_front : (P : Step → Type 0) (xs ys : List Step) → AllByRecursion P (xs ++ ys) → AllByRecursion P xs
+all_front P [] ys a = tt
+all_front P (x ∷ xs) ys a = (a.0, all_front P xs ys a.1)
+
+all_mid : (P : Step → Type 0) (xs : List Step) (y : Step) (ys : List Step) → AllByRecursion P (xs ++ y ∷ ys) → P y
+all_mid P [] y ys a = a.0
+all_mid P (x ∷ xs) y ys a = all_mid P xs y ys a.1
+
+small_keys : (vs : Map Value) → AllByRecursion (λ (w : ℕ × Value). (w.0 < 256) × IsValue w.1) vs → AllByRecursion (λ k. k < 256) (keys_of vs)
+small_keys [] a = tt
+small_keys (v ∷ vs) a = ((a.0).0, small_keys vs a.1)
+
+call_small : (sha : Hash) (s : Schedule) (w : World) (k : ℕ) (x : Step) (c : Call) → IsStep sha s x → call_of sha s w k x ≡ Some c → GivesVariables c
+call_small sha s w k (StartStep who n) c good e = go (cast_of s n) e
+  where
+    go : (o : Option Cast) → option_map Start o ≡ Some c → GivesVariables c
+    go None e = absurd (cc)
+    go (Some d) e = (let r : Start d ≡ c = cc in subst GivesVariables r tt)
+call_small sha s w k (ActStep who n label values) c good e = (let r : Act (sid_at sha s n) label values (map (λ (v : ℕ × Value). confounder k v.0) values) ≡ c = cc in subst GivesVariables r (small_keys values good))
+call_small sha s w k (AbandonStep who n) c good e = (let r : Abandon (sid_at sha s n) ≡ c = cc in subst GivesVariables r tt)
+call_small sha s w k (DeliverStep who what) c good e = go (bytes_of w what) e
+  where
+    go : (o : Option (List ℕ)) → option_map Deliver o ≡ Some c → GivesVariables c
+    go None e = absurd (cc)
+    go (Some bs) e = (let r : Deliver bs ≡ c = cc in subst GivesVariables r tt)
+call_small sha s w k (CraftStep d) c good e = absurd (cc)
+
+module _ (sha : Hash) (hash : IsHash sha) (programs : List Program) (s : Schedule) (compiled : AreCompiled sha s.graphs programs) (sched : IsSchedule sha s) where
+  steps_are : AllByRecursion (IsStep sha s) s.steps
+  steps_are = recursion_from_All (IsStep sha s) s.steps sched.steps
+
+  logs_at : (wf w : World) (k : ℕ) (xs ys : List Step) → AllByRecursion (IsStep sha s) xs → LogsOk sha hash programs s compiled sched wf w → world_after_all sha s w k (xs ++ ys) ≡ wf → LogsOk sha hash programs s compiled sched wf (world_after_all sha s w k xs)
+  logs_at wf w k [] ys good q e = q
+  logs_at wf w k (x ∷ xs) ys good q e =
+      logs_at wf (world_after sha s w k x) (k + 1) xs ys good.1
+      (step_logs sha hash programs s compiled sched wf w k x good.0 q (fit_next sha hash programs s compiled sched w k x q.fit good.0) (subst (λ (z : World). Suffix (k + 1) (world_after sha s w k x).log z.log) e (suffix_all sha s (world_after sha s w k x) (k + 1) (xs ++ ys)))) e
+
+  module _ (l : Logged) (c : Call) (r : StepOf sha s l c (new_world programs s) 1 s.steps) where
+    abbrev at : World
+    at = world_after_all sha s (new_world programs s) 1 r.before
+
+    good_step : IsStep sha s r.step
+    good_step = all_mid (IsStep sha s) r.before r.step r.after (subst (AllByRecursion (IsStep sha s)) r.parts steps_are)
+
+    logs_before : LogsOk sha hash programs s compiled sched (run sha programs s) at
+    logs_before = logs_at (run sha programs s) (new_world programs s) 1 r.before (r.step ∷ r.after) (all_front (IsStep sha s) r.before (r.step ∷ r.after) (subst (AllByRecursion (IsStep sha s)) r.parts steps_are))
+        (new_logs sha hash programs s compiled sched (run sha programs s)) (ap (world_after_all sha s (new_world programs s) 1) (sym r.parts))
+
+    abbrev n : Node
+    n = node_of r.one.past
+
+    programs_are : n.programs ≡ programs
+    programs_are = (logs_before.fit.nodes r.one.who r.one.past r.one.is_past).0
+
+    are_programs : AllByRecursion (IsProgram sha) n.programs
+    are_programs = subst (AllByRecursion (IsProgram sha)) (sym programs_are) (recursion_from_All (IsProgram sha) programs compiled.each)
+
+    tells : names_numbers (answer sha n c) ≡ true → TellsFrom sha n are_programs c (answer sha n c)
+    tells h = call_told sha n are_programs c (call_small sha s at (1 + length r.before) r.step c good_step r.one.call) (answer sha n c) refl h
+
+pub entries_are_told : (sha : Hash) → IsHash sha → EntriesAreTold sha
+entries_are_told sha hash programs s compiled sched l c i e a h =
+    let r = run_step sha programs s l c i e in
+    let same = same_past sha programs s l c r a in
+    subst (λ p. IsTold sha (node_of p) c (answer sha (node_of p) c)) same
+    (tells sha hash programs s compiled sched l c r (subst (λ p. names_numbers (answer sha (node_of p) c) ≡ true) (sym same) h)).told
+
+-- ---- one cast and one graph
+
+module _ (sha : Hash) (hash : IsHash sha) (programs : List Program) (s : Schedule) (compiled : AreCompiled sha s.graphs programs) (sched : IsSchedule sha s) (l : Logged) (c : Call) (i : In (run sha programs s).log l) (e : l.call ≡ Some c)
+    (r : StepOf sha s l c (new_world programs s) 1 s.steps) (h : names_numbers (answer sha (node_of r.one.past) c) ≡ true) where
+  abbrev w : World
+  w = run sha programs s
+
+  abbrev n' : Node
+  n' = node_of r.one.past
+
+  abbrev t : TellsFrom sha n' (are_programs sha hash programs s compiled sched l c r) c (answer sha n' c)
+  t = tells sha hash programs s compiled sched l c r h
+
+  -- the session's cast is one whose text was hashed
+  record IsNoted (x : Session) : Type 0 where
+    fits : CastFits x.cast
+    id : session_id sha x.cast ≡ x.sid
+    is_hashed : In (hashed s w) (session_text_of x.cast)
+
+  noted : (x : Session) → In n'.live x ⊎ ((cast_in c ≡ Some x.cast) × (session_id sha x.cast ≡ x.sid) × In (notes sha n' c).hashed (session_text_of x.cast)) → IsNoted x
+  noted x (inl j) =
+      let q = logs_before sha hash programs s compiled sched l c r in
+      let k : Known sha hash programs s compiled sched w r.one.who x = rec_in (Known sha hash programs s compiled sched w r.one.who) n'.live x (q.nodes r.one.who r.one.past r.one.is_past).2 j in
+      let f : FitSession x = rec_in FitSession n'.live x (q.fit.nodes r.one.who r.one.past r.one.is_past).1 j in
+      record { fits = TL.cast_fits x.cast f.version f.cast; id = k.id; is_hashed = k.is_hashed }
+  noted x (inr b) = record {
+    fits = by_call c e b.0;
+    id = b.1;
+    is_hashed = in_right (map graph_text_of s.graphs) (flat_map (λ (z : Logged). z.notes.hashed) w.log) (session_text_of x.cast) (in_flat (λ (z : Logged). z.notes.hashed) w.log l (session_text_of x.cast) i (subst (λ z. In z.hashed (session_text_of x.cast)) (sym r.one.is_notes) b.2));
+  }
+    where
+      logs : LogsOk sha hash programs s compiled sched w w
+      logs = all_logs sha hash programs s compiled sched w (new_world programs s) 1 s.steps (steps_are sha hash programs s compiled sched) (new_logs sha hash programs s compiled sched w) refl
+
+      by_call : (d : Call) → l.call ≡ Some d → cast_in d ≡ Some x.cast → CastFits x.cast
+      by_call (Start y) e q = (let same : y ≡ x.cast = cc in subst CastFits same ((logs.logs l (Start y) i e).starts y refl))
+      by_call (Act sid label values confs) e q = absurd (cc)
+      by_call (Abandon sid) e q = absurd (cc)
+      by_call (Deliver bs) e q = go (read bs) refl q
+        where
+          go : (m : Result Frame ℕ) → read bs ≡ m → option_and_then (λ (f : Frame). f.join) (result_ok m) ≡ Some x.cast → CastFits x.cast
+          go (Err at) rd q = absurd (cc)
+          go (Ok f) rd q =
+              let z : FitSession (new_session f.sid x.cast f.receiver) = joined_in_range f x.cast (read-SpellsFrame bs f ((logs.logs l (Deliver bs) i e).bytes bs refl) rd).is_frame q in
+              TL.cast_fits x.cast z.version z.cast
+
+  -- the cast of a sid is that of each such session of it
+  first_is : (sid : List ℕ) (cast : Cast) → cast_of_session sid w.log ≡ Some cast → FirstCast sha s programs sid w
+  first_is sid cast q = first_cast sha hash s programs sid (Fit sha hash programs s compiled sched) (fit_next sha hash programs s compiled sched) (fit_bytes sha hash programs s compiled sched) (casts_fit sha hash programs s compiled sched) (steps_are sha hash programs s compiled sched) (fit_new sha hash programs s compiled sched)
+      (λ none. let two : None ≡ Some cast = sym (ap (option_and_then (λ (z : Logged). option_and_then cast_in z.call)) (no_entry sid w.log none)) ∙ q in cc)
+
+  same_cast : CollisionFree sha (hashed s w) → (x : Session) → IsNoted x → (cast : Cast) → cast_of_session x.sid w.log ≡ Some cast → x.cast ≡ cast
+  same_cast free x nt cast q =
+      let f : FirstCast sha s programs x.sid w = first_is x.sid cast q in
+      let two : Some f.cast ≡ Some cast = sym f.is_cast ∙ q in
+      let is : f.cast ≡ cast = cc in
+      TL.one_cast x.cast f.cast nt.fits f.fits (free (session_text_of x.cast) (session_text_of f.cast) (contains_from_in (hashed s w) (session_text_of x.cast) nt.is_hashed) (contains_from_in (hashed s w) (session_text_of f.cast) f.is_hashed) (nt.id ∙ sym f.sid_is)) ∙ is
+
+  same_digest : CollisionFree sha (hashed s w) → (a b : Graph) → In s.graphs a → In s.graphs b → graph_digest sha a ≡ graph_digest sha b → a ≡ b
+  same_digest free a b i j e =
+      let there : (g : Graph) → In s.graphs g → Contains (hashed s w) (graph_text_of g) = λ g k. contains_from_in (hashed s w) (graph_text_of g) (in_left (map graph_text_of s.graphs) _ (graph_text_of g) (in_map graph_text_of s.graphs g k)) in
+      let t : graph_text_of a ≡ graph_text_of b = free (graph_text_of a) (graph_text_of b) (there a i) (there b j) e in
+      same_named s.graphs a b sched.graph_names i j (same_name a b (all_in IsGraph s.graphs a sched.are_graphs i) (all_in IsGraph s.graphs b sched.are_graphs j) (TL.one_canonical a b t))
+
+  graph_found : CollisionFree sha (hashed s w) → (p : Program) → In programs p → (digest : List ℕ) → digest ≡ p.digest → graph_with sha s.graphs digest ≡ Some p.graph
+  graph_found free p j digest d =
+      let ip : IsProgram sha p = all_in (IsProgram sha) programs p compiled.each j in
+      let there : In s.graphs p.graph = program_graph sha s.graphs programs compiled p j in
+      let test = λ (z : Graph). bytes_eq (graph_digest sha z) digest in
+      let y = find_some test s.graphs p.graph there ((bytes_eq-Decides (graph_digest sha p.graph) digest).1 (sym ip.digest ∙ sym d)) in
+      y.1 ∙ ap (λ z. Some z) (same_digest free y.0 p.graph (found_in test s.graphs y.0 y.1) there (same_bytes (graph_digest sha y.0) digest (find_passes test s.graphs y.0 y.1) ∙ d ∙ ip.digest))
+
+  one_graph : CollisionFree sha (hashed s w) → (u : IsTold sha n' c (answer sha n' c)) → IsOfOneGraph sha s w n' (answer sha n' c) u.program u.session
+  one_graph free u =
+      let two : Some (t.told.program, t.told.session) ≡ Some (u.program, u.session) = sym t.told.is_session ∙ u.is_session in
+      let pair : (t.told.program, t.told.session) ≡ (u.program, u.session) = cc in
+      let xs : t.told.session ≡ u.session = ap (λ (z : Program × Session). z.1) pair in
+      let ps : t.told.program ≡ u.program = ap (λ (z : Program × Session). z.0) pair in
+      let there : In programs u.program = subst (In programs) ps (subst (λ z. In z t.told.program) (programs_are sha hash programs s compiled sched l c r) t.there) in
+      let same : (cast : Cast) → cast_of_session u.session.sid w.log ≡ Some cast → u.session.cast ≡ cast = same_cast free u.session (subst IsNoted xs (noted t.told.session t.is_from)) in
+      record { graph = graph_found free u.program there u.session.cast.graph u.is_graph; cast = same; event = had same; live = λ j. is_live same (in_from_Contains n'.live u.session j) }
+    where
+      is_live : ((cast : Cast) → cast_of_session u.session.sid w.log ≡ Some cast → u.session.cast ≡ cast) → In n'.live u.session → cast_of_session u.session.sid w.log ≡ Some u.session.cast
+      is_live same j =
+          let good = subst (AllByRecursion (IsStep sha s)) r.parts (steps_are sha hash programs s compiled sched) in
+          let f0 : FirstCast sha s programs u.session.sid (world_after_all sha s (new_world programs s) 1 (r.before ++ r.step ∷ r.after)) = first_of_live sha hash s programs u.session.sid (Fit sha hash programs s compiled sched) (fit_next sha hash programs s compiled sched) (fit_bytes sha hash programs s compiled sched) (casts_fit sha hash programs s compiled sched)
+          r.before (r.step ∷ r.after) (all_front (IsStep sha s) r.before (r.step ∷ r.after) good) (fit_new sha hash programs s compiled sched) r.one.who r.one.past r.one.is_past u.session j (bytes_same u.session.sid u.session.sid refl) in
+          let f : FirstCast sha s programs u.session.sid w = subst (λ xs. FirstCast sha s programs u.session.sid (world_after_all sha s (new_world programs s) 1 xs)) (sym r.parts) f0 in
+          f.is_cast ∙ ap (λ z. Some z) (sym (same f.cast f.is_cast))
+
+      had : ((cast : Cast) → cast_of_session u.session.sid w.log ≡ Some cast → u.session.cast ≡ cast) → (v : Event) → Contains (events_of_answer (answer sha n' c)) v → cast_of_session u.session.sid w.log ≡ Some u.session.cast
+      had same v j =
+          let o : IsOfCast sha s w l r.one.who v = sessions_have_one_cast sha hash programs s compiled sched free l r.one.who v (contains_from_in w.log l i, r.one.is_who, subst (λ z. Contains (events_of_outcome z) v) (sym r.one.outcome) j) in
+          let its : cast_of_session u.session.sid w.log ≡ Some o.cast = ap (λ z. cast_of_session z w.log) (sym (u.event v j).0) ∙ o.is_cast in
+          its ∙ ap (λ z. Some z) (sym (same o.cast its))
+
+-- what is claimed of an entry, with the past of its principal
+abbrev HasOneGraph : (sha : Hash) (programs : List Program) (s : Schedule) (c : Call) → Past → Type 0
+HasOneGraph sha programs s c p = names_numbers (answer sha (node_of p) c) ≡ true → (u : IsTold sha (node_of p) c (answer sha (node_of p) c)) → IsOfOneGraph sha s (run sha programs s) (node_of p) (answer sha (node_of p) c) u.program u.session
+
+pub entries_have_one_graph : (sha : Hash) → IsHash sha → EntriesHaveOneGraph sha
+entries_have_one_graph sha hash programs s compiled sched free l c i e a =
+    let r = run_step sha programs s l c i e in
+    subst (HasOneGraph sha programs s c) (same_past sha programs s l c r a) (λ h u. one_graph sha hash programs s compiled sched l c (in_from_Contains (run sha programs s).log l i) e r h free u)
+
+pub steps_are_told : (sha : Hash) → IsHash sha → StepsAreTold sha
+steps_are_told sha hash = record { at_nodes = answers_are_told sha; answered = entries_are_answered sha; told = entries_are_told sha hash; one_graph = entries_have_one_graph sha hash }
