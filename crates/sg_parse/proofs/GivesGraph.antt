@@ -4,9 +4,9 @@ use Rattle.sg_model.specs.Lists.{has_text}
 use Rattle.sg_model.specs.Names.{Name, reserved}
 use Rattle.sg_protocol.specs.Graph.{Graph, IsGraph, Variable, Node, Edge}
 use Rattle.sg_graph.specs.Adding.{no_parts, with_role, with_variable, with_node, with_edge}
-use Rattle.sg_parse.specs.Grammar.{head_tokens, role_tokens, node_tokens, SpellsVariable, SpellsEdge, InTurn, Done, Then, SpellsGraph}
+use Rattle.sg_parse.specs.Grammar.{head_tokens, role_tokens, node_tokens, SpellsVariable, SpellsEdge, InTurn, Done, Then, SpellsStatements, SpellsGraph}
 use Rattle.sg_parse.specs.Tokens.{tokens, is_word, is_semicolon, is_end}
-use Rattle.sg_parse.specs.Reading.{Reader, after, give, is_next, token, name, read_role, read_variable, read_node, read_edge, read_head, read_roles, read_variables, read_nodes, read_edges, read_end, read_text, statement, up_to, whole, read}
+use Rattle.sg_parse.specs.Reading.{Reader, after, give, is_next, token, name, read_role, read_variable, read_node, read_edge, read_head, read_roles, read_variables, read_nodes, read_edges, read_end, read_statements, read_text, statement, up_to, whole, read}
 use Rattle.sg_parse.specs.declared.token.Placed.{Placed}
 use Rattle.sg_parse.specs.declared.token.Token.{Token}
 use Rattle.sg_parse.specs.declared.token.Token.TheVariants.{Word, Semicolon, End}
@@ -15,7 +15,7 @@ use Rattle.sg_parse.proofs.Took.{bare}
 use Rattle.sg_parse.proofs.Readings.{onward}
 use Rattle.sg_parse.proofs.TookStatements.{SpellsRole, SpellsNode}
 use Rattle.sg_parse.proofs.TookText.{adds, in_turn-map}
-use Rattle.sg_parse.proofs.TookGraph.{adds_roles, adds_variables, adds_nodes, adds_edges, graph_of}
+use Rattle.sg_parse.proofs.TookGraph.{adds_roles, adds_variables, adds_nodes, adds_edges, graph_of, regroup}
 use Rattle.sg_parse.proofs.Middle.{name-middle}
 use Rattle.sg_parse.proofs.Gives.{Gives, gives-give, gives-after, gives-token, gives-word, gives-first, name-there, head_is, head-next}
 use Rattle.sg_parse.proofs.GivesStatements.{gives-role, gives-variable, gives-node, gives-edge}
@@ -115,9 +115,11 @@ gives-nodes g m ns us is size h =
     (gives-after (statement (codes "node") read_node g) _ (node_tokens g m) back us (with_node g m) (adds with_node g (m ∷ ns)) (gives-node g m ns (node_tokens g m) (back ++ us) all refl)
     (gives-up_to with_node SpellsNode (codes "node") read_node node_begins (λ g x y ts s. s) gives-node 255 (with_node g m) ns back us few all (flat-in_turn (node_tokens g) ns) h))
 
-spelled-read : (bs : List ℕ) (n x y : Name) (rs : List Name) (vs : List Variable) (m : Node) (ns : List Node) (es : List Edge) → SpellsGraph bs (graph_of n (x ∷ y ∷ rs) vs (m ∷ ns) es)
-    → read bs ≡ Ok (graph_of n (x ∷ y ∷ rs) vs (m ∷ ns) es)
-spelled-read bs n x y rs vs m ns es s =
+-- the statements of a graph behind its name
+statements-read : (n x y : Name) (rs : List Name) (vs : List Variable) (m : Node) (ns : List Node) (es : List Edge) (ts us : List Token) → SpellsStatements (graph_of n (x ∷ y ∷ rs) vs (m ∷ ns) es) ts
+    → head_is (is_word (codes "node")) us ≡ false → head_is (is_word (codes "edge")) us ≡ false
+    → (back : List Token) × (ts ≡ head_tokens n ++ back) × Gives (read_statements (no_parts n)) back us (graph_of n (x ∷ y ∷ rs) vs (m ∷ ns) es)
+statements-read n x y rs vs m ns es ts us s no_node no_edge =
     let roles : List Name = x ∷ y ∷ rs in
     let nodes : List Node = m ∷ ns in
     let g : Graph = graph_of n roles vs nodes es in
@@ -165,34 +167,27 @@ spelled-read bs n x y rs vs m ns es s =
     let et : List Token = s.of_edges in
     let rt : List Token = flat_map role_tokens roles in
     let nt : List Token = flat_map (node_tokens g) nodes in
-    let end : List Token = End ∷ [] in
-    let free = name-middle [] n [] is.named in
     let turn_v : InTurn (SpellsVariable g1) vs vt = in_turn-map (SpellsVariable g) (SpellsVariable g1) vs vt (λ v us h. variable_first v us h) s.variables in
     let turn_e : InTurn (SpellsEdge g3) es et = in_turn-map (SpellsEdge g) (SpellsEdge g3) es et (λ e us h. edge_first e us h) s.edges in
     let all_v : IsGraph (adds with_variable g1 vs) = subst IsGraph (sym (adds_variables g1 vs)) is2 in
     let all_e : IsGraph (adds with_edge g3 es) = subst IsGraph (sym (adds_edges g3 es)) is in
-    let e5 : Gives (read_edges g3) et ([] ++ end) g =
-    subst (Gives (read_edges g3) et end) (adds_edges g3 es)
-    (gives-up_to with_edge SpellsEdge (codes "edge") read_edge (λ g x ts us h. edge_begins (is_word (codes "edge")) g x ts us h) edge_moves gives-edge 512 g3 es et end is.sizes.3 all_e turn_e refl) in
-    let e4 : Gives (read_nodes g2) nt ((et ++ []) ++ end) g3 =
-    gives-nodes g2 m ns ((et ++ []) ++ end) is3 is.sizes.2 (rw append_assoc (edges_ahead (is_word (codes "node")) g3 es et ([] ++ end) turn_e refl refl)) in
-    let e3 : Gives (read_variables g1) vt ((nt ++ (et ++ [])) ++ end) g2 =
-    subst (Gives (read_variables g1) vt ((nt ++ (et ++ [])) ++ end)) (adds_variables g1 vs)
-    (gives-up_to with_variable SpellsVariable (codes "var") read_variable (λ g x ts us h. variable_begins (is_word (codes "var")) g x ts us h) variable_moves gives-variable 32 g1 vs vt ((nt ++ (et ++ [])) ++ end)
+    let e5 : Gives (read_edges g3) et us g =
+    subst (Gives (read_edges g3) et us) (adds_edges g3 es)
+    (gives-up_to with_edge SpellsEdge (codes "edge") read_edge (λ g x ts us h. edge_begins (is_word (codes "edge")) g x ts us h) edge_moves gives-edge 512 g3 es et us is.sizes.3 all_e turn_e no_edge) in
+    let e4 : Gives (read_nodes g2) nt (et ++ us) g3 =
+    gives-nodes g2 m ns (et ++ us) is3 is.sizes.2 (edges_ahead (is_word (codes "node")) g3 es et us turn_e refl no_node) in
+    let e3 : Gives (read_variables g1) vt ((nt ++ et) ++ us) g2 =
+    subst (Gives (read_variables g1) vt ((nt ++ et) ++ us)) (adds_variables g1 vs)
+    (gives-up_to with_variable SpellsVariable (codes "var") read_variable (λ g x ts us h. variable_begins (is_word (codes "var")) g x ts us h) variable_moves gives-variable 32 g1 vs vt ((nt ++ et) ++ us)
     is.sizes.1 all_v turn_v refl) in
-    let e2 : Gives (read_roles (no_parts n)) rt ((vt ++ (nt ++ (et ++ []))) ++ end) g1 =
-    gives-roles n x y rs ((vt ++ (nt ++ (et ++ []))) ++ end) is1 (rw append_assoc (variables_ahead (is_word (codes "role")) g1 vs vt ((nt ++ (et ++ [])) ++ end) turn_v refl refl)) in
-    let e1 : Gives read_head (head_tokens n) ((rt ++ (vt ++ (nt ++ (et ++ [])))) ++ end) (no_parts n) = gives-head n _ free.0 in
-    let e6 : Gives (after read_end (λ _. give g)) [] end g = gives-after read_end (λ _. give g) [] [] end tt g (gives-first is_end (give tt) _ [] end tt refl (gives-give tt end)) (gives-give g end) in
-    let text : Gives read_text (head_tokens n ++ (rt ++ (vt ++ (nt ++ (et ++ []))))) end g =
-    gives-after read_head _ (head_tokens n) (rt ++ (vt ++ (nt ++ (et ++ [])))) end (no_parts n) g e1
-    (gives-after (read_roles (no_parts n)) _ rt (vt ++ (nt ++ (et ++ []))) end g1 g e2
-    (gives-after (read_variables g1) _ vt (nt ++ (et ++ [])) end g2 g e3
-    (gives-after (read_nodes g2) _ nt (et ++ []) end g3 g e4
-    (gives-after (read_edges g3) _ et [] end g g e5 e6)))) in
-    let spelled : bare (tokens bs) ≡ (head_tokens n ++ (rt ++ (vt ++ (nt ++ (et ++ []))))) ++ end = s.spelled ∙ regroup rt vt nt et end in
-    let r = text.go (tokens bs) spelled in
-    ap whole r.2
+    let e2 : Gives (read_roles (no_parts n)) rt ((vt ++ (nt ++ et)) ++ us) g1 =
+    gives-roles n x y rs ((vt ++ (nt ++ et)) ++ us) is1 (rw append_assoc (variables_ahead (is_word (codes "role")) g1 vs vt ((nt ++ et) ++ us) turn_v refl refl)) in (
+      rt ++ (vt ++ (nt ++ et)),
+      s.spelled,
+      gives-after (read_roles (no_parts n)) _ rt (vt ++ (nt ++ et)) us g1 g e2
+          (gives-after (read_variables g1) _ vt (nt ++ et) us g2 g e3
+          (gives-after (read_nodes g2) _ nt et us g3 g e4 e5)),
+    )
   where
     variable_first : (v : Variable) (us : List Token) → SpellsVariable (graph_of n (x ∷ y ∷ rs) vs (m ∷ ns) es) v us → SpellsVariable (graph_of n (x ∷ y ∷ rs) [] [] []) v us
     variable_first v us h = record { order = h.order; writers = h.writers; spelled = h.spelled }
@@ -200,15 +195,45 @@ spelled-read bs n x y rs vs m ns es s =
     edge_first : (e : Edge) (us : List Token) → SpellsEdge (graph_of n (x ∷ y ∷ rs) vs (m ∷ ns) es) e us → SpellsEdge (graph_of n (x ∷ y ∷ rs) vs (m ∷ ns) []) e us
     edge_first e us h = record { written = h.written; read = h.read; writes = h.writes; reads = h.reads; spelled = h.spelled }
 
-    regroup : (a b c d e : List Token) → head_tokens n ++ (a ++ (b ++ (c ++ (d ++ e)))) ≡ (head_tokens n ++ (a ++ (b ++ (c ++ (d ++ []))))) ++ e
-    regroup a b c d e = simp (append_assoc, append-nil)
-
--- a graph that is spelled is read
-pub spells-read : (bs : List ℕ) (g : Graph) → SpellsGraph bs g → read bs ≡ Ok g
-spells-read bs g s = go g.name g.roles g.variables g.nodes g.edges s
+-- the statements of a graph are read
+pub gives-statements : (g : Graph) (ts us : List Token) → SpellsStatements g ts → head_is (is_word (codes "node")) us ≡ false → head_is (is_word (codes "edge")) us ≡ false
+    → (back : List Token) × (ts ≡ head_tokens g.name ++ back) × Gives (read_statements (no_parts g.name)) back us g
+gives-statements g ts us s no_node no_edge = go g.name g.roles g.variables g.nodes g.edges s
   where
-    go : (n : Name) (rs : List Name) (vs : List Variable) (ns : List Node) (es : List Edge) → SpellsGraph bs (graph_of n rs vs ns es) → read bs ≡ Ok (graph_of n rs vs ns es)
+    go : (n : Name) (rs : List Name) (vs : List Variable) (ns : List Node) (es : List Edge) → SpellsStatements (graph_of n rs vs ns es) ts
+        → (back : List Token) × (ts ≡ head_tokens n ++ back) × Gives (read_statements (no_parts n)) back us (graph_of n rs vs ns es)
     go n [] vs ns es s = absurd (omega (arith, s.two_roles))
     go n (x ∷ []) vs ns es s = absurd (omega (arith, s.two_roles))
     go n (x ∷ y ∷ rs) vs [] es s = absurd (omega (arith, s.has_node))
-    go n (x ∷ y ∷ rs) vs (m ∷ ns) es s = spelled-read bs n x y rs vs m ns es s
+    go n (x ∷ y ∷ rs) vs (m ∷ ns) es s = statements-read n x y rs vs m ns es ts us s no_node no_edge
+
+-- a text has the statements of its graph
+statements-of : (bs : List ℕ) (g : Graph) → SpellsGraph bs g → (ts : List Token) × SpellsStatements g ts × (bare (tokens bs) ≡ ts ++ End ∷ [])
+statements-of bs g s = (
+  head_tokens g.name ++ (flat_map role_tokens g.roles ++ (s.of_variables ++ (flat_map (node_tokens g) g.nodes ++ s.of_edges))),
+  record {
+    is_graph = s.is_graph;
+    two_roles = s.two_roles;
+    has_node = s.has_node;
+    of_variables = s.of_variables;
+    of_edges = s.of_edges;
+    variables = s.variables;
+    edges = s.edges;
+    spelled = refl;
+  },
+  s.spelled ∙ sym (regroup (head_tokens g.name) (flat_map role_tokens g.roles) s.of_variables (flat_map (node_tokens g) g.nodes) s.of_edges (End ∷ [])),
+)
+
+-- a graph that is spelled is read
+pub spells-read : (bs : List ℕ) (g : Graph) → SpellsGraph bs g → read bs ≡ Ok g
+spells-read bs g s =
+    let end : List Token = End ∷ [] in
+    let t = statements-of bs g s in
+    let r = gives-statements g t.0 end t.1 refl refl in
+    let free = name-middle [] g.name [] s.is_graph.named in
+    let last : Gives (after read_end (λ _. give g)) [] end g = gives-after read_end (λ _. give g) [] [] end tt g (gives-first is_end (give tt) _ [] end tt refl (gives-give tt end)) (gives-give g end) in
+    let behind : Gives (after (read_statements (no_parts g.name)) (λ g. after read_end λ _. give g)) (r.0 ++ []) end g = gives-after (read_statements (no_parts g.name)) _ r.0 [] end g g r.2 last in
+    let text : Gives read_text (head_tokens g.name ++ (r.0 ++ [])) end g = gives-after read_head _ (head_tokens g.name) (r.0 ++ []) end (no_parts g.name) g (gives-head g.name ((r.0 ++ []) ++ end) free.0) behind in
+    let spelled : bare (tokens bs) ≡ (head_tokens g.name ++ (r.0 ++ [])) ++ end = t.2 ∙ ap (λ l. l ++ end) (r.1 ∙ ap (λ l. head_tokens g.name ++ l) (sym (append-nil r.0))) in
+    let all = text.go (tokens bs) spelled in
+    ap whole all.2

@@ -1,11 +1,13 @@
 -- The tokens of a text: each word is a name, and the last is the only end or fault.
-use Rattle.std.proofs.Common.{◌≡◌, ℕ, suc, ◌+◌, ◌<◌, ◌≤◌, ◌==◌, nat_le, Bool, true, false, ◌&&◌, ◌||◌, List, [], ◌∷◌, length, take_while, refl, arith, if◌then◌else◌}
+use Rattle.std.proofs.Common.{◌≡◌, ℕ, suc, ◌+◌, ◌<◌, ◌≤◌, ◌==◌, nat_le, Bool, true, false, ◌&&◌, ◌||◌, List, [], ◌∷◌, map, length, codes, bytes_eq, take_while, refl, arith, if◌then◌else◌}
 use Rattle.std.proofs.lemmas.Bool.Decides.{nat_tests}
 use Rattle.sg_model.specs.Names.{is_letter, is_name_byte, is_name}
-use Rattle.sg_parse.specs.Tokens.{Part, goes_on, part_of, is_separator, is_last, leading, has_head, mark, begun, tokens_from, tokens, word_at, Apart}
+use Rattle.sg_parse.specs.Tokens.{Part, goes_on, part_of, is_separator, is_last, leading, kept, seen_as, all_seen_as, part_tokens, has_head, mark, begun, tokens_from, tokens, word_at, Apart}
 use Rattle.sg_parse.specs.declared.token.Placed.{Placed}
 use Rattle.sg_parse.specs.declared.token.Token.{Token}
-use Rattle.sg_parse.specs.declared.token.Token.TheVariants.{Word, Colon, Semicolon, Arrow, Long, Bad}
+use Rattle.sg_parse.specs.declared.token.Language.{Language}
+use Rattle.sg_parse.specs.declared.token.Language.TheVariants.{OfGraph, OfParts}
+use Rattle.sg_parse.specs.declared.token.Token.TheVariants.{Word, Colon, Semicolon, Arrow, Use, As, End, Long, Bad}
 use Rattle.sg_parse.proofs.Scanning.{word_is_name}
 
 -- a word is a name
@@ -65,3 +67,54 @@ sound-tokens_from before at (b ∷ bs) =
 -- the tokens of a text are sound
 pub sound-tokens : (bs : List ℕ) → Sound (tokens bs)
 sound-tokens bs = sound-tokens_from Apart 0 bs
+
+-- ---- as the language has them
+
+kept-spelled : (t : Token) → IsSpelled t → IsSpelled (kept t)
+kept-spelled (Word w) s = pick (bytes_eq w (codes "use")) (bytes_eq w (codes "as"))
+  where
+    pick : (a b : Bool) → IsSpelled (if a then Use else if b then As else Word w)
+    pick true b = tt
+    pick false true = tt
+    pick false false = s
+kept-spelled Colon s = tt
+kept-spelled Semicolon s = tt
+kept-spelled Arrow s = tt
+kept-spelled Use s = tt
+kept-spelled As s = tt
+kept-spelled End s = tt
+kept-spelled Long s = tt
+kept-spelled Bad s = tt
+
+kept-last : (t : Token) → is_last (kept t) ≡ is_last t
+kept-last (Word w) = pick (bytes_eq w (codes "use")) (bytes_eq w (codes "as"))
+  where
+    pick : (a b : Bool) → is_last (if a then Use else if b then As else Word w) ≡ false
+    pick true b = refl
+    pick false true = refl
+    pick false false = refl
+kept-last Colon = refl
+kept-last Semicolon = refl
+kept-last Arrow = refl
+kept-last Use = refl
+kept-last As = refl
+kept-last End = refl
+kept-last Long = refl
+kept-last Bad = refl
+
+sound-kept : (ps : List Placed) → Sound ps → Sound (map (seen_as OfParts) ps)
+sound-kept [] s = tt
+sound-kept (p ∷ ps) s = (kept-spelled p.token s.0, (λ e. rw (s.1 (rw kept-last at e)) refl), sound-kept ps s.2)
+
+-- the tokens of a text of parts are sound
+pub sound-part_tokens : (bs : List ℕ) → Sound (part_tokens bs)
+sound-part_tokens bs = sound-kept (tokens bs) (sound-tokens bs)
+
+-- a token and those behind it, as the language has them
+pub leading-seen : (language : Language) (p : Placed) (ps : List Placed) → all_seen_as language (leading p ps) ≡ leading (seen_as language p) (all_seen_as language ps)
+leading-seen OfGraph p ps = refl
+leading-seen OfParts p ps = rw (kept-last p.token) (pick (is_last p.token))
+  where
+    pick : (b : Bool) → (seen_as OfParts p) ∷ map (seen_as OfParts) (if b then [] else ps) ≡ (seen_as OfParts p) ∷ (if b then [] else map (seen_as OfParts) ps)
+    pick true = refl
+    pick false = refl

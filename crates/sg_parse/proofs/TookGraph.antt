@@ -4,13 +4,13 @@ use Rattle.sg_model.specs.Names.{Name}
 use Rattle.sg_protocol.specs.Graph.{Graph, IsGraph, Variable, Node, Edge}
 use Rattle.sg_graph.specs.Adding.{no_parts, with_role, with_variable, with_node, with_edge}
 use Rattle.sg_graph.proofs.Growth.{IsGraph-no_parts}
-use Rattle.sg_parse.specs.Grammar.{head_tokens, role_tokens, node_tokens, SpellsVariable, SpellsEdge, InTurn, Done, Then, SpellsGraph}
+use Rattle.sg_parse.specs.Grammar.{head_tokens, role_tokens, node_tokens, SpellsVariable, SpellsEdge, InTurn, Done, Then, SpellsStatements, SpellsGraph}
 use Rattle.sg_parse.specs.Tokens.{tokens, is_word, is_semicolon, is_end, is_last}
 use Rattle.sg_parse.specs.Reading as Reading
-use Rattle.sg_parse.specs.Reading.{Read, Reader, on, after, give, is_next, branch, token, name, read_role, read_variable, read_node, read_edge, read_head, read_roles, read_variables, read_nodes, read_edges, read_end, read_text, statement, up_to, whole, read}
+use Rattle.sg_parse.specs.Reading.{Read, Reader, on, after, give, is_next, branch, token, name, read_role, read_variable, read_node, read_edge, read_head, read_roles, read_variables, read_nodes, read_edges, read_end, read_statements, read_text, statement, up_to, whole, read}
 use Rattle.sg_parse.specs.declared.token.Placed.{Placed}
 use Rattle.sg_parse.specs.declared.token.Token.{Token}
-use Rattle.sg_parse.specs.declared.token.Token.TheVariants.{Word, Colon, Semicolon, Arrow, End, Long, Bad}
+use Rattle.sg_parse.specs.declared.token.Token.TheVariants.{Word, Colon, Semicolon, Arrow, Use, As, End, Long, Bad}
 use Rattle.sg_parse.specs.declared.fault.ParseFault.{ParseFault}
 use Rattle.sg_parse.proofs.Sound.{Sound, sound-tokens}
 use Rattle.sg_parse.proofs.Took.{Took, bare, ok_same, err_ok, on-inv, branch-inv, took-both, took-give, took-token, took-name, only-word, only-semicolon, only-end}
@@ -119,7 +119,7 @@ took-nodes g ps o is none s h =
     (all, omega arith)
 
 -- the end of the text
-took-end : (ps : List Placed) (o : Read (Unit {0})) → Sound ps → read_end ps ≡ Ok o → bare ps ≡ End ∷ []
+pub took-end : (ps : List Placed) (o : Read (Unit {0})) → Sound ps → read_end ps ≡ Ok o → bare ps ≡ End ∷ []
 took-end [] o s h = absurd (cc)
 took-end (p ∷ ps) o s h = pick (branch-inv is_end (give tt) Reading.refused (p ∷ ps) o h)
   where
@@ -128,6 +128,8 @@ took-end (p ∷ ps) o s h = pick (branch-inv is_end (give tt) Reading.refused (p
     last Colon h = absurd (cc)
     last Semicolon h = absurd (cc)
     last Arrow h = absurd (cc)
+    last Use h = absurd (cc)
+    last As h = absurd (cc)
     last End h = refl
     last Long h = absurd (cc)
     last Bad h = absurd (cc)
@@ -137,7 +139,7 @@ took-end (p ∷ ps) o s h = pick (branch-inv is_end (give tt) Reading.refused (p
     pick (inr (e, k)) = err_ok (Reading.refusal (p ∷ ps)) o k
 
 -- what was read as a whole
-whole-inv : (res : Result (Read Graph) ParseFault) (g : Graph) → whole res ≡ Ok g → (r : Read Graph) × (res ≡ Ok r) × (r.value ≡ g)
+pub whole-inv : {A : Type 0} (res : Result (Read A) ParseFault) (g : A) → whole res ≡ Ok g → (r : Read A) × (res ≡ Ok r) × (r.value ≡ g)
 whole-inv (Err e) g h = err_ok e g h
 whole-inv (Ok r) g h = (r, refl, ok_same r.value g h)
 
@@ -145,12 +147,16 @@ whole-inv (Ok r) g h = (r, refl, ok_same r.value g h)
 abbrev pub graph_of : Name → List Name → List Variable → List Node → List Edge → Graph
 graph_of n rs vs ns es = record { name = n; roles = rs; variables = vs; nodes = ns; edges = es }
 
+-- what follows the statements stands behind them all
+pub regroup : (h a b c d e : List Token) → (h ++ (a ++ (b ++ (c ++ d)))) ++ e ≡ h ++ (a ++ (b ++ (c ++ (d ++ e))))
+regroup h a b c d e = simp append_assoc
+
 -- a graph whose parts were read one after the other is spelled
-spells-parts : (bs : List ℕ) (n : Name) (a b c d e : Read Graph) → no_parts n ≡ a.value → Took (tokens bs) a (head_tokens n)
+spells-parts : (ps : List Placed) (n : Name) (a b c d e : Read Graph) → no_parts n ≡ a.value → Took ps a (head_tokens n)
     → (roles : Ran with_role SpellsRole a.value a.rest b) → 2 ≤ length roles.parts → Ran with_variable SpellsVariable b.value b.rest c
     → (nodes : Ran with_node SpellsNode c.value c.rest d) → 1 ≤ length nodes.parts → Ran with_edge SpellsEdge d.value d.rest e
-    → bare e.rest ≡ End ∷ [] → SpellsGraph bs e.value
-spells-parts bs n a b c d e e0 head roles two variables nodes one edges end =
+    → (ts : List Token) × SpellsStatements e.value ts × Took ps e ts × (n ≡ e.value.name)
+spells-parts ps n a b c d e e0 head roles two variables nodes one edges =
     let rs : List Name = roles.parts in
     let vs : List Variable = variables.parts in
     let ns : List Node = nodes.parts in
@@ -168,21 +174,29 @@ spells-parts bs n a b c d e e0 head roles two variables nodes one edges end =
     in_turn-map (SpellsVariable b.value) (SpellsVariable g) vs variables.tokens (λ x us s. variable_in x us (subst (λ k. SpellsVariable k x us) (sym e1) s)) variables.spells in
     let of_edges : InTurn (SpellsEdge g) es edges.tokens =
     in_turn-map (SpellsEdge d.value) (SpellsEdge g) es edges.tokens (λ x us s. edge_in x us (subst (λ k. SpellsEdge k x us) (sym e3) s)) edges.spells in
-    let all : bare (tokens bs) ≡ head_tokens n ++ (roles.tokens ++ (variables.tokens ++ (nodes.tokens ++ (edges.tokens ++ bare e.rest)))) =
+    let ts : List Token = head_tokens n ++ (flat_map role_tokens rs ++ (variables.tokens ++ (flat_map (node_tokens g) ns ++ edges.tokens))) in
+    let all : bare ps ≡ head_tokens n ++ (roles.tokens ++ (variables.tokens ++ (nodes.tokens ++ (edges.tokens ++ bare e.rest)))) =
     head.begins ∙ ap (λ l. head_tokens n ++ l) (roles.took.begins ∙ ap (λ l. roles.tokens ++ l) (variables.took.begins
     ∙ ap (λ l. variables.tokens ++ l) (nodes.took.begins ∙ ap (λ l. nodes.tokens ++ l) edges.took.begins))) in
-    let spelled : bare (tokens bs) ≡ head_tokens n ++ (flat_map role_tokens rs ++ (variables.tokens ++ (flat_map (node_tokens g) ns ++ (edges.tokens ++ End ∷ [])))) =
-    all ∙ rw (of_roles, of_nodes, end) refl in
-    subst (SpellsGraph bs) e4 (record {
-      is_graph = subst IsGraph (sym e4) edges.is_graph;
-      two_roles = two;
-      has_node = one;
-      of_variables = variables.tokens;
-      of_edges = edges.tokens;
-      variables = of_variables;
-      edges = of_edges;
-      spelled = spelled;
-    })
+    let all' : bare ps ≡ head_tokens n ++ (flat_map role_tokens rs ++ (variables.tokens ++ (flat_map (node_tokens g) ns ++ (edges.tokens ++ bare e.rest)))) =
+    all ∙ rw (of_roles, of_nodes) refl in (
+      ts,
+      subst (λ k. SpellsStatements k ts) e4 (record {
+        is_graph = subst IsGraph (sym e4) edges.is_graph;
+        two_roles = two;
+        has_node = one;
+        of_variables = variables.tokens;
+        of_edges = edges.tokens;
+        variables = of_variables;
+        edges = of_edges;
+        spelled = refl;
+      }),
+      record {
+        begins = all' ∙ sym (regroup (head_tokens n) (flat_map role_tokens rs) variables.tokens (flat_map (node_tokens g) ns) edges.tokens (bare e.rest));
+        sound = edges.took.sound;
+      },
+      ap (λ k. k.name) e4,
+    )
   where
     variable_in : (x : Variable) (us : List Token) → SpellsVariable (graph_of n roles.parts [] [] []) x us → SpellsVariable (graph_of n roles.parts variables.parts nodes.parts edges.parts) x us
     variable_in x us h = record { order = h.order; writers = h.writers; spelled = h.spelled }
@@ -200,30 +214,44 @@ variables_keep g xs h e = subst (λ k. (length k.nodes ≡ length g.nodes) × (l
 nodes_keep : (g : Graph) (xs : List Node) (h : Graph) → adds with_node g xs ≡ h → length h.edges ≡ length g.edges
 nodes_keep g xs h e = subst (λ k. length k.edges ≡ length g.edges) (sym (adds_nodes g xs) ∙ e) refl
 
--- the statements behind the roles
-read-behind : (bs : List ℕ) (n : Name) (a b : Read Graph) (w : Read Graph) → no_parts n ≡ a.value → Took (tokens bs) a (head_tokens n)
-    → (roles : Ran with_role SpellsRole a.value a.rest b) → 2 ≤ length roles.parts
-    → on (read_variables b.value b.rest) (λ g. after (read_nodes g) λ g. after (read_edges g) λ g. after read_end λ _. give g) ≡ Ok w → SpellsGraph bs w.value
-read-behind bs n a b w e0 head roles two h =
-    let keep = roles_keep a.value roles.parts b.value roles.value in
+-- the statements behind the graph's name
+pub took-statements : (ps : List Placed) (n : Name) (a w : Read Graph) → no_parts n ≡ a.value → IsGraph (no_parts n) → Took ps a (head_tokens n)
+    → read_statements a.value a.rest ≡ Ok w
+    → (ts : List Token) × SpellsStatements w.value ts × Took ps w ts × (n ≡ w.value.name)
+took-statements ps n a w e0 is head h =
+    let b = on-inv (read_roles a.value a.rest) _ w h in
+    let is₀ : IsGraph a.value = subst IsGraph e0 is in
+    let no_roles : length a.value.roles ≡ 0 = subst (λ k. length k.roles ≡ 0) e0 refl in
+    let r = took-roles a.value a.rest b.0 is₀ no_roles head.sound b.1 in
+    let roles = r.0 in
+    let keep = roles_keep a.value roles.parts (b.0).value roles.value in
     let none : (length a.value.variables ≡ 0) × (length a.value.nodes ≡ 0) × (length a.value.edges ≡ 0) =
     subst (λ k. (length k.variables ≡ 0) × (length k.nodes ≡ 0) × (length k.edges ≡ 0)) e0 (refl, refl, refl) in
-    let c = on-inv (read_variables b.value b.rest) _ w h in
-    let room : length b.value.variables + 32 ≤ 32 = omega (arith, keep.0, none.0) in
-    let variables = took-up_to with_variable SpellsVariable (codes "var") read_variable (λ g. length g.variables) 32 variable_grows variable_stays took-variable 32 b.value b.rest c.0 roles.is_graph room roles.took.sound c.1 in
-    let keep' = variables_keep b.value variables.parts (c.0).value variables.value in
+    let c = on-inv (read_variables (b.0).value (b.0).rest) _ w b.2 in
+    let room : length (b.0).value.variables + 32 ≤ 32 = omega (arith, keep.0, none.0) in
+    let variables = took-up_to with_variable SpellsVariable (codes "var") read_variable (λ g. length g.variables) 32 variable_grows variable_stays took-variable 32 (b.0).value (b.0).rest c.0 roles.is_graph room roles.took.sound c.1 in
+    let keep' = variables_keep (b.0).value variables.parts (c.0).value variables.value in
     let d = on-inv (read_nodes (c.0).value (c.0).rest) _ w c.2 in
     let no_nodes : length (c.0).value.nodes ≡ 0 = keep'.0 ∙ keep.1 ∙ none.1 in
     let nodes = took-nodes (c.0).value (c.0).rest d.0 variables.is_graph no_nodes variables.took.sound d.1 in
     let keep'' = nodes_keep (c.0).value (nodes.0).parts (d.0).value (nodes.0).value in
-    let e = on-inv (read_edges (d.0).value (d.0).rest) _ w d.2 in
     let no_edges : length (d.0).value.edges ≡ 0 = keep'' ∙ keep'.1 ∙ keep.2 ∙ none.2 in
     let room' : length (d.0).value.edges + 512 ≤ 512 = omega (arith, no_edges) in
-    let edges = took-up_to with_edge SpellsEdge (codes "edge") read_edge (λ g. length g.edges) 512 edge_grows edge_stays took-edge 512 (d.0).value (d.0).rest e.0 (nodes.0).is_graph room' ((nodes.0).took).sound e.1 in
-    let f = on-inv (read_end (e.0).rest) _ w e.2 in
-    let end = took-end (e.0).rest f.0 edges.took.sound f.1 in
-    let same : record { value = (e.0).value; rest = (f.0).rest } ≡ w = ok_same (record { value = (e.0).value; rest = (f.0).rest }) w f.2 in
-    subst (λ (o : Read Graph). SpellsGraph bs o.value) same (spells-parts bs n a b c.0 d.0 e.0 e0 head roles two variables nodes.0 nodes.1 edges end)
+    let edges = took-up_to with_edge SpellsEdge (codes "edge") read_edge (λ g. length g.edges) 512 edge_grows edge_stays took-edge 512 (d.0).value (d.0).rest w (nodes.0).is_graph room' ((nodes.0).took).sound d.2 in
+    spells-parts ps n a b.0 c.0 d.0 w e0 head roles r.1 variables nodes.0 nodes.1 edges
+
+-- the statements of a graph, and the end, are its text
+pub text-spelled : (bs : List ℕ) (g : Graph) (ts : List Token) → SpellsStatements g ts → bare (tokens bs) ≡ ts ++ End ∷ [] → SpellsGraph bs g
+text-spelled bs g ts s e = record {
+  is_graph = s.is_graph;
+  two_roles = s.two_roles;
+  has_node = s.has_node;
+  of_variables = s.of_variables;
+  of_edges = s.of_edges;
+  variables = s.variables;
+  edges = s.edges;
+  spelled = e ∙ ap (λ l. l ++ End ∷ []) s.spelled ∙ regroup (head_tokens g.name) (flat_map role_tokens g.roles) s.of_variables (flat_map (node_tokens g) g.nodes) s.of_edges (End ∷ []);
+}
 
 -- a graph that is read is spelled
 pub read-spells : (bs : List ℕ) (g : Graph) → read bs ≡ Ok g → SpellsGraph bs g
@@ -231,8 +259,10 @@ read-spells bs g h =
     let w = whole-inv (read_text (tokens bs)) g h in
     let a = on-inv (read_head (tokens bs)) _ w.0 w.1 in
     let head = took-head (tokens bs) a.0 (sound-tokens bs) a.1 in
-    let b = on-inv (read_roles (a.0).value (a.0).rest) _ w.0 a.2 in
-    let is₀ : IsGraph (a.0).value = subst IsGraph head.1 head.2 in
-    let no_roles : length (a.0).value.roles ≡ 0 = subst (λ k. length k.roles ≡ 0) head.1 refl in
-    let roles = took-roles (a.0).value (a.0).rest b.0 is₀ no_roles (head.3).sound b.1 in
-    subst (SpellsGraph bs) w.2 (read-behind bs head.0 a.0 b.0 w.0 head.1 head.3 roles.0 roles.1 b.2)
+    let b = on-inv (read_statements (a.0).value (a.0).rest) _ w.0 a.2 in
+    let t = took-statements (tokens bs) head.0 a.0 b.0 head.1 head.2 head.3 b.1 in
+    let f = on-inv (read_end (b.0).rest) _ w.0 b.2 in
+    let end = took-end (b.0).rest f.0 (t.2).sound f.1 in
+    let same : record { value = (b.0).value; rest = (f.0).rest } ≡ w.0 = ok_same (record { value = (b.0).value; rest = (f.0).rest }) w.0 f.2 in
+    let spelled : bare (tokens bs) ≡ t.0 ++ End ∷ [] = (t.2).begins ∙ ap (λ l. t.0 ++ l) end in
+    subst (SpellsGraph bs) (ap (λ (r : Read Graph). r.value) same ∙ w.2) (text-spelled bs (b.0).value t.0 t.1 spelled)

@@ -58,6 +58,17 @@ pub data InTurn {A : Type 0} (Spells : A → List Token → Type 0) : List A →
   Done : InTurn Spells [] []
   Then : {x : A} {xs : List A} {ts us : List Token} → Spells x ts → InTurn Spells xs us → InTurn Spells (x ∷ xs) (ts ++ us)
 
+-- the tokens are the statements of a graph that has two roles and a node
+pub record SpellsStatements (g : Graph) (ts : List Token) : Type 0 where
+  pub is_graph : IsGraph g
+  pub two_roles : 2 ≤ length g.roles
+  pub has_node : 1 ≤ length g.nodes
+  pub of_variables : List Token
+  pub of_edges : List Token
+  pub variables : InTurn (SpellsVariable g) g.variables of_variables
+  pub edges : InTurn (SpellsEdge g) g.edges of_edges
+  pub spelled : ts ≡ head_tokens g.name ++ (flat_map role_tokens g.roles ++ (of_variables ++ (flat_map (node_tokens g) g.nodes ++ of_edges)))
+
 -- the bytes are a text of the graph: it has two roles and a node, and their tokens are its statements, and the end
 pub record SpellsGraph (bs : List ℕ) (g : Graph) : Type 0 where
   pub is_graph : IsGraph g

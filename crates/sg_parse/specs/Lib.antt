@@ -1,4 +1,7 @@
 pub mod Grammar
 pub mod Owed
+pub mod Parts
+pub mod PartsGrammar
+pub mod PartsReading
 pub mod Reading
 pub mod Tokens

@@ -228,14 +228,19 @@ read_head =
 abbrev pub read_end : Reader (Unit {0})
 read_end = branch is_end (give tt) refused
 
+-- the statements behind the graph's name
+abbrev pub read_statements : Graph → Reader Graph
+read_statements g =
+    after (read_roles g) λ g.
+    after (read_variables g) λ g.
+    after (read_nodes g) λ g.
+    read_edges g
+
 -- all statements, and the end
 abbrev pub read_text : Reader Graph
 read_text =
     after read_head λ g.
-    after (read_roles g) λ g.
-    after (read_variables g) λ g.
-    after (read_nodes g) λ g.
-    after (read_edges g) λ g.
+    after (read_statements g) λ g.
     after read_end λ _.
     give g
 

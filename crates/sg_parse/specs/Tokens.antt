@@ -1,10 +1,12 @@
 -- The tokens of a graph text, each with its offset.
-use Rattle.std.specs.Prelude.{ℕ, suc, ◌+◌, ◌==◌, nat_le, Bool, true, false, not, ◌&&◌, ◌||◌, if◌then◌else◌, List, [], ◌∷◌, length, take_while, bytes_eq}
+use Rattle.std.specs.Prelude.{ℕ, suc, ◌+◌, ◌==◌, nat_le, Bool, true, false, not, ◌&&◌, ◌||◌, if◌then◌else◌, List, [], ◌∷◌, map, length, codes, take_while, bytes_eq}
 use Rattle.sg_model.specs.Lists.{has_text}
 use Rattle.sg_model.specs.Names.{is_letter, is_name_byte, reserved}
 use Rattle.sg_parse.specs.declared.token.Token.{Token}
-use Rattle.sg_parse.specs.declared.token.Token.TheVariants.{Word, Colon, Semicolon, Arrow, End, Long, Bad}
+use Rattle.sg_parse.specs.declared.token.Token.TheVariants.{Word, Colon, Semicolon, Arrow, Use, As, End, Long, Bad}
 use Rattle.sg_parse.specs.declared.token.Placed.{Placed}
+use Rattle.sg_parse.specs.declared.token.Language.{Language}
+use Rattle.sg_parse.specs.declared.token.Language.TheVariants.{OfGraph, OfParts}
 
 -- a space, a tab, a carriage return or a line end
 abbrev pub is_separator : ℕ → Bool
@@ -68,6 +70,27 @@ tokens_from before at (b ∷ bs) =
 abbrev pub tokens : List ℕ → List Placed
 tokens bs = tokens_from Apart 0 bs
 
+-- ---- the words that a text of parts keeps besides
+
+-- `use` and `as` are no names where parts are spelled
+abbrev pub kept : Token → Token
+kept (Word w) = if bytes_eq w (codes "use") then Use else if bytes_eq w (codes "as") then As else Word w
+kept t = t
+
+-- a token of a text, as its language has it
+abbrev pub seen_as : Language → Placed → Placed
+seen_as OfGraph p = p
+seen_as OfParts p = record { token = kept p.token; at = p.at }
+
+-- the tokens of a text, as its language has them
+abbrev pub all_seen_as : Language → List Placed → List Placed
+all_seen_as OfGraph ps = ps
+all_seen_as OfParts ps = map (seen_as OfParts) ps
+
+-- the tokens of a text of parts
+abbrev pub part_tokens : List ℕ → List Placed
+part_tokens bs = all_seen_as OfParts (tokens bs)
+
 -- ---- which token it is
 
 -- this word
@@ -94,6 +117,16 @@ is_semicolon t = false
 abbrev pub is_arrow : Token → Bool
 is_arrow Arrow = true
 is_arrow t = false
+
+-- `use`
+abbrev pub is_use : Token → Bool
+is_use Use = true
+is_use t = false
+
+-- `as`
+abbrev pub is_as : Token → Bool
+is_as As = true
+is_as t = false
 
 -- the end of the text
 abbrev pub is_end : Token → Bool

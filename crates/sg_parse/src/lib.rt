@@ -15,20 +15,34 @@
 //! After `by` and after a node's `:` stand roles; an edge has its label, source, target and variables. A name is declared before it is
 //! used, once in its kind, and a list names each role or variable once. There are at most 16 roles, 32 variables, 256 nodes and 512
 //! edges, numbered from 0 in the order of their statements. The fault is that of the first wrong token from the left.
+//!
+//! A text of parts is one or more graph texts, one after the other. In each of them uses may follow the edges: a part that stands before
+//! is put between two nodes, and the roles after `as` play the roles of this part. The words `use` and `as` are no names there.
+//!
+//! ```text
+//! use = "use" name ":" name name "->" name "as" name {name} ";"
+//! ```
 #![tactic(auto)]
 
 mod edge;
 mod fault;
 mod name;
+mod name_set;
 mod node;
+mod part;
+mod part_list;
+mod parts;
 mod role;
 mod scan;
 mod scanner;
 mod text;
 mod token;
+mod uses;
 mod variable;
 
 pub use fault::ParseFault;
+pub use part::{Part, Use};
+pub use parts::{parse_parts, part_readings_are_spelled};
 pub use text::{canonical_texts_are_read, parse_graph, readings_are_spelled};
 
 #[cfg(test)]

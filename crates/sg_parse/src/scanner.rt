@@ -4,11 +4,11 @@ ghost use Rattle.sg_model.specs.Lists.{has_text};
 ghost use Rattle.sg_model.specs.Names.{reserved};
 ghost use Rattle.sg_parse.specs.Owed.{Reads};
 ghost use Rattle.sg_parse.specs.Reading.{is_next, skip, token, name, refusal, no_more, read_end};
-ghost use Rattle.sg_parse.specs.Tokens.{tokens, is_word, is_named, is_colon, is_semicolon, is_arrow, is_last};
+ghost use Rattle.sg_parse.specs.Tokens.{tokens, all_seen_as, is_word, is_named, is_colon, is_semicolon, is_arrow, is_use, is_as, is_last};
 
 use crate::fault::ParseFault;
 use crate::scan::scan;
-use crate::token::{self, Placed, Token};
+use crate::token::{self, Language, Placed, Token};
 use sg_base::Name;
 use std::marker::Model;
 
@@ -19,27 +19,34 @@ pub struct Scanner<'a> {
     // Where the next token ends.
     end: usize,
     next: Placed,
+    language: Language,
 }
 
 impl<'a> Model for Scanner<'a> {
     ghost use Rattle.std.specs.Prelude.{◌≤◌, List, drop, length};
-    ghost use Rattle.sg_parse.specs.Tokens.{tokens_from, leading, Part};
+    ghost use Rattle.sg_parse.specs.Tokens.{tokens_from, leading, all_seen_as, Part};
     ghost use Rattle.sg_parse.specs.declared.token.Placed.{Placed};
 
     ghost Value = { List Placed };
 
-    ghost view = { λ s. leading s.next (tokens_from Part.Apart s.end (drop s.end s.bytes.now)) };
+    ghost view = { λ s. leading s.next (all_seen_as s.language (tokens_from Part.Apart s.end (drop s.end s.bytes.now))) };
 
     ghost invariant = { λ s. s.end ≤ length s.bytes.now };
 }
 
 impl<'a> Scanner<'a> {
     // All tokens of a text.
-    pub fn new(bytes: &'a [u8]) -> Scanner<'a>
-        ensures { result ≡ tokens bytes.now }
+    pub fn new(language: Language, bytes: &'a [u8]) -> Scanner<'a>
+        ensures { result ≡ all_seen_as language (tokens bytes.now) }
     {
-        let (next, end) = scan(bytes, 0);
-        Scanner { bytes, end, next }
+        let (placed, end) = scan(bytes, 0);
+        let next = token::seen_as(language, placed);
+        Scanner {
+            bytes,
+            end,
+            next,
+            language,
+        }
     }
 
     // The next token is this word.
@@ -61,8 +68,8 @@ impl<'a> Scanner<'a> {
         requires { is_next is_last self.old ≡ false }
         ensures { skip self.old ≡ Ok (record { value = tt; rest = self.new }) }
     {
-        let (next, end) = scan(self.bytes, self.end);
-        self.next = next;
+        let (placed, end) = scan(self.bytes, self.end);
+        self.next = token::seen_as(self.language, placed);
         self.end = end;
     }
 
@@ -93,6 +100,35 @@ impl<'a> Scanner<'a> {
         ensures { Reads (token is_semicolon) self.old self.new result }
     {
         if !matches!(self.next.token, Token::Semicolon) {
+            return Err(self.refusal());
+        }
+        self.skip();
+        Ok(())
+    }
+
+    // The word `use` is next.
+    pub fn at_use(&self) -> bool
+        ensures { result ≡ is_next is_use self.now }
+    {
+        matches!(self.next.token, Token::Use)
+    }
+
+    // The word `use`.
+    pub fn use_word(&mut self) -> Result<(), ParseFault>
+        ensures { Reads (token is_use) self.old self.new result }
+    {
+        if !matches!(self.next.token, Token::Use) {
+            return Err(self.refusal());
+        }
+        self.skip();
+        Ok(())
+    }
+
+    // The word `as`.
+    pub fn as_word(&mut self) -> Result<(), ParseFault>
+        ensures { Reads (token is_as) self.old self.new result }
+    {
+        if !matches!(self.next.token, Token::As) {
             return Err(self.refusal());
         }
         self.skip();

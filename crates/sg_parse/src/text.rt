@@ -2,14 +2,15 @@
 ghost use Rattle.std.specs.Prelude.{◌≡◌, ◌≤◌, ◌↔◌, ℕ, List, length, Ok, MatchResult, IfOk};
 ghost use Rattle.sg_protocol.specs.Graph.{Graph, IsGraph, canonical};
 ghost use Rattle.sg_parse.specs.Grammar.{SpellsGraph};
-ghost use Rattle.sg_parse.specs.Owed.{Reads, Refuses};
-ghost use Rattle.sg_parse.specs.Reading.{read, read_text, read_head};
+ghost use Rattle.sg_parse.specs.Owed.{Reads, ReadsInto, Refuses};
+ghost use Rattle.sg_parse.specs.Reading.{read, read_text, read_head, read_statements};
 
 use crate::edge::read_edges;
 use crate::fault::ParseFault;
 use crate::node::read_nodes;
 use crate::role::read_roles;
 use crate::scanner::Scanner;
+use crate::token::Language;
 use crate::variable::read_vars;
 use sg_graph::Graph;
 use std::alloc::Global;
@@ -31,7 +32,7 @@ pub fn parse_graph(alloc: Global, bytes: &[u8]) -> Result<Graph, ParseFault>
 fn read_whole(alloc: Global, bytes: &[u8]) -> Result<Graph, ParseFault>
     ensures { MatchResult result (λ g. read bytes.now ≡ Ok g) (Refuses (read bytes.now)) }
 {
-    let mut scanner = Scanner::new(bytes);
+    let mut scanner = Scanner::new(Language::OfGraph, bytes);
     read_text(alloc, &mut scanner)
 }
 
@@ -40,12 +41,23 @@ fn read_text(alloc: Global, scanner: &mut Scanner) -> Result<Graph, ParseFault>
     ensures { Reads read_text scanner.old scanner.new result }
 {
     let mut graph = read_head(alloc, scanner)?;
-    read_roles(scanner, &mut graph)?;
-    read_vars(scanner, &mut graph)?;
-    read_nodes(scanner, &mut graph)?;
-    read_edges(scanner, &mut graph)?;
+    read_statements(scanner, &mut graph)?;
     scanner.end()?;
     Ok(graph)
+}
+
+/// The statements behind a graph's name, where the graph has no parts yet.
+pub fn read_statements(scanner: &mut Scanner, graph: &mut Graph) -> Result<(), ParseFault>
+    requires roles { length graph.old.roles ≡ 0 }
+    requires variables { length graph.old.variables ≡ 0 }
+    requires nodes { length graph.old.nodes ≡ 0 }
+    requires edges { length graph.old.edges ≡ 0 }
+    ensures { ReadsInto (read_statements graph.old) scanner.old scanner.new graph.new result }
+{
+    read_roles(scanner, graph)?;
+    read_vars(scanner, graph)?;
+    read_nodes(scanner, graph)?;
+    read_edges(scanner, graph)
 }
 
 // The graph's name.

@@ -3,7 +3,7 @@ ghost use Rattle.std.specs.Prelude.{◌≡◌, false, is_some, IfSome};
 ghost use Rattle.sg_model.specs.Lists.{has_text};
 ghost use Rattle.sg_model.specs.Names.{reserved};
 ghost use Rattle.sg_parse.specs.Reading.{refusal_of};
-ghost use Rattle.sg_parse.specs.Tokens.{is_word, is_named, text_of};
+ghost use Rattle.sg_parse.specs.Tokens.{is_word, is_named, kept, seen_as, text_of};
 
 use crate::fault::ParseFault;
 use sg_base::Name;
@@ -16,6 +16,9 @@ pub enum Token {
     Colon,
     Semicolon,
     Arrow,
+    // The words that a text of parts keeps besides.
+    Use,
+    As,
     End,
     // A word of more than 32 bytes, at its 33rd.
     Long,
@@ -23,11 +26,43 @@ pub enum Token {
     Bad,
 }
 
+// Which texts have the token: a text of parts keeps the words `use` and `as` besides.
+#[derive(Debug, Clone, Copy)]
+pub enum Language {
+    OfGraph,
+    OfParts,
+}
+
 // A token and its offset in bytes.
 #[derive(Debug, Clone, Copy)]
 pub struct Placed {
     pub token: Token,
     pub at: usize,
+}
+
+// The token as the language has it.
+pub fn seen_as(language: Language, placed: Placed) -> Placed
+    ensures { result ≡ seen_as language placed }
+{
+    match language {
+        Language::OfGraph => placed,
+        Language::OfParts => Placed {
+            token: kept(placed.token),
+            at: placed.at,
+        },
+    }
+}
+
+fn kept(token: Token) -> Token
+    ensures { result ≡ kept token }
+{
+    if is_word(&token, b"use") {
+        return Token::Use;
+    }
+    if is_word(&token, b"as") {
+        return Token::As;
+    }
+    token
 }
 
 // The token is this word.
