@@ -1,1 +1,4 @@
+pub mod Ends
+pub mod Joining
+pub mod Keeps
 pub mod Split

@@ -1,15 +1,15 @@
 -- The walks of a graph into which others are put, by one step after another.
-use Rattle.std.proofs.Common.{◌≡◌, ◌≢◌, ℕ, zero, suc, ◌+◌, ◌-◌, ◌<◌, ◌≤◌, ◌==◌, nat_lt, Bool, true, false, ◌⊎◌, inl, inr, List, [], ◌∷◌, ◌++◌, map, length, Option, Some, None, refl, sym, ap, subst, ◌∙◌, arith, append_assoc, if◌then◌else◌}
+use Rattle.std.proofs.Common.{◌≡◌, ◌≢◌, ℕ, ◌+◌, ◌<◌, ◌≤◌, ◌==◌, true, false, ◌⊎◌, inl, inr, List, [], ◌∷◌, ◌++◌, length, Option, Some, None, refl, sym, ap, subst, ◌∙◌, arith, append_assoc}
 use Rattle.std.specs.Prelude.{All, Contains}
 use Rattle.std.proofs.lemmas.Bool.Decides.{nat_tests}
 use Rattle.std.proofs.lemmas.List.{length-map}
 use Rattle.std.proofs.lemmas.List.Elements.{All-contains}
 use Rattle.sg_model.specs.Shape.{Shape, Walk, source, target}
 use Rattle.sg_model.specs.Shape as Shapes
-use Rattle.sg_protocol.specs.Graph.{Graph, Edge, shape}
+use Rattle.sg_protocol.specs.Graph.{Edge, shape}
 use Rattle.sg_graph.proofs.Found.{cases_of}
 use Rattle.sg_compose.specs.Expansion.{end_of, stands}
-use Rattle.sg_compose.specs.Walks.{Inset, renamed, IsComplete, IsUnfinished, Filled, Here, Along, Through}
+use Rattle.sg_compose.specs.Walks.{Inset, renamed, IsComplete, Pending, Filled, Here, Along, Through}
 
 -- the node at which the graph that is put in ends
 abbrev pub or_zero : Option ℕ → ℕ
@@ -50,19 +50,9 @@ pub record Joins (h g : Shape) (N : ℕ) (is : List Inset) (owner : ℕ → Inse
   pub own : (e : ℕ) → e < length g.edges → (e < length h.edges) × (source h e ≡ source g e) × (target h e ≡ target g e) × (source g e < N) × (target g e < N)
   pub every : (l : ℕ) → l < length h.edges → (l < length g.edges) ⊎ ((i : Inset) × Contains is i × (e : ℕ) × (e < length i.inner.edges) × (l ≡ i.edges + e))
 
--- a filled walk from m to where a use begins, then an unfinished walk of what is put in
-pub record PendsFrom (g : Shape) (is : List Inset) (m : ℕ) (w : List ℕ) : Type 0 where
-  pub front : List ℕ
-  pub put : Inset
-  pub there : Contains is put
-  pub filled : Filled g is m front put.from
-  pub inner : List ℕ
-  pub unfinished : IsUnfinished put.inner inner
-  pub joined : w ≡ front ++ renamed put inner
-
 -- a walk from m is filled or pends
 abbrev pub Splits : Shape → List Inset → ℕ → List ℕ → Type 0
-Splits g is m w = ((n : ℕ) × Filled g is m w n) ⊎ PendsFrom g is m w
+Splits g is m w = ((n : ℕ) × Filled g is m w n) ⊎ Pending g is m w
 
 -- equal numbers, or not
 same_or_not : (x y : ℕ) → (x ≡ y) ⊎ (x ≢ y)
@@ -251,7 +241,7 @@ module _ (h g : Shape) (N : ℕ) (is : List Inset) (owner : ℕ → Inset × ℕ
       )
 
   -- so is one that pends
-  pub pending-walks : (m : ℕ) (w : List ℕ) → m < N → PendsFrom g is m w → Walk h m w
+  pub pending-walks : (m : ℕ) (w : List ℕ) → m < N → Pending g is m w → Walk h m w
   pending-walks m w lt p =
       let first = filled-walks m p.front p.put.from lt p.filled in
       let back = put-walk p.put p.there 0 p.inner p.unfinished.walk in

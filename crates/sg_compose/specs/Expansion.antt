@@ -55,23 +55,35 @@ stands count from to m x = if x == 0 then from else if x == m then to else count
 abbrev pub rising : ℕ → List ℕ → List ℕ
 rising width ns = filter (λ x. is_in x ns) (below width)
 
--- the variables that are added
-abbrev pub new_variables : Graph → Use → List Variable
-new_variables inner u = map (λ v. record { name = inner_name u v.name; kind = v.kind; writers = rising 16 (map (player u) v.writers) }) inner.variables
+-- a variable that is added
+abbrev pub new_variable : Use → Variable → Variable
+new_variable u v = record { name = inner_name u v.name; kind = v.kind; writers = rising 16 (map (player u) v.writers) }
 
--- the nodes that are added
-abbrev pub new_nodes : Graph → Use → ℕ → List Node
-new_nodes inner u m = map (λ x. record { name = inner_name u (node_name inner x); role = player u (role_at (shape inner) x) }) (inside inner m)
+-- the node that is added for a node x
+abbrev pub new_node : Graph → Use → ℕ → Node
+new_node inner u x = record { name = inner_name u (node_name inner x); role = player u (role_at (shape inner) x) }
 
--- the edges that are added
-abbrev pub new_edges : Graph → Graph → Use → ℕ → List Edge
-new_edges g inner u m = map (λ e. record {
+-- an edge that is added
+abbrev pub new_edge : Graph → Use → ℕ → Edge → Edge
+new_edge g u m e = record {
   name = inner_name u e.name;
   source = stands (length g.nodes) u.from u.to m e.source;
   target = stands (length g.nodes) u.from u.to m e.target;
   writes = rising 32 (map (λ x. length g.variables + x) e.writes);
   reads = rising 32 (map (λ x. length g.variables + x) e.reads);
-}) inner.edges
+}
+
+-- the variables that are added
+abbrev pub new_variables : Graph → Use → List Variable
+new_variables inner u = map (new_variable u) inner.variables
+
+-- the nodes that are added
+abbrev pub new_nodes : Graph → Use → ℕ → List Node
+new_nodes inner u m = map (new_node inner u) (inside inner m)
+
+-- the edges that are added
+abbrev pub new_edges : Graph → Graph → Use → ℕ → List Edge
+new_edges g inner u m = map (new_edge g u m) inner.edges
 
 -- the graph with what the use adds, behind all that is there
 abbrev pub with_use : Graph → Graph → Use → ℕ → Graph
@@ -93,12 +105,12 @@ is_long n = nat_lt 32 (length n)
 
 -- a new name is too long
 abbrev pub has_long : Graph → Use → ℕ → Bool
-has_long inner u m = list_any (λ v. is_long v.name) (new_variables inner u) || list_any (λ n. is_long n.name) (new_nodes inner u m)
+has_long inner u m = list_any (λ v. is_long (inner_name u v.name)) inner.variables || list_any (λ x. is_long (inner_name u (node_name inner x))) (inside inner m)
     || list_any (λ e. is_long (inner_name u e.name)) inner.edges
 
 -- a new name is there in its kind
 abbrev pub clashes : Graph → Graph → Use → ℕ → Bool
-clashes g inner u m = list_any (λ v. has_text v.name (variable_names g)) (new_variables inner u) || list_any (λ n. has_text n.name (node_names g)) (new_nodes inner u m)
+clashes g inner u m = list_any (λ v. has_text (inner_name u v.name) (variable_names g)) inner.variables || list_any (λ x. has_text (inner_name u (node_name inner x)) (node_names g)) (inside inner m)
     || list_any (λ e. has_text (inner_name u e.name) (edge_names g)) inner.edges
 
 -- there would be more variables, nodes or edges than a graph has

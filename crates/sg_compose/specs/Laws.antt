@@ -1,5 +1,5 @@
 -- The law on walks, at each level: of each part, and so of the parts that are used in it.
-use Rattle.std.specs.Prelude.{◌≡◌, ℕ, ◌<◌, List, [], length, get_or, take, Ok, Some, slice_get}
+use Rattle.std.specs.Prelude.{◌≡◌, ℕ, List, [], take, Ok, Some, slice_get}
 use Rattle.sg_protocol.specs.Graph.{Graph}
 use Rattle.sg_parse.specs.Parts.{Part, AreParts}
 use Rattle.sg_compose.specs.Expansion.{expansions, graph_at}

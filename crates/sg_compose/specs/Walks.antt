@@ -49,17 +49,17 @@ pub data Filled (g : Shape) (is : List Inset) : ℕ → List ℕ → ℕ → Typ
   Along : {e n : ℕ} {w : List ℕ} → e < length g.edges → Filled g is (target g e) w n → Filled g is (source g e) (e ∷ w) n
   Through : {i : Inset} {v w : List ℕ} {n : ℕ} → Contains is i → IsComplete i.inner v → Filled g is i.to w n → Filled g is i.from (renamed i v ++ w) n
 
--- a filled walk to where a use begins, then an unfinished walk of what is put in
-pub record Pending (g : Shape) (is : List Inset) (w : List ℕ) : Type 0 where
+-- a filled walk from m to where a use begins, then an unfinished walk of what is put in
+pub record Pending (g : Shape) (is : List Inset) (m : ℕ) (w : List ℕ) : Type 0 where
   pub front : List ℕ
   pub put : Inset
   pub there : Contains is put
-  pub filled : Filled g is 0 front put.from
+  pub filled : Filled g is m front put.from
   pub inner : List ℕ
   pub unfinished : IsUnfinished put.inner inner
   pub joined : w ≡ front ++ renamed put inner
 
 -- the initial walks of the expansion h of a part, where the parts before it expand to these graphs: the filled walks, which end at the part's own nodes, and the pending ones
 pub record HasWalks (graphs : List Graph) (p : Part) (h : Graph) : Type 0 where
-  pub walks : (w : List ℕ) → Walk (shape h) 0 w ↔ (((n : ℕ) × Filled (shape p.graph) (insets_of graphs p) 0 w n) ⊎ Pending (shape p.graph) (insets_of graphs p) w)
+  pub walks : (w : List ℕ) → Walk (shape h) 0 w ↔ (((n : ℕ) × Filled (shape p.graph) (insets_of graphs p) 0 w n) ⊎ Pending (shape p.graph) (insets_of graphs p) 0 w)
   pub ends : (w : List ℕ) (n : ℕ) → Filled (shape p.graph) (insets_of graphs p) 0 w n → (Shapes.end_of (shape h) 0 w ≡ n) × (n < length p.graph.nodes)

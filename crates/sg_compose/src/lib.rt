@@ -8,5 +8,7 @@
 #![tactic(auto)]
 
 mod fault;
+mod laws;
 
 pub use fault::ComposeFault;
+pub use laws::expansions_keep_walks;

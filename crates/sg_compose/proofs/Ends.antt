@@ -1,0 +1,116 @@
+-- What the end of a graph that can be used says of its edges, and how many of its nodes are added.
+use Rattle.std.proofs.Common.{◌≡◌, ◌≢◌, ℕ, zero, suc, ◌+◌, ◌-◌, ◌<◌, ◌≤◌, ◌==◌, nat_le, nat_lt, not, Bool, true, false, ◌&&◌, ◌||◌, inl, inr, List, [], ◌∷◌, filter, length, get_or, Some, None, refl, sym, ap, subst, ◌∙◌, arith, if◌then◌else◌}
+use Rattle.std.specs.List.{list_any}
+use Rattle.std.proofs.lemmas.Bool.{eq-eqb}
+use Rattle.std.proofs.lemmas.Bool.Decides.{nat_tests}
+use Rattle.std.proofs.lemmas.List.{get_or-map}
+use Rattle.sg_base.proofs.SetLaws.{is_in-filter}
+use Rattle.sg_model.specs.Lists.{below, range_from, is_in}
+use Rattle.sg_model.specs.Shape.{Shape, source, target}
+use Rattle.sg_model.specs.Shape as Shapes
+use Rattle.sg_protocol.specs.Graph.{Graph, shape}
+use Rattle.sg_graph.specs.Parts.{edge_at}
+use Rattle.sg_graph.proofs.Found.{cases_of}
+use Rattle.sg_graph.proofs.Growth.{both}
+use Rattle.sg_compose.specs.Expansion.{is_entered, is_final, finals, sole, end_of, inside}
+use Rattle.sg_compose.proofs.Split.{arrow_of}
+
+-- none passes, so the one at a place doesn't
+none-at : {A : Type 0} (p : A → Bool) (xs : List A) (k : ℕ) (d : A) → list_any p xs ≡ false → k < length xs → p (get_or xs k d) ≡ false
+none-at p [] k d h l = absurd (omega arith)
+none-at p (x ∷ xs) zero d h l = left (p x) (list_any p xs) h
+  where
+    left : (a b : Bool) → (a || b) ≡ false → a ≡ false
+    left true b h = absurd (cc)
+    left false b h = refl
+none-at p (x ∷ xs) (suc k) d h l = none-at p xs k d (right (p x) (list_any p xs) h) (omega (arith, l))
+  where
+    right : (a b : Bool) → (a || b) ≡ false → b ≡ false
+    right true b h = absurd (cc)
+    right false b h = h
+
+-- the source and the target of an edge
+pub source-at : (g : Graph) (e : ℕ) → e < length g.edges → source (shape g) e ≡ (edge_at g e).source
+source-at g e l = ap (λ (a : Shapes.Arrow). a.source) (get_or-map arrow_of g.edges e (record { name = []; source = 0; target = 0; writes = []; reads = [] }) _ l)
+
+pub target-at : (g : Graph) (e : ℕ) → e < length g.edges → target (shape g) e ≡ (edge_at g e).target
+target-at g e l = ap (λ (a : Shapes.Arrow). a.target) (get_or-map arrow_of g.edges e (record { name = []; source = 0; target = 0; writes = []; reads = [] }) _ l)
+
+-- a graph that can be used ends so
+pub record EndsAt (g : Graph) (m : ℕ) : Type 0 where
+  pub late : m ≢ 0
+  pub there : m < length g.nodes
+  pub not_entered : (e : ℕ) → e < length g.edges → target (shape g) e ≢ 0
+  pub not_left : (e : ℕ) → e < length g.edges → source (shape g) e ≢ m
+
+sole-one : (ns : List ℕ) (m : ℕ) → sole ns ≡ Some m → (ns ≡ m ∷ []) × (m ≢ 0)
+sole-one [] m h = absurd (cc)
+sole-one (zero ∷ []) m h = absurd (cc)
+sole-one (zero ∷ n ∷ ns) m h = absurd (cc)
+sole-one (suc k ∷ []) m h = (let same : suc k ≡ m = cc in (ap (λ x. x ∷ []) same, subst (λ x. x ≢ 0) same (λ e. absurd (omega (arith, e)))))
+sole-one (suc k ∷ n ∷ ns) m h = absurd (cc)
+
+pub ends-at : (g : Graph) (m : ℕ) → end_of g ≡ Some m → EndsAt g m
+ends-at g m h = pick (is_entered g) refl h
+  where
+    pick : (b : Bool) → is_entered g ≡ b → (if b then None else sole (finals g)) ≡ Some m → EndsAt g m
+    pick true e h = absurd (cc)
+    pick false e h =
+        let one = sole-one (finals g) m h in
+        let yes : (m == m) ≡ true = eq-eqb m m refl in
+        let listed : is_in m (finals g) ≡ true = ap (is_in m) one.0 ∙ rw yes refl in
+        let parts = both (nat_le 0 m && nat_lt m (0 + length g.nodes)) (is_final g m) (sym (is_in-filter (is_final g) 0 (length g.nodes) m) ∙ listed) in
+        let within = both (nat_le 0 m) (nat_lt m (0 + length g.nodes)) parts.0 in
+        let below' : m < length g.nodes = grind (arith, nat_tests, within.1) in
+        record {
+          late = one.1;
+          there = below';
+          not_entered = λ k l z. (let no = none-at (λ e. e.target == 0) g.edges k (record { name = []; source = 0; target = 0; writes = []; reads = [] }) e l in
+              let same : (edge_at g k).target ≡ 0 = sym (target-at g k l) ∙ z in let yes : ((edge_at g k).target == 0) ≡ true = eq-eqb (edge_at g k).target 0 same in absurd (cc));
+          not_left = λ k l z. (let no = none-at (λ e. e.source == m) g.edges k (record { name = []; source = 0; target = 0; writes = []; reads = [] }) (not-true (list_any (λ e. e.source == m) g.edges) parts.1) l in
+              let same : (edge_at g k).source ≡ m = sym (source-at g k l) ∙ z in let yes : ((edge_at g k).source == m) ≡ true = eq-eqb (edge_at g k).source m same in absurd (cc));
+        }
+      where
+        not-true : (b : Bool) → not b ≡ true → b ≡ false
+        not-true true h = absurd (cc)
+        not-true false h = refl
+
+-- ---- how many nodes are added
+
+abbrev is_inside : ℕ → ℕ → Bool
+is_inside m x = not (x == 0) && not (x == m)
+
+kept-at : (m a : ℕ) → a ≢ 0 → a ≢ m → is_inside m a ≡ true
+kept-at m a x y = grind (arith, nat_tests, x, y)
+
+none-left : (m a k : ℕ) → a ≢ 0 → m < a → length (filter (is_inside m) (range_from a k)) ≡ k
+none-left m a zero x l = refl
+none-left m a (suc k) x l =
+    let keep = kept-at m a x (λ e. absurd (omega (arith, e, l))) in
+    rw keep (ap suc (none-left m (suc a) k (λ e. absurd (omega (arith, e))) (omega (arith, l))))
+
+one-left : (m a k : ℕ) → a ≢ 0 → a ≤ m → m < a + k → suc (length (filter (is_inside m) (range_from a k))) ≡ k
+one-left m a zero x l r = absurd (omega (arith, l, r))
+one-left m a (suc k) x l r = elim (cases_of (a == m)) [
+  | inl y ↦
+      (let same : a ≡ m = grind (arith, nat_tests, y) in
+      let drop : is_inside m a ≡ false = outside (a == 0) (a == m) y in
+      rw drop (ap suc (none-left m (suc a) k (λ e. absurd (omega (arith, e))) (omega (arith, same)))))
+  | inr d ↦
+      (let apart : a ≢ m = grind (arith, nat_tests, d) in
+      let keep = kept-at m a x apart in
+      let less : suc a ≤ m = omega (arith, l, apart) in
+      rw keep (ap suc (one-left m (suc a) k (λ e. absurd (omega (arith, e))) less (omega (arith, r)))))
+]
+  where
+    outside : (p q : Bool) → q ≡ true → (not p && not q) ≡ false
+    outside true q h = refl
+    outside false q h = rw h refl
+
+-- all nodes but two are added
+pub inside-length : (g : Graph) (m : ℕ) → m ≢ 0 → m < length g.nodes → length (inside g m) ≡ length g.nodes - 2
+inside-length g m late l = go (length g.nodes) l
+  where
+    go : (n : ℕ) → m < n → length (filter (is_inside m) (below n)) ≡ n - 2
+    go zero l = absurd (omega (arith, l))
+    go (suc n) l = (let one = one-left m 1 n (λ e. absurd (omega (arith, e))) (omega (arith, late)) (omega (arith, l)) in omega (arith, one))
