@@ -1,5 +1,5 @@
 -- What the end of a graph that can be used says of its edges, and how many of its nodes are added.
-use Rattle.std.proofs.Common.{◌≡◌, ◌≢◌, ℕ, zero, suc, ◌+◌, ◌-◌, ◌<◌, ◌≤◌, ◌==◌, nat_le, nat_lt, not, Bool, true, false, ◌&&◌, ◌||◌, inl, inr, List, [], ◌∷◌, filter, length, get_or, Some, None, refl, sym, ap, subst, ◌∙◌, arith, if◌then◌else◌}
+use Rattle.std.proofs.Common.{◌≡◌, ◌≢◌, ℕ, zero, suc, ◌+◌, ◌-◌, ◌<◌, ◌≤◌, ◌==◌, nat_le, nat_lt, not, Bool, true, false, ◌&&◌, ◌||◌, ◌⊎◌, inl, inr, List, [], ◌∷◌, ◌++◌, map, filter, length, get_or, set, take, Option, Some, None, refl, sym, ap, subst, ◌∙◌, arith, if◌then◌else◌, append-nil, length-append}
 use Rattle.std.specs.List.{list_any}
 use Rattle.std.proofs.lemmas.Bool.{eq-eqb}
 use Rattle.std.proofs.lemmas.Bool.Decides.{nat_tests}
@@ -8,10 +8,14 @@ use Rattle.sg_base.proofs.SetLaws.{is_in-filter}
 use Rattle.sg_model.specs.Lists.{below, range_from, is_in}
 use Rattle.sg_model.specs.Shape.{Shape, source, target}
 use Rattle.sg_model.specs.Shape as Shapes
-use Rattle.sg_protocol.specs.Graph.{Graph, shape}
+use Rattle.sg_protocol.specs.Graph.{Graph, Edge, shape}
 use Rattle.sg_graph.specs.Parts.{edge_at}
 use Rattle.sg_graph.proofs.Found.{cases_of}
-use Rattle.sg_graph.proofs.Growth.{both}
+use Rattle.sg_graph.proofs.Growth.{both, below-suc}
+use Rattle.std.proofs.lemmas.List.Folds.{list_any_more}
+use Rattle.std.proofs.lemmas.List.Elements.{filter-append}
+use Rattle.std.proofs.lemmas.List.{get_or-set_same, get_or-set_other}
+use Rattle.std.proofs.Math.Seq.{get_or-append_seam}
 use Rattle.sg_compose.specs.Expansion.{is_entered, is_final, finals, sole, end_of, inside}
 use Rattle.sg_compose.proofs.Split.{arrow_of}
 
@@ -30,11 +34,11 @@ none-at p (x ∷ xs) (suc k) d h l = none-at p xs k d (right (p x) (list_any p x
     right false b h = h
 
 -- the source and the target of an edge
-pub source-at : (g : Graph) (e : ℕ) → e < length g.edges → source (shape g) e ≡ (edge_at g e).source
-source-at g e l = ap (λ (a : Shapes.Arrow). a.source) (get_or-map arrow_of g.edges e (record { name = []; source = 0; target = 0; writes = []; reads = [] }) _ l)
+pub source_at : (g : Graph) (e : ℕ) → e < length g.edges → source (shape g) e ≡ (edge_at g e).source
+source_at g e l = ap (λ (a : Shapes.Arrow). a.source) (get_or-map arrow_of g.edges e (record { name = []; source = 0; target = 0; writes = []; reads = [] }) _ l)
 
-pub target-at : (g : Graph) (e : ℕ) → e < length g.edges → target (shape g) e ≡ (edge_at g e).target
-target-at g e l = ap (λ (a : Shapes.Arrow). a.target) (get_or-map arrow_of g.edges e (record { name = []; source = 0; target = 0; writes = []; reads = [] }) _ l)
+pub target_at : (g : Graph) (e : ℕ) → e < length g.edges → target (shape g) e ≡ (edge_at g e).target
+target_at g e l = ap (λ (a : Shapes.Arrow). a.target) (get_or-map arrow_of g.edges e (record { name = []; source = 0; target = 0; writes = []; reads = [] }) _ l)
 
 -- a graph that can be used ends so
 pub record EndsAt (g : Graph) (m : ℕ) : Type 0 where
@@ -66,9 +70,9 @@ ends-at g m h = pick (is_entered g) refl h
           late = one.1;
           there = below';
           not_entered = λ k l z. (let no = none-at (λ e. e.target == 0) g.edges k (record { name = []; source = 0; target = 0; writes = []; reads = [] }) e l in
-              let same : (edge_at g k).target ≡ 0 = sym (target-at g k l) ∙ z in let yes : ((edge_at g k).target == 0) ≡ true = eq-eqb (edge_at g k).target 0 same in absurd (cc));
+              let same : (edge_at g k).target ≡ 0 = sym (target_at g k l) ∙ z in let yes : ((edge_at g k).target == 0) ≡ true = eq-eqb (edge_at g k).target 0 same in absurd (cc));
           not_left = λ k l z. (let no = none-at (λ e. e.source == m) g.edges k (record { name = []; source = 0; target = 0; writes = []; reads = [] }) (not-true (list_any (λ e. e.source == m) g.edges) parts.1) l in
-              let same : (edge_at g k).source ≡ m = sym (source-at g k l) ∙ z in let yes : ((edge_at g k).source == m) ≡ true = eq-eqb (edge_at g k).source m same in absurd (cc));
+              let same : (edge_at g k).source ≡ m = sym (source_at g k l) ∙ z in let yes : ((edge_at g k).source == m) ≡ true = eq-eqb (edge_at g k).source m same in absurd (cc));
         }
       where
         not-true : (b : Bool) → not b ≡ true → b ≡ false
@@ -114,3 +118,77 @@ inside-length g m late l = go (length g.nodes) l
     go : (n : ℕ) → m < n → length (filter (is_inside m) (below n)) ≡ n - 2
     go zero l = absurd (omega (arith, l))
     go (suc n) l = (let one = one-left m 1 n (λ e. absurd (omega (arith, e))) (omega (arith, late)) (omega (arith, l)) in omega (arith, one))
+
+-- ---- as the code finds it
+
+-- marks of the nodes that edges leave
+pub mark-more : (g : Graph) (left : List Bool) (i s : ℕ) → length left ≡ 256 → i < length g.edges → s ≡ (edge_at g i).source → s < 256
+    → ((n : ℕ) → n < 256 → get_or left n false ≡ list_any (λ e. e.source == n) (take i g.edges))
+    → (n : ℕ) → n < 256 → get_or (set left s true) n false ≡ list_any (λ e. e.source == n) (take (i + 1) g.edges)
+mark-more g left i s long lt at few so_far n ln =
+    let more = list_any_more (λ (e : Edge). e.source == n) g.edges i (record { name = []; source = 0; target = 0; writes = []; reads = [] }) lt in
+    let more' : list_any (λ e. e.source == n) (take (i + 1) g.edges) ≡ (list_any (λ e. e.source == n) (take i g.edges) || (s == n)) = more ∙ ap (λ k. list_any (λ e. e.source == n) (take i g.edges) || (k == n)) (sym at) in
+    elim (cases_of (s == n)) [
+      | inl y ↦
+          (let same : n ≡ s = grind (arith, nat_tests, y) in
+          let inside' : s < length left = omega (arith, long, few) in
+          let here : get_or (set left s true) n false ≡ true = ap (λ k. get_or (set left s true) k false) same ∙ get_or-set_same left s true false inside' in
+          here ∙ sym (more' ∙ rw y (or_true (list_any (λ e. e.source == n) (take i g.edges)))))
+      | inr d ↦
+          (let other : n ≢ s = grind (arith, nat_tests, d) in
+          get_or-set_other left s n true false other ∙ so_far n ln ∙ sym (more' ∙ rw d (or_false (list_any (λ e. e.source == n) (take i g.edges)))))
+    ]
+  where
+    or_true : (b : Bool) → (b || true) ≡ true
+    or_true true = refl
+    or_true false = refl
+
+    or_false : (b : Bool) → (b || false) ≡ b
+    or_false true = refl
+    or_false false = refl
+
+-- a node more that passes, or not
+pub filter-there : (p : ℕ → Bool) (n : ℕ) → p n ≡ true → filter p (below (n + 1)) ≡ filter p (below n) ++ n ∷ []
+filter-there p n h = ap (filter p) (below-suc n) ∙ filter-append p (below n) (n ∷ []) ∙ rw h refl
+
+pub filter-away : (p : ℕ → Bool) (n : ℕ) → p n ≡ false → filter p (below (n + 1)) ≡ filter p (below n)
+filter-away p n h = ap (filter p) (below-suc n) ∙ filter-append p (below n) (n ∷ []) ∙ rw h (append-nil (filter p (below n)))
+
+-- what was counted
+pub record Counted (p : ℕ → Bool) (n count last : ℕ) : Type 0 where
+  pub many : count ≡ length (filter p (below n))
+  pub latest : 0 < count → last ≡ get_or (filter p (below n)) (count - 1) 0
+
+pub counted-there : (p : ℕ → Bool) (n count last : ℕ) → p n ≡ true → Counted p n count last → Counted p (n + 1) (count + 1) n
+counted-there p n count last h c =
+    let more = filter-there p n h in
+    let long : length (filter p (below n) ++ n ∷ []) ≡ length (filter p (below n)) + 1 = length-append (filter p (below n)) (n ∷ []) in
+    let before : (count + 1) - 1 ≡ length (filter p (below n)) = omega (arith, c.many) in
+    record {
+      many = omega (arith, c.many, long, ap length more);
+      latest = λ l. sym (ap (λ xs. get_or xs ((count + 1) - 1) 0) more ∙ ap (λ k. get_or (filter p (below n) ++ n ∷ []) k 0) before ∙ get_or-append_seam (filter p (below n)) n [] 0);
+    }
+
+pub counted-away : (p : ℕ → Bool) (n count last : ℕ) → p n ≡ false → Counted p n count last → Counted p (n + 1) count last
+counted-away p n count last h c =
+    let same = filter-away p n h in
+    record { many = c.many ∙ ap length (sym same); latest = λ l. c.latest l ∙ ap (λ xs. get_or xs (count - 1) 0) (sym same) }
+
+-- the one that was counted
+pub sole-counted : (ns : List ℕ) (count last : ℕ) → count ≡ length ns → (0 < count → last ≡ get_or ns (count - 1) 0) → count ≡ 1 → last ≢ 0 → sole ns ≡ Some last
+sole-counted [] count last c l one some = absurd (omega (arith, c, one))
+sole-counted (zero ∷ []) count last c l one some = (let at : count - 1 ≡ 0 = omega (arith, one) in let z : last ≡ 0 = l (omega (arith, one)) ∙ ap (λ k. get_or (zero ∷ []) k 0) at in absurd (some z))
+sole-counted (suc n ∷ []) count last c l one some = (let at : count - 1 ≡ 0 = omega (arith, one) in let z : last ≡ suc n = l (omega (arith, one)) ∙ ap (λ k. get_or (suc n ∷ []) k 0) at in ap Some (sym z))
+sole-counted (n ∷ m ∷ ns) count last c l one some = absurd (omega (arith, c, one))
+
+pub sole-start : (ns : List ℕ) (count last : ℕ) → count ≡ length ns → (0 < count → last ≡ get_or ns (count - 1) 0) → count ≡ 1 → last ≡ 0 → sole ns ≡ None
+sole-start [] count last c l one none = refl
+sole-start (zero ∷ []) count last c l one none = refl
+sole-start (suc n ∷ []) count last c l one none = (let at : count - 1 ≡ 0 = omega (arith, one) in let z : last ≡ suc n = l (omega (arith, one)) ∙ ap (λ k. get_or (suc n ∷ []) k 0) at in absurd (omega (arith, z, none)))
+sole-start (n ∷ m ∷ ns) count last c l one none = absurd (omega (arith, c, one))
+
+pub sole-many : (ns : List ℕ) (count : ℕ) → count ≡ length ns → count ≢ 1 → sole ns ≡ None
+sole-many [] count c other = refl
+sole-many (n ∷ []) count c other = absurd (other c)
+sole-many (zero ∷ m ∷ ns) count c other = refl
+sole-many (suc n ∷ m ∷ ns) count c other = refl

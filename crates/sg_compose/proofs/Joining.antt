@@ -13,7 +13,7 @@ use Rattle.sg_parse.specs.Parts.{Use}
 use Rattle.sg_compose.specs.Expansion.{end_of, inside, stands, new_edge, new_nodes, new_edges, with_use}
 use Rattle.sg_compose.specs.Walks.{Inset}
 use Rattle.sg_compose.proofs.Split.{arrow_of, or_zero, finish, spot, Sits, Joins}
-use Rattle.sg_compose.proofs.Ends.{EndsAt, ends-at, source-at, target-at, inside-length}
+use Rattle.sg_compose.proofs.Ends.{EndsAt, ends-at, source_at, target_at, inside-length}
 
 -- the edges of the graph lead from nodes that are there to nodes that are there
 abbrev pub Ranged : Graph → Type 0
@@ -25,7 +25,7 @@ no_edge = record { name = []; source = 0; target = 0; writes = []; reads = [] }
 pub ranged-at : (g : Graph) → Ranged g → (e : ℕ) → e < length g.edges → (source (shape g) e < length g.nodes) × (target (shape g) e < length g.nodes)
 ranged-at g r e l =
     let at = r e (record { name = []; source = 0; target = 0; writes = []; reads = [] }) l in
-    (subst (λ n. n < length g.nodes) (sym (source-at g e l)) at.0, subst (λ n. n < length g.nodes) (sym (target-at g e l)) at.1)
+    (subst (λ n. n < length g.nodes) (sym (source_at g e l)) at.0, subst (λ n. n < length g.nodes) (sym (target_at g e l)) at.1)
 
 -- ---- numbers of nodes
 
@@ -87,9 +87,9 @@ module _ (h inner : Graph) (u : Use) (m : ℕ) where
       let count : length (new_edges h inner u m) ≡ length inner.edges = length-map inner.edges _ in
       let few : length h.edges + e < length k.edges = omega (arith, length-append h.edges (new_edges h inner u m), count, l) in
       let at : edge_at k (length h.edges + e) ≡ edge_at (record h { edges = new_edges h inner u m }) e = get_or-append-add h.edges (new_edges h inner u m) e _ in
-      let same = get_or-map (new_edge h u m) inner.edges e (record { name = []; source = 0; target = 0; writes = []; reads = [] }) (record { name = []; source = 0; target = 0; writes = []; reads = [] }) l in (
-        source-at k (length h.edges + e) few ∙ ap (λ (e : Edge). e.source) (at ∙ same) ∙ ap (stands (length h.nodes) u.from u.to m) (sym (source-at inner e l)),
-        target-at k (length h.edges + e) few ∙ ap (λ (e : Edge). e.target) (at ∙ same) ∙ ap (stands (length h.nodes) u.from u.to m) (sym (target-at inner e l)),
+      let same = get_or-map (new_edge (length h.variables) (length h.nodes) u m) inner.edges e (record { name = []; source = 0; target = 0; writes = []; reads = [] }) (record { name = []; source = 0; target = 0; writes = []; reads = [] }) l in (
+        source_at k (length h.edges + e) few ∙ ap (λ (e : Edge). e.source) (at ∙ same) ∙ ap (stands (length h.nodes) u.from u.to m) (sym (source_at inner e l)),
+        target_at k (length h.edges + e) few ∙ ap (λ (e : Edge). e.target) (at ∙ same) ∙ ap (stands (length h.nodes) u.from u.to m) (sym (target_at inner e l)),
       )
 
   pub edge-count : length (with_use h inner u m).edges ≡ length h.edges + length inner.edges
@@ -239,8 +239,8 @@ module _ (h g inner : Graph) (u : Use) (m : ℕ) (is : List Inset) (j : Joined h
 
       new : All (λ (e : Edge). (e.source < length k.nodes) × (e.target < length k.nodes)) (new_edges h inner u m)
       new n d l =
-          let few : n < length inner.edges = subst (λ c. n < c) (length-map inner.edges (new_edge h u m)) l in
-          let same = get_or-map (new_edge h u m) inner.edges n (record { name = []; source = 0; target = 0; writes = []; reads = [] }) d few in
+          let few : n < length inner.edges = subst (λ c. n < c) (length-map inner.edges (new_edge (length h.variables) (length h.nodes) u m)) l in
+          let same = get_or-map (new_edge (length h.variables) (length h.nodes) u m) inner.edges n (record { name = []; source = 0; target = 0; writes = []; reads = [] }) d few in
           let at = inner_ranged n (record { name = []; source = 0; target = 0; writes = []; reads = [] }) few in
           subst (λ (e : Edge). (e.source < length k.nodes) × (e.target < length k.nodes)) (sym same) (low _ at.0, low _ at.1)
 

@@ -1,4 +1,5 @@
 pub mod Ends
 pub mod Joining
 pub mod Keeps
+pub mod Renaming
 pub mod Split

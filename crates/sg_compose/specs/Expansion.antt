@@ -52,25 +52,33 @@ abbrev pub stands : (count from to m x : ℕ) → ℕ
 stands count from to m x = if x == 0 then from else if x == m then to else count + (if nat_lt x m then x - 1 else x - 2)
 
 -- the numbers below the width that are in the list, in rising order
-abbrev pub rising : ℕ → List ℕ → List ℕ
+unfoldable pub rising : ℕ → List ℕ → List ℕ
 rising width ns = filter (λ x. is_in x ns) (below width)
+
+-- the roles that play these roles
+abbrev pub players : Use → List ℕ → List ℕ
+players u rs = rising 16 (map (player u) rs)
 
 -- a variable that is added
 abbrev pub new_variable : Use → Variable → Variable
-new_variable u v = record { name = inner_name u v.name; kind = v.kind; writers = rising 16 (map (player u) v.writers) }
+new_variable u v = record { name = inner_name u v.name; kind = v.kind; writers = players u v.writers }
 
 -- the node that is added for a node x
 abbrev pub new_node : Graph → Use → ℕ → Node
 new_node inner u x = record { name = inner_name u (node_name inner x); role = player u (role_at (shape inner) x) }
 
--- an edge that is added
-abbrev pub new_edge : Graph → Use → ℕ → Edge → Edge
-new_edge g u m e = record {
+-- variables, where so many are there before
+abbrev pub shifted : (variables : ℕ) → List ℕ → List ℕ
+shifted variables xs = rising 32 (map (λ x. variables + x) xs)
+
+-- an edge that is added, where so many variables and nodes are there before
+abbrev pub new_edge : (variables nodes : ℕ) → Use → ℕ → Edge → Edge
+new_edge variables nodes u m e = record {
   name = inner_name u e.name;
-  source = stands (length g.nodes) u.from u.to m e.source;
-  target = stands (length g.nodes) u.from u.to m e.target;
-  writes = rising 32 (map (λ x. length g.variables + x) e.writes);
-  reads = rising 32 (map (λ x. length g.variables + x) e.reads);
+  source = stands nodes u.from u.to m e.source;
+  target = stands nodes u.from u.to m e.target;
+  writes = shifted variables e.writes;
+  reads = shifted variables e.reads;
 }
 
 -- the variables that are added
@@ -83,7 +91,7 @@ new_nodes inner u m = map (new_node inner u) (inside inner m)
 
 -- the edges that are added
 abbrev pub new_edges : Graph → Graph → Use → ℕ → List Edge
-new_edges g inner u m = map (new_edge g u m) inner.edges
+new_edges g inner u m = map (new_edge (length g.variables) (length g.nodes) u m) inner.edges
 
 -- the graph with what the use adds, behind all that is there
 abbrev pub with_use : Graph → Graph → Use → ℕ → Graph

@@ -7,8 +7,14 @@
 //! The walks of the expansion are those of the graph, with walks of the parts in the places of their uses.
 #![tactic(auto)]
 
+mod add;
+mod end;
+mod expansion;
 mod fault;
+mod fit;
 mod laws;
+mod rename;
 
+pub use expansion::expand;
 pub use fault::ComposeFault;
 pub use laws::expansions_keep_walks;

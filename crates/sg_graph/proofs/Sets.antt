@@ -15,7 +15,7 @@ pub AreNumbers-none : (n : ℕ) → AreNumbers n []
 AreNumbers-none n = refl
 
 -- numbers that pass a test rise still
-rises_filter : (p : ℕ → Bool) (least a k : ℕ) → least ≤ a → rises_from least (filter p (range_from a k)) ≡ true
+pub rises_filter : (p : ℕ → Bool) (least a k : ℕ) → least ≤ a → rises_from least (filter p (range_from a k)) ≡ true
 rises_filter p least a zero le = refl
 rises_filter p least a (suc k) le =
     elim (cases_of (p a)) [
@@ -24,7 +24,7 @@ rises_filter p least a (suc k) le =
     ]
 
 -- numbers of which each that passes is below n
-all_filter : (p : ℕ → Bool) (n a k : ℕ) → ((y : ℕ) → p y ≡ true → nat_lt y n ≡ true) → list_all (λ y. nat_lt y n) (filter p (range_from a k)) ≡ true
+pub all_filter : (p : ℕ → Bool) (n a k : ℕ) → ((y : ℕ) → p y ≡ true → nat_lt y n ≡ true) → list_all (λ y. nat_lt y n) (filter p (range_from a k)) ≡ true
 all_filter p n a zero h = refl
 all_filter p n a (suc k) h = elim (cases_of (p a)) [ inl y ↦ rw y (rw (h a y) (all_filter p n (suc a) k h)) | inr z ↦ rw z (all_filter p n (suc a) k h) ]
 
