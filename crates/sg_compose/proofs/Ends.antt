@@ -12,11 +12,11 @@ use Rattle.sg_protocol.specs.Graph.{Graph, Edge, shape}
 use Rattle.sg_graph.specs.Parts.{edge_at}
 use Rattle.sg_graph.proofs.Found.{cases_of}
 use Rattle.sg_graph.proofs.Growth.{both, below-suc}
-use Rattle.std.proofs.lemmas.List.Folds.{list_any_more}
+use Rattle.std.proofs.lemmas.List.Folds.{list_any_more, list_any-append}
 use Rattle.std.proofs.lemmas.List.Elements.{filter-append}
 use Rattle.std.proofs.lemmas.List.{get_or-set_same, get_or-set_other}
 use Rattle.std.proofs.Math.Seq.{get_or-append_seam}
-use Rattle.sg_compose.specs.Expansion.{is_entered, is_final, finals, sole, end_of, inside}
+use Rattle.sg_compose.specs.Expansion.{is_inside, is_entered, is_final, finals, sole, end_of, inside}
 use Rattle.sg_compose.proofs.Split.{arrow_of}
 
 -- none passes, so the one at a place doesn't
@@ -81,9 +81,6 @@ ends-at g m h = pick (is_entered g) refl h
 
 -- ---- how many nodes are added
 
-abbrev is_inside : ℕ → ℕ → Bool
-is_inside m x = not (x == 0) && not (x == m)
-
 kept-at : (m a : ℕ) → a ≢ 0 → a ≢ m → is_inside m a ≡ true
 kept-at m a x y = grind (arith, nat_tests, x, y)
 
@@ -112,8 +109,8 @@ one-left m a (suc k) x l r = elim (cases_of (a == m)) [
     outside false q h = rw h refl
 
 -- all nodes but two are added
-pub inside-length : (g : Graph) (m : ℕ) → m ≢ 0 → m < length g.nodes → length (inside g m) ≡ length g.nodes - 2
-inside-length g m late l = go (length g.nodes) l
+pub inside_length : (g : Graph) (m : ℕ) → m ≢ 0 → m < length g.nodes → length (inside g m) ≡ length g.nodes - 2
+inside_length g m late l = go (length g.nodes) l
   where
     go : (n : ℕ) → m < n → length (filter (is_inside m) (below n)) ≡ n - 2
     go zero l = absurd (omega (arith, l))
@@ -192,3 +189,36 @@ sole-many [] count c other = refl
 sole-many (n ∷ []) count c other = absurd (other c)
 sole-many (zero ∷ m ∷ ns) count c other = refl
 sole-many (suc n ∷ m ∷ ns) count c other = refl
+
+-- ---- tests of the nodes that pass another test
+
+-- none of those so far, and not the next
+pub any-inside-more : (p q : ℕ → Bool) (n : ℕ) → list_any p (filter q (below n)) ≡ false → (q n && p n) ≡ false → list_any p (filter q (below (n + 1))) ≡ false
+any-inside-more p q n none h = elim (cases_of (q n)) [
+  | inl y ↦
+      (let away : p n ≡ false = rw y at h in
+      ap (list_any p) (filter-there q n y) ∙ list_any-append p (filter q (below n)) (n ∷ []) ∙ rw (none, away) refl)
+  | inr d ↦ ap (list_any p) (filter-away q n d) ∙ none
+]
+
+-- one of them
+pub any-inside-hit : (p q : ℕ → Bool) (n k : ℕ) → n < k → (q n && p n) ≡ true → list_any p (filter q (below k)) ≡ true
+any-inside-hit p q n k l h = go 0 k (omega arith) (omega (arith, l))
+  where
+    parts : (q n ≡ true) × (p n ≡ true)
+    parts = both (q n) (p n) h
+
+    tail : (b : Bool) (a : ℕ) (xs : List ℕ) → list_any p xs ≡ true → list_any p (if b then a ∷ xs else xs) ≡ true
+    tail true a xs h = or_any (p a) (list_any p xs) h
+      where
+        or_any : (x y : Bool) → y ≡ true → (x || y) ≡ true
+        or_any true y h = refl
+        or_any false y h = h
+    tail false a xs h = h
+
+    go : (a k : ℕ) → a ≤ n → n < a + k → list_any p (filter q (range_from a k)) ≡ true
+    go a zero le lt = absurd (omega (arith, le, lt))
+    go a (suc k) le lt = elim (cases_of (a == n)) [
+      | inl y ↦ (let same : a ≡ n = grind (arith, nat_tests, y) in rw (same, parts.0, parts.1) refl)
+      | inr d ↦ (let apart : a ≢ n = grind (arith, nat_tests, d) in tail (q a) a (filter q (range_from (suc a) k)) (go (suc a) k (omega (arith, le, apart)) (omega (arith, lt))))
+    ]

@@ -13,7 +13,7 @@ use Rattle.sg_parse.specs.Parts.{Use}
 use Rattle.sg_compose.specs.Expansion.{end_of, inside, stands, new_edge, new_nodes, new_edges, with_use}
 use Rattle.sg_compose.specs.Walks.{Inset}
 use Rattle.sg_compose.proofs.Split.{arrow_of, or_zero, finish, spot, Sits, Joins}
-use Rattle.sg_compose.proofs.Ends.{EndsAt, ends-at, source_at, target_at, inside-length}
+use Rattle.sg_compose.proofs.Ends.{EndsAt, ends-at, source_at, target_at, inside_length}
 
 -- the edges of the graph lead from nodes that are there to nodes that are there
 abbrev pub Ranged : Graph → Type 0
@@ -96,7 +96,7 @@ module _ (h inner : Graph) (u : Use) (m : ℕ) where
   edge-count = length-append h.edges (new_edges h inner u m) ∙ ap (λ n. length h.edges + n) (length-map inner.edges _)
 
   pub node-count : m ≢ 0 → m < length inner.nodes → length (with_use h inner u m).nodes ≡ length h.nodes + (length inner.nodes - 2)
-  node-count late l = length-append h.nodes (new_nodes inner u m) ∙ ap (λ n. length h.nodes + n) (length-map (inside inner m) _ ∙ inside-length inner m late l)
+  node-count late l = length-append h.nodes (new_nodes inner u m) ∙ ap (λ n. length h.nodes + n) (length-map (inside inner m) _ ∙ inside_length inner m late l)
 
 -- ---- one use more
 

@@ -4,11 +4,11 @@ use Rattle.std.specs.Prelude.{All, slice_get}
 use Rattle.std.proofs.lemmas.List.{take_at}
 use Rattle.sg_model.specs.Shape.{Shape, Walk}
 use Rattle.sg_protocol.specs.Graph.{Graph, shape}
-use Rattle.sg_parse.specs.Parts.{Use, Part, IsUse, IsPart}
+use Rattle.sg_parse.specs.Parts.{Use, Part, IsUse, IsPart, AreParts}
 use Rattle.sg_compose.specs.declared.fault.ComposeFault.{ComposeFault}
 use Rattle.sg_compose.specs.declared.fault.ComposeFault.TheVariants.{BadPart, BadRoles, LongName, Clash, TooLarge}
-use Rattle.sg_compose.specs.Expansion.{end_of, with_use, with_use_to, used, roles_fit, has_long, clashes, too_large, graph_at, all_used, followed, expanded, expansions}
-use Rattle.sg_compose.specs.Laws.{AllKeepWalks}
+use Rattle.sg_compose.specs.Expansion.{end_of, with_use, with_use_to, extended, roles_fit, has_long, clashes, too_large, graph_at, all_used, followed, expanded, expansions, expansion, last_graph}
+use Rattle.sg_compose.specs.Laws.{AllKeepWalks, IsComposed}
 use Rattle.sg_compose.specs.Walks.{Inset, inset, insets, insets_of, Filled, Pending, HasWalks}
 use Rattle.sg_compose.proofs.Split.{split, filled-walks, pending-walks}
 use Rattle.sg_compose.proofs.Joining.{Joined, Ranged, joined-none, joined-more}
@@ -27,7 +27,7 @@ followed-inv (Err e) next y h = err_ok e y h
 followed-inv (Ok x) next y h = (x, refl, h)
 
 -- a use that is expanded is added, and what it uses has an end
-used-adds : (part : List ℕ) (g inner : Graph) (u : Use) (k : Graph) → used part g inner u ≡ Ok k → (m : ℕ) × (end_of inner ≡ Some m) × (with_use g inner u m ≡ k)
+pub used-adds : (part : List ℕ) (g inner : Graph) (u : Use) (k : Graph) → extended part g inner u ≡ Ok k → (m : ℕ) × (end_of inner ≡ Some m) × (with_use g inner u m ≡ k)
 used-adds part g inner u k h = pick (end_of inner) refl h
   where
     last : (m : ℕ) (a b c d : Bool) → (if a then Err (BadRoles part u.name) else if b then Err (LongName part u.name) else if c then Err (Clash part u.name) else if d then Err (TooLarge part u.name) else Ok (with_use g inner u m)) ≡ Ok k → with_use g inner u m ≡ k
@@ -46,7 +46,7 @@ uses-joined : (part : List ℕ) (graphs : List Graph) (g : Graph) (us : List Use
     → Joined h g is → all_used part graphs h us ≡ Ok k → Joined k g (is ++ insets graphs (length h.nodes) (length h.edges) us)
 uses-joined part graphs g [] h k is ranged all j e = subst (λ l. Joined k g l) (sym (append-nil is)) (subst (λ q. Joined q g is) (ok_same h k e) j)
 uses-joined part graphs g (u ∷ us) h k is ranged all j e =
-    let a = followed-inv (used part h (graph_at graphs u.part) u) (λ h. all_used part graphs h us) k e in
+    let a = followed-inv (extended part h (graph_at graphs u.part) u) (λ h. all_used part graphs h us) k e in
     let inner : Graph = graph_at graphs u.part in
     let one = used-adds part h inner u a.0 a.1 in
     let fit : IsUse (length graphs) g u = all 0 u (omega arith) in
@@ -136,3 +136,9 @@ all-keep ps gs are e k p h =
     let r = parts-kept [] ps gs (λ n l. absurd (omega (arith, l))) (λ k p h. (let same : k ≡ 0 + k = omega arith in subst (λ n. IsPart n p) same (are.each k p h))) e in
     let same : 0 + k ≡ k = omega arith in
     subst (λ n. HasWalks (take n gs) p (graph_at gs n)) same (r.keeps k p h)
+
+-- so the graph that is answered
+pub composed : (ps : List Part) (g : Graph) → AreParts ps → expansion ps ≡ Ok g → IsComposed ps g
+composed ps g are e =
+    let a = followed-inv (expansions [] ps) (λ gs. Ok (last_graph gs)) g e in
+    record { graphs = a.0; expands = a.1; last = ok_same (last_graph a.0) g a.2; walks = all-keep ps a.0 are a.1 }

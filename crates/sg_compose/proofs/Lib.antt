@@ -3,3 +3,4 @@ pub mod Joining
 pub mod Keeps
 pub mod Renaming
 pub mod Split
+pub mod Steps

@@ -158,3 +158,16 @@ rising-some w f (x ∷ xs) l low =
     some : (y : ℕ) (ys : List ℕ) → is_in y ys ≡ true → 0 < length ys
     some y [] h = absurd (cc)
     some y (z ∷ ys) h = omega arith
+
+-- numbers below a bound are below a greater one
+pub numbers-grow : (m n : ℕ) (ks : List ℕ) → m ≤ n → AreNumbers m ks → AreNumbers n ks
+numbers-grow m n ks le h =
+    let parts = both (rises_from 0 ks) (list_all (λ k. nat_lt k m) ks) h in
+    rw (parts.0, more ks parts.1) refl
+  where
+    more : (ks : List ℕ) → list_all (λ k. nat_lt k m) ks ≡ true → list_all (λ k. nat_lt k n) ks ≡ true
+    more [] h = refl
+    more (k ∷ ks) h =
+        let p = both (nat_lt k m) (list_all (λ k. nat_lt k m) ks) h in
+        let here : nat_lt k n ≡ true = grind (arith, nat_tests, p.0) in
+        rw (here, more ks p.1) refl

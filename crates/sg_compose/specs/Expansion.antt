@@ -43,9 +43,13 @@ player u r = get_or u.roles r 0
 abbrev pub inner_name : Use → Name → Name
 inner_name u n = u.name ++ 95 ∷ n
 
+-- the node is neither start nor end
+abbrev pub is_inside : (m x : ℕ) → Bool
+is_inside m x = not (x == 0) && not (x == m)
+
 -- the nodes that are added, in rising order: all but start and end
 abbrev pub inside : Graph → ℕ → List ℕ
-inside inner m = filter (λ x. not (x == 0) && not (x == m)) (below (length inner.nodes))
+inside inner m = filter (is_inside m) (below (length inner.nodes))
 
 -- the node for a node x of the graph that is used, where count nodes are there before: start and end stand at the nodes of the use, and the others follow one another
 abbrev pub stands : (count from to m x : ℕ) → ℕ
@@ -139,8 +143,8 @@ with_use_to part g inner u (Some m) =
     else Ok (with_use g inner u m)
 
 -- the graph with a use, or why it can't be
-abbrev pub used : Name → Graph → Graph → Use → Result Graph ComposeFault
-used part g inner u = with_use_to part g inner u (end_of inner)
+abbrev pub extended : Name → Graph → Graph → Use → Result Graph ComposeFault
+extended part g inner u = with_use_to part g inner u (end_of inner)
 
 -- the graph of a part that stands before
 abbrev pub graph_at : List Graph → ℕ → Graph
@@ -154,7 +158,7 @@ followed (Ok x) next = next x
 -- the graph with these uses in their order, or the first refusal
 abbrev pub all_used : Name → List Graph → Graph → List Use → Result Graph ComposeFault
 all_used part graphs g [] = Ok g
-all_used part graphs g (u ∷ us) = followed (used part g (graph_at graphs u.part) u) (λ h. all_used part graphs h us)
+all_used part graphs g (u ∷ us) = followed (extended part g (graph_at graphs u.part) u) (λ h. all_used part graphs h us)
 
 -- the expansion of a part, where the parts before it expand to these graphs
 abbrev pub expanded : List Graph → Part → Result Graph ComposeFault

@@ -5,7 +5,7 @@ ghost use Rattle.sg_graph.specs.Parts.{variable_at, edge_at};
 ghost use Rattle.sg_compose.specs.Expansion.{inside, new_edge, new_edges, new_node, new_nodes, new_variable, new_variables, player, with_use};
 
 use crate::fault::ComposeFault;
-use crate::rename::{inner_name, player, players, shifted, stands};
+use crate::rename::{inner_name, is_inside, player, players, shifted, stands};
 use sg_base::{Label, NodeId, Var};
 use sg_graph::Graph;
 use sg_parse::Use;
@@ -35,12 +35,7 @@ pub fn add_use(
     add_edges(alloc, graph, inner, used, end, vars, nodes)
 }
 
-fn add_vars(
-    alloc: Global,
-    graph: &mut Graph,
-    inner: &Graph,
-    used: &Use,
-) -> Result<(), ComposeFault>
+fn add_vars(alloc: Global, graph: &mut Graph, inner: &Graph, used: &Use) -> Result<(), ComposeFault>
     requires { (r : ℕ) → player used.now r < length graph.old.roles }
     ensures added { OnOk result (graph.new ≡ record graph.old { variables = graph.old.variables ++ new_variables inner.now used.now }) }
     ensures memory { IfErr result (λ e. e ≡ ComposeFault.OutOfMemory) }
@@ -86,7 +81,7 @@ fn add_nodes(
     ensures memory { IfErr result (λ e. e ≡ ComposeFault.OutOfMemory) }
 {
     for number in 0..inner.nodes() {
-        if number != 0 && number != end.0 {
+        if is_inside(end, NodeId(number)) {
             add_node(alloc, graph, inner, used, NodeId(number))?;
         }
     }

@@ -2,7 +2,8 @@
 ghost use Rattle.std.specs.Prelude.{◌≡◌, ◌<◌, ◌≤◌, ℕ, length, IfErr, IfOk, MatchResult, Ok, OnOk};
 ghost use Rattle.sg_protocol.specs.Graph.{IsGraph};
 ghost use Rattle.sg_parse.specs.Parts.{AreParts, IsPart, IsUse};
-ghost use Rattle.sg_compose.specs.Expansion.{expanded, expansion, player, used};
+ghost use Rattle.sg_compose.specs.Expansion.{expanded, expansion, extended, player};
+ghost use Rattle.sg_compose.specs.Laws.{IsComposed};
 ghost use Rattle.sg_compose.specs.Owed.{Refuses};
 
 use crate::add::add_use;
@@ -18,6 +19,17 @@ use std::alloc::Global;
 /// first cause that holds. Parts that the last one doesn't use are expanded and refused too. In proportion to the parts and their
 /// expansions; it takes memory for the expansions, which it keeps while it works.
 pub fn expand(alloc: Global, parts: &[Part]) -> Result<Graph, ComposeFault>
+    requires { AreParts parts.now }
+    // The expansion, or the first refusal.
+    ensures exact { MatchResult result (λ g. expansion parts.now ≡ Ok g) (Refuses (expansion parts.now)) }
+    // Its walks, and those of the expansions that it is made of.
+    ensures walks { IfOk result (IsComposed parts.now) }
+{
+    expand_all(alloc, parts)
+}
+
+// The expansion of the last part.
+fn expand_all(alloc: Global, parts: &[Part]) -> Result<Graph, ComposeFault>
     requires { AreParts parts.now }
     ensures { MatchResult result (λ g. expansion parts.now ≡ Ok g) (Refuses (expansion parts.now)) }
 {
@@ -59,7 +71,7 @@ fn expand_use(
     requires from { used.now.from < length graph.old.nodes }
     requires to { used.now.to < length graph.old.nodes }
     requires players { (r : ℕ) → player used.now r < length graph.old.roles }
-    ensures { MatchResult result (λ _. used part.now.graph.name graph.old inner.now used.now ≡ Ok graph.new) (Refuses (used part.now.graph.name graph.old inner.now used.now)) }
+    ensures { MatchResult result (λ _. extended part.now.graph.name graph.old inner.now used.now ≡ Ok graph.new) (Refuses (extended part.now.graph.name graph.old inner.now used.now)) }
 {
     let part = part.graph.name();
     let use_name = used.name;

@@ -1,14 +1,14 @@
 //! Whether a use can be expanded.
-ghost use Rattle.std.specs.Prelude.{◌≡◌, ◌<◌, length, IfErr, IfOk};
+ghost use Rattle.std.specs.Prelude.{◌≡◌, ◌+◌, ◌<◌, ◌&&◌, nat_lt, length, IfErr, IfOk};
 ghost use Rattle.std.specs.List.{list_any};
 ghost use Rattle.sg_model.specs.Lists.{has_text};
 ghost use Rattle.sg_protocol.specs.Graph.{node_name};
 ghost use Rattle.sg_graph.specs.Parts.{variable_names, node_names, edge_names};
-ghost use Rattle.sg_compose.specs.Expansion.{clashes, has_long, inner_name, inside, is_long, roles_fit, too_large};
+ghost use Rattle.sg_compose.specs.Expansion.{clashes, has_long, inner_name, inside, is_inside, is_long, roles_fit, too_large};
 
 use crate::fault::ComposeFault;
-use crate::rename::{inner_name, is_long, player};
-use sg_base::{Label, NodeId, Var};
+use crate::rename::{inner_name, is_inside, is_long, player};
+use sg_base::{Label, Name, NodeId, Var};
 use sg_graph::Graph;
 use sg_parse::Use;
 use std::alloc::Global;
@@ -49,11 +49,19 @@ fn has_long_node(inner: &Graph, used: &Use, end: NodeId) -> bool
     ensures { result ≡ list_any (λ x. is_long (inner_name used.now (node_name inner.now x))) (inside inner.now end) }
 {
     for number in 0..inner.nodes() {
-        if number != 0 && number != end.0 && is_long(used, &inner.node_name(NodeId(number))) {
+        if is_long_node(inner, used, end, NodeId(number)) {
             return true;
         }
     }
     false
+}
+
+// The node is inside, and its name is too long.
+fn is_long_node(inner: &Graph, used: &Use, end: NodeId, node: NodeId) -> bool
+    requires { node < length inner.now.nodes }
+    ensures { result ≡ is_inside end node && is_long (inner_name used.now (node_name inner.now node)) }
+{
+    is_inside(end, node) && is_long(used, &inner.node_name(node))
 }
 
 fn has_long_edge(inner: &Graph, used: &Use) -> bool
@@ -84,18 +92,13 @@ pub fn clashes(
     Ok(vars || nodes || edges)
 }
 
-fn has_var(
-    alloc: Global,
-    graph: &Graph,
-    inner: &Graph,
-    used: &Use,
-) -> Result<bool, ComposeFault>
+fn has_var(alloc: Global, graph: &Graph, inner: &Graph, used: &Use) -> Result<bool, ComposeFault>
     ensures answer { IfOk result (λ b. b ≡ list_any (λ v. has_text (inner_name used.now v.name) (variable_names graph.now)) inner.now.variables) }
     ensures memory { IfErr result (λ e. e ≡ ComposeFault.OutOfMemory) }
 {
     for number in 0..inner.vars() {
         let name = inner_name(alloc, used, &inner.var_name(Var(number)))?;
-        if graph.find_var(&name).is_some() {
+        if names_var(graph, &name) {
             return Ok(true);
         }
     }
@@ -113,28 +116,59 @@ fn has_node(
     ensures memory { IfErr result (λ e. e ≡ ComposeFault.OutOfMemory) }
 {
     for number in 0..inner.nodes() {
-        if number != 0 && number != end.0 {
-            let name = inner_name(alloc, used, &inner.node_name(NodeId(number)))?;
-            if graph.find_node(&name).is_some() {
-                return Ok(true);
-            }
+        let there = is_there(alloc, graph, inner, used, end, NodeId(number))?;
+        if there {
+            return Ok(true);
         }
     }
     Ok(false)
 }
 
-fn has_edge(
+// The node is inside, and its name is there.
+fn is_there(
     alloc: Global,
     graph: &Graph,
     inner: &Graph,
     used: &Use,
+    end: NodeId,
+    node: NodeId,
 ) -> Result<bool, ComposeFault>
+    requires { node < length inner.now.nodes }
+    ensures answer { IfOk result (λ b. b ≡ (is_inside end node && has_text (inner_name used.now (node_name inner.now node)) (node_names graph.now))) }
+    ensures memory { IfErr result (λ e. e ≡ ComposeFault.OutOfMemory) }
+{
+    if !is_inside(end, node) {
+        return Ok(false);
+    }
+    let name = inner_name(alloc, used, &inner.node_name(node))?;
+    Ok(names_node(graph, &name))
+}
+
+fn names_var(graph: &Graph, name: &Name) -> bool
+    ensures { result ≡ has_text name.now (variable_names graph.now) }
+{
+    graph.find_var(name).is_some()
+}
+
+fn names_node(graph: &Graph, name: &Name) -> bool
+    ensures { result ≡ has_text name.now (node_names graph.now) }
+{
+    graph.find_node(name).is_some()
+}
+
+fn names_edge(graph: &Graph, name: &Name) -> bool
+    ensures { result ≡ has_text name.now (edge_names graph.now) }
+{
+    graph.find_edge(name).is_some()
+}
+
+fn has_edge(alloc: Global, graph: &Graph, inner: &Graph, used: &Use) -> Result<bool, ComposeFault>
     ensures answer { IfOk result (λ b. b ≡ list_any (λ e. has_text (inner_name used.now e.name) (edge_names graph.now)) inner.now.edges) }
     ensures memory { IfErr result (λ e. e ≡ ComposeFault.OutOfMemory) }
 {
     for number in 0..inner.edges() {
         let name = inner_name(alloc, used, &inner.edge_name(Label(number)))?;
-        if graph.find_edge(&name).is_some() {
+        if names_edge(graph, &name) {
             return Ok(true);
         }
     }
@@ -147,7 +181,26 @@ pub fn too_large(graph: &Graph, inner: &Graph, end: NodeId) -> bool
     requires there { end < length inner.now.nodes }
     ensures { result ≡ too_large graph.now inner.now end }
 {
+    has_many_vars(graph, inner) || has_many_nodes(graph, inner, end) || has_many_edges(graph, inner)
+}
+
+fn has_many_vars(graph: &Graph, inner: &Graph) -> bool
+    ensures { result ≡ nat_lt 32 (length graph.now.variables + length inner.now.variables) }
+{
     graph.vars() + inner.vars() > 32
-        || graph.nodes() + (inner.nodes() - 2) > 256
-        || graph.edges() + inner.edges() > 512
+}
+
+#[tactic(auto, using(crate::proofs::Ends::inside_length))]
+fn has_many_nodes(graph: &Graph, inner: &Graph, end: NodeId) -> bool
+    requires late { 0 < end }
+    requires there { end < length inner.now.nodes }
+    ensures { result ≡ nat_lt 256 (length graph.now.nodes + length (inside inner.now end)) }
+{
+    graph.nodes() + (inner.nodes() - 2) > 256
+}
+
+fn has_many_edges(graph: &Graph, inner: &Graph) -> bool
+    ensures { result ≡ nat_lt 512 (length graph.now.edges + length inner.now.edges) }
+{
+    graph.edges() + inner.edges() > 512
 }

@@ -18,3 +18,6 @@ mod rename;
 pub use expansion::expand;
 pub use fault::ComposeFault;
 pub use laws::expansions_keep_walks;
+
+#[cfg(test)]
+mod tests;

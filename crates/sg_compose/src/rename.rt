@@ -3,7 +3,7 @@ ghost use Rattle.std.specs.Prelude.{◌≡◌, ℕ, ◌+◌, ◌-◌, ◌<◌, �
 ghost use Rattle.sg_model.specs.Lists.{has_text};
 ghost use Rattle.sg_model.specs.Names.{reserved};
 ghost use Rattle.sg_protocol.specs.Graph.{AreNumbers};
-ghost use Rattle.sg_compose.specs.Expansion.{inner_name, is_long, player, players, shifted, stands};
+ghost use Rattle.sg_compose.specs.Expansion.{inner_name, is_inside, is_long, player, players, shifted, stands};
 
 use crate::fault::ComposeFault;
 use sg_base::{ByteOut, Name, NodeId, Role, RoleSet, Var, VarSet};
@@ -41,6 +41,13 @@ fn inner_bytes(alloc: Global, used: &Use, name: &Name) -> Result<Vec<u8>, sg_bas
     out.u8(b'_')?;
     out.bytes(name.as_bytes())?;
     Ok(out.done())
+}
+
+// The node is neither start nor end.
+pub fn is_inside(end: NodeId, node: NodeId) -> bool
+    ensures { result ≡ is_inside end node }
+{
+    node.0 != 0 && node.0 != end.0
 }
 
 // The role that plays a role.
