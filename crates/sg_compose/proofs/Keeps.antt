@@ -1,5 +1,5 @@
 -- All uses of a part, and all parts: each expansion has the walks of its part.
-use Rattle.std.proofs.Common.{◌≡◌, ℕ, zero, suc, ◌+◌, ◌-◌, ◌<◌, not, Bool, true, false, inl, inr, ◌⊎◌, List, [], ◌∷◌, ◌++◌, length, take, Option, Some, None, Ok, Err, Result, refl, sym, ap, subst, ◌∙◌, arith, if◌then◌else◌, append_assoc, append-nil, length-append}
+use Rattle.std.proofs.Common.{◌≡◌, ℕ, zero, suc, ◌+◌, ◌-◌, ◌<◌, ◌≤◌, not, Bool, true, false, inl, inr, ◌⊎◌, List, [], ◌∷◌, ◌++◌, length, take, Option, Some, None, Ok, Err, Result, refl, sym, ap, subst, ◌∙◌, arith, if◌then◌else◌, append_assoc, append-nil, length-append}
 use Rattle.std.specs.Prelude.{All, slice_get}
 use Rattle.std.proofs.lemmas.List.{take_at}
 use Rattle.sg_model.specs.Shape.{Shape, Walk}
@@ -84,10 +84,20 @@ has-walks graphs p h some j =
     back {w} (inl (m, f)) = (filled-walks (shape h) (shape p.graph) (length p.graph.nodes) (insets_of graphs p) j.owner j.joins 0 w m some f).0
     back {w} (inr f) = pending-walks (shape h) (shape p.graph) (length p.graph.nodes) (insets_of graphs p) j.owner j.joins 0 w some f
 
+-- uses leave the roles
+uses-roles : (part : List ℕ) (graphs : List Graph) (us : List Use) (h k : Graph) → all_used part graphs h us ≡ Ok k → length k.roles ≡ length h.roles
+uses-roles part graphs [] h k e = ap (λ (g : Graph). length g.roles) (sym (ok_same h k e))
+uses-roles part graphs (u ∷ us) h k e =
+    let a = followed-inv (extended part h (graph_at graphs u.part) u) (λ h. all_used part graphs h us) k e in
+    let one = used-adds part h (graph_at graphs u.part) u a.0 a.1 in
+    uses-roles part graphs us a.0 k a.2 ∙ ap (λ (g : Graph). length g.roles) (sym one.2)
+
 -- what is said of parts behind others
 record Kept (graphs : List Graph) (ps : List Part) (gs : List Graph) : Type 0 where
   front : (more : List Graph) × (gs ≡ graphs ++ more)
   keeps : (k : ℕ) (p : Part) → slice_get ps k ≡ Some p → HasWalks (take (length graphs + k) gs) p (graph_at gs (length graphs + k))
+  two : (k : ℕ) → k < length ps → 2 ≤ length (graph_at gs (length graphs + k)).roles
+  count : length gs ≡ length graphs + length ps
 
 -- the graph in the middle
 graph-middle : (as' : List Graph) (g : Graph) (bs : List Graph) → graph_at (as' ++ g ∷ bs) (length as') ≡ g
@@ -102,7 +112,7 @@ ranged-more (h ∷ graphs) g all r (suc n) l = ranged-more graphs g (λ k lk. al
 
 parts-kept : (graphs : List Graph) (ps : List Part) (gs : List Graph) → ((n : ℕ) → n < length graphs → Ranged (graph_at graphs n)) → ((k : ℕ) (p : Part) → slice_get ps k ≡ Some p → IsPart (length graphs + k) p)
     → expansions graphs ps ≡ Ok gs → Kept graphs ps gs
-parts-kept graphs [] gs ranged each e = record { front = ([], sym (ok_same graphs gs e) ∙ sym (append-nil graphs)); keeps = λ k p h. absurd (cc) }
+parts-kept graphs [] gs ranged each e = record { front = ([], sym (ok_same graphs gs e) ∙ sym (append-nil graphs)); keeps = λ k p h. absurd (cc); two = λ k l. absurd (omega (arith, l)); count = ap length (sym (ok_same graphs gs e)) ∙ omega arith }
 parts-kept graphs (p ∷ ps) gs ranged each e =
     let a = followed-inv (expanded graphs p) (λ g. expansions (graphs ++ g ∷ []) ps) gs e in
     let g : Graph = a.0 in
@@ -117,8 +127,18 @@ parts-kept graphs (p ∷ ps) gs ranged each e =
     record {
       front = (g ∷ rest.front.0, all);
       keeps = keeps g rest.front.0 all one (λ k q h. (let same : length (graphs ++ g ∷ []) + k ≡ length graphs + suc k = omega (arith, longer) in subst (λ n. HasWalks (take n gs) q (graph_at gs n)) same (rest.keeps k q h)));
+      two = two g rest.front.0 all (omega (arith, is.two_roles, uses-roles p.graph.name graphs p.uses p.graph g a.1)) (λ k l. (let same : length (graphs ++ g ∷ []) + k ≡ length graphs + suc k = omega (arith, longer) in subst (λ n. 2 ≤ length (graph_at gs n).roles) same (rest.two k l)));
+      count = rest.count ∙ omega (arith, longer);
     }
   where
+    two : (g : Graph) (more : List Graph) → gs ≡ graphs ++ g ∷ more → 2 ≤ length g.roles → ((k : ℕ) → k < length ps → 2 ≤ length (graph_at gs (length graphs + suc k)).roles)
+        → (k : ℕ) → k < length (p ∷ ps) → 2 ≤ length (graph_at gs (length graphs + k)).roles
+    two g more all one rest zero l =
+        let none : length graphs ≡ length graphs + 0 = omega arith in
+        let at : graph_at gs (length graphs) ≡ g = ap (λ l. graph_at l (length graphs)) all ∙ graph-middle graphs g more in
+        subst (λ n. 2 ≤ length (graph_at gs n).roles) none (subst (λ (q : Graph). 2 ≤ length q.roles) (sym at) one)
+    two g more all one rest (suc k) l = rest k (omega (arith, l))
+
     keeps : (g : Graph) (more : List Graph) → gs ≡ graphs ++ g ∷ more → HasWalks graphs p g → ((k : ℕ) (q : Part) → slice_get ps k ≡ Some q → HasWalks (take (length graphs + suc k) gs) q (graph_at gs (length graphs + suc k)))
         → (k : ℕ) (q : Part) → slice_get (p ∷ ps) k ≡ Some q → HasWalks (take (length graphs + k) gs) q (graph_at gs (length graphs + k))
     keeps g more all one rest zero q h =
@@ -142,3 +162,12 @@ pub composed : (ps : List Part) (g : Graph) → AreParts ps → expansion ps ≡
 composed ps g are e =
     let a = followed-inv (expansions [] ps) (λ gs. Ok (last_graph gs)) g e in
     record { graphs = a.0; expands = a.1; last = ok_same (last_graph a.0) g a.2; walks = all-keep ps a.0 are a.1 }
+
+-- it has two roles
+pub two_roles : (ps : List Part) (g : Graph) → AreParts ps → expansion ps ≡ Ok g → 2 ≤ length g.roles
+two_roles ps g are e =
+    let a = followed-inv (expansions [] ps) (λ gs. Ok (last_graph gs)) g e in
+    let r = parts-kept [] ps a.0 (λ n l. absurd (omega (arith, l))) (λ k p h. (let same : k ≡ 0 + k = omega arith in subst (λ n. IsPart n p) same (are.each k p h))) a.1 in
+    let last : length ps - 1 < length ps = omega (arith, are.some) in
+    let same : 0 + (length ps - 1) ≡ length a.0 - 1 = omega (arith, r.count, are.some) in
+    subst (λ (q : Graph). 2 ≤ length q.roles) (ok_same (last_graph a.0) g a.2) (subst (λ n. 2 ≤ length (graph_at a.0 n).roles) same (r.two (length ps - 1) last))

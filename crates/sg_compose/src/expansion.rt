@@ -24,6 +24,8 @@ pub fn expand(alloc: Global, parts: &[Part]) -> Result<Graph, ComposeFault>
     ensures exact { MatchResult result (λ g. expansion parts.now ≡ Ok g) (Refuses (expansion parts.now)) }
     // Its walks, and those of the expansions that it is made of.
     ensures walks { IfOk result (IsComposed parts.now) }
+    // It has the roles of the last part, two or more.
+    ensures two { IfOk result (λ g. 2 ≤ length g.roles) }
 {
     expand_all(alloc, parts)
 }
