@@ -248,3 +248,77 @@ fn at_most_sixteen_roles_and_so_on(rt: HostRuntime) -> Result<(), Fail> {
     }
     Ok(())
 }
+
+// A part, of 31 bytes.
+const PART: &[u8] = b"graph p;role x;role y;node a:x;";
+
+// Another, behind it, up to byte 62.
+const TWO: &[u8] = b"graph p;role x;role y;node a:x;graph q;role x;role y;node b:y;";
+
+fn parts_fail(alloc: Global, text: &[u8], fault: ParseFault) -> bool {
+    match parse_parts(alloc, text) {
+        Ok(_) => false,
+        Err(found) => found == fault,
+    }
+}
+
+#[test]
+fn parts_and_their_uses(rt: HostRuntime) -> Result<(), Fail> {
+    let mut text = Vec::new(rt.alloc());
+    text.extend_from_slice(TWO)?;
+    text.extend_from_slice(b"use u:p b->b as y x;use v:p b->b as x;")?;
+    let parts = parse_parts(rt.alloc(), text.as_slice())?;
+    let counts = use_counts(parts.as_slice());
+    assert!(rt; counts == [2, 0, 2, 2, 1]);
+    Ok(())
+}
+
+// The number of parts, of the uses of the first two, and of the roles of the second's uses.
+fn use_counts(parts: &[Part]) -> [usize; 5] {
+    match parts {
+        [one, other] => match other.uses.as_slice() {
+            [first, second] => [2, one.uses.len(), 2, first.roles.len(), second.roles.len()],
+            _ => [2, 0, 0, 0, 0],
+        },
+        _ => [0; 5],
+    }
+}
+
+#[test]
+fn the_first_wrong_token_of_parts(rt: HostRuntime) -> Result<(), Fail> {
+    let rows: [(&[u8], &[u8], ParseFault); 10] = [
+        (b"", b"", ParseFault::Unexpected { at: 0 }),
+        (b"", b"graph use;", ParseFault::Unexpected { at: 6 }),
+        (b"", b"graph p;role as;", ParseFault::Unexpected { at: 13 }),
+        (PART, b"graph p;", ParseFault::Twice { at: 37 }),
+        (
+            PART,
+            b"use u:p a->a as x;",
+            ParseFault::UnknownName { at: 37 },
+        ),
+        (TWO, b"use u:p b->b;", ParseFault::Unexpected { at: 74 }),
+        (
+            TWO,
+            b"use u:p b->a as x;",
+            ParseFault::UnknownName { at: 73 },
+        ),
+        (TWO, b"use u:p b->b as x x;", ParseFault::Twice { at: 80 }),
+        (
+            TWO,
+            b"use u:p b->b as x;use u:",
+            ParseFault::Twice { at: 84 },
+        ),
+        (
+            TWO,
+            b"use u:p b->b as x;edge",
+            ParseFault::Unexpected { at: 80 },
+        ),
+    ];
+    for (front, back, fault) in rows {
+        let mut text = Vec::new(rt.alloc());
+        text.extend_from_slice(front)?;
+        text.extend_from_slice(back)?;
+        assert!(rt; parts_fail(rt.alloc(), text.as_slice(), fault));
+    }
+    Ok(())
+}

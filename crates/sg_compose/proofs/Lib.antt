@@ -1,0 +1,6 @@
+pub mod Ends
+pub mod Joining
+pub mod Keeps
+pub mod Renaming
+pub mod Split
+pub mod Steps

@@ -1,0 +1,4 @@
+pub mod Expansion
+pub mod Laws
+pub mod Owed
+pub mod Walks

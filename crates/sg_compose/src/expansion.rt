@@ -1,0 +1,96 @@
+//! Parts expanded, one after the other.
+ghost use Rattle.std.specs.Prelude.{◌≡◌, ◌<◌, ◌≤◌, ℕ, length, IfErr, IfOk, MatchResult, Ok, OnOk};
+ghost use Rattle.sg_protocol.specs.Graph.{IsGraph};
+ghost use Rattle.sg_parse.specs.Parts.{AreParts, IsPart, IsUse};
+ghost use Rattle.sg_compose.specs.Expansion.{expanded, expansion, extended, player};
+ghost use Rattle.sg_compose.specs.Laws.{IsComposed};
+ghost use Rattle.sg_compose.specs.Owed.{Refuses};
+
+use crate::add::add_use;
+use crate::end::end_of;
+use crate::fault::ComposeFault;
+use crate::fit::{clashes, has_long, roles_fit, too_large};
+use sg_base::Seq;
+use sg_graph::Graph;
+use sg_parse::{Part, Use};
+use std::alloc::Global;
+
+/// The expansion of the last part, or the first refusal: parts in the order of the text, the uses of a part in their order, and the
+/// first cause that holds. Parts that the last one doesn't use are expanded and refused too. In proportion to the parts and their
+/// expansions; it takes memory for the expansions, which it keeps while it works.
+pub fn expand(alloc: Global, parts: &[Part]) -> Result<Graph, ComposeFault>
+    requires { AreParts parts.now }
+    // The expansion, or the first refusal.
+    ensures exact { MatchResult result (λ g. expansion parts.now ≡ Ok g) (Refuses (expansion parts.now)) }
+    // Its walks, and those of the expansions that it is made of.
+    ensures walks { IfOk result (IsComposed parts.now) }
+    // It has the roles of the last part, two or more.
+    ensures two { IfOk result (λ g. 2 ≤ length g.roles) }
+{
+    expand_all(alloc, parts)
+}
+
+// The expansion of the last part.
+fn expand_all(alloc: Global, parts: &[Part]) -> Result<Graph, ComposeFault>
+    requires { AreParts parts.now }
+    ensures { MatchResult result (λ g. expansion parts.now ≡ Ok g) (Refuses (expansion parts.now)) }
+{
+    let mut graphs = Seq::new(alloc);
+    for part in parts {
+        let graph = expand_part(alloc, graphs.as_slice(), part)?;
+        if graphs.push(graph).is_err() {
+            return Err(ComposeFault::OutOfMemory);
+        }
+    }
+    match graphs.into_vec().pop() {
+        Some(graph) => Ok(graph),
+        None => Err(ComposeFault::OutOfMemory),
+    }
+}
+
+// The expansion of a part, where those before it expand to these graphs.
+fn expand_part(alloc: Global, graphs: &[Graph], part: &Part) -> Result<Graph, ComposeFault>
+    requires { IsPart (length graphs.now) part.now }
+    ensures { MatchResult result (λ g. expanded graphs.now part.now ≡ Ok g) (Refuses (expanded graphs.now part.now)) }
+{
+    let Ok(mut graph) = part.graph.copy(alloc) else {
+        return Err(ComposeFault::OutOfMemory);
+    };
+    for used in part.uses.as_slice() {
+        expand_use(alloc, part, &mut graph, &graphs[used.part as usize], used)?;
+    }
+    Ok(graph)
+}
+
+// Adds a use of a part, or answers why it can't be.
+fn expand_use(
+    alloc: Global,
+    part: &Part,
+    graph: &mut Graph,
+    inner: &Graph,
+    used: &Use,
+) -> Result<(), ComposeFault>
+    requires from { used.now.from < length graph.old.nodes }
+    requires to { used.now.to < length graph.old.nodes }
+    requires players { (r : ℕ) → player used.now r < length graph.old.roles }
+    ensures { MatchResult result (λ _. extended part.now.graph.name graph.old inner.now used.now ≡ Ok graph.new) (Refuses (extended part.now.graph.name graph.old inner.now used.now)) }
+{
+    let part = part.graph.name();
+    let use_name = used.name;
+    let Some(end) = end_of(inner) else {
+        return Err(ComposeFault::BadPart { part, use_name });
+    };
+    if !roles_fit(graph, inner, used, end) {
+        return Err(ComposeFault::BadRoles { part, use_name });
+    }
+    if has_long(inner, used, end) {
+        return Err(ComposeFault::LongName { part, use_name });
+    }
+    if clashes(alloc, graph, inner, used, end)? {
+        return Err(ComposeFault::Clash { part, use_name });
+    }
+    if too_large(graph, inner, end) {
+        return Err(ComposeFault::TooLarge { part, use_name });
+    }
+    add_use(alloc, graph, inner, used, end)
+}
