@@ -1,0 +1,5 @@
+mod Blank
+mod Moments
+mod Refusals
+mod SlotBySlot
+mod Tears
