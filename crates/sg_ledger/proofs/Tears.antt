@@ -11,12 +11,18 @@ use Rattle.sg_ledger.proofs.SlotBySlot.{slot_shut, slot_open}
 pub torn_not : (at n : ℕ) (file : List ℕ) → Torn at n file file
 torn_not at n file = record { before = refl; after = refl; no_shorter = omega arith; no_longer = omega arith }
 
+-- how long a file is after a write
+pub overlaid_long : (file : List ℕ) (at : ℕ) (bytes : List ℕ) → at ≤ length file
+    → length (overlaid file at bytes) ≡ at + (length bytes + (length file - (at + length bytes)))
+overlaid_long file at bytes within =
+    let front : length (take at file) ≡ at = length-take-le at file within in
+    omega (arith, length-append (take at file) (bytes ++ drop (at + length bytes) file), front, length-append bytes (drop (at + length bytes) file), length-drop (at + length bytes) file)
+
 -- a write that is done
 pub torn_whole : (file : List ℕ) (at : ℕ) (bytes : List ℕ) → at ≤ length file → Torn at (length bytes) file (overlaid file at bytes)
 torn_whole file at bytes within =
     let front : length (take at file) ≡ at = length-take-le at file within in
-    let long : length (overlaid file at bytes) ≡ at + (length bytes + (length file - (at + length bytes))) =
-    omega (arith, length-append (take at file) (bytes ++ drop (at + length bytes) file), front, length-append bytes (drop (at + length bytes) file), length-drop (at + length bytes) file) in
+    let long = overlaid_long file at bytes within in
     record {
       before = take_at (take at file) (bytes ++ drop (at + length bytes) file) at front;
       after =
