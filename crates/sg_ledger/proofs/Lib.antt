@@ -1,6 +1,7 @@
 mod Blank
 mod Images
 mod Moments
+mod OnceOverRuns
 mod Refusals
 mod Replay
 mod SlotBySlot

@@ -116,7 +116,7 @@ total_after old calls written call bytes tied are were took =
 pub time_after : (m : Medium) (calls : List Call) (written : List ℕ) (call : Call) (bytes : List ℕ) → all_taken m.calls ≡ length m.written
     → calls ≡ m.calls ++ call ∷ [] → written ≡ m.written ++ bytes
     → Elapses (length m.calls) (length calls) (LeftSince m) (LeftSince (record { start = m.start; calls = calls; written = written; room = m.room; most = m.most }))
-      (IsImage (platter (record { start = m.start; calls = calls; written = written; room = m.room; most = m.most })))
+    (IsImage (platter (record { start = m.start; calls = calls; written = written; room = m.room; most = m.most })))
 time_after m calls written call bytes total are were =
     subst (λ (n : Medium). Elapses (length m.calls) (length n.calls) (LeftSince m) (LeftSince n) (IsImage (platter n)))
     (λ i. record { start = m.start; calls = sym are i; written = sym were i; room = m.room; most = m.most })

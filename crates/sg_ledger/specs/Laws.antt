@@ -1,6 +1,6 @@
 -- The laws of a disk, of one in memory.
-use Rattle.std.proofs.Common.{◌≡◌, ◌⊎◌, inl, inr, ℕ, ◌≤◌, List, length, take, Option, refl, sym, ap, subst, arith}
-use Rattle.std.specs.Prelude.{Some, unwrap_or}
+use Rattle.std.proofs.Common.{◌≡◌, ◌⊎◌, inl, inr, ℕ, ◌≤◌, List, length, take, Option, refl, sym, ap, subst, arith, true≢false}
+use Rattle.std.specs.Prelude.{None, Some, is_some, unwrap_or}
 use Rattle.std.proofs.lemmas.List.{take_all}
 use Rattle.sg_ledger.specs.Memory.{Platter, at_rest, after_calls, IsImage, Medium, platter_at, platter, LeftSince}
 
@@ -16,3 +16,7 @@ now_counts m t image le is = (length m.calls, le, omega arith, subst (λ (p : Pl
 
 pub now_only : (m : Medium) (image : List ℕ) → LeftSince m (length m.calls) image → IsImage (platter m) image
 now_only m image left = subst (λ (p : Platter). IsImage p image) (whole m left.0 left.1) left.3
+
+-- what is not told is no file
+pub never_told : (file : List ℕ) → None ≡ Some file → ⊥
+never_told file is = true≢false (ap is_some (sym is))

@@ -5,4 +5,5 @@ pub mod Laws
 pub mod Memory
 pub mod Opening
 pub mod Plan
+pub mod Runs
 pub mod Tied

@@ -193,7 +193,13 @@ impl Medium {
 }
 
 // Writes the next picks over each range; `buffer` has room for one.
-fn tear_all(image: &mut Vec<u8>, buffer: &mut Vec<u8>, tears: &[(u32, u32)], picks: &[u8], room: usize)
+fn tear_all(
+    image: &mut Vec<u8>,
+    buffer: &mut Vec<u8>,
+    tears: &[(u32, u32)],
+    picks: &[u8],
+    room: usize,
+)
     requires ranges { All (λ r. r.0 + r.1 ≤ room) tears.now }
     requires image { length image.old.items ≤ room }
     requires room { room ≤ vec_capacity image.old }

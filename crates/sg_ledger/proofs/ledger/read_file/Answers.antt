@@ -17,7 +17,7 @@ pub returns-in-Ok-read-clause-images : goal.returns-in-Ok-read-clause-images
 returns-in-Ok-read-clause-images g c = λ image left.
     let then_left = c.size.ensures.images image (c.read.ensures.images image left) in
     let seen = c.in-Ok.ensures.durable image then_left in
-    sym (returns-in-Ok-read-clause-told g c image (sym c.sync.ensures.kept ∙ seen))
+    sym {A = List ℕ} (returns-in-Ok-read-clause-told g c image (sym c.sync.ensures.kept ∙ seen))
 
 pub returns-in-Ok-read-clause-any_moment : goal.returns-in-Ok-read-clause-any_moment
 returns-in-Ok-read-clause-any_moment g c =

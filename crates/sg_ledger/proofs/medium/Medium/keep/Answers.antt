@@ -36,8 +36,8 @@ invariant_of-self c =
 pub returns-clause-time : goal.returns-clause-time
 returns-clause-time c = rw (← c.self.view_is)
     (time_after
-      (record { start = c.self.inside.start.items; calls = c.self.inside.calls.items; written = c.self.inside.written.items; room = c.self.inside.room; most = c.self.inside.most })
-      c.push_within.new.list.items c.self.inside.written.items Kept [] c.self.invariant.total c.push_within.ensures.items (sym (append-nil c.self.inside.written.items)))
+    (record { start = c.self.inside.start.items; calls = c.self.inside.calls.items; written = c.self.inside.written.items; room = c.self.inside.room; most = c.self.inside.most })
+    c.push_within.new.list.items c.self.inside.written.items Kept [] c.self.invariant.total c.push_within.ensures.items (sym (append-nil c.self.inside.written.items)))
 
 pub returns-clause-state : goal.returns-clause-state
 returns-clause-state c = rw (← c.self.view_is)

@@ -44,8 +44,8 @@ invariant_of-self c =
 pub returns-clause-time : goal.returns-clause-time
 returns-clause-time c = rw (← c.self.view_is)
     (time_after
-      (record { start = c.self.inside.start.items; calls = c.self.inside.calls.items; written = c.self.inside.written.items; room = c.self.inside.room; most = c.self.inside.most })
-      c.push_within-2.new.list.items c.append_within.new.list.items (Wrote c.args.at (length c.args.bytes.now)) c.args.bytes.now c.self.invariant.total c.push_within-2.ensures.items c.append_within.ensures.items)
+    (record { start = c.self.inside.start.items; calls = c.self.inside.calls.items; written = c.self.inside.written.items; room = c.self.inside.room; most = c.self.inside.most })
+    c.push_within-2.new.list.items c.append_within.new.list.items (Wrote c.args.at (length c.args.bytes.now)) c.args.bytes.now c.self.invariant.total c.push_within-2.ensures.items c.append_within.ensures.items)
 
 pub returns-clause-state : goal.returns-clause-state
 returns-clause-state c = rw (← c.self.view_is)
