@@ -1,6 +1,7 @@
-use crate::{AddJoinFault, Disk, Ledger, MemDisk};
-use sg_base::{Role, Sid};
+use crate::{AddJoinFault, Disk, FileDisk, Ledger, MemDisk};
+use sg_base::{Failed, Role, Sid};
 use std::alloc::Global;
+use std::fs;
 use std::test::Fail;
 
 const JOIN: (Sid, Role) = (Sid([7; 32]), Role(1));
@@ -44,5 +45,19 @@ fn a_crash_within_add(rt: HostRuntime) -> Result<(), Fail> {
     assert_eq!(rt; joins_after(alloc, 3, &[2])?, Some(0));
     assert_eq!(rt; joins_after(alloc, 3, &[1])?, Some(1));
     assert_eq!(rt; joins_after(alloc, 4, &[0])?, Some(1));
+    Ok(())
+}
+
+#[test]
+fn a_ledger_in_a_file(rt: HostRuntime) -> Result<(), Fail> {
+    let alloc = rt.alloc();
+    let mut disk = FileDisk::new(rt.clone()?);
+    assert!(rt; disk.size() == Err(Failed));
+    disk.open("book")?;
+    assert!(rt; made(alloc, &mut disk)? == Ok(()));
+    let mut again = FileDisk::new(rt.clone()?);
+    again.open("./book")?;
+    assert_eq!(rt; opened(alloc, &mut again)?, Some(1));
+    fs::remove_file(&rt, "book")?;
     Ok(())
 }
