@@ -1,5 +1,5 @@
 -- Names, roles and variables as a use gives them.
-use Rattle.std.proofs.Common.{◌≡◌, ◌≢◌, ℕ, zero, suc, ◌+◌, ◌-◌, ◌<◌, ◌≤◌, ◌==◌, nat_le, nat_lt, not, Bool, true, false, ◌&&◌, ◌||◌, inl, inr, List, [], ◌∷◌, ◌++◌, map, filter, length, bytes_eq, refl, sym, ap, subst, ◌∙◌, arith}
+use Rattle.std.proofs.Common.{◌≡◌, ℕ, ◌+◌, ◌<◌, ◌≤◌, ◌==◌, nat_le, nat_lt, not, Bool, true, false, ◌||◌, inl, inr, List, [], ◌∷◌, ◌++◌, map, filter, length, bytes_eq, refl, sym, ap, subst, ◌∙◌, arith}
 use Rattle.std.specs.List.{list_all}
 use Rattle.std.proofs.lemmas.Bool.{eq-eqb}
 use Rattle.std.proofs.lemmas.Bool.Decides.{nat_tests}
@@ -7,7 +7,7 @@ use Rattle.std.proofs.lemmas.List.{map-append}
 use Rattle.std.proofs.lemmas.Slice.Eq.{bytes_eq-Decides}
 use Rattle.sg_base.specs.Sets.{with_member}
 use Rattle.sg_base.proofs.SetLaws.{is_in-filter, filter-range_from}
-use Rattle.sg_model.specs.Lists.{below, range_from, is_in, has_text, rises_from}
+use Rattle.sg_model.specs.Lists.{below, is_in, has_text, rises_from}
 use Rattle.sg_model.specs.Names.{Name, reserved}
 use Rattle.sg_protocol.specs.Graph.{AreNumbers}
 use Rattle.sg_graph.proofs.Found.{cases_of}

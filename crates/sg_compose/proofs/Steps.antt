@@ -1,9 +1,9 @@
 -- Uses and parts, one after the other, as loops expand them.
-use Rattle.std.proofs.Common.{◌≡◌, ℕ, zero, suc, ◌+◌, ◌-◌, ◌<◌, ◌≤◌, List, [], ◌∷◌, ◌++◌, length, get_or, drop, Some, Ok, Err, Result, refl, sym, ap, subst, ◌∙◌, arith, drop-cons, add-one, length-append}
+use Rattle.std.proofs.Common.{◌≡◌, ℕ, zero, suc, ◌+◌, ◌<◌, ◌≤◌, List, [], ◌∷◌, ◌++◌, length, get_or, drop, Some, Ok, Err, Result, refl, sym, ap, subst, ◌∙◌, arith, drop-cons, add-one, length-append}
 use Rattle.std.specs.Prelude.{All, slice_get}
 use Rattle.sg_protocol.specs.Graph.{Graph}
 use Rattle.sg_graph.specs.Adding.{no_parts}
-use Rattle.sg_parse.specs.Parts.{Use, Part, IsUse, IsPart, AreParts}
+use Rattle.sg_parse.specs.Parts.{Use, Part, IsPart, AreParts}
 use Rattle.sg_compose.specs.declared.fault.ComposeFault.{ComposeFault}
 use Rattle.sg_compose.specs.declared.fault.ComposeFault.TheVariants.{BadPart, BadRoles, LongName, Clash, TooLarge, OutOfMemory}
 use Rattle.sg_compose.specs.Expansion.{new_nodes, extended, player, graph_at, all_used, followed, expanded, expansions, last_graph}

@@ -1,5 +1,5 @@
-use Rattle.std.proofs.Common.{ℕ, ◌≡◌, ◌≢◌, ◌<◌, ◌≤◌, ◌+◌, ◌-◌, length, arith, inl, inr}
-use Rattle.sg_compose.specs.Expansion.{inside, stands}
+use Rattle.std.proofs.Common.{◌≡◌, ◌≢◌, ◌≤◌, ◌+◌, ◌-◌, length, arith, inl, inr}
+use Rattle.sg_compose.specs.Expansion.{inside}
 use Rattle.sg_compose.proofs.Ends.{inside_length}
 use Rattle.sg_compose.proofs.Joining.{stands-below}
 use Rattle.sg_compose.proofs.Renaming.{number-below, numbers-grow, rising-numbers}

@@ -1,4 +1,4 @@
-use Rattle.std.proofs.Common.{◌<◌, arith}
+use Rattle.std.proofs.Common.{arith}
 use Rattle.sg_compose.specs.Expansion.{player}
 use Rattle.sg_compose.proofs.Renaming.{numbers-grow, rising-numbers, rising-some}
 use Rattle.sg_compose.proofs.add.add_var.Goals as goal

@@ -1,4 +1,4 @@
-use Rattle.std.proofs.Common.{◌≡◌, ◌<◌, false, true, length, set, ap, ◌∙◌, arith, refl}
+use Rattle.std.proofs.Common.{◌<◌, false, true, length, ap, ◌∙◌, arith, refl}
 use Rattle.std.proofs.lemmas.List.{get_or-replicate, length-set}
 use Rattle.sg_compose.proofs.Ends.{mark-more}
 use Rattle.sg_compose.proofs.end.nodes_left.Goals as goal

@@ -1,7 +1,6 @@
-use Rattle.std.proofs.Common.{◌≡◌, ◌<◌, ◌==◌, ◌≤◌, ◌+◌, not, false, true, length, ap, sym, subst, ◌∙◌, arith, refl}
-use Rattle.std.specs.List.{list_any}
-use Rattle.sg_compose.specs.Expansion.{is_final, finals}
-use Rattle.sg_compose.proofs.Ends.{Counted, counted-there, counted-away}
+use Rattle.std.proofs.Common.{◌≡◌, ◌<◌, not, false, true, ap, sym, ◌∙◌, arith}
+use Rattle.sg_compose.specs.Expansion.{is_final}
+use Rattle.sg_compose.proofs.Ends.{counted-there, counted-away}
 use Rattle.sg_compose.proofs.end.sole_final.Goals as goal
 use Rattle.sg_compose.proofs.end.sole_final.Goals.{then-not-left-number, else-not-left-number}
 

@@ -1,4 +1,4 @@
-use Rattle.std.proofs.Common.{◌≡◌, ◌<◌, length, sym, subst, ap, ◌∙◌}
+use Rattle.std.proofs.Common.{◌≡◌, length, sym, subst, ap, ◌∙◌}
 use Rattle.sg_parse.specs.Parts.{IsPart}
 use Rattle.sg_compose.proofs.Steps.{part-there}
 use Rattle.sg_compose.proofs.expansion.expand_all.Goals as goal

@@ -1,8 +1,7 @@
 use Rattle.std.proofs.Common.{◌≡◌, ◌<◌, true, false, length, [], sym, refl, ap, ◌∙◌, arith}
 use Rattle.std.proofs.lemmas.List.Folds.{list_any_at, list_any_more}
-use Rattle.sg_protocol.specs.Graph.{Int, Variable, Edge}
-use Rattle.sg_model.specs.Lists.{has_text}
-use Rattle.sg_graph.specs.Parts.{variable_names, edge_names, variable_at, edge_at}
+use Rattle.sg_protocol.specs.Graph.{Edge}
+use Rattle.sg_graph.specs.Parts.{edge_at}
 use Rattle.sg_compose.specs.Expansion.{inner_name, is_long}
 use Rattle.sg_compose.proofs.fit.has_long_edge.Goals as goal
 

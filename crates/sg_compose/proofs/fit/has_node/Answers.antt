@@ -1,8 +1,8 @@
-use Rattle.std.proofs.Common.{◌≡◌, ◌<◌, ◌&&◌, true, false, length, sym, ◌∙◌, arith}
+use Rattle.std.proofs.Common.{◌<◌, length, sym, ◌∙◌, arith}
 use Rattle.sg_model.specs.Lists.{has_text}
 use Rattle.sg_protocol.specs.Graph.{node_name}
 use Rattle.sg_graph.specs.Parts.{node_names}
-use Rattle.sg_compose.specs.Expansion.{inner_name, is_long, is_inside}
+use Rattle.sg_compose.specs.Expansion.{inner_name, is_inside}
 use Rattle.sg_compose.proofs.Ends.{any-inside-more, any-inside-hit}
 use Rattle.sg_compose.proofs.fit.has_node.Goals as goal
 

@@ -1,9 +1,9 @@
 use Rattle.std.proofs.Common.{◌≡◌, false, take}
 use Rattle.std.specs.List.{list_any}
-use Rattle.sg_protocol.specs.Graph.{Variable, Edge}
+use Rattle.sg_protocol.specs.Graph.{Variable}
 use Rattle.sg_model.specs.Lists.{has_text}
-use Rattle.sg_graph.specs.Parts.{variable_names, edge_names}
-use Rattle.sg_compose.specs.Expansion.{inner_name, is_long}
+use Rattle.sg_graph.specs.Parts.{variable_names}
+use Rattle.sg_compose.specs.Expansion.{inner_name}
 use Rattle.sg_compose.proofs.fit.has_var.Given as goal
 
 abbrev pub invariant-loop-number : goal.invariant-loop-number

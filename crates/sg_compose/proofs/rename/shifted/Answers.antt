@@ -1,5 +1,4 @@
-use Rattle.std.proofs.Common.{◌≡◌, ◌≤◌, ◌<◌, ◌+◌, ◌-◌, true, false, sym, ap, ◌∙◌, arith}
-use Rattle.sg_base.specs.Sets.{with_member}
+use Rattle.std.proofs.Common.{◌≡◌, ◌≤◌, ◌<◌, ◌+◌, ◌-◌, true, false, sym, ◌∙◌, arith}
 use Rattle.sg_model.specs.Lists.{is_in}
 use Rattle.sg_compose.proofs.Renaming.{gathered-none, gathered-there, gathered-away, gathered-all, number-below}
 use Rattle.sg_compose.proofs.rename.shifted.Goals as goal
