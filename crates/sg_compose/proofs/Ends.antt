@@ -11,7 +11,8 @@ use Rattle.sg_model.specs.Shape as Shapes
 use Rattle.sg_protocol.specs.Graph.{Graph, Edge, shape}
 use Rattle.sg_graph.specs.Parts.{edge_at}
 use Rattle.sg_graph.proofs.Found.{cases_of}
-use Rattle.sg_graph.proofs.Growth.{both, below-suc}
+use Rattle.sg_base.proofs.Ranges.{below-suc}
+use Rattle.sg_graph.proofs.Growth.{both}
 use Rattle.std.proofs.lemmas.List.Folds.{list_any_more, list_any-append}
 use Rattle.std.proofs.lemmas.List.Elements.{filter-append}
 use Rattle.std.proofs.lemmas.List.{get_or-set_same, get_or-set_other}
