@@ -101,7 +101,7 @@ fn loads_the_warehouse_of_shop(rt: HostRuntime) -> Result<(), Fail> {
 }
 
 // Where a text is malformed, if it is.
-fn malformed(alloc: Global, text: &str) -> Result<Option<usize>, Fail> {
+fn malformed(alloc: Global, text: &str) -> Result<Option<u32>, Fail> {
     match Program::load(alloc, text.as_bytes()) {
         Ok(_) => Ok(None),
         Err(LoadFault::Malformed { at }) => Ok(Some(at)),
