@@ -67,12 +67,19 @@ fn refusal(alloc: Global, text: &[u8]) -> (u8, u8) {
     };
     match expand(alloc, parts.as_slice()) {
         Ok(_) => (0, 0),
-        Err(ComposeFault::BadPart { use_name, .. }) => (1, last_byte(&use_name)),
-        Err(ComposeFault::BadRoles { use_name, .. }) => (2, last_byte(&use_name)),
-        Err(ComposeFault::LongName { use_name, .. }) => (3, last_byte(&use_name)),
-        Err(ComposeFault::Clash { use_name, .. }) => (4, last_byte(&use_name)),
-        Err(ComposeFault::TooLarge { use_name, .. }) => (5, last_byte(&use_name)),
-        Err(ComposeFault::OutOfMemory) => (6, 0),
+        Err(fault) => kind_of(&fault),
+    }
+}
+
+// The refusal's kind and the last byte of the use's name.
+fn kind_of(fault: &ComposeFault) -> (u8, u8) {
+    match fault {
+        ComposeFault::BadPart { part: _, use_name } => (1, last_byte(use_name)),
+        ComposeFault::BadRoles { part: _, use_name } => (2, last_byte(use_name)),
+        ComposeFault::LongName { part: _, use_name } => (3, last_byte(use_name)),
+        ComposeFault::Clash { part: _, use_name } => (4, last_byte(use_name)),
+        ComposeFault::TooLarge { part: _, use_name } => (5, last_byte(use_name)),
+        ComposeFault::OutOfMemory => (6, 0),
     }
 }
 
