@@ -7,7 +7,7 @@ use Rattle.std.proofs.lemmas.List.{take_more, map-append, length-map, length-tak
 use Rattle.sg_protocol.specs.Schedule as Protocol
 use Rattle.sg_protocol.specs.Schedule.{Schedule, StartStep, ActStep, AbandonStep, DeliverStep, CraftStep, Whole, Flipped, Cut, Bytes}
 use Rattle.sg_sched.specs.Steps.{step_of}
-use Rattle.sg_sched.specs.declared.step.Step.{Step}
+use Rattle.sg_sched.specs.declared.first_path.step.Step.{Step}
 use Rattle.sg_world.specs.Forms.{IsPairStep}
 use Rattle.sg_world.specs.Steps.{with_step}
 

@@ -5,10 +5,10 @@ use Rattle.sg_protocol.specs.Graph.{Graph}
 use Rattle.sg_protocol.specs.Schedule.{Schedule}
 use Rattle.sg_parse.specs.declared.fault.ParseFault.{ParseFault}
 use Rattle.sg_program.specs.declared.check.CompileFault.{CompileFault}
-use Rattle.sg_sched.specs.declared.fault.Kind.{Kind}
-use Rattle.sg_sched.specs.declared.fault.Kind.TheVariants.{Form, Unknown, Twice, NotHonest, TooManySteps}
-use Rattle.sg_sched.specs.declared.fault.LineFault.{LineFault}
-use Rattle.sg_sched.specs.declared.fault.LineFault.TheVariants.{Line, OutOfMemory}
+use Rattle.sg_sched.specs.declared.first_path.fault.Kind.{Kind}
+use Rattle.sg_sched.specs.declared.first_path.fault.Kind.TheVariants.{Form, Unknown, Twice, NotHonest, TooManySteps}
+use Rattle.sg_sched.specs.declared.first_path.fault.LineFault.{LineFault}
+use Rattle.sg_sched.specs.declared.first_path.fault.LineFault.TheVariants.{Line, OutOfMemory}
 use Rattle.sg_cli.specs.Refusal.{parse_text, refusal_text}
 
 -- how the program ends

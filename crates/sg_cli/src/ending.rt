@@ -8,7 +8,7 @@ use sg_base::{ByteOut, OutOfMemory};
 use sg_graph::Graph;
 use sg_parse::ParseFault;
 use sg_program::CompileFault;
-use sg_sched::Kind;
+use sg_sched::first_path::Kind;
 use std::alloc::Global;
 
 /// How the program ends.

@@ -17,7 +17,7 @@ use crate::file::read_file;
 use sg_base::{Files, OutOfMemory, Sink, write_all};
 use sg_graph::Graph;
 use sg_program::{AllFault, Programs, compile_all};
-use sg_sched::{Kind, LineFault, Schedule, read_schedule};
+use sg_sched::first_path::{Kind, LineFault, Schedule, read_schedule};
 use sg_world::World;
 use std::alloc::Global;
 

@@ -36,10 +36,10 @@ abbrev FirstPart : ℕ → List ℕ → Type 0
 FirstPart mark bs = slice_split (λ b. b == mark) bs ≡ take (place mark bs) bs ∷ parts_after mark (drop (place mark bs) bs)
 
 -- at a mark, and before the mark
-place_yes : (mark c : ℕ) (cs : List ℕ) → (c == mark) ≡ true → place mark (c ∷ cs) ≡ 0
+pub place_yes : (mark c : ℕ) (cs : List ℕ) → (c == mark) ≡ true → place mark (c ∷ cs) ≡ 0
 place_yes mark c cs e = grind (arith, common_steps)
 
-place_no : (mark c : ℕ) (cs : List ℕ) → (c == mark) ≡ false → place mark (c ∷ cs) ≡ suc (place mark cs)
+pub place_no : (mark c : ℕ) (cs : List ℕ) → (c == mark) ≡ false → place mark (c ∷ cs) ≡ suc (place mark cs)
 place_no mark c cs e = grind (arith, common_steps)
 
 part_more : (mark c : ℕ) (cs : List ℕ) (n m : ℕ) → m ≡ suc n → slice_split (λ b. b == mark) cs ≡ take n cs ∷ parts_after mark (drop n cs) →

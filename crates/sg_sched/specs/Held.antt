@@ -1,8 +1,8 @@
 -- What the program holds, as the values of the definitions.
 use Rattle.std.specs.Prelude.{ℕ, Option, option_map, ⊤}
 use Rattle.sg_protocol.specs.TextLaws.{IsVersion}
-use Rattle.sg_sched.specs.declared.line.Line.{Line}
-use Rattle.sg_sched.specs.declared.line.Line.TheVariants.{Edge, Honest, Key, Session, Start, Act, Deliver}
+use Rattle.sg_sched.specs.declared.first_path.line.Line.{Line}
+use Rattle.sg_sched.specs.declared.first_path.line.Line.TheVariants.{Edge, Honest, Key, Session, Start, Act, Deliver}
 use Rattle.sg_sched.specs.Forms.{Said, SaidEdge, SaidHonest, SaidKey, SaidSession, SaidStart, SaidAct, SaidDeliver, Left}
 
 -- what a line that is held says

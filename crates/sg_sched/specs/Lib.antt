@@ -8,3 +8,4 @@ pub mod Spelled
 pub mod Edges
 pub mod Steps
 pub mod Taken
+pub mod Format

@@ -12,8 +12,8 @@ use Rattle.sg_protocol.specs.Crafted.{nonce_of}
 use Rattle.sg_sched.specs.Text.{content, words}
 use Rattle.sg_sched.specs.Forms.{Said, SaidEdge, SaidHonest, SaidKey, SaidSession, SaidStart, SaidAct, SaidDeliver, form}
 use Rattle.sg_sched.specs.Pair.{edge, graphs_of}
-use Rattle.sg_sched.specs.declared.fault.Kind.{Kind}
-use Rattle.sg_sched.specs.declared.fault.Kind.TheVariants.{Form, Unknown, Twice, NotHonest, TooManySteps}
+use Rattle.sg_sched.specs.declared.first_path.fault.Kind.{Kind}
+use Rattle.sg_sched.specs.declared.first_path.fault.Kind.TheVariants.{Form, Unknown, Twice, NotHonest, TooManySteps}
 
 -- what is declared, the steps, and the group that the last line belongs to: 0 graphs, 1 honest, 2 key, 3 session, 4 steps
 pub record SoFar : Type 0 where

@@ -3,8 +3,8 @@ use Rattle.std.specs.Prelude.{◌≡◌, ℕ, suc, List, [], ◌∷◌, Result, 
 use Rattle.sg_protocol.specs.Schedule.{Schedule}
 use Rattle.sg_sched.specs.Text.{lines}
 use Rattle.sg_sched.specs.SoFar.{SoFar, Added, nothing, schedule_of, add_line}
-use Rattle.sg_sched.specs.declared.fault.LineFault.{LineFault}
-use Rattle.sg_sched.specs.declared.fault.LineFault.TheVariants.{Line}
+use Rattle.sg_sched.specs.declared.first_path.fault.LineFault.{LineFault}
+use Rattle.sg_sched.specs.declared.first_path.fault.LineFault.TheVariants.{Line}
 
 -- goes on after line n, where that is not wrong
 abbrev pub go_on : {A : Type 0} → ℕ → Added → (SoFar → Result A LineFault) → Result A LineFault

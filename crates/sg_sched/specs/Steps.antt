@@ -4,12 +4,12 @@ use Rattle.sg_base.specs.declared.value.Value.{Value}
 use Rattle.sg_base.specs.Values.{value_of}
 use Rattle.sg_protocol.specs.Schedule as Protocol
 use Rattle.sg_protocol.specs.Schedule.{StartStep, ActStep, DeliverStep, Whole as WholeFrame}
-use Rattle.sg_sched.specs.declared.step.Step.{Step}
-use Rattle.sg_sched.specs.declared.step.Step.TheVariants.{Start, Act, Deliver}
-use Rattle.sg_sched.specs.declared.step.What.{What}
-use Rattle.sg_sched.specs.declared.step.What.TheVariants.{Frame}
-use Rattle.sg_sched.specs.declared.step.Change.{Change}
-use Rattle.sg_sched.specs.declared.step.Change.TheVariants.{Whole}
+use Rattle.sg_sched.specs.declared.first_path.step.Step.{Step}
+use Rattle.sg_sched.specs.declared.first_path.step.Step.TheVariants.{Start, Act, Deliver}
+use Rattle.sg_sched.specs.declared.first_path.step.What.{What}
+use Rattle.sg_sched.specs.declared.first_path.step.What.TheVariants.{Frame}
+use Rattle.sg_sched.specs.declared.first_path.step.Change.{Change}
+use Rattle.sg_sched.specs.declared.first_path.step.Change.TheVariants.{Whole}
 
 -- a recorded frame, as it is changed
 abbrev pub changed : ℕ → Change → Protocol.What

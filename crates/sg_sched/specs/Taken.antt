@@ -1,12 +1,12 @@
 -- How the program takes a line, as the definition adds it.
 use Rattle.std.specs.Prelude.{◌≡◌, ℕ, Result, Ok, Err, OnOk, IfErr, ⊤}
 use Rattle.sg_sched.specs.SoFar.{SoFar, Added}
-use Rattle.sg_sched.specs.declared.fault.Stop.{Stop}
-use Rattle.sg_sched.specs.declared.fault.Stop.TheVariants.{Wrong, OutOfMemory}
-use Rattle.sg_sched.specs.declared.fault.LineFault.{LineFault}
-use Rattle.sg_sched.specs.declared.fault.LineFault.TheVariants.{Line, OutOfMemory as NoMemory}
-use Rattle.sg_sched.specs.declared.group.Group.{Group}
-use Rattle.sg_sched.specs.declared.group.Group.TheVariants.{Graphs, Honest, Keys, Sessions, Steps}
+use Rattle.sg_sched.specs.declared.first_path.fault.Stop.{Stop}
+use Rattle.sg_sched.specs.declared.first_path.fault.Stop.TheVariants.{Wrong, OutOfMemory}
+use Rattle.sg_sched.specs.declared.first_path.fault.LineFault.{LineFault}
+use Rattle.sg_sched.specs.declared.first_path.fault.LineFault.TheVariants.{Line, OutOfMemory as NoMemory}
+use Rattle.sg_sched.specs.declared.first_path.group.Group.{Group}
+use Rattle.sg_sched.specs.declared.first_path.group.Group.TheVariants.{Graphs, Honest, Keys, Sessions, Steps}
 
 -- the number of a group
 abbrev pub group_number : Group → ℕ

@@ -13,7 +13,7 @@ use std::alloc::Global;
 
 /// The cast of a session of the graph, or `None` where there are not as many principals as roles.
 #[tactic(auto, unfolding(crate::specs::SoFar::cast_for))]
-pub(crate) fn cast_for(
+pub fn cast_for(
     alloc: Global,
     graph: &Graph,
     nonce: u64,
@@ -34,7 +34,8 @@ pub(crate) fn cast_for(
     }
 }
 
-fn digest_of(alloc: Global, graph: &Graph) -> Result<[u8; 32], OutOfMemory>
+/// The digest of the graph's canonical text.
+pub fn digest_of(alloc: Global, graph: &Graph) -> Result<[u8; 32], OutOfMemory>
     ensures { IfOk result (λ d. d ≡ graph_digest real graph.now) }
 {
     let text = canonical_text(alloc, graph)?;
@@ -42,7 +43,7 @@ fn digest_of(alloc: Global, graph: &Graph) -> Result<[u8; 32], OutOfMemory>
 }
 
 /// Eight zeros, and the number in eight bytes, the greatest first.
-fn nonce_bytes(number: u64) -> [u8; 16]
+pub fn nonce_bytes(number: u64) -> [u8; 16]
     ensures { result ≡ nonce_of number }
 {
     let mut bytes = [0u8; 16];

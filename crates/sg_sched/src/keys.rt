@@ -2,6 +2,7 @@
 ghost use Rattle.std.specs.Prelude.{◌≡◌, ◌++◌, [], ◌∷◌, false, OnOk};
 ghost use Rattle.std.specs.List.{list_any};
 ghost use Rattle.sg_sched.specs.SoFar.{is_of, has_key};
+ghost use Rattle.sg_sched.specs.Format.Items.{is_key_of};
 
 use crate::key::PairKey;
 use indexmap::IndexSet;
@@ -11,7 +12,7 @@ use std::marker::Model;
 
 /// Keys in the order of their lines. A clause sees their list.
 #[derive(Drop)]
-pub(crate) struct Keys {
+pub struct Keys {
     list: Seq<PairKey>,
     pairs: IndexSet<Both>,
 }
@@ -60,6 +61,14 @@ impl Keys {
             two: *two,
         };
         self.pairs.contains(&both)
+    }
+
+    /// Whether the pair of principals has a key.
+    #[tactic(auto, using(crate::proofs::KeyAmong::key_among))]
+    pub fn has_pair(&self, one: &Name, two: &Name) -> bool
+        ensures { result ≡ list_any (is_key_of one.now two.now) self.now }
+    {
+        self.has(one, two)
     }
 
     /// Adds the key of two principals that have none.

@@ -13,35 +13,46 @@
 //! | `act NAME SESSION LABEL` | the principal sends along the label |
 //! | `deliver NAME fN` | the principal is given recorded frame N, counted from 1 |
 //!
-//! So far there is at most one session, its principals are honest, and no values, crafted frames or graph texts are read; a line with
-//! these is of no form.
+//! `first_path` reads schedules of these lines with at most one session, whose principals are honest: it answers the schedule that the
+//! bytes spell, or the first wrong line from the top and what is wrong with it.
 //!
-//! The reader answers the schedule that the bytes spell, or the first wrong line from the top and what is wrong with it. It reads each
-//! byte once. Names of principals, pairs and sessions are found by an index; only the labels of a graph, at most 512, are gone over.
+//! The whole format has blocks of graph text, values, changed and raw deliveries, abandonments and crafted frames besides. What its bytes
+//! spell, and their first wrong line, stands in `specs/Format`. Each line of it is read by its form, exactly: what is read is what the
+//! words say, and what the words of a form say is read. Each byte is read once, or twice where a value is tested and then kept.
 #![tactic(auto)]
 
-mod cast;
+mod act;
+pub mod cast;
+mod craft;
+mod craft_form;
 mod fault;
-mod group;
+pub mod first_path;
+mod form;
 mod key;
-mod keys;
-mod line;
+pub mod keys;
+pub mod line;
 mod name_set;
-mod node_name;
-mod pair;
-mod read;
-mod reader;
+pub mod node_name;
+pub mod pair;
+pub mod place;
+pub mod read_line;
 mod schedule;
-mod sessions;
 mod step;
 mod text;
-mod word;
+pub mod value;
+pub mod word;
 
+pub use act::{read_given, split_at};
+pub use craft::{Craft, CraftItem, CraftJoin, Source};
 pub use fault::{Kind, LineFault};
 pub use key::PairKey;
-pub use read::read_schedule;
+pub use line::Given;
+pub use name_set::NameSet;
+pub use read_line::is_skipped;
 pub use schedule::{Declared, Schedule};
 pub use step::{Change, Step, What};
+pub use text::{Words, line_content, split_line};
+pub use value::read_value;
 
 #[cfg(test)]
 mod tests;

@@ -1,278 +1,245 @@
 //! What a line of a schedule says, word by word.
-ghost use Rattle.std.specs.Prelude.{◌≡◌, ◌≤◌, length, IfOk, IfSome, option_map};
-ghost use Rattle.sg_sched.specs.Words.{name, number, names, key, frame};
-ghost use Rattle.sg_sched.specs.Forms.{word, version, edge_form, honest_form, key_form, session_form, start_form, act_form, deliver_form, form};
-ghost use Rattle.sg_sched.specs.Held.{said, taken, Fits};
-ghost use Rattle.sg_sched.specs.Taken.{group_number};
-ghost use Rattle.sg_protocol.specs.TextLaws.{IsVersion};
+use crate::craft::CraftJoin;
+use crate::name_set::NameSet;
+use sg_base::{Name, Seq};
+use std::marker::Model;
 
-use crate::group::Group;
-use crate::key::PairKey;
-use crate::name_set::{NameSet, read_names};
-use crate::text::Words;
-use crate::word::{read_frame, read_key, read_name, read_number};
-use sg_base::{Name, OutOfMemory};
-use std::alloc::Global;
-
-/// What a line says: a declaration, or a step with the names that it uses.
+/// `VAR=VALUE`, the value as it is written.
 #[derive(Drop)]
-pub(crate) enum Line {
-    Edge {
-        label: Name,
-        from: u8,
-        to: u8,
+pub struct Given<'a> {
+    /// The name of the variable.
+    pub variable: Name,
+    /// The written value, which spells one.
+    pub value: &'a [u8],
+}
+
+impl<'a> Model for Given<'a> {
+    ghost use Rattle.sg_sched.specs.Format.Said.{Given};
+
+    ghost Value = { Given };
+
+    ghost view = { λ g. record { variable = g.variable; value = g.value.now } };
+}
+
+/// What is delivered: a recorded frame, whole, changed in a bit or cut short, or bytes as hexadecimal digits.
+#[derive(Drop)]
+pub enum Delivered<'a> {
+    /// The frame of this number.
+    Frame(u32),
+    /// The frame with a bit changed.
+    Flipped {
+        /// The frame's number, from 1.
+        number: u32,
+        /// The offset of the changed byte.
+        at: u32,
     },
-    Honest(Name),
-    Key(PairKey),
-    Session {
-        name: Name,
-        graph: Name,
-        nonce: u64,
-        names: NameSet,
-        version: u8,
+    /// The first bytes of the frame.
+    Cut {
+        /// The frame's number, from 1.
+        number: u32,
+        /// How many of them.
+        len: u32,
     },
-    Start {
-        who: Name,
-        session: Name,
+    /// The digits of one byte or more.
+    Bytes(&'a [u8]),
+}
+
+/// `VAR=VALUE#K`, the value as it is written.
+#[derive(Drop)]
+pub struct Committed<'a> {
+    /// The name of the variable.
+    pub variable: Name,
+    /// The written value, which spells one.
+    pub value: &'a [u8],
+    /// The number of the step whose confounder it is.
+    pub step: u64,
+}
+
+impl<'a> Model for Committed<'a> {
+    ghost use Rattle.sg_sched.specs.Format.Said.{Committed};
+
+    ghost Value = { Committed };
+
+    ghost view = { λ c. record { variable = c.variable; value = c.value.now; step = c.step } };
+}
+
+/// Where a crafted tag comes from.
+#[derive(Drop)]
+pub enum From {
+    /// It is made under a key.
+    Key {
+        /// One principal.
+        one: Name,
+        /// The other.
+        two: Name,
     },
-    Act {
-        who: Name,
-        session: Name,
-        label: Name,
+    /// It is that of an item.
+    Item {
+        /// The frame's number, from 1.
+        frame: u32,
+        /// The item's number, from 1; no frame has an item 0.
+        item: u32,
+        /// The name of the role.
+        role: Name,
     },
-    Deliver {
-        who: Name,
+    /// It is that of a frame.
+    Seal {
+        /// The frame's number, from 1.
         frame: u32,
     },
+    /// It is 32 zero bytes.
+    Zero,
 }
 
-impl Line {
-    ghost use Rattle.sg_sched.specs.Held.{group_of};
-
-    /// The group in which such a line stands.
-    pub fn group(&self) -> Group
-        ensures { group_number result ≡ group_of self.now }
-    {
-        match self {
-            Line::Edge { .. } => Group::Graphs,
-            Line::Honest(_) => Group::Honest,
-            Line::Key(_) => Group::Keys,
-            Line::Session { .. } => Group::Sessions,
-            Line::Start { .. } | Line::Act { .. } | Line::Deliver { .. } => Group::Steps,
-        }
-    }
+/// `tag ROLE SOURCE`.
+#[derive(Drop)]
+pub struct TagLine {
+    /// The name of the role.
+    pub role: Name,
+    /// Where its tag comes from.
+    pub from: From,
 }
 
-#[tactic(auto, unfolding(crate::specs::Forms::word))]
-fn take_name(words: &mut Words) -> Option<Name>
-    ensures { word name words.old ≡ taken result words.new }
-{
-    read_name(words.next()?)
+impl Model for TagLine {
+    ghost use Rattle.sg_model.specs.Names.{Name};
+    ghost use Rattle.sg_sched.specs.Format.Said.{From};
+    ghost use Rattle.sg_sched.specs.Format.Sources.{from_of};
+
+    ghost Value = { Name × From };
+
+    ghost view = { λ t. (t.role, from_of t.from) };
 }
 
-#[tactic(auto, unfolding(crate::specs::Forms::word))]
-fn take_number(words: &mut Words, most: u64) -> Option<u64>
-    ensures taken { word (number most) words.old ≡ taken result words.new }
-    ensures within { IfSome result (λ n. n ≤ most) }
-{
-    read_number(words.next()?, most)
+/// `item LABEL TIME`, commitments and tags.
+#[derive(Drop)]
+pub struct ItemLine<'a> {
+    /// The name of the label.
+    pub label: Name,
+    /// The time.
+    pub time: u32,
+    /// The commitments.
+    pub delta: Seq<Committed<'a>>,
+    /// The tags.
+    pub tags: Seq<TagLine>,
 }
 
-#[tactic(auto, unfolding(crate::specs::Forms::word))]
-fn take_key(words: &mut Words) -> Option<[u8; 32]>
-    ensures { word key words.old ≡ taken result words.new }
-{
-    read_key(words.next()?)
+impl<'a> Model for ItemLine<'a> {
+    ghost use Rattle.sg_sched.specs.Format.Said.{SaidItem};
+
+    ghost Value = { SaidItem };
+
+    ghost view = { λ i. record { label = i.label; time = i.time; delta = i.delta; tags = i.tags } };
 }
 
-#[tactic(auto, unfolding(crate::specs::Forms::word))]
-fn take_frame(words: &mut Words) -> Option<u32>
-    ensures { word frame words.old ≡ taken result words.new }
-{
-    read_frame(words.next()?)
+/// The words of a craft.
+#[derive(Drop)]
+pub struct CraftLine<'a> {
+    /// The name of the session.
+    pub session: Name,
+    /// The name of the sender's role.
+    pub from: Name,
+    /// The name of the receiver's role.
+    pub to: Name,
+    /// What the frame joins with, if it joins.
+    pub join: Option<CraftJoin>,
+    /// What the commitments of the items begin with.
+    pub know: Seq<Committed<'a>>,
+    /// The items.
+    pub items: Seq<ItemLine<'a>>,
+    /// The openings.
+    pub openings: Seq<Committed<'a>>,
+    /// Where the frame's tag comes from.
+    pub seal: From,
 }
 
-#[tactic(auto, unfolding(crate::specs::Forms::word))]
-fn take_names(alloc: Global, words: &mut Words) -> Result<Option<NameSet>, OutOfMemory>
-    ensures { IfOk result (λ o. word names words.old ≡ taken o words.new) }
-{
-    match words.next() {
-        Some(word) => read_names(alloc, word),
-        None => Ok(None),
-    }
+impl<'a> Model for CraftLine<'a> {
+    ghost use Rattle.sg_sched.specs.Format.Said.{SaidCraft};
+    ghost use Rattle.sg_sched.specs.Format.Sources.{from_of};
+
+    ghost Value = { SaidCraft };
+
+    ghost view = { λ c. record {
+      session = c.session;
+      from = c.from;
+      to = c.to;
+      join = c.join;
+      know = c.know;
+      items = c.items;
+      openings = c.openings;
+      seal = from_of c.seal;
+    } };
 }
 
-/// The version of a session's frames: 1, or 2 where the word `v2` stands.
-#[tactic(auto, unfolding(crate::specs::Forms::version))]
-fn take_version(words: &mut Words) -> Option<u8>
-    ensures taken { version words.old ≡ taken result words.new }
-    ensures version { IfSome result IsVersion }
-{
-    match words.next() {
-        None => Some(1),
-        Some(word) if word == b"v2".as_slice() => Some(2),
-        Some(_) => None,
-    }
-}
-
-/// `edge LABEL FROM TO`, after its first word.
-#[tactic(auto, unfolding(crate::specs::Forms::edge_form))]
-fn edge(words: &mut Words) -> Option<Line>
-    ensures said { option_map said result ≡ edge_form words.old }
-    ensures fits { IfSome result Fits }
-{
-    let label = take_name(words)?;
-    let from = take_number(words, 255)?;
-    let to = take_number(words, 255)?;
-    if !words.is_empty() {
-        return None;
-    }
-    if from % 2 == to % 2 {
-        return None;
-    }
-    Some(Line::Edge {
-        label,
-        from: from as u8,
-        to: to as u8,
-    })
-}
-
-/// `honest NAME`, after its first word.
-#[tactic(auto, unfolding(crate::specs::Forms::honest_form))]
-fn honest(words: &mut Words) -> Option<Line>
-    ensures said { option_map said result ≡ honest_form words.old }
-    ensures fits { IfSome result Fits }
-{
-    let who = take_name(words)?;
-    if !words.is_empty() {
-        return None;
-    }
-    Some(Line::Honest(who))
-}
-
-/// `key NAME NAME HEX`, after its first word.
-#[tactic(auto, unfolding(crate::specs::Forms::key_form))]
-fn key(words: &mut Words) -> Option<Line>
-    ensures said { option_map said result ≡ key_form words.old }
-    ensures fits { IfSome result Fits }
-{
-    let one = take_name(words)?;
-    let two = take_name(words)?;
-    let key = take_key(words)?;
-    if !words.is_empty() {
-        return None;
-    }
-    if one.as_bytes() == two.as_bytes() {
-        return None;
-    }
-    Some(Line::Key(PairKey { one, two, key }))
-}
-
-/// `session NAME GRAPH NONCE NAME,NAME,..` and maybe `v2`, after its first word.
-#[tactic(auto, unfolding(crate::specs::Forms::session_form))]
-fn session(alloc: Global, words: &mut Words) -> Result<Option<Line>, OutOfMemory>
-    ensures said { IfOk result (λ line. option_map said line ≡ session_form words.old) }
-    ensures fits { IfOk result (λ line. IfSome line Fits) }
-{
-    let Some(name) = take_name(words) else {
-        return Ok(None);
-    };
-    let Some(graph) = take_name(words) else {
-        return Ok(None);
-    };
-    let Some(nonce) = take_number(words, u64::MAX) else {
-        return Ok(None);
-    };
-    let Some(names) = take_names(alloc, words)? else {
-        return Ok(None);
-    };
-    let Some(version) = take_version(words) else {
-        return Ok(None);
-    };
-    if !words.is_empty() {
-        return Ok(None);
-    }
-    Ok(Some(Line::Session {
-        name,
-        graph,
-        nonce,
-        names,
-        version,
-    }))
-}
-
-/// `start NAME SESSION`, after its first word.
-#[tactic(auto, unfolding(crate::specs::Forms::start_form))]
-fn start(words: &mut Words) -> Option<Line>
-    ensures said { option_map said result ≡ start_form words.old }
-    ensures fits { IfSome result Fits }
-{
-    let who = take_name(words)?;
-    let session = take_name(words)?;
-    if !words.is_empty() {
-        return None;
-    }
-    Some(Line::Start { who, session })
-}
-
-/// `act NAME SESSION LABEL`, after its first word.
-#[tactic(auto, unfolding(crate::specs::Forms::act_form))]
-fn act(words: &mut Words) -> Option<Line>
-    ensures said { option_map said result ≡ act_form words.old }
-    ensures fits { IfSome result Fits }
-{
-    let who = take_name(words)?;
-    let session = take_name(words)?;
-    let label = take_name(words)?;
-    if !words.is_empty() {
-        return None;
-    }
-    Some(Line::Act {
-        who,
-        session,
-        label,
-    })
-}
-
-/// `deliver NAME fN`, after its first word.
-#[tactic(auto, unfolding(crate::specs::Forms::deliver_form))]
-fn deliver(words: &mut Words) -> Option<Line>
-    ensures said { option_map said result ≡ deliver_form words.old }
-    ensures fits { IfSome result Fits }
-{
-    let who = take_name(words)?;
-    let frame = take_frame(words)?;
-    if !words.is_empty() {
-        return None;
-    }
-    Some(Line::Deliver { who, frame })
-}
-
-/// What a line with these words says, or `None` where it is in no form.
-#[tactic(auto, unfolding(crate::specs::Forms::form))]
-pub(crate) fn read_line(alloc: Global, mut words: Words) -> Result<Option<Line>, OutOfMemory>
-    ensures said { IfOk result (λ line. option_map said line ≡ form words.entry) }
-    ensures fits { IfOk result (λ line. IfSome line Fits) }
-{
-    let Some(first) = words.next() else {
-        return Ok(None);
-    };
-    let words = &mut words;
-    if first == b"edge".as_slice() {
-        Ok(edge(words))
-    } else if first == b"honest".as_slice() {
-        Ok(honest(words))
-    } else if first == b"key".as_slice() {
-        Ok(key(words))
-    } else if first == b"session".as_slice() {
-        session(alloc, words)
-    } else if first == b"start".as_slice() {
-        Ok(start(words))
-    } else if first == b"act".as_slice() {
-        Ok(act(words))
-    } else if first == b"deliver".as_slice() {
-        Ok(deliver(words))
-    } else {
-        Ok(None)
-    }
+/// What a line says: that a block begins, a declaration, or a step with the names that it uses.
+#[derive(Drop)]
+pub enum Line<'a> {
+    /// `graph {`: a block begins.
+    Block,
+    /// An edge of the graph `pair`.
+    Edge {
+        /// The name of the label.
+        label: Name,
+        /// The number of the node that it leaves.
+        from: u8,
+        /// The number of the node to which it leads.
+        to: u8,
+    },
+    /// The principal is honest.
+    Honest(Name),
+    /// The key of two principals.
+    Key {
+        /// One principal.
+        one: Name,
+        /// The other.
+        two: Name,
+        /// The 64 digits.
+        digits: &'a [u8],
+    },
+    /// A session.
+    Session {
+        /// Its name.
+        name: Name,
+        /// The name of its graph.
+        graph: Name,
+        /// Its nonce.
+        nonce: u64,
+        /// Its principals, in the order of the roles.
+        names: NameSet,
+        /// The version of its frames, 1 or 2.
+        version: u8,
+    },
+    /// The principal starts the session.
+    Start {
+        /// The principal.
+        who: Name,
+        /// The name of the session.
+        session: Name,
+    },
+    /// The principal acts in the session.
+    Act {
+        /// The principal.
+        who: Name,
+        /// The name of the session.
+        session: Name,
+        /// The name of the label.
+        label: Name,
+        /// What is written.
+        values: Seq<Given<'a>>,
+    },
+    /// The principal abandons the session.
+    Abandon {
+        /// The principal.
+        who: Name,
+        /// The name of the session.
+        session: Name,
+    },
+    /// The principal is given bytes.
+    Deliver {
+        /// The principal.
+        who: Name,
+        /// What it is given.
+        what: Delivered<'a>,
+    },
+    /// A frame is made.
+    Craft(CraftLine<'a>),
 }

@@ -13,7 +13,7 @@ use std::marker::Model;
 
 /// Different names in order. A clause sees their list.
 #[derive(Drop)]
-pub(crate) struct NameSet {
+pub struct NameSet {
     names: IndexSet<Name>,
 }
 
@@ -99,7 +99,7 @@ pub(crate) fn read_names(alloc: Global, word: &[u8]) -> Result<Option<NameSet>, 
 }
 
 /// The part before the first comma, and what follows the comma if there is one.
-fn split_part(text: &[u8]) -> (&[u8], Option<&[u8]>)
+pub(crate) fn split_part(text: &[u8]) -> (&[u8], Option<&[u8]>)
     ensures parts { slice_split (λ b. b == 44) text.now
         ≡ result.0.now ∷ option_map_or (slice_split (λ b. b == 44)) (option_copied result.1) [] }
     ensures shorter { IfSome result.1 (λ rest. length rest.now < length text.now) }

@@ -7,7 +7,7 @@ ghost use Rattle.sg_model.specs.Lists.{has_text};
 use sg_base::Name;
 
 /// The name of node `number`: `n` and the number in decimal digits.
-pub(crate) fn node_name(number: u8) -> Name
+pub fn node_name(number: u8) -> Name
     ensures name { result ≡ 110 ∷ decimal number }
     ensures plain { has_text result reserved ≡ false }
 {
@@ -22,7 +22,7 @@ pub(crate) fn node_name(number: u8) -> Name
 }
 
 // The name of bytes that are one.
-pub(crate) fn name_of(bytes: &[u8]) -> Name
+pub fn name_of(bytes: &[u8]) -> Name
     requires { IsTrue (is_name bytes.now) }
     ensures { result ≡ bytes.now }
 {

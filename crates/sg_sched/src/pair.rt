@@ -15,7 +15,7 @@ use std::marker::Model;
 
 /// The graph of the edges so far, if there are any. A clause sees the list of its edges.
 #[derive(Drop)]
-pub(crate) struct Pair {
+pub struct Pair {
     graph: Option<Graph>,
 }
 

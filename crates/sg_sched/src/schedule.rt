@@ -9,7 +9,9 @@ use std::marker::Model;
 /// A session by its name.
 #[derive(Debug, Drop)]
 pub struct Declared {
+    /// The name that steps use.
     pub name: Name,
+    /// The session's cast.
     pub cast: Cast,
 }
 
@@ -24,17 +26,22 @@ impl Model for Declared {
 /// What is declared, and the steps, each in the order of their lines.
 #[derive(Debug, Drop)]
 pub struct Schedule {
+    /// The graphs of the blocks, and after them `pair`, if there are edge lines.
     pub graphs: Seq<Graph>,
+    /// The honest principals.
     pub honest: Seq<Name>,
+    /// The keys of pairs of principals.
     pub keys: Seq<PairKey>,
+    /// The sessions.
     pub sessions: Seq<Declared>,
+    /// The steps.
     pub steps: Seq<Step>,
 }
 
 impl Model for Schedule {
     ghost use Rattle.std.specs.Prelude.{map};
     ghost use Rattle.sg_protocol.specs.Schedule.{Schedule};
-    ghost use Rattle.sg_sched.specs.Steps.{step_of};
+    ghost use Rattle.sg_sched.specs.Format.StepsHeld.{step_of};
 
     ghost Value = { Schedule };
 

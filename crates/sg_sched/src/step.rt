@@ -1,4 +1,5 @@
 //! Steps of a schedule.
+use crate::craft::Craft;
 use sg_base::{Label, Name, Seq, Value, Var};
 
 /// A step. A session is its place in the list of those declared, from 0.
@@ -6,28 +7,52 @@ use sg_base::{Label, Name, Seq, Value, Var};
 pub enum Step {
     /// The principal starts the session.
     Start {
+        /// The principal, which is honest.
         who: Name,
+        /// The place of the session.
         session: u32,
     },
-    /// The principal acts in the session: it sends along the label and writes the values, whose variables rise.
+    /// The principal acts in the session: it sends along the label and writes the values.
     Act {
+        /// The principal, which is honest.
         who: Name,
+        /// The place of the session.
         session: u32,
+        /// The label, one of the session's graph.
         label: Label,
+        /// What is written, by variables that rise.
         values: Seq<(Var, Value)>,
+    },
+    /// The principal abandons the session.
+    Abandon {
+        /// The principal, which is honest.
+        who: Name,
+        /// The place of the session.
+        session: u32,
     },
     /// The principal is given bytes.
     Deliver {
+        /// The principal, which is honest.
         who: Name,
+        /// What it is given.
         what: What,
     },
+    /// A frame is made and recorded.
+    Craft(Craft),
 }
 
 /// What is delivered.
 #[derive(Debug, Drop)]
 pub enum What {
-    /// A recorded frame, numbered from 1.
-    Frame { number: u32, change: Change },
+    /// A recorded frame.
+    Frame {
+        /// Its number, from 1.
+        number: u32,
+        /// What becomes of it first.
+        change: Change,
+    },
+    /// Any bytes.
+    Bytes(Vec<u8>),
 }
 
 /// What becomes of a recorded frame before it is delivered.
@@ -35,4 +60,8 @@ pub enum What {
 pub enum Change {
     /// It stays as it is.
     Whole,
+    /// The lowest bit of the byte at this offset changes; nothing does where there is no such byte.
+    Flip(u32),
+    /// Its first bytes are left, this many of them or all.
+    Cut(u32),
 }

@@ -19,7 +19,7 @@ pub(crate) fn place_of(mark: u8, bytes: &[u8]) -> usize
 }
 
 /// The first line with its line end, and what follows it.
-pub(crate) fn split_line(bytes: &[u8]) -> (&[u8], &[u8])
+pub fn split_line(bytes: &[u8]) -> (&[u8], &[u8])
     requires { 0 < length bytes.now }
     ensures split { lines bytes.now ≡ result.0.now ∷ lines result.1.now }
     ensures shorter { length result.1.now < length bytes.now }
@@ -29,7 +29,7 @@ pub(crate) fn split_line(bytes: &[u8]) -> (&[u8], &[u8])
 }
 
 /// What stands on a line, without its line end and a carriage return before that.
-pub(crate) fn line_content(line: &[u8]) -> &[u8]
+pub fn line_content(line: &[u8]) -> &[u8]
     ensures { result.now ≡ content line.now }
 {
     match line {
@@ -41,7 +41,7 @@ pub(crate) fn line_content(line: &[u8]) -> &[u8]
 
 /// The words of a line that are left: the parts between spaces that aren't empty. A clause sees them as their list.
 #[derive(Drop)]
-pub(crate) struct Words<'a> {
+pub struct Words<'a> {
     rest: &'a [u8],
 }
 
@@ -60,6 +60,13 @@ impl<'a> Words<'a> {
         ensures { result ≡ words text.now }
     {
         Words { rest: text }
+    }
+
+    /// The same words once more.
+    pub fn copy(&self) -> Words<'a>
+        ensures { result ≡ self.now }
+    {
+        Words { rest: self.rest }
     }
 
     /// The next word, which is taken off.

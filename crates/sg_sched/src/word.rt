@@ -7,7 +7,7 @@ use sg_base::Name;
 
 /// A name.
 #[tactic(auto, unfolding(crate::specs::Words::name))]
-pub(crate) fn read_name(word: &[u8]) -> Option<Name>
+pub fn read_name(word: &[u8]) -> Option<Name>
     ensures { result ≡ name word.now }
 {
     Name::new(word)
@@ -15,7 +15,7 @@ pub(crate) fn read_name(word: &[u8]) -> Option<Name>
 
 /// A number up to `most`, in decimal digits without a needless leading zero.
 #[tactic(auto, unfolding(crate::specs::Words::number))]
-pub(crate) fn read_number(word: &[u8], most: u64) -> Option<u64>
+pub fn read_number(word: &[u8], most: u64) -> Option<u64>
     ensures value { result ≡ number most word.now }
     ensures within { IfSome result (λ n. n ≤ most) }
 {
@@ -63,7 +63,7 @@ fn next_value(value: u64, digit: u8, most: u64) -> Option<u64>
 
 /// A recorded frame: `f` and its number, from 1 on.
 #[tactic(auto, unfolding(crate::specs::Words::frame))]
-pub(crate) fn read_frame(word: &[u8]) -> Option<u32>
+pub fn read_frame(word: &[u8]) -> Option<u32>
     ensures { result ≡ frame word.now }
 {
     let [b'f', digits @ ..] = word else {
@@ -78,7 +78,7 @@ pub(crate) fn read_frame(word: &[u8]) -> Option<u32>
 
 /// A key of 64 hexadecimal digits of either case.
 #[tactic(auto, unfolding(crate::specs::Words::key))]
-pub(crate) fn read_key(word: &[u8]) -> Option<[u8; 32]>
+pub fn read_key(word: &[u8]) -> Option<[u8; 32]>
     ensures { result ≡ key word.now }
 {
     let mut key = [0u8; 32];

@@ -22,8 +22,8 @@ use Rattle.sg_sched.specs.Forms.{Said, SaidEdge, SaidHonest, SaidKey, SaidSessio
 use Rattle.sg_sched.specs.Text.{content, words, lines}
 use Rattle.sg_sched.specs.SoFar.{SoFar, is_comment, Added, nothing, schedule_of, in_group, labels, add_edge, add_honest, add_key, graph_named, cast_for, open_session, add_session, session_names, session_at, label_at, add_step, add, add_line, has_key}
 use Rattle.sg_sched.specs.Pair.{edge, pair_graph, graphs_of, node_count, node}
-use Rattle.sg_sched.specs.declared.fault.Kind.{Kind}
-use Rattle.sg_sched.specs.declared.fault.Kind.TheVariants.{Form, Unknown, Twice, NotHonest, TooManySteps}
+use Rattle.sg_sched.specs.declared.first_path.fault.Kind.{Kind}
+use Rattle.sg_sched.specs.declared.first_path.fault.Kind.TheVariants.{Form, Unknown, Twice, NotHonest, TooManySteps}
 use Rattle.sg_sched.specs.Spelled.{read, read_lines, go_on, SpellsSchedule}
 use Rattle.sg_world.specs.Run.{pair}
 use Rattle.sg_world.specs.Forms.{IsPair, IsPairSession, IsPairSetting, IsPairStep, IsPairSchedule}

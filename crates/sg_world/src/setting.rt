@@ -8,7 +8,8 @@ ghost use Rattle.sg_world.specs.Sitting.{IsSitting, joins_both};
 use crate::Sitting;
 use crate::sitting::same;
 use sg_base::Name;
-use sg_sched::{Declared, PairKey, Schedule};
+use sg_sched::PairKey;
+use sg_sched::first_path::{Declared, Schedule};
 
 /// The session that is declared, with its graph, or `None` where none is.
 pub fn sitting(schedule: &Schedule) -> Option<Sitting<'_>>

@@ -6,7 +6,7 @@ ghost use Rattle.sg_world.specs.Forms.{IsPairStep};
 ghost use Rattle.sg_world.specs.Held.{step_of};
 
 use sg_base::{Label, Name, Role, Time};
-use sg_sched::What;
+use sg_sched::first_path::What;
 
 /// A step of a principal in the session.
 #[derive(Debug, Clone, Copy)]
@@ -20,16 +20,16 @@ pub enum Step {
 }
 
 /// The step of a schedule of one session.
-pub fn asked(step: &sg_sched::Step) -> Step
+pub fn asked(step: &sg_sched::first_path::Step) -> Step
     ensures { (s : Schedule) → length s.sessions ≤ 1 → IsPairStep s (said step.now) → step_of result ≡ said step.now }
 {
     match step {
-        sg_sched::Step::Start { who, .. } => Step::Start { who: *who },
-        sg_sched::Step::Act { who, label, .. } => Step::Act {
+        sg_sched::first_path::Step::Start { who, .. } => Step::Start { who: *who },
+        sg_sched::first_path::Step::Act { who, label, .. } => Step::Act {
             who: *who,
             label: *label,
         },
-        sg_sched::Step::Deliver {
+        sg_sched::first_path::Step::Deliver {
             who,
             what: What::Frame { number, .. },
         } => Step::Deliver {

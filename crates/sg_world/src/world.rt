@@ -18,7 +18,7 @@ use crate::step::asked;
 use crate::{ActFault, Message, Outcome, Refusal, Sitting, Standing, StartFault, Step};
 use report::{put_report, session_name};
 use sg_base::{ByteOut, OutOfMemory, Role};
-use sg_sched::Schedule;
+use sg_sched::first_path::Schedule;
 use std::alloc::Global;
 use std::marker::Model;
 
@@ -80,7 +80,7 @@ impl<'s> World<'s> {
     }
 
     /// Takes a step of the schedule. For want of memory none is taken.
-    pub fn step(&mut self, step: &sg_sched::Step) -> Result<(), OutOfMemory>
+    pub fn step(&mut self, step: &sg_sched::first_path::Step) -> Result<(), OutOfMemory>
         requires room { length self.old.steps < 200_000 }
         requires form { IsPairStep self.old (said step.now) }
         ensures ok { OnOk result (self.new ≡ with_step self.old (said step.now)) }

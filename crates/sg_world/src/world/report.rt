@@ -12,7 +12,7 @@ use crate::line::{put_line, put_sent};
 use crate::{Outcome, Step};
 use sg_base::{ByteOut, Name, OutOfMemory};
 use sg_graph::Graph;
-use sg_sched::Declared;
+use sg_sched::first_path::Declared;
 use std::alloc::Global;
 
 /// Writes the report of these steps, each once.

@@ -3,8 +3,8 @@ ghost use Rattle.std.specs.Prelude.{◌≡◌, ◌<◌, ◌++◌, [], ◌∷◌,
 ghost use Rattle.sg_model.specs.Lists.{has_text};
 ghost use Rattle.sg_sched.specs.SoFar.{session_names};
 
+use crate::first_path::schedule::Declared;
 use crate::name_set::NameSet;
-use crate::schedule::Declared;
 use sg_base::{Name, OutOfMemory, Seq};
 use std::alloc::Global;
 use std::marker::Model;

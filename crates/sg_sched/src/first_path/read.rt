@@ -3,9 +3,9 @@ ghost use Rattle.std.specs.Prelude.{◌≡◌, ◌<◌, ◌^◌, ◌⊎◌, leng
 ghost use Rattle.sg_sched.specs.Spelled.{SpellsSchedule, FirstWrong};
 ghost use Rattle.sg_sched.specs.Taken.{fault_at};
 
-use crate::fault::{LineFault, Stop};
-use crate::reader::Reader;
-use crate::schedule::Schedule;
+use crate::first_path::fault::{LineFault, Stop};
+use crate::first_path::reader::Reader;
+use crate::first_path::schedule::Schedule;
 use crate::text::split_line;
 use std::alloc::Global;
 

@@ -1,7 +1,7 @@
 use Rattle.std.proofs.Common.{◌≡◌, ◌≤◌, ◌+◌, suc, length}
 use Rattle.sg_sched.specs.Text.{lines}
 use Rattle.sg_sched.specs.Spelled.{read, read_lines}
-use Rattle.sg_sched.proofs.read.read_schedule.Given as goal
+use Rattle.sg_sched.proofs.first_path.read.read_schedule.Given as goal
 
 abbrev pub invariant-lines : goal.invariant-lines
 invariant-lines l = record {

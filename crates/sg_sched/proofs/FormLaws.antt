@@ -1,0 +1,164 @@
+-- What the forms read is what their words say.
+use Rattle.std.specs.Prelude.{◌≡◌, ℕ, suc, ◌+◌, ◌-◌, ◌*◌, ◌<◌, ◌≤◌, ◌^◌, ◌%◌, ◌==◌, nat_lt, nat_le, Bool, true, false, not, ◌&&◌, ◌||◌, if◌then◌else◌, List, [], ◌∷◌, ◌++◌, map, length, codes, bytes_eq, slice_index, get_or, fold, refl, Option, Some, None, option_map, option_and_then}
+use Rattle.std.specs.List.{list_all}
+use Rattle.std.specs.Fmt.{decimal}
+use Rattle.std.specs.Str.Parse.{AllDigits}
+use Rattle.std.proofs.Common.{sym, ◌∙◌, ap, subst, arith, true≢false}
+use Rattle.std.proofs.lemmas.Bool.{leb-true, le-leb, ltb-true, lt-ltb, eqb-true}
+use Rattle.std.proofs.lemmas.Grind.{common_steps}
+use Rattle.std.proofs.lemmas.Slice.Eq.{bytes_eq-Decides}
+use Rattle.sg_model.specs.Names.{Name, is_name, reserved}
+use Rattle.sg_model.specs.Lists.{has_text, all_differ}
+use Rattle.sg_sched.specs.Words.{name, number, frame, up_to}
+use Rattle.sg_sched.specs.Format.Said.{Word, Said, SaidBlock, SaidEdge, SaidHonest, SaidKey, SaidStart, SaidAbandon, line_words}
+use Rattle.sg_sched.specs.Format.Forms.{is_form, are_names}
+use Rattle.sg_sched.specs.Format.Values.{is_hex_of}
+use Rattle.sg_sched.specs.Format.Reading.{Left, Taker, word, after, ended, hex_of, block_form, honest_form, key_form, key_of, start_form, abandon_form}
+use Rattle.sg_sched.proofs.FormatWords.{both_left, both_right, both, same_self}
+
+-- ---- steps
+
+-- what is there is one
+pub some_is : {A : Type 0} {x y : A} → Some x ≡ Some y → x ≡ y
+some_is {A} {x} h = ap (λ (o : Option A). elim o as (λ o. A) [ None ↦ x | Some z ↦ z ]) h
+
+-- nothing is there where something is
+pub none_some : {A : Type 0} {P : Type 0} {x : A} → None ≡ Some x → P
+none_some h = absurd (cc h)
+
+-- a word was read, and then the words behind it
+pub record Step {A B : Type 0} (read : Word → Option A) (next : A → Left → Option B) (ws : Left) (y : B) : Type 0 where
+  pub first : Word
+  pub value : A
+  pub rest : Left
+  pub all : ws ≡ first ∷ rest
+  pub was : read first ≡ Some value
+  pub more : next value rest ≡ Some y
+
+pub step : {A B : Type 0} (read : Word → Option A) (next : A → Left → Option B) (ws : Left) (y : B) → after (word read) next ws ≡ Some y → Step read next ws y
+unfolding word
+step read next [] y h = none_some h
+step {A} {B} read next (w ∷ ws) y h = by (read w) refl h
+  where
+    by : (o : Option A) → read w ≡ o → option_and_then (λ (p : A × Left). next p.0 p.1) (option_map (λ x. (x, ws)) o) ≡ Some y → Step read next (w ∷ ws) y
+    by None e h = none_some h
+    by (Some x) e h = record { first = w; value = x; rest = ws; all = refl; was = e; more = h }
+
+-- no word was left
+pub ended_is : {A : Type 0} (said : Option A) (ws : Left) (y : A) → ended said ws ≡ Some y → (ws ≡ []) × (said ≡ Some y)
+ended_is said [] y h = (refl, h)
+ended_is said (w ∷ ws) y h = let some : (length (w ∷ ws) == 0) ≡ false = grind (arith, common_steps) in none_some (sym (ap (λ b. if b then said else None) some) ∙ h)
+
+-- the words, one more in front
+pub line_up : {w x : Word} {ws rest others : Left} → ws ≡ w ∷ rest → w ≡ x → rest ≡ others → ws ≡ x ∷ others
+line_up a b c = a ∙ (λ i. b i ∷ c i)
+
+-- ---- words
+
+pub record NameIs (w n : Word) : Type 0 where
+  pub same : w ≡ n
+  pub name : is_name n ≡ true
+
+pub name_is : (w n : Word) → name w ≡ Some n → NameIs w n
+unfolding name
+name_is w n h = by (is_name w) refl h
+  where
+    by : (b : Bool) → is_name w ≡ b → (if b then Some w else None) ≡ Some n → NameIs w n
+    by true e h = record { same = some_is h; name = subst (λ v. is_name v ≡ true) (some_is h) e }
+    by false e h = none_some h
+
+pub name_ok : (n : Name) → is_name n ≡ true → name n ≡ Some n
+unfolding name
+name_ok n h = rw h refl
+
+-- ---- forms
+
+-- the words of the line are those of what it says, and each place holds what it may hold
+pub record Fits (ws : Left) (s : Said) : Type 0 where
+  pub words : ws ≡ line_words s
+  pub form : is_form s ≡ true
+
+pub fits : {ws : Left} {s t : Said} → ws ≡ line_words s → is_form s ≡ true → Some s ≡ Some t → Fits ws t
+fits {ws} w f h = subst (λ s. Fits ws s) (some_is h) (record { words = w; form = f })
+
+pub honest_sound : (ws : Left) (s : Said) → honest_form ws ≡ Some s → Fits (codes "honest" ∷ ws) s
+unfolding honest_form
+honest_sound ws s h =
+    let a = step name (λ who. ended (Some (SaidHonest who))) ws s h in
+    let e = ended_is (Some (SaidHonest a.value)) a.rest s a.more in
+    let n = name_is a.first a.value a.was in
+    fits {s = SaidHonest a.value} (ap (λ r. codes "honest" ∷ r) (line_up a.all n.same e.0)) n.name e.1
+
+pub honest_complete : (who : Name) → is_form (SaidHonest who) ≡ true → honest_form (who ∷ []) ≡ Some (SaidHonest who)
+unfolding honest_form word
+honest_complete who h = rw (name_ok who h) refl
+
+pub start_sound : (ws : Left) (s : Said) → start_form ws ≡ Some s → Fits (codes "start" ∷ ws) s
+unfolding start_form
+start_sound ws s h =
+    let a = step name (λ who. after (word name) λ session. ended (Some (SaidStart who session))) ws s h in
+    let b = step name (λ session. ended (Some (SaidStart a.value session))) a.rest s a.more in
+    let e = ended_is (Some (SaidStart a.value b.value)) b.rest s b.more in
+    let m = name_is a.first a.value a.was in
+    let n = name_is b.first b.value b.was in
+    fits {s = SaidStart a.value b.value} (ap (λ r. codes "start" ∷ r) (line_up a.all m.same (line_up b.all n.same e.0))) (both m.name (both n.name refl)) e.1
+
+pub abandon_sound : (ws : Left) (s : Said) → abandon_form ws ≡ Some s → Fits (codes "abandon" ∷ ws) s
+unfolding abandon_form
+abandon_sound ws s h =
+    let a = step name (λ who. after (word name) λ session. ended (Some (SaidAbandon who session))) ws s h in
+    let b = step name (λ session. ended (Some (SaidAbandon a.value session))) a.rest s a.more in
+    let e = ended_is (Some (SaidAbandon a.value b.value)) b.rest s b.more in
+    let m = name_is a.first a.value a.was in
+    let n = name_is b.first b.value b.was in
+    fits {s = SaidAbandon a.value b.value} (ap (λ r. codes "abandon" ∷ r) (line_up a.all m.same (line_up b.all n.same e.0))) (both m.name (both n.name refl)) e.1
+
+pub start_complete : (who session : Name) → is_form (SaidStart who session) ≡ true → start_form (who ∷ session ∷ []) ≡ Some (SaidStart who session)
+unfolding start_form word
+start_complete who session h = rw (name_ok who (both_left (is_name who) (is_name session && true) h), name_ok session (both_left (is_name session) true (both_right (is_name who) (is_name session && true) h))) refl
+
+pub abandon_complete : (who session : Name) → is_form (SaidAbandon who session) ≡ true → abandon_form (who ∷ session ∷ []) ≡ Some (SaidAbandon who session)
+unfolding abandon_form word
+abandon_complete who session h = rw (name_ok who (both_left (is_name who) (is_name session && true) h), name_ok session (both_left (is_name session) true (both_right (is_name who) (is_name session && true) h))) refl
+
+pub block_sound : (ws : Left) (s : Said) → block_form ws ≡ Some s → Fits (codes "graph" ∷ ws) s
+unfolding block_form
+block_sound [] s h = none_some h
+block_sound (w ∷ ws) s h = by (bytes_eq w (codes "{")) refl h
+  where
+    by : (b : Bool) → bytes_eq w (codes "{") ≡ b → (if b then ended (Some SaidBlock) ws else None) ≡ Some s → Fits (codes "graph" ∷ w ∷ ws) s
+    by true e h =
+        let end = ended_is (Some SaidBlock) ws s h in
+        fits {s = SaidBlock} (ap (λ r. codes "graph" ∷ r) (line_up refl ((bytes_eq-Decides w (codes "{")).0 e) end.0)) refl end.1
+    by false e h = none_some h
+
+-- ---- keys
+
+pub hex_is : (n : ℕ) (w d : Word) → hex_of n w ≡ Some d → (w ≡ d) × (is_hex_of n d ≡ true)
+unfolding hex_of
+hex_is n w d h = by (is_hex_of n w) refl h
+  where
+    by : (b : Bool) → is_hex_of n w ≡ b → (if b then Some w else None) ≡ Some d → (w ≡ d) × (is_hex_of n d ≡ true)
+    by true e h = (some_is h, subst (λ v. is_hex_of n v ≡ true) (some_is h) e)
+    by false e h = none_some h
+
+pub hex_ok : (n : ℕ) (d : Word) → is_hex_of n d ≡ true → hex_of n d ≡ Some d
+unfolding hex_of
+hex_ok n d h = rw h refl
+
+pub key_sound : (ws : Left) (s : Said) → key_form ws ≡ Some s → Fits (codes "key" ∷ ws) s
+unfolding key_form
+key_sound ws s h =
+    let a = step name (λ one. after (word name) λ two. after (word (hex_of 32)) λ digits. ended (key_of one two digits)) ws s h in
+    let b = step name (λ two. after (word (hex_of 32)) λ digits. ended (key_of a.value two digits)) a.rest s a.more in
+    let d = step (hex_of 32) (λ digits. ended (key_of a.value b.value digits)) b.rest s b.more in
+    let e = ended_is (key_of a.value b.value d.value) d.rest s d.more in
+    let m = name_is a.first a.value a.was in
+    let n = name_is b.first b.value b.was in
+    let x = hex_is 32 d.first d.value d.was in
+    by a.value b.value d.value (ap (λ r. codes "key" ∷ r) (line_up a.all m.same (line_up b.all n.same (line_up d.all x.0 e.0)))) m.name n.name x.1 (bytes_eq a.value b.value) refl e.1
+  where
+    by : (one two digits : Word) → codes "key" ∷ ws ≡ codes "key" ∷ one ∷ two ∷ digits ∷ [] → is_name one ≡ true → is_name two ≡ true → is_hex_of 32 digits ≡ true
+        → (same : Bool) → bytes_eq one two ≡ same → (if same then None else Some (SaidKey one two digits)) ≡ Some s → Fits (codes "key" ∷ ws) s
+    by one two digits w m n x true q h = none_some h
+    by one two digits w m n x false q h = fits {s = SaidKey one two digits} w (both {a = is_name one && is_name two && not (bytes_eq one two)} (both {a = is_name one && is_name two} (both m n) (ap not q)) x) h

@@ -1,0 +1,63 @@
+-- What is computed on literal lines, and the heads of the examples: what the lines before declare.
+use Rattle.std.specs.Prelude.{ℕ, ⊤, List, [], ◌∷◌, ◌++◌, map, replicate, codes}
+use Rattle.std.specs.Fmt.{digits}
+use Rattle.std.specs.Str.{is_utf8, chars}
+use lib.Utf8.{encode}
+use Rattle.hex.specs.Hex.{decode_pairs}
+use Rattle.sg_sched.proofs.FormatGraphs.{shop, relay}
+use Rattle.sg_sched.specs.Words.{number}
+use Rattle.sg_sched.specs.Pair.{edge}
+use Rattle.sg_sched.specs.Format.Said.{Word, Given, Committed}
+use Rattle.sg_sched.specs.Format.Items.{Item, GraphItem, EdgeItem, HonestItem, KeyItem, SessionItem}
+
+-- what the check of a literal line unfolds
+unfoldable pub on_literals : ⊤
+unfolding digits number is_utf8 chars encode decode_pairs
+on_literals = tt
+
+-- the digit c, 64 times
+abbrev pub sixty_four : ℕ → Word
+sixty_four c = replicate 64 c
+
+-- a key of 32 equal bytes
+abbrev pub key_item : List ℕ → List ℕ → ℕ → Item
+key_item one two b = KeyItem (record { one = one; two = two; key = replicate 32 b })
+
+-- honest principals
+abbrev pub honest_items : List (List ℕ) → List Item
+honest_items names = map HonestItem names
+
+-- a session of the graph at place 0
+abbrev pub session_item : List ℕ → ℕ → List (List ℕ) → Item
+session_item name nonce names = SessionItem (record { name = name; graph = 0; nonce = nonce; names = names; version = 1 })
+
+-- VAR=VALUE
+abbrev pub given : List ℕ → List ℕ → Given
+given variable value = record { variable = variable; value = value }
+
+-- VAR=VALUE#K
+abbrev pub committed : List ℕ → List ℕ → ℕ → Committed
+committed variable value step = record { variable = variable; value = value; step = step }
+
+-- the edges of `pair`
+abbrev pub pair_items : List Item
+pair_items = EdgeItem (edge (codes "Request") 0 1) ∷ EdgeItem (edge (codes "Reply") 1 2) ∷ []
+
+-- `pair` with honest principals and a session s1
+abbrev pub head_p : List (List ℕ) → List Item
+head_p names = pair_items ++ honest_items names ++ key_item (codes "a") (codes "b") 17 ∷ session_item (codes "s1") 1 (codes "a" ∷ codes "b" ∷ []) ∷ []
+
+-- `shop` with honest principals and a session s1
+abbrev pub head_s : List (List ℕ) → List Item
+head_s names = GraphItem shop ∷ honest_items names ++ key_item (codes "alice") (codes "bob") 17 ∷ key_item (codes "alice") (codes "carl") 34
+    ∷ key_item (codes "bob") (codes "carl") 51 ∷ session_item (codes "s1") 7 (codes "alice" ∷ codes "bob" ∷ codes "carl" ∷ []) ∷ []
+
+-- `relay` with honest principals and a session s1
+abbrev pub head_r : List (List ℕ) → List Item
+head_r names = GraphItem relay ∷ honest_items names ++ key_item (codes "ann") (codes "cat") 17 ∷ key_item (codes "bea") (codes "cat") 34
+    ∷ key_item (codes "bea") (codes "dan") 51 ∷ key_item (codes "ann") (codes "dan") 68 ∷ key_item (codes "ann") (codes "bea") 85
+    ∷ session_item (codes "s1") 1 (codes "cat" ∷ codes "ann" ∷ codes "dan" ∷ codes "bea" ∷ []) ∷ []
+
+-- alice and carl
+abbrev pub alice_carl : List Item
+alice_carl = head_s (codes "alice" ∷ codes "carl" ∷ [])

@@ -1,0 +1,129 @@
+-- Lines declare one list of items at most.
+use Rattle.std.specs.Prelude.{◌≡◌, ℕ, suc, ◌≤◌, ◌==◌, nat_lt, Bool, true, false, not, ◌||◌, List, [], ◌∷◌, ◌++◌, filter, length, refl}
+use Rattle.std.specs.List.{list_all, slice_split, onto_first}
+use Rattle.std.proofs.Common.{sym, ◌∙◌, ap, subst, arith}
+use Rattle.std.proofs.lemmas.Bool.{eqb-true, ltb-false}
+use Rattle.sg_sched.specs.Text.{content, words}
+use Rattle.sg_sched.specs.SoFar.{is_comment}
+use Rattle.sg_sched.specs.Format.Said.{Word, Said, SaidBlock, SaidEdge, SaidHonest, SaidKey, SaidSession, SaidStart, SaidAct, SaidAbandon, SaidDeliver, SaidMake, line_words}
+use Rattle.sg_sched.specs.Format.Forms.{SaysLine, is_skipped}
+use Rattle.sg_sched.specs.Format.Spells.{Line, closes}
+use Rattle.sg_sched.proofs.FormatWords.{both_left, both_right}
+
+true_false : true ≡ false → ⊥
+true_false e = cc
+
+clash : {b : Bool} → b ≡ true → b ≡ false → ⊥
+clash p q = true_false (sym p ∙ q)
+
+-- ---- a line of a form is not skipped
+
+-- the first word begins with #
+abbrev first_hash : List Word → Bool
+first_hash [] = false
+first_hash ([] ∷ ws) = false
+first_hash ((c ∷ cs) ∷ ws) = c == 35
+
+no_hash : (said : Said) → first_hash (line_words said) ≡ false
+no_hash SaidBlock = refl
+no_hash (SaidEdge label from to) = refl
+no_hash (SaidHonest who) = refl
+no_hash (SaidKey one two ds) = refl
+no_hash (SaidSession name graph n names version) = refl
+no_hash (SaidStart who session) = refl
+no_hash (SaidAct who session label values) = refl
+no_hash (SaidAbandon who session) = refl
+no_hash (SaidDeliver who what) = refl
+no_hash (SaidMake c) = refl
+
+-- no word
+abbrev is_empty : List Word → Bool
+is_empty [] = true
+is_empty (w ∷ ws) = false
+
+suc_zero : (n : ℕ) → (suc n == 0) ≡ false
+suc_zero n = by (suc n == 0) refl
+  where
+    by : (b : Bool) → (suc n == 0) ≡ b → b ≡ false
+    by false e = refl
+    by true e = let same : suc n ≡ 0 = eqb-true (suc n) 0 e in absurd (omega arith)
+
+zero_less : (n : ℕ) → nat_lt 0 (suc n) ≡ true
+zero_less n = by (nat_lt 0 (suc n)) refl
+  where
+    by : (b : Bool) → nat_lt 0 (suc n) ≡ b → b ≡ true
+    by true e = refl
+    by false e = let over : suc n ≤ 0 = ltb-false 0 (suc n) e in absurd (omega arith)
+
+empty_is : (ws : List Word) → (length ws == 0) ≡ true → is_empty ws ≡ true
+empty_is [] e = refl
+empty_is (w ∷ ws) e = absurd (clash e (suc_zero (length ws)))
+
+some_word : (said : Said) → is_empty (line_words said) ≡ false
+some_word SaidBlock = refl
+some_word (SaidEdge label from to) = refl
+some_word (SaidHonest who) = refl
+some_word (SaidKey one two ds) = refl
+some_word (SaidSession name graph n names version) = refl
+some_word (SaidStart who session) = refl
+some_word (SaidAct who session label values) = refl
+some_word (SaidAbandon who session) = refl
+some_word (SaidDeliver who what) = refl
+some_word (SaidMake c) = refl
+
+hash_first : (text : List ℕ) → is_comment text ≡ true → first_hash (words text) ≡ true
+hash_first [] h = absurd (cc)
+hash_first (c ∷ cs) h = subst (λ (b : ℕ). first_hash (words (b ∷ cs)) ≡ true) (sym (eqb-true c 35 h)) (by (slice_split (λ b. b == 32) cs))
+  where
+    by : (parts : List Word) → first_hash (filter (λ w. nat_lt 0 (length w)) (onto_first 35 parts)) ≡ true
+    by [] = refl
+    by (p ∷ ps) = rw (zero_less (length p))
+
+pub not_skipped : (line : Line) (said : Said) → SaysLine line said → is_skipped line ≡ true → ⊥
+not_skipped line said says skipped = by (is_comment (content line)) refl
+  where
+    comment_or_blank : (is_comment (content line) || length (words (content line)) == 0) ≡ true
+    comment_or_blank = both_right (list_all (λ b. nat_lt b 128) (content line)) (is_comment (content line) || length (words (content line)) == 0) skipped
+
+    blank : (a b : Bool) → (a || b) ≡ true → a ≡ false → b ≡ true
+    blank true b p q = absurd (true_false q)
+    blank false b p q = p
+
+    by : (b : Bool) → is_comment (content line) ≡ b → ⊥
+    by true e = clash (hash_first (content line) e) (ap first_hash says.spelled ∙ no_hash said)
+    by false e = clash (empty_is (words (content line)) (blank (is_comment (content line)) (length (words (content line)) == 0) comment_or_blank e)) (ap is_empty says.spelled ∙ some_word said)
+
+-- ---- a block ends at its first closing line
+
+-- the head and the tail of equal lists
+pub head_same : {x y : Line} {xs ys : List Line} → x ∷ xs ≡ y ∷ ys → x ≡ y
+head_same {x = x} e = ap (λ ls. head x ls) e
+  where
+    head : Line → List Line → Line
+    head x [] = x
+    head x (y ∷ ys) = y
+
+pub tail_same : {x y : Line} {xs ys : List Line} → x ∷ xs ≡ y ∷ ys → xs ≡ ys
+tail_same e = ap tail e
+  where
+    tail : List Line → List Line
+    tail [] = []
+    tail (y ∷ ys) = ys
+
+pub cons_same : {x y : Line} {xs ys : List Line} → x ≡ y → xs ≡ ys → x ∷ xs ≡ y ∷ ys
+cons_same p q = λ i. p i ∷ q i
+
+-- the same lines within, the same closing line, and the same rest
+pub record SameEnd (i j : List Line) (c d : Line) (r s : List Line) : Type 0 where
+  pub inner : i ≡ j
+  pub closing : c ≡ d
+  pub rest : r ≡ s
+
+pub first_closing : (i j : List Line) (c d : Line) (r s : List Line) → list_all (λ l. not (closes l)) i ≡ true → list_all (λ l. not (closes l)) j ≡ true → closes c ≡ true → closes d ≡ true
+    → i ++ c ∷ r ≡ j ++ d ∷ s → SameEnd i j c d r s
+first_closing [] [] c d r s a b p q e = record { inner = refl; closing = head_same e; rest = tail_same e }
+first_closing [] (y ∷ ys) c d r s a b p q e = absurd (clash (both_left (not (closes y)) _ b) (ap (λ l. not (closes l)) (sym (head_same e)) ∙ ap not p))
+first_closing (x ∷ xs) [] c d r s a b p q e = absurd (clash (both_left (not (closes x)) _ a) (ap (λ l. not (closes l)) (head_same e) ∙ ap not q))
+first_closing (x ∷ xs) (y ∷ ys) c d r s a b p q e =
+    let k = first_closing xs ys c d r s (both_right (not (closes x)) _ a) (both_right (not (closes y)) _ b) p q (tail_same e) in
+    record { inner = cons_same (head_same e) k.inner; closing = k.closing; rest = k.rest }

@@ -1,0 +1,131 @@
+-- A text with edge lines and a block of a graph named `pair` spells no schedule.
+use Rattle.std.specs.Prelude.{◌≡◌, ℕ, Bool, true, false, ◌||◌, List, [], ◌∷◌, ◌++◌, bytes_eq, codes, refl, Option, Some, None, Result, Ok}
+use Rattle.std.proofs.Common.{sym, ◌∙◌, ap, subst, append-nil}
+use Rattle.sg_model.specs.Lists.{has_text}
+use Rattle.sg_model.specs.Names.{Name}
+use Rattle.sg_protocol.specs.Graph.{Graph, Edge}
+use Rattle.sg_protocol.specs.Texts.{Hash}
+use Rattle.sg_protocol.specs.Schedule.{Schedule}
+use Rattle.sg_parse.specs.Grammar.{SpellsGraph}
+use Rattle.sg_parse.specs.Reading.{read}
+use Rattle.sg_parse.specs.declared.fault.ParseFault.{ParseFault}
+use Rattle.sg_parse.proofs.GivesGraph.{spells-read}
+use Rattle.sg_sched.specs.Text.{lines}
+use Rattle.sg_sched.specs.Pair.{edge, graphs_of}
+use Rattle.sg_sched.specs.Format.Said.{SaidEdge}
+use Rattle.sg_sched.specs.Format.Forms.{SaysLine, is_skipped}
+use Rattle.sg_sched.specs.Format.Items.{Item, GraphItem, EdgeItem, HonestItem, KeyItem, SessionItem, StepItem, blocks, edges, graphs, graph_names}
+use Rattle.sg_sched.specs.Format.Made.{made}
+use Rattle.sg_sched.specs.Format.Spells.{Line, IsBlock, Skip, Say, Show, SpellsSchedule, IsPairAt}
+use Rattle.sg_sched.proofs.FormatReading.{says_one}
+use Rattle.sg_sched.proofs.FormatOnce.{not_skipped, head_same}
+use Rattle.sg_sched.proofs.FormatPieces.{laid, say_or_show, skip_or_show}
+use Rattle.sg_sched.proofs.FormatOne.{Front, Done, More, of_declare}
+use Rattle.sg_sched.proofs.FormatApart.{one_text, names_append}
+use Rattle.sg_sched.proofs.FormatNotBoth.{behind}
+
+-- an edge is declared
+abbrev some_edge : List Item → Bool
+some_edge [] = false
+some_edge (EdgeItem e ∷ is) = true
+some_edge (GraphItem g ∷ is) = some_edge is
+some_edge (HonestItem n ∷ is) = some_edge is
+some_edge (KeyItem k ∷ is) = some_edge is
+some_edge (SessionItem s ∷ is) = some_edge is
+some_edge (StepItem s ∷ is) = some_edge is
+
+edge_kept : (xs ys : List Item) → some_edge xs ≡ true → some_edge (xs ++ ys) ≡ true
+edge_kept [] ys h = absurd (cc)
+edge_kept (EdgeItem e ∷ is) ys h = refl
+edge_kept (GraphItem g ∷ is) ys h = edge_kept is ys h
+edge_kept (HonestItem n ∷ is) ys h = edge_kept is ys h
+edge_kept (KeyItem k ∷ is) ys h = edge_kept is ys h
+edge_kept (SessionItem s ∷ is) ys h = edge_kept is ys h
+edge_kept (StepItem s ∷ is) ys h = edge_kept is ys h
+
+edge_last : (xs : List Item) (e : Edge) → some_edge (xs ++ EdgeItem e ∷ []) ≡ true
+edge_last [] e = refl
+edge_last (EdgeItem d ∷ is) e = refl
+edge_last (GraphItem g ∷ is) e = edge_last is e
+edge_last (HonestItem n ∷ is) e = edge_last is e
+edge_last (KeyItem k ∷ is) e = edge_last is e
+edge_last (SessionItem s ∷ is) e = edge_last is e
+edge_last (StepItem s ∷ is) e = edge_last is e
+
+front_edge : {before all : List Item} {ls : List Line} → Front before ls all → some_edge before ≡ true → some_edge all ≡ true
+front_edge Done h = h
+front_edge (More {before = b} {new = n} a f) h = front_edge f (edge_kept b n h)
+
+-- where an edge is declared, the edges make the graph `pair`
+pair_of : (is : List Item) → some_edge is ≡ true → has_text (codes "pair") (graph_names (graphs_of (edges is))) ≡ true
+pair_of [] h = absurd (cc)
+pair_of (EdgeItem e ∷ is) h = refl
+pair_of (GraphItem g ∷ is) h = pair_of is h
+pair_of (HonestItem n ∷ is) h = pair_of is h
+pair_of (KeyItem k ∷ is) h = pair_of is h
+pair_of (SessionItem s ∷ is) h = pair_of is h
+pair_of (StepItem s ∷ is) h = pair_of is h
+
+later_text : (n : Name) (xs ys : List Name) → has_text n ys ≡ true → has_text n (xs ++ ys) ≡ true
+later_text n [] ys h = h
+later_text n (x ∷ xs) ys h = or_true (bytes_eq n x) (later_text n xs ys h)
+  where
+    or_true : (a : Bool) {b : Bool} → b ≡ true → (a || b) ≡ true
+    or_true true h = refl
+    or_true false h = h
+
+pair_named : (is : List Item) → some_edge is ≡ true → has_text (codes "pair") (graph_names (graphs is)) ≡ true
+pair_named is h = ap (has_text (codes "pair")) (names_append (blocks is) (graphs_of (edges is)))
+    ∙ later_text (codes "pair") (graph_names (blocks is)) (graph_names (graphs_of (edges is))) (pair_of is h)
+
+-- the item of an edge line
+edge_then : (before all : List Item) (ls more : List Line) (line : Line) (label : Name) (from to : ℕ) → Front before ls all → SaysLine line (SaidEdge label from to) → ls ≡ line ∷ more → some_edge all ≡ true
+edge_then before all _ more line label from to Done says e = absurd (never e)
+  where
+    never : {x : Line} {xs : List Line} → [] ≡ x ∷ xs → ⊥
+    never p = cc
+edge_then before all _ more line label from to (More {rest = r} (Skip {line = l} s) f) says e = absurd (not_skipped line (SaidEdge label from to) says (subst (λ l. is_skipped l ≡ true) (head_same e) s))
+edge_then before all _ more line label from to (More {rest = r} (Show {block = block} {text = text} b spells fresh) f) says e =
+    absurd (say_or_show before line (SaidEdge label from to) (EdgeItem (edge label from to)) block more r text says refl b (sym e))
+edge_then before all _ more line label from to (More {rest = r} (Say {line = l} {said = t} {item = i} says' right makes) f) says e =
+    let same : t ≡ SaidEdge label from to = says_one line t (SaidEdge label from to) (subst (λ l. SaysLine l t) (head_same e) says') says in
+    let item : Some i ≡ Some (EdgeItem (edge label from to)) = sym makes ∙ ap (made before) same in
+    front_edge f (ap (λ o. some_edge (before ++ inside i o ∷ [])) item ∙ edge_last before (edge label from to))
+  where
+    inside : Item → Option Item → Item
+    inside i None = i
+    inside i (Some x) = x
+
+-- no block of a graph named `pair` is right where an edge is declared
+no_pair : (before all : List Item) (ls block rest : List Line) (text : List ℕ) (g : Graph) → Front before ls all → some_edge before ≡ true → IsBlock before block text → SpellsGraph text g → g.name ≡ codes "pair" → ls ≡ block ++ rest → ⊥
+no_pair before all _ block rest text g Done h b spells named e = never (e ∙ laid before block rest text b)
+  where
+    never : {x : Line} {xs : List Line} → [] ≡ x ∷ xs → ⊥
+    never p = cc
+no_pair before all _ block rest text g (More {rest = r} (Skip {line = l} s) f) h b spells named e = skip_or_show before l block r rest text s b e
+no_pair before all _ block rest text g (More {rest = r} (Say {line = l} {said = t} {item = i} says right makes) f) h b spells named e = say_or_show before l t i block r rest text says makes b e
+no_pair before all _ block rest text g (More {rest = r} (Show {block = block'} {text = text'} {g = g'} b' spells' fresh) f) h b spells named e =
+    let same : g' ≡ g = ok_same g' g (read text') (spells-read text' g' spells') (ap read (one_text before block' block r rest text' text b' b e) ∙ spells-read text g spells) in
+    clash (pair_named before h) (ap (λ n. has_text n (graph_names (graphs before))) (sym (ap (λ (x : Graph). x.name) same ∙ named)) ∙ fresh)
+  where
+    ok_same : (g h : Graph) (r : Result Graph ParseFault) → r ≡ Ok g → r ≡ Ok h → g ≡ h
+    ok_same g h r p q = ap inside (sym p ∙ q)
+      where
+        inside : Result Graph ParseFault → Graph
+        inside (Ok x) = x
+        inside other = g
+
+    clash : {b : Bool} → b ≡ true → b ≡ false → ⊥
+    clash p q = true_false (sym p ∙ q)
+      where
+        true_false : true ≡ false → ⊥
+        true_false e = cc
+
+-- bytes that spell a schedule have no block of a graph named `pair` beside edge lines
+pub no_pair_at : (sha : Hash) (bytes : List ℕ) (s : Schedule) (n : ℕ) → SpellsSchedule sha bytes s → IsPairAt (lines bytes) n → ⊥
+no_pair_at sha bytes s n p w =
+    let whole : Front [] (lines bytes) p.items = subst (λ ls. Front [] ls p.items) (append-nil (lines bytes)) (of_declare p.declared [] p.items Done) in
+    let cut : Front w.later (w.block ++ w.rest) p.items = behind w.declared_later (w.block ++ w.rest) p.items (subst (λ ls. Front [] ls p.items) w.all whole) in
+    let first : Front [] (w.right ++ w.edge_line ∷ w.more) w.later = subst (λ ls. Front [] ls w.later) (append-nil (w.right ++ w.edge_line ∷ w.more)) (of_declare w.declared_later [] w.later Done) in
+    let edged : some_edge w.later ≡ true = edge_then w.items w.later (w.edge_line ∷ w.more) w.more w.edge_line w.label w.from w.to (behind w.declared (w.edge_line ∷ w.more) w.later first) w.is_edge refl in
+    no_pair w.later p.items (w.block ++ w.rest) w.block w.rest w.text w.graph cut edged w.is_block w.spelled w.named refl

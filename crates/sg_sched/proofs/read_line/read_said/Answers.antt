@@ -1,0 +1,10 @@
+use Rattle.std.proofs.Common.{◌∙◌, ap}
+use Rattle.std.proofs.lemmas.Result.{IfOk-weaker}
+use Rattle.sg_sched.specs.Format.Form.{form}
+use Rattle.sg_sched.specs.Text.{words}
+use Rattle.sg_sched.proofs.LineLaws.{says}
+use Rattle.sg_sched.proofs.read_line.read_said.Goals as goal
+
+pub returns : goal.returns
+returns c =
+    IfOk-weaker c.read_line.result _ _ (λ o h. says c.args.line.now o (h ∙ ap form (c.new.ensures ∙ ap words c.line_content.ensures))) c.read_line.ensures

@@ -1,0 +1,15 @@
+pub mod Said
+pub mod Values
+pub mod Forms
+pub mod Items
+pub mod Made
+pub mod Kinds
+pub mod Faults
+pub mod Spells
+pub mod Reading
+pub mod CraftReading
+pub mod Form
+pub mod Crafts
+pub mod StepsHeld
+pub mod Sources
+pub mod Held

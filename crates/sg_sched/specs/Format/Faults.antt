@@ -1,0 +1,188 @@
+-- What is wrong with a line of a form, after what the lines before it declare.
+use Rattle.std.specs.Prelude.{ℕ, ◌==◌, nat_lt, nat_le, Bool, true, false, not, ◌&&◌, ◌||◌, if◌then◌else◌, List, [], ◌∷◌, length, map, replicate, option_map, unwrap_or, slice_get, bytes_eq, codes, Option, Some, None}
+use Rattle.std.specs.List.{list_any, list_all}
+use Rattle.std.specs.Option.{option_map_or}
+use Rattle.sg_model.specs.Names.{Name}
+use Rattle.sg_model.specs.Lists.{has_text, all_differ, rises_from, first_some}
+use Rattle.sg_protocol.specs.Graph.{Graph}
+use Rattle.sg_protocol.specs.Frame.{Cast, Item as FrameItem, Frame}
+use Rattle.sg_protocol.specs.Spelling.{spelling}
+use Rattle.sg_protocol.specs.Schedule.{CraftJoin}
+use Rattle.sg_sched.specs.Format.Said.{Committed, From, FromKey, FromItem, FromSeal, FromZero, SaidItem, SaidCraft, Said, SaidBlock, SaidEdge, SaidHonest, SaidKey, SaidSession, SaidStart, SaidAct, SaidAbandon, SaidDeliver, SaidMake}
+use Rattle.sg_sched.specs.Format.Items.{Session, Item, SoFar, so_far, graphs_of_past, graph_names, session_names, place, session_named, graph_for, roles_of, variables_of, labels_of, has_key}
+use Rattle.sg_sched.specs.Format.Made.{opening}
+use Rattle.sg_sched.specs.Format.Kinds.{Kind, Form, TooManySteps, TooManySessions, Unknown, Twice, NotHonest}
+
+-- ---- form: the group
+
+-- the group in which a line stands: graphs, honest principals, keys, sessions, steps
+abbrev pub group : Said → ℕ
+group SaidBlock = 0
+group (SaidEdge label from to) = 0
+group (SaidHonest who) = 1
+group (SaidKey one two digits) = 2
+group (SaidSession name graph nonce names version) = 3
+group step = 4
+
+-- a line of a later group stands before it
+abbrev pub is_late : SoFar → Said → Bool
+is_late past l = nat_lt (group l) past.group
+
+-- ---- form: a session's number of names, where its graph is declared
+
+-- there are as many names as the graph has roles
+abbrev pub fits_graph : SoFar → Name → List Name → Bool
+fits_graph past graph names =
+    option_map_or (λ g. length names == length g.roles) (if has_text graph (graph_names (graphs_of_past past)) then slice_get (graphs_of_past past) (place graph (graph_names (graphs_of_past past))) else None) true
+
+-- ---- form: what rises in a craft, where its names are declared
+
+-- the names rise by their numbers, where all of them are declared
+abbrev pub rise : List Name → List Name → Bool
+rise names declared = if list_all (λ n. has_text n declared) names then rises_from 0 (map (λ n. place n declared) names) else true
+
+-- the variables of commitments
+abbrev pub variables : List Committed → List Name
+variables cs = map (λ c. c.variable) cs
+
+-- the roles for which there are tags
+abbrev pub tag_roles : List (Name × From) → List Name
+tag_roles ts = map (λ (t : Name × From). t.0) ts
+
+-- the variables of each list rise, and the roles of each item's tags
+abbrev pub rises : Option Graph → SaidCraft → Bool
+rises g c = rise (variables c.know) (variables_of g) && list_all (λ i. rise (variables i.delta) (variables_of g) && rise (tag_roles i.tags) (roles_of g)) c.items
+    && rise (variables c.openings) (variables_of g)
+
+-- ---- form: the length of a crafted frame, where its session is declared
+
+-- zeros in the place of what is hashed or tagged
+abbrev pub zeros : ℕ → List ℕ
+zeros n = replicate n 0
+
+-- the cast that the frame of a craft has
+abbrev pub blank_cast : Session → CraftJoin → Cast
+blank_cast s j = record { version = s.version; graph = zeros 32; nonce = zeros 16; names = unwrap_or j.names s.names }
+
+-- an item with zeros for its commitments and tags
+abbrev pub blank_item : SaidItem → FrameItem
+blank_item i = record { role = 0; label = 0; time = i.time; delta = map (λ c. (0, zeros 32)) i.delta; tags = map (λ (t : Name × From). (0, zeros 32)) i.tags }
+
+-- the frame that a craft makes, with zeros for what is hashed or tagged, which doesn't change its length
+abbrev pub blank_frame : Option Graph → Session → SaidCraft → Frame
+blank_frame g s c = record {
+  version = s.version;
+  sid = zeros 32;
+  sender = 0;
+  receiver = 0;
+  join = option_map (blank_cast s) c.join;
+  items = map blank_item c.items;
+  openings = map (opening g) c.openings;
+  tag = zeros 32;
+}
+
+-- the frame has at most 60,000 bytes
+abbrev pub is_short : Option Graph → Option Session → SaidCraft → Bool
+is_short g s c = option_map_or (λ s. nat_le (length (spelling (blank_frame g s c))) 60000) s true
+
+-- ---- form
+
+-- the line is out of its group, one edge too many, or of a number, an order or a length that its form hasn't
+abbrev pub is_wrong : SoFar → Said → Bool
+is_wrong past (SaidEdge label from to) = is_late past (SaidEdge label from to) || nat_le 512 (length past.edges)
+is_wrong past (SaidSession name graph nonce names version) = is_late past (SaidSession name graph nonce names version) || not (fits_graph past graph names)
+is_wrong past (SaidMake c) = not (rises (graph_for c.session past) c && is_short (graph_for c.session past) (session_named c.session past) c)
+is_wrong past other = is_late past other
+
+-- ---- too many
+
+-- the session 100,001, or the step 200,001
+abbrev pub too_many : SoFar → Said → Option Kind
+too_many past SaidBlock = None
+too_many past (SaidEdge label from to) = None
+too_many past (SaidHonest who) = None
+too_many past (SaidKey one two digits) = None
+too_many past (SaidSession name graph nonce names version) = if nat_le 100000 (length past.sessions) then Some TooManySessions else None
+too_many past step = if nat_le 200000 (length past.steps) then Some TooManySteps else None
+
+-- ---- unknown
+
+-- the variable is one of the graph's
+abbrev pub knows_variable : Option Graph → Name → Bool
+knows_variable g n = has_text n (variables_of g)
+
+-- the role of a source is one of the graph's, or its two principals have a key
+abbrev pub knows_source : SoFar → Option Graph → From → Bool
+knows_source past g (FromKey one two) = has_key past one two
+knows_source past g (FromItem frame item role) = has_text role (roles_of g)
+knows_source past g (FromSeal frame) = true
+knows_source past g FromZero = true
+
+-- the label, the variables, the roles and the sources of an item are declared
+abbrev pub knows_item : SoFar → Option Graph → SaidItem → Bool
+knows_item past g i = has_text i.label (labels_of g) && list_all (knows_variable g) (variables i.delta)
+    && list_all (λ (t : Name × From). has_text t.0 (roles_of g) && knows_source past g t.1) i.tags
+
+-- each name of a graph, role, label, variable, session or key pair is declared
+abbrev pub is_known : SoFar → Said → Bool
+is_known past SaidBlock = true
+is_known past (SaidEdge label from to) = true
+is_known past (SaidHonest who) = true
+is_known past (SaidKey one two digits) = true
+is_known past (SaidSession name graph nonce names version) = has_text graph (graph_names (graphs_of_past past))
+is_known past (SaidStart who session) = has_text session (session_names past)
+is_known past (SaidAct who session label values) = has_text session (session_names past) && has_text label (labels_of (graph_for session past))
+    && list_all (λ v. knows_variable (graph_for session past) v.variable) values
+is_known past (SaidAbandon who session) = has_text session (session_names past)
+is_known past (SaidDeliver who what) = true
+is_known past (SaidMake c) = let g = graph_for c.session past in
+    has_text c.session (session_names past) && has_text c.from (roles_of g) && has_text c.to (roles_of g) && list_all (knows_variable g) (variables c.know)
+    && list_all (knows_item past g) c.items && list_all (knows_variable g) (variables c.openings) && knows_source past g c.seal
+
+-- ---- twice
+
+-- the texts are the same, one by one
+abbrev pub same_names : List Name → List Name → Bool
+same_names [] [] = true
+same_names (m ∷ ms) (n ∷ ns) = bytes_eq m n && same_names ms ns
+same_names ms ns = false
+
+-- a session has this graph, nonce, cast and version
+abbrev pub is_like : ℕ → ℕ → List Name → ℕ → Session → Bool
+is_like graph nonce names version s = graph == s.graph && nonce == s.nonce && same_names names s.names && version == s.version
+
+-- the line declares what is declared: a label, an honest principal, a pair, a session's name, or its graph, nonce, cast and version; or an act names a variable twice.
+-- The first edge line declares the graph `pair`
+abbrev pub is_repeated : SoFar → Said → Bool
+is_repeated past (SaidEdge label from to) = has_text label (map (λ e. e.name) past.edges) || has_text (codes "pair") (graph_names past.blocks)
+is_repeated past (SaidHonest who) = has_text who past.honest
+is_repeated past (SaidKey one two digits) = has_key past one two
+is_repeated past (SaidSession name graph nonce names version) =
+    has_text name (session_names past) || list_any (is_like (place graph (graph_names (graphs_of_past past))) nonce names version) past.sessions
+is_repeated past (SaidAct who session label values) = not (all_differ (map (λ v. v.variable) values))
+is_repeated past other = false
+
+-- ---- not honest
+
+-- the step's principal is honest. A craft has none
+abbrev pub is_honest : SoFar → Said → Bool
+is_honest past (SaidStart who session) = has_text who past.honest
+is_honest past (SaidAct who session label values) = has_text who past.honest
+is_honest past (SaidAbandon who session) = has_text who past.honest
+is_honest past (SaidDeliver who what) = has_text who past.honest
+is_honest past other = true
+
+-- ---- all
+
+-- the kind, where the test says so
+abbrev pub where' : Bool → Kind → Option Kind
+where' b kind = if b then Some kind else None
+
+-- what is wrong with a line of a form, the first in this order
+abbrev pub fault_after : SoFar → Said → Option Kind
+fault_after past l = first_some (where' (is_wrong past l) Form ∷ too_many past l ∷ where' (not (is_known past l)) Unknown
+    ∷ where' (is_repeated past l) Twice ∷ where' (not (is_honest past l)) NotHonest ∷ [])
+
+-- what is wrong with a line of a form, after what the items before it declare
+abbrev pub fault : List Item → Said → Option Kind
+fault items said = fault_after (so_far items) said

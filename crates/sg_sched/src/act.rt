@@ -1,0 +1,84 @@
+//! The form of an act.
+ghost use Rattle.std.specs.Prelude.{◌≡◌, IfOk, IfSome, option_copied, option_map, Some, None, MatchOption, ◌<◌, length};
+ghost use Rattle.sg_sched.specs.Format.Reading.{split_at, given, givens, act_form};
+ghost use Rattle.sg_sched.specs.Format.Held.{said};
+
+use crate::form::take_name;
+use crate::line::{Given, Line};
+use crate::text::{Words, place_of};
+use crate::value::is_value;
+use crate::word::read_name;
+use sg_base::{OutOfMemory, Seq};
+use std::alloc::Global;
+
+/// What stands before the first byte `mark` and behind it.
+pub fn split_at(mark: u8, word: &[u8]) -> Option<(&[u8], &[u8])>
+    ensures { MatchOption result (split_at mark word.now ≡ None) (λ p. split_at mark word.now ≡ Some (p.0.now, p.1.now)) }
+{
+    let at = place_of(mark, word);
+    let (front, rest) = word.split_at(at);
+    match rest {
+        [_, rest @ ..] => Some((front, rest)),
+        [] => None,
+    }
+}
+
+/// `VAR=VALUE`.
+#[tactic(auto, unfolding(crate::specs::Format::Reading::given, crate::specs::Words::name))]
+pub fn read_given<'a>(alloc: Global, word: &'a [u8]) -> Result<Option<Given<'a>>, OutOfMemory>
+    ensures { IfOk result (λ o. o ≡ given word.now) }
+{
+    let Some((variable, value)) = split_at(b'=', word) else {
+        return Ok(None);
+    };
+    let Some(variable) = read_name(variable) else {
+        return Ok(None);
+    };
+    if is_value(alloc, value)? {
+        Ok(Some(Given { variable, value }))
+    } else {
+        Ok(None)
+    }
+}
+
+/// Each word as `VAR=VALUE`.
+fn read_givens<'a>(
+    alloc: Global,
+    words: &mut Words<'a>,
+) -> Result<Option<Seq<Given<'a>>>, OutOfMemory>
+    ensures { IfOk result (λ o. o ≡ givens words.old) }
+{
+    let mut values = Seq::new(alloc);
+    'words: while let Some(word) = words.next() {
+        match read_given(alloc, word)? {
+            Some(value) => values.push(value)?,
+            None => return Ok(None),
+        }
+    }
+    Ok(Some(values))
+}
+
+/// `NAME SESSION LABEL VAR=VALUE ..` of an act.
+#[tactic(auto, unfolding(crate::specs::Format::Reading::act_form))]
+pub(crate) fn act<'a>(alloc: Global, words: &mut Words<'a>) -> Result<Option<Line<'a>>, OutOfMemory>
+    ensures { IfOk result (λ line. option_map said line ≡ act_form words.old) }
+{
+    let Some(who) = take_name(words) else {
+        return Ok(None);
+    };
+    let Some(session) = take_name(words) else {
+        return Ok(None);
+    };
+    let Some(label) = take_name(words) else {
+        return Ok(None);
+    };
+    match read_givens(alloc, words)? {
+        Some(values) => Ok(Some(Line::Act {
+            who,
+            session,
+            label,
+            values,
+        })),
+        None => Ok(None),
+    }
+}
