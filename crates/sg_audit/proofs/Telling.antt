@@ -1,0 +1,144 @@
+-- What lines tell is what the reader keeps of them.
+use Rattle.std.proofs.Common.{◌≡◌, ℕ, ◌+◌, true, false, List, [], ◌∷◌, ◌++◌, length, refl, sym, ap, ◌∙◌, subst, inl, inr, arith, append_assoc, append-nil, length-append}
+use Rattle.std.specs.Prelude.{Option, Some, None, Result, Ok, Err}
+use Rattle.sg_protocol.specs.Graph.{Graph, IsGraph}
+use Rattle.sg_graph.proofs.Found.{cases_of}
+use Rattle.sg_sched.specs.Text.{content, words}
+use Rattle.sg_sched.specs.Format.Forms.{is_skipped}
+use Rattle.sg_sched.specs.Format.Spells.{Line}
+use Rattle.sg_audit.specs.Said.{Said}
+use Rattle.sg_audit.specs.Reading.{form}
+use Rattle.sg_audit.specs.Sessions.{Logs, Told, sessions_of, added}
+use Rattle.sg_audit.specs.Faults.{fault, is_whole as is_over}
+use Rattle.sg_audit.specs.Spells.{Tell, Nothing, Skip, Say, Fault, WrongLine}
+use Rattle.sg_audit.specs.SoFar.{SoFar, nothing, is_whole, add}
+use Rattle.sg_audit.specs.Read.{add_line, go_on, read_sessions}
+use Rattle.sg_audit.specs.declared.fault.Kind.{Kind}
+use Rattle.sg_audit.specs.declared.fault.Kind.TheVariants.{Form}
+use Rattle.sg_audit.proofs.Fitting.{Fine, form_fits, adds, nothing_fine}
+use Rattle.sg_audit.proofs.OneLine.{told_by, Kept, sessions_told, next, judged, add_same, same_whole}
+use Rattle.sg_audit.proofs.NextLine.{moved, kept}
+use Rattle.sg_audit.proofs.WrittenLines.{form_is, form_ok}
+
+-- ---- one line
+
+pub skip_line : (g : Graph) (d : SoFar) (l : Line) → is_skipped l ≡ true → add_line g d l ≡ Ok d
+unfolding add_line
+skip_line g d l s = rw s refl
+
+pub no_line : (g : Graph) (d : SoFar) (l : Line) → is_skipped l ≡ false → form g (words (content l)) ≡ None → add_line g d l ≡ Err Form
+unfolding add_line
+no_line g d l s n = rw (s, n) refl
+
+pub said_line : (g : Graph) (d : SoFar) (l : Line) (s : Said) → is_skipped l ≡ false → form g (words (content l)) ≡ Some s → add_line g d l ≡ add g d s
+unfolding add_line
+said_line g d l s k h = rw (k, h) refl
+
+-- what the reader makes of a line of a form
+pub right_line : (g : Graph) (d : SoFar) (l : Line) (s : Said) → Fine g d → Kept d → is_skipped l ≡ false → form g (words (content l)) ≡ Some s → fault g (told_by d) s ≡ None → add_line g d l ≡ Ok (next d s)
+right_line g d l s f k n h e = said_line g d l s n h ∙ add_same g d s f k ∙ ap (λ o. judged o (next d s)) e
+
+pub wrong_line : (g : Graph) (d : SoFar) (l : Line) (s : Said) (kind : Kind) → Fine g d → Kept d → is_skipped l ≡ false → form g (words (content l)) ≡ Some s → fault g (told_by d) s ≡ Some kind → add_line g d l ≡ Err kind
+wrong_line g d l s kind f k n h e = said_line g d l s n h ∙ add_same g d s f k ∙ ap (λ o. judged o (next d s)) e
+
+pub fine_next : (g : Graph) (d : SoFar) (l : Line) (s : Said) → IsGraph g → Fine g d → Kept d → form g (words (content l)) ≡ Some s → fault g (told_by d) s ≡ None → Fine g (next d s)
+fine_next g d l s is f k h e = adds g d (next d s) s is (form_fits g (words (content l)) s h) f (add_same g d s f k ∙ ap (λ o. judged o (next d s)) e)
+
+-- ---- from what is told to what is read
+
+pub nothing_kept : Kept nothing
+nothing_kept = record { names = refl; count = refl; first = λ q. refl }
+
+-- the reader keeps what the lines tell, and goes on with those behind them
+pub record Reached (g : Graph) (ls : List Line) (t : Told) : Type 0 where
+  pub state : SoFar
+  pub fine : Fine g state
+  pub keeps : Kept state
+  pub told : told_by state ≡ t
+  pub reads : (n : ℕ) (rest : List Line) → read_sessions g n nothing (ls ++ rest) ≡ read_sessions g (n + length ls) state rest
+
+-- one more line
+goes_on : (g : Graph) (ls : List Line) (l : Line) (d e : SoFar) → ((n : ℕ) (rest : List Line) → read_sessions g n nothing (ls ++ rest) ≡ read_sessions g (n + length ls) d rest) → add_line g d l ≡ Ok e
+    → (n : ℕ) (rest : List Line) → read_sessions g n nothing ((ls ++ l ∷ []) ++ rest) ≡ read_sessions g (n + length (ls ++ l ∷ [])) e rest
+goes_on g ls l d e h a n rest =
+    let long = length-append ls (l ∷ []) in
+    let number : n + length ls + 1 ≡ n + length (ls ++ l ∷ []) = omega (arith, long) in
+    ap (read_sessions g n nothing) (append_assoc ls (l ∷ []) rest) ∙ h n (l ∷ rest) ∙ ap (λ r. go_on (n + length ls) r (λ d'. read_sessions g (n + length ls + 1) d' rest)) a ∙ ap (λ m. read_sessions g m e rest) number
+
+pub reached : (g : Graph) (ls : List Line) (t : Told) → IsGraph g → Tell g ls t → Reached g ls t
+reached g _ _ is Nothing = record {
+  state = nothing;
+  fine = nothing_fine g;
+  keeps = nothing_kept;
+  told = refl;
+  reads = λ n rest. ap (λ m. read_sessions g m nothing rest) (let z : n ≡ n + 0 = omega arith in z);
+}
+reached g _ _ is (Skip {ls = ls} {t = t} l tell s) = let r = reached g ls t is tell in record {
+  state = r.state;
+  fine = r.fine;
+  keeps = r.keeps;
+  told = r.told;
+  reads = goes_on g ls l r.state r.state r.reads (skip_line g r.state l s);
+}
+reached g _ _ is (Say {ls = ls} {t = t} l s tell n says right) =
+    let r = reached g ls t is tell in
+    let said = form_ok g (words (content l)) s says in
+    let none : fault g (told_by r.state) s ≡ None = ap (λ x. fault g x s) r.told ∙ right in
+    record {
+      state = next r.state s;
+      fine = fine_next g r.state l s is r.fine r.keeps said none;
+      keeps = kept g r.state s r.keeps none;
+      told = moved r.state s r.keeps ∙ ap (λ x. added x s) r.told;
+      reads = goes_on g ls l r.state (next r.state s) r.reads (right_line g r.state l s r.fine r.keeps n said none);
+    }
+
+-- ---- from what is read to what is told
+
+-- how the lines behind a block end, where the first has this number
+pub data Ends (g : Graph) (n : ℕ) (ls : List Line) : Result Logs Fault → Type 0 where
+  Well : (t : Told) → Tell g ls t → is_over g t ≡ true → Ends g n ls (Ok (record { graph = g; sessions = sessions_of t }))
+  Few : (t : Told) → Tell g ls t → is_over g t ≡ false → Ends g n ls (Err (WrongLine (n + length ls) Form))
+  Formless : (t : Told) (right rest : List Line) (line : Line) → ls ≡ right ++ line ∷ rest → Tell g right t → is_skipped line ≡ false → form g (words (content line)) ≡ None → Ends g n ls (Err (WrongLine (n + length right) Form))
+  Faulty : (t : Told) (right rest : List Line) (line : Line) (said : Said) {kind : Kind} → ls ≡ right ++ line ∷ rest → Tell g right t → is_skipped line ≡ false → form g (words (content line)) ≡ Some said
+      → fault g t said ≡ Some kind → Ends g n ls (Err (WrongLine (n + length right) kind))
+
+pub ends : (g : Graph) (n : ℕ) (front : List Line) (d : SoFar) (ls : List Line) → IsGraph g → Fine g d → Kept d → Tell g front (told_by d) → Ends g n (front ++ ls) (read_sessions g (n + length front) d ls)
+ends g n front d [] is f k tell = elim (cases_of (is_whole g d)) [
+  | inl y ↦ subst (Ends g n (front ++ [])) (sym (rw (sessions_told d, y) refl)) (Well (told_by d) whole (same_whole g d f ∙ y))
+  | inr z ↦ subst (Ends g n (front ++ [])) (sym (rw (append-nil front, z) refl)) (Few (told_by d) whole (same_whole g d f ∙ z))
+]
+  where
+    whole : Tell g (front ++ []) (told_by d)
+    whole = subst (λ ls. Tell g ls (told_by d)) (sym (append-nil front)) tell
+ends g n front d (l ∷ ls) is f k tell = elim (cases_of (is_skipped l)) [
+  | inl y ↦ on (λ e f' k' t. ends g n (front ++ l ∷ []) e ls is f' k' t) d f k (Skip l tell y) (skip_line g d l y)
+  | inr z ↦ by (λ e f' k' t. ends g n (front ++ l ∷ []) e ls is f' k' t) z (form g (words (content l))) refl
+]
+  where
+    Goal : Type 0
+    Goal = Ends g n (front ++ l ∷ ls) (read_sessions g (n + length front) d (l ∷ ls))
+
+    -- how the lines behind this one end
+    Rest : Type 0
+    Rest = (e : SoFar) → Fine g e → Kept e → Tell g (front ++ l ∷ []) (told_by e) → Ends g n ((front ++ l ∷ []) ++ ls) (read_sessions g (n + length (front ++ l ∷ [])) e ls)
+
+    -- the line is taken
+    on : Rest → (e : SoFar) → Fine g e → Kept e → Tell g (front ++ l ∷ []) (told_by e) → add_line g d l ≡ Ok e → Goal
+    on more e f' k' tell' a =
+        let long = length-append front (l ∷ []) in
+        let number : n + length (front ++ l ∷ []) ≡ n + length front + 1 = omega (arith, long) in
+        let rest = more e f' k' tell' in
+        subst (λ r. Ends g n (front ++ l ∷ ls) r) (ap (λ m. read_sessions g m e ls) number ∙ sym (ap (λ r. go_on (n + length front) r (λ d'. read_sessions g (n + length front + 1) d' ls)) a))
+        (subst (λ xs. Ends g n xs (read_sessions g (n + length (front ++ l ∷ [])) e ls)) (append_assoc front (l ∷ []) ls) rest)
+
+    -- the line is not taken
+    off : (kind : Kind) → Ends g n (front ++ l ∷ ls) (Err (WrongLine (n + length front) kind)) → add_line g d l ≡ Err kind → Goal
+    off kind e a = subst (Ends g n (front ++ l ∷ ls)) (sym (ap (λ r. go_on (n + length front) r (λ d'. read_sessions g (n + length front + 1) d' ls)) a)) e
+
+    of : Rest → (s : Said) → is_skipped l ≡ false → form g (words (content l)) ≡ Some s → (o : Option Kind) → fault g (told_by d) s ≡ o → Goal
+    of more s z h None e = on more (next d s) (fine_next g d l s is f k h e) (kept g d s k e) (subst (Tell g (front ++ l ∷ [])) (sym (moved d s k)) (Say l s tell z (form_is g (words (content l)) s h) e)) (right_line g d l s f k z h e)
+    of more s z h (Some kind) e = off kind (Faulty (told_by d) front ls l s refl tell z h e) (wrong_line g d l s kind f k z h e)
+
+    by : Rest → is_skipped l ≡ false → (o : Option Said) → form g (words (content l)) ≡ o → Goal
+    by more z None h = off Form (Formless (told_by d) front ls l refl tell z h) (no_line g d l z h)
+    by more z (Some s) h = of more s z h (fault g (told_by d) s) refl

@@ -1,0 +1,7 @@
+use Rattle.std.proofs.Common.{◌∙◌, sym, ap}
+use Rattle.sg_audit.specs.Said.{differ}
+use Rattle.sg_audit.proofs.Orders.{vars, values_vars}
+use Rattle.sg_audit.proofs.order.values_differ.Goals as goal
+
+pub returns : goal.returns
+returns c = c.differ.ensures ∙ ap (λ ps. differ (vars ps)) c.as_slice.ensures ∙ ap differ (sym (values_vars c.args.given.now.pairs))

@@ -1,0 +1,7 @@
+use Rattle.std.proofs.Common.{◌∙◌, sym, ap}
+use Rattle.sg_model.specs.Lists.{rises_from}
+use Rattle.sg_audit.proofs.Orders.{vars, writes_vars}
+use Rattle.sg_audit.proofs.order.writes_rise.Goals as goal
+
+pub returns : goal.returns
+returns c = c.rises.ensures ∙ ap (λ ps. (rises_from 0) (vars ps)) c.as_slice.ensures ∙ ap (rises_from 0) (sym (writes_vars c.args.given.now.pairs))

@@ -1,0 +1,78 @@
+-- What is wrong with a line of a form, after what the lines before it tell.
+use Rattle.std.specs.Prelude.{ℕ, ◌==◌, nat_le, Bool, false, not, ◌||◌, if◌then◌else◌, List, [], ◌∷◌, map, flat_map, length, Option, Some, None, is_none}
+use Rattle.std.specs.List.{list_any, list_all}
+use Rattle.std.specs.Option.{option_map_or}
+use Rattle.sg_model.specs.Lists.{has_text, is_in, below, keys_of, first_some}
+use Rattle.sg_protocol.specs.Graph.{Graph}
+use Rattle.sg_audit.specs.Merged.{Log, roles_of, events_of}
+use Rattle.sg_audit.specs.Said.{Given, SaidStep, Said, SaidSession, SaidLog, SaidEvent, SaidWalk, differ, falls}
+use Rattle.sg_audit.specs.Sessions.{Told, sessions_of}
+use Rattle.sg_audit.specs.declared.fault.Kind.{Kind}
+use Rattle.sg_audit.specs.declared.fault.Kind.TheVariants.{Form, TooManyEvents, Unknown, Twice}
+
+-- ---- what is told
+
+-- the logs of the last session
+abbrev pub last_logs : Told → List Log
+last_logs t = option_map_or (λ s. s.logs) t.last []
+
+-- there is a session, and its walk isn't told
+abbrev pub is_open : Told → Bool
+is_open t = option_map_or (λ s. is_none s.walk) t.last false
+
+-- each role of the graph has a log in the last session
+abbrev pub all_have_logs : Graph → Told → Bool
+all_have_logs g t = list_all (λ r. is_in r (roles_of (last_logs t))) (below (length g.roles))
+
+-- the last session may end: its walk is told, or needn't be, since each role has a log
+abbrev pub is_whole : Graph → Told → Bool
+is_whole g t = not (is_open t) || all_have_logs g t
+
+-- how many events there are in all
+abbrev pub event_count : Told → ℕ
+event_count t = length (flat_map (λ s. events_of s.logs) (sessions_of t))
+
+-- a variable is named twice
+abbrev pub is_double : {A : Type 0} → Given A → Bool
+is_double v = not (differ (keys_of v.pairs))
+
+-- the label of the step or a variable of it isn't the graph's
+abbrev pub is_strange : SaidStep → Bool
+is_strange s = is_none s.label || not s.writes.known
+
+-- ---- the kinds
+
+-- out of place: a session before the last one may end; a log or a walk in no session that is open, or a walk where each role has a log; an event in no log.
+-- Or variables, all the graph's and none named twice, that don't rise
+abbrev pub is_wrong : Graph → Told → Said → Bool
+is_wrong g t (SaidSession n) = not (is_whole g t)
+is_wrong g t (SaidLog role) = not (is_open t)
+is_wrong g t (SaidEvent sent label time v) = not (is_open t) || length (last_logs t) == 0 || falls v
+is_wrong g t (SaidWalk steps) = not (is_open t) || all_have_logs g t || list_any (λ s. falls s.writes) steps
+
+-- the event 100,001
+abbrev pub is_too_many : Told → Said → Bool
+is_too_many t (SaidEvent sent label time v) = nat_le 100000 (event_count t)
+is_too_many t other = false
+
+-- a role, a label or a variable isn't the graph's
+abbrev pub is_unknown : Said → Bool
+is_unknown (SaidSession n) = false
+is_unknown (SaidLog role) = is_none role
+is_unknown (SaidEvent sent label time v) = is_none label || not v.known
+is_unknown (SaidWalk steps) = list_any is_strange steps
+
+-- a session of this name or a log of this role is there, or a variable is named twice
+abbrev pub is_repeated : Told → Said → Bool
+is_repeated t (SaidSession n) = has_text n (map (λ s. s.name) (sessions_of t))
+is_repeated t (SaidLog role) = option_map_or (λ r. is_in r (roles_of (last_logs t))) role false
+is_repeated t (SaidEvent sent label time v) = is_double v
+is_repeated t (SaidWalk steps) = list_any (λ s. is_double s.writes) steps
+
+-- the kind, where the test says so
+abbrev pub where' : Bool → Kind → Option Kind
+where' b kind = if b then Some kind else None
+
+-- what is wrong with a line, the first in this order
+abbrev pub fault : Graph → Told → Said → Option Kind
+fault g t l = first_some (where' (is_wrong g t l) Form ∷ where' (is_too_many t l) TooManyEvents ∷ where' (is_unknown l) Unknown ∷ where' (is_repeated t l) Twice ∷ [])

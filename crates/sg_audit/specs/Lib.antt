@@ -1,0 +1,14 @@
+pub mod Sent
+pub mod Merged
+pub mod Agree
+pub mod Held
+pub mod Answers
+pub mod Said
+pub mod Reading
+pub mod Written
+pub mod Sessions
+pub mod Faults
+pub mod Spells
+pub mod SoFar
+pub mod Read
+pub mod Taken

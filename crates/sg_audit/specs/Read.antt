@@ -1,0 +1,67 @@
+-- How lines are read one by one: the inner definition that the code is proved against. What it reads is what `Spells` says.
+use Rattle.std.specs.Prelude.{ℕ, ◌+◌, ◌==◌, Bool, false, ◌&&◌, if◌then◌else◌, List, [], ◌∷◌, ◌++◌, length, codes, bytes_eq, Result, Ok, Err}
+use Rattle.std.specs.Option.{option_map_or}
+use Rattle.sg_protocol.specs.Graph.{Graph}
+use Rattle.sg_parse.specs.Reading.{read as parsed}
+use Rattle.sg_parse.specs.declared.fault.ParseFault.{ParseFault}
+use Rattle.sg_sched.specs.Text.{lines, content, words}
+use Rattle.sg_sched.specs.Format.Forms.{is_skipped}
+use Rattle.sg_sched.specs.Format.Said.{Word}
+use Rattle.sg_sched.specs.Format.Spells.{Line, closes}
+use Rattle.sg_audit.specs.Reading.{form}
+use Rattle.sg_audit.specs.SoFar.{SoFar, Added, nothing, add, all_sessions, is_whole}
+use Rattle.sg_audit.specs.Sessions.{Logs}
+use Rattle.sg_audit.specs.Spells.{Fault, WrongLine, NoGraph}
+use Rattle.sg_audit.specs.declared.fault.Kind.TheVariants.{Form}
+
+-- the lines that are left, and the number of those before them
+pub record LinesLeft : Type 0 where
+  pub lines : List Line
+  pub number : ℕ
+
+-- what a line adds: nothing where it is skipped
+unfoldable pub add_line : Graph → SoFar → Line → Added
+add_line g d line = if is_skipped line then Ok d else option_map_or (add g d) (form g (words (content line))) (Err Form)
+
+-- ---- sessions
+
+-- goes on after line n, where that is not wrong
+abbrev pub go_on : {A : Type 0} → ℕ → Added → (SoFar → Result A Fault) → Result A Fault
+go_on n (Ok d) next = next d
+go_on n (Err kind) next = Err (WrongLine n kind)
+
+-- the logs of what was said and of the lines from number n on. Where they end too early, the line that is missing is wrong
+abbrev pub read_sessions : Graph → ℕ → SoFar → List Line → Result Logs Fault
+read_sessions g n d [] = if is_whole g d then Ok (record { graph = g; sessions = all_sessions d }) else Err (WrongLine n Form)
+read_sessions g n d (l ∷ ls) = go_on n (add_line g d l) (λ d'. read_sessions g (n + 1) d' ls)
+
+-- ---- the graph
+
+-- the words `graph` and `{`
+abbrev pub are_opening : List Word → Bool
+are_opening [] = false
+are_opening (a ∷ []) = false
+are_opening (a ∷ b ∷ ws) = bytes_eq a (codes "graph") && bytes_eq b (codes "{") && length ws == 0
+
+-- the line `graph {`
+unfoldable pub opens : Line → Bool
+opens line = are_opening (words (content line))
+
+-- the sessions after the graph that the text spells, if it spells one
+abbrev pub with_graph : Result Graph ParseFault → ℕ → List Line → Result Logs Fault
+with_graph (Ok g) n ls = read_sessions g n nothing ls
+with_graph (Err e) n ls = Err (NoGraph e)
+
+-- the logs of a graph text so far, in a block that line n - 1 is the last one of so far, and of the lines from number n on. A block that isn't closed is wrong at its last line
+abbrev pub read_block : ℕ → List ℕ → List Line → Result Logs Fault
+read_block n text [] = Err (WrongLine n Form)
+read_block n text (l ∷ ls) = if closes l then with_graph (parsed text) (n + 1 + 1) ls else read_block (n + 1) (text ++ l) ls
+
+-- the logs of the lines from number n on, before the graph
+abbrev pub read_lines : ℕ → List Line → Result Logs Fault
+read_lines n [] = Err (WrongLine n Form)
+read_lines n (l ∷ ls) = if is_skipped l then read_lines (n + 1) ls else if opens l then read_block n [] ls else Err (WrongLine n Form)
+
+-- what bytes spell. Each line has a number, the first one 1
+unfoldable pub read : List ℕ → Result Logs Fault
+read bytes = read_lines 1 (lines bytes)

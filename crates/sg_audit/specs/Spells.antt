@@ -1,0 +1,102 @@
+-- The logs that bytes spell, and the first wrong line of bytes that spell none.
+use Rattle.std.specs.Prelude.{◌≡◌, ℕ, ◌+◌, not, List, [], ◌∷◌, ◌++◌, length, codes, IsTrue, IsFalse, Some, None, Err}
+use Rattle.std.specs.List.{list_all, concat}
+use Rattle.sg_protocol.specs.Graph.{Graph as AGraph}
+use Rattle.sg_parse.specs.Grammar.{SpellsGraph}
+use Rattle.sg_parse.specs.Reading.{read}
+use Rattle.sg_parse.specs.declared.fault.ParseFault.{ParseFault}
+use Rattle.sg_sched.specs.Text.{lines, content, words}
+use Rattle.sg_sched.specs.Format.Forms.{is_skipped}
+use Rattle.sg_sched.specs.Format.Spells.{Line, closes}
+use Rattle.sg_audit.specs.Said.{Said}
+use Rattle.sg_audit.specs.Written.{Says}
+use Rattle.sg_audit.specs.Sessions.{Logs, Told, sessions_of, added}
+use Rattle.sg_audit.specs.Faults.{fault, is_whole}
+use Rattle.sg_audit.specs.declared.fault.Kind.{Kind}
+use Rattle.sg_audit.specs.declared.fault.Kind.TheVariants.{Form, Unknown, Twice, TooManyEvents}
+use Rattle.sg_audit.specs.declared.fault.LogFault.{LogFault}
+use Rattle.sg_audit.specs.declared.fault.LogFault.TheVariants.{Form as FormAt, Unknown as UnknownAt, Twice as TwiceAt, Graph as InGraph, TooManyEvents as TooMany}
+
+-- ---- the graph
+
+-- lines that are skipped, the line `graph {`, and lines that don't close the block
+pub record IsOpened (ls : List Line) (inner : List Line) : Type 0 where
+  pub before : List Line
+  pub opening : Line
+  pub all : ls ≡ before ++ opening ∷ inner
+  pub skipped : IsTrue (list_all is_skipped before)
+  pub opens : words (content opening) ≡ codes "graph" ∷ codes "{" ∷ []
+  pub open_yet : IsTrue (list_all (λ l. not (closes l)) inner)
+
+-- these lines are skipped ones and a block, and the bytes and line ends of the block as they stand are its text
+pub record IsBlock (ls : List Line) (text : List ℕ) : Type 0 where
+  pub front : List Line
+  pub inner : List Line
+  pub closing : Line
+  pub all : ls ≡ front ++ closing ∷ []
+  pub opened : IsOpened front inner
+  pub closed : IsTrue (closes closing)
+  pub within : text ≡ concat inner
+
+-- ---- the sessions
+
+-- the words of the line say this of the graph
+abbrev pub SaysLine : AGraph → Line → Said → Type 0
+SaysLine g line said = Says g (words (content line)) said
+
+-- the lines behind the block, from the first one on, tell this, and none of them is wrong
+pub data Tell (g : AGraph) : List Line → Told → Type 0 where
+  Nothing : Tell g [] (record { over = []; last = None })
+  Skip : {ls : List Line} {t : Told} (line : Line) → Tell g ls t → IsTrue (is_skipped line) → Tell g (ls ++ line ∷ []) t
+  Say : {ls : List Line} {t : Told} (line : Line) (said : Said) → Tell g ls t → IsFalse (is_skipped line) → SaysLine g line said → fault g t said ≡ None → Tell g (ls ++ line ∷ []) (added t said)
+
+-- after the block of a graph, these lines tell this
+pub record TellAfter (g : AGraph) (ls : List Line) (t : Told) : Type 0 where
+  pub block : List Line
+  pub text : List ℕ
+  pub behind : List Line
+  pub all : ls ≡ block ++ behind
+  pub is_block : IsBlock block text
+  pub spelled : SpellsGraph text g
+  pub tell : Tell g behind t
+
+-- the bytes are the logs: they tell the sessions, and the last one may end
+pub record SpellsLogs (bytes : List ℕ) (l : Logs) : Type 0 where
+  pub told : Told
+  pub tell : TellAfter l.graph (lines bytes) told
+  pub whole : IsTrue (is_whole l.graph told)
+  pub sessions : l.sessions ≡ sessions_of told
+
+-- ---- wrong lines
+
+-- a line, counted from 1, and what is wrong with it; or what is wrong with the graph text
+pub data Fault : Type 0 where
+  WrongLine : (line : ℕ) → Kind → Fault
+  NoGraph : ParseFault → Fault
+
+-- the first of these lines that is wrong. Where a line is missing, the number after the last one is told, and where the block isn't closed, that of the last line
+pub data IsFirstFault (ls : List Line) : Fault → Type 0 where
+  NoLine : IsTrue (list_all is_skipped ls) → IsFirstFault ls (WrongLine (length ls + 1) Form)
+  NoBlock : (before rest : List Line) (line : Line) → ls ≡ before ++ line ∷ rest → IsTrue (list_all is_skipped before) → IsFalse (is_skipped line)
+      → (words (content line) ≡ codes "graph" ∷ codes "{" ∷ [] → ⊥) → IsFirstFault ls (WrongLine (length before + 1) Form)
+  NotClosed : (inner : List Line) → IsOpened ls inner → IsFirstFault ls (WrongLine (length ls) Form)
+  OfGraph : (block rest : List Line) (text : List ℕ) {e : ParseFault} → ls ≡ block ++ rest → IsBlock block text → read text ≡ Err e → IsFirstFault ls (NoGraph e)
+  OfNoForm : (g : AGraph) (t : Told) (right rest : List Line) (line : Line) → ls ≡ right ++ line ∷ rest → TellAfter g right t → IsFalse (is_skipped line)
+      → ((said : Said) → SaysLine g line said → ⊥) → IsFirstFault ls (WrongLine (length right + 1) Form)
+  OfAForm : (g : AGraph) (t : Told) (right rest : List Line) (line : Line) (said : Said) {kind : Kind} → ls ≡ right ++ line ∷ rest → TellAfter g right t → IsFalse (is_skipped line)
+      → SaysLine g line said → fault g t said ≡ Some kind → IsFirstFault ls (WrongLine (length right + 1) kind)
+  TooFew : (g : AGraph) (t : Told) → TellAfter g ls t → IsFalse (is_whole g t) → IsFirstFault ls (WrongLine (length ls + 1) Form)
+
+-- a fault as the program tells it: the event 100,001 without its line
+abbrev pub told_as : Fault → LogFault
+told_as (WrongLine n Form) = FormAt n
+told_as (WrongLine n Unknown) = UnknownAt n
+told_as (WrongLine n Twice) = TwiceAt n
+told_as (WrongLine n TooManyEvents) = TooMany
+told_as (NoGraph fault) = InGraph fault
+
+-- the program tells the first fault of the bytes
+pub record IsFault (bytes : List ℕ) (e : LogFault) : Type 0 where
+  pub fault : Fault
+  pub first : IsFirstFault (lines bytes) fault
+  pub told : e ≡ told_as fault

@@ -1,0 +1,139 @@
+//! What a line says, from its words.
+ghost use Rattle.std.specs.Prelude.{◌≡◌, ◌≤◌, option_map, true, false, IfOk, IfSome};
+ghost use Rattle.sg_base.specs.Words.{name};
+ghost use Rattle.sg_audit.specs.Reading.{event_form, form, log_form, session_form, time, walk_form};
+ghost use Rattle.sg_audit.specs.Taken.{Fits, said};
+ghost use Rattle.sg_sched.specs.Format.Reading.{word};
+
+use crate::given::{Given, label_named, read_values, role_named};
+use crate::step::{Step, read_steps};
+use sg_base::{Label, Name, OutOfMemory, Role, Seq, Time, Value, read_number};
+use sg_graph::Graph;
+use sg_sched::Words;
+use std::alloc::Global;
+
+/// What a line says of a graph. A role or a label is `None` where the graph has none of the name.
+#[derive(Debug, Drop)]
+pub(crate) enum Line {
+    Session(Name),
+    Log(Option<Role>),
+    Event {
+        sent: bool,
+        label: Option<Label>,
+        time: Time,
+        values: Given<Value>,
+    },
+    Walk(Seq<Step>),
+}
+
+/// What the words of a line say, if they are of a form.
+#[tactic(auto, unfolding(crate::specs::Reading::form))]
+pub(crate) fn read_line(
+    alloc: Global,
+    graph: &Graph,
+    words: &mut Words<'_>,
+) -> Result<Option<Line>, OutOfMemory>
+    ensures said { IfOk result (λ o. option_map said o ≡ form graph.now words.old) }
+    ensures fits { IfOk result (λ o. IfSome o Fits) }
+{
+    let Some(first) = words.next() else {
+        return Ok(None);
+    };
+    if first == b"session".as_slice() {
+        Ok(session(words))
+    } else if first == b"log".as_slice() {
+        Ok(log(graph, words))
+    } else if first == b"sent".as_slice() {
+        event(alloc, graph, true, words)
+    } else if first == b"received".as_slice() {
+        event(alloc, graph, false, words)
+    } else if first == b"walk".as_slice() {
+        walk(alloc, graph, words)
+    } else {
+        Ok(None)
+    }
+}
+
+// `NAME` of a session.
+#[tactic(auto, unfolding(crate::specs::Reading::session_form, sg_base::specs::Words::name, sg_sched::specs::Format::Reading::word))]
+fn session(words: &mut Words<'_>) -> Option<Line>
+    ensures said { option_map said result ≡ session_form words.old }
+    ensures fits { IfSome result Fits }
+{
+    let name = Name::new(words.next()?)?;
+    if !words.is_empty() {
+        return None;
+    }
+    Some(Line::Session(name))
+}
+
+// `ROLE` of a log.
+#[tactic(auto, unfolding(crate::specs::Reading::log_form, sg_base::specs::Words::name, sg_sched::specs::Format::Reading::word))]
+fn log(graph: &Graph, words: &mut Words<'_>) -> Option<Line>
+    ensures said { option_map said result ≡ log_form graph.now words.old }
+    ensures fits { IfSome result Fits }
+{
+    let name = Name::new(words.next()?)?;
+    if !words.is_empty() {
+        return None;
+    }
+    Some(Line::Log(role_named(graph, &name)))
+}
+
+// `LABEL TIME VAR=VALUE ..` of an event.
+#[tactic(auto, unfolding(crate::specs::Reading::event_form, sg_base::specs::Words::name, sg_sched::specs::Format::Reading::word))]
+fn event(
+    alloc: Global,
+    graph: &Graph,
+    sent: bool,
+    words: &mut Words<'_>,
+) -> Result<Option<Line>, OutOfMemory>
+    ensures said { IfOk result (λ o. option_map said o ≡ event_form graph.now sent words.old) }
+    ensures fits { IfOk result (λ o. IfSome o Fits) }
+{
+    let Some(name) = words.next() else {
+        return Ok(None);
+    };
+    let Some(name) = Name::new(name) else {
+        return Ok(None);
+    };
+    let Some(word) = words.next() else {
+        return Ok(None);
+    };
+    let Some(time) = read_time(word) else {
+        return Ok(None);
+    };
+    match read_values(alloc, graph, words)? {
+        Some(values) => Ok(Some(Line::Event {
+            sent,
+            label: label_named(graph, &name),
+            time,
+            values,
+        })),
+        None => Ok(None),
+    }
+}
+
+// A time, from 1 to 1,000,000.
+#[tactic(auto, unfolding(crate::specs::Reading::time))]
+fn read_time(word: &[u8]) -> Option<Time>
+    ensures { result ≡ time word.now }
+{
+    let number = read_number(word, 1_000_000)?;
+    if number == 0 {
+        return None;
+    }
+    Some(Time(number as u32))
+}
+
+// The steps of a walk.
+#[tactic(auto, unfolding(crate::specs::Reading::walk_form))]
+fn walk(alloc: Global, graph: &Graph, words: &mut Words<'_>) -> Result<Option<Line>, OutOfMemory>
+    ensures said { IfOk result (λ o. option_map said o ≡ walk_form graph.now words.old) }
+    ensures fits { IfOk result (λ o. IfSome o Fits) }
+{
+    match read_steps(alloc, graph, words)? {
+        Some(steps) => Ok(Some(Line::Walk(steps))),
+        None => Ok(None),
+    }
+}

@@ -1,0 +1,142 @@
+//! The order of the variables that a line names.
+ghost use Rattle.std.specs.Prelude.{◌≡◌, ◌<◌, ◌≤◌, ◌+◌, ◌&&◌, nat_lt, not, map, true, false};
+ghost use Rattle.std.specs.List.{list_any};
+ghost use Rattle.std.specs.Option.{option_map_or};
+ghost use Rattle.sg_model.specs.Lists.{keys_of, rises_from};
+ghost use Rattle.sg_audit.specs.Said.{differ, falls, rise};
+ghost use Rattle.sg_audit.specs.SoFar.{is_unknown};
+ghost use Rattle.sg_audit.specs.Taken.{given_values, given_writes, step_said};
+
+use crate::given::Given;
+use crate::step::Step;
+use sg_base::{Value, Var};
+
+/// Whether the variables of an event rise.
+pub(crate) fn values_rise(given: &Given<Value>) -> bool
+    ensures { result ≡ rise (given_values given.now) }
+{
+    rises(given.pairs.as_slice())
+}
+
+/// Whether all variables of an event are declared, none is named twice, and they don't rise.
+pub(crate) fn values_fall(given: &Given<Value>) -> bool
+    ensures { result ≡ falls (given_values given.now) }
+{
+    given.known && values_differ(given) && !values_rise(given)
+}
+
+fn values_differ(given: &Given<Value>) -> bool
+    ensures { result ≡ differ (keys_of (given_values given.now).pairs) }
+{
+    differ(given.pairs.as_slice())
+}
+
+/// Whether the variables of some step are all declared, none is named twice, and they don't rise.
+pub(crate) fn some_fall(steps: &[Step]) -> bool
+    ensures { result ≡ list_any (λ s. falls s.writes) (map step_said steps.now) }
+{
+    for step in steps {
+        if writes_fall(&step.writes) {
+            return true;
+        }
+    }
+    false
+}
+
+/// Whether the variables of some step don't rise.
+pub(crate) fn some_not_rise(steps: &[Step]) -> bool
+    ensures { result ≡ list_any (λ s. not (rise s.writes)) (map step_said steps.now) }
+{
+    for step in steps {
+        if !writes_rise(&step.writes) {
+            return true;
+        }
+    }
+    false
+}
+
+/// Whether the label or a variable of some step isn't declared.
+pub(crate) fn some_unknown(steps: &[Step]) -> bool
+    ensures { result ≡ list_any is_unknown (map step_said steps.now) }
+{
+    for step in steps {
+        if is_unknown(step) {
+            return true;
+        }
+    }
+    false
+}
+
+fn is_unknown(step: &Step) -> bool
+    ensures { result ≡ is_unknown (step_said step.now) }
+{
+    step.label.is_none() || !step.writes.known
+}
+
+fn writes_rise(given: &Given<Option<Value>>) -> bool
+    ensures { result ≡ rise (given_writes given.now) }
+{
+    rises(given.pairs.as_slice())
+}
+
+fn writes_fall(given: &Given<Option<Value>>) -> bool
+    ensures { result ≡ falls (given_writes given.now) }
+{
+    given.known && writes_differ(given) && !writes_rise(given)
+}
+
+fn writes_differ(given: &Given<Option<Value>>) -> bool
+    ensures { result ≡ differ (keys_of (given_writes given.now).pairs) }
+{
+    differ(given.pairs.as_slice())
+}
+
+// Whether the variables rise.
+fn rises<T>(pairs: &[(Var, T)]) -> bool
+    ensures { result ≡ rises_from 0 (map (λ w. w.0) pairs.now) }
+{
+    let mut last: Option<Var> = None;
+    for pair in pairs {
+        let var = pair.0;
+        if is_behind(last, var) {
+            return false;
+        }
+        last = Some(var);
+    }
+    true
+}
+
+// Whether there is a last variable, and the other isn't greater.
+fn is_behind(last: Option<Var>, var: Var) -> bool
+    ensures { result ≡ nat_lt var (option_map_or (λ x. x + 1) last 0) }
+{
+    match last {
+        Some(last) => var.0 <= last.0,
+        None => false,
+    }
+}
+
+// Whether no variable stands twice.
+fn differ<T>(pairs: &[(Var, T)]) -> bool
+    ensures { result ≡ differ (map (λ w. w.0) pairs.now) }
+{
+    let mut seen = [false; 256];
+    let mut left = pairs.len();
+    while left > 0 {
+        left -= 1;
+        let place = place_of(pairs[left].0);
+        if seen[place] {
+            return false;
+        }
+        seen[place] = true;
+    }
+    true
+}
+
+// The variable's place among all.
+fn place_of(var: Var) -> usize
+    ensures place { result ≡ var }
+    ensures within { result < 256 }
+{
+    var.0 as usize
+}

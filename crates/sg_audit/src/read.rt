@@ -1,0 +1,171 @@
+//! Logs from bytes.
+ghost use Rattle.std.specs.Prelude.{◌≡◌, ◌<◌, ◌^◌, ◌+◌, ◌⊎◌, [], All, map, length, Ok, IfOk, IfErr, MatchResult};
+ghost use Rattle.sg_audit.specs.Sessions.{Logs as Spelled};
+ghost use Rattle.sg_audit.specs.Spells.{SpellsLogs, IsFault};
+ghost use Rattle.sg_parse.specs.Reading.{read as parsed};
+ghost use Rattle.sg_audit.specs.Read.{add_line, read, read_block, read_lines, read_sessions, with_graph};
+ghost use Rattle.sg_audit.specs.SoFar.{nothing};
+ghost use Rattle.sg_audit.specs.Taken.{Refuses, Takes, fault_at, logs_held, session_of};
+ghost use Rattle.sg_audit.specs.Agree.{AreLogs};
+ghost use Rattle.sg_audit.specs.Held.{logs_of, told_of};
+
+use crate::fault::{Kind, LogFault, Stop};
+use crate::line::read_line;
+use crate::lines::{Lines, closes, opens};
+use crate::reader::Reader;
+use crate::session::{Logs, SessionLog};
+use sg_base::Seq;
+use sg_graph::Graph;
+use sg_parse::{ParseFault, parse_graph};
+use sg_sched::{Words, is_skipped, line_content};
+use std::alloc::Global;
+
+/// The logs that the bytes spell, or the first wrong line from the top, lines counted from 1, and what is wrong with it. It reads each
+/// byte once and takes time in proportion to their number.
+pub fn read_logs(alloc: Global, bytes: &[u8]) -> Result<Logs, LogFault>
+    requires { length bytes.now + 1 < 2 ^ 32 }
+    // What is read is spelled so.
+    ensures spelled { IfOk result (λ l. SpellsLogs bytes.now (logs_held l)) }
+    // What is spelled so is read, unless memory runs out.
+    ensures read { (l : Spelled) → SpellsLogs bytes.now l → MatchResult result (λ held. logs_held held ≡ l) (λ e. e ≡ LogFault.OutOfMemory) }
+    // A refusal tells the first fault.
+    ensures wrong { IfErr result (λ e. (e ≡ LogFault.OutOfMemory) ⊎ IsFault bytes.now e) }
+    // What has a fault is refused with the first one, unless memory runs out.
+    ensures refused { (e : LogFault) → IsFault bytes.now e → MatchResult result (λ held. ⊥) (λ f. (f ≡ LogFault.OutOfMemory) ⊎ (f ≡ e)) }
+    // Each session can be audited.
+    ensures fit { IfOk result (λ l. All (λ s. AreLogs l.graph (logs_of s) (told_of s)) l.sessions) }
+{
+    read_text(alloc, bytes)
+}
+
+// The logs, or the first wrong line, as lines are read one by one.
+#[tactic(auto, unfolding(crate::specs::Read::read))]
+fn read_text(alloc: Global, bytes: &[u8]) -> Result<Logs, LogFault>
+    requires { length bytes.now + 1 < 2 ^ 32 }
+    ensures exact { MatchResult result (λ l. read bytes.now ≡ Ok (logs_held l)) (Refuses (read bytes.now)) }
+    ensures fit { IfOk result (λ l. All (λ s. AreLogs l.graph (logs_of s) (told_of s)) l.sessions) }
+{
+    let mut lines = Lines::new(bytes);
+    skip_to_block(&mut lines)?;
+    let graph = read_graph(alloc, &mut lines)?;
+    match read_sessions(alloc, &graph, &mut lines) {
+        Ok(sessions) => Ok(Logs { graph, sessions }),
+        Err(fault) => Err(fault),
+    }
+}
+
+// Takes lines off up to `graph {`.
+fn skip_to_block(lines: &mut Lines<'_>) -> Result<(), LogFault>
+    ensures { MatchResult result (λ _. read_lines (lines.old.number + 1) lines.old.lines ≡ read_block lines.new.number [] lines.new.lines) (Refuses (read_lines (lines.old.number + 1) lines.old.lines)) }
+{
+    'lines: while let Some(line) = lines.next() {
+        if is_skipped(line_content(line)) {
+            continue;
+        }
+        if opens(line) {
+            return Ok(());
+        }
+        return Err(LogFault::Form {
+            line: lines.number(),
+        });
+    }
+    Err(LogFault::Form {
+        line: lines.number() + 1,
+    })
+}
+
+// The graph of the block whose opening line was taken off.
+fn read_graph(alloc: Global, lines: &mut Lines<'_>) -> Result<Graph, LogFault>
+    ensures { MatchResult result (λ g. read_block lines.old.number [] lines.old.lines ≡ read_sessions g (lines.new.number + 1) nothing lines.new.lines) (Refuses (read_block lines.old.number [] lines.old.lines)) }
+{
+    let text = block_text(alloc, lines)?;
+    match parse_graph(alloc, text.as_slice()) {
+        Ok(graph) => Ok(graph),
+        Err(ParseFault::OutOfMemory) => Err(LogFault::OutOfMemory),
+        Err(fault) => Err(LogFault::Graph { fault }),
+    }
+}
+
+// The text of the block whose opening line was taken off.
+fn block_text(alloc: Global, lines: &mut Lines<'_>) -> Result<Vec<u8>, LogFault>
+    ensures { MatchResult result (λ text. read_block lines.old.number [] lines.old.lines ≡ with_graph (parsed text.items) (lines.new.number + 1) lines.new.lines) (Refuses (read_block lines.old.number [] lines.old.lines)) }
+{
+    let mut text = Vec::new(alloc);
+    'lines: while let Some(line) = lines.next() {
+        if closes(line) {
+            return Ok(text);
+        }
+        if text.extend_from_slice(line).is_err() {
+            return Err(LogFault::OutOfMemory);
+        }
+    }
+    Err(LogFault::Form {
+        line: lines.number(),
+    })
+}
+
+// The sessions of the lines that are left.
+fn read_sessions(
+    alloc: Global,
+    graph: &Graph,
+    lines: &mut Lines<'_>,
+) -> Result<Seq<SessionLog>, LogFault>
+    ensures exact { MatchResult result (λ s. read_sessions graph.now (lines.old.number + 1) nothing lines.old.lines ≡ Ok (record { graph = graph.now; sessions = map session_of s })) (Refuses (read_sessions graph.now (lines.old.number + 1) nothing lines.old.lines)) }
+    ensures fit { IfOk result (All (λ s. AreLogs graph.now (logs_of s) (told_of s))) }
+{
+    let _count = graph.roles();
+    take_sessions(alloc, graph, lines)
+}
+
+// Takes all lines that are left, as sessions.
+fn take_sessions(
+    alloc: Global,
+    graph: &Graph,
+    lines: &mut Lines<'_>,
+) -> Result<Seq<SessionLog>, LogFault>
+    ensures { MatchResult result (λ s. read_sessions graph.now (lines.old.number + 1) nothing lines.old.lines ≡ Ok (record { graph = graph.now; sessions = map session_of s })) (Refuses (read_sessions graph.now (lines.old.number + 1) nothing lines.old.lines)) }
+{
+    let mut reader = Reader::new(alloc);
+    'lines: while let Some(line) = lines.next() {
+        if let Err(stop) = take_line(alloc, graph, &mut reader, line) {
+            return Err(fault_at(lines.number(), stop));
+        }
+    }
+    if !reader.is_whole(graph) {
+        return Err(LogFault::Form {
+            line: lines.number() + 1,
+        });
+    }
+    match reader.sessions() {
+        Ok(sessions) => Ok(sessions),
+        Err(_) => Err(LogFault::OutOfMemory),
+    }
+}
+
+// Takes a line with its line end.
+#[tactic(auto, unfolding(crate::specs::Read::add_line))]
+fn take_line(alloc: Global, graph: &Graph, reader: &mut Reader, line: &[u8]) -> Result<(), Stop>
+    ensures { Takes (add_line graph.now reader.old line.now) reader.new result }
+{
+    if is_skipped(line_content(line)) {
+        return Ok(());
+    }
+    match read_line(alloc, graph, &mut Words::new(line_content(line))) {
+        Ok(Some(line)) => reader.add(graph, line),
+        Ok(None) => Err(Stop::Wrong(Kind::Form)),
+        Err(_) => Err(Stop::OutOfMemory),
+    }
+}
+
+// The fault of a line that isn't taken.
+fn fault_at(line: u32, stop: Stop) -> LogFault
+    ensures { result ≡ fault_at line stop }
+{
+    match stop {
+        Stop::Wrong(Kind::Form) => LogFault::Form { line },
+        Stop::Wrong(Kind::Unknown) => LogFault::Unknown { line },
+        Stop::Wrong(Kind::Twice) => LogFault::Twice { line },
+        Stop::Wrong(Kind::TooManyEvents) => LogFault::TooManyEvents,
+        Stop::OutOfMemory => LogFault::OutOfMemory,
+    }
+}

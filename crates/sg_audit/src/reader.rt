@@ -1,0 +1,315 @@
+//! What the lines so far have said, and how one more line is taken.
+ghost use Rattle.std.specs.Prelude.{◌≡◌, ◌<◌, ◌≤◌, ◌^◌, ◌&&◌, not, [], None, length, map, option_map, is_some, is_none, OnOk, IfOk, IfSome};
+ghost use Rattle.std.specs.List.{list_any, list_all};
+ghost use Rattle.sg_audit.specs.SoFar.{nothing, all_logs, all_sessions, all_have_logs, is_whole, is_open, add, add_session, add_log, add_event, add_walk, open_log, count_event, put_event};
+ghost use Rattle.sg_audit.specs.Sessions.{event, stored_step};
+ghost use Rattle.sg_audit.specs.Taken.{Fits, Takes, said, session_of, given_values, step_said};
+ghost use Rattle.sg_model.specs.Lists.{is_in, below};
+ghost use Rattle.sg_walk.specs.Views.{event_of, step_of, steps_of};
+
+use crate::fault::{Kind, Stop};
+use crate::given::Given;
+use crate::line::Line;
+use crate::order::{some_fall, some_not_rise, some_unknown, values_fall, values_rise};
+use crate::session::SessionLog;
+use crate::step::Step;
+use sg_base::{Label, Name, OutOfMemory, Role, RoleSet, Seq, Sid, Time, Value};
+use sg_graph::Graph;
+use sg_sched::NameSet;
+use sg_walk::{Event, StoredStep, StoredWalk};
+use std::alloc::Global;
+use std::marker::Model;
+use std::mem;
+
+// There are at most so many events.
+const MOST_EVENTS: u32 = 100_000;
+
+/// What the lines so far have said.
+#[derive(Drop)]
+pub(crate) struct Reader {
+    alloc: Global,
+    names: NameSet,
+    count: u32,
+    done: Seq<SessionLog>,
+    name: Option<Name>,
+    logs: Seq<(Role, Seq<Event>)>,
+    roles: RoleSet,
+    role: Option<Role>,
+    events: Seq<Event>,
+    walk: Option<StoredWalk>,
+}
+
+impl Model for Reader {
+    ghost use Rattle.std.specs.Prelude.{map, option_map};
+    ghost use Rattle.sg_audit.specs.SoFar.{SoFar};
+    ghost use Rattle.sg_audit.specs.Held.{log_of};
+    ghost use Rattle.sg_audit.specs.Taken.{session_of};
+    ghost use Rattle.sg_walk.specs.Views.{event_of, steps_of};
+
+    ghost Value = { SoFar };
+
+    ghost view = { λ r. record {
+      names = r.names;
+      count = r.count;
+      done = map session_of r.done;
+      name = r.name;
+      logs = map log_of r.logs;
+      roles = r.roles;
+      role = r.role;
+      events = map event_of r.events;
+      walk = option_map steps_of r.walk;
+    } };
+}
+
+impl Reader {
+    /// Before the first session. It takes no memory.
+    pub fn new(alloc: Global) -> Reader
+        ensures { result ≡ nothing }
+    {
+        Reader {
+            alloc,
+            names: NameSet::new(alloc),
+            count: 0,
+            done: Seq::new(alloc),
+            name: None,
+            logs: Seq::new(alloc),
+            roles: RoleSet::empty(),
+            role: None,
+            events: Seq::new(alloc),
+            walk: None,
+        }
+    }
+
+    /// Takes what a line says.
+    #[tactic(auto, unfolding(crate::specs::SoFar::add))]
+    pub fn add(&mut self, graph: &Graph, line: Line) -> Result<(), Stop>
+        requires { Fits line }
+        ensures { Takes (add graph.now self.old (said line)) self.new result }
+    {
+        match line {
+            Line::Session(name) => self.add_session(graph, name),
+            Line::Log(role) => self.add_log(role),
+            Line::Event {
+                sent,
+                label,
+                time,
+                values,
+            } => self.add_event(sent, label, time, values),
+            Line::Walk(steps) => self.add_walk(graph, steps),
+        }
+    }
+
+    /// Whether the text may end here, or a session begin.
+    pub fn is_whole(&self, graph: &Graph) -> bool
+        ensures { result ≡ is_whole graph.now self.now }
+    {
+        self.name.is_none() || self.walk.is_some() || self.all_have_logs(graph)
+    }
+
+    // Whether a session is open whose walk isn't told.
+    fn is_open(&self) -> bool
+        ensures { result ≡ is_open self.now }
+    {
+        self.name.is_some() && self.walk.is_none()
+    }
+
+    fn all_have_logs(&self, graph: &Graph) -> bool
+        ensures { result ≡ all_have_logs graph.now self.now }
+    {
+        have_all(self.roles, graph.roles())
+    }
+
+    #[tactic(auto, unfolding(crate::specs::SoFar::add_session))]
+    fn add_session(&mut self, graph: &Graph, name: Name) -> Result<(), Stop>
+        ensures { Takes (add_session graph.now self.old name) self.new result }
+    {
+        if !self.is_whole(graph) {
+            return Err(Stop::Wrong(Kind::Form));
+        }
+        if self.names.has(&name) {
+            return Err(Stop::Wrong(Kind::Twice));
+        }
+        if self.close_session().is_err() || self.names.add(name).is_err() {
+            return Err(Stop::OutOfMemory);
+        }
+        self.name = Some(name);
+        Ok(())
+    }
+
+    /// Puts the last session, if there is one, behind those before it.
+    pub fn close_session(&mut self) -> Result<(), OutOfMemory>
+        ensures { OnOk result (self.new ≡ record { names = self.old.names; count = self.old.count; done = all_sessions self.old; name = None; logs = []; roles = []; role = None; events = []; walk = None }) }
+    {
+        self.close_log()?;
+        let logs = mem::replace(&mut self.logs, Seq::new(self.alloc));
+        let walk = mem::replace(&mut self.walk, None);
+        self.roles = RoleSet::empty();
+        if let Some(name) = self.name {
+            self.done.push(SessionLog { name, logs, walk })?;
+        }
+        self.name = None;
+        Ok(())
+    }
+
+    // Puts the last log of the session, if there is one, behind those before it.
+    fn close_log(&mut self) -> Result<(), OutOfMemory>
+        ensures { OnOk result (self.new ≡ record { names = self.old.names; count = self.old.count; done = self.old.done; name = self.old.name; logs = all_logs self.old; roles = self.old.roles; role = None; events = []; walk = self.old.walk }) }
+    {
+        let events = mem::replace(&mut self.events, Seq::new(self.alloc));
+        if let Some(role) = self.role {
+            self.logs.push((role, events))?;
+        }
+        self.role = None;
+        Ok(())
+    }
+
+    #[tactic(auto, unfolding(crate::specs::SoFar::add_log))]
+    fn add_log(&mut self, role: Option<Role>) -> Result<(), Stop>
+        requires { IfSome role (λ r. r < 16) }
+        ensures { Takes (add_log self.old role) self.new result }
+    {
+        if !self.is_open() {
+            return Err(Stop::Wrong(Kind::Form));
+        }
+        let Some(role) = role else {
+            return Err(Stop::Wrong(Kind::Unknown));
+        };
+        if self.roles.has(role) {
+            return Err(Stop::Wrong(Kind::Twice));
+        }
+        if self.close_log().is_err() {
+            return Err(Stop::OutOfMemory);
+        }
+        self.roles = self.roles.with(role);
+        self.role = Some(role);
+        Ok(())
+    }
+
+    #[tactic(auto, unfolding(crate::specs::SoFar::add_event))]
+    fn add_event(
+        &mut self,
+        sent: bool,
+        label: Option<Label>,
+        time: Time,
+        values: Given<Value>,
+    ) -> Result<(), Stop>
+        ensures { Takes (add_event self.old sent label time (given_values values)) self.new result }
+    {
+        if !self.is_open() {
+            return Err(Stop::Wrong(Kind::Form));
+        }
+        let Some(role) = self.role else {
+            return Err(Stop::Wrong(Kind::Form));
+        };
+        if values_fall(&values) {
+            return Err(Stop::Wrong(Kind::Form));
+        }
+        if self.count >= MOST_EVENTS {
+            return Err(Stop::Wrong(Kind::TooManyEvents));
+        }
+        let Some(label) = label else {
+            return Err(Stop::Wrong(Kind::Unknown));
+        };
+        if !values.known {
+            return Err(Stop::Wrong(Kind::Unknown));
+        }
+        if !values_rise(&values) {
+            return Err(Stop::Wrong(Kind::Twice));
+        }
+        if let Err(_) = self.events.push(event(sent, role, label, time, values)) {
+            return Err(Stop::OutOfMemory);
+        }
+        self.count += 1;
+        Ok(())
+    }
+
+    #[tactic(auto, unfolding(crate::specs::SoFar::add_walk))]
+    fn add_walk(&mut self, graph: &Graph, steps: Seq<Step>) -> Result<(), Stop>
+        ensures { Takes (add_walk graph.now self.old (map step_said steps)) self.new result }
+    {
+        if !self.is_open() || self.all_have_logs(graph) {
+            return Err(Stop::Wrong(Kind::Form));
+        }
+        if some_fall(steps.as_slice()) {
+            return Err(Stop::Wrong(Kind::Form));
+        }
+        if some_unknown(steps.as_slice()) {
+            return Err(Stop::Wrong(Kind::Unknown));
+        }
+        if some_not_rise(steps.as_slice()) {
+            return Err(Stop::Wrong(Kind::Twice));
+        }
+        match stored_walk(self.alloc, steps) {
+            Ok(walk) => self.walk = Some(walk),
+            Err(_) => return Err(Stop::OutOfMemory),
+        }
+        Ok(())
+    }
+
+    /// The sessions.
+    pub fn sessions(mut self) -> Result<Seq<SessionLog>, OutOfMemory>
+        ensures { IfOk result (λ s. map session_of s ≡ all_sessions self) }
+    {
+        self.close_session()?;
+        Ok(self.done)
+    }
+}
+
+// Whether the set has each of so many roles.
+fn have_all(roles: RoleSet, count: u8) -> bool
+    ensures { result ≡ list_all (λ r. is_in r roles) (below count) }
+{
+    for number in 0..count {
+        if !roles.has(Role(number)) {
+            return false;
+        }
+    }
+    true
+}
+
+// An event of the role, with zeros for its session. No receipt joins.
+fn event(sent: bool, role: Role, label: Label, time: Time, values: Given<Value>) -> Event
+    ensures { event_of result ≡ event sent role label time (given_values values).pairs }
+{
+    let sid = Sid([0; 32]);
+    if sent {
+        Event::Sent {
+            sid,
+            role,
+            label,
+            time,
+            values: values.pairs,
+        }
+    } else {
+        Event::Received {
+            sid,
+            role,
+            label,
+            time,
+            values: values.pairs,
+            joins: false,
+        }
+    }
+}
+
+// The walk of the steps, whose labels are there.
+fn stored_walk(alloc: Global, steps: Seq<Step>) -> Result<StoredWalk, OutOfMemory>
+    ensures { IfOk result (λ w. steps_of w ≡ map stored_step (map step_said steps)) }
+{
+    let mut stored = Vec::new(alloc);
+    for step in steps.into_vec() {
+        stored.push(stored_step(step))?;
+    }
+    Ok(StoredWalk {
+        steps: Seq::from_vec(stored),
+    })
+}
+
+fn stored_step(step: Step) -> StoredStep
+    ensures { step_of result ≡ stored_step (step_said step) }
+{
+    StoredStep {
+        label: step.label.unwrap_or(Label(0)),
+        writes: step.writes.pairs,
+    }
+}

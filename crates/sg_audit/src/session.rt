@@ -1,0 +1,20 @@
+//! Logs of sessions.
+use sg_base::{Name, Role, Seq};
+use sg_graph::Graph;
+use sg_walk::{Event, StoredWalk};
+
+/// The logs of one session: of each role that has one, in the order of the text, what it sent and received, in its order; and, where a
+/// role has none, the walk that is told. Identifiers in events are zeros, and no receipt joins.
+#[derive(Debug, Drop)]
+pub struct SessionLog {
+    pub name: Name,
+    pub logs: Seq<(Role, Seq<Event>)>,
+    pub walk: Option<StoredWalk>,
+}
+
+/// The logs of a file: the graph, and its sessions in the order of the text.
+#[derive(Debug, Drop)]
+pub struct Logs {
+    pub graph: Graph,
+    pub sessions: Seq<SessionLog>,
+}
