@@ -4,12 +4,13 @@ use Rattle.std.specs.Fmt.{decimal}
 use Rattle.sg_protocol.specs.Graph.{Graph}
 use Rattle.sg_protocol.specs.Schedule.{Schedule}
 use Rattle.sg_parse.specs.declared.fault.ParseFault.{ParseFault}
+use Rattle.sg_compose.specs.declared.fault.ComposeFault.{ComposeFault}
 use Rattle.sg_program.specs.declared.check.CompileFault.{CompileFault}
 use Rattle.sg_sched.specs.declared.first_path.fault.Kind.{Kind}
 use Rattle.sg_sched.specs.declared.first_path.fault.Kind.TheVariants.{Form, Unknown, Twice, NotHonest, TooManySteps}
 use Rattle.sg_sched.specs.declared.first_path.fault.LineFault.{LineFault}
 use Rattle.sg_sched.specs.declared.first_path.fault.LineFault.TheVariants.{Line, OutOfMemory}
-use Rattle.sg_cli.specs.Refusal.{parse_text, refusal_text}
+use Rattle.sg_cli.specs.Refusal.{parse_text, compose_text, refusal_text}
 
 -- how the program ends
 pub data Ending : Type 0 where
@@ -19,6 +20,8 @@ pub data Ending : Type 0 where
   NoCommand : Ending
   -- the bytes are no graph
   NoGraph : ParseFault → Ending
+  -- the parts are not expanded
+  NoExpansion : ComposeFault → Ending
   -- the graph isn't accepted
   GraphRefused : Graph → CompileFault → Ending
   -- the graph has no role of this name
@@ -41,6 +44,7 @@ abbrev pub status_of : Ending → ℕ
 status_of Written = 0
 status_of NoCommand = 2
 status_of (NoGraph fault) = 3
+status_of (NoExpansion fault) = 3
 status_of (GraphRefused g fault) = 3
 status_of (NoRole role) = 4
 status_of (WrongLine line kind) = 4
@@ -61,8 +65,9 @@ kind_text TooManySteps = codes "too-many-steps"
 -- the line on standard error
 abbrev pub line_of : Ending → List ℕ
 line_of Written = []
-line_of NoCommand = codes "usage: sessiongraph check|compile|replay\n"
+line_of NoCommand = codes "usage: sessiongraph check|compile|replay|compose\n"
 line_of (NoGraph fault) = codes "graph refused: " ++ parse_text fault ++ 10 ∷ []
+line_of (NoExpansion fault) = codes "graph refused: " ++ compose_text fault ++ 10 ∷ []
 line_of (GraphRefused g fault) = codes "graph refused: " ++ refusal_text g fault ++ 10 ∷ []
 line_of (NoRole role) = codes "input refused: role " ++ role ++ 10 ∷ []
 line_of (WrongLine line kind) = codes "input refused: line " ++ decimal line ++ 32 ∷ kind_text kind ++ 10 ∷ []

@@ -1,15 +1,19 @@
 -- What the program leaves, and why it ends as it does.
-use Rattle.std.specs.Prelude.{◌≡◌, ◌≢◌, ℕ, ◌≤◌, ◌<◌, ◌⊎◌, List, [], ◌∷◌, All, Option, Some, None, Err, length, slice_get, IsSomeAnd, IsTrue, ⊤}
+use Rattle.std.specs.Prelude.{◌≡◌, ◌≢◌, ℕ, ◌≤◌, ◌<◌, ◌⊎◌, List, [], ◌∷◌, All, Option, Some, None, Ok, Err, length, slice_get, IsSomeAnd, IsTrue, ⊤}
 use Rattle.sg_base.specs.Outside.{HasRisen, Appends, AppendsFront, file_at}
 use Rattle.sg_protocol.specs.Accepted.{Accepted}
 use Rattle.sg_model.specs.Lists.{has_text}
-use Rattle.sg_protocol.specs.Graph.{Graph, role_name}
+use Rattle.sg_protocol.specs.Graph.{Graph, canonical, role_name}
 use Rattle.sg_protocol.specs.IsSchedule.{AreCompiled}
 use Rattle.sg_protocol.specs.Keyring.{Program}
 use Rattle.sg_protocol.specs.Schedule.{Schedule}
 use Rattle.sg_protocol.specs.Texts.{real}
 use Rattle.sg_parse.specs.Grammar.{SpellsGraph}
+use Rattle.sg_parse.specs.Parts.{Part}
+use Rattle.sg_parse.specs.PartsGrammar.{SpellsParts}
+use Rattle.sg_parse.specs.PartsReading.{read as parts_read}
 use Rattle.sg_parse.specs.Reading.{read as parsed}
+use Rattle.sg_compose.specs.Expansion.{expansion}
 use Rattle.sg_program.specs.All.{IsAllFault}
 use Rattle.sg_program.specs.Compiled.{IsCompiled, IsRefused, IsWhole}
 use Rattle.sg_program.specs.Refused.{IsRefusal}
@@ -22,8 +26,8 @@ use Rattle.sg_world.specs.Account.{account}
 use Rattle.sg_world.specs.Forms.{NoneJoinsTwice}
 use Rattle.sg_world.specs.Report.{IsReport}
 use Rattle.sg_cli.specs.Accepted.{check_text}
-use Rattle.sg_cli.specs.Command.{Command, Check, Compile, Replay, command_of}
-use Rattle.sg_cli.specs.Ending.{Ending, Written, NoCommand, NoGraph, GraphRefused, NoRole, WrongLine, FileFailed, WriteFailed, NoMemory, NoSuchFile, TooLarge, status_of, line_of, ending_of_read}
+use Rattle.sg_cli.specs.Command.{Command, Check, Compile, Replay, Compose, command_of}
+use Rattle.sg_cli.specs.Ending.{Ending, Written, NoCommand, NoGraph, NoExpansion, GraphRefused, NoRole, WrongLine, FileFailed, WriteFailed, NoMemory, NoSuchFile, TooLarge, status_of, line_of, ending_of_read}
 
 -- files, each its name and its bytes, where they are told
 abbrev pub Told : Type 0
@@ -138,6 +142,27 @@ Replays bytes old new (TooLarge what) = (new.bytes ≡ old.bytes) × (ending_of_
 Replays bytes old new (GraphRefused g fault) = (new.bytes ≡ old.bytes) × ((s : Schedule) × SpellsSchedule bytes s × IsFirstRefused s.graphs g fault)
 Replays bytes old new ending = (text : List ℕ) × IsReplay bytes text × Writes old new text ending
 
+-- ---- compose
+
+-- the text is the canonical text of the expansion of the parts that the bytes spell, which is accepted
+pub record IsComposition (bytes text : List ℕ) : Type 0 where
+  pub parts : List Part
+  pub graph : Graph
+  pub programs : List Program
+  pub spelled : SpellsParts bytes parts
+  pub expanded : expansion parts ≡ Ok graph
+  pub compiled : AreCompiled real (graph ∷ []) programs
+  pub few : All IsWhole programs
+  pub says : text ≡ canonical graph
+
+-- a composition of these bytes ends so: the text of the expansion is written; else nothing is written, and the bytes are refused at their first wrong token, or the parts at the first use that can't be expanded, or the expansion at its first fault, or memory was wanted
+abbrev pub Composes : List ℕ → (old new : Output) → Ending → Type 0
+Composes bytes old new NoMemory = new.bytes ≡ old.bytes
+Composes bytes old new (NoGraph fault) = (new.bytes ≡ old.bytes) × (parts_read bytes ≡ Err fault)
+Composes bytes old new (NoExpansion fault) = (new.bytes ≡ old.bytes) × ((ps : List Part) × SpellsParts bytes ps × (expansion ps ≡ Err fault))
+Composes bytes old new (GraphRefused g fault) = (new.bytes ≡ old.bytes) × ((ps : List Part) × SpellsParts bytes ps × (expansion ps ≡ Ok g) × IsFirstRefused (g ∷ []) g fault)
+Composes bytes old new ending = (text : List ℕ) × IsComposition bytes text × Writes old new text ending
+
 -- ---- files
 
 -- a file is not read: the files failed, which their count shows, there is no such file, it has more bytes than it may have, or memory was wanted
@@ -160,6 +185,7 @@ Works None told faults faults' old new ending = (new.bytes ≡ old.bytes) × (en
 Works (Some (Check file)) told faults faults' old new ending = OnFile Checks 4194304 file told faults faults' old new ending
 Works (Some (Compile file role)) told faults faults' old new ending = OnFile (Compiles role) 4194304 file told faults faults' old new ending
 Works (Some (Replay file)) told faults faults' old new ending = OnFile Replays 16777216 file told faults faults' old new ending
+Works (Some (Compose file)) told faults faults' old new ending = OnFile Composes 4194304 file told faults faults' old new ending
 
 -- a line is written and its status given, or it is not taken whole, which the count of faults shows, and the status is that of a failed write
 abbrev pub Puts : (old new : Output) → (line : List ℕ) → (wanted status : ℕ) → Type 0

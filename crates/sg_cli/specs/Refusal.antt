@@ -1,10 +1,12 @@
 -- Why a graph is refused, in words.
 use Rattle.std.specs.Prelude.{ℕ, List, [], ◌∷◌, ◌++◌, flat_map, codes}
 use Rattle.std.specs.Fmt.{decimal}
-use Rattle.sg_protocol.specs.Graph.{Graph, role_name, variable_name, node_name}
+use Rattle.sg_protocol.specs.Graph.{Graph, Name, role_name, variable_name, node_name}
 use Rattle.sg_graph.specs.Parts.{edge_name}
 use Rattle.sg_parse.specs.declared.fault.ParseFault.{ParseFault}
 use Rattle.sg_parse.specs.declared.fault.ParseFault.TheVariants.{BadByte, Unexpected, UnknownName, Twice, TooMany, OutOfMemory as NoMemoryToParse}
+use Rattle.sg_compose.specs.declared.fault.ComposeFault.{ComposeFault}
+use Rattle.sg_compose.specs.declared.fault.ComposeFault.TheVariants.{BadPart, BadRoles, LongName, Clash, TooLarge, OutOfMemory as NoMemoryToCompose}
 use Rattle.sg_check.specs.declared.shape.ShapeFault.{ShapeFault}
 use Rattle.sg_check.specs.declared.shape.ShapeFault.TheVariants.{SelfEdge, Unreachable, IdleRole}
 use Rattle.sg_check.specs.declared.blinding.BlindFault.{BlindFault}
@@ -24,6 +26,19 @@ parse_text (UnknownName at) = codes "unknown name at " ++ decimal at
 parse_text (Twice at) = codes "twice at " ++ decimal at
 parse_text (TooMany at) = codes "too many at " ++ decimal at
 parse_text NoMemoryToParse = []
+
+-- the part and the use
+abbrev pub use_text : List ℕ → (part use_name : Name) → List ℕ
+use_text cause part use_name = cause ++ part ++ 32 ∷ use_name
+
+-- the first use that can't be expanded
+abbrev pub compose_text : ComposeFault → List ℕ
+compose_text (BadPart part use_name) = use_text (codes "bad part ") part use_name
+compose_text (BadRoles part use_name) = use_text (codes "bad roles ") part use_name
+compose_text (LongName part use_name) = use_text (codes "long name ") part use_name
+compose_text (Clash part use_name) = use_text (codes "clash ") part use_name
+compose_text (TooLarge part use_name) = use_text (codes "too large ") part use_name
+compose_text NoMemoryToCompose = []
 
 -- the labels of a walk, each after a space
 abbrev pub walk_text : Graph → List ℕ → List ℕ

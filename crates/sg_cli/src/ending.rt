@@ -3,8 +3,9 @@ ghost use Rattle.std.specs.Prelude.{◌≡◌, ◌≢◌, ◌++◌, ◌∷◌, [
 ghost use Rattle.sg_cli.specs.Ending.{status_of, line_of, kind_text};
 ghost use Rattle.sg_cli.specs.Held.{ending_held};
 
-use crate::refusal::{put_no_graph, put_refusal};
+use crate::refusal::{put_no_expansion, put_no_graph, put_refusal};
 use sg_base::{ByteOut, OutOfMemory};
+use sg_compose::ComposeFault;
 use sg_graph::Graph;
 use sg_parse::ParseFault;
 use sg_program::CompileFault;
@@ -20,6 +21,8 @@ pub enum Ending<'w> {
     NoCommand,
     /// The bytes are no graph: the fault of their first wrong token.
     NoGraph { fault: ParseFault },
+    /// The parts are not expanded: the first use that can't be.
+    NoExpansion { fault: ComposeFault },
     /// The graph isn't accepted: its first fault.
     GraphRefused { graph: Graph, fault: CompileFault },
     /// The graph has no role of this name.
@@ -47,6 +50,7 @@ impl<'w> Ending<'w> {
             Ending::Written => 0,
             Ending::NoCommand => 2,
             Ending::NoGraph { .. } => 3,
+            Ending::NoExpansion { .. } => 3,
             Ending::GraphRefused { .. } => 3,
             Ending::NoRole { .. } => 4,
             Ending::WrongLine { .. } => 4,
@@ -75,8 +79,9 @@ impl<'w> Ending<'w> {
     {
         match self {
             Ending::Written | Ending::WriteFailed => Ok(()),
-            Ending::NoCommand => out.bytes(b"usage: sessiongraph check|compile|replay\n"),
+            Ending::NoCommand => out.bytes(b"usage: sessiongraph check|compile|replay|compose\n"),
             Ending::NoGraph { fault } => put_no_graph(alloc, out, fault),
+            Ending::NoExpansion { fault } => put_no_expansion(out, fault),
             Ending::GraphRefused { graph, fault } => put_refusal(out, graph, fault),
             Ending::NoRole { role } => put_word(out, b"input refused: role ", role),
             Ending::WrongLine { line, kind } => put_wrong_line(alloc, out, *line, kind_word(*kind)),

@@ -1,9 +1,10 @@
-//! `sessiongraph`: checks and compiles session graphs, and replays schedules over them.
+//! `sessiongraph`: checks, composes and compiles session graphs, and replays schedules over them.
 #![tactic(auto)]
 
 mod check;
 mod command;
 mod compile;
+mod compose;
 mod ending;
 mod file;
 mod graph;

@@ -7,6 +7,7 @@ ghost use Rattle.sg_cli.specs.Held.{ending_held};
 use crate::check::check;
 use crate::command::{Command, read_command};
 use crate::compile::compile;
+use crate::compose::compose;
 use crate::ending::Ending;
 use crate::replay::replay;
 use sg_base::{Files, Sink, write_all};
@@ -16,7 +17,8 @@ use std::alloc::Global;
 ///
 /// `check GRAPH` reads a graph from a file, compiles it for each of its roles, and writes to `out` that it is accepted, and how many views
 /// each role has. `compile GRAPH ROLE` compiles it for one role and writes the program. `replay SCHEDULE` reads a schedule from a file,
-/// compiles its graphs, runs it, and writes the report of the run. Whatever comes, `err` gets one line that says why, but where
+/// compiles its graphs, runs it, and writes the report of the run. `compose PARTS` reads parts from a file, expands them, checks the
+/// expansion, and writes its canonical text. Whatever comes, `err` gets one line that says why, but where
 /// the output was written.
 pub fn top<F: Files, O: Sink, E: Sink>(
     alloc: Global,
@@ -47,6 +49,7 @@ fn work<'w, F: Files, O: Sink>(
         Some(Command::Check { file }) => check(alloc, file, files, out),
         Some(Command::Compile { file, role }) => compile(alloc, file, role, files, out),
         Some(Command::Replay { file }) => replay(alloc, file, files, out),
+        Some(Command::Compose { file }) => compose(alloc, file, files, out),
     }
 }
 

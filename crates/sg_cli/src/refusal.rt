@@ -2,10 +2,11 @@
 ghost use Rattle.std.specs.Prelude.{◌≡◌, ◌++◌, ◌∷◌, [], OnOk, codes, decimal};
 ghost use Rattle.sg_protocol.specs.Graph.{role_name, variable_name, node_name};
 ghost use Rattle.sg_graph.specs.Parts.{edge_name};
-ghost use Rattle.sg_cli.specs.Refusal.{parse_text, shape_text, reads_text, roles_text, blinded_text, walks_text, blinding_text, views_text, refusal_text, place_text, walk_text};
+ghost use Rattle.sg_cli.specs.Refusal.{parse_text, compose_text, use_text, shape_text, reads_text, roles_text, blinded_text, walks_text, blinding_text, views_text, refusal_text, place_text, walk_text};
 
-use sg_base::{ByteOut, Label, NodeId, OutOfMemory, Role, Var};
+use sg_base::{ByteOut, Label, Name, NodeId, OutOfMemory, Role, Var};
 use sg_check::{BlindFault, ShapeFault};
+use sg_compose::ComposeFault;
 use sg_graph::Graph;
 use sg_know::ReadFault;
 use sg_parse::ParseFault;
@@ -40,6 +41,37 @@ fn put_offset(alloc: Global, out: &mut ByteOut, text: &[u8], at: usize) -> Resul
 {
     out.bytes(text)?;
     out.decimal(alloc, at as u64)
+}
+
+/// Writes the line that says why parts are not expanded.
+pub fn put_no_expansion(out: &mut ByteOut, fault: &ComposeFault) -> Result<(), OutOfMemory>
+    ensures { OnOk result (out.new ≡ out.old ++ (codes "graph refused: " ++ compose_text fault.now ++ 10 ∷ [])) }
+{
+    out.bytes(b"graph refused: ")?;
+    put_compose(out, fault)?;
+    out.u8(b'\n')
+}
+
+fn put_compose(out: &mut ByteOut, fault: &ComposeFault) -> Result<(), OutOfMemory>
+    ensures { OnOk result (out.new ≡ out.old ++ compose_text fault.now) }
+{
+    match fault {
+        ComposeFault::BadPart { part, use_name } => put_use(out, b"bad part ", part, use_name),
+        ComposeFault::BadRoles { part, use_name } => put_use(out, b"bad roles ", part, use_name),
+        ComposeFault::LongName { part, use_name } => put_use(out, b"long name ", part, use_name),
+        ComposeFault::Clash { part, use_name } => put_use(out, b"clash ", part, use_name),
+        ComposeFault::TooLarge { part, use_name } => put_use(out, b"too large ", part, use_name),
+        ComposeFault::OutOfMemory => Ok(()),
+    }
+}
+
+fn put_use(out: &mut ByteOut, cause: &[u8], part: &Name, use_name: &Name) -> Result<(), OutOfMemory>
+    ensures { OnOk result (out.new ≡ out.old ++ use_text cause.now part.now use_name.now) }
+{
+    out.bytes(cause)?;
+    out.bytes(part.as_bytes())?;
+    out.u8(b' ')?;
+    out.bytes(use_name.as_bytes())
 }
 
 /// Writes the line that says why a graph isn't accepted.

@@ -120,7 +120,7 @@ fn is_no_command(alloc: Global, words: &[&str]) -> Result<bool, OutOfMemory> {
         words,
         Vec::new(alloc),
         2,
-        "usage: sessiongraph check|compile|replay\n",
+        "usage: sessiongraph check|compile|replay|compose\n",
     )
 }
 
@@ -263,5 +263,43 @@ fn refuses_a_schedule_whose_graph_is_refused(rt: HostRuntime) -> Result<(), OutO
     let schedule = "edge Request 0 1\nedge Late 2 3\n";
     let line = "graph refused: unreachable n2\n";
     assert!(rt; refuses_text(rt.alloc(), &["replay", "f"], schedule, 3, line)?);
+    Ok(())
+}
+
+// A part of a payment.
+const PAY: &str =
+    "graph pay;role x;role y;node p0:x;node p1:y;node p2:x;edge Bill:p0->p1;edge Paid:p1->p2;";
+
+// A trade, up to the roles of its use.
+const TRADE: &str =
+    "graph trade;role a;role b;node n0:a;node n1:b;node n2:a;node n3:a;edge Go:n0->n1;edge Back:n1->n2;use u:pay n2->n3 as ";
+
+#[test]
+fn composes_parts(rt: HostRuntime) -> Result<(), OutOfMemory> {
+    let alloc = rt.alloc();
+    let text = format!(in alloc; "{PAY}{TRADE}a b;")?;
+    let bytes = Vec::from_slice(alloc, text.as_bytes())?;
+    let left = run(alloc, &["compose", "f"], bytes, 10_000)?;
+    let lines = "graph trade;\n\
+        role a;\n\
+        role b;\n\
+        node n0: a;\n\
+        node n1: b;\n\
+        node n2: a;\n\
+        node n3: a;\n\
+        node u_p1: b;\n\
+        edge Go: n0 -> n1;\n\
+        edge Back: n1 -> n2;\n\
+        edge u_Bill: n2 -> u_p1;\n\
+        edge u_Paid: u_p1 -> n3;\n";
+    assert!(rt; left.status == 0 && left.out.bytes() == lines.as_bytes());
+    let text = format!(in alloc; "{PAY}{TRADE}b a;")?;
+    let line = "graph refused: bad roles trade u\n";
+    assert!(rt; refuses_text(alloc, &["compose", "f"], text.as_str(), 3, line)?);
+    let text = format!(in alloc;
+        "{PAY}graph g;role a;role b;role c;node n0:a;node n1:b;node n2:a;edge To:n0->n1;use u:pay n0->n2 as a c;"
+    )?;
+    let line = "graph refused: blinding at n0 for b and c: To / u_Bill\n";
+    assert!(rt; refuses_text(alloc, &["compose", "f"], text.as_str(), 3, line)?);
     Ok(())
 }
