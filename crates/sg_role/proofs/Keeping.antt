@@ -1,0 +1,67 @@
+-- What is kept, item by item and variable by variable.
+use Rattle.std.proofs.Common.{◌≡◌, ℕ, ◌+◌, ◌<◌, ◌||◌, true, false, List, [], ◌∷◌, ◌++◌, map, filter_map, length, drop, get_or, append_assoc, refl, sym, ◌∙◌, ap, Option, Some, None, option_map, append-nil}
+use Rattle.std.specs.List.{cons_option}
+use Rattle.std.proofs.lemmas.List.{map-append}
+use Rattle.sg_model.proofs.LastOf.{has-append}
+use Rattle.sg_model.specs.Last.{Map, has, merge}
+use Rattle.sg_model.specs.Lists.{below, in_order, value_at}
+use Rattle.sg_protocol.specs.Frame.{Item}
+use Rattle.sg_role.specs.Keeping.{kept_from}
+use Rattle.sg_role.proofs.Lists.{below_more, drop_at}
+
+-- ---- items
+
+module _ (n : ℕ) (earlier : Map (List ℕ)) (x : Item) (rest later : List Item) where
+  -- an item whose sender has a later one is not kept, and what it wrote goes along
+  pub kept_again : (has (λ (i : Item). i.role) x.role rest || has (λ (i : Item). i.role) x.role later) ≡ true →
+      kept_from n earlier (x ∷ rest ++ later) ≡ kept_from n (in_order n (merge earlier x.delta)) (rest ++ later)
+  kept_again h = rw (has-append (λ (i : Item). i.role) x.role rest later ∙ h) refl
+
+  -- an item whose sender has no later one is kept
+  pub kept_once : (has (λ (i : Item). i.role) x.role rest || has (λ (i : Item). i.role) x.role later) ≡ false →
+      kept_from n earlier (x ∷ rest ++ later) ≡ record x { delta = in_order n (merge earlier x.delta) } ∷ kept_from n [] (rest ++ later)
+  kept_once h = rw (has-append (λ (i : Item). i.role) x.role rest later ∙ h) refl
+
+-- ---- a list that is made of them: what is in it and what is still kept of the items from a place on is all that is kept
+
+module _ (n : ℕ) (items later : List Item) (at : ℕ) (i : Item) (l : at < length items) (e : i ≡ get_or items at i) (list : List Item) (earlier : Map (List ℕ)) (all : List Item)
+    (inv : list ++ kept_from n earlier (drop at items ++ later) ≡ all) where
+  from_here : drop at items ++ later ≡ i ∷ drop (at + 1) items ++ later
+  from_here = ap (λ is. is ++ later) (drop_at items at i l e)
+
+  pub keeps_going : (has (λ (i : Item). i.role) i.role (drop (at + 1) items) || has (λ (i : Item). i.role) i.role later) ≡ true
+      → (list' : List Item) (earlier' : Map (List ℕ)) → list' ≡ list → earlier' ≡ in_order n (merge earlier i.delta)
+      → list' ++ kept_from n earlier' (drop (at + 1) items ++ later) ≡ all
+  keeps_going h list' earlier' p q =
+      ap (λ is. is ++ kept_from n earlier' (drop (at + 1) items ++ later)) p
+      ∙ ap (λ (m : Map (List ℕ)). list ++ kept_from n m (drop (at + 1) items ++ later)) q
+      ∙ ap (λ is. list ++ is) (sym (kept_again n earlier i (drop (at + 1) items) later h) ∙ ap (kept_from n earlier) (sym from_here)) ∙ inv
+
+  pub keeps_putting : (has (λ (i : Item). i.role) i.role (drop (at + 1) items) || has (λ (i : Item). i.role) i.role later) ≡ false
+      → (list' : List Item) (earlier' : Map (List ℕ)) → list' ≡ list ++ record i { delta = in_order n (merge earlier i.delta) } ∷ [] → earlier' ≡ []
+      → list' ++ kept_from n earlier' (drop (at + 1) items ++ later) ≡ all
+  keeps_putting h list' earlier' p q =
+      ap (λ is. is ++ kept_from n earlier' (drop (at + 1) items ++ later)) p
+      ∙ ap (λ (m : Map (List ℕ)). (list ++ record i { delta = in_order n (merge earlier i.delta) } ∷ []) ++ kept_from n m (drop (at + 1) items ++ later)) q
+      ∙ append_assoc list (record i { delta = in_order n (merge earlier i.delta) } ∷ []) (kept_from n [] (drop (at + 1) items ++ later))
+      ∙ ap (λ is. list ++ is) (sym (kept_once n earlier i (drop (at + 1) items) later h) ∙ ap (kept_from n earlier) (sym from_here)) ∙ inv
+
+-- ---- variables
+
+-- one variable more
+pub map_below_more : {A : Type 0} (f : ℕ → A) (i : ℕ) → map f (below (i + 1)) ≡ map f (below i) ++ f i ∷ []
+map_below_more f i = ap (map f) (below_more i) ∙ map-append f (below i) (i ∷ [])
+
+filter_map_append : {A B : Type 0} (f : A → Option B) (xs ys : List A) → filter_map f (xs ++ ys) ≡ filter_map f xs ++ filter_map f ys
+filter_map_append f [] ys = refl
+filter_map_append {B = B} f (x ∷ xs) ys = ap (cons_option (f x)) (filter_map_append f xs ys) ∙ go (f x) (filter_map f xs) (filter_map f ys)
+  where
+    go : (o : Option B) (l r : List B) → cons_option o (l ++ r) ≡ cons_option o l ++ r
+    go None l r = refl
+    go (Some y) l r = refl
+
+pub in_order_some : {A : Type 0} (i : ℕ) (m : Map A) (v : A) → value_at m i ≡ Some v → in_order (i + 1) m ≡ in_order i m ++ (i, v) ∷ []
+in_order_some i m v e = ap (filter_map (λ x. option_map (λ v. (x, v)) (value_at m x))) (below_more i) ∙ filter_map_append (λ x. option_map (λ v. (x, v)) (value_at m x)) (below i) (i ∷ []) ∙ rw e refl
+
+pub in_order_none : {A : Type 0} (i : ℕ) (m : Map A) → value_at m i ≡ None → in_order (i + 1) m ≡ in_order i m
+in_order_none i m e = ap (filter_map (λ x. option_map (λ v. (x, v)) (value_at m x))) (below_more i) ∙ filter_map_append (λ x. option_map (λ v. (x, v)) (value_at m x)) (below i) (i ∷ []) ∙ rw e (append-nil (in_order i m))

@@ -1,0 +1,122 @@
+-- Which values an edge takes, variable by variable, and the rows of a step.
+use Rattle.std.proofs.Common.{◌≡◌, ℕ, zero, suc, ◌+◌, ◌-◌, ◌<◌, ◌≤◌, ◌==◌, ◌&&◌, ◌||◌, nat_lt, nat_le, Bool, true, false, not, List, [], ◌∷◌, map, find, length, take, get_or, subst, refl, sym, ◌∙◌, ap, Option, Some, None, option_map, IsTrue, arith, inl, inr, add-one}
+use Rattle.std.specs.List.{list_any, list_all, AllByRecursion}
+use Rattle.std.proofs.lemmas.Bool.{cases_Bool}
+use Rattle.std.proofs.lemmas.Bool.Decides.{nat_tests}
+use Rattle.std.proofs.lemmas.Bool.{eqb-true}
+use Rattle.sg_model.specs.Last.{Map}
+use Rattle.sg_model.specs.Lists.{below, range_from, is_in, keys_of, first_some, rises_from}
+use Rattle.sg_model.specs.Shape.{source}
+use Rattle.sg_model.specs.Values.{Value}
+use Rattle.sg_protocol.specs.Acting.{is_bad, is_typed, is_out_of_order}
+use Rattle.sg_protocol.specs.Calls.{SendFault, NoSuchLabel, BadValues, TimeSpent}
+use Rattle.sg_protocol.specs.Graph.{Graph, shape, writes, AreNumbers}
+use Rattle.sg_protocol.specs.Keyring.{Program}
+use Rattle.sg_protocol.specs.Standing.{Held}
+use Rattle.sg_role.specs.Stepping.{first_bad, send_rows}
+
+-- ---- the first of the numbers
+
+pub first_here : (p : ℕ → Bool) (i : ℕ) → i < 256 → p i ≡ true → find p (range_from i (256 - i)) ≡ Some i
+first_here p i l h = let e : 256 - i ≡ suc (255 - i) = omega (arith, l) in ap (λ k. find p (range_from i k)) e ∙ rw h refl
+
+pub first_later : (p : ℕ → Bool) (i : ℕ) → i < 256 → p i ≡ false → find p (range_from i (256 - i)) ≡ find p (range_from (i + 1) (256 - (i + 1)))
+first_later p i l h =
+    let e : 256 - i ≡ suc (255 - i) = omega (arith, l) in
+    let d : 255 - i ≡ 256 - (i + 1) = omega (arith, l) in
+    ap (λ k. find p (range_from i k)) e ∙ rw h (ap (λ k. find p (range_from (suc i) k)) d ∙ ap (λ k. find p (range_from k (256 - (i + 1)))) (sym (add-one i)))
+
+pub first_end : (p : ℕ → Bool) (i : ℕ) → 256 ≤ i → find p (range_from i (256 - i)) ≡ None
+first_end p i l = let e : 256 - i ≡ 0 = omega (arith, l) in ap (λ k. find p (range_from i k)) e
+
+pub first_start : (g : Graph) (label : ℕ) (vs : Map Value) → find (is_bad g label vs) (range_from 0 (256 - 0)) ≡ first_bad g label vs
+unfolding first_bad
+first_start g label vs = refl
+
+-- ---- one variable
+
+no_order : (x : ℕ) (ys : List ℕ) → is_in x ys ≡ false → is_out_of_order x ys ≡ false
+no_order x [] h = refl
+no_order x (y ∷ ys) h = let r = rest (y == x) (is_in x ys) h in rw (r, no_order x ys r) (go (nat_le x y))
+  where
+    rest : (a b : Bool) → (a || b) ≡ false → b ≡ false
+    rest true b e = absurd (cc)
+    rest false b e = e
+
+    go : (b : Bool) → ((b && false) || false) ≡ false
+    go true = refl
+    go false = refl
+
+no_type : (g : Graph) (x : ℕ) (vs : Map Value) → is_in x (keys_of vs) ≡ false → list_any (λ (w : ℕ × Value). (w.0 == x) && not (is_typed g w)) vs ≡ false
+no_type g x [] h = refl
+no_type g x (v ∷ vs) h = let r = both (v.0 == x) (is_in x (keys_of vs)) h in rw r.0 (no_type g x vs r.1)
+  where
+    both : (a b : Bool) → (a || b) ≡ false → (a ≡ false) × (b ≡ false)
+    both true b e = absurd (cc)
+    both false b e = (refl, e)
+
+pub bad_unwritten : (g : Graph) (label : ℕ) (vs : Map Value) (x : ℕ) → is_in x (writes g label) ≡ false → is_in x (keys_of vs) ≡ is_bad g label vs x
+bad_unwritten g label vs x w = elim (cases_Bool (is_in x (keys_of vs))) [
+  | inl k ↦ rw (w, k) refl
+  | inr k ↦ rw (w, k, no_order x (keys_of vs) k, no_type g x vs k) refl
+]
+
+pub bad_written : (g : Graph) (label : ℕ) (vs : Map Value) (x : ℕ) → is_in x (writes g label) ≡ true →
+    (not (is_in x (keys_of vs)) || (is_out_of_order x (keys_of vs) || list_any (λ (w : ℕ × Value). (w.0 == x) && not (is_typed g w)) vs)) ≡ is_bad g label vs x
+bad_written g label vs x w = rw w (go (is_in x (keys_of vs)) (is_out_of_order x (keys_of vs)) (list_any (λ (w : ℕ × Value). (w.0 == x) && not (is_typed g w)) vs))
+  where
+    go : (k o t : Bool) → (not k || (o || t)) ≡ ((not ((true && k) || (false && not k)) || o) || t)
+    go true o t = refl
+    go false o t = refl
+
+pub number_in : (n : ℕ) (ws : List ℕ) (x : ℕ) → AreNumbers n ws → is_in x ws ≡ true → x < n
+number_in n ws x a h = below_all n ws x (second (rises_from 0 ws) (list_all (λ k. nat_lt k n) ws) a) h
+  where
+    second : (a b : Bool) → IsTrue (a && b) → b ≡ true
+    second true true e = refl
+    second true false e = absurd (cc)
+    second false b e = absurd (cc)
+
+    parts : (a b : Bool) → (a && b) ≡ true → (a ≡ true) × (b ≡ true)
+    parts true b e = (refl, e)
+    parts false b e = absurd (cc)
+
+    below_all : (n : ℕ) (ws : List ℕ) (x : ℕ) → list_all (λ k. nat_lt k n) ws ≡ true → is_in x ws ≡ true → x < n
+    below_all n [] x a h = absurd (cc)
+    below_all n (w ∷ ws) x a h = let p = parts (nat_lt w n) (list_all (λ k. nat_lt k n) ws) a in elim (cases_Bool (w == x)) [
+      | inl q ↦ (let e = eqb-true w x q in let l = p.0 in grind (arith, nat_tests))
+      | inr q ↦ below_all n ws x p.1 (ap (λ b. b || is_in x ws) (sym q) ∙ h)
+    ]
+
+-- ---- the rows
+
+module _ (p : Program) (h : Held) (label : ℕ) (vs : Map Value) where
+  pub label_row : (nat_lt label (length p.graph.edges) && (source (shape p.graph) label == h.kept.place)) ≡ false → first_some (send_rows p h label vs) ≡ Some NoSuchLabel
+  label_row l = rw l refl
+
+  pub value_row : (x : ℕ) → (nat_lt label (length p.graph.edges) && (source (shape p.graph) label == h.kept.place)) ≡ true → first_bad p.graph label vs ≡ Some x → first_some (send_rows p h label vs) ≡ Some (BadValues x)
+  value_row x l f = rw (l, f) refl
+
+  pub time_row : (nat_lt label (length p.graph.edges) && (source (shape p.graph) label == h.kept.place)) ≡ true → first_bad p.graph label vs ≡ None → nat_le 1000000 h.kept.time ≡ true → first_some (send_rows p h label vs) ≡ Some TimeSpent
+  time_row l f t = rw (l, f, t) refl
+
+  pub no_row : (nat_lt label (length p.graph.edges) && (source (shape p.graph) label == h.kept.place)) ≡ true → first_bad p.graph label vs ≡ None → nat_le 1000000 h.kept.time ≡ false → first_some (send_rows p h label vs) ≡ None
+  no_row l f t = rw (l, f, t) refl
+
+-- ---- what is told of each
+
+all_suc : {A B : Type 0} (P : B → Type 0) (f : A → B) (xs : List A) (at : ℕ) (x : A) → at < length xs → x ≡ get_or xs at x → AllByRecursion P (map f (take at xs)) → P (f x) → AllByRecursion P (map f (take (suc at) xs))
+all_suc P f [] at x l e a p = absurd (omega (arith, l))
+all_suc P f (y ∷ ys) zero x l e a p = (subst (λ z. P (f z)) e p, tt)
+all_suc P f (y ∷ ys) (suc at) x l e a p = (a.0, all_suc P f ys at x (omega (arith, l)) e a.1 p)
+
+pub all_mapped : {A B : Type 0} (P : B → Type 0) (f : A → B) (xs : List A) (at : ℕ) (x : A) → at < length xs → x ≡ get_or xs at x → AllByRecursion P (map f (take at xs)) → P (f x) → AllByRecursion P (map f (take (at + 1) xs))
+all_mapped P f xs at x l e a p = subst (λ n. AllByRecursion P (map f (take n xs))) (sym (add-one at)) (all_suc P f xs at x l e a p)
+
+all_taken : {A : Type 0} (P : A → Type 0) (xs : List A) (at : ℕ) (d : A) → at < length xs → AllByRecursion P (take at xs) → P (get_or xs at d) → AllByRecursion P (take (suc at) xs)
+all_taken P [] at d l a p = absurd (omega (arith, l))
+all_taken P (y ∷ ys) zero d l a p = (p, tt)
+all_taken P (y ∷ ys) (suc at) d l a p = (a.0, all_taken P ys at d (omega (arith, l)) a.1 p)
+
+pub all_more : {A : Type 0} (P : A → Type 0) (xs : List A) (at : ℕ) (d : A) → at < length xs → AllByRecursion P (take at xs) → P (get_or xs at d) → AllByRecursion P (take (at + 1) xs)
+all_more P xs at d l a p = subst (λ n. AllByRecursion P (take n xs)) (sym (add-one at)) (all_taken P xs at d l a p)

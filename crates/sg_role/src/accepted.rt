@@ -1,0 +1,44 @@
+//! A frame that was accepted.
+ghost use Rattle.std.specs.Prelude.{◌≡◌};
+
+use crate::kept::Kept;
+use sg_vis::ViewId;
+use sg_walk::Event;
+use std::marker::Model;
+
+/// A frame that was accepted by a role that waits: what the role kept when it looked at the frame, what it keeps with it, and what it
+/// received.
+#[derive(Drop)]
+pub struct Accepted<'p> {
+    pub(crate) before: Kept<'p>,
+    pub(crate) after: Kept<'p>,
+    pub(crate) event: Event,
+    pub(crate) view: ViewId,
+}
+
+impl<'p> Model for Accepted<'p> {
+    ghost use Rattle.sg_role.specs.Accepting.{Acceptance};
+
+    ghost Value = { Acceptance };
+
+    ghost use Rattle.sg_role.specs.Accepting.{acceptance_of, state_after};
+    ghost use Rattle.sg_role.specs.States.{HoldsTurn};
+
+    ghost view = { acceptance_of };
+
+    ghost invariant = { λ a. HoldsTurn (state_after (acceptance_of a)) };
+}
+
+impl<'p> Accepted<'p> {
+    /// The number of the view that the frame shows, in the program's table. It takes no memory.
+    pub fn view(&self) -> ViewId
+        ensures { result ≡ self.now.view }
+    {
+        self.view
+    }
+
+    /// What was received. It takes no memory.
+    pub fn event(&self) -> &Event {
+        &self.event
+    }
+}

@@ -1,0 +1,119 @@
+//! What a role keeps before what comes next.
+ghost use Rattle.std.specs.Prelude.{◌≡◌, ◌+◌, length, get_or, IfOk, IsTrue, None, ◌↔◌};
+ghost use Rattle.std.specs.Option.{option_copied};
+ghost use Rattle.sg_vis.specs.Origins.{origin_of};
+ghost use Rattle.sg_protocol.specs.Backed.{IsBackedBefore};
+ghost use Rattle.sg_protocol.specs.Frame.{IsCastOf};
+ghost use Rattle.sg_protocol.specs.IsSchedule.{IsProgram};
+ghost use Rattle.sg_protocol.specs.Standing.{nothing_kept};
+ghost use Rattle.sg_protocol.specs.TextLaws.{IsVersion};
+ghost use Rattle.sg_protocol.specs.Texts.{real, session_id};
+
+use crate::kept::Kept;
+use sg_base::{OutOfMemory, Role, Sid, Time, Var};
+use sg_cache::Ticket;
+use sg_crypt::Cast;
+use sg_program::Program;
+use sg_vis::Origin;
+use std::alloc::Global;
+use std::marker::Model;
+
+/// What a role keeps of a session that is new, or that ends with its own step. A clause sees its program and what it holds.
+#[derive(Drop)]
+pub struct Before<'p> {
+    pub(crate) kept: Kept<'p>,
+}
+
+impl<'p> Model for Before<'p> {
+    ghost use Rattle.sg_role.specs.States.{State};
+
+    ghost Value = { State };
+
+    ghost use Rattle.sg_role.specs.States.{state_of, HoldsBefore};
+
+    ghost view = { λ b. state_of b.kept };
+
+    ghost invariant = { λ b. HoldsBefore (state_of b.kept) };
+}
+
+impl<'p> Before<'p> {
+    /// What the program's role keeps of a new session of the cast: nothing yet.
+    pub fn start(alloc: Global, program: &'p Program, cast: Cast) -> Result<Before<'p>, OutOfMemory>
+        requires graph { cast.graph ≡ program.now.digest }
+        requires count { length cast.names ≡ length program.now.graph.roles }
+        ensures { IfOk result (λ b. b ≡ record {
+          program = program.entry.now;
+          held = record { sid = session_id real cast; cast = cast; role = program.entry.now.role; kept = nothing_kept program.entry.now.graph };
+        }) }
+    {
+        tell(program, &cast);
+        let kept = Kept::new(alloc, program, cast)?;
+        Ok(Before { kept })
+    }
+
+    /// The session. It takes no memory.
+    pub fn sid(&self) -> Sid
+        ensures { result ≡ self.now.held.sid }
+    {
+        self.kept.sid
+    }
+
+    /// The role. It takes no memory.
+    pub fn role(&self) -> Role
+        ensures role { result ≡ self.now.held.role }
+        ensures backed { IsBackedBefore real self.now.program self.now.held }
+    {
+        self.kept.program.role()
+    }
+
+    /// The cast. It takes no memory.
+    pub fn cast(&self) -> Cast
+        ensures cast { result ≡ self.now.held.cast }
+        ensures counted { length self.now.held.cast.names ≡ length self.now.program.graph.roles }
+    {
+        self.kept.cast
+    }
+
+    /// The own last label, or the start. It takes no memory.
+    pub fn from(&self) -> Origin
+        ensures { origin_of result ≡ self.now.held.kept.origin }
+    {
+        self.kept.from
+    }
+
+    /// The time of the own last step, 0 before the first. It takes no memory.
+    pub fn time(&self) -> Time
+        ensures { result ≡ self.now.held.kept.own_time }
+    {
+        self.kept.own_time
+    }
+
+    /// The current commitment of a variable, if it was written. It takes no memory.
+    pub fn commitment(&self, var: Var) -> Option<&[u8; 32]>
+        ensures { option_copied result ≡ get_or self.now.held.kept.commitments var None }
+    {
+        match self.kept.commitments.get(var.0 as usize) {
+            Some(Some(commitment)) => Some(commitment),
+            _ => None,
+        }
+    }
+}
+
+// What the types say of these.
+fn tell(program: &Program, cast: &Cast)
+    ensures program { IsProgram real program.now }
+    ensures version { IsVersion cast.now.version }
+    ensures cast { IsCastOf cast.now.version cast.now }
+{
+    let _ = program.role();
+    let _ = cast.version();
+}
+
+/// The ticket is of this session and role, and the role has sent nothing.
+pub(crate) fn fits(ticket: &Ticket, before: &Before) -> bool
+    ensures { IsTrue result ↔ ((ticket.now ≡ (before.now.held.sid, before.now.held.role)) × (before.now.held.kept.origin ≡ None)) }
+{
+    ticket.sid() == before.kept.sid
+        && ticket.role() == before.kept.program.role()
+        && before.kept.from == Origin::Start
+}

@@ -1,0 +1,131 @@
+//! What a role keeps of a session.
+ghost use Rattle.std.specs.Prelude.{◌≡◌, length, map, IfOk, IfSome, IsTrue, None, true, false, nat_lt, ◌↔◌};
+ghost use Rattle.sg_model.specs.Lists.{below};
+ghost use Rattle.sg_model.specs.Shape.{role_at};
+ghost use Rattle.sg_protocol.specs.Graph.{shape};
+ghost use Rattle.sg_protocol.specs.Session.{principal};
+ghost use Rattle.sg_protocol.specs.Standing.{nothing_kept};
+ghost use Rattle.sg_protocol.specs.Texts.{real, session_id};
+ghost use Rattle.sg_role.specs.Accepting.{goes_on};
+ghost use Rattle.sg_role.specs.States.{state_of};
+
+use sg_base::{Label, Name, NodeId, Opening, OutOfMemory, Role, Sid, Time};
+use sg_crypt::{Cast, session_id};
+use sg_frame::Item;
+use sg_program::Program;
+use sg_vis::Origin;
+use std::alloc::Global;
+
+/// What a role keeps of a session: no history, so its size is bounded by the graph's.
+#[derive(Drop)]
+pub(crate) struct Kept<'p> {
+    pub program: &'p Program,
+    pub sid: Sid,
+    pub cast: Cast,
+    /// The own last label.
+    pub from: Origin,
+    /// The time of the own last step.
+    pub own_time: Time,
+    /// The time of the last step.
+    pub time: Time,
+    /// The node to which the last step led.
+    pub place: NodeId,
+    /// The last item of each sender, with what was written since the one before it.
+    pub items: Vec<Item>,
+    /// The current commitment of each variable.
+    pub commitments: Vec<Option<[u8; 32]>>,
+    /// The opening of each variable that the role knows.
+    pub openings: Vec<Option<Opening>>,
+}
+
+impl<'p> Kept<'p> {
+    /// What the program's role keeps of a new session of the cast.
+    pub fn new(alloc: Global, program: &'p Program, cast: Cast) -> Result<Kept<'p>, OutOfMemory>
+        ensures { IfOk result (λ k. state_of k ≡ record {
+          program = program.entry.now;
+          held = record { sid = session_id real cast; cast = cast; role = program.entry.now.role; kept = nothing_kept program.entry.now.graph };
+        }) }
+    {
+        let count = program.graph().vars();
+        Ok(Kept {
+            program,
+            sid: session_id(&cast),
+            cast,
+            from: Origin::Start,
+            own_time: Time(0),
+            time: Time(0),
+            place: NodeId(0),
+            items: Vec::new(alloc),
+            commitments: no_commitments(alloc, count)?,
+            openings: no_openings(alloc, count)?,
+        })
+    }
+
+    /// The principal of a role, or `None` where the role isn't one of the cast. It takes no memory.
+    #[tactic(auto, using(crate::proofs::Lists::got, crate::proofs::Lists::not_got))]
+    pub fn principal(&self, role: Role) -> Option<Name>
+        ensures there { IfSome result (λ n. nat_lt role (length self.now.cast.names) ≡ true) }
+        ensures not_there { result ≡ None → nat_lt role (length self.now.cast.names) ≡ false }
+        ensures name { IfSome result (λ n. principal self.now.cast role ≡ n) }
+    {
+        self.cast.of(role)
+    }
+
+    /// The role is that of the start node. It takes no memory.
+    pub fn starts(&self) -> bool
+        ensures { IsTrue result ↔ (role_at (shape (state_of self.now).program.graph) 0 ≡ (state_of self.now).held.role) }
+    {
+        let graph = self.program.graph();
+        self.program.role() == graph.node_role(NodeId(0))
+    }
+
+    /// An edge leaves the place. It takes no memory.
+    #[tactic(auto, using(crate::proofs::Edges::goes_on_by, crate::proofs::Edges::none_goes_on))]
+    pub fn goes_on(&self) -> bool
+        ensures { result ≡ goes_on (state_of self.now).program.graph (state_of self.now).held.kept.place }
+    {
+        let graph = self.program.graph();
+        for number in 0..graph.edges() {
+            if graph.edge(Label(number)).source == self.place {
+                return true;
+            }
+        }
+        false
+    }
+}
+
+/// The same commitments.
+pub(crate) fn copied(
+    alloc: Global,
+    commitments: &[Option<[u8; 32]>],
+) -> Result<Vec<Option<[u8; 32]>>, OutOfMemory>
+    ensures { IfOk result (λ v. v.items ≡ commitments.now) }
+{
+    let mut list = Vec::new(alloc);
+    for at in 0..commitments.len() {
+        list.push(commitments[at])?;
+    }
+    Ok(list)
+}
+
+#[tactic(auto, using(crate::proofs::Lists::const_more))]
+fn no_commitments(alloc: Global, count: u8) -> Result<Vec<Option<[u8; 32]>>, OutOfMemory>
+    ensures { IfOk result (λ v. v.items ≡ map (λ x. None) (below count)) }
+{
+    let mut list = Vec::new(alloc);
+    for _ in 0..count {
+        list.push(None)?;
+    }
+    Ok(list)
+}
+
+#[tactic(auto, using(crate::proofs::Lists::const_more))]
+fn no_openings(alloc: Global, count: u8) -> Result<Vec<Option<Opening>>, OutOfMemory>
+    ensures { IfOk result (λ v. v.items ≡ map (λ x. None) (below count)) }
+{
+    let mut list = Vec::new(alloc);
+    for _ in 0..count {
+        list.push(None)?;
+    }
+    Ok(list)
+}

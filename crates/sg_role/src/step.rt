@@ -1,0 +1,271 @@
+//! What a step makes while the state stays as it is.
+ghost use Rattle.std.specs.Prelude.{◌≡◌, ◌<◌, ◌≤◌, ◌+◌, ◌-◌, ◌++◌, [], ◌∷◌, Some, None, if◌then◌else◌, map, length, take, replicate, IfOk, OnOk, OnErr};
+ghost use Rattle.std.specs.List.{AllByRecursion};
+ghost use Rattle.sg_model.specs.Lists.{first_some};
+ghost use Rattle.sg_model.specs.Shape.{receiver};
+ghost use Rattle.sg_protocol.specs.Acting.{openings_for};
+ghost use Rattle.sg_model.specs.Last.{has};
+ghost use Rattle.sg_protocol.specs.Graph.{shape, reads};
+ghost use Rattle.sg_protocol.specs.Keyring.{targets_of};
+ghost use Rattle.sg_protocol.specs.Notes.{note_of};
+ghost use Rattle.sg_protocol.specs.Sending.{tag_for, text_of};
+ghost use Rattle.sg_protocol.specs.Session.{principal};
+ghost use Rattle.sg_protocol.specs.Spelling.{HasSpelling, spelling};
+ghost use Rattle.sg_protocol.specs.Bounds.{IsShortFrame};
+ghost use Rattle.sg_protocol.specs.Texts.{real, commitment_text_of};
+ghost use Rattle.sg_walk.specs.Views.{event_of, values_of};
+ghost use Rattle.sg_role.specs.Sending.{with_notes, step_of};
+ghost use Rattle.sg_role.specs.States.{state_of, HoldsTurn};
+ghost use Rattle.sg_role.specs.Stepping.{send_rows, own_text, step_commitments, step_item, items_after, step_frame, step_notes, frame_with, Extends};
+
+use crate::evidence::{items_with, openings_of, shown_to, vars_of};
+use crate::kept::Kept;
+use crate::next::has_role;
+use crate::own::{
+    commit_each, commitments_with, copy_values, name_of, roles_of, tag_to, tags_for,
+    written_openings,
+};
+use crate::values::tell_values;
+use sg_base::{Label, Opening, OutOfMemory, Role, Sealed, Seq, Tag, Time, Value, Var};
+use sg_crypt::{Cast, Note, Notes, frame_text};
+use sg_frame::{Frame, Item, body_len, encode};
+use sg_keys::Keyring;
+use sg_walk::Event;
+use std::alloc::Global;
+
+/// What a step makes: what it did and the frame, what is written, and the items and commitments that are kept afterwards.
+pub(crate) struct Step {
+    pub event: Event,
+    pub sealed: Sealed,
+    pub written: Vec<Opening>,
+    pub items: Vec<Item>,
+    pub commitments: Vec<Option<[u8; 32]>>,
+}
+
+/// Makes a step along the label, on which no refusal holds. What is tagged and hashed is noted.
+pub(crate) fn make_step(
+    alloc: Global,
+    kept: &Kept,
+    keys: &Keyring,
+    label: Label,
+    values: &[(Var, Value)],
+    confounders: &[[u8; 16]],
+    notes: &mut Notes,
+) -> Result<Step, OutOfMemory>
+    requires turn { HoldsTurn (state_of kept.now) }
+    requires count { length confounders.now ≡ length values.now }
+    requires none { first_some (send_rows (state_of kept.now).program (state_of kept.now).held label (values_of values.now)) ≡ None }
+    ensures event { IfOk result (λ st. event_of st.event ≡ step_of (state_of kept.now).held label (values_of values.now)) }
+    ensures written { IfOk result (λ st. st.written.items ≡ openings_for (values_of values.now) confounders.now) }
+    ensures items { IfOk result (λ st. st.items.items ≡ items_after (state_of kept.now).program.graph (state_of kept.now).held
+        (step_item keys.now (state_of kept.now).program (state_of kept.now).held label (openings_for (values_of values.now) confounders.now))) }
+    ensures commitments { IfOk result (λ st. st.commitments.items ≡ step_commitments (state_of kept.now).program (state_of kept.now).held (openings_for (values_of values.now) confounders.now)) }
+    ensures frame { IfOk result (λ st. st.sealed ≡ (
+      principal kept.now.cast (receiver (shape (state_of kept.now).program.graph) label),
+      spelling (step_frame keys.now (state_of kept.now).program (state_of kept.now).held label (openings_for (values_of values.now) confounders.now)),
+    )) }
+    ensures noted { OnOk result (notes.new ≡ with_notes notes.old (step_notes keys.now (state_of kept.now).program (state_of kept.now).held label (openings_for (values_of values.now) confounders.now))) }
+    ensures keeps { Extends notes.old notes.new }
+{
+    tell_values(values, confounders);
+    let written = written_openings(alloc, values, confounders)?;
+    let event = step_event(alloc, kept, label, values)?;
+    let (own, commitments) = own_item(alloc, kept, keys, label, written.as_slice(), notes)?;
+    let count = kept.program.graph().vars();
+    let items = items_with(alloc, count, kept.items.as_slice(), &own)?;
+    let frame = untagged(alloc, kept, label, items.as_slice(), written.as_slice())?;
+    let sealed = seal(alloc, kept, keys, &frame, notes)?;
+    Ok(Step {
+        event,
+        sealed,
+        written,
+        items,
+        commitments,
+    })
+}
+
+// What the role does.
+fn step_event(
+    alloc: Global,
+    kept: &Kept,
+    label: Label,
+    values: &[(Var, Value)],
+) -> Result<Event, OutOfMemory>
+    requires { kept.now.time < 1000000 }
+    ensures { IfOk result (λ e. event_of e ≡ step_of (state_of kept.now).held label (values_of values.now)) }
+{
+    Ok(Event::Sent {
+        sid: kept.sid,
+        role: kept.program.role(),
+        label,
+        time: next_time(kept),
+        values: copy_values(alloc, values)?,
+    })
+}
+
+/// The time of the step.
+pub(crate) fn next_time(kept: &Kept) -> Time
+    requires { kept.now.time < 1000000 }
+    ensures { result ≡ kept.now.time + 1 }
+{
+    Time(kept.time.0 + 1)
+}
+
+// The targets of the step.
+fn step_targets(alloc: Global, kept: &Kept, label: Label) -> Result<Vec<Role>, OutOfMemory>
+    requires { label < length (state_of kept.now).program.graph.edges }
+    ensures value { IfOk result (λ v. v.items ≡ targets_of (state_of kept.now).program label) }
+    ensures there { IfOk result (λ v. AllByRecursion (λ t. t < length (state_of kept.now).program.graph.roles) v.items) }
+{
+    let targets = roles_of(alloc, kept.program.targets().of(label))?;
+    Ok(targets)
+}
+
+// The own item, and the commitments with it. What is tagged and hashed is noted.
+fn own_item(
+    alloc: Global,
+    kept: &Kept,
+    keys: &Keyring,
+    label: Label,
+    written: &[Opening],
+    notes: &mut Notes,
+) -> Result<(Item, Vec<Option<[u8; 32]>>), OutOfMemory>
+    requires label { label < length (state_of kept.now).program.graph.edges }
+    requires time { kept.now.time < 1000000 }
+    requires counted { length kept.now.cast.names ≡ length (state_of kept.now).program.graph.roles }
+    ensures item { IfOk result (λ r. r.0 ≡ step_item keys.now (state_of kept.now).program (state_of kept.now).held label written.now) }
+    ensures commitments { IfOk result (λ r. r.1.items ≡ step_commitments (state_of kept.now).program (state_of kept.now).held written.now) }
+    ensures noted { OnOk result (notes.new ≡ record {
+      made = notes.old.made ++ map (λ t. note_of keys.now.me (principal kept.now.cast t) (own_text (state_of kept.now).held label (step_commitments (state_of kept.now).program (state_of kept.now).held written.now) t)) (targets_of (state_of kept.now).program label);
+      found = notes.old.found;
+      hashed = notes.old.hashed ++ map (commitment_text_of kept.now.sid) written.now;
+    }) }
+    ensures keeps { Extends notes.old notes.new }
+{
+    let targets = step_targets(alloc, kept, label)?;
+    let delta = commit_each(alloc, &kept.sid, written, notes)?;
+    let count = kept.program.graph().vars();
+    let commitments = commitments_with(
+        alloc,
+        count,
+        kept.commitments.as_slice(),
+        delta.as_slice(),
+    )?;
+    let tags = tags_for(
+        alloc,
+        kept,
+        keys,
+        label,
+        commitments.as_slice(),
+        targets.as_slice(),
+        notes,
+    )?;
+    let own = Item {
+        role: kept.program.role(),
+        label,
+        time: next_time(kept),
+        delta: Seq::from_vec(delta),
+        tags: Seq::from_vec(tags),
+    };
+    Ok((own, commitments))
+}
+
+// The frame that shows these kept items, with zeros for its tag.
+fn untagged(
+    alloc: Global,
+    kept: &Kept,
+    label: Label,
+    items: &[Item],
+    written: &[Opening],
+) -> Result<Frame, OutOfMemory>
+    requires { label < length (state_of kept.now).program.graph.edges }
+    ensures frame { IfOk result (λ f. f ≡ record (frame_with (state_of kept.now).program (state_of kept.now).held label items.now written.now) { tag = replicate 32 0 }) }
+    ensures receiver { IfOk result (λ f. f.receiver < length (state_of kept.now).program.graph.roles) }
+{
+    let to = kept.program.graph().receiver(label);
+    let shown = shown_to(alloc, items, to)?;
+    let reads = step_reads(alloc, kept, label)?;
+    let openings = openings_of(alloc, reads.as_slice(), written, kept.openings.as_slice())?;
+    Ok(Frame {
+        version: kept.cast.version(),
+        sid: kept.sid,
+        sender: kept.program.role(),
+        receiver: to,
+        join: join_for(kept, to),
+        items: shown,
+        openings,
+        tag: Tag([0; 32]),
+    })
+}
+
+// The cast, where the role has no item yet.
+fn join_for(kept: &Kept, to: Role) -> Option<Cast>
+    ensures { result ≡ (if has (λ j. j.role) to kept.now.items.items then None else Some kept.now.cast) }
+{
+    if has_role(kept.items.as_slice(), to) {
+        None
+    } else {
+        Some(kept.cast)
+    }
+}
+
+// What the step's edge reads.
+fn step_reads(alloc: Global, kept: &Kept, label: Label) -> Result<Vec<Var>, OutOfMemory>
+    requires { label < length (state_of kept.now).program.graph.edges }
+    ensures { IfOk result (λ v. v.items ≡ reads (state_of kept.now).program.graph label) }
+{
+    let vars = vars_of(alloc, kept.program.graph().edge(label).reads)?;
+    Ok(vars)
+}
+
+// The frame with its tag, for the receiver's principal. Its text is noted.
+fn seal(
+    alloc: Global,
+    kept: &Kept,
+    keys: &Keyring,
+    frame: &Frame,
+    notes: &mut Notes,
+) -> Result<Sealed, OutOfMemory>
+    requires receiver { frame.now.receiver < length kept.now.cast.names }
+    requires spelled { HasSpelling frame.now }
+    requires short { IsShortFrame frame.now }
+    requires version { frame.now.version ≡ kept.now.cast.version }
+    ensures sealed { IfOk result (λ s. s ≡ (
+      principal kept.now.cast frame.now.receiver,
+      spelling (record (frame.now) { tag = tag_for real keys.now kept.now.cast frame.now.receiver (text_of frame.now) }),
+    )) }
+    ensures noted { OnOk result (notes.new ≡ record notes.old {
+      made = notes.old.made ++ note_of keys.now.me (principal kept.now.cast frame.now.receiver) (text_of frame.now) ∷ [];
+    }) }
+    ensures same { OnErr result (notes.new ≡ notes.old) }
+{
+    let version = kept.cast.version();
+    let peer = name_of(&kept.cast, frame.receiver);
+    let bytes = encode(alloc, frame)?;
+    let len = body_len(version, bytes.as_slice());
+    let text = frame_text(alloc, version, &bytes.as_slice()[..len])?;
+    let made = tag_to(keys, &peer, version, text.as_slice());
+    notes.note_made(Note::new(keys.me(), peer, text))?;
+    Ok(Sealed::seal(peer, with_tag(bytes, len, &made)))
+}
+
+// The bytes with the front of a tag in the place of what stands from there on.
+fn with_tag(mut bytes: Vec<u8>, from: usize, tag: &Tag) -> Vec<u8>
+    requires from { from ≤ length bytes.items }
+    requires fits { length bytes.items ≤ from + 32 }
+    ensures bytes { result.items ≡ take from bytes.items ++ take (length bytes.items - from) tag.now }
+    ensures count { length result.items ≡ length bytes.items }
+{
+    put_tag(bytes.as_mut_slice(), from, tag);
+    bytes
+}
+
+// Puts the front of a tag in the place of what stands from there on.
+fn put_tag(bytes: &mut [u8], from: usize, tag: &Tag)
+    requires from { from ≤ length bytes.old }
+    requires fits { length bytes.old ≤ from + 32 }
+    ensures { bytes.new ≡ take from bytes.old ++ take (length bytes.old - from) tag.now }
+{
+    let count = bytes.len() - from;
+    bytes[from..].copy_from_slice(&tag.0[..count]);
+}

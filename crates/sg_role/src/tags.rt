@@ -1,0 +1,181 @@
+//! Whether the tags of a frame and of its items are right.
+ghost use Rattle.std.specs.Prelude.{◌≡◌, ◌≢◌, ◌<◌, ◌≤◌, ◌++◌, [], ◌∷◌, Err, None, true, false, not, length, unwrap_or, All, IfOk, IfErr, bytes_eq};
+ghost use Rattle.sg_model.specs.Lists.{value_at};
+ghost use Rattle.sg_protocol.specs.Calls.{BadFrameTag};
+ghost use Rattle.sg_protocol.specs.Keyring.{key_of};
+ghost use Rattle.sg_protocol.specs.Notes.{note_of};
+ghost use Rattle.sg_protocol.specs.Sending.{text_of};
+ghost use Rattle.sg_protocol.specs.Session.{principal};
+ghost use Rattle.sg_protocol.specs.Spelling.{SpellsFrame};
+ghost use Rattle.sg_protocol.specs.TextLaws.{IsVersion};
+ghost use Rattle.sg_protocol.specs.Texts.{real, cut, hmac};
+ghost use Rattle.sg_protocol.specs.Verdict.{row, has_frame_tag, has_item_tag};
+ghost use Rattle.sg_role.specs.Faults.{Refuses};
+ghost use Rattle.sg_role.specs.Looking.{bare, evidence_row, found_items, overwritten, overwritten_by, text_for, KeepsNotes};
+ghost use Rattle.sg_role.specs.States.{state_of};
+
+use crate::Refusal;
+use crate::kept::{Kept, copied};
+use sg_base::{Name, OutOfMemory, Role, Tag, Var};
+use sg_crypt::{Note, Notes, cut_matches, frame_text, item_text};
+use sg_frame::{Frame, Item, body_len};
+use sg_keys::Keyring;
+use std::alloc::Global;
+
+/// Whether the sender is a role of the cast and the frame's tag is right, which is then noted.
+pub(crate) fn check_frame_tag(
+    alloc: Global,
+    kept: &Kept,
+    keys: &Keyring,
+    frame: &Frame,
+    bytes: &[u8],
+    notes: &mut Notes,
+) -> Result<(), Refusal>
+    requires spelled { SpellsFrame bytes.now frame.now }
+    requires version { frame.now.version ≡ kept.now.cast.version }
+    ensures right { IfOk result (λ u. has_frame_tag real keys.now (bare (state_of kept.now).held) frame.now ≡ true) }
+    ensures wrong { IfErr result (Refuses (row (not (has_frame_tag real keys.now (bare (state_of kept.now).held) frame.now)) BadFrameTag)) }
+    ensures noted { IfOk result (λ u. notes.new ≡ record notes.old {
+      found = notes.old.found ++ note_of keys.now.me (principal kept.now.cast frame.now.sender) (text_of frame.now) ∷ [];
+    }) }
+    ensures same { IfErr result (λ e. notes.new ≡ notes.old) }
+{
+    let Some(peer) = kept.principal(frame.sender) else {
+        return Err(Refusal::BadFrameTag);
+    };
+    let text = text_of_frame(alloc, frame, bytes)?;
+    if !is_tag(keys, &peer, frame.version, text.as_slice(), &frame.tag) {
+        return Err(Refusal::BadFrameTag);
+    }
+    notes.note_found(Note::new(keys.me(), peer, text))?;
+    Ok(())
+}
+
+// What a frame's tag is of, by its bytes.
+fn text_of_frame(alloc: Global, frame: &Frame, bytes: &[u8]) -> Result<Vec<u8>, OutOfMemory>
+    requires { SpellsFrame bytes.now frame.now }
+    ensures { IfOk result (λ t. t.items ≡ text_of frame.now) }
+{
+    let body = &bytes[..body_len(frame.version, bytes)];
+    frame_text(alloc, frame.version, body)
+}
+
+// Whether this is the tag of a text under the key shared with a principal, or under no bytes where none is shared.
+fn is_tag(keys: &Keyring, peer: &Name, version: u8, text: &[u8], tag: &Tag) -> bool
+    requires { IsVersion version }
+    ensures same { result ≡ bytes_eq (cut version (hmac real (unwrap_or (key_of keys.now peer.now) []) text.now)) tag.now }
+    ensures turned { result ≡ bytes_eq tag.now (cut version (hmac real (unwrap_or (key_of keys.now peer.now) []) text.now)) }
+{
+    match keys.ready_key(peer) {
+        Some(key) => key.cut_matches(version, &[], text, tag),
+        None => cut_matches(version, &[], &[], text, tag),
+    }
+}
+
+/// Whether each item but the last has a right tag for the role, and which are found right before the first that has not is noted. It gives
+/// the commitments after all items.
+pub(crate) fn check_items(
+    alloc: Global,
+    kept: &Kept,
+    keys: &Keyring,
+    items: &[Item],
+    notes: &mut Notes,
+) -> Result<Vec<Option<[u8; 32]>>, Refusal>
+    requires roles { All (λ i. i.role < length kept.now.cast.names) items.now }
+    requires few { length items.now ≤ 65535 }
+    ensures right { IfOk result (λ cs. evidence_row keys.now (state_of kept.now).held items.now ≡ None) }
+    ensures commitments { IfOk result (λ cs. cs.items ≡ overwritten_by kept.now.commitments.items items.now) }
+    ensures wrong { IfErr result (Refuses (evidence_row keys.now (state_of kept.now).held items.now)) }
+    ensures noted { result ≢ Err Refusal.OutOfMemory → notes.new ≡ record notes.old { found = notes.old.found ++ found_items keys.now (state_of kept.now).held items.now } }
+    ensures keeps { KeepsNotes notes.old notes.new }
+{
+    let mut commitments = copied(alloc, kept.commitments.as_slice())?;
+    for at in 0..items.len() {
+        let item = &items[at];
+        overwrite(&mut commitments, item.delta.as_slice());
+        if at + 1 < items.len() {
+            let number = at as u32 + 1;
+            check_item(
+                alloc,
+                kept,
+                keys,
+                item,
+                number,
+                commitments.as_slice(),
+                notes,
+            )?;
+        }
+    }
+    Ok(commitments)
+}
+
+// Whether an item of this number has a right tag for the role, which is then noted.
+fn check_item(
+    alloc: Global,
+    kept: &Kept,
+    keys: &Keyring,
+    item: &Item,
+    number: u32,
+    commitments: &[Option<[u8; 32]>],
+    notes: &mut Notes,
+) -> Result<(), Refusal>
+    requires { item.now.role < length kept.now.cast.names }
+    ensures right { IfOk result (λ u. has_item_tag real keys.now (bare (state_of kept.now).held) (item.now, text_for (state_of kept.now).held commitments.now item.now) ≡ true) }
+    ensures wrong { IfErr result (λ e. e ≢ Refusal.OutOfMemory → e ≡ Refusal.BadEvidence number) }
+    ensures has_not { result ≡ Err (Refusal.BadEvidence number)
+        → has_item_tag real keys.now (bare (state_of kept.now).held) (item.now, text_for (state_of kept.now).held commitments.now item.now) ≡ false }
+    ensures noted { IfOk result (λ u. notes.new ≡ record notes.old {
+      found = notes.old.found ++ note_of keys.now.me (principal kept.now.cast item.now.role) (text_for (state_of kept.now).held commitments.now item.now) ∷ [];
+    }) }
+    ensures same { IfErr result (λ e. notes.new ≡ notes.old) }
+{
+    let version = kept.cast.version();
+    let role = kept.program.role();
+    let Some(peer) = kept.principal(item.role) else {
+        return Err(Refusal::BadEvidence { item: number });
+    };
+    let Some(tag) = tag_at(item.tags.as_slice(), role) else {
+        return Err(Refusal::BadEvidence { item: number });
+    };
+    let text = item_text(
+        alloc,
+        version,
+        &kept.sid,
+        item.role,
+        role,
+        item.label,
+        item.time,
+        commitments,
+    )?;
+    if !is_tag(keys, &peer, version, text.as_slice(), &tag) {
+        return Err(Refusal::BadEvidence { item: number });
+    }
+    notes.note_found(Note::new(keys.me(), peer, text))?;
+    Ok(())
+}
+
+// The tag for a role.
+fn tag_at(tags: &[(Role, Tag)], role: Role) -> Option<Tag>
+    ensures { result ≡ value_at tags.now role }
+{
+    for at in 0..tags.len() {
+        let (target, tag) = tags[at];
+        if target == role {
+            return Some(tag);
+        }
+    }
+    None
+}
+
+/// Overwrites commitments by a delta.
+pub(crate) fn overwrite(commitments: &mut Vec<Option<[u8; 32]>>, delta: &[(Var, [u8; 32])])
+    ensures { commitments.new.items ≡ overwritten commitments.old.items delta.now }
+{
+    for at in 0..delta.len() {
+        let (var, commitment) = delta[at];
+        let place = var.0 as usize;
+        if place < commitments.len() {
+            commitments[place] = Some(commitment);
+        }
+    }
+}

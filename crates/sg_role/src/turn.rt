@@ -1,0 +1,86 @@
+//! A role at its turn.
+ghost use Rattle.std.specs.Prelude.{◌≡◌, ◌==◌, ◌↔◌, ◌&&◌, nat_lt, length, None, IfOk, IfErr, IsErr};
+ghost use Rattle.sg_model.specs.Shape.{role_at, source};
+ghost use Rattle.sg_protocol.specs.Backed.{IsBackedAtTurn};
+ghost use Rattle.sg_protocol.specs.Graph.{shape};
+ghost use Rattle.sg_protocol.specs.Texts.{real};
+
+use crate::before::fits;
+use crate::kept::Kept;
+use crate::{Before, Done};
+use sg_base::{Label, NodeId, Time};
+use sg_cache::Ticket;
+use sg_crypt::Cast;
+use std::marker::Model;
+
+/// A role at its turn: its session is new, or ends with a frame that it accepted. It is made by `begin`, and by `Await::accept`. A
+/// clause sees its program and what it holds.
+#[derive(Drop)]
+pub struct Turn<'p> {
+    pub(crate) kept: Kept<'p>,
+}
+
+impl<'p> Model for Turn<'p> {
+    ghost use Rattle.sg_role.specs.States.{State};
+
+    ghost Value = { State };
+
+    ghost use Rattle.sg_role.specs.States.{state_of, HoldsTurn};
+
+    ghost view = { λ t. state_of t.kept };
+
+    ghost invariant = { λ t. HoldsTurn (state_of t.kept) };
+}
+
+impl<'p> Turn<'p> {
+    /// The first turn of the role that starts the graph. It gives both back exactly where the ticket is of another session or role, the
+    /// role isn't the start node's, or it has sent a step. It takes no memory.
+    pub fn begin(ticket: Ticket, before: Before<'p>) -> Result<Turn<'p>, (Ticket, Before<'p>)>
+        ensures fits { IsErr result ↔ (¬ ((ticket ≡ (before.entry.held.sid, before.entry.held.role))
+            × (role_at (shape before.entry.program.graph) 0 ≡ before.entry.held.role) × (before.entry.held.kept.origin ≡ None))) }
+        ensures begun { IfOk result (λ t. t ≡ before.entry) }
+        ensures back { IfErr result (λ e. (e.0 ≡ ticket) × (e.1 ≡ before.entry)) }
+    {
+        if !fits(&ticket, &before) || !before.kept.starts() {
+            return Err((ticket, before));
+        }
+        let _join = ticket.spend();
+        let Before { kept } = before;
+        Ok(Turn { kept })
+    }
+
+    /// The node at which it is the role's turn. It takes no memory.
+    pub fn node(&self) -> NodeId
+        ensures node { result ≡ self.now.held.kept.place }
+        ensures backed { IsBackedAtTurn real self.now.program self.now.held }
+    {
+        self.kept.place
+    }
+
+    /// The cast. It takes no memory.
+    pub fn cast(&self) -> Cast
+        ensures { result ≡ self.now.held.cast }
+    {
+        self.kept.cast
+    }
+
+    /// The time of the last step, 0 before the first. It takes no memory.
+    pub fn time(&self) -> Time
+        ensures { result ≡ self.now.held.kept.time }
+    {
+        self.kept.time
+    }
+
+    /// The label leaves the node. It takes no memory.
+    pub fn choices(&self, label: Label) -> bool
+        ensures { result ≡ (nat_lt label (length self.now.program.graph.edges) && source (shape self.now.program.graph) label == self.now.held.kept.place) }
+    {
+        let graph = self.kept.program.graph();
+        label.0 < graph.edges() && graph.edge(label).source == self.kept.place
+    }
+
+    /// Ends the role's part in the session. It takes no memory.
+    pub fn abandon(self) -> Done {
+        Done(())
+    }
+}
