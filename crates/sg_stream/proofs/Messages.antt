@@ -1,0 +1,48 @@
+-- Where a list of bytes begins with a message.
+use Rattle.std.proofs.Common.{◌≡◌, ℕ, ◌+◌, ◌<◌, ◌≤◌, ◌^◌, List, [], ◌∷◌, ◌++◌, length, take, drop, refl, sym, ap, ◌∙◌, inl, inr, lit<, arith}
+use Rattle.std.specs.Int.{w32, to_be_bytes, from_be_bytes}
+use Rattle.std.proofs.lemmas.Nat.{from_be_bytes-to_be_bytes_4}
+use Rattle.std.proofs.lemmas.List.{append_assoc, append_cancel_left, take-append-drop, length-take-le, length-drop, length-append, take_at, drop_at, drop-drop}
+use Rattle.sg_stream.specs.Framed.{IsFrame, message, BeginsMessage, BeginsBad}
+
+-- the four bytes before a frame spell its length
+pub spelled-message : (frame rest : List ℕ) → IsFrame frame → from_be_bytes w32 (take 4 (message frame ++ rest)) ≡ length frame
+spelled-message frame rest is =
+    let small : length frame < 2 ^ 32 = omega (arith, is.fits) in
+    from_be_bytes-to_be_bytes_4 (length frame) small
+
+-- a message begins with no bad length
+pub not_bad : (bytes : List ℕ) → BeginsMessage bytes → (len : ℕ) → BeginsBad bytes len → ⊥
+not_bad bytes (frame, rest, is, same) len bad =
+    let spelled : from_be_bytes w32 (take 4 bytes) ≡ length frame = rw same (spelled-message frame rest is) in
+    let here : len ≡ length frame = sym bad.spelled ∙ spelled in
+    elim bad.bad [ inl zero ↦ absurd (omega (arith, is.some)) | inr long ↦ absurd (omega (arith, is.fits)) ]
+
+-- four bytes that spell a length, and as many bytes as that
+pub message_there : (bytes : List ℕ) (len : ℕ) → 4 + len ≤ length bytes → to_be_bytes w32 len ≡ take 4 bytes → bytes ≡ message (take len (drop 4 bytes)) ++ drop (4 + len) bytes
+message_there bytes len fits spelled =
+    let long : length (take len (drop 4 bytes)) ≡ len = length-take-le len (drop 4 bytes) (omega (arith, length-drop 4 bytes)) in
+    let behind : take len (drop 4 bytes) ++ drop (4 + len) bytes ≡ drop 4 bytes = rw (← drop-drop len 4 bytes) (take-append-drop len (drop 4 bytes)) in
+    let parts : take 4 bytes ++ drop 4 bytes ≡ bytes = take-append-drop 4 bytes in
+    sym parts ∙ (ap (λ p. p ++ drop 4 bytes) (sym spelled)
+    ∙ (ap (λ d. to_be_bytes w32 len ++ d) (sym behind)
+    ∙ ap (λ n. to_be_bytes w32 n ++ (take len (drop 4 bytes) ++ drop (4 + len) bytes)) (sym long)))
+
+-- such a list of bytes begins with a message
+pub begins_there : (bytes : List ℕ) (len : ℕ) → 0 < len → len ≤ 60000 → 4 + len ≤ length bytes → to_be_bytes w32 len ≡ take 4 bytes → BeginsMessage bytes
+begins_there bytes len some small fits spelled =
+    let long : length (take len (drop 4 bytes)) ≡ len = length-take-le len (drop 4 bytes) (omega (arith, length-drop 4 bytes)) in
+    let is : IsFrame (take len (drop 4 bytes)) = record { some = omega arith; fits = omega arith } in
+    (take len (drop 4 bytes), drop (4 + len) bytes, is, message_there bytes len fits spelled)
+
+-- two messages with which the same bytes begin have the same frame and the same rest
+pub one_message : (frame rest other more : List ℕ) → IsFrame frame → IsFrame other → message frame ++ rest ≡ message other ++ more → (frame ≡ other) × (rest ≡ more)
+one_message frame rest other more is is' same =
+    let lengths : length frame ≡ length other =
+    sym (spelled-message frame rest is) ∙ (ap (λ b. from_be_bytes w32 (take 4 b)) same ∙ spelled-message other more is') in
+    let behind : frame ++ rest ≡ other ++ more = ap (λ b. drop 4 b) same in
+    let front : frame ≡ other =
+    sym (take_at frame rest (length frame) refl) ∙ (ap (λ b. take (length frame) b) behind ∙ take_at other more (length frame) (sym lengths)) in
+    let back : rest ≡ more =
+    sym (drop_at frame rest (length frame) refl) ∙ (ap (λ b. drop (length frame) b) behind ∙ drop_at other more (length frame) (sym lengths)) in
+    (front, back)

@@ -1,0 +1,5 @@
+pub mod Calls
+pub mod Faults
+pub mod Framed
+pub mod Memory
+pub mod Traffic
