@@ -1,0 +1,265 @@
+-- A frame that joins a session.
+use Rattle.std.specs.Prelude.{◌≡◌, ◌≢◌, ℕ, ◌==◌, ◌&&◌, nat_lt, nat_le, Bool, true, false, if◌then◌else◌, List, [], ◌∷◌, ◌++◌, length, bytes_eq, refl, Option, Some, None, option_map, Ok, map, Contains, IfSome, ◌⊎◌, ◌<◌}
+use Rattle.std.specs.Option.{option_map_or}
+use Rattle.std.specs.List.{AllByRecursion}
+use Rattle.std.proofs.Common.{sym, ◌∙◌, ap, subst, inl, inr, append_assoc}
+use Rattle.std.proofs.lemmas.Bool.{eqb-true, cases_Bool}
+use Rattle.sg_model.proofs.Small.{and_left, and_right, same_bytes, bytes_same}
+use Rattle.sg_model.specs.Bytes.{AreBytes}
+use Rattle.sg_model.specs.Limits.{most_roles}
+use Rattle.sg_model.specs.Lists.{first_some, all_differ}
+use Rattle.sg_model.specs.Shape.{role_at}
+use Rattle.sg_protocol.specs.Calls.{Refusal, Happened, NotDelivered, UnknownGraph, BadCast, UnknownPeer, BadSession, Joined, CacheFull, SessionsFull}
+use Rattle.sg_protocol.specs.Frame.{Cast, Frame, IsCastOf}
+use Rattle.sg_protocol.specs.Ranges.{IsCast}
+use Rattle.sg_protocol.specs.Graph.{shape}
+use Rattle.sg_protocol.specs.IsSchedule.{IsProgram}
+use Rattle.sg_protocol.specs.Keyring.{Keyring, Program}
+use Rattle.sg_protocol.specs.Node.{Node, program_for, is_cast, stranger, has_joined}
+use Rattle.sg_protocol.specs.NodeStates.{NodeState, StandsForNode, is_held_for, unless_spent, still_held, with_live, with_join, joined_by, state_taking}
+use Rattle.sg_protocol.specs.Notes.{Notes, no_notes, row_number, notes_in_session, notes_of_read}
+use Rattle.sg_protocol.specs.Session.{Session, new_session, principal, Took}
+use Rattle.sg_protocol.specs.Spelling.{HasSpelling}
+use Rattle.sg_protocol.specs.Standing.{StandsBefore, nothing_kept, held_after}
+use Rattle.sg_protocol.specs.Backed.{IsBackedBefore, IsBackedAtTurn}
+use Rattle.sg_protocol.specs.Texts.{real, session_id, session_text_of}
+use Rattle.sg_protocol.specs.Verdict.{rows, rows_of_session, receipt, decided, verdict_on}
+use Rattle.sg_protocol.proofs.Backed.{states_are_backed}
+use Rattle.sg_protocol.proofs.Live.{sessions_are_sound}
+use Rattle.sg_protocol.proofs.RealHash.{real_hash}
+use Rattle.sg_protocol.proofs.Standing.{states_stand}
+use Rattle.sg_protocol.proofs.Finding.{find_passes}
+use Rattle.sg_role.specs.Accepting.{Acceptance}
+use Rattle.sg_role.specs.Faults.{Refuses}
+use Rattle.sg_role.specs.Sending.{with_notes}
+use Rattle.sg_role.specs.declared.fault.Refusal.{Refusal as RoleRefusal}
+use Rattle.sg_role.specs.declared.fault.Refusal.TheVariants as role
+use Rattle.sg_node.specs.Answers.{IsAnswer}
+use Rattle.sg_node.specs.declared.join.Obstacle.{Obstacle}
+use Rattle.sg_node.specs.declared.join.Obstacle.TheVariants as Why
+use Rattle.sg_node.specs.declared.node.Node.TheInside.{Inside}
+use Rattle.sg_node.specs.Faults.{of_role, refusal}
+use Rattle.sg_node.specs.Joining.{obstacle_to, refusal_for}
+use Rattle.sg_node.specs.Slots.{Slot, held_at, held_in, slot_of, left_after}
+use Rattle.sg_node.specs.Invariant.{IsSlot, HoldsNode, node_state}
+use Rattle.sg_node.proofs.Found.{found_all}
+use Rattle.sg_node.proofs.Joined.{as_many, held_more, slots_more, no_place, nothing_else, free_by, past_three}
+use Rattle.sg_node.proofs.Starts.{first_state}
+use Rattle.sg_node.proofs.Receipts.{role_refused, early, no_text_yet, text, no_program, bad_cast, no_key, bad_session, joining_rows, join_notes, unless_left, left_live}
+use Rattle.sg_node.proofs.Continuing.{AcceptedBy, same_state}
+
+-- what is noted of a frame that is refused before a session is looked at
+abbrev pub first_text : Cast → Notes
+first_text c = record { made = []; found = []; hashed = session_text_of c ∷ [] }
+
+-- ---- refusals that need no hash
+
+module _ (m : Node) (f : Frame) (c : Cast) (j : f.join ≡ Some c) where
+  pub no_program_for : program_for m.programs c.graph f.receiver ≡ None → (verdict_on real m (Ok f) ≡ NotDelivered UnknownGraph) × (notes_of_read real m (Ok f) ≡ no_notes)
+  no_program_for e =
+      let r = no_program m f c j e in
+      (ap (decided (receipt f)) r, early m f UnknownGraph r refl refl refl ∙ ap (λ h. record { made = []; found = []; hashed = h }) (no_text_yet m f c j 2 refl))
+
+  module _ (p : Program) (q : program_for m.programs c.graph f.receiver ≡ Some p) where
+    pub wrong_cast : (is_cast m.keys p.graph c f.receiver && nat_lt f.sender (length c.names)) ≡ false → (verdict_on real m (Ok f) ≡ NotDelivered BadCast) × (notes_of_read real m (Ok f) ≡ no_notes)
+    wrong_cast t =
+        let r = bad_cast m f c j p q t in
+        (ap (decided (receipt f)) r, early m f BadCast r refl refl refl ∙ ap (λ h. record { made = []; found = []; hashed = h }) (no_text_yet m f c j 3 refl))
+
+    pub unknown_peer : (is_cast m.keys p.graph c f.receiver && nat_lt f.sender (length c.names)) ≡ true → (name : List ℕ) → stranger m.keys c ≡ Some name → (verdict_on real m (Ok f) ≡ NotDelivered (UnknownPeer name)) × (notes_of_read real m (Ok f) ≡ no_notes)
+    unknown_peer t name g =
+        let r = no_key m f c j p q t name g in
+        (ap (decided (receipt f)) r, early m f (UnknownPeer name) r refl refl refl ∙ ap (λ h. record { made = []; found = []; hashed = h }) (no_text_yet m f c j 4 refl))
+
+-- ---- another session
+
+module _ (n : NodeState) (f : Frame) (c : Cast) (j : f.join ≡ Some c) (p : Program) (q : program_for n.programs c.graph f.receiver ≡ Some p)
+    (test : (is_cast n.keys p.graph c f.receiver && nat_lt f.sender (length c.names)) ≡ true) (covered : stranger n.keys c ≡ None) (m : Node) (st : StandsForNode n m) where
+  pub other_session : f.sid ≢ session_id real c → (verdict_on real m (Ok f) ≡ NotDelivered BadSession) × (notes_of_read real m (Ok f) ≡ first_text c)
+  other_session k =
+      let b : bytes_eq f.sid (session_id real c) ≡ false = elim (cases_Bool (bytes_eq f.sid (session_id real c))) [ inl e ↦ absurd (k (same_bytes f.sid (session_id real c) e)) | inr e ↦ e ] in
+      let r = bad_session m f c j p (subst (λ ps. program_for ps c.graph f.receiver ≡ Some p) st.programs q)
+      (subst (λ z. (is_cast z p.graph c f.receiver && nat_lt f.sender (length c.names)) ≡ true) st.keys test) (subst (λ k. stranger k c ≡ None) st.keys covered) b in
+      (ap (decided (receipt f)) r, early m f BadSession r refl refl refl ∙ ap (λ h. record { made = []; found = []; hashed = h }) (text m f c j 5 refl))
+
+-- ---- the others, by the state of the node
+
+-- the rows of a role that waits are behind those of the node
+behind_four : (x : Option Refusal) (r : RoleRefusal) → Refuses x r → r ≢ role.OutOfMemory → nat_lt 4 (row_number x) ≡ true
+behind_four x role.BadFrameTag h k = ap (λ x. nat_lt 4 (row_number x)) h
+behind_four x role.NoSuchView h k = ap (λ x. nat_lt 4 (row_number x)) h
+behind_four x (role.BadTime item got least) h k = ap (λ x. nat_lt 4 (row_number x)) h
+behind_four x (role.BadEvidence item) h k = ap (λ x. nat_lt 4 (row_number x)) h
+behind_four x (role.BadOpening var) h k = ap (λ x. nat_lt 4 (row_number x)) h
+behind_four x role.OutOfMemory h k = absurd (k refl)
+
+module _ (n : Inside) (h : HoldsNode n) (f : Frame) (c : Cast) (j : f.join ≡ Some c) (p : Program) (q : program_for n.programs.now c.graph f.receiver ≡ Some p)
+    (test : (is_cast n.keys p.graph c f.receiver && nat_lt f.sender (length c.names)) ≡ true) (covered : stranger n.keys c ≡ None) where
+  its_test : (bytes_eq p.digest c.graph && (p.role == f.receiver)) ≡ true
+  its_test = find_passes (λ (p : Program). bytes_eq p.digest c.graph && (p.role == f.receiver)) n.programs.now p q
+
+  pub its_role : p.role ≡ f.receiver
+  its_role = eqb-true p.role f.receiver (and_right (bytes_eq p.digest c.graph) (p.role == f.receiver) its_test)
+
+  pub its_graph : c.graph ≡ p.digest
+  its_graph = sym (same_bytes p.digest c.graph (and_left (bytes_eq p.digest c.graph) (p.role == f.receiver) its_test))
+
+  pub its_count : length c.names ≡ length p.graph.roles
+  its_count =
+      let same : Bool = length c.names == length p.graph.roles in
+      let member : Bool = nat_lt f.receiver (length c.names) in
+      let mine : Bool = bytes_eq (principal c f.receiver) n.keys.me in
+      eqb-true (length c.names) (length p.graph.roles) (and_left same (all_differ c.names) (and_left (same && all_differ c.names) member (and_left (same && all_differ c.names && member) mine (and_left (is_cast n.keys p.graph c f.receiver) (nat_lt f.sender (length c.names)) test))))
+
+  pub its_program : IsProgram real p
+  its_program = found_all (IsProgram real) _ n.programs.now p h.programs q
+
+  -- ---- what the ranges of a frame say
+
+  module _ (sp : HasSpelling f) where
+    its_cast : IsCastOf f.version c
+    its_cast = subst (λ o. IfSome o (IsCastOf f.version)) j sp.fields.join
+
+    pub its_version : f.version ≡ c.version
+    its_version = sym its_cast.version
+
+    in_range : IsCast c
+    in_range = record { version = subst (λ v. (v ≡ 1) ⊎ (v ≡ 2)) its_version sp.fields.version; fields = subst (λ v. IsCastOf v c) its_version its_cast }
+
+    pub its_bound : p.role < most_roles
+    its_bound = subst (λ r. r < most_roles) (sym its_role) sp.fields.roles.1
+
+  both : (k : Keyring) → n.keys ≡ k → (is_cast k p.graph c f.receiver && nat_lt f.sender (length c.names)) ≡ true
+  both k e = subst (λ z. (is_cast z p.graph c f.receiver && nat_lt f.sender (length c.names)) ≡ true) e test
+
+  module _ (m : Node) (st : StandsForNode (node_state n) m) where
+    q_here : program_for m.programs c.graph f.receiver ≡ Some p
+    q_here = subst (λ ps. program_for ps c.graph f.receiver ≡ Some p) st.programs q
+
+    covered_here : stranger m.keys c ≡ None
+    covered_here = subst (λ k. stranger k c ≡ None) st.keys covered
+
+    module _ (its_sid : f.sid ≡ session_id real c) where
+      abbrev obstacles_by : Bool → Bool → Bool → Option Obstacle
+      obstacles_by x y z = if x then Some Why.Joined else (if y then Some Why.Cache else (if z then Some Why.Sessions else None))
+
+      same_obstacles : obstacle_to n.joins.pairs (length (held_in n.sessions.slots)) f.sid f.receiver ≡ obstacles_by (has_joined m.joins f.sid f.receiver) (nat_le 65536 (length m.joins)) (nat_le 4096 (length m.live))
+      same_obstacles =
+          ap (λ js. obstacle_to js (length (held_in n.sessions.slots)) f.sid f.receiver) st.joins
+          ∙ ap (λ k. obstacle_to m.joins k f.sid f.receiver) (as_many m.programs (held_in n.sessions.slots) m.live st.live)
+
+      abbrev refused_by : Obstacle → Option Refusal
+      refused_by o = refusal (refusal_for o)
+
+      by_obstacle : (x y z : Bool) (o : Obstacle) (rest : List (Option Refusal)) → obstacles_by x y z ≡ Some o →
+          first_some ((if x then Some Joined else None) ∷ (if y then Some CacheFull else None) ∷ (if z then Some SessionsFull else None) ∷ rest) ≡ refused_by o
+      by_obstacle true y z o rest e = ap (λ (w : Option Obstacle). option_map_or refused_by w None) e
+      by_obstacle false true z o rest e = ap (λ (w : Option Obstacle). option_map_or refused_by w None) e
+      by_obstacle false false true o rest e = ap (λ (w : Option Obstacle). option_map_or refused_by w None) e
+      by_obstacle false false false o rest e = absurd (cc)
+
+      pub hindered : (o : Obstacle) → obstacle_to n.joins.pairs (length (held_in n.sessions.slots)) f.sid f.receiver ≡ Some o →
+          IsAnswer (verdict_on real m (Ok f)) (option_map NotDelivered (refusal (refusal_for o))) × (notes_of_read real m (Ok f) ≡ first_text c)
+      hindered o e = go o (joining_rows m f c j p q_here (both m.keys st.keys) covered_here (bytes_same f.sid (session_id real c) its_sid) ∙ by_obstacle (has_joined m.joins f.sid f.receiver) (nat_le 65536 (length m.joins)) (nat_le 4096 (length m.live)) o (rows_of_session real m.keys p (new_session f.sid c f.receiver) f) (sym same_obstacles ∙ e))
+        where
+          go : (o : Obstacle) → first_some (rows real m f) ≡ refused_by o → IsAnswer (verdict_on real m (Ok f)) (option_map NotDelivered (refusal (refusal_for o))) × (notes_of_read real m (Ok f) ≡ first_text c)
+          go Why.Joined r = (ap (decided (receipt f)) r, early m f Joined r refl refl refl ∙ ap (λ h. record { made = []; found = []; hashed = h }) (text m f c j 6 refl))
+          go Why.Cache r = (ap (decided (receipt f)) r, early m f CacheFull r refl refl refl ∙ ap (λ h. record { made = []; found = []; hashed = h }) (text m f c j 7 refl))
+          go Why.Sessions r = (ap (decided (receipt f)) r, early m f SessionsFull r refl refl refl ∙ ap (λ h. record { made = []; found = []; hashed = h }) (text m f c j 8 refl))
+
+  -- ---- the session that it joins
+
+  module _ (its_sid : f.sid ≡ session_id real c) where
+    abbrev its_session : Session
+    its_session = new_session (session_id real c) c p.role
+
+    same_session : new_session f.sid c f.receiver ≡ its_session
+    same_session = ap (λ z. new_session z c f.receiver) its_sid ∙ ap (λ z. new_session (session_id real c) c z) (sym its_role)
+
+    stands : StandsBefore p.graph (first_state p c).held its_session
+    stands = (states_stand real).is_new p.graph (session_id real c) c p.role
+
+    module _ (m : Node) (st : StandsForNode (node_state n) m) (none : obstacle_to n.joins.pairs (length (held_in n.sessions.slots)) f.sid f.receiver ≡ None) where
+      its_rows : first_some (rows real m f) ≡ first_some (rows_of_session real m.keys p (new_session f.sid c f.receiver) f)
+      its_rows =
+          let z = nothing_else (has_joined m.joins f.sid f.receiver) (nat_le 65536 (length m.joins)) (nat_le 4096 (length m.live)) (sym (same_obstacles m st its_sid) ∙ none) in
+          joining_rows m f c j p (q_here m st) (both m.keys st.keys) (covered_here m st) (bytes_same f.sid (session_id real c) its_sid)
+          ∙ past_three (has_joined m.joins f.sid f.receiver) (nat_le 65536 (length m.joins)) (nat_le 4096 (length m.live)) Joined CacheFull SessionsFull (rows_of_session real m.keys p (new_session f.sid c f.receiver) f) z.0 z.1 z.2
+
+      here_rows : first_some (rows_of_session real m.keys p (new_session f.sid c f.receiver) f) ≡ first_some (rows_of_session real n.keys p its_session f)
+      here_rows = ap (λ s. first_some (rows_of_session real m.keys p s f)) same_session ∙ ap (λ k. first_some (rows_of_session real k p its_session f)) (sym st.keys)
+
+      pub refused : (r : RoleRefusal) → ((s : Session) → StandsBefore p.graph (first_state p c).held s → Refuses (first_some (rows_of_session real n.keys p s f)) r) → IsAnswer (verdict_on real m (Ok f)) (option_map NotDelivered (refusal (of_role r)))
+      refused r g = role_refused (receipt f) (first_some (rows real m f)) r (subst (λ x. Refuses x r) (sym (its_rows ∙ here_rows)) (g its_session stands))
+
+      pub taken : (a : Acceptance) → AcceptedBy n.keys (first_state p c) f a → verdict_on real m (Ok f) ≡ Happened (receipt f)
+      taken a d = ap (decided (receipt f)) (its_rows ∙ here_rows ∙ d.rows its_session stands)
+
+      -- the session text was noted, and then what the role notes
+      module _ (first old new : Notes) (e : old ≡ record first { hashed = first.hashed ++ session_text_of c ∷ [] })
+          (g : (s : Session) → StandsBefore p.graph (first_state p c).held s → new ≡ with_notes old (notes_in_session real n.keys p s f (row_number (first_some (rows_of_session real n.keys p s f))))) where
+        noted : nat_lt 4 (row_number (first_some (rows_of_session real n.keys p its_session f))) ≡ true → new ≡ with_notes first (notes_of_read real m (Ok f))
+        noted l =
+            let all : Notes = notes_in_session real n.keys p its_session f (row_number (first_some (rows_of_session real n.keys p its_session f))) in
+            let same : notes_in_session real m.keys p (new_session f.sid c f.receiver) f (row_number (first_some (rows_of_session real m.keys p (new_session f.sid c f.receiver) f))) ≡ all =
+            ap (λ s. notes_in_session real m.keys p s f (row_number (first_some (rows_of_session real m.keys p s f)))) same_session
+            ∙ ap (λ k. notes_in_session real k p its_session f (row_number (first_some (rows_of_session real k p its_session f)))) (sym st.keys) in
+            let read : notes_of_read real m (Ok f) ≡ record all { hashed = session_text_of c ∷ all.hashed } =
+            join_notes m f c j p (q_here m st) its_rows (ap (λ x. nat_lt 4 (row_number x)) here_rows ∙ l)
+            ∙ ap (λ (z : Notes). record z { hashed = session_text_of c ∷ z.hashed }) same in
+            g its_session stands ∙ ap (λ z. with_notes z all) e
+            ∙ ap (λ hs. record { made = first.made ++ all.made; found = first.found ++ all.found; hashed = hs }) (append_assoc first.hashed (session_text_of c ∷ []) all.hashed)
+            ∙ ap (with_notes first) (sym read)
+
+        pub noted_refused : (r : RoleRefusal) → ((s : Session) → StandsBefore p.graph (first_state p c).held s → Refuses (first_some (rows_of_session real n.keys p s f)) r) → r ≢ role.OutOfMemory → new ≡ with_notes first (notes_of_read real m (Ok f))
+        noted_refused r h k = noted (behind_four (first_some (rows_of_session real n.keys p its_session f)) r (h its_session stands) k)
+
+        pub noted_taken : (a : Acceptance) → AcceptedBy n.keys (first_state p c) f a → new ≡ with_notes first (notes_of_read real m (Ok f))
+        noted_taken a d = noted (ap (λ x. nat_lt 4 (row_number x)) (d.rows its_session stands))
+
+    -- ---- a pair that can be joined
+
+    module _ (none : obstacle_to n.joins.pairs (length (held_in n.sessions.slots)) f.sid f.receiver ≡ None) where
+      pub free_pair : (¬ Contains n.joins.pairs (session_id real c, p.role)) × (length n.joins.pairs < 65536)
+      free_pair =
+          let z = free_by n.joins.pairs (length (held_in n.sessions.slots)) f.sid f.receiver none in
+          (subst (λ s. ¬ Contains n.joins.pairs (s, p.role)) its_sid (subst (λ r. ¬ Contains n.joins.pairs (f.sid, r)) (sym its_role) z.0), z.1)
+
+      pub no_place_yet : ¬ Contains (map (λ (s : Slot). s.0) n.sessions.slots) (session_id real c, p.role)
+      no_place_yet = no_place n.programs.now n.joins.pairs (session_id real c, p.role) n.sessions.slots h.slots free_pair.0
+
+    -- ---- what is left
+
+    module _ (sp : HasSpelling f) (a : Acceptance) (d : AcceptedBy n.keys (first_state p c) f a) where
+      rows_none : first_some (rows_of_session real n.keys p its_session f) ≡ None
+      rows_none = d.rows its_session stands
+
+      pub not_starter : role_at (shape p.graph) 0 ≢ p.role
+      not_starter = (sessions_are_sound real real_hash).not_at_start n.keys p its_session f its_program refl refl rows_none
+
+      back : IsBackedBefore real p (first_state p c).held
+      back = (states_are_backed real real_hash).is_new p (session_id real c) c its_program (subst (AreBytes 32) its_sid sp.fields.sid) (in_range sp) its_graph
+
+      backed : IsBackedAtTurn real p (held_after p.graph (first_state p c).held (Took f))
+      backed = (states_are_backed real real_hash).takes n.keys p (first_state p c).held its_session f its_program back stands sp (its_version sp) rows_none
+
+      known : program_for n.programs.now c.graph p.role ≡ Some p
+      known = ap (program_for n.programs.now c.graph) its_role ∙ q
+
+      pub join_slots : AllByRecursion (IsSlot n.programs.now (n.joins.pairs ++ (session_id real c, p.role) ∷ [])) (n.sessions.slots ++ slot_of (session_id real c, p.role) (left_after a))
+      join_slots = slots_more n.programs.now n.joins.pairs (session_id real c, p.role) n.sessions.slots (left_after a) h.slots
+          (left_live p (held_after p.graph (first_state p c).held (Took f)) backed a (same_state n.keys (first_state p c) f a d) n.programs.now (session_id real c) p.role refl refl known)
+
+      joined : joined_by n.programs.now f c ≡ held_at (left_after a)
+      joined =
+          ap (λ (o : Option Program). option_map_or (λ p. unless_spent p (held_after p.graph (record { sid = f.sid; cast = c; role = f.receiver; kept = nothing_kept p.graph }) (Took f))) o []) q
+          ∙ ap (λ z. unless_spent p (held_after p.graph (record { sid = z; cast = c; role = f.receiver; kept = nothing_kept p.graph }) (Took f))) its_sid
+          ∙ ap (λ z. unless_spent p (held_after p.graph (record { sid = session_id real c; cast = c; role = z; kept = nothing_kept p.graph }) (Took f))) (sym its_role)
+          ∙ unless_left p (held_after p.graph (first_state p c).held (Took f)) backed a (same_state n.keys (first_state p c) f a d)
+
+      pub join_state : record { keys = n.keys; programs = n.programs.now; joins = n.joins.pairs ++ (session_id real c, p.role) ∷ []; live = held_in (n.sessions.slots ++ slot_of (session_id real c, p.role) (left_after a)) } ≡ state_taking (node_state n) (Ok f)
+      join_state =
+          ap (λ hs. record { keys = n.keys; programs = n.programs.now; joins = n.joins.pairs ++ (session_id real c, p.role) ∷ []; live = hs })
+          (held_more n.sessions.slots (session_id real c, p.role) (left_after a) ∙ ap (λ z. held_in n.sessions.slots ++ z) (sym joined))
+          ∙ ap (λ z. record { keys = n.keys; programs = n.programs.now; joins = n.joins.pairs ++ z ∷ []; live = held_in n.sessions.slots ++ joined_by n.programs.now f c }) (ap (λ z. (z, p.role)) (sym its_sid) ∙ ap (λ z. (f.sid, z)) its_role)
+          ∙ ap (λ (o : Option Cast). option_map_or (λ c. with_join (node_state n) f.sid f.receiver (joined_by n.programs.now f c)) o (with_live (node_state n) (is_held_for f) (λ z. still_held n.programs.now z (Took f)))) (sym j)

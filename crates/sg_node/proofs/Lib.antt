@@ -1,0 +1,17 @@
+pub mod More
+pub mod Places
+pub mod Programs
+pub mod Keys
+pub mod Counts
+pub mod Leaving
+pub mod Turning
+pub mod Going
+pub mod Found
+pub mod Acts
+pub mod Joined
+pub mod Starts
+pub mod Receipts
+pub mod Continuing
+pub mod Entering
+pub mod Taking
+pub mod Life

@@ -1,0 +1,49 @@
+-- The program that starts a graph with a digest.
+use Rattle.std.specs.Prelude.{◌≡◌, ℕ, ◌==◌, ◌&&◌, Bool, true, if◌then◌else◌, List, [], ◌∷◌, bytes_eq, find, refl, Some, unwrap_or}
+use Rattle.std.proofs.Common.{sym, ◌∙◌, ap, inl, inr}
+use Rattle.std.proofs.lemmas.Bool.{cases_Bool, eqb-true, eq-eqb}
+use Rattle.sg_model.proofs.Small.{clash, and_left, and_right, same_bytes}
+use Rattle.sg_model.specs.Shape.{role_at}
+use Rattle.sg_protocol.specs.Graph.{shape}
+use Rattle.sg_protocol.specs.Keyring.{Program}
+use Rattle.sg_protocol.specs.Node.{program_for, starter}
+use Rattle.sg_protocol.proofs.Finding.{find_passes}
+use Rattle.sg_node.proofs.Places.{some_none}
+
+some_is : {A : Type 0} (x y : A) → Some x ≡ Some y → x ≡ y
+some_is x y e = ap (λ o. unwrap_or o x) e
+
+-- two that are found first, each of which passes the other's test, are one
+same_first : {A : Type 0} (p q : A → Bool) (xs : List A) (a b : A) → find p xs ≡ Some a → find q xs ≡ Some b → q a ≡ true → p b ≡ true → b ≡ a
+same_first p q [] a b e f g h = some_none a (sym e)
+same_first p q (x ∷ xs) a b e f g h = elim (cases_Bool (p x)) [
+  | inl i ↦
+      let xa : x ≡ a = some_is x a (sym (ap (λ t. if t then Some x else find p xs) i) ∙ e) in
+      let qx : q x ≡ true = ap q xa ∙ g in
+      sym (some_is x b (sym (ap (λ t. if t then Some x else find q xs) qx) ∙ f)) ∙ xa
+  | inr i ↦ elim (cases_Bool (q x)) [
+    | inl j ↦ clash (p x) (ap p (some_is x b (sym (ap (λ t. if t then Some x else find q xs) j) ∙ f)) ∙ h) i
+    | inr j ↦ same_first p q xs a b (sym (ap (λ t. if t then Some x else find p xs) i) ∙ e) (sym (ap (λ t. if t then Some x else find q xs) j) ∙ f) g h
+  ]
+]
+
+module _ (ps : List Program) (d : List ℕ) (p f : Program) (a : starter ps d ≡ Some p) (b : program_for ps d p.role ≡ Some f) (s : (f.role == role_at (shape f.graph) 0) ≡ true) where
+  passes : (bytes_eq p.digest d && (p.role == role_at (shape p.graph) 0)) ≡ true
+  passes = find_passes (λ (p : Program). bytes_eq p.digest d && (p.role == role_at (shape p.graph) 0)) ps p a
+
+  fits : (bytes_eq f.digest d && (f.role == p.role)) ≡ true
+  fits = find_passes (λ (z : Program). bytes_eq z.digest d && (z.role == p.role)) ps f b
+
+  same : f ≡ p
+  same = same_first (λ (p : Program). bytes_eq p.digest d && (p.role == role_at (shape p.graph) 0)) (λ (z : Program). bytes_eq z.digest d && (z.role == p.role)) ps p f a b
+      (ap (λ t. t && (p.role == p.role)) (and_left (bytes_eq p.digest d) (p.role == role_at (shape p.graph) 0) passes) ∙ eq-eqb p.role p.role refl)
+      (ap (λ t. t && (f.role == role_at (shape f.graph) 0)) (and_left (bytes_eq f.digest d) (f.role == p.role) fits) ∙ s)
+
+  pub is_starter : Some f ≡ starter ps d
+  is_starter = ap (λ z. Some z) same ∙ sym a
+
+  pub is_first : program_for ps d f.role ≡ Some f
+  is_first = ap (program_for ps d) (eqb-true f.role p.role (and_right (bytes_eq f.digest d) (f.role == p.role) fits)) ∙ b
+
+  pub its_digest : f.digest ≡ d
+  its_digest = same_bytes f.digest d (and_left (bytes_eq f.digest d) (f.role == p.role) fits)

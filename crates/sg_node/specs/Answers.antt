@@ -1,0 +1,53 @@
+-- What the node answers, as an answer of the definitions.
+use Rattle.std.specs.Prelude.{◌≡◌, ℕ, List, Option, None, Some, option_map, Result, Ok, Err, All, ⊤}
+use Rattle.sg_protocol.specs.Calls.{Call, Answer, Happened, Sends, Abandoned, NotStarted, NotActed, NotAbandoned, NotDelivered}
+use Rattle.sg_protocol.specs.Frame.{Frame}
+use Rattle.sg_protocol.specs.Past.{Past, node_of, past_after, new_node, AreAnswers}
+use Rattle.sg_protocol.specs.Ranges.{IsCallInRange}
+use Rattle.sg_protocol.specs.NodeStates.{NodeState, StandsForPast, state_after}
+use Rattle.sg_protocol.specs.Spelling.{spelling}
+use Rattle.sg_protocol.specs.Acting.{answer}
+use Rattle.sg_protocol.specs.Texts.{real}
+use Rattle.sg_walk.specs.declared.event.Event.{Event}
+use Rattle.sg_walk.specs.Views.{event_of}
+use Rattle.sg_node.specs.declared.fault.StartFault.{StartFault}
+use Rattle.sg_node.specs.declared.fault.ActFault.{ActFault}
+use Rattle.sg_node.specs.declared.fault.Refusal.{Refusal}
+use Rattle.sg_node.specs.declared.fault.UnknownSession.{UnknownSession}
+use Rattle.sg_node.specs.Faults.{start_fault, act_fault, refusal}
+
+-- it is this answer, or memory ran out
+abbrev pub IsAnswer : Answer → Option Answer → Type 0
+IsAnswer a None = ⊤
+IsAnswer a (Some given) = a ≡ given
+
+-- the answer to a start
+abbrev pub start_answer : Result Event StartFault → Option Answer
+start_answer (Ok e) = Some (Happened (event_of e))
+start_answer (Err fault) = option_map NotStarted (start_fault fault)
+
+-- the answer to an act: the frame is the one whose spelling is sealed, for the principal that it goes to
+abbrev pub IsActAnswer : Answer → Result (Event × (List ℕ × List ℕ)) ActFault → Type 0
+IsActAnswer a (Ok r) = (f : Frame) × (a ≡ Sends (event_of r.0) (r.1).0 f) × ((r.1).1 ≡ spelling f)
+IsActAnswer a (Err fault) = IsAnswer a (option_map NotActed (act_fault fault))
+
+-- the answer to an abandonment
+abbrev pub abandon_answer : Result (Unit {0}) UnknownSession → Answer
+abandon_answer (Ok u) = Abandoned
+abandon_answer (Err fault) = NotAbandoned
+
+-- the answer to a delivery
+abbrev pub delivery_answer : Result Event Refusal → Option Answer
+delivery_answer (Ok e) = Some (Happened (event_of e))
+delivery_answer (Err fault) = option_map NotDelivered (refusal fault)
+
+-- the calls of the past were in range, and were answered as the node answers
+pub record IsTold (past : Past) : Type 0 where
+  pub calls : All (λ c. IsCallInRange c.call) past.calls
+  pub answers : AreAnswers real (new_node past.keys past.programs past.first) past.calls
+
+-- a state that stood for the past stands for it with the call
+pub record GoesOn (old new : NodeState) (call : Call) (past : Past) : Type 0 where
+  -- it is the state after the answer
+  pub state : new ≡ state_after old call (answer real (node_of past) call)
+  pub stands : IsTold past → StandsForPast new (past_after real past call)

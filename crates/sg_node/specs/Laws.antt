@@ -1,0 +1,43 @@
+-- The whole life of a node: the past of one that is made, and what holds of each past that was told.
+use Rattle.std.specs.Prelude.{◌≡◌, ℕ, List, [], map, true, false, All, IsTrue}
+use Rattle.sg_protocol.specs.Acting.{answer}
+use Rattle.sg_protocol.specs.Calls.{Call}
+use Rattle.sg_protocol.specs.Isolation.{is_for_room, AreAlike, IsLeft}
+use Rattle.sg_protocol.specs.Keyring.{Keyring, Program}
+use Rattle.sg_protocol.specs.NodeStates.{StandsForPast, new_state}
+use Rattle.sg_protocol.specs.Past.{Past, new_node, node_of, past_after, answers, is_call_of, calls_of_session, pairs_differ, JoinedOnce}
+use Rattle.sg_protocol.specs.Ranges.{IsCallInRange}
+use Rattle.sg_protocol.specs.Texts.{real}
+use Rattle.sg_node.specs.Answers.{IsTold}
+
+-- the past of a node that is made, without calls
+abbrev pub new_past : Keyring → List Program → List (List ℕ × ℕ) → Past
+new_past keys programs first = record { keys = keys; programs = programs; first = first; calls = [] }
+
+-- A node that is made stands for the past without calls, which was told
+abbrev pub NewNodesStand : Type 0
+NewNodesStand = (keys : Keyring) (programs : List Program) (first : List (List ℕ × ℕ)) →
+    StandsForPast (new_state keys programs first) (new_past keys programs first) × IsTold (new_past keys programs first)
+
+-- A past that was told is told with a call in range and the node's answer
+abbrev pub PastsGoOn : Type 0
+PastsGoOn = (past : Past) (c : Call) → IsTold past → IsCallInRange c → IsTold (past_after real past c)
+
+-- Where no call was refused for want of room, a node answered the calls of a session as a node would that gets no others
+abbrev pub SessionsAreAlone : Type 0
+SessionsAreAlone = (past : Past) (sid : List ℕ) → IsTold past → All (λ c. is_for_room c.answer ≡ false) past.calls →
+    map (λ c. c.answer) (calls_of_session real sid past.calls)
+    ≡ answers real (new_node past.keys past.programs past.first) (map (λ c. c.call) (calls_of_session real sid past.calls))
+
+-- Nodes that have alike what they have of a sid answer its calls alike, and have it alike afterwards
+abbrev pub SameForSessions : Type 0
+SameForSessions = (past past' : Past) (sid : List ℕ) (c : Call) → is_call_of real sid c ≡ true → AreAlike sid (node_of past) (node_of past') →
+    (answer real (node_of past) c ≡ answer real (node_of past') c) × AreAlike sid (node_of (past_after real past c)) (node_of (past_after real past' c))
+
+-- A call that is not of a sid leaves all that a node has of it
+abbrev pub OthersAreLeft : Type 0
+OthersAreLeft = (past : Past) (sid : List ℕ) (c : Call) → is_call_of real sid c ≡ false → IsLeft sid (node_of past) (node_of (past_after real past c))
+
+-- No pair of session and role is joined twice, nor one that the node was made with, where these differ
+abbrev pub PairsJoinOnce : Type 0
+PairsJoinOnce = (past : Past) → IsTrue (pairs_differ past.first) → IsTold past → JoinedOnce past

@@ -1,0 +1,6 @@
+pub mod Slots
+pub mod Faults
+pub mod Joining
+pub mod Answers
+pub mod Invariant
+pub mod Laws

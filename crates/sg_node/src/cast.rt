@@ -1,0 +1,103 @@
+//! Which casts a node takes part in, and in which programs.
+ghost use Rattle.std.specs.Prelude.{◌≡◌, ◌==◌, ◌&&◌, bytes_eq, length, nat_lt, Some, IfSome};
+ghost use Rattle.std.specs.Option.{option_copied};
+ghost use Rattle.sg_model.specs.Lists.{all_differ, has_text};
+ghost use Rattle.sg_model.specs.Shape.{role_at};
+ghost use Rattle.sg_protocol.specs.Graph.{shape};
+ghost use Rattle.sg_protocol.specs.Node.{is_cast, program_for, starter};
+ghost use Rattle.sg_protocol.specs.Session.{principal};
+
+use sg_base::{Name, NodeId, Role};
+use sg_crypt::Cast;
+use sg_graph::Graph;
+use sg_keys::Keyring;
+use sg_program::{Program, Programs};
+
+/// It has as many principals as the graph has roles, all different, and the role's is the keyring's own. It takes no memory.
+pub(crate) fn is_cast(keys: &Keyring, graph: &Graph, cast: &Cast, role: Role) -> bool
+    ensures { result ≡ is_cast keys.now graph.now cast.now role }
+{
+    cast.count() == graph.roles() && all_differ(cast.names()) && is_mine(keys, cast, role)
+}
+
+// The role is one of the cast, and its principal is the keyring's own.
+fn is_mine(keys: &Keyring, cast: &Cast, role: Role) -> bool
+    ensures { result ≡ nat_lt role (length cast.now.names) && bytes_eq (principal cast.now role) keys.now.me }
+{
+    match cast.of(role) {
+        Some(name) => name.as_bytes() == keys.me().as_bytes(),
+        None => false,
+    }
+}
+
+// No name stands there twice.
+fn all_differ(names: &[Name]) -> bool
+    ensures { result ≡ all_differ names.now }
+{
+    for at in 0..names.len() {
+        if has_name(&names[at + 1..], &names[at]) {
+            return false;
+        }
+    }
+    true
+}
+
+// The name is among these.
+#[tactic(auto, using(crate::proofs::More::text_here, crate::proofs::More::text_next))]
+fn has_name(names: &[Name], name: &Name) -> bool
+    ensures { result ≡ has_text name.now names.now }
+{
+    for other in names {
+        if name.as_bytes() == other.as_bytes() {
+            return true;
+        }
+    }
+    false
+}
+
+/// The first program of a graph with this digest for the role that starts it. It answers `None` where a program of another
+/// graph with this digest stands before it for this role, so that SHA-256 has collided. It takes no memory.
+pub(crate) fn starter<'p>(programs: &'p Programs, digest: &[u8; 32]) -> Option<Option<&'p Program>>
+    ensures found { IfSome result (λ p. option_copied p ≡ starter programs.now digest.now) }
+    ensures first { IfSome result (λ p. IfSome p (λ q. program_for programs.now digest.now q.now.role ≡ Some q.now)) }
+    ensures starts { IfSome result (λ p. IfSome p (λ q. role_at (shape q.now.graph) 0 ≡ q.now.role)) }
+    ensures digest { IfSome result (λ p. IfSome p (λ q. q.now.digest ≡ digest.now)) }
+{
+    let Some(program) = first_starter(programs, digest) else {
+        return Some(None);
+    };
+    match program_for(programs, digest, program.role()) {
+        Some(first) if starts(first) => Some(Some(first)),
+        _ => None,
+    }
+}
+
+// The first program of a graph with this digest for the role that starts it.
+fn first_starter<'p>(programs: &'p Programs, digest: &[u8; 32]) -> Option<&'p Program>
+    ensures { option_copied result ≡ starter programs.now digest.now }
+{
+    for program in programs.as_slice() {
+        if program.digest() == digest && starts(program) {
+            return Some(program);
+        }
+    }
+    None
+}
+
+// The program's role is that of the start node.
+fn starts(program: &Program) -> bool
+    ensures { result ≡ (program.now.role == role_at (shape program.now.graph) 0) }
+{
+    program.role() == program.graph().node_role(NodeId(0))
+}
+
+/// The first program of a graph with this digest for a role. It takes no memory.
+pub(crate) fn program_for<'p>(
+    programs: &'p Programs,
+    digest: &[u8; 32],
+    role: Role,
+) -> Option<&'p Program>
+    ensures { option_copied result ≡ program_for programs.now digest.now role }
+{
+    programs.find(digest, role)
+}

@@ -1,0 +1,277 @@
+//! How a node takes a delivery.
+ghost use Rattle.std.specs.Prelude.{◌≡◌, ◌≢◌, ◌<◌, ◌++◌, ◌&&◌, ◌↔◌, [], ◌∷◌, true, IsTrue, nat_lt, length, slice_get, option_and_then, Ok, Err, None, Some, IfOk, IsOk, OnErr, OnOk};
+ghost use Rattle.std.specs.Option.{option_copied};
+ghost use Rattle.indexmap.specs.IndexMap.{set_value_at};
+ghost use Rattle.sg_model.specs.Bytes.{IsBytes};
+ghost use Rattle.sg_protocol.specs.Acting.{answer};
+ghost use Rattle.sg_protocol.specs.Calls.{Deliver};
+ghost use Rattle.sg_protocol.specs.Node.{Node as DefinedNode, program_for, is_cast, stranger};
+ghost use Rattle.sg_protocol.specs.NodeStates.{StandsForNode, StandsForPast, state_taking};
+ghost use Rattle.sg_protocol.specs.Notes.{Notes, notes as noted_of, notes_of_read};
+ghost use Rattle.sg_protocol.specs.Past.{Past, node_of};
+ghost use Rattle.sg_protocol.specs.Spelling.{SpellsFrame};
+ghost use Rattle.sg_protocol.specs.Texts.{real, session_id, session_text_of};
+ghost use Rattle.sg_protocol.specs.Verdict.{verdict_on};
+ghost use Rattle.sg_walk.specs.Views.{event_of};
+ghost use Rattle.sg_role.specs.Sending.{with_notes};
+ghost use Rattle.sg_node.specs.Answers.{IsAnswer, delivery_answer, GoesOn};
+ghost use Rattle.sg_node.specs.Joining.{refusal_for};
+ghost use Rattle.sg_node.specs.Slots.{left_after};
+ghost use Rattle.sg_node.specs.declared.sessions.Live.TheVariants.{Waiting};
+
+use crate::cast::{is_cast, program_for};
+use crate::fault::refused;
+use crate::join::{Obstacle, first_obstacle, join_session, make_room, note_session};
+use crate::sessions::{Live, Sessions};
+use crate::{Node, Refusal};
+use sg_base::Sid;
+use sg_crypt::{Cast, Notes, session_id};
+use sg_frame::{DecodeFault, Frame, decode};
+use sg_keys::Keyring;
+use sg_program::{Program, Programs};
+use sg_role::{Accepted, Before, Taken, examine};
+use sg_walk::Event;
+
+impl<'p> Node<'p> {
+    /// Takes bytes that were delivered: the receipt of the frame that they spell, in the session that it continues or joins, or the
+    /// first cause for which it is refused. After a refusal the node is as before.
+    pub fn deliver(&mut self, bytes: &[u8], notes: &mut Notes) -> Result<Event, Refusal>
+        ensures answer { (past : Past) → StandsForPast self.old past → IsAnswer (answer real (node_of past) (Deliver bytes.now)) (delivery_answer result) }
+        ensures state { (past : Past) → StandsForPast self.old past → result ≢ Err Refusal.OutOfMemory → GoesOn self.old self.new (Deliver bytes.now) past }
+        ensures notes { (past : Past) → StandsForPast self.old past → result ≢ Err Refusal.OutOfMemory
+            → notes.new ≡ with_notes notes.old (noted_of real (node_of past) (Deliver bytes.now)) }
+        ensures back { OnErr result (self.new ≡ self.old) }
+        ensures memory { result ≡ Err Refusal.OutOfMemory → notes.new ≡ notes.old }
+    {
+        tell_bytes(bytes);
+        match decode(self.alloc, bytes) {
+            Ok(frame) => self.receive(&frame, bytes, notes),
+            Err(DecodeFault::Malformed { at }) => Err(Refusal::Malformed { at }),
+            Err(DecodeFault::OutOfMemory) => Err(Refusal::OutOfMemory),
+        }
+    }
+
+    // Takes a frame.
+    fn receive(&mut self, frame: &Frame, bytes: &[u8], notes: &mut Notes) -> Result<Event, Refusal>
+        requires { SpellsFrame bytes.now frame.now }
+        ensures answer { (n : DefinedNode) → StandsForNode self.old n → IsAnswer (verdict_on real n (Ok frame.now)) (delivery_answer result) }
+        ensures taken { OnOk result (self.new ≡ state_taking self.old (Ok frame.now)) }
+        ensures back { OnErr result (self.new ≡ self.old) }
+        ensures notes { (n : DefinedNode) → StandsForNode self.old n → result ≢ Err Refusal.OutOfMemory
+            → notes.new ≡ with_notes notes.old (notes_of_read real n (Ok frame.now)) }
+        ensures memory { result ≡ Err Refusal.OutOfMemory → notes.new ≡ notes.old }
+    {
+        match frame.join {
+            Some(cast) => self.join(frame, cast, bytes, notes),
+            None => self.go_on(frame, bytes, notes),
+        }
+    }
+
+    // Takes a frame that continues a session.
+    fn go_on(&mut self, frame: &Frame, bytes: &[u8], notes: &mut Notes) -> Result<Event, Refusal>
+        requires spelled { SpellsFrame bytes.now frame.now }
+        requires continues { frame.now.join ≡ None }
+        ensures answer { (n : DefinedNode) → StandsForNode self.old n → IsAnswer (verdict_on real n (Ok frame.now)) (delivery_answer result) }
+        ensures taken { OnOk result (self.new ≡ state_taking self.old (Ok frame.now)) }
+        ensures back { OnErr result (self.new ≡ self.old) }
+        ensures notes { (n : DefinedNode) → StandsForNode self.old n → result ≢ Err Refusal.OutOfMemory
+            → notes.new ≡ with_notes notes.old (notes_of_read real n (Ok frame.now)) }
+        ensures memory { result ≡ Err Refusal.OutOfMemory → notes.new ≡ notes.old }
+    {
+        let Some(index) = self.sessions.find_for(frame) else {
+            return Err(Refusal::UnknownSession);
+        };
+        match self.sessions.get(index) {
+            Some(Live::Waiting(wait)) => {
+                let kept = wait.before();
+                match examine(self.alloc, kept, &self.keys, frame, bytes, notes) {
+                    Ok(accepted) => take(&mut self.sessions, index, accepted),
+                    Err(refusal) => Err(refused(refusal)),
+                }
+            }
+            Some(Live::AtTurn(_turn)) => Err(Refusal::NotWaiting),
+            None => Err(Refusal::NotWaiting),
+        }
+    }
+
+    // Takes a frame that joins.
+    fn join(
+        &mut self,
+        frame: &Frame,
+        cast: Cast,
+        bytes: &[u8],
+        notes: &mut Notes,
+    ) -> Result<Event, Refusal>
+        requires spelled { SpellsFrame bytes.now frame.now }
+        requires joins { frame.now.join ≡ Some cast }
+        ensures answer { (n : DefinedNode) → StandsForNode self.old n → IsAnswer (verdict_on real n (Ok frame.now)) (delivery_answer result) }
+        ensures taken { OnOk result (self.new ≡ state_taking self.old (Ok frame.now)) }
+        ensures back { OnErr result (self.new ≡ self.old) }
+        ensures notes { (n : DefinedNode) → StandsForNode self.old n → result ≢ Err Refusal.OutOfMemory
+            → notes.new ≡ with_notes notes.old (notes_of_read real n (Ok frame.now)) }
+        ensures memory { result ≡ Err Refusal.OutOfMemory → notes.new ≡ notes.old }
+    {
+        let Some(program) = program_of(self.programs, &cast, frame) else {
+            return Err(Refusal::UnknownGraph);
+        };
+        if !fits(&self.keys, program, &cast, frame) {
+            return Err(Refusal::BadCast);
+        }
+        if let Some(name) = self.keys.covers(&cast) {
+            return Err(Refusal::UnknownPeer { name });
+        }
+        self.join_known(program, frame, cast, bytes, notes)
+    }
+
+    // Takes a frame that joins, where its cast is right and all keys are there.
+    fn join_known(
+        &mut self,
+        program: &'p Program,
+        frame: &Frame,
+        cast: Cast,
+        bytes: &[u8],
+        notes: &mut Notes,
+    ) -> Result<Event, Refusal>
+        requires spelled { SpellsFrame bytes.now frame.now }
+        requires joins { frame.now.join ≡ Some cast }
+        requires program { program_for self.old.programs cast.graph frame.now.receiver ≡ Some program.now }
+        requires cast { (is_cast self.old.keys program.now.graph cast frame.now.receiver && nat_lt frame.now.sender (length cast.names)) ≡ true }
+        requires covered { stranger self.old.keys cast ≡ None }
+        ensures answer { (n : DefinedNode) → StandsForNode self.old n → IsAnswer (verdict_on real n (Ok frame.now)) (delivery_answer result) }
+        ensures taken { OnOk result (self.new ≡ state_taking self.old (Ok frame.now)) }
+        ensures back { OnErr result (self.new ≡ self.old) }
+        ensures notes { (n : DefinedNode) → StandsForNode self.old n → result ≢ Err Refusal.OutOfMemory
+            → notes.new ≡ with_notes notes.old (notes_of_read real n (Ok frame.now)) }
+        ensures memory { result ≡ Err Refusal.OutOfMemory → notes.new ≡ notes.old }
+    {
+        let counts = notes.counts();
+        if note_session(self.alloc, &cast, notes).is_err() {
+            return Err(Refusal::OutOfMemory);
+        }
+        let result = self.join_in(program, frame, cast, bytes, notes);
+        if is_memory(&result) {
+            notes.keep(counts);
+        }
+        result
+    }
+
+    // Takes a frame that joins, where the text of its session is noted.
+    fn join_in(
+        &mut self,
+        program: &'p Program,
+        frame: &Frame,
+        cast: Cast,
+        bytes: &[u8],
+        notes: &mut Notes,
+    ) -> Result<Event, Refusal>
+        requires spelled { SpellsFrame bytes.now frame.now }
+        requires joins { frame.now.join ≡ Some cast }
+        requires program { program_for self.old.programs cast.graph frame.now.receiver ≡ Some program.now }
+        requires cast { (is_cast self.old.keys program.now.graph cast frame.now.receiver && nat_lt frame.now.sender (length cast.names)) ≡ true }
+        requires covered { stranger self.old.keys cast ≡ None }
+        ensures answer { (n : DefinedNode) → StandsForNode self.old n → IsAnswer (verdict_on real n (Ok frame.now)) (delivery_answer result) }
+        ensures taken { OnOk result (self.new ≡ state_taking self.old (Ok frame.now)) }
+        ensures back { OnErr result (self.new ≡ self.old) }
+        ensures notes { (n : DefinedNode) (first : Notes) → StandsForNode self.old n
+            → notes.old ≡ record first { hashed = first.hashed ++ session_text_of cast ∷ [] } → result ≢ Err Refusal.OutOfMemory
+            → notes.new ≡ with_notes first (notes_of_read real n (Ok frame.now)) }
+        ensures memory { result ≡ Err Refusal.OutOfMemory → notes.new ≡ notes.old }
+    {
+        if !is_session(&cast, &frame.sid) {
+            return Err(Refusal::BadSession);
+        }
+        if let Some(obstacle) = first_obstacle(
+            &self.joins,
+            &self.sessions,
+            &frame.sid,
+            frame.receiver,
+        ) {
+            return Err(refusal_of(obstacle));
+        }
+        if make_room(&mut self.joins, &mut self.sessions).is_err() {
+            return Err(Refusal::OutOfMemory);
+        }
+        let Ok(before) = Before::start(self.alloc, program, cast) else {
+            return Err(Refusal::OutOfMemory);
+        };
+        match examine(self.alloc, &before, &self.keys, frame, bytes, notes) {
+            Ok(accepted) => join_session(&mut self.joins, &mut self.sessions, before, accepted),
+            Err(refusal) => Err(refused(refusal)),
+        }
+    }
+}
+
+// Memory ran out.
+fn is_memory(taken: &Result<Event, Refusal>) -> bool
+    ensures { IsTrue result ↔ (taken.now ≡ Err Refusal.OutOfMemory) }
+{
+    matches!(taken, Err(Refusal::OutOfMemory))
+}
+
+// The program for the cast's graph and the frame's receiver.
+fn program_of<'p>(programs: &'p Programs, cast: &Cast, frame: &Frame) -> Option<&'p Program>
+    ensures { option_copied result ≡ program_for programs.now cast.now.graph frame.now.receiver }
+{
+    program_for(programs, &cast.graph(), frame.receiver)
+}
+
+// The cast is right for the receiver, and the sender is one of its roles.
+fn fits(keys: &Keyring, program: &Program, cast: &Cast, frame: &Frame) -> bool
+    ensures { result ≡ (is_cast keys.now program.now.graph cast.now frame.now.receiver && nat_lt frame.now.sender (length cast.now.names)) }
+{
+    is_cast(keys, program.graph(), cast, frame.receiver) && frame.sender.0 < cast.count()
+}
+
+// The identifier is that of the cast's session.
+fn is_session(cast: &Cast, sid: &Sid) -> bool
+    ensures { IsTrue result ↔ (sid.now ≡ session_id real cast.now) }
+{
+    let its_id = session_id(cast);
+    sid.0 == its_id.0
+}
+
+// Takes a frame that was accepted, in the session that waits for it.
+fn take<'p>(
+    sessions: &mut Sessions<'p>,
+    index: usize,
+    accepted: Accepted<'p>,
+) -> Result<Event, Refusal>
+    requires within { index < length sessions.old.slots }
+    requires waits { option_and_then (λ s. s.1) (slice_get sessions.old.slots index) ≡ Some (Waiting (record { program = accepted.program; held = accepted.before })) }
+    ensures ok { IsOk result }
+    ensures event { IfOk result (λ e. event_of e ≡ accepted.entry.event) }
+    ensures slots { sessions.new.slots ≡ set_value_at sessions.old.slots index (left_after accepted.entry) }
+{
+    match sessions.take(index) {
+        Some(Live::Waiting(wait)) => match wait.accept(accepted) {
+            Ok((event, taken)) => match taken {
+                Taken::Turn(turn) => {
+                    sessions.put(index, Live::AtTurn(turn));
+                    Ok(event)
+                }
+                Taken::Done(_done) => Ok(event),
+            },
+            Err((wait, _)) => {
+                sessions.put(index, Live::Waiting(wait));
+                Err(Refusal::NotWaiting)
+            }
+        },
+        _ => Err(Refusal::NotWaiting),
+    }
+}
+
+// The refusal of a frame whose pair can't be joined.
+fn refusal_of(obstacle: Obstacle) -> Refusal
+    ensures { result ≡ refusal_for obstacle }
+{
+    match obstacle {
+        Obstacle::Joined => Refusal::Joined,
+        Obstacle::Cache => Refusal::CacheFull,
+        Obstacle::Sessions => Refusal::SessionsFull,
+    }
+}
+
+/// What the type `u8` says of each of these.
+pub(crate) fn tell_bytes(bytes: &[u8])
+    ensures { IsBytes bytes.now }
+{}

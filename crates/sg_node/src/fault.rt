@@ -1,0 +1,148 @@
+//! Why a node refuses a call.
+use sg_base::{Name, Time, Var};
+use sg_role::SendFault;
+use thiserror::Error;
+
+/// Why a session is not started, the first cause that holds.
+#[derive(Debug, Clone, Copy, PartialEq, Eq, Error)]
+pub enum StartFault {
+    /// No program is of the cast's graph and the role that starts it.
+    #[error("unknown graph")]
+    UnknownGraph,
+    /// The cast has not as many principals as the graph has roles, two of them are the same, or the starting role's is another one.
+    #[error("bad cast")]
+    BadCast,
+    /// No key is shared with this principal, the first in role order.
+    #[error("unknown peer")]
+    UnknownPeer {
+        /// The principal without a key.
+        name: Name,
+    },
+    /// The pair of session and role was joined before.
+    #[error("joined already")]
+    Joined,
+    /// 65,536 pairs were joined.
+    #[error("the cache is full")]
+    CacheFull,
+    /// 4,096 sessions are live.
+    #[error("too many live sessions")]
+    SessionsFull,
+    /// Memory was wanted, and none was to be had.
+    #[error("out of memory")]
+    OutOfMemory,
+}
+
+/// Why a node does not act, the first cause that holds.
+#[derive(Debug, Clone, Copy, PartialEq, Eq, Error)]
+pub enum ActFault {
+    /// No live session has the identifier.
+    #[error("unknown session")]
+    UnknownSession,
+    /// The session waits for a frame.
+    #[error("not your turn")]
+    NotYourTurn,
+    /// The role does not send the step.
+    #[error("not sent: {0}")]
+    Send(SendFault),
+    /// Memory was wanted, and none was to be had.
+    #[error("out of memory")]
+    OutOfMemory,
+}
+
+/// No live session has the identifier.
+#[derive(Debug, Clone, Copy, PartialEq, Eq, Error)]
+#[error("unknown session")]
+pub struct UnknownSession;
+
+/// Why a delivery is refused, the first cause that holds.
+#[derive(Debug, Clone, Copy, PartialEq, Eq, Error)]
+pub enum Refusal {
+    /// The bytes are no frame: the first field that is not there whole, or is out of its range, begins at this offset.
+    #[error("malformed at {at}")]
+    Malformed {
+        /// The offset in bytes.
+        at: u32,
+    },
+    /// The frame joins, and no program is of its graph and its receiver.
+    #[error("unknown graph")]
+    UnknownGraph,
+    /// The frame joins, and its cast has not as many principals as the graph has roles, two of them are the same, the sender or the
+    /// receiver is not among its roles, or the receiver's principal is another one.
+    #[error("bad cast")]
+    BadCast,
+    /// The frame joins, and no key is shared with this principal of its cast, the first in role order.
+    #[error("unknown peer")]
+    UnknownPeer {
+        /// The principal without a key.
+        name: Name,
+    },
+    /// The frame joins, and its identifier is not that of its cast.
+    #[error("bad session")]
+    BadSession,
+    /// The frame joins, and the pair of session and receiver was joined before.
+    #[error("joined already")]
+    Joined,
+    /// The frame joins, and 65,536 pairs were joined.
+    #[error("the cache is full")]
+    CacheFull,
+    /// The frame joins, and 4,096 sessions are live.
+    #[error("too many live sessions")]
+    SessionsFull,
+    /// The frame continues, and no live session has its identifier, its receiver and its version.
+    #[error("unknown session")]
+    UnknownSession,
+    /// The frame continues, and its session is at its turn.
+    #[error("not waiting")]
+    NotWaiting,
+    /// The sender is no role of the cast, or the frame's tag is not right under the key shared with its principal.
+    #[error("bad frame tag")]
+    BadFrameTag,
+    /// What the frame shows is no view of the role from its own last step; or an item's role isn't its label's sender, the last item's
+    /// isn't the frame's sender, an item's tags aren't for exactly its targets without a later item, or the openings aren't of exactly
+    /// the variables that the last label reads.
+    #[error("no such view")]
+    NoSuchView,
+    /// An item, the first in order and counted from 1, has a time below `least`, which is 1 more than the time of the item before it, or
+    /// than that of the role's own last step.
+    #[error("item {item} has time {}, below {}", got.0, least.0)]
+    BadTime {
+        /// The item's number, from 1 on.
+        item: u32,
+        /// Its time.
+        got: Time,
+        /// The least time that it may have.
+        least: Time,
+    },
+    /// An item before the last, the first in order and counted from 1, has no right tag for the role.
+    #[error("bad evidence in item {item}")]
+    BadEvidence {
+        /// The item's number, from 1 on.
+        item: u32,
+    },
+    /// An opening, the first in order, is of another type than its variable or doesn't open the variable's commitment.
+    #[error("bad opening of variable {}", var.0)]
+    BadOpening {
+        /// The opened variable.
+        var: Var,
+    },
+    /// Memory was wanted, and none was to be had.
+    #[error("out of memory")]
+    OutOfMemory,
+}
+
+// A refusal of the role that waits for the frame is one of the node.
+ghost use Rattle.std.specs.Prelude.{◌≡◌};
+ghost use Rattle.sg_node.specs.Faults.{of_role};
+
+pub(crate) fn refused(refusal: sg_role::Refusal) -> Refusal
+    ensures { result ≡ of_role refusal }
+{
+    match refusal {
+        sg_role::Refusal::BadFrameTag => Refusal::BadFrameTag,
+        sg_role::Refusal::NoSuchView => Refusal::NoSuchView,
+        sg_role::Refusal::BadTime { item, got, least } => Refusal::BadTime { item, got, least },
+        sg_role::Refusal::BadEvidence { item } => Refusal::BadEvidence { item },
+        sg_role::Refusal::BadOpening { var } => Refusal::BadOpening { var },
+        sg_role::Refusal::OutOfMemory => Refusal::OutOfMemory,
+    }
+}

@@ -1,0 +1,23 @@
+//! What holds of a node's whole life. Each function is a law: it does nothing, and its contract is the statement.
+ghost use Rattle.sg_node.specs.Laws.{NewNodesStand, PastsGoOn, SessionsAreAlone, SameForSessions, OthersAreLeft, PairsJoinOnce};
+
+/// A node that is made stands for the past without calls, and a past that was told is told with each call in range and the node's
+/// answer. So a node stands for its past after all its calls, by the contract of each.
+pub fn stands_for_its_past()
+    ensures begins { NewNodesStand }
+    ensures goes_on { PastsGoOn }
+{}
+
+/// Sessions do not disturb each other. Where no call was refused for want of room, a node answered the calls of a session as a node
+/// would that gets no others. Nodes that have alike what they have of a session, and as many joins and live sessions, answer its
+/// calls alike, and have it alike afterwards. What a node has of a session stays as it was in each call that is not of it.
+pub fn isolated()
+    ensures alone { SessionsAreAlone }
+    ensures same { SameForSessions }
+    ensures others { OthersAreLeft }
+{}
+
+/// A node joins no pair of session and role twice, nor one that it was made with, where these differ.
+pub fn joins_once()
+    ensures { PairsJoinOnce }
+{}

@@ -1,0 +1,110 @@
+//! How a node starts a session.
+ghost use Rattle.std.specs.Prelude.{◌≡◌, ◌≢◌, true, Err, Some, None, OnErr};
+ghost use Rattle.sg_model.specs.Shape.{role_at};
+ghost use Rattle.sg_protocol.specs.Acting.{answer, answer_start};
+ghost use Rattle.sg_protocol.specs.Graph.{shape};
+ghost use Rattle.sg_protocol.specs.Calls.{Start};
+ghost use Rattle.sg_protocol.specs.Node.{Node as DefinedNode, starter, program_for, is_cast, stranger};
+ghost use Rattle.sg_protocol.specs.NodeStates.{StandsForNode, StandsForPast, state_after};
+ghost use Rattle.sg_protocol.specs.Notes.{notes as noted_of, notes_of_start};
+ghost use Rattle.sg_protocol.specs.Past.{Past, node_of};
+ghost use Rattle.sg_protocol.specs.Ranges.{IsCast};
+ghost use Rattle.sg_protocol.specs.Texts.{real};
+ghost use Rattle.sg_role.specs.Sending.{with_notes};
+ghost use Rattle.sg_node.specs.Answers.{IsAnswer, start_answer, GoesOn};
+ghost use Rattle.sg_node.specs.Joining.{fault_for};
+
+use crate::cast::{is_cast, starter};
+use crate::join::{Obstacle, begin_session, first_obstacle, make_room, note_session};
+use crate::{Node, StartFault};
+use sg_base::Sid;
+use sg_crypt::{Cast, Notes, session_id};
+use sg_program::Program;
+use sg_role::Before;
+use sg_walk::Event;
+
+impl<'p> Node<'p> {
+    /// Starts a session of a cast, at the start node of its graph. After a refusal the node is as before.
+    pub fn start(&mut self, cast: Cast, notes: &mut Notes) -> Result<Event, StartFault>
+        ensures answer { (past : Past) → StandsForPast self.old past → IsAnswer (answer real (node_of past) (Start cast)) (start_answer result) }
+        ensures state { (past : Past) → StandsForPast self.old past → result ≢ Err StartFault.OutOfMemory → GoesOn self.old self.new (Start cast) past }
+        ensures notes { (past : Past) → StandsForPast self.old past → result ≢ Err StartFault.OutOfMemory
+            → notes.new ≡ with_notes notes.old (noted_of real (node_of past) (Start cast)) }
+        ensures back { OnErr result (self.new ≡ self.old) }
+        ensures memory { result ≡ Err StartFault.OutOfMemory → notes.new ≡ notes.old }
+    {
+        tell_cast(&cast);
+        let Some(found) = starter(self.programs, &cast.graph()) else {
+            return Err(StartFault::OutOfMemory);
+        };
+        let Some(program) = found else {
+            return Err(StartFault::UnknownGraph);
+        };
+        if !is_cast(&self.keys, program.graph(), &cast, program.role()) {
+            return Err(StartFault::BadCast);
+        }
+        if let Some(name) = self.keys.covers(&cast) {
+            return Err(StartFault::UnknownPeer { name });
+        }
+        self.begin(program, cast, notes)
+    }
+
+    // Starts a session in a program, where its cast is right and all keys are there.
+    fn begin(
+        &mut self,
+        program: &'p Program,
+        cast: Cast,
+        notes: &mut Notes,
+    ) -> Result<Event, StartFault>
+        requires starts { starter self.old.programs cast.graph ≡ Some program.now }
+        requires first { program_for self.old.programs cast.graph program.now.role ≡ Some program.now }
+        requires cast { is_cast self.old.keys program.now.graph cast program.now.role ≡ true }
+        requires covered { stranger self.old.keys cast ≡ None }
+        requires node { role_at (shape program.now.graph) 0 ≡ program.now.role }
+        requires graph { cast.graph ≡ program.now.digest }
+        ensures answer { (n : DefinedNode) → StandsForNode self.old n → IsAnswer (answer_start real n cast) (start_answer result) }
+        ensures state { (n : DefinedNode) → StandsForNode self.old n → result ≢ Err StartFault.OutOfMemory
+            → self.new ≡ state_after self.old (Start cast) (answer_start real n cast) }
+        ensures notes { (n : DefinedNode) → StandsForNode self.old n → result ≢ Err StartFault.OutOfMemory
+            → notes.new ≡ with_notes notes.old (notes_of_start cast (answer_start real n cast)) }
+        ensures back { OnErr result (self.new ≡ self.old) }
+        ensures memory { result ≡ Err StartFault.OutOfMemory → notes.new ≡ notes.old }
+    {
+        let sid = session_id(&cast);
+        let role = program.role();
+        if let Some(obstacle) = first_obstacle(&self.joins, &self.sessions, &sid, role) {
+            return match note_session(self.alloc, &cast, notes) {
+                Ok(()) => Err(fault_of(obstacle)),
+                Err(_) => Err(StartFault::OutOfMemory),
+            };
+        }
+        let Ok(before) = Before::start(self.alloc, program, cast) else {
+            return Err(StartFault::OutOfMemory);
+        };
+        if make_room(&mut self.joins, &mut self.sessions).is_err()
+            || note_session(self.alloc, &cast, notes).is_err()
+        {
+            return Err(StartFault::OutOfMemory);
+        }
+        begin_session(&mut self.joins, &mut self.sessions, before);
+        Ok(Event::Started { sid, role })
+    }
+}
+
+// The fault of a start whose pair can't be joined.
+fn fault_of(obstacle: Obstacle) -> StartFault
+    ensures { result ≡ fault_for obstacle }
+{
+    match obstacle {
+        Obstacle::Joined => StartFault::Joined,
+        Obstacle::Cache => StartFault::CacheFull,
+        Obstacle::Sessions => StartFault::SessionsFull,
+    }
+}
+
+// What the type says of a cast.
+fn tell_cast(cast: &Cast)
+    ensures { IsCast cast.now }
+{
+    let _ = cast.version();
+}
