@@ -7,17 +7,19 @@ pub data Command : Type 0 where
   Check : (file : List ℕ) → Command
   Compile : (file : List ℕ) → (role : List ℕ) → Command
   Replay : (file : List ℕ) → Command
+  Audit : (file : List ℕ) → Command
   Compose : (file : List ℕ) → Command
 
 -- the word begins with -
 abbrev pub is_option : List ℕ → Bool
 is_option word = slice_index word 0 == 45
 
--- check FILE, replay FILE, or compose FILE
+-- check FILE, replay FILE, audit FILE, or compose FILE
 abbrev pub on_file : (name file : List ℕ) → Option Command
 on_file name file =
     if bytes_eq name (codes "check") then Some (Check file)
     else if bytes_eq name (codes "replay") then Some (Replay file)
+    else if bytes_eq name (codes "audit") then Some (Audit file)
     else if bytes_eq name (codes "compose") then Some (Compose file)
     else None
 

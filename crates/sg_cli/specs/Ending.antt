@@ -10,6 +10,8 @@ use Rattle.sg_sched.specs.declared.first_path.fault.Kind.{Kind}
 use Rattle.sg_sched.specs.declared.first_path.fault.Kind.TheVariants.{Form, Unknown, Twice, NotHonest, TooManySteps}
 use Rattle.sg_sched.specs.declared.first_path.fault.LineFault.{LineFault}
 use Rattle.sg_sched.specs.declared.first_path.fault.LineFault.TheVariants.{Line, OutOfMemory}
+use Rattle.sg_audit.specs.declared.fault.LogFault.{LogFault}
+use Rattle.sg_audit.specs.declared.fault.LogFault.TheVariants.{Form as FormOfLogs, Unknown as UnknownInLogs, Twice as TwiceInLogs, Graph as GraphOfLogs, TooManyEvents, OutOfMemory as NoMemoryForLogs}
 use Rattle.sg_cli.specs.Refusal.{parse_text, compose_text, refusal_text}
 
 -- how the program ends
@@ -26,7 +28,7 @@ pub data Ending : Type 0 where
   GraphRefused : Graph → CompileFault → Ending
   -- the graph has no role of this name
   NoRole : (role : List ℕ) → Ending
-  -- this line of the schedule is the first that is wrong
+  -- this line of the schedule or of the logs is the first that is wrong
   WrongLine : (line : ℕ) → Kind → Ending
   -- the file could not be read
   FileFailed : (file : List ℕ) → Ending
@@ -65,7 +67,7 @@ kind_text TooManySteps = codes "too-many-steps"
 -- the line on standard error
 abbrev pub line_of : Ending → List ℕ
 line_of Written = []
-line_of NoCommand = codes "usage: sessiongraph check|compile|replay|compose\n"
+line_of NoCommand = codes "usage: sessiongraph check|compile|replay|audit|compose\n"
 line_of (NoGraph fault) = codes "graph refused: " ++ parse_text fault ++ 10 ∷ []
 line_of (NoExpansion fault) = codes "graph refused: " ++ compose_text fault ++ 10 ∷ []
 line_of (GraphRefused g fault) = codes "graph refused: " ++ refusal_text g fault ++ 10 ∷ []
@@ -89,3 +91,12 @@ abbrev pub ending_of_read : Result Schedule LineFault → Ending
 ending_of_read (Ok s) = Written
 ending_of_read (Err (Line n kind)) = ending_of_line n kind
 ending_of_read (Err OutOfMemory) = NoMemory
+
+-- what a fault of logs ends with
+abbrev pub ending_of_fault : LogFault → Ending
+ending_of_fault (FormOfLogs n) = WrongLine n Form
+ending_of_fault (UnknownInLogs n) = WrongLine n Unknown
+ending_of_fault (TwiceInLogs n) = WrongLine n Twice
+ending_of_fault (GraphOfLogs fault) = NoGraph fault
+ending_of_fault TooManyEvents = TooLarge (codes "events")
+ending_of_fault NoMemoryForLogs = NoMemory

@@ -14,6 +14,9 @@ use Rattle.sg_parse.specs.PartsGrammar.{SpellsParts}
 use Rattle.sg_parse.specs.PartsReading.{read as parts_read}
 use Rattle.sg_parse.specs.Reading.{read as parsed}
 use Rattle.sg_compose.specs.Expansion.{expansion}
+use Rattle.sg_audit.specs.Sessions.{Logs}
+use Rattle.sg_audit.specs.Spells.{SpellsLogs, IsFault}
+use Rattle.sg_audit.specs.declared.fault.LogFault.{LogFault}
 use Rattle.sg_program.specs.All.{IsAllFault}
 use Rattle.sg_program.specs.Compiled.{IsCompiled, IsRefused, IsWhole}
 use Rattle.sg_program.specs.Refused.{IsRefusal}
@@ -26,8 +29,9 @@ use Rattle.sg_world.specs.Account.{account}
 use Rattle.sg_world.specs.Forms.{NoneJoinsTwice}
 use Rattle.sg_world.specs.Report.{IsReport}
 use Rattle.sg_cli.specs.Accepted.{check_text}
-use Rattle.sg_cli.specs.Command.{Command, Check, Compile, Replay, Compose, command_of}
-use Rattle.sg_cli.specs.Ending.{Ending, Written, NoCommand, NoGraph, NoExpansion, GraphRefused, NoRole, WrongLine, FileFailed, WriteFailed, NoMemory, NoSuchFile, TooLarge, status_of, line_of, ending_of_read}
+use Rattle.sg_cli.specs.Audited.{AllAnswered}
+use Rattle.sg_cli.specs.Command.{Command, Check, Compile, Replay, Audit, Compose, command_of}
+use Rattle.sg_cli.specs.Ending.{Ending, Written, NoCommand, NoGraph, NoExpansion, GraphRefused, NoRole, WrongLine, FileFailed, WriteFailed, NoMemory, NoSuchFile, TooLarge, status_of, line_of, ending_of_read, ending_of_fault}
 
 -- files, each its name and its bytes, where they are told
 abbrev pub Told : Type 0
@@ -142,6 +146,30 @@ Replays bytes old new (TooLarge what) = (new.bytes ≡ old.bytes) × (ending_of_
 Replays bytes old new (GraphRefused g fault) = (new.bytes ≡ old.bytes) × ((s : Schedule) × SpellsSchedule bytes s × IsFirstRefused s.graphs g fault)
 Replays bytes old new ending = (text : List ℕ) × IsReplay bytes text × Writes old new text ending
 
+-- ---- audit
+
+-- the text answers for each session of the logs that the bytes spell, whose graph is accepted
+pub record IsAudit (bytes text : List ℕ) : Type 0 where
+  pub logs : Logs
+  pub programs : List Program
+  pub spelled : SpellsLogs bytes logs
+  pub compiled : AreCompiled real (logs.graph ∷ []) programs
+  pub few : All IsWhole programs
+  pub answers : AllAnswered logs.graph logs.sessions text
+
+-- the program ends as a fault asks that is the first of the bytes
+abbrev pub IsNoLogs : List ℕ → Ending → Type 0
+IsNoLogs bytes ending = (fault : LogFault) × IsFault bytes fault × (ending ≡ ending_of_fault fault)
+
+-- an audit of these bytes ends so: the answers are written; else nothing is written, and the bytes are refused by their first fault, or the graph of the logs at its first fault, or memory was wanted
+abbrev pub Audits : List ℕ → (old new : Output) → Ending → Type 0
+Audits bytes old new NoMemory = new.bytes ≡ old.bytes
+Audits bytes old new (NoGraph fault) = (new.bytes ≡ old.bytes) × IsNoLogs bytes (NoGraph fault)
+Audits bytes old new (WrongLine line kind) = (new.bytes ≡ old.bytes) × IsNoLogs bytes (WrongLine line kind)
+Audits bytes old new (TooLarge what) = (new.bytes ≡ old.bytes) × IsNoLogs bytes (TooLarge what)
+Audits bytes old new (GraphRefused g fault) = (new.bytes ≡ old.bytes) × ((l : Logs) × SpellsLogs bytes l × (l.graph ≡ g) × IsFirstRefused (g ∷ []) g fault)
+Audits bytes old new ending = (text : List ℕ) × IsAudit bytes text × Writes old new text ending
+
 -- ---- compose
 
 -- the text is the canonical text of the expansion of the parts that the bytes spell, which is accepted
@@ -185,6 +213,7 @@ Works None told faults faults' old new ending = (new.bytes ≡ old.bytes) × (en
 Works (Some (Check file)) told faults faults' old new ending = OnFile Checks 4194304 file told faults faults' old new ending
 Works (Some (Compile file role)) told faults faults' old new ending = OnFile (Compiles role) 4194304 file told faults faults' old new ending
 Works (Some (Replay file)) told faults faults' old new ending = OnFile Replays 16777216 file told faults faults' old new ending
+Works (Some (Audit file)) told faults faults' old new ending = OnFile Audits 16777216 file told faults faults' old new ending
 Works (Some (Compose file)) told faults faults' old new ending = OnFile Composes 4194304 file told faults faults' old new ending
 
 -- a line is written and its status given, or it is not taken whole, which the count of faults shows, and the status is that of a failed write

@@ -2,7 +2,7 @@
 use Rattle.sg_cli.specs.Command as Asked
 use Rattle.sg_cli.specs.Ending as Ended
 use Rattle.sg_cli.specs.declared.command.Command.{Command}
-use Rattle.sg_cli.specs.declared.command.Command.TheVariants.{Check, Compile, Replay, Compose}
+use Rattle.sg_cli.specs.declared.command.Command.TheVariants.{Check, Compile, Replay, Audit, Compose}
 use Rattle.sg_cli.specs.declared.ending.Ending.{Ending}
 use Rattle.sg_cli.specs.declared.ending.Ending.TheVariants.{Written, NoCommand, NoGraph, NoExpansion, GraphRefused, NoRole, WrongLine, FileFailed, WriteFailed, NoMemory, NoSuchFile, TooLarge}
 
@@ -11,6 +11,7 @@ abbrev pub command_held : Command → Asked.Command
 command_held (Check file) = Asked.Check file.now
 command_held (Compile file role) = Asked.Compile file.now role.now
 command_held (Replay file) = Asked.Replay file.now
+command_held (Audit file) = Asked.Audit file.now
 command_held (Compose file) = Asked.Compose file.now
 
 -- the ending that is held

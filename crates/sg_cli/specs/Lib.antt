@@ -1,6 +1,7 @@
 pub mod Command
 pub mod Refusal
 pub mod Accepted
+pub mod Audited
 pub mod Ending
 pub mod Ends
 pub mod Held

@@ -14,6 +14,8 @@ pub enum Command<'w> {
     Compile { file: &'w str, role: &'w str },
     /// Replays the schedule of a file.
     Replay { file: &'w str },
+    /// Audits the logs of a file.
+    Audit { file: &'w str },
     /// Expands the parts of a file.
     Compose { file: &'w str },
 }
@@ -39,6 +41,7 @@ fn on_file<'w>(name: &str, file: &'w str) -> Option<Command<'w>>
     match name {
         "check" => Some(Command::Check { file }),
         "replay" => Some(Command::Replay { file }),
+        "audit" => Some(Command::Audit { file }),
         "compose" => Some(Command::Compose { file }),
         _ => None,
     }

@@ -27,7 +27,7 @@ pub enum Ending<'w> {
     GraphRefused { graph: Graph, fault: CompileFault },
     /// The graph has no role of this name.
     NoRole { role: &'w str },
-    /// This line of the schedule, counted from 1, is the first that is wrong.
+    /// This line of the schedule or of the logs, counted from 1, is the first that is wrong.
     WrongLine { line: u32, kind: Kind },
     /// The file could not be read.
     FileFailed { file: &'w str },
@@ -79,7 +79,9 @@ impl<'w> Ending<'w> {
     {
         match self {
             Ending::Written | Ending::WriteFailed => Ok(()),
-            Ending::NoCommand => out.bytes(b"usage: sessiongraph check|compile|replay|compose\n"),
+            Ending::NoCommand => out.bytes(
+                b"usage: sessiongraph check|compile|replay|audit|compose\n",
+            ),
             Ending::NoGraph { fault } => put_no_graph(alloc, out, fault),
             Ending::NoExpansion { fault } => put_no_expansion(out, fault),
             Ending::GraphRefused { graph, fault } => put_refusal(out, graph, fault),

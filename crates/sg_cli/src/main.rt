@@ -1,6 +1,8 @@
-//! `sessiongraph`: checks, composes and compiles session graphs, and replays schedules over them.
+//! `sessiongraph`: checks, composes and compiles session graphs, audits logs of their sessions, and replays schedules over them.
 #![tactic(auto)]
 
+mod answer;
+mod audit;
 mod check;
 mod command;
 mod compile;
@@ -13,6 +15,8 @@ mod refusal;
 mod replay;
 #[cfg(test)]
 mod tests;
+mod value;
+mod walk;
 
 use program::top;
 use sg_base::{StdFiles, StdSink};

@@ -4,6 +4,7 @@ ghost use Rattle.sg_cli.specs.Ends.{Works, Says, Puts, Ends};
 ghost use Rattle.sg_cli.specs.Command.{command_of};
 ghost use Rattle.sg_cli.specs.Held.{ending_held};
 
+use crate::audit::audit;
 use crate::check::check;
 use crate::command::{Command, read_command};
 use crate::compile::compile;
@@ -17,9 +18,9 @@ use std::alloc::Global;
 ///
 /// `check GRAPH` reads a graph from a file, compiles it for each of its roles, and writes to `out` that it is accepted, and how many views
 /// each role has. `compile GRAPH ROLE` compiles it for one role and writes the program. `replay SCHEDULE` reads a schedule from a file,
-/// compiles its graphs, runs it, and writes the report of the run. `compose PARTS` reads parts from a file, expands them, checks the
-/// expansion, and writes its canonical text. Whatever comes, `err` gets one line that says why, but where
-/// the output was written.
+/// compiles its graphs, runs it, and writes the report of the run. `audit LOGS` reads logs from a file, makes the checks of `check` for
+/// their graph, and writes of each session whether its logs agree. `compose PARTS` reads parts from a file, expands them, checks the
+/// expansion, and writes its canonical text. Whatever comes, `err` gets one line that says why, but where the output was written.
 pub fn top<F: Files, O: Sink, E: Sink>(
     alloc: Global,
     words: &[String],
@@ -49,6 +50,7 @@ fn work<'w, F: Files, O: Sink>(
         Some(Command::Check { file }) => check(alloc, file, files, out),
         Some(Command::Compile { file, role }) => compile(alloc, file, role, files, out),
         Some(Command::Replay { file }) => replay(alloc, file, files, out),
+        Some(Command::Audit { file }) => audit(alloc, file, files, out),
         Some(Command::Compose { file }) => compose(alloc, file, files, out),
     }
 }

@@ -120,7 +120,7 @@ fn is_no_command(alloc: Global, words: &[&str]) -> Result<bool, OutOfMemory> {
         words,
         Vec::new(alloc),
         2,
-        "usage: sessiongraph check|compile|replay|compose\n",
+        "usage: sessiongraph check|compile|replay|audit|compose\n",
     )
 }
 
@@ -301,5 +301,75 @@ fn composes_parts(rt: HostRuntime) -> Result<(), OutOfMemory> {
     )?;
     let line = "graph refused: blinding at n0 for b and c: To / u_Bill\n";
     assert!(rt; refuses_text(alloc, &["compose", "f"], text.as_str(), 3, line)?);
+    Ok(())
+}
+
+const PAIR: &str =
+    "graph {\ngraph pair;role a;role b;node n0:a;node n1:b;node n2:a;edge Request:n0->n1;edge Reply:n1->n2;\n}\nsession s1\n";
+
+const TELL: &str =
+    "graph {\ngraph tell;role a;role b;var q:text by a;var n:int by a;node n0:a;node n1:b;edge Tell:n0->n1 writes q n reads q;\n}\nsession s1\n";
+
+// Whether the audit of a text of logs ends well with these lines.
+fn audits(alloc: Global, head: &str, logs: &str, lines: &str) -> Result<bool, OutOfMemory> {
+    let text = format!(in alloc; "{head}{logs}")?;
+    let bytes = Vec::from_slice(alloc, text.as_str().as_bytes())?;
+    let left = run(alloc, &["audit", "f"], bytes, 1_000)?;
+    let silent = left.err.bytes().is_empty();
+    Ok(left.status == 0 && silent && left.out.bytes() == lines.as_bytes())
+}
+
+#[test]
+fn audits_logs(rt: HostRuntime) -> Result<(), OutOfMemory> {
+    let alloc = rt.alloc();
+    for (logs, lines) in [
+        (
+            "log a\nsent Request 1\nreceived Reply 2\nlog b\nreceived Request 1\nsent Reply 2\n",
+            "audit s1 yes\nwalk s1: Request Reply\n",
+        ),
+        (
+            "log a\nsent Request 1\nreceived Reply 2\nlog b\nsent Reply 2\n",
+            "audit s1 no\n",
+        ),
+        (
+            "log a\nsent Request 1\nreceived Reply 2\nsent Request 2\nlog b\nreceived Request 1\nsent Reply 2\nsession s2\nlog b\nlog a\n",
+            "audit s1 clash at time 2\naudit s2 yes\nwalk s2:\n",
+        ),
+    ] {
+        assert!(rt; audits(alloc, PAIR, logs, lines)?);
+    }
+    let logs = "log b\nreceived Tell 1 q=\"x\\x20y\"\nwalk *Tell(q=\"x\\x20y\",n=?)\n";
+    let lines = "audit s1 yes\nwalk s1: *Tell(q=\"x\\x20y\",n=?)\n";
+    assert!(rt; audits(alloc, TELL, logs, lines)?);
+    let logs = "log a\nsent Tell 1 q=\"x\" n=-7\nlog b\n";
+    let lines = "audit s1 yes\nwalk s1: Tell(q=\"x\",n=-7)\n";
+    assert!(rt; audits(alloc, TELL, logs, lines)?);
+    Ok(())
+}
+
+#[test]
+fn refuses_what_are_no_logs(rt: HostRuntime) -> Result<(), OutOfMemory> {
+    let alloc = rt.alloc();
+    for (logs, status, line) in [
+        ("graph pair;\n", 4, "input refused: line 1 form\n"),
+        (
+            "graph {\n}\nsession s1\n",
+            3,
+            "graph refused: unexpected at 0\n",
+        ),
+        (
+            "graph {\ngraph g;role a;role b;node n0:a;node n1:b;node n2:a;edge Late:n1->n2;\n}\n",
+            3,
+            "graph refused: unreachable n1\n",
+        ),
+    ] {
+        assert!(rt; refuses_text(alloc, &["audit", "f"], logs, status, line)?);
+    }
+    let text = format!(in alloc; "{PAIR}log c\n")?;
+    let line = "input refused: line 5 unknown\n";
+    assert!(rt; refuses_text(alloc, &["audit", "f"], text.as_str(), 4, line)?);
+    let text = format!(in alloc; "{PAIR}log a\nlog a\n")?;
+    let line = "input refused: line 6 twice\n";
+    assert!(rt; refuses_text(alloc, &["audit", "f"], text.as_str(), 4, line)?);
     Ok(())
 }

@@ -1,0 +1,50 @@
+#!/usr/bin/env bash
+# Audits the logs of one session of a ring of 2, 4 and 16 roles, each of which has a log, with 1,000 to 100,000 events, and prints for each
+# the events per second and the peak memory of the run. Logs ten times as long that take ten times as long, and a little more for the
+# order by time, show that an event costs the same however many there are. Needs python3; no part of the gate.
+set -u
+here=$(cd "$(dirname "${BASH_SOURCE[0]}")/.." && pwd) || exit 1
+folder=$(mktemp -d) || exit 1
+trap 'rm -rf "$folder"' EXIT
+"$here/sessiongraph" audit "$here/examples/honest.logs" >/dev/null || exit 1
+python3 - "$here/sessiongraph" "$folder" <<'PYTHON'
+import os
+import subprocess
+import sys
+import time
+
+program, folder = sys.argv[1:]
+
+
+def lines(roles, events):
+    """a ring: each role sends to the next one, which receives at the same time."""
+    yield from ('graph {', 'graph ring;')
+    yield from (f'role r{r};' for r in range(roles))
+    yield 'var x: int by ' + ' '.join(f'r{r}' for r in range(roles)) + ';'
+    yield from (f'node n{r}: r{r};' for r in range(roles))
+    yield from (f'edge E{r}: n{r} -> n{(r + 1) % roles} writes x reads x;' for r in range(roles))
+    yield from ('}', 'session s1')
+    logs = [[] for _ in range(roles)]
+    for step in range(events // 2):
+        r = step % roles
+        logs[r].append(f'sent E{r} {step + 1} x={step}')
+        logs[(r + 1) % roles].append(f'received E{r} {step + 1} x={step}')
+    for r in range(roles):
+        yield f'log r{r}'
+        yield from logs[r]
+
+
+for roles in (2, 4, 16):
+    for events in (1_000, 10_000, 100_000):
+        path = os.path.join(folder, f'{roles}-{events}')
+        with open(path, 'w') as out:
+            out.write('\n'.join(lines(roles, events)) + '\n')
+        begun = time.monotonic()
+        child = subprocess.Popen([program, 'audit', path], stdout=subprocess.PIPE)
+        answer = child.stdout.read()
+        _, status, used = os.wait4(child.pid, 0)
+        took = time.monotonic() - begun
+        if status != 0 or not answer.startswith(b'audit s1 yes\n'):
+            sys.exit(f'{roles} roles, {events} events: status {status}, {answer[:40]!r}')
+        print(f'{roles:2} roles  {events:6} events  {took:6.2f} s  {events / took:9.0f} events/s  {used.ru_maxrss / 1024:7.1f} MiB')
+PYTHON

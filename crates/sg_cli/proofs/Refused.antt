@@ -1,0 +1,24 @@
+-- How an audit ends whose bytes are no logs.
+use Rattle.std.proofs.Common.{◌≡◌, List, ℕ, ◌⊎◌, inl, inr, refl, sym, subst}
+use Rattle.sg_audit.specs.Spells.{IsFault}
+use Rattle.sg_audit.specs.declared.fault.LogFault.{LogFault}
+use Rattle.sg_audit.specs.declared.fault.LogFault.TheVariants.{Form, Unknown, Twice, Graph, TooManyEvents, OutOfMemory}
+use Rattle.sg_cli.specs.Ending.{Ending, ending_of_fault}
+use Rattle.sg_cli.specs.Ends.{Audits, Output}
+
+-- the fault that is told is the first one, where memory was to be had
+first : (bytes : List ℕ) (e : LogFault) → (e ≡ OutOfMemory → ⊥) → (e ≡ OutOfMemory) ⊎ IsFault bytes e → IsFault bytes e
+first bytes e other (inl memory) = absurd (other memory)
+first bytes e other (inr fault) = fault
+
+ends : (bytes : List ℕ) (out : Output) (e : LogFault) → (e ≡ OutOfMemory) ⊎ IsFault bytes e → Audits bytes out out (ending_of_fault e)
+ends bytes out (Form n) h = (refl, (Form n, first bytes (Form n) (λ m. cc) h, refl))
+ends bytes out (Unknown n) h = (refl, (Unknown n, first bytes (Unknown n) (λ m. cc) h, refl))
+ends bytes out (Twice n) h = (refl, (Twice n, first bytes (Twice n) (λ m. cc) h, refl))
+ends bytes out (Graph fault) h = (refl, (Graph fault, first bytes (Graph fault) (λ m. cc) h, refl))
+ends bytes out TooManyEvents h = (refl, (TooManyEvents, first bytes TooManyEvents (λ m. cc) h, refl))
+ends bytes out OutOfMemory h = refl
+
+-- an audit that is refused with a fault ends as the fault asks
+pub refused : (bytes : List ℕ) (out : Output) (e : LogFault) (ending : Ending) → ending ≡ ending_of_fault e → (e ≡ OutOfMemory) ⊎ IsFault bytes e → Audits bytes out out ending
+refused bytes out e ending same h = subst (Audits bytes out out) (sym same) (ends bytes out e h)

@@ -1,0 +1,83 @@
+//! What audits say, in words.
+ghost use Rattle.std.specs.Prelude.{◌≡◌, ◌++◌, ℕ, List, All, IfOk, OnOk, codes, map};
+ghost use Rattle.sg_audit.specs.Agree.{AreLogs};
+ghost use Rattle.sg_audit.specs.Answers.{IsAnswer};
+ghost use Rattle.sg_audit.specs.Held.{logs_of, told_of};
+ghost use Rattle.sg_audit.specs.Taken.{session_of};
+ghost use Rattle.sg_cli.specs.Audited.{AllAnswered, Answered, answer_text, clash_text, said_text};
+
+use crate::walk::put_walk_line;
+use sg_audit::{Audit, SessionLog, audit};
+use sg_base::{ByteOut, Name, OutOfMemory, Time};
+use sg_graph::Graph;
+use std::alloc::Global;
+
+/// Audits sessions, and gives the lines of the answers.
+pub fn answers_text(
+    alloc: Global,
+    graph: &Graph,
+    sessions: &[SessionLog],
+) -> Result<Vec<u8>, OutOfMemory>
+    requires { All (λ s. AreLogs graph.now (logs_of s) (told_of s)) sessions.now }
+    ensures { IfOk result (λ text. AllAnswered graph.now (map session_of sessions.now) text.items) }
+{
+    let mut text = ByteOut::new(alloc);
+    'sessions: for session in sessions {
+        put_session(alloc, &mut text, graph, session)?;
+    }
+    Ok(text.done())
+}
+
+// Audits a session and writes the answer.
+fn put_session(
+    alloc: Global,
+    out: &mut ByteOut,
+    graph: &Graph,
+    session: &SessionLog,
+) -> Result<(), OutOfMemory>
+    requires { AreLogs graph.now (logs_of session.now) (told_of session.now) }
+    ensures { OnOk result ((text : List ℕ) × Answered graph.now (session_of session.now) text × (out.new ≡ out.old ++ text)) }
+{
+    let answer = audit(alloc, graph, session)?;
+    put_answer(alloc, out, graph, session, &answer)
+}
+
+// Writes the right answer of a session.
+#[tactic(auto, using(crate::proofs::Answered::labels_of_yes))]
+fn put_answer(
+    alloc: Global,
+    out: &mut ByteOut,
+    graph: &Graph,
+    session: &SessionLog,
+    answer: &Audit,
+) -> Result<(), OutOfMemory>
+    requires { IsAnswer graph.now (logs_of session.now) (told_of session.now) answer.now }
+    ensures { OnOk result (out.new ≡ out.old ++ answer_text graph.now (session_of session.now) answer.now) }
+{
+    match answer {
+        Audit::Yes(walk) => {
+            put_said(out, &session.name, b" yes\n")?;
+            put_walk_line(alloc, out, graph, session, walk)
+        }
+        Audit::Clash { time } => put_clash(alloc, out, &session.name, *time),
+        Audit::No => put_said(out, &session.name, b" no\n"),
+    }
+}
+
+// Writes what is said of the session of this name.
+fn put_said(out: &mut ByteOut, name: &Name, said: &[u8]) -> Result<(), OutOfMemory>
+    ensures { OnOk result (out.new ≡ out.old ++ said_text name.now said.now) }
+{
+    out.bytes(b"audit ")?;
+    out.bytes(name.as_bytes())?;
+    out.bytes(said)
+}
+
+// Writes at which time the logs clash.
+fn put_clash(alloc: Global, out: &mut ByteOut, name: &Name, time: Time) -> Result<(), OutOfMemory>
+    ensures { OnOk result (out.new ≡ out.old ++ clash_text name.now time) }
+{
+    put_said(out, name, b" clash at time ")?;
+    out.decimal(alloc, time.0 as u64)?;
+    out.bytes(b"\n")
+}
