@@ -1,4 +1,4 @@
-//! What a role that joins a session of `shop` accepts, and what it refuses.
+//! What a role that joins a session of `shop` accepts, and what it sends.
 use super::*;
 use sg_base::{Addr, Label, Name, NodeId, Role, Time, Value, Var};
 use sg_cache::{Cache, Ticket};
@@ -65,29 +65,23 @@ const ASK: [u8; 247] = [
     0x42, 0xe2, 0x7d, 0xda, 0xf8, 0x07, 0x70,
 ];
 
-// The tag of the frame whose first item has the label of Retry.
-const RETRIED: [u8; 32] = [
-    0x83, 0x4e, 0x1d, 0x19, 0x27, 0x60, 0x5d, 0x60, 0xc3, 0xff, 0x71, 0x1e, 0xc3, 0xc6, 0x0f, 0x8b,
-    0x35, 0xd5, 0xf4, 0x7d, 0x28, 0x86, 0x4c, 0xdb, 0xae, 0x10, 0x66, 0x07, 0xf8, 0x76, 0x47, 0xeb,
+// carl offers bob the price 40: the item Offer and the opening of price. Its confounder is 6 and then 1, each in eight bytes.
+const OFFER: [u8; 179] = [
+    0x53, 0x47, 0x46, 0x31, 0x01, 0x24, 0xd2, 0x79, 0xcd, 0xf3, 0x90, 0x0d, 0x29, 0xff, 0x79, 0x56,
+    0xb2, 0x03, 0x3c, 0xe9, 0xce, 0xad, 0x9a, 0xff, 0x21, 0x57, 0xa8, 0x8b, 0xa7, 0x65, 0x18, 0x66,
+    0x94, 0x6f, 0xcc, 0x81, 0xe4, 0x02, 0x01, 0x00, 0x01, 0x02, 0x00, 0x02, 0x00, 0x00, 0x00, 0x03,
+    0x01, 0x01, 0xae, 0x52, 0x05, 0x7c, 0x96, 0xa5, 0x35, 0xbc, 0xee, 0x16, 0x5a, 0x15, 0xfa, 0xa5,
+    0x78, 0xe5, 0x74, 0x9b, 0x2e, 0xac, 0xb4, 0xd4, 0x0d, 0x5c, 0xca, 0xf1, 0x29, 0xf2, 0x4b, 0xe9,
+    0xbb, 0xf4, 0x01, 0x00, 0xc1, 0x7f, 0x33, 0xd7, 0x31, 0x7c, 0xfd, 0xdb, 0xf9, 0x66, 0xfb, 0x4f,
+    0xab, 0x3b, 0x5e, 0xe0, 0x92, 0x84, 0x15, 0xdf, 0x5e, 0xf6, 0x91, 0xcc, 0xa5, 0x56, 0x3d, 0x74,
+    0xc6, 0x9e, 0xd1, 0x9d, 0x01, 0x01, 0x00, 0x00, 0x00, 0x00, 0x00, 0x00, 0x00, 0x06, 0x00, 0x00,
+    0x00, 0x00, 0x00, 0x00, 0x00, 0x01, 0x00, 0x00, 0x00, 0x00, 0x08, 0x00, 0x00, 0x00, 0x00, 0x00,
+    0x00, 0x00, 0x28, 0xbd, 0xc1, 0xd5, 0x52, 0x7c, 0x53, 0xb4, 0x79, 0x3d, 0xcd, 0x27, 0x45, 0x64,
+    0xbd, 0x9f, 0xa7, 0x4e, 0x94, 0x8c, 0xe6, 0x63, 0xf5, 0xe0, 0x40, 0x6c, 0xc8, 0x4a, 0xa5, 0x78,
+    0x40, 0x3e, 0x5b,
 ];
 
-// The tag of the frame whose second item has time 1.
-const LATE: [u8; 32] = [
-    0xdb, 0x18, 0x79, 0x3f, 0xc2, 0xa9, 0x9b, 0xfc, 0xcb, 0x45, 0x1d, 0x10, 0x3a, 0x1d, 0x55, 0x91,
-    0xb2, 0x27, 0xf2, 0xdf, 0x7f, 0xe8, 0x6d, 0x7b, 0x7f, 0xc6, 0x7c, 0x86, 0xe7, 0x57, 0xa6, 0x1d,
-];
-
-// The tag of the frame whose first item has another last byte in its tag.
-const FORGED: [u8; 32] = [
-    0x4e, 0xf1, 0x02, 0x5d, 0x2d, 0xca, 0xc6, 0x2f, 0x90, 0x26, 0xf1, 0x90, 0xc2, 0x0c, 0xfd, 0xa2,
-    0xa8, 0xd7, 0xdf, 0x0b, 0x0c, 0x37, 0x4e, 0x12, 0x26, 0xb0, 0x93, 0xa3, 0x07, 0x4f, 0x43, 0x07,
-];
-
-// The tag of the frame whose opening has the text `teb`.
-const OPENED: [u8; 32] = [
-    0x91, 0x05, 0x34, 0x96, 0xf7, 0xec, 0xc4, 0x7a, 0xf2, 0xbb, 0x86, 0x22, 0x2b, 0x60, 0xbf, 0x4d,
-    0x79, 0x93, 0xbf, 0x4b, 0xc8, 0x68, 0x10, 0xf6, 0x4d, 0xe0, 0x3c, 0x4c, 0x23, 0x08, 0xa8, 0xf9,
-];
+const CONFOUNDER: [u8; 16] = [0, 0, 0, 0, 0, 0, 0, 6, 0, 0, 0, 0, 0, 0, 0, 1];
 
 fn name(rt: &impl Abort, text: &[u8]) -> Name {
     Name::new(text).expect(rt, "a name")
@@ -131,55 +125,6 @@ fn verdict<'p>(
     Ok(examine(alloc, before, &keys, &frame, bytes, notes))
 }
 
-// The frame with another byte at a place, and this tag.
-fn changed(place: usize, byte: u8, tag: [u8; 32]) -> [u8; 247] {
-    let mut bytes = ASK;
-    if place < bytes.len() {
-        bytes[place] = byte;
-    }
-    bytes[215..].copy_from_slice(&tag);
-    bytes
-}
-
-// Each refusal, and how many texts are found right and hashed before it.
-#[test]
-fn refuses_by_row(rt: HostRuntime) -> Result<(), Fail> {
-    let alloc = rt.alloc();
-    let program = warehouse(alloc)?;
-    let before = before(alloc, &rt, &program)?;
-    let time = Refusal::BadTime {
-        item: 2,
-        got: Time(1),
-        least: Time(2),
-    };
-    for (bytes, refusal, found, hashed) in [
-        (changed(0, 0x53, [0; 32]), Refusal::BadFrameTag, 0, 0),
-        (changed(107, 6, RETRIED), Refusal::NoSuchView, 1, 0),
-        (changed(186, 1, LATE), time, 1, 0),
-        (
-            changed(179, 0x53, FORGED),
-            Refusal::BadEvidence { item: 1 },
-            1,
-            0,
-        ),
-        (
-            changed(214, 0x62, OPENED),
-            Refusal::BadOpening { var: Var(0) },
-            2,
-            1,
-        ),
-    ] {
-        let mut notes = Notes::new(alloc);
-        match verdict(alloc, &rt, &before, &bytes, &mut notes)? {
-            Ok(_) => assert!(rt; false, "{refusal}"),
-            Err(fault) => assert!(rt; fault == refusal, "{refusal}"),
-        }
-        assert_eq!(rt; notes.found().len(), found);
-        assert_eq!(rt; notes.hashed().len(), hashed);
-    }
-    Ok(())
-}
-
 fn ticket(alloc: Global, before: &Before) -> Result<Ticket, Fail> {
     let mut cache = Cache::new(alloc);
     Ok(cache.claim(before.sid(), before.role())?)
@@ -216,39 +161,98 @@ fn is_tea(values: &[(Var, Value)]) -> bool {
     }
 }
 
-// The state after the frame, or `None` where it isn't at its turn.
-fn taken<'p>(ticket: Ticket, before: Before<'p>, accepted: Accepted<'p>) -> Option<Turn<'p>> {
-    match Await::join(ticket, before) {
-        Ok(waiting) => match waiting.accept(accepted) {
-            Ok((_, Taken::Turn(turn))) => Some(turn),
-            _ => None,
-        },
-        Err((ticket, _)) => {
-            ticket.give_up();
+// The role that waits, or `None` where the ticket doesn't fit.
+fn waiting<'p>(joined: Result<Await<'p>, (Ticket, Before<'p>)>) -> Option<Await<'p>> {
+    match joined {
+        Ok(waiting) => Some(waiting),
+        Err(refused) => {
+            refused.0.give_up();
             None
         }
     }
 }
 
-// By the frame carl joins, and then it is his turn: he offers or refuses.
+// The state after a frame, or `None` where the session has ended.
+fn turn_of<'p>(taken: Taken<'p>) -> Option<Turn<'p>> {
+    match taken {
+        Taken::Turn(turn) => Some(turn),
+        Taken::Done(_) => None,
+    }
+}
+
+// The frame that was made, taken apart.
+fn made(sent: Sent) -> (Name, Vec<u8>) {
+    match sent {
+        Sent::Waiting(_, _, sealed) => sealed.release(),
+        Sent::Ended(_, _, sealed) => sealed.release(),
+    }
+}
+
+// What carl accepts when he looks at the frame.
+fn asked<'p>(
+    alloc: Global,
+    rt: &impl Abort,
+    before: &Before<'p>,
+    notes: &mut Notes,
+) -> Result<Accepted<'p>, Fail> {
+    let verdict = verdict(alloc, rt, before, &ASK, notes)?;
+    let accepted = verdict.expect(rt, "accepted");
+    assert!(rt; accepted.view() == ViewId(0));
+    assert!(rt; is_asked(accepted.event()));
+    Ok(accepted)
+}
+
+// The wait of carl who joins.
+fn joined<'p>(rt: &impl Abort, ticket: Ticket, before: Before<'p>) -> Await<'p> {
+    waiting(Await::join(ticket, before)).expect(rt, "a ticket that fits")
+}
+
+// What becomes of carl by a frame that he accepts.
+fn taken<'p>(rt: &impl Abort, waiting: Await<'p>, accepted: Accepted<'p>) -> Taken<'p> {
+    let received = waiting.accept(accepted).ok();
+    received.expect(rt, "a frame that it looked at").1
+}
+
+// At its turn carl offers or refuses.
+fn chooses(turn: &Turn) -> bool {
+    turn.node() == NodeId(2)
+        && turn.time() == Time(2)
+        && turn.choices(Label(2))
+        && turn.choices(Label(3))
+        && !turn.choices(Label(4))
+}
+
+// The frame by which carl offers the price.
+fn offered<'p>(
+    alloc: Global,
+    rt: &impl Abort,
+    keys: &Keyring,
+    turn: Turn<'p>,
+    notes: &mut Notes,
+) -> Sent<'p> {
+    let price = [(Var(1), Value::Int(40))];
+    turn.send(alloc, keys, Label(2), &price, &[CONFOUNDER], notes)
+        .ok()
+        .expect(rt, "sent")
+}
+
+// By the frame carl joins, and then it is his turn: he offers the price.
 #[test]
-fn accepts_the_frame_that_asks(rt: HostRuntime) -> Result<(), Fail> {
+fn offers_what_is_asked(rt: HostRuntime) -> Result<(), Fail> {
     let alloc = rt.alloc();
     let program = warehouse(alloc)?;
     let before = before(alloc, &rt, &program)?;
     let mut notes = Notes::new(alloc);
-    let verdict = verdict(alloc, &rt, &before, &ASK, &mut notes)?;
-    let accepted = verdict.expect(&rt, "accepted");
+    let accepted = asked(alloc, &rt, &before, &mut notes)?;
     assert_eq!(rt; notes.found().len(), 2);
     assert_eq!(rt; notes.hashed().len(), 1);
-    assert!(rt; accepted.view() == ViewId(0));
-    assert!(rt; is_asked(accepted.event()));
+    let keys = keyring(alloc, &rt)?;
     let ticket = ticket(alloc, &before)?;
-    let turn = taken(ticket, before, accepted).expect(&rt, "at its turn");
-    assert!(rt; turn.node() == NodeId(2));
-    assert!(rt; turn.time() == Time(2));
-    for number in 0..8 {
-        assert_eq!(rt; turn.choices(Label(number)), number == 2 || number == 3);
-    }
+    let taken = taken(&rt, joined(&rt, ticket, before), accepted);
+    let turn = turn_of(taken).expect(&rt, "at its turn");
+    assert!(rt; chooses(&turn));
+    let (to, bytes) = made(offered(alloc, &rt, &keys, turn, &mut notes));
+    assert!(rt; to == name(&rt, b"bob"));
+    assert!(rt; bytes.as_slice() == OFFER.as_slice());
     Ok(())
 }
