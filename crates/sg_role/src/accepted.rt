@@ -1,5 +1,6 @@
 //! A frame that was accepted.
 ghost use Rattle.std.specs.Prelude.{◌≡◌};
+ghost use Rattle.sg_walk.specs.Views.{event_of};
 
 use crate::kept::Kept;
 use sg_vis::ViewId;
@@ -38,7 +39,9 @@ impl<'p> Accepted<'p> {
     }
 
     /// What was received. It takes no memory.
-    pub fn event(&self) -> &Event {
+    pub fn event(&self) -> &Event
+        ensures { event_of result.now ≡ self.now.event }
+    {
         &self.event
     }
 }
