@@ -1,0 +1,5 @@
+pub mod ListLaws
+pub mod NameLaws
+pub mod ScriptLaws
+pub mod TableLaws
+pub mod WholeLaws

@@ -1,0 +1,76 @@
+-- Names: they are ASCII, and their places in a graph.
+use Rattle.std.proofs.Common.{◌≡◌, ℕ, zero, suc, ◌<◌, true, ◌&&◌, List, [], ◌∷◌, length, get_or, bytes_eq, position, refl, ◌∙◌, arith, nat_le}
+use Rattle.std.specs.Prelude.{Option, Some, None, IsSome, IsTrue, IfSome, ◌↔◌}
+use Rattle.std.specs.List.{list_all}
+use Rattle.std.specs.Str.{IsAscii, IsUtf8}
+use Rattle.std.proofs.lemmas.Bool.Decides.{nat_tests}
+use Rattle.std.proofs.lemmas.List.{get_or-map, length-map}
+use Rattle.std.proofs.lemmas.Str.{IsUtf8-from_ascii}
+use Rattle.sg_graph.proofs.Growth.{both}
+use Rattle.sg_graph.specs.Parts.{variable_names, node_names, edge_names, edge_name}
+use Rattle.sg_model.specs.Lists.{has_text}
+use Rattle.sg_model.specs.Names.{Name, is_letter, is_name_byte, is_name}
+use Rattle.sg_parse.specs.Reading.{place_of}
+use Rattle.sg_parse.proofs.Names.{place_there, names_differ, variable_place, node_place}
+use Rattle.sg_parse.proofs.Places.{first_place, place_is_there}
+use Rattle.sg_protocol.specs.Graph.{Graph, Edge, IsGraph, node_name, variable_name}
+
+-- ---- ASCII
+
+letter_low : (c : ℕ) → is_letter c ≡ true → c < 128
+letter_low c h = grind (arith, nat_tests)
+
+byte_low : (c : ℕ) → is_name_byte c ≡ true → c < 128
+byte_low c h = grind (arith, nat_tests)
+
+bytes_low : (cs : List ℕ) → list_all is_name_byte cs ≡ true → (i : ℕ) → get_or cs i 0 < 128
+bytes_low [] h i = omega arith
+bytes_low (c ∷ cs) h zero = byte_low c (both (is_name_byte c) (list_all is_name_byte cs) h).0
+bytes_low (c ∷ cs) h (suc i) = bytes_low cs (both (is_name_byte c) (list_all is_name_byte cs) h).1 i
+
+name_low : (n : Name) → is_name n ≡ true → IsAscii n
+name_low [] h i = omega arith
+name_low (c ∷ cs) h zero = letter_low c (both (is_letter c) (list_all is_name_byte cs) (both (is_letter c && list_all is_name_byte cs) (nat_le (length cs) 31) h).0).0
+name_low (c ∷ cs) h (suc i) =
+    bytes_low cs (both (is_letter c) (list_all is_name_byte cs) (both (is_letter c && list_all is_name_byte cs) (nat_le (length cs) 31) h).0).1 i
+
+-- a name is UTF-8
+pub name_text : (n : Name) → is_name n ≡ true → IsUtf8 n
+name_text n h = IsUtf8-from_ascii n (name_low n h)
+
+-- ---- places
+
+number_is : (names : List Name) (n : Name) (o : Option ℕ) → (IsSome o ↔ IsTrue (has_text n names)) → IfSome o (λ r. place_of n names ≡ r) → o ≡ position (bytes_eq n) names
+number_is names n o f p = by o (position (bytes_eq n) names) f p (place_is_there n names (position (bytes_eq n) names) refl) (first_place n names (position (bytes_eq n) names) refl)
+  where
+    by : (o q : Option ℕ) → (IsSome o ↔ IsTrue (has_text n names)) → IfSome o (λ r. place_of n names ≡ r)
+        → (IsSome q → IsTrue (has_text n names)) × (IsTrue (has_text n names) → IsSome q) → IfSome q (λ r. place_of n names ≡ r) → o ≡ q
+    by None None f p g q = refl
+    by None (Some k) f p g q = let s = f.1 (g.0 refl) in absurd (cc)
+    by (Some r) None f p g q = let s = g.1 (f.0 refl) in absurd (cc)
+    by (Some r) (Some k) f p g q = cc
+
+-- the variable that is found
+pub variable_is : (g : Graph) (n : Name) (o : Option ℕ) → IsGraph g → (IsSome o ↔ IsTrue (has_text n (variable_names g))) → IfSome o (λ x. (x < length g.variables) × (variable_name g x ≡ n)) → o ≡ position (bytes_eq n) (variable_names g)
+variable_is g n None is f p = number_is (variable_names g) n None f tt
+variable_is g n (Some x) is f p = number_is (variable_names g) n (Some x) f (variable_place g n x is p.0 p.1)
+
+-- the node that is found
+pub node_is : (g : Graph) (n : Name) (o : Option ℕ) → IsGraph g → (IsSome o ↔ IsTrue (has_text n (node_names g))) → IfSome o (λ m. (m < length g.nodes) × (node_name g m ≡ n)) → o ≡ position (bytes_eq n) (node_names g)
+node_is g n None is f p = number_is (node_names g) n None f tt
+node_is g n (Some m) is f p = number_is (node_names g) n (Some m) f (node_place g n m is p.0 p.1)
+
+label_place : (g : Graph) (n : Name) (e : ℕ) → IsGraph g → e < length g.edges → edge_name g e ≡ n → place_of n (edge_names g) ≡ e
+label_place g n e is h q =
+    let within : e < length (edge_names g) = rw length-map h in
+    let named : get_or (edge_names g) e [] ≡ n = get_or-map (λ (d : Edge). d.name) g.edges e _ [] h ∙ q in
+    rw (← named) (place_there (edge_names g) e (names_differ (edge_names g) is.edge_names) within)
+
+-- the label that is found
+pub label_is : (g : Graph) (n : Name) (o : Option ℕ) → IsGraph g → (IsSome o ↔ IsTrue (has_text n (edge_names g))) → IfSome o (λ e. (e < length g.edges) × (edge_name g e ≡ n)) → o ≡ position (bytes_eq n) (edge_names g)
+label_is g n None is f p = number_is (edge_names g) n None f tt
+label_is g n (Some e) is f p = number_is (edge_names g) n (Some e) f (label_place g n e is p.0 p.1)
+
+-- the name of a variable among all
+pub variable_named : (g : Graph) (x : ℕ) → x < length g.variables → get_or (variable_names g) x [] ≡ variable_name g x
+variable_named g x h = get_or-map (λ v. v.name) g.variables x _ [] h

@@ -1,0 +1,79 @@
+//! The choices of a script.
+ghost use Rattle.std.specs.Prelude.{◌≡◌, IfOk};
+ghost use Rattle.toml.specs.View.{view, table_view};
+ghost use Rattle.sg_script.specs.Format.{choice_at, choice_in, choice_of};
+
+use crate::ScriptChoice;
+use crate::graph::{graph_named, label_at, node_at};
+use crate::table::{has_choice_keys_alone, name_at, number_or};
+use crate::value::values_at;
+use sg_base::{Name, OutOfMemory};
+use sg_graph::Graph;
+use sg_program::Programs;
+use std::alloc::Global;
+use toml::{Table, Value};
+
+/// The choice of an entry.
+#[tactic(auto, unfolding(crate::specs::Format::choice_of))]
+pub(crate) fn read_choice(
+    alloc: Global,
+    programs: &Programs,
+    value: &Value,
+) -> Result<Option<ScriptChoice>, OutOfMemory>
+    ensures { IfOk result (λ o. o ≡ choice_of programs.now (view value.now)) }
+{
+    match value.as_table() {
+        Some(table) => choice_in(alloc, programs, table),
+        None => Ok(None),
+    }
+}
+
+// The choice of a table.
+fn choice_in(
+    alloc: Global,
+    programs: &Programs,
+    table: &Table,
+) -> Result<Option<ScriptChoice>, OutOfMemory>
+    ensures { IfOk result (λ o. o ≡ choice_in programs.now (table_view table.now)) }
+{
+    if !has_choice_keys_alone(table) {
+        return Ok(None);
+    }
+    let Some(name) = name_at(table, "graph") else {
+        return Ok(None);
+    };
+    match graph_named(programs, &name) {
+        Some(graph) => choice_at(alloc, table, name, graph),
+        None => Ok(None),
+    }
+}
+
+// The choice of a table in this graph.
+fn choice_at(
+    alloc: Global,
+    table: &Table,
+    name: Name,
+    graph: &Graph,
+) -> Result<Option<ScriptChoice>, OutOfMemory>
+    ensures { IfOk result (λ o. o ≡ choice_at (table_view table.now) name graph.now) }
+{
+    let Some(node) = node_at(graph, table) else {
+        return Ok(None);
+    };
+    let Some(label) = label_at(graph, table) else {
+        return Ok(None);
+    };
+    let Some(values) = values_at(alloc, graph, table)? else {
+        return Ok(None);
+    };
+    let Some(times) = number_or(table, "times", 1, 1, 1_000_000) else {
+        return Ok(None);
+    };
+    Ok(Some(ScriptChoice {
+        graph: name,
+        node,
+        label,
+        values,
+        times,
+    }))
+}

@@ -1,0 +1,179 @@
+//! What the tables of a script hold.
+ghost use Rattle.std.specs.Prelude.{◌≡◌, codes, is_some, map, string_bytes, option_map, option_and_then};
+ghost use Rattle.std.specs.List.{list_all};
+ghost use Rattle.std.specs.BTreeMap.{keys};
+ghost use Rattle.toml.specs.Data.{as_str, as_integer, as_array, as_table, get_member};
+ghost use Rattle.toml.specs.View.{view, items_view, table_view};
+ghost use Rattle.sg_keys.specs.KeyFile.{has_keys_alone, text_at, at, tables_in, tables_of};
+ghost use Rattle.sg_base.specs.Words.{name};
+ghost use Rattle.sg_script.specs.Format.{between, number_or, name_of, is_start_key, is_choice_key, is_script_key};
+
+use sg_base::Name;
+use toml::{Table, Value};
+
+// What stands at a key.
+pub(crate) fn value_at<'a>(table: &'a Table, key: &str) -> Option<&'a Value>
+    ensures { option_map (λ v. view v.now) result ≡ get_member key.now (table_view table.now) }
+{
+    table.get(key)
+}
+
+/// The text at a key.
+pub(crate) fn text_at<'a>(table: &'a Table, key: &str) -> Option<&'a str>
+    ensures { option_map (λ s. s.now) result ≡ text_at key.now (table_view table.now) }
+{
+    match table.get(key) {
+        Some(value) => value.as_str(),
+        None => None,
+    }
+}
+
+/// The name that a text is.
+#[tactic(auto, unfolding(sg_base::specs::Words::name))]
+pub(crate) fn read_name(text: &str) -> Option<Name>
+    ensures { result ≡ name text.now }
+{
+    Name::new(text.as_bytes())
+}
+
+/// The name that the text at a key is.
+pub(crate) fn name_at(table: &Table, key: &str) -> Option<Name>
+    ensures { result ≡ at name key.now (table_view table.now) }
+{
+    read_name(text_at(table, key)?)
+}
+
+/// The name that a value is.
+pub(crate) fn name_of(value: &Value) -> Option<Name>
+    ensures { result ≡ name_of (view value.now) }
+{
+    read_name(value.as_str()?)
+}
+
+// The number, where it is neither too small nor too large.
+fn between(least: u32, most: u32, number: i64) -> Option<u32>
+    ensures { result ≡ between least most number }
+{
+    if number >= 0 && least as i64 <= number && number <= most as i64 {
+        Some(number as u32)
+    } else {
+        None
+    }
+}
+
+// The number that a value is, where it is neither too small nor too large.
+fn number_in(least: u32, most: u32, value: &Value) -> Option<u32>
+    ensures { result ≡ option_and_then (between least most) (as_integer (view value.now)) }
+{
+    between(least, most, value.as_integer()?)
+}
+
+/// The number at a key, or `missing` where there is none.
+pub(crate) fn number_or(
+    table: &Table,
+    key: &str,
+    missing: u32,
+    least: u32,
+    most: u32,
+) -> Option<u32>
+    ensures { result ≡ number_or missing least most (get_member key.now (table_view table.now)) }
+{
+    match value_at(table, key) {
+        Some(value) => number_in(least, most, value),
+        None => Some(missing),
+    }
+}
+
+fn is_start_key(key: &str) -> bool
+    ensures { result ≡ is_start_key key.now }
+{
+    key == "graph" || key == "cast" || key == "version"
+}
+
+fn is_choice_key(key: &str) -> bool
+    ensures { result ≡ is_choice_key key.now }
+{
+    key == "graph" || key == "node" || key == "label" || key == "values" || key == "times"
+}
+
+fn is_script_key(key: &str) -> bool
+    ensures { result ≡ is_script_key key.now }
+{
+    key == "start" || key == "choice"
+}
+
+/// Each key of the table is one of a start.
+pub(crate) fn has_start_keys_alone(table: &Table) -> bool
+    ensures { result ≡ has_keys_alone is_start_key (table_view table.now) }
+{
+    are_start_keys(table)
+}
+
+fn are_start_keys(table: &Table) -> bool
+    ensures { result ≡ list_all (λ k. is_start_key (string_bytes k)) (keys table.now) }
+{
+    table.keys().all(|key| is_start_key(key.as_str()))
+}
+
+/// Each key of the table is one of a choice.
+pub(crate) fn has_choice_keys_alone(table: &Table) -> bool
+    ensures { result ≡ has_keys_alone is_choice_key (table_view table.now) }
+{
+    are_choice_keys(table)
+}
+
+fn are_choice_keys(table: &Table) -> bool
+    ensures { result ≡ list_all (λ k. is_choice_key (string_bytes k)) (keys table.now) }
+{
+    table.keys().all(|key| is_choice_key(key.as_str()))
+}
+
+/// Each key of the table is one of a script.
+pub(crate) fn has_script_keys_alone(table: &Table) -> bool
+    ensures { result ≡ has_keys_alone is_script_key (table_view table.now) }
+{
+    are_script_keys(table)
+}
+
+fn are_script_keys(table: &Table) -> bool
+    ensures { result ≡ list_all (λ k. is_script_key (string_bytes k)) (keys table.now) }
+{
+    table.keys().all(|key| is_script_key(key.as_str()))
+}
+
+fn are_tables(values: &[Value]) -> bool
+    ensures { result ≡ list_all (λ v. is_some (as_table (view v))) values.now }
+{
+    values.iter().all(|value| value.is_table())
+}
+
+// The values, where each is a table.
+fn tables_in(values: &[Value]) -> Option<&[Value]>
+    ensures { option_map (λ vs. map view vs.now) result ≡ tables_in (items_view values.now) }
+{
+    if are_tables(values) {
+        Some(values)
+    } else {
+        None
+    }
+}
+
+// The items of a list of tables.
+fn tables_of(value: &Value) -> Option<&[Value]>
+    ensures { option_map (λ vs. map view vs.now) result ≡ option_and_then tables_in (as_array (view value.now)) }
+{
+    match value.as_array() {
+        Some(array) => tables_in(array.as_slice()),
+        None => None,
+    }
+}
+
+/// The tables of the list at a key, none where the key is missing; `None` where it is no list of tables.
+pub(crate) fn tables_at<'a>(table: &'a Table, key: &str) -> Option<&'a [Value]>
+    ensures { option_map (λ vs. map view vs.now) result ≡ tables_of (get_member key.now (table_view table.now)) }
+{
+    match table.get(key) {
+        Some(value) => tables_of(value),
+        None => Some(&[]),
+    }
+}
