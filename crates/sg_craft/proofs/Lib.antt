@@ -1,0 +1,5 @@
+pub mod CommitmentLaws
+pub mod FrameLaws
+pub mod ItemLaws
+pub mod KeyLaws
+pub mod MeansLaws
