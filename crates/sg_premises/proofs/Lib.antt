@@ -1,0 +1,5 @@
+pub mod CollisionLaws
+pub mod FindLaws
+pub mod ForgedLaws
+pub mod SaidLaws
+pub mod TableLaws

@@ -1,0 +1,3 @@
+pub mod Collisions
+pub mod Forged
+pub mod Made

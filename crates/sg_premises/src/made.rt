@@ -1,0 +1,76 @@
+//! Texts that were tagged, found without a scan.
+ghost use Rattle.std.specs.Prelude.{◌≡◌, ◌||◌, [], OnOk};
+ghost use Rattle.std.specs.List.{list_any};
+ghost use Rattle.sg_protocol.specs.Notes.{Note};
+ghost use Rattle.sg_protocol.specs.Broken.{same_note};
+ghost use Rattle.sg_premises.specs.Made.{note_kept};
+
+use indexmap::IndexSet;
+use sg_base::{Name, OutOfMemory};
+use sg_crypt::Note;
+use std::alloc::{AllocError, Global};
+use std::marker::Model;
+
+/// Notes of texts that were tagged.
+#[derive(Drop)]
+pub struct Made<'n> {
+    notes: IndexSet<Said<'n>>,
+}
+
+// A text for two principals.
+#[derive(Clone, Copy, PartialEq, Eq, Hash)]
+struct Said<'n> {
+    one: Name,
+    two: Name,
+    text: &'n [u8],
+}
+
+impl<'n> Model for Made<'n> {
+    ghost use Rattle.std.specs.Prelude.{List};
+    ghost use Rattle.sg_protocol.specs.Notes.{Note};
+
+    ghost Value = { List Note };
+
+    ghost use Rattle.sg_premises.specs.Made.{notes_kept};
+
+    ghost view = { notes_kept };
+}
+
+impl<'n> Made<'n> {
+    /// No notes. It takes no memory.
+    pub fn new(alloc: Global) -> Made<'n>
+        ensures { result ≡ [] }
+    {
+        Made {
+            notes: IndexSet::new(alloc),
+        }
+    }
+
+    /// Whether the note is among these.
+    pub fn has(&self, note: &Note) -> bool
+        ensures { result ≡ list_any (same_note note.now) self.now }
+    {
+        self.notes.contains(&kept(note))
+    }
+
+    /// Adds a note.
+    pub fn add(&mut self, note: &'n Note) -> Result<(), OutOfMemory>
+        ensures { OnOk result ((n : Note) → list_any (same_note n) self.new ≡ list_any (same_note n) self.old || same_note n note.now) }
+    {
+        match self.notes.insert(kept(note)) {
+            Ok(_) => Ok(()),
+            Err(_) => Err(AllocError),
+        }
+    }
+}
+
+// The note as it is kept.
+fn kept(note: &Note) -> Said<'_>
+    ensures { note_kept result ≡ note.now }
+{
+    Said {
+        one: note.one(),
+        two: note.two(),
+        text: note.text(),
+    }
+}
