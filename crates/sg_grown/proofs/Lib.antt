@@ -1,0 +1,10 @@
+pub mod Backwards
+pub mod Fresh
+pub mod Keeping
+pub mod Filled
+pub mod Unknown
+pub mod Parted
+pub mod Coursed
+pub mod Deltas
+pub mod Rows
+pub mod Ends

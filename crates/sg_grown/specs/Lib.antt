@@ -1,0 +1,5 @@
+pub mod Events
+pub mod Filling
+pub mod Sessions
+pub mod Examples
+pub mod Courses

@@ -1,0 +1,11 @@
+//! Events beside walks.
+use sg_base::Label;
+use sg_walk::Event;
+
+/// An event of a session, and a walk from the start that shows its role what it received. Where the event is no receipt the walk is not
+/// looked at.
+#[derive(Debug, Clone, Copy)]
+pub struct Shown<'e> {
+    pub event: &'e Event,
+    pub walk: &'e [Label],
+}
