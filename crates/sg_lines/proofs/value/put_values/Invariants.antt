@@ -1,0 +1,7 @@
+use Rattle.std.proofs.Common.{◌≡◌, ◌++◌, take}
+use Rattle.sg_lines.specs.Values.{values_text}
+use Rattle.sg_walk.specs.Views.{values_of}
+use Rattle.sg_lines.proofs.value.put_values.Given as goal
+
+abbrev pub invariant-values : goal.invariant-values
+invariant-values l = l.out ≡ l.initial.out ++ values_text l.graph (values_of (take l.value-index l.values))
