@@ -1,0 +1,6 @@
+pub mod Told
+pub mod Outcome
+pub mod Reasons
+pub mod Lines
+pub mod Report
+pub mod Held

@@ -1,0 +1,194 @@
+//! The line of a step.
+ghost use Rattle.std.specs.Prelude.{◌≡◌, ◌++◌, IfOk, IfSome, IsSomeAnd, OnOk, codes};
+ghost use Rattle.std.specs.Option.{option_copied};
+ghost use Rattle.sg_lines.specs.Events.{event_text, event_values, sent_to};
+ghost use Rattle.sg_protocol.specs.Told.{HasEvent};
+ghost use Rattle.sg_walk.specs.Views.{event_of};
+ghost use Rattle.sg_report.specs.Lines.{by_whom, graph_or_none, line_text, told_text};
+ghost use Rattle.sg_report.specs.Outcome.{outcome_of};
+ghost use Rattle.sg_report.specs.Told.{CanBeTold, Happened, Sends};
+
+use crate::Outcome;
+use crate::reason::{put_act_fault, put_refusal, put_start_fault};
+use sg_base::{ByteOut, Name, OutOfMemory};
+use sg_graph::Graph;
+use sg_lines::{put_event, put_event_values, put_sent_to};
+use sg_walk::Event;
+use std::alloc::Global;
+
+/// The line of a step: its number, counted from 1, the principal, and what came of it, in a session of this name. Where a role, a
+/// label or a variable is told by its number, the graph has to be given that has it. A craft is nobody's. A node's want of memory is
+/// the call's.
+pub fn report_line(
+    alloc: Global,
+    step: u32,
+    who: Name,
+    session: &[u8],
+    graph: Option<&Graph>,
+    outcome: &Outcome,
+) -> Result<Vec<u8>, OutOfMemory>
+    requires { IfSome (outcome_of outcome.now) (CanBeTold (option_copied graph)) }
+    ensures { IfOk result (λ text. IsSomeAnd (outcome_of outcome.now) (λ told. text.items ≡ line_text session.now (graph_or_none (option_copied graph.entry)) step who told)) }
+{
+    let mut out = ByteOut::new(alloc);
+    put_line(
+        alloc,
+        &mut out,
+        step,
+        who.as_bytes(),
+        session,
+        graph,
+        outcome,
+    )?;
+    Ok(out.done())
+}
+
+/// Writes the line of a step behind what is written.
+pub fn put_line(
+    alloc: Global,
+    out: &mut ByteOut,
+    step: u32,
+    who: &[u8],
+    session: &[u8],
+    graph: Option<&Graph>,
+    outcome: &Outcome,
+) -> Result<(), OutOfMemory>
+    requires { IfSome (outcome_of outcome.now) (CanBeTold (option_copied graph)) }
+    ensures { OnOk result (IsSomeAnd (outcome_of outcome.now) (λ told. out.new ≡ out.old ++ line_text session.now (graph_or_none (option_copied graph.entry)) step who.now told)) }
+{
+    out.decimal(alloc, step as u64)?;
+    out.u8(b' ')?;
+    put_whom(out, who, outcome)?;
+    put_told(alloc, out, session, graph, outcome)?;
+    out.u8(b'\n')
+}
+
+// Writes the principal whose step it was, and nothing for a craft.
+fn put_whom(out: &mut ByteOut, who: &[u8], outcome: &Outcome) -> Result<(), OutOfMemory>
+    ensures { OnOk result (IfSome (outcome_of outcome.now) (λ told. out.new ≡ out.old ++ by_whom who.now told)) }
+{
+    match outcome {
+        Outcome::Crafted { .. } => Ok(()),
+        _ => {
+            out.bytes(who)?;
+            out.u8(b' ')
+        }
+    }
+}
+
+// Writes what came of a step.
+fn put_told(
+    alloc: Global,
+    out: &mut ByteOut,
+    session: &[u8],
+    graph: Option<&Graph>,
+    outcome: &Outcome,
+) -> Result<(), OutOfMemory>
+    requires { IfSome (outcome_of outcome.now) (CanBeTold (option_copied graph)) }
+    ensures { OnOk result (IsSomeAnd (outcome_of outcome.now) (λ told. out.new ≡ out.old ++ told_text session.now (graph_or_none (option_copied graph.entry)) told)) }
+{
+    match outcome {
+        Outcome::Started(event) => put_happened(alloc, out, session, graph, event),
+        Outcome::Sent { event, to, frame } => {
+            put_sending(alloc, out, session, graph, event, to, *frame)
+        }
+        Outcome::Received(event) => put_happened(alloc, out, session, graph, event),
+        Outcome::Abandoned => put_abandoned(out, session),
+        Outcome::Crafted { frame } => put_crafted(alloc, out, *frame),
+        Outcome::NotStarted(fault) => {
+            out.bytes(b"refused ")?;
+            put_start_fault(out, *fault)
+        }
+        Outcome::NotActed(fault) => {
+            out.bytes(b"refused ")?;
+            put_act_fault(out, graph, *fault)
+        }
+        Outcome::NotAbandoned => out.bytes(b"refused unknown-session"),
+        Outcome::NotDelivered(why) => {
+            out.bytes(b"refused ")?;
+            put_refusal(alloc, out, graph, *why)
+        }
+        Outcome::NoFrame => out.bytes(b"refused no-frame"),
+    }
+}
+
+fn put_happened(
+    alloc: Global,
+    out: &mut ByteOut,
+    session: &[u8],
+    graph: Option<&Graph>,
+    event: &Event,
+) -> Result<(), OutOfMemory>
+    requires { CanBeTold (option_copied graph) (Happened (event_of event.now)) }
+    ensures { OnOk result (out.new ≡ out.old ++ told_text session.now (graph_or_none (option_copied graph.entry)) (Happened (event_of event.now))) }
+{
+    match graph {
+        Some(graph) => put_of_graph(alloc, out, session, graph, event),
+        None => unreachable!(),
+    }
+}
+
+fn put_of_graph(
+    alloc: Global,
+    out: &mut ByteOut,
+    session: &[u8],
+    graph: &Graph,
+    event: &Event,
+) -> Result<(), OutOfMemory>
+    requires { HasEvent graph.now (event_of event.now) }
+    ensures { OnOk result (out.new ≡ out.old ++ told_text session.now graph.now (Happened (event_of event.now))) }
+{
+    put_event(alloc, out, session, graph, event)?;
+    put_event_values(alloc, out, graph, event)
+}
+
+fn put_sending(
+    alloc: Global,
+    out: &mut ByteOut,
+    session: &[u8],
+    graph: Option<&Graph>,
+    event: &Event,
+    to: &Name,
+    frame: u32,
+) -> Result<(), OutOfMemory>
+    requires { CanBeTold (option_copied graph) (Sends (event_of event.now) to.now frame) }
+    ensures { OnOk result (out.new ≡ out.old ++ told_text session.now (graph_or_none (option_copied graph.entry)) (Sends (event_of event.now) to.now frame)) }
+{
+    match graph {
+        Some(graph) => put_sending_of(alloc, out, session, graph, event, to, frame),
+        None => unreachable!(),
+    }
+}
+
+fn put_sending_of(
+    alloc: Global,
+    out: &mut ByteOut,
+    session: &[u8],
+    graph: &Graph,
+    event: &Event,
+    to: &Name,
+    frame: u32,
+) -> Result<(), OutOfMemory>
+    requires { HasEvent graph.now (event_of event.now) }
+    ensures { OnOk result (out.new ≡ out.old ++ told_text session.now graph.now (Sends (event_of event.now) to.now frame)) }
+{
+    put_event(alloc, out, session, graph, event)?;
+    put_sent_to(alloc, out, to, frame)?;
+    put_event_values(alloc, out, graph, event)
+}
+
+fn put_abandoned(out: &mut ByteOut, session: &[u8]) -> Result<(), OutOfMemory>
+    ensures { OnOk result (out.new ≡ out.old ++ (session.now ++ codes " abandoned")) }
+{
+    out.bytes(session)?;
+    out.bytes(b" abandoned")
+}
+
+ghost use Rattle.std.specs.Fmt.{decimal};
+
+fn put_crafted(alloc: Global, out: &mut ByteOut, frame: u32) -> Result<(), OutOfMemory>
+    ensures { OnOk result (out.new ≡ out.old ++ (codes "crafted f" ++ decimal frame)) }
+{
+    out.bytes(b"crafted f")?;
+    out.decimal(alloc, frame as u64)
+}

@@ -1,0 +1,62 @@
+//! The lines of the two premises.
+ghost use Rattle.std.specs.Prelude.{◌≡◌, ◌++◌, ◌∷◌, [], OnOk, Some, codes};
+ghost use Rattle.std.specs.Option.{option_copied, option_map};
+ghost use Rattle.sg_report.specs.Held.{forgery_of};
+ghost use Rattle.sg_report.specs.Report.{collision_line, premise_lines, unforged_line};
+
+use crate::reason::put_number;
+use sg_base::{ByteOut, Name, OutOfMemory};
+use std::alloc::Global;
+
+/// A tag of two honest principals that was found right in a step, and that neither of them had made.
+#[derive(Debug, Clone, Copy)]
+pub struct Forgery {
+    /// The step's number, from 1.
+    pub step: u32,
+    /// The principal of the lesser name.
+    pub one: Name,
+    /// The other.
+    pub two: Name,
+}
+
+/// Writes the two lines that say whether the premises hold.
+pub fn put_premises(
+    alloc: Global,
+    out: &mut ByteOut,
+    forged: Option<&Forgery>,
+    collision_free: bool,
+) -> Result<(), OutOfMemory>
+    ensures { OnOk result (out.new ≡ out.old ++ premise_lines (option_map forgery_of (option_copied forged.entry)) collision_free) }
+{
+    match forged {
+        None => out.bytes(b"premise unforged holds\n")?,
+        Some(forgery) => put_forged(alloc, out, forgery)?,
+    }
+    if collision_free {
+        out.bytes(b"premise collision-free holds\n")
+    } else {
+        out.bytes(b"premise collision-free broken\n")
+    }
+}
+
+fn put_forged(alloc: Global, out: &mut ByteOut, forgery: &Forgery) -> Result<(), OutOfMemory>
+    ensures { OnOk result (out.new ≡ out.old ++ unforged_line (Some (forgery_of forgery.now))) }
+{
+    put_number(
+        alloc,
+        out,
+        b"premise unforged broken at step ",
+        forgery.step,
+    )?;
+    put_pair(out, &forgery.one, &forgery.two)
+}
+
+fn put_pair(out: &mut ByteOut, one: &Name, two: &Name) -> Result<(), OutOfMemory>
+    ensures { OnOk result (out.new ≡ out.old ++ (codes " for " ++ one.now ++ codes " and " ++ two.now ++ 10 ∷ [])) }
+{
+    out.bytes(b" for ")?;
+    out.bytes(one.as_bytes())?;
+    out.bytes(b" and ")?;
+    out.bytes(two.as_bytes())?;
+    out.bytes(b"\n")
+}

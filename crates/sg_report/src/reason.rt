@@ -1,0 +1,158 @@
+//! Why a step was refused, in words.
+ghost use Rattle.std.specs.Prelude.{◌≡◌, ◌<◌, ◌++◌, IfSome, IsSomeAnd, OnOk, codes, length};
+ghost use Rattle.std.specs.Fmt.{decimal};
+ghost use Rattle.std.specs.Option.{option_copied};
+ghost use Rattle.sg_node.specs.Faults.{act_fault, refusal, send_fault, start_fault};
+ghost use Rattle.sg_protocol.specs.Calls.{Send};
+ghost use Rattle.sg_protocol.specs.Graph.{variable_name};
+ghost use Rattle.sg_report.specs.Lines.{graph_or_none};
+ghost use Rattle.sg_report.specs.Reasons.{act_text, refusal_text, send_text, start_text};
+ghost use Rattle.sg_report.specs.Told.{CanBeTold, NotActed, NotDelivered};
+
+use sg_base::{ByteOut, Name, OutOfMemory, Time, Var};
+use sg_graph::Graph;
+use sg_lines::put_var;
+use sg_node::{ActFault, Refusal, StartFault};
+use sg_role::SendFault;
+use std::alloc::{AllocError, Global};
+
+/// Writes why a start was refused. Want of memory is passed on.
+pub(crate) fn put_start_fault(out: &mut ByteOut, fault: StartFault) -> Result<(), OutOfMemory>
+    ensures { OnOk result (IsSomeAnd (start_fault fault) (λ f. out.new ≡ out.old ++ start_text f)) }
+{
+    match fault {
+        StartFault::UnknownGraph => out.bytes(b"unknown-graph"),
+        StartFault::BadCast => out.bytes(b"bad-cast"),
+        StartFault::UnknownPeer { name } => put_unknown_peer(out, &name),
+        StartFault::Joined => out.bytes(b"joined"),
+        StartFault::CacheFull => out.bytes(b"cache-full"),
+        StartFault::SessionsFull => out.bytes(b"sessions-full"),
+        StartFault::OutOfMemory => Err(AllocError),
+    }
+}
+
+/// Writes why an act was refused. Want of memory is passed on.
+pub(crate) fn put_act_fault(
+    out: &mut ByteOut,
+    graph: Option<&Graph>,
+    fault: ActFault,
+) -> Result<(), OutOfMemory>
+    requires { IfSome (act_fault fault) (λ f. CanBeTold (option_copied graph) (NotActed f)) }
+    ensures { OnOk result (IsSomeAnd (act_fault fault) (λ f. out.new ≡ out.old ++ act_text (graph_or_none (option_copied graph.entry)) f)) }
+{
+    match fault {
+        ActFault::UnknownSession => out.bytes(b"unknown-session"),
+        ActFault::NotYourTurn => out.bytes(b"not-your-turn"),
+        ActFault::Send(fault) => put_send_fault(out, graph, fault),
+        ActFault::OutOfMemory => Err(AllocError),
+    }
+}
+
+// Writes why a step was not sent.
+fn put_send_fault(
+    out: &mut ByteOut,
+    graph: Option<&Graph>,
+    fault: SendFault,
+) -> Result<(), OutOfMemory>
+    requires { IfSome (send_fault fault) (λ f. CanBeTold (option_copied graph) (NotActed (Send f))) }
+    ensures { OnOk result (IsSomeAnd (send_fault fault) (λ f. out.new ≡ out.old ++ send_text (graph_or_none (option_copied graph.entry)) f)) }
+{
+    match fault {
+        SendFault::NoSuchLabel => out.bytes(b"no-such-label"),
+        SendFault::BadValues { var } => put_of_var(out, b"bad-values ", graph, var),
+        SendFault::TimeSpent => out.bytes(b"time-spent"),
+        SendFault::OutOfMemory => Err(AllocError),
+    }
+}
+
+/// Writes why a delivery was refused. Want of memory is passed on.
+pub(crate) fn put_refusal(
+    alloc: Global,
+    out: &mut ByteOut,
+    graph: Option<&Graph>,
+    why: Refusal,
+) -> Result<(), OutOfMemory>
+    requires { IfSome (refusal why) (λ w. CanBeTold (option_copied graph) (NotDelivered w)) }
+    ensures { OnOk result (IsSomeAnd (refusal why) (λ w. out.new ≡ out.old ++ refusal_text (graph_or_none (option_copied graph.entry)) w)) }
+{
+    match why {
+        Refusal::Malformed { at } => put_number(alloc, out, b"malformed at ", at),
+        Refusal::UnknownGraph => out.bytes(b"unknown-graph"),
+        Refusal::BadCast => out.bytes(b"bad-cast"),
+        Refusal::UnknownPeer { name } => put_unknown_peer(out, &name),
+        Refusal::BadSession => out.bytes(b"bad-session"),
+        Refusal::Joined => out.bytes(b"joined"),
+        Refusal::CacheFull => out.bytes(b"cache-full"),
+        Refusal::SessionsFull => out.bytes(b"sessions-full"),
+        Refusal::UnknownSession => out.bytes(b"unknown-session"),
+        Refusal::NotWaiting => out.bytes(b"not-waiting"),
+        Refusal::BadFrameTag => out.bytes(b"bad-frame-tag"),
+        Refusal::NoSuchView => out.bytes(b"no-such-view"),
+        Refusal::BadTime { item, got, least } => put_bad_time(alloc, out, item, got, least),
+        Refusal::BadEvidence { item } => put_number(alloc, out, b"bad-evidence item ", item),
+        Refusal::BadOpening { var } => put_of_var(out, b"bad-opening ", graph, var),
+        Refusal::OutOfMemory => Err(AllocError),
+    }
+}
+
+fn put_unknown_peer(out: &mut ByteOut, name: &Name) -> Result<(), OutOfMemory>
+    ensures { OnOk result (out.new ≡ out.old ++ (codes "unknown-peer " ++ name.now)) }
+{
+    out.bytes(b"unknown-peer ")?;
+    out.bytes(name.as_bytes())
+}
+
+/// Writes words and a number.
+pub(crate) fn put_number(
+    alloc: Global,
+    out: &mut ByteOut,
+    words: &[u8],
+    number: u32,
+) -> Result<(), OutOfMemory>
+    ensures { OnOk result (out.new ≡ out.old ++ (words.now ++ decimal number)) }
+{
+    out.bytes(words)?;
+    out.decimal(alloc, number as u64)
+}
+
+fn put_bad_time(
+    alloc: Global,
+    out: &mut ByteOut,
+    item: u32,
+    got: Time,
+    least: Time,
+) -> Result<(), OutOfMemory>
+    ensures { OnOk result (out.new ≡ out.old ++ (codes "bad-time item " ++ decimal item ++ codes " got " ++ decimal got ++ codes " least " ++ decimal least)) }
+{
+    put_number(alloc, out, b"bad-time item ", item)?;
+    put_number(alloc, out, b" got ", got.0)?;
+    put_number(alloc, out, b" least ", least.0)
+}
+
+fn put_of_var(
+    out: &mut ByteOut,
+    words: &[u8],
+    graph: Option<&Graph>,
+    var: Var,
+) -> Result<(), OutOfMemory>
+    requires { IsSomeAnd (option_copied graph) (λ g. var < length g.variables) }
+    ensures { OnOk result (out.new ≡ out.old ++ (words.now ++ variable_name (graph_or_none (option_copied graph.entry)) var)) }
+{
+    match graph {
+        Some(graph) => put_word_and_var(out, words, graph, var),
+        None => unreachable!(),
+    }
+}
+
+fn put_word_and_var(
+    out: &mut ByteOut,
+    words: &[u8],
+    graph: &Graph,
+    var: Var,
+) -> Result<(), OutOfMemory>
+    requires { var < length graph.now.variables }
+    ensures { OnOk result (out.new ≡ out.old ++ (words.now ++ variable_name graph.now var)) }
+{
+    out.bytes(words)?;
+    put_var(out, graph, var)
+}
