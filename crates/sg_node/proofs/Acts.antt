@@ -144,10 +144,10 @@ pub record SentBy (keys : Keyring) (t : State) (label : ℕ) (values : Map Value
       (record { program = t.program; held = held_after t.program.graph t.held (Gave (own_item real keys t.program s label (openings_for values confs)) (openings_for values confs)) }) x
 
 module _ (n : Inside) (h : HoldsNode n) (sid : List ℕ) where
-  tests : AllByRecursion (Tests (has_sid sid) (is_of false sid)) n.sessions.slots
+  pub tests : AllByRecursion (Tests (has_sid sid) (is_of false sid)) n.sessions.slots
   tests = tests_sid n.programs.now n.joins.pairs sid n.sessions.slots h.slots
 
-  stands_if : (m : Node) → StandsForNode (node_state n) m → StandsIf m.programs (find (has_sid sid) (held_in n.sessions.slots)) (session_with m.live sid)
+  pub stands_if : (m : Node) → StandsForNode (node_state n) m → StandsIf m.programs (find (has_sid sid) (held_in n.sessions.slots)) (session_with m.live sid)
   stands_if m st = (node_states_stand real real_hash).finds_session m.programs (held_in n.sessions.slots) m.live sid st.live
 
   pub first_at : (i : ℕ) → first_place (is_of false sid) n.sessions.slots ≡ Some i → First (has_sid sid) (is_of false sid) n.sessions.slots i
@@ -160,7 +160,7 @@ module _ (n : Inside) (h : HoldsNode n) (sid : List ℕ) where
     program_at : IsProgram real (state_in l).program
     program_at = its_program n h (has_sid sid) (is_of false sid) tests i l e there
 
-    session_at : (m : Node) → StandsForNode (node_state n) m → Its m.programs l (session_with m.live sid)
+    pub session_at : (m : Node) → StandsForNode (node_state n) m → Its m.programs l (session_with m.live sid)
     session_at m st = session_here n h (has_sid sid) (is_of false sid) tests i l e there m st (session_with m.live sid) (stands_if m st)
 
 module _ (n : Inside) (h : HoldsNode n) (m : Node) (st : StandsForNode (node_state n) m) (sid : List ℕ) (label : ℕ) (values : Map Value) (confs : List (List ℕ)) where

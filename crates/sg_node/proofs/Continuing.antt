@@ -75,10 +75,10 @@ pub same_state : (keys : Keyring) (t : State) (f : Frame) (a : Acceptance) → A
 same_state keys t f a d = λ i. record { program = d.program i; held = d.after i }
 
 module _ (n : Inside) (h : HoldsNode n) (f : Frame) where
-  tests : AllByRecursion (Tests (is_held_for f) (is_for f)) n.sessions.slots
+  pub tests : AllByRecursion (Tests (is_held_for f) (is_for f)) n.sessions.slots
   tests = tests_for f n.programs.now n.joins.pairs n.sessions.slots h.slots
 
-  stands_if : (m : Node) → StandsForNode (node_state n) m → StandsIf m.programs (find (is_held_for f) (held_in n.sessions.slots)) (session_for m.live f)
+  pub stands_if : (m : Node) → StandsForNode (node_state n) m → StandsIf m.programs (find (is_held_for f) (held_in n.sessions.slots)) (session_for m.live f)
   stands_if m st = (node_states_stand real real_hash).finds_for_frame m.programs (held_in n.sessions.slots) m.live f st.live
 
   -- no session is there for the frame

@@ -15,3 +15,4 @@ pub mod Continuing
 pub mod Entering
 pub mod Taking
 pub mod Life
+pub mod Told

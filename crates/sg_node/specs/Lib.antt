@@ -1,4 +1,5 @@
 pub mod Slots
+pub mod Graphs
 pub mod Faults
 pub mod Joining
 pub mod Answers

@@ -72,8 +72,8 @@ pub(crate) fn starter<'p>(programs: &'p Programs, digest: &[u8; 32]) -> Option<O
     }
 }
 
-// The first program of a graph with this digest for the role that starts it.
-fn first_starter<'p>(programs: &'p Programs, digest: &[u8; 32]) -> Option<&'p Program>
+/// The first program of a graph with this digest for the role that starts it. It takes no memory.
+pub(crate) fn first_starter<'p>(programs: &'p Programs, digest: &[u8; 32]) -> Option<&'p Program>
     ensures { option_copied result ≡ starter programs.now digest.now }
 {
     for program in programs.as_slice() {

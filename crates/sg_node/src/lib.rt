@@ -8,12 +8,15 @@
 //! empty, so nothing moves and no place is used twice. All look-ups go by hash tables, so a call takes the same time however many
 //! sessions and joins there are. Room in the table, room among the joins and the next state are made before a pair is claimed, and
 //! nothing grows after it. A delivery is looked at in the order of the refusals: nothing is hashed for those that need no hash.
+//!
+//! What an answer names by number has a name in the graph of the call's session, which a node gives for each call before it is made.
 #![tactic(auto)]
 
 mod act;
 mod cast;
 mod deliver;
 mod fault;
+mod graphs;
 mod join;
 pub mod laws;
 mod node;
@@ -22,3 +25,6 @@ mod start;
 
 pub use fault::{ActFault, Refusal, StartFault, UnknownSession};
 pub use node::Node;
+
+#[cfg(test)]
+mod tests;

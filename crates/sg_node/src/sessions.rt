@@ -1,5 +1,5 @@
 //! The table of a node's sessions.
-ghost use Rattle.std.specs.Prelude.{◌≡◌, ◌<◌, ◌++◌, [], ◌∷◌, if◌then◌else◌, length, None, Some, map, option_and_then, slice_get, Contains, OnOk};
+ghost use Rattle.std.specs.Prelude.{◌≡◌, ◌<◌, ◌++◌, [], ◌∷◌, if◌then◌else◌, length, None, Some, map, option_and_then, option_map, slice_get, Contains, OnOk};
 ghost use Rattle.std.specs.Option.{option_copied};
 ghost use Rattle.indexmap.specs.IndexMap.{set_value_at, spare};
 ghost use Rattle.sg_node.specs.Invariant.{IsBacked};
@@ -135,6 +135,16 @@ impl<'p> Sessions<'p> {
         match self.slots.get_index(index) {
             Some((_, Some(live))) => Some(live),
             _ => None,
+        }
+    }
+
+    /// The role of a place. It takes no memory.
+    pub fn role(&self, index: usize) -> Option<Role>
+        ensures { result ≡ option_map (λ s. (s.0).1) (slice_get self.now.slots index) }
+    {
+        match self.slots.get_index(index) {
+            Some(((_, role), _)) => Some(*role),
+            None => None,
         }
     }
 
