@@ -1,0 +1,78 @@
+#!/usr/bin/env bash
+# Reads schedules of four mixes, starts and acts, deliveries in hexadecimal digits, crafts, and many sessions, of 200,000 steps or 100,000 sessions,
+# and a tenth of each. Prints for each the megabytes per processor second and the peak memory of the run: a schedule ten times as long takes ten times as long,
+# since a line costs the same however many stand before it.
+# The program is made in a folder of its own, over this repository's crates. Needs python3; no part of the gate.
+set -eu
+here=$(cd "$(dirname "${BASH_SOURCE[0]}")/.." && pwd)
+folder=$(mktemp -d)
+trap 'rm -rf "$folder"' EXIT
+mkdir -p "$folder/crates/texts/src"
+for crate in sg_model sg_law sg_protocol sg_base sg_graph sg_parse sg_crypt sg_sched sg_read; do
+    (cd "$here/crates" && tar cf - --exclude=out "$crate") | (cd "$folder/crates" && tar xf -)
+    grep "^$crate:" "$here/crates.txt" >>"$folder/crates.txt"
+done
+echo 'texts: sg_base sg_read sg_sched' >>"$folder/crates.txt"
+cp "$here/HANDLES" "$folder/HANDLES"
+cat >"$folder/crates/texts/src/main.rt" <<'RATTLE'
+//! Reads one schedule, and prints how many steps it has.
+#![tactic(auto)]
+
+use sg_read::read_schedule;
+use std::{fs, io};
+
+fn main(rt: HostRuntime) -> Result<(), io::Error> {
+    let bytes = fs::read(&rt, "text")?;
+    if bytes.len() >= 1_000_000_000 {
+        return println!(rt; "too long");
+    }
+    match read_schedule(rt.alloc(), bytes.as_slice()) {
+        Ok(schedule) => println!(rt; "{}", schedule.steps.len()),
+        Err(_) => println!(rt; "refused"),
+    }
+}
+RATTLE
+printf 'honest a\n' >"$folder/crates/texts/text"
+(cd "$folder/crates/texts" && rt run) >"$folder/log" 2>&1 || { cat "$folder/log"; exit 1; }
+python3 - "$folder/crates/texts/out/texts" "$folder" <<'PYTHON'
+import os
+import subprocess
+import sys
+
+program, folder = sys.argv[1:]
+
+# What the steps of each mix are, how many there are, and of how many sessions.
+MIXES = (
+    ('starts and acts', 200_000, 1_000, ('start p1 s{0}', 'act p1 s{0} Order n={1} q="some\\x20words\\x20here"')),
+    ('deliveries in hex', 200_000, 1_000, ('deliver p5 hex ' + '00112233445566778899aabbccddeeff' * 16,)),
+    ('crafts', 200_000, 1_000, (
+        'craft s{0} from c to p join nonce {1} item Order 1 q="tea"#1 n=5#2 tag p key p1 p2 open q="tea"#1 seal copy f{1} seal',
+    )),
+    ('100,000 sessions', 1_000, 100_000, ('start p1 s{0}', 'abandon p2 s{0}', 'deliver p3 f{1}', 'deliver p4 f{1} flip 7')),
+)
+
+
+def lines(steps, sessions, kinds):
+    """two graphs, 20 principals with the keys of all pairs, sessions in turn, and steps in turn."""
+    yield from ('graph {', 'graph shop;', 'role c;', 'role p;', 'var q: text by c;', 'var n: int by c;', 'node n0: c;', 'node n1: p;')
+    yield from ('edge Order: n0 -> n1 writes q n reads q;', '}', 'edge Request 0 1', 'edge Reply 1 2')
+    yield from (f'honest p{i}' for i in range(20))
+    yield from (f'key p{i} p{j} {"1" * 64}' for i in range(20) for j in range(i))
+    yield from (f'session s{i} {("shop", "pair")[i % 2]} {i} p{i % 20},p{(i + 1) % 20}{("", " v2")[i % 3 == 2]}' for i in range(sessions))
+    yield from (kinds[i % len(kinds)].format(i * 2 % sessions, i + 1) for i in range(steps))
+
+
+for name, steps, sessions, kinds in MIXES:
+    for part in (10, 1):
+        with open(folder + '/text', 'w') as out:
+            out.writelines(line + '\n' for line in lines(steps // part, sessions // part, kinds))
+        size = os.path.getsize(folder + '/text') / 1e6
+        child = subprocess.Popen([program], stdout=subprocess.PIPE, cwd=folder)
+        answer = child.stdout.read()
+        _, status, used = os.wait4(child.pid, 0)
+        took = used.ru_utime + used.ru_stime
+        if status != 0 or answer != b'%d\n' % (steps // part):
+            sys.exit(f'{name}: status {status}, {answer[:40]!r}')
+        print(f'{name:17}  {steps // part:6} steps  {sessions // part:6} sessions  {size:6.1f} MB  {took:6.2f} s  '
+              f'{size / took:6.1f} MB/s  {used.ru_maxrss / 1024:7.1f} MiB')
+PYTHON

@@ -1,0 +1,12 @@
+use Rattle.std.proofs.Common.{◌≤◌, ◌+◌, length}
+use Rattle.sg_read.specs.Standing.{Stands}
+use Rattle.sg_read.proofs.read.read_schedule.Given as goal
+
+abbrev pub invariant-lines : goal.invariant-lines
+invariant-lines l = record {
+  stands : Stands l.bytes l.reader l.rest;
+  few : l.reader.number + length l.rest ≤ length l.bytes;
+}
+
+abbrev pub decreases-lines : goal.decreases-lines
+decreases-lines l = length l.rest

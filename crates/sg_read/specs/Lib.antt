@@ -1,0 +1,12 @@
+pub mod Sessions
+pub mod Plus
+pub mod Adding
+pub mod Numbers
+pub mod Crafting
+pub mod Taken
+pub mod Holding
+pub mod Meant
+pub mod Block
+pub mod Standing
+pub mod Whole
+pub mod Laws
