@@ -43,6 +43,7 @@ pub use answer::Audit;
 pub use explain::audit;
 pub use fault::LogFault;
 pub use read::read_logs;
+pub use roles::roles_of;
 pub use session::{Logs, SessionLog};
 
 #[cfg(test)]

@@ -9,7 +9,7 @@ use sg_base::{Role, RoleSet, Seq};
 use sg_walk::Event;
 
 /// The set of the roles of the logs, which are less than 16.
-pub(crate) fn roles_of(logs: &[(Role, Seq<Event>)]) -> RoleSet
+pub fn roles_of(logs: &[(Role, Seq<Event>)]) -> RoleSet
     requires { AllByRecursion (λ l. l.0 < 16) (map log_of logs.now) }
     ensures { (r : ℕ) → is_in r result ≡ is_in r (roles_of (map log_of logs.now)) }
 {

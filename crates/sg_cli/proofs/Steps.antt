@@ -1,51 +1,72 @@
 -- The steps of a schedule, taken one after another.
-use Rattle.std.specs.Prelude.{◌≡◌, ℕ, ◌+◌, ◌<◌, ◌≤◌, List, [], ◌∷◌, ◌++◌, map, length, take, get_or, All}
-use Rattle.std.proofs.Common.{sym, ap, ◌∙◌, subst, arith}
+use Rattle.std.specs.Prelude.{◌≡◌, ℕ, ◌+◌, ◌<◌, ◌≤◌, true, List, [], ◌∷◌, ◌++◌, map, length, take, get_or}
+use Rattle.std.proofs.Common.{inl, inr, true≢false, refl, sym, ap, ◌∙◌, subst, arith}
 use Rattle.std.proofs.Math.ListN.{get_or-map}
-use Rattle.std.proofs.Math.Seq.{take-length}
-use Rattle.std.proofs.lemmas.List.{take_more, map-append, length-map, length-take-le}
+use Rattle.std.proofs.lemmas.Bool.{cases_Bool}
+use Rattle.std.proofs.lemmas.List.{take_more, take_all, length-map, length-take-le}
+use Rattle.std.proofs.lemmas.List.Folds.{list_all_at}
+use Rattle.sg_protocol.specs.Beginnings.{first_steps}
+use Rattle.sg_protocol.specs.Keyring.{Program}
 use Rattle.sg_protocol.specs.Schedule as Protocol
-use Rattle.sg_protocol.specs.Schedule.{Schedule, StartStep, ActStep, AbandonStep, DeliverStep, CraftStep, Whole, Flipped, Cut, Bytes}
-use Rattle.sg_sched.specs.Steps.{step_of}
-use Rattle.sg_sched.specs.declared.first_path.step.Step.{Step}
-use Rattle.sg_world.specs.Forms.{IsPairStep}
-use Rattle.sg_world.specs.Steps.{with_step}
+use Rattle.sg_protocol.specs.Schedule.{Schedule, StartStep, ActStep, AbandonStep, DeliverStep, CraftStep}
+use Rattle.sg_protocol.specs.Steps.{is_taken}
+use Rattle.sg_sched.specs.Format.StepsHeld.{step_of}
+use Rattle.sg_sched.specs.declared.step.Step.{Step}
+use Rattle.sg_read.specs.Meant as Spelled
+use Rattle.sg_world.specs.Named.{CanBeTaken, IsDeclaredIn}
+use Rattle.sg_world.specs.Replay.{with_taken}
+use Rattle.sg_cli.specs.Replayed.{CanBeReplayed, replay_of, replay_up_to}
 
--- the schedule with its first steps alone
-abbrev pub first_steps : Schedule → List Step → ℕ → Schedule
-first_steps s items i = record s { steps = map step_of (take i items) }
+-- a step that names a declared session can be taken
+named : (s : Schedule) (x : Protocol.Step) → Spelled.IsDeclaredIn s x → IsDeclaredIn s x
+named s (StartStep who n) h = h
+named s (ActStep who n label values) h = h
+named s (AbandonStep who n) h = h
+named s (DeliverStep who what) h = tt
+named s (CraftStep c) h = h
 
--- fewer steps were taken than there are
-pub room : (s : Schedule) (items : List Step) (i : ℕ) (w : Schedule) → w ≡ first_steps s items i → map step_of items ≡ s.steps → length s.steps ≤ 200000 → i < length items → length w.steps < 200000
-room s items i w e all few h =
-    let count : length w.steps ≡ i = ap (λ (x : Schedule). length x.steps) e ∙ length-map (take i items) step_of ∙ length-take-le i items (omega arith) in
-    let whole : length items ≡ length s.steps = sym (length-map items step_of) ∙ ap length all in
-    omega arith
+taken : (s : Schedule) (x : Protocol.Step) → Spelled.CanBeTaken s x → CanBeTaken s x
+taken s x c = record { declared = named s x c.declared; range = c.range }
 
--- the next step is of the schedule's form
-pub form : (s : Schedule) (items : List Step) (i : ℕ) (x : Step) (w : Schedule) → w ≡ first_steps s items i → map step_of items ≡ s.steps → All (IsPairStep s) s.steps → i < length items → x ≡ get_or items i x → IsPairStep w (step_of x)
-form s items i x w e all fits h at =
-    let whole : length items ≡ length s.steps = sym (length-map items step_of) ∙ ap length all in
-    let here : get_or s.steps i (step_of x) ≡ step_of x = ap (λ l. get_or l i (step_of x)) (sym all) ∙ get_or-map step_of items i x ∙ ap step_of (sym at) in
-    let is : IsPairStep s (step_of x) = subst (IsPairStep s) here (fits i (step_of x) (omega arith)) in
-    subst (λ (v : Schedule). IsPairStep v (step_of x)) (sym e) (alike s (map step_of (take i items)) (step_of x) is)
-  where
-    alike : (s : Schedule) (xs : List Protocol.Step) (x : Protocol.Step) → IsPairStep s x → IsPairStep (record s { steps = xs }) x
-    alike s xs (StartStep who n) h = h
-    alike s xs (ActStep who n label values) h = h
-    alike s xs (AbandonStep who n) h = h
-    alike s xs (DeliverStep who (Whole n)) h = h
-    alike s xs (DeliverStep who (Flipped n at)) h = h
-    alike s xs (DeliverStep who (Cut n len)) h = h
-    alike s xs (DeliverStep who (Bytes bs)) h = h
-    alike s xs (CraftStep c) h = h
+-- step i of the schedule is the one that is held, and fewer were taken than there are
+module _ (s : Schedule) (items : List Step) (i : ℕ) (x : Step) (all : map step_of items ≡ s.steps) (h : i < length items) (at : x ≡ get_or items i x) where
+  count : length items ≡ length s.steps
+  count = sym (length-map items step_of) ∙ ap (λ (xs : List Protocol.Step). length xs) all
 
--- one step more
-pub more : (s : Schedule) (items : List Step) (i : ℕ) (x : Step) (w v : Schedule) → w ≡ first_steps s items i → i < length items → x ≡ get_or items i x → v ≡ with_step w (step_of x) → v ≡ first_steps s items (i + 1)
-more s items i x w v e h at taken =
-    let all : map step_of (take (i + 1) items) ≡ map step_of (take i items) ++ step_of x ∷ [] = ap (map step_of) (take_more items i x h) ∙ map-append step_of (take i items) (get_or items i x ∷ []) ∙ ap (λ y. map step_of (take i items) ++ step_of y ∷ []) (sym at) in
-    taken ∙ ap (λ (u : Schedule). with_step u (step_of x)) e ∙ ap (λ xs. record s { steps = xs }) (sym all)
+  here : get_or s.steps i (step_of x) ≡ step_of x
+  here = ap (λ l. get_or l i (step_of x)) (sym all) ∙ get_or-map step_of items i x ∙ ap step_of (sym at)
+
+  pub begins : i < length s.steps
+  begins = omega (arith, h, count)
+
+  pub room : CanBeReplayed s → length (first_steps i s).steps < 200000
+  room can =
+      let few = can.meant.few in
+      let first : length (take i s.steps) ≡ i = length-take-le i s.steps (omega (arith, h, count)) in
+      omega (arith, few, first, h, count)
+
+  pub can_be_taken : CanBeReplayed s → CanBeTaken (first_steps i s) (step_of x)
+  can_be_taken can =
+      taken (first_steps i s) (step_of x) (subst (λ y. Spelled.CanBeTaken (first_steps i s) y) here (can.meant.steps i (step_of x) (omega (arith, h, count)) (first_steps i s) (record { graphs = refl; sessions = refl })))
+
+  pub honest : CanBeReplayed s → is_taken (first_steps i s) (step_of x) ≡ true
+  honest can =
+      subst (λ y. is_taken s y ≡ true) here
+      (elim (cases_Bool (is_taken s (get_or s.steps i (step_of x)))) [
+        | inl e ↦ e
+        | inr e ↦ absurd (true≢false (sym can.honest ∙ list_all_at (is_taken s) s.steps i (step_of x) begins e))
+      ])
+
+  -- one step more
+  pub more : (programs : List Program) → with_taken (replay_up_to i programs s) (step_of x) ≡ replay_up_to (i + 1) programs s
+  more programs =
+      let one : take i s.steps ++ step_of x ∷ [] ≡ take (i + 1) s.steps = ap (λ y. take i s.steps ++ y ∷ []) (sym here) ∙ sym (take_more s.steps i (step_of x) begins) in
+      ap (λ xs. replay_of programs (record s { steps = xs })) one
 
 -- all steps
-pub whole : (s : Schedule) (items : List Step) (w : Schedule) → w ≡ first_steps s items (length items) → map step_of items ≡ s.steps → w ≡ s
-whole s items w e all = e ∙ ap (λ l. record s { steps = map step_of l }) (take-length items) ∙ ap (λ xs. record s { steps = xs }) all
+pub whole : (programs : List Program) (s : Schedule) (i : ℕ) → length s.steps ≤ i → replay_up_to i programs s ≡ replay_of programs s
+whole programs s i h = ap (λ xs. replay_of programs (record s { steps = xs })) (take_all i s.steps h)
+
+-- as many as are held
+pub all_taken : (s : Schedule) (items : List Step) (i : ℕ) → map step_of items ≡ s.steps → length items ≤ i → length s.steps ≤ i
+all_taken s items i all h = let count : length items ≡ length s.steps = sym (length-map items step_of) ∙ ap (λ (xs : List Protocol.Step). length xs) all in omega (arith, h, count)

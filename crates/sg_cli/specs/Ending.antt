@@ -1,18 +1,19 @@
 -- How the program ends, with which status, and what it says of it on standard error.
-use Rattle.std.specs.Prelude.{ℕ, List, [], ◌∷◌, ◌++◌, codes, Result, Ok, Err}
+use Rattle.std.specs.Prelude.{ℕ, List, [], ◌∷◌, ◌++◌, codes}
 use Rattle.std.specs.Fmt.{decimal}
 use Rattle.sg_protocol.specs.Graph.{Graph}
-use Rattle.sg_protocol.specs.Schedule.{Schedule}
 use Rattle.sg_parse.specs.declared.fault.ParseFault.{ParseFault}
 use Rattle.sg_compose.specs.declared.fault.ComposeFault.{ComposeFault}
 use Rattle.sg_program.specs.declared.check.CompileFault.{CompileFault}
-use Rattle.sg_sched.specs.declared.first_path.fault.Kind.{Kind}
-use Rattle.sg_sched.specs.declared.first_path.fault.Kind.TheVariants.{Form, Unknown, Twice, NotHonest, TooManySteps}
-use Rattle.sg_sched.specs.declared.first_path.fault.LineFault.{LineFault}
-use Rattle.sg_sched.specs.declared.first_path.fault.LineFault.TheVariants.{Line, OutOfMemory}
+use Rattle.sg_sched.specs.Format.Kinds as Format
+use Rattle.sg_sched.specs.declared.fault.LineFault.{LineFault}
+use Rattle.sg_sched.specs.declared.fault.LineFault.TheVariants.{Line, OutOfMemory}
+use Rattle.sg_read.specs.Taken.{kind_of}
 use Rattle.sg_audit.specs.declared.fault.LogFault.{LogFault}
 use Rattle.sg_audit.specs.declared.fault.LogFault.TheVariants.{Form as FormOfLogs, Unknown as UnknownInLogs, Twice as TwiceInLogs, Graph as GraphOfLogs, TooManyEvents, OutOfMemory as NoMemoryForLogs}
 use Rattle.sg_cli.specs.Refusal.{parse_text, compose_text, refusal_text}
+use Rattle.sg_cli.specs.declared.ending.Wrong.{Wrong}
+use Rattle.sg_cli.specs.declared.ending.Wrong.TheVariants.{Form, Unknown, Twice, NotHonest}
 
 -- how the program ends
 pub data Ending : Type 0 where
@@ -20,7 +21,7 @@ pub data Ending : Type 0 where
   Written : Ending
   -- the words are not in the table of commands
   NoCommand : Ending
-  -- the bytes are no graph
+  -- the bytes are no graph, or a block of them isn't
   NoGraph : ParseFault → Ending
   -- the parts are not expanded
   NoExpansion : ComposeFault → Ending
@@ -29,7 +30,7 @@ pub data Ending : Type 0 where
   -- the graph has no role of this name
   NoRole : (role : List ℕ) → Ending
   -- this line of the schedule or of the logs is the first that is wrong
-  WrongLine : (line : ℕ) → Kind → Ending
+  WrongLine : (line : ℕ) → Wrong → Ending
   -- the file could not be read
   FileFailed : (file : List ℕ) → Ending
   -- what was to be written was not taken
@@ -49,7 +50,7 @@ status_of (NoGraph fault) = 3
 status_of (NoExpansion fault) = 3
 status_of (GraphRefused g fault) = 3
 status_of (NoRole role) = 4
-status_of (WrongLine line kind) = 4
+status_of (WrongLine line wrong) = 4
 status_of (FileFailed file) = 5
 status_of WriteFailed = 6
 status_of NoMemory = 8
@@ -57,12 +58,11 @@ status_of (NoSuchFile file) = 9
 status_of (TooLarge what) = 10
 
 -- what is wrong with a line
-abbrev pub kind_text : Kind → List ℕ
-kind_text Form = codes "form"
-kind_text Unknown = codes "unknown"
-kind_text Twice = codes "twice"
-kind_text NotHonest = codes "not-honest"
-kind_text TooManySteps = codes "too-many-steps"
+abbrev pub wrong_text : Wrong → List ℕ
+wrong_text Form = codes "form"
+wrong_text Unknown = codes "unknown"
+wrong_text Twice = codes "twice"
+wrong_text NotHonest = codes "not-honest"
 
 -- the line on standard error
 abbrev pub line_of : Ending → List ℕ
@@ -72,7 +72,7 @@ line_of (NoGraph fault) = codes "graph refused: " ++ parse_text fault ++ 10 ∷ 
 line_of (NoExpansion fault) = codes "graph refused: " ++ compose_text fault ++ 10 ∷ []
 line_of (GraphRefused g fault) = codes "graph refused: " ++ refusal_text g fault ++ 10 ∷ []
 line_of (NoRole role) = codes "input refused: role " ++ role ++ 10 ∷ []
-line_of (WrongLine line kind) = codes "input refused: line " ++ decimal line ++ 32 ∷ kind_text kind ++ 10 ∷ []
+line_of (WrongLine line wrong) = codes "input refused: line " ++ decimal line ++ 32 ∷ wrong_text wrong ++ 10 ∷ []
 line_of (FileFailed file) = codes "file failed: " ++ file ++ 10 ∷ []
 line_of WriteFailed = []
 line_of NoMemory = codes "out of memory\n"
@@ -81,22 +81,26 @@ line_of (TooLarge what) = codes "too large: " ++ what ++ 10 ∷ []
 
 -- ---- the ending that the input has, where nothing fails and memory is to be had
 
--- what a line's fault ends with
-abbrev pub ending_of_line : ℕ → Kind → Ending
-ending_of_line n TooManySteps = TooLarge (codes "steps")
-ending_of_line n kind = WrongLine n kind
+-- what the first wrong line of a schedule ends with
+abbrev pub ending_of_line : ℕ → Format.Kind → Ending
+ending_of_line n Format.Form = WrongLine n Form
+ending_of_line n Format.Unknown = WrongLine n Unknown
+ending_of_line n Format.Twice = WrongLine n Twice
+ending_of_line n Format.NotHonest = WrongLine n NotHonest
+ending_of_line n (Format.Graph fault) = NoGraph fault
+ending_of_line n Format.TooManySteps = TooLarge (codes "steps")
+ending_of_line n Format.TooManySessions = TooLarge (codes "sessions")
 
--- what the reading of a schedule ends with
-abbrev pub ending_of_read : Result Schedule LineFault → Ending
-ending_of_read (Ok s) = Written
-ending_of_read (Err (Line n kind)) = ending_of_line n kind
-ending_of_read (Err OutOfMemory) = NoMemory
+-- what the reading of a schedule that is refused ends with
+abbrev pub ending_of_fault : LineFault → Ending
+ending_of_fault (Line n kind) = ending_of_line n (kind_of kind)
+ending_of_fault OutOfMemory = NoMemory
 
 -- what a fault of logs ends with
-abbrev pub ending_of_fault : LogFault → Ending
-ending_of_fault (FormOfLogs n) = WrongLine n Form
-ending_of_fault (UnknownInLogs n) = WrongLine n Unknown
-ending_of_fault (TwiceInLogs n) = WrongLine n Twice
-ending_of_fault (GraphOfLogs fault) = NoGraph fault
-ending_of_fault TooManyEvents = TooLarge (codes "events")
-ending_of_fault NoMemoryForLogs = NoMemory
+abbrev pub ending_of_logs : LogFault → Ending
+ending_of_logs (FormOfLogs n) = WrongLine n Form
+ending_of_logs (UnknownInLogs n) = WrongLine n Unknown
+ending_of_logs (TwiceInLogs n) = WrongLine n Twice
+ending_of_logs (GraphOfLogs fault) = NoGraph fault
+ending_of_logs TooManyEvents = TooLarge (codes "events")
+ending_of_logs NoMemoryForLogs = NoMemory

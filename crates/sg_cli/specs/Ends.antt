@@ -1,5 +1,5 @@
 -- What the program leaves, and why it ends as it does.
-use Rattle.std.specs.Prelude.{◌≡◌, ◌≢◌, ℕ, ◌≤◌, ◌<◌, ◌⊎◌, List, [], ◌∷◌, All, Option, Some, None, Ok, Err, length, slice_get, IsSomeAnd, IsTrue, ⊤}
+use Rattle.std.specs.Prelude.{◌≡◌, ◌≢◌, ℕ, ◌≤◌, ◌<◌, ◌⊎◌, List, [], ◌∷◌, All, Option, Some, None, Ok, Err, codes, length, slice_get, IsSomeAnd, IsTrue, ⊤}
 use Rattle.sg_base.specs.Outside.{HasRisen, Appends, AppendsFront, file_at}
 use Rattle.sg_protocol.specs.Accepted.{Accepted}
 use Rattle.sg_model.specs.Lists.{has_text}
@@ -24,14 +24,13 @@ use Rattle.sg_program.specs.Text.{program_text}
 use Rattle.sg_program.specs.declared.all.AllFault.TheVariants.{Refused}
 use Rattle.sg_program.specs.declared.check.CompileFault.{CompileFault}
 use Rattle.sg_program.specs.declared.check.CompileFault.TheVariants.{OutOfMemory}
-use Rattle.sg_sched.specs.Spelled.{SpellsSchedule, read}
-use Rattle.sg_world.specs.Account.{account}
-use Rattle.sg_world.specs.Forms.{NoneJoinsTwice}
-use Rattle.sg_world.specs.Report.{IsReport}
+use Rattle.sg_sched.specs.Format.Kinds.{Kind}
+use Rattle.sg_sched.specs.Format.Spells.{SpellsSchedule, IsFirstFault}
 use Rattle.sg_cli.specs.Accepted.{check_text}
 use Rattle.sg_cli.specs.Audited.{AllAnswered}
 use Rattle.sg_cli.specs.Command.{Command, Check, Compile, Replay, Audit, Compose, command_of}
-use Rattle.sg_cli.specs.Ending.{Ending, Written, NoCommand, NoGraph, NoExpansion, GraphRefused, NoRole, WrongLine, FileFailed, WriteFailed, NoMemory, NoSuchFile, TooLarge, status_of, line_of, ending_of_read, ending_of_fault}
+use Rattle.sg_cli.specs.Ending.{Ending, Written, NoCommand, NoGraph, NoExpansion, GraphRefused, NoRole, WrongLine, FileFailed, WriteFailed, NoMemory, NoSuchFile, TooLarge, status_of, line_of, ending_of_line, ending_of_logs}
+use Rattle.sg_cli.specs.Replayed.{CanBeReplayed, Reports, IsOverfull}
 
 -- files, each its name and its bytes, where they are told
 abbrev pub Told : Type 0
@@ -128,22 +127,39 @@ Compiles name bytes old new ending = (text : List ℕ) × IsCompilation bytes na
 
 -- ---- replay
 
--- the text is a report of the run of the schedule that the bytes spell, its graphs are compiled, and no principal of it joins a session twice
+-- the text is a report of the replay of the schedule that the bytes spell, over the programs of its graphs
 pub record IsReplay (bytes text : List ℕ) : Type 0 where
   pub schedule : Schedule
   pub programs : List Program
-  pub spelled : SpellsSchedule bytes schedule
+  pub spelled : SpellsSchedule real bytes schedule
+  pub can : CanBeReplayed schedule
   pub compiled : AreCompiled real schedule.graphs programs
   pub few : All IsWhole programs
-  pub report : IsReport (account schedule) text
-  pub once : NoneJoinsTwice schedule
+  pub reports : Reports programs schedule text
 
--- a replay of these bytes ends so: the report is written; else nothing is written, and the bytes are refused as their reading says, or a graph at its first fault, or memory was wanted
+-- the program ends as the first wrong line of the bytes asks
+abbrev pub IsNoSchedule : List ℕ → Ending → Type 0
+IsNoSchedule bytes ending = (line : ℕ) × (kind : Kind) × IsFirstFault bytes line kind × (ending ≡ ending_of_line line kind)
+
+-- the record is full as a step of the schedule that the bytes spell begins
+pub record IsTooLong (bytes : List ℕ) : Type 0 where
+  pub schedule : Schedule
+  pub programs : List Program
+  pub spelled : SpellsSchedule real bytes schedule
+  pub compiled : AreCompiled real schedule.graphs programs
+  pub overfull : IsOverfull programs schedule
+
+-- too much is asked for: too many steps or sessions, or a record that grows too large
+abbrev pub AsksTooMuch : List ℕ → (what : List ℕ) → Type 0
+AsksTooMuch bytes what = IsNoSchedule bytes (TooLarge what) ⊎ ((what ≡ codes "record") × IsTooLong bytes)
+
+-- a replay of these bytes ends so: the report is written; else nothing is written, and the bytes are refused at their first wrong line, or a graph at its first fault, or too much is asked for, or memory was wanted
 abbrev pub Replays : List ℕ → (old new : Output) → Ending → Type 0
 Replays bytes old new NoMemory = new.bytes ≡ old.bytes
-Replays bytes old new (WrongLine line kind) = (new.bytes ≡ old.bytes) × (ending_of_read (read bytes) ≡ WrongLine line kind)
-Replays bytes old new (TooLarge what) = (new.bytes ≡ old.bytes) × (ending_of_read (read bytes) ≡ TooLarge what)
-Replays bytes old new (GraphRefused g fault) = (new.bytes ≡ old.bytes) × ((s : Schedule) × SpellsSchedule bytes s × IsFirstRefused s.graphs g fault)
+Replays bytes old new (NoGraph fault) = (new.bytes ≡ old.bytes) × IsNoSchedule bytes (NoGraph fault)
+Replays bytes old new (WrongLine line wrong) = (new.bytes ≡ old.bytes) × IsNoSchedule bytes (WrongLine line wrong)
+Replays bytes old new (TooLarge what) = (new.bytes ≡ old.bytes) × AsksTooMuch bytes what
+Replays bytes old new (GraphRefused g fault) = (new.bytes ≡ old.bytes) × ((s : Schedule) × SpellsSchedule real bytes s × IsFirstRefused s.graphs g fault)
 Replays bytes old new ending = (text : List ℕ) × IsReplay bytes text × Writes old new text ending
 
 -- ---- audit
@@ -159,13 +175,13 @@ pub record IsAudit (bytes text : List ℕ) : Type 0 where
 
 -- the program ends as a fault asks that is the first of the bytes
 abbrev pub IsNoLogs : List ℕ → Ending → Type 0
-IsNoLogs bytes ending = (fault : LogFault) × IsFault bytes fault × (ending ≡ ending_of_fault fault)
+IsNoLogs bytes ending = (fault : LogFault) × IsFault bytes fault × (ending ≡ ending_of_logs fault)
 
 -- an audit of these bytes ends so: the answers are written; else nothing is written, and the bytes are refused by their first fault, or the graph of the logs at its first fault, or memory was wanted
 abbrev pub Audits : List ℕ → (old new : Output) → Ending → Type 0
 Audits bytes old new NoMemory = new.bytes ≡ old.bytes
 Audits bytes old new (NoGraph fault) = (new.bytes ≡ old.bytes) × IsNoLogs bytes (NoGraph fault)
-Audits bytes old new (WrongLine line kind) = (new.bytes ≡ old.bytes) × IsNoLogs bytes (WrongLine line kind)
+Audits bytes old new (WrongLine line wrong) = (new.bytes ≡ old.bytes) × IsNoLogs bytes (WrongLine line wrong)
 Audits bytes old new (TooLarge what) = (new.bytes ≡ old.bytes) × IsNoLogs bytes (TooLarge what)
 Audits bytes old new (GraphRefused g fault) = (new.bytes ≡ old.bytes) × ((l : Logs) × SpellsLogs bytes l × (l.graph ≡ g) × IsFirstRefused (g ∷ []) g fault)
 Audits bytes old new ending = (text : List ℕ) × IsAudit bytes text × Writes old new text ending

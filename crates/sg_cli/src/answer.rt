@@ -4,12 +4,15 @@ ghost use Rattle.sg_audit.specs.Agree.{AreLogs};
 ghost use Rattle.sg_audit.specs.Answers.{IsAnswer};
 ghost use Rattle.sg_audit.specs.Held.{logs_of, told_of};
 ghost use Rattle.sg_audit.specs.Taken.{session_of};
-ghost use Rattle.sg_cli.specs.Audited.{AllAnswered, Answered, answer_text, clash_text, said_text};
+ghost use Rattle.sg_protocol.specs.Walk.{IsStoredWalk};
+ghost use Rattle.sg_walk.specs.Views.{steps_of};
+ghost use Rattle.sg_cli.specs.Audited.{AllAnswered, Answered, answer_text, clash_text, said_text, yes_text};
 
-use crate::walk::put_walk_line;
-use sg_audit::{Audit, SessionLog, audit};
+use sg_audit::{Audit, SessionLog, audit, roles_of};
 use sg_base::{ByteOut, Name, OutOfMemory, Time};
 use sg_graph::Graph;
+use sg_lines::put_walk;
+use sg_walk::StoredWalk;
 use std::alloc::Global;
 
 /// Audits sessions, and gives the lines of the answers.
@@ -43,7 +46,7 @@ fn put_session(
 }
 
 // Writes the right answer of a session.
-#[tactic(auto, using(crate::proofs::Answered::labels_of_yes))]
+#[tactic(auto, using(crate::proofs::Answered::walk_of_yes))]
 fn put_answer(
     alloc: Global,
     out: &mut ByteOut,
@@ -51,17 +54,34 @@ fn put_answer(
     session: &SessionLog,
     answer: &Audit,
 ) -> Result<(), OutOfMemory>
-    requires { IsAnswer graph.now (logs_of session.now) (told_of session.now) answer.now }
+    requires logs { AreLogs graph.now (logs_of session.now) (told_of session.now) }
+    requires answer { IsAnswer graph.now (logs_of session.now) (told_of session.now) answer.now }
     ensures { OnOk result (out.new ≡ out.old ++ answer_text graph.now (session_of session.now) answer.now) }
 {
     match answer {
-        Audit::Yes(walk) => {
-            put_said(out, &session.name, b" yes\n")?;
-            put_walk_line(alloc, out, graph, session, walk)
-        }
+        Audit::Yes(walk) => put_yes(alloc, out, graph, session, walk),
         Audit::Clash { time } => put_clash(alloc, out, &session.name, *time),
         Audit::No => put_said(out, &session.name, b" no\n"),
     }
+}
+
+// Writes that the logs of a session agree, and the walk with which they do.
+fn put_yes(
+    alloc: Global,
+    out: &mut ByteOut,
+    graph: &Graph,
+    session: &SessionLog,
+    walk: &StoredWalk,
+) -> Result<(), OutOfMemory>
+    requires logs { AreLogs graph.now (logs_of session.now) (told_of session.now) }
+    requires walk { IsStoredWalk graph.now (steps_of walk.now) }
+    ensures { OnOk result (out.new ≡ out.old ++ yes_text graph.now (session_of session.now) (steps_of walk.now)) }
+{
+    // What the type says of a graph: there are at most 16 roles, and its edges have its variables.
+    let _roles = graph.roles();
+    let honest = roles_of(session.logs.as_slice());
+    put_said(out, &session.name, b" yes\n")?;
+    put_walk(alloc, out, session.name.as_bytes(), graph, honest, walk)
 }
 
 // Writes what is said of the session of this name.

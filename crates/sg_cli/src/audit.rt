@@ -7,18 +7,17 @@ ghost use Rattle.sg_audit.specs.Agree.{AreLogs};
 ghost use Rattle.sg_audit.specs.Held.{logs_of, told_of};
 ghost use Rattle.sg_audit.specs.Spells.{SpellsLogs};
 ghost use Rattle.sg_audit.specs.Taken.{logs_held, session_of};
-ghost use Rattle.sg_cli.specs.Ending.{ending_of_fault};
+ghost use Rattle.sg_cli.specs.Ending.{ending_of_logs};
 ghost use Rattle.sg_cli.specs.Ends.{Audits, OnFile};
 ghost use Rattle.sg_cli.specs.Held.{ending_held};
 
 use crate::answer::answers_text;
-use crate::ending::Ending;
+use crate::ending::{Ending, Wrong};
 use crate::file::read_file;
 use sg_audit::{LogFault, Logs, SessionLog, read_logs};
 use sg_base::{Files, Sink, write_all};
 use sg_graph::Graph;
 use sg_program::{AllFault, Programs, compile_all};
-use sg_sched::first_path::Kind;
 use std::alloc::Global;
 use std::slice;
 
@@ -53,20 +52,20 @@ fn audit_bytes<O: Sink>(alloc: Global, bytes: &[u8], out: &mut O) -> Ending<'sta
 
 // How the program ends where bytes are no logs.
 fn refused(fault: LogFault) -> Ending<'static>
-    ensures { ending_held result ≡ ending_of_fault fault }
+    ensures { ending_held result ≡ ending_of_logs fault }
 {
     match fault {
         LogFault::Form { line } => Ending::WrongLine {
             line,
-            kind: Kind::Form,
+            wrong: Wrong::Form,
         },
         LogFault::Unknown { line } => Ending::WrongLine {
             line,
-            kind: Kind::Unknown,
+            wrong: Wrong::Unknown,
         },
         LogFault::Twice { line } => Ending::WrongLine {
             line,
-            kind: Kind::Twice,
+            wrong: Wrong::Twice,
         },
         LogFault::Graph { fault } => Ending::NoGraph { fault },
         LogFault::TooManyEvents => Ending::TooLarge { what: "events" },

@@ -1,6 +1,6 @@
 //! How the program ends, and what it says of it.
 ghost use Rattle.std.specs.Prelude.{◌≡◌, ◌≢◌, ◌++◌, ◌∷◌, [], IfOk, OnErr, OnOk, codes, decimal};
-ghost use Rattle.sg_cli.specs.Ending.{status_of, line_of, kind_text};
+ghost use Rattle.sg_cli.specs.Ending.{status_of, line_of, wrong_text};
 ghost use Rattle.sg_cli.specs.Held.{ending_held};
 
 use crate::refusal::{put_no_expansion, put_no_graph, put_refusal};
@@ -9,8 +9,20 @@ use sg_compose::ComposeFault;
 use sg_graph::Graph;
 use sg_parse::ParseFault;
 use sg_program::CompileFault;
-use sg_sched::first_path::Kind;
 use std::alloc::Global;
+
+/// What is wrong with a line of a schedule or of logs.
+#[derive(Debug, Clone, Copy)]
+pub enum Wrong {
+    /// It is of no form, or stands where its form may not.
+    Form,
+    /// A name that it uses isn't declared.
+    Unknown,
+    /// It declares what is declared already.
+    Twice,
+    /// It is a step of a principal that isn't honest.
+    NotHonest,
+}
 
 /// How the program ends.
 #[derive(Debug, Drop)]
@@ -19,7 +31,7 @@ pub enum Ending<'w> {
     Written,
     /// The words are not in the table of commands.
     NoCommand,
-    /// The bytes are no graph: the fault of their first wrong token.
+    /// The bytes are no graph, or a block of them isn't: the fault of its first wrong token.
     NoGraph { fault: ParseFault },
     /// The parts are not expanded: the first use that can't be.
     NoExpansion { fault: ComposeFault },
@@ -28,7 +40,7 @@ pub enum Ending<'w> {
     /// The graph has no role of this name.
     NoRole { role: &'w str },
     /// This line of the schedule or of the logs, counted from 1, is the first that is wrong.
-    WrongLine { line: u32, kind: Kind },
+    WrongLine { line: u32, wrong: Wrong },
     /// The file could not be read.
     FileFailed { file: &'w str },
     /// What was to be written was not taken.
@@ -86,7 +98,12 @@ impl<'w> Ending<'w> {
             Ending::NoExpansion { fault } => put_no_expansion(out, fault),
             Ending::GraphRefused { graph, fault } => put_refusal(out, graph, fault),
             Ending::NoRole { role } => put_word(out, b"input refused: role ", role),
-            Ending::WrongLine { line, kind } => put_wrong_line(alloc, out, *line, kind_word(*kind)),
+            Ending::WrongLine { line, wrong } => put_wrong_line(
+                alloc,
+                out,
+                *line,
+                wrong_word(*wrong),
+            ),
             Ending::FileFailed { file } => put_word(out, b"file failed: ", file),
             Ending::NoMemory => out.bytes(b"out of memory\n"),
             Ending::NoSuchFile { file } => put_word(out, b"no such file: ", file),
@@ -128,14 +145,13 @@ fn put_number_and_word(
     put_word(out, b" ", word)
 }
 
-fn kind_word(kind: Kind) -> &'static str
-    ensures { result.now ≡ kind_text kind }
+fn wrong_word(wrong: Wrong) -> &'static str
+    ensures { result.now ≡ wrong_text wrong }
 {
-    match kind {
-        Kind::Form => "form",
-        Kind::Unknown => "unknown",
-        Kind::Twice => "twice",
-        Kind::NotHonest => "not-honest",
-        Kind::TooManySteps => "too-many-steps",
+    match wrong {
+        Wrong::Form => "form",
+        Wrong::Unknown => "unknown",
+        Wrong::Twice => "twice",
+        Wrong::NotHonest => "not-honest",
     }
 }

@@ -1,4 +1,4 @@
-//! `sessiongraph`: checks, composes and compiles session graphs, audits logs of their sessions, and replays schedules over them.
+//! `sessiongraph`: checks, composes and compiles session graphs, replays schedules over them, and audits logs of their sessions.
 #![tactic(auto)]
 
 mod answer;
@@ -15,8 +15,6 @@ mod refusal;
 mod replay;
 #[cfg(test)]
 mod tests;
-mod value;
-mod walk;
 
 use program::top;
 use sg_base::{StdFiles, StdSink};

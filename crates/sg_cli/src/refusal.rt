@@ -253,7 +253,7 @@ fn put_next(out: &mut ByteOut, graph: &Graph, label: Label) -> Result<(), OutOfM
 }
 
 // Writes the name of a label's edge, nothing where no edge has the label.
-pub fn put_label(out: &mut ByteOut, graph: &Graph, label: Label) -> Result<(), OutOfMemory>
+fn put_label(out: &mut ByteOut, graph: &Graph, label: Label) -> Result<(), OutOfMemory>
     ensures { OnOk result (out.new ≡ out.old ++ edge_name graph.now label) }
 {
     if label.0 >= graph.edges() {
@@ -283,7 +283,7 @@ fn put_role(out: &mut ByteOut, graph: &Graph, role: Role) -> Result<(), OutOfMem
 }
 
 // Writes the name of a variable, nothing where the graph has no such variable.
-pub fn put_var(out: &mut ByteOut, graph: &Graph, var: Var) -> Result<(), OutOfMemory>
+fn put_var(out: &mut ByteOut, graph: &Graph, var: Var) -> Result<(), OutOfMemory>
     ensures { OnOk result (out.new ≡ out.old ++ variable_name graph.now var) }
 {
     if var.0 >= graph.vars() {

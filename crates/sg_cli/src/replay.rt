@@ -1,24 +1,29 @@
-//! The command `replay`: reads a schedule, compiles its graphs, runs it, and writes the report of the run.
-ghost use Rattle.std.specs.Prelude.{◌≡◌, ◌≤◌, All, Err, IfOk, length};
+//! The command `replay`: reads a schedule, compiles its graphs, replays it over a node for each honest principal, and writes the report.
+ghost use Rattle.std.specs.Prelude.{◌≡◌, ◌<◌, ◌≤◌, true, All, IfErr, IfOk, OnOk, length};
 ghost use Rattle.sg_program.specs.All.{IsAllFault};
 ghost use Rattle.sg_program.specs.Compiled.{IsWhole};
 ghost use Rattle.sg_protocol.specs.IsSchedule.{AreCompiled};
+ghost use Rattle.sg_protocol.specs.Steps.{is_taken};
 ghost use Rattle.sg_protocol.specs.Texts.{real};
+ghost use Rattle.sg_read.specs.Taken.{kind_of};
+ghost use Rattle.sg_world.specs.Faults.{IsFull};
+ghost use Rattle.sg_world.specs.Named.{CanBeTaken};
+ghost use Rattle.sg_world.specs.Replay.{with_taken};
+ghost use Rattle.sg_sched.specs.Format.Spells.{SpellsSchedule};
+ghost use Rattle.sg_sched.specs.Format.StepsHeld.{step_of};
+ghost use Rattle.sg_cli.specs.Ending.{ending_of_fault, ending_of_line};
 ghost use Rattle.sg_cli.specs.Ends.{OnFile, Refuses, Replays};
-ghost use Rattle.sg_cli.specs.Ending.{ending_of_read};
 ghost use Rattle.sg_cli.specs.Held.{ending_held};
-ghost use Rattle.sg_sched.specs.Spelled.{SpellsSchedule};
-ghost use Rattle.sg_world.specs.Account.{account};
-ghost use Rattle.sg_world.specs.Forms.{IsPairSchedule};
-ghost use Rattle.sg_world.specs.Report.{IsReport};
+ghost use Rattle.sg_cli.specs.Replayed.{CanBeReplayed, HasNoRoom, Reports, Stops};
 
-use crate::ending::Ending;
+use crate::ending::{Ending, Wrong};
 use crate::file::read_file;
-use sg_base::{Files, OutOfMemory, Sink, write_all};
+use sg_base::{Files, Sink, write_all};
 use sg_graph::Graph;
 use sg_program::{AllFault, Programs, compile_all};
-use sg_sched::first_path::{Kind, LineFault, Schedule, read_schedule};
-use sg_world::World;
+use sg_read::read_schedule;
+use sg_sched::{Kind, LineFault, Schedule, Step};
+use sg_world::{StepFault, World};
 use std::alloc::Global;
 
 // A schedule file has at most 16 MiB.
@@ -50,14 +55,53 @@ fn replay_bytes<O: Sink>(alloc: Global, bytes: &[u8], out: &mut O) -> Ending<'st
     }
 }
 
-// Compiles the graphs of the schedule that the bytes spell, and runs it.
+// How the program ends where bytes are no schedule.
+fn refused(fault: LineFault) -> Ending<'static>
+    ensures { ending_held result ≡ ending_of_fault fault }
+{
+    match fault {
+        LineFault::Line { line, kind } => wrong_line(line, kind),
+        LineFault::OutOfMemory => Ending::NoMemory,
+    }
+}
+
+// How the program ends where this line is the first that is wrong.
+fn wrong_line(line: u32, kind: Kind) -> Ending<'static>
+    ensures { ending_held result ≡ ending_of_line line (kind_of kind) }
+{
+    match kind {
+        Kind::Form => Ending::WrongLine {
+            line,
+            wrong: Wrong::Form,
+        },
+        Kind::Unknown => Ending::WrongLine {
+            line,
+            wrong: Wrong::Unknown,
+        },
+        Kind::Twice => Ending::WrongLine {
+            line,
+            wrong: Wrong::Twice,
+        },
+        Kind::NotHonest => Ending::WrongLine {
+            line,
+            wrong: Wrong::NotHonest,
+        },
+        Kind::Graph(fault) => Ending::NoGraph { fault },
+        Kind::TooManySteps => Ending::TooLarge { what: "steps" },
+        Kind::TooManySessions => Ending::TooLarge { what: "sessions" },
+    }
+}
+
+// Compiles the graphs of the schedule that the bytes spell, and replays it.
 fn replay_schedule<O: Sink>(
     alloc: Global,
     bytes: &[u8],
     schedule: &Schedule,
     out: &mut O,
 ) -> Ending<'static>
-    requires { SpellsSchedule bytes.now schedule.now }
+    requires short { length bytes.now ≤ 16_777_216 }
+    requires spelled { SpellsSchedule real bytes.now schedule.now }
+    requires can { CanBeReplayed schedule.now }
     ensures { Replays bytes.now (record { bytes = O.written out.old; faults = O.faults out.old }) (record { bytes = O.written out.new; faults = O.faults out.new }) (ending_held result) }
 {
     match compile_all(alloc, schedule.graphs.as_slice()) {
@@ -80,7 +124,7 @@ fn refused_graph(alloc: Global, graphs: &[Graph], fault: AllFault) -> Ending<'st
     }
 }
 
-// Runs the schedule that the bytes spell, and writes the report.
+// Replays the schedule that the bytes spell over the programs of its graphs, and writes the report.
 fn run_schedule<O: Sink>(
     alloc: Global,
     bytes: &[u8],
@@ -88,43 +132,57 @@ fn run_schedule<O: Sink>(
     programs: &Programs,
     out: &mut O,
 ) -> Ending<'static>
-    requires spelled { SpellsSchedule bytes.now schedule.now }
+    requires spelled { SpellsSchedule real bytes.now schedule.now }
+    requires can { CanBeReplayed schedule.now }
     requires compiled { AreCompiled real schedule.now.graphs programs.now }
     requires few { All IsWhole programs.now }
     ensures { Replays bytes.now (record { bytes = O.written out.old; faults = O.faults out.old }) (record { bytes = O.written out.new; faults = O.faults out.new }) (ending_held result) }
 {
-    match report_of(alloc, schedule) {
+    match report_of(alloc, programs, schedule) {
         Ok(text) => match write_all(out, text.as_slice()) {
             Ok(()) => Ending::Written,
             Err(_) => Ending::WriteFailed,
         },
-        Err(_) => Ending::NoMemory,
+        Err(ending) => ending,
     }
 }
 
-// How the program ends where bytes are no schedule.
-fn refused(fault: LineFault) -> Ending<'static>
-    ensures { ending_held result ≡ ending_of_read (Err fault) }
+// Replays a schedule over the programs of its graphs, and gives the report, or says how the program ends without one.
+fn report_of(
+    alloc: Global,
+    programs: &Programs,
+    schedule: &Schedule,
+) -> Result<Vec<u8>, Ending<'static>>
+    requires can { CanBeReplayed schedule.now }
+    requires compiled { AreCompiled real schedule.now.graphs programs.now }
+    ensures reports { IfOk result (λ text. Reports programs.now schedule.now text.items) }
+    ensures stops { IfErr result (λ ending. Stops programs.now schedule.now (ending_held ending)) }
 {
-    match fault {
-        LineFault::Line {
-            kind: Kind::TooManySteps,
-            ..
-        } => Ending::TooLarge { what: "steps" },
-        LineFault::Line { line, kind } => Ending::WrongLine { line, kind },
-        LineFault::OutOfMemory => Ending::NoMemory,
-    }
-}
-
-// Runs a schedule and gives the report of the run.
-fn report_of(alloc: Global, schedule: &Schedule) -> Result<Vec<u8>, OutOfMemory>
-    requires form { IsPairSchedule schedule.now }
-    requires few { length schedule.now.steps ≤ 200_000 }
-    ensures { IfOk result (λ text. IsReport (account schedule.now) text.items) }
-{
-    let mut world = World::new(alloc, schedule);
+    let Ok(mut world) = World::new(alloc, programs, schedule) else {
+        return Err(Ending::NoMemory);
+    };
     'steps: for step in schedule.steps.as_slice() {
-        world.step(step)?;
+        take(&mut world, step)?;
     }
-    world.report(alloc)
+    match world.report() {
+        Ok(text) => Ok(text),
+        Err(_) => Err(Ending::NoMemory),
+    }
+}
+
+// Takes a step of an honest principal, or a craft, or says how the program ends where it isn't taken.
+fn take(world: &mut World<'_>, step: &Step) -> Result<(), Ending<'static>>
+    requires few { length world.old.schedule.steps < 200_000 }
+    requires step { CanBeTaken world.old.schedule (step_of step.now) }
+    requires honest { is_taken world.old.schedule (step_of step.now) ≡ true }
+    ensures taken { OnOk result (world.new ≡ with_taken world.old (step_of step.now)) }
+    ensures room { OnOk result (IsFull world.old → ⊥) }
+    ensures full { IfErr result (λ ending. HasNoRoom world.old (ending_held ending)) }
+{
+    match world.step(step) {
+        Ok(()) => Ok(()),
+        Err(StepFault::RecordFull { .. }) => Err(Ending::TooLarge { what: "record" }),
+        Err(StepFault::OutOfMemory) => Err(Ending::NoMemory),
+        Err(StepFault::NotHonest { .. }) => unreachable!(),
+    }
 }

@@ -87,6 +87,74 @@ fn reports_no_steps_as_two_premises(rt: HostRuntime) -> Result<(), OutOfMemory> 
     Ok(())
 }
 
+// A shop with a compromised principal, bob, at its counter.
+const SHOP: &str = "graph {\n\
+    graph shop;role c;role p;role w;var q:text by c;var price:int by w;\n\
+    node n0:c;node n1:p;node n2:w;node n3:p;node n4:c;\n\
+    edge Order:n0->n1 writes q reads q;edge Ask:n1->n2 reads q;\n\
+    edge Offer:n2->n3 writes price reads price;edge Pass:n3->n4 reads price;\n\
+    }\n\
+    honest alice\n\
+    honest carl\n\
+    key alice bob 1111111111111111111111111111111111111111111111111111111111111111\n\
+    key alice carl 2222222222222222222222222222222222222222222222222222222222222222\n\
+    key bob carl 3333333333333333333333333333333333333333333333333333333333333333\n\
+    session s1 shop 7 alice,bob,carl\n";
+
+// Whether a replay ends well with this report.
+fn reports(alloc: Global, schedule: &str, report: &str) -> Result<bool, OutOfMemory> {
+    let left = replayed(alloc, schedule)?;
+    let silent = left.err.bytes().is_empty();
+    Ok(left.status == 0 && silent && left.out.bytes() == report.as_bytes())
+}
+
+#[test]
+fn reports_crafted_frames(rt: HostRuntime) -> Result<(), OutOfMemory> {
+    let alloc = rt.alloc();
+    let schedule = format!(in alloc;
+        "{SHOP}\
+        start alice s1\n\
+        act alice s1 Order q=\"tea\"\n\
+        craft s1 from p to w join item Order 1 q=\"tea\"#2 tag w copy f1 1 w item Ask 2 open q=\"tea\"#2 seal key bob carl\n\
+        deliver carl f2\n\
+        act carl s1 Offer price=40\n\
+        craft s1 from p to c item Offer 3 price=1#99 tag c zero item Pass 4 open price=1#99 seal key alice bob\n\
+        deliver alice f4\n"
+    )?;
+    let report = "1 alice s1 started as c\n\
+        2 alice s1 sent Order time 1 to bob as f1 q=\"tea\"\n\
+        3 crafted f2\n\
+        4 carl s1 received Ask time 2 q=\"tea\"\n\
+        5 carl s1 sent Offer time 3 to bob as f3 price=40\n\
+        6 crafted f4\n\
+        7 alice refused bad-evidence item 1\n\
+        premise unforged holds\n\
+        premise collision-free holds\n\
+        walk s1: Order(q=\"tea\") *Ask Offer(price=40)\n";
+    assert!(rt; reports(alloc, schedule.as_str(), report)?);
+    Ok(())
+}
+
+#[test]
+fn reports_a_broken_premise_without_walks(rt: HostRuntime) -> Result<(), OutOfMemory> {
+    let alloc = rt.alloc();
+    let schedule = format!(in alloc;
+        "{HEAD}\
+        craft s1 from a to b join item Request 1 seal key a b\n\
+        deliver b f1\n\
+        abandon b s1\n\
+        deliver b f1 flip 0\n"
+    )?;
+    let report = "1 crafted f1\n\
+        2 b s1 received Request time 1\n\
+        3 b s1 abandoned\n\
+        4 b refused malformed at 0\n\
+        premise unforged broken at step 2 for a and b\n\
+        premise collision-free holds\n";
+    assert!(rt; reports(alloc, schedule.as_str(), report)?);
+    Ok(())
+}
+
 // Whether a run of the words over a file of the bytes ends with this status and line, and writes
 // no report.
 fn refuses(
@@ -137,6 +205,13 @@ fn refuses_what_is_no_schedule(rt: HostRuntime) -> Result<(), OutOfMemory> {
     assert!(rt; refuses_text(alloc, &["replay", "f"], "honest 9\n", 4, line)?);
     let line = "input refused: line 2 twice\n";
     assert!(rt; refuses_text(alloc, &["replay", "f"], "honest a\nhonest a\n", 4, line)?);
+    let line = "input refused: line 1 unknown\n";
+    assert!(rt; refuses_text(alloc, &["replay", "f"], "start a s1\n", 4, line)?);
+    let text = format!(in alloc; "{HEAD}abandon c s1\n")?;
+    let line = "input refused: line 8 not-honest\n";
+    assert!(rt; refuses_text(alloc, &["replay", "f"], text.as_str(), 4, line)?);
+    let line = "graph refused: unexpected at 0\n";
+    assert!(rt; refuses_text(alloc, &["replay", "f"], "graph {\n}\n", 3, line)?);
     Ok(())
 }
 

@@ -1,20 +1,26 @@
-pub mod Rows
-pub mod Lines
-pub mod Going
-pub mod Sits
-pub mod Declares
-pub mod Right
-pub mod Next
-pub mod Kept
-pub mod Holding
-pub mod Pasts
-pub mod PlainLines
-pub mod PlainReport
-pub mod Once
-pub mod Story
-pub mod Stages
-pub mod Ours
-pub mod Course
-pub mod Reports
-pub mod Worked
-pub mod Spelled
+mod Pasts
+mod EntryGraphs
+mod Goes
+mod OtherSteps
+mod Called
+mod Delivered
+mod Next
+mod Begins
+mod Found
+mod Lasts
+mod Worlds
+mod Graphs
+mod Crafting
+mod RunEntries
+mod Tellable
+mod KeptLines
+mod PremiseLaws
+mod NamesMore
+mod WrittenLines
+mod WalkLaws
+mod Reported
+mod Accounts
+mod Gathered
+mod Taken
+pub mod EntryCalls
+pub mod Passing

@@ -1,223 +1,120 @@
--- Where both principals stand after a step, and the run with one step more.
-use Rattle.std.specs.Prelude.{◌≡◌, ℕ, zero, suc, ◌==◌, nat_lt, Bool, true, false, ◌&&◌, ◌||◌, if◌then◌else◌, List, [], ◌∷◌, ◌++◌, map, filter, flat_map, length, refl, Option, Some, None, bytes_eq}
+-- One more step of a replay, by its parts.
+use Rattle.std.proofs.Common.{◌≡◌, ℕ, zero, suc, ◌+◌, ◌<◌, ◌≤◌, ◌^◌, true, ◌&&◌, List, [], ◌∷◌, ◌++◌, map, length, Option, Some, None, option_map, filter_map, refl, sym, ◌∙◌, ap, subst, arith, length-append}
+use Rattle.std.specs.List.{list_all, cons_option}
 use Rattle.std.specs.Option.{option_map_or}
-use Rattle.std.proofs.Common.{sym, ap, ◌∙◌, subst, inl, inr, true≢false, append-nil}
-use Rattle.std.proofs.lemmas.Bool.{cases_Bool, eqb-true, eq-eqb}
-use Rattle.std.proofs.lemmas.List.{map-append}
-use Rattle.std.proofs.lemmas.List.Elements.{filter-append}
-use Rattle.std.proofs.lemmas.List.Folds.{list_any-append}
-use Rattle.std.proofs.lemmas.Grind.{flat_map-append}
-use Rattle.sg_model.specs.Last.{last}
-use Rattle.sg_model.specs.Names.{Name}
-use Rattle.sg_model.specs.Shape.{role_at}
-use Rattle.sg_law.proofs.Lists.{last-append}
-use Rattle.sg_protocol.specs.Calls.{Event, Started, Sent, Received, StartFault, ActFault, Refusal, sid_of, role_of, does_join}
-use Rattle.sg_protocol.specs.Graph.{shape}
-use Rattle.sg_protocol.specs.Node.{has_joined}
-use Rattle.sg_protocol.specs.Schedule.{Schedule, Step, StartStep, ActStep, AbandonStep, DeliverStep, CraftStep, Whole, Flipped, Cut, Bytes}
-use Rattle.sg_world.specs.Outcome.{Outcome, Happened, Sends, NotStarted, NotActed, NotDelivered, NoFrame, events_of_outcome, past_of}
-use Rattle.sg_world.specs.Run.{World, Message, Standing, the_sid, joins_of, move_of, standing, time, started, received, message, world_after, world_after_all, run}
-use Rattle.sg_world.specs.Sitting as Sittings
-use Rattle.sg_world.specs.Sitting.{Sitting, is_role, name_of, unknown_peer, is_in, start_fault, act_fault, join_refusal, next_refusal}
-use Rattle.sg_world.specs.Judged.{without_frame, stands, frame_of, sending, acting, delivery, judged, stands_after_event, stands_after}
-use Rattle.sg_world.specs.Steps.{with_step}
-use Rattle.sg_world.proofs.Rows.{first_asked, and_left, same_bytes, bytes_refl}
-use Rattle.sg_world.proofs.Pasts.{past_own, past_other}
-use Rattle.sg_world.proofs.Sits.{not_role}
-use Rattle.sg_world.proofs.Right.{role_of_is}
+use Rattle.indexmap.specs.IndexMap.{set_value_at}
+use Rattle.std.proofs.lemmas.Bool.{and_parts}
+use Rattle.std.proofs.lemmas.List.{length-map, map-append}
+use Rattle.std.proofs.lemmas.List.Folds.{list_all-append}
+use Rattle.sg_model.specs.Lists.{all_differ, has_text}
+use Rattle.sg_model.specs.Names.{Name, is_name}
+use Rattle.sg_protocol.proofs.RealHash.{real_hash}
+use Rattle.sg_protocol.proofs.Sizes.{steps_add_little}
+use Rattle.sg_protocol.proofs.Steps.{runs_go_by_step}
+use Rattle.sg_protocol.specs.IsSchedule.{IsSchedule, IsStep}
+use Rattle.sg_protocol.specs.Graph.{Graph}
+use Rattle.sg_protocol.specs.Keyring.{Program}
+use Rattle.sg_protocol.specs.NodeStates.{NodeState}
+use Rattle.sg_protocol.specs.Run.{run, world_after}
+use Rattle.sg_protocol.specs.Schedule.{Schedule, Step, who_of, StartStep, ActStep, AbandonStep, DeliverStep, CraftStep}
+use Rattle.sg_protocol.specs.Steps.{with_step, is_taken, record_size}
+use Rattle.sg_protocol.specs.Texts.{real}
+use Rattle.sg_protocol.specs.World.{World, Logged}
+use Rattle.sg_world.specs.Comes.{ComesAt, IsNamed}
+use Rattle.sg_world.specs.Entries.{graph_of_entry}
+use Rattle.sg_world.specs.Holds.{Holds, schedule_of}
+use Rattle.sg_world.specs.Kept.{Came, Taken, Recorded, HoldsRun, with_came, added_size}
+use Rattle.sg_world.specs.Named.{CanBeTaken}
+use Rattle.sg_world.specs.Places.{IsPlaceOf}
+use Rattle.sg_world.specs.Setting.{Setting}
+use Rattle.sg_world.proofs.EntryGraphs.{is_before}
+use Rattle.sg_world.proofs.Goes.{step_held}
+use Rattle.sg_world.proofs.OtherSteps.{schedule_more}
+use Rattle.sg_world.proofs.Pasts.{Named, names, in_names}
 
--- ---- the run with one step more
+-- a step records one frame at most
+few_framed : (ls : List Logged) → length (filter_map (λ (l : Logged). l.frame) ls) ≤ length ls
+few_framed [] = omega arith
+few_framed (l ∷ ls) = by l.frame (few_framed ls)
+  where
+    by : (o : Option (List ℕ)) → length (filter_map (λ (l : Logged). l.frame) ls) ≤ length ls → length (cons_option o (filter_map (λ (l : Logged). l.frame) ls)) ≤ suc (length ls)
+    by None h = omega (arith, h)
+    by (Some bs) h = omega (arith, h)
 
-same_after : (s : Schedule) (x : Step) (w : World) (y : Step) → world_after (with_step s x) w y ≡ world_after s w y
-same_after s x w (StartStep who n) = refl
-same_after s x w (ActStep who n label values) = refl
-same_after s x w (AbandonStep who n) = refl
-same_after s x w (DeliverStep who (Whole n)) = refl
-same_after s x w (DeliverStep who (Flipped n at)) = refl
-same_after s x w (DeliverStep who (Cut n len)) = refl
-same_after s x w (DeliverStep who (Bytes bs)) = refl
-same_after s x w (CraftStep c) = refl
+pub frames_few : (programs : List Program) (s : Schedule) (w : World) (nodes : List Named) (r : Recorded) → HoldsRun programs s w nodes r → length r.frames ≤ length r.entries
+frames_few programs s w nodes r h =
+    let a = ap (λ (z : List (List ℕ)). length z) h.frames in
+    let b = few_framed w.log in
+    let c = ap (λ (z : List (Option Graph)). length z) h.graphs in
+    let d = length-map r.entries (λ (e : Taken). e.graph) in
+    let e = length-map w.log (graph_of_entry programs s) in
+    omega (arith, a, b, c, d, e)
 
-same_all : (s : Schedule) (x : Step) (w : World) (ys : List Step) → world_after_all (with_step s x) w ys ≡ world_after_all s w ys
-same_all s x w [] = refl
-same_all s x w (y ∷ ys) = ap (λ v. world_after_all (with_step s x) v ys) (same_after s x w y) ∙ same_all s x (world_after s w y) ys
+-- a change of a value leaves the names
+names_same : (ns : List Named) (i : ℕ) (new : NodeState) → names (set_value_at ns i new) ≡ names ns
+names_same [] i new = refl
+names_same (n ∷ ns) zero new = refl
+names_same (n ∷ ns) (suc i) new = ap (λ (z : List Name). n.0 ∷ z) (names_same ns i new)
 
-all_more : (s : Schedule) (w : World) (ys : List Step) (x : Step) → world_after_all s w (ys ++ x ∷ []) ≡ world_after s (world_after_all s w ys) x
-all_more s w [] x = refl
-all_more s w (y ∷ ys) x = all_more s (world_after s w y) ys x
+module _ (d : Setting) (nodes now : List Named) (r : Recorded) (x : Step) (c : Came) (place k : ℕ)
+    (h : Holds d nodes r) (at : IsPlaceOf nodes x (Some place)) (room : length r.entries < 200000) (step : IsStep real (schedule_of d nodes r) x) (number : k ≡ length r.entries + 1)
+    (came : ComesAt d.sessions r.frames k x place nodes now c) where
+  abbrev S : Schedule
+  S = schedule_of d nodes r
 
-pub run_more : (s : Schedule) (x : Step) → run (with_step s x) ≡ world_after s (run s) x
-run_more s x = same_all s x (record { log = []; frames = [] }) (s.steps ++ x ∷ []) ∙ all_more s (record { log = []; frames = [] }) s.steps x
+  abbrev W : World
+  W = run real d.programs (schedule_of d nodes r)
 
--- ---- where a principal stands after its own event
+  who : who_of x ≡ Some came.who
+  who = let q : Some at.0 ≡ Some (came.who, came.old) = sym at.1 ∙ came.is_old in at.2 ∙ ap (λ (z : Option Named). option_map (λ (n : Named). n.0) z) q
 
-joins_more : (past : List Event) (e : Event) → joins_of (past ++ e ∷ []) ≡ joins_of past ++ joins_of (e ∷ [])
-joins_more past e = ap (map (λ (e : Event). (sid_of e, role_of e))) (filter-append does_join past (e ∷ [])) ∙ map-append (λ (e : Event). (sid_of e, role_of e)) (filter does_join past) (filter does_join (e ∷ []))
+  at_end : k ≡ length (schedule_of d nodes r).steps + 1
+  at_end = let e = length-map r.entries (λ (e : Taken). e.step) in omega (arith, e, number)
 
-joined_more : (past : List Event) (e : Event) (r : ℕ) → has_joined (joins_of (past ++ e ∷ [])) the_sid r ≡ (has_joined (joins_of past) the_sid r || has_joined (joins_of (e ∷ [])) the_sid r)
-joined_more past e r = ap (λ js. has_joined js the_sid r) (joins_more past e) ∙ list_any-append (λ (j : List ℕ × ℕ). bytes_eq j.0 the_sid && (j.1 == r)) (joins_of past) (joins_of (e ∷ []))
+  held : HoldsRun d.programs (with_step (schedule_of d nodes r) x) (world_after real (schedule_of d nodes r) (run real d.programs (schedule_of d nodes r)) k x) (set_value_at nodes place came.new) (with_came r x c)
+  held = step_held d.programs S W nodes r k x c came.who place came.old came.new who (is_before d.programs S k x at_end) h.run (and_parts (all_differ (names nodes)) (list_all is_name (names nodes)) h.schedule.honest_names).0 came.is_old
+      (λ past stands. came.comes S W past refl (sym h.run.frames) stands)
 
-or_true : (b : Bool) → (b || true) ≡ true
-or_true true = refl
-or_true false = refl
+  run_is : run real d.programs (with_step (schedule_of d nodes r) x) ≡ world_after real (schedule_of d nodes r) (run real d.programs (schedule_of d nodes r)) k x
+  run_is = runs_go_by_step real d.programs S x ∙ ap (λ n. world_after real S W n x) (sym at_end)
 
-or_false : (b : Bool) → (b || false) ≡ b
-or_false true = refl
-or_false false = refl
+  same : schedule_of d now (with_came r x c) ≡ with_step (schedule_of d nodes r) x
+  same =
+      let honest : names now ≡ names nodes = ap names came.is_new ∙ names_same nodes place came.new in
+      let steps : map (λ (e : Taken). e.step) (with_came r x c).entries ≡ map (λ (e : Taken). e.step) r.entries ++ x ∷ [] = map-append (λ (e : Taken). e.step) r.entries (record { step = x; told = c.told; graph = c.graph } ∷ []) in
+      (λ i. record { graphs = d.graphs; honest = honest i; keys = d.keys; sessions = d.sessions; steps = steps i })
 
-one_joins : (r : ℕ) → ((bytes_eq the_sid the_sid && (r == r)) || false) ≡ true
-one_joins r = rw (bytes_refl the_sid, eq-eqb r r refl) refl
+  is_one : is_taken (schedule_of d nodes r) x ≡ true
+  is_one = subst (λ (o : Option Name). option_map_or (λ n. has_text n (names nodes)) o true ≡ true) (sym who) (in_names nodes place came.who came.old came.is_old)
 
-moves_more : (past : List Event) (e : Event) → flat_map move_of (past ++ e ∷ []) ≡ flat_map move_of past ++ flat_map move_of (e ∷ [])
-moves_more past e = flat_map-append move_of past (e ∷ [])
+  all_taken : list_all (is_taken (with_step (schedule_of d nodes r) x)) (with_step (schedule_of d nodes r) x).steps ≡ true
+  all_taken = list_all-append (is_taken S) S.steps (x ∷ []) ∙ (λ i. h.taken i && (is_one i && true))
 
--- an event of the one session in the role
-own_event : (past : List Event) (e : Event) (r : ℕ) → sid_of e ≡ the_sid → role_of e ≡ r → standing r (past ++ e ∷ []) ≡ stands_after_event r (standing r past) e
-own_event past (Started sid q) r es er =
-    subst (λ k. standing r (past ++ Started sid k ∷ []) ≡ stands_after_event r (standing r past) (Started sid k)) (sym er)
-    (subst (λ i. standing r (past ++ Started i r ∷ []) ≡ stands_after_event r (standing r past) (Started i r)) (sym es)
-    (rw (eq-eqb r r refl) (λ i. record {
-      joined = (joined_more past (Started the_sid r) r ∙ ap (λ b. has_joined (joins_of past) the_sid r || b) (one_joins r) ∙ or_true _) i;
-      last = ap last (moves_more past (Started the_sid r) ∙ append-nil (flat_map move_of past)) i;
-    })))
-own_event past (Sent sid q label time values) r es er =
-    subst (λ k. standing r (past ++ Sent sid k label time values ∷ []) ≡ stands_after_event r (standing r past) (Sent sid k label time values)) (sym er)
-    (rw (eq-eqb r r refl) (λ i. record {
-      joined = (joined_more past (Sent sid r label time values) r ∙ or_false _) i;
-      last = (ap last (moves_more past (Sent sid r label time values)) ∙ last-append (flat_map move_of past) (record { label = label; time = time }) []) i;
-    }))
-own_event past (Received sid q label time values true) r es er =
-    subst (λ k. standing r (past ++ Received sid k label time values true ∷ []) ≡ stands_after_event r (standing r past) (Received sid k label time values true)) (sym er)
-    (subst (λ i. standing r (past ++ Received i r label time values true ∷ []) ≡ stands_after_event r (standing r past) (Received i r label time values true)) (sym es)
-    (rw (eq-eqb r r refl) (λ i. record {
-      joined = (joined_more past (Received the_sid r label time values true) r ∙ ap (λ b. has_joined (joins_of past) the_sid r || b) (one_joins r)) i;
-      last = (ap last (moves_more past (Received the_sid r label time values true)) ∙ last-append (flat_map move_of past) (record { label = label; time = time }) []) i;
-    })))
-own_event past (Received sid q label time values false) r es er =
-    subst (λ k. standing r (past ++ Received sid k label time values false ∷ []) ≡ stands_after_event r (standing r past) (Received sid k label time values false)) (sym er)
-    (rw (eq-eqb r r refl) (λ i. record {
-      joined = joined_more past (Received sid r label time values false) r i;
-      last = (ap last (moves_more past (Received sid r label time values false)) ∙ last-append (flat_map move_of past) (record { label = label; time = time }) []) i;
-    }))
+  pub next : Holds d now (with_came r x c) × (schedule_of d now (with_came r x c) ≡ with_step (schedule_of d nodes r) x)
+  next = (
+    record {
+      schedule = subst (IsSchedule real) (sym same) (schedule_more real S x h.schedule step);
+      compiled = h.compiled;
+      taken = subst (λ (z : Schedule). list_all (is_taken z) z.steps ≡ true) (sym same) all_taken;
+      few = (let e = length-append r.entries (record { step = x; told = c.told; graph = c.graph } ∷ []) in omega (arith, e, room));
+      run = subst (λ (z : Schedule). HoldsRun d.programs z (run real d.programs z) now (with_came r x c)) (sym same)
+          (subst (λ (w : World). HoldsRun d.programs (with_step S x) w now (with_came r x c)) (sym run_is)
+          (subst (λ (ns : List Named). HoldsRun d.programs (with_step S x) (world_after real S W k x) ns (with_came r x c)) (sym came.is_new) held));
+    },
+    same,
+  )
 
-other_event : (at : Standing) (e : Event) (r : ℕ) → (role_of e == r) ≡ false → stands_after_event r at e ≡ at
-other_event at (Started sid q) r ne = rw ne refl
-other_event at (Sent sid q label time values) r ne = rw ne refl
-other_event at (Received sid q label time values joins) r ne = rw ne refl
+  pub fits : r.size ≤ 264241152 → r.size + added_size c < 2 ^ 64
+  fits full =
+      let more : record_size (with_step S x) (world_after real S W k x) < record_size S W + 4194304 = steps_add_little real real_hash d.programs S h.compiled h.schedule k x step in
+      let before = h.run.size in
+      let after = held.size in
+      omega (arith, more, before, after, full)
 
--- ---- after an outcome
-
--- the event is of the session and in a role of the principal
-pub record By (x : Sitting) (who : Name) (e : Event) : Type 0 where
-  pub sid : sid_of e ≡ the_sid
-  pub role : is_role x (role_of e) who ≡ true
-
--- so is the event of the outcome, if there is one
-abbrev pub OutcomeBy : Sitting → Name → Outcome → Type 0
-OutcomeBy x who (Happened e) = By x who e
-OutcomeBy x who (Sends e to frame) = By x who e
-OutcomeBy x who o = Unit {0}
-
-module _ (x : Sitting) (differ : bytes_eq x.one x.two ≡ false) (w : World) (who : Name) where
-  -- the role and the principal
-  record Seat (r : ℕ) (p : Name) : Type 0 where
-    own : (q : ℕ) → is_role x q p ≡ true → q ≡ r
-    sits : is_role x r p ≡ true
-
-  first_seat : Seat 0 x.one
-  first_seat = record { own = go; sits = bytes_refl x.one }
-    where
-      go : (q : ℕ) → is_role x q x.one ≡ true → q ≡ 0
-      go zero h = refl
-      go (suc zero) h = absurd (true≢false (sym (bytes_refl x.one) ∙ ap (bytes_eq x.one) (sym (same_bytes x.two x.one h)) ∙ differ))
-      go (suc (suc q)) h = absurd (true≢false (sym h ∙ not_role x q x.one))
-
-  second_seat : Seat 1 x.two
-  second_seat = record { own = go; sits = bytes_refl x.two }
-    where
-      go : (q : ℕ) → is_role x q x.two ≡ true → q ≡ 1
-      go zero h = absurd (true≢false (sym h ∙ differ))
-      go (suc zero) h = refl
-      go (suc (suc q)) h = absurd (true≢false (sym h ∙ not_role x q x.two))
-
-  after_event : (r : ℕ) (p : Name) → Seat r p → (o : Outcome) (e : Event) → events_of_outcome o ≡ e ∷ [] → By x who e → stands_after r (standing r (past_of p w.log)) o ≡ stands_after_event r (standing r (past_of p w.log)) e →
-      standing r (past_of p (w.log ++ record { who = Some who; outcome = o } ∷ [])) ≡ stands_after r (standing r (past_of p w.log)) o
-  after_event r p seat o e one by same = elim (cases_Bool (bytes_eq who p)) [
-    | inl is ↦ ap (standing r) (past_own who p w.log o is ∙ ap (λ es. past_of p w.log ++ es) one)
-        ∙ own_event (past_of p w.log) e r by.sid (seat.own (role_of e) (subst (λ q. is_role x (role_of e) q ≡ true) (same_bytes who p is) by.role)) ∙ sym same
-    | inr away ↦ ap (standing r) (past_other who p w.log o away)
-        ∙ sym (same ∙ other_event (standing r (past_of p w.log)) e r (not_same (role_of e == r) refl away))
-  ]
-    where
-      not_same : (b : Bool) → (role_of e == r) ≡ b → bytes_eq who p ≡ false → b ≡ false
-      not_same false eq away = refl
-      not_same true eq away = absurd (true≢false (sym (same_who (role_of e) (eqb-true (role_of e) r eq) by.role) ∙ away))
-        where
-          same_who : (q : ℕ) → q ≡ r → is_role x q who ≡ true → bytes_eq who p ≡ true
-          same_who q e h = go r (subst (λ k. is_role x k who ≡ true) e h) seat.sits
-            where
-              go : (r : ℕ) → is_role x r who ≡ true → is_role x r p ≡ true → bytes_eq who p ≡ true
-              go zero h k = subst (λ n. bytes_eq n p ≡ true) (same_bytes x.one who h) k
-              go (suc zero) h k = subst (λ n. bytes_eq n p ≡ true) (same_bytes x.two who h) k
-              go (suc (suc r)) h k = absurd (true≢false (sym h ∙ not_role x r who))
-
-  no_event : (r : ℕ) (p : Name) (o : Outcome) → events_of_outcome o ≡ [] → standing r (past_of p (w.log ++ record { who = Some who; outcome = o } ∷ [])) ≡ standing r (past_of p w.log)
-  no_event r p o none = elim (cases_Bool (bytes_eq who p)) [
-    | inl is ↦ ap (standing r) (past_own who p w.log o is ∙ ap (λ es. past_of p w.log ++ es) none ∙ append-nil (past_of p w.log))
-    | inr away ↦ ap (standing r) (past_other who p w.log o away)
-  ]
-
-  after_outcome : (r : ℕ) (p : Name) → Seat r p → (o : Outcome) → OutcomeBy x who o → standing r (past_of p (w.log ++ record { who = Some who; outcome = o } ∷ [])) ≡ stands_after r (standing r (past_of p w.log)) o
-  after_outcome r p seat (Happened e) by = after_event r p seat (Happened e) e refl by refl
-  after_outcome r p seat (Sends e to n) by = after_event r p seat (Sends e to n) e refl by refl
-  after_outcome r p seat (Outcome.Abandoned sid) by = no_event r p _ refl
-  after_outcome r p seat (Outcome.Crafted n) by = no_event r p _ refl
-  after_outcome r p seat (NotStarted fault) by = no_event r p _ refl
-  after_outcome r p seat (NotActed fault) by = no_event r p _ refl
-  after_outcome r p seat Outcome.NotAbandoned by = no_event r p _ refl
-  after_outcome r p seat (NotDelivered why) by = no_event r p _ refl
-  after_outcome r p seat NoFrame by = no_event r p _ refl
-
-  pub first_after : (o : Outcome) → OutcomeBy x who o → standing 0 (past_of x.one (w.log ++ record { who = Some who; outcome = o } ∷ [])) ≡ stands_after 0 (standing 0 (past_of x.one w.log)) o
-  first_after o by = after_outcome 0 x.one first_seat o by
-
-  pub second_after : (o : Outcome) → OutcomeBy x who o → standing 1 (past_of x.two (w.log ++ record { who = Some who; outcome = o } ∷ [])) ≡ stands_after 1 (standing 1 (past_of x.two w.log)) o
-  second_after o by = after_outcome 1 x.two second_seat o by
-
--- ---- what is judged is by whoever takes the step
-
-module _ (x : Sitting) (first second : Standing) (frames : List Message) (who : Name) where
-  by_start : (at : Standing) (o : Option StartFault) → start_fault x who at ≡ o → OutcomeBy x who (started (role_at (shape x.graph) 0) o)
-  by_start at (Some fault) e = tt
-  by_start at None e = record { sid = refl; role = (first_asked (is_role x (role_at (shape x.graph) 0) who) StartFault.BadCast _ e).0 }
-
-  by_act : (r label : ℕ) (at : Standing) (to : Name) (o : Option ActFault) → is_role x r who ≡ true → OutcomeBy x who (sending to (length frames) (message x.graph r at label) o).outcome
-  by_act r label at to (Some fault) h = tt
-  by_act r label at to None h = record { sid = refl; role = h }
-
-  by_role : (label : ℕ) (o : Option ℕ) → Sittings.role_of x who ≡ o → OutcomeBy x who (option_map_or (λ r. acting x who label (length frames) (stands first second r) r) o (without_frame (NotActed ActFault.UnknownSession))).outcome
-  by_role label None e = tt
-  by_role label (Some r) e = by_act r label (stands first second r) _ (act_fault x who r (stands first second r) label) (role_of_is x who r e)
-
-  by_frame : (at : Standing) (m : Message) (o : Option Refusal) → (if m.joins then join_refusal x who at m else next_refusal x who at m) ≡ o → OutcomeBy x who (received m o)
-  by_frame at m (Some why) e = tt
-  by_frame at m None e = record {
-    sid = refl;
-    role = elim (cases_Bool m.joins) [
-      | inl k ↦ and_left (is_role x m.receiver who) (nat_lt m.sender 2) (first_asked (is_role x m.receiver who && nat_lt m.sender 2) Refusal.BadCast _ (rw k at e)).0
-      | inr k ↦ and_left (is_role x m.receiver who) _ (and_left _ _ (first_asked (is_in x who m.receiver at) Refusal.UnknownSession _ (rw k at e)).0)
-    ];
-  }
-
-  by_delivery : (o : Option Message) → OutcomeBy x who (option_map_or (λ m. delivery x who (stands first second m.receiver) m) o NoFrame)
-  by_delivery None = tt
-  by_delivery (Some m) = by_frame (stands first second m.receiver) m (if m.joins then join_refusal x who (stands first second m.receiver) m else next_refusal x who (stands first second m.receiver) m) refl
-
-  pub by_start_step : (n : ℕ) → OutcomeBy x who (judged x first second frames (StartStep who n)).outcome
-  by_start_step n = by_start (stands first second (role_at (shape x.graph) 0)) (start_fault x who (stands first second (role_at (shape x.graph) 0))) refl
-
-  pub by_act_step : (n label : ℕ) → OutcomeBy x who (judged x first second frames (ActStep who n label [])).outcome
-  by_act_step n label = by_role label (Sittings.role_of x who) refl
-
-  pub by_deliver_step : (n : ℕ) → OutcomeBy x who (judged x first second frames (DeliverStep who (Whole n))).outcome
-  by_deliver_step n = by_delivery (frame_of frames n)
+-- the principal's step names declared sessions
+pub named : (s : Schedule) (x : Step) → CanBeTaken s x → IsNamed (length s.sessions) x
+named s (StartStep _ n) h = h.declared
+named s (ActStep _ n _ _) h = (h.declared, h.range)
+named s (AbandonStep _ n) h = h.declared
+named s (DeliverStep _ _) h = tt
+named s (CraftStep _) h = tt

@@ -1,21 +1,100 @@
--- What the report of a replay of one session tells of.
-use Rattle.std.specs.Prelude.{ℕ, List, map, None, true}
-use Rattle.sg_protocol.specs.Schedule.{Schedule, honest_role}
-use Rattle.sg_world.specs.Run.{the_sid, pair, the_cast, run, walk_of}
-use Rattle.sg_world.specs.Report.{Account, report_text}
+-- The account of a replay: what its report says, by the run.
+use Rattle.std.specs.Prelude.{ℕ, ◌<◌, nat_lt, ⊤, Bool, false, List, ◌++◌, map, flat_map, find, length, zip, Option, Some, None, is_none, option_map, option_and_then, Contains}
+use Rattle.std.specs.List.{AllByRecursion}
+use Rattle.std.specs.Option.{option_map_or, option_to_list}
+use Rattle.sg_model.specs.Lists.{keys_of}
+use Rattle.sg_protocol.specs.Broken.{first_forged, first_collision}
+use Rattle.sg_protocol.specs.Calls.{Call, Abandon, Send, BadValues, sid_of}
+use Rattle.sg_protocol.specs.Frame.{Cast}
+use Rattle.sg_protocol.specs.Graph.{Graph}
+use Rattle.sg_protocol.specs.Notes.{Note}
+use Rattle.sg_protocol.specs.Premises.{hashed}
+use Rattle.sg_protocol.specs.Run.{events_of_outcome, cast_of_session}
+use Rattle.sg_protocol.specs.Schedule.{Declared, Schedule, Step, ActStep, AbandonStep, graph_with, honest_role}
+use Rattle.sg_protocol.specs.Texts.{real, session_id}
+use Rattle.sg_protocol.specs.World.{Logged}
+use Rattle.sg_report.specs.Lines.{graph_or_none}
+use Rattle.sg_report.specs.Report.{Line, Forgery, Account}
+use Rattle.sg_report.specs.Told.{Told, Happened, Sends, Abandoned, NotActed, told_log}
+use Rattle.sg_world.specs.Entries.{graph_of_entry}
+use Rattle.sg_world.specs.Replay.{Replay, run_of}
 
--- all that a report tells of a schedule that was run. Frames without tags and hashes break no premise
-abbrev pub account : Schedule → Account
-account s = record {
-  log = (run s).log;
-  declared = map (λ d. (d.name, the_sid)) s.sessions;
-  graph_at = λ k. pair s;
-  graph_of = λ sid. pair s;
-  honest_in = λ sid. honest_role s (the_cast s);
-  forged = None;
-  collision_free = true;
+-- ---- the lines
+
+-- the sid that a call gives up
+abbrev pub sid_left : Call → Option (List ℕ)
+sid_left (Abandon sid) = Some sid
+sid_left other = None
+
+-- the session that a line names: that of its event, or the one that was left
+abbrev pub session_told : (left : Option (List ℕ)) → Told → Option (List ℕ)
+session_told left (Happened e) = Some (sid_of e)
+session_told left (Sends e to n) = Some (sid_of e)
+session_told left Abandoned = left
+session_told left other = None
+
+-- the variable for which an act was refused
+abbrev pub variable_refused : Told → Option ℕ
+variable_refused (NotActed (Send (BadValues x))) = Some x
+variable_refused other = None
+
+-- the graph by which a line names its numbers: that of its call. A variable for which an act was refused is named by the first graph that has it, if that one doesn't
+abbrev pub graph_told : List Graph → Option Graph → Told → Option Graph
+graph_told graphs g told = option_map_or (λ x. find (λ h. nat_lt x (length h.variables)) (option_to_list g ++ graphs)) (variable_refused told) g
+
+-- the line of an entry of which this is told
+abbrev pub line_of_entry : Replay → Logged × Told → Line
+line_of_entry r e = record {
+  who = e.0.who;
+  session = session_told (option_and_then sid_left e.0.call) e.1;
+  graph = graph_told r.schedule.graphs (graph_of_entry r.programs r.schedule e.0) e.1;
+  told = e.1;
 }
 
--- the report with the walks of what was sent
-abbrev pub report_of : Schedule → List ℕ
-report_of s = report_text (account s) (λ sid. walk_of sid (run s).log)
+-- a line for each entry
+abbrev pub lines_of : Replay → List Line
+lines_of r = map (line_of_entry r) (zip (run_of r).log (told_log (run_of r).log))
+
+-- ---- the sessions
+
+-- the cast of a session's first event
+abbrev pub cast_met : Replay → List ℕ → Option Cast
+cast_met r sid = cast_of_session sid (run_of r).log
+
+-- the graph of a session, by its cast
+abbrev pub graph_of : Replay → List ℕ → Graph
+graph_of r sid = graph_or_none (option_and_then (λ c. graph_with real r.schedule.graphs c.graph) (cast_met r sid))
+
+-- whether the session's role has an honest principal
+abbrev pub honest_in : Replay → List ℕ → ℕ → Bool
+honest_in r sid role = option_map_or (λ c. honest_role r.schedule c role) (cast_met r sid) false
+
+-- the declared sessions with their sids
+abbrev pub declared_of : Schedule → List (List ℕ × List ℕ)
+declared_of s = map (λ (d : Declared). (d.name, session_id real d.cast)) s.sessions
+
+-- ---- the whole
+
+-- what the report says of a forged note
+abbrev pub forgery : ℕ × Note → Forgery
+forgery n = record { step = n.0; one = n.1.one; two = n.1.two }
+
+-- the account of a replay
+abbrev pub account : Replay → Account
+account r = record {
+  lines = lines_of r;
+  declared = declared_of r.schedule;
+  graph_of = graph_of r;
+  honest_in = honest_in r;
+  events = flat_map (λ l. events_of_outcome l.outcome) (run_of r).log;
+  forged = option_map forgery (first_forged r.schedule (run_of r));
+  collision_free = is_none (first_collision real (hashed r.schedule (run_of r)));
+}
+
+-- ---- what has a line
+
+-- the session that is left is declared, and an act gives values to variables that one of the graphs has
+abbrev pub CanBeNamed : Schedule → Step → Type 0
+CanBeNamed s (ActStep who n label values) = (g : Graph) × Contains s.graphs g × AllByRecursion (λ x. x < length g.variables) (keys_of values)
+CanBeNamed s (AbandonStep who n) = n < length s.sessions
+CanBeNamed s other = ⊤

@@ -1,39 +1,44 @@
-//! Replays a schedule: its honest principals, the record of what they did, and the report of it.
+//! Replays of schedules over real nodes: the honest principals of a schedule, and the record of what they did.
+//!
+//! A world has one node for each honest principal, with the keys of its pairs, and takes steps one by one: calls at these nodes, and
+//! frames that a compromised principal crafts. What clauses see of it is the programs and the schedule with the steps that were taken;
+//! the run of this schedule is the core's. So every law of runs speaks of a world as it stands, and a step is one equation: the schedule
+//! has it as its last.
+//!
+//! `Setting` is the programs and what is declared, with what is made of it once: the identifiers of the sessions, the texts under the
+//! digests of the graphs, and the keys by their pairs. The nodes stand in the order of the honest principals, and the one whose step it is
+//! is one look-up away. `Record` has each step with what came of it and the graph by which its numbers have names, what was noted of tags
+//! and hashes at each, and each frame once, found by its number. `specs/Holds.antt` says what holds of these parts between steps: each
+//! node stands for its principal's past in the run, and what is recorded is what the run's log says.
+//!
+//! A step is taken in this order. Its principal has a node, and the record isn't full. The step is copied, and room is made for it. The
+//! graph of its call is looked up, since the call may end the session. The call is made at the node, or the frame of a craft. The step is
+//! recorded. Nothing after the call needs memory, so a step that finds none leaves the world as it was.
+//!
+//! Where the proof stands: `proofs/Goes.antt` has one more step of a run in the nodes and the record, by what comes of it, which
+//! `specs/Comes.antt` says of a call and `specs/Crafts.antt` of a craft; `proofs/Next.antt` and `proofs/Crafting.antt` have all that holds
+//! with one more step, `proofs/Begins.antt` that of no step; `proofs/EntryGraphs.antt`, that the graphs of steps stay as they are.
+//!
+//! A graph is found by its digest among the programs, by the program of its first role: the graphs of a schedule have two roles each.
 #![tactic(auto)]
 
+mod call;
+mod craft;
 mod fault;
-mod judge;
-mod line;
-mod message;
+pub mod laws;
+mod lines;
+mod names;
+mod nodes;
+mod premises;
+mod record;
+mod report;
+mod session_walk;
 mod setting;
-mod sitting;
-mod standing;
-mod step;
+mod take;
+mod walks;
 mod world;
 
-ghost use Rattle.sg_protocol.specs.Schedule.{Schedule};
-ghost use Rattle.sg_world.specs.Forms.{IsPairSetting, FollowWalks, NoneJoinsTwice};
-ghost use Rattle.sg_world.specs.Account.{account, report_of};
-ghost use Rattle.sg_world.specs.Report.{IsReport};
-
-pub use line::report_line;
-pub use message::Message;
-pub use sitting::Sitting;
-pub use standing::{Move, Standing};
-pub use step::{ActFault, Outcome, Refusal, StartFault, Step};
+pub use fault::StepFault;
+pub use premises::{CollisionFault, ForgedFault};
+pub use session_walk::WalkFault;
 pub use world::World;
-
-/// Whatever the steps, the events of a session of two honest roles are those of one walk, and it is what they sent.
-pub fn follow_walks()
-    ensures { (s : Schedule) → IsPairSetting s → FollowWalks s }
-{}
-
-/// Whatever the schedule, no principal joins a session twice.
-pub fn none_joins_twice()
-    ensures { (s : Schedule) → NoneJoinsTwice s }
-{}
-
-/// The report with the walks of what was sent is a report of the run.
-pub fn report_of_run()
-    ensures { (s : Schedule) → IsPairSetting s → IsReport (account s) (report_of s) }
-{}

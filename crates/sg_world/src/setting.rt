@@ -1,59 +1,167 @@
-//! The session that a schedule declares.
-ghost use Rattle.std.specs.Prelude.{◌≡◌, [], ◌∷◌, length, MatchOption};
-ghost use Rattle.std.specs.List.{list_any};
-ghost use Rattle.sg_world.specs.Forms.{IsPairSetting};
-ghost use Rattle.sg_world.specs.Run.{the_cast};
-ghost use Rattle.sg_world.specs.Sitting.{IsSitting, joins_both};
+//! What a replay goes by.
+ghost use Rattle.std.specs.Prelude.{◌≡◌, ◌<◌, ◌≤◌, All, AllPairs, length, map, sum_by, option_map, slice_get, Some, IfOk};
+ghost use Rattle.std.specs.Option.{option_copied};
+ghost use Rattle.sg_craft.specs.Keys.{AreApart};
+ghost use Rattle.sg_protocol.specs.IsSchedule.{AreCompiled};
+ghost use Rattle.sg_protocol.specs.Node.{program_for};
+ghost use Rattle.sg_protocol.specs.Schedule.{graph_with};
+ghost use Rattle.sg_protocol.specs.Texts.{real, session_id, graph_text_of};
 
-use crate::Sitting;
-use crate::sitting::same;
-use sg_base::Name;
-use sg_sched::PairKey;
-use sg_sched::first_path::{Declared, Schedule};
+use sg_base::{OutOfMemory, Role, Seq, Sid};
+use sg_craft::PairKeys;
+use sg_crypt::Cast;
+use sg_declared::{copy_graphs, copy_sessions, sids_of, texts_of};
+use sg_graph::Graph;
+use sg_program::{Program, Programs};
+use sg_sched::{Declared, Schedule};
+use std::alloc::{AllocError, Global};
+use std::marker::Model;
 
-/// The session that is declared, with its graph, or `None` where none is.
-pub fn sitting(schedule: &Schedule) -> Option<Sitting<'_>>
-    requires { IsPairSetting schedule.now }
-    ensures { MatchOption result ((the_cast schedule.now).names ≡ []) (IsSitting schedule.now) }
-{
-    match (
-        schedule.graphs.as_slice().first(),
-        schedule.sessions.as_slice().first(),
-    ) {
-        (Some(graph), Some(declared)) => {
-            let (one, two) = both(declared);
-            let covered = is_covered(schedule.keys.as_slice(), &one, &two);
-            Some(Sitting::new(graph, one, two, covered))
+/// The programs and what is declared, with the identifiers of the sessions and the texts under the digests of the graphs.
+#[derive(Drop)]
+pub(crate) struct Setting<'p> {
+    programs: &'p Programs,
+    graphs: Seq<Graph>,
+    keys: PairKeys,
+    sessions: Seq<Declared>,
+    // of the sessions, in order
+    sids: Vec<Sid>,
+    // of the graphs, in order
+    texts: Vec<Seq<u8>>,
+}
+
+impl<'p> Model for Setting<'p> {
+    ghost use Rattle.sg_world.specs.Setting.{Setting};
+
+    ghost Value = { Setting };
+
+    ghost use Rattle.sg_world.specs.SettingHeld.{setting_of, HoldsSetting};
+
+    ghost view = { setting_of };
+
+    ghost invariant = { HoldsSetting };
+}
+
+impl<'p> Setting<'p> {
+    /// These programs, and what the schedule declares.
+    pub fn new(
+        alloc: Global,
+        programs: &'p Programs,
+        schedule: &Schedule,
+    ) -> Result<Setting<'p>, OutOfMemory>
+        requires pairs { AllPairs AreApart schedule.now.keys }
+        requires compiled { AreCompiled real schedule.now.graphs programs.now }
+        requires two { All (λ g. 2 ≤ length g.roles) schedule.now.graphs }
+        ensures { IfOk result (λ s. s ≡ record {
+          programs = programs.entry.now;
+          graphs = schedule.now.graphs;
+          keys = schedule.now.keys;
+          sessions = schedule.now.sessions;
+        }) }
+    {
+        Ok(Setting {
+            programs,
+            graphs: copy_graphs(alloc, schedule.graphs.as_slice())?,
+            keys: PairKeys::new(alloc, schedule.keys.as_slice())?,
+            sessions: copy_sessions(alloc, schedule.sessions.as_slice())?,
+            sids: sids_of(alloc, schedule.sessions.as_slice())?,
+            texts: texts_of(alloc, schedule.graphs.as_slice())?,
+        })
+    }
+
+    /// The programs.
+    pub fn programs(&self) -> &'p Programs
+        ensures { result.now ≡ self.now.programs }
+    {
+        self.programs
+    }
+
+    /// The keys of pairs of principals.
+    pub fn keys(&self) -> &PairKeys
+        ensures { result.now ≡ self.now.keys }
+    {
+        &self.keys
+    }
+
+    /// The graphs.
+    pub fn graphs(&self) -> &[Graph]
+        ensures { result.now ≡ self.now.graphs }
+    {
+        self.graphs.as_slice()
+    }
+
+    /// The sessions.
+    pub fn sessions(&self) -> &[Declared]
+        ensures { result.now ≡ self.now.sessions }
+    {
+        self.sessions.as_slice()
+    }
+
+    /// The identifiers of the sessions, in order.
+    pub fn sids(&self) -> &[Sid]
+        ensures { result.now ≡ map (λ d. session_id real d.cast) self.now.sessions }
+    {
+        self.sids.as_slice()
+    }
+
+    /// The texts under the digests of the graphs, in order.
+    pub fn texts(&self) -> &[Seq<u8>]
+        ensures { result.now ≡ map graph_text_of self.now.graphs }
+    {
+        self.texts.as_slice()
+    }
+
+    /// The cast of the session at a place. It takes no memory.
+    pub fn cast(&self, session: u32) -> Cast
+        requires { session < length self.now.sessions }
+        ensures { option_map (λ d. d.cast) (slice_get self.now.sessions session) ≡ Some result }
+    {
+        self.sessions.get(session as usize).cast
+    }
+
+    /// The identifier of the session at a place. It takes no memory.
+    pub fn sid(&self, session: u32) -> Sid
+        requires { session < length self.now.sessions }
+        ensures { option_map (λ d. session_id real d.cast) (slice_get self.now.sessions session) ≡ Some result }
+    {
+        self.sids[session as usize]
+    }
+
+    /// The first graph with a digest. It takes no memory.
+    pub fn graph(&self, digest: &[u8; 32]) -> Option<&'p Graph>
+        ensures { option_copied result ≡ graph_with real self.now.graphs digest.now }
+    {
+        match first_program(self.programs, digest) {
+            Some(program) => Some(program.graph()),
+            None => None,
         }
-        _ => None,
+    }
+
+    /// The bytes of the texts under the graphs' digests. More than a `u64` counts can't be held.
+    pub fn size(&self) -> Result<u64, OutOfMemory>
+        ensures { IfOk result (λ n. n ≡ sum_by (λ g. length (graph_text_of g)) self.now.graphs) }
+    {
+        total(self.texts.as_slice())
     }
 }
 
-// The principals of both roles.
-fn both(declared: &Declared) -> (Name, Name)
-    requires { length declared.now.cast.names ≡ 2 }
-    ensures { declared.now.cast.names ≡ result.0 ∷ result.1 ∷ [] }
+// The first program of a graph with a digest for the first role.
+fn first_program<'p>(programs: &'p Programs, digest: &[u8; 32]) -> Option<&'p Program>
+    ensures { option_copied result ≡ program_for programs.now digest.now 0 }
 {
-    pair_of(declared.cast.names())
+    programs.find(digest, Role(0))
 }
 
-fn pair_of(names: &[Name]) -> (Name, Name)
-    requires { length names.now ≡ 2 }
-    ensures { names.now ≡ result.0 ∷ result.1 ∷ [] }
+// The bytes of these texts together.
+fn total(texts: &[Seq<u8>]) -> Result<u64, OutOfMemory>
+    ensures { IfOk result (λ n. n ≡ sum_by (λ t. length t) texts.now) }
 {
-    (names[0], names[1])
-}
-
-// The two principals share a key.
-fn is_covered(keys: &[PairKey], one: &Name, two: &Name) -> bool
-    ensures { result ≡ list_any (joins_both one.now two.now) keys.now }
-{
-    keys.iter().any(|key| joins_both(key, one, two))
-}
-
-// The key is that of the two principals.
-fn joins_both(key: &PairKey, one: &Name, two: &Name) -> bool
-    ensures { result ≡ joins_both one.now two.now key.now }
-{
-    (same(&key.one, one) && same(&key.two, two)) || (same(&key.one, two) && same(&key.two, one))
+    let mut size: u64 = 0;
+    for text in texts {
+        let Some(sum) = size.checked_add(text.len() as u64) else {
+            return Err(AllocError);
+        };
+        size = sum;
+    }
+    Ok(size)
 }

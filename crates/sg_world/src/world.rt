@@ -1,163 +1,122 @@
-//! A replay of one session of two honest principals.
-ghost use Rattle.std.specs.Prelude.{◌≡◌, ◌<◌, ◌≤◌, ◌++◌, ◌∷◌, [], length, vec_len, vec_capacity, option_map, IsOk, IfOk, OnOk, OnErr};
+//! A replay.
+ghost use Rattle.std.specs.Prelude.{◌≡◌, ◌<◌, ◌≤◌, All, length, map, Some, IfOk, IfErr, OnOk, OnErr, option_map};
 ghost use Rattle.sg_model.specs.Last.{last};
-ghost use Rattle.sg_world.specs.Held.{outcome_of, step_of};
-ghost use Rattle.sg_world.specs.Judged.{frames_in};
-ghost use Rattle.sg_world.specs.Run.{run};
-ghost use Rattle.sg_world.specs.Steps.{with_step, without_steps};
-ghost use Rattle.sg_world.specs.Account.{account};
-ghost use Rattle.sg_world.specs.Forms.{IsPairSetting, IsPairStep};
-ghost use Rattle.sg_world.specs.Report.{IsReport};
-ghost use Rattle.sg_sched.specs.Steps.{step_of as said};
+ghost use Rattle.sg_protocol.specs.IsSchedule.{AreCompiled, IsSchedule};
+ghost use Rattle.sg_protocol.specs.Texts.{real};
+ghost use Rattle.sg_sched.specs.Format.StepsHeld.{step_of};
+ghost use Rattle.sg_report.specs.Outcome.{outcome_of};
+ghost use Rattle.sg_report.specs.Told.{told_log};
+ghost use Rattle.sg_world.specs.Faults.{IsStepFault, IsAdmitted};
+ghost use Rattle.sg_world.specs.Named.{CanBeTaken};
+ghost use Rattle.sg_world.specs.Replay.{without_steps, with_taken, run_of, stepped};
 
-mod report;
-
-use crate::judge::{judge, stand_after};
-use crate::setting::sitting;
-use crate::step::asked;
-use crate::{ActFault, Message, Outcome, Refusal, Sitting, Standing, StartFault, Step};
-use report::{put_report, session_name};
-use sg_base::{ByteOut, OutOfMemory, Role};
-use sg_sched::first_path::Schedule;
+use crate::StepFault;
+use crate::nodes::nodes_of;
+use crate::record::Record;
+use crate::setting::Setting;
+use crate::take::{admit, take_step};
+use indexmap::IndexMap;
+use sg_base::{Name, OutOfMemory};
+use sg_crypt::Notes;
+use sg_node::Node;
+use sg_program::Programs;
+use sg_report::Outcome;
+use sg_sched::{Schedule, Step};
 use std::alloc::Global;
 use std::marker::Model;
 
-/// A replay. A clause sees it as the schedule with the steps that were taken so far.
-#[derive(Debug, Drop)]
-pub struct World<'s> {
-    schedule: &'s Schedule,
-    sitting: Option<Sitting<'s>>,
-    first: Standing,
-    second: Standing,
-    entries: Vec<Entry>,
-    frames: Vec<Message>,
+/// A replay. A clause sees it as its programs and the schedule with the steps that were taken so far.
+#[derive(Drop)]
+pub struct World<'p> {
+    pub(crate) alloc: Global,
+    pub(crate) setting: Setting<'p>,
+    // of the honest principals, in order
+    pub(crate) nodes: IndexMap<Name, Node<'p>>,
+    pub(crate) history: Record<'p>,
 }
 
-// A step that was taken, and what came of it.
-#[derive(Debug, Drop)]
-struct Entry {
-    step: Step,
-    outcome: Outcome,
-}
+impl<'p> Model for World<'p> {
+    ghost use Rattle.sg_world.specs.Replay.{Replay};
 
-impl<'s> Model for World<'s> {
-    ghost use Rattle.sg_protocol.specs.Schedule.{Schedule};
+    ghost Value = { Replay };
 
-    ghost Value = { Schedule };
+    ghost use Rattle.sg_world.specs.WorldHeld.{replay_of, HoldsWorld};
 
-    ghost use Rattle.sg_world.specs.Holds.{schedule_of, HoldsWorld};
-
-    ghost view = { schedule_of };
+    ghost view = { replay_of };
 
     ghost invariant = { HoldsWorld };
 }
 
-impl<'s> World<'s> {
-    /// A replay of which no step was taken.
-    pub fn new(alloc: Global, schedule: &'s Schedule) -> World<'s>
-        requires { IsPairSetting schedule.now }
-        ensures { result ≡ without_steps schedule.now }
+impl<'p> World<'p> {
+    /// A replay of which no step was taken: a node for each honest principal with the keys of its pairs, no sessions and no joins.
+    pub fn new(
+        alloc: Global,
+        programs: &'p Programs,
+        schedule: &Schedule,
+    ) -> Result<World<'p>, OutOfMemory>
+        requires schedule { IsSchedule real (without_steps schedule.now) }
+        requires compiled { AreCompiled real schedule.now.graphs programs.now }
+        requires two { All (λ g. 2 ≤ length g.roles) schedule.now.graphs }
+        ensures { IfOk result (λ w. w ≡ record { programs = programs.entry.now; schedule = without_steps schedule.now }) }
     {
-        let unmoved = Standing {
-            joined: false,
-            last: None,
-        };
-        World {
-            schedule,
-            sitting: sitting(schedule),
-            first: unmoved,
-            second: unmoved,
-            entries: Vec::new(alloc),
-            frames: Vec::new(alloc),
-        }
+        let setting = Setting::new(alloc, programs, schedule)?;
+        let nodes = nodes_of(
+            alloc,
+            programs,
+            schedule.keys.as_slice(),
+            schedule.honest.as_slice(),
+        )?;
+        let size = setting.size()?;
+        Ok(World {
+            alloc,
+            setting,
+            nodes,
+            history: Record::new(alloc, size),
+        })
     }
 
-    /// The number of steps that were taken.
+    /// The number of steps that were taken. It takes no memory.
     pub fn len(&self) -> usize
-        ensures { result ≡ length self.now.steps }
+        ensures { result ≡ length self.now.schedule.steps }
     {
-        self.entries.len()
+        self.history.count()
     }
 
-    /// Takes a step of the schedule. For want of memory none is taken.
-    pub fn step(&mut self, step: &sg_sched::first_path::Step) -> Result<(), OutOfMemory>
-        requires room { length self.old.steps < 200_000 }
-        requires form { IsPairStep self.old (said step.now) }
-        ensures ok { OnOk result (self.new ≡ with_step self.old (said step.now)) }
-        ensures err { OnErr result (self.new ≡ self.old) }
+    /// What came of the last step, or `None` where none was taken. It takes no memory.
+    pub fn last(&self) -> Option<&Outcome>
+        ensures { option_map (λ o. outcome_of o.now) result ≡ option_map Some (last (told_log (run_of self.now).log)) }
     {
-        let _schedule = &self.schedule;
-        self.take(asked(step))
+        self.history.last()
     }
 
-    // Takes a step. For want of memory none is taken.
-    fn take(&mut self, step: Step) -> Result<(), OutOfMemory>
-        requires { length self.old.steps < 200_000 }
-        ensures ok { OnOk result (self.new ≡ with_step self.old (step_of step)) }
-        ensures err { OnErr result (self.new ≡ self.old) }
+    /// What was noted in each step that was taken, in order. It takes no memory.
+    pub fn notes(&self) -> &[Notes]
+        ensures { result.now ≡ map (λ l. l.notes) (run_of self.now).log }
     {
-        let judged = judge(
-            &self.sitting,
-            &self.first,
-            &self.second,
-            self.frames.as_slice(),
-            &step,
-        );
-        self.entries.reserve(1)?;
-        put_frame(&mut self.frames, judged.frame)?;
-        put_entry(&mut self.entries, step, judged.outcome)?;
-        self.first = stand_after(Role(0), &self.first, &judged.outcome);
-        self.second = stand_after(Role(1), &self.second, &judged.outcome);
+        self.history.notes()
+    }
+
+    /// Takes a step. After a refusal the world is as before.
+    pub fn step(&mut self, step: &Step) -> Result<(), StepFault>
+        requires room { length self.old.schedule.steps < 200_000 }
+        requires step { CanBeTaken self.old.schedule (step_of step.now) }
+        ensures taken { OnOk result (self.new ≡ with_taken self.old (step_of step.now)) }
+        ensures run { OnOk result (run_of self.new ≡ stepped self.old (step_of step.now)) }
+        ensures admitted { OnOk result (IsAdmitted self.old (step_of step.now)) }
+        ensures refused { IfErr result (IsStepFault self.old (step_of step.now)) }
+        ensures back { OnErr result (self.new ≡ self.old) }
+    {
+        let place = admit(&self.nodes, &self.history, step)?;
+        let Ok(()) = take_step(
+            self.alloc,
+            &self.setting,
+            &mut self.nodes,
+            place,
+            &mut self.history,
+            step,
+        ) else {
+            return Err(StepFault::OutOfMemory);
+        };
         Ok(())
     }
-
-    /// The report of the steps that were taken: a line for each, the premises, and the walk of the session.
-    pub fn report(&self, alloc: Global) -> Result<Vec<u8>, OutOfMemory>
-        requires { length self.now.steps ≤ 200_000 }
-        ensures { IfOk result (λ text. IsReport (account self.now) text.items) }
-    {
-        let schedule = self.schedule;
-        let mut out = ByteOut::new(alloc);
-        put_report(
-            alloc,
-            &mut out,
-            session_name(schedule.sessions.as_slice()),
-            schedule.graphs.as_slice().first(),
-            self.entries.as_slice(),
-        )?;
-        Ok(out.done())
-    }
-
-    /// What the last step brought about, or `None` where none was taken. It takes no memory.
-    pub fn last(&self) -> Option<&Outcome>
-        ensures { option_map (λ o. outcome_of o.now) result ≡ option_map (λ l. l.outcome) (last (run self.now).log) }
-    {
-        match self.entries.last() {
-            None => None,
-            Some(entry) => Some(&entry.outcome),
-        }
-    }
-}
-
-// Records a frame, if there is one. For want of memory none is recorded.
-fn put_frame(frames: &mut Vec<Message>, frame: Option<Message>) -> Result<(), OutOfMemory>
-    ensures ok { OnOk result (frames.new.items ≡ frames.old.items ++ frames_in frame) }
-    ensures err { OnErr result (frames.new.items ≡ frames.old.items) }
-{
-    if let Some(frame) = frame {
-        frames.push(frame)?;
-    }
-    Ok(())
-}
-
-// Puts a step with its outcome where room was made.
-fn put_entry(entries: &mut Vec<Entry>, step: Step, outcome: Outcome) -> Result<(), OutOfMemory>
-    requires { vec_len entries.old < vec_capacity entries.old }
-    ensures ok { IsOk result }
-    ensures items { entries.new.items ≡ entries.old.items ++ record { step = step; outcome = outcome } ∷ [] }
-{
-    // The check knows the types inside an outcome only where they are named.
-    let _named: (Option<StartFault>, Option<ActFault>, Option<Refusal>) = (None, None, None);
-    entries.push(Entry { step, outcome })?;
-    Ok(())
 }

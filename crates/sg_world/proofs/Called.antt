@@ -1,0 +1,200 @@
+-- What a node answers to a call, as what comes of the step.
+use Rattle.std.proofs.Common.{◌≡◌, ◌≢◌, ℕ, ◌+◌, ◌<◌, List, [], ◌∷◌, map, length, Option, Some, None, option_map, slice_get, Result, Ok, Err, IfOk, OnErr, ◌++◌, get_or, take, refl, sym, ◌∙◌, ap, subst}
+use Rattle.std.specs.List.{AllByRecursion}
+use Rattle.std.specs.Option.{option_map_or}
+use Rattle.std.proofs.lemmas.List.{map-append, map_more}
+use Rattle.sg_base.specs.declared.value.Value.{Value as Held}
+use Rattle.sg_base.specs.Values.{value_of}
+use Rattle.sg_model.specs.Bytes.{AreBytes}
+use Rattle.sg_model.specs.Last.{Map}
+use Rattle.sg_model.specs.Names.{Name}
+use Rattle.sg_model.specs.Values.{Value}
+use Rattle.sg_protocol.proofs.Course.{confounder_length}
+use Rattle.sg_protocol.proofs.Spelled.{bytes-append, to_bytes, u64_bytes}
+use Rattle.sg_protocol.specs.Acting.{answer}
+use Rattle.sg_protocol.specs.Calls as Protocol
+use Rattle.sg_protocol.specs.Calls.{Call, Answer, Start, Act, Abandon, Deliver}
+use Rattle.sg_protocol.specs.Frame.{Cast, Frame}
+use Rattle.sg_protocol.specs.Graph.{Graph}
+use Rattle.sg_protocol.specs.NodeStates.{NodeState}
+use Rattle.sg_protocol.specs.Notes.{Notes, no_notes, notes as noted_of}
+use Rattle.sg_protocol.specs.Past.{Past, node_of}
+use Rattle.sg_protocol.specs.Ranges.{IsCallInRange, AreValues}
+use Rattle.sg_protocol.specs.Run.{frame_in}
+use Rattle.sg_protocol.specs.Schedule.{Declared, Schedule, StartStep, ActStep, AbandonStep, sid_at, confounder}
+use Rattle.sg_protocol.specs.Spelling.{spelling, u64}
+use Rattle.sg_protocol.specs.Texts.{real, session_id}
+use Rattle.sg_protocol.specs.Told.{graph_of_call}
+use Rattle.sg_protocol.specs.World.{World, call_of}
+use Rattle.sg_walk.specs.Views.{values_of}
+use Rattle.sg_role.specs.Sending.{with_notes}
+use Rattle.sg_role.specs.declared.fault.SendFault.TheVariants as sending
+use Rattle.sg_node.specs.Answers.{IsAnswer, GoesOn}
+use Rattle.sg_node.specs.Faults.{start_fault, act_fault, refusal}
+use Rattle.sg_node.specs.declared.fault.StartFault.{StartFault}
+use Rattle.sg_node.specs.declared.fault.StartFault.TheVariants as starting
+use Rattle.sg_node.specs.declared.fault.ActFault.{ActFault}
+use Rattle.sg_node.specs.declared.fault.ActFault.TheVariants as acting
+use Rattle.sg_node.specs.declared.fault.Refusal.{Refusal}
+use Rattle.sg_node.specs.declared.fault.Refusal.TheVariants as refusals
+use Rattle.sg_report.specs.Told.{Told, Sends, NotStarted, NotActed, NotDelivered, told_answer}
+use Rattle.sg_world.specs.Comes.{Comes, ComesOfCall}
+use Rattle.sg_world.specs.Kept.{Came}
+
+-- what holds of an answer that is there
+pub if_ok : {A E : Type 0} (P Q : A → Type 0) (r : Result A E) → ((x : A) → P x → Q x) → IfOk r P → IfOk r Q
+if_ok P Q (Ok x) f h = f x h
+if_ok P Q (Err e) f h = tt
+
+-- the answer is one that sends nothing, and this is told of it
+abbrev pub Sends_nothing : ℕ → Answer → Option Told → Type 0
+Sends_nothing number a told = (told ≡ Some (told_answer number a)) × (None ≡ frame_in a)
+
+-- a fault that is not want of memory
+abbrev pub Given : {F : Type 0} → Option F → Type 0
+Given {F} o = (f : F) × (o ≡ Some f)
+
+-- what is told of a fault
+refused : {F : Type 0} (number : ℕ) (a : Answer) (g : F → Answer) (t : F → Told) (o : Option F) → ((f : F) → told_answer number (g f) ≡ t f) → ((f : F) → frame_in (g f) ≡ None) → Given o
+    → IsAnswer a (option_map g o) → Sends_nothing number a (option_map t o)
+refused number a g t o told frame f h =
+    let is : a ≡ g f.0 = subst (λ z. IsAnswer a (option_map g z)) f.1 h in
+    (ap (option_map t) f.1 ∙ ap (λ (z : Told). Some z) (sym (told f.0) ∙ ap (told_answer number) (sym is)), sym (ap frame_in is ∙ frame f.0))
+
+-- no fault is want of memory, but that one
+start_given : (fault : StartFault) → fault ≢ starting.OutOfMemory → Given (start_fault fault)
+start_given starting.UnknownGraph ne = (_, refl)
+start_given starting.BadCast ne = (_, refl)
+start_given (starting.UnknownPeer name) ne = (_, refl)
+start_given starting.Joined ne = (_, refl)
+start_given starting.CacheFull ne = (_, refl)
+start_given starting.SessionsFull ne = (_, refl)
+start_given starting.OutOfMemory ne = absurd (ne refl)
+
+act_given : (fault : ActFault) → fault ≢ acting.OutOfMemory → fault ≢ acting.Send sending.OutOfMemory → Given (act_fault fault)
+act_given acting.UnknownSession ne other = (_, refl)
+act_given acting.NotYourTurn ne other = (_, refl)
+act_given (acting.Send sending.NoSuchLabel) ne other = (_, refl)
+act_given (acting.Send (sending.BadValues var)) ne other = (_, refl)
+act_given (acting.Send sending.TimeSpent) ne other = (_, refl)
+act_given (acting.Send sending.OutOfMemory) ne other = absurd (other refl)
+act_given acting.OutOfMemory ne other = absurd (ne refl)
+
+refusal_given : (fault : Refusal) → fault ≢ refusals.OutOfMemory → Given (refusal fault)
+refusal_given (refusals.Malformed at) ne = (_, refl)
+refusal_given refusals.UnknownGraph ne = (_, refl)
+refusal_given refusals.BadCast ne = (_, refl)
+refusal_given (refusals.UnknownPeer name) ne = (_, refl)
+refusal_given refusals.BadSession ne = (_, refl)
+refusal_given refusals.Joined ne = (_, refl)
+refusal_given refusals.CacheFull ne = (_, refl)
+refusal_given refusals.SessionsFull ne = (_, refl)
+refusal_given refusals.UnknownSession ne = (_, refl)
+refusal_given refusals.NotWaiting ne = (_, refl)
+refusal_given refusals.BadFrameTag ne = (_, refl)
+refusal_given refusals.NoSuchView ne = (_, refl)
+refusal_given (refusals.BadTime item got least) ne = (_, refl)
+refusal_given (refusals.BadEvidence item) ne = (_, refl)
+refusal_given (refusals.BadOpening var) ne = (_, refl)
+refusal_given refusals.OutOfMemory ne = absurd (ne refl)
+
+pub not_started : (number : ℕ) (a : Answer) (fault : StartFault) → fault ≢ starting.OutOfMemory → IsAnswer a (option_map Protocol.NotStarted (start_fault fault)) → Sends_nothing number a (option_map NotStarted (start_fault fault))
+not_started number a fault ne h = refused number a Protocol.NotStarted NotStarted (start_fault fault) (λ f. refl) (λ f. refl) (start_given fault ne) h
+
+pub not_acted : (number : ℕ) (a : Answer) (fault : ActFault) → fault ≢ acting.OutOfMemory → fault ≢ acting.Send sending.OutOfMemory → IsAnswer a (option_map Protocol.NotActed (act_fault fault)) → Sends_nothing number a (option_map NotActed (act_fault fault))
+not_acted number a fault ne other h = refused number a Protocol.NotActed NotActed (act_fault fault) (λ f. refl) (λ f. refl) (act_given fault ne other) h
+
+pub not_delivered : (number : ℕ) (a : Answer) (fault : Refusal) → fault ≢ refusals.OutOfMemory → IsAnswer a (option_map Protocol.NotDelivered (refusal fault)) → Sends_nothing number a (option_map NotDelivered (refusal fault))
+not_delivered number a fault ne h = refused number a Protocol.NotDelivered NotDelivered (refusal fault) (λ f. refl) (λ f. refl) (refusal_given fault ne) h
+
+-- an answer without a frame
+pub quiet : (number : ℕ) (a given : Answer) (t : Told) → told_answer number given ≡ t → frame_in given ≡ None → a ≡ given → Sends_nothing number a (Some t)
+quiet number a given t told frame is = (ap (λ (z : Told). Some z) (sym told ∙ ap (told_answer number) (sym is)), sym (ap frame_in is ∙ frame))
+
+-- what comes of a call that sends nothing
+pub comes_quiet : (number : ℕ) (old new : NodeState) (past : Past) (call : Call) (told : Option Told) (graph : Option Graph) (notes : Notes) (c : Came) → c ≡ record { told = told; graph = graph; frame = None; notes = notes } → IsCallInRange call
+    → Sends_nothing number (answer real (node_of past) call) told → graph ≡ graph_of_call real (node_of past) call → notes ≡ with_notes no_notes (noted_of real (node_of past) call) → GoesOn old new call past → ComesOfCall number old new past call c
+comes_quiet number old new past call told graph notes c e range h graphed noted goes =
+    subst (ComesOfCall number old new past call) (sym e) (record { range = range; told = h.0; graph = graphed; frame = h.1; notes = noted; goes_on = goes })
+
+-- what holds of each answer that is there
+pub if_is_ok : {A E : Type 0} (Q : A → Type 0) (r : Result A E) → ((x : A) → r ≡ Ok x → Q x) → IfOk r Q
+if_is_ok Q (Ok x) f = f x refl
+if_is_ok Q (Err e) f = tt
+
+-- what holds where there is none
+pub if_err : {A E : Type 0} (P Q : Type 0) (r : Result A E) → (P → Q) → OnErr r P → OnErr r Q
+if_err P Q (Ok x) f h = tt
+if_err P Q (Err e) f h = f h
+
+-- ---- the call of a step
+
+pub comes_start : (s : Schedule) (w : World) (k number : ℕ) (who : Name) (n : ℕ) (ds : List Declared) (cast : Cast) (old new : NodeState) (past : Past) (c : Came)
+    → ds ≡ s.sessions → option_map (λ (d : Declared). d.cast) (slice_get ds n) ≡ Some cast → ComesOfCall number old new past (Start cast) c → Comes number old new past (call_of real s w k (StartStep who n)) c
+comes_start s w k number who n ds cast old new past c same at h =
+    subst (λ (o : Option Call). Comes number old new past o c) (sym (ap (option_map Start) (ap (λ (ds : List Declared). option_map (λ (d : Declared). d.cast) (slice_get ds n)) (sym same) ∙ at))) h
+
+-- the identifier at a place
+sid_is : (s : Schedule) (n : ℕ) (ds : List Declared) (sid : List ℕ) → ds ≡ s.sessions → option_map (λ (d : Declared). session_id real d.cast) (slice_get ds n) ≡ Some sid → sid ≡ sid_at real s n
+sid_is s n ds sid same at = by (slice_get ds n) at ∙ ap (λ (ds : List Declared). option_map_or (session_id real) (option_map (λ (d : Declared). d.cast) (slice_get ds n)) []) same
+  where
+    by : (o : Option Declared) → option_map (λ (d : Declared). session_id real d.cast) o ≡ Some sid → sid ≡ option_map_or (session_id real) (option_map (λ (d : Declared). d.cast) o) []
+    by None e = absurd (cc)
+    by (Some d) e = sym (cc)
+
+pub comes_act : (s : Schedule) (w : World) (k number : ℕ) (who : Name) (n label : ℕ) (values : Map Value) (ds : List Declared) (sid : List ℕ) (confounders : List (List ℕ)) (old new : NodeState) (past : Past) (c : Came)
+    → ds ≡ s.sessions → option_map (λ (d : Declared). session_id real d.cast) (slice_get ds n) ≡ Some sid → confounders ≡ map (λ (v : ℕ × Value). confounder k v.0) values
+    → ComesOfCall number old new past (Act sid label values confounders) c → Comes number old new past (call_of real s w k (ActStep who n label values)) c
+comes_act s w k number who n label values ds sid confounders old new past c same at are h =
+    subst (λ (z : List ℕ). ComesOfCall number old new past (Act z label values (map (λ (v : ℕ × Value). confounder k v.0) values)) c) (sid_is s n ds sid same at)
+    (subst (λ (z : List (List ℕ)). ComesOfCall number old new past (Act sid label values z) c) are h)
+
+pub comes_abandon : (s : Schedule) (w : World) (k number : ℕ) (who : Name) (n : ℕ) (ds : List Declared) (sid : List ℕ) (old new : NodeState) (past : Past) (c : Came)
+    → ds ≡ s.sessions → option_map (λ (d : Declared). session_id real d.cast) (slice_get ds n) ≡ Some sid → ComesOfCall number old new past (Abandon sid) c → Comes number old new past (call_of real s w k (AbandonStep who n)) c
+comes_abandon s w k number who n ds sid old new past c same at h =
+    subst (λ (z : List ℕ). ComesOfCall number old new past (Abandon z) c) (sid_is s n ds sid same at) h
+
+-- ---- answers
+
+-- what failed so failed by one error
+pub err_same : {A E : Type 0} (r : Result A E) (d e : E) → r ≡ Err d → r ≡ Err e → d ≡ e
+err_same r d e a b = cc
+
+-- the notes of a call that begins with none
+pub noted_first : (now old more : Notes) → old ≡ no_notes → now ≡ with_notes old more → now ≡ with_notes no_notes more
+noted_first now old more e h = h ∙ ap (λ (z : Notes). with_notes z more) e
+
+-- what comes of a step that was sent
+pub comes_sent : (number : ℕ) (old new : NodeState) (past : Past) (sid : List ℕ) (label : ℕ) (values : Map Value) (confounders : List (List ℕ)) (e : Protocol.Event) (to bytes : List ℕ) (graph : Option Graph) (notes : Notes) (c : Came)
+    → c ≡ record { told = Some (Sends e to number); graph = graph; frame = Some bytes; notes = notes } → (f : Frame) → answer real (node_of past) (Act sid label values confounders) ≡ Protocol.Sends e to f → bytes ≡ spelling f
+    → AreValues values confounders → graph ≡ graph_of_call real (node_of past) (Act sid label values confounders) → notes ≡ with_notes no_notes (noted_of real (node_of past) (Act sid label values confounders)) → GoesOn old new (Act sid label values confounders) past
+    → ComesOfCall number old new past (Act sid label values confounders) c
+comes_sent number old new past sid label values confounders e to bytes graph notes c is f given spelled range graphed noted goes =
+    subst (ComesOfCall number old new past (Act sid label values confounders)) (sym is) (record {
+      range = range;
+      told = ap (λ (a : Answer). Some (told_answer number a)) (sym given);
+      graph = graphed;
+      frame = ap (λ (z : List ℕ). Some z) spelled ∙ ap frame_in (sym given);
+      notes = noted;
+      goes_on = goes;
+    })
+
+-- a confounder is sixteen bytes
+confounder_bytes : (k x : ℕ) → AreBytes 16 (confounder k x)
+confounder_bytes k x = (confounder_length k x, to_bytes (confounder k x) (bytes-append (u64 k) (u64 x) (u64_bytes k) (u64_bytes x)))
+
+confounders_bytes : (k : ℕ) (values : Map Value) → AllByRecursion (AreBytes 16) (map (λ (v : ℕ × Value). confounder k v.0) values)
+confounders_bytes k [] = tt
+confounders_bytes k (v ∷ vs) = (confounder_bytes k v.0, confounders_bytes k vs)
+
+pub are_sixteen : (k : ℕ) (values : Map Value) (cs : List (List ℕ)) → cs ≡ map (λ (v : ℕ × Value). confounder k v.0) values → AllByRecursion (AreBytes 16) cs
+are_sixteen k values cs e = subst (AllByRecursion (AreBytes 16)) (sym e) (confounders_bytes k values)
+
+-- one confounder more
+pub confounders_more : (k : ℕ) (vs : Map Held) (i : ℕ) (v : ℕ × Held) (old now : List (List ℕ)) (c : List ℕ) → old ≡ map (λ (w : ℕ × Value). confounder k w.0) (values_of (take i vs)) → i < length vs → v ≡ get_or vs i v → c ≡ confounder k v.0 → now ≡ old ++ c ∷ []
+    → now ≡ map (λ (w : ℕ × Value). confounder k w.0) (values_of (take (i + 1) vs))
+confounders_more k vs i v old now c is within at e more =
+    more ∙ (λ j. is j ++ e j ∷ [])
+    ∙ ap (λ (w : ℕ × Held). map (λ (w : ℕ × Value). confounder k w.0) (values_of (take i vs)) ++ confounder k w.0 ∷ []) at
+    ∙ sym (map-append (λ (w : ℕ × Value). confounder k w.0) (values_of (take i vs)) (values_of (get_or vs i v ∷ [])))
+    ∙ ap (map (λ (w : ℕ × Value). confounder k w.0)) (sym (map_more (λ (w : ℕ × Held). (w.0, value_of w.1)) vs i v within))

@@ -1,0 +1,191 @@
+-- The entries of a record, gone through in order.
+use Rattle.std.proofs.Common.{◌≡◌, ℕ, zero, suc, ◌+◌, ◌-◌, ◌<◌, ◌==◌, Bool, true, false, List, [], ◌∷◌, ◌++◌, map, length, take, drop, get_or, refl, sym, ◌∙◌, ap, subst, arith, append_assoc, append-nil}
+use Rattle.std.specs.Prelude.{Option, Some, None, option_map, option_and_then, slice_get, if◌then◌else◌}
+use Rattle.std.specs.List.{list_all}
+use Rattle.std.specs.Option.{option_to_list}
+use Rattle.sg_model.specs.Names.{Name}
+use Rattle.sg_protocol.specs.Calls as Protocol
+use Rattle.sg_protocol.specs.Calls.{Event, Call, Deliver, events_of_answer}
+use Rattle.sg_protocol.specs.Keyring.{Program}
+use Rattle.sg_protocol.specs.NodeStates.{NodeState}
+use Rattle.sg_protocol.specs.Run.{run, events_of_outcome}
+use Rattle.sg_protocol.specs.Schedule.{Schedule, Step}
+use Rattle.sg_protocol.specs.Steps.{frame_number}
+use Rattle.sg_protocol.specs.Texts.{real}
+use Rattle.sg_protocol.specs.World as Core
+use Rattle.sg_protocol.specs.World.{World, Logged, bytes_of, frame_at, frames}
+use Rattle.sg_report.specs.Told.{Told, told_after, told_log, told_outcome}
+use Rattle.sg_sched.specs.Format.StepsHeld.{changed}
+use Rattle.sg_sched.specs.declared.step.Change.{Change}
+use Rattle.sg_sched.specs.declared.step.Change.TheVariants.{Whole, Flip, Cut}
+use Rattle.sg_world.specs.Comes.{changed_to}
+use Rattle.sg_world.specs.EntriesOfRun.{AreOfRun, IsOfStep, event_told}
+use Rattle.sg_world.specs.Holds.{Holds, schedule_of}
+use Rattle.sg_world.specs.Kept.{Taken, Recorded}
+use Rattle.sg_world.specs.Setting.{Setting}
+use Rattle.sg_world.proofs.EntryCalls.{entry_call}
+
+-- ---- events
+
+-- the event of an outcome is that which is told
+pub told_event : (n : ℕ) (o : Core.Outcome) → events_of_outcome o ≡ option_to_list (event_told (told_outcome n o))
+told_event n (Core.Outcome.Answered a) = of_answer a
+  where
+    of_answer : (a : Protocol.Answer) → events_of_answer a ≡ option_to_list (event_told (told_outcome n (Core.Outcome.Answered a)))
+    of_answer (Protocol.Answer.Happened e) = refl
+    of_answer (Protocol.Answer.Sends e to f) = refl
+    of_answer Protocol.Answer.Abandoned = refl
+    of_answer (Protocol.Answer.NotStarted f) = refl
+    of_answer (Protocol.Answer.NotActed f) = refl
+    of_answer Protocol.Answer.NotAbandoned = refl
+    of_answer (Protocol.Answer.NotDelivered r) = refl
+told_event n Core.Outcome.Crafted = refl
+told_event n Core.Outcome.NoFrame = refl
+
+-- the events of an entry, by its told outcome
+pub events_told : (l : Logged) (n : ℕ) (told : Option Told) (e : Option Event) → told ≡ Some (told_outcome n l.outcome) → e ≡ option_and_then event_told told → events_of_outcome l.outcome ≡ option_to_list e
+events_told l n told e is of = told_event n l.outcome ∙ ap option_to_list (sym (of ∙ ap (option_and_then event_told) is))
+
+-- an entry with an event made a call
+pub called : (l : Logged) (e : Event) → (l.call ≡ None → events_of_outcome l.outcome ≡ []) → events_of_outcome l.outcome ≡ e ∷ [] → (c : Call) × (l.call ≡ Some c)
+called l e silent one = by l.call refl
+  where
+    by : (o : Option Call) → l.call ≡ o → (c : Call) × (l.call ≡ Some c)
+    by None q = absurd (let z : [] ≡ e ∷ [] = sym (silent q) ∙ one in cc)
+    by (Some c) q = (c, q)
+
+-- ---- frames
+
+found_first : (xs ys : List (List ℕ)) (i : ℕ) (b : List ℕ) → slice_get xs i ≡ Some b → slice_get (xs ++ ys) i ≡ Some b
+found_first [] ys i b e = absurd (cc)
+found_first (x ∷ xs) ys zero b e = e
+found_first (x ∷ xs) ys (suc i) b e = found_first xs ys i b e
+
+-- a frame that was recorded is found later
+pub found_later : (w last : World) (later : List (List ℕ)) (n : ℕ) (b : List ℕ) → frames last ≡ frames w ++ later → frame_at w n ≡ Some b → frame_at last n ≡ Some b
+found_later w last later n b first e = by (n == 0) refl e
+  where
+    by : (z : Bool) → (n == 0) ≡ z → (if z then None else slice_get (frames w) (n - 1)) ≡ Some b → (if z then None else slice_get (frames last) (n - 1)) ≡ Some b
+    by true q h = absurd (cc)
+    by false q h = ap (λ (fs : List (List ℕ)). slice_get fs (n - 1)) first ∙ found_first (frames w) later (n - 1) b h
+
+-- the call that a changed frame makes is of a frame that is there
+pub of_change : (w : World) (number : ℕ) (change : Change) (call : Call) → option_map Deliver (bytes_of w (changed number change)) ≡ Some call → (b : List ℕ) × (frame_at w number ≡ Some b) × (call ≡ Deliver (changed_to change b))
+of_change w number Whole call h = by (frame_at w number) refl h
+  where
+    by : (o : Option (List ℕ)) → frame_at w number ≡ o → option_map Deliver o ≡ Some call → (b : List ℕ) × (frame_at w number ≡ Some b) × (call ≡ Deliver b)
+    by None q h = absurd (cc)
+    by (Some b) q h = (b, q, cc)
+of_change w number (Flip at) call h = by (frame_at w number) refl h
+  where
+    by : (o : Option (List ℕ)) → frame_at w number ≡ o → option_map Deliver (option_map (Core.flipped at) o) ≡ Some call → (b : List ℕ) × (frame_at w number ≡ Some b) × (call ≡ Deliver (Core.flipped at b))
+    by None q h = absurd (cc)
+    by (Some b) q h = (b, q, cc)
+of_change w number (Cut len) call h = by (frame_at w number) refl h
+  where
+    by : (o : Option (List ℕ)) → frame_at w number ≡ o → option_map Deliver (option_map (take len) o) ≡ Some call → (b : List ℕ) × (frame_at w number ≡ Some b) × (call ≡ Deliver (take len b))
+    by None q h = absurd (cc)
+    by (Some b) q h = (b, q, cc)
+
+-- ---- entries
+
+-- what is told of a log, at a place
+told_at : (before xs : List Logged) (i : ℕ) (l : Logged) → slice_get xs i ≡ Some l → slice_get (told_after before xs) i ≡ Some (told_outcome (frame_number (before ++ take i xs)) l.outcome)
+told_at before [] i l e = absurd (cc)
+told_at before (x ∷ xs) zero l e = (let same : x ≡ l = cc in ap (λ (z : Logged). Some (told_outcome (frame_number before) z.outcome)) same ∙ ap (λ (ls : List Logged). Some (told_outcome (frame_number ls) l.outcome)) (sym (append-nil before)))
+told_at before (x ∷ xs) (suc i) l e = told_at (before ++ x ∷ []) xs i l e ∙ ap (λ (ls : List Logged). Some (told_outcome (frame_number ls) l.outcome)) (append_assoc before (x ∷ []) (take i xs))
+
+told_length : (before xs : List Logged) → length (told_after before xs) ≡ length xs
+told_length before [] = refl
+told_length before (x ∷ xs) = ap suc (told_length (before ++ x ∷ []) xs)
+
+map_at : {A B : Type 0} (f : A → B) (xs : List A) (i : ℕ) (x : A) → slice_get xs i ≡ Some x → slice_get (map f xs) i ≡ Some (f x)
+map_at f [] i x e = absurd (cc)
+map_at f (y ∷ ys) zero x e = (let same : y ≡ x = cc in ap (λ z. Some (f z)) same)
+map_at f (y ∷ ys) (suc i) x e = map_at f ys i x e
+
+map_length : {A B : Type 0} (f : A → B) (xs : List A) → length (map f xs) ≡ length xs
+map_length f [] = refl
+map_length f (x ∷ xs) = ap suc (map_length f xs)
+
+-- a list parted at a place
+parted : (xs : List Logged) (i : ℕ) → i < length xs → (l : Logged) × (slice_get xs i ≡ Some l) × (xs ≡ take i xs ++ l ∷ drop (suc i) xs)
+parted [] i h = absurd (omega (arith, h))
+parted (x ∷ xs) zero h = (x, refl, refl)
+parted (x ∷ xs) (suc i) h = let r = parted xs i (omega (arith, h)) in (r.0, r.1, ap (λ ls. x ∷ ls) r.2)
+
+take_one : (xs : List Logged) (i : ℕ) (l : Logged) → slice_get xs i ≡ Some l → take (i + 1) xs ≡ take i xs ++ l ∷ []
+take_one xs i l e = ap (λ n. take n xs) (let q : i + 1 ≡ suc i = omega arith in q) ∙ go xs i e
+  where
+    go : (xs : List Logged) (i : ℕ) → slice_get xs i ≡ Some l → take (suc i) xs ≡ take i xs ++ l ∷ []
+    go [] i e = absurd (cc)
+    go (x ∷ xs) zero e = (let same : x ≡ l = cc in ap (λ z. z ∷ []) same)
+    go (x ∷ xs) (suc i) e = ap (λ ls. x ∷ ls) (go xs i e)
+
+take_length : (xs : List Logged) (i : ℕ) → i < length xs → length (take i xs) ≡ i
+take_length [] i h = absurd (omega (arith, h))
+take_length (x ∷ xs) zero h = refl
+take_length (x ∷ xs) (suc i) h = ap suc (take_length xs i (omega (arith, h)))
+
+take_whole : (xs : List Logged) (i : ℕ) → i ≡ length xs → take i xs ≡ xs
+take_whole [] i e = ap (λ n. take n []) e
+take_whole (x ∷ xs) zero e = absurd (omega (arith, e))
+take_whole (x ∷ xs) (suc i) e = ap (λ ls. x ∷ ls) (take_whole xs i (omega (arith, e)))
+
+-- the entry at a place is of the log's step there
+pub record IsAt (programs : List Program) (s : Schedule) (recorded : List (List ℕ)) (i : ℕ) (e : Taken) : Type 0 where
+  pub entry : Logged
+  pub after : List Logged
+  pub parts : (run real programs s).log ≡ take i (run real programs s).log ++ entry ∷ after
+  pub next : take (i + 1) (run real programs s).log ≡ take i (run real programs s).log ++ entry ∷ []
+  pub of_step : IsOfStep s (take i (run real programs s).log) entry recorded e
+
+module _ (programs : List Program) (s : Schedule) (entries : List Taken) (recorded : List (List ℕ)) (h : AreOfRun programs s entries recorded) where
+  abbrev log : List Logged
+  log = (run real programs s).log
+
+  pub as_many : length entries ≡ length log
+  as_many = sym (map_length (λ (e : Taken). e.told) entries) ∙ ap length h.told ∙ map_length {B = Option Told} Some (told_log log) ∙ told_length [] log
+
+  pub all_taken : (i : ℕ) → i ≡ length entries → take i log ≡ log
+  all_taken i e = take_whole log i (e ∙ as_many)
+
+  pub entry_at : (i : ℕ) (e : Taken) → slice_get entries i ≡ Some e → i < length entries → IsAt programs s recorded i e
+  entry_at i e at less =
+      let within : i < length log = (let many = as_many in omega (arith, less, many)) in
+      let p = parted log i within in
+      let l : Logged = p.0 in
+      let step : slice_get s.steps (length (take i log)) ≡ Some e.step = ap (slice_get s.steps) (take_length log i within) ∙ ap (λ (xs : List Step). slice_get xs i) h.steps ∙ map_at (λ (x : Taken). x.step) entries i e at in
+      let b = entry_call programs s (take i log) l (drop (suc i) log) e.step h.taken p.2 step in
+      let both : Some e.told ≡ Some (Some (told_outcome (frame_number (take i log)) l.outcome)) =
+      sym (map_at (λ (x : Taken). x.told) entries i e at) ∙ ap (λ (ts : List (Option Told)). slice_get ts i) h.told ∙ map_at {B = Option Told} Some (told_log log) i (told_outcome (frame_number (take i log)) l.outcome) (told_at [] log i l p.1) in
+      let told : e.told ≡ Some (told_outcome (frame_number (take i log)) l.outcome) = cc in
+      record {
+        entry = l;
+        after = drop (suc i) log;
+        parts = p.2;
+        next = take_one log i l p.1;
+        of_step = record {
+          world = b.world;
+          call = b.call;
+          silent = b.silent;
+          number = frame_number (take i log);
+          told = told;
+          last = run real programs s;
+          whole = sym h.frames;
+          later = b.later;
+          first = h.frames ∙ b.frames;
+        };
+      }
+
+  pub entry_there : (i : ℕ) (e : Taken) → i < length entries → e ≡ get_or entries i e → IsAt programs s recorded i e
+  entry_there i e less is = entry_at i e (got entries i e less is) less
+    where
+      got : (xs : List Taken) (i : ℕ) (x : Taken) → i < length xs → x ≡ get_or xs i x → slice_get xs i ≡ Some x
+      got [] i x h is = absurd (omega (arith, h))
+      got (y ∷ ys) zero x h is = ap (λ z. Some z) (sym is)
+      got (y ∷ ys) (suc i) x h is = got ys i x (omega (arith, h)) is
+
+-- a record that holds is that of the run of its schedule
+pub of_run : (d : Setting) (nodes : List (Name × NodeState)) (r : Recorded) → Holds d nodes r → AreOfRun d.programs (schedule_of d nodes r) r.entries r.frames
+of_run d nodes r h = record { steps = refl; taken = h.taken; told = h.run.told; frames = h.run.frames }

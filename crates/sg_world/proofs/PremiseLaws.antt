@@ -1,0 +1,95 @@
+-- What breaks a premise of a replay's run, by what is kept.
+use Rattle.std.proofs.Common.{◌≡◌, ℕ, suc, ◌+◌, ◌<◌, ◌≤◌, List, [], ◌∷◌, ◌++◌, map, length, find, Option, Some, None, option_map, IfOk, IfSome, MatchOption, Result, Ok, Err, false, is_some, slice_get, refl, sym, ◌∙◌, ap, subst, arith}
+use Rattle.std.specs.Option.{option_or}
+use Rattle.std.proofs.lemmas.List.{length-map}
+use Rattle.sg_model.specs.Lists.{has_text, range_from}
+use Rattle.sg_model.specs.Names.{Name}
+use Rattle.sg_premises.specs.Forged.{IsRecord, is_unmade, forged_from}
+use Rattle.sg_protocol.proofs.Broken.{forged_is_first, collision_is_first}
+use Rattle.sg_protocol.proofs.Steps.{logs_are_numbered}
+use Rattle.sg_protocol.specs.Broken.{first_forged, first_collision}
+use Rattle.sg_protocol.specs.Graph.{Graph}
+use Rattle.sg_protocol.specs.NodeStates.{NodeState}
+use Rattle.sg_protocol.specs.Notes.{Note, Notes}
+use Rattle.sg_protocol.specs.Premises.{Unforged, CollisionFree, hashed}
+use Rattle.sg_protocol.specs.Run.{run}
+use Rattle.sg_protocol.specs.Schedule.{Step}
+use Rattle.sg_protocol.specs.Texts.{real}
+use Rattle.sg_protocol.specs.World.{Logged}
+use Rattle.sg_world.specs.Entries.{graph_of_entry}
+use Rattle.sg_world.specs.Holds.{Holds, schedule_of}
+use Rattle.sg_world.specs.Kept.{Recorded, Taken}
+use Rattle.sg_world.specs.PremiseFaults.{IsForgedAs, IsForgedFault, IsCollisionAs, IsCollisionFault}
+use Rattle.sg_world.specs.Replay.{Replay, run_of}
+use Rattle.sg_world.specs.Setting.{Setting}
+use Rattle.sg_world.specs.declared.premises.CollisionFault.{CollisionFault}
+use Rattle.sg_world.specs.declared.premises.CollisionFault.TheVariants as collision
+use Rattle.sg_world.specs.declared.premises.ForgedFault.{ForgedFault}
+use Rattle.sg_world.specs.declared.premises.ForgedFault.TheVariants as forged
+use Rattle.sg_world.proofs.Pasts.{Named, names, in_names}
+
+-- ---- the first premise
+
+-- as many steps were taken as have notes
+pub as_many : (d : Setting) (nodes : List Named) (r : Recorded) → Holds d nodes r → length r.notes ≡ length r.entries
+as_many d nodes r h =
+    let log = (run real d.programs (schedule_of d nodes r)).log in
+    let a = ap (λ (z : List Notes). length z) h.run.notes in
+    let b = ap (λ (z : List (Option Graph)). length z) h.run.graphs in
+    let e = length-map r.entries (λ (e : Taken). e.graph) in
+    let f = length-map log (graph_of_entry d.programs (schedule_of d nodes r)) in
+    let g = length-map log (λ (l : Logged). l.notes) in
+    omega (arith, a, b, e, f, g)
+
+-- what was noted is the record of the run
+pub is_record : (d : Setting) (nodes : List Named) (r : Recorded) (noted : List Notes) → Holds d nodes r → noted ≡ r.notes → IsRecord (run real d.programs (schedule_of d nodes r)) noted
+is_record d nodes r noted h same = subst (IsRecord (run real d.programs (schedule_of d nodes r))) (sym same) (record {
+  notes = sym h.run.notes;
+  numbers = logs_are_numbered real d.programs (schedule_of d nodes r) h.taken ∙ ap (range_from 1) (length-map r.entries (λ (e : Taken). e.step) ∙ sym (as_many d nodes r h));
+})
+
+-- a forged note is found in one of these steps
+pub forged_below : (honest : List (List ℕ)) (k : ℕ) (made : List Note) (ns : List Notes) → IfSome (forged_from honest k made ns) (λ (f : ℕ × Note). f.0 < k + length ns)
+forged_below honest k made [] = tt
+forged_below honest k made (n ∷ ns) = by (find (is_unmade honest made) n.found) (forged_from honest (suc k) (made ++ n.made) ns) (forged_below honest (suc k) (made ++ n.made) ns)
+  where
+    later : (o : Option (ℕ × Note)) → IfSome o (λ (f : ℕ × Note). f.0 < suc k + length ns) → IfSome o (λ (f : ℕ × Note). f.0 < k + suc (length ns))
+    later None h = tt
+    later (Some f) h = omega (arith, h)
+
+    by : (o : Option Note) (rest : Option (ℕ × Note)) → IfSome rest (λ (f : ℕ × Note). f.0 < suc k + length ns) → IfSome (option_or (option_map {U = ℕ × Note} (λ x. (k, x)) o) rest) (λ (f : ℕ × Note). f.0 < k + suc (length ns))
+    by None rest h = later rest h
+    by (Some x) rest h = omega arith
+
+-- so its step is one of those that a replay takes
+pub steps_few : {X E : Type 0} (pair : X → ℕ × Note) (res : Result (Option X) E) (found : Option (ℕ × Note)) (n : ℕ) → IfOk res (λ o. option_map pair o ≡ found) → IfSome found (λ (f : ℕ × Note). f.0 < 1 + n) → n ≤ 200000
+    → IfOk res (λ o. IfSome o (λ x. (pair x).0 ≤ 200000))
+steps_few pair (Err e) found n q h l = tt
+steps_few pair (Ok None) found n q h l = tt
+steps_few pair (Ok (Some x)) found n q h l =
+    let below : (pair x).0 < 1 + n = subst (λ (o : Option (ℕ × Note)). IfSome o (λ (f : ℕ × Note). f.0 < 1 + n)) (sym q) h in
+    omega (arith, below, l)
+
+-- a principal has a node where its name is that of one
+pub has_node : (ns : List Named) (who : Name) (o : Option ℕ) → MatchOption o (has_text who (names ns) ≡ false) (λ i. (state : NodeState) × (slice_get ns i ≡ Some (who, state))) → is_some o ≡ has_text who (names ns)
+has_node ns who None h = sym h
+has_node ns who (Some i) h = sym (in_names ns i who h.0 h.1)
+
+-- where there is no forged note the premise holds
+pub unforged_is : (r : Replay) → first_forged r.schedule (run_of r) ≡ None → Unforged r.schedule (run_of r)
+unforged_is r e = (forged_is_first r.schedule (run_of r)).0.0 e
+
+-- and where there is one it does not
+pub forged_fault_is : (r : Replay) (found : ℕ × Note) (e : ForgedFault) → first_forged r.schedule (run_of r) ≡ Some found → IsForgedAs found e → IsForgedFault r e
+forged_fault_is r found (forged.Forged step one two text) q h = (q ∙ ap (λ (z : ℕ × Note). Some z) h, λ u. (let none : None ≡ Some found = sym ((forged_is_first r.schedule (run_of r)).0.1 u) ∙ q in cc))
+forged_fault_is r found forged.OutOfMemory q h = tt
+
+-- ---- the second premise
+
+pub collision_free_is : (r : Replay) → first_collision real (hashed r.schedule (run_of r)) ≡ None → CollisionFree real (hashed r.schedule (run_of r))
+collision_free_is r e = (collision_is_first real (hashed r.schedule (run_of r))).0.0 e
+
+pub collision_fault_is : (r : Replay) (found : List ℕ × List ℕ) (e : CollisionFault) → first_collision real (hashed r.schedule (run_of r)) ≡ Some found → IsCollisionAs found e → IsCollisionFault r e
+collision_fault_is r found (collision.Collision one other) q h =
+    (q ∙ ap (λ (z : List ℕ × List ℕ). Some z) h, λ u. (let none : None ≡ Some found = sym ((collision_is_first real (hashed r.schedule (run_of r))).0.1 u) ∙ q in cc))
+collision_fault_is r found collision.OutOfMemory q h = tt

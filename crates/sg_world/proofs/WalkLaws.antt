@@ -1,0 +1,235 @@
+-- The walks of a replay's sessions, in the order in which they are reported.
+use Rattle.std.specs.Prelude.{◌≡◌, ◌≢◌, ℕ, ◌<◌, Bool, true, false, ◌||◌, if◌then◌else◌, List, [], ◌∷◌, ◌++◌, map, filter, filter_map, flat_map, find, cond, length, bytes_eq, refl, Option, Some, None, option_map, option_and_then, IfSome, MatchOption, All}
+use Rattle.std.specs.List.{AllByRecursion, cons_option}
+use Rattle.std.specs.Map.{lookup}
+use Rattle.std.specs.Option.{option_map_or, option_to_list}
+use Rattle.std.proofs.Common.{zero, suc, ◌+◌, ◌≤◌, take, slice_get, append_assoc, sym, ◌∙◌, ap, subst, arith}
+use Rattle.std.proofs.lemmas.Grind.{flat_map-append}
+use Rattle.std.proofs.lemmas.List.{length-map}
+use Rattle.std.proofs.lemmas.Option.{same_Some}
+use Rattle.std.proofs.Math.Seq.{take-length}
+use Rattle.std.proofs.lemmas.Bool.{cases_Bool}
+use Rattle.std.proofs.lemmas.Slice.Eq.{bytes_eq-Decides}
+use Rattle.sg_courses.specs.Courses.{Course, Courses}
+use Rattle.sg_courses.specs.Runs.{AreCourses, IsCourseOf, IsExplainedBy, IsUnbroken, sids_of}
+use Rattle.sg_grown.proofs.Coursed.{courses_are_grown}
+use Rattle.sg_grown.specs.Events.{grown_along}
+use Rattle.sg_law.proofs.Members.{all_in}
+use Rattle.sg_lines.proofs.Firsts.{has_text-firsts}
+use Rattle.sg_lines.proofs.Steps.{HasSteps-IsStoredWalk}
+use Rattle.sg_lines.specs.Sessions.{Met, all_sids, naming, session_name, sids_met}
+use Rattle.sg_lines.specs.Walks.{HasSteps}
+use Rattle.sg_model.specs.Lists.{has_text}
+use Rattle.sg_protocol.proofs.Course.{filter_map-append}
+use Rattle.sg_protocol.proofs.RealHash.{real_hash}
+use Rattle.sg_protocol.proofs.Whole.{found_in}
+use Rattle.sg_protocol.specs.Calls.{Event, sid_of}
+use Rattle.sg_protocol.specs.Frame.{Cast}
+use Rattle.sg_protocol.specs.Graph.{Graph, IsGraph}
+use Rattle.sg_protocol.specs.IsSchedule.{AreCompiled, IsSchedule}
+use Rattle.sg_protocol.specs.Keyring.{Program}
+use Rattle.sg_protocol.specs.Run.{run, events_of}
+use Rattle.sg_protocol.specs.Schedule.{Schedule, graph_with, honest_role}
+use Rattle.sg_protocol.specs.Texts.{real, graph_digest}
+use Rattle.sg_protocol.specs.Walk.{StoredStep, IsStoredWalk, OnePath}
+use Rattle.sg_report.specs.Lines.{graph_or_none}
+use Rattle.sg_report.specs.Report.{met}
+use Rattle.sg_walk.specs.Views.{steps_of}
+use Rattle.sg_walk.specs.declared.stored.StoredWalk.{StoredWalk}
+use Rattle.sg_world.specs.Account.{account, cast_met, graph_of, honest_in}
+use Rattle.sg_world.specs.Replay.{Replay, run_of}
+use Rattle.sg_world.specs.Walked.{CanWalkAll, IsPath, Path, PremisesHold, WalksAreWritten, path_at, path_grown, path_line, steps_grown}
+
+-- ---- events
+
+-- a sid of no event is that of no session
+pub none_met : (es : List Event) (sid : List ℕ) → has_text sid (map sid_of es) ≡ false → filter (λ e. bytes_eq (sid_of e) sid) es ≡ []
+none_met [] sid h = refl
+none_met (e ∷ es) sid h = by (bytes_eq (sid_of e) sid) refl (none_met es sid)
+  where
+    other : (b : Bool) → bytes_eq sid (sid_of e) ≡ b → (bytes_eq sid (sid_of e) || has_text sid (map sid_of es)) ≡ false → (bytes_eq sid (sid_of e) ≡ false) × (has_text sid (map sid_of es) ≡ false)
+    other true q h = absurd (let z : true ≡ false = sym (ap (λ b. b || has_text sid (map sid_of es)) q) ∙ h in cc)
+    other false q h = (q, sym (ap (λ b. b || has_text sid (map sid_of es)) q) ∙ h)
+
+    by : (b : Bool) → bytes_eq (sid_of e) sid ≡ b → (has_text sid (map sid_of es) ≡ false → filter (λ e. bytes_eq (sid_of e) sid) es ≡ []) → cond b (e ∷ filter (λ e. bytes_eq (sid_of e) sid) es) (filter (λ e. bytes_eq (sid_of e) sid) es) ≡ []
+    by true q rest = absurd (let z : true ≡ false = sym ((bytes_eq-Decides sid (sid_of e)).1 (sym ((bytes_eq-Decides (sid_of e) sid).0 q))) ∙ (other (bytes_eq sid (sid_of e)) refl h).0 in cc)
+    by false q rest = rest (other (bytes_eq sid (sid_of e)) refl h).1
+
+pub some_met : (es : List Event) (sid : List ℕ) → has_text sid (map sid_of es) ≡ true → filter (λ e. bytes_eq (sid_of e) sid) es ≢ []
+some_met [] sid h q = absurd (let z : false ≡ true = h in cc)
+some_met (e ∷ es) sid h q = by (bytes_eq (sid_of e) sid) refl q (some_met es sid)
+  where
+    later : (b : Bool) → bytes_eq sid (sid_of e) ≡ b → bytes_eq (sid_of e) sid ≡ false → has_text sid (map sid_of es) ≡ true
+    later true p q = absurd (let z : true ≡ false = sym ((bytes_eq-Decides (sid_of e) sid).1 (sym ((bytes_eq-Decides sid (sid_of e)).0 p))) ∙ q in cc)
+    later false p q = sym (ap (λ b. b || has_text sid (map sid_of es)) p) ∙ h
+
+    by : (b : Bool) → bytes_eq (sid_of e) sid ≡ b → cond b (e ∷ filter (λ e. bytes_eq (sid_of e) sid) es) (filter (λ e. bytes_eq (sid_of e) sid) es) ≡ []
+        → (has_text sid (map sid_of es) ≡ true → filter (λ e. bytes_eq (sid_of e) sid) es ≢ []) → ⊥
+    by true p z rest = cc
+    by false p z rest = rest (later (bytes_eq sid (sid_of e)) refl p) z
+
+-- ---- a table of walks
+
+module _ {X : Type 0} (path_of : List ℕ × X → Path) (is_of : (sid : List ℕ) (w : X) → (path_of (sid, w)).sid ≡ sid) where
+  abbrev at : List (List ℕ × X) → List ℕ → Option Path
+  at es sid = option_map (λ (w : X). path_of (sid, w)) (lookup (bytes_eq sid) es)
+
+  -- what is found is a path
+  pub found_path : (r : Replay) (es : List (List ℕ × X)) → AllByRecursion (λ (e : List ℕ × X). IsPath r (path_of e)) es → (sid : List ℕ) → IfSome (lookup (bytes_eq sid) es) (λ (w : X). IsPath r (path_of (sid, w)))
+  found_path r [] h sid = tt
+  found_path r (e ∷ es) h sid = by (bytes_eq sid e.0) refl (found_path r es h.1 sid)
+    where
+      by : (b : Bool) → bytes_eq sid e.0 ≡ b → IfSome (lookup (bytes_eq sid) es) (λ (w : X). IsPath r (path_of (sid, w))) → IfSome (cond b (Some e.1) (lookup (bytes_eq sid) es)) (λ (w : X). IsPath r (path_of (sid, w)))
+      by true q rest = subst (λ (z : List ℕ). IsPath r (path_of (z, e.1))) (sym ((bytes_eq-Decides sid e.0).0 q)) h.0
+      by false q rest = rest
+
+  -- each path that is told is one
+  pub told_paths : (r : Replay) (es : List (List ℕ × X)) → AllByRecursion (λ (e : List ℕ × X). IsPath r (path_of e)) es → (sids : List (List ℕ)) → AllByRecursion (IsPath r) (filter_map (at es) sids)
+  told_paths r es h [] = tt
+  told_paths r es h (sid ∷ sids) = by (lookup (bytes_eq sid) es) (found_path r es h sid) (told_paths r es h sids)
+    where
+      by : (o : Option X) → IfSome o (λ (w : X). IsPath r (path_of (sid, w))) → AllByRecursion (IsPath r) (filter_map (at es) sids) → AllByRecursion (IsPath r) (cons_option (option_map (λ (w : X). path_of (sid, w)) o) (filter_map (at es) sids))
+      by None i rest = rest
+      by (Some w) i rest = (i, rest)
+
+  -- the sid that is asked for is found where it is among the keys
+  key_found : (sid : List ℕ) (es : List (List ℕ × X)) → option_map (λ (w : X). sid) (lookup (bytes_eq sid) es) ≡ (if has_text sid (map (λ (e : List ℕ × X). e.0) es) then Some sid else None)
+  key_found sid [] = refl
+  key_found sid (e ∷ es) = by (bytes_eq sid e.0) (key_found sid es)
+    where
+      by : (b : Bool) → option_map (λ (w : X). sid) (lookup (bytes_eq sid) es) ≡ (if has_text sid (map (λ (e : List ℕ × X). e.0) es) then Some sid else None)
+          → option_map (λ (w : X). sid) (cond b (Some e.1) (lookup (bytes_eq sid) es)) ≡ (if b || has_text sid (map (λ (e : List ℕ × X). e.0) es) then Some sid else None)
+      by true rest = refl
+      by false rest = rest
+
+  -- the sids that have a walk, in the order in which they are asked for
+  pub told_sids : (es : List (List ℕ × X)) (sids : List (List ℕ)) → map (λ (p : Path). p.sid) (filter_map (at es) sids) ≡ filter (λ sid. has_text sid (map (λ (e : List ℕ × X). e.0) es)) sids
+  told_sids es [] = refl
+  told_sids es (sid ∷ sids) = by (lookup (bytes_eq sid) es) (has_text sid (map (λ (e : List ℕ × X). e.0) es)) (key_found sid es) (told_sids es sids)
+    where
+      by : (o : Option X) (b : Bool) → option_map (λ (w : X). sid) o ≡ (if b then Some sid else None) → map (λ (p : Path). p.sid) (filter_map (at es) sids) ≡ filter (λ sid. has_text sid (map (λ (e : List ℕ × X). e.0) es)) sids
+          → map (λ (p : Path). p.sid) (cons_option (option_map (λ (w : X). path_of (sid, w)) o) (filter_map (at es) sids))
+          ≡ cond b (sid ∷ filter (λ sid. has_text sid (map (λ (e : List ℕ × X). e.0) es)) sids) (filter (λ sid. has_text sid (map (λ (e : List ℕ × X). e.0) es)) sids)
+      by None true q rest = absurd (cc)
+      by None false q rest = rest
+      by (Some w) true q rest = λ i. is_of sid w i ∷ rest i
+      by (Some w) false q rest = absurd (cc)
+
+  -- where each session with an event has a walk, and no other, these are the sessions that are met
+  pub told_met : (es : List (List ℕ × X)) (m : Met) → ((sid : List ℕ) → has_text sid (map (λ (e : List ℕ × X). e.0) es) ≡ has_text sid m.events) → map (λ (p : Path). p.sid) (filter_map (at es) (all_sids m)) ≡ sids_met m
+  told_met es m h = told_sids es (all_sids m) ∙ (λ i. filter (λ sid. h sid i) (all_sids m))
+
+-- ---- the steps of a walk
+
+-- the graph of a session has the steps of a walk that explains it
+pub has_its_steps : (r : Replay) → IsSchedule real r.schedule → (p : Path) → IsPath r p → HasSteps p.graph p.steps
+has_its_steps r s p h =
+    subst (λ (g : Graph). HasSteps g p.steps) (sym h.graph)
+    (by (option_and_then (λ (c : Cast). graph_with real r.schedule.graphs c.graph) (cast_met r p.sid)) refl p.steps h.path.walk)
+  where
+    there : (c : Option Cast) (g : Graph) → option_and_then (λ (c : Cast). graph_with real r.schedule.graphs c.graph) c ≡ Some g → IsGraph g
+    there None g q = absurd (cc)
+    there (Some c) g q = all_in IsGraph r.schedule.graphs g s.are_graphs (found_in (λ (g : Graph). bytes_eq (graph_digest real g) c.graph) r.schedule.graphs g q)
+
+    none : (steps : List StoredStep) → IsStoredWalk (graph_or_none None) steps → HasSteps (graph_or_none None) steps
+    none [] w = tt
+    none (x ∷ xs) w = absurd (let l = w.walk.0 in omega (arith, l))
+
+    by : (o : Option Graph) → option_and_then (λ (c : Cast). graph_with real r.schedule.graphs c.graph) (cast_met r p.sid) ≡ o → (steps : List StoredStep) → IsStoredWalk (graph_or_none (option_and_then (λ (c : Cast). graph_with real r.schedule.graphs c.graph) (cast_met r p.sid))) steps
+        → HasSteps (graph_or_none (option_and_then (λ (c : Cast). graph_with real r.schedule.graphs c.graph) (cast_met r p.sid))) steps
+    by None q steps w = subst (λ (o : Option Graph). HasSteps (graph_or_none o) steps) (sym q) (none steps (subst (λ (o : Option Graph). IsStoredWalk (graph_or_none o) steps) q w))
+    by (Some g) q steps w = subst (λ (o : Option Graph). HasSteps (graph_or_none o) steps) (sym q) (HasSteps-IsStoredWalk g (there (cast_met r p.sid) g q) steps (subst (λ (o : Option Graph). IsStoredWalk (graph_or_none o) steps) q w))
+
+-- ---- grown walks
+
+-- a walk that explains a session is a path with the graph and the honest roles of its cast
+pub explained_path : (r : Replay) (sid : List ℕ) (cast : Cast) (g : Graph) (steps : List StoredStep) → cast_met r sid ≡ Some cast → graph_with real r.schedule.graphs cast.graph ≡ Some g
+    → OnePath g (honest_role r.schedule cast) (events_of sid (run_of r).log) steps → OnePath (graph_of r sid) (honest_in r sid) (events_of sid (run_of r).log) steps
+explained_path r sid cast g steps is_cast is_graph path =
+    let graph : graph_of r sid ≡ g = ap graph_or_none (ap (option_and_then (λ (c : Cast). graph_with real r.schedule.graphs c.graph)) is_cast ∙ is_graph) in
+    let honest : (role : ℕ) → honest_in r sid role ≡ honest_role r.schedule cast role = λ role. ap (λ (o : Option Cast). option_map_or (λ c. honest_role r.schedule c role) o false) is_cast in
+    let alike : honest_in r sid ≡ honest_role r.schedule cast = λ i role. honest role i in
+    subst (λ (h : Graph). OnePath h (honest_in r sid) (events_of sid (run_of r).log) steps) (sym graph)
+    (subst (λ (h : ℕ → Bool). OnePath g h (events_of sid (run_of r).log) steps) (sym alike) path)
+
+module _ (r : Replay) (compiled : AreCompiled real r.schedule.graphs r.programs) (schedule : IsSchedule real r.schedule) (hold : PremisesHold r) where
+  -- the walk of a session's course explains the session
+  course_path : (sid : List ℕ) (c : Course) → IsCourseOf r.schedule (run_of r).log (run_of r).log sid c → IsPath r (path_grown (sid, c))
+  course_path sid c h =
+      let graph : graph_of r sid ≡ c.graph = ap graph_or_none (ap (option_and_then (λ (c : Cast). graph_with real r.schedule.graphs c.graph)) h.cast ∙ h.graph) in
+      let path : OnePath c.graph (honest_role r.schedule c.cast) (events_of sid (run_of r).log) (grown_along c.graph (honest_role r.schedule c.cast) [] c.shown) =
+      courses_are_grown real real_hash r.programs r.schedule sid c.cast c.graph c.shown c.origins compiled schedule hold h.cast h.graph h.course in
+      let same : steps_grown c ≡ grown_along c.graph (honest_role r.schedule c.cast) [] c.shown = λ i. grown_along c.graph (λ role. h.honest role i) [] c.shown in
+      record {
+        graph = sym graph;
+        honest = λ role. h.honest role ∙ sym (ap (λ (o : Option Cast). option_map_or (λ c. honest_role r.schedule c role) o false) h.cast);
+        path = explained_path r sid c.cast c.graph (steps_grown c) h.cast h.graph (subst (OnePath c.graph (honest_role r.schedule c.cast) (events_of sid (run_of r).log)) (sym same) path);
+      }
+
+  course_paths : (es : List (List ℕ × Course)) → AllByRecursion (λ (e : List ℕ × Course). IsCourseOf r.schedule (run_of r).log (run_of r).log e.0 e.1) es → AllByRecursion (λ (e : List ℕ × Course). IsPath r (path_grown e)) es
+  course_paths [] h = tt
+  course_paths (e ∷ es) h = (course_path e.0 e.1 h.0, course_paths es h.1)
+
+  pub grown_paths : (c : Courses) → AreCourses r.schedule (run_of r).log c → c.programs ≡ r.programs → AllByRecursion (λ (e : List ℕ × Course). IsPath r (path_grown e)) c.courses
+  grown_paths c are same = course_paths c.courses (subst (λ (ps : List Program). AllByRecursion (λ (e : List ℕ × Course). IsCourseOf r.schedule (run real ps r.schedule).log (run_of r).log e.0 e.1) c.courses) same are.each)
+
+  have_steps : (es : List (List ℕ × Course)) → AllByRecursion (λ (e : List ℕ × Course). IsPath r (path_grown e)) es → AllByRecursion (λ (e : List ℕ × Course). HasSteps e.1.graph (steps_grown e.1)) es
+  have_steps [] h = tt
+  have_steps (e ∷ es) h = (has_its_steps r schedule (path_grown e) h.0, have_steps es h.1)
+
+  pub can_walk : (c : Courses) → AreCourses r.schedule (run_of r).log c → c.programs ≡ r.programs → CanWalkAll c
+  can_walk c are same = have_steps c.courses (grown_paths c are same)
+
+  -- the walks of all sessions with an event, in their order
+  pub walks_written : (c : Courses) → AreCourses r.schedule (run_of r).log c → c.programs ≡ r.programs → (old new : List ℕ)
+      → new ≡ old ++ flat_map (path_line (met (account r))) (filter_map (path_at c) (all_sids (met (account r)))) → WalksAreWritten r old new
+  walks_written c are same old new text = record {
+    paths = filter_map (path_at c) (all_sids (met (account r)));
+    each = told_paths path_grown (λ sid w. refl) r c.courses (grown_paths c are same) (all_sids (met (account r)));
+    sids = told_met path_grown (λ sid w. refl) c.courses (met (account r)) (λ sid. ap (has_text sid) are.sids ∙ has_text-firsts sid (sids_of (run_of r).log));
+    text = text;
+  }
+
+-- what a course's walk gives explains the session
+pub grown_path : (r : Replay) (c : Courses) (sid : List ℕ) (o : Option StoredWalk) (w : StoredWalk) → IsUnbroken r.programs r.schedule → AreCourses r.schedule (run_of r).log c → c.programs ≡ r.programs
+    → ((s : Schedule) → IsUnbroken c.programs s → AreCourses s (run real c.programs s).log c → MatchOption o (events_of sid (run real c.programs s).log ≡ []) (λ w. IsExplainedBy c.programs s sid (steps_of w)))
+    → o ≡ Some w → OnePath (graph_of r sid) (honest_in r sid) (events_of sid (run_of r).log) (steps_of w)
+grown_path r c sid o w unbroken are same gives is =
+    let found = gives r.schedule (subst (λ (ps : List Program). IsUnbroken ps r.schedule) (sym same) unbroken) (subst (λ (ps : List Program). AreCourses r.schedule (run real ps r.schedule).log c) (sym same) are) in
+    let here : IsExplainedBy c.programs r.schedule sid (steps_of w) = subst (λ (z : Option StoredWalk). MatchOption z (events_of sid (run real c.programs r.schedule).log ≡ []) (λ w. IsExplainedBy c.programs r.schedule sid (steps_of w))) is found in
+    let e : IsExplainedBy r.programs r.schedule sid (steps_of w) = subst (λ (ps : List Program). IsExplainedBy ps r.schedule sid (steps_of w)) same here in
+    explained_path r sid e.0.cast e.0.graph (steps_of w) e.0.is_cast e.0.is_graph (subst (OnePath e.0.graph (honest_role r.schedule e.0.cast) (events_of sid (run_of r).log)) e.1 e.0.path)
+
+-- ---- written one after another
+
+-- the graph of a course that is found has the steps of its walk
+pub found_can_walk : (sid : List ℕ) (es : List (List ℕ × Course)) (c : Course) → AllByRecursion (λ (e : List ℕ × Course). HasSteps e.1.graph (steps_grown e.1)) es → lookup (bytes_eq sid) es ≡ Some c → HasSteps c.graph (steps_grown c)
+found_can_walk sid [] c h q = absurd (cc)
+found_can_walk sid (e ∷ es) c h q = by (bytes_eq sid e.0) q (found_can_walk sid es c h.1)
+  where
+    by : (b : Bool) → cond b (Some e.1) (lookup (bytes_eq sid) es) ≡ Some c → (lookup (bytes_eq sid) es ≡ Some c → HasSteps c.graph (steps_grown c)) → HasSteps c.graph (steps_grown c)
+    by true q rest = subst (λ (z : Course). HasSteps z.graph (steps_grown z)) (same_Some e.1 c q) h.0
+    by false q rest = rest q
+
+none_taken : (i : ℕ) → take {A = List ℕ} i [] ++ [] ≡ []
+none_taken zero = refl
+none_taken (suc i) = refl
+
+next_taken : (xs : List (List ℕ)) (i : ℕ) → take (i + 1) xs ≡ take i xs ++ option_to_list (slice_get xs i)
+next_taken [] i = (let q : i + 1 ≡ suc i = omega arith in ap (λ n. take {A = List ℕ} n []) q) ∙ sym (none_taken i)
+next_taken (x ∷ xs) zero = refl
+next_taken (x ∷ xs) (suc i) = (let q : suc i + 1 ≡ suc (i + 1) = omega arith in ap (λ n. take n (x ∷ xs)) q) ∙ ap (λ z. x ∷ z) (next_taken xs i)
+
+-- one more walk is written
+pub walk_more : (f : Path → List ℕ) (g : List ℕ → Option Path) (xs : List (List ℕ)) (i : ℕ) (old mid new : List ℕ) → mid ≡ old ++ flat_map f (filter_map g (take i xs)) → new ≡ mid ++ flat_map f (filter_map g (option_to_list (slice_get xs i)))
+    → new ≡ old ++ flat_map f (filter_map g (take (i + 1) xs))
+walk_more f g xs i old mid new before more =
+    more ∙ ap (λ t. t ++ flat_map f (filter_map g (option_to_list (slice_get xs i)))) before
+    ∙ append_assoc old (flat_map f (filter_map g (take i xs))) (flat_map f (filter_map g (option_to_list (slice_get xs i))))
+    ∙ ap (λ t. old ++ t) (sym (ap (λ z. flat_map f (filter_map g z)) (next_taken xs i) ∙ ap (flat_map f) (filter_map-append g (take i xs) (option_to_list (slice_get xs i)))
+    ∙ flat_map-append f (filter_map g (take i xs)) (filter_map g (option_to_list (slice_get xs i)))))
+
+-- all walks are written
+pub all_walks : (m : Met) (f : Path → List ℕ) (g : List ℕ → Option Path) (i : ℕ) (old new : List ℕ) → new ≡ old ++ flat_map f (filter_map g (take i (all_sids m))) → i ≡ length (naming 120 m).names → new ≡ old ++ flat_map f (filter_map g (all_sids m))
+all_walks m f g i old new h l =
+    h ∙ ap (λ n. old ++ flat_map f (filter_map g (take n (all_sids m)))) (l ∙ length-map (all_sids m) (λ (sid : List ℕ). (sid, session_name 120 m sid))) ∙ ap (λ z. old ++ flat_map f (filter_map g z)) (take-length (all_sids m))

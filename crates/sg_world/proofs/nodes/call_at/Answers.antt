@@ -1,0 +1,30 @@
+use Rattle.std.proofs.Common.{◌≡◌, IfOk, refl, subst}
+use Rattle.indexmap.specs.IndexMap.{set_value_at}
+use Rattle.sg_sched.specs.Format.StepsHeld.{step_of}
+use Rattle.sg_world.specs.Comes.{ComesAt, ComesOfStep}
+use Rattle.sg_world.proofs.Called.{if_err, if_is_ok}
+use Rattle.sg_world.proofs.Found.{entry_at}
+use Rattle.sg_world.proofs.Goes.{same_value}
+use Rattle.std.proofs.Common.{◌∙◌, ap}
+use Rattle.sg_protocol.specs.NodeStates.{NodeState}
+use Rattle.sg_world.proofs.nodes.call_at.Goals as goal
+
+pub returns-clause-comes : goal.returns-clause-comes
+returns-clause-comes c = if_is_ok (ComesAt c.args.setting.now.sessions c.args.recorded.now c.args.number (step_of c.args.step.now) c.args.place c.args.nodes.now.entries (set_value_at c.args.nodes.now.entries c.args.place c.call.new.node)) c.call.result
+    (λ x e.
+    let entry = entry_at c.args.nodes.now.entries c.args.place c.index_mut.result.now c.index_mut.ensures.value in
+    record {
+      who = entry.0;
+      old = c.index_mut.result.now;
+      new = c.call.new.node;
+      is_old = entry.1;
+      is_new = refl;
+      comes = subst (λ r. IfOk r (ComesOfStep c.args.setting.now.sessions c.args.recorded.now c.args.number (step_of c.args.step.now) c.index_mut.result.now c.call.new.node)) e c.call.ensures.comes;
+    })
+
+pub returns-clause-back : goal.returns-clause-back
+returns-clause-back c = if_err (c.call.new.node ≡ c.index_mut.result.now) (set_value_at c.args.nodes.now.entries c.args.place c.call.new.node ≡ c.args.nodes.now.entries) c.call.result
+    (λ same.
+    let entry = entry_at c.args.nodes.now.entries c.args.place c.index_mut.result.now c.index_mut.ensures.value in
+    ap (λ (z : NodeState). set_value_at c.args.nodes.now.entries c.args.place z) same ∙ same_value c.args.nodes.now.entries c.args.place entry.0 c.index_mut.result.now entry.1)
+    c.call.ensures.back

@@ -1,0 +1,41 @@
+use Rattle.std.proofs.Common.{ℕ, ◌+◌, List, length, ap, subst, arith}
+use Rattle.sg_protocol.specs.Run.{run}
+use Rattle.sg_protocol.specs.Texts.{real}
+use Rattle.sg_sched.specs.Format.StepsHeld.{step_of}
+use Rattle.sg_world.specs.Crafts.{ComesOfPlace}
+use Rattle.sg_world.specs.Holds.{schedule_of}
+use Rattle.sg_world.specs.Kept.{Recorded}
+use Rattle.sg_world.proofs.Gathered.{craftable}
+use Rattle.sg_world.proofs.Next.{frames_few}
+use Rattle.sg_world.proofs.Taken.{step_fits, step_taken}
+use Rattle.sg_world.proofs.take.take_step.Goals as goal
+
+pub come-requires-clause-can : goal.come-requires-clause-can
+come-requires-clause-can c = craftable c.args.setting.now c.args.nodes.now.entries c.args.history.now.done (step_of c.args.step.now) c.requires.step.range
+
+pub come-requires-clause-few : goal.come-requires-clause-few
+come-requires-clause-few c =
+    let s = schedule_of c.args.setting.now c.args.nodes.now.entries c.args.history.now.done in
+    let a = ap (λ (z : List (List ℕ)). length z) c.frames.ensures in
+    let b = ap (λ (z : Recorded). length z.frames) c.make_room.ensures.done in
+    let f = frames_few c.args.setting.now.programs s (run real c.args.setting.now.programs s) c.args.nodes.now.entries c.args.history.now.done c.requires.holds.run in
+    let g = c.requires.room in
+    omega (arith, a, b, f, g)
+
+pub put-requires-clause-size : goal.put-requires-clause-size
+put-requires-clause-size c =
+    let comes = subst (λ (fs : List (List ℕ)). ComesOfPlace c.args.setting.now fs (c.count.result + 1) (step_of c.args.step.now) c.args.place c.args.nodes.now.entries c.come.new.nodes.entries c.in_ok-came.came) c.frames.ensures c.in_ok-came.ensures.comes in
+    step_fits c.args.setting.now c.args.nodes.now.entries c.come.new.nodes.entries c.args.history.now.done c.make_room.new.self.done (step_of c.args.step.now) c.in_ok-came.came c.args.place (c.count.result + 1)
+    c.requires.holds c.requires.place c.requires.room c.requires.step.range c.make_room.ensures.done (ap (λ (n : ℕ). n + 1) c.count.ensures) comes c.requires.size
+
+pub returns-clause-taken : goal.returns-clause-taken
+returns-clause-taken c =
+    let comes = subst (λ (fs : List (List ℕ)). ComesOfPlace c.args.setting.now fs (c.count.result + 1) (step_of c.args.step.now) c.args.place c.args.nodes.now.entries c.come.new.nodes.entries c.in_ok-came.came) c.frames.ensures c.in_ok-came.ensures.comes in
+    (step_taken c.args.setting.now c.args.nodes.now.entries c.come.new.nodes.entries c.args.history.now.done c.make_room.new.self.done c.put.new.self.done (step_of c.args.step.now) (step_of c.in_ok-kept.kept) c.in_ok-came.came c.args.place (c.count.result + 1)
+    c.requires.holds c.requires.place c.requires.room c.requires.step.range c.make_room.ensures.done (ap (λ (n : ℕ). n + 1) c.count.ensures) comes c.in_ok-kept.ensures c.put.ensures).0
+
+pub returns-clause-schedule : goal.returns-clause-schedule
+returns-clause-schedule c =
+    let comes = subst (λ (fs : List (List ℕ)). ComesOfPlace c.args.setting.now fs (c.count.result + 1) (step_of c.args.step.now) c.args.place c.args.nodes.now.entries c.come.new.nodes.entries c.in_ok-came.came) c.frames.ensures c.in_ok-came.ensures.comes in
+    (step_taken c.args.setting.now c.args.nodes.now.entries c.come.new.nodes.entries c.args.history.now.done c.make_room.new.self.done c.put.new.self.done (step_of c.args.step.now) (step_of c.in_ok-kept.kept) c.in_ok-came.came c.args.place (c.count.result + 1)
+    c.requires.holds c.requires.place c.requires.room c.requires.step.range c.make_room.ensures.done (ap (λ (n : ℕ). n + 1) c.count.ensures) comes c.in_ok-kept.ensures c.put.ensures).1

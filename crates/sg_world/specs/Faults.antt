@@ -1,0 +1,25 @@
+-- Why a step is not taken.
+use Rattle.std.specs.Prelude.{◌≡◌, ℕ, ◌<◌, ⊤, Some, true, false}
+use Rattle.sg_protocol.specs.Schedule.{Step, who_of}
+use Rattle.sg_protocol.specs.Steps.{is_taken}
+use Rattle.sg_world.specs.Replay.{Replay, size_of}
+use Rattle.sg_world.specs.declared.fault.StepFault.{StepFault}
+use Rattle.sg_world.specs.declared.fault.StepFault.TheVariants.{NotHonest, RecordFull, OutOfMemory}
+
+-- the record holds more than this many bytes as a step begins that is not taken
+abbrev pub most_bytes : ℕ
+most_bytes = 264241152
+
+-- the record is full
+abbrev pub IsFull : Replay → Type 0
+IsFull r = most_bytes < size_of r
+
+-- why the step is not taken, in order
+abbrev pub IsStepFault : Replay → Step → StepFault → Type 0
+IsStepFault r x (NotHonest name) = (who_of x ≡ Some name) × (is_taken r.schedule x ≡ false)
+IsStepFault r x (RecordFull bytes) = (is_taken r.schedule x ≡ true) × IsFull r × (bytes ≡ size_of r)
+IsStepFault r x OutOfMemory = ⊤
+
+-- the step is one of an honest principal or a craft, and the record is not full
+abbrev pub IsAdmitted : Replay → Step → Type 0
+IsAdmitted r x = (is_taken r.schedule x ≡ true) × (IsFull r → ⊥)

@@ -1,0 +1,59 @@
+-- The record of a replay: each step that was taken with what came of it, what was noted, and the recorded frames.
+use Rattle.std.specs.Prelude.{◌≡◌, ℕ, ◌+◌, List, [], ◌∷◌, ◌++◌, length, map, sum_by, Option, Some}
+use Rattle.std.specs.Option.{option_map_or, option_to_list}
+use Rattle.sg_model.specs.Names.{Name}
+use Rattle.sg_protocol.specs.Graph.{Graph}
+use Rattle.sg_protocol.specs.Keyring.{Program}
+use Rattle.sg_protocol.specs.NodeStates.{NodeState}
+use Rattle.sg_protocol.specs.Notes.{Notes}
+use Rattle.sg_protocol.specs.Schedule.{Schedule, Step}
+use Rattle.sg_protocol.specs.Steps.{record_size}
+use Rattle.sg_protocol.specs.World.{World, frames}
+use Rattle.sg_world.specs.Entries.{graph_of_entry}
+use Rattle.sg_world.specs.Stand.{StandForPasts}
+use Rattle.sg_report.specs.Told.{Told, told_log}
+
+-- what came of a step: what is told of it, the graph by which its numbers have names, the frame that it records, and what was noted
+pub record Came : Type 0 where
+  pub told : Option Told
+  pub graph : Option Graph
+  pub frame : Option (List ℕ)
+  pub notes : Notes
+
+-- a step that was taken, what is told of it, and the graph by which its numbers have names
+pub record Taken : Type 0 where
+  pub step : Step
+  pub told : Option Told
+  pub graph : Option Graph
+
+-- the steps, what was noted at each, the frames, and the size in bytes
+pub record Recorded : Type 0 where
+  pub entries : List Taken
+  pub notes : List Notes
+  pub frames : List (List ℕ)
+  pub size : ℕ
+
+-- the bytes that a step adds
+abbrev pub added_size : Came → ℕ
+added_size c = option_map_or (λ bs. length bs) c.frame 0
+    + sum_by (λ n. length n.text) c.notes.made
+    + sum_by (λ n. length n.text) c.notes.found
+    + sum_by (λ t. length t) c.notes.hashed
+
+-- the record with one more step
+abbrev pub with_came : Recorded → Step → Came → Recorded
+with_came r x c = record {
+  entries = r.entries ++ record { step = x; told = c.told; graph = c.graph } ∷ [];
+  notes = r.notes ++ c.notes ∷ [];
+  frames = r.frames ++ option_to_list c.frame;
+  size = r.size + added_size c;
+}
+
+-- the nodes and the record are those of a run of these programs
+pub record HoldsRun (programs : List Program) (s : Schedule) (w : World) (nodes : List (Name × NodeState)) (r : Recorded) : Type 0 where
+  pub stand : StandForPasts nodes w.pasts
+  pub told : map (λ e. e.told) r.entries ≡ map Some (told_log w.log)
+  pub graphs : map (λ e. e.graph) r.entries ≡ map (graph_of_entry programs s) w.log
+  pub notes : r.notes ≡ map (λ l. l.notes) w.log
+  pub frames : r.frames ≡ frames w
+  pub size : r.size ≡ record_size s w

@@ -1,0 +1,37 @@
+-- What the lines and the names of a report are made of, by what is kept.
+use Rattle.std.specs.Prelude.{ℕ, List, map, filter_map, Option, Some, None, option_map, option_and_then, slice_get, IfSome}
+use Rattle.sg_protocol.specs.Calls.{sid_of}
+use Rattle.sg_protocol.specs.Schedule.{Declared, Step, AbandonStep, who_of}
+use Rattle.sg_protocol.specs.Texts.{real, session_id}
+use Rattle.sg_lines.specs.Sessions.{Met}
+use Rattle.sg_report.specs.Report.{Line}
+use Rattle.sg_report.specs.Told.{CanBeTold}
+use Rattle.sg_world.specs.Account.{session_told, graph_told}
+use Rattle.sg_world.specs.EntriesOfRun.{event_told}
+use Rattle.sg_world.specs.Kept.{Taken}
+use Rattle.sg_world.specs.Setting.{Setting}
+
+-- the sid of the event that came of a step, if one did
+abbrev pub sid_kept : Taken → Option (List ℕ)
+sid_kept e = option_map sid_of (option_and_then event_told e.told)
+
+-- the declared sessions with their sids
+abbrev pub declared_in : List Declared → List (List ℕ × List ℕ)
+declared_in sessions = map (λ (d : Declared). (d.name, session_id real d.cast)) sessions
+
+-- the sessions that are declared, and those of the events of these steps
+abbrev pub met_in : List Declared → List Taken → Met
+met_in sessions entries = record { declared = declared_in sessions; events = filter_map sid_kept entries }
+
+-- the sid that a step gives up
+abbrev pub left_by : List Declared → Step → Option (List ℕ)
+left_by sessions (AbandonStep who n) = option_map (λ d. session_id real d.cast) (slice_get sessions n)
+left_by sessions other = None
+
+-- the line of a step that was taken
+abbrev pub line_kept : Setting → Taken → Option Line
+line_kept d e = option_map (λ told. record { who = who_of e.step; session = session_told (left_by d.sessions e.step) told; graph = graph_told d.graphs e.graph told; told = told }) e.told
+
+-- the line can be written
+abbrev pub CanBeWritten : Setting → Taken → Type 0
+CanBeWritten d e = IfSome (line_kept d e) (λ l. CanBeTold l.graph l.told)

@@ -1,0 +1,75 @@
+-- The walks of the sessions of a replay, and why a session has none.
+use Rattle.std.specs.Prelude.{◌≡◌, ◌≢◌, ℕ, ⊤, List, [], ◌++◌, map, flat_map, Option, option_map}
+use Rattle.std.specs.List.{AllByRecursion}
+use Rattle.sg_courses.specs.Courses.{Course, Courses}
+use Rattle.sg_courses.specs.Runs.{course_at}
+use Rattle.sg_grown.specs.Events.{grown_along}
+use Rattle.sg_lines.specs.Sessions.{Met, sids_met}
+use Rattle.sg_lines.specs.Walks.{HasSteps, walk_line}
+use Rattle.sg_model.specs.Lists.{is_in}
+use Rattle.sg_protocol.specs.Graph.{Graph}
+use Rattle.sg_protocol.specs.Premises.{Premises}
+use Rattle.sg_protocol.specs.Run.{events_of}
+use Rattle.sg_protocol.specs.Texts.{real}
+use Rattle.sg_protocol.specs.Walk.{StoredStep, OnePath}
+use Rattle.sg_report.specs.Report.{met, name_in}
+use Rattle.sg_world.specs.Account.{account, graph_of, honest_in}
+use Rattle.sg_world.specs.Replay.{Replay, run_of}
+use Rattle.sg_world.specs.declared.session_walk.WalkFault.{WalkFault}
+use Rattle.sg_world.specs.declared.session_walk.WalkFault.TheVariants.{NoSuchSession, PremiseBroken, OutOfMemory}
+
+-- both premises hold of the run
+abbrev pub PremisesHold : Replay → Type 0
+PremisesHold r = Premises real r.schedule (run_of r)
+
+-- ---- no walk
+
+-- why there is no walk, in order
+abbrev pub IsWalkFault : Replay → List ℕ → WalkFault → Type 0
+IsWalkFault r sid NoSuchSession = events_of sid (run_of r).log ≡ []
+IsWalkFault r sid PremiseBroken = (events_of sid (run_of r).log ≢ []) × (PremisesHold r → ⊥)
+IsWalkFault r sid OutOfMemory = ⊤
+
+-- ---- walks
+
+-- the walk of a session, with a graph and the roles that are honest
+pub record Path : Type 0 where
+  pub sid : List ℕ
+  pub graph : Graph
+  pub honest : List ℕ
+  pub steps : List StoredStep
+
+-- it explains the session, with the graph and the honest roles of the session's cast
+pub record IsPath (r : Replay) (p : Path) : Type 0 where
+  pub graph : p.graph ≡ graph_of r p.sid
+  pub honest : (role : ℕ) → is_in role p.honest ≡ honest_in r p.sid role
+  pub path : OnePath (graph_of r p.sid) (honest_in r p.sid) (events_of p.sid (run_of r).log) p.steps
+
+-- the line of a session's walk
+abbrev pub path_line : Met → Path → List ℕ
+path_line m p = walk_line (name_in m p.sid) p.graph (λ role. is_in role p.honest) p.steps
+
+-- the lines of the walks of all sessions with an event are written, in their order, and each walk explains its session
+pub record WalksAreWritten (r : Replay) (old new : List ℕ) : Type 0 where
+  pub paths : List Path
+  pub each : AllByRecursion (IsPath r) paths
+  pub sids : map (λ p. p.sid) paths ≡ sids_met (met (account r))
+  pub text : new ≡ old ++ flat_map (path_line (met (account r))) paths
+
+-- ---- walks that are grown
+
+-- the steps of a course's walk
+abbrev pub steps_grown : Course → List StoredStep
+steps_grown c = grown_along c.graph (λ role. is_in role c.honest) [] c.shown
+
+-- the walk of a session's course
+abbrev pub path_grown : List ℕ × Course → Path
+path_grown e = record { sid = e.0; graph = e.1.graph; honest = e.1.honest; steps = steps_grown e.1 }
+
+-- the walk of a session, if it has a course
+abbrev pub path_at : Courses → List ℕ → Option Path
+path_at courses sid = option_map (λ (c : Course). path_grown (sid, c)) (course_at courses sid)
+
+-- the graph of each course has the steps of its walk
+abbrev pub CanWalkAll : Courses → Type 0
+CanWalkAll courses = AllByRecursion (λ (e : List ℕ × Course). HasSteps e.1.graph (steps_grown e.1)) courses.courses

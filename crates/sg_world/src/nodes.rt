@@ -1,0 +1,80 @@
+//! The nodes of the honest principals.
+ghost use Rattle.std.specs.Prelude.{◌≡◌, ◌<◌, ◌^◌, ◌+◌, ◌++◌, ◌∷◌, [], false, true, length, map, slice_get, Some, IfOk, MatchOption, OnErr, OnOk};
+ghost use Rattle.sg_model.specs.Lists.{all_differ, has_text};
+ghost use Rattle.sg_protocol.specs.NodeStates.{NodeState, new_state};
+ghost use Rattle.sg_protocol.specs.World.{keyring_of};
+ghost use Rattle.sg_declared.specs.Pairs.{ArePairs};
+ghost use Rattle.sg_sched.specs.Format.StepsHeld.{step_of};
+ghost use Rattle.sg_world.specs.Comes.{ComesAt, IsNamed};
+
+use crate::call::call;
+use crate::record::Came;
+use crate::setting::Setting;
+use indexmap::IndexMap;
+use sg_base::{Name, OutOfMemory, Seq};
+use sg_declared::keyring;
+use sg_node::Node;
+use sg_program::Programs;
+use sg_sched::{PairKey, Step};
+use std::alloc::Global;
+
+/// A node for each of these principals, in order, with the keys of its pairs.
+pub(crate) fn nodes_of<'p>(
+    alloc: Global,
+    programs: &'p Programs,
+    keys: &[PairKey],
+    honest: &[Name],
+) -> Result<IndexMap<Name, Node<'p>>, OutOfMemory>
+    requires pairs { ArePairs keys.now }
+    requires different { all_differ honest.now ≡ true }
+    ensures { IfOk result (λ n. n.entries ≡ map (λ me. (me, new_state (keyring_of keys.now me) programs.entry.now [])) honest.now) }
+{
+    let mut nodes = IndexMap::new(alloc);
+    for me in honest {
+        let ring = keyring(alloc, *me, keys)?;
+        let node = Node::new(alloc, ring, programs)?;
+        put_last(&mut nodes, *me, node)?;
+    }
+    Ok(nodes)
+}
+
+// Puts a principal that has no node behind the others.
+fn put_last<'p>(
+    nodes: &mut IndexMap<Name, Node<'p>>,
+    me: Name,
+    node: Node<'p>,
+) -> Result<(), OutOfMemory>
+    requires { has_text me (map (λ n. n.0) nodes.old.entries) ≡ false }
+    ensures { OnOk result (nodes.new.entries ≡ nodes.old.entries ++ (me, node.entry) ∷ []) }
+{
+    nodes.insert(me, node)?;
+    Ok(())
+}
+
+/// The place of a principal's node. It takes no memory.
+pub(crate) fn place_of<'p>(nodes: &IndexMap<Name, Node<'p>>, who: &Name) -> Option<usize>
+    ensures { MatchOption result
+        (has_text who.now (map (λ n. n.0) nodes.now.entries) ≡ false)
+        (λ i. (state : NodeState) × (slice_get nodes.now.entries i ≡ Some (who.now, state))) }
+{
+    nodes.get_index_of(who)
+}
+
+/// Makes the call of a step of this number at the node at a place. For want of memory the nodes are as before.
+pub(crate) fn call_at<'p>(
+    alloc: Global,
+    nodes: &mut IndexMap<Name, Node<'p>>,
+    place: usize,
+    setting: &Setting<'_>,
+    recorded: &[Seq<u8>],
+    number: u32,
+    step: &Step,
+) -> Result<Came<'p>, OutOfMemory>
+    requires within { place < length nodes.old.entries }
+    requires named { IsNamed (length setting.now.sessions) (step_of step.now) }
+    requires few { length recorded.now + 1 < 2 ^ 32 }
+    ensures comes { IfOk result (ComesAt setting.now.sessions recorded.now number (step_of step.now) place nodes.old.entries nodes.new.entries) }
+    ensures back { OnErr result (nodes.new.entries ≡ nodes.old.entries) }
+{
+    call(alloc, &mut nodes[place], setting, recorded, number, step)
+}

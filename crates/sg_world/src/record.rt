@@ -1,0 +1,232 @@
+//! The record of a replay.
+ghost use Rattle.std.specs.Prelude.{◌≡◌, ◌+◌, ◌<◌, ◌^◌, ◌++◌, ◌∷◌, [], length, sum_by, vec_len, vec_capacity, option_map, OnOk};
+ghost use Rattle.std.specs.Option.{option_map_or, option_to_list};
+ghost use Rattle.sg_model.specs.Last.{last};
+ghost use Rattle.sg_sched.specs.Format.StepsHeld.{step_of};
+ghost use Rattle.sg_report.specs.Outcome.{outcome_of};
+ghost use Rattle.sg_world.specs.Kept.{added_size, with_came};
+
+use sg_base::{OutOfMemory, Seq};
+use sg_crypt::{Note, Notes};
+use sg_graph::Graph;
+use sg_report::Outcome;
+use sg_sched::Step;
+use std::alloc::Global;
+use std::marker::Model;
+
+/// What came of a step, the graph by which its numbers have names, the frame that it records, and what was noted.
+#[derive(Drop)]
+pub(crate) struct Came<'p> {
+    pub outcome: Outcome,
+    pub graph: Option<&'p Graph>,
+    pub frame: Option<Seq<u8>>,
+    pub notes: Notes,
+}
+
+impl<'p> Model for Came<'p> {
+    ghost use Rattle.std.specs.Option.{option_copied};
+    ghost use Rattle.sg_report.specs.Outcome.{outcome_of};
+    ghost use Rattle.sg_world.specs.Kept.{Came};
+
+    ghost Value = { Came };
+
+    ghost view = { λ c. record { told = outcome_of c.outcome; graph = option_copied c.graph; frame = c.frame; notes = c.notes } };
+}
+
+/// A step that was taken, what came of it, and the graph by which its numbers have names.
+#[derive(Drop)]
+pub(crate) struct Entry<'p> {
+    pub step: Step,
+    pub outcome: Outcome,
+    pub graph: Option<&'p Graph>,
+}
+
+impl<'p> Model for Entry<'p> {
+    ghost use Rattle.std.specs.Option.{option_copied};
+    ghost use Rattle.sg_sched.specs.Format.StepsHeld.{step_of};
+    ghost use Rattle.sg_report.specs.Outcome.{outcome_of};
+    ghost use Rattle.sg_world.specs.Kept.{Taken};
+
+    ghost Value = { Taken };
+
+    ghost view = { λ e. record { step = step_of e.step; told = outcome_of e.outcome; graph = option_copied e.graph } };
+}
+
+/// The steps that were taken, what was noted at each, the recorded frames, f1 first, and the size of all in bytes.
+#[derive(Drop)]
+pub(crate) struct Record<'p> {
+    entries: Vec<Entry<'p>>,
+    notes: Vec<Notes>,
+    frames: Vec<Seq<u8>>,
+    size: u64,
+}
+
+impl<'p> Model for Record<'p> {
+    ghost use Rattle.std.specs.Prelude.{◌-◌, min, vec_len, vec_capacity};
+    ghost use Rattle.sg_world.specs.Recording.{Recording};
+
+    ghost Value = { Recording };
+
+    ghost view = { λ r. record {
+      done = record { entries = r.entries.items; notes = r.notes.items; frames = r.frames.items; size = r.size };
+      room = min (min (vec_capacity r.entries - vec_len r.entries) (vec_capacity r.notes - vec_len r.notes)) (vec_capacity r.frames - vec_len r.frames);
+    } };
+}
+
+impl<'p> Record<'p> {
+    /// The record of a replay of which no step was taken, of this size. It takes no memory.
+    pub fn new(alloc: Global, size: u64) -> Record<'p>
+        ensures { result.done ≡ record { entries = []; notes = []; frames = []; size = size } }
+    {
+        Record {
+            entries: Vec::new(alloc),
+            notes: Vec::new(alloc),
+            frames: Vec::new(alloc),
+            size,
+        }
+    }
+
+    /// The number of steps that were taken.
+    pub fn count(&self) -> usize
+        ensures { result ≡ length self.now.done.entries }
+    {
+        self.entries.len()
+    }
+
+    /// The steps that were taken.
+    pub fn entries(&self) -> &[Entry<'p>]
+        ensures { result.now ≡ self.now.done.entries }
+    {
+        self.entries.as_slice()
+    }
+
+    /// What was noted at each step.
+    pub fn notes(&self) -> &[Notes]
+        ensures { result.now ≡ self.now.done.notes }
+    {
+        self.notes.as_slice()
+    }
+
+    /// The recorded frames.
+    pub fn frames(&self) -> &[Seq<u8>]
+        ensures { result.now ≡ self.now.done.frames }
+    {
+        self.frames.as_slice()
+    }
+
+    /// The size in bytes.
+    pub fn size(&self) -> u64
+        ensures { result ≡ self.now.done.size }
+    {
+        self.size
+    }
+
+    /// What came of the last step.
+    pub fn last(&self) -> Option<&Outcome>
+        ensures { option_map (λ o. outcome_of o.now) result ≡ option_map (λ e. e.told) (last self.now.done.entries) }
+    {
+        match self.entries.last() {
+            None => None,
+            Some(entry) => Some(&entry.outcome),
+        }
+    }
+
+    /// Makes room for one more step.
+    pub fn make_room(&mut self) -> Result<(), OutOfMemory>
+        ensures room { OnOk result (0 < self.new.room) }
+        ensures done { self.new.done ≡ self.old.done }
+    {
+        self.entries.reserve(1)?;
+        self.notes.reserve(1)?;
+        self.frames.reserve(1)?;
+        Ok(())
+    }
+
+    /// Records a step with what came of it. It takes no memory.
+    pub fn put(&mut self, step: Step, came: Came<'p>)
+        requires room { 0 < self.old.room }
+        requires size { self.old.done.size + added_size came < 2 ^ 64 }
+        ensures { self.new.done ≡ with_came self.old.done (step_of step) came.entry }
+    {
+        self.size += added(&came);
+        let Came {
+            outcome,
+            graph,
+            frame,
+            notes,
+        } = came;
+        put_frame(&mut self.frames, frame);
+        put_notes(&mut self.notes, notes);
+        put_entry(
+            &mut self.entries,
+            Entry {
+                step,
+                outcome,
+                graph,
+            },
+        );
+    }
+}
+
+// Puts a frame behind the others, if there is one, where room was made.
+fn put_frame(frames: &mut Vec<Seq<u8>>, frame: Option<Seq<u8>>)
+    requires { vec_len frames.old < vec_capacity frames.old }
+    ensures { frames.new.items ≡ frames.old.items ++ option_to_list frame }
+{
+    if let Some(frame) = frame {
+        let _ = frames.push(frame);
+    }
+}
+
+// Puts what was noted behind the rest where room was made.
+fn put_notes(all: &mut Vec<Notes>, notes: Notes)
+    requires { vec_len all.old < vec_capacity all.old }
+    ensures { all.new.items ≡ all.old.items ++ notes ∷ [] }
+{
+    let _ = all.push(notes);
+}
+
+// Puts an entry behind the others where room was made.
+fn put_entry<'p>(entries: &mut Vec<Entry<'p>>, entry: Entry<'p>)
+    requires { vec_len entries.old < vec_capacity entries.old }
+    ensures { entries.new.items ≡ entries.old.items ++ entry.entry ∷ [] }
+{
+    let _ = entries.push(entry);
+}
+
+// The bytes that a step adds.
+fn added(came: &Came<'_>) -> u64
+    requires { added_size came.now < 2 ^ 64 }
+    ensures { result ≡ added_size came.now }
+{
+    frame_size(&came.frame)
+        + notes_size(came.notes.made())
+        + notes_size(came.notes.found())
+        + texts_size(came.notes.hashed())
+}
+
+// The bytes of a frame, if there is one.
+fn frame_size(frame: &Option<Seq<u8>>) -> u64
+    ensures { result ≡ option_map_or (λ bs. length bs) frame.now 0 }
+{
+    match frame {
+        Some(frame) => frame.len() as u64,
+        None => 0,
+    }
+}
+
+// The bytes of the texts of these notes.
+fn notes_size(notes: &[Note]) -> u64
+    requires { sum_by (λ n. length n.text) notes.now < 2 ^ 64 }
+    ensures { result ≡ sum_by (λ n. length n.text) notes.now }
+{
+    notes.iter().map(|note| note.text().len() as u64).sum()
+}
+
+// The bytes of these texts.
+fn texts_size(texts: &[Seq<u8>]) -> u64
+    requires { sum_by (λ t. length t) texts.now < 2 ^ 64 }
+    ensures { result ≡ sum_by (λ t. length t) texts.now }
+{
+    texts.iter().map(|text| text.len() as u64).sum()
+}

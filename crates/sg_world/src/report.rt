@@ -1,0 +1,161 @@
+//! The report of a replay.
+ghost use Rattle.std.specs.Prelude.{◌≡◌, ◌≤◌, ◌++◌, All, IfOk, IfSome, OnOk, filter_map, flat_map, slice_get};
+ghost use Rattle.std.specs.Option.{option_map, option_to_list};
+ghost use Rattle.sg_lines.specs.Sessions.{Met, all_sids, naming};
+ghost use Rattle.sg_lines.specs.Walks.{HasSteps, walk_line};
+ghost use Rattle.sg_model.specs.Lists.{is_in};
+ghost use Rattle.sg_report.specs.Held.{forgery_of};
+ghost use Rattle.sg_report.specs.Report.{IsReport, lines_from, met, premise_lines, premises_hold};
+ghost use Rattle.sg_world.specs.Account.{CanBeNamed, account, forgery};
+ghost use Rattle.sg_world.specs.Walked.{CanWalkAll, PremisesHold, WalksAreWritten, path_at, path_line, steps_grown};
+
+use crate::World;
+use crate::lines::put_lines;
+use crate::names::session_names;
+use sg_base::{ByteOut, Name, OutOfMemory, Sid};
+use sg_courses::{Course, Courses};
+use sg_lines::{SessionNames, put_walk};
+use sg_premises::Forged;
+use sg_report::{Forgery, put_premises};
+use std::alloc::Global;
+
+impl<'p> World<'p> {
+    /// The report of the steps that were taken so far: a line for each, whether the premises hold, and where they do the walk of each
+    /// session with an event, the declared sessions first. Each step that was taken has to name what is declared.
+    pub fn report(&self) -> Result<Vec<u8>, OutOfMemory>
+        requires { All (CanBeNamed self.now.schedule) self.now.schedule.steps }
+        ensures { IfOk result (λ text. IsReport (account self.now) text.items) }
+    {
+        let entries = self.history.entries();
+        let names = session_names(self.alloc, &self.setting, entries)?;
+        let mut out = ByteOut::new(self.alloc);
+        put_lines(self.alloc, &mut out, &names, &self.setting, entries)?;
+        self.put_rest(&mut out, &names)?;
+        Ok(out.done())
+    }
+
+    // Writes what stands behind the lines: whether the premises hold, and the walks where they do.
+    fn put_rest(&self, out: &mut ByteOut, names: &SessionNames) -> Result<(), OutOfMemory>
+        ensures { names.now ≡ naming 120 (met (account self.now)) → out.old ≡ lines_from (met (account self.now)) 1 (account self.now).lines → OnOk result (IsReport (account self.now) out.new) }
+    {
+        if self.put_premises(out)? {
+            self.put_walks(out, names)
+        } else {
+            Ok(())
+        }
+    }
+
+    // Writes whether the premises hold, and answers whether both do.
+    fn put_premises(&self, out: &mut ByteOut) -> Result<bool, OutOfMemory>
+        ensures hold { IfOk result (λ b. b ≡ premises_hold (account self.now)) }
+        ensures text { OnOk result (out.new ≡ out.old ++ premise_lines (account self.now).forged (account self.now).collision_free) }
+    {
+        let forged = self.forgery()?;
+        let free = self.collision()?.is_none();
+        put_premises(self.alloc, out, forged.as_ref(), free)?;
+        Ok(forged.is_none() && free)
+    }
+
+    // What is reported of the first forged text.
+    fn forgery(&self) -> Result<Option<Forgery>, OutOfMemory>
+        ensures { IfOk result (λ o. option_map forgery_of o ≡ (account self.now).forged) }
+    {
+        match self.forged() {
+            Ok(Some(forged)) => Ok(Some(reported(&forged))),
+            Ok(None) => Ok(None),
+            Err(fault) => Err(fault),
+        }
+    }
+
+    // Writes the walk of each session with an event.
+    fn put_walks(&self, out: &mut ByteOut, names: &SessionNames) -> Result<(), OutOfMemory>
+        requires { PremisesHold self.now }
+        ensures { names.now ≡ naming 120 (met (account self.now)) → OnOk result (WalksAreWritten self.now out.old out.new) }
+    {
+        let courses = self.courses()?;
+        put_walks(self.alloc, out, names, &courses)
+    }
+}
+
+// What is reported of a forged text.
+fn reported(forged: &Forged<'_>) -> Forgery
+    requires { forged.now.step ≤ 200000 }
+    ensures { forgery_of result ≡ forgery (forged.now.step, forged.now.note.now) }
+{
+    Forgery {
+        step: forged.step as u32,
+        one: forged.note.one(),
+        two: forged.note.two(),
+    }
+}
+
+// Writes the walks of the sessions that have a course, in the order of the names.
+fn put_walks<'r>(
+    alloc: Global,
+    out: &mut ByteOut,
+    names: &SessionNames,
+    courses: &Courses<'r>,
+) -> Result<(), OutOfMemory>
+    requires { CanWalkAll courses.now }
+    ensures { (m : Met) → names.now ≡ naming 120 m → OnOk result (out.new ≡ out.old ++ flat_map (path_line m) (filter_map (path_at courses.now) (all_sids m))) }
+{
+    for place in 0..names.len() {
+        put_walk_at(alloc, out, names, courses, place)?;
+    }
+    Ok(())
+}
+
+// Writes the walk of the session at a place, if it has a course.
+fn put_walk_at<'r>(
+    alloc: Global,
+    out: &mut ByteOut,
+    names: &SessionNames,
+    courses: &Courses<'r>,
+    place: usize,
+) -> Result<(), OutOfMemory>
+    requires { CanWalkAll courses.now }
+    ensures { (m : Met) → names.now ≡ naming 120 m → OnOk result (out.new ≡ out.old ++ flat_map (path_line m) (filter_map (path_at courses.now) (option_to_list (slice_get (all_sids m) place)))) }
+{
+    match names.at(place) {
+        Some((sid, name)) => put_walk_of(alloc, out, courses, &sid, &name),
+        None => Ok(()),
+    }
+}
+
+// Writes the walk of a session of this name, if it has a course.
+fn put_walk_of<'r>(
+    alloc: Global,
+    out: &mut ByteOut,
+    courses: &Courses<'r>,
+    sid: &Sid,
+    name: &Name,
+) -> Result<(), OutOfMemory>
+    requires { CanWalkAll courses.now }
+    ensures { OnOk result (out.new ≡ out.old ++ flat_map (λ p. walk_line name.now p.graph (λ role. is_in role p.honest) p.steps) (option_to_list (path_at courses.now sid.now))) }
+{
+    match courses.get(sid) {
+        Some(course) => put_course(alloc, out, course, name),
+        None => Ok(()),
+    }
+}
+
+// Writes the walk of a course in a session of this name.
+fn put_course<'r>(
+    alloc: Global,
+    out: &mut ByteOut,
+    course: &Course<'r>,
+    name: &Name,
+) -> Result<(), OutOfMemory>
+    requires { HasSteps course.now.graph (steps_grown course.now) }
+    ensures { OnOk result (out.new ≡ out.old ++ walk_line name.now course.now.graph (λ role. is_in role course.now.honest) (steps_grown course.now)) }
+{
+    let walk = course.walk(alloc)?;
+    put_walk(
+        alloc,
+        out,
+        name.as_bytes(),
+        course.graph(),
+        course.honest(),
+        &walk,
+    )
+}

@@ -1,0 +1,134 @@
+//! The walk that explains a session.
+ghost use Rattle.std.specs.Prelude.{◌≡◌, ◌≢◌, [], bytes_eq, filter_map, IfErr, IfOk, MatchBool, OnOk};
+ghost use Rattle.std.specs.Option.{option_to_list};
+ghost use Rattle.sg_courses.specs.Runs.{AreCourses, IsUnbroken};
+ghost use Rattle.sg_model.specs.Lists.{has_text};
+ghost use Rattle.sg_protocol.specs.Run.{events_of};
+ghost use Rattle.sg_protocol.specs.Walk.{OnePath};
+ghost use Rattle.sg_walk.specs.Views.{steps_of};
+ghost use Rattle.sg_world.specs.Account.{graph_of, honest_in};
+ghost use Rattle.sg_world.specs.KeptLines.{sid_kept};
+ghost use Rattle.sg_world.specs.Replay.{run_of};
+ghost use Rattle.sg_world.specs.Walked.{IsWalkFault, PremisesHold};
+
+use crate::World;
+use crate::names::sid_told;
+use crate::premises::Principals;
+use crate::record::Entry;
+use crate::walks::courses;
+use sg_base::{OutOfMemory, Sid};
+use sg_courses::Courses;
+use sg_walk::StoredWalk;
+use thiserror::Error;
+
+/// Why there is no walk of a session, the first cause that holds.
+#[derive(Debug, Clone, Copy, PartialEq, Eq, Error)]
+pub enum WalkFault {
+    /// No event has the identifier.
+    #[error("no such session")]
+    NoSuchSession,
+    /// A tag of two honest principals was forged, or two texts have one digest.
+    #[error("a premise is broken")]
+    PremiseBroken,
+    /// Out of memory.
+    #[error("out of memory")]
+    OutOfMemory,
+}
+
+impl<'p> World<'p> {
+    /// The walk that explains what the honest principals did in a session so far: one path of the graph of its cast, with the values
+    /// that they wrote and received.
+    pub fn walk_of(&self, sid: Sid) -> Result<StoredWalk, WalkFault>
+        ensures walk { IfOk result (λ walk. OnePath (graph_of self.now sid) (honest_in self.now sid) (events_of sid (run_of self.now).log) (steps_of walk)) }
+        ensures right { OnOk result ((events_of sid (run_of self.now).log ≢ []) × PremisesHold self.now) }
+        ensures refused { IfErr result (IsWalkFault self.now sid) }
+    {
+        if !self.has_event(&sid) {
+            return Err(WalkFault::NoSuchSession);
+        }
+        let Ok(unbroken) = self.is_unbroken() else {
+            return Err(WalkFault::OutOfMemory);
+        };
+        if !unbroken {
+            return Err(WalkFault::PremiseBroken);
+        }
+        match self.grown(&sid) {
+            Ok(walk) => Ok(walk),
+            Err(_) => Err(WalkFault::OutOfMemory),
+        }
+    }
+
+    // The course of each session with an event.
+    pub(crate) fn courses(&self) -> Result<Courses<'_>, OutOfMemory>
+        ensures programs { IfOk result (λ c. c.programs ≡ self.now.programs) }
+        ensures courses { IsUnbroken self.now.programs self.now.schedule → IfOk result (AreCourses self.now.schedule (run_of self.now).log) }
+    {
+        let honest = Principals { nodes: &self.nodes };
+        courses(
+            self.alloc,
+            self.setting.programs(),
+            &honest,
+            &self.setting,
+            self.history.entries(),
+            self.history.frames(),
+        )
+    }
+
+    // An event has the identifier.
+    fn has_event(&self, sid: &Sid) -> bool
+        ensures { MatchBool result (events_of sid.now (run_of self.now).log ≢ []) (events_of sid.now (run_of self.now).log ≡ []) }
+    {
+        is_met(self.history.entries(), sid)
+    }
+
+    // Both premises hold.
+    fn is_unbroken(&self) -> Result<bool, OutOfMemory>
+        ensures { IfOk result (λ b. MatchBool b (PremisesHold self.now) (PremisesHold self.now → ⊥)) }
+    {
+        if self.forged()?.is_some() {
+            return Ok(false);
+        }
+        Ok(self.collision()?.is_none())
+    }
+
+    // The walk that is grown for a session with an event.
+    fn grown(&self, sid: &Sid) -> Result<StoredWalk, OutOfMemory>
+        requires unbroken { PremisesHold self.now }
+        requires event { events_of sid.now (run_of self.now).log ≢ [] }
+        ensures { IfOk result (λ walk. OnePath (graph_of self.now sid.now) (honest_in self.now sid.now) (events_of sid.now (run_of self.now).log) (steps_of walk)) }
+    {
+        let courses = self.courses()?;
+        match courses.walk(self.alloc, sid)? {
+            Some(walk) => Ok(walk),
+            None => unreachable!(),
+        }
+    }
+}
+
+// An event of these steps has the identifier.
+fn is_met<'p>(entries: &[Entry<'p>], sid: &Sid) -> bool
+    ensures { result ≡ has_text sid.now (filter_map sid_kept entries.now) }
+{
+    for entry in entries {
+        if is_of(entry, sid) {
+            return true;
+        }
+    }
+    false
+}
+
+// The event of a step has the identifier.
+fn is_of<'p>(entry: &Entry<'p>, sid: &Sid) -> bool
+    ensures { result ≡ has_text sid.now (option_to_list (sid_kept entry.now)) }
+{
+    match sid_told(&entry.outcome) {
+        Some(told) => same(sid, &told),
+        None => false,
+    }
+}
+
+fn same(one: &Sid, other: &Sid) -> bool
+    ensures { result ≡ bytes_eq one.now other.now }
+{
+    one.0.as_slice() == other.0.as_slice()
+}

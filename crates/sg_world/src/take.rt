@@ -1,0 +1,120 @@
+//! One step of a replay.
+ghost use Rattle.std.specs.Prelude.{◌≡◌, ℕ, ◌+◌, ◌<◌, ◌^◌, ◌≤◌, None, length, IfErr, IfOk, OnErr, OnOk};
+ghost use Rattle.sg_protocol.specs.Schedule.{who_of};
+ghost use Rattle.sg_protocol.specs.Steps.{with_step};
+ghost use Rattle.sg_sched.specs.Format.StepsHeld.{step_of};
+ghost use Rattle.sg_world.specs.Comes.{IsNamed};
+ghost use Rattle.sg_world.specs.Crafts.{ComesOfPlace, IsCraftable};
+ghost use Rattle.sg_world.specs.Holds.{schedule_of, Holds};
+ghost use Rattle.sg_world.specs.Named.{CanBeTaken};
+ghost use Rattle.sg_world.specs.Places.{IsFaultOf, IsPlaceOf, names_of};
+
+use crate::StepFault;
+use crate::craft::craft;
+use crate::nodes::{call_at, place_of};
+use crate::record::{Came, Record};
+use crate::setting::Setting;
+use indexmap::IndexMap;
+use sg_base::{Name, OutOfMemory, Seq};
+use sg_declared::copy_step;
+use sg_node::Node;
+use sg_sched::Step;
+use std::alloc::Global;
+
+// The record holds at most so many bytes as a step begins.
+const MOST_BYTES: u64 = 264_241_152;
+
+/// The place of the node whose step it is, or `None` for a craft. The principal has a node, and the record has room.
+pub(crate) fn admit<'p>(
+    nodes: &IndexMap<Name, Node<'p>>,
+    history: &Record<'p>,
+    step: &Step,
+) -> Result<Option<usize>, StepFault>
+    ensures place { IfOk result (IsPlaceOf nodes.now.entries (step_of step.now)) }
+    ensures size { IfOk result (λ p. history.now.done.size ≤ 264241152) }
+    ensures refused { IfErr result (IsFaultOf (names_of nodes.now.entries) history.now.done.size (step_of step.now)) }
+{
+    let place = place_for(nodes, step)?;
+    let bytes = history.size();
+    if bytes > MOST_BYTES {
+        return Err(StepFault::RecordFull { bytes });
+    }
+    Ok(place)
+}
+
+// The place of the node whose step it is, or `None` for a craft.
+fn place_for<'p>(nodes: &IndexMap<Name, Node<'p>>, step: &Step) -> Result<Option<usize>, StepFault>
+    ensures place { IfOk result (IsPlaceOf nodes.now.entries (step_of step.now)) }
+    ensures refused { (size : ℕ) → IfErr result (IsFaultOf (names_of nodes.now.entries) size (step_of step.now)) }
+{
+    let Some(name) = who(step) else {
+        return Ok(None);
+    };
+    let Some(place) = place_of(nodes, &name) else {
+        return Err(StepFault::NotHonest { name });
+    };
+    Ok(Some(place))
+}
+
+/// Takes a step at the node at its place, and records it. For want of memory the nodes and the record are as before.
+pub(crate) fn take_step<'p>(
+    alloc: Global,
+    setting: &Setting<'p>,
+    nodes: &mut IndexMap<Name, Node<'p>>,
+    place: Option<usize>,
+    history: &mut Record<'p>,
+    step: &Step,
+) -> Result<(), OutOfMemory>
+    requires holds { Holds setting.now nodes.old.entries history.old.done }
+    requires place { IsPlaceOf nodes.old.entries (step_of step.now) place }
+    requires room { length history.old.done.entries < 200000 }
+    requires size { history.old.done.size ≤ 264241152 }
+    requires step { CanBeTaken (schedule_of setting.now nodes.old.entries history.old.done) (step_of step.now) }
+    ensures taken { OnOk result (Holds setting.now nodes.new.entries history.new.done) }
+    ensures schedule { OnOk result (schedule_of setting.now nodes.new.entries history.new.done
+        ≡ with_step (schedule_of setting.now nodes.old.entries history.old.done) (step_of step.now)) }
+    ensures back { OnErr result ((nodes.new.entries ≡ nodes.old.entries) × (history.new.done ≡ history.old.done)) }
+{
+    let kept = copy_step(alloc, step)?;
+    history.make_room()?;
+    let number = history.count() as u32 + 1;
+    let came = come(alloc, setting, nodes, place, history.frames(), number, step)?;
+    history.put(kept, came);
+    Ok(())
+}
+
+// What comes of a step of this number: at the node at its place, or of the craft.
+fn come<'p>(
+    alloc: Global,
+    setting: &Setting<'p>,
+    nodes: &mut IndexMap<Name, Node<'p>>,
+    place: Option<usize>,
+    recorded: &[Seq<u8>],
+    number: u32,
+    step: &Step,
+) -> Result<Came<'p>, OutOfMemory>
+    requires place { IsPlaceOf nodes.old.entries (step_of step.now) place }
+    requires named { IsNamed (length setting.now.sessions) (step_of step.now) }
+    requires can { IsCraftable setting.now (step_of step.now) }
+    requires few { length recorded.now + 1 < 2 ^ 32 }
+    ensures comes { IfOk result (ComesOfPlace setting.now recorded.now number (step_of step.now) place nodes.old.entries nodes.new.entries) }
+    ensures back { OnErr result (nodes.new.entries ≡ nodes.old.entries) }
+{
+    match place {
+        Some(place) => call_at(alloc, nodes, place, setting, recorded, number, step),
+        None => craft(alloc, setting, recorded, step),
+    }
+}
+
+/// The principal whose step it is.
+pub(crate) fn who(step: &Step) -> Option<Name>
+    ensures { result ≡ who_of (step_of step.now) }
+{
+    match step {
+        Step::Start { who, .. } => Some(*who),
+        Step::Act { who, .. } => Some(*who),
+        Step::Abandon { who, .. } => Some(*who),
+        Step::Deliver { who, .. } => Some(*who),
+        Step::Craft(_) => None,
+    }
+}
