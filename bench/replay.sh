@@ -1,88 +1,17 @@
 #!/usr/bin/env bash
-# Replays generated schedules and prints for each its seconds, those of its hashes alone, their ratio, and the peak memory: two roles that ask and
-# answer again, a shop with retries, many sessions of a shop side by side, and frames that come again and are refused. The hashes are made once
-# more in the same run, by the product's own `tag` and `graph_digest`, of the texts that the record notes. A schedule twice as long that takes
-# twice the time shows that a step costs the same however many came before.
-# The program is made in a folder of its own, over this repository's crates. Needs python3; no part of the gate.
-set -eu
-here=$(cd "$(dirname "${BASH_SOURCE[0]}")/.." && pwd)
-folder=$(mktemp -d)
+# Replays generated schedules and prints for each the lines of its report, its seconds and the peak memory: two roles that ask and answer again, a
+# shop with retries, many sessions of a shop side by side, and a frame that comes again and again and is refused. A schedule twice as long that
+# takes twice the time shows that a step costs the same however many came before. Needs python3; no part of the gate.
+set -u
+here=$(cd "$(dirname "${BASH_SOURCE[0]}")/.." && pwd) || exit 1
+folder=$(mktemp -d) || exit 1
 trap 'rm -rf "$folder"' EXIT
-mkdir -p "$folder/crates/replayed/src"
-grep -v '^#' "$here/crates.txt" | grep ':' | sed 's/:.*//' | while read -r crate; do
-    [ "$crate" = sg_cli ] && continue
-    (cd "$here/crates" && tar cf - --exclude=out "$crate") | (cd "$folder/crates" && tar xf -)
-    grep "^$crate:" "$here/crates.txt" >>"$folder/crates.txt"
-done
-echo 'replayed: sg_base sg_crypt sg_program sg_read sg_sched sg_world' >>"$folder/crates.txt"
-cp "$here/HANDLES" "$folder/HANDLES"
-cat >"$folder/crates/replayed/src/main.rt" <<'RATTLE'
-//! Replays one schedule, and makes its hashes once more.
-#![tactic(auto)]
-
-use sg_crypt::{Note, Notes, graph_digest, tag};
-use sg_program::compile_all;
-use sg_read::read_schedule;
-use sg_world::World;
-use std::time::Instant;
-use std::{fs, io};
-
-fn main(rt: HostRuntime) -> Result<(), io::Error> {
-    let bytes = fs::read(&rt, "text")?;
-    if bytes.len() >= 1_000_000_000 {
-        return println!(rt; "too long");
-    }
-    let start = Instant::now(&rt)?;
-    let Ok(schedule) = read_schedule(rt.alloc(), bytes.as_slice()) else {
-        return println!(rt; "refused");
-    };
-    let Ok(programs) = compile_all(rt.alloc(), schedule.graphs.as_slice()) else {
-        return println!(rt; "not compiled");
-    };
-    let Ok(mut world) = World::new(rt.alloc(), &programs, &schedule) else {
-        return println!(rt; "out of memory");
-    };
-    for step in schedule.steps.as_slice() {
-        if world.step(step).is_err() {
-            return println!(rt; "not taken");
-        }
-    }
-    let Ok(report) = world.report() else {
-        return println!(rt; "no report");
-    };
-    let whole = start.elapsed(&rt)?;
-    let start = Instant::now(&rt)?;
-    let mut last = 0u8;
-    for notes in world.notes() {
-        last = last ^ hashed(notes);
-    }
-    let hashes = start.elapsed(&rt)?;
-    println!(rt; "{} {} {} {last}", whole.as_micros(), hashes.as_micros(), report.len())
-}
-
-// A byte of all the hashes.
-fn hashed(notes: &Notes) -> u8 {
-    let mut last = tagged(notes.made()) ^ tagged(notes.found());
-    for text in notes.hashed() {
-        last = last ^ graph_digest(text.as_slice())[0];
-    }
-    last
-}
-
-fn tagged(notes: &[Note]) -> u8 {
-    let mut last = 0u8;
-    for note in notes {
-        last = last ^ tag(&[0x11; 32], &[], note.text()).0[0];
-    }
-    last
-}
-RATTLE
-printf 'honest a\n' >"$folder/crates/replayed/text"
-(cd "$folder/crates/replayed" && rt run) >"$folder/log" 2>&1 || { cat "$folder/log"; exit 1; }
-python3 - "$folder/crates/replayed/out/replayed" "$folder" "$here/examples/shop.graph" <<'PYTHON'
+"$here/sessiongraph" replay "$here/examples/shop-honest.schedule" >/dev/null || exit 1
+python3 - "$here/sessiongraph" "$folder" "$here/examples/shop.graph" <<'PYTHON'
 import os
 import subprocess
 import sys
+import time
 
 program, folder, graph = sys.argv[1:]
 SHOP = 'graph {\n' + ''.join(line for line in open(graph) if line.strip() and not line.startswith('#')) + '}\n'
@@ -130,11 +59,12 @@ for name, made, sizes in (('asked again', asked, (24_500, 49_000)), ('shop, retr
         text = '\n'.join(made(size)) + '\n'
         with open(folder + '/text', 'w') as out:
             out.write(text)
-        child = subprocess.Popen([program], stdout=subprocess.PIPE, cwd=folder)
-        answer = child.stdout.read()
+        begun = time.monotonic()
+        child = subprocess.Popen([program, 'replay', folder + '/text'], stdout=subprocess.PIPE)
+        lines = child.stdout.read().count(b'\n')
         _, status, used = os.wait4(child.pid, 0)
-        if status != 0 or len(answer.split()) != 4:
-            sys.exit(f'{name} {size}: status {status}, {answer[:60]!r}')
-        whole, hashes, _, _ = map(int, answer.split())
-        print(f'{name:19} {size:7}  {whole / 1e6:6.2f} s  hashes {hashes / 1e6:6.2f} s  ratio {whole / max(hashes, 1):5.2f}  {used.ru_maxrss / 1024:7.1f} MiB')
+        took = time.monotonic() - begun
+        if status != 0:
+            sys.exit(f'{name} {size}: status {status}')
+        print(f'{name:19} {size:7}  {lines:7} lines  {took:6.2f} s  {used.ru_utime:6.2f} s of processor  {used.ru_maxrss / 1024:7.1f} MiB')
 PYTHON
