@@ -1,0 +1,45 @@
+# What the benches share. A bench sources this file, after `set -eu`, and then has `here`, the top of the repository, and `folder`, which goes when
+# the bench ends. Its program is a crate of its own in that folder, beside copies of the crates that it stands on.
+here=$(cd "$(dirname "${BASH_SOURCE[0]}")/.." && pwd)
+folder=$(mktemp -d)
+trap 'rm -rf "$folder"' EXIT
+
+# lines_of CRATE..: the lines of crates.txt for these crates and for all that they stand on, in the order of the file.
+lines_of() {
+    awk -v wanted="$*" '
+        /^#/ || !/:/ { next }
+        { name = $1; sub(/:$/, "", name); order[++count] = name; line[name] = $0 }
+        END {
+            split(wanted, first, " ")
+            for (at in first) needed[first[at]] = 1
+            for (at = count; at > 0; at--) if (order[at] in needed) {
+                parts = split(line[order[at]], words, " ")
+                for (part = 2; part <= parts; part++) needed[words[part]] = 1
+            }
+            for (at = 1; at <= count; at++) if (order[at] in needed) print line[order[at]]
+        }
+    ' "$here/crates.txt"
+}
+
+# program NAME LIBRARY..: makes the folder of a program of this name over these libraries. Its files are written into `$bench`.
+program() {
+    local name=$1 crate
+    shift
+    bench=$folder/crates/$name
+    mkdir -p "$bench/src"
+    lines_of "$@" >"$folder/crates.txt"
+    for crate in $(sed 's/:.*//' "$folder/crates.txt"); do
+        tar -C "$here/crates" --exclude=out --exclude=must-fail -cf - "$crate" | tar -C "$folder/crates" -xf -
+    done
+    echo "$name: $*" >>"$folder/crates.txt"
+    cp "$here/HANDLES" "$folder/HANDLES"
+}
+
+# built: proves and builds the program, and names it. What a run of `rt ci` on this machine proved of the same files is taken, so after the gate only
+# the program itself is proved. It must print nothing where it is given no words.
+built() {
+    local name
+    name=$(basename "$bench")
+    (cd "$bench" && rt fmt && cd "$folder" && rt ci) >"$folder/log" 2>&1 </dev/null || { cat "$folder/log" >&2; return 1; }
+    printf '%s\n' "$bench/out/$name"
+}
