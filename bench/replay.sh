@@ -1,19 +1,80 @@
 #!/usr/bin/env bash
 # Replays generated schedules and prints for each the lines of its report, its seconds and the peak memory: two roles that ask and answer again, a
 # shop with retries, many sessions of a shop side by side, and a frame that comes again and again and is refused. A schedule twice as long that
-# takes twice the time shows that a step costs the same however many came before. Needs python3; no part of the gate.
-set -u
-here=$(cd "$(dirname "${BASH_SOURCE[0]}")/.." && pwd) || exit 1
-folder=$(mktemp -d) || exit 1
-trap 'rm -rf "$folder"' EXIT
+# takes twice the time shows that a step costs the same however many came before.
+# Beside each stand the seconds of its hashes alone: as many tags and digests of texts as long as those that the run notes, made by the product's own
+# `Key::tag` and `graph_digest` in a program of its own, right after the replay; and the ratio of the two. Which texts a run notes tells tools/model.py
+# of a short schedule of the same kind: each round after the first notes the same. Needs python3; no part of the gate.
+set -eu
+source "$(dirname "${BASH_SOURCE[0]}")/common.sh"
+program hashes sg_base sg_crypt
+cat >"$bench/src/main.rt" <<'RATTLE'
+//! Makes as many tags and digests as the file `counts` says, of texts of the lengths that it says.
+#![tactic(auto)]
+
+use sg_base::read_number;
+use sg_crypt::{Key, graph_digest};
+use std::{fs, io};
+
+fn main(rt: HostRuntime) -> Result<(), io::Error> {
+    let bytes = fs::read(&rt, "counts")?;
+    let key = Key::new([0x11; 32]);
+    let mut text = [0u8; 4096];
+    for line in bytes.as_slice().split(|byte| *byte == b'\n') {
+        hash(&key, line, &mut text);
+    }
+    Ok(())
+}
+
+// A line: `t` or `d`, a number of tags or digests, and the length of each text.
+fn hash(key: &Key, line: &[u8], text: &mut [u8; 4096]) {
+    let mut words = line.split(|byte| *byte == b' ');
+    let (Some(kind), Some(count), Some(length)) = (words.next(), words.next(), words.next()) else {
+        return;
+    };
+    let (Some(count), Some(length)) = (read_number(count, 100_000_000), read_number(length, 4096)) else {
+        return;
+    };
+    let text = &mut text[..length as usize];
+    if kind == b"t".as_slice() {
+        tags(key, count, text);
+    } else {
+        digests(count, text);
+    }
+}
+
+fn tags(key: &Key, count: u64, text: &mut [u8]) {
+    for _ in 0..count {
+        let tag = key.tag(b"", text);
+        if let Some(first) = text.first_mut() {
+            *first = tag.0[0];
+        }
+    }
+}
+
+fn digests(count: u64, text: &mut [u8]) {
+    for _ in 0..count {
+        let digest = graph_digest(text);
+        if let Some(first) = text.first_mut() {
+            *first = digest[0];
+        }
+    }
+}
+RATTLE
+mkdir "$bench/data"
+: >"$bench/data/counts"
+hashes=$(built)
 "$here/sessiongraph" replay "$here/examples/shop-honest.schedule" >/dev/null || exit 1
-python3 - "$here/sessiongraph" "$folder" "$here/examples/shop.graph" <<'PYTHON'
+python3 - "$here/sessiongraph" "$folder" "$here/examples/shop.graph" "$hashes" "$here/tools" <<'PYTHON'
+import collections
 import os
 import subprocess
 import sys
 import time
 
-program, folder, graph = sys.argv[1:]
+program, folder, graph, hashes, tools = sys.argv[1:]
+sys.path.insert(0, tools)
+import model
 SHOP = 'graph {\n' + ''.join(line for line in open(graph) if line.strip() and not line.startswith('#')) + '}\n'
 PAIR = 'edge Ask 0 1\nedge Answer 1 2\nedge Again 2 1\nhonest a\nhonest b\nkey a b ' + '1' * 64 + '\nsession s1 pair 1 a,b\n'
 PARTNERS = ''.join(f'honest {name}\n' for name in ('alice', 'bob', 'carl')) + ''.join(
@@ -53,18 +114,42 @@ def refused(steps):
     yield from ('deliver b f1' for _ in range(steps - 2))
 
 
+def noted(made, size):
+    """how many tags and digests a run of this size notes, by kind and length of text."""
+    run = model.run_of(('\n'.join(made(size)) + '\n').encode())
+    notes = [run.first, *run.notes]
+    counts = collections.Counter(('t', len(text)) for note in notes for _, text in note.made + note.found)
+    counts.update(('d', len(text) - len('sg-graph-1')) for note in notes for text in note.hashed)
+    return counts
+
+
+def grown(made, size):
+    """the same of a size that the model is too slow for: each round after the third notes as much as the one before."""
+    three, four = noted(made, 3), noted(made, 4)
+    return {key: four[key] + (size - 4) * (four[key] - three[key]) for key in four}
+
+
+def timed(words):
+    """the seconds and the use of a program's run, and the lines that it wrote."""
+    begun = time.monotonic()
+    child = subprocess.Popen(words, stdout=subprocess.PIPE, cwd=folder)
+    lines = child.stdout.read().count(b'\n')
+    _, status, used = os.wait4(child.pid, 0)
+    if status != 0:
+        sys.exit(f'{words}: status {status}')
+    return time.monotonic() - begun, used, lines
+
+
 for name, made, sizes in (('asked again', asked, (24_500, 49_000)), ('shop, retried', one_shop, (10_000, 20_000)),
                           ('shops side by side', many_shops, (1_000, 2_000)), ('repeated frames', refused, (100_000, 200_000))):
     for size in sizes:
-        text = '\n'.join(made(size)) + '\n'
         with open(folder + '/text', 'w') as out:
-            out.write(text)
-        begun = time.monotonic()
-        child = subprocess.Popen([program, 'replay', folder + '/text'], stdout=subprocess.PIPE)
-        lines = child.stdout.read().count(b'\n')
-        _, status, used = os.wait4(child.pid, 0)
-        took = time.monotonic() - begun
-        if status != 0:
-            sys.exit(f'{name} {size}: status {status}')
-        print(f'{name:19} {size:7}  {lines:7} lines  {took:6.2f} s  {used.ru_utime:6.2f} s of processor  {used.ru_maxrss / 1024:7.1f} MiB')
+            out.write('\n'.join(made(size)) + '\n')
+        with open(folder + '/counts', 'w') as out:
+            out.writelines(f'{kind} {count} {length}\n' for (kind, length), count in grown(made, size).items())
+        took, used, lines = timed([program, 'replay', folder + '/text'])
+        _, alone, _ = timed([hashes])
+        spent, hashing = used.ru_utime + used.ru_stime, alone.ru_utime + alone.ru_stime
+        print(f'{name:19} {size:7}  {lines:7} lines  {took:6.2f} s  {spent:6.2f} s of processor  {used.ru_maxrss / 1024:7.1f} MiB  '
+              f'hashes {hashing:6.2f} s  ratio {spent / hashing:5.2f}')
 PYTHON

@@ -4,17 +4,9 @@
 # since a line costs the same however many stand before it.
 # The program is made in a folder of its own, over this repository's crates. Needs python3; no part of the gate.
 set -eu
-here=$(cd "$(dirname "${BASH_SOURCE[0]}")/.." && pwd)
-folder=$(mktemp -d)
-trap 'rm -rf "$folder"' EXIT
-mkdir -p "$folder/crates/texts/src"
-for crate in sg_model sg_law sg_protocol sg_base sg_graph sg_parse sg_crypt sg_sched sg_read; do
-    (cd "$here/crates" && tar cf - --exclude=out "$crate") | (cd "$folder/crates" && tar xf -)
-    grep "^$crate:" "$here/crates.txt" >>"$folder/crates.txt"
-done
-echo 'texts: sg_base sg_read sg_sched' >>"$folder/crates.txt"
-cp "$here/HANDLES" "$folder/HANDLES"
-cat >"$folder/crates/texts/src/main.rt" <<'RATTLE'
+source "$(dirname "${BASH_SOURCE[0]}")/common.sh"
+program texts sg_base sg_read sg_sched
+cat >"$bench/src/main.rt" <<'RATTLE'
 //! Reads one schedule, and prints how many steps it has.
 #![tactic(auto)]
 
@@ -32,9 +24,11 @@ fn main(rt: HostRuntime) -> Result<(), io::Error> {
     }
 }
 RATTLE
-printf 'honest a\n' >"$folder/crates/texts/text"
-(cd "$folder/crates/texts" && rt run) >"$folder/log" 2>&1 || { cat "$folder/log"; exit 1; }
-python3 - "$folder/crates/texts/out/texts" "$folder" <<'PYTHON'
+mkdir "$bench/data"
+printf 'honest a\n' >"$bench/data/text"
+echo 0 >"$bench/stdout"
+made=$(built)
+python3 - "$made" "$folder" <<'PYTHON'
 import os
 import subprocess
 import sys
