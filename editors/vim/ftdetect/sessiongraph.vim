@@ -1,0 +1,1 @@
+autocmd BufRead,BufNewFile *.graph,*.parts,*.schedule setfiletype sessiongraph
