@@ -3,17 +3,9 @@
 # and prints the seconds of each. A node's walks come to the roles in the order of the ring, so no two are blinded and each pair is looked at.
 # The program is made in a folder of its own, over this repository's crates. No part of the gate.
 set -eu
-here=$(cd "$(dirname "${BASH_SOURCE[0]}")/.." && pwd)
-folder=$(mktemp -d)
-trap 'rm -rf "$folder"' EXIT
-mkdir -p "$folder/crates/rings/src"
-for crate in sg_model sg_law sg_protocol sg_base sg_graph sg_reach sg_check sg_plan; do
-    (cd "$here/crates" && tar cf - --exclude=out "$crate") | (cd "$folder/crates" && tar xf -)
-    grep "^$crate:" "$here/crates.txt" >>"$folder/crates.txt"
-done
-echo 'rings: sg_base sg_check sg_graph sg_plan sg_model' >>"$folder/crates.txt"
-cp "$here/HANDLES" "$folder/HANDLES"
-cat >"$folder/crates/rings/src/main.rt" <<'RATTLE'
+source "$(dirname "${BASH_SOURCE[0]}")/common.sh"
+program rings sg_base sg_check sg_graph sg_plan sg_model
+cat >"$bench/src/main.rt" <<'RATTLE'
 //! The checks of a ring of roles.
 #![tactic(auto)]
 
@@ -85,8 +77,8 @@ fn main(rt: HostRuntime) -> io::Result<()> {
     println!(rt; "{} {} {}", shape.as_micros(), blinding.as_micros(), plan.as_micros())
 }
 RATTLE
-(cd "$folder/crates/rings" && rt run >"$folder/log" 2>&1) || { cat "$folder/log" >&2; exit 1; }
-"$folder/crates/rings/out/rings" >"$folder/told"
+(cd "$bench" && rt run >"$folder/log" 2>&1) || { cat "$folder/log" >&2; exit 1; }
+"$bench/out/rings" >"$folder/told"
 if [ "$(head -n 1 "$folder/told")" != 'true true true' ]; then
     echo 'the ring is refused' >&2
     exit 1

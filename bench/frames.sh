@@ -2,17 +2,9 @@
 # Reads and spells the longest frame that a step makes, 15 steps and 32 openings in 57,028 bytes, 20,000 times each, and prints the
 # throughput. The program is made in a folder of its own, over this repository's crates. Needs python3; no part of the gate.
 set -eu
-here=$(cd "$(dirname "${BASH_SOURCE[0]}")/.." && pwd)
-folder=$(mktemp -d)
-trap 'rm -rf "$folder"' EXIT
-mkdir -p "$folder/crates/frames/src"
-for crate in sg_model sg_law sg_protocol sg_base sg_crypt sg_frame; do
-    (cd "$here/crates" && tar cf - --exclude=out "$crate") | (cd "$folder/crates" && tar xf -)
-    grep "^$crate:" "$here/crates.txt" >>"$folder/crates.txt"
-done
-echo 'frames: sg_base sg_frame' >>"$folder/crates.txt"
-cp "$here/HANDLES" "$folder/HANDLES"
-cat >"$folder/crates/frames/src/main.rt" <<'RATTLE'
+source "$(dirname "${BASH_SOURCE[0]}")/common.sh"
+program frames sg_base sg_frame
+cat >"$bench/src/main.rt" <<'RATTLE'
 //! One frame, read and spelled again and again.
 #![tactic(auto)]
 
@@ -39,7 +31,7 @@ fn passes(alloc: Global, bytes: &[u8], reads_alone: bool) -> bool {
     }
 }
 RATTLE
-python3 - "$folder/crates/frames" <<'PYTHON'
+python3 - "$bench" <<'PYTHON'
 import sys
 
 item = bytes([0, 0, 0, 0, 0, 0, 1, 32]) + b''.join(bytes([v]) + bytes(32) for v in range(32))
@@ -52,8 +44,8 @@ assert len(frame) == 57028
 open(sys.argv[1] + '/frame', 'wb').write(frame)
 open(sys.argv[1] + '/mode', 'wb').close()
 PYTHON
-(cd "$folder/crates/frames" && rt run) >"$folder/log" 2>&1 || { cat "$folder/log"; exit 1; }
-python3 - "$folder/crates/frames/out/frames" "$folder/crates/frames" <<'PYTHON'
+(cd "$bench" && rt run) >"$folder/log" 2>&1 || { cat "$folder/log"; exit 1; }
+python3 - "$bench/out/frames" "$bench" <<'PYTHON'
 import subprocess
 import sys
 import time

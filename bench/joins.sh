@@ -3,17 +3,9 @@
 # them side by side in microseconds. Look-ups that take the same time in both caches show that none goes through the joins. The programs
 # are made in a folder of their own, over this repository's crates. Needs rustc; no part of the gate.
 set -eu
-here=$(cd "$(dirname "${BASH_SOURCE[0]}")/.." && pwd)
-folder=$(mktemp -d)
-trap 'rm -rf "$folder"' EXIT
-mkdir -p "$folder/crates/many_joins/src"
-for crate in sg_model sg_base sg_cache; do
-    (cd "$here/crates" && tar cf - --exclude=out "$crate") | (cd "$folder/crates" && tar xf -)
-    grep "^$crate:" "$here/crates.txt" >>"$folder/crates.txt"
-done
-echo 'many_joins: sg_base sg_cache' >>"$folder/crates.txt"
-cp "$here/HANDLES" "$folder/HANDLES"
-cat >"$folder/crates/many_joins/src/main.rt" <<'RATTLE'
+source "$(dirname "${BASH_SOURCE[0]}")/common.sh"
+program many_joins sg_base sg_cache
+cat >"$bench/src/main.rt" <<'RATTLE'
 //! Claims and look-ups of joins.
 #![tactic(auto)]
 
@@ -108,9 +100,9 @@ fn main() {
     println!("{} {} {} {}", claims.as_micros(), more_claims.as_micros(), few_time.as_micros(), many_time.as_micros());
 }
 RUST
-(cd "$folder/crates/many_joins" && rt run >"$folder/log" 2>&1) || { cat "$folder/log" >&2; exit 1; }
+(cd "$bench" && rt run >"$folder/log" 2>&1) || { cat "$folder/log" >&2; exit 1; }
 rustc -O -o "$folder/many_joins" "$folder/many_joins.rs"
-"$folder/crates/many_joins/out/many_joins" >"$folder/ours"
+"$bench/out/many_joins" >"$folder/ours"
 "$folder/many_joins" >"$folder/theirs"
 if [ "$(head -n 1 "$folder/ours")" != "$(head -n 1 "$folder/theirs")" ]; then
     echo 'the answers differ' >&2

@@ -3,17 +3,9 @@
 # statements alone 2,000 times, and prints the throughput. The program is made in a folder of its own, over this repository's crates.
 # Needs python3; no part of the gate.
 set -eu
-here=$(cd "$(dirname "${BASH_SOURCE[0]}")/.." && pwd)
-folder=$(mktemp -d)
-trap 'rm -rf "$folder"' EXIT
-mkdir -p "$folder/crates/texts/src"
-for crate in sg_model sg_law sg_protocol sg_base sg_graph sg_parse; do
-    (cd "$here/crates" && tar cf - --exclude=out "$crate") | (cd "$folder/crates" && tar xf -)
-    grep "^$crate:" "$here/crates.txt" >>"$folder/crates.txt"
-done
-echo 'texts: sg_graph sg_parse' >>"$folder/crates.txt"
-cp "$here/HANDLES" "$folder/HANDLES"
-cat >"$folder/crates/texts/src/main.rt" <<'RATTLE'
+source "$(dirname "${BASH_SOURCE[0]}")/common.sh"
+program texts sg_graph sg_parse
+cat >"$bench/src/main.rt" <<'RATTLE'
 //! One text, read again and again.
 #![tactic(auto)]
 
@@ -41,7 +33,7 @@ fn passes(alloc: Global, bytes: &[u8]) -> bool {
     }
 }
 RATTLE
-python3 - "$folder/crates/texts" <<'PYTHON'
+python3 - "$bench" <<'PYTHON'
 import sys
 
 statements = ['graph g;']
@@ -61,8 +53,8 @@ open(sys.argv[1] + '/statements', 'w').write('\n'.join(statements) + '\n')
 open(sys.argv[1] + '/text', 'w').write('\n'.join(statements) + '\n')
 open(sys.argv[1] + '/mode', 'w').close()
 PYTHON
-(cd "$folder/crates/texts" && rt run) >"$folder/log" 2>&1 || { cat "$folder/log"; exit 1; }
-python3 - "$folder/crates/texts/out/texts" "$folder/crates/texts" <<'PYTHON'
+(cd "$bench" && rt run) >"$folder/log" 2>&1 || { cat "$folder/log"; exit 1; }
+python3 - "$bench/out/texts" "$bench" <<'PYTHON'
 import os
 import shutil
 import subprocess

@@ -2,17 +2,9 @@
 # Checks the reads of a graph with 16 roles, 32 variables, 256 nodes and 512 edges, in which each edge reads each variable, and prints the
 # seconds of one check. The program is made in a folder of its own, over this repository's crates. Needs python3; no part of the gate.
 set -eu
-here=$(cd "$(dirname "${BASH_SOURCE[0]}")/.." && pwd)
-folder=$(mktemp -d)
-trap 'rm -rf "$folder"' EXIT
-bench=$folder/crates/reads
-mkdir -p "$bench/src" "$bench/proofs/all_roles" "$bench/proofs/some_vars"
-for crate in sg_model sg_law sg_protocol sg_base sg_graph sg_know; do
-    (cd "$here/crates" && tar cf - --exclude=out "$crate") | (cd "$folder/crates" && tar xf -)
-    grep "^$crate:" "$here/crates.txt" >>"$folder/crates.txt"
-done
-echo 'reads: sg_base sg_graph sg_know sg_model sg_protocol' >>"$folder/crates.txt"
-cp "$here/HANDLES" "$folder/HANDLES"
+source "$(dirname "${BASH_SOURCE[0]}")/common.sh"
+program reads sg_base sg_graph sg_know sg_model sg_protocol
+mkdir -p "$bench/proofs/all_roles" "$bench/proofs/some_vars"
 cat >"$bench/src/main.rt" <<'RATTLE'
 //! One graph, checked again and again.
 #![tactic(auto)]

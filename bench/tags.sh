@@ -2,17 +2,9 @@
 # Times a million tags of 136 bytes under a key of 32, as many by Python's hmac.digest, and prints both and their ratio. The program is
 # made in a folder of its own, over this repository's crates. Needs python3; no part of the gate.
 set -eu
-here=$(cd "$(dirname "${BASH_SOURCE[0]}")/.." && pwd)
-folder=$(mktemp -d)
-trap 'rm -rf "$folder"' EXIT
-mkdir -p "$folder/crates/million_tags/src"
-for crate in sg_model sg_law sg_protocol sg_base sg_crypt; do
-    (cd "$here/crates" && tar cf - --exclude=out "$crate") | (cd "$folder/crates" && tar xf -)
-    grep "^$crate:" "$here/crates.txt" >>"$folder/crates.txt"
-done
-echo 'million_tags: sg_base sg_crypt' >>"$folder/crates.txt"
-cp "$here/HANDLES" "$folder/HANDLES"
-cat >"$folder/crates/million_tags/src/main.rt" <<'RATTLE'
+source "$(dirname "${BASH_SOURCE[0]}")/common.sh"
+program million_tags sg_base sg_crypt
+cat >"$bench/src/main.rt" <<'RATTLE'
 //! A million tags.
 #![tactic(auto)]
 
@@ -28,8 +20,8 @@ fn main(rt: HostRuntime) -> Result<(), io::Error> {
     println!(rt; "{}", text[10])
 }
 RATTLE
-(cd "$folder/crates/million_tags" && rt run) >"$folder/log" 2>&1 || { cat "$folder/log"; exit 1; }
-python3 - "$folder/crates/million_tags/out/million_tags" <<'PYTHON'
+(cd "$bench" && rt run) >"$folder/log" 2>&1 || { cat "$folder/log"; exit 1; }
+python3 - "$bench/out/million_tags" <<'PYTHON'
 import hmac
 import subprocess
 import sys

@@ -3,17 +3,9 @@
 # memory. A sender's step is overtaken along the way, so that over a million edges are followed. The program is made in a folder of its
 # own, over this repository's crates. Needs python3; no part of the gate.
 set -eu
-here=$(cd "$(dirname "${BASH_SOURCE[0]}")/.." && pwd)
-folder=$(mktemp -d)
-trap 'rm -rf "$folder"' EXIT
-mkdir -p "$folder/crates/listing/src"
-for crate in sg_model sg_law sg_protocol sg_base sg_graph sg_vis; do
-    (cd "$here/crates" && tar cf - --exclude=out "$crate") | (cd "$folder/crates" && tar xf -)
-    grep "^$crate:" "$here/crates.txt" >>"$folder/crates.txt"
-done
-echo 'listing: sg_base sg_graph sg_model sg_protocol sg_vis' >>"$folder/crates.txt"
-cp "$here/HANDLES" "$folder/HANDLES"
-cat >"$folder/crates/listing/src/main.rt" <<'RATTLE'
+source "$(dirname "${BASH_SOURCE[0]}")/common.sh"
+program listing sg_base sg_graph sg_model sg_protocol sg_vis
+cat >"$bench/src/main.rt" <<'RATTLE'
 //! A chain of seven nodes, with so many edges from each to the next. The first three senders send again.
 #![tactic(auto)]
 
@@ -102,8 +94,8 @@ fn named(number: u16) -> Option<Name>
     Some(name)
 }
 RATTLE
-(cd "$folder/crates/listing" && rt run) >"$folder/log" 2>&1 || { cat "$folder/log"; exit 1; }
-python3 - "$folder/crates/listing/out/listing" <<'PYTHON'
+(cd "$bench" && rt run) >"$folder/log" 2>&1 || { cat "$folder/log"; exit 1; }
+python3 - "$bench/out/listing" <<'PYTHON'
 import resource
 import subprocess
 import sys
