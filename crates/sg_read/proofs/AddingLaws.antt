@@ -8,8 +8,7 @@ use Rattle.sg_model.specs.Names.{Name}
 use Rattle.sg_model.specs.Lists.{has_text, first_some}
 use Rattle.sg_protocol.specs.Graph.{Graph}
 use Rattle.sg_protocol.specs.Schedule.{Step, StartStep, ActStep, AbandonStep, DeliverStep}
-use Rattle.sg_sched.specs.Pair.{edge}
-use Rattle.sg_sched.specs.SoFar.{labels}
+use Rattle.sg_sched.specs.Pair.{edge, labels}
 use Rattle.sg_sched.specs.Format.Said.{Word, Given, Delivered, SaidEdge, SaidHonest, SaidKey, SaidSession, SaidStart, SaidAct, SaidAbandon, SaidDeliver}
 use Rattle.sg_sched.specs.Format.Values.{bytes_of}
 use Rattle.sg_sched.specs.Format.Items.{Item, EdgeItem, HonestItem, KeyItem, SessionItem, StepItem, SoFar, graphs_of_past, graph_names, session_names, place, graph_for, labels_of, is_key_of}

@@ -8,11 +8,10 @@ use Rattle.std.proofs.lemmas.List.{length-append}
 use Rattle.sg_model.specs.Lists.{has_text}
 use Rattle.sg_model.specs.Names.{Name}
 use Rattle.sg_protocol.specs.Graph.{Graph as AGraph, Edge}
-use Rattle.sg_sched.specs.SoFar.{is_comment}
 use Rattle.sg_sched.specs.Text.{lines, content, words}
 use Rattle.sg_sched.specs.Pair.{graphs_of}
 use Rattle.sg_sched.specs.Format.Said.{Said, SaidBlock, SaidEdge, SaidHonest, SaidKey, SaidSession, SaidStart, SaidAct, SaidAbandon, SaidDeliver, SaidMake}
-use Rattle.sg_sched.specs.Format.Forms.{SaysLine, is_skipped}
+use Rattle.sg_sched.specs.Format.Forms.{SaysLine, is_skipped, is_comment}
 use Rattle.sg_sched.specs.Format.Items.{Item, GraphItem, EdgeItem, HonestItem, KeyItem, SessionItem, StepItem, SoFar, so_far, edges, graphs, graph_names, graphs_of_past}
 use Rattle.sg_sched.specs.Format.Kinds.{Kind, Form}
 use Rattle.sg_sched.specs.Format.Made.{made}

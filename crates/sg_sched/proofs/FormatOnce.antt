@@ -4,9 +4,8 @@ use Rattle.std.specs.List.{list_all, slice_split, onto_first}
 use Rattle.std.proofs.Common.{sym, ◌∙◌, ap, subst, arith}
 use Rattle.std.proofs.lemmas.Bool.{eqb-true, ltb-false}
 use Rattle.sg_sched.specs.Text.{content, words}
-use Rattle.sg_sched.specs.SoFar.{is_comment}
 use Rattle.sg_sched.specs.Format.Said.{Word, Said, SaidBlock, SaidEdge, SaidHonest, SaidKey, SaidSession, SaidStart, SaidAct, SaidAbandon, SaidDeliver, SaidMake, line_words}
-use Rattle.sg_sched.specs.Format.Forms.{SaysLine, is_skipped}
+use Rattle.sg_sched.specs.Format.Forms.{SaysLine, is_comment, is_skipped}
 use Rattle.sg_sched.specs.Format.Spells.{Line, closes}
 use Rattle.sg_sched.proofs.FormatWords.{both_left, both_right}
 

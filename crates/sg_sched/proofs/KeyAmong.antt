@@ -3,7 +3,7 @@ use Rattle.std.proofs.Common.{◌≡◌, Bool, true, false, ◌&&◌, ◌||◌, 
 use Rattle.std.specs.List.{list_any}
 use Rattle.sg_model.specs.Names.{Name}
 use Rattle.sg_protocol.specs.Schedule.{PairKey}
-use Rattle.sg_sched.specs.SoFar.{is_of, has_key}
+use Rattle.sg_sched.specs.Keys.{is_of, has_key}
 use Rattle.sg_sched.specs.Format.Items.{is_key_of}
 
 both_ways : (p q : Bool) → p && q ≡ q && p

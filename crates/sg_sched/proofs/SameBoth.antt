@@ -5,7 +5,7 @@ use Rattle.std.proofs.lemmas.List.{map_push}
 use Rattle.indexmap.specs.IndexSet.{insert_key}
 use Rattle.sg_model.specs.Names.{Name}
 use Rattle.sg_protocol.specs.Schedule.{PairKey}
-use Rattle.sg_sched.specs.SoFar.{is_of, has_key}
+use Rattle.sg_sched.specs.Keys.{is_of, has_key}
 use Rattle.sg_sched.specs.declared.keys.Both.{Both}
 use Rattle.sg_sched.specs.contracts.keys.BothPartialEq.TheImpl.{eq-value}
 use Rattle.sg_sched.proofs.SameName.{same_is}

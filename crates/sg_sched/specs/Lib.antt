@@ -1,11 +1,6 @@
 pub mod Text
 pub mod Words
-pub mod Forms
-pub mod Held
 pub mod Pair
-pub mod SoFar
-pub mod Spelled
+pub mod Keys
 pub mod Edges
-pub mod Steps
-pub mod Taken
 pub mod Format

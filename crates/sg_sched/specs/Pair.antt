@@ -9,6 +9,10 @@ use Rattle.sg_protocol.specs.Graph.{Graph, Node, Edge}
 abbrev pub edge : Name → ℕ → ℕ → Edge
 edge label from to = record { name = label; source = from; target = to; writes = []; reads = [] }
 
+-- the names of edges
+abbrev pub labels : List Edge → List Name
+labels edges = map (λ e. e.name) edges
+
 -- node n: its name is n and the number in decimal digits; an even one has role 0, an odd one role 1
 abbrev pub node : ℕ → Node
 node n = record { name = 110 ∷ decimal n; role = n % 2 }

@@ -1,7 +1,7 @@
 //! The keys of pairs of principals, found without a scan.
 ghost use Rattle.std.specs.Prelude.{◌≡◌, ◌++◌, [], ◌∷◌, false, OnOk};
 ghost use Rattle.std.specs.List.{list_any};
-ghost use Rattle.sg_sched.specs.SoFar.{is_of, has_key};
+ghost use Rattle.sg_sched.specs.Keys.{is_of, has_key};
 ghost use Rattle.sg_sched.specs.Format.Items.{is_key_of};
 
 use crate::key::PairKey;

@@ -1,24 +1,24 @@
 //! Schedules: what is declared for a replay, and its steps, read from a text line by line.
 //!
-//! Lines stand in groups in this order, each of which may be empty: edges of the graph `pair`, honest principals, keys of pairs of
-//! principals, sessions, steps. Blank lines and lines that begin with `#` are skipped; all lines are counted, from 1.
+//! Lines stand in groups in this order, each of which may be empty: graphs, honest principals, keys of pairs of principals, sessions,
+//! steps. Blank lines and lines that begin with `#` are skipped; all lines are counted, from 1.
 //!
 //! | line | says |
 //! |---|---|
+//! | `graph {` | the lines up to a line `}` are the text of a graph |
 //! | `edge LABEL FROM TO` | an edge of the graph `pair`, from node to node, each a number from 0 to 255, one even and one odd; role a acts at even nodes, role b at odd ones |
 //! | `honest NAME` | the principal is honest |
 //! | `key NAME NAME HEX` | the 32-byte key of two different principals, as 64 hexadecimal digits |
 //! | `session NAME GRAPH NONCE NAME,NAME,..` | a session of the graph, with a principal for each role; `v2` behind it for version 2 |
 //! | `start NAME SESSION` | the principal starts the session |
-//! | `act NAME SESSION LABEL` | the principal sends along the label |
-//! | `deliver NAME fN` | the principal is given recorded frame N, counted from 1 |
+//! | `act NAME SESSION LABEL VAR=VALUE ..` | the principal sends along the label and writes the values |
+//! | `abandon NAME SESSION` | the principal leaves the session |
+//! | `deliver NAME fN` | the principal is given recorded frame N, counted from 1; with `flip I` or `cut I` behind it a changed one, and with `hex HEX` in its place any bytes |
+//! | `craft SESSION from ROLE to ROLE ..` | a compromised principal makes a frame, which is recorded |
 //!
-//! `first_path` reads schedules of these lines with at most one session, whose principals are honest: it answers the schedule that the
-//! bytes spell, or the first wrong line from the top and what is wrong with it.
-//!
-//! The whole format has blocks of graph text, values, changed and raw deliveries, abandonments and crafted frames besides. What its bytes
-//! spell, and their first wrong line, stands in `specs/Format`. Each line of it is read by its form, exactly: what is read is what the
-//! words say, and what the words of a form say is read. Each byte is read once, or twice where a value is tested and then kept.
+//! What bytes spell, and their first wrong line, stands in `specs/Format`. Here are the types of a schedule and the reading of each single
+//! line by its form, exactly: what is read is what the words say, and what the words of a form say is read. Each byte is read once, or
+//! twice where a value is tested and then kept. `sg_read` reads whole texts.
 #![tactic(auto)]
 
 mod act;
@@ -26,7 +26,6 @@ pub mod cast;
 mod craft;
 mod craft_form;
 mod fault;
-pub mod first_path;
 mod form;
 mod key;
 pub mod keys;

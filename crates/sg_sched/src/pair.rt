@@ -1,14 +1,13 @@
 //! The graph `pair` that the edge lines make, edge by edge.
-ghost use Rattle.std.specs.Prelude.{◌≡◌, ◌<◌, ◌≤◌, ◌++◌, [], ◌∷◌, max, map, false, length, bytes_eq, position, option_copied, IfOk, IfSome, OnOk};
+ghost use Rattle.std.specs.Prelude.{◌≡◌, ◌<◌, ◌≤◌, ◌++◌, [], ◌∷◌, max, map, false, length, option_copied, IfOk, IfSome, OnOk};
 ghost use Rattle.std.specs.Option.{option_to_list};
 ghost use Rattle.sg_model.specs.Lists.{has_text, below};
 ghost use Rattle.sg_model.specs.Names.{reserved};
-ghost use Rattle.sg_sched.specs.Pair.{edge, node, pair_graph, graphs_of};
-ghost use Rattle.sg_sched.specs.SoFar.{labels};
+ghost use Rattle.sg_sched.specs.Pair.{edge, labels, node, pair_graph, graphs_of};
 ghost use Rattle.sg_graph.specs.Adding.{with_role, with_node};
 
 use crate::node_name::{name_of, node_name};
-use sg_base::{Label, Name, NodeId, OutOfMemory, Role, Seq, VarSet};
+use sg_base::{Name, NodeId, OutOfMemory, Role, Seq, VarSet};
 use sg_graph::{AddFault, Graph};
 use std::alloc::{AllocError, Global};
 use std::marker::Model;
@@ -66,20 +65,6 @@ impl Pair {
         match &self.graph {
             Some(graph) => graph.edges() as usize,
             None => 0,
-        }
-    }
-
-    /// The number of a label, if an edge has it.
-    pub fn label(&self, label: &Name) -> Option<Label>
-        ensures { result ≡ position (bytes_eq label.now) (labels self.now) }
-    {
-        match &self.graph {
-            Some(graph) => {
-                // Its labels differ, as those of a graph do.
-                let _count = graph.edges();
-                graph.find_edge(label)
-            }
-            None => None,
         }
     }
 

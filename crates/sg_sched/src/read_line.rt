@@ -1,12 +1,11 @@
 //! What a line says, by its first word.
 ghost use Rattle.std.specs.Prelude.{◌≡◌, ◌==◌, ◌&&◌, ◌||◌, nat_lt, length, IfOk, MatchOption, option_map};
 ghost use Rattle.std.specs.List.{list_all};
-ghost use Rattle.sg_sched.specs.SoFar.{is_comment};
 ghost use Rattle.sg_sched.specs.Text.{words};
 ghost use Rattle.sg_sched.specs.Format.Form.{form};
 ghost use Rattle.sg_sched.specs.Format.Held.{said};
 ghost use Rattle.sg_sched.specs.Format.Said.{Said};
-ghost use Rattle.sg_sched.specs.Format.Forms.{SaysLine};
+ghost use Rattle.sg_sched.specs.Format.Forms.{SaysLine, is_comment};
 
 use crate::act::act;
 use crate::craft_form::craft;

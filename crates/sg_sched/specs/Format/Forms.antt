@@ -1,12 +1,11 @@
 -- Which words are a line of a form: what each place of it may hold, whatever is declared.
-use Rattle.std.specs.Prelude.{◌≡◌, ℕ, ◌%◌, ◌==◌, nat_lt, nat_le, Bool, true, not, ◌&&◌, ◌||◌, List, [], ◌∷◌, length, bytes_eq, IsTrue}
+use Rattle.std.specs.Prelude.{◌≡◌, ℕ, ◌%◌, ◌==◌, nat_lt, nat_le, Bool, true, not, ◌&&◌, ◌||◌, List, [], ◌∷◌, length, slice_index, bytes_eq, IsTrue}
 use Rattle.std.specs.List.{list_all}
 use Rattle.std.specs.Option.{option_map_or}
 use Rattle.sg_model.specs.Names.{Name, is_name, reserved}
 use Rattle.sg_model.specs.Lists.{has_text, all_differ}
 use Rattle.sg_protocol.specs.Schedule.{CraftJoin}
 use Rattle.sg_sched.specs.Text.{content, words}
-use Rattle.sg_sched.specs.SoFar.{is_comment}
 use Rattle.sg_sched.specs.Format.Said.{Given, Committed, From, FromKey, FromItem, FromSeal, FromZero, SaidItem, SaidCraft, Delivered, TheFrame, TheFlipped, TheCut, TheBytes, Said, SaidBlock, SaidEdge, SaidHonest, SaidKey, SaidSession, SaidStart, SaidAct, SaidAbandon, SaidDeliver, SaidMake, line_words}
 use Rattle.sg_sched.specs.Format.Values.{is_value, is_hex_of, is_hex}
 
@@ -86,6 +85,10 @@ is_form (SaidDeliver who what) = is_name who && is_delivered what
 is_form (SaidMake c) = is_craft c
 
 -- ---- lines
+
+-- a comment: its first byte is #
+abbrev pub is_comment : List ℕ → Bool
+is_comment text = slice_index text 0 == 35
 
 -- a blank line, or one whose first byte is #; in both all bytes are ASCII
 abbrev pub is_skipped : List ℕ → Bool
