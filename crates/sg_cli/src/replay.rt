@@ -1,4 +1,7 @@
 //! The command `replay`: reads a schedule, compiles its graphs, replays it over a node for each honest principal, and writes the report.
+//!
+//! The run of a replay is the core's, so what holds of every run holds of it: where the premises hold, a receipt from an honest sender has
+//! a send, frames show the last steps of honest senders, and a frame that is awaited and delivered is received (`sg_world::laws`).
 ghost use Rattle.std.specs.Prelude.{◌≡◌, ◌<◌, ◌≤◌, true, All, IfErr, IfOk, OnOk, length};
 ghost use Rattle.sg_program.specs.All.{IsAllFault};
 ghost use Rattle.sg_program.specs.Compiled.{IsWhole};
@@ -22,8 +25,8 @@ use sg_base::{Files, Sink, write_all};
 use sg_graph::Graph;
 use sg_program::{AllFault, Programs, compile_all};
 use sg_read::read_schedule;
-use sg_sched::{Kind, LineFault, Schedule, Step};
 use sg_world::{StepFault, World};
+use sg_sched::{Kind, LineFault, Schedule, Step};
 use std::alloc::Global;
 
 // A schedule file has at most 16 MiB.

@@ -13,7 +13,8 @@
 //! line than that at which it shows: a block of a graph named `pair` behind edge lines is the fault of the first edge line.
 //!
 //! `laws` says what holds of all bytes: they spell one schedule at most, have one first wrong line at most, and none where they spell a
-//! schedule. So an answer that isn't want of memory is the only one that the bytes allow.
+//! schedule. So an answer that isn't want of memory is the only one that the bytes allow. What bytes spell is a schedule as the protocol has
+//! them, so each law about runs holds of what is read.
 #![tactic(auto)]
 
 mod block;
