@@ -1,13 +1,16 @@
 //! Names of roles, variables, nodes, labels, graphs, principals and sessions.
+ghost use Rattle.std.specs.Cmp.Rules.{hashing};
 ghost use Rattle.std.specs.List.{list_all};
-ghost use Rattle.std.specs.Prelude.{◌≡◌, ◌↔◌, ◌≤◌, ◌++◌, ◌&&◌, nat_le, length, drop, IfSome, IsSome, IsTrue};
+ghost use Rattle.std.specs.Prelude.{◌≡◌, ◌↔◌, ◌≤◌, ◌++◌, ◌∷◌, [], ◌&&◌, nat_le, length, drop, IfSome, IsSome, IsTrue};
 ghost use Rattle.sg_model.specs.Lists.{has_text};
 ghost use Rattle.sg_model.specs.Names.{is_letter, is_name_byte, is_name, reserved};
+ghost use Rattle.std.proofs.Common.{rules};
 
+use std::hash::{Hash, Hasher};
 use std::marker::Model;
 
 /// An ASCII letter, and after it at most 31 ASCII letters, digits and underscores. A clause sees it as its bytes.
-#[derive(Debug, Clone, Copy, PartialEq, Eq, Hash)]
+#[derive(Debug, Clone, Copy, PartialEq, Eq)]
 pub struct Name {
     bytes: [u8; 32],
     count: u8,
@@ -28,6 +31,19 @@ impl Model for Name {
     ghost inverse = { fields_of };
 
     ghost inverse_ok = { fields_of-bytes_of };
+}
+
+// Its block of bytes in one piece.
+impl Hash for Name {
+    ghost use Rattle.sg_base.specs.Fields.{fields_of};
+
+    ghost hash_input = { λ n. (fields_of n).bytes ∷ [] };
+
+    ghost respects_eq = { Prim.search (hashing, rules) };
+
+    fn hash<H: Hasher>(&self, state: &mut H) {
+        state.write(&self.bytes);
+    }
 }
 
 impl Name {

@@ -1,4 +1,9 @@
 //! Numbers that mean something. A clause sees each as its number, and an identifier or a tag as its bytes.
+ghost use Rattle.std.specs.Prelude.{◌∷◌, []};
+ghost use Rattle.std.specs.Cmp.Rules.{hashing};
+ghost use Rattle.std.proofs.Common.{rules};
+
+use std::hash::{Hash, Hasher};
 use std::marker::Model;
 
 /// A role of a graph, by its place in the order of declaration, from 0 to 15.
@@ -72,7 +77,7 @@ impl Model for Time {
 }
 
 /// A session identifier: the SHA-256 digest of the session's text.
-#[derive(Debug, Clone, Copy, PartialEq, Eq, Hash)]
+#[derive(Debug, Clone, Copy, PartialEq, Eq)]
 pub struct Sid(pub [u8; 32]);
 
 impl Model for Sid {
@@ -83,6 +88,17 @@ impl Model for Sid {
     ghost view = { λ s. s.0 };
 
     ghost inverse = { λ bytes. record { 0 = bytes } };
+}
+
+// Its bytes in one piece: a hash table is asked for sessions more often than for anything else.
+impl Hash for Sid {
+    ghost hash_input = { λ s. s ∷ [] };
+
+    ghost respects_eq = { Prim.search (hashing, rules) };
+
+    fn hash<H: Hasher>(&self, state: &mut H) {
+        state.write(&self.0);
+    }
 }
 
 /// An HMAC-SHA-256 tag (RFC 2104), of 32 bytes.
