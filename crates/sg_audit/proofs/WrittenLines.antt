@@ -10,7 +10,6 @@ use Rattle.sg_model.specs.Names.{Name, is_name}
 use Rattle.sg_model.specs.Values.{Value}
 use Rattle.sg_protocol.specs.Graph.{Graph}
 use Rattle.sg_graph.specs.Parts.{variable_names, edge_names}
-use Rattle.sg_sched.specs.Words.{number as number_of}
 use Rattle.sg_sched.specs.Format.Said.{Word}
 use Rattle.sg_sched.specs.Format.Values.{spelled_value, is_value, value_of}
 use Rattle.sg_sched.specs.Format.Reading.{word, after, ended}
@@ -37,10 +36,6 @@ name_ok : (n : Name) → is_name n ≡ true → name n ≡ Some n
 unfolding name
 name_ok n h = rw h refl
 
-same_number : (most : ℕ) (w : Word) → number most w ≡ number_of most w
-unfolding number number_of
-same_number most w = refl
-
 -- a time, as its digits are written
 abbrev pub is_time : ℕ → Bool
 is_time t = nat_le 1 t && nat_le t 1000000
@@ -52,7 +47,7 @@ time_is w t h = found (number 1000000 w) refl h
     from : (n : ℕ) → number 1000000 w ≡ Some n → (b : Bool) → nat_lt 0 n ≡ b → (if b then Some n else None) ≡ Some t → (w ≡ decimal t) × (is_time t ≡ true)
     from n e false z h = none_some h
     from n e true z h =
-        let d = number_is 1000000 w n (omega arith) (sym (same_number 1000000 w) ∙ e) in
+        let d = number_is 1000000 w n (omega arith) e in
         let one : nat_le 1 n ≡ true = grind (arith, nat_tests, z) in
         subst (λ m. (w ≡ decimal m) × (is_time m ≡ true)) (some_is h) (d.same, both one d.within)
 
@@ -64,7 +59,7 @@ time_ok : (t : ℕ) → is_time t ≡ true → time (decimal t) ≡ Some t
 unfolding time
 time_ok t h =
     let one : nat_lt 0 t ≡ true = grind (arith, nat_tests, both_left (nat_le 1 t) (nat_le t 1000000) h) in
-    ap (option_and_then from_one) (same_number 1000000 (decimal t) ∙ number_ok 1000000 t (omega arith) (both_right (nat_le 1 t) (nat_le t 1000000) h)) ∙ ap (λ b. if b then Some t else None) one
+    ap (option_and_then from_one) (number_ok 1000000 t (omega arith) (both_right (nat_le 1 t) (nat_le t 1000000) h)) ∙ ap (λ b. if b then Some t else None) one
 
 -- ---- what is read is written so
 

@@ -8,7 +8,7 @@ use Rattle.sg_model.specs.Names.{is_name}
 use Rattle.sg_model.specs.Values.{Value, IntValue}
 use Rattle.sg_sched.specs.Format.Said.{Word, Given as Pair, given_word, joined_names}
 use Rattle.sg_sched.specs.Format.Values.{is_value, int_value, text_value, text_bytes, as_text, put_before, hex_byte, is_plain}
-use Rattle.sg_sched.specs.Words.{number, from_one, is_digit, has_needless_zero, up_to, value}
+use Rattle.sg_base.specs.Words.{number, from_one, is_digit, has_needless_zero, up_to, value}
 use Rattle.sg_sched.proofs.FormLaws.{some_is, none_some}
 use Rattle.sg_sched.proofs.FormatWords.{both_left, both_right, lacks, lacks_other, name_lacks}
 use Rattle.sg_audit.specs.Reading.{parts}

@@ -8,25 +8,13 @@ use Rattle.std.proofs.lemmas.List.Folds.{list_all_at}
 use Rattle.sg_protocol.specs.Beginnings.{first_steps}
 use Rattle.sg_protocol.specs.Keyring.{Program}
 use Rattle.sg_protocol.specs.Schedule as Protocol
-use Rattle.sg_protocol.specs.Schedule.{Schedule, StartStep, ActStep, AbandonStep, DeliverStep, CraftStep}
+use Rattle.sg_protocol.specs.Schedule.{Schedule}
 use Rattle.sg_protocol.specs.Steps.{is_taken}
 use Rattle.sg_sched.specs.Format.StepsHeld.{step_of}
 use Rattle.sg_sched.specs.declared.step.Step.{Step}
-use Rattle.sg_read.specs.Meant as Spelled
-use Rattle.sg_world.specs.Named.{CanBeTaken, IsDeclaredIn}
+use Rattle.sg_sched.specs.Steps.{CanBeTaken}
 use Rattle.sg_world.specs.Replay.{with_taken}
 use Rattle.sg_cli.specs.Replayed.{CanBeReplayed, replay_of, replay_up_to}
-
--- a step that names a declared session can be taken
-named : (s : Schedule) (x : Protocol.Step) → Spelled.IsDeclaredIn s x → IsDeclaredIn s x
-named s (StartStep who n) h = h
-named s (ActStep who n label values) h = h
-named s (AbandonStep who n) h = h
-named s (DeliverStep who what) h = tt
-named s (CraftStep c) h = h
-
-taken : (s : Schedule) (x : Protocol.Step) → Spelled.CanBeTaken s x → CanBeTaken s x
-taken s x c = record { declared = named s x c.declared; range = c.range }
 
 -- step i of the schedule is the one that is held, and fewer were taken than there are
 module _ (s : Schedule) (items : List Step) (i : ℕ) (x : Step) (all : map step_of items ≡ s.steps) (h : i < length items) (at : x ≡ get_or items i x) where
@@ -47,7 +35,7 @@ module _ (s : Schedule) (items : List Step) (i : ℕ) (x : Step) (all : map step
 
   pub can_be_taken : CanBeReplayed s → CanBeTaken (first_steps i s) (step_of x)
   can_be_taken can =
-      taken (first_steps i s) (step_of x) (subst (λ y. Spelled.CanBeTaken (first_steps i s) y) here (can.meant.steps i (step_of x) (omega (arith, h, count)) (first_steps i s) (record { graphs = refl; sessions = refl })))
+      subst (λ y. CanBeTaken (first_steps i s) y) here (can.meant.steps i (step_of x) (omega (arith, h, count)) (first_steps i s) (record { graphs = refl; sessions = refl }))
 
   pub honest : CanBeReplayed s → is_taken (first_steps i s) (step_of x) ≡ true
   honest can =

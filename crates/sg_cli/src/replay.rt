@@ -10,7 +10,7 @@ ghost use Rattle.sg_protocol.specs.Steps.{is_taken};
 ghost use Rattle.sg_protocol.specs.Texts.{real};
 ghost use Rattle.sg_read.specs.Taken.{kind_of};
 ghost use Rattle.sg_world.specs.Faults.{IsFull};
-ghost use Rattle.sg_world.specs.Named.{CanBeTaken};
+ghost use Rattle.sg_sched.specs.Steps.{CanBeTaken};
 ghost use Rattle.sg_world.specs.Replay.{with_taken};
 ghost use Rattle.sg_sched.specs.Format.Spells.{SpellsSchedule};
 ghost use Rattle.sg_sched.specs.Format.StepsHeld.{step_of};

@@ -83,7 +83,7 @@ entry_last es k x absent = elim (cases_Bool (list_any (same k) (map (λ e. e.0) 
   | inr q ↦ new_entry es k x q
 ]
 
--- ---- sixteen look-ups
+-- ---- a look-up for each role
 
 -- the places of roles below n
 abbrev pub is_below : Bool → List ℕ → ℕ → Slot → Bool
@@ -114,9 +114,9 @@ one_below o sid n ss = earlier_position (is_below o sid n) (is_of_role o sid n) 
       ]
     ]
 
--- all are below 16
-pub all_below : (o : Bool) (sid : List ℕ) (ss : List Slot) → AllByRecursion (λ (s : Slot). (s.0).1 < 16) ss → first_place (is_below o sid 16) ss ≡ first_place (is_of o sid) ss
-all_below o sid ss h = same_position (λ (s : Slot). (s.0).1 < 16) (is_below o sid 16) (is_of o sid) (λ s l. full (is_of o sid s) (nat_lt (s.0).1 16) (grind (arith, nat_tests, l))) ss h
+-- all are below a bound
+pub all_below : (o : Bool) (sid : List ℕ) (n : ℕ) (ss : List Slot) → AllByRecursion (λ (s : Slot). (s.0).1 < n) ss → first_place (is_below o sid n) ss ≡ first_place (is_of o sid) ss
+all_below o sid n ss h = same_position (λ (s : Slot). (s.0).1 < n) (is_below o sid n) (is_of o sid) (λ s l. full (is_of o sid s) (nat_lt (s.0).1 n) (grind (arith, nat_tests, l))) ss h
   where
     full : (a b : Bool) → b ≡ true → (a && b) ≡ a
     full a b e = rw e (yes a)

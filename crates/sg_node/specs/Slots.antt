@@ -61,10 +61,10 @@ is_of_version v sid r s = has_version v s.1 && bytes_eq (s.0).0 sid && ((s.0).1 
 abbrev pub is_for : Frame → Slot → Bool
 is_for f s = is_of_version f.version f.sid f.receiver s
 
--- the count is that of the live sessions, and each role is below 16
-pub record HoldsTable (slots : List Slot) (live : ℕ) : Type 0 where
+-- the count is that of the live sessions, and each role is below the bound
+pub record HoldsTable (slots : List Slot) (live bound : ℕ) : Type 0 where
   pub count : live ≡ length (held_in slots)
-  pub roles : AllByRecursion (λ (s : Slot). (s.0).1 < 16) slots
+  pub roles : AllByRecursion (λ (s : Slot). (s.0).1 < bound) slots
 
 -- the lesser of two places
 abbrev pub earlier_of : Option ℕ → Option ℕ → Option ℕ

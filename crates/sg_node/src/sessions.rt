@@ -33,12 +33,13 @@ pub(crate) fn tell_backed(live: &Live)
     }
 }
 
-/// A place for each join of a node's life, in the order of joining, empty where the session is over; and the number of those that
-/// aren't. A role is below 16.
+/// A place for each join of a node's life, in the order of joining, empty where the session is over; the number of those that aren't;
+/// and a bound that each role is below.
 #[derive(Drop)]
 pub(crate) struct Sessions<'p> {
     slots: IndexMap<(Sid, Role), Option<Live<'p>>>,
     live: usize,
+    bound: u8,
 }
 
 impl<'p> Model for Sessions<'p> {
@@ -49,7 +50,7 @@ impl<'p> Model for Sessions<'p> {
 
     ghost view = { λ s. record { slots = s.slots.entries; spare = spare s.slots } };
 
-    ghost invariant = { λ s. HoldsTable s.slots.entries s.live };
+    ghost invariant = { λ s. HoldsTable s.slots.entries s.live s.bound };
 }
 
 impl<'p> Sessions<'p> {
@@ -60,6 +61,7 @@ impl<'p> Sessions<'p> {
         Sessions {
             slots: IndexMap::new(alloc),
             live: 0,
+            bound: 0,
         }
     }
 
@@ -115,14 +117,14 @@ impl<'p> Sessions<'p> {
     }
 
     /// The place of the first live session; where `only_turns`, of the first that is at its turn. There is one place for each role, so
-    /// it looks sixteen times. It takes no memory.
+    /// it looks once for each role up to the highest that was joined. It takes no memory.
     #[tactic(auto, using(crate::proofs::Keys::none_below, crate::proofs::Keys::one_below, crate::proofs::Keys::all_below))]
     pub fn first(&self, sid: &Sid, only_turns: bool) -> Option<usize>
         ensures { result ≡ first_place (is_of only_turns sid.now) self.now.slots }
     {
         let _count = self.live;
         let mut first = None;
-        for role in 0..16u8 {
+        for role in 0..self.bound {
             first = earlier(first, self.find(sid, Role(role), only_turns));
         }
         first
@@ -185,6 +187,9 @@ impl<'p> Sessions<'p> {
         let _len = self.slots.len();
         put_last(&mut self.slots, (sid, role), live);
         self.live += 1;
+        if self.bound <= role.0 {
+            self.bound = role.0 + 1;
+        }
     }
 }
 

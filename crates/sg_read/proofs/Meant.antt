@@ -37,7 +37,8 @@ use Rattle.sg_read.proofs.RightLines.{IsRight, right, neither, in_group}
 use Rattle.sg_read.proofs.SessionsDeclared.{HasFewRoles, IsOf, Sound, sound, said_more, graph_more}
 use Rattle.sg_sched.specs.Format.Kinds.{TooManySteps}
 use Rattle.sg_read.specs.Holding.{HasRoles}
-use Rattle.sg_read.specs.Meant.{IsDeclaredIn, CanBeTaken, SameDeclared, IsMeant}
+use Rattle.sg_sched.specs.Steps.{IsDeclaredIn, CanBeTaken}
+use Rattle.sg_read.specs.Meant.{SameDeclared, IsMeant}
 use Rattle.sg_read.proofs.MeantParts.{FitsCraft, FitsStep, Meant, graph_meant, edge_meant, honest_meant, key_meant, session_meant, step_meant}
 use Rattle.sg_read.proofs.MeantSteps.{values_fit, delivered_fits, session_in, all_graphs, craft_fits}
 

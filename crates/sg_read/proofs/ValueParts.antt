@@ -14,7 +14,7 @@ use Rattle.sg_model.specs.Bytes.{IsBytes, AreBytes}
 use Rattle.sg_model.specs.Values.{Value, IntValue, TextValue}
 use Rattle.sg_protocol.specs.Frame.{IsValue}
 use Rattle.sg_protocol.proofs.Spelled.{Bytes_, to_bytes}
-use Rattle.sg_sched.specs.Words.{number, from_one}
+use Rattle.sg_base.specs.Words.{number, from_one}
 use Rattle.sg_sched.specs.Format.Values.{int_value, is_plain, hex_byte, put_before, text_bytes, as_text, spelled_value, is_value, value_of, is_hex_of, bytes_of}
 use Rattle.sg_sched.proofs.NumberLaws.{number_is}
 

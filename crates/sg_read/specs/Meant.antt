@@ -1,23 +1,11 @@
 -- What bytes spell is a schedule as the protocol has them, and each of its steps can be taken.
-use Rattle.std.specs.Prelude.{◌≡◌, ℕ, ◌<◌, ◌≤◌, ⊤, List, length, All}
-use Rattle.sg_protocol.specs.IsSchedule.{IsSchedule, IsStep}
-use Rattle.sg_protocol.specs.Schedule.{Schedule, Step, StartStep, ActStep, AbandonStep, DeliverStep, CraftStep}
+use Rattle.std.specs.Prelude.{◌≡◌, ℕ, ◌≤◌, List, length, All}
+use Rattle.sg_protocol.specs.IsSchedule.{IsSchedule}
+use Rattle.sg_protocol.specs.Schedule.{Schedule}
 use Rattle.sg_protocol.specs.Texts.{real}
 use Rattle.sg_sched.specs.Format.Spells.{SpellsSchedule}
+use Rattle.sg_sched.specs.Steps.{CanBeTaken}
 use Rattle.sg_read.specs.Holding.{HasRoles}
-
--- the session that the step names is declared
-abbrev pub IsDeclaredIn : Schedule → Step → Type 0
-IsDeclaredIn s (StartStep who n) = n < length s.sessions
-IsDeclaredIn s (ActStep who n label values) = n < length s.sessions
-IsDeclaredIn s (AbandonStep who n) = n < length s.sessions
-IsDeclaredIn s (DeliverStep who what) = ⊤
-IsDeclaredIn s (CraftStep c) = c.session < length s.sessions
-
--- the step can be taken: its session is declared, and what it says is in range
-pub record CanBeTaken (s : Schedule) (x : Step) : Type 0 where
-  pub declared : IsDeclaredIn s x
-  pub range : IsStep real s x
 
 -- the two schedules have the same graphs and sessions
 pub record SameDeclared (s t : Schedule) : Type 0 where

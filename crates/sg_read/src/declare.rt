@@ -13,10 +13,9 @@ ghost use Rattle.sg_read.specs.Taken.{Takes};
 use crate::past::Past;
 use crate::sessions::Like;
 use crate::stop::Stop;
-use sg_base::{Name, OutOfMemory};
+use sg_base::{Name, OutOfMemory, read_hex};
 use sg_graph::Graph;
 use sg_sched::node_name::name_of;
-use sg_sched::word::read_key;
 use sg_sched::{Kind, NameSet, PairKey};
 
 const MOST_EDGES: usize = 512;
@@ -157,7 +156,7 @@ fn key_of(digits: &[u8]) -> [u8; 32]
     requires { IsTrue (is_hex_of 32 digits.now) }
     ensures { result ≡ bytes_of digits.now }
 {
-    match read_key(digits) {
+    match read_hex(digits) {
         Some(key) => key,
         None => unreachable!(),
     }

@@ -4,7 +4,8 @@ use Rattle.std.specs.Fmt.{decimal}
 use Rattle.std.proofs.Common.{sym, ◌∙◌, ap, subst, arith}
 use Rattle.std.proofs.lemmas.Slice.Eq.{bytes_eq-Decides}
 use Rattle.sg_model.specs.Names.{Name, is_name}
-use Rattle.sg_sched.specs.Words.{name, number, frame}
+use Rattle.sg_base.specs.Words.{name, number}
+use Rattle.sg_sched.specs.Words.{frame}
 use Rattle.sg_sched.specs.Format.Said.{Word, Delivered, Said, SaidDeliver, TheFrame, TheFlipped, TheCut, TheBytes, line_words, delivered_words, frame_word}
 use Rattle.sg_sched.specs.Format.Forms.{is_form, is_delivered, is_frame, is_short}
 use Rattle.sg_sched.specs.Format.Values.{is_hex}

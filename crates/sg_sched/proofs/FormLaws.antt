@@ -9,7 +9,8 @@ use Rattle.std.proofs.lemmas.Grind.{common_steps}
 use Rattle.std.proofs.lemmas.Slice.Eq.{bytes_eq-Decides}
 use Rattle.sg_model.specs.Names.{Name, is_name, reserved}
 use Rattle.sg_model.specs.Lists.{has_text, all_differ}
-use Rattle.sg_sched.specs.Words.{name, number, frame, up_to}
+use Rattle.sg_base.specs.Words.{name, number, up_to}
+use Rattle.sg_sched.specs.Words.{frame}
 use Rattle.sg_sched.specs.Format.Said.{Word, Said, SaidBlock, SaidEdge, SaidHonest, SaidKey, SaidStart, SaidAbandon, line_words}
 use Rattle.sg_sched.specs.Format.Forms.{is_form, are_names}
 use Rattle.sg_sched.specs.Format.Values.{is_hex_of}

@@ -5,7 +5,7 @@ use Rattle.std.specs.Str.{is_utf8, chars}
 use lib.Utf8.{encode}
 use Rattle.hex.specs.Hex.{decode_pairs}
 use Rattle.sg_sched.proofs.FormatGraphs.{shop, relay}
-use Rattle.sg_sched.specs.Words.{number}
+use Rattle.sg_base.specs.Words.{number}
 use Rattle.sg_sched.specs.Pair.{edge}
 use Rattle.sg_sched.specs.Format.Said.{Word, Given, Committed}
 use Rattle.sg_sched.specs.Format.Items.{Item, GraphItem, EdgeItem, HonestItem, KeyItem, SessionItem}

@@ -9,7 +9,8 @@ use Rattle.std.proofs.lemmas.Bool.{leb-true, le-leb, eqb-true}
 use Rattle.std.proofs.lemmas.Slice.Eq.{bytes_eq-Decides}
 use Rattle.sg_model.specs.Names.{Name, is_name}
 use Rattle.sg_protocol.specs.Schedule.{CraftJoin}
-use Rattle.sg_sched.specs.Words.{name, number, frame}
+use Rattle.sg_base.specs.Words.{name, number}
+use Rattle.sg_sched.specs.Words.{frame}
 use Rattle.sg_sched.specs.Format.Said.{Word, Committed, From, SaidItem, SaidCraft, Said, SaidMake, committed_word, from_words, tag_words, item_words, join_words, list_words, option_words, joined_names, craft_words}
 use Rattle.sg_sched.specs.Format.Forms.{is_committed, is_source, is_tag, is_item, are_committed, is_join, is_wide, are_names, is_craft, is_form}
 use Rattle.sg_sched.specs.Format.Reading.{Left, Taker, word, after, ended}

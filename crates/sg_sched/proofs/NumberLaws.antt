@@ -8,7 +8,8 @@ use Rattle.std.proofs.lemmas.Grind.{common_steps}
 use Rattle.std.proofs.lemmas.Bool.{leb-true, le-leb, ltb-true, lt-ltb, eqb-true}
 use Rattle.std.proofs.lemmas.Fmt.{decimal_is_IsNumeral, first_decimal, decimal-digits_value, digits_decimal, digits_value-decimal}
 use Rattle.std.proofs.lemmas.Str.Parse.{IsNumeralModel, IsDigitsTest, numerals_by_fold}
-use Rattle.sg_sched.specs.Words.{number, frame, from_one, up_to, value, is_digit, has_needless_zero}
+use Rattle.sg_base.specs.Words.{number, from_one, up_to, value, is_digit, has_needless_zero}
+use Rattle.sg_sched.specs.Words.{frame}
 use Rattle.sg_sched.specs.Format.Said.{Word, frame_word}
 use Rattle.sg_sched.specs.Format.Forms.{is_short, is_wide, is_frame}
 use Rattle.sg_sched.proofs.FormLaws.{some_is, none_some}

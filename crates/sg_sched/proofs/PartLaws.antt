@@ -9,7 +9,8 @@ use Rattle.std.proofs.lemmas.List.Splits.{slice_split-cons_yes, slice_split-cons
 use Rattle.std.proofs.lemmas.Slice.Eq.{bytes_eq-Decides}
 use Rattle.sg_model.specs.Names.{Name, is_name, reserved}
 use Rattle.sg_model.specs.Lists.{has_text, all_differ}
-use Rattle.sg_sched.specs.Words.{name, number, names, frame}
+use Rattle.sg_base.specs.Words.{name, number}
+use Rattle.sg_sched.specs.Words.{names, frame}
 use Rattle.sg_sched.specs.Format.Said.{Word, Given, Said, SaidEdge, SaidSession, SaidAct, SaidDeliver, TheFrame, TheFlipped, TheCut, TheBytes, line_words, joined_names, given_word, version_words}
 use Rattle.sg_sched.specs.Format.Forms.{is_form, is_given, is_wide, is_short, are_names}
 use Rattle.sg_sched.specs.Format.Values.{is_value, is_hex}

@@ -6,7 +6,8 @@ use Rattle.std.proofs.Common.{sym, ◌∙◌, ap, subst, arith, append-nil, appe
 use Rattle.std.proofs.lemmas.Bool.{leb-true, le-leb, eqb-true}
 use Rattle.std.proofs.lemmas.Slice.Eq.{bytes_eq-Decides}
 use Rattle.sg_model.specs.Names.{Name, is_name}
-use Rattle.sg_sched.specs.Words.{name, number, frame}
+use Rattle.sg_base.specs.Words.{name, number}
+use Rattle.sg_sched.specs.Words.{frame}
 use Rattle.sg_sched.specs.Format.Said.{Word, Committed, From, FromKey, FromItem, FromSeal, FromZero, SaidItem, committed_word, from_words, tag_words, item_words}
 use Rattle.sg_sched.specs.Format.Forms.{is_committed, is_source, is_tag, is_item, is_wide, is_short, is_frame, are_committed}
 use Rattle.sg_sched.specs.Format.Values.{is_value}

@@ -7,7 +7,7 @@ use Rattle.std.proofs.Common.{sym, ◌∙◌, ap, arith, append-nil, append_asso
 use Rattle.std.proofs.lemmas.Grind.{common_steps}
 use Rattle.sg_model.specs.Names.{Name, is_name}
 use Rattle.sg_protocol.specs.Schedule.{CraftJoin}
-use Rattle.sg_sched.specs.Words.{name, number}
+use Rattle.sg_base.specs.Words.{name, number}
 use Rattle.sg_sched.specs.Format.Said.{Word, Committed, From, SaidItem, SaidCraft, Said, SaidMake, committed_word, from_words, item_words, join_words, list_words, option_words, joined_names}
 use Rattle.sg_sched.specs.Format.Forms.{is_committed, is_source, is_item, are_committed, is_join, is_wide, are_names, is_craft}
 use Rattle.sg_sched.specs.Format.Reading.{Left, Taker, word, after, ended}

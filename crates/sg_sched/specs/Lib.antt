@@ -4,3 +4,4 @@ pub mod Pair
 pub mod Keys
 pub mod Edges
 pub mod Format
+pub mod Steps

@@ -24,7 +24,7 @@ pub fn split_at(mark: u8, word: &[u8]) -> Option<(&[u8], &[u8])>
 }
 
 /// `VAR=VALUE`.
-#[tactic(auto, unfolding(crate::specs::Format::Reading::given, crate::specs::Words::name))]
+#[tactic(auto, unfolding(crate::specs::Format::Reading::given, sg_base::specs::Words::name))]
 pub fn read_given<'a>(alloc: Global, word: &'a [u8]) -> Result<Option<Given<'a>>, OutOfMemory>
     ensures { IfOk result (λ o. o ≡ given word.now) }
 {

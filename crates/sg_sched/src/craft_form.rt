@@ -1,6 +1,7 @@
 //! The form of a craft.
 ghost use Rattle.std.specs.Prelude.{◌≡◌, ◌≤◌, ◌<◌, ◌++◌, [], ◌∷◌, Some, None, true, false, IfOk, IfSome, MatchOption, codes, length, option_map, option_copied};
-ghost use Rattle.sg_sched.specs.Words.{name, number, frame};
+ghost use Rattle.sg_base.specs.Words.{name, number};
+ghost use Rattle.sg_sched.specs.Words.{frame};
 ghost use Rattle.sg_sched.specs.Format.Reading.{word};
 ghost use Rattle.sg_sched.specs.Format.CraftReading.{split_last, committed, name_list, cast, exactly, time, run, few, listed, copy_source, source, repeated, tag, item, is_next, optional, join_parts, join, opened, seal_form, ends, craft_form};
 ghost use Rattle.sg_sched.specs.Format.Sources.{from_of};
@@ -13,8 +14,8 @@ use crate::line::{Committed, CraftLine, From, ItemLine, Line, TagLine};
 use crate::name_set::split_part;
 use crate::text::Words;
 use crate::value::is_value;
-use crate::word::{read_frame, read_name, read_number};
-use sg_base::{Name, OutOfMemory, Seq};
+use crate::word::{read_frame, read_name};
+use sg_base::{Name, OutOfMemory, Seq, read_number};
 use std::alloc::Global;
 
 /// What stands before the last byte `mark` and behind it.
@@ -32,7 +33,7 @@ fn split_last(mark: u8, word: &[u8]) -> Option<(&[u8], &[u8])>
 }
 
 /// `VAR=VALUE#K`.
-#[tactic(auto, unfolding(crate::specs::Format::CraftReading::committed, crate::specs::Words::name))]
+#[tactic(auto, unfolding(crate::specs::Format::CraftReading::committed, sg_base::specs::Words::name))]
 fn read_committed<'a>(alloc: Global, word: &'a [u8]) -> Result<Option<Committed<'a>>, OutOfMemory>
     ensures { IfOk result (λ o. o ≡ committed word.now) }
 {

@@ -5,11 +5,10 @@ ghost use Rattle.std.specs.Prelude.{◌≡◌, ◌≢◌, ◌<◌, IfSome, ◌�
 ghost use Rattle.sg_base.specs.Values.{value_of};
 ghost use Rattle.sg_model.specs.Values.{IntValue, TextValue};
 ghost use Rattle.sg_sched.specs.Format.Values.{int_value, is_plain, hex_byte, put_before, text_bytes, as_text, text_value, spelled_value, hex_bytes, is_hex_of, is_hex, is_value};
-ghost use Rattle.sg_sched.specs.Words.{number, from_one};
+ghost use Rattle.sg_base.specs.Words.{number, from_one};
 
-use crate::word::{read_key, read_number};
 use hex::FromHexError;
-use sg_base::{Chars, CharsFault, OutOfMemory, Value};
+use sg_base::{Chars, CharsFault, OutOfMemory, Value, read_number};
 use std::alloc::{AllocError, Global};
 
 /// The value that a word spells: a text where it begins with `"`, otherwise a number.
@@ -147,11 +146,11 @@ fn one_byte(digits: &[u8]) -> Option<[u8; 1]>
 }
 
 /// Whether the word is the digits of 32 bytes.
-#[tactic(auto, unfolding(crate::specs::Words::key))]
+#[tactic(auto, unfolding(sg_base::specs::Words::hex_bytes))]
 pub fn is_key(word: &[u8]) -> bool
     ensures { result ≡ is_hex_of 32 word.now }
 {
-    read_key(word).is_some()
+    sg_base::read_hex::<32>(word).is_some()
 }
 
 /// The bytes of hexadecimal digits of either case.

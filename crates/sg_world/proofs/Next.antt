@@ -24,7 +24,7 @@ use Rattle.sg_world.specs.Comes.{ComesAt, IsNamed}
 use Rattle.sg_world.specs.Entries.{graph_of_entry}
 use Rattle.sg_world.specs.Holds.{Holds, schedule_of}
 use Rattle.sg_world.specs.Kept.{Came, Taken, Recorded, HoldsRun, with_came, added_size}
-use Rattle.sg_world.specs.Named.{CanBeTaken}
+use Rattle.sg_sched.specs.Steps.{CanBeTaken}
 use Rattle.sg_world.specs.Places.{IsPlaceOf}
 use Rattle.sg_world.specs.Setting.{Setting}
 use Rattle.sg_world.proofs.EntryGraphs.{is_before}

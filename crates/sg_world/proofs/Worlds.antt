@@ -17,7 +17,7 @@ use Rattle.sg_world.specs.declared.fault.StepFault.{StepFault}
 use Rattle.sg_world.specs.declared.fault.StepFault.TheVariants.{NotHonest, RecordFull, OutOfMemory}
 use Rattle.sg_world.specs.Holds.{Holds, schedule_of}
 use Rattle.sg_world.specs.Kept.{Recorded, Taken}
-use Rattle.sg_world.specs.Named.{CanBeTaken}
+use Rattle.sg_sched.specs.Steps.{CanBeTaken}
 use Rattle.sg_world.specs.Places.{IsFaultOf, IsPlaceOf, names_of}
 use Rattle.sg_world.specs.Replay.{Replay, without_steps, with_taken, run_of, stepped}
 use Rattle.sg_world.specs.Setting.{Setting}

@@ -1,5 +1,4 @@
 pub mod Replay
-pub mod Named
 pub mod Entries
 pub mod Faults
 pub mod Stand

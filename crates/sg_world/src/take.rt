@@ -6,7 +6,7 @@ ghost use Rattle.sg_sched.specs.Format.StepsHeld.{step_of};
 ghost use Rattle.sg_world.specs.Comes.{IsNamed};
 ghost use Rattle.sg_world.specs.Crafts.{ComesOfPlace, IsCraftable};
 ghost use Rattle.sg_world.specs.Holds.{schedule_of, Holds};
-ghost use Rattle.sg_world.specs.Named.{CanBeTaken};
+ghost use Rattle.sg_sched.specs.Steps.{CanBeTaken};
 ghost use Rattle.sg_world.specs.Places.{IsFaultOf, IsPlaceOf, names_of};
 
 use crate::StepFault;

@@ -7,7 +7,7 @@ ghost use Rattle.sg_sched.specs.Format.StepsHeld.{step_of};
 ghost use Rattle.sg_report.specs.Outcome.{outcome_of};
 ghost use Rattle.sg_report.specs.Told.{told_log};
 ghost use Rattle.sg_world.specs.Faults.{IsStepFault, IsAdmitted};
-ghost use Rattle.sg_world.specs.Named.{CanBeTaken};
+ghost use Rattle.sg_sched.specs.Steps.{CanBeTaken};
 ghost use Rattle.sg_world.specs.Replay.{without_steps, with_taken, run_of, stepped};
 
 use crate::StepFault;

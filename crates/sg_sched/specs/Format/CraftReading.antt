@@ -3,7 +3,8 @@ use Rattle.std.specs.Prelude.{ℕ, zero, suc, ◌==◌, nat_le, ◌&&◌, Bool, 
 use Rattle.std.specs.List.{list_all, slice_split}
 use Rattle.sg_model.specs.Names.{Name, is_name}
 use Rattle.sg_protocol.specs.Schedule.{CraftJoin}
-use Rattle.sg_sched.specs.Words.{name, number, frame}
+use Rattle.sg_base.specs.Words.{name, number}
+use Rattle.sg_sched.specs.Words.{frame}
 use Rattle.sg_sched.specs.Format.Said.{Word, Committed, From, FromKey, FromItem, FromSeal, FromZero, SaidItem, Said, SaidMake}
 use Rattle.sg_sched.specs.Format.Values.{is_value}
 use Rattle.sg_sched.specs.Format.Reading.{Left, Taker, word, after, ended, short, split_at}

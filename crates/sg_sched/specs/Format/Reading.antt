@@ -2,7 +2,8 @@
 use Rattle.std.specs.Prelude.{ℕ, ◌%◌, ◌==◌, ◌&&◌, if◌then◌else◌, List, [], ◌∷◌, length, codes, bytes_eq, Option, Some, None, option_map, option_and_then}
 use Rattle.sg_model.specs.Names.{Name, reserved, is_name}
 use Rattle.sg_model.specs.Lists.{has_text}
-use Rattle.sg_sched.specs.Words.{name, number, names, frame}
+use Rattle.sg_base.specs.Words.{name, number}
+use Rattle.sg_sched.specs.Words.{names, frame}
 use Rattle.sg_sched.specs.Format.Said.{Word, Given, TheFrame, TheFlipped, TheCut, TheBytes, Said, SaidBlock, SaidEdge, SaidHonest, SaidKey, SaidSession, SaidStart, SaidAct, SaidAbandon, SaidDeliver}
 use Rattle.sg_sched.specs.Format.Values.{is_value, is_hex_of, is_hex}
 

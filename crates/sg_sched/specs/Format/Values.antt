@@ -5,7 +5,7 @@ use Rattle.std.specs.Result.{result_ok}
 use Rattle.std.specs.Str.{is_utf8}
 use Rattle.hex.specs.Hex.{hex_digit_value, decode_of, decode_sized}
 use Rattle.sg_model.specs.Values.{Value, IntValue, TextValue}
-use Rattle.sg_sched.specs.Words.{number, from_one}
+use Rattle.sg_base.specs.Words.{number, from_one}
 use Rattle.sg_sched.specs.Format.Said.{Word}
 
 -- ---- numbers

@@ -3,7 +3,7 @@ use Rattle.std.proofs.lemmas.Result.{err_from_is_err_and}
 use Rattle.sg_protocol.specs.Schedule.{Schedule}
 use Rattle.sg_protocol.specs.Steps.{is_taken}
 use Rattle.sg_sched.specs.Format.StepsHeld.{step_of}
-use Rattle.sg_world.specs.Named.{CanBeTaken}
+use Rattle.sg_sched.specs.Steps.{CanBeTaken}
 use Rattle.sg_world.specs.Replay.{Replay, with_taken}
 use Rattle.sg_cli.specs.Held.{ending_held}
 use Rattle.sg_cli.proofs.Replaying.{named, none_more, reports, stops}

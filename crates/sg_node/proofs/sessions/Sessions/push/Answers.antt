@@ -7,5 +7,5 @@ pub overflow_add-self : goal.overflow_add-self
 overflow_add-self c = grind (arith, c.self.invariant.count, few_held c.self.inside.slots.entries, c.len-len.ensures.len, c.len-len.ensures.small)
 
 pub invariant_of-self : goal.invariant_of-self
-invariant_of-self c = subst (λ e. HoldsTable e (c.self.inside.live + 1)) (sym c.put_last.ensures)
-    (holds_last c.self.inside.slots.entries c.self.inside.live c.self.invariant (c.args.sid, c.args.role) c.args.live c.requires.role)
+invariant_of-self c = subst (λ e. HoldsTable e (c.self.inside.live + 1) (c.args.role + 1)) (sym c.put_last.ensures)
+    (holds_last c.self.inside.slots.entries c.self.inside.live c.self.inside.bound c.self.invariant (c.args.sid, c.args.role) c.args.live (c.args.role + 1) (omega (arith)) (omega (arith)))

@@ -1,6 +1,0 @@
-use Rattle.std.proofs.Common.{◌≡◌, ◌≤◌, drop}
-use Rattle.sg_sched.proofs.WordLaws.{digits_from}
-use Rattle.sg_sched.proofs.word.read_digits.Given as goal
-
-abbrev pub invariant-digits : goal.invariant-digits
-invariant-digits l = (digits_from l.most 0 l.word ≡ digits_from l.most l.value (drop l.digit-index l.word)) × (l.value ≤ l.most)
