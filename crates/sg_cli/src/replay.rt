@@ -25,8 +25,8 @@ use sg_base::{Files, Sink, write_all};
 use sg_graph::Graph;
 use sg_program::{AllFault, Programs, compile_all};
 use sg_read::read_schedule;
-use sg_world::{StepFault, World};
 use sg_sched::{Kind, LineFault, Schedule, Step};
+use sg_world::{StepFault, World};
 use std::alloc::Global;
 
 // A schedule file has at most 16 MiB.
