@@ -1,6 +1,6 @@
 -- Variables with what they are given, one after the other.
-use Rattle.std.proofs.Common.{◌≡◌, ℕ, ◌<◌, Bool, true, false, ◌&&◌, List, [], ◌∷◌, ◌++◌, append_assoc, append-nil, length, get_or, refl, ap, ◌∙◌, inl, inr}
-use Rattle.std.specs.Prelude.{Option, Some, None, IsSome, IsTrue, IfSome, option_map, option_and_then, ◌↔◌}
+use Rattle.std.proofs.Common.{◌≡◌, ℕ, ◌<◌, true, ◌&&◌, List, [], ◌∷◌, ◌++◌, length, get_or, refl, ◌∙◌, inl, inr}
+use Rattle.std.specs.Prelude.{Option, Some, None, IsSome, IsTrue, IfSome, ◌↔◌}
 use Rattle.std.proofs.lemmas.List.{get_or-map, length-map}
 use Rattle.sg_model.specs.Lists.{has_text}
 use Rattle.sg_model.specs.Names.{Name}
@@ -9,7 +9,7 @@ use Rattle.sg_graph.specs.Parts.{variable_names, edge_names, edge_name}
 use Rattle.sg_graph.proofs.Found.{cases_of}
 use Rattle.sg_parse.specs.Reading.{place_of}
 use Rattle.sg_parse.proofs.Names.{place_there, names_differ, role_place, variable_place}
-use Rattle.sg_audit.specs.Said.{Given, numbered, nothing_given, both_given}
+use Rattle.sg_audit.specs.Said.{numbered}
 
 -- ---- numbers of names
 
@@ -36,42 +36,3 @@ label_is g n None is f p = numbered_is (edge_names g) n None f tt
 label_is g n (Some e) is f p = numbered_is (edge_names g) n (Some e) f (label_place g n e is p.0 p.1)
 
 -- ---- one after the other
-
-and_assoc : (a b c : Bool) → (c && (b && a)) ≡ ((c && b) && a)
-and_assoc a b true = refl
-and_assoc a b false = refl
-
-and_true : (a : Bool) → (a && true) ≡ a
-and_true true = refl
-and_true false = refl
-
-both_assoc : {A : Type 0} (a b c : Given A) → both_given (both_given a b) c ≡ both_given a (both_given b c)
-both_assoc a b c = λ i. record { pairs = append_assoc a.pairs b.pairs c.pairs i; known = and_assoc a.known b.known c.known i }
-
-nothing_before : {A : Type 0} (x : Given A) → both_given nothing_given x ≡ x
-nothing_before x = λ i. record { pairs = x.pairs; known = and_true x.known i }
-
-pub nothing_first : {A : Type 0} (o : Option (Given A)) → option_map (both_given nothing_given) o ≡ o
-nothing_first None = refl
-nothing_first (Some x) = ap Some (nothing_before x)
-
-pub nothing_last : {A : Type 0} (x : Given A) → both_given x nothing_given ≡ x
-nothing_last x = λ i. record { pairs = append-nil x.pairs i; known = x.known }
-
--- a word is taken
-pub takes : {A : Type 0} (a b : Given A) (x rest : Option (Given A)) → Some b ≡ option_map (both_given a) x
-    → option_map (both_given b) rest ≡ option_map (both_given a) (option_and_then (λ v. option_map (both_given v) rest) x)
-takes a b None rest h = absurd (cc)
-takes a b (Some v) None h = refl
-takes a b (Some v) (Some r) h = let e : b ≡ both_given a v = cc in ap Some (rw e (both_assoc a v r))
-
--- a word is of another form
-pub stops : {A : Type 0} (a : Given A) (x rest : Option (Given A)) → None ≡ option_map (both_given a) x
-    → option_map (both_given a) (option_and_then (λ v. option_map (both_given v) rest) x) ≡ None
-stops a None rest h = refl
-stops a (Some v) rest h = absurd (cc)
-
--- the same of steps: one more is read, or a word is no step
-pub one_more : {A : Type 0} (done : List A) (x : A) (r : Option (List A)) → option_map (λ rest. (done ++ x ∷ []) ++ rest) r ≡ option_map (λ rest. done ++ rest) (option_map (λ rest. x ∷ rest) r)
-one_more done x None = refl
-one_more done x (Some r) = ap Some (append_assoc done (x ∷ []) r)

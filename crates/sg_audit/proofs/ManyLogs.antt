@@ -39,9 +39,6 @@ in_there n m ms h = by (m == n)
 same_role : (r : ℕ) (e : Event) → IsTrue (is_by r e) → role_of e ≡ r
 same_role r e h = let t : (role_of e == r) ≡ true = h in grind (arith, nat_tests, t)
 
-is_same : (r : ℕ) (e : Event) → role_of e ≡ r → is_by r e ≡ true
-is_same r e h = grind (arith, nat_tests, h)
-
 -- an event of the logs is of a role that has one
 role_known : (g : Graph) (logs : List Log) → AllByRecursion (IsLog g) logs → (e : Event) → In e (events_of logs) → is_in (role_of e) (roles_of logs) ≡ true
 role_known g [] h e i = absurd i

@@ -6,7 +6,7 @@ use Rattle.sg_protocol.specs.Graph.{Graph}
 use Rattle.sg_reach.specs.Reaches.{IsWithin}
 use Rattle.sg_reach.proofs.Cases.{less_or}
 use Rattle.sg_check.specs.Least.{IsNowhere, IsLeast}
-use Rattle.sg_check.specs.Shaped.{HasShape, IsSelfEdge, IsUnreachable, IsIdle, IsShapeFault}
+use Rattle.sg_check.specs.Shaped.{IsSelfEdge, IsUnreachable, IsIdle, IsShapeFault}
 use Rattle.sg_check.specs.declared.shape.ShapeFault.{ShapeFault}
 use Rattle.sg_check.specs.declared.shape.ShapeFault.TheVariants.{SelfEdge, Unreachable, IdleRole}
 
@@ -17,12 +17,6 @@ least_once P m n x y =
       | inl l ↦ absurd (y.none_below m l x.here)
       | inr g ↦ elim (less_or n m) [ inl l ↦ absurd (x.none_below n l y.here) | inr h ↦ omega arith ]
     ]
-
--- a graph whose shape is right has no fault
-pub fault_not_shaped : (g : Graph) (f : ShapeFault) → HasShape g → IsShapeFault g f → ⊥
-fault_not_shaped g (SelfEdge e) x f = x.no_self_edge e f.here.0 f.here.1
-fault_not_shaped g (Unreachable n) x f = f.1.here.1 (x.all_reached n f.1.here.0)
-fault_not_shaped g (IdleRole r) x f = f.2.here.1 (x.each_role_has_node r f.2.here.0)
 
 -- one fault is told at most
 pub fault_once : (g : Graph) (f h : ShapeFault) → IsShapeFault g f → IsShapeFault g h → f ≡ h
@@ -43,10 +37,6 @@ none_unreachable g all n x = x.1 (all n x.0)
 -- what is in the closure of the start past no roles is reached from the start
 pub within_start : (g : Graph) (n : ℕ) → IsWithin (record { graph = g; from = 0; past = [] }) n → Reached g n
 within_start g n x = (x.0, x.1.walk, x.1.ends)
-
--- and what is reached from the start is in it
-pub start_within : (g : Graph) (n : ℕ) → Reached g n → IsWithin (record { graph = g; from = 0; past = [] }) n
-start_within g n x = (x.0, record { walk = x.1; ends = x.2; clear = λ r h. absurd (cc) })
 
 -- the refusal that tells a fault is that of no other
 pub refused_once : (g : Graph) (f : ShapeFault) → IsShapeFault g f → (h : ShapeFault) → (◌≡◌ {A = Result (Unit {0}) ShapeFault} (Err f) (Err h)) ↔ IsShapeFault g h

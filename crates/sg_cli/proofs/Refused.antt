@@ -24,10 +24,6 @@ ends bytes out (Graph fault) h = (refl, (Graph fault, first bytes (Graph fault) 
 ends bytes out TooManyEvents h = (refl, (TooManyEvents, first bytes TooManyEvents (λ m. cc) h, refl))
 ends bytes out OutOfMemory h = refl
 
--- an audit that is refused with a fault ends as the fault asks
-pub refused : (bytes : List ℕ) (out : Output) (e : LogFault) (ending : Ending) → ending ≡ ending_of_logs e → (e ≡ OutOfMemory) ⊎ IsFault bytes e → Audits bytes out out ending
-refused bytes out e ending same h = subst (Audits bytes out out) (sym same) (ends bytes out e h)
-
 -- ---- schedules
 
 schedule_ends : (bytes : List ℕ) (out : Output) (e : LineFault) → IsFirst bytes e → Replays bytes out out (ending_of_fault e)

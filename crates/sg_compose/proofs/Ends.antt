@@ -172,25 +172,6 @@ counted-away p n count last h c =
     let same = filter-away p n h in
     record { many = c.many ∙ ap length (sym same); latest = λ l. c.latest l ∙ ap (λ xs. get_or xs (count - 1) 0) (sym same) }
 
--- the one that was counted
-pub sole-counted : (ns : List ℕ) (count last : ℕ) → count ≡ length ns → (0 < count → last ≡ get_or ns (count - 1) 0) → count ≡ 1 → last ≢ 0 → sole ns ≡ Some last
-sole-counted [] count last c l one some = absurd (omega (arith, c, one))
-sole-counted (zero ∷ []) count last c l one some = (let at : count - 1 ≡ 0 = omega (arith, one) in let z : last ≡ 0 = l (omega (arith, one)) ∙ ap (λ k. get_or (zero ∷ []) k 0) at in absurd (some z))
-sole-counted (suc n ∷ []) count last c l one some = (let at : count - 1 ≡ 0 = omega (arith, one) in let z : last ≡ suc n = l (omega (arith, one)) ∙ ap (λ k. get_or (suc n ∷ []) k 0) at in ap Some (sym z))
-sole-counted (n ∷ m ∷ ns) count last c l one some = absurd (omega (arith, c, one))
-
-pub sole-start : (ns : List ℕ) (count last : ℕ) → count ≡ length ns → (0 < count → last ≡ get_or ns (count - 1) 0) → count ≡ 1 → last ≡ 0 → sole ns ≡ None
-sole-start [] count last c l one none = refl
-sole-start (zero ∷ []) count last c l one none = refl
-sole-start (suc n ∷ []) count last c l one none = (let at : count - 1 ≡ 0 = omega (arith, one) in let z : last ≡ suc n = l (omega (arith, one)) ∙ ap (λ k. get_or (suc n ∷ []) k 0) at in absurd (omega (arith, z, none)))
-sole-start (n ∷ m ∷ ns) count last c l one none = absurd (omega (arith, c, one))
-
-pub sole-many : (ns : List ℕ) (count : ℕ) → count ≡ length ns → count ≢ 1 → sole ns ≡ None
-sole-many [] count c other = refl
-sole-many (n ∷ []) count c other = absurd (other c)
-sole-many (zero ∷ m ∷ ns) count c other = refl
-sole-many (suc n ∷ m ∷ ns) count c other = refl
-
 -- ---- tests of the nodes that pass another test
 
 -- none of those so far, and not the next

@@ -19,9 +19,6 @@ use Rattle.sg_compose.proofs.Ends.{EndsAt, ends-at, source_at, target_at, inside
 abbrev pub Ranged : Graph → Type 0
 Ranged g = All (λ e. (e.source < length g.nodes) × (e.target < length g.nodes)) g.edges
 
-no_edge : Edge
-no_edge = record { name = []; source = 0; target = 0; writes = []; reads = [] }
-
 pub ranged-at : (g : Graph) → Ranged g → (e : ℕ) → e < length g.edges → (source (shape g) e < length g.nodes) × (target (shape g) e < length g.nodes)
 ranged-at g r e l =
     let at = r e (record { name = []; source = 0; target = 0; writes = []; reads = [] }) l in
@@ -134,10 +131,6 @@ All-map P Q xs step all = λ k d l. step (get_or xs k d) (all k d l)
 All-one : {X : Type 0} (P : X → Type 0) (x : X) → P x → All P (x ∷ [])
 All-one P x p zero d l = p
 All-one P x p (suc k) d l = absurd (omega arith)
-
-only-one : {X : Type 0} (x y : X) → Contains (x ∷ []) y → x ≡ y
-only-one x y (zero, l, e) = e
-only-one x y (suc k, l, e) = absurd (omega (arith, l))
 
 module _ (h g inner : Graph) (u : Use) (m : ℕ) (is : List Inset) (j : Joined h g is) (end : end_of inner ≡ Some m) (from : u.from < length g.nodes) (to : u.to < length g.nodes) (inner_ranged : Ranged inner) where
   abbrev k : Graph

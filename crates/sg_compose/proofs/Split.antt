@@ -61,10 +61,6 @@ same_or_not x y = elim (cases_of (x == y)) [
   | inr d ↦ inr (let apart : x ≢ y = grind (arith, nat_tests, d) in apart)
 ]
 
--- the node for start and end
-pub spot-start : (i : Inset) → spot i 0 ≡ i.from
-spot-start i = refl
-
 pub spot-end : (i : Inset) → finish i ≢ 0 → spot i (finish i) ≡ i.to
 spot-end i late = go (finish i) late
   where

@@ -6,22 +6,9 @@ use Rattle.sg_graph.specs.Adding.{no_parts}
 use Rattle.sg_parse.specs.Parts.{Use, Part, IsPart, AreParts}
 use Rattle.sg_compose.specs.declared.fault.ComposeFault.{ComposeFault}
 use Rattle.sg_compose.specs.declared.fault.ComposeFault.TheVariants.{BadPart, BadRoles, LongName, Clash, TooLarge, OutOfMemory}
-use Rattle.sg_compose.specs.Expansion.{new_nodes, extended, player, graph_at, all_used, followed, expanded, expansions, last_graph}
+use Rattle.sg_compose.specs.Expansion.{new_nodes, extended, graph_at, all_used, followed}
 use Rattle.sg_compose.specs.Owed.{Refuses}
 use Rattle.sg_compose.proofs.Keeps.{used-adds}
-
--- a role that plays one is there
-pub player-below : (u : Use) (n r : ℕ) → All (λ r. r < n) u.roles → 1 ≤ length u.roles → player u r < n
-player-below u n r all some = go u.roles r all some
-  where
-    outside : (rs : List ℕ) (r : ℕ) → All (λ r. r < n) rs → 0 < n → get_or rs r 0 < n
-    outside [] r all l = l
-    outside (x ∷ rs) zero all l = all 0 x (omega arith)
-    outside (x ∷ rs) (suc r) all l = outside rs r (λ k d lk. all (suc k) d (omega (arith, lk))) l
-
-    go : (rs : List ℕ) (r : ℕ) → All (λ r. r < n) rs → 1 ≤ length rs → get_or rs r 0 < n
-    go [] r all some = absurd (omega (arith, some))
-    go (x ∷ rs) r all some = (let first : x < n = all 0 x (omega arith) in outside (x ∷ rs) r all (omega (arith, first)))
 
 -- a use leaves the roles, and the nodes that are there
 pub extended-keeps : (part : List ℕ) (g inner : Graph) (u : Use) (k : Graph) → extended part g inner u ≡ Ok k → (length k.roles ≡ length g.roles) × (length g.nodes ≤ length k.nodes)
@@ -36,9 +23,6 @@ refuses r s (BadRoles part use_name) k h = k h
 refuses r s (LongName part use_name) k h = k h
 refuses r s (Clash part use_name) k h = k h
 refuses r s (TooLarge part use_name) k h = k h
-
-no_use : Use
-no_use = record { name = []; part = 0; from = 0; to = 0; roles = [] }
 
 module _ (part : List ℕ) (graphs : List Graph) where
   -- one use more
@@ -55,21 +39,6 @@ module _ (part : List ℕ) (graphs : List Graph) where
       let split : drop i us ≡ u ∷ drop (i + 1) us = drop-cons us i u lt ∙ ap (λ x. x ∷ drop (suc i) us) at ∙ ap (λ n. u ∷ drop n us) (sym (add-one i)) in
       refuses (extended part g (graph_at graphs u.part) u) total e
       (λ h. sym so_far ∙ ap (all_used part graphs g) split ∙ ap (λ r. followed r (λ h. all_used part graphs h (drop (i + 1) us))) h) stop
-
--- one part more
-pub parts_more : (ps : List Part) (i : ℕ) (p : Part) (graphs : List Graph) (g : Graph) (total : Result (List Graph) ComposeFault) → i < length ps → get_or ps i p ≡ p → expanded graphs p ≡ Ok g
-    → expansions graphs (drop i ps) ≡ total → expansions (graphs ++ g ∷ []) (drop (i + 1) ps) ≡ total
-parts_more ps i p graphs g total lt at one so_far =
-    let split : drop i ps ≡ p ∷ drop (i + 1) ps = drop-cons ps i p lt ∙ ap (λ x. x ∷ drop (suc i) ps) at ∙ ap (λ n. p ∷ drop n ps) (sym (add-one i)) in
-    sym (ap (expansions graphs) split ∙ ap (λ r. followed r (λ h. expansions (graphs ++ h ∷ []) (drop (i + 1) ps))) one) ∙ so_far
-
--- a part that is refused
-pub parts_stop : (ps : List Part) (i : ℕ) (p : Part) (graphs : List Graph) (e : ComposeFault) → i < length ps → get_or ps i p ≡ p → Refuses (expanded graphs p) e
-    → expansions graphs (drop i ps) ≡ expansions [] ps → Refuses (followed (expansions [] ps) (λ gs. Ok (last_graph gs))) e
-parts_stop ps i p graphs e lt at stop so_far =
-    let split : drop i ps ≡ p ∷ drop (i + 1) ps = drop-cons ps i p lt ∙ ap (λ x. x ∷ drop (suc i) ps) at ∙ ap (λ n. p ∷ drop n ps) (sym (add-one i)) in
-    refuses (expanded graphs p) (followed (expansions [] ps) (λ gs. Ok (last_graph gs))) e
-    (λ h. ap (λ r. followed r (λ gs. Ok (last_graph gs))) (sym so_far ∙ ap (expansions graphs) split ∙ ap (λ r. followed r (λ h. expansions (graphs ++ h ∷ []) (drop (i + 1) ps))) h)) stop
 
 -- the graph at a place, whichever is taken where there is none
 pub graph-there : (gs : List Graph) (k : ℕ) (g : Graph) → k < length gs → g ≡ get_or gs k g → graph_at gs k ≡ g

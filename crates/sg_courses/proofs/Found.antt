@@ -26,10 +26,6 @@ found_sid sid es (Some i) e =
     let there = passes_there (same sid) (keys es) i [] (sym e) in
     course_there es i sid there.0 ((bytes_eq-Decides sid (get_or (keys es) i [])).0 (sym (same-bytes_eq sid (get_or (keys es) i [])) ∙ there.1))
 
--- what is found by the `==` of sids
-pub found_by : (sid : List ℕ) (es : List Entry) → lookup (same sid) es ≡ lookup (bytes_eq sid) es
-found_by sid es = ap (λ (f : List ℕ → Bool). lookup f es) (λ i x. same-bytes_eq sid x i)
-
 -- nothing is found for a sid that isn't there
 pub found_none : (sid : List ℕ) (es : List Entry) → has_text sid (keys es) ≡ false → lookup (same sid) es ≡ None
 found_none sid [] h = refl

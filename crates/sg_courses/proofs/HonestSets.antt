@@ -14,9 +14,6 @@ use Rattle.sg_protocol.specs.Session.{principal}
 abbrev pub AreHonestBelow : List Name → Cast → ℕ → List ℕ → Type 0
 AreHonestBelow names cast n set = (r : ℕ) → is_in r set ≡ (nat_lt r n && has_text (principal cast r) names)
 
-pub none_below : (names : List Name) (cast : Cast) → AreHonestBelow names cast 0 []
-none_below names cast r = ap (λ b. b && has_text (principal cast r) names) (let z : false ≡ nat_lt r 0 = grind (arith, nat_tests) in z)
-
 member : (x r : ℕ) (set : List ℕ) → is_in r (with_member 16 set x) ≡ (nat_lt r 16 && ((r == x) || is_in r set))
 unfolding with_member
 member x r set = is_in-filter (λ y. (y == x) || is_in y set) 0 16 r ∙ grind (arith, nat_tests)

@@ -1,5 +1,5 @@
 -- Readings one after the other, as a loop does them.
-use Rattle.std.proofs.Common.{◌≡◌, ℕ, suc, ◌-◌, ◌+◌, ◌≤◌, ◌<◌, List, [], ◌∷◌, ◌++◌, Result, Ok, Err, refl, sym, ap, ◌∙◌, append_assoc, append-nil, arith}
+use Rattle.std.proofs.Common.{◌≡◌, ℕ, suc, ◌-◌, ◌+◌, ◌≤◌, ◌<◌, List, [], ◌∷◌, ◌++◌, Result, Ok, Err, refl, sym, ap, ◌∙◌, append_assoc, arith}
 use Rattle.sg_base.specs.Reading.{Place}
 use Rattle.sg_protocol.specs.Reading.{Read, Reader, give, on, times, rising_times}
 use Rattle.sg_frame.specs.declared.fault.Stop.{Stop}
@@ -36,15 +36,6 @@ times_stop (Malformed at) reader front count i p total lt h so_far =
     let one : with_front front (times (count - i) reader p.at (left p)) ≡ Err at = rw (k, h) refl in
     sym so_far ∙ one
 
--- all were read
-pub times_done : {A : Type 0} (reader : Reader A) (front : List A) (count i : ℕ) (p : Place) (total : Result (Read (List A)) ℕ) → count ≤ i →
-    with_front front (times (count - i) reader p.at (left p)) ≡ total → total ≡ Ok (record { value = front; at = p.at; rest = left p })
-times_done reader front count i p total le so_far =
-    let k : count - i ≡ 0 = omega arith in
-    let one : with_front front (times (count - i) reader p.at (left p)) ≡ Ok (record { value = front; at = p.at; rest = left p }) =
-    rw k (ap (λ xs. Ok (record { value = xs; at = p.at; rest = left p })) (append-nil front)) in
-    sym so_far ∙ one
-
 -- one more reading, of a greater key
 pub rising_more : {A : Type 0} (key : A → ℕ) (reader : ℕ → Reader A) (front : List A) (count i least : ℕ) (p q : Place) (x : A) (total : Result (Read (List A)) ℕ) → i < count →
     Gives (reader least) p x q → with_front front (rising_times key (count - i) least reader p.at (left p)) ≡ total →
@@ -63,13 +54,4 @@ rising_stop OutOfMemory key reader front count i least p total lt h so_far = tt
 rising_stop (Malformed at) key reader front count i least p total lt h so_far =
     let k : count - i ≡ suc (count - (i + 1)) = omega arith in
     let one : with_front front (rising_times key (count - i) least reader p.at (left p)) ≡ Err at = rw (k, h) refl in
-    sym so_far ∙ one
-
--- all were read
-pub rising_done : {A : Type 0} (key : A → ℕ) (reader : ℕ → Reader A) (front : List A) (count i least : ℕ) (p : Place) (total : Result (Read (List A)) ℕ) → count ≤ i →
-    with_front front (rising_times key (count - i) least reader p.at (left p)) ≡ total → total ≡ Ok (record { value = front; at = p.at; rest = left p })
-rising_done key reader front count i least p total le so_far =
-    let k : count - i ≡ 0 = omega arith in
-    let one : with_front front (rising_times key (count - i) least reader p.at (left p)) ≡ Ok (record { value = front; at = p.at; rest = left p }) =
-    rw k (ap (λ xs. Ok (record { value = xs; at = p.at; rest = left p })) (append-nil front)) in
     sym so_far ∙ one

@@ -1,28 +1,12 @@
 -- Lines and words written one by one.
-use Rattle.std.proofs.Common.{◌≡◌, ℕ, ◌+◌, ◌<◌, nat_lt, Bool, true, false, List, [], ◌∷◌, ◌++◌, map, filter, length, take, get_or, refl, sym, ◌∙◌, arith, append_assoc, append-nil}
+use Rattle.std.proofs.Common.{◌≡◌, ℕ, ◌+◌, ◌<◌, nat_lt, Bool, true, false, List, [], ◌∷◌, ◌++◌, map, filter, refl, sym, ◌∙◌, append_assoc, append-nil}
 use Rattle.std.specs.List.{flat_map, list_all}
-use Rattle.std.proofs.lemmas.List.{map-append, take_more, take_all}
+use Rattle.std.proofs.lemmas.List.{map-append}
 use Rattle.std.proofs.lemmas.Grind.{flat_map-append}
 use Rattle.sg_model.specs.Lists.{is_in, rises_from}
 use Rattle.sg_protocol.specs.Graph.{Name, AreNumbers, spaced, clause}
 use Rattle.sg_graph.proofs.Growth.{both}
 use Rattle.sg_graph.proofs.Rising.{below_more, below_zero, below_all}
-
--- the lines of no element
-pub lines_none : {X : Type 0} (line : X → List ℕ) (xs : List X) (start : List ℕ) → start ≡ start ++ flat_map line (take 0 xs)
-lines_none line xs start = sym (append-nil start)
-
--- the line of one element more
-pub lines_more : {X : Type 0} (line : X → List ℕ) (xs : List X) (i : ℕ) (d : X) (start now next : List ℕ) → i < length xs
-    → now ≡ start ++ flat_map line (take i xs) → next ≡ now ++ line (get_or xs i d) → next ≡ start ++ flat_map line (take (i + 1) xs)
-lines_more line xs i d start now next l before more =
-    let one : flat_map line (get_or xs i d ∷ []) ≡ line (get_or xs i d) = append-nil (line (get_or xs i d)) in
-    more ∙ rw (before, append_assoc, take_more xs i d l, flat_map-append, one)
-
--- the lines of all elements
-pub lines_all : {X : Type 0} (line : X → List ℕ) (xs : List X) (i : ℕ) (start now : List ℕ) → i ≡ length xs
-    → now ≡ start ++ flat_map line (take i xs) → now ≡ start ++ flat_map line xs
-lines_all line xs i start now l before = before ∙ rw (l, take_all (length xs) xs (omega arith))
 
 -- the words of no number
 pub words_none : (name : ℕ → Name) (xs : List ℕ) (start : List ℕ) → start ≡ start ++ spaced (map name (filter (λ x. nat_lt x 0) xs))

@@ -5,7 +5,6 @@ use Rattle.sg_graph.proofs.Found.{cases_of}
 use Rattle.sg_law.specs.Grown.{after_honest}
 use Rattle.sg_model.specs.Last.{has, after_last}
 use Rattle.sg_model.specs.Shape.{Shape, sender}
-use Rattle.sg_grown.proofs.Backwards.{one_back}
 
 -- the label is the role's own or an honest sender's
 abbrev pub is_known : Shape → (ℕ → Bool) → ℕ → ℕ → Bool
@@ -100,9 +99,3 @@ new_back g honest r es back x l e k h =
     let place : suc (length es - 1 - back) ≡ length es - back = omega arith in
     let on = new_after g honest r es (length es - 1 - back) x (omega arith) e k (rw place h) in
     rw place at on
-
--- and one more that isn't known
-pub new_more : (g : Shape) (honest : ℕ → Bool) (r : ℕ) (es : List ℕ) (back x : ℕ) → back < length es → x ≡ get_or es (length es - 1 - back) x → is_known g honest r x ≡ false
-    → list_any (is_known g honest r) (drop (length es - back) es) ≡ false → list_any (is_known g honest r) (drop (length es - (back + 1)) es) ≡ false
-new_more g honest r es back x l e k h =
-    rw (one_back es back x l e, k) h

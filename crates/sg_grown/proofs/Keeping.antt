@@ -1,8 +1,7 @@
 -- What is kept, while a list of values is gone through.
-use Rattle.std.proofs.Common.{◌≡◌, ℕ, ◌+◌, nat_lt, Bool, true, false, ◌||◌, if◌then◌else◌, List, [], ◌∷◌, ◌++◌, map, filter, append-nil, refl, ap, sym, ◌∙◌}
-use Rattle.std.specs.Prelude.{Option, Some, None}
+use Rattle.std.proofs.Common.{◌≡◌, ℕ, ◌+◌, nat_lt, true, false, ◌||◌, if◌then◌else◌, List, [], ◌∷◌, ◌++◌, map, filter, append-nil, refl, ap, sym, ◌∙◌}
+use Rattle.std.specs.Prelude.{Option}
 use Rattle.std.specs.List.{list_all}
-use Rattle.std.specs.Option.{option_or}
 use Rattle.std.proofs.lemmas.List.{map-append}
 use Rattle.sg_base.specs.declared.value.Value.{Value as Held}
 use Rattle.sg_graph.proofs.Growth.{both}
@@ -11,18 +10,6 @@ use Rattle.sg_model.specs.Lists.{is_in, rises_from}
 use Rattle.sg_model.specs.Values.{Value}
 use Rattle.sg_protocol.specs.Graph.{AreNumbers}
 use Rattle.sg_walk.specs.Views.{writes_of}
-
--- a value in front takes the place of what is kept
-pub put_front : {A : Type 0} (b : Bool) (w : A) (o : Option A) (k n : Option A) → n ≡ (if b then Some w else k) → (r : Option A) → k ≡ option_or o r → n ≡ option_or (if b then Some w else o) r
-put_front true w o k n e r h = e
-put_front false w o k n e r h = rw (e, h) refl
-
--- one variable less is still to be forgotten
-pub forget_one : {A : Type 0} (b t : Bool) (k n r : Option A) → n ≡ (if b then None else k) → (if (b || t) then None else k) ≡ r → (if t then None else n) ≡ r
-forget_one true true k n r e h = h
-forget_one true false k n r e h = rw e h
-forget_one false true k n r e h = h
-forget_one false false k n r e h = rw e h
 
 -- ---- the variables of a set, with what is kept
 

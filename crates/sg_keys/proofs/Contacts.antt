@@ -43,8 +43,3 @@ lookup-absent n es h = none_from _ (is_some-lookup n es ∙ h)
 pub names_in-append : (es : List Entry) (n : List ℕ) (c : Contact) → names_in (es ++ (n, c) ∷ []) ≡ names_in es ++ n ∷ []
 names_in-append [] n c = refl
 names_in-append (e ∷ es) n c = ap (λ ns. e.0 ∷ ns) (names_in-append es n c)
-
--- the peers of a table with one more entry
-pub peers-append : (es : List Entry) (n : List ℕ) (c : Contact) → map peer_of (es ++ (n, c) ∷ []) ≡ map peer_of es ++ peer_of (n, c) ∷ []
-peers-append [] n c = refl
-peers-append (e ∷ es) n c = ap (λ ps. peer_of e ∷ ps) (peers-append es n c)

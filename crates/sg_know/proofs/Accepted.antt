@@ -4,7 +4,6 @@ use Rattle.std.specs.Prelude.{Result, Ok, Err, IfErr, OnOk}
 use Rattle.std.proofs.lemmas.Bool.{true_from_ne_false}
 use Rattle.sg_model.specs.Lists.{is_in}
 use Rattle.sg_model.specs.Shape.{Walk, sender}
-use Rattle.sg_protocol.specs.Accepted.{Accepted}
 use Rattle.sg_protocol.specs.Graph.{Graph, shape, writers}
 use Rattle.sg_protocol.specs.Knowledge.{knows}
 use Rattle.sg_know.specs.declared.fault.ReadFault.{ReadFault}
@@ -20,10 +19,6 @@ accepted_reads g one two three = record {
   reads_known = λ walk e x w r. true_from_ne_false (knows g (sender (shape g) e) x (walk ++ e ∷ []))
       (λ f. three e x (walk ++ e ∷ [], record { from_start = w; last_edge = last-more walk e; is_read = r; unknown = f }));
 }
-
--- an accepted graph has it
-pub AcceptedReads-of_Accepted : (g : Graph) → Accepted g → AcceptedReads g
-AcceptedReads-of_Accepted g h = record { writers_write = h.writers_write; others_read = h.others_read; reads_known = h.reads_known }
 
 -- of a graph that has it no fault is told but want of memory
 pub no_fault : (g : Graph) → AcceptedReads g → (fault : ReadFault) → IsFirstFault g fault → fault ≡ OutOfMemory

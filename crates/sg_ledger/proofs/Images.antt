@@ -1,8 +1,8 @@
 -- What the calls of a disk in memory do to its images.
 use Rattle.std.proofs.Common.{◌≡◌, ◌⊎◌, inl, inr, ⊎_elim, ℕ, ◌≤◌, List, [], ◌∷◌, ◌++◌, length, take, refl, sym, ◌∙◌, ap, subst, arith}
 use Rattle.std.proofs.lemmas.List.{take_all}
-use Rattle.sg_ledger.specs.Disk.{overlaid, Torn, Keeps, Follows}
-use Rattle.sg_ledger.specs.Memory.{Platter, at_rest, after_call, Leaves, IsImage}
+use Rattle.sg_ledger.specs.Disk.{overlaid, Torn, Follows}
+use Rattle.sg_ledger.specs.Memory.{Platter, after_call, Leaves, IsImage}
 use Rattle.sg_ledger.specs.declared.medium.Call.TheVariants.{Kept, Wrote, Tore, Synced}
 use Rattle.sg_ledger.proofs.Tears.{torn_not, torn_whole}
 
@@ -29,15 +29,3 @@ tore_follows p at count image (inl is) = (p.seen, inl refl, subst (Torn at count
 tore_follows p at count image (inr left) =
     let last = leaves_last p.synced p.tears at count image left in
     (last.0, inr last.1, last.2)
-
--- a call that changes nothing may count as a write that wrote nothing
-pub kept_follows : (p : Platter) (at count : ℕ) → Follows (Torn at count) (IsImage p) (IsImage p)
-kept_follows p at count image is = (image, is, torn_not at count image)
-
--- a sync leaves what is read
-pub synced_only : (p : Platter) (image : List ℕ) → IsImage (at_rest p.seen) image → image ≡ p.seen
-synced_only p image (inl is) = is
-synced_only p image (inr is) = is
-
-pub synced_keeps : (p : Platter) → Keeps (IsImage p) (IsImage (at_rest p.seen))
-synced_keeps p image is = inl (synced_only p image is)

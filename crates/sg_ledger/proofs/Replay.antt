@@ -1,5 +1,5 @@
 -- How the record of a disk in memory goes on.
-use Rattle.std.proofs.Common.{◌≡◌, ◌⊎◌, inl, inr, ⊎_elim, ℕ, zero, suc, ◌+◌, ◌-◌, ◌<◌, ◌≤◌, List, [], ◌∷◌, ◌++◌, length, take, drop, refl, sym, ◌∙◌, ap, subst, arith, length-append, length-drop, length-take, append-nil, replicate, Bool, true, false, nat_le, leb-true, if◌then◌else◌}
+use Rattle.std.proofs.Common.{◌≡◌, ◌⊎◌, inl, inr, ⊎_elim, ℕ, zero, suc, ◌+◌, ◌-◌, ◌<◌, ◌≤◌, List, [], ◌∷◌, ◌++◌, length, take, drop, refl, sym, ◌∙◌, ap, subst, arith, length-append, length-drop, length-take, replicate, Bool, true, false, nat_le, leb-true, if◌then◌else◌}
 use Rattle.std.proofs.lemmas.List.{length-replicate}
 use Rattle.std.proofs.lemmas.Bool.{cases_lt}
 use Rattle.std.specs.List.{All}
@@ -53,12 +53,6 @@ one_more_call p (first ∷ calls) call written bytes total =
     let rest : all_taken calls ≡ length (drop (taken first) written) = omega (arith, total, length-drop (taken first) written) in
     (λ i. after_calls (one_same p first written bytes le i) (calls ++ call ∷ []) (drop_within (taken first) written bytes le i))
     ∙ one_more_call (after_call p first written) calls call (drop (taken first) written) bytes rest
-
--- one that writes nothing
-pub one_call_of_none : (p : Platter) (calls : List Call) (call : Call) (written : List ℕ) → all_taken calls ≡ length written
-    → after_calls p (calls ++ call ∷ []) written ≡ after_call (after_calls p calls written) call []
-one_call_of_none p calls call written total =
-    ap (after_calls p (calls ++ call ∷ [])) (sym (append-nil written)) ∙ one_more_call p calls call written [] total
 
 pub taken_more : (calls : List Call) (call : Call) → all_taken (calls ++ call ∷ []) ≡ all_taken calls + taken call
 taken_more [] call = omega arith

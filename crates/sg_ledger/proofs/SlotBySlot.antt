@@ -127,17 +127,6 @@ module _ (file : List ℕ) (n : ℕ) (joins : List Join) (so_far : SlotsStandFor
       slot_bad lt (subst IsOpen is is_open)
       (subst (λ (s : List ℕ). (16 ≤ (pair_of s).1) ⊎ Contains joins (pair_of s) ⊎ (n ≡ length joins → ⊥)) is cause)
 
--- before the first slot
-pub no_slots : (file : List ℕ) → SlotsStandFor file 0 []
-no_slots file = record {
-  fits = omega arith;
-  gates = λ m lt. absurd (omega (arith, lt));
-  pairs = refl;
-  shut = λ m behind lt. absurd (omega (arith, lt));
-  roles = λ k d lt. absurd (omega (arith, lt));
-  differ = λ i j d below lt. absurd (omega (arith, lt));
-}
-
 no_more : (file : List ℕ) (n : ℕ) (first second : List Join) → SlotsStandFor file n first → SlotsStandFor file n second → length first ≤ length second
 no_more file n first second one two = elim (cases_lt (length second) (length first)) [
   | inl lt ↦ absurd (two.shut (length second) (omega arith) (omega (arith, lt, one.fits)) (one.gates (length second) lt))

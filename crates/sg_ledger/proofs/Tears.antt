@@ -65,13 +65,6 @@ torn_agrees k at n old new torn low high within = record {
   ];
 }
 
-pub agree_after : (k : ℕ) (a b c : List ℕ) → AgreeBut k a b → AgreeBut k b c → AgreeBut k a c
-agree_after k a b c one two = record {
-  same_length = two.same_length ∙ one.same_length;
-  head = two.head ∙ one.head;
-  slots = λ n other. two.slots n other ∙ one.slots n other;
-}
-
 -- the pairs of the first slots are those slots' alone
 pairs_agree : (k n : ℕ) (old new : List ℕ) → AgreeBut k old new → n ≤ k → pairs_of new n ≡ pairs_of old n
 pairs_agree k ℕ.zero old new agree le = refl

@@ -1,5 +1,5 @@
 -- The session of a node for which what is live at a place stands.
-use Rattle.std.specs.Prelude.{◌≡◌, ℕ, zero, suc, ◌<◌, ◌==◌, ◌⊎◌, Bool, true, false, if◌then◌else◌, List, [], ◌∷◌, length, find, refl, Option, Some, None, unwrap_or, IsSomeAnd}
+use Rattle.std.specs.Prelude.{◌≡◌, ℕ, zero, suc, ◌<◌, ◌==◌, ◌⊎◌, Bool, true, if◌then◌else◌, List, [], ◌∷◌, length, find, refl, Option, Some, None, unwrap_or, IsSomeAnd}
 use Rattle.std.specs.List.{AllByRecursion}
 use Rattle.std.proofs.Common.{sym, ◌∙◌, ap, subst, inl, inr, arith}
 use Rattle.indexmap.specs.IndexMap.{set_value_at}
@@ -157,6 +157,3 @@ length_set (s ∷ ss) (suc i) v = let e = length_set ss i v in omega (arith, e)
 
 pub left_turn : (a : Acceptance) (t : State) → (goes_on a.program.graph (a.after.kept).place ≡ true) × (t ≡ state_after a) → Some (AtTurn t) ≡ left_after a
 left_turn a t h = ap (λ z. Some (AtTurn z)) h.1 ∙ sym (ap (λ b. if b then Some (AtTurn (state_after a)) else None) h.0)
-
-pub left_none : (a : Acceptance) → goes_on a.program.graph (a.after.kept).place ≡ false → None ≡ left_after a
-left_none a h = sym (ap (λ b. if b then Some (AtTurn (state_after a)) else None) h)

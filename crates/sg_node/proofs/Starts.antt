@@ -39,9 +39,6 @@ module _ (m : Node) (c : Cast) where
   abbrev under : Option Program → Answer
   under o = option_map_or (λ p. started (session_id real c) p.role (first_some (rows_of_start m p (session_id real c) c))) o (NotStarted UnknownGraph)
 
-  pub no_starter : starter m.programs c.graph ≡ None → answer_start real m c ≡ NotStarted UnknownGraph
-  no_starter e = ap under e
-
   module _ (p : Program) (e : starter m.programs c.graph ≡ Some p) where
     abbrev by_test : Bool → Option (List ℕ) → Answer
     by_test b o = started (session_id real c) p.role (first_some (

@@ -33,14 +33,6 @@ use Rattle.sg_parse.proofs.Places.{repeat-there, repeat-away}
 
 -- ---- places
 
--- what holds of all numbers holds of one that is in the list
-in-all : (P : ℕ → Type 0) (xs : List ℕ) (n : ℕ) → All P xs → is_in n xs ≡ true → P n
-in-all P [] n all i = absurd (cc)
-in-all P (x ∷ xs) n all i = elim (cases_of (x == n)) [
-  | inl y ↦ (let same : x ≡ n = grind (arith, nat_tests, y) in subst P same (all 0 x (omega arith)))
-  | inr d ↦ in-all P xs n (λ k d l. all (suc k) d (omega (arith, l))) (rw d at i)
-]
-
 is_in-one_more : (n p : ℕ) (places : List ℕ) → is_in n (places ++ p ∷ []) ≡ (is_in n places || (p == n))
 is_in-one_more n p [] = or_false (p == n)
   where

@@ -1,10 +1,9 @@
 -- The tokens from one place on, and from a later one.
-use Rattle.std.proofs.Common.{◌≡◌, ◌≢◌, ℕ, suc, ◌+◌, ◌<◌, ◌≤◌, ◌==◌, nat_le, Bool, true, false, ◌&&◌, ◌||◌, inl, inr, List, [], ◌∷◌, length, get_or, drop, take_while, refl, sym, ap, subst, ◌∙◌, arith, add-one, add-zero, one-add, length-drop, ◌-◌, if◌then◌else◌}
+use Rattle.std.proofs.Common.{◌≡◌, ◌≢◌, ℕ, suc, ◌+◌, ◌<◌, ◌≤◌, ◌==◌, nat_le, Bool, true, false, ◌&&◌, ◌||◌, inl, inr, List, [], ◌∷◌, length, get_or, drop, take_while, refl, sym, ap, subst, ◌∙◌, arith, add-one, add-zero, one-add, ◌-◌, if◌then◌else◌}
 use Rattle.std.proofs.Math.Seq.{drop-cons}
 use Rattle.std.proofs.Math.ListN.{drop_of_length-le}
 use Rattle.std.proofs.lemmas.Bool.Decides.{nat_tests}
 use Rattle.std.specs.List.{prefix_len, list_all}
-use Rattle.std.proofs.lemmas.List.Sums.{prefix_len-le-length}
 use Rattle.std.proofs.lemmas.List.Folds.{length-prefix_len}
 use Rattle.std.proofs.Math.Seq.{drop-drop}
 use Rattle.sg_model.specs.Names.{is_letter, is_name_byte, is_name}
@@ -138,14 +137,6 @@ word_is_name bs i h l short =
     let few : suc (length (take_while is_name_byte rest)) ≤ 32 = rw (whole, word) at short in
     let fits : nat_le (length (take_while is_name_byte rest)) 31 ≡ true = grind (arith, nat_tests) in
     rw (whole, word, l, all_name_bytes rest, fits) refl
-
--- a word ends within the text
-pub word_within : (bs : List ℕ) (i : ℕ) → i ≤ length bs → i + length (take_while is_name_byte (drop i bs)) ≤ length bs
-word_within bs i h =
-    let long : length (take_while is_name_byte (drop i bs)) ≡ prefix_len is_name_byte (drop i bs) = length-prefix_len is_name_byte (drop i bs) in
-    let few : prefix_len is_name_byte (drop i bs) ≤ length (drop i bs) = prefix_len-le-length is_name_byte (drop i bs) in
-    let all : length (drop i bs) ≡ length bs - i = length-drop i bs in
-    omega (arith, long, few, all)
 
 -- an arrow, and the tokens behind it
 pub arrow_there : (bs : List ℕ) (i : ℕ) → i < length bs → get_or bs i 0 ≡ 45 → has_head (drop (i + 1) bs) ≡ true

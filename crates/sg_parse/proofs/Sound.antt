@@ -2,11 +2,10 @@
 use Rattle.std.proofs.Common.{◌≡◌, ℕ, suc, ◌+◌, ◌<◌, ◌≤◌, ◌==◌, nat_le, Bool, true, false, ◌&&◌, ◌||◌, List, [], ◌∷◌, map, length, codes, bytes_eq, take_while, refl, arith, if◌then◌else◌}
 use Rattle.std.proofs.lemmas.Bool.Decides.{nat_tests}
 use Rattle.sg_model.specs.Names.{is_letter, is_name_byte, is_name}
-use Rattle.sg_parse.specs.Tokens.{Part, goes_on, part_of, is_separator, is_last, leading, kept, seen_as, all_seen_as, part_tokens, has_head, mark, begun, tokens_from, tokens, word_at, Apart}
+use Rattle.sg_parse.specs.Tokens.{Part, goes_on, part_of, is_separator, is_last, leading, kept, seen_as, part_tokens, has_head, mark, begun, tokens_from, tokens, word_at, Apart}
 use Rattle.sg_parse.specs.declared.token.Placed.{Placed}
 use Rattle.sg_parse.specs.declared.token.Token.{Token}
-use Rattle.sg_parse.specs.declared.token.Language.{Language}
-use Rattle.sg_parse.specs.declared.token.Language.TheVariants.{OfGraph, OfParts}
+use Rattle.sg_parse.specs.declared.token.Language.TheVariants.{OfParts}
 use Rattle.sg_parse.specs.declared.token.Token.TheVariants.{Word, Colon, Semicolon, Arrow, Use, As, End, Long, Bad}
 use Rattle.sg_parse.proofs.Scanning.{word_is_name}
 
@@ -109,12 +108,3 @@ sound-kept (p ∷ ps) s = (kept-spelled p.token s.0, (λ e. rw (s.1 (rw kept-las
 -- the tokens of a text of parts are sound
 pub sound-part_tokens : (bs : List ℕ) → Sound (part_tokens bs)
 sound-part_tokens bs = sound-kept (tokens bs) (sound-tokens bs)
-
--- a token and those behind it, as the language has them
-pub leading-seen : (language : Language) (p : Placed) (ps : List Placed) → all_seen_as language (leading p ps) ≡ leading (seen_as language p) (all_seen_as language ps)
-leading-seen OfGraph p ps = refl
-leading-seen OfParts p ps = rw (kept-last p.token) (pick (is_last p.token))
-  where
-    pick : (b : Bool) → (seen_as OfParts p) ∷ map (seen_as OfParts) (if b then [] else ps) ≡ (seen_as OfParts p) ∷ (if b then [] else map (seen_as OfParts) ps)
-    pick true = refl
-    pick false = refl

@@ -3,15 +3,14 @@ use Rattle.std.proofs.Common.{◌≡◌, ◌≢◌, ℕ, ◌+◌, ◌<◌, ◌�
 use Rattle.std.specs.Prelude.{◌↔◌, Option, Some, None, is_some, IsTrue}
 use Rattle.std.proofs.Math.ListN.{get_or-append}
 use Rattle.std.proofs.Math.Seq.{get_or-append_seam}
-use Rattle.std.proofs.lemmas.List.{get_or_past}
 use Rattle.std.proofs.lemmas.Bool.Decides.{nat_tests}
 use Rattle.sg_base.specs.Sets.{with_member}
 use Rattle.sg_model.specs.Lists.{is_in}
 use Rattle.sg_model.specs.Shape.{end_of, sender, receiver, target}
 use Rattle.sg_protocol.specs.Graph.{Graph, AreNumbers, shape}
-use Rattle.sg_protocol.specs.Targets.{IsTarget, IsTargetTable}
+use Rattle.sg_protocol.specs.Targets.{IsTarget}
 use Rattle.sg_reach.specs.Reaches.{Closure, IsFirstOf}
-use Rattle.sg_reach.proofs.Cases.{same_or_not, less_or}
+use Rattle.sg_reach.proofs.Cases.{same_or_not}
 use Rattle.sg_reach.proofs.Pair.{pair, is_in-with_member, leads_first, first_leads}
 
 -- a role other than sender and receiver is a target exactly where it has a node in the closure of the edge's end past the role and the sender
@@ -102,19 +101,3 @@ sets_with g n sets more set grown x numbers aims = record {
 
     there : (e : ℕ) → e < n → get_or more e [] ≡ get_or sets e []
     there e l = ap (λ xs. get_or xs e []) grown ∙ get_or-append sets (set ∷ []) [] e (omega (arith, x.size))
-
--- a set that has the targets below the number of roles has all of them
-pub set_full : (g : Graph) (e n : ℕ) (set : List ℕ) → length g.roles ≤ n → IsSetBelow g e n set → (t : ℕ) → t < length g.roles → IsTrue (is_in t set) ↔ IsTarget (shape g) e t
-set_full g e n set all x t h = x.below t (omega arith)
-
--- no role is below 0
-pub set_empty : (g : Graph) (e : ℕ) → IsSetBelow g e 0 []
-set_empty g e = record { below = λ t h. absurd (omega arith); above = λ t h l. refl }
-
--- past the last edge there are no targets in the table
-pub table_of : (g : Graph) (n : ℕ) (sets : List (List ℕ)) → n ≡ length g.edges → AreSetsBelow g n sets → IsTargetTable g sets
-table_of g n sets all x = record {
-  size = x.size ∙ all;
-  rising = λ e. elim (less_or e n) [ inl l ↦ x.rising e l | inr m ↦ rw (get_or_past sets e [] (omega (arith, x.size))) refl ];
-  each = λ e t h l. x.each e t (omega arith) l;
-}

@@ -89,9 +89,6 @@ find_map f p (x ∷ xs) = on (p (f x)) (find_map f p xs)
     on false h = h
 
 module _ (k : ℕ) (n : Note) where
-  test : Logged → Bool
-  test l = nat_lt l.number k && list_any (same_note n) l.notes.made
-
   less : (a : ℕ) → a < k → nat_lt a k ≡ true
   less a h = grind (arith, nat_tests)
 

@@ -18,11 +18,3 @@ accepted_from g two s r b = record {
   reads_known = r.reads_known;
   sighted = b;
 }
-
--- its shape
-pub shape_of : (g : Graph) → Accepted g → HasShape g
-shape_of g a = record { no_self_edge = a.no_self_edge; all_reached = a.all_reached; each_role_has_node = a.each_role_has_node }
-
--- its writes and reads
-pub reads_of : (g : Graph) → Accepted g → AcceptedReads g
-reads_of g a = record { writers_write = a.writers_write; others_read = a.others_read; reads_known = a.reads_known }

@@ -39,10 +39,6 @@ no_clash g n p programs c whole apart = list_any_none (clashes p) programs (λ k
         let near : bytes_eq p.digest q.digest ≡ true = (bytes_eq-Decides p.digest q.digest).1 digest in
         rw (role, near) (none (is_named p.graph.name q))
 
--- at first all are of other names
-pub apart_first : (g : Graph) (programs : List Program) → All (λ q. q.graph.name ≢ g.name) programs → All (IsApart g 0) programs
-apart_first g programs others = λ k d l. inl (others k d l)
-
 -- and with a program more, for the next role
 pub apart_more : (g : Graph) (n : ℕ) (p : Program) (xs ys : List Program) → ys ≡ xs ++ p ∷ [] → IsCompiled g n p → All (IsApart g n) xs → All (IsApart g (n + 1)) ys
 apart_more g n p xs ys more c apart =

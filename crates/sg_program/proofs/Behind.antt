@@ -1,5 +1,5 @@
 -- The text of a program in its parts.
-use Rattle.std.proofs.Common.{◌≡◌, ℕ, ◌+◌, ◌<◌, List, [], ◌++◌, length, take, drop, get_or, true, Option, Some, None, bytes_eq, refl, sym, ap, subst, ◌∙◌, arith, append_assoc, inl, inr}
+use Rattle.std.proofs.Common.{◌≡◌, ℕ, ◌+◌, ◌<◌, List, [], ◌++◌, length, take, drop, get_or, true, Some, None, bytes_eq, refl, sym, ap, subst, ◌∙◌, arith, append_assoc, inl, inr}
 use Rattle.std.specs.Prelude.{codes, Result, Ok, Err, IfOk, IfErr, IsTrue}
 use Rattle.std.proofs.lemmas.List.{drop-drop}
 use Rattle.std.proofs.lemmas.List.Folds.{list_any_at}
@@ -15,9 +15,6 @@ use Rattle.sg_program.specs.Text.{line, program_text, role_line, start_line, tab
 use Rattle.sg_program.specs.declared.load.LoadFault.{LoadFault}
 use Rattle.sg_program.specs.declared.load.LoadFault.TheVariants as Faults
 use Rattle.sg_program.proofs.Canonical.{table_behind}
-
-abbrev pub Split : Type 0
-Split = Option (List ℕ × List ℕ)
 
 some_same : {a b : List ℕ × List ℕ} → Some a ≡ Some b → a ≡ b
 some_same e = cc

@@ -2,7 +2,7 @@
 use Rattle.std.proofs.Common.{◌≡◌, ℕ, ◌+◌, ◌<◌, ◌≤◌, ◌==◌, Bool, true, false, not, ◌&&◌, List, [], ◌∷◌, ◌++◌, length, take, drop, get_or, bytes_eq, Option, Some, None, refl, sym, ap, ◌∙◌, subst, true≢false, arith, IsTrue, append_assoc, length-append, add-one, length-take-le}
 use Rattle.std.specs.Prelude.{codes, MatchOption, IfSome, IsSome, ◌↔◌, position, nat_le}
 use Rattle.std.specs.List.{list_all, find}
-use Rattle.std.proofs.Math.Seq.{drop-append_seam, take-append_seam, drop-cons}
+use Rattle.std.proofs.Math.Seq.{drop-append_seam, drop-cons}
 use Rattle.std.proofs.lemmas.Bool.Decides.{Decides-eqb}
 use Rattle.std.proofs.lemmas.List.{take-append-drop, get_or-take}
 use Rattle.std.proofs.lemmas.List.Quantifiers.{position-Some}
@@ -20,11 +20,6 @@ use Rattle.sg_program.proofs.SameName.{both}
 pub begins_yes : (front xs : List ℕ) → bytes_eq front (take (length front) xs) ≡ true → xs ≡ front ++ drop (length front) xs
 begins_yes front xs h =
     sym (take-append-drop (length front) xs) ∙ ap (λ ys. ys ++ drop (length front) xs) (sym ((bytes_eq-Decides front (take (length front) xs)).0 h))
-
--- one that doesn't is not that and a rest
-pub begins_no : (front xs rest : List ℕ) → bytes_eq front (take (length front) xs) ≡ false → xs ≡ front ++ rest → ⊥
-begins_no front xs rest h e =
-    true≢false (sym ((bytes_eq-Decides front (take (length front) xs)).1 (sym (ap (take (length front)) e ∙ take-append_seam front rest))) ∙ h)
 
 -- what stands in front of two equal texts goes
 pub front_goes : (front xs ys : List ℕ) → front ++ xs ≡ front ++ ys → xs ≡ ys

@@ -24,11 +24,6 @@ behind_more : (front : List ℕ) (x : ℕ) (o : Option (List ℕ × List ℕ)) �
 behind_more front x None = refl
 behind_more front x (Some s) = λ i. Some (sym (append_assoc front (x ∷ []) s.0) i, s.1)
 
--- nothing in front
-pub behind_none : (o : Option (List ℕ × List ℕ)) → o ≡ behind [] o
-behind_none None = refl
-behind_none (Some s) = refl
-
 -- one byte on
 pub table_more : (xs : List ℕ) (i : ℕ) (begins : Bool) → i < length xs → (begins && bytes_eq (line (codes "table")) (take 6 (drop i xs))) ≡ false
     → at_table true xs ≡ behind (take i xs) (at_table begins (drop i xs))

@@ -68,13 +68,6 @@ key_put key place old new gone update d r =
     (update (record { digest = d; role = r }))
     (λ e. ap (λ test. lookup test old) (key_same d r key e) ∙ none_from _ gone)
 
--- a key that has a place keeps it
-pub key_kept : (key : Key) (place : ℕ) (old : List (Key × ℕ)) → is_some (lookup (is_key key.digest key.role) old) ≡ true
-    → (d : List ℕ) (r : ℕ) → lookup (is_key d r) old ≡ option_or (lookup (is_key d r) old) (if is_key d r key then Some place else None)
-key_kept key place old there d r =
-    first_kept (is_key d r key) (lookup (is_key d r) old) place
-    (λ e none. not_none (lookup (is_key key.digest key.role) old) there (sym (ap (λ test. lookup test old) (key_same d r key e)) ∙ none))
-
 -- ---- pairs
 
 -- the derived `==` of pairs compares their parts

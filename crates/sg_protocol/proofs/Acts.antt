@@ -144,9 +144,6 @@ module _ (sha : Hash) (hash : IsHash sha) (s : Schedule) (sid : List ℕ) (cast 
   oi_role : oi.role ≡ sender (shape g) oi.label
   oi_role = sym by_x
 
-  all_items : List Item
-  all_items = told x ++ oi ∷ []
-
   all_roles : Roles (shape g) (told x ++ oi ∷ [])
   all_roles = roles-append (shape g) (told x) (oi ∷ []) m.roles (oi_role, tt)
 

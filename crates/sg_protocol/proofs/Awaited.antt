@@ -143,9 +143,6 @@ at_length [] y ys = refl
 at_length (x ∷ xs) y ys = at_length xs y ys
 
 module _ (sha : Hash) (hash : IsHash sha) (programs : List Program) (s : Schedule) (compiled : AreCompiled sha s.graphs programs) (sched : IsSchedule sha s) (premises : Premises sha s (run sha programs s)) (sid : List ℕ) (first : FirstCast sha s programs sid (run sha programs s)) (all_honest : All (λ n. is_honest s n ≡ true) first.cast.names) where
-  abbrev wf : World
-  wf = run sha programs s
-
   abbrev cast : Cast
   cast = first.cast
 

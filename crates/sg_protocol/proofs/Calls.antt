@@ -426,9 +426,6 @@ module _ (sha : Hash) (hash : IsHash sha) (s : Schedule) (programs : List Progra
   start_made c (NotStarted (StartFault.UnknownPeer name)) nt i = i
   start_made c other nt i = i
 
-  start_node : (n : Node) (c : Cast) (r : ℕ) (o : Option StartFault) (f : StartFault) → node_after n (Start c) (NotStarted f) ≡ n
-  start_node n c r o f = refl
-
   module _ (st : State) (who : Name) (n : Node) (ok : NodeOk st who n) where
     joined_ok : (x : Session) (st' : State) → length x.sid ≡ 32 → Status st' who (joined n x) → NodeOk st' who (joined n x)
     joined_ok x st' l h = record { me = ok.me; has_programs = ok.has_programs; lengths = all-append (λ (x : Session). length x.sid ≡ 32) n.live (still n.programs x) ok.lengths (still_lengths n.programs x l); status = h }

@@ -83,9 +83,6 @@ module _ (sha : Hash) (hash : IsHash sha) (s : Schedule) (programs : List Progra
     differ : all_differ cast.names ≡ true
     lengths : length cast.names ≡ length program.graph.roles
 
-  abbrev pub Quiet : Node → Type 0
-  Quiet n = filter (of_sid sid) n.live ≡ []
-
   abbrev pub Still : Node → Call → Answer → Type 0
   Still n c a = (filter (λ e. bytes_eq (sid_of e) sid) (events_of_answer a) ≡ []) × (filter (of_sid sid) (node_after n c a).live ≡ [])
 

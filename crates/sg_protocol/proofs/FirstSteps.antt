@@ -31,9 +31,6 @@ use Rattle.sg_protocol.proofs.Course.{Suffix, suffix_refl, suffix_all, in_before
 -- ---- the schedule's steps don't matter to one step
 
 module _ (sha : Hash) (s : Schedule) (n : ℕ) where
-  abbrev s' : Schedule
-  s' = first_steps n s
-
   tag_same : (w : World) (text : List ℕ) (x : Source) → tag_by sha (first_steps n s) w text x ≡ tag_by sha s w text x
   tag_same w text (Key a b) = refl
   tag_same w text (CopyItem f i r) = refl

@@ -61,7 +61,7 @@ use Rattle.sg_protocol.proofs.Keys as Keys'
 use Rattle.std.specs.Option.{option_map_or}
 use Rattle.std.proofs.lemmas.List.Elements.{filter-append}
 use Rattle.sg_protocol.proofs.Finding.{one_place, find_passes}
-use Rattle.sg_protocol.proofs.Calls.{Life, Unmoved, WasLeft, HasStarted, HasTaken, HasGiven, TakesFrame}
+use Rattle.sg_protocol.proofs.Calls.{Unmoved, WasLeft, HasStarted, HasTaken, HasGiven, TakesFrame}
 use Rattle.sg_protocol.proofs.Course.{Progress, keep_all, Suffix, Outs, past_called, next_past, node_more, in_after, in_before, suffix_trans, suffix_one, filter_map-append}
 use Rattle.sg_protocol.proofs.Showing.{shows_called}
 use Rattle.sg_protocol.proofs.Splits.{split_at_end, in_split, split_in, two_splits, rises_mid, role_small}
@@ -515,9 +515,6 @@ module _ (sha : Hash) (s : Schedule) (programs : List Program) (sid : List ℕ) 
       absurd (in_items w.log l e to f (fl.frames r.0 l r.1 e to f r.2 o h).item i o h (fl.frames r.0 l r.1 e to f r.2 o h).its_last none)
 
   -- ---- a call
-
-  abbrev Life_ : Name → Node → Node → Call → Answer → Type 0
-  Life_ who n n' c a = Life sha hash s programs sid cast g is acc version long differ prog (λ t. In (hashed s wf) t) one_cast (λ who. HadAnswer wf.log who (Abandon sid) Abandoned) who n n' c a
 
   abbrev Unmoved_ : Node → Node → Answer → Type 0
   Unmoved_ n n' a = Unmoved sha hash s programs sid cast g is acc version long differ prog (λ t. In (hashed s wf) t) one_cast (λ who. HadAnswer wf.log who (Abandon sid) Abandoned) n n' a

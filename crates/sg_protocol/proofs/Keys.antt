@@ -34,13 +34,6 @@ module _ {A : Type 0} (one two : A → ℕ) where
         | inr e ↦ rw (same ∙ e, e) (rw h.0 refl)
       ]
 
-  pub keys-after_last : (k : ℕ) (xs : List A) → SameKeys xs → SameKeys (after_last one k xs)
-  keys-after_last k [] h = tt
-  keys-after_last k (x ∷ xs) h = elim (cases_Bool (has one k xs)) [
-    | inl e ↦ rw e (keys-after_last k xs h.1)
-    | inr e ↦ elim (cases_Bool (one x == k)) [ inl d ↦ rw (e, d) h.1 | inr d ↦ rw (e, d) h ]
-  ]
-
 -- ---- under a map
 
 module _ {A B : Type 0} (f : A → B) (key : B → ℕ) where

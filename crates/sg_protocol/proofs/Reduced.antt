@@ -62,9 +62,6 @@ tags_but-both xs ys zs e ts = filter-filter (λ (t : ℕ × List ℕ). not (has 
     first false b h = refl
 
 module _ (g : Graph) where
-  abbrev n : ℕ
-  n = length g.variables
-
   -- the first item takes over what was written before it
   abbrev pub lead : Map (List ℕ) → List Item → List Item
   lead d [] = []

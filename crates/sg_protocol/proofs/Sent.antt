@@ -51,9 +51,6 @@ Dist (x ∷ xs) = (has (λ (y : ℕ). y) x xs ≡ false) × Dist xs
 abbrev pub Below : ℕ → List ℕ → Type 0
 Below n xs = AllByRecursion (λ x. x < n) xs
 
-without : ℕ → List ℕ → List ℕ
-without n xs = filter (λ x. not (x == n)) xs
-
 has-without : (n k : ℕ) (xs : List ℕ) → has (λ (y : ℕ). y) k xs ≡ false → has (λ (y : ℕ). y) k (filter (λ x. not (x == n)) xs) ≡ false
 has-without n k [] h = refl
 has-without n k (x ∷ xs) h =
@@ -514,9 +511,6 @@ module _ (sha : Hash) (hash : IsHash sha) (p : Program) (ip : IsProgram sha p) (
 
   tag_ok : (r : ℕ) (text : List ℕ) → IsTag v (tag_for sha keys x.cast r text)
   tag_ok r text = cut_tag v fx.version _ (hash _)
-
-  abbrev ts : List ℕ
-  ts = targets_of p label
 
   ts_rise : rises_from 0 (targets_of p label) ≡ true
   ts_rise = (and_parts (rises_from 0 (get_or p.targets label [])) (list_all (λ k. nat_lt k (length g.roles)) (get_or p.targets label [])) (ip.targets.rising label)).0

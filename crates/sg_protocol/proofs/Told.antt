@@ -85,11 +85,6 @@ keys_of_openings (o ∷ os) = ap (λ l. o.variable ∷ l) (keys_of_openings os)
 
 -- ---- rows
 
--- the first row that holds is the first one, or one after it
-one_of : {F : Type 0} (o : Option F) (os : List (Option F)) (r : F) → first_some (o ∷ os) ≡ Some r → (o ≡ Some r) ⊎ ((o ≡ None) × (first_some os ≡ Some r))
-one_of None os r h = inr (refl, h)
-one_of (Some q) os r h = inl h
-
 -- a row of another refusal doesn't hold
 past_row : {F : Type 0} (b : Bool) (q r : F) (os : List (Option F)) → (q ≡ r → ⊥) → first_some (row b q ∷ os) ≡ Some r → (b ≡ false) × (first_some os ≡ Some r)
 past_row true q r os n h = absurd (n (let e : Some q ≡ Some r = h in cc))

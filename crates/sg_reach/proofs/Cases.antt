@@ -1,6 +1,5 @@
 -- Two cases of numbers, tests and options.
 use Rattle.std.proofs.Common.{◌≡◌, ◌≢◌, ℕ, ◌<◌, ◌≤◌, ◌==◌, nat_lt, Bool, true, false, ◌⊎◌, refl, inl, inr, arith}
-use Rattle.std.specs.Prelude.{Option, Some, None}
 use Rattle.std.proofs.lemmas.Bool.Decides.{nat_tests}
 
 -- either value of a test
@@ -11,11 +10,6 @@ cases_of false = inr refl
 -- two numbers are the same or not
 pub same_or_not : (a b : ℕ) → (a ≡ b) ⊎ (a ≢ b)
 same_or_not a b = elim (cases_of (a == b)) [ inl y ↦ inl (grind (arith, nat_tests, y)) | inr n ↦ inr (λ e. grind (arith, nat_tests, n, e)) ]
-
--- something is there or not
-pub there_or_none : {A : Type 0} (o : Option A) → ((x : A) × (o ≡ Some x)) ⊎ (o ≡ None)
-there_or_none (Some x) = inl (x, refl)
-there_or_none None = inr refl
 
 -- a number is below another one or not
 pub less_or : (a b : ℕ) → (a < b) ⊎ (b ≤ a)

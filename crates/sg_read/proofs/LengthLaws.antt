@@ -26,10 +26,6 @@ pub flat_same : {A B : Type 0} (k : A → B) (f : B → List ℕ) (n : ℕ) (xs 
 flat_same k f n [] h = omega arith
 flat_same k f n (x ∷ xs) h = let a = length-append (f (k x)) (flat_map f (map k xs)) in let b = flat_same k f n xs h in let c = h x in omega (arith, a, b, c)
 
-id_map : {A : Type 0} (xs : List A) → map (λ x. x) xs ≡ xs
-id_map [] = refl
-id_map (x ∷ xs) = ap (λ ys. x ∷ ys) (id_map xs)
-
 pub tag_taken : (v : ℕ) → length (take (tag_len v) (zeros 32)) ≡ tag_len v
 tag_taken v = elim (cases_Bool (v == 2)) [ inl e ↦ rw e refl | inr e ↦ rw e refl ]
 

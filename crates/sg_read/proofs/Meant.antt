@@ -1,11 +1,11 @@
 -- What right lines declare is a schedule as the protocol has them.
 use Rattle.std.proofs.Common.{◌≡◌, ℕ, zero, suc, ◌<◌, Bool, true, false, ◌&&◌, List, [], ◌∷◌, ◌++◌, map, length, refl, sym, ap, ◌∙◌, subst, arith, if◌then◌else◌, inl, inr, append-nil}
-use Rattle.std.specs.Prelude.{Option, Some, None, option_map, option_and_then, bytes_eq, slice_get, nat_lt, nat_le, All, IsSomeAnd, IsTrue, Contains, Result, Ok, Err, IfOk}
+use Rattle.std.specs.Prelude.{Option, Some, None, option_map, option_and_then, bytes_eq, slice_get, nat_lt, nat_le, IsSomeAnd, IsTrue, Contains}
 use Rattle.std.specs.List.{list_all, AllByRecursion}
 use Rattle.std.specs.Option.{option_map_or}
 use Rattle.std.proofs.lemmas.Bool.{leb-false, and_parts, cases_Bool}
 use Rattle.std.proofs.lemmas.List.{length-map}
-use Rattle.std.proofs.lemmas.List.Elements.{All-from_recursion, recursion_from_All}
+use Rattle.std.proofs.lemmas.List.Elements.{All-from_recursion}
 use Rattle.std.proofs.lemmas.Option.{slice_get-map, slice_get_within, get_or_from_slice_get}
 use Rattle.sg_model.specs.Bytes.{AreBytes}
 use Rattle.sg_model.specs.Lists.{has_text}
@@ -245,30 +245,4 @@ module _ (p : SoFar) (m : Meant p) where
 pub spelled_is_meant : (bytes : List ℕ) (s : Schedule) → SpellsSchedule real bytes s → IsMeant s
 spelled_is_meant bytes s h = subst IsMeant h.schedule (meant_whole (so_far h.items) (meant h.declared))
 
--- what bytes spell is a schedule as the protocol has them
-pub spelled_schedule : (bytes : List ℕ) (s : Schedule) → SpellsSchedule real bytes s → IsSchedule real s
-spelled_schedule bytes s h = (spelled_is_meant bytes s h).schedule
-
--- what is read is meant, if something is read
-pub read_is_meant : {E : Type 0} (bytes : List ℕ) (r : Result Schedule E) → IfOk r (SpellsSchedule real bytes) → IfOk r IsMeant
-read_is_meant bytes (Ok s) h = spelled_is_meant bytes s h
-read_is_meant bytes (Err e) h = h
-
 -- ---- what follows
-
--- without its steps it is a schedule
-pub schedule_without_steps : (s : Schedule) → IsSchedule real s → IsSchedule real (record s { steps = [] })
-schedule_without_steps s h = record {
-  are_graphs = h.are_graphs;
-  graph_names = h.graph_names;
-  honest_names = h.honest_names;
-  keys = h.keys;
-  pairs = h.pairs;
-  sessions = h.sessions;
-  steps = All-from_recursion (IsStep real (record s { steps = [] })) [] tt;
-}
-
--- each graph has a role
-pub some_role : (s : Schedule) → IsMeant s → All (λ (g : Graph). 0 < length g.roles) s.graphs
-some_role s m = All-from_recursion (λ (g : Graph). 0 < length g.roles) s.graphs
-    (all_weaker HasRoles (λ (g : Graph). 0 < length g.roles) (λ g h. omega (arith, h)) s.graphs (recursion_from_All HasRoles s.graphs m.roles))

@@ -19,14 +19,14 @@ use Rattle.sg_sched.specs.Format.Spells.{Line, Declare, Nothing, Next, Skip, Say
 use Rattle.sg_read.specs.declared.reader.Reader.{Reader}
 use Rattle.sg_sched.specs.declared.fault.LineFault.{LineFault}
 use Rattle.sg_sched.specs.declared.fault.LineFault.TheVariants.{Line as AtLine, OutOfMemory as NoMemory}
-use Rattle.sg_read.specs.Adding.{Added, after_line}
+use Rattle.sg_read.specs.Adding.{after_line}
 use Rattle.sg_read.specs.Block.{IsOpen, IsClosed}
 use Rattle.sg_read.specs.Plus.{plus, nothing}
 use Rattle.sg_model.proofs.Small.{same_bytes}
 use Rattle.sg_sched.specs.declared.fault.Kind.TheVariants.{Form as KindForm, Unknown as KindUnknown, Twice as KindTwice, NotHonest as KindNotHonest, Graph as KindGraph, TooManySteps as KindTooManySteps, TooManySessions as KindTooManySessions}
 use Rattle.sg_read.specs.declared.stop.Stop.{Stop}
 use Rattle.sg_read.specs.declared.stop.Stop.TheVariants.{Wrong, OutOfMemory}
-use Rattle.sg_read.specs.Taken.{IsStop, IsRefused, kind_of, fault_at}
+use Rattle.sg_read.specs.Taken.{IsRefused, kind_of, fault_at}
 use Rattle.sg_read.specs.Standing.{IsFirstEdge, Stands, Opens, IsAt, IsShown, IsBad, IsBadAt, IsFault, Refused, Again, AsPair}
 use Rattle.sg_read.proofs.Growing.{one_more, Taken, took, stopped, begun}
 
@@ -408,11 +408,6 @@ fresh_name n p a b = ap (has_text n) (names_apart p.blocks (graphs_of p.edges)) 
 -- a line is skipped as its text says
 pub skipped_is : (line text : List ℕ) (b : Bool) → text ≡ content line → b ≡ (list_all (λ b. nat_lt b 128) text && (is_comment text || length (words text) == 0)) → is_skipped line ≡ b
 skipped_is line text b e h = sym (h ∙ ap (λ (t : List ℕ). list_all (λ b. nat_lt b 128) t && (is_comment t || length (words t) == 0)) e)
-
--- the line of this number isn't taken
-pub fault_is : (added : Added) (r : Reader) (stop : Stop) → IsStop added stop → IsAt added r.number (fault_at r.number stop)
-fault_is added r (Wrong kind) h = (refl, h)
-fault_is added r OutOfMemory h = tt
 
 -- a block's fault
 pub bad_fault : (bytes after : List ℕ) (r : Reader) (o : Opens bytes r after) (text rest : List ℕ) (many : ℕ) (c : IsClosed (lines after) text many (lines rest)) (counted : Reader)

@@ -34,17 +34,6 @@ line_more m xs i x old mid new l at before more =
     more ∙ (λ j. before j ++ held_line m (place j) x) ∙ append_assoc old (held_lines m 1 (take i xs)) (held_line m (1 + length (take i xs)) x)
     ∙ ap (λ t. old ++ t) (sym (held_lines-push m 1 (take i xs) x) ∙ sym (ap (held_lines m 1) taken))
 
-flat_map-push : (f : HeldWalk → List ℕ) (xs : List HeldWalk) (x : HeldWalk) → flat_map f (xs ++ x ∷ []) ≡ flat_map f xs ++ f x
-flat_map-push f [] x = append-nil (f x)
-flat_map-push f (y ∷ ys) x = ap (λ t. f y ++ t) (flat_map-push f ys x) ∙ sym (append_assoc (f y) (flat_map f ys) (f x))
-
--- one more walk
-pub walk_more : (f : HeldWalk → List ℕ) (xs : List HeldWalk) (i : ℕ) (x : HeldWalk) (old mid new : List ℕ) → i < length xs → x ≡ get_or xs i x → mid ≡ old ++ flat_map f (take i xs) → new ≡ mid ++ f x
-    → new ≡ old ++ flat_map f (take (i + 1) xs)
-walk_more f xs i x old mid new l at before more =
-    let taken : take (i + 1) xs ≡ take i xs ++ x ∷ [] = take_more xs i x l ∙ ap (λ y. take i xs ++ y ∷ []) (sym at) in
-    more ∙ ap (λ t. t ++ f x) before ∙ append_assoc old (flat_map f (take i xs)) (f x) ∙ ap (λ t. old ++ t) (sym (flat_map-push f (take i xs) x) ∙ sym (ap (flat_map f) taken))
-
 -- ---- what an account says
 
 -- the lines that are held are those of the account

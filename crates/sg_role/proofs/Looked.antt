@@ -27,9 +27,6 @@ module _ (g : Graph) (sid : List ℕ) (cs : List (Option (List ℕ))) (os : List
   pub hashed_wrong : opens g sid cs o ≡ false → has_kind g o ≡ true → hashed_from g sid cs (drop at os) ≡ o ∷ []
   hashed_wrong h k = ap (hashed_from g sid cs) (drop_at os at o l e) ∙ rw (h, k) refl
 
-  pub hashed_none : opens g sid cs o ≡ false → has_kind g o ≡ false → hashed_from g sid cs (drop at os) ≡ []
-  hashed_none h k = ap (hashed_from g sid cs) (drop_at os at o l e) ∙ rw (h, k) refl
-
   pub hashed_right : opens g sid cs o ≡ true → hashed_from g sid cs (drop at os) ≡ o ∷ hashed_from g sid cs (drop (at + 1) os)
   hashed_right h = ap (hashed_from g sid cs) (drop_at os at o l e) ∙ rw h refl
 

@@ -190,15 +190,8 @@ take_twice (x ∷ xs) (y ∷ ys) (z ∷ zs) e q =
     ap (λ w. w ∷ take (length xs) zs) (heads z y (take (length ys) zs) ys q ∙ heads y x (take (length xs) ys) xs e)
     ∙ ap (λ l. x ∷ l) (take_twice xs ys zs (tails y x (take (length xs) ys) xs e) (tails z y (take (length ys) zs) ys q))
 
-pub keeps_same : (a b : Notes) → b ≡ a → KeepsNotes a b
-keeps_same a b e = subst (KeepsNotes a) (sym e) (take_self a.made, take_self a.found, take_self a.hashed)
-
 pub keeps_found : (a b : Notes) (more : List Note) → b ≡ record a { found = a.found ++ more } → KeepsNotes a b
 keeps_found a b more e = subst (KeepsNotes a) (sym e) (take_self a.made, take_front a.found more, take_self a.hashed)
 
 pub keeps_twice : (a b c : Notes) → KeepsNotes a b → KeepsNotes b c → KeepsNotes a c
 keeps_twice a b c k l = (take_twice a.made b.made c.made k.0 l.0, take_twice a.found b.found c.found k.1 l.1, take_twice a.hashed b.hashed c.hashed k.2 l.2)
-
--- what is kept of notes that keep the earlier ones is the earlier ones
-pub kept_back : (a b : Notes) → KeepsNotes a b → record { made = take (length a.made) b.made; found = take (length a.found) b.found; hashed = take (length a.hashed) b.hashed } ≡ a
-kept_back a b k = λ i. record { made = k.0 i; found = k.1 i; hashed = k.2 i }

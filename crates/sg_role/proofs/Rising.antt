@@ -77,9 +77,6 @@ same_rising n xs ys a b e = sym (numbers_self n xs a) ∙ filter_range (λ x. is
 pub equal_rising : (n : ℕ) (xs ys : List ℕ) → AreNumbers n xs → AreNumbers n ys → ((x : ℕ) → x < n → is_in x xs ≡ is_in x ys) → bytes_eq xs ys ≡ true
 equal_rising n xs ys a b e = (bytes_eq-Decides xs ys).1 (same_rising n xs ys a b e)
 
-pub unequal : (xs ys : List ℕ) (x : ℕ) → is_in x xs ≢ is_in x ys → bytes_eq xs ys ≡ false
-unequal xs ys x d = elim (cases_Bool (bytes_eq xs ys)) [ inl e ↦ absurd (d (ap (is_in x) ((bytes_eq-Decides xs ys).0 e))) | inr e ↦ e ]
-
 -- ---- filters
 
 pub in_filter : (p : ℕ → Bool) (xs : List ℕ) (t : ℕ) → is_in t (filter p xs) ≡ (is_in t xs && p t)

@@ -1,12 +1,6 @@
 -- What is held is the same where its parts are.
-use Rattle.std.proofs.Common.{◌≡◌, ap}
+use Rattle.std.proofs.Common.{◌≡◌}
 use Rattle.sg_protocol.specs.Standing.{Held}
-
--- the parts of both are the same
-abbrev Parts : Held → Held → Type 0
-Parts a b = ((a.sid ≡ b.sid) × (a.cast ≡ b.cast) × (a.role ≡ b.role))
-    × ((a.kept.origin ≡ b.kept.origin) × (a.kept.own_time ≡ b.kept.own_time) × (a.kept.time ≡ b.kept.time) × (a.kept.place ≡ b.kept.place))
-    × ((a.kept.items ≡ b.kept.items) × (a.kept.commitments ≡ b.kept.commitments) × (a.kept.openings ≡ b.kept.openings))
 
 pub same_held : (a b : Held) → ((a.sid ≡ b.sid) × (a.cast ≡ b.cast) × (a.role ≡ b.role))
     → ((a.kept.origin ≡ b.kept.origin) × (a.kept.own_time ≡ b.kept.own_time) × (a.kept.time ≡ b.kept.time) × (a.kept.place ≡ b.kept.place))
@@ -25,10 +19,3 @@ same_held a b s t l = λ i. record {
     openings = l.2 i;
   };
 }
-
-pub held_parts : (a b : Held) → a ≡ b → Parts a b
-held_parts a b e = (
-  (ap (λ (h : Held). h.sid) e, ap (λ (h : Held). h.cast) e, ap (λ (h : Held). h.role) e),
-  (ap (λ (h : Held). h.kept.origin) e, ap (λ (h : Held). h.kept.own_time) e, ap (λ (h : Held). h.kept.time) e, ap (λ (h : Held). h.kept.place) e),
-  (ap (λ (h : Held). h.kept.items) e, ap (λ (h : Held). h.kept.commitments) e, ap (λ (h : Held). h.kept.openings) e),
-)

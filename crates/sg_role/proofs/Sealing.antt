@@ -81,7 +81,3 @@ tag_fits f s =
     let k : length (take (tag_len f.version) f.tag) ≡ tag_len f.version = length_take (tag_len f.version) f.tag (omega (arith, l, t)) in
     let a = length-append (body f) (take (tag_len f.version) f.tag) in
     (omega (arith, k, a), s.short)
-
-pub some_tag : (v : ℕ) → (v ≡ 1) ⊎ (v ≡ 2) → (0 < tag_len v) × (tag_len v ≤ 32)
-some_tag v (inl e) = rw e (omega arith, omega arith)
-some_tag v (inr e) = rw e (omega arith, omega arith)

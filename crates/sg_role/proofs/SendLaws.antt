@@ -1,16 +1,12 @@
 -- A step on which no row holds: what it sends is short, and what is held afterwards waits.
-use Rattle.std.proofs.Common.{◌≡◌, ℕ, ◌+◌, ◌<◌, ◌==◌, ◌&&◌, nat_lt, nat_le, Bool, true, false, not, List, [], ◌∷◌, map, find, length, refl, sym, ◌∙◌, ap, subst, Option, Some, None, option_map, IsTrue, arith, inl, inr}
-use Rattle.std.proofs.lemmas.Bool.{cases_Bool}
-use Rattle.std.proofs.lemmas.Bool.Decides.{nat_tests}
+use Rattle.std.proofs.Common.{◌≡◌, ℕ, ◌+◌, ◌<◌, ◌==◌, ◌&&◌, not, List, [], ◌∷◌, map, find, refl, sym, ◌∙◌, ap, subst, Option, Some, None, option_map, IsTrue}
 use Rattle.sg_model.specs.Last.{Map, last}
 use Rattle.sg_model.specs.Lists.{below, first_some}
-use Rattle.sg_model.specs.Shape.{source}
 use Rattle.sg_model.specs.Values.{Value, Opening}
 use Rattle.sg_protocol.specs.Acting.{is_bad, openings_for, rows_of_send, rows_of_act}
 use Rattle.sg_protocol.specs.Backed.{IsBackedAtTurn, IsBackedWaiting}
 use Rattle.sg_protocol.specs.Bounds.{IsShortFrame}
-use Rattle.sg_protocol.specs.Calls.{SendFault, ActFault, NotYourTurn, Send, BadValues, TimeSpent}
-use Rattle.sg_protocol.specs.Graph.{shape}
+use Rattle.sg_protocol.specs.Calls.{SendFault, ActFault, NotYourTurn, Send}
 use Rattle.sg_protocol.specs.IsSchedule.{IsProgram}
 use Rattle.sg_protocol.specs.Keyring.{Keyring, Program}
 use Rattle.sg_protocol.specs.Ranges.{AreValues}
@@ -20,7 +16,7 @@ use Rattle.sg_protocol.specs.Standing.{Held, StandsAtTurn, held_after}
 use Rattle.sg_protocol.specs.Texts.{real}
 use Rattle.sg_protocol.proofs.Backed.{states_are_backed}
 use Rattle.sg_protocol.proofs.RealHash.{real_hash}
-use Rattle.sg_role.specs.Stepping.{first_bad, send_rows, step_item, step_frame}
+use Rattle.sg_role.specs.Stepping.{send_rows, step_item, step_frame}
 use Rattle.sg_role.proofs.StepLaws.{rows_held, item_held, frame_held}
 
 -- ---- no row
@@ -30,35 +26,7 @@ none_mapped [] e = refl
 none_mapped (None ∷ os) e = none_mapped os e
 none_mapped (Some f ∷ os) e = absurd (cc)
 
-first_none : {A : Type 0} (o : Option A) (os : List (Option A)) → first_some (o ∷ os) ≡ None → (o ≡ None) × (first_some os ≡ None)
-first_none None os e = (refl, e)
-first_none (Some f) os e = absurd (cc)
-
 module _ (p : Program) (h : Held) (label : ℕ) (vs : Map Value) (none : first_some (send_rows p h label vs) ≡ None) where
-  pub leaves_place : (nat_lt label (length p.graph.edges) && (source (shape p.graph) label == h.kept.place)) ≡ true
-  leaves_place = elim (cases_Bool (nat_lt label (length p.graph.edges) && (source (shape p.graph) label == h.kept.place))) [
-    | inl e ↦ e
-    | inr e ↦ (let z = rw e at none in absurd (cc))
-  ]
-
-  pub label_there : label < length p.graph.edges
-  label_there = go (nat_lt label (length p.graph.edges)) (source (shape p.graph) label == h.kept.place) refl leaves_place
-    where
-      go : (a b : Bool) → nat_lt label (length p.graph.edges) ≡ a → (a && b) ≡ true → label < length p.graph.edges
-      go true b e t = grind (arith, nat_tests)
-      go false b e t = absurd (cc)
-
-  -- a time is left
-  pub time_left : h.kept.time < 1000000
-  time_left = elim (cases_Bool (nat_le 1000000 h.kept.time)) [
-    | inl e ↦ absurd (spent (first_bad p.graph label vs) (let z = rw (leaves_place, e) at none in z))
-    | inr e ↦ grind (arith, nat_tests)
-  ]
-    where
-      spent : (o : Option ℕ) → first_some (option_map BadValues o ∷ Some TimeSpent ∷ []) ≡ None → ⊥
-      spent None z = cc
-      spent (Some x) z = cc
-
 -- ---- by the session behind the state
 
 module _ (keys : Keyring) (p : Program) (h : Held) (label : ℕ) (values : Map Value) (confounders : List (List ℕ)) (ip : IsProgram real p) (turn : IsBackedAtTurn real p h)

@@ -44,9 +44,6 @@ openings_rise f h = and_both (rises_from 0 (map (λ (o : Opening). o.variable) f
     go [] a = refl
     go (o ∷ os) a = and_both (nat_lt o.variable 32) (list_all (λ k. nat_lt k 32) (map (λ (o : Opening). o.variable) os)) (less o.variable 32 a.0.variable) (go os a.1)
 
-pub times_fit : (f : Frame) → HasSpelling f → All (λ (i : Item). i.time ≤ 1000000) f.items
-times_fit f h = all_at _ f.items (all_map (IsItem f.version) (λ (i : Item). i.time ≤ 1000000) f.items (λ i is. is.time.1) h.fields.items)
-
 -- ---- the last item
 
 last_get : {A : Type 0} (x : A) (xs : List A) (d : A) → last_or x xs ≡ get_or (x ∷ xs) (length xs) d

@@ -25,9 +25,6 @@ use Rattle.sg_protocol.proofs.Sent.{reads_in}
 use Rattle.sg_role.proofs.Joined.{has-map}
 use Rattle.sg_role.specs.Stepping.{first_bad, send_rows, delta_of, commitments_after, own_text, step_commitments, step_item, items_after, frame_with, plain_step, step_frame, step_notes}
 
-abbrev by : Item → ℕ
-by i = i.role
-
 after_last_map : (g : Graph) (r : ℕ) (es : List (Entry Item (List ℕ))) → after_last (λ (i : Item). i.role) r (map (item_of g) es) ≡ map (item_of g) (after_last (λ (e : Entry Item (List ℕ)). e.step.role) r es)
 after_last_map g r [] = refl
 after_last_map g r (e ∷ es) = rw (has-map (item_of g) (λ (i : Item). i.role) r es) (

@@ -5,15 +5,14 @@ use Rattle.std.proofs.lemmas.Bool.{cases_Bool}
 use Rattle.std.proofs.lemmas.Bool.Decides.{nat_tests}
 use Rattle.std.proofs.lemmas.Bool.{eqb-true}
 use Rattle.sg_model.specs.Last.{Map}
-use Rattle.sg_model.specs.Lists.{below, range_from, is_in, keys_of, first_some, rises_from}
-use Rattle.sg_model.specs.Shape.{source}
+use Rattle.sg_model.specs.Lists.{below, range_from, is_in, keys_of, rises_from}
 use Rattle.sg_model.specs.Values.{Value}
 use Rattle.sg_protocol.specs.Acting.{is_bad, is_typed, is_out_of_order}
-use Rattle.sg_protocol.specs.Calls.{SendFault, NoSuchLabel, BadValues, TimeSpent}
-use Rattle.sg_protocol.specs.Graph.{Graph, shape, writes, AreNumbers}
+use Rattle.sg_protocol.specs.Calls.{SendFault}
+use Rattle.sg_protocol.specs.Graph.{Graph, writes, AreNumbers}
 use Rattle.sg_protocol.specs.Keyring.{Program}
 use Rattle.sg_protocol.specs.Standing.{Held}
-use Rattle.sg_role.specs.Stepping.{first_bad, send_rows}
+use Rattle.sg_role.specs.Stepping.{first_bad}
 
 -- ---- the first of the numbers
 
@@ -91,18 +90,6 @@ number_in n ws x a h = below_all n ws x (second (rises_from 0 ws) (list_all (λ 
 -- ---- the rows
 
 module _ (p : Program) (h : Held) (label : ℕ) (vs : Map Value) where
-  pub label_row : (nat_lt label (length p.graph.edges) && (source (shape p.graph) label == h.kept.place)) ≡ false → first_some (send_rows p h label vs) ≡ Some NoSuchLabel
-  label_row l = rw l refl
-
-  pub value_row : (x : ℕ) → (nat_lt label (length p.graph.edges) && (source (shape p.graph) label == h.kept.place)) ≡ true → first_bad p.graph label vs ≡ Some x → first_some (send_rows p h label vs) ≡ Some (BadValues x)
-  value_row x l f = rw (l, f) refl
-
-  pub time_row : (nat_lt label (length p.graph.edges) && (source (shape p.graph) label == h.kept.place)) ≡ true → first_bad p.graph label vs ≡ None → nat_le 1000000 h.kept.time ≡ true → first_some (send_rows p h label vs) ≡ Some TimeSpent
-  time_row l f t = rw (l, f, t) refl
-
-  pub no_row : (nat_lt label (length p.graph.edges) && (source (shape p.graph) label == h.kept.place)) ≡ true → first_bad p.graph label vs ≡ None → nat_le 1000000 h.kept.time ≡ false → first_some (send_rows p h label vs) ≡ None
-  no_row l f t = rw (l, f, t) refl
-
 -- ---- what is told of each
 
 all_suc : {A B : Type 0} (P : B → Type 0) (f : A → B) (xs : List A) (at : ℕ) (x : A) → at < length xs → x ≡ get_or xs at x → AllByRecursion P (map f (take at xs)) → P (f x) → AllByRecursion P (map f (take (suc at) xs))

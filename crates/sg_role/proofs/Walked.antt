@@ -1,20 +1,11 @@
 -- Lists that are walked from the front: what is done of them and what is left.
-use Rattle.std.proofs.Common.{◌≡◌, ℕ, zero, suc, ◌+◌, ◌<◌, ◌≤◌, ◌==◌, ◌||◌, Bool, true, false, List, [], ◌∷◌, ◌++◌, map, filter, filter_map, length, drop, take, get_or, refl, sym, ◌∙◌, ap, Option, Some, None, arith, add-one, append_assoc, append-nil, inl, inr}
+use Rattle.std.proofs.Common.{◌≡◌, ℕ, zero, suc, ◌+◌, ◌<◌, ◌≤◌, ◌==◌, ◌||◌, Bool, true, false, List, [], ◌∷◌, ◌++◌, map, filter, filter_map, length, drop, take, get_or, refl, sym, ◌∙◌, ap, Option, Some, None, arith, append_assoc, append-nil, inl, inr}
 use Rattle.std.proofs.lemmas.Bool.{cases_Bool}
 use Rattle.std.proofs.lemmas.List.{take_more}
 use Rattle.sg_model.specs.Lists.{below}
 use Rattle.sg_protocol.specs.Notes.{Note, Notes}
 use Rattle.sg_role.specs.Stepping.{Extends}
 use Rattle.sg_role.proofs.Lists.{below_more}
-
-drop_suc : {A : Type 0} (xs : List A) (at : ℕ) (d : A) → at < length xs → drop at xs ≡ get_or xs at d ∷ drop (suc at) xs
-drop_suc [] at d l = absurd (omega (arith, l))
-drop_suc (x ∷ xs) zero d l = refl
-drop_suc (x ∷ xs) (suc at) d l = drop_suc xs at d (omega (arith, l))
-
--- what is left from a place on begins with what stands there
-pub left_at : {A : Type 0} (xs : List A) (at : ℕ) (x : A) → at < length xs → x ≡ get_or xs at x → drop at xs ≡ x ∷ drop (at + 1) xs
-left_at xs at x l e = drop_suc xs at x l ∙ ap (λ z. z ∷ drop (suc at) xs) (sym e) ∙ ap (λ n. x ∷ drop n xs) (sym (add-one at))
 
 pub none_left : {A : Type 0} (xs : List A) (at : ℕ) → length xs ≤ at → drop at xs ≡ []
 none_left [] zero l = refl
@@ -64,12 +55,3 @@ extends_more a b c e f = record {
       ∙ ap (λ (n : Notes). record { made = n.made ++ f.made; found = n.found ++ f.found; hashed = n.hashed ++ f.hashed }) e.more
       ∙ (λ i. record { made = append_assoc a.made e.made f.made i; found = append_assoc a.found e.found f.found i; hashed = append_assoc a.hashed e.hashed f.hashed i });
 }
-
-taken : {A : Type 0} (xs ys : List A) → take (length xs) (xs ++ ys) ≡ xs
-taken [] ys = refl
-taken (x ∷ xs) ys = ap (λ l. x ∷ l) (taken xs ys)
-
--- what is kept of notes that went on is what was there
-pub extends_back : (a b : Notes) → Extends a b → record { made = take (length a.made) b.made; found = take (length a.found) b.found; hashed = take (length a.hashed) b.hashed } ≡ a
-extends_back a b e = ap (λ (n : Notes). record { made = take (length a.made) n.made; found = take (length a.found) n.found; hashed = take (length a.hashed) n.hashed }) e.more
-    ∙ (λ i. record { made = taken a.made e.made i; found = taken a.found e.found i; hashed = taken a.hashed e.hashed i })

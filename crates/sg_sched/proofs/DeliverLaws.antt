@@ -83,9 +83,6 @@ deliver_sound ws s h =
 
 -- ---- nothing is left out
 
-not_hex : (n : ℕ) → bytes_eq (frame_word n) (codes "hex") ≡ false
-not_hex n = refl
-
 pub deliver_complete : (who : Name) (what : Delivered) → is_form (SaidDeliver who what) ≡ true → deliver_form (who ∷ delivered_words what) ≡ Some (SaidDeliver who what)
 unfolding deliver_form what_form frame_form word
 deliver_complete who (TheFrame n) h = rw (name_ok who (both_left (is_name who) (is_frame n) h), frame_ok n (both_right (is_name who) (is_frame n) h)) refl

@@ -63,9 +63,6 @@ differ_push t (f ∷ fs) h d = step (bytes_eq t f) (has_text t fs) (has_text f f
 abbrev pub names_with : List (List ℕ) → List (List ℕ) → Option (List (List ℕ))
 names_with front parts = if list_all is_name parts && all_differ (front ++ parts) then Some (front ++ parts) else None
 
-pub names_bad : (front : List (List ℕ)) (t : List ℕ) (parts : List (List ℕ)) → is_name t ≡ false → names_with front (t ∷ parts) ≡ None
-names_bad front t parts h = ap (λ b. if b && list_all is_name parts && all_differ (front ++ t ∷ parts) then Some (front ++ t ∷ parts) else None) h
-
 pub names_twice : (front : List (List ℕ)) (t : List ℕ) (parts : List (List ℕ)) → has_text t front ≡ true → names_with front (t ∷ parts) ≡ None
 names_twice front t parts h = by (list_all is_name (t ∷ parts)) (all_differ (front ++ t ∷ parts)) (differ_twice t front parts h)
   where

@@ -1,13 +1,12 @@
 -- What stands first on a line, word by word.
-use Rattle.std.proofs.Common.{◌≡◌, ℕ, zero, suc, ◌+◌, ◌≤◌, ◌<◌, ◌==◌, Bool, true, false, List, [], ◌∷◌, ◌++◌, length, take, drop, get_or, append_assoc, append-nil, bytes_eq, codes, Option, Some, None, option_map, option_and_then, refl, sym, ap, ◌∙◌, arith}
+use Rattle.std.proofs.Common.{◌≡◌, ℕ, zero, suc, ◌+◌, ◌≤◌, ◌<◌, ◌==◌, true, false, List, [], ◌∷◌, ◌++◌, length, take, drop, get_or, append_assoc, append-nil, bytes_eq, codes, Option, Some, None, option_map, option_and_then, refl, sym, ap, ◌∙◌, arith}
 use Rattle.std.proofs.lemmas.List.{drop_more, drop_all}
 use Rattle.sg_sched.specs.Format.Said.{Word, Committed}
 use Rattle.sg_sched.specs.Format.Reading.{Left, Taker, after}
-use Rattle.sg_sched.specs.Format.CraftReading.{split_last, last_step, committed, run, run_step, some_of, listed, is_next, optional, repeated, more_after, all_names, join, join_parts}
+use Rattle.sg_sched.specs.Format.CraftReading.{split_last, last_step, run, some_of, listed, is_next, optional, repeated, more_after, join, join_parts}
 use Rattle.sg_sched.specs.Format.Reading.{word}
 use Rattle.sg_sched.proofs.FormatWords.{same_self}
-use Rattle.sg_model.specs.Names.{Name, is_name}
-use Rattle.std.specs.List.{list_all}
+use Rattle.sg_model.specs.Names.{Name}
 
 -- ---- the last mark
 
@@ -22,25 +21,11 @@ last_is mark n w l h e =
     let here : split_last mark (get_or w n 0 ∷ drop (n + 1) w) ≡ Some ([], drop (n + 1) w) = rw (h, e) refl in
     split_front mark n w [] (drop (n + 1) w) (omega arith) (ap (split_last mark) (drop_more w n 0 l) ∙ here) ∙ ap (λ (f : Word). Some (f, drop (n + 1) w)) (append-nil (take n w))
 
-pub last_not : (mark n : ℕ) (w : Word) → n < length w → split_last mark (drop (n + 1) w) ≡ None → (get_or w n 0 == mark) ≡ false → split_last mark (drop n w) ≡ None
-last_not mark n w l h e =
-    let here : split_last mark (get_or w n 0 ∷ drop (n + 1) w) ≡ None = rw (h, e) refl in
-    ap (split_last mark) (drop_more w n 0 l) ∙ here
-
 -- ---- commitments
 
 -- the commitments so far, and those that follow
 abbrev pub run_after : List Committed → List Committed × Left → List Committed × Left
 run_after found r = (found ++ r.0, r.1)
-
-pub run_more : (found : List Committed) (w : Word) (ws : Left) (c : Committed) → committed w ≡ Some c → run_after found (run (w ∷ ws)) ≡ run_after (found ++ c ∷ []) (run ws)
-run_more found w ws c h = ap (λ o. run_after found (run_step w ws o (run ws))) h ∙ ap (λ (cs : List Committed). (cs, (run ws).1)) (sym (append_assoc found (c ∷ []) (run ws).0))
-
-pub run_stops : (found : List Committed) (w : Word) (ws : Left) → committed w ≡ None → run_after found (run (w ∷ ws)) ≡ (found, w ∷ ws)
-run_stops found w ws h = ap (λ o. run_after found (run_step w ws o (run ws))) h ∙ ap (λ (cs : List Committed). (cs, w ∷ ws)) (append-nil found)
-
-pub run_ends : (found : List Committed) → run_after found (run []) ≡ (found, [])
-run_ends found = ap (λ (cs : List Committed). (cs, [])) (append-nil found)
 
 -- ---- what is repeated
 
@@ -55,10 +40,6 @@ before_more {A} found x (Some p) = ap (λ (xs : List A). Some (xs, p.1)) (sym (a
 pub repeated_more : {A : Type 0} (first : List ℕ) (take : Taker A) (n m : ℕ) (found : List A) (w : Word) (ws rest : Left) (x : A) → m ≡ suc n → bytes_eq w first ≡ true → take ws ≡ Some (x, rest)
     → found_before found (repeated first take m (w ∷ ws)) ≡ found_before (found ++ x ∷ []) (repeated first take n rest)
 repeated_more first take n m found w ws rest x s e h = rw (s, e, h) (before_more found x (repeated first take n rest))
-
-pub repeated_fails : {A : Type 0} (first : List ℕ) (take : Taker A) (n m : ℕ) (found : List A) (w : Word) (ws : Left) → m ≡ suc n → bytes_eq w first ≡ true → take ws ≡ None
-    → found_before found (repeated first take m (w ∷ ws)) ≡ None
-repeated_fails first take n m found w ws s e h = rw (s, e, h) refl
 
 pub repeated_stops : {A : Type 0} (first : List ℕ) (take : Taker A) (n m : ℕ) (found : List A) (w : Word) (ws : Left) → m ≡ suc n → bytes_eq w first ≡ false
     → found_before found (repeated first take m (w ∷ ws)) ≡ Some (found, w ∷ ws)
@@ -77,9 +58,6 @@ stops first take n m found (w ∷ ws) s e = repeated_stops first take n m found 
 pub goes_on : {A : Type 0} (first : List ℕ) (take : Taker A) (n m : ℕ) (found : List A) (ws rest : Left) (x : A) → m ≡ suc n → take ws ≡ Some (x, rest)
     → found_before found (repeated first take m (first ∷ ws)) ≡ found_before (found ++ x ∷ []) (repeated first take n rest)
 goes_on first take n m found ws rest x s h = repeated_more first take n m found first ws rest x s (same_self first) h
-
-pub fails : {A : Type 0} (first : List ℕ) (take : Taker A) (n m : ℕ) (found : List A) (ws : Left) → m ≡ suc n → take ws ≡ None → found_before found (repeated first take m (first ∷ ws)) ≡ None
-fails first take n m found ws s h = repeated_fails first take n m found first ws s (same_self first) h
 
 -- ---- a word and what is behind it, or nothing
 
@@ -117,16 +95,3 @@ join_other (w ∷ ws) e = rw e refl
 -- the names so far, and those that follow
 abbrev pub names_before : List Name → Option (List Name) → Option (List Name)
 names_before found o = option_map (λ names. found ++ names) o
-
-pub names_more : (found : List Name) (n : Name) (ps : List Word) → is_name n ≡ true → names_before found (all_names (n ∷ ps)) ≡ names_before (found ++ n ∷ []) (all_names ps)
-names_more found n ps h = by (list_all is_name ps) refl
-  where
-    by : (b : Bool) → list_all is_name ps ≡ b → names_before found (all_names (n ∷ ps)) ≡ names_before (found ++ n ∷ []) (all_names ps)
-    by true e = rw (h, e) (ap Some (sym (append_assoc found (n ∷ []) ps)))
-    by false e = rw (h, e) refl
-
-pub names_fail : (found : List Name) (n : Name) (ps : List Word) → is_name n ≡ false → names_before found (all_names (n ∷ ps)) ≡ None
-names_fail found n ps h = rw h refl
-
-pub names_last : (found : List Name) (n : Name) → is_name n ≡ true → names_before found (all_names (n ∷ [])) ≡ Some (found ++ n ∷ [])
-names_last found n h = rw h refl

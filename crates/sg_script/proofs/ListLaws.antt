@@ -1,8 +1,8 @@
 -- Lists of what is there, one after the other.
-use Rattle.std.proofs.Common.{◌≡◌, ℕ, suc, ◌+◌, ◌-◌, ◌<◌, List, [], ◌∷◌, ◌++◌, filter_map, append_assoc, append-nil, refl, sym, ap, ◌∙◌, arith, add-one}
-use Rattle.std.specs.Prelude.{Option, Some, None, option_map, Result, Ok, Err}
+use Rattle.std.proofs.Common.{◌≡◌, ℕ, suc, ◌+◌, ◌-◌, ◌<◌, List, [], ◌∷◌, ◌++◌, filter_map, append_assoc, refl, sym, ap, ◌∙◌, arith, add-one}
+use Rattle.std.specs.Prelude.{Option, Some, None, option_map, Result, Ok}
 use Rattle.sg_model.specs.Lists.{range_from}
-use Rattle.sg_script.specs.Format.{all_there, each_from, then_with}
+use Rattle.sg_script.specs.Format.{all_there, then_with}
 use Rattle.sg_script.specs.declared.fault.ScriptFault.{ScriptFault}
 
 module _ {A : Type 0} where
@@ -10,37 +10,14 @@ module _ {A : Type 0} where
   abbrev pub behind : List A → Option (List A) → Option (List A)
   behind xs o = option_map (λ ys. xs ++ ys) o
 
-  -- nothing was found yet
-  pub behind-nothing : (o : Option (List A)) → behind [] o ≡ o
-  behind-nothing None = refl
-  behind-nothing (Some ys) = refl
-
   -- one more was found
   pub behind-more : (xs : List A) (x : A) (o : Option (List A)) → behind xs (option_map (λ ys. x ∷ ys) o) ≡ behind (xs ++ x ∷ []) o
   behind-more xs x None = refl
   behind-more xs x (Some ys) = ap Some (sym (append_assoc xs (x ∷ []) ys))
 
-  -- all was found
-  pub behind-all : (xs : List A) → behind xs (all_there []) ≡ Some xs
-  behind-all xs = ap Some (append-nil xs)
-
   -- the answer behind what was read
   abbrev pub onto : List A → Result (List A) ScriptFault → Result (List A) ScriptFault
   onto xs r = then_with r (λ ys. Ok (xs ++ ys))
-
-  -- nothing was read yet
-  pub onto-nothing : (r : Result (List A) ScriptFault) → onto [] r ≡ r
-  onto-nothing (Ok ys) = refl
-  onto-nothing (Err e) = refl
-
-  -- one more was read
-  pub onto-more : (xs : List A) (x : A) (r : Result (List A) ScriptFault) → onto xs (then_with r (λ ys. Ok (x ∷ ys))) ≡ onto (xs ++ x ∷ []) r
-  onto-more xs x (Ok ys) = ap Ok (sym (append_assoc xs (x ∷ []) ys))
-  onto-more xs x (Err e) = refl
-
-  -- all was read
-  pub onto-all : (fault : ℕ → ScriptFault) (i : ℕ) (xs : List A) → onto xs (each_from fault i []) ≡ Ok xs
-  onto-all fault i xs = ap Ok (append-nil xs)
 
 -- the numbers from one on
 pub range-step : (i n : ℕ) → i < n → range_from i (n - i) ≡ i ∷ range_from (i + 1) (n - (i + 1))

@@ -70,7 +70,3 @@ label_place g n e is h q =
 pub label_is : (g : Graph) (n : Name) (o : Option ℕ) → IsGraph g → (IsSome o ↔ IsTrue (has_text n (edge_names g))) → IfSome o (λ e. (e < length g.edges) × (edge_name g e ≡ n)) → o ≡ position (bytes_eq n) (edge_names g)
 label_is g n None is f p = number_is (edge_names g) n None f tt
 label_is g n (Some e) is f p = number_is (edge_names g) n (Some e) f (label_place g n e is p.0 p.1)
-
--- the name of a variable among all
-pub variable_named : (g : Graph) (x : ℕ) → x < length g.variables → get_or (variable_names g) x [] ≡ variable_name g x
-variable_named g x h = get_or-map (λ v. v.name) g.variables x _ [] h

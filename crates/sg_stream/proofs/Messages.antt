@@ -1,22 +1,15 @@
 -- Where a list of bytes begins with a message.
-use Rattle.std.proofs.Common.{◌≡◌, ℕ, ◌+◌, ◌<◌, ◌≤◌, ◌^◌, List, [], ◌∷◌, ◌++◌, length, take, drop, refl, sym, ap, ◌∙◌, inl, inr, lit<, arith}
+use Rattle.std.proofs.Common.{◌≡◌, ℕ, ◌+◌, ◌<◌, ◌≤◌, ◌^◌, List, [], ◌∷◌, ◌++◌, length, take, drop, refl, sym, ap, ◌∙◌, lit<, arith}
 use Rattle.std.specs.Int.{w32, to_be_bytes, from_be_bytes}
 use Rattle.std.proofs.lemmas.Nat.{from_be_bytes-to_be_bytes_4}
 use Rattle.std.proofs.lemmas.List.{append_assoc, append_cancel_left, take-append-drop, length-take-le, length-drop, length-append, take_at, drop_at, drop-drop}
-use Rattle.sg_stream.specs.Framed.{IsFrame, message, BeginsMessage, BeginsBad}
+use Rattle.sg_stream.specs.Framed.{IsFrame, message, BeginsMessage}
 
 -- the four bytes before a frame spell its length
 pub spelled-message : (frame rest : List ℕ) → IsFrame frame → from_be_bytes w32 (take 4 (message frame ++ rest)) ≡ length frame
 spelled-message frame rest is =
     let small : length frame < 2 ^ 32 = omega (arith, is.fits) in
     from_be_bytes-to_be_bytes_4 (length frame) small
-
--- a message begins with no bad length
-pub not_bad : (bytes : List ℕ) → BeginsMessage bytes → (len : ℕ) → BeginsBad bytes len → ⊥
-not_bad bytes (frame, rest, is, same) len bad =
-    let spelled : from_be_bytes w32 (take 4 bytes) ≡ length frame = rw same (spelled-message frame rest is) in
-    let here : len ≡ length frame = sym bad.spelled ∙ spelled in
-    elim bad.bad [ inl zero ↦ absurd (omega (arith, is.some)) | inr long ↦ absurd (omega (arith, is.fits)) ]
 
 -- four bytes that spell a length, and as many bytes as that
 pub message_there : (bytes : List ℕ) (len : ℕ) → 4 + len ≤ length bytes → to_be_bytes w32 len ≡ take 4 bytes → bytes ≡ message (take len (drop 4 bytes)) ++ drop (4 + len) bytes

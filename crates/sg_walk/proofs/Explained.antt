@@ -24,12 +24,6 @@ use Rattle.sg_walk.proofs.Steps.{keys_writes}
 
 -- ---- the events
 
--- a start does nothing
-start_none : (e : Told) → is_start e ≡ true → acts_of_event (event_of e) ≡ []
-start_none (Started sid r) h = refl
-start_none (Sent sid r label time values) h = absurd (cc)
-start_none (Received sid r label time values joins) h = absurd (cc)
-
 -- another event does one thing
 one_act : (e : Told) → is_start e ≡ false → (a : Act) × (acts_of_event (event_of e) ≡ a ∷ [])
 one_act (Started sid r) h = absurd (cc)
@@ -40,50 +34,12 @@ one_act (Received sid r label time values joins) h = (_, refl)
 acts_next : (events : List Told) (at : ℕ) (e : Told) → at < length events → e ≡ get_or events at e → acts_from events at ≡ acts_of_event (event_of e) ++ acts_from events (suc at)
 acts_next events at e l is = ap (λ l. flat_map acts_of_event (map event_of l)) (next events at e l is)
 
-acts_end : (events : List Told) (at : ℕ) → length events ≤ at → acts_from events at ≡ []
-acts_end events at l = ap (λ l. flat_map acts_of_event (map event_of l)) (drop_end events at l)
-
--- a start is passed
-pub pass_start : (events : List Told) (from at : ℕ) (e : Told) → at < length events → e ≡ get_or events at e → is_start e ≡ true
-    → acts_from events from ≡ acts_from events at → acts_from events from ≡ acts_from events (at + 1)
-pass_start events from at e l is s h =
-    let up : suc at ≡ at + 1 = omega arith in
-    h ∙ acts_next events at e l is ∙ ap (λ a. a ++ acts_from events (suc at)) (start_none e s) ∙ ap (acts_from events) up
-
-pub pass_end : (events : List Told) (from at : ℕ) → length events ≤ at → acts_from events from ≡ acts_from events at → acts_from events from ≡ []
-pass_end events from at l h = h ∙ acts_end events at l
-
--- another event is the next act
-pub next_found : (events : List Told) (from at : ℕ) (e : Told) → at < length events → e ≡ get_or events at e → is_start e ≡ false
-    → acts_from events from ≡ acts_from events at → IsNextAct events from at
-next_found events from at e l is s h = (l, h, there events at e l is s)
-  where
-    there : (events : List Told) (at : ℕ) (e : Told) → at < length events → e ≡ get_or events at e → is_start e ≡ false → IfSome (slice_get events at) (λ e. is_start e ≡ false)
-    there [] at e l is s = absurd (omega arith)
-    there (x ∷ xs) zero e l is s = subst (λ y. is_start y ≡ false) is s
-    there (x ∷ xs) (suc at) e l is s = there xs at e (omega arith) is s
-
 not_start : (events : List Told) (at : ℕ) (e : Told) → at < length events → e ≡ get_or events at e → IfSome (slice_get events at) (λ e. is_start e ≡ false) → is_start e ≡ false
 not_start [] at e l is h = absurd (omega arith)
 not_start (x ∷ xs) zero e l is h = subst (λ y. is_start y ≡ false) (sym is) h
 not_start (x ∷ xs) (suc at) e l is h = not_start xs at e (omega arith) is h
 
 -- ---- one act of an honest role
-
-pub takes_nothing : (events : List Told) (from : ℕ) (b : Bool) (a : Act) → b ≡ false → Takes events from (act_if b a) (Some from)
-takes_nothing events from true a h = absurd (cc)
-takes_nothing events from false a h = refl
-
-pub takes_it : (events : List Told) (from at : ℕ) (e : Told) (b : Bool) (a : Act) → b ≡ true → e ≡ get_or events at e → IsNextAct events from at
-    → acts_of_event (event_of e) ≡ a ∷ [] → Takes events from (act_if b a) (Some (at + 1))
-takes_it events from at e false a h is n d = absurd (cc)
-takes_it events from at e true a h is n d =
-    let up : suc at ≡ at + 1 = omega arith in
-    n.1 ∙ acts_next events at e n.0 is ∙ ap (λ l. l ++ acts_from events (suc at)) d ∙ ap (λ k. a ∷ acts_from events k) up
-
-pub takes_none : (events : List Told) (from : ℕ) (b : Bool) (a : Act) → b ≡ true → acts_from events from ≡ [] → Takes events from (act_if b a) None
-takes_none events from false a h n = absurd (cc)
-takes_none events from true a h n = λ rest e. let z : [] ≡ a ∷ rest = sym n ∙ e in absurd (cc)
 
 pub takes_other : (events : List Told) (from at : ℕ) (e : Told) (b : Bool) (a : Act) → b ≡ true → e ≡ get_or events at e → IsNextAct events from at
     → (acts_of_event (event_of e) ≡ a ∷ [] → ⊥) → Takes events from (act_if b a) None
@@ -181,14 +137,6 @@ receiving g honest taken now s ss = act_if (honest (receiver (shape g) s.label) 
 acts_of_step : (g : Graph) (honest : ℕ → Bool) (taken : Bool) (store : Map (Option Value)) (s : Step) (ss : List StoredStep)
     → honest_acts g honest taken store (step_of s ∷ ss) ≡ sending g honest s ++ (receiving g honest taken (merge store (writes_of s.writes)) s ss ++ honest_acts g honest taken (merge store (writes_of s.writes)) ss)
 acts_of_step g honest taken store s ss = regroup (sending g honest s) (receiving g honest taken (merge store (writes_of s.writes)) s ss) (honest_acts g honest taken (merge store (writes_of s.writes)) ss)
-
--- the next send isn't there
-pub refuse_sending : (W : Type 0) (g : Graph) (honest : ℕ → Bool) (taken : Bool) (events : List Told) (steps : List Step) (i at : ℕ) (places : List (Option ℕ)) (s : Step)
-    → i < length steps → s ≡ get_or steps i s → Takes events at (sending g honest s) None → Explaining W g honest taken events steps i at places → W → ⊥
-refuse_sending W g honest taken events steps i at places s l is t k w =
-    let e = k.rest.0 w in
-    let e' = subst (λ ss. acts_from events at ≡ honest_acts g honest taken k.store (map step_of ss)) (next steps i s l is) e in
-    t _ (e' ∙ acts_of_step g honest taken k.store s (map step_of (drop (suc i) steps)))
 
 -- the receipt after it isn't there
 pub refuse_receipt : (W : Type 0) (g : Graph) (honest : ℕ → Bool) (taken : Bool) (events : List Told) (steps : List Step) (i at sent : ℕ) (places places' : List (Option ℕ)) (s : Step) (hears : Bool) (xs : List ℕ)

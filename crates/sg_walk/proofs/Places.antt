@@ -13,10 +13,6 @@ use Rattle.sg_walk.specs.declared.stored.StoredStep.{StoredStep as Step}
 use Rattle.sg_walk.proofs.Pairs.{next}
 use Rattle.sg_walk.proofs.Steps.{keys_writes, numbers_below}
 
--- a place is the one that is written, or another
-cases_place : (x n : ℕ) → (x ≡ n) ⊎ (x ≢ n)
-cases_place x n = elim (cases_of (x == n)) [ inl e ↦ inl (grind (arith, nat_tests, e)) | inr e ↦ inr (λ h. absurd (let z : (x == n) ≡ true = grind (arith, nat_tests, h) in let y : true ≡ false = sym z ∙ e in cc)) ]
-
 -- the first of the variables that are left is below 32, and so are the others
 pub small_head : {B : Type 0} (ws : List (ℕ × B)) (i : ℕ) (w : ℕ × B) → i < length ws → w ≡ get_or ws i w → list_all (λ x. nat_lt x 32) (keys_of (drop i ws)) ≡ true
     → (w.0 < 32) × (list_all (λ x. nat_lt x 32) (keys_of (drop (i + 1) ws)) ≡ true)

@@ -88,11 +88,6 @@ steps_on W g m n xs i x l e f t k =
     ) in
     subst (λ q. W ↔ StepsFrom g n (map step_of (drop q xs))) up inner
 
--- the next step doesn't follow
-pub steps_off : (W : Type 0) (g : Graph) (m : ℕ) (xs : List Step) (i : ℕ) (x : Step) → i < length xs → x ≡ get_or xs i x → (Follows g m (step_of x) → ⊥)
-    → (W ↔ StepsFrom g m (map step_of (drop i xs))) → W → ⊥
-steps_off W g m xs i x l e f k w = f (subst (λ ys. StepsFrom g m (map step_of ys)) (next xs i x l e) (k.0 w)).0
-
 -- no step is left
 pub steps_end : (W : Type 0) (g : Graph) (m : ℕ) (xs : List Step) (i : ℕ) → length xs ≤ i → (W ↔ StepsFrom g m (map step_of (drop i xs))) → W
 steps_end W g m xs i l k = k.1 (subst (λ ys. StepsFrom g m (map step_of ys)) (sym (drop_end xs i l)) tt)

@@ -29,13 +29,6 @@ cases_taken : (b : Bool) → (b ≡ true) ⊎ (b ≡ false)
 cases_taken true = inl refl
 cases_taken false = inr refl
 
--- a walk that explains the events with its last receipt
-pub path_whole : (g : Graph) (honest : ℕ → Bool) (events : List Event) (steps : List StoredStep) (sent received b : Bool) → IsStoredWalk g steps → Ends g honest steps sent received → IsPart g honest true events steps
-    → b ≡ (sent || received) → IsTrue b ↔ OnePath g honest events steps
-path_whole g honest events steps sent received b w ends p e =
-    let held = either (λ s. honest (sender (shape g) s.label)) (λ s. honest (receiver (shape g) s.label)) (last steps) sent received ends.0 ends.1 in
-    (λ t. record { taken = true; walk = w; held = held.0 (sym e ∙ t); explained = p.0; awaited = λ z. absurd (cc); hidden = p.1 }, λ o. e ∙ held.1 o.held)
-
 -- a walk that doesn't, with two honest ends
 pub path_last : (g : Graph) (honest : ℕ → Bool) (events : List Event) (steps : List StoredStep) (sent received b : Bool) → IsStoredWalk g steps → Ends g honest steps sent received → (IsPart g honest true events steps → ⊥)
     → sent ≡ true → received ≡ true → (IsTrue b ↔ IsPart g honest false events steps) → IsTrue b ↔ OnePath g honest events steps

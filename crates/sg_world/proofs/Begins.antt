@@ -42,9 +42,6 @@ abbrev pub declared : Setting → List Name → Schedule
 declared d honest = record { graphs = d.graphs; honest = honest; keys = d.keys; sessions = d.sessions; steps = [] }
 
 module _ (d : Setting) (honest : List Name) (size : ℕ) where
-  abbrev pub nodes : List Named
-  nodes = map (new_named d.keys d.programs) honest
-
   pub is_declared : schedule_of d (map (new_named d.keys d.programs) honest) (nothing size) ≡ declared d honest
   is_declared = ap (declared d) (names_new d.keys d.programs honest)
 

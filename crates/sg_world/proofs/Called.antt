@@ -13,7 +13,7 @@ use Rattle.sg_protocol.proofs.Course.{confounder_length}
 use Rattle.sg_protocol.proofs.Spelled.{bytes-append, to_bytes, u64_bytes}
 use Rattle.sg_protocol.specs.Acting.{answer}
 use Rattle.sg_protocol.specs.Calls as Protocol
-use Rattle.sg_protocol.specs.Calls.{Call, Answer, Start, Act, Abandon, Deliver}
+use Rattle.sg_protocol.specs.Calls.{Call, Answer, Start, Act, Deliver}
 use Rattle.sg_protocol.specs.Frame.{Cast, Frame}
 use Rattle.sg_protocol.specs.Graph.{Graph}
 use Rattle.sg_protocol.specs.NodeStates.{NodeState}
@@ -21,7 +21,7 @@ use Rattle.sg_protocol.specs.Notes.{Notes, no_notes, notes as noted_of}
 use Rattle.sg_protocol.specs.Past.{Past, node_of}
 use Rattle.sg_protocol.specs.Ranges.{IsCallInRange, AreValues}
 use Rattle.sg_protocol.specs.Run.{frame_in}
-use Rattle.sg_protocol.specs.Schedule.{Declared, Schedule, StartStep, ActStep, AbandonStep, sid_at, confounder}
+use Rattle.sg_protocol.specs.Schedule.{Declared, Schedule, StartStep, ActStep, sid_at, confounder}
 use Rattle.sg_protocol.specs.Spelling.{spelling, u64}
 use Rattle.sg_protocol.specs.Texts.{real, session_id}
 use Rattle.sg_protocol.specs.Told.{graph_of_call}
@@ -40,11 +40,6 @@ use Rattle.sg_node.specs.declared.fault.Refusal.TheVariants as refusals
 use Rattle.sg_report.specs.Told.{Told, Sends, NotStarted, NotActed, NotDelivered, told_answer}
 use Rattle.sg_world.specs.Comes.{Comes, ComesOfCall}
 use Rattle.sg_world.specs.Kept.{Came}
-
--- what holds of an answer that is there
-pub if_ok : {A E : Type 0} (P Q : A → Type 0) (r : Result A E) → ((x : A) → P x → Q x) → IfOk r P → IfOk r Q
-if_ok P Q (Ok x) f h = f x h
-if_ok P Q (Err e) f h = tt
 
 -- the answer is one that sends nothing, and this is told of it
 abbrev pub Sends_nothing : ℕ → Answer → Option Told → Type 0
@@ -148,11 +143,6 @@ pub comes_act : (s : Schedule) (w : World) (k number : ℕ) (who : Name) (n labe
 comes_act s w k number who n label values ds sid confounders old new past c same at are h =
     subst (λ (z : List ℕ). ComesOfCall number old new past (Act z label values (map (λ (v : ℕ × Value). confounder k v.0) values)) c) (sid_is s n ds sid same at)
     (subst (λ (z : List (List ℕ)). ComesOfCall number old new past (Act sid label values z) c) are h)
-
-pub comes_abandon : (s : Schedule) (w : World) (k number : ℕ) (who : Name) (n : ℕ) (ds : List Declared) (sid : List ℕ) (old new : NodeState) (past : Past) (c : Came)
-    → ds ≡ s.sessions → option_map (λ (d : Declared). session_id real d.cast) (slice_get ds n) ≡ Some sid → ComesOfCall number old new past (Abandon sid) c → Comes number old new past (call_of real s w k (AbandonStep who n)) c
-comes_abandon s w k number who n ds sid old new past c same at h =
-    subst (λ (z : List ℕ). ComesOfCall number old new past (Abandon z) c) (sid_is s n ds sid same at) h
 
 -- ---- answers
 

@@ -1,5 +1,5 @@
 -- The names of sessions, as they are declared and met.
-use Rattle.std.proofs.Common.{◌≡◌, ℕ, ◌+◌, ◌<◌, Bool, true, false, ◌||◌, List, [], ◌∷◌, ◌++◌, map, length, take, drop, take-append-drop, get_or, bytes_eq, Option, Some, None, refl, sym, ◌∙◌, ap, append_assoc, append-nil}
+use Rattle.std.proofs.Common.{◌≡◌, ℕ, ◌+◌, ◌<◌, Bool, true, false, ◌||◌, List, [], ◌∷◌, ◌++◌, map, length, take, drop, take-append-drop, get_or, bytes_eq, Option, Some, None, refl, sym, ◌∙◌, ap, append_assoc}
 use Rattle.std.specs.Prelude.{filter_map}
 use Rattle.std.specs.List.{cons_option}
 use Rattle.std.specs.Option.{option_to_list}
@@ -60,7 +60,3 @@ is_met sid es i e l at here =
     ∙ or_right (has_text sid (filter_map sid_kept (take i es))) (has_text sid (option_to_list (sid_kept e))) here in
     ap (λ z. has_text sid (filter_map sid_kept z)) (sym (take-append-drop (i + 1) es)) ∙ ap (has_text sid) (filter_map-append sid_kept (take (i + 1) es) (drop (i + 1) es))
     ∙ list_any-append (bytes_eq sid) (filter_map sid_kept (take (i + 1) es)) (filter_map sid_kept (drop (i + 1) es)) ∙ ap (λ b. b || has_text sid (filter_map sid_kept (drop (i + 1) es))) so_far
-
--- no event leaves the names as they are
-pub met_none : (m : Met) → m ≡ met_with m []
-met_none m = ap (λ (z : List (List ℕ)). let n : Met = record { declared = m.declared; events = z } in n) (sym (append-nil m.events))

@@ -16,15 +16,14 @@ use Rattle.sg_protocol.specs.Graph.{Graph}
 use Rattle.sg_protocol.specs.Keyring.{Program}
 use Rattle.sg_protocol.specs.NodeStates.{NodeState}
 use Rattle.sg_protocol.specs.Run.{run, world_after}
-use Rattle.sg_protocol.specs.Schedule.{Schedule, Step, who_of, StartStep, ActStep, AbandonStep, DeliverStep, CraftStep}
+use Rattle.sg_protocol.specs.Schedule.{Schedule, Step, who_of}
 use Rattle.sg_protocol.specs.Steps.{with_step, is_taken, record_size}
 use Rattle.sg_protocol.specs.Texts.{real}
 use Rattle.sg_protocol.specs.World.{World, Logged}
-use Rattle.sg_world.specs.Comes.{ComesAt, IsNamed}
+use Rattle.sg_world.specs.Comes.{ComesAt}
 use Rattle.sg_world.specs.Entries.{graph_of_entry}
 use Rattle.sg_world.specs.Holds.{Holds, schedule_of}
 use Rattle.sg_world.specs.Kept.{Came, Taken, Recorded, HoldsRun, with_came, added_size}
-use Rattle.sg_sched.specs.Steps.{CanBeTaken}
 use Rattle.sg_world.specs.Places.{IsPlaceOf}
 use Rattle.sg_world.specs.Setting.{Setting}
 use Rattle.sg_world.proofs.EntryGraphs.{is_before}
@@ -110,11 +109,3 @@ module _ (d : Setting) (nodes now : List Named) (r : Recorded) (x : Step) (c : C
       let before = h.run.size in
       let after = held.size in
       omega (arith, more, before, after, full)
-
--- the principal's step names declared sessions
-pub named : (s : Schedule) (x : Step) → CanBeTaken s x → IsNamed (length s.sessions) x
-named s (StartStep _ n) h = h.declared
-named s (ActStep _ n _ _) h = (h.declared, h.range)
-named s (AbandonStep _ n) h = h.declared
-named s (DeliverStep _ _) h = tt
-named s (CraftStep _) h = tt

@@ -16,10 +16,6 @@ use Rattle.sg_protocol.specs.Texts.{Hash, cut, session_id}
 use Rattle.sg_protocol.specs.World.{World, new_world}
 
 module _ (sha : Hash) (s : Schedule) (xs : List Step) where
-  -- the schedule with these steps
-  abbrev on : Schedule
-  on = record s { steps = xs }
-
   tag_same : (w : World) (text : List ℕ) (x : Source) → tag_by sha s w text x ≡ tag_by sha (record s { steps = xs }) w text x
   tag_same w text (Key a b) = refl
   tag_same w text (CopyItem f i r) = refl

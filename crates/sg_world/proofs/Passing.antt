@@ -1,28 +1,20 @@
 -- The entries of a record, gone through in order.
-use Rattle.std.proofs.Common.{◌≡◌, ℕ, zero, suc, ◌+◌, ◌-◌, ◌<◌, ◌==◌, Bool, true, false, List, [], ◌∷◌, ◌++◌, map, length, take, drop, get_or, refl, sym, ◌∙◌, ap, subst, arith, append_assoc, append-nil}
-use Rattle.std.specs.Prelude.{Option, Some, None, option_map, option_and_then, slice_get, if◌then◌else◌}
+use Rattle.std.proofs.Common.{◌≡◌, ℕ, zero, suc, ◌+◌, ◌-◌, ◌<◌, ◌==◌, List, [], ◌∷◌, ◌++◌, map, length, take, drop, get_or, refl, sym, ◌∙◌, ap, subst, arith, append_assoc, append-nil}
+use Rattle.std.specs.Prelude.{Option, Some, option_and_then, slice_get, if◌then◌else◌}
 use Rattle.std.specs.List.{list_all}
 use Rattle.std.specs.Option.{option_to_list}
-use Rattle.sg_model.specs.Names.{Name}
 use Rattle.sg_protocol.specs.Calls as Protocol
-use Rattle.sg_protocol.specs.Calls.{Event, Call, Deliver, events_of_answer}
+use Rattle.sg_protocol.specs.Calls.{Event, events_of_answer}
 use Rattle.sg_protocol.specs.Keyring.{Program}
-use Rattle.sg_protocol.specs.NodeStates.{NodeState}
 use Rattle.sg_protocol.specs.Run.{run, events_of_outcome}
 use Rattle.sg_protocol.specs.Schedule.{Schedule, Step}
 use Rattle.sg_protocol.specs.Steps.{frame_number}
 use Rattle.sg_protocol.specs.Texts.{real}
 use Rattle.sg_protocol.specs.World as Core
-use Rattle.sg_protocol.specs.World.{World, Logged, bytes_of, frame_at, frames}
+use Rattle.sg_protocol.specs.World.{World, Logged, frames}
 use Rattle.sg_report.specs.Told.{Told, told_after, told_log, told_outcome}
-use Rattle.sg_sched.specs.Format.StepsHeld.{changed}
-use Rattle.sg_sched.specs.declared.step.Change.{Change}
-use Rattle.sg_sched.specs.declared.step.Change.TheVariants.{Whole, Flip, Cut}
-use Rattle.sg_world.specs.Comes.{changed_to}
 use Rattle.sg_world.specs.EntriesOfRun.{AreOfRun, IsOfStep, event_told}
-use Rattle.sg_world.specs.Holds.{Holds, schedule_of}
-use Rattle.sg_world.specs.Kept.{Taken, Recorded}
-use Rattle.sg_world.specs.Setting.{Setting}
+use Rattle.sg_world.specs.Kept.{Taken}
 use Rattle.sg_world.proofs.EntryCalls.{entry_call}
 
 -- ---- events
@@ -46,46 +38,7 @@ told_event n Core.Outcome.NoFrame = refl
 pub events_told : (l : Logged) (n : ℕ) (told : Option Told) (e : Option Event) → told ≡ Some (told_outcome n l.outcome) → e ≡ option_and_then event_told told → events_of_outcome l.outcome ≡ option_to_list e
 events_told l n told e is of = told_event n l.outcome ∙ ap option_to_list (sym (of ∙ ap (option_and_then event_told) is))
 
--- an entry with an event made a call
-pub called : (l : Logged) (e : Event) → (l.call ≡ None → events_of_outcome l.outcome ≡ []) → events_of_outcome l.outcome ≡ e ∷ [] → (c : Call) × (l.call ≡ Some c)
-called l e silent one = by l.call refl
-  where
-    by : (o : Option Call) → l.call ≡ o → (c : Call) × (l.call ≡ Some c)
-    by None q = absurd (let z : [] ≡ e ∷ [] = sym (silent q) ∙ one in cc)
-    by (Some c) q = (c, q)
-
 -- ---- frames
-
-found_first : (xs ys : List (List ℕ)) (i : ℕ) (b : List ℕ) → slice_get xs i ≡ Some b → slice_get (xs ++ ys) i ≡ Some b
-found_first [] ys i b e = absurd (cc)
-found_first (x ∷ xs) ys zero b e = e
-found_first (x ∷ xs) ys (suc i) b e = found_first xs ys i b e
-
--- a frame that was recorded is found later
-pub found_later : (w last : World) (later : List (List ℕ)) (n : ℕ) (b : List ℕ) → frames last ≡ frames w ++ later → frame_at w n ≡ Some b → frame_at last n ≡ Some b
-found_later w last later n b first e = by (n == 0) refl e
-  where
-    by : (z : Bool) → (n == 0) ≡ z → (if z then None else slice_get (frames w) (n - 1)) ≡ Some b → (if z then None else slice_get (frames last) (n - 1)) ≡ Some b
-    by true q h = absurd (cc)
-    by false q h = ap (λ (fs : List (List ℕ)). slice_get fs (n - 1)) first ∙ found_first (frames w) later (n - 1) b h
-
--- the call that a changed frame makes is of a frame that is there
-pub of_change : (w : World) (number : ℕ) (change : Change) (call : Call) → option_map Deliver (bytes_of w (changed number change)) ≡ Some call → (b : List ℕ) × (frame_at w number ≡ Some b) × (call ≡ Deliver (changed_to change b))
-of_change w number Whole call h = by (frame_at w number) refl h
-  where
-    by : (o : Option (List ℕ)) → frame_at w number ≡ o → option_map Deliver o ≡ Some call → (b : List ℕ) × (frame_at w number ≡ Some b) × (call ≡ Deliver b)
-    by None q h = absurd (cc)
-    by (Some b) q h = (b, q, cc)
-of_change w number (Flip at) call h = by (frame_at w number) refl h
-  where
-    by : (o : Option (List ℕ)) → frame_at w number ≡ o → option_map Deliver (option_map (Core.flipped at) o) ≡ Some call → (b : List ℕ) × (frame_at w number ≡ Some b) × (call ≡ Deliver (Core.flipped at b))
-    by None q h = absurd (cc)
-    by (Some b) q h = (b, q, cc)
-of_change w number (Cut len) call h = by (frame_at w number) refl h
-  where
-    by : (o : Option (List ℕ)) → frame_at w number ≡ o → option_map Deliver (option_map (take len) o) ≡ Some call → (b : List ℕ) × (frame_at w number ≡ Some b) × (call ≡ Deliver (take len b))
-    by None q h = absurd (cc)
-    by (Some b) q h = (b, q, cc)
 
 -- ---- entries
 
@@ -185,7 +138,3 @@ module _ (programs : List Program) (s : Schedule) (entries : List Taken) (record
       got [] i x h is = absurd (omega (arith, h))
       got (y ∷ ys) zero x h is = ap (λ z. Some z) (sym is)
       got (y ∷ ys) (suc i) x h is = got ys i x (omega (arith, h)) is
-
--- a record that holds is that of the run of its schedule
-pub of_run : (d : Setting) (nodes : List (Name × NodeState)) (r : Recorded) → Holds d nodes r → AreOfRun d.programs (schedule_of d nodes r) r.entries r.frames
-of_run d nodes r h = record { steps = refl; taken = h.taken; told = h.run.told; frames = h.run.frames }

@@ -1,5 +1,5 @@
 -- What is written is the report of the account.
-use Rattle.std.proofs.Common.{◌≡◌, ◌≢◌, ℕ, Bool, true, false, ◌&&◌, not, List, [], ◌∷◌, ◌++◌, map, flat_map, filter, if◌then◌else◌, bytes_eq, Option, Some, None, is_none, is_some, option_map, MatchBool, OnOk, Result, Ok, Err, refl, sym, ◌∙◌, ap, subst, append-nil}
+use Rattle.std.proofs.Common.{◌≡◌, ◌≢◌, ℕ, Bool, true, false, ◌&&◌, not, List, [], ◌∷◌, ◌++◌, map, flat_map, filter, if◌then◌else◌, bytes_eq, Option, Some, None, is_none, is_some, option_map, MatchBool, OnOk, Result, Ok, Err, refl, sym, ◌∙◌, ap, subst}
 use Rattle.std.specs.List.{AllByRecursion}
 use Rattle.std.proofs.lemmas.Bool.{and_parts}
 use Rattle.std.proofs.lemmas.List.Elements.{All-from_recursion}
@@ -98,14 +98,4 @@ module _ (r : Replay) where
     right = λ h. record { sessions = sids_are w.paths ∙ w.sids; explain = All-from_recursion (Explains (account r)) (map session_walk w.paths) (explain w.paths w.each) };
     spelled = w.text ∙ (λ i. premises i ++ lines_are w.paths w.each i) ∙ ap (λ z. (z ++ premise_lines (account r).forged (account r).collision_free) ++ flat_map (walk_of (account r)) (map session_walk w.paths)) lines
         ∙ ap (λ b. lines_from (met (account r)) 1 (account r).lines ++ premise_lines (account r).forged (account r).collision_free ++ (if b then flat_map (walk_of (account r)) (map session_walk w.paths) else [])) (sym hold);
-  }
-
-  -- and without, where one doesn't
-  pub report_without : (one two : List ℕ) → one ≡ lines_from (met (account r)) 1 (account r).lines → two ≡ one ++ premise_lines (account r).forged (account r).collision_free → premises_hold (account r) ≡ false → IsReport (account r) two
-  report_without one two lines premises hold = record {
-    walks = [];
-    right = λ h. absurd (let z : false ≡ true = sym hold ∙ h in cc);
-    spelled = premises ∙ ap (λ z. z ++ premise_lines (account r).forged (account r).collision_free) lines
-        ∙ sym (append-nil (lines_from (met (account r)) 1 (account r).lines ++ premise_lines (account r).forged (account r).collision_free))
-        ∙ ap (λ b. lines_from (met (account r)) 1 (account r).lines ++ premise_lines (account r).forged (account r).collision_free ++ (if b then [] else [])) (sym hold);
   }

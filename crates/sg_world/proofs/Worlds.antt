@@ -1,10 +1,6 @@
 -- A replay as its parts keep it.
-use Rattle.std.proofs.Common.{◌≡◌, ℕ, ◌<◌, ◌≤◌, true, false, List, map, length, sum_by, Option, Some, option_map, sym, ◌∙◌, ap, subst, arith}
-use Rattle.std.specs.Option.{option_map_or}
-use Rattle.std.proofs.lemmas.List.{length-map}
+use Rattle.std.proofs.Common.{◌≡◌, ℕ, ◌<◌, ◌≤◌, List, map, length, sum_by, Option, Some, option_map, sym, ◌∙◌, ap, subst}
 use Rattle.sg_model.specs.Last.{last}
-use Rattle.sg_model.specs.Lists.{has_text}
-use Rattle.sg_model.specs.Names.{Name}
 use Rattle.sg_protocol.proofs.Steps.{runs_go_by_step}
 use Rattle.sg_protocol.specs.IsSchedule.{AreCompiled, IsSchedule}
 use Rattle.sg_protocol.specs.Keyring.{Program}
@@ -12,17 +8,11 @@ use Rattle.sg_protocol.specs.Schedule.{Schedule, Step}
 use Rattle.sg_protocol.specs.Steps.{with_step}
 use Rattle.sg_protocol.specs.Texts.{real, graph_text_of}
 use Rattle.sg_protocol.specs.World.{Logged}
-use Rattle.sg_world.specs.Faults.{IsStepFault, IsAdmitted}
-use Rattle.sg_world.specs.declared.fault.StepFault.{StepFault}
-use Rattle.sg_world.specs.declared.fault.StepFault.TheVariants.{NotHonest, RecordFull, OutOfMemory}
 use Rattle.sg_world.specs.Holds.{Holds, schedule_of}
 use Rattle.sg_world.specs.Kept.{Recorded, Taken}
-use Rattle.sg_sched.specs.Steps.{CanBeTaken}
-use Rattle.sg_world.specs.Places.{IsFaultOf, IsPlaceOf, names_of}
 use Rattle.sg_world.specs.Replay.{Replay, without_steps, with_taken, run_of, stepped}
 use Rattle.sg_world.specs.Setting.{Setting}
 use Rattle.sg_report.specs.Told.{Told, told_log}
-use Rattle.sg_world.proofs.Found.{placed}
 use Rattle.sg_world.proofs.Lasts.{last-map}
 use Rattle.sg_world.proofs.Begins.{begins, is_declared, new_named, nothing}
 use Rattle.sg_world.proofs.Pasts.{Named}
@@ -51,37 +41,11 @@ begun programs s d nodes r size set named none sized h compiled =
 
 -- ---- a step
 
-pub room_left : (rep : Replay) (d : Setting) (nodes : List Named) (r : Recorded) → replay d nodes r ≡ rep → length rep.schedule.steps < 200000 → length r.entries < 200000
-room_left rep d nodes r is h =
-    let a = ap (λ (z : Replay). length z.schedule.steps) is in
-    let b = length-map r.entries (λ (e : Taken). e.step) in
-    omega (arith, a, b, h)
-
-pub can_take : (rep : Replay) (d : Setting) (nodes : List Named) (r : Recorded) (x : Step) → replay d nodes r ≡ rep → CanBeTaken rep.schedule x → CanBeTaken (schedule_of d nodes r) x
-can_take rep d nodes r x is h = subst (λ (z : Replay). CanBeTaken z.schedule x) (sym is) h
-
-pub fault_is : (rep : Replay) (d : Setting) (nodes : List Named) (r : Recorded) (x : Step) (e : StepFault) → replay d nodes r ≡ rep → Holds d nodes r → IsFaultOf (names_of nodes) r.size x e → IsStepFault rep x e
-fault_is rep d nodes r x e is h f = subst (λ (z : Replay). IsStepFault z x e) is (by e f)
-  where
-    by : (e : StepFault) → IsFaultOf (names_of nodes) r.size x e → IsStepFault (replay d nodes r) x e
-    by (NotHonest name) f = (f.0, subst (λ (o : Option Name). option_map_or (λ n. has_text n (names_of nodes)) o true ≡ false) (sym f.0) f.1)
-    by (RecordFull bytes) f = (f.0, subst (λ (n : ℕ). 264241152 < n) h.run.size f.1, f.2 ∙ h.run.size)
-    by OutOfMemory f = tt
-
-pub admitted : (rep : Replay) (d : Setting) (nodes : List Named) (r : Recorded) (x : Step) (place : Option ℕ) → replay d nodes r ≡ rep → Holds d nodes r → IsPlaceOf nodes x place → r.size ≤ 264241152 → IsAdmitted rep x
-admitted rep d nodes r x place is h at small = subst (λ (z : Replay). IsAdmitted z x) is (placed nodes x place at, λ full. (let e = h.run.size in omega (arith, e, full, small)))
-
 pub taken_is : (rep : Replay) (d : Setting) (nodes now : List Named) (r r2 : Recorded) (x : Step) → replay d nodes r ≡ rep → schedule_of d now r2 ≡ with_step (schedule_of d nodes r) x → replay d now r2 ≡ with_taken rep x
 taken_is rep d nodes now r r2 x is h = ap (λ (z : Schedule). record { programs = d.programs; schedule = z }) h ∙ ap (λ (z : Replay). with_taken z x) is
 
 pub run_is : (rep new : Replay) (x : Step) → new ≡ with_taken rep x → run_of new ≡ stepped rep x
 run_is rep new x h = ap run_of h ∙ runs_go_by_step real rep.programs rep.schedule x
-
-pub back_is : (d : Setting) (nodes now : List Named) (r r2 : Recorded) → (now ≡ nodes) × (r2 ≡ r) → replay d now r2 ≡ replay d nodes r
-back_is d nodes now r r2 h = λ i. replay d (h.0 i) (h.1 i)
-
-pub holds_back : (d : Setting) (nodes now : List Named) (r r2 : Recorded) → (now ≡ nodes) × (r2 ≡ r) → Holds d nodes r → Holds d now r2
-holds_back d nodes now r r2 h k = subst (λ (z : List Named). Holds d z r2) (sym h.0) (subst (λ (z : Recorded). Holds d nodes z) (sym h.1) k)
 
 -- what is told of the last step
 pub last_told : (rep : Replay) (d : Setting) (nodes : List Named) (r : Recorded) → replay d nodes r ≡ rep → Holds d nodes r → option_map (λ (e : Taken). e.told) (last r.entries) ≡ option_map {U = Option Told} Some (last (told_log (run_of rep).log))
