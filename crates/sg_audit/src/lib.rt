@@ -45,6 +45,3 @@ pub use fault::LogFault;
 pub use read::read_logs;
 pub use roles::roles_of;
 pub use session::{Logs, SessionLog};
-
-#[cfg(test)]
-mod tests;

@@ -12,6 +12,3 @@ mod shape;
 
 pub use blinding::{BlindFault, check_blinding};
 pub use shape::{ShapeFault, check_shape};
-
-#[cfg(test)]
-mod tests;

@@ -18,6 +18,3 @@ mod rename;
 pub use expansion::expand;
 pub use fault::ComposeFault;
 pub use laws::expansions_keep_walks;
-
-#[cfg(test)]
-mod tests;

@@ -18,6 +18,3 @@ pub mod laws;
 
 pub use course::Course;
 pub use courses::Courses;
-
-#[cfg(test)]
-mod tests;

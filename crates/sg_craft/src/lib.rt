@@ -24,6 +24,3 @@ pub use frame::make_frame;
 pub use keys::PairKeys;
 pub use laws::crafts_can_be_made;
 pub use means::Means;
-
-#[cfg(test)]
-mod tests;

@@ -21,6 +21,3 @@ pub use key::Key;
 pub use note::{Counts, Note, Notes};
 pub use put::{put_name, put_opening};
 pub use text::{commit_text, frame_text, graph_text, item_text, session_text};
-
-#[cfg(test)]
-mod tests;

@@ -19,6 +19,3 @@ pub use frame::Frame;
 pub use item::Item;
 pub use reading::decode;
 pub use writing::{body_len, encode};
-
-#[cfg(test)]
-mod tests;

@@ -17,6 +17,3 @@ pub use edge::Edge;
 pub use graph::{AddFault, Graph};
 pub use text::canonical_text;
 pub use walk::is_walk;
-
-#[cfg(test)]
-mod tests;

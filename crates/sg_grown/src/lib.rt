@@ -26,6 +26,3 @@ pub use growing::grow;
 pub use laws::{courses_are_grown, sessions_are_grown};
 pub use origins::Origins;
 pub use shown::Shown;
-
-#[cfg(test)]
-mod tests;

@@ -25,6 +25,3 @@ mod word;
 
 pub use key_file::KeyFault;
 pub use keyring::{Keyring, PeerFault};
-
-#[cfg(test)]
-mod tests;

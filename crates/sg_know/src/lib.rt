@@ -16,6 +16,3 @@ mod states;
 
 pub use fault::ReadFault;
 pub use reads::check_reads;
-
-#[cfg(test)]
-mod tests;

@@ -24,6 +24,3 @@ pub use ledger::{AddJoinFault, CreateFault, Ledger, OpenFault};
 pub use medium::Call;
 pub use memory::MemDisk;
 pub use runs::joined_once_over_runs;
-
-#[cfg(test)]
-mod tests;

@@ -20,6 +20,3 @@ pub use named::{put_label, put_role, put_var};
 pub use names::SessionNames;
 pub use value::{put_assigned, put_value, put_values};
 pub use walk::put_walk;
-
-#[cfg(test)]
-mod tests;

@@ -25,6 +25,3 @@ mod start;
 
 pub use fault::{ActFault, Refusal, StartFault, UnknownSession};
 pub use node::Node;
-
-#[cfg(test)]
-mod tests;

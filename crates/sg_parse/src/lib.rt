@@ -44,6 +44,3 @@ pub use fault::ParseFault;
 pub use part::{Part, Use};
 pub use parts::{parse_parts, part_readings_are_spelled};
 pub use text::{canonical_texts_are_read, parse_graph, readings_are_spelled};
-
-#[cfg(test)]
-mod tests;

@@ -9,6 +9,3 @@ mod table;
 
 pub use plan::targets;
 pub use table::TargetTable;
-
-#[cfg(test)]
-mod tests;

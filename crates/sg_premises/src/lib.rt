@@ -15,6 +15,3 @@ mod made;
 pub use collision::{Collision, first_collision};
 pub use forged::{Forged, first_forged};
 pub use honest::Honest;
-
-#[cfg(test)]
-mod tests;

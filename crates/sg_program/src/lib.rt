@@ -22,6 +22,3 @@ pub use compiler::compile;
 pub use load::LoadFault;
 pub use program::Program;
 pub use programs::{AddProgramFault, Programs};
-
-#[cfg(test)]
-mod tests;

@@ -13,6 +13,3 @@ mod ways;
 
 pub use reach::Reach;
 pub use ways::Ways;
-
-#[cfg(test)]
-mod tests;

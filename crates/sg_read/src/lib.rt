@@ -36,6 +36,3 @@ mod values;
 mod whole;
 
 pub use read::read_schedule;
-
-#[cfg(test)]
-mod tests;

@@ -40,6 +40,3 @@ pub use taken::{Done, Taken};
 pub use turn::Turn;
 pub use verdict::examine;
 pub use wait::Await;
-
-#[cfg(test)]
-mod tests;

@@ -52,6 +52,3 @@ pub use schedule::{Declared, Schedule};
 pub use step::{Change, Step, What};
 pub use text::{Words, line_content, split_line};
 pub use value::read_value;
-
-#[cfg(test)]
-mod tests;

@@ -20,6 +20,3 @@ pub use calls::cutting_does_not_matter;
 pub use conns::Conns;
 pub use memory::MemConns;
 pub use reader::{StreamFault, StreamReader};
-
-#[cfg(test)]
-mod tests;

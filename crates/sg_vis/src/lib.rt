@@ -23,6 +23,3 @@ pub use fault::ViewFault;
 pub use finding::views;
 pub use table::{ViewId, ViewTable};
 pub use view::{OpenView, Origin, Seen, View};
-
-#[cfg(test)]
-mod tests;

@@ -15,6 +15,3 @@ mod stored;
 pub use event::Event;
 pub use part::check_part;
 pub use stored::{StoredStep, StoredWalk};
-
-#[cfg(test)]
-mod tests;

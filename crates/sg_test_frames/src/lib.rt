@@ -1,0 +1,19 @@
+//! Tests of hashes, tags and frames, of keys and joins on a disk, of streams, and of the texts of a report.
+#![tactic(auto)]
+
+#[cfg(test)]
+mod craft;
+#[cfg(test)]
+mod crypt;
+#[cfg(test)]
+mod frame;
+#[cfg(test)]
+mod keys;
+#[cfg(test)]
+mod ledger;
+#[cfg(test)]
+mod lines;
+#[cfg(test)]
+mod premises;
+#[cfg(test)]
+mod stream;

@@ -1,0 +1,122 @@
+//! Closures of a graph that is small enough to follow by hand.
+ghost use Rattle.std.specs.Prelude.{◌≡◌, ◌≤◌, false, length};
+ghost use Rattle.sg_model.specs.Lists.{has_text};
+ghost use Rattle.sg_model.specs.Names.{reserved};
+
+use sg_base::{Label, Name, NodeId, Role, RoleSet, VarSet};
+use sg_graph::Graph;
+use sg_reach::{Reach, Ways};
+use std::alloc::Global;
+use std::process::Abort;
+use std::test::Fail;
+
+// Roles c, a and b in a ring, with a second way from the start, and a node that no edge leads to.
+fn ring(alloc: Global, rt: &impl Abort) -> Result<Graph, Fail> {
+    graph_of(
+        alloc,
+        rt,
+        &["c", "a", "b"],
+        &[("n0", 0), ("n1", 1), ("n2", 2), ("n3", 0), ("n4", 1)],
+        &[
+            ("Long", 0, 1),
+            ("On", 1, 2),
+            ("Round", 2, 3),
+            ("Back", 3, 0),
+            ("Short", 0, 2),
+            ("In", 4, 1),
+        ],
+    )
+}
+
+// A graph of these roles, of nodes with their roles' places, and of edges with the places of the nodes that they join.
+fn graph_of(
+    alloc: Global,
+    rt: &impl Abort,
+    roles: &[&str],
+    nodes: &[(&str, u8)],
+    edges: &[(&str, u16, u16)],
+) -> Result<Graph, Fail> {
+    let mut graph = Graph::new(alloc, named(rt, "g"));
+    for role in roles {
+        graph.add_role(named(rt, role))?;
+    }
+    for (name, role) in nodes {
+        assert!(rt; *role < graph.roles());
+        graph.add_node(named(rt, name), Role(*role))?;
+    }
+    for (label, source, target) in edges {
+        assert!(rt; *source < graph.nodes());
+        assert!(rt; *target < graph.nodes());
+        graph.add_edge(
+            named(rt, label),
+            NodeId(*source),
+            NodeId(*target),
+            VarSet::empty(),
+            VarSet::empty(),
+        )?;
+    }
+    Ok(graph)
+}
+
+fn named(rt: &impl Abort, text: &str) -> Name
+    ensures { has_text result reserved ≡ false }
+{
+    let name = Name::new(text.as_bytes()).expect(rt, "a name");
+    assert!(rt; !name.reserved());
+    name
+}
+
+// The nodes that are reached, as a mask of the five.
+fn reached(rt: &impl Abort, reach: &Reach) -> u8 {
+    let mut mask = 0u8;
+    assert!(rt; reach.graph().nodes() == 5);
+    for (place, bit) in [1u8, 2, 4, 8, 16].iter().enumerate() {
+        if reach.has(NodeId((place % 5) as u16)) {
+            mask |= bit;
+        }
+    }
+    mask
+}
+
+#[test]
+fn what_is_reached_past_which_roles(rt: HostRuntime) -> Result<(), Fail> {
+    let graph = ring(rt.alloc(), &rt)?;
+    let ways = Ways::new(&graph);
+    assert!(rt; ways.graph().nodes() == 5);
+    assert!(rt; graph.nodes() == 5);
+    let none = RoleSet::empty();
+    let a = RoleSet::empty().with(Role(1));
+    let b = RoleSet::empty().with(Role(2));
+    assert_eq!(rt; reached(&rt, &ways.reach(NodeId(0), none)), 0b01111);
+    assert_eq!(rt; reached(&rt, &ways.reach(NodeId(4), none)), 0b11111);
+    // A node of a role that isn't passed ends the walks to it.
+    assert_eq!(rt; reached(&rt, &ways.reach(NodeId(0), b)), 0b00111);
+    assert_eq!(rt;
+        reached(&rt, &ways.reach(NodeId(0), a.with(Role(2)))),
+        0b00111
+    );
+    assert_eq!(rt; reached(&rt, &ways.reach(NodeId(3), a)), 0b01111);
+    // Nor does a walk pass its first node where that has such a role.
+    assert_eq!(rt; reached(&rt, &ways.reach(NodeId(1), a)), 0b00010);
+    Ok(())
+}
+
+#[test]
+fn the_walk_and_the_first_node_of_a_role(rt: HostRuntime) -> Result<(), Fail> {
+    let graph = ring(rt.alloc(), &rt)?;
+    assert!(rt; graph.nodes() == 5);
+    let ways = Ways::new(&graph);
+    let reach = ways.reach(NodeId(4), RoleSet::empty().with(Role(2)));
+    assert!(rt; reach.graph().nodes() == 5);
+    assert!(rt; reach.has(NodeId(2)));
+    assert_eq!(rt;
+        reach.walk_to(rt.alloc(), NodeId(2))?.as_slice(),
+        [Label(5), Label(1)].as_slice()
+    );
+    assert!(rt; reach.has(NodeId(4)));
+    assert!(rt; reach.walk_to(rt.alloc(), NodeId(4))?.is_empty());
+    assert_eq!(rt; reach.first_of(Role(1)), Some(NodeId(1)));
+    assert_eq!(rt; reach.first_of(Role(2)), Some(NodeId(2)));
+    assert_eq!(rt; reach.first_of(Role(0)), None);
+    Ok(())
+}
