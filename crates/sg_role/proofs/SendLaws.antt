@@ -26,8 +26,6 @@ none_mapped [] e = refl
 none_mapped (None ∷ os) e = none_mapped os e
 none_mapped (Some f ∷ os) e = absurd (cc)
 
-module _ (p : Program) (h : Held) (label : ℕ) (vs : Map Value) (none : first_some (send_rows p h label vs) ≡ None) where
-
 -- ---- by the session behind the state
 
 module _ (keys : Keyring) (p : Program) (h : Held) (label : ℕ) (values : Map Value) (confounders : List (List ℕ)) (ip : IsProgram real p) (turn : IsBackedAtTurn real p h)

@@ -87,10 +87,6 @@ number_in n ws x a h = below_all n ws x (second (rises_from 0 ws) (list_all (λ 
       | inr q ↦ below_all n ws x p.1 (ap (λ b. b || is_in x ws) (sym q) ∙ h)
     ]
 
--- ---- the rows
-
-module _ (p : Program) (h : Held) (label : ℕ) (vs : Map Value) where
-
 -- ---- what is told of each
 
 all_suc : {A B : Type 0} (P : B → Type 0) (f : A → B) (xs : List A) (at : ℕ) (x : A) → at < length xs → x ≡ get_or xs at x → AllByRecursion P (map f (take at xs)) → P (f x) → AllByRecursion P (map f (take (suc at) xs))
