@@ -19,6 +19,13 @@ use Rattle.sg_protocol.proofs.RealHash.{real_hash}
 use Rattle.sg_role.specs.Stepping.{send_rows, step_item, step_frame}
 use Rattle.sg_role.proofs.StepLaws.{rows_held, item_held, frame_held}
 
+-- ---- no row
+
+none_mapped : (os : List (Option SendFault)) → first_some os ≡ None → first_some (map (option_map Send) os) ≡ None
+none_mapped [] e = refl
+none_mapped (None ∷ os) e = none_mapped os e
+none_mapped (Some f ∷ os) e = absurd (cc)
+
 -- ---- by the session behind the state
 
 module _ (keys : Keyring) (p : Program) (h : Held) (label : ℕ) (values : Map Value) (confounders : List (List ℕ)) (ip : IsProgram real p) (turn : IsBackedAtTurn real p h)
