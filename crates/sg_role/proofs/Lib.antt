@@ -1,5 +1,4 @@
 pub mod Counted
-pub mod Decided
 pub mod Edges
 pub mod Forms
 pub mod Joined
