@@ -84,6 +84,6 @@ if [ "$(head -n 1 "$folder/told")" != 'true true true' ]; then
     exit 1
 fi
 read -r shape blinding plan < <(tail -n 1 "$folder/told")
-printf '%-10s %d.%06d s\n' shape $((shape / 1000000)) $((shape % 1000000))
-printf '%-10s %d.%06d s\n' blinding $((blinding / 1000000)) $((blinding % 1000000))
-printf '%-10s %d.%06d s\n' targets $((plan / 1000000)) $((plan % 1000000))
+printf '%s: %d.%06d s\n' shape $((shape / 1000000)) $((shape % 1000000))
+printf '%s: %d.%06d s\n' blinding $((blinding / 1000000)) $((blinding % 1000000))
+printf '%s: %d.%06d s\n' targets $((plan / 1000000)) $((plan % 1000000))

@@ -92,7 +92,6 @@ def replay(head, before, hostile, refused, last, count):
     return took, peak
 
 
-print(f'{"refusal":16} {"deliveries":>10} {"replays":>7} {"seconds":>8} {"peak MiB":>9}  bytes for each delivery of the second half')
 for name, head, before, hostile, refused, last in FLOODS:
     each = min(STEPS - len(before) - 1, total)
     left, took, peak, replays = total, 0.0, 0, 0
@@ -100,5 +99,6 @@ for name, head, before, hostile, refused, last in FLOODS:
         seconds, memory = replay(head, before, hostile, refused, last, min(each, left))
         left, took, peak, replays = left - min(each, left), took + seconds, max(peak, memory), replays + 1
     _, half = replay(head, before, hostile, refused, last, each // 2)
-    print(f'{name:16} {total:10} {replays:7} {took:8.1f} {peak / 2 ** 20:9.1f}  {(peak - half) / (each - each // 2):.0f}', flush=True)
+    print(f'{name}: {total} deliveries, {replays} replays, {took:.1f} s, peak {peak / 2 ** 20:.1f} MiB, '
+          f'{(peak - half) / (each - each // 2):.0f} bytes for each delivery of the second half', flush=True)
 PYTHON

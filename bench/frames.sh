@@ -1,6 +1,7 @@
 #!/usr/bin/env bash
 # Reads and spells the longest frame that a step makes, 15 steps and 32 openings in 57,028 bytes, 20,000 times each, and prints the
-# throughput. The program is made in a folder of its own, over this repository's crates. Needs python3; no part of the gate.
+# throughput, and the ratio to copying the same bytes in memory. The program is made in a folder of its own, over this repository's crates.
+# Needs python3; no part of the gate.
 set -eu
 source "$(dirname "${BASH_SOURCE[0]}")/common.sh"
 program frames sg_base sg_frame
@@ -45,12 +46,15 @@ open(sys.argv[1] + '/frame', 'wb').write(frame)
 open(sys.argv[1] + '/mode', 'wb').close()
 PYTHON
 (cd "$bench" && rt run) >"$folder/log" 2>&1 || { cat "$folder/log"; exit 1; }
-python3 - "$bench/out/frames" "$bench" <<'PYTHON'
+python3 - "$bench/out/frames" "$bench" "$here/bench" <<'PYTHON'
 import subprocess
 import sys
 import time
 
-program, folder = sys.argv[1:]
+program, folder, bench = sys.argv[1:]
+sys.dont_write_bytecode = True
+sys.path.insert(0, bench)
+import limits
 
 
 def seconds(mode):
@@ -64,5 +68,8 @@ def seconds(mode):
 read = seconds('')
 both = seconds('and spells')
 size = 20000 * 57028 / 1e6
-print(f'reading {size / read:.0f} MB/s, spelling {size / (both - read):.0f} MB/s')
+with open(folder + '/frame', 'rb') as it:
+    copy = 20000 * limits.copied(it.read())
+print(f'reading: {size / read:.0f} MB/s, {read / copy:.1f} times a copy of the bytes')
+print(f'spelling: {size / (both - read):.0f} MB/s, {(both - read) / copy:.1f} times a copy of the bytes')
 PYTHON

@@ -1,6 +1,6 @@
 #!/usr/bin/env bash
 # Checks each graph of the gallery 300 times, and prints its name and the shortest of these runs in milliseconds by the clock, the program's
-# start in it; the first line is the start alone, a run without words. Runs of different graphs take turns, so that a busy machine slows all
+# start in it, and the ratio to that start; the first line is the start alone, a run without words. Runs of different graphs take turns, so that a busy machine slows all
 # alike. The program is the one that `./sessiongraph` has built, or the first word's. Needs python3; no part of the gate.
 set -eu
 here=$(cd "$(dirname "${BASH_SOURCE[0]}")/.." && pwd)
@@ -30,5 +30,5 @@ for _ in range(300):
     for name, words in runs.items():
         shortest[name] = min(shortest[name], milliseconds(words))
 for name, best in shortest.items():
-    print(f'{name} {best:.2f}')
+    print(f'{name}: {best:.2f} ms, {best / shortest["start"]:.2f} times the start')
 PYTHON

@@ -1,7 +1,7 @@
 #!/usr/bin/env bash
 # Reads a graph text of 4 MiB, mostly comments before the statements of 16 roles, 32 variables, 256 nodes and 512 edges, 50 times, and the
-# statements alone 2,000 times, and prints the throughput. The program is made in a folder of its own, over this repository's crates.
-# Needs python3; no part of the gate.
+# statements alone 2,000 times, and prints the throughput, and the ratio to a look at each byte of the same text. The program is made in a
+# folder of its own, over this repository's crates. Needs python3; no part of the gate.
 set -eu
 source "$(dirname "${BASH_SOURCE[0]}")/common.sh"
 program texts sg_graph sg_parse
@@ -54,24 +54,30 @@ open(sys.argv[1] + '/text', 'w').write('\n'.join(statements) + '\n')
 open(sys.argv[1] + '/mode', 'w').close()
 PYTHON
 (cd "$bench" && rt run) >"$folder/log" 2>&1 || { cat "$folder/log"; exit 1; }
-python3 - "$bench/out/texts" "$bench" <<'PYTHON'
-import os
+python3 - "$bench/out/texts" "$bench" "$here/bench" <<'PYTHON'
 import shutil
 import subprocess
 import sys
 import time
 
-program, folder = sys.argv[1:]
+program, folder, bench = sys.argv[1:]
+sys.dont_write_bytecode = True
+sys.path.insert(0, bench)
+import limits
 
 
-def throughput(text, mode, count):
+def tell(name, text, mode, count):
     shutil.copy(f'{folder}/{text}', f'{folder}/text')
     open(folder + '/mode', 'w').write(mode)
     begun = time.monotonic()
     said = subprocess.run([program], stdout=subprocess.PIPE, check=True, cwd=folder).stdout
+    took = time.monotonic() - begun
     assert said == b"%d\n" % count, said
-    return count * os.path.getsize(f'{folder}/text') / 1e6 / (time.monotonic() - begun)
+    with open(folder + '/text', 'rb') as it:
+        data = it.read()
+    print(f'{name}: {count * len(data) / 1e6 / took:.0f} MB/s, {took / count / limits.looked(data):.1f} times a look at each byte')
 
 
-print(f'mostly comments {throughput("commented", "few", 50):.0f} MB/s, statements alone {throughput("statements", "", 2000):.0f} MB/s')
+tell('mostly comments', 'commented', 'few', 50)
+tell('statements alone', 'statements', '', 2000)
 PYTHON

@@ -150,6 +150,6 @@ for name, made, sizes in (('asked again', asked, (24_500, 49_000)), ('shop, retr
         took, used, lines = timed([program, 'replay', folder + '/text'])
         _, alone, _ = timed([hashes])
         spent, hashing = used.ru_utime + used.ru_stime, alone.ru_utime + alone.ru_stime
-        print(f'{name:19} {size:7}  {lines:7} lines  {took:6.2f} s  {spent:6.2f} s of processor  {used.ru_maxrss / 1024:7.1f} MiB  '
-              f'hashes {hashing:6.2f} s  ratio {spent / hashing:5.2f}')
+        print(f'{name}, {size}: {lines} lines, {took:.2f} s, {spent:.2f} s of processor, {used.ru_maxrss / 1024:.1f} MiB, hashes {hashing:.2f} s, '
+              f'ratio {spent / hashing:.2f}')
 PYTHON

@@ -1,7 +1,7 @@
 #!/usr/bin/env bash
 # Reads schedules of four mixes, starts and acts, deliveries in hexadecimal digits, crafts, and many sessions, of 200,000 steps or 100,000 sessions,
-# and a tenth of each. Prints for each the megabytes per processor second and the peak memory of the run: a schedule ten times as long takes ten times as long,
-# since a line costs the same however many stand before it.
+# and a tenth of each. Prints for each the megabytes per processor second, the ratio to a look at each byte, and the peak memory of the run: a schedule
+# ten times as long takes ten times as long, since a line costs the same however many stand before it.
 # The program is made in a folder of its own, over this repository's crates. Needs python3; no part of the gate.
 set -eu
 source "$(dirname "${BASH_SOURCE[0]}")/common.sh"
@@ -28,12 +28,15 @@ mkdir "$bench/data"
 printf 'honest a\n' >"$bench/data/text"
 echo 0 >"$bench/stdout"
 made=$(built)
-python3 - "$made" "$folder" <<'PYTHON'
+python3 - "$made" "$folder" "$here/bench" <<'PYTHON'
 import os
 import subprocess
 import sys
 
-program, folder = sys.argv[1:]
+program, folder, bench = sys.argv[1:]
+sys.dont_write_bytecode = True
+sys.path.insert(0, bench)
+import limits
 
 # What the steps of each mix are, how many there are, and of how many sessions.
 MIXES = (
@@ -67,6 +70,8 @@ for name, steps, sessions, kinds in MIXES:
         took = used.ru_utime + used.ru_stime
         if status != 0 or answer != b'%d\n' % (steps // part):
             sys.exit(f'{name}: status {status}, {answer[:40]!r}')
-        print(f'{name:17}  {steps // part:6} steps  {sessions // part:6} sessions  {size:6.1f} MB  {took:6.2f} s  '
-              f'{size / took:6.1f} MB/s  {used.ru_maxrss / 1024:7.1f} MiB')
+        with open(folder + '/text', 'rb') as text:
+            look = limits.looked(text.read())
+        print(f'{name}, {steps // part} steps, {sessions // part} sessions: {size:.1f} MB, {took:.2f} s, {size / took:.1f} MB/s, '
+              f'{took / look:.1f} times a look at each byte, {used.ru_maxrss / 1024:.1f} MiB')
 PYTHON

@@ -1,6 +1,8 @@
 #!/usr/bin/env bash
-# Times a million tags of 136 bytes under a key of 32, as many by Python's hmac.digest, and prints both and their ratio. The program is
-# made in a folder of its own, over this repository's crates. Needs python3; no part of the gate.
+# Times a million tags of 136 bytes under a key of 32, as many by Python's hmac.digest, and prints both and their ratio. Then it prints what a program
+# written by hand would pay for the hashes of some sessions, both sides of each message together: the compressions of SHA-256 that their tags and
+# digests take, which tools/model.py tells, each as dear as one of the six of such a tag. The program is made in a folder of its own, over this
+# repository's crates. Needs python3; no part of the gate.
 set -eu
 source "$(dirname "${BASH_SOURCE[0]}")/common.sh"
 program million_tags sg_base sg_crypt
@@ -21,11 +23,17 @@ fn main(rt: HostRuntime) -> Result<(), io::Error> {
 }
 RATTLE
 (cd "$bench" && rt run) >"$folder/log" 2>&1 || { cat "$folder/log"; exit 1; }
-python3 - "$bench/out/million_tags" <<'PYTHON'
+python3 - "$bench/out/million_tags" "$here" <<'PYTHON'
 import hmac
+import pathlib
 import subprocess
 import sys
 import time
+
+top = pathlib.Path(sys.argv[2])
+sys.dont_write_bytecode = True
+sys.path.insert(0, str(top / 'bench'))
+import limits
 
 begun = time.monotonic()
 said = int(subprocess.run([sys.argv[1]], stdout=subprocess.PIPE, check=True).stdout)
@@ -38,5 +46,14 @@ for _ in range(1_000_000):
 theirs = time.monotonic() - begun
 if text[10] != said:
     sys.exit('the tags differ')
-print(f'a million tags of 136 bytes: {ours:.2f} s, by Python {theirs:.2f} s, ratio {ours / theirs:.2f}')
+# Of each of the two hashes the block of the key, and the blocks of what is hashed behind it.
+compression = ours / 1e6 / (1 + limits.blocks(136) + 1 + limits.blocks(32))
+print(f'a million tags of 136 bytes: {ours:.2f} s, by Python {theirs:.2f} s, ratio {ours / theirs:.2f}; a compression takes {compression * 1e9:.0f} ns')
+for path in [top / 'examples/request-reply.schedule', top / 'examples/shop-honest.schedule', *sorted((top / 'examples/gallery').glob('*/honest.schedule'))]:
+    steps = limits.of_schedule(path)
+    messages = sum(words.startswith('act ') for words, *_ in steps)
+    tags, digests, compressions = (sum(step[place] for step in steps) for place in (1, 2, 3))
+    name = path.parent.name if path.stem == 'honest' else path.stem
+    print(f'by hand, {name}: {messages} messages, {tags} tags, {digests} digests, {compressions} compressions, '
+          f'{compressions * compression * 1e6 / messages:.2f} microseconds for each message')
 PYTHON

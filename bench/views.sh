@@ -106,5 +106,5 @@ said = subprocess.run([sys.argv[1]], stdout=subprocess.PIPE, check=True).stdout
 seconds = time.monotonic() - begun
 assert said == b"4096\n", said
 memory = resource.getrusage(resource.RUSAGE_CHILDREN).ru_maxrss / 1024
-print(f'4,096 views of 62,931 open views in {seconds:.2f} s and {memory:.0f} MiB')
+print(f'4,096 views of 62,931 open views: {seconds:.2f} s, {memory:.0f} MiB')
 PYTHON
