@@ -1,0 +1,218 @@
+#!/usr/bin/env bash
+# Runs commands with the k-th allocation refused, for each k from 1 to as many as the run makes; then with the k-th and all later ones refused; then with
+# the k-th call that opens, reads or writes failing; and then with the k-th of these that reads or writes taking one byte alone. Without memory a run must
+# end with status 8, say `out of memory` and write nothing, or end as it does with ample memory, where a growth that is refused only saves time. Where a
+# call on the file fails, it must end with status 5, say `file failed: f` and write nothing; where one on what it writes fails, with status 6, and what is
+# written is a front part of what it writes else. Where a call takes one byte, it must end as ever. Prints for each run how many allocations and calls it
+# makes, each of which was tried, and with what statuses these runs ended. Needs python3 and a C compiler; no part of the gate.
+#
+#     bench/allocations.sh [PROGRAM]
+#
+# PROGRAM stands in the place of the one that ./sessiongraph has built. The exit status is 0 where every run ended as it must, and 1 otherwise.
+set -eu
+here=$(cd "$(dirname "${BASH_SOURCE[0]}")/.." && pwd)
+program=${1-$here/crates/sg_cli/out/sg_cli}
+[ -x "$program" ] || { echo "allocations: $program is not built: run ./sessiongraph once" >&2; exit 1; }
+folder=$(mktemp -d)
+trap 'rm -rf "$folder"' EXIT
+cat >"$folder/failing.c" <<'C'
+// Stands before the C library's calls: counts them, and lets those fail that the environment names.
+#define _GNU_SOURCE
+#include <dlfcn.h>
+#include <errno.h>
+#include <fcntl.h>
+#include <stdarg.h>
+#include <stdio.h>
+#include <stdlib.h>
+#include <string.h>
+#include <sys/types.h>
+#include <unistd.h>
+
+static long allocations, calls;
+
+static long wanted(const char *name) {
+    const char *text = getenv(name);
+    return text ? atol(text) : 0;
+}
+
+static int refused(void) {
+    long count = ++allocations, one = wanted("REFUSED"), from = wanted("REFUSED_FROM");
+    return count == one || (from && count >= from);
+}
+
+static int fails(void) { return ++calls == wanted("FAILING"); }
+
+extern void *__libc_malloc(size_t);
+extern void *__libc_calloc(size_t, size_t);
+extern void *__libc_realloc(void *, size_t);
+extern void *__libc_memalign(size_t, size_t);
+
+static void *none(void) {
+    errno = ENOMEM;
+    return 0;
+}
+
+void *malloc(size_t size) { return refused() ? none() : __libc_malloc(size); }
+void *calloc(size_t count, size_t size) { return refused() ? none() : __libc_calloc(count, size); }
+void *realloc(void *block, size_t size) { return refused() ? none() : __libc_realloc(block, size); }
+void *memalign(size_t wide, size_t size) { return refused() ? none() : __libc_memalign(wide, size); }
+void *aligned_alloc(size_t wide, size_t size) { return memalign(wide, size); }
+
+int posix_memalign(void **block, size_t wide, size_t size) {
+    if (refused()) return ENOMEM;
+    *block = __libc_memalign(wide, size);
+    return *block ? 0 : ENOMEM;
+}
+
+// What was called: O, R or W, and for R and W the file's number.
+static char told[65536];
+static size_t told_length;
+
+static void tell(char kind, int file) {
+    if (told_length + 2 < sizeof told) {
+        told[told_length++] = kind;
+        told[told_length++] = (char)('0' + (file < 9 ? file : 9));
+    }
+}
+
+static void *next(const char *name) { return dlsym(RTLD_NEXT, name); }
+
+static int failed(void) {
+    errno = EIO;
+    return -1;
+}
+
+#define OPENS(name)                                                          \
+    int name(const char *path, int flags, ...) {                             \
+        va_list rest;                                                        \
+        va_start(rest, flags);                                               \
+        mode_t mode = flags & (O_CREAT | __O_TMPFILE) ? va_arg(rest, mode_t) : 0; \
+        va_end(rest);                                                        \
+        tell('O', 0);                                                        \
+        if (fails()) return failed();                                        \
+        return ((int (*)(const char *, int, ...))next(#name))(path, flags, mode); \
+    }
+OPENS(open)
+OPENS(open64)
+
+#define OPENS_AT(name)                                                       \
+    int name(int folder, const char *path, int flags, ...) {                 \
+        va_list rest;                                                        \
+        va_start(rest, flags);                                               \
+        mode_t mode = flags & (O_CREAT | __O_TMPFILE) ? va_arg(rest, mode_t) : 0; \
+        va_end(rest);                                                        \
+        tell('O', 0);                                                        \
+        if (fails()) return failed();                                        \
+        return ((int (*)(int, const char *, int, ...))next(#name))(folder, path, flags, mode); \
+    }
+OPENS_AT(openat)
+OPENS_AT(openat64)
+
+static size_t taken(size_t size) { return size > 1 && calls == wanted("SHORT") ? 1 : size; }
+
+ssize_t read(int file, void *bytes, size_t size) {
+    tell('R', file);
+    if (fails()) return failed();
+    return ((ssize_t (*)(int, void *, size_t))next("read"))(file, bytes, taken(size));
+}
+
+ssize_t write(int file, const void *bytes, size_t size) {
+    tell('W', file);
+    if (fails()) return failed();
+    return ((ssize_t (*)(int, const void *, size_t))next("write"))(file, bytes, taken(size));
+}
+
+// Writes what was counted into the file that the environment names, by calls that are not counted.
+__attribute__((destructor)) static void count(void) {
+    const char *path = getenv("COUNTS");
+    if (!path) return;
+    char text[64];
+    int length = snprintf(text, sizeof text, "%ld %ld ", allocations, calls);
+    int file = ((int (*)(const char *, int, ...))next("open"))(path, O_WRONLY | O_CREAT | O_TRUNC, 0600);
+    ssize_t (*put)(int, const void *, size_t) = (ssize_t (*)(int, const void *, size_t))next("write");
+    if (file >= 0 && put(file, text, (size_t)length) == length) put(file, told, told_length);
+}
+C
+${CC:-cc} -shared -fPIC -O1 -o "$folder/failing.so" "$folder/failing.c" -ldl
+python3 - "$program" "$folder" "$here" <<'PYTHON'
+import collections
+import os
+import pathlib
+import subprocess
+import sys
+
+program, folder, here = sys.argv[1], pathlib.Path(sys.argv[2]), pathlib.Path(sys.argv[3])
+PAIR = 'graph pair;role a;role b;node n0:a;node n1:b;node n2:a;edge Request:n0->n1;edge Reply:n1->n2;\n'
+# What is run, over which file, which stands as `f`.
+RUNS = [
+    ('check of two roles', ['check', 'f'], PAIR),
+    ('check of the shop', ['check', 'f'], here / 'examples/shop.graph'),
+    ('check of a blinding', ['check', 'f'], here / 'examples/blinded.graph'),
+    ('check of what is no graph', ['check', 'f'], here / 'examples/misspelled.graph'),
+    ('compile of two roles', ['compile', 'f', 'a'], PAIR),
+    ('compile of the shop', ['compile', 'f', 'w'], here / 'examples/shop.graph'),
+    ('compile for no role', ['compile', 'f', 'x'], here / 'examples/shop.graph'),
+    ('replay of two roles', ['replay', 'f'], here / 'examples/request-reply.schedule'),
+    ('replay of the shop', ['replay', 'f'], here / 'examples/shop-honest.schedule'),
+    ('replay of a stolen key', ['replay', 'f'], here / 'examples/stolen-key.schedule'),
+    ('replay of what is no schedule', ['replay', 'f'], 'honest a\nhonest a\n'),
+    ('audit', ['audit', 'f'], here / 'examples/honest.logs'),
+    ('compose', ['compose', 'f'], here / 'examples/marketplace.parts'),
+    ('no command', ['draw', 'f'], PAIR),
+]
+# An answer: the status, and what is on standard output and on standard error.
+Answer = collections.namedtuple('Answer', 'status out err')
+WANT = Answer(8, b'', b'out of memory\n')
+failed = 0
+
+
+def run(words, **how):
+    """What the program answers where calls fail so."""
+    added = {'LD_PRELOAD': str(folder / 'failing.so'), 'COUNTS': str(folder / 'counts'), **{name: str(number) for name, number in how.items()}}
+    ended = subprocess.run([program, *words], env={**os.environ, **added}, cwd=folder / 'room', capture_output=True, stdin=subprocess.DEVNULL, check=False)
+    return Answer(ended.returncode, ended.stdout, ended.stderr)
+
+
+def try_all(name, what, words, count, kind, may):
+    """Runs with each number up to the count, and gives in words how these runs ended."""
+    global failed
+    ends = collections.Counter()
+    for number in range(1, count + 1):
+        answer = run(words, **{kind: number})
+        ends[answer.status] += 1
+        if not may(number, answer):
+            failed += 1
+            print(f'{name}: {what} {number}: status {answer.status}, {answer.out[:80]!r}, {answer.err[:80]!r}')
+    return f'{what}: ' + (', '.join(f'{many} ended with {status}' for status, many in sorted(ends.items())) or 'none')
+
+
+def is_front(part, whole):
+    return whole.startswith(part)
+
+
+(folder / 'room').mkdir()
+for name, words, text in RUNS:
+    (folder / 'room/f').write_bytes(text.encode() if isinstance(text, str) else text.read_bytes())
+    wanted = run(words)
+    allocations, calls, told = (folder / 'counts').read_text().split(' ')
+    kinds = [told[place:place + 2] for place in range(0, len(told), 2)]
+    if int(calls) != len(kinds):
+        sys.exit(f'{name}: {calls} calls, of which {len(kinds)} were told')
+
+    def without_memory(_, answer):
+        return answer in (WANT, wanted)
+
+    def with_failing_call(number, answer):
+        if kinds[number - 1] in ('W1', 'W2'):
+            return answer.status == 6 and is_front(answer.out, wanted.out) and is_front(answer.err, wanted.err)
+        return answer == Answer(5, b'', b'file failed: f\n')
+
+    def as_ever(_, answer):
+        return answer == wanted
+
+    without = [try_all(name, what, words, int(allocations), kind, without_memory)
+               for what, kind in (('each refused', 'REFUSED'), ('all refused from each on', 'REFUSED_FROM'))]
+    failing = [try_all(name, 'each failing', words, int(calls), 'FAILING', with_failing_call), try_all(name, 'each taking a byte', words, int(calls), 'SHORT', as_ever)]
+    print(f'{name}: {allocations} allocations, ' + '; '.join(without) + f'; {calls} calls, ' + '; '.join(failing), flush=True)
+sys.exit(1 if failed else 0)
+PYTHON
