@@ -36,7 +36,7 @@ program() {
 }
 
 # built: proves and builds the program, and names it. What a run of `rt ci` on this machine proved of the same files is taken, so after the gate only
-# the program itself is proved. It must print nothing where it is given no words.
+# the program itself is proved. `rt ci` runs it without words over the files in `data`, and it must write what the file `stdout` has, or nothing.
 built() {
     local name
     name=$(basename "$bench")

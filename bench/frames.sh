@@ -32,7 +32,9 @@ fn passes(alloc: Global, bytes: &[u8], reads_alone: bool) -> bool {
     }
 }
 RATTLE
-python3 - "$bench" <<'PYTHON'
+mkdir "$bench/data"
+echo 20000 >"$bench/stdout"
+python3 - "$bench/data" <<'PYTHON'
 import sys
 
 item = bytes([0, 0, 0, 0, 0, 0, 1, 32]) + b''.join(bytes([v]) + bytes(32) for v in range(32))
@@ -45,8 +47,8 @@ assert len(frame) == 57028
 open(sys.argv[1] + '/frame', 'wb').write(frame)
 open(sys.argv[1] + '/mode', 'wb').close()
 PYTHON
-(cd "$bench" && rt run) >"$folder/log" 2>&1 || { cat "$folder/log"; exit 1; }
-python3 - "$bench/out/frames" "$bench" "$here/bench" <<'PYTHON'
+made=$(built)
+python3 - "$made" "$bench/data" "$here/bench" <<'PYTHON'
 import subprocess
 import sys
 import time

@@ -11,8 +11,8 @@ cat >"$bench/src/main.rt" <<'RATTLE'
 
 use sg_base::{Role, Sid};
 use sg_cache::Cache;
-use std::io;
 use std::time::Instant;
+use std::{fs, io};
 
 fn sid_of(number: u32) -> Sid {
     let mut bytes = [0u8; 32];
@@ -45,7 +45,11 @@ fn look_up(cache: &Cache, mask: u32) -> u32 {
     found
 }
 
+// It measures where the file `go` has a byte.
 fn main(rt: HostRuntime) -> io::Result<()> {
+    if fs::read(&rt, "go")?.is_empty() {
+        return Ok(());
+    }
     let mut cache = Cache::new(rt.alloc());
     let start = Instant::now(&rt)?;
     let few = claim_all(&mut cache, 0, 1024);
@@ -100,9 +104,12 @@ fn main() {
     println!("{} {} {} {}", claims.as_micros(), more_claims.as_micros(), few_time.as_micros(), many_time.as_micros());
 }
 RUST
-(cd "$bench" && rt run >"$folder/log" 2>&1) || { cat "$folder/log" >&2; exit 1; }
+mkdir "$bench/data"
+: >"$bench/data/go"
+made=$(built)
+echo >"$folder/go"
 rustc -O -o "$folder/many_joins" "$folder/many_joins.rs"
-"$bench/out/many_joins" >"$folder/ours"
+(cd "$folder" && "$made") >"$folder/ours"
 "$folder/many_joins" >"$folder/theirs"
 if [ "$(head -n 1 "$folder/ours")" != "$(head -n 1 "$folder/theirs")" ]; then
     echo 'the answers differ' >&2

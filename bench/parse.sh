@@ -33,7 +33,9 @@ fn passes(alloc: Global, bytes: &[u8]) -> bool {
     }
 }
 RATTLE
-python3 - "$bench" <<'PYTHON'
+mkdir "$bench/data"
+echo 2000 >"$bench/stdout"
+python3 - "$bench/data" "$folder" <<'PYTHON'
 import sys
 
 statements = ['graph g;']
@@ -48,13 +50,13 @@ comment = (line * (each // len(line) + 1))[:each - 1] + '\n'
 assert comment.endswith('\n')
 whole = ''.join(comment + s + '\n' for s in statements)
 assert len(whole) <= 4 * 1024 * 1024
-open(sys.argv[1] + '/commented', 'w').write(whole)
-open(sys.argv[1] + '/statements', 'w').write('\n'.join(statements) + '\n')
+open(sys.argv[2] + '/commented', 'w').write(whole)
+open(sys.argv[2] + '/statements', 'w').write('\n'.join(statements) + '\n')
 open(sys.argv[1] + '/text', 'w').write('\n'.join(statements) + '\n')
 open(sys.argv[1] + '/mode', 'w').close()
 PYTHON
-(cd "$bench" && rt run) >"$folder/log" 2>&1 || { cat "$folder/log"; exit 1; }
-python3 - "$bench/out/texts" "$bench" "$here/bench" <<'PYTHON'
+made=$(built)
+python3 - "$made" "$folder" "$here/bench" <<'PYTHON'
 import shutil
 import subprocess
 import sys

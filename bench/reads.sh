@@ -169,9 +169,11 @@ loop-number-preserved c =
       | else-mask-number-eq1 w ↦ subst (AreNumbers (length c.args.graph.now.variables)) (sym w.vars-is) c.loop-number.invariant
     ]
 ANTT
-: >"$bench/times"
-(cd "$bench" && rt run) >"$folder/log" 2>&1 || { cat "$folder/log"; exit 1; }
-python3 - "$bench/out/reads" "$bench" <<'PYTHON'
+mkdir "$bench/data"
+: >"$bench/data/times"
+echo 0 >"$bench/stdout"
+made=$(built)
+python3 - "$made" "$folder" <<'PYTHON'
 import subprocess
 import sys
 import time

@@ -94,8 +94,9 @@ fn named(number: u16) -> Option<Name>
     Some(name)
 }
 RATTLE
-(cd "$bench" && rt run) >"$folder/log" 2>&1 || { cat "$folder/log"; exit 1; }
-python3 - "$bench/out/listing" <<'PYTHON'
+echo 4096 >"$bench/stdout"
+made=$(built)
+python3 - "$made" <<'PYTHON'
 import resource
 import subprocess
 import sys
