@@ -1,6 +1,6 @@
 #!/usr/bin/env bash
 # Audits the logs of one session of a ring of 2, 4 and 16 roles, each of which has a log, with 1,000 to 100,000 events, and prints for each
-# the events per second, the ratio to a look at each byte of the same logs, and the peak memory of the run. Logs ten times as long that take ten times
+# the events per second of a processor, the ratio to a look at each byte of the same logs, and the peak memory of the run. Logs ten times as long that take ten times
 # as long, and a little more for the order by time, show that an event costs the same however many there are. Needs python3; no part of the gate.
 set -u
 here=$(cd "$(dirname "${BASH_SOURCE[0]}")/.." && pwd) || exit 1
@@ -9,9 +9,7 @@ trap 'rm -rf "$folder"' EXIT
 "$here/sessiongraph" audit "$here/examples/honest.logs" >/dev/null || exit 1
 python3 - "$here/sessiongraph" "$folder" "$here/bench" <<'PYTHON'
 import os
-import subprocess
 import sys
-import time
 
 program, folder, bench = sys.argv[1:]
 sys.dont_write_bytecode = True
@@ -42,15 +40,11 @@ for roles in (2, 4, 16):
         path = os.path.join(folder, f'{roles}-{events}')
         with open(path, 'w') as out:
             out.write('\n'.join(lines(roles, events)) + '\n')
-        begun = time.monotonic()
-        child = subprocess.Popen([program, 'audit', path], stdout=subprocess.PIPE)
-        answer = child.stdout.read()
-        _, status, used = os.wait4(child.pid, 0)
-        took = time.monotonic() - begun
-        if status != 0 or not answer.startswith(b'audit s1 yes\n'):
-            sys.exit(f'{roles} roles, {events} events: status {status}, {answer[:40]!r}')
+        answer, took, peak = limits.ran([program, 'audit', path])
+        if not answer.startswith(b'audit s1 yes\n'):
+            sys.exit(f'{roles} roles, {events} events: {answer[:40]!r}')
         with open(path, 'rb') as logs:
             look = limits.looked(logs.read())
         print(f'{roles:2} roles, {events:6} events: {took:6.2f} s, {events / took:9.0f} events/s, {took / look:5.1f} times a look at each byte, '
-              f'{used.ru_maxrss / 1024:7.1f} MiB')
+              f'{peak:7.1f} MiB')
 PYTHON

@@ -49,9 +49,7 @@ open(sys.argv[1] + '/mode', 'wb').close()
 PYTHON
 made=$(built)
 python3 - "$made" "$bench/data" "$here/bench" <<'PYTHON'
-import subprocess
 import sys
-import time
 
 program, folder, bench = sys.argv[1:]
 sys.dont_write_bytecode = True
@@ -60,11 +58,11 @@ import limits
 
 
 def seconds(mode):
-    open(folder + '/mode', 'w').write(mode)
-    begun = time.monotonic()
-    said = subprocess.run([program], stdout=subprocess.PIPE, check=True, cwd=folder).stdout
+    with open(folder + '/mode', 'w') as it:
+        it.write(mode)
+    said, spent, _ = limits.ran([program], folder)
     assert said == b"20000\n", said
-    return time.monotonic() - begun
+    return spent
 
 
 read = seconds('')

@@ -1,11 +1,13 @@
-"""What the benches compare with: the compressions of SHA-256 in what is tagged and hashed, and passes over bytes.
+"""What the benches compare with, the compressions of SHA-256 in what is tagged and hashed, and passes over bytes; and how they run a program.
 
     python3 bench/limits.py NANOSECONDS SCHEDULE..
 
 prints what the hashes of each step of a schedule take where a compression takes so many nanoseconds.
 """
 import pathlib
+import subprocess
 import sys
+import tempfile
 import time
 
 sys.dont_write_bytecode = True
@@ -42,14 +44,33 @@ def steps_of(path):
     return [words for words in lines if words and words[0] in ('start', 'act', 'abandon', 'deliver', 'craft')]
 
 
+# A process of its own, since the peak of a child begins with that of the process that made it.
+MEASURE = """import os, subprocess, sys
+with open(sys.argv[1], 'wb') as out:
+    child = subprocess.Popen(sys.argv[2:], stdout=out)
+_, status, used = os.wait4(child.pid, 0)
+print(status, used.ru_utime + used.ru_stime, used.ru_maxrss / 1024)
+"""
+
+
+def ran(words, folder=None):
+    """Runs a program in a folder: what it printed, the seconds of a processor that it took, and its peak memory in MiB. It must end with status 0."""
+    with tempfile.NamedTemporaryFile() as out:
+        told = subprocess.run([sys.executable, '-c', MEASURE, out.name, *words], cwd=folder, stdout=subprocess.PIPE, text=True, check=True).stdout
+        status, spent, peak = told.split()
+        if status != '0':
+            sys.exit(f'{words}: status {status}')
+        return out.read(), float(spent), float(peak)
+
+
 def least(work, times=5):
-    """The least of the seconds of some runs of some work."""
+    """The least of the seconds of a processor that some runs of some work took."""
     took = []
     for _ in range(times):
-        begun = time.perf_counter()
+        begun = time.process_time()
         work()
-        took.append(time.perf_counter() - begun)
-    return min(took)
+        took.append(time.process_time() - begun)
+    return max(min(took), 1e-9)
 
 
 def looked(data):

@@ -58,9 +58,7 @@ PYTHON
 made=$(built)
 python3 - "$made" "$folder" "$here/bench" <<'PYTHON'
 import shutil
-import subprocess
 import sys
-import time
 
 program, folder, bench = sys.argv[1:]
 sys.dont_write_bytecode = True
@@ -70,10 +68,9 @@ import limits
 
 def tell(name, text, mode, count):
     shutil.copy(f'{folder}/{text}', f'{folder}/text')
-    open(folder + '/mode', 'w').write(mode)
-    begun = time.monotonic()
-    said = subprocess.run([program], stdout=subprocess.PIPE, check=True, cwd=folder).stdout
-    took = time.monotonic() - begun
+    with open(folder + '/mode', 'w') as it:
+        it.write(mode)
+    said, took, _ = limits.ran([program], folder)
     assert said == b"%d\n" % count, said
     with open(folder + '/text', 'rb') as it:
         data = it.read()

@@ -173,20 +173,21 @@ mkdir "$bench/data"
 : >"$bench/data/times"
 echo 0 >"$bench/stdout"
 made=$(built)
-python3 - "$made" "$folder" <<'PYTHON'
-import subprocess
+python3 - "$made" "$folder" "$here/bench" <<'PYTHON'
 import sys
-import time
 
-program, folder = sys.argv[1:]
+program, folder, bench = sys.argv[1:]
+sys.dont_write_bytecode = True
+sys.path.insert(0, bench)
+import limits
 
 
 def seconds(times):
-    open(folder + '/times', 'w').write('.' * times)
-    begun = time.monotonic()
-    said = subprocess.run([program], stdout=subprocess.PIPE, check=True, cwd=folder).stdout
+    with open(folder + '/times', 'w') as it:
+        it.write('.' * times)
+    said, spent, _ = limits.ran([program], folder)
     assert said == b"%d\n" % times, said
-    return time.monotonic() - begun
+    return spent
 
 
 built = seconds(0)

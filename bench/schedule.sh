@@ -30,7 +30,6 @@ echo 0 >"$bench/stdout"
 made=$(built)
 python3 - "$made" "$folder" "$here/bench" <<'PYTHON'
 import os
-import subprocess
 import sys
 
 program, folder, bench = sys.argv[1:]
@@ -64,14 +63,11 @@ for name, steps, sessions, kinds in MIXES:
         with open(folder + '/text', 'w') as out:
             out.writelines(line + '\n' for line in lines(steps // part, sessions // part, kinds))
         size = os.path.getsize(folder + '/text') / 1e6
-        child = subprocess.Popen([program], stdout=subprocess.PIPE, cwd=folder)
-        answer = child.stdout.read()
-        _, status, used = os.wait4(child.pid, 0)
-        took = used.ru_utime + used.ru_stime
-        if status != 0 or answer != b'%d\n' % (steps // part):
-            sys.exit(f'{name}: status {status}, {answer[:40]!r}')
+        answer, took, peak = limits.ran([program], folder)
+        if answer != b'%d\n' % (steps // part):
+            sys.exit(f'{name}: {answer[:40]!r}')
         with open(folder + '/text', 'rb') as text:
             look = limits.looked(text.read())
         print(f'{name}, {steps // part} steps, {sessions // part} sessions: {size:.1f} MB, {took:.2f} s, {size / took:.1f} MB/s, '
-              f'{took / look:.1f} times a look at each byte, {used.ru_maxrss / 1024:.1f} MiB')
+              f'{took / look:.1f} times a look at each byte, {peak:.1f} MiB')
 PYTHON

@@ -1,5 +1,5 @@
 #!/usr/bin/env bash
-# Times a million tags of 136 bytes under a key of 32, as many by Python's hmac.digest, and prints both and their ratio. Then it prints what a program
+# Times a million tags of 136 bytes under a key of 32, as many by Python's hmac.digest, and prints the seconds of a processor of both, and their ratio. Then it prints what a program
 # written by hand would pay for the hashes of some sessions, both sides of each message together: the compressions of SHA-256 that their tags and
 # digests take, which tools/model.py tells, each as dear as one of the six of such a tag. The program is made in a folder of its own, over this
 # repository's crates. Needs python3; no part of the gate.
@@ -35,7 +35,6 @@ made=$(built)
 python3 - "$made" "$here" <<'PYTHON'
 import hmac
 import pathlib
-import subprocess
 import sys
 import time
 
@@ -44,16 +43,14 @@ sys.dont_write_bytecode = True
 sys.path.insert(0, str(top / 'bench'))
 import limits
 
-begun = time.monotonic()
-said = int(subprocess.run([sys.argv[1]], stdout=subprocess.PIPE, check=True).stdout)
-ours = time.monotonic() - begun
-begun = time.monotonic()
+said, ours, _ = limits.ran([sys.argv[1]])
+begun = time.process_time()
 text, key = bytearray(136), b'\x11' * 32
 text[:10] = b'sg-frame-1'
 for _ in range(1_000_000):
     text[10] = hmac.digest(key, text, 'sha256')[0]
-theirs = time.monotonic() - begun
-if text[10] != said:
+theirs = time.process_time() - begun
+if text[10] != int(said):
     sys.exit('the tags differ')
 # Of each of the two hashes the block of the key, and the blocks of what is hashed behind it.
 compression = ours / 1e6 / (1 + limits.blocks(136) + 1 + limits.blocks(32))

@@ -96,16 +96,15 @@ fn named(number: u16) -> Option<Name>
 RATTLE
 echo 4096 >"$bench/stdout"
 made=$(built)
-python3 - "$made" <<'PYTHON'
-import resource
-import subprocess
+python3 - "$made" "$here/bench" <<'PYTHON'
 import sys
-import time
 
-begun = time.monotonic()
-said = subprocess.run([sys.argv[1]], stdout=subprocess.PIPE, check=True).stdout
-seconds = time.monotonic() - begun
+program, bench = sys.argv[1:]
+sys.dont_write_bytecode = True
+sys.path.insert(0, bench)
+import limits
+
+said, spent, peak = limits.ran([program])
 assert said == b"4096\n", said
-memory = resource.getrusage(resource.RUSAGE_CHILDREN).ru_maxrss / 1024
-print(f'4,096 views of 62,931 open views: {seconds:.2f} s, {memory:.0f} MiB')
+print(f'4,096 views of 62,931 open views: {spent:.2f} s, {peak:.0f} MiB')
 PYTHON
