@@ -1,10 +1,11 @@
 #!/usr/bin/env bash
 # Runs commands with the k-th allocation refused, for each k from 1 to as many as the run makes; then with the k-th and all later ones refused; then with
 # the k-th call that opens, reads or writes failing; and then with the k-th of these that reads or writes taking one byte alone. Without memory a run must
-# end with status 8, say `out of memory` and write nothing, or end as it does with ample memory, where a growth that is refused only saves time. Where a
-# call on the file fails, it must end with status 5, say `file failed: f` and write nothing; where one on what it writes fails, with status 6, and what is
-# written is a front part of what it writes else. Where a call takes one byte, it must end as ever. Prints for each run how many allocations and calls it
-# makes, each of which was tried, and with what statuses these runs ended. Needs python3 and a C compiler; no part of the gate.
+# end with status 8, say `out of memory` and write nothing, or end as it does with ample memory, where a growth that is refused only saves time; or, while
+# the words are made, before the program begins, end with status 1 and the library's own line. Where a call on the file fails, it must end with status 5,
+# say `file failed: f` and write nothing; where one on what it writes fails, with status 6, and what is written is a front part of what it writes else.
+# Where a call takes one byte, it must end as ever. Prints for each run how many allocations and calls it makes, each of which was tried, and with what
+# statuses these runs ended. Needs python3 and a C compiler; no part of the gate.
 #
 #     bench/allocations.sh [PROGRAM]
 #
@@ -163,6 +164,8 @@ RUNS = [
 # An answer: the status, and what is on standard output and on standard error.
 Answer = collections.namedtuple('Answer', 'status out err')
 WANT = Answer(8, b'', b'out of memory\n')
+# (`main` ends so where there is no memory for the words)
+BEFORE = Answer(1, b'', b'Error: Kind(OutOfMemory)\n')
 failed = 0
 
 
@@ -199,8 +202,8 @@ for name, words, text in RUNS:
     if int(calls) != len(kinds):
         sys.exit(f'{name}: {calls} calls, of which {len(kinds)} were told')
 
-    def without_memory(_, answer):
-        return answer in (WANT, wanted)
+    def without_memory(number, answer):
+        return answer in (WANT, wanted) or answer == BEFORE and number <= 4 + len(words)
 
     def with_failing_call(number, answer):
         if kinds[number - 1] in ('W1', 'W2'):
