@@ -7,7 +7,8 @@ here=$(cd "$(dirname "${BASH_SOURCE[0]}")/.." && pwd) || exit 1
 folder=$(mktemp -d) || exit 1
 trap 'rm -rf "$folder"' EXIT
 "$here/sessiongraph" audit "$here/examples/honest.logs" >/dev/null || exit 1
-python3 - "$here/sessiongraph" "$folder" "$here/bench" <<'PYTHON'
+# (the program itself, since ./sessiongraph first looks whether it is built)
+python3 - "$here/crates/sg_cli/out/sg_cli" "$folder" "$here/bench" <<'PYTHON'
 import os
 import sys
 

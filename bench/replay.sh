@@ -65,7 +65,8 @@ mkdir "$bench/data"
 : >"$bench/data/counts"
 hashes=$(built)
 "$here/sessiongraph" replay "$here/examples/shop-honest.schedule" >/dev/null || exit 1
-python3 - "$here/sessiongraph" "$folder" "$here/examples/shop.graph" "$hashes" "$here/tools" <<'PYTHON'
+# (the program itself, since ./sessiongraph first looks whether it is built)
+python3 - "$here/crates/sg_cli/out/sg_cli" "$folder" "$here/examples/shop.graph" "$hashes" "$here/tools" <<'PYTHON'
 import collections
 import os
 import subprocess
