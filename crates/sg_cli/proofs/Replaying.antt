@@ -13,7 +13,7 @@ use Rattle.sg_sched.specs.Format.Spells.{SpellsSchedule}
 use Rattle.sg_world.specs.Account.{CanBeNamed, account}
 use Rattle.sg_world.specs.Faults.{IsFull}
 use Rattle.sg_world.specs.Replay.{Replay}
-use Rattle.sg_cli.specs.Ending.{Ending, Written, NoCommand, NoGraph, NoExpansion, GraphRefused, NoRole, WrongLine, FileFailed, WriteFailed, NoMemory, NoSuchFile, TooLarge}
+use Rattle.sg_cli.specs.Ending.{Ending, Written, NoCommand, NoGraph, NoExpansion, GraphRefused, NoRole, WrongLine, KeysRefused, ScriptRefused, ProgramRefused, FileFailed, WriteFailed, LinkFailed, NoMemory, NoSuchFile, TooLarge}
 use Rattle.sg_cli.specs.Ends.{Output, IsReplay, Replays}
 use Rattle.sg_cli.specs.Replayed.{CanBeReplayed, HasNoRoom, Reports, Stops, replay_of, replay_up_to}
 
@@ -40,8 +40,12 @@ module _ (programs : List Program) (s : Schedule) where
   stops n w (GraphRefused g fault) e l h = absurd h
   stops n w (NoRole role) e l h = absurd h
   stops n w (WrongLine line wrong) e l h = absurd h
+  stops n w (KeysRefused fault) e l h = absurd h
+  stops n w (ScriptRefused fault) e l h = absurd h
+  stops n w (ProgramRefused number cause) e l h = absurd h
   stops n w (FileFailed file) e l h = absurd h
   stops n w WriteFailed e l h = absurd h
+  stops n w LinkFailed e l h = absurd h
   stops n w NoMemory e l h = tt
   stops n w (NoSuchFile file) e l h = absurd h
   stops n w (TooLarge what) e l h = (h.0, record { before = n; begins = l; full = subst IsFull e h.1 })
@@ -72,8 +76,12 @@ module _ (programs : List Program) (s : Schedule) where
     stopped out (GraphRefused g fault) h = absurd h
     stopped out (NoRole role) h = absurd h
     stopped out (WrongLine line wrong) h = absurd h
+    stopped out (KeysRefused fault) h = absurd h
+    stopped out (ScriptRefused fault) h = absurd h
+    stopped out (ProgramRefused number cause) h = absurd h
     stopped out (FileFailed file) h = absurd h
     stopped out WriteFailed h = absurd h
+    stopped out LinkFailed h = absurd h
     stopped out NoMemory h = refl
     stopped out (NoSuchFile file) h = absurd h
     stopped out (TooLarge what) h = (refl, inr (h.0, record { schedule = s; programs = programs; spelled = spelled; compiled = compiled; overfull = h.1 }))

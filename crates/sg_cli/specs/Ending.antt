@@ -4,7 +4,9 @@ use Rattle.std.specs.Fmt.{decimal}
 use Rattle.sg_protocol.specs.Graph.{Graph}
 use Rattle.sg_parse.specs.declared.fault.ParseFault.{ParseFault}
 use Rattle.sg_compose.specs.declared.fault.ComposeFault.{ComposeFault}
+use Rattle.sg_keys.specs.declared.key_file.KeyFault.{KeyFault}
 use Rattle.sg_program.specs.declared.check.CompileFault.{CompileFault}
+use Rattle.sg_script.specs.declared.fault.ScriptFault.{ScriptFault}
 use Rattle.sg_sched.specs.Format.Kinds as Format
 use Rattle.sg_sched.specs.declared.fault.LineFault.{LineFault}
 use Rattle.sg_sched.specs.declared.fault.LineFault.TheVariants.{Line, OutOfMemory}
@@ -12,6 +14,8 @@ use Rattle.sg_read.specs.Taken.{kind_of}
 use Rattle.sg_audit.specs.declared.fault.LogFault.{LogFault}
 use Rattle.sg_audit.specs.declared.fault.LogFault.TheVariants.{Form as FormOfLogs, Unknown as UnknownInLogs, Twice as TwiceInLogs, Graph as GraphOfLogs, TooManyEvents, OutOfMemory as NoMemoryForLogs}
 use Rattle.sg_cli.specs.Refusal.{parse_text, compose_text, refusal_text}
+use Rattle.sg_cli.specs.Inputs.{keys_text, script_text, program_text}
+use Rattle.sg_cli.specs.declared.input.BadProgram.{BadProgram}
 use Rattle.sg_cli.specs.declared.ending.Wrong.{Wrong}
 use Rattle.sg_cli.specs.declared.ending.Wrong.TheVariants.{Form, Unknown, Twice, NotHonest}
 
@@ -31,10 +35,18 @@ pub data Ending : Type 0 where
   NoRole : (role : List ℕ) → Ending
   -- this line of the schedule or of the logs is the first that is wrong
   WrongLine : (line : ℕ) → Wrong → Ending
+  -- the bytes are no key file
+  KeysRefused : KeyFault → Ending
+  -- the bytes are no script beside the programs
+  ScriptRefused : ScriptFault → Ending
+  -- the program of this number, counted from 1, isn't taken
+  ProgramRefused : (number : ℕ) → BadProgram → Ending
   -- the file could not be read
   FileFailed : (file : List ℕ) → Ending
   -- what was to be written was not taken
   WriteFailed : Ending
+  -- the link failed
+  LinkFailed : Ending
   -- memory was wanted, and none was to be had
   NoMemory : Ending
   -- there is no such file
@@ -51,8 +63,12 @@ status_of (NoExpansion fault) = 3
 status_of (GraphRefused g fault) = 3
 status_of (NoRole role) = 4
 status_of (WrongLine line wrong) = 4
+status_of (KeysRefused fault) = 4
+status_of (ScriptRefused fault) = 4
+status_of (ProgramRefused number cause) = 4
 status_of (FileFailed file) = 5
 status_of WriteFailed = 6
+status_of LinkFailed = 7
 status_of NoMemory = 8
 status_of (NoSuchFile file) = 9
 status_of (TooLarge what) = 10
@@ -67,14 +83,18 @@ wrong_text NotHonest = codes "not-honest"
 -- the line on standard error
 abbrev pub line_of : Ending → List ℕ
 line_of Written = []
-line_of NoCommand = codes "usage: sessiongraph check|compile|replay|audit|compose\n"
+line_of NoCommand = codes "usage: sessiongraph check|compile|run|replay|audit|compose\n"
 line_of (NoGraph fault) = codes "graph refused: " ++ parse_text fault ++ 10 ∷ []
 line_of (NoExpansion fault) = codes "graph refused: " ++ compose_text fault ++ 10 ∷ []
 line_of (GraphRefused g fault) = codes "graph refused: " ++ refusal_text g fault ++ 10 ∷ []
 line_of (NoRole role) = codes "input refused: role " ++ role ++ 10 ∷ []
 line_of (WrongLine line wrong) = codes "input refused: line " ++ decimal line ++ 32 ∷ wrong_text wrong ++ 10 ∷ []
+line_of (KeysRefused fault) = codes "input refused: keys " ++ keys_text fault ++ 10 ∷ []
+line_of (ScriptRefused fault) = codes "input refused: script " ++ script_text fault ++ 10 ∷ []
+line_of (ProgramRefused number cause) = codes "input refused: program " ++ decimal number ++ program_text cause ++ 10 ∷ []
 line_of (FileFailed file) = codes "file failed: " ++ file ++ 10 ∷ []
 line_of WriteFailed = []
+line_of LinkFailed = codes "link failed\n"
 line_of NoMemory = codes "out of memory\n"
 line_of (NoSuchFile file) = codes "no such file: " ++ file ++ 10 ∷ []
 line_of (TooLarge what) = codes "too large: " ++ what ++ 10 ∷ []

@@ -1,4 +1,4 @@
--- What the program leaves, and why it ends as it does.
+-- What a command on one file leaves, and why it ends as it does.
 use Rattle.std.specs.Prelude.{◌≡◌, ◌≢◌, ℕ, ◌≤◌, ◌<◌, ◌⊎◌, List, [], ◌∷◌, All, Option, Some, None, Ok, Err, codes, length, slice_get, IsSomeAnd, IsTrue, ⊤}
 use Rattle.sg_base.specs.Outside.{HasRisen, Appends, AppendsFront, file_at}
 use Rattle.sg_protocol.specs.Accepted.{Accepted}
@@ -28,8 +28,7 @@ use Rattle.sg_sched.specs.Format.Kinds.{Kind}
 use Rattle.sg_sched.specs.Format.Spells.{SpellsSchedule, IsFirstFault}
 use Rattle.sg_cli.specs.Accepted.{check_text}
 use Rattle.sg_cli.specs.Audited.{AllAnswered}
-use Rattle.sg_cli.specs.Command.{Command, Check, Compile, Replay, Audit, Compose, command_of}
-use Rattle.sg_cli.specs.Ending.{Ending, Written, NoCommand, NoGraph, NoExpansion, GraphRefused, NoRole, WrongLine, FileFailed, WriteFailed, NoMemory, NoSuchFile, TooLarge, status_of, line_of, ending_of_line, ending_of_logs}
+use Rattle.sg_cli.specs.Ending.{Ending, Written, NoGraph, NoExpansion, GraphRefused, NoRole, WrongLine, FileFailed, WriteFailed, NoMemory, NoSuchFile, TooLarge, ending_of_line, ending_of_logs}
 use Rattle.sg_cli.specs.Replayed.{CanBeReplayed, Reports, IsOverfull}
 
 -- files, each its name and its bytes, where they are told
@@ -222,30 +221,3 @@ abbrev pub OnFile : (List ℕ → (old new : Output) → Ending → Type 0) → 
 OnFile Does most file told faults faults' old new ending =
     ((bytes : List ℕ) × Has told file (Some bytes) × (length bytes ≤ most) × Does bytes old new ending)
     ⊎ ((new.bytes ≡ old.bytes) × IsUnread most file told faults faults' ending)
-
--- the work that a command asks for ends so
-abbrev pub Works : Option Command → Told → (faults faults' : ℕ) → (old new : Output) → Ending → Type 0
-Works None told faults faults' old new ending = (new.bytes ≡ old.bytes) × (ending ≡ NoCommand)
-Works (Some (Check file)) told faults faults' old new ending = OnFile Checks 4194304 file told faults faults' old new ending
-Works (Some (Compile file role)) told faults faults' old new ending = OnFile (Compiles role) 4194304 file told faults faults' old new ending
-Works (Some (Replay file)) told faults faults' old new ending = OnFile Replays 16777216 file told faults faults' old new ending
-Works (Some (Audit file)) told faults faults' old new ending = OnFile Audits 16777216 file told faults faults' old new ending
-Works (Some (Compose file)) told faults faults' old new ending = OnFile Composes 4194304 file told faults faults' old new ending
-
--- a line is written and its status given, or it is not taken whole, which the count of faults shows, and the status is that of a failed write
-abbrev pub Puts : (old new : Output) → (line : List ℕ) → (wanted status : ℕ) → Type 0
-Puts old new line wanted status =
-    ((status ≡ wanted) × Appends old.bytes new.bytes line)
-    ⊎ ((status ≡ 6) × HasRisen old.faults new.faults × AppendsFront old.bytes new.bytes line)
-
--- how the program says how its work ended: by the ending's line and status, or, where memory was wanted for a line, by saying this
-abbrev pub Says : Ending → (old new : Output) → (status : ℕ) → Type 0
-Says work old new status =
-    Puts old new (line_of work) (status_of work) status
-    ⊎ ((line_of work ≢ []) × Puts old new (line_of NoMemory) (status_of NoMemory) status)
-
--- the program ended with this status: its work ended in some way, and so it says
-pub record Ends (words : List (List ℕ)) (told : Told) (faults faults' : ℕ) (out out' err err' : Output) (status : ℕ) : Type 0 where
-  pub work : Ending
-  pub works : Works (command_of words) told faults faults' out out' work
-  pub says : Says work err err' status

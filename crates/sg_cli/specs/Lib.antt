@@ -1,8 +1,11 @@
-pub mod Command
 pub mod Refusal
+pub mod Inputs
 pub mod Accepted
 pub mod Audited
 pub mod Ending
 pub mod Replayed
 pub mod Ends
+pub mod Setup
+pub mod Runs
+pub mod Top
 pub mod Held

@@ -3,12 +3,15 @@ ghost use Rattle.std.specs.Prelude.{◌≡◌, ◌≢◌, ◌++◌, ◌∷◌, [
 ghost use Rattle.sg_cli.specs.Ending.{status_of, line_of, wrong_text};
 ghost use Rattle.sg_cli.specs.Held.{ending_held};
 
+use crate::input::{BadProgram, put_no_keys, put_no_program, put_no_script};
 use crate::refusal::{put_no_expansion, put_no_graph, put_refusal};
 use sg_base::{ByteOut, OutOfMemory};
 use sg_compose::ComposeFault;
 use sg_graph::Graph;
+use sg_keys::KeyFault;
 use sg_parse::ParseFault;
 use sg_program::CompileFault;
+use sg_script::ScriptFault;
 use std::alloc::Global;
 
 /// What is wrong with a line of a schedule or of logs.
@@ -41,10 +44,18 @@ pub enum Ending<'w> {
     NoRole { role: &'w str },
     /// This line of the schedule or of the logs, counted from 1, is the first that is wrong.
     WrongLine { line: u32, wrong: Wrong },
+    /// The bytes are no key file: the first fault.
+    KeysRefused { fault: KeyFault },
+    /// The bytes are no script beside the programs: the first fault.
+    ScriptRefused { fault: ScriptFault },
+    /// The program of this number, counted from 1, isn't taken.
+    ProgramRefused { number: usize, cause: BadProgram },
     /// The file could not be read.
     FileFailed { file: &'w str },
     /// What was to be written was not taken.
     WriteFailed,
+    /// The link failed.
+    LinkFailed,
     /// Memory was wanted, and none was to be had.
     NoMemory,
     /// There is no such file.
@@ -66,8 +77,12 @@ impl<'w> Ending<'w> {
             Ending::GraphRefused { .. } => 3,
             Ending::NoRole { .. } => 4,
             Ending::WrongLine { .. } => 4,
+            Ending::KeysRefused { .. } => 4,
+            Ending::ScriptRefused { .. } => 4,
+            Ending::ProgramRefused { .. } => 4,
             Ending::FileFailed { .. } => 5,
             Ending::WriteFailed => 6,
+            Ending::LinkFailed => 7,
             Ending::NoMemory => 8,
             Ending::NoSuchFile { .. } => 9,
             Ending::TooLarge { .. } => 10,
@@ -92,7 +107,7 @@ impl<'w> Ending<'w> {
         match self {
             Ending::Written | Ending::WriteFailed => Ok(()),
             Ending::NoCommand => out.bytes(
-                b"usage: sessiongraph check|compile|replay|audit|compose\n",
+                b"usage: sessiongraph check|compile|run|replay|audit|compose\n",
             ),
             Ending::NoGraph { fault } => put_no_graph(alloc, out, fault),
             Ending::NoExpansion { fault } => put_no_expansion(out, fault),
@@ -104,7 +119,11 @@ impl<'w> Ending<'w> {
                 *line,
                 wrong_word(*wrong),
             ),
+            Ending::KeysRefused { fault } => put_no_keys(alloc, out, *fault),
+            Ending::ScriptRefused { fault } => put_no_script(alloc, out, *fault),
+            Ending::ProgramRefused { number, cause } => put_no_program(alloc, out, *number, *cause),
             Ending::FileFailed { file } => put_word(out, b"file failed: ", file),
+            Ending::LinkFailed => out.bytes(b"link failed\n"),
             Ending::NoMemory => out.bytes(b"out of memory\n"),
             Ending::NoSuchFile { file } => put_word(out, b"no such file: ", file),
             Ending::TooLarge { what } => put_word(out, b"too large: ", what),

@@ -1,5 +1,5 @@
 //! The files that the words name.
-ghost use Rattle.std.specs.Prelude.{◌≤◌, Some, IfErr, IfOk, length};
+ghost use Rattle.std.specs.Prelude.{◌≡◌, ◌≤◌, Some, IfErr, IfOk, length};
 ghost use Rattle.sg_cli.specs.Ends.{Has, IsUnread};
 ghost use Rattle.sg_cli.specs.Held.{ending_held};
 
@@ -17,6 +17,8 @@ pub fn read_file<'w, F: Files>(
     ensures few { IfOk result (λ bytes. length bytes.items ≤ most) }
     ensures found { IfOk result (λ bytes. Has (F.held files.old) file.now (Some bytes.items)) }
     ensures unread { IfErr result (λ ending. IsUnread most file.now (F.held files.old) (F.faults files.old) (F.faults files.new) (ending_held ending)) }
+    ensures kept { F.held files.new ≡ F.held files.old }
+    ensures falls { F.faults files.old ≤ F.faults files.new }
 {
     match files.read(alloc, file, most) {
         Ok(Some(bytes)) => Ok(bytes),

@@ -1,5 +1,5 @@
 use crate::program::top;
-use sg_base::{MemFiles, MemSink, OutOfMemory};
+use sg_base::{MemFiles, MemFresh, MemLink, MemSink, OutOfMemory};
 use std::alloc::Global;
 
 // What a run left: its status, and what it wrote.
@@ -20,7 +20,17 @@ fn run(alloc: Global, words: &[&str], bytes: Vec<u8>, room: u32) -> Result<Left,
     }
     let mut out = MemSink::new(alloc, room, Vec::new(alloc))?;
     let mut err = MemSink::new(alloc, 1_000, Vec::new(alloc))?;
-    let status = top(alloc, held.as_slice(), &mut files, &mut out, &mut err);
+    let mut link = MemLink::new(alloc, Vec::new(alloc), 0, Vec::new(alloc))?;
+    let mut fresh = MemFresh::new(alloc, [0; 32], 0)?;
+    let status = top(
+        alloc,
+        held.as_slice(),
+        &mut files,
+        &mut out,
+        &mut err,
+        &mut link,
+        &mut fresh,
+    );
     Ok(Left { status, out, err })
 }
 
@@ -188,7 +198,7 @@ fn is_no_command(alloc: Global, words: &[&str]) -> Result<bool, OutOfMemory> {
         words,
         Vec::new(alloc),
         2,
-        "usage: sessiongraph check|compile|replay|audit|compose\n",
+        "usage: sessiongraph check|compile|run|replay|audit|compose\n",
     )
 }
 

@@ -1,4 +1,4 @@
-//! Tests of schedules, of walks of a run, and of audits.
+//! Tests of schedules, of walks of a run, of audits, and of the words of the command line.
 #![tactic(auto)]
 
 #[cfg(test)]
@@ -9,3 +9,5 @@ mod courses;
 mod read;
 #[cfg(test)]
 mod sched;
+#[cfg(test)]
+mod words;

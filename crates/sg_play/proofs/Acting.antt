@@ -1,0 +1,148 @@
+-- What comes of an act by a choice, and of a turn.
+use Rattle.std.proofs.Common.{◌≡◌, ℕ, ◌+◌, List, [], ◌∷◌, length, drop, find, Bool, true, false, Option, Some, None, Result, Ok, Err, refl, sym, ap, ◌∙◌, subst}
+use Rattle.std.specs.Option.{option_map_or}
+use Rattle.std.proofs.lemmas.List.{length-map}
+use Rattle.sg_base.specs.declared.address.Addr.{Addr}
+use Rattle.sg_base.specs.declared.value.Value.{Value as Held}
+use Rattle.sg_base.specs.Values.{value_of}
+use Rattle.sg_keys.specs.Names.{addr_of}
+use Rattle.sg_model.specs.Last.{Map}
+use Rattle.sg_model.specs.Names.{Name}
+use Rattle.sg_model.specs.Values.{Value}
+use Rattle.sg_node.proofs.Life.{pasts_go_on}
+use Rattle.sg_protocol.specs.Calls.{Call, Answer, Act, Happened, Sends, Abandoned, NotStarted, NotActed, NotAbandoned, NotDelivered}
+use Rattle.sg_protocol.specs.Graph.{Graph}
+use Rattle.sg_protocol.specs.Keyring.{Keyring, Program}
+use Rattle.sg_protocol.specs.NodeStates.{NodeState}
+use Rattle.sg_protocol.specs.Past.{node_of}
+use Rattle.sg_protocol.specs.Session.{Session}
+use Rattle.sg_protocol.specs.Told.{live_with}
+use Rattle.sg_protocol.specs.Turn.{turn_of}
+use Rattle.sg_report.specs.Told.{Told, told_answer}
+use Rattle.sg_script.specs.Script.{Choice}
+use Rattle.sg_walk.specs.Views.{values_of}
+use Rattle.sg_play.specs.declared.fault.PlayFault.{PlayFault}
+use Rattle.sg_play.specs.declared.player.Player.{Player}
+use Rattle.sg_play.specs.Asking.{Comes, sealed_in}
+use Rattle.sg_play.specs.Choosing.{is_ready, used}
+use Rattle.sg_play.specs.Ends.{Outside, Whole, Ended}
+use Rattle.sg_play.specs.Played.{Play, abandons, act_by, answer_in, called, chosen, next_words, plays_on, step_in}
+use Rattle.sg_play.specs.Queues.{Spot, HoldsChoices}
+use Rattle.sg_play.specs.Standing.{Came, CameActing, CameTo, HasActed, HasAsked, StandsForPlay}
+use Rattle.sg_play.specs.Steps.{frames_in}
+use Rattle.sg_play.specs.Turns.{acted, acted_by, acted_in, is_sent, or_leaves}
+use Rattle.sg_play.proofs.Coming.{ended_on}
+use Rattle.sg_play.proofs.Extends.{Extends, nothing}
+use Rattle.sg_play.proofs.Turning.{acted_first, leaves, leaving_adds, no_turn, stays, turn_is}
+
+-- ---- asking for the act
+
+-- how many values a choice has
+pub count_is : (c : Choice) (held : List (ℕ × Held)) (n : ℕ) → n ≡ length held → values_of held ≡ c.values → n ≡ length c.values
+count_is c held n e v = e ∙ sym (length-map held (λ (w : ℕ × Held). (w.0, value_of w.1))) ∙ ap (λ (l : Map Value). length l) v
+
+-- a made frame with the address of its receiver, if the keyring has one
+abbrev pub addressed : Keyring → Option (Name × List ℕ) → List (Addr × List ℕ)
+addressed keys sealed = option_map_or (λ (s : Name × List ℕ). option_map_or (λ at. (at, s.1) ∷ []) (addr_of keys s.0) []) sealed []
+
+is_addressed : (keys : Keyring) (a : Answer) → addressed keys (sealed_in a) ≡ frames_in keys a
+is_addressed keys (Happened e) = refl
+is_addressed keys (Sends e to f) = refl
+is_addressed keys Abandoned = refl
+is_addressed keys (NotStarted x) = refl
+is_addressed keys (NotActed x) = refl
+is_addressed keys NotAbandoned = refl
+is_addressed keys (NotDelivered x) = refl
+
+-- the act by a choice, of what was read of the choice
+pub act_is : (sid : List ℕ) (c : Choice) (label : ℕ) (values : Map Value) (count : ℕ) (drawn words : List (List ℕ)) → label ≡ c.label → values ≡ c.values → count ≡ length c.values → drawn ≡ next_words count words
+    → Act sid label values drawn ≡ act_by sid c words
+act_is sid c label values count drawn words l v n w = let d = w ∙ ap (λ k. next_words k words) n in λ i. Act sid (l i) (v i) (d i)
+
+-- the player has acted
+pub has_acted : (old new : Player) (n : NodeState) (table : List (Spot × List Choice)) (p : Play) (sid : List ℕ) (graph : Name) (node : ℕ) (c : Choice) (call : Call) (number : ℕ) (told : Option Told) (by : Option Graph)
+    (sealed : Option (Name × List ℕ)) (made : List (Addr × List ℕ)) (left : Option (List (List ℕ))) → StandsForPlay old p → find (is_ready graph node) p.choices ≡ Some c → call ≡ act_by sid c p.words → number ≡ old.frames + 1
+    → Comes number old.node n p.past call told by sealed → HoldsChoices table (used graph node p.choices) → new ≡ record old { node = n; choices = table; frames = new.frames } → made ≡ addressed old.keys.now sealed
+    → new.frames ≡ old.frames + length made → left ≡ Some (drop (length c.values) p.words) → HasActed new left sid graph node p told by made
+has_acted old new n table p sid graph node c call number told by sealed made left s first is_call is_number comes holds is is_made counted words =
+    let act = act_by sid c p.words in
+    let came = subst (λ (k : Call). Comes number old.node n p.past k told by sealed) is_call comes in
+    let asked : HasAsked (record old { node = n; choices = table; frames = new.frames }) (chosen graph node c p) act told by made = record {
+      node = came.goes_on.stands s.told;
+      told_past = pasts_go_on p.past act s.told came.range;
+      keys = s.keys;
+      programs = s.programs;
+      choices = holds;
+      names = s.names;
+      steps = s.steps;
+      frames = counted ∙ ap (λ k. k + length made) s.frames;
+      is_told = came.is_told ∙ ap (λ k. Some (told_answer k (answer_in p act))) (is_number ∙ ap (λ k. k + 1) s.frames);
+      is_graph = came.is_graph;
+      is_made = is_made ∙ (λ i. addressed (sym s.keys i) (came.is_sealed i)) ∙ is_addressed p.past.keys (answer_in p act);
+    } in
+    record {
+      choice = c;
+      is_first = first;
+      asked = subst (λ (pl : Player). HasAsked pl (chosen graph node c p) act told by made) (sym is) asked;
+      words_left = words;
+    }
+
+-- ---- the act
+
+-- it only adds steps
+pub acting_adds : (sid : List ℕ) (graph : Name) (node : ℕ) (p : Play) → Extends p (acted_in sid graph node p).0
+acting_adds sid graph node p = by (find (is_ready graph node) p.choices)
+  where
+    by : (o : Option Choice) → Extends p (option_map_or (acted_by sid graph node p) o (p, false)).0
+    by None = nothing p
+    by (Some c) = (step_in (chosen graph node c p) (act_by sid c p.words) ∷ [], refl)
+
+-- so by the graph that the session has
+pub act_adds : (sid : List ℕ) (node : ℕ) (p : Play) → Extends p (acted sid node p).0
+act_adds sid node p = by (live_with (node_of p.past) sid)
+  where
+    by : (o : Option (Program × Session)) → Extends p (option_map_or (λ (x : Program × Session). acted_in sid x.0.graph.name node p) o (p, false)).0
+    by None = nothing p
+    by (Some x) = acting_adds sid x.0.graph.name node p
+
+module _ (start now : Outside) (pl : Player) (words : Option (List (List ℕ))) where
+  -- an early end
+  pub act_failed : (x : Play × Bool) (r : Result Bool PlayFault) (f : PlayFault) → r ≡ Err f → Ended start now x.0.steps (Err f) → CameActing start now pl words x r
+  act_failed x r f e h = subst (λ (z : Result Bool PlayFault). CameActing start now pl words x z) (sym e) h
+
+  -- the state that is come to, by another name
+  pub act_same : (x y : Play × Bool) (r : Result Bool PlayFault) → y ≡ x → CameActing start now pl words x r → CameActing start now pl words y r
+  act_same x y r e h = subst (λ (z : Play × Bool). CameActing start now pl words z r) (sym e) h
+
+  -- no choice, or no session
+  pub act_none : (old : Player) (before : Option (List (List ℕ))) (x : Play × Bool) (p : Play) → x ≡ (p, false) → pl ≡ old → words ≡ before → StandsForPlay old p → before ≡ Some p.words → Whole start now p.steps → CameActing start now pl words x (Ok false)
+  act_none old before x p e same kept s w h = act_same (p, false) x (Ok false) e (((subst (λ (z : Player). StandsForPlay z p) (sym same) s, h), kept ∙ w), refl)
+
+-- by the first choice
+module _ (start now : Outside) (old pl : Player) (words : Option (List (List ℕ))) (sid : List ℕ) (graph : Name) (node : ℕ) (p : Play) (told : Option Told) (by : Option Graph) (made : List (Addr × List ℕ)) (h : HasActed old words sid graph node p told by made) where
+  pub act_given : (sent : Bool) → Came start now pl (called (chosen graph node h.choice p) (act_by sid h.choice p.words)) (Ok tt) → sent ≡ is_sent (answer_in p (act_by sid h.choice p.words)) → CameActing start now pl words (acted_in sid graph node p) (Ok sent)
+  act_given sent came is = act_same start now pl words (acted_by sid graph node p h.choice) (acted_in sid graph node p) (Ok sent) (acted_first sid node p graph h.choice h.is_first) ((came, h.words_left), is)
+
+  pub act_stopped : (r : Result Bool PlayFault) (f : PlayFault) → r ≡ Err f → Came start now pl (called (chosen graph node h.choice p) (act_by sid h.choice p.words)) (Err f) → CameActing start now pl words (acted_in sid graph node p) r
+  act_stopped r f e came = act_failed start now pl words (acted_in sid graph node p) r f e (subst (λ (x : Play × Bool). Ended start now x.0.steps (Err f)) (sym (acted_first sid node p graph h.choice h.is_first)) came)
+
+-- ---- the turn
+
+module _ (start now : Outside) (pl : Player) (words : Option (List (List ℕ))) (sid : List ℕ) (p : Play) where
+  -- none
+  pub turn_none : turn_of (node_of p.past) sid ≡ None → StandsForPlay pl p → words ≡ Some p.words → Whole start now p.steps → CameTo start now pl words (plays_on sid p) (Ok tt)
+  turn_none e s w h = subst (λ (q : Play). CameTo start now pl words q (Ok tt)) (sym (no_turn sid p e)) ((s, h), w)
+
+  -- a step was sent
+  pub turn_sent : (node : ℕ) (b : Bool) → turn_of (node_of p.past) sid ≡ Some node → b ≡ true → CameActing start now pl words (acted sid node p) (Ok b) → CameTo start now pl words (plays_on sid p) (Ok tt)
+  turn_sent node b e sent h = subst (λ (q : Play). CameTo start now pl words q (Ok tt)) (sym (turn_is sid node p e ∙ stays sid (acted sid node p) (sym h.1 ∙ sent))) h.0
+
+  -- none was sent: the session is left
+  pub turn_left : (node : ℕ) (r : Result (Unit {0}) PlayFault) → turn_of (node_of p.past) sid ≡ Some node → (acted sid node p).1 ≡ false → CameTo start now pl words (abandons sid (acted sid node p).0) r → CameTo start now pl words (plays_on sid p) r
+  turn_left node r e unsent h = subst (λ (q : Play). CameTo start now pl words q r) (sym (turn_is sid node p e ∙ leaves sid (acted sid node p) unsent)) h
+
+  -- it ended early
+  pub turn_failed : (node : ℕ) (r : Result (Unit {0}) PlayFault) (f : PlayFault) → turn_of (node_of p.past) sid ≡ Some node → r ≡ Err f → CameActing start now pl words (acted sid node p) (Err f) → CameTo start now pl words (plays_on sid p) r
+  turn_failed node r f e is h =
+      let ended : Ended start now (plays_on sid p).steps (Err f) = subst (λ (q : Play). Ended start now q.steps (Err f)) (sym (turn_is sid node p e)) (ended_on start now (acted sid node p).0 (or_leaves sid (acted sid node p)) f (leaving_adds sid (acted sid node p)) h) in
+      subst (λ (z : Result (Unit {0}) PlayFault). CameTo start now pl words (plays_on sid p) z) (sym is) ended

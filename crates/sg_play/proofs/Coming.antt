@@ -1,0 +1,78 @@
+-- How a play comes to another: by whole steps, or to an early end.
+use Rattle.std.proofs.Common.{◌≡◌, ◌≢◌, ℕ, List, [], ◌∷◌, Option, Some, Result, Ok, Err, OnOk, refl, sym, subst}
+use Rattle.sg_base.specs.declared.address.Addr.{Addr}
+use Rattle.sg_base.specs.Outside.{Appends, AppendsFront}
+use Rattle.sg_protocol.specs.Calls.{Call}
+use Rattle.sg_play.specs.declared.fault.PlayFault.{PlayFault}
+use Rattle.sg_play.specs.declared.fault.PlayFault.TheVariants.{LinkFailed, WriteFailed, OutOfMemory}
+use Rattle.sg_play.specs.declared.player.Player.{Player}
+use Rattle.sg_play.specs.Ends.{Outside, Whole, Ended}
+use Rattle.sg_play.specs.Played.{Play, called, step_in}
+use Rattle.sg_play.specs.Standing.{Came, CameTo, StandsForPlay, done}
+use Rattle.sg_play.specs.Steps.{Step}
+use Rattle.sg_play.proofs.Endings.{begun, ended_more, stopped, whole_more}
+use Rattle.sg_play.proofs.Extends.{Extends}
+
+-- an early end of a play is one of each that goes on
+pub ended_on : (start now : Outside) (p q : Play) (f : PlayFault) → Extends p q → Ended start now p.steps (Err f) → Ended start now q.steps (Err f)
+ended_on start now p q f e h = subst (λ (l : List Step). Ended start now l (Err f)) (sym e.1) (ended_more start now p.steps e.0 f h)
+
+-- where memory runs out between steps, or the link gives no delivery
+pub no_memory : (start now : Outside) (p q : Play) → Extends p q → Whole start now p.steps → Ended start now q.steps (Err OutOfMemory)
+no_memory start now p q e w = record { front = p.steps; rest = e.0; is = e.1; whole = w }
+
+pub no_link : (start now : Outside) (p q : Play) → Extends p q → Whole start now p.steps → Ended start now q.steps (Err LinkFailed)
+no_link start now p q e w = record { front = p.steps; rest = e.0; is = e.1; whole = w }
+
+-- a fault that is want of memory
+pub no_memory_by : (start now : Outside) (p q : Play) (f : PlayFault) → f ≡ OutOfMemory → Extends p q → Whole start now p.steps → Ended start now q.steps (Err f)
+no_memory_by start now p q f is e w = subst (λ (x : PlayFault). Ended start now q.steps (Err x)) (sym is) (no_memory start now p q e w)
+
+-- what was given of a step
+pub came_after : (start old new : Outside) (pl : Player) (p : Play) (c : Call) (line : List ℕ) (made : List (Addr × List ℕ)) (r : Result (Unit {0}) PlayFault) → Whole start old p.steps → StandsForPlay pl (called p c)
+    → line ≡ (step_in p c).line → made ≡ (step_in p c).frames → r ≢ Err OutOfMemory → OnOk r (Appends old.written new.written line) → (r ≢ Err LinkFailed → Appends old.sent new.sent made)
+    → (r ≡ Err WriteFailed → AppendsFront old.written new.written line) → (r ≡ Err LinkFailed → new.sent ≡ old.sent) → (r ≡ Err LinkFailed → new.written ≡ old.written) → Came start new pl (called p c) r
+came_after start old new pl p c line made (Ok u) w stands l m memory whole frames front no_frame no_line =
+    (stands, whole_more start old new p.steps (step_in p c) w (subst (Appends old.written new.written) l whole) (subst (Appends old.sent new.sent) m (frames (λ e. cc))))
+came_after start old new pl p c line made (Err LinkFailed) w stands l m memory whole frames front no_frame no_line =
+    let sent = no_frame refl in
+    let written = no_line refl in
+    stopped start old new p.steps (step_in p c ∷ []) w (λ i. record { written = written i; sent = sent i })
+came_after start old new pl p c line made (Err WriteFailed) w stands l m memory whole frames front no_frame no_line =
+    begun start old new p.steps [] (step_in p c) w (subst (AppendsFront old.written new.written) l (front refl)) (subst (Appends old.sent new.sent) m (frames (λ e. cc)))
+came_after start old new pl p c line made (Err OutOfMemory) w stands l m memory whole frames front no_frame no_line = absurd (memory refl)
+
+-- ---- one after another
+
+module _ {A : Type 0} where
+  -- what an answer says
+  pub came_ok : (start now : Outside) (pl : Player) (p : Play) (r : Result A PlayFault) (a : A) → r ≡ Ok a → Came start now pl p (done r) → StandsForPlay pl p × Whole start now p.steps
+  came_ok start now pl p r a e h = subst (λ (z : Result A PlayFault). Came start now pl p (done z)) e h
+
+  -- and an early end
+  pub came_err : (start now : Outside) (pl : Player) (p q : Play) (r : Result A PlayFault) (f : PlayFault) → r ≡ Err f → Extends p q → Came start now pl p (done r) → Ended start now q.steps (Err f)
+  came_err start now pl p q r f e x h = ended_on start now p q f x (subst (λ (z : Result A PlayFault). Came start now pl p (done z)) e h)
+
+pub to_ok : (start now : Outside) (pl : Player) (words : Option (List (List ℕ))) (p : Play) (r : Result (Unit {0}) PlayFault) (u : Unit {0}) → r ≡ Ok u → CameTo start now pl words p r → (StandsForPlay pl p × Whole start now p.steps) × (words ≡ Some p.words)
+to_ok start now pl words p r u e h = subst (CameTo start now pl words p) e h
+
+pub to_err : (start now : Outside) (pl : Player) (words : Option (List (List ℕ))) (p q : Play) (r : Result (Unit {0}) PlayFault) (f : PlayFault) → r ≡ Err f → Extends p q → CameTo start now pl words p r → Ended start now q.steps (Err f)
+to_err start now pl words p q r f e x h = ended_on start now p q f x (subst (CameTo start now pl words p) e h)
+
+-- the words were not touched
+pub with_words : (start now : Outside) (pl : Player) (words : Option (List (List ℕ))) (p : Play) (r : Result (Unit {0}) PlayFault) → words ≡ Some p.words → Came start now pl p r → CameTo start now pl words p r
+with_words start now pl words p (Ok u) w h = (h, w)
+with_words start now pl words p (Err f) w h = h
+
+-- the play that is come to, by another name
+pub to_same : (start now : Outside) (pl : Player) (words : Option (List (List ℕ))) (p q : Play) (r : Result (Unit {0}) PlayFault) → p ≡ q → CameTo start now pl words p r → CameTo start now pl words q r
+to_same start now pl words p q r e h = subst (λ (z : Play). CameTo start now pl words z r) e h
+
+-- an early end, as what was answered says it
+pub failed : (start now : Outside) (pl : Player) (words : Option (List (List ℕ))) (p : Play) (r : Result (Unit {0}) PlayFault) (f : PlayFault) → r ≡ Err f → Ended start now p.steps (Err f) → CameTo start now pl words p r
+failed start now pl words p r f e h = subst (λ (z : Result (Unit {0}) PlayFault). CameTo start now pl words p z) (sym e) h
+
+-- what was given the outside
+pub ended_so : (start now : Outside) (pl : Player) (words : Option (List (List ℕ))) (p : Play) (r : Result (Unit {0}) PlayFault) → CameTo start now pl words p r → Ended start now p.steps r
+ended_so start now pl words p (Ok u) h = h.0.1
+ended_so start now pl words p (Err f) h = h

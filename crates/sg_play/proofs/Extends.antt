@@ -1,0 +1,92 @@
+-- A play only adds steps.
+use Rattle.std.proofs.Common.{◌≡◌, ℕ, List, [], ◌∷◌, ◌++◌, find, Option, Some, None, refl, sym, ap, ◌∙◌, append_assoc}
+use Rattle.std.specs.Option.{option_map_or}
+use Rattle.std.proofs.lemmas.List.{append-nil}
+use Rattle.sg_model.specs.Names.{Name}
+use Rattle.sg_protocol.specs.Calls.{Call, Answer, Start, Abandon, Deliver, Happened, Sends, Abandoned, NotStarted, NotActed, NotAbandoned, NotDelivered}
+use Rattle.sg_protocol.specs.Keyring.{Program}
+use Rattle.sg_protocol.specs.Past.{node_of}
+use Rattle.sg_protocol.specs.Session.{Session}
+use Rattle.sg_protocol.specs.Told.{live_with}
+use Rattle.sg_protocol.specs.Turn.{turn_of}
+use Rattle.sg_script.specs.Script.{Start as ScriptStart, Choice}
+use Rattle.sg_play.specs.Choosing.{is_ready}
+use Rattle.sg_play.specs.Played.{Play, abandons, act_by, acts, all_deliveries, all_starts, answer_in, called, cast_of_start, chosen, or_abandons, plays, plays_on, sid_given, starts, step_in, with_turn, without, word}
+use Rattle.sg_play.specs.Steps.{Step}
+
+-- the second has further steps
+abbrev pub Extends : Play → Play → Type 0
+Extends p q = (rest : List Step) × (q.steps ≡ p.steps ++ rest)
+
+pub nothing : (p : Play) → Extends p p
+nothing p = ([], sym (append-nil p.steps))
+
+pub joined : (p q r : Play) → Extends p q → Extends q r → Extends p r
+joined p q r f g = (f.0 ++ g.0, g.1 ∙ ap (λ l. l ++ g.0) f.1 ∙ append_assoc p.steps f.0 g.0)
+
+pub by_call : (p : Play) (c : Call) → Extends p (called p c)
+by_call p c = (step_in p c ∷ [], refl)
+
+by_leaving : (sid : List ℕ) (p : Play) (a : Answer) → Extends p (or_abandons sid p a)
+by_leaving sid p (Happened e) = by_call p (Abandon sid)
+by_leaving sid p (Sends e to f) = nothing p
+by_leaving sid p Abandoned = by_call p (Abandon sid)
+by_leaving sid p (NotStarted x) = by_call p (Abandon sid)
+by_leaving sid p (NotActed x) = by_call p (Abandon sid)
+by_leaving sid p NotAbandoned = by_call p (Abandon sid)
+by_leaving sid p (NotDelivered x) = by_call p (Abandon sid)
+
+by_act : (sid : List ℕ) (graph : Name) (node : ℕ) (c : Choice) (p : Play) → Extends p (acts sid graph node c p)
+by_act sid graph node c p =
+    let q = called (chosen graph node c p) (act_by sid c p.words) in
+    joined p q (acts sid graph node c p) (step_in (chosen graph node c p) (act_by sid c p.words) ∷ [], refl) (by_leaving sid q (answer_in p (act_by sid c p.words)))
+
+by_plays : (sid : List ℕ) (graph : Name) (node : ℕ) (p : Play) → Extends p (plays sid graph node p)
+by_plays sid graph node p = by (find (is_ready graph node) p.choices)
+  where
+    by : (o : Option Choice) → Extends p (option_map_or (λ c. acts sid graph node c p) o (abandons sid p))
+    by None = by_call p (Abandon sid)
+    by (Some c) = by_act sid graph node c p
+
+by_session : (sid : List ℕ) (node : ℕ) (p : Play) (o : Option (Program × Session)) → Extends p (option_map_or (λ (x : Program × Session). plays sid x.0.graph.name node p) o (abandons sid p))
+by_session sid node p None = by_call p (Abandon sid)
+by_session sid node p (Some x) = by_plays sid x.0.graph.name node p
+
+pub by_turn : (sid : List ℕ) (p : Play) → Extends p (plays_on sid p)
+by_turn sid p = by (turn_of (node_of p.past) sid)
+  where
+    by : (o : Option ℕ) → Extends p (option_map_or (λ node. option_map_or (λ (x : Program × Session). plays sid x.0.graph.name node p) (live_with (node_of p.past) sid) (abandons sid p)) o p)
+    by None = nothing p
+    by (Some node) = by_session sid node p (live_with (node_of p.past) sid)
+
+-- the turn that a call gives
+pub by_given : (p : Play) (o : Option (List ℕ)) → Extends p (option_map_or (λ sid. plays_on sid p) o p)
+by_given p None = nothing p
+by_given p (Some sid) = by_turn sid p
+
+pub after_call : (p : Play) (c : Call) → Extends (called p c) (with_turn p c)
+after_call p c = by_given (called p c) (sid_given (answer_in p c))
+
+pub with_call : (p : Play) (c : Call) → Extends p (with_turn p c)
+with_call p c = joined p (called p c) (with_turn p c) (by_call p c) (after_call p c)
+
+pub by_start : (p : Play) (s : ScriptStart) → Extends p (starts p s)
+by_start p s = with_call (without 1 p) (Start (cast_of_start p.past.programs s (word p.words)))
+
+pub by_starts : (p : Play) (ss : List ScriptStart) → Extends p (all_starts p ss)
+by_starts p [] = nothing p
+by_starts p (s ∷ ss) = joined p (starts p s) (all_starts (starts p s) ss) (by_start p s) (by_starts (starts p s) ss)
+
+pub by_deliveries : (p : Play) (ds : List (List ℕ)) → Extends p (all_deliveries p ds)
+by_deliveries p [] = nothing p
+by_deliveries p (d ∷ ds) = joined p (with_turn p (Deliver d)) (all_deliveries (with_turn p (Deliver d)) ds) (with_call p (Deliver d)) (by_deliveries (with_turn p (Deliver d)) ds)
+
+-- ---- lists one after another
+
+pub starts_both : (p : Play) (ss ts : List ScriptStart) → all_starts p (ss ++ ts) ≡ all_starts (all_starts p ss) ts
+starts_both p [] ts = refl
+starts_both p (s ∷ ss) ts = starts_both (starts p s) ss ts
+
+pub deliveries_both : (p : Play) (ds es : List (List ℕ)) → all_deliveries p (ds ++ es) ≡ all_deliveries (all_deliveries p ds) es
+deliveries_both p [] es = refl
+deliveries_both p (d ∷ ds) es = deliveries_both (with_turn p (Deliver d)) ds es

@@ -1,0 +1,14 @@
+pub mod Numbers
+pub mod Endings
+pub mod Extends
+pub mod Coming
+pub mod Called
+pub mod Telling
+pub mod Turning
+pub mod Acting
+pub mod Sent
+pub mod Looping
+pub mod Running
+pub mod Results
+pub mod Queues
+pub mod Rising

@@ -1,0 +1,7 @@
+-- What holds on Ok.
+use Rattle.std.proofs.Common.{Result, Ok, Err, OnOk}
+
+-- what follows holds too
+pub mapped : {T E : Type 0} (r : Result T E) (P Q : Type 0) → (P → Q) → OnOk r P → OnOk r Q
+mapped (Ok v) P Q f h = f h
+mapped (Err e) P Q f h = tt

@@ -1,0 +1,133 @@
+-- What a player stands for once it has told what came of a call.
+use Rattle.std.proofs.Common.{◌≡◌, ℕ, ◌+◌, List, [], ◌∷◌, ◌++◌, map, flat_map, length, Option, None, refl, sym, ap, ◌∙◌, subst, arith}
+use Rattle.std.specs.Option.{option_map_or}
+use Rattle.std.proofs.lemmas.List.{append-nil, length-append, map-append}
+use Rattle.std.proofs.lemmas.List.Concat.{flat_map-append}
+use Rattle.sg_base.specs.declared.address.Addr.{Addr}
+use Rattle.sg_lines.specs.Sessions.{Met, Naming, naming, session_name}
+use Rattle.sg_node.proofs.Life.{pasts_go_on}
+use Rattle.sg_protocol.specs.Calls as Protocol
+use Rattle.sg_protocol.specs.Calls.{Call, Answer, events_of_answer, sid_of}
+use Rattle.sg_protocol.specs.Graph.{Graph}
+use Rattle.sg_protocol.specs.Keyring.{Keyring}
+use Rattle.sg_protocol.specs.NodeStates.{NodeState}
+use Rattle.sg_protocol.specs.Past.{Called, past_after}
+use Rattle.sg_protocol.specs.Texts.{real}
+use Rattle.sg_report.specs.Lines.{graph_or_none, line_text}
+use Rattle.sg_report.specs.Told.{Told, told_answer}
+use Rattle.sg_play.specs.declared.player.Player.{Player}
+use Rattle.sg_play.specs.Asking.{Comes, sealed_in}
+use Rattle.sg_play.specs.Meeting.{met_more, sid_told}
+use Rattle.sg_play.specs.Played.{Play, answer_in, called, sid_given, step_in}
+use Rattle.sg_play.specs.Standing.{HasAsked, StandsForPlay}
+use Rattle.sg_play.specs.Steps.{frames_in, frames_of, met_in, session_told, sid_left}
+use Rattle.sg_play.proofs.Endings.{frames_more}
+
+-- ---- names
+
+sids_more : (calls : List Called) (c : Called) → (met_in (calls ++ c ∷ [])).events ≡ (met_in calls).events ++ map sid_of (events_of_answer c.answer)
+sids_more calls c =
+    ap (map sid_of) (flat_map-append (λ (c : Called). events_of_answer c.answer) calls (c ∷ []) ∙ ap (λ l. flat_map (λ (c : Called). events_of_answer c.answer) calls ++ l) (append-nil (events_of_answer c.answer)))
+    ∙ map-append sid_of (flat_map (λ (c : Called). events_of_answer c.answer) calls) (events_of_answer c.answer)
+
+abbrev with_events : List (List ℕ) → Met
+with_events l = record { declared = []; events = l }
+
+met_by : (m : List (List ℕ)) (k : ℕ) (a : Answer) → with_events (m ++ map sid_of (events_of_answer a)) ≡ met_more (with_events m) (told_answer k a)
+met_by m k (Protocol.Happened e) = refl
+met_by m k (Protocol.Sends e to f) = refl
+met_by m k Protocol.Abandoned = ap with_events (append-nil m)
+met_by m k (Protocol.NotStarted x) = ap with_events (append-nil m)
+met_by m k (Protocol.NotActed x) = ap with_events (append-nil m)
+met_by m k Protocol.NotAbandoned = ap with_events (append-nil m)
+met_by m k (Protocol.NotDelivered x) = ap with_events (append-nil m)
+
+-- the sessions after a call, by what is told of it
+pub met_after : (calls : List Called) (c : Called) (k : ℕ) → met_in (calls ++ c ∷ []) ≡ met_more (met_in calls) (told_answer k c.answer)
+met_after calls c k = ap with_events (sids_more calls c) ∙ met_by (met_in calls).events k c.answer
+
+-- the session in which something happened
+pub told_given : (k : ℕ) (a : Answer) → sid_told (told_answer k a) ≡ sid_given a
+told_given k (Protocol.Happened e) = refl
+told_given k (Protocol.Sends e to f) = refl
+told_given k Protocol.Abandoned = refl
+told_given k (Protocol.NotStarted x) = refl
+told_given k (Protocol.NotActed x) = refl
+told_given k Protocol.NotAbandoned = refl
+told_given k (Protocol.NotDelivered x) = refl
+
+-- ---- a call
+
+one_more : {A : Type 0} (xs : List A) (x : A) → length (xs ++ x ∷ []) ≡ length xs + 1
+one_more xs x = length-append xs (x ∷ [])
+
+-- what sends no frame has none
+no_frames : (keys : Keyring) (a : Answer) → None ≡ sealed_in a → [] ≡ frames_in keys a
+no_frames keys (Protocol.Happened e) h = refl
+no_frames keys (Protocol.Sends e to f) h = cc
+no_frames keys Protocol.Abandoned h = refl
+no_frames keys (Protocol.NotStarted x) h = refl
+no_frames keys (Protocol.NotActed x) h = refl
+no_frames keys Protocol.NotAbandoned h = refl
+no_frames keys (Protocol.NotDelivered x) h = refl
+
+no_more : (n : ℕ) → n ≡ n + 0
+no_more n = omega arith
+
+-- a call that sends no frame was asked
+pub asked_quiet : (pl : Player) (n : NodeState) (p : Play) (c : Call) (told : Option Told) (graph : Option Graph) → StandsForPlay pl p → ((number : ℕ) → Comes number pl.node n p.past c told graph None) → HasAsked (record pl { node = n }) p c told graph []
+asked_quiet pl n p c told graph s h =
+    let came = h (length (frames_of p.steps) + 1) in
+    record {
+      node = came.goes_on.stands s.told;
+      told_past = pasts_go_on p.past c s.told came.range;
+      keys = s.keys;
+      programs = s.programs;
+      choices = s.choices;
+      names = s.names;
+      steps = s.steps;
+      frames = s.frames ∙ no_more (length (frames_of p.steps));
+      is_told = came.is_told;
+      is_graph = came.is_graph;
+      is_made = no_frames p.past.keys (answer_in p c) came.is_sealed;
+    }
+
+-- what is told of a call
+abbrev pub told_in : Play → Call → Told
+told_in p c = told_answer (length (frames_of p.steps) + 1) (answer_in p c)
+
+-- the sessions that are met with it
+met_with : (p : Play) (c : Call) → met_more (met_in p.past.calls) (told_in p c) ≡ met_in (past_after real p.past c).calls
+met_with p c = sym (met_after p.past.calls (record { call = c; answer = answer_in p c }) (length (frames_of p.steps) + 1))
+
+-- what telling a step leaves of a player
+pub told_rest : (old met : Player) (number : ℕ) → met ≡ record old { names = met.names } → number ≡ met.steps + 1 → record met { steps = number } ≡ record old { names = met.names; steps = old.steps + 1 }
+told_rest old met number is next = (λ i. record (is i) { steps = next i }) ∙ (λ i. record old { names = met.names; steps = (is i).steps + 1 })
+
+-- the line is that of the step
+pub line_is : (pl : Player) (p : Play) (c : Call) (told : Option Told) (left : Option (List ℕ)) (graph : Option Graph) (made : List (Addr × List ℕ)) (line : List ℕ) → HasAsked pl p c told graph made → left ≡ sid_left c
+    → line ≡ line_text (option_map_or (session_name 115 (met_more (met_in p.past.calls) (told_in p c))) (session_told left (told_in p c)) []) (graph_or_none graph) (pl.steps + 1) pl.keys.now.me (told_in p c) → line ≡ (step_in p c).line
+line_is pl p c told left graph made line h l e =
+    let met = met_with p c in
+    let number : pl.steps + 1 ≡ length (past_after real p.past c).calls = ap (λ n. n + 1) h.steps ∙ sym (one_more p.past.calls (record { call = c; answer = answer_in p c })) in
+    let graphed = h.is_graph in
+    let me : pl.keys.now.me ≡ p.past.keys.me = ap (λ (k : Keyring). k.me) (sym h.keys) in
+    e ∙ (λ i. line_text (option_map_or (session_name 115 (met i)) (session_told (l i) (told_in p c)) []) (graph_or_none (graphed i)) (number i) (me i) (told_in p c))
+
+-- the names are those after it
+pub names_are : (ns : Naming) (p : Play) (c : Call) → ns ≡ naming 115 (met_more (met_in p.past.calls) (told_in p c)) → ns ≡ naming 115 (met_in (past_after real p.past c).calls)
+names_are ns p c e = e ∙ ap (naming 115) (met_with p c)
+
+-- and the player stands for the play with the step
+pub stands_told : (old new : Player) (p : Play) (c : Call) (told : Option Told) (graph : Option Graph) (made : List (Addr × List ℕ)) → HasAsked old p c told graph made → new ≡ record old { names = new.names; steps = old.steps + 1 }
+    → new.names ≡ naming 115 (met_more (met_in p.past.calls) (told_in p c)) → StandsForPlay new (called p c)
+stands_told old new p c told graph made h is names = subst (λ (pl : Player). StandsForPlay pl (called p c)) (sym is) (record {
+  node = h.node;
+  told = h.told_past;
+  keys = h.keys;
+  programs = h.programs;
+  choices = h.choices;
+  names = names_are new.names p c names;
+  steps = ap (λ n. n + 1) h.steps ∙ sym (one_more p.past.calls (record { call = c; answer = answer_in p c }));
+  frames = h.frames ∙ ap (λ (l : List (Addr × List ℕ)). length (frames_of p.steps) + length l) h.is_made ∙ sym (ap length (frames_more p.steps (step_in p c)) ∙ length-append (frames_of p.steps) (frames_in p.past.keys (answer_in p c)));
+})

@@ -1,0 +1,29 @@
+use Rattle.std.proofs.Common.{◌≡◌, Some, option_map, Err, refl}
+use Rattle.std.specs.Option.{option_copied}
+use Rattle.sg_model.proofs.Small.{clash}
+use Rattle.sg_protocol.specs.Acting.{answer}
+use Rattle.sg_protocol.specs.Calls as Protocol
+use Rattle.sg_protocol.specs.Calls.{Deliver}
+use Rattle.sg_protocol.specs.Past.{node_of}
+use Rattle.sg_protocol.specs.Texts.{real}
+use Rattle.sg_node.specs.Faults.{refusal}
+use Rattle.sg_node.specs.declared.fault.Refusal.TheVariants as refusals
+use Rattle.sg_walk.specs.Views.{event_of}
+use Rattle.sg_report.specs.Told.{Happened, NotDelivered}
+use Rattle.sg_play.proofs.Called.{comes_quiet, err_same, not_delivered, quiet}
+use Rattle.sg_play.proofs.ask.ask_deliver.Goals as goal
+
+pub returns-in-Ok-clause-comes : goal.returns-in-Ok-clause-comes
+returns-in-Ok-clause-comes c = λ number past stands. comes_quiet number c.args.node.now c.deliver.new.self past (Deliver c.args.bytes.now) (Some (Happened (event_of c.in-Ok.event))) (option_copied c.in_ok-graph.graph) c.tell_bytes.ensures
+    (quiet number (answer real (node_of past) (Deliver c.args.bytes.now)) (Protocol.Happened (event_of c.in-Ok.event)) (Happened (event_of c.in-Ok.event)) refl refl (c.in-Ok.ensures.answer past stands))
+    (c.in_ok-graph.ensures.graph past stands)
+    (c.in-Ok.ensures.state past stands (λ e. cc))
+
+pub returns-clause-comes : goal.returns-clause-comes
+returns-clause-comes c = λ number past stands.
+    let ne = λ (e : c.in-Err.why ≡ refusals.OutOfMemory). clash c.is_delivery_memory-lacks.result (c.is_delivery_memory-lacks.ensures.1 e) c.if-lacks.false in
+    let other = λ (e : c.deliver.result ≡ Err refusals.OutOfMemory). ne (err_same c.deliver.result c.in-Err.why refusals.OutOfMemory c.in-Err.is e) in
+    comes_quiet number c.args.node.now c.deliver.new.self past (Deliver c.args.bytes.now) (option_map NotDelivered (refusal c.in-Err.why)) (option_copied c.in_ok-graph.graph) c.tell_bytes.ensures
+    (not_delivered number (answer real (node_of past) (Deliver c.args.bytes.now)) c.in-Err.why ne (c.in-Err.ensures.answer past stands))
+    (c.in_ok-graph.ensures.graph past stands)
+    (c.deliver.ensures.state past stands other)

@@ -1,0 +1,78 @@
+use Rattle.std.proofs.Common.{rules, ◌≡◌, List, take, Err, refl, ap, ◌∙◌, subst, arith}
+use Rattle.std.proofs.lemmas.Result.{err_from_is_err_and}
+use Rattle.sg_script.specs.Script.{Script, Start as ScriptStart}
+use Rattle.sg_play.specs.declared.fault.PlayFault.{PlayFault}
+use Rattle.sg_play.specs.declared.fault.PlayFault.TheVariants.{LinkFailed, WriteFailed}
+use Rattle.sg_play.proofs.Called.{err_same}
+use Rattle.sg_play.proofs.Results.{mapped}
+use Rattle.sg_play.proofs.Rising.{risen_last}
+use Rattle.sg_play.specs.Ends.{Ended, Outside}
+use Rattle.sg_play.specs.Played.{all_starts, beginning, played}
+use Rattle.sg_play.proofs.Coming.{ended_so}
+use Rattle.sg_play.proofs.Endings.{whole_none}
+use Rattle.sg_play.proofs.Running.{not_begun, starts_failed}
+use Rattle.sg_play.proofs.run.play.Goals as goal
+
+pub returns-in_err-player-clause-played : goal.returns-in_err-player-clause-played
+returns-in_err-player-clause-played g c = let same : c.from_residual.result ≡ Err c.in_err-player.field-0.0 = search rules in λ first deliveries words new told drawn.
+    let start : Outside = record { written = g.O.Sink.written c.args.out.now; sent = g.L.Link.sent c.args.link.now } in
+    not_begun start start c.args.keys.now c.args.programs.now first c.args.script (take c.args.most deliveries) words c.from_residual.result c.in_err-player.field-0.0 same c.in_err-player.ensures.memory refl
+
+pub returns-in_err-start_all-clause-played : goal.returns-in_err-start_all-clause-played
+returns-in_err-start_all-clause-played g c = let from = err_from_is_err_and c.from_residual-in_err-start_all.result c.from_residual-in_err-start_all.ensures.1 in let same : c.from_residual-in_err-start_all.result ≡ Err c.in_err-start_all.field-0.0 = from.1 ∙ ap (λ (z : PlayFault). Err z) from.2 in λ first deliveries words new told drawn.
+    let start : Outside = record { written = g.O.Sink.written c.args.out.now; sent = g.L.Link.sent c.args.link.now } in
+    let now : Outside = record { written = g.O.Sink.written c.start_all.new.out; sent = g.L.Link.sent c.start_all.new.link } in
+    let script : Script = record { starts = c.as_slice.result.now; choices = c.script.inside.choices } in
+    let is : script ≡ c.args.script = ap (λ (ss : List ScriptStart). record { starts = ss; choices = c.script.inside.choices }) c.as_slice.ensures ∙ c.script.view_is in
+    let begun = beginning c.args.keys.now c.args.programs.now first script.choices words in
+    subst (λ (z : Script). Ended start now (played c.args.keys.now c.args.programs.now first z (take c.args.most deliveries) words).steps c.from_residual-in_err-start_all.result) is
+    (starts_failed start now c.args.keys.now c.args.programs.now first script (take c.args.most deliveries) words c.start_all.new.self (g.R.Fresh.words c.start_all.new.fresh) c.from_residual-in_err-start_all.result c.in_err-start_all.field-0.0 same
+    (c.in_err-start_all.ensures.came begun start (c.in_ok-player.ensures.stands first words new) drawn (whole_none start)))
+
+pub returns-clause-played : goal.returns-clause-played
+returns-clause-played g c = λ first deliveries words new told drawn.
+    let start : Outside = record { written = g.O.Sink.written c.args.out.now; sent = g.L.Link.sent c.args.link.now } in
+    let now : Outside = record { written = g.O.Sink.written c.take_all.new.out; sent = g.L.Link.sent c.take_all.new.link } in
+    let script : Script = record { starts = c.as_slice.result.now; choices = c.script.inside.choices } in
+    let is : script ≡ c.args.script = ap (λ (ss : List ScriptStart). record { starts = ss; choices = c.script.inside.choices }) c.as_slice.ensures ∙ c.script.view_is in
+    let begun = beginning c.args.keys.now c.args.programs.now first script.choices words in
+    let started = c.in_ok-start_all.ensures.came begun start (c.in_ok-player.ensures.stands first words new) drawn (whole_none start) in
+    subst (λ (z : Script). Ended start now (played c.args.keys.now c.args.programs.now first z (take c.args.most deliveries) words).steps c.take_all.result) is
+    (ended_so start now c.take_all.new.self (g.R.Fresh.words c.take_all.new.fresh) (played c.args.keys.now c.args.programs.now first script (take c.args.most deliveries) words) c.take_all.result
+    (c.take_all.ensures.came (all_starts begun script.starts) start deliveries (c.in_ok-start_all.ensures.deliveries ∙ told) started.0.0 started.1 started.0.1))
+
+pub returns-in_err-player-clause-link_failed : goal.returns-in_err-player-clause-link_failed
+returns-in_err-player-clause-link_failed g c = λ e. let same : c.from_residual.result ≡ Err c.in_err-player.field-0.0 = search rules in let is = err_same c.from_residual.result c.in_err-player.field-0.0 LinkFailed same e in let m = c.in_err-player.ensures.memory in absurd (cc)
+
+pub returns-in_err-start_all-clause-link_falls : goal.returns-in_err-start_all-clause-link_falls
+returns-in_err-start_all-clause-link_falls g c = omega (arith, c.in_err-start_all.ensures.link_falls)
+
+pub returns-in_err-start_all-clause-link_failed : goal.returns-in_err-start_all-clause-link_failed
+returns-in_err-start_all-clause-link_failed g c = λ e. let same : c.from_residual-in_err-start_all.result ≡ Err c.in_err-start_all.field-0.0 = search rules in c.in_err-start_all.ensures.link_failed (ap (λ (z : PlayFault). Err z) (err_same c.from_residual-in_err-start_all.result c.in_err-start_all.field-0.0 LinkFailed same e))
+
+pub returns-clause-link_falls : goal.returns-clause-link_falls
+returns-clause-link_falls g c = omega (arith, c.in_ok-start_all.ensures.link_falls, c.take_all.ensures.link_falls)
+
+pub returns-clause-link_failed : goal.returns-clause-link_failed
+returns-clause-link_failed g c = λ e. risen_last _ _ _ c.in_ok-start_all.ensures.link_falls c.take_all.ensures.link_falls (c.take_all.ensures.link_failed e)
+
+pub returns-in_err-player-clause-write_failed : goal.returns-in_err-player-clause-write_failed
+returns-in_err-player-clause-write_failed g c = λ e. let same : c.from_residual.result ≡ Err c.in_err-player.field-0.0 = search rules in let is = err_same c.from_residual.result c.in_err-player.field-0.0 WriteFailed same e in let m = c.in_err-player.ensures.memory in absurd (cc)
+
+pub returns-in_err-start_all-clause-out_falls : goal.returns-in_err-start_all-clause-out_falls
+returns-in_err-start_all-clause-out_falls g c = omega (arith, c.in_err-start_all.ensures.out_falls)
+
+pub returns-in_err-start_all-clause-write_failed : goal.returns-in_err-start_all-clause-write_failed
+returns-in_err-start_all-clause-write_failed g c = λ e. let same : c.from_residual-in_err-start_all.result ≡ Err c.in_err-start_all.field-0.0 = search rules in c.in_err-start_all.ensures.write_failed (ap (λ (z : PlayFault). Err z) (err_same c.from_residual-in_err-start_all.result c.in_err-start_all.field-0.0 WriteFailed same e))
+
+pub returns-clause-out_falls : goal.returns-clause-out_falls
+returns-clause-out_falls g c = omega (arith, c.in_ok-start_all.ensures.out_falls, c.take_all.ensures.out_falls)
+
+pub returns-clause-write_failed : goal.returns-clause-write_failed
+returns-clause-write_failed g c = λ e. risen_last _ _ _ c.in_ok-start_all.ensures.out_falls c.take_all.ensures.out_falls (c.take_all.ensures.write_failed e)
+
+pub returns-in_err-start_all-clause-at_most : goal.returns-in_err-start_all-clause-at_most
+returns-in_err-start_all-clause-at_most g c = λ deliveries told. (0, omega arith, c.in_err-start_all.ensures.deliveries ∙ told)
+
+pub returns-clause-left : goal.returns-clause-left
+returns-clause-left g c = mapped c.take_all.result _ _ (λ left deliveries told. left deliveries (c.in_ok-start_all.ensures.deliveries ∙ told)) c.take_all.ensures.left

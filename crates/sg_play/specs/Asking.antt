@@ -1,0 +1,27 @@
+-- What came of a call of the node, as the program holds it.
+use Rattle.std.specs.Prelude.{◌≡◌, ℕ, List, Option, Some, None}
+use Rattle.sg_model.specs.Names.{Name}
+use Rattle.sg_protocol.specs.Acting.{answer}
+use Rattle.sg_protocol.specs.Calls.{Answer, Call, Sends}
+use Rattle.sg_protocol.specs.Graph.{Graph}
+use Rattle.sg_protocol.specs.NodeStates.{NodeState}
+use Rattle.sg_protocol.specs.Past.{Past, node_of}
+use Rattle.sg_protocol.specs.Ranges.{IsCallInRange}
+use Rattle.sg_protocol.specs.Spelling.{spelling}
+use Rattle.sg_protocol.specs.Texts.{real}
+use Rattle.sg_protocol.specs.Told.{graph_of_call}
+use Rattle.sg_node.specs.Answers.{GoesOn}
+use Rattle.sg_report.specs.Told.{Told, told_answer}
+
+-- the frame that an answer sends: its receiver, and its bytes
+abbrev pub sealed_in : Answer → Option (Name × List ℕ)
+sealed_in (Sends e to f) = Some (to, spelling f)
+sealed_in other = None
+
+-- what comes of a call is what the node of the past answers, where its frame has this number, by the graph of the call; and the new state goes on for the past
+pub record Comes (number : ℕ) (old new : NodeState) (past : Past) (call : Call) (told : Option Told) (graph : Option Graph) (sealed : Option (Name × List ℕ)) : Type 0 where
+  pub range : IsCallInRange call
+  pub is_told : told ≡ Some (told_answer number (answer real (node_of past) call))
+  pub is_graph : graph ≡ graph_of_call real (node_of past) call
+  pub is_sealed : sealed ≡ sealed_in (answer real (node_of past) call)
+  pub goes_on : GoesOn old new call past

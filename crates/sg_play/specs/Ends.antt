@@ -1,0 +1,41 @@
+-- What a play has given the outside: whole steps, and where it ended early how far it came.
+use Rattle.std.specs.Prelude.{◌≡◌, ℕ, List, ◌∷◌, ◌++◌, take, Option, Result, Ok, Err}
+use Rattle.sg_base.specs.declared.address.Addr.{Addr}
+use Rattle.sg_base.specs.Outside.{Appends}
+use Rattle.sg_play.specs.declared.fault.PlayFault.{PlayFault}
+use Rattle.sg_play.specs.declared.fault.PlayFault.TheVariants.{LinkFailed, WriteFailed, OutOfMemory}
+use Rattle.sg_play.specs.Steps.{Step, lines_of, frames_of}
+
+-- what the sink and the link tell: the bytes written, and the frames sent
+pub record Outside : Type 0 where
+  pub written : Option (List ℕ)
+  pub sent : Option (List (Addr × List ℕ))
+
+-- the lines of these steps were written, and their frames taken
+pub record Whole (old new : Outside) (steps : List Step) : Type 0 where
+  pub lines : Appends old.written new.written (lines_of steps)
+  pub frames : Appends old.sent new.sent (frames_of steps)
+
+-- those of the first of these steps
+pub record WholeFront (old new : Outside) (steps : List Step) : Type 0 where
+  pub front : List Step
+  pub rest : List Step
+  pub is : steps ≡ front ++ rest
+  pub whole : Whole old new front
+
+-- those of the first of these steps, then the frame of one more, and so many bytes of its line
+pub record Begun (old new : Outside) (steps : List Step) : Type 0 where
+  pub front : List Step
+  pub step : Step
+  pub rest : List Step
+  pub bytes : ℕ
+  pub is : steps ≡ front ++ step ∷ rest
+  pub lines : Appends old.written new.written (lines_of front ++ take bytes step.line)
+  pub frames : Appends old.sent new.sent (frames_of front ++ step.frames)
+
+-- a play of these steps ended so. Where the link failed or memory was wanted, whole steps were taken; where a line was not written whole, its frame was taken
+abbrev pub Ended : (old new : Outside) → List Step → Result (Unit {0}) PlayFault → Type 0
+Ended old new steps (Ok u) = Whole old new steps
+Ended old new steps (Err LinkFailed) = WholeFront old new steps
+Ended old new steps (Err WriteFailed) = Begun old new steps
+Ended old new steps (Err OutOfMemory) = WholeFront old new steps

@@ -1,0 +1,10 @@
+pub mod Choosing
+pub mod Queues
+pub mod Steps
+pub mod Played
+pub mod Ends
+pub mod Posting
+pub mod Asking
+pub mod Standing
+pub mod Turns
+pub mod Meeting

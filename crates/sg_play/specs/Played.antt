@@ -1,0 +1,130 @@
+-- What one principal does that plays a script over a link.
+use Rattle.std.specs.Prelude.{ℕ, suc, zero, List, [], ◌∷◌, ◌++◌, drop, length, replicate, find, slice_index_or, Option, Some, None}
+use Rattle.std.specs.Option.{option_map_or}
+use Rattle.sg_model.specs.Names.{Name}
+use Rattle.sg_protocol.specs.Acting.{answer}
+use Rattle.sg_protocol.specs.Calls.{sid_of, Call, Answer, Start, Act, Abandon, Deliver, Happened, Sends}
+use Rattle.sg_protocol.specs.Frame.{Cast}
+use Rattle.sg_protocol.specs.Keyring.{Keyring, Program}
+use Rattle.sg_protocol.specs.Past.{Past, node_of, past_after}
+use Rattle.sg_protocol.specs.Session.{Session}
+use Rattle.sg_protocol.specs.Texts.{real}
+use Rattle.sg_protocol.specs.Told.{live_with}
+use Rattle.sg_protocol.specs.Turn.{turn_of}
+use Rattle.sg_program.specs.Together.{is_named}
+use Rattle.sg_script.specs.Script.{Start as ScriptStart, Choice, Script}
+use Rattle.sg_play.specs.Choosing.{is_ready, used}
+use Rattle.sg_play.specs.Steps.{Step, frames_of, frames_in, line_of}
+
+-- how far a play has come: the node's past, the choices with the uses that are left, the words that are not used yet, and the steps that were taken
+pub record Play : Type 0 where
+  pub past : Past
+  pub choices : List Choice
+  pub words : List (List ℕ)
+  pub steps : List Step
+
+-- ---- a call
+
+-- what the node answers to a call
+abbrev pub answer_in : Play → Call → Answer
+answer_in p c = answer real (node_of p.past) c
+
+-- the step that a call makes
+abbrev pub step_in : Play → Call → Step
+step_in p c = record {
+  line = line_of p.past (length (frames_of p.steps)) c;
+  frames = frames_in p.past.keys (answer_in p c);
+}
+
+-- a call is made
+abbrev pub called : Play → Call → Play
+called p c = record p { past = past_after real p.past c; steps = p.steps ++ step_in p c ∷ [] }
+
+-- ---- words
+
+-- the next word, or zeros where there is none
+abbrev pub word : List (List ℕ) → List ℕ
+word words = slice_index_or words 0 (replicate 16 0)
+
+-- the next words, so many
+abbrev pub next_words : ℕ → List (List ℕ) → List (List ℕ)
+next_words zero words = []
+next_words (suc n) words = word words ∷ next_words n (drop 1 words)
+
+-- a play without these words
+abbrev pub without : ℕ → Play → Play
+without n p = record p { words = drop n p.words }
+
+-- ---- a turn
+
+-- the session is abandoned
+abbrev pub abandons : (sid : List ℕ) → Play → Play
+abandons sid p = called p (Abandon sid)
+
+-- where the act was refused the session is abandoned
+abbrev pub or_abandons : (sid : List ℕ) → Play → Answer → Play
+or_abandons sid p (Sends e to f) = p
+or_abandons sid p other = abandons sid p
+
+-- the act by a choice, with a word to hide each value
+abbrev pub act_by : (sid : List ℕ) → Choice → List (List ℕ) → Call
+act_by sid c words = Act sid c.label c.values (next_words (length c.values) words)
+
+-- the play as it asks for the act by a choice: the act takes the words, and one use off the choice, whether it is refused or not
+abbrev pub chosen : (graph : Name) → (node : ℕ) → Choice → Play → Play
+chosen graph node c p = record p { choices = used graph node p.choices; words = drop (length c.values) p.words }
+
+-- the session acts by a choice
+abbrev pub acts : (sid : List ℕ) → (graph : Name) → (node : ℕ) → Choice → Play → Play
+acts sid graph node c p = or_abandons sid (called (chosen graph node c p) (act_by sid c p.words)) (answer_in p (act_by sid c p.words))
+
+-- a turn is played at a node of a graph: by the first choice for it that has uses left. Where there is none, the session is abandoned
+abbrev pub plays : (sid : List ℕ) → (graph : Name) → (node : ℕ) → Play → Play
+plays sid graph node p = option_map_or (λ c. acts sid graph node c p) (find (is_ready graph node) p.choices) (abandons sid p)
+
+-- the turn of a session is played, where it is at its turn, by the graph that it has
+abbrev pub plays_on : (sid : List ℕ) → Play → Play
+plays_on sid p = option_map_or (λ node. option_map_or (λ (x : Program × Session). plays sid x.0.graph.name node p) (live_with (node_of p.past) sid) (abandons sid p)) (turn_of (node_of p.past) sid) p
+
+-- the session in which something happened by an answer
+abbrev pub sid_given : Answer → Option (List ℕ)
+sid_given (Happened e) = Some (sid_of e)
+sid_given (Sends e to f) = Some (sid_of e)
+sid_given other = None
+
+-- a call is made, and the turn that it gives is played
+abbrev pub with_turn : Play → Call → Play
+with_turn p c = option_map_or (λ sid. plays_on sid (called p c)) (sid_given (answer_in p c)) (called p c)
+
+-- ---- a play
+
+-- the cast of a start: of the first program of its graph's name, with this nonce
+abbrev pub cast_of_start : List Program → ScriptStart → (nonce : List ℕ) → Cast
+cast_of_start programs s nonce = record { version = s.version; graph = option_map_or (λ p. p.digest) (find (is_named s.graph) programs) []; nonce = nonce; names = s.cast }
+
+-- a start, with the next word as its nonce
+abbrev pub starts : Play → ScriptStart → Play
+starts p s = with_turn (without 1 p) (Start (cast_of_start p.past.programs s (word p.words)))
+
+-- all starts, in order
+abbrev pub all_starts : Play → List ScriptStart → Play
+all_starts p [] = p
+all_starts p (s ∷ ss) = all_starts (starts p s) ss
+
+-- deliveries, in order
+abbrev pub all_deliveries : Play → List (List ℕ) → Play
+all_deliveries p [] = p
+all_deliveries p (d ∷ ds) = all_deliveries (with_turn p (Deliver d)) ds
+
+-- a node with these keys and programs, which joined these pairs before, and a script
+abbrev pub beginning : Keyring → List Program → (first : List (List ℕ × ℕ)) → List Choice → (words : List (List ℕ)) → Play
+beginning keys programs first choices words = record {
+  past = record { keys = keys; programs = programs; first = first; calls = [] };
+  choices = choices;
+  words = words;
+  steps = [];
+}
+
+-- the play of a script: its starts, then these deliveries, with these words
+abbrev pub played : Keyring → List Program → (first : List (List ℕ × ℕ)) → Script → (deliveries words : List (List ℕ)) → Play
+played keys programs first script deliveries words = all_deliveries (all_starts (beginning keys programs first script.choices words) script.starts) deliveries

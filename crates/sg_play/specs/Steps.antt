@@ -1,0 +1,64 @@
+-- The steps of one principal who plays: each is a call of its node, with the line that tells it and the frame that it sends.
+use Rattle.std.specs.Prelude.{ℕ, ◌+◌, List, [], ◌∷◌, map, flat_map, length, Option, Some, None}
+use Rattle.std.specs.Option.{option_map_or}
+use Rattle.sg_base.specs.declared.address.Addr.{Addr}
+use Rattle.sg_protocol.specs.Acting.{answer}
+use Rattle.sg_protocol.specs.Calls as Protocol
+use Rattle.sg_protocol.specs.Calls.{sid_of, Call, Answer, events_of_answer, Abandon}
+use Rattle.sg_protocol.specs.Keyring.{Keyring}
+use Rattle.sg_protocol.specs.Past.{Called, Past, node_of, past_after}
+use Rattle.sg_protocol.specs.Spelling.{spelling}
+use Rattle.sg_protocol.specs.Texts.{real}
+use Rattle.sg_protocol.specs.Told.{graph_of_call}
+use Rattle.sg_keys.specs.Names.{addr_of}
+use Rattle.sg_lines.specs.Sessions.{Met, session_name}
+use Rattle.sg_report.specs.Lines.{graph_or_none, line_text}
+use Rattle.sg_report.specs.Told.{Told, Happened, Sends, Abandoned, told_answer}
+
+-- a step: its line, and the frame that it sends, if it sends one, with the address of its receiver
+pub record Step : Type 0 where
+  pub line : List ℕ
+  pub frames : List (Addr × List ℕ)
+
+-- the lines of steps, one after the other
+abbrev pub lines_of : List Step → List ℕ
+lines_of steps = flat_map (λ s. s.line) steps
+
+-- the frames of steps, in order
+abbrev pub frames_of : List Step → List (Addr × List ℕ)
+frames_of steps = flat_map (λ s. s.frames) steps
+
+-- ---- sessions
+
+-- the sessions with an event are called s1, s2 and so on, in the order of their first events
+abbrev pub met_in : List Called → Met
+met_in calls = record { declared = []; events = map sid_of (flat_map (λ c. events_of_answer c.answer) calls) }
+
+-- the session that a call gives up
+abbrev pub sid_left : Call → Option (List ℕ)
+sid_left (Abandon sid) = Some sid
+sid_left other = None
+
+-- the session that a line names: that of its event, or the one that was left
+abbrev pub session_told : (left : Option (List ℕ)) → Told → Option (List ℕ)
+session_told left (Happened e) = Some (sid_of e)
+session_told left (Sends e to n) = Some (sid_of e)
+session_told left Abandoned = left
+session_told left other = None
+
+-- ---- a step
+
+-- the frame of an answer, for the address that the keyring has for its receiver
+abbrev pub frames_in : Keyring → Answer → List (Addr × List ℕ)
+frames_in keys (Protocol.Sends e to f) = option_map_or (λ at. (at, spelling f) ∷ []) (addr_of keys to) []
+frames_in keys other = []
+
+-- the line of a call, the frames sent before being so many: by the graph of the session that the call is of
+abbrev pub line_of : Past → (sent : ℕ) → Call → List ℕ
+line_of past sent c =
+    let told = told_answer (sent + 1) (answer real (node_of past) c) in
+    let calls = (past_after real past c).calls in
+    line_text
+    (option_map_or (session_name 115 (met_in calls)) (session_told (sid_left c) told) [])
+    (graph_or_none (graph_of_call real (node_of past) c))
+    (length calls) past.keys.me told

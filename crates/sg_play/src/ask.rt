@@ -1,0 +1,160 @@
+//! What the node is asked, what came of it, and the graph by which its numbers have names.
+ghost use Rattle.std.specs.Prelude.{◌≡◌, ◌↔◌, ◌⊎◌, ℕ, length, None, IfOk, IfErr, IsTrue};
+ghost use Rattle.std.specs.Option.{option_copied};
+ghost use Rattle.sg_protocol.specs.Calls.{Start, Act, Abandon, Deliver};
+ghost use Rattle.sg_protocol.specs.NodeStates.{StandsForPast};
+ghost use Rattle.sg_protocol.specs.Past.{Past, node_of};
+ghost use Rattle.sg_protocol.specs.Texts.{real};
+ghost use Rattle.sg_protocol.specs.Told.{graph_of_call};
+ghost use Rattle.sg_report.specs.Outcome.{outcome_of};
+ghost use Rattle.sg_walk.specs.Views.{values_of};
+ghost use Rattle.sg_play.specs.Asking.{Comes};
+
+use crate::PlayFault;
+use crate::types::{tell_bytes, tell_cast, tell_values};
+use sg_base::{Label, Sealed, Sid, Value, Var};
+use sg_crypt::{Cast, Notes};
+use sg_frame::{DecodeFault, decode};
+use sg_graph::Graph;
+use sg_node::{ActFault, Node, Refusal, StartFault};
+use sg_report::Outcome;
+use sg_role::SendFault;
+use std::alloc::Global;
+
+/// Starts a session.
+pub(crate) fn ask_start<'p>(
+    alloc: Global,
+    node: &mut Node<'p>,
+    cast: Cast,
+) -> Result<(Outcome, Option<&'p Graph>), PlayFault>
+    ensures comes { (number : ℕ) (past : Past) → StandsForPast node.old past → IfOk result (λ r. Comes number node.old node.new past (Start cast) (outcome_of r.0) (option_copied r.1) None) }
+    ensures memory { IfErr result (λ e. e ≡ PlayFault.OutOfMemory) }
+{
+    tell_cast(&cast);
+    let graph = node.start_graph(&cast);
+    let mut notes = Notes::new(alloc);
+    match node.start(cast, &mut notes) {
+        Ok(event) => Ok((Outcome::Started(event), graph)),
+        Err(fault) => {
+            let lacks = is_start_memory(&fault);
+            if lacks {
+                return Err(PlayFault::OutOfMemory);
+            }
+            Ok((Outcome::NotStarted(fault), graph))
+        }
+    }
+}
+
+// Memory ran out.
+fn is_start_memory(fault: &StartFault) -> bool
+    ensures { IsTrue result ↔ (fault.now ≡ StartFault.OutOfMemory) }
+{
+    matches!(fault, StartFault::OutOfMemory)
+}
+
+/// Takes a delivery.
+pub(crate) fn ask_deliver<'p>(
+    alloc: Global,
+    node: &mut Node<'p>,
+    bytes: &[u8],
+) -> Result<(Outcome, Option<&'p Graph>), PlayFault>
+    ensures comes { (number : ℕ) (past : Past) → StandsForPast node.old past → IfOk result (λ r. Comes number node.old node.new past (Deliver bytes.now) (outcome_of r.0) (option_copied r.1) None) }
+    ensures memory { IfErr result (λ e. e ≡ PlayFault.OutOfMemory) }
+{
+    tell_bytes(bytes);
+    let graph = delivered_graph(alloc, node, bytes)?;
+    let mut notes = Notes::new(alloc);
+    match node.deliver(bytes, &mut notes) {
+        Ok(event) => Ok((Outcome::Received(event), graph)),
+        Err(why) => {
+            let lacks = is_delivery_memory(&why);
+            if lacks {
+                return Err(PlayFault::OutOfMemory);
+            }
+            Ok((Outcome::NotDelivered(why), graph))
+        }
+    }
+}
+
+// The graph of a delivery, before it is made: none where the bytes are no frame.
+fn delivered_graph<'p>(
+    alloc: Global,
+    node: &Node<'p>,
+    bytes: &[u8],
+) -> Result<Option<&'p Graph>, PlayFault>
+    ensures graph { (past : Past) → StandsForPast node.now past → IfOk result (λ g. option_copied g ≡ graph_of_call real (node_of past) (Deliver bytes.now)) }
+    ensures memory { IfErr result (λ e. e ≡ PlayFault.OutOfMemory) }
+{
+    match decode(alloc, bytes) {
+        Ok(frame) => Ok(node.frame_graph(&frame)),
+        Err(DecodeFault::Malformed { .. }) => Ok(None),
+        Err(DecodeFault::OutOfMemory) => Err(PlayFault::OutOfMemory),
+    }
+}
+
+// Memory ran out.
+fn is_delivery_memory(why: &Refusal) -> bool
+    ensures { IsTrue result ↔ (why.now ≡ Refusal.OutOfMemory) }
+{
+    matches!(why, Refusal::OutOfMemory)
+}
+
+/// Leaves a session.
+pub(crate) fn ask_abandon<'p>(node: &mut Node<'p>, sid: Sid) -> (Outcome, Option<&'p Graph>)
+    ensures { (number : ℕ) (past : Past) → StandsForPast node.old past → Comes number node.old node.new past (Abandon sid) (outcome_of result.0) (option_copied result.1) None }
+{
+    let graph = node.graph_of(&sid);
+    match node.abandon(sid) {
+        Ok(()) => (Outcome::Abandoned, graph),
+        Err(_) => (Outcome::NotAbandoned, graph),
+    }
+}
+
+/// Acts in a session. The frame that is made is to have this number.
+pub(crate) fn ask_act<'p>(
+    alloc: Global,
+    node: &mut Node<'p>,
+    sid: Sid,
+    label: Label,
+    values: &[(Var, Value)],
+    words: &[[u8; 16]],
+    number: u32,
+) -> Result<(Outcome, Option<&'p Graph>, Option<Sealed>), PlayFault>
+    requires { length words.now ≡ length values.now }
+    ensures comes { (past : Past) → StandsForPast node.old past
+        → IfOk result (λ r. Comes number node.old node.new past (Act sid label (values_of values.now) words.now) (outcome_of r.0) (option_copied r.1) r.2) }
+    ensures memory { IfErr result (λ e. e ≡ PlayFault.OutOfMemory) }
+{
+    tell_values(values, words);
+    let graph = node.graph_of(&sid);
+    let mut notes = Notes::new(alloc);
+    match node.act(sid, label, values, words, &mut notes) {
+        Ok((event, sealed)) => {
+            let to = sealed.to();
+            let outcome = Outcome::Sent {
+                event,
+                to,
+                frame: number,
+            };
+            Ok((outcome, graph, Some(sealed)))
+        }
+        Err(fault) => {
+            let lacks = is_act_memory(&fault);
+            if lacks {
+                return Err(PlayFault::OutOfMemory);
+            }
+            Ok((Outcome::NotActed(fault), graph, None))
+        }
+    }
+}
+
+// Memory ran out.
+fn is_act_memory(fault: &ActFault) -> bool
+    ensures { IsTrue result ↔ ((fault.now ≡ ActFault.OutOfMemory) ⊎ (fault.now ≡ ActFault.Send SendFault.OutOfMemory)) }
+{
+    match fault {
+        ActFault::OutOfMemory => true,
+        ActFault::Send(SendFault::OutOfMemory) => true,
+        _ => false,
+    }
+}

@@ -1,0 +1,290 @@
+//! One principal who plays a script.
+ghost use Rattle.std.specs.Prelude.{◌≡◌, ◌≤◌, ◌+◌, ℕ, List, [], Some, Err, IfOk, IfErr, IfSome, OnOk, option_and_then, unwrap_or};
+ghost use Rattle.std.specs.Option.{option_copied, option_map_or};
+ghost use Rattle.sg_base.specs.Outside.{HasRisen};
+ghost use Rattle.sg_lines.specs.Sessions.{Met, naming, session_name};
+ghost use Rattle.sg_protocol.specs.Calls.{Call, Start, Abandon, Deliver, sid_of};
+ghost use Rattle.sg_report.specs.Lines.{graph_or_none, line_text};
+ghost use Rattle.sg_report.specs.Outcome.{outcome_of};
+ghost use Rattle.sg_report.specs.Told.{Told};
+ghost use Rattle.sg_walk.specs.Views.{event_of};
+ghost use Rattle.sg_play.specs.Meeting.{met_more, sid_told};
+ghost use Rattle.sg_play.specs.Posting.{frames_made};
+ghost use Rattle.sg_play.specs.Steps.{session_told, sid_left};
+
+use crate::PlayFault;
+use crate::ask::{ask_abandon, ask_deliver, ask_start};
+use crate::choices::Choices;
+use crate::post::{Made, let_go, post};
+use crate::told::told_line;
+use sg_base::{Addr, Link, Name, Sealed, Seq, Sid, Sink};
+use sg_crypt::Cast;
+use sg_graph::Graph;
+use sg_keys::Keyring;
+use sg_lines::SessionNames;
+use sg_node::Node;
+use sg_program::Programs;
+use sg_report::Outcome;
+use sg_script::ScriptChoice;
+use sg_walk::Event;
+use std::alloc::Global;
+
+/// One principal who plays a script: its node, the keys and programs that the node was made with, the choices with the uses that are
+/// left, and what its lines are told by: what sessions are called, and how many steps were taken and frames sent.
+#[derive(Drop)]
+pub struct Player<'p> {
+    pub(crate) alloc: Global,
+    pub(crate) keys: &'p Keyring,
+    pub(crate) programs: &'p Programs,
+    pub(crate) node: Node<'p>,
+    pub(crate) choices: Choices,
+    pub(crate) names: SessionNames,
+    pub(crate) steps: u32,
+    pub(crate) frames: u32,
+}
+
+impl<'p> Player<'p> {
+    ghost use Rattle.sg_protocol.specs.NodeStates.{new_state};
+    ghost use Rattle.sg_play.specs.Ends.{Outside, Whole};
+    ghost use Rattle.sg_play.specs.Played.{Play, abandons, answer_in, beginning, called, sid_given};
+    ghost use Rattle.sg_play.specs.Standing.{Came, HasAsked, StandsForPlay, done};
+
+    /// A player with a node that was made with these keys and programs and was not asked anything yet.
+    pub(crate) fn new(
+        alloc: Global,
+        node: Node<'p>,
+        keys: &'p Keyring,
+        programs: &'p Programs,
+        choices: Seq<ScriptChoice>,
+    ) -> Result<Player<'p>, PlayFault>
+        ensures stands { IfOk result (λ pl. (first : List (List ℕ × ℕ)) (words : List (List ℕ)) → node.entry ≡ new_state keys.entry.now programs.entry.now first
+            → StandsForPlay pl (beginning keys.entry.now programs.entry.now first choices words)) }
+        ensures memory { IfErr result (λ e. e ≡ PlayFault.OutOfMemory) }
+    {
+        let names = SessionNames::new(alloc, b's');
+        match Choices::new(alloc, choices.into_vec()) {
+            Ok(choices) => Ok(Player {
+                alloc,
+                keys,
+                programs,
+                node,
+                choices,
+                names,
+                steps: 0,
+                frames: 0,
+            }),
+            Err(_) => Err(PlayFault::OutOfMemory),
+        }
+    }
+
+    /// Starts a session: the session whose turn may have come.
+    pub(crate) fn start<L: Link, O: Sink>(
+        &mut self,
+        cast: Cast,
+        link: &mut L,
+        out: &mut O,
+    ) -> Result<Option<Sid>, PlayFault>
+        ensures link_falls { L.faults link.old ≤ L.faults link.new }
+        ensures out_falls { O.faults out.old ≤ O.faults out.new }
+        ensures link_failed { result ≡ Err PlayFault.LinkFailed → HasRisen (L.faults link.old) (L.faults link.new) }
+        ensures write_failed { result ≡ Err PlayFault.WriteFailed → HasRisen (O.faults out.old) (O.faults out.new) }
+        ensures deliveries { L.deliveries link.new ≡ L.deliveries link.old }
+        ensures came { (p : Play) (start : Outside) → StandsForPlay self.old p → Whole start (record { written = O.written out.old; sent = L.sent link.old }) p.steps
+            → Came start (record { written = O.written out.new; sent = L.sent link.new }) self.new (called p (Start cast)) (done result) }
+        ensures turn { IfOk result (λ sid. (p : Play) → StandsForPlay self.old p → sid ≡ sid_given (answer_in p (Start cast))) }
+    {
+        let (outcome, graph) = ask_start(self.alloc, &mut self.node, cast)?;
+        self.give(None, graph, &outcome, None, link, out)?;
+        Ok(sid_in(&outcome))
+    }
+
+    /// Takes a delivery: the session whose turn may have come.
+    pub(crate) fn take<L: Link, O: Sink>(
+        &mut self,
+        bytes: &[u8],
+        link: &mut L,
+        out: &mut O,
+    ) -> Result<Option<Sid>, PlayFault>
+        ensures link_falls { L.faults link.old ≤ L.faults link.new }
+        ensures out_falls { O.faults out.old ≤ O.faults out.new }
+        ensures link_failed { result ≡ Err PlayFault.LinkFailed → HasRisen (L.faults link.old) (L.faults link.new) }
+        ensures write_failed { result ≡ Err PlayFault.WriteFailed → HasRisen (O.faults out.old) (O.faults out.new) }
+        ensures deliveries { L.deliveries link.new ≡ L.deliveries link.old }
+        ensures came { (p : Play) (start : Outside) → StandsForPlay self.old p → Whole start (record { written = O.written out.old; sent = L.sent link.old }) p.steps
+            → Came start (record { written = O.written out.new; sent = L.sent link.new }) self.new (called p (Deliver bytes.now)) (done result) }
+        ensures turn { IfOk result (λ sid. (p : Play) → StandsForPlay self.old p → sid ≡ sid_given (answer_in p (Deliver bytes.now))) }
+    {
+        let (outcome, graph) = ask_deliver(self.alloc, &mut self.node, bytes)?;
+        self.give(None, graph, &outcome, None, link, out)?;
+        Ok(sid_in(&outcome))
+    }
+
+    /// Leaves a session.
+    pub(crate) fn leave<L: Link, O: Sink>(
+        &mut self,
+        sid: Sid,
+        link: &mut L,
+        out: &mut O,
+    ) -> Result<(), PlayFault>
+        ensures link_falls { L.faults link.old ≤ L.faults link.new }
+        ensures out_falls { O.faults out.old ≤ O.faults out.new }
+        ensures link_failed { result ≡ Err PlayFault.LinkFailed → HasRisen (L.faults link.old) (L.faults link.new) }
+        ensures write_failed { result ≡ Err PlayFault.WriteFailed → HasRisen (O.faults out.old) (O.faults out.new) }
+        ensures deliveries { L.deliveries link.new ≡ L.deliveries link.old }
+        ensures came { (p : Play) (start : Outside) → StandsForPlay self.old p → Whole start (record { written = O.written out.old; sent = L.sent link.old }) p.steps
+            → Came start (record { written = O.written out.new; sent = L.sent link.new }) self.new (abandons sid p) result }
+    {
+        let (outcome, graph) = ask_abandon(&mut self.node, sid);
+        self.give(Some(sid), graph, &outcome, None, link, out)
+    }
+
+    /// Gives the outside what came of a call: the frame, if one was made, and when the link has taken it the line.
+    pub(crate) fn give<L: Link, O: Sink>(
+        &mut self,
+        left: Option<Sid>,
+        graph: Option<&Graph>,
+        outcome: &Outcome,
+        frame: Option<(Addr, Sealed)>,
+        link: &mut L,
+        out: &mut O,
+    ) -> Result<(), PlayFault>
+        ensures link_falls { L.faults link.old ≤ L.faults link.new }
+        ensures out_falls { O.faults out.old ≤ O.faults out.new }
+        ensures link_failed { result ≡ Err PlayFault.LinkFailed → HasRisen (L.faults link.old) (L.faults link.new) }
+        ensures write_failed { result ≡ Err PlayFault.WriteFailed → HasRisen (O.faults out.old) (O.faults out.new) }
+        ensures deliveries { L.deliveries link.new ≡ L.deliveries link.old }
+        ensures came { (p : Play) (c : Call) (start : Outside) → HasAsked self.old p c (outcome_of outcome.now) (option_copied graph.entry) (frames_made frame) → left ≡ sid_left c
+            → Whole start (record { written = O.written out.old; sent = L.sent link.old }) p.steps
+            → Came start (record { written = O.written out.new; sent = L.sent link.new }) self.new (called p c) result }
+    {
+        match self.tell(left, graph, outcome) {
+            Ok(line) => post(Made { line, frame }, link, out),
+            Err(fault) => {
+                let_go(frame);
+                Err(fault)
+            }
+        }
+    }
+
+    // The line of the next step.
+    fn tell(
+        &mut self,
+        left: Option<Sid>,
+        graph: Option<&Graph>,
+        outcome: &Outcome,
+    ) -> Result<Vec<u8>, PlayFault>
+        ensures rest { OnOk result (self.new ≡ record self.old { names = self.new.names; steps = self.old.steps + 1 }) }
+        ensures names { OnOk result ((m : Met) (t : Told) → outcome_of outcome.now ≡ Some t → self.old.names ≡ naming 115 m → self.new.names ≡ naming 115 (met_more m t)) }
+        ensures text { IfOk result (λ line. (m : Met) (t : Told) → outcome_of outcome.now ≡ Some t → self.old.names ≡ naming 115 m
+            → line.items ≡ line_text (option_map_or (session_name 115 (met_more m t)) (session_told left t) []) (graph_or_none (option_copied graph.entry)) (self.old.steps + 1) self.old.keys.now.me t) }
+        ensures memory { IfErr result (λ e. e ≡ PlayFault.OutOfMemory) }
+    {
+        self.meet(outcome)?;
+        let number = next(self.steps)?;
+        let line = self.line(number, session_of(left, outcome), graph, outcome)?;
+        self.steps = number;
+        Ok(line)
+    }
+
+    // Meets the session in which an outcome happened, if it did in one.
+    fn meet(&mut self, outcome: &Outcome) -> Result<(), PlayFault>
+        ensures rest { OnOk result (self.new ≡ record self.old { names = self.new.names }) }
+        ensures names { OnOk result ((m : Met) (t : Told) → outcome_of outcome.now ≡ Some t → self.old.names ≡ naming 115 m → self.new.names ≡ naming 115 (met_more m t)) }
+        ensures memory { IfErr result (λ e. e ≡ PlayFault.OutOfMemory) }
+    {
+        match sid_in(outcome) {
+            Some(sid) => match self.names.meet(self.alloc, sid) {
+                Ok(()) => Ok(()),
+                Err(_) => Err(PlayFault::OutOfMemory),
+            },
+            None => Ok(()),
+        }
+    }
+
+    // The line of a step of this number, in a session.
+    fn line(
+        &self,
+        number: u32,
+        sid: Option<Sid>,
+        graph: Option<&Graph>,
+        outcome: &Outcome,
+    ) -> Result<Vec<u8>, PlayFault>
+        ensures text { IfOk result (λ v. (m : Met) (t : Told) → outcome_of outcome.now ≡ Some t → self.now.names ≡ naming 115 m
+            → v.items ≡ line_text (option_map_or (session_name 115 m) sid []) (graph_or_none (option_copied graph.entry)) number self.now.keys.now.me t) }
+        ensures memory { IfErr result (λ e. e ≡ PlayFault.OutOfMemory) }
+    {
+        let who = self.keys.me();
+        let name = self.name(sid);
+        told_line(self.alloc, number, who, bytes_of(&name), graph, outcome)
+    }
+
+    // The name of a session, if there is one.
+    fn name(&self, sid: Option<Sid>) -> Option<Name>
+        ensures { (m : Met) → self.now.names ≡ naming 115 m → unwrap_or result [] ≡ option_map_or (session_name 115 m) sid [] }
+    {
+        match sid {
+            Some(sid) => self.names.name_of(&sid),
+            None => None,
+        }
+    }
+}
+
+// The bytes of a name, none where there is none.
+fn bytes_of(name: &Option<Name>) -> &[u8]
+    ensures { result.now ≡ unwrap_or name.now [] }
+{
+    match name {
+        Some(name) => name.as_bytes(),
+        None => &[],
+    }
+}
+
+/// One more. So many are never reached.
+pub(crate) fn next(number: u32) -> Result<u32, PlayFault>
+    ensures next { IfOk result (λ n. n ≡ number + 1) }
+    ensures memory { IfErr result (λ e. e ≡ PlayFault.OutOfMemory) }
+{
+    match number.checked_add(1) {
+        Some(next) => Ok(next),
+        None => Err(PlayFault::OutOfMemory),
+    }
+}
+
+// The session that a line names: that of the outcome's event, or the one that was left.
+fn session_of(left: Option<Sid>, outcome: &Outcome) -> Option<Sid>
+    ensures { IfSome (outcome_of outcome.now) (λ t. result ≡ session_told left t) }
+{
+    match outcome {
+        Outcome::Abandoned => left,
+        _ => sid_in(outcome),
+    }
+}
+
+// The session in which an outcome happened, if it did in one.
+fn sid_in(outcome: &Outcome) -> Option<Sid>
+    ensures { result ≡ option_and_then sid_told (outcome_of outcome.now) }
+{
+    match outcome {
+        Outcome::Started(event) => Some(sid_of(event)),
+        Outcome::Sent { event, .. } => Some(sid_of(event)),
+        Outcome::Received(event) => Some(sid_of(event)),
+        Outcome::Abandoned => None,
+        Outcome::Crafted { .. } => None,
+        Outcome::NotStarted(_) => None,
+        Outcome::NotActed(_) => None,
+        Outcome::NotAbandoned => None,
+        Outcome::NotDelivered(_) => None,
+        Outcome::NoFrame => None,
+    }
+}
+
+// The session of an event.
+fn sid_of(event: &Event) -> Sid
+    ensures { result ≡ sid_of (event_of event.now) }
+{
+    match event {
+        Event::Started { sid, .. } => *sid,
+        Event::Sent { sid, .. } => *sid,
+        Event::Received { sid, .. } => *sid,
+    }
+}

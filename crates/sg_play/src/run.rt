@@ -1,0 +1,188 @@
+//! A play: the starts of a script, and then deliveries.
+ghost use Rattle.std.specs.Prelude.{◌≡◌, ◌≤◌, ℕ, List, Err, Some, take, drop, OnOk, IfOk, IfErr};
+ghost use Rattle.std.specs.Option.{option_map_or};
+ghost use Rattle.sg_base.specs.Outside.{HasRisen};
+ghost use Rattle.sg_protocol.specs.Calls.{Deliver};
+ghost use Rattle.sg_protocol.specs.NodeStates.{new_state};
+ghost use Rattle.sg_play.specs.Ends.{Ended, Outside, Whole};
+ghost use Rattle.sg_play.specs.Played.{Play, all_deliveries, all_starts, cast_of_start, played, plays_on, starts, with_turn};
+ghost use Rattle.sg_play.specs.Standing.{CameTo, StandsForPlay};
+
+use crate::{PlayFault, Player};
+use sg_base::{Fresh, Link, LinkFault, Sid, Sink};
+use sg_crypt::Cast;
+use sg_keys::Keyring;
+use sg_node::Node;
+use sg_program::Programs;
+use sg_script::{Script, ScriptStart};
+use std::alloc::Global;
+
+impl<'p> Player<'p> {
+    /// Makes each start of a script in order, and plays the turn that it gives.
+    pub(crate) fn start_all<L: Link, R: Fresh, O: Sink>(
+        &mut self,
+        starts: &[ScriptStart],
+        link: &mut L,
+        fresh: &mut R,
+        out: &mut O,
+    ) -> Result<(), PlayFault>
+        ensures link_falls { L.faults link.old ≤ L.faults link.new }
+        ensures out_falls { O.faults out.old ≤ O.faults out.new }
+        ensures link_failed { result ≡ Err PlayFault.LinkFailed → HasRisen (L.faults link.old) (L.faults link.new) }
+        ensures write_failed { result ≡ Err PlayFault.WriteFailed → HasRisen (O.faults out.old) (O.faults out.new) }
+        ensures deliveries { L.deliveries link.new ≡ L.deliveries link.old }
+        ensures came { (p : Play) (start : Outside) → StandsForPlay self.old p → R.words fresh.old ≡ Some p.words → Whole start (record { written = O.written out.old; sent = L.sent link.old }) p.steps
+            → CameTo start (record { written = O.written out.new; sent = L.sent link.new }) self.new (R.words fresh.new) (all_starts p starts.now) result }
+    {
+        for start in starts {
+            self.start_one(start, link, fresh, out)?;
+        }
+        Ok(())
+    }
+
+    // Makes a start of a script, with the next word as its nonce, and plays the turn that it gives.
+    fn start_one<L: Link, R: Fresh, O: Sink>(
+        &mut self,
+        start_of: &ScriptStart,
+        link: &mut L,
+        fresh: &mut R,
+        out: &mut O,
+    ) -> Result<(), PlayFault>
+        ensures link_falls { L.faults link.old ≤ L.faults link.new }
+        ensures out_falls { O.faults out.old ≤ O.faults out.new }
+        ensures link_failed { result ≡ Err PlayFault.LinkFailed → HasRisen (L.faults link.old) (L.faults link.new) }
+        ensures write_failed { result ≡ Err PlayFault.WriteFailed → HasRisen (O.faults out.old) (O.faults out.new) }
+        ensures deliveries { L.deliveries link.new ≡ L.deliveries link.old }
+        ensures came { (p : Play) (start : Outside) → StandsForPlay self.old p → R.words fresh.old ≡ Some p.words → Whole start (record { written = O.written out.old; sent = L.sent link.old }) p.steps
+            → CameTo start (record { written = O.written out.new; sent = L.sent link.new }) self.new (R.words fresh.new) (starts p start_of.now) result }
+    {
+        let nonce = fresh.next();
+        let cast = cast_of(self.programs, start_of, nonce)?;
+        let sid = self.start(cast, link, out)?;
+        self.play_if(sid, link, fresh, out)
+    }
+
+    /// Takes at most so many deliveries, up to the link's end, and plays the turn that each gives.
+    pub(crate) fn take_all<L: Link, R: Fresh, O: Sink>(
+        &mut self,
+        alloc: Global,
+        most: u32,
+        link: &mut L,
+        fresh: &mut R,
+        out: &mut O,
+    ) -> Result<(), PlayFault>
+        ensures link_falls { L.faults link.old ≤ L.faults link.new }
+        ensures out_falls { O.faults out.old ≤ O.faults out.new }
+        ensures link_failed { result ≡ Err PlayFault.LinkFailed → HasRisen (L.faults link.old) (L.faults link.new) }
+        ensures write_failed { result ≡ Err PlayFault.WriteFailed → HasRisen (O.faults out.old) (O.faults out.new) }
+        ensures came { (p : Play) (start : Outside) (deliveries : List (List ℕ)) → L.deliveries link.old ≡ Some deliveries → StandsForPlay self.old p → R.words fresh.old ≡ Some p.words
+            → Whole start (record { written = O.written out.old; sent = L.sent link.old }) p.steps
+            → CameTo start (record { written = O.written out.new; sent = L.sent link.new }) self.new (R.words fresh.new) (all_deliveries p (take most deliveries)) result }
+        ensures left { OnOk result ((deliveries : List (List ℕ)) → L.deliveries link.old ≡ Some deliveries → L.deliveries link.new ≡ Some (drop most deliveries)) }
+        ensures at_most { (deliveries : List (List ℕ)) → L.deliveries link.old ≡ Some deliveries → (n : ℕ) × (n ≤ most) × (L.deliveries link.new ≡ Some (drop n deliveries)) }
+    {
+        for _taken in 0..most {
+            match link.recv(alloc) {
+                Ok(Some(bytes)) => self.deliver(bytes.as_slice(), link, fresh, out)?,
+                Ok(None) => return Ok(()),
+                Err(LinkFault::Failed) => return Err(PlayFault::LinkFailed),
+                Err(LinkFault::OutOfMemory) => return Err(PlayFault::OutOfMemory),
+            }
+        }
+        Ok(())
+    }
+
+    /// Takes a delivery, and plays the turn that it gives.
+    pub(crate) fn deliver<L: Link, R: Fresh, O: Sink>(
+        &mut self,
+        bytes: &[u8],
+        link: &mut L,
+        fresh: &mut R,
+        out: &mut O,
+    ) -> Result<(), PlayFault>
+        ensures link_falls { L.faults link.old ≤ L.faults link.new }
+        ensures out_falls { O.faults out.old ≤ O.faults out.new }
+        ensures link_failed { result ≡ Err PlayFault.LinkFailed → HasRisen (L.faults link.old) (L.faults link.new) }
+        ensures write_failed { result ≡ Err PlayFault.WriteFailed → HasRisen (O.faults out.old) (O.faults out.new) }
+        ensures deliveries { L.deliveries link.new ≡ L.deliveries link.old }
+        ensures came { (p : Play) (start : Outside) → StandsForPlay self.old p → R.words fresh.old ≡ Some p.words → Whole start (record { written = O.written out.old; sent = L.sent link.old }) p.steps
+            → CameTo start (record { written = O.written out.new; sent = L.sent link.new }) self.new (R.words fresh.new) (with_turn p (Deliver bytes.now)) result }
+    {
+        let sid = self.take(bytes, link, out)?;
+        self.play_if(sid, link, fresh, out)
+    }
+
+    // Plays the turn of a session, if there is one.
+    fn play_if<L: Link, R: Fresh, O: Sink>(
+        &mut self,
+        sid: Option<Sid>,
+        link: &mut L,
+        fresh: &mut R,
+        out: &mut O,
+    ) -> Result<(), PlayFault>
+        ensures link_falls { L.faults link.old ≤ L.faults link.new }
+        ensures out_falls { O.faults out.old ≤ O.faults out.new }
+        ensures link_failed { result ≡ Err PlayFault.LinkFailed → HasRisen (L.faults link.old) (L.faults link.new) }
+        ensures write_failed { result ≡ Err PlayFault.WriteFailed → HasRisen (O.faults out.old) (O.faults out.new) }
+        ensures deliveries { L.deliveries link.new ≡ L.deliveries link.old }
+        ensures came { (p : Play) (start : Outside) → StandsForPlay self.old p → R.words fresh.old ≡ Some p.words → Whole start (record { written = O.written out.old; sent = L.sent link.old }) p.steps
+            → CameTo start (record { written = O.written out.new; sent = L.sent link.new }) self.new (R.words fresh.new) (option_map_or (λ s. plays_on s p) sid p) result }
+    {
+        match sid {
+            Some(sid) => self.play_turn(sid, link, fresh, out),
+            None => Ok(()),
+        }
+    }
+}
+
+// The cast of a start: of the first program of its graph's name, with this nonce. A script that was read beside these programs has it.
+fn cast_of(programs: &Programs, start: &ScriptStart, nonce: [u8; 16]) -> Result<Cast, PlayFault>
+    ensures cast { IfOk result (λ c. c ≡ cast_of_start programs.now start.now nonce) }
+    ensures memory { IfErr result (λ e. e ≡ PlayFault.OutOfMemory) }
+{
+    let Some(program) = programs.by_name(&start.graph) else {
+        return Err(PlayFault::OutOfMemory);
+    };
+    match Cast::new(
+        start.version,
+        *program.digest(),
+        nonce,
+        start.cast.as_slice(),
+    ) {
+        Some(cast) => Ok(cast),
+        None => Err(PlayFault::OutOfMemory),
+    }
+}
+
+/// Plays a script: makes its starts in order and plays the turn that each gives; then takes at most so many deliveries, up to the
+/// link's end, gives each to the node and plays the turn, if one came. The node was made with these keys and programs, and with any
+/// joins, and was not asked anything yet; the script was read beside these programs.
+pub fn play<'p, L: Link, R: Fresh, O: Sink>(
+    alloc: Global,
+    node: Node<'p>,
+    keys: &'p Keyring,
+    programs: &'p Programs,
+    script: Script,
+    most: u32,
+    link: &mut L,
+    fresh: &mut R,
+    out: &mut O,
+) -> Result<(), PlayFault>
+    ensures link_falls { L.faults link.old ≤ L.faults link.new }
+    ensures out_falls { O.faults out.old ≤ O.faults out.new }
+    ensures link_failed { result ≡ Err PlayFault.LinkFailed → HasRisen (L.faults link.old) (L.faults link.new) }
+    ensures write_failed { result ≡ Err PlayFault.WriteFailed → HasRisen (O.faults out.old) (O.faults out.new) }
+
+    // Where the link tells its deliveries and the source its words: what was written and sent is what the play says, up to where it
+    // ended.
+    ensures played { (first : List (List ℕ × ℕ)) (deliveries words : List (List ℕ)) → node.entry ≡ new_state keys.entry.now programs.entry.now first → L.deliveries link.old ≡ Some deliveries → R.words fresh.old ≡ Some words
+        → Ended (record { written = O.written out.old; sent = L.sent link.old }) (record { written = O.written out.new; sent = L.sent link.new })
+        (played keys.entry.now programs.entry.now first script (take most deliveries) words).steps result }
+    ensures left { OnOk result ((deliveries : List (List ℕ)) → L.deliveries link.old ≡ Some deliveries → L.deliveries link.new ≡ Some (drop most deliveries)) }
+    ensures at_most { (deliveries : List (List ℕ)) → L.deliveries link.old ≡ Some deliveries → (n : ℕ) × (n ≤ most) × (L.deliveries link.new ≡ Some (drop n deliveries)) }
+{
+    let Script { starts, choices } = script;
+    let mut player = Player::new(alloc, node, keys, programs, choices)?;
+    player.start_all(starts.as_slice(), link, fresh, out)?;
+    player.take_all(alloc, most, link, fresh, out)
+}

@@ -1,0 +1,167 @@
+//! A turn of a session: the act by a choice of the script, or the leaving.
+ghost use Rattle.std.specs.Prelude.{◌≡◌, ◌≤◌, ◌+◌, ℕ, [], ◌∷◌, Err, Some, None, IfOk, IfErr, MatchOption, length, find};
+ghost use Rattle.std.specs.Option.{option_copied, option_map_or};
+ghost use Rattle.sg_base.specs.Outside.{HasRisen};
+ghost use Rattle.sg_keys.specs.Names.{addr_of};
+ghost use Rattle.sg_protocol.specs.Calls.{Answer};
+ghost use Rattle.sg_report.specs.Outcome.{outcome_of};
+ghost use Rattle.sg_report.specs.Told.{told_answer};
+ghost use Rattle.sg_play.specs.Choosing.{is_ready};
+ghost use Rattle.sg_play.specs.Ends.{Outside, Whole};
+ghost use Rattle.sg_play.specs.Played.{Play, plays_on};
+ghost use Rattle.sg_play.specs.Posting.{frames_made};
+ghost use Rattle.sg_play.specs.Standing.{CameActing, CameTo, HasActed, StandsForPlay};
+ghost use Rattle.sg_play.specs.Turns.{acted, acted_in, is_sent};
+
+use crate::ask::ask_act;
+use crate::player::next;
+use crate::words::draw;
+use crate::{PlayFault, Player};
+use sg_base::{Addr, Fresh, Link, Name, NodeId, Sealed, Sid, Sink};
+use sg_graph::Graph;
+use sg_report::Outcome;
+
+impl<'p> Player<'p> {
+    /// Plays the turn of a session, where it is at its turn: by the first choice for its graph and node that has uses left. Where there
+    /// is none, or where the act is refused, the session is left.
+    pub(crate) fn play_turn<L: Link, R: Fresh, O: Sink>(
+        &mut self,
+        sid: Sid,
+        link: &mut L,
+        fresh: &mut R,
+        out: &mut O,
+    ) -> Result<(), PlayFault>
+        ensures link_falls { L.faults link.old ≤ L.faults link.new }
+        ensures out_falls { O.faults out.old ≤ O.faults out.new }
+        ensures link_failed { result ≡ Err PlayFault.LinkFailed → HasRisen (L.faults link.old) (L.faults link.new) }
+        ensures write_failed { result ≡ Err PlayFault.WriteFailed → HasRisen (O.faults out.old) (O.faults out.new) }
+        ensures deliveries { L.deliveries link.new ≡ L.deliveries link.old }
+        ensures came { (p : Play) (start : Outside) → StandsForPlay self.old p → R.words fresh.old ≡ Some p.words → Whole start (record { written = O.written out.old; sent = L.sent link.old }) p.steps
+            → CameTo start (record { written = O.written out.new; sent = L.sent link.new }) self.new (R.words fresh.new) (plays_on sid p) result }
+    {
+        let Some(node) = self.node.turn(sid) else {
+            return Ok(());
+        };
+        if self.act(sid, node, link, fresh, out)? {
+            return Ok(());
+        }
+        self.leave(sid, link, out)
+    }
+
+    // Acts by the first choice for a node of a session's graph that has uses left. It says whether a step was sent: not where there is no
+    // such choice, nor where the act is refused.
+    fn act<L: Link, R: Fresh, O: Sink>(
+        &mut self,
+        sid: Sid,
+        node: NodeId,
+        link: &mut L,
+        fresh: &mut R,
+        out: &mut O,
+    ) -> Result<bool, PlayFault>
+        ensures link_falls { L.faults link.old ≤ L.faults link.new }
+        ensures out_falls { O.faults out.old ≤ O.faults out.new }
+        ensures link_failed { result ≡ Err PlayFault.LinkFailed → HasRisen (L.faults link.old) (L.faults link.new) }
+        ensures write_failed { result ≡ Err PlayFault.WriteFailed → HasRisen (O.faults out.old) (O.faults out.new) }
+        ensures deliveries { L.deliveries link.new ≡ L.deliveries link.old }
+        ensures came { (p : Play) (start : Outside) → StandsForPlay self.old p → R.words fresh.old ≡ Some p.words → Whole start (record { written = O.written out.old; sent = L.sent link.old }) p.steps
+            → CameActing start (record { written = O.written out.new; sent = L.sent link.new }) self.new (R.words fresh.new) (acted sid node p) result }
+    {
+        let Some(graph) = self.node.graph_of(&sid) else {
+            return Ok(false);
+        };
+        let name = graph.name();
+        self.act_in(sid, &name, node, link, fresh, out)
+    }
+
+    // Acts so by the choices for a node of a graph.
+    fn act_in<L: Link, R: Fresh, O: Sink>(
+        &mut self,
+        sid: Sid,
+        graph: &Name,
+        node: NodeId,
+        link: &mut L,
+        fresh: &mut R,
+        out: &mut O,
+    ) -> Result<bool, PlayFault>
+        ensures link_falls { L.faults link.old ≤ L.faults link.new }
+        ensures out_falls { O.faults out.old ≤ O.faults out.new }
+        ensures link_failed { result ≡ Err PlayFault.LinkFailed → HasRisen (L.faults link.old) (L.faults link.new) }
+        ensures write_failed { result ≡ Err PlayFault.WriteFailed → HasRisen (O.faults out.old) (O.faults out.new) }
+        ensures deliveries { L.deliveries link.new ≡ L.deliveries link.old }
+        ensures came { (p : Play) (start : Outside) → StandsForPlay self.old p → R.words fresh.old ≡ Some p.words → Whole start (record { written = O.written out.old; sent = L.sent link.old }) p.steps
+            → CameActing start (record { written = O.written out.new; sent = L.sent link.new }) self.new (R.words fresh.new) (acted_in sid graph.now node p) result }
+    {
+        match self.try_act(sid, graph, node, fresh)? {
+            Some((outcome, told_by, frame)) => {
+                self.give(None, told_by, &outcome, frame, link, out)?;
+                Ok(was_sent(&outcome))
+            }
+            None => Ok(false),
+        }
+    }
+
+    // Asks for the act by the first choice for a node of a graph that has uses left, if there is one: what came of it, the graph by which
+    // its numbers have names, and the frame that was made, with the address of its receiver. The act takes one use off the choice,
+    // whether it is refused or not.
+    fn try_act<R: Fresh>(
+        &mut self,
+        sid: Sid,
+        graph: &Name,
+        node: NodeId,
+        fresh: &mut R,
+    ) -> Result<Option<(Outcome, Option<&'p Graph>, Option<(Addr, Sealed)>)>, PlayFault>
+        ensures acted { IfOk result (λ r. (p : Play) → StandsForPlay self.old p → R.words fresh.old ≡ Some p.words → MatchOption r
+            ((find (is_ready graph.now node) p.choices ≡ None) × (self.new ≡ self.old) × (R.words fresh.new ≡ R.words fresh.old))
+            (λ a. HasActed self.new (R.words fresh.new) sid graph.now node p (outcome_of a.0) (option_copied a.1) (frames_made a.2))) }
+        ensures memory { IfErr result (λ e. e ≡ PlayFault.OutOfMemory) }
+    {
+        let Some(choice) = self.choices.first(graph, node) else {
+            return Ok(None);
+        };
+        let words = match draw(self.alloc, fresh, choice.values.len()) {
+            Ok(words) => words,
+            Err(_) => return Err(PlayFault::OutOfMemory),
+        };
+        let number = next(self.frames)?;
+        let (outcome, told_by, sealed) = ask_act(
+            self.alloc,
+            &mut self.node,
+            sid,
+            choice.label,
+            choice.values.as_slice(),
+            words.as_slice(),
+            number,
+        )?;
+        self.choices.use_first(graph, node);
+        let frame = self.addressed(sealed, number);
+        Ok(Some((outcome, told_by, frame)))
+    }
+
+    // A made frame for the address that the keyring has for its receiver. It has this number.
+    fn addressed(&mut self, sealed: Option<Sealed>, number: u32) -> Option<(Addr, Sealed)>
+        ensures rest { self.new ≡ record self.old { frames = self.new.frames } }
+        ensures made { frames_made result ≡ option_map_or (λ s. option_map_or (λ at. (at, s.1) ∷ []) (addr_of self.old.keys.now s.0) []) sealed [] }
+        ensures count { number ≡ self.old.frames + 1 → self.new.frames ≡ self.old.frames + length (frames_made result) }
+    {
+        let Some(sealed) = sealed else {
+            return None;
+        };
+        match self.keys.addr(&sealed.to()) {
+            Some(at) => {
+                self.frames = number;
+                Some((at, sealed))
+            }
+            None => {
+                let _ = sealed.release();
+                None
+            }
+        }
+    }
+}
+
+// A step was sent.
+fn was_sent(outcome: &Outcome) -> bool
+    ensures { (k : ℕ) (a : Answer) → outcome_of outcome.now ≡ Some (told_answer k a) → result ≡ is_sent a }
+{
+    matches!(outcome, Outcome::Sent { .. })
+}

@@ -1,0 +1,23 @@
+//! Words to hide values, drawn one after the other.
+ghost use Rattle.std.specs.Prelude.{◌≡◌, ℕ, List, Some, length, drop, IfOk, OnOk};
+ghost use Rattle.sg_play.specs.Played.{next_words};
+
+use sg_base::{Fresh, OutOfMemory};
+use std::alloc::Global;
+
+/// The next words, so many.
+pub(crate) fn draw<R: Fresh>(
+    alloc: Global,
+    fresh: &mut R,
+    count: usize,
+) -> Result<Vec<[u8; 16]>, OutOfMemory>
+    ensures words { IfOk result (λ w. (all : List (List ℕ)) → R.words fresh.old ≡ Some all → w.items ≡ next_words count all) }
+    ensures count { IfOk result (λ w. length w.items ≡ count) }
+    ensures left { OnOk result ((all : List (List ℕ)) → R.words fresh.old ≡ Some all → R.words fresh.new ≡ Some (drop count all)) }
+{
+    let mut words = Vec::new(alloc);
+    for _at in 0..count {
+        words.push(fresh.next())?;
+    }
+    Ok(words)
+}

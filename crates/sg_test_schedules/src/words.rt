@@ -1,0 +1,35 @@
+use sg_base::OutOfMemory;
+use sg_words::{Command, Given, Line, read_command};
+use std::alloc::Global;
+
+// The command of these words, through `clap`: the file, the script, and the numbers of deliveries and programs.
+fn runs(alloc: Global, words: &[String]) -> Result<Option<(u32, usize)>, OutOfMemory> {
+    let line = Line::new(alloc, words)?;
+    let given = Given::read(alloc, &line)?;
+    Ok(match given.command() {
+        Some(
+            Command::Run {
+                deliveries,
+                programs,
+                ..
+            },
+        ) => Some((deliveries, programs.len())),
+        _ => None,
+    })
+}
+
+#[test]
+fn a_run_has_its_numbers_and_programs(rt: HostRuntime) -> Result<(), OutOfMemory> {
+    let alloc = rt.alloc();
+    let mut words = Vec::new(alloc);
+    for word in ["run", "keys", "script", "1000000", "c", "p"] {
+        words.push(String::from_str(alloc, word)?)?;
+    }
+    assert!(rt; runs(alloc, words.as_slice())? == Some((1_000_000, 2)));
+    assert!(rt; read_command(&["run", "keys", "script", "1000001", "c"]).is_none());
+    assert!(rt; read_command(&["run", "keys", "script", "01", "c"]).is_none());
+    assert!(rt; read_command(&["run", "keys", "script", "1"]).is_none());
+    assert!(rt; read_command(&["check", "-"]).is_none());
+    assert!(rt; read_command(&["check"]).is_none());
+    Ok(())
+}

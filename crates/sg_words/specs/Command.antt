@@ -1,0 +1,54 @@
+-- What the words of the command line ask for.
+use Rattle.std.specs.Prelude.{ℕ, ◌==◌, Bool, if◌then◌else◌, List, [], ◌∷◌, codes, slice_index, Option, Some, None, option_map, bytes_eq}
+use Rattle.std.specs.List.{list_any}
+use Rattle.sg_base.specs.Words.{number}
+
+-- a command of the table
+pub data Command : Type 0 where
+  Check : (file : List ℕ) → Command
+  Compile : (file role : List ℕ) → Command
+  Run : (keys script : List ℕ) → (deliveries : ℕ) → (programs : List (List ℕ)) → Command
+  Replay : (file : List ℕ) → Command
+  Audit : (file : List ℕ) → Command
+  Compose : (file : List ℕ) → Command
+
+-- the word begins with -
+abbrev pub is_option : List ℕ → Bool
+is_option word = slice_index word 0 == 45
+
+-- check FILE, replay FILE, audit FILE, or compose FILE
+abbrev pub on_file : (name file : List ℕ) → Option Command
+on_file name file =
+    if bytes_eq name (codes "check") then Some (Check file)
+    else if bytes_eq name (codes "replay") then Some (Replay file)
+    else if bytes_eq name (codes "audit") then Some (Audit file)
+    else if bytes_eq name (codes "compose") then Some (Compose file)
+    else None
+
+-- compile FILE ROLE
+abbrev pub on_file_and_role : (name file role : List ℕ) → Option Command
+on_file_and_role name file role = if bytes_eq name (codes "compile") then Some (Compile file role) else None
+
+-- the command of this name that takes one word or two
+abbrev pub few : (name : List ℕ) → List (List ℕ) → Option Command
+few name [] = None
+few name (file ∷ []) = on_file name file
+few name (file ∷ role ∷ []) = on_file_and_role name file role
+few name (file ∷ role ∷ other ∷ more) = None
+
+-- KEYS SCRIPT N PROGRAM.., at least one program, and N at most 1,000,000
+abbrev pub running : List (List ℕ) → Option Command
+running [] = None
+running (keys ∷ []) = None
+running (keys ∷ script ∷ []) = None
+running (keys ∷ script ∷ n ∷ []) = None
+running (keys ∷ script ∷ n ∷ program ∷ more) = option_map (λ d. Run keys script d (program ∷ more)) (number 1000000 n)
+
+-- the command of this name, with these words behind it
+abbrev pub named : (name : List ℕ) → List (List ℕ) → Option Command
+named name words = if bytes_eq name (codes "run") then running words else few name words
+
+-- the command, where the words are in the table and none begins with -
+abbrev pub command_of : List (List ℕ) → Option Command
+command_of [] = None
+command_of (name ∷ words) = if list_any is_option (name ∷ words) then None else named name words

@@ -1,0 +1,14 @@
+-- What the program holds, as the values of the definitions.
+use Rattle.std.specs.Prelude.{map}
+use Rattle.sg_words.specs.Command as Asked
+use Rattle.sg_words.specs.declared.command.Command.{Command}
+use Rattle.sg_words.specs.declared.command.Command.TheVariants.{Check, Compile, Run, Replay, Audit, Compose}
+
+-- the command that is held
+abbrev pub command_held : Command → Asked.Command
+command_held (Check file) = Asked.Check file.now
+command_held (Compile file role) = Asked.Compile file.now role.now
+command_held (Run keys script deliveries programs) = Asked.Run keys.now script.now deliveries (map (λ s. s.now) programs.now)
+command_held (Replay file) = Asked.Replay file.now
+command_held (Audit file) = Asked.Audit file.now
+command_held (Compose file) = Asked.Compose file.now

@@ -1,0 +1,3 @@
+pub mod Command
+pub mod Held
+pub mod Given

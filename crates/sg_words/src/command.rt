@@ -1,0 +1,143 @@
+//! What the words of the command line ask for.
+ghost use Rattle.std.specs.Prelude.{◌≡◌, map, option_map};
+ghost use Rattle.std.specs.List.{list_any};
+ghost use Rattle.sg_words.specs.Command.{command_of, few, is_option, named, on_file, on_file_and_role, running};
+ghost use Rattle.sg_words.specs.Held.{command_held};
+
+use sg_base::read_number;
+
+/// A command, with the words that it names.
+#[derive(Debug, Clone, Copy)]
+pub enum Command<'w> {
+    /// Checks a graph.
+    Check {
+        /// The file of the graph.
+        file: &'w str,
+    },
+    /// Compiles a graph for a role.
+    Compile {
+        /// The file of the graph.
+        file: &'w str,
+        /// The role's name.
+        role: &'w str,
+    },
+    /// Runs one principal.
+    Run {
+        /// The key file.
+        keys: &'w str,
+        /// The file of the script.
+        script: &'w str,
+        /// How many deliveries are taken at most, up to 1,000,000.
+        deliveries: u32,
+        /// The files of the programs, at least one.
+        programs: &'w [&'w str],
+    },
+    /// Replays a schedule.
+    Replay {
+        /// The file of the schedule.
+        file: &'w str,
+    },
+    /// Audits logs.
+    Audit {
+        /// The file of the logs.
+        file: &'w str,
+    },
+    /// Expands parts.
+    Compose {
+        /// The file of the parts.
+        file: &'w str,
+    },
+}
+
+/// The command, or `None` where the words are not in the table of commands. It takes no memory.
+pub fn read_command<'w>(words: &'w [&'w str]) -> Option<Command<'w>>
+    ensures { option_map command_held result ≡ command_of (map (λ s. s.now) words.now) }
+{
+    if has_option(words) {
+        return None;
+    }
+    match words {
+        [name, rest @ ..] => named(name, rest),
+        _ => None,
+    }
+}
+
+// The command of this name, with these words behind it.
+fn named<'w>(name: &str, words: &'w [&'w str]) -> Option<Command<'w>>
+    ensures { option_map command_held result ≡ named name.now (map (λ s. s.now) words.now) }
+{
+    match name {
+        "run" => running(words),
+        name => few(name, words),
+    }
+}
+
+// The command that runs one principal.
+fn running<'w>(words: &'w [&'w str]) -> Option<Command<'w>>
+    ensures { option_map command_held result ≡ running (map (λ s. s.now) words.now) }
+{
+    match words {
+        [keys, script, deliveries, programs @ ..] if programs.len() > 0 => {
+            let deliveries = read_number(deliveries.as_bytes(), 1_000_000)? as u32;
+            Some(Command::Run {
+                keys,
+                script,
+                deliveries,
+                programs,
+            })
+        }
+        _ => None,
+    }
+}
+
+// The command of this name that takes one word or two.
+fn few<'w>(name: &str, words: &'w [&'w str]) -> Option<Command<'w>>
+    ensures { option_map command_held result ≡ few name.now (map (λ s. s.now) words.now) }
+{
+    match words {
+        [file] => on_file(name, file),
+        [file, role] => on_file_and_role(name, file, role),
+        _ => None,
+    }
+}
+
+// The command of this name that takes a file.
+fn on_file<'w>(name: &str, file: &'w str) -> Option<Command<'w>>
+    ensures { option_map command_held result ≡ on_file name.now file.now }
+{
+    match name {
+        "check" => Some(Command::Check { file }),
+        "replay" => Some(Command::Replay { file }),
+        "audit" => Some(Command::Audit { file }),
+        "compose" => Some(Command::Compose { file }),
+        _ => None,
+    }
+}
+
+// The command of this name that takes a file and a role.
+fn on_file_and_role<'w>(name: &str, file: &'w str, role: &'w str) -> Option<Command<'w>>
+    ensures { option_map command_held result ≡ on_file_and_role name.now file.now role.now }
+{
+    match name {
+        "compile" => Some(Command::Compile { file, role }),
+        _ => None,
+    }
+}
+
+// A word begins with `-`.
+fn has_option(words: &[&str]) -> bool
+    ensures { result ≡ list_any is_option (map (λ s. s.now) words.now) }
+{
+    for word in words {
+        if begins_with_dash(word) {
+            return true;
+        }
+    }
+    false
+}
+
+fn begins_with_dash(word: &str) -> bool
+    ensures { result ≡ is_option word.now }
+{
+    word.as_bytes().first().copied() == Some(b'-')
+}
