@@ -1,11 +1,12 @@
 #!/usr/bin/env bash
 # Runs commands with the k-th allocation refused, for each k from 1 to as many as the run makes; then with the k-th and all later ones refused; then with
-# the k-th call that opens, reads or writes failing; and then with the k-th of these that reads or writes taking one byte alone. Without memory a run must
-# end with status 8, say `out of memory` and write nothing, or end as it does with ample memory, where a growth that is refused only saves time; or, while
-# the words are made, before the program begins, end with status 1 and the library's own line. Where a call on the file fails, it must end with status 5,
-# say `file failed: f` and write nothing; where one on what it writes fails, with status 6, and what is written is a front part of what it writes else.
-# Where a call takes one byte, it must end as ever. Prints for each run how many allocations and calls it makes, each of which was tried, and with what
-# statuses these runs ended. Needs python3 and a C compiler; no part of the gate.
+# the k-th call that opens, reads or writes, asks for a seed or is of a socket failing; and then with the k-th of these that reads or writes taking one
+# byte alone. Without memory a run must end with status 8, say `out of memory` and write nothing, or end as it does with ample memory, where a growth that
+# is refused only saves time. Where a call on a file fails, it must end with status 5, say so and write nothing; where one on what it writes fails, with
+# status 6, and what is written is a front part of what it writes else; where one of a socket fails, with 7, and where there is no seed, with 12. What
+# `run` writes before memory is wanted or the link fails stays, in whole lines. Where a call takes one byte, it must end as ever. Prints for each run how
+# many allocations and calls it makes, each of which was tried, and with what statuses these runs ended. Needs python3 and a C compiler; no part of the
+# gate.
 #
 #     bench/allocations.sh [PROGRAM]
 #
@@ -26,6 +27,7 @@ cat >"$folder/failing.c" <<'C'
 #include <stdio.h>
 #include <stdlib.h>
 #include <string.h>
+#include <sys/socket.h>
 #include <sys/types.h>
 #include <unistd.h>
 
@@ -65,7 +67,7 @@ int posix_memalign(void **block, size_t wide, size_t size) {
     return *block ? 0 : ENOMEM;
 }
 
-// What was called: O, R or W, and for R and W the file's number.
+// What was called: O, R, W, S for a seed or L for a socket, and for R and W the file's number.
 static char told[65536];
 static size_t told_length;
 
@@ -123,6 +125,36 @@ ssize_t write(int file, const void *bytes, size_t size) {
     return ((ssize_t (*)(int, const void *, size_t))next("write"))(file, bytes, taken(size));
 }
 
+int getentropy(void *bytes, size_t size) {
+    tell('S', 0);
+    if (fails()) return failed();
+    return ((int (*)(void *, size_t))next("getentropy"))(bytes, size);
+}
+
+ssize_t getrandom(void *bytes, size_t size, unsigned flags) {
+    tell('S', 0);
+    if (fails()) return failed();
+    return ((ssize_t (*)(void *, size_t, unsigned))next("getrandom"))(bytes, size, flags);
+}
+
+int socket(int family, int type, int protocol) {
+    tell('L', 0);
+    if (fails()) return failed();
+    return ((int (*)(int, int, int))next("socket"))(family, type, protocol);
+}
+
+int bind(int file, const struct sockaddr *at, socklen_t size) {
+    tell('L', 0);
+    if (fails()) return failed();
+    return ((int (*)(int, const struct sockaddr *, socklen_t))next("bind"))(file, at, size);
+}
+
+ssize_t sendto(int file, const void *bytes, size_t size, int flags, const struct sockaddr *to, socklen_t length) {
+    tell('L', 0);
+    if (fails()) return failed();
+    return ((ssize_t (*)(int, const void *, size_t, int, const struct sockaddr *, socklen_t))next("sendto"))(file, bytes, size, flags, to, length);
+}
+
 // Writes what was counted into the file that the environment names, by calls that are not counted.
 __attribute__((destructor)) static void count(void) {
     const char *path = getenv("COUNTS");
@@ -144,7 +176,12 @@ import sys
 
 program, folder, here = sys.argv[1], pathlib.Path(sys.argv[2]), pathlib.Path(sys.argv[3])
 PAIR = 'graph pair;role a;role b;node n0:a;node n1:b;node n2:a;edge Request:n0->n1;edge Reply:n1->n2;\n'
-# What is run, over which file, which stands as `f`.
+KEYS = 'me = "a"\nlisten = "127.0.0.1:47331"\n[[peer]]\nname = "b"\naddr = "127.0.0.1:47332"\nkey = "' + '1' * 64 + '"\n'
+SCRIPT = ('[[start]]\ngraph = "pair"\ncast = ["a", "b"]\n' * 2
+          + '[[choice]]\ngraph = "pair"\nnode = "n0"\nlabel = "Request"\nvalues = {}\ntimes = 2\n')
+REQUESTER = ('sg-program 1\nrole a\ngraph pair;\nrole a;\nrole b;\nnode n0: a;\nnode n1: b;\nnode n2: a;\nedge Request: n0 -> n1;\nedge Reply: n1 -> n2;\n'
+             'table\nturn n0: Request\nturn n2:\nview Request: Reply/00000000\nend\n')
+# What is run, over which file, which stands as `f`. Besides there are `k`, `s` and `p`, the keys, the script and the program of a principal.
 RUNS = [
     ('check of two roles', ['check', 'f'], PAIR),
     ('check of the shop', ['check', 'f'], here / 'examples/shop.graph'),
@@ -159,13 +196,12 @@ RUNS = [
     ('replay of what is no schedule', ['replay', 'f'], 'honest a\nhonest a\n'),
     ('audit', ['audit', 'f'], here / 'examples/honest.logs'),
     ('compose', ['compose', 'f'], here / 'examples/marketplace.parts'),
+    ('run of two starts', ['run', 'k', 's', '0', 'p'], ''),
+    ('run of what is no script', ['run', 'k', 'f', '0', 'p'], 'start'),
     ('no command', ['draw', 'f'], PAIR),
 ]
 # An answer: the status, and what is on standard output and on standard error.
 Answer = collections.namedtuple('Answer', 'status out err')
-WANT = Answer(8, b'', b'out of memory\n')
-# (`main` ends so where there is no memory for the words)
-BEFORE = Answer(1, b'', b'Error: Kind(OutOfMemory)\n')
 failed = 0
 
 
@@ -193,7 +229,15 @@ def is_front(part, whole):
     return whole.startswith(part)
 
 
+def ends_early(answer, status, line, words, whole):
+    """Whether the program ended so, and wrote nothing but what a run writes before."""
+    lines = answer.out == b'' or words[0] == 'run' and is_front(answer.out, whole) and answer.out.endswith(b'\n')
+    return answer.status == status and answer.err == line and lines
+
+
 (folder / 'room').mkdir()
+for name, text in (('k', KEYS), ('s', SCRIPT), ('p', REQUESTER)):
+    (folder / 'room' / name).write_text(text)
 for name, words, text in RUNS:
     (folder / 'room/f').write_bytes(text.encode() if isinstance(text, str) else text.read_bytes())
     wanted = run(words)
@@ -202,13 +246,17 @@ for name, words, text in RUNS:
     if int(calls) != len(kinds):
         sys.exit(f'{name}: {calls} calls, of which {len(kinds)} were told')
 
-    def without_memory(number, answer):
-        return answer in (WANT, wanted) or answer == BEFORE and number <= 4 + len(words)
+    def without_memory(_, answer):
+        return answer == wanted or ends_early(answer, 8, b'out of memory\n', words, wanted.out)
 
     def with_failing_call(number, answer):
         if kinds[number - 1] in ('W1', 'W2'):
             return answer.status == 6 and is_front(answer.out, wanted.out) and is_front(answer.err, wanted.err)
-        return answer == Answer(5, b'', b'file failed: f\n')
+        if kinds[number - 1] == 'L0':
+            return ends_early(answer, 7, b'link failed\n', words, wanted.out)
+        if kinds[number - 1] == 'S0':
+            return answer == Answer(12, b'', b'no random seed\n')
+        return answer in [Answer(5, b'', f'file failed: {word}\n'.encode()) for word in words[1:]]
 
     def as_ever(_, answer):
         return answer == wanted

@@ -1,8 +1,9 @@
 #!/usr/bin/env bash
 # Floods a node alone with hostile deliveries, a million for each refusal that a node has, in one run each, without a schedule, a record or a report.
-# Prints for each the deliveries per second, the peak memory of the run, and that of a run with half as many: a refusal leaves nothing behind where both
-# are the same. Each delivery must be refused alike, and the frame that was awaited be taken behind them. The hostile bytes are those of bench/floods.sh,
-# as tools/model.py makes them. The program is made in a folder of its own, over this repository's crates. Needs python3; no part of the gate.
+# Prints for each the deliveries in a second of a processor, in the quicker of this run and one with half as many, with all that stands before the flood;
+# and the peak memory of both: a refusal leaves nothing behind where these are the same, but for a part of a MiB. Each delivery must be refused alike, and
+# the frame that was awaited be taken behind them. The hostile bytes are those of bench/floods.sh, as tools/model.py makes them. The program is made in a
+# folder of its own, over this repository's crates. Needs python3; no part of the gate.
 #
 #     bench/node-floods.sh [DELIVERIES]
 set -eu
@@ -12,14 +13,11 @@ cat >"$bench/src/main.rt" <<'RATTLE'
 //! Gives a node the same bytes again and again, each of which it must refuse alike.
 #![tactic(auto)]
 
-use sg_base::{Name, read_number};
+use sg_base::{Name, Sid, read_number};
 use sg_crypt::{Cast, Notes, session_id};
 use sg_keys::Keyring;
 use sg_node::{Node, Refusal};
 use sg_program::{Program, Programs};
-use std::alloc::Global;
-use std::rt::Clock;
-use std::time::Instant;
 use std::{fs, io};
 
 // What is done before: how many sessions the node starts with a partner, with nonces from the first one on, and how many of these it abandons; and how
@@ -30,70 +28,23 @@ struct Task {
     over: u64,
     first: u64,
     count: u64,
-    partner: Name,
-}
-
-// What the node is given: bytes before, which it takes, the hostile ones, and those that it takes behind them; there may be none before and behind.
-#[derive(Clone, Copy)]
-struct Given<'a> {
-    before: &'a [u8],
-    hostile: &'a [u8],
-    behind: &'a [u8],
-}
-
-// How long the hostile deliveries took, in nanoseconds, and the number of the refusal.
-#[derive(Clone, Copy)]
-struct Told {
-    nanoseconds: u128,
-    refusal: u8,
+    names: [Name; 2],
 }
 
 fn main(rt: HostRuntime) -> io::Result<()> {
-    let line = fs::read(&rt, "task")?;
-    let keys = fs::read(&rt, "keys")?;
-    let first = fs::read(&rt, "program")?;
-    let second = fs::read(&rt, "other")?;
-    let before = fs::read(&rt, "before")?;
-    let hostile = fs::read(&rt, "hostile")?;
-    let behind = fs::read(&rt, "behind")?;
-    let given = Given {
-        before: before.as_slice(),
-        hostile: hostile.as_slice(),
-        behind: behind.as_slice(),
-    };
-    let told = measured(
-        &rt,
-        rt.alloc(),
-        line.as_slice(),
-        keys.as_slice(),
-        [first.as_slice(), second.as_slice()],
-        given,
-    );
-    match told {
-        Some(told) => println!(rt; "{} {}", told.nanoseconds, told.refusal),
+    match flooded(&rt) {
+        Some(refusal) => println!(rt; "{refusal}"),
         None => Ok(()),
     }
 }
 
-fn measured(
-    clock: &impl Clock,
-    alloc: Global,
-    line: &[u8],
-    keys: &[u8],
-    texts: [&[u8]; 2],
-    given: Given<'_>,
-) -> Option<Told> {
-    let task = task_of(line)?;
-    let programs = programs(alloc, texts)?;
-    let keys = Keyring::from_toml(alloc, keys).ok()?;
-    let me = keys.me();
-    let mut node = Node::new(alloc, keys, &programs).ok()?;
-    let mut notes = Notes::new(alloc);
-    start_all(&mut node, &programs, [me, task.partner], task, &mut notes)?;
-    take(&mut node, given.before, &mut notes)?;
-    let told = flood(clock, &mut node, given.hostile, task.count, &mut notes)?;
-    take(&mut node, given.behind, &mut notes)?;
-    Some(told)
+fn flooded(rt: &HostRuntime) -> Option<u8> {
+    let line = fs::read(rt, "task").ok()?;
+    let task = task_of(line.as_slice())?;
+    let mut programs = Programs::new(rt.alloc());
+    add(rt, "program", &mut programs)?;
+    add(rt, "other", &mut programs)?;
+    flood_programs(rt, &programs, task)
 }
 
 fn task_of(line: &[u8]) -> Option<Task> {
@@ -102,51 +53,45 @@ fn task_of(line: &[u8]) -> Option<Task> {
     let over = read_number(words.next()?, 65_536)?;
     let first = read_number(words.next()?, 65_536)?;
     let count = read_number(words.next()?, 1_000_000_000)?;
-    let partner = Name::new(words.next()?)?;
+    let names = [Name::new(words.next()?)?, Name::new(words.next()?)?];
     Some(Task {
         starts,
         over,
         first,
         count,
-        partner,
+        names,
     })
 }
 
-// The programs of two texts, of which the second may be empty.
-fn programs(alloc: Global, texts: [&[u8]; 2]) -> Option<Programs> {
-    let mut programs = Programs::new(alloc);
-    for text in texts {
-        if !text.is_empty() {
-            let program = Program::load(alloc, text).ok()?;
-            programs.add(program).ok()?;
-        }
+// Adds the program of a file, if there is one.
+fn add(rt: &HostRuntime, file: &str, programs: &mut Programs) -> Option<()> {
+    let text = fs::read(rt, file).ok()?;
+    if !text.is_empty() {
+        let program = Program::load(rt.alloc(), text.as_slice()).ok()?;
+        programs.add(program).ok()?;
     }
-    Some(programs)
+    Some(())
 }
 
-// The cast of two principals in the graph of the first program, with a number as its nonce.
-fn cast(programs: &Programs, names: [Name; 2], number: u64) -> Option<Cast> {
+fn flood_programs(rt: &HostRuntime, programs: &Programs, task: Task) -> Option<u8> {
     let digest = *programs.as_slice().first()?.digest();
-    let mut nonce = [0; 16];
-    nonce[8..].copy_from_slice(number.to_be_bytes().as_slice());
-    Cast::new(1, digest, nonce, names.as_slice())
+    let mut node = node(rt, programs)?;
+    let mut notes = Notes::new(rt.alloc());
+    start_all(&mut node, digest, task, &mut notes)?;
+    flood_node(rt, &mut node, task.count, &mut notes)
+}
+
+fn node<'p>(rt: &HostRuntime, programs: &'p Programs) -> Option<Node<'p>> {
+    let text = fs::read(rt, "keys").ok()?;
+    let keys = Keyring::from_toml(rt.alloc(), text.as_slice()).ok()?;
+    Node::new(rt.alloc(), keys, programs).ok()
 }
 
 // Starts the sessions of the task, and abandons those that are over.
-fn start_all(
-    node: &mut Node,
-    programs: &Programs,
-    names: [Name; 2],
-    task: Task,
-    notes: &mut Notes,
-) -> Option<()> {
+fn start_all(node: &mut Node, digest: [u8; 32], task: Task, notes: &mut Notes) -> Option<()> {
     for number in 0..task.starts {
-        let cast = cast(programs, names, number.wrapping_add(task.first))?;
-        let sid = session_id(&cast);
-        notes.clear();
-        if node.start(cast, notes).is_err() {
-            return None;
-        }
+        let cast = cast(digest, &task.names, number.wrapping_add(task.first))?;
+        let sid = start(node, cast, notes)?;
         if number < task.over {
             node.abandon(sid).ok()?;
         }
@@ -154,37 +99,53 @@ fn start_all(
     Some(())
 }
 
-// Gives the node bytes that it must take, if there are any.
-fn take(node: &mut Node, bytes: &[u8], notes: &mut Notes) -> Option<()> {
+fn start(node: &mut Node, cast: Cast, notes: &mut Notes) -> Option<Sid> {
+    let sid = session_id(&cast);
     notes.clear();
-    if bytes.is_empty() || node.deliver(bytes, notes).is_ok() {
-        Some(())
-    } else {
-        None
-    }
+    node.start(cast, notes).ok()?;
+    Some(sid)
 }
 
-// How long so many deliveries of these bytes take, each of which is refused alike.
-fn flood(
-    clock: &impl Clock,
-    node: &mut Node,
-    bytes: &[u8],
-    count: u64,
-    notes: &mut Notes,
-) -> Option<Told> {
-    let refusal = node.deliver(bytes, notes).err()?;
-    let begun = Instant::now(clock).ok()?;
+// The cast of two principals in a graph, with a number as its nonce.
+fn cast(digest: [u8; 32], names: &[Name], number: u64) -> Option<Cast> {
+    let mut nonce = [0; 16];
+    nonce[8..].copy_from_slice(number.to_be_bytes().as_slice());
+    Cast::new(1, digest, nonce, names)
+}
+
+fn flood_node(rt: &HostRuntime, node: &mut Node, count: u64, notes: &mut Notes) -> Option<u8> {
+    take(rt, "before", node, notes)?;
+    let hostile = fs::read(rt, "hostile").ok()?;
+    let refusal = flood(node, hostile.as_slice(), count, notes)?;
+    take(rt, "behind", node, notes)?;
+    Some(refusal)
+}
+
+// Gives the node the bytes of a file, which it must take, if there are any.
+fn take(rt: &HostRuntime, file: &str, node: &mut Node, notes: &mut Notes) -> Option<()> {
+    let bytes = fs::read(rt, file).ok()?;
+    notes.clear();
+    if !bytes.is_empty() {
+        node.deliver(bytes.as_slice(), notes).ok()?;
+    }
+    Some(())
+}
+
+// The number of the refusal of these bytes, which is the same so many times.
+fn flood(node: &mut Node, bytes: &[u8], count: u64, notes: &mut Notes) -> Option<u8> {
+    let number = refused(node, bytes, notes)?;
     for _ in 0..count {
-        notes.clear();
-        if node.deliver(bytes, notes).err() != Some(refusal) {
+        if refused(node, bytes, notes)? != number {
             return None;
         }
     }
-    let nanoseconds = begun.elapsed(clock).ok()?.as_nanos();
-    Some(Told {
-        nanoseconds,
-        refusal: number_of(refusal),
-    })
+    Some(number)
+}
+
+fn refused(node: &mut Node, bytes: &[u8], notes: &mut Notes) -> Option<u8> {
+    notes.clear();
+    let refusal = node.deliver(bytes, notes).err()?;
+    Some(number_of(refusal))
 }
 
 fn number_of(refusal: Refusal) -> u8 {
@@ -213,8 +174,10 @@ for file in task keys program other before hostile behind; do : >"$bench/data/$f
 made=$(built)
 python3 - "$made" "$folder" "$here" "${1-1000000}" <<'PYTHON'
 import re
+import resource
 import subprocess
 import sys
+import time
 
 program, folder, here, total = sys.argv[1], sys.argv[2], sys.argv[3], int(sys.argv[4])
 sys.dont_write_bytecode = True
@@ -225,14 +188,6 @@ from hostile_deliveries import FLOODS
 # The refusals, in the order of their numbers.
 REFUSALS = ['malformed', 'unknown-graph', 'bad-cast', 'unknown-peer', 'bad-session', 'joined', 'cache-full', 'sessions-full', 'unknown-session',
             'not-waiting', 'bad-frame-tag', 'no-such-view', 'bad-time', 'bad-evidence', 'bad-opening']
-# A process of its own, since the peak of a child begins with that of the process that made it.
-MEASURE = """import os, subprocess, sys
-child = subprocess.Popen([sys.argv[1]], cwd=sys.argv[2], stdout=subprocess.PIPE)
-said = child.stdout.read().decode().split()
-_, status, used = os.wait4(child.pid, 0)
-print(status, used.ru_maxrss * 1024, *said)
-"""
-
 
 def frame(run, words):
     """The bytes of a delivery, `deliver NAME fN [KIND AT]`."""
@@ -264,26 +219,40 @@ def files_of(head, before, hostile, last):
     partner = next(name for name in casts[0].cast.names if name != me)
     taken = [frame(run, words) for words in own if words[0] == 'deliver']
     behind = last[0].split()
-    return {'task': f'{len(starts)} {len(over)} {int.from_bytes(casts[0].cast.nonce, "big") if starts else 0} {{}} {partner}'.encode(),
+    return {'task': f'{len(starts)} {len(over)} {int.from_bytes(casts[0].cast.nonce, "big") if starts else 0} {{}} {me} {partner}'.encode(),
             'keys': key_file(me, run.schedule.keys).encode(), 'program': texts[0].encode(), 'other': (texts[1:] or [''])[0].encode(),
             'before': (taken or [b''])[0], 'hostile': frame(run, hostile.split()), 'behind': frame(run, behind) if behind[0] == 'deliver' else b''}
 
 
+def high_water(pid):
+    """The peak memory of a process until now, in bytes. (That of a child's use begins with the peak of the process that made it.)"""
+    with open(f'/proc/{pid}/status') as status:
+        found = re.search(r'VmHWM:\s+(\d+) kB', status.read())
+    return int(found[1]) * 1024 if found else 0
+
+
 def flood(name, files, count):
-    """The nanoseconds and the peak of a run with so many hostile deliveries."""
+    """The seconds of a processor and the peak of a run with so many hostile deliveries."""
     for file, data in files.items():
         with open(f'{folder}/{file}', 'wb') as out:
             out.write(data.replace(b'{}', b'%d' % count) if file == 'task' else data)
-    said = subprocess.run([sys.executable, '-c', MEASURE, program, folder], stdout=subprocess.PIPE, text=True, check=True).stdout.split()
-    if len(said) != 4 or said[0] != '0' or said[3] != str(REFUSALS.index(name) + 1):
-        sys.exit(f'{name}: {said}')
-    return int(said[2]), int(said[1])
+    before, peak = resource.getrusage(resource.RUSAGE_CHILDREN), 0
+    child = subprocess.Popen([program], cwd=folder, stdout=subprocess.PIPE, text=True)
+    while child.poll() is None:
+        peak = max(peak, high_water(child.pid))
+        time.sleep(0.001)
+    used, said = resource.getrusage(resource.RUSAGE_CHILDREN), child.stdout.read().split()
+    if child.returncode != 0 or said != [str(REFUSALS.index(name) + 1)]:
+        sys.exit(f'{name}: status {child.returncode}, {said}')
+    return used.ru_utime + used.ru_stime - before.ru_utime - before.ru_stime, peak
 
 
 for name, head, before, hostile, _, last in FLOODS:
     if name in REFUSALS:
         files = files_of(head, before, hostile, last)
+        half_took, half = flood(name, files, total // 2)
         took, peak = flood(name, files, total)
-        _, half = flood(name, files, total // 2)
-        print(f'{name}: {total * 1e9 / took:.0f} deliveries/s, peak {peak / 2 ** 20:.2f} MiB, of half as many {half / 2 ** 20:.2f} MiB', flush=True)
+        rate = max(total / took, total // 2 / half_took)
+        print(f'{name}: {rate:.0f} deliveries in a second of a processor, peak {peak / 2 ** 20:.2f} MiB, '
+              f'of half as many {half / 2 ** 20:.2f} MiB', flush=True)
 PYTHON
