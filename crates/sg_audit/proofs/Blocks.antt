@@ -4,7 +4,8 @@ use Rattle.std.specs.Prelude.{Result, Err}
 use Rattle.std.specs.List.{list_all, concat}
 use Rattle.std.proofs.lemmas.Bool.Decides.{nat_tests}
 use Rattle.std.proofs.lemmas.Slice.Eq.{bytes_eq-Decides}
-use Rattle.sg_graph.proofs.Found.{cases_of}
+use Rattle.std.proofs.lemmas.Bool.{cases_Bool}
+use Rattle.sg_model.proofs.Small.{contradicts}
 use Rattle.sg_parse.specs.Reading.{read as parsed}
 use Rattle.sg_sched.specs.Text.{content, words}
 use Rattle.sg_sched.specs.Format.Forms.{is_skipped}
@@ -14,13 +15,13 @@ use Rattle.sg_sched.proofs.FormatOnce.{not_skipped}
 use Rattle.sg_audit.specs.Sessions.{Logs}
 use Rattle.sg_audit.specs.Spells.{IsOpened, IsBlock, Fault, WrongLine}
 use Rattle.sg_audit.specs.Read.{are_opening, opens, read_lines, read_block, with_graph}
-use Rattle.sg_audit.specs.declared.fault.Kind.TheVariants.{Form}
+use Rattle.sg_audit.specs.declared.fault.Mistake.TheVariants.{Form}
 
 -- ---- lists of lines
 
 all_last : (p : Line → Bool) (ls : List Line) (l : Line) → list_all p ls ≡ true → p l ≡ true → list_all p (ls ++ l ∷ []) ≡ true
 all_last p [] l h k = rw k refl
-all_last p (x ∷ xs) l h k = elim (cases_of (p x)) [
+all_last p (x ∷ xs) l h k = elim (cases_Bool (p x)) [
   | inl y ↦ (let r : list_all p xs ≡ true = rw y at h in rw (y, all_last p xs l r k) refl)
   | inr z ↦ (let bad : false ≡ true = rw z at h in absurd (cc))
 ]
@@ -67,7 +68,7 @@ unfolding opens
 opens_yes l h = ap are_opening h ∙ open_words
 
 opening_shown : (l : Line) → words (content l) ≡ opening_words → is_skipped l ≡ false
-opening_shown l h = elim (cases_of (is_skipped l)) [
+opening_shown l h = elim (cases_Bool (is_skipped l)) [
   | inl y ↦ absurd (not_skipped l SaidBlock (record { spelled = h; form = refl }) y)
   | inr z ↦ z
 ]
@@ -76,14 +77,14 @@ opening_shown l h = elim (cases_of (is_skipped l)) [
 
 skip_lines : (before : List Line) (n : ℕ) (rest : List Line) → list_all is_skipped before ≡ true → read_lines n (before ++ rest) ≡ read_lines (n + length before) rest
 skip_lines [] n rest h = ap (λ m. read_lines m rest) (let z : n ≡ n + 0 = omega arith in z)
-skip_lines (l ∷ ls) n rest h = elim (cases_of (is_skipped l)) [
+skip_lines (l ∷ ls) n rest h = elim (cases_Bool (is_skipped l)) [
   | inl y ↦ (let r : list_all is_skipped ls ≡ true = rw y at h in let number : n + 1 + length ls ≡ n + suc (length ls) = omega arith in rw y (skip_lines ls (n + 1) rest r ∙ ap (λ m. read_lines m rest) number))
   | inr z ↦ (let bad : false ≡ true = rw z at h in absurd (cc))
 ]
 
 inside : (inner : List Line) (n : ℕ) (text : List ℕ) (rest : List Line) → list_all (λ l. not (closes l)) inner ≡ true → read_block n text (inner ++ rest) ≡ read_block (n + length inner) (text ++ concat inner) rest
 inside [] n text rest h = λ i. read_block ((let z : n ≡ n + 0 = omega arith in z) i) (sym (append-nil text) i) rest
-inside (l ∷ ls) n text rest h = elim (cases_of (closes l)) [
+inside (l ∷ ls) n text rest h = elim (cases_Bool (closes l)) [
   | inl y ↦ (let bad : false ≡ true = rw y at h in absurd (cc))
   | inr z ↦ (let r : list_all (λ l. not (closes l)) ls ≡ true = rw z at h in
       let number : n + 1 + length ls ≡ n + suc (length ls) = omega arith in
@@ -121,7 +122,7 @@ none_read ls h =
 
 -- a first line that isn't skipped and doesn't open the block
 pub other_read : (before rest : List Line) (l : Line) → list_all is_skipped before ≡ true → is_skipped l ≡ false → (words (content l) ≡ opening_words → ⊥) → read_lines 1 (before ++ l ∷ rest) ≡ Err (WrongLine (length before + 1) Form)
-other_read before rest l h z not_open = elim (cases_of (opens l)) [
+other_read before rest l h z not_open = elim (cases_Bool (opens l)) [
   | inl y ↦ absurd (not_open (opens_is l y))
   | inr w ↦ (let number : 1 + length before ≡ length before + 1 = omega arith in
       let at : read_lines (1 + length before) (l ∷ rest) ≡ Err (WrongLine (1 + length before) Form) = rw (z, w) refl in
@@ -141,7 +142,7 @@ pub data Begins (ls : List Line) : Result Logs Fault → Type 0 where
 -- from the block's opening line on
 from_block : (front inner ls : List Line) → IsOpened front inner → Begins (front ++ ls) (read_block (length front) (concat inner) ls)
 from_block front inner [] o = subst (λ xs. Begins xs (Err (WrongLine (length front) Form))) (sym (append-nil front)) (Open inner o)
-from_block front inner (l ∷ ls) o = elim (cases_of (closes l)) [
+from_block front inner (l ∷ ls) o = elim (cases_Bool (closes l)) [
   | inl y ↦ (let long = length-append front (l ∷ []) in
       let number : 1 + length (front ++ l ∷ []) ≡ length front + 1 + 1 = omega (arith, long) in
       let laid : front ++ l ∷ ls ≡ (front ++ l ∷ []) ++ ls = sym (append_assoc front (l ∷ []) ls) in
@@ -161,7 +162,7 @@ from_lines : (before ls : List Line) → list_all is_skipped before ≡ true →
 from_lines before [] h =
     let number : length before + 1 ≡ 1 + length before = omega arith in
     subst (λ xs. Begins xs (Err (WrongLine (1 + length before) Form))) (sym (append-nil before)) (subst (λ n. Begins before (Err (WrongLine n Form))) number (BlankAll h))
-from_lines before (l ∷ ls) h = elim (cases_of (is_skipped l)) [
+from_lines before (l ∷ ls) h = elim (cases_Bool (is_skipped l)) [
   | inl y ↦ (let long = length-append before (l ∷ []) in
       let number : 1 + length (before ++ l ∷ []) ≡ 1 + length before + 1 = omega (arith, long) in
       let rest = from_lines (before ++ l ∷ []) ls (all_last is_skipped before l h y) in
@@ -171,7 +172,7 @@ from_lines before (l ∷ ls) h = elim (cases_of (is_skipped l)) [
 ]
   where
     shown : is_skipped l ≡ false → Begins (before ++ l ∷ ls) (if opens l then read_block (1 + length before) [] ls else Err (WrongLine (1 + length before) Form))
-    shown z = elim (cases_of (opens l)) [
+    shown z = elim (cases_Bool (opens l)) [
       | inl y ↦ (let long = length-append before (l ∷ []) in
           let number : length (before ++ l ∷ []) ≡ 1 + length before = omega (arith, long) in
           let opened : IsOpened (before ++ l ∷ []) [] = record { before = before; opening = l; all = refl; skipped = h; opens = opens_is l y; open_yet = refl } in
@@ -179,11 +180,8 @@ from_lines before (l ∷ ls) h = elim (cases_of (is_skipped l)) [
           rw y (subst (λ xs. Begins xs (read_block (1 + length before) [] ls)) (append_assoc before (l ∷ []) ls)
           (subst (λ n. Begins ((before ++ l ∷ []) ++ ls) (read_block n [] ls)) number rest)))
       | inr w ↦ (let number : length before + 1 ≡ 1 + length before = omega arith in
-          rw w (subst (λ n. Begins (before ++ l ∷ ls) (Err (WrongLine n Form))) number (Other before ls l refl h z (λ q. opposite (opens_yes l q) w))))
+          rw w (subst (λ n. Begins (before ++ l ∷ ls) (Err (WrongLine n Form))) number (Other before ls l refl h z (λ q. contradicts (opens_yes l q) w))))
     ]
-      where
-        opposite : {b : Bool} → b ≡ true → b ≡ false → ⊥
-        opposite p q = cc
 
 pub begins : (ls : List Line) → Begins ls (read_lines 1 ls)
 begins ls = from_lines [] ls refl

@@ -1,16 +1,16 @@
 -- What is read fits an audit.
-use Rattle.std.proofs.Common.{◌≡◌, ℕ, zero, suc, ◌+◌, ◌<◌, ◌≤◌, ◌==◌, nat_le, Bool, true, false, not, ◌||◌, List, [], ◌∷◌, ◌++◌, map, length, bytes_eq, refl, sym, ap, ◌∙◌, subst, inl, inr, arith, if◌then◌else◌}
+use Rattle.std.proofs.Common.{◌≡◌, ℕ, ◌+◌, ◌<◌, ◌==◌, nat_le, Bool, true, false, not, ◌||◌, List, [], ◌∷◌, ◌++◌, map, length, bytes_eq, refl, sym, ap, ◌∙◌, subst, inl, inr, arith, if◌then◌else◌}
 use Rattle.std.specs.Prelude.{Option, Some, None, is_some, is_none, Result, Ok, Err, IsTrue, IfSome, IfOk, MatchResult, All, ⊤, codes, option_map, option_and_then}
-use Rattle.std.specs.List.{AllByRecursion, list_all, list_any}
+use Rattle.std.specs.List.{AllByRecursion, list_any}
 use Rattle.std.specs.Option.{option_map_or}
 use Rattle.std.proofs.lemmas.Bool.Decides.{nat_tests}
-use Rattle.sg_model.specs.Lists.{has_text, is_in, range_from}
+use Rattle.sg_model.specs.Lists.{has_text, is_in}
 use Rattle.sg_model.specs.Names.{Name}
 use Rattle.sg_base.specs.Words.{name}
 use Rattle.sg_protocol.specs.Graph.{Graph, IsGraph}
 use Rattle.sg_protocol.specs.Calls.{Event}
 use Rattle.sg_protocol.specs.Walk.{StoredStep}
-use Rattle.sg_graph.proofs.Found.{cases_of}
+use Rattle.sg_protocol.proofs.Spelled.{range_all}
 use Rattle.sg_parse.specs.Reading.{place_of}
 use Rattle.sg_sched.specs.Text.{content, words}
 use Rattle.sg_sched.specs.Format.Forms.{is_skipped}
@@ -19,9 +19,10 @@ use Rattle.sg_sched.specs.Format.Spells.{Line}
 use Rattle.sg_sched.specs.Format.Reading.{word, after, ended}
 use Rattle.sg_audit.specs.Merged.{Log, roles_of}
 use Rattle.sg_audit.specs.Agree.{AreLogs, AllHaveLogs, IsLog, is_by, roles_differ}
-use Rattle.sg_audit.specs.declared.fault.Kind.{Kind}
-use Rattle.sg_audit.specs.declared.fault.Kind.TheVariants.{Form, TooManyEvents, Unknown, Twice}
+use Rattle.sg_audit.specs.declared.fault.Mistake.{Mistake}
+use Rattle.sg_audit.specs.declared.fault.Mistake.TheVariants.{Form, TooManyEvents, Unknown, Twice}
 use Rattle.sg_model.specs.Values.{Value}
+use Rattle.sg_model.proofs.Small.{some_same}
 use Rattle.sg_audit.specs.Said.{Given, Said, SaidStep, SaidSession, SaidLog, SaidEvent, SaidWalk, numbered, falls, rise}
 use Rattle.sg_graph.specs.Parts.{edge_names, variable_names}
 use Rattle.sg_sched.specs.Format.Values.{spelled_value}
@@ -30,8 +31,9 @@ use Rattle.sg_audit.specs.SoFar.{SoFar, nothing, all_logs, all_sessions, all_hav
 use Rattle.sg_audit.specs.Sessions.{Session, Logs, event, stored_step}
 use Rattle.sg_audit.specs.Read.{add_line, go_on, read_sessions}
 use Rattle.std.proofs.lemmas.List.Elements.{All-from_recursion}
+use Rattle.std.proofs.lemmas.Bool.{cases_Bool, not-false}
 use Rattle.sg_audit.specs.Spells.{Fault}
-use Rattle.sg_audit.specs.Held.{logs_of, told_of}
+use Rattle.sg_audit.specs.Model.{logs_of, told_of}
 use Rattle.sg_audit.specs.Taken.{session_of}
 use Rattle.sg_audit.specs.declared.fault.LogFault.{LogFault}
 use Rattle.sg_audit.specs.declared.session.SessionLog.{SessionLog}
@@ -66,7 +68,7 @@ in_last r (k ∷ ks) l = ap (λ b. (k.0 == r) || b) (in_last r ks l) ∙ swapped
 
 differ_last : (logs : List Log) (l : Log) → roles_differ logs → is_in l.0 (roles_of logs) ≡ false → roles_differ (logs ++ l ∷ [])
 differ_last [] l d n = (refl, tt)
-differ_last (k ∷ ks) l d n = elim (cases_of (k.0 == l.0)) [
+differ_last (k ∷ ks) l d n = elim (cases_Bool (k.0 == l.0)) [
   | inl y ↦ (let bad : true ≡ false = rw y at n in absurd (cc))
   | inr z ↦ (let rest : is_in l.0 (roles_of ks) ≡ false = rw z at n in
       let other : (l.0 == k.0) ≡ false = grind (arith, nat_tests, z) in
@@ -86,16 +88,6 @@ front : (g : Graph) (logs : List Log) (l : Log) → AllByRecursion (IsLog g) (lo
 front g [] l h = (tt, h.0)
 front g (k ∷ ks) l h = let r = front g ks l h.1 in ((h.0, r.0), r.1)
 
-all_below : (p : ℕ → Bool) (n k : ℕ) → list_all p (range_from n k) ≡ true → (r : ℕ) → n ≤ r → r < n + k → p r ≡ true
-all_below p n zero h r a b = absurd (omega arith)
-all_below p n (suc k) h r a b = elim (cases_of (p n)) [
-  | inl y ↦ (let h' : list_all p (range_from (suc n) k) ≡ true = rw y at h in elim (cases_of (n == r)) [
-    | inl e ↦ (let s : n ≡ r = grind (arith, nat_tests, e) in subst (λ m. p m ≡ true) s y)
-    | inr e ↦ (let t : suc n ≤ r = grind (arith, nat_tests, e, a) in all_below p (suc n) k h' r t (omega arith))
-  ])
-  | inr z ↦ (let bad : false ≡ true = rw z at h in absurd (cc))
-]
-
 -- ---- sessions
 
 closed : (g : Graph) (d : SoFar) → Fine g d → is_whole g d ≡ true → AllByRecursion (Fit g) (all_sessions d)
@@ -105,7 +97,7 @@ closed g d f w = by d.name refl d.walk refl
     told o e n s r l =
         let w' : (is_none o || false || all_have_logs g d) ≡ true = subst (λ k. (is_none o || is_some k || all_have_logs g d) ≡ true) n (subst (λ m. (is_none m || is_some d.walk || all_have_logs g d) ≡ true) e w) in
         let h : all_have_logs g d ≡ true = rw s at w' in
-        sym (f.roles r) ∙ all_below (λ r. is_in r d.roles) 0 (length g.roles) h r (omega arith) (omega arith)
+        sym (f.roles r) ∙ range_all (λ r. is_in r d.roles) 0 (length g.roles) h r (omega arith) (omega arith)
 
     by : (o : Option Name) → d.name ≡ o → (k : Option (List StoredStep)) → d.walk ≡ k → AllByRecursion (Fit g) (all_sessions d)
     by None e k q = rw e f.done
@@ -124,23 +116,19 @@ ok_is x y h = cc
 err_ok : {A E : Type 0} (e : E) (y : A) → ◌≡◌ {A = Result A E} (Err e) (Ok y) → ⊥
 err_ok e y h = absurd (cc)
 
-not_false : (b : Bool) → not b ≡ false → b ≡ true
-not_false true h = refl
-not_false false h = absurd (cc)
-
 adds_session : (g : Graph) (d e : SoFar) (n : Name) → Fine g d → add_session g d n ≡ Ok e → Fine g e
 unfolding add_session
 adds_session g d e n f h =
     let one = split_if _ _ _ _ h in
     let two = split_if _ _ _ _ one.1 in
-    subst (Fine g) (ok_is _ _ two.1) (record { done = closed g d f (not_false _ one.0); roles = λ r. refl; each = tt; differ = tt })
+    subst (Fine g) (ok_is _ _ two.1) (record { done = closed g d f (not-false _ one.0); roles = λ r. refl; each = tt; differ = tt })
 
 small_role : (g : Graph) (d : SoFar) → IsGraph g → Fine g d → (r : ℕ) → is_in r (roles_of (all_logs d)) ≡ true → r < 16
 small_role g d is f r h = small (all_logs d) f.each h
   where
     small : (logs : List Log) → AllByRecursion (IsLog g) logs → is_in r (roles_of logs) ≡ true → r < 16
     small [] a i = absurd (cc)
-    small (l ∷ ls) a i = elim (cases_of (l.0 == r)) [
+    small (l ∷ ls) a i = elim (cases_Bool (l.0 == r)) [
       | inl y ↦ (let s : l.0 ≡ r = grind (arith, nat_tests, y) in let b = a.0.0 in let m = is.sizes.0 in omega (arith, s, b, m))
       | inr z ↦ small ls a.1 (rw z at i)
     ]
@@ -201,13 +189,13 @@ adds_walk g d e ss f h =
     walked : SoFar
     walked = record { names = d.names; count = d.count; done = d.done; name = d.name; logs = d.logs; roles = d.roles; role = d.role; events = d.events; walk = Some (map stored_step ss) }
 
-    risen : Result SoFar Kind
+    risen : Result SoFar Mistake
     risen = if list_any (λ s. not (rise s.writes)) ss then Err Twice else Ok walked
 
-    known : Result SoFar Kind
+    known : Result SoFar Mistake
     known = if list_any is_unknown ss then Err Unknown else risen
 
-    unfallen : Result SoFar Kind
+    unfallen : Result SoFar Mistake
     unfallen = if list_any (λ s. falls s.writes) ss then Err Form else known
 
 -- ---- what words say
@@ -219,13 +207,13 @@ FitsSaid g other = ⊤
 
 place_small : (n : Name) (names : List Name) → has_text n names ≡ true → place_of n names < length names
 place_small n [] h = absurd (cc)
-place_small n (m ∷ ms) h = elim (cases_of (bytes_eq n m)) [
+place_small n (m ∷ ms) h = elim (cases_Bool (bytes_eq n m)) [
   | inl y ↦ rw y (omega arith)
   | inr z ↦ (let r = place_small n ms (rw z at h) in rw z (omega (arith, r)))
 ]
 
 numbered_small : (names : List Name) (n : Name) → IfSome (numbered names n) (λ r. r < length names)
-numbered_small names n = elim (cases_of (has_text n names)) [ inl y ↦ rw y (place_small n names y) | inr z ↦ rw z tt ]
+numbered_small names n = elim (cases_Bool (has_text n names)) [ inl y ↦ rw y (place_small n names y) | inr z ↦ rw z tt ]
 
 if_either : {A : Type 0} (b : Bool) (x y z : A) (P : Type 0) → (if b then x else y) ≡ z → (x ≡ z → P) → (y ≡ z → P) → P
 if_either true x y z P h f g = f h
@@ -234,15 +222,12 @@ if_either false x y z P h f g = g h
 none_some : {A : Type 0} (x : A) → None ≡ Some x → ⊥
 none_some x h = absurd (cc)
 
-some_is : {A : Type 0} (x y : A) → Some x ≡ Some y → x ≡ y
-some_is x y h = cc
-
 ended_fits : {A : Type 0} (o : Option A) (ws : List Word) (s : A) → ended o ws ≡ Some s → o ≡ Some s
 ended_fits o ws s h = if_either (length ws == 0) o None (Some s) (o ≡ Some s) h (λ q. q) (λ q. absurd (none_some s q))
 
 mapped_fits : {A B : Type 0} (P : B → Type 0) (f : A → B) (o : Option A) (s : B) → ((a : A) → P (f a)) → option_map f o ≡ Some s → P s
 mapped_fits P f None s h q = absurd (none_some s q)
-mapped_fits P f (Some a) s h q = subst P (some_is _ _ q) (h a)
+mapped_fits P f (Some a) s h q = subst P (some_same q) (h a)
 
 after_fits : {A B : Type 0} (P : B → Type 0) (take : List Word → Option (A × List Word)) (next : A → List Word → Option B) (ws : List Word) (s : B)
     → ((x : A) (rest : List Word) → next x rest ≡ Some s → P s) → after take next ws ≡ Some s → P s
@@ -254,11 +239,11 @@ after_fits {A} {B} P take next ws s h q = by (take ws) q
 
 session_fits : (g : Graph) (ws : List Word) (s : Said) → session_form ws ≡ Some s → FitsSaid g s
 unfolding session_form
-session_fits g ws s h = after_fits (FitsSaid g) (word name) _ ws s (λ n rest q. subst (FitsSaid g) (some_is _ _ (ended_fits _ rest s q)) tt) h
+session_fits g ws s h = after_fits (FitsSaid g) (word name) _ ws s (λ n rest q. subst (FitsSaid g) (some_same (ended_fits _ rest s q)) tt) h
 
 log_fits : (g : Graph) (ws : List Word) (s : Said) → log_form g ws ≡ Some s → FitsSaid g s
 unfolding log_form
-log_fits g ws s h = after_fits (FitsSaid g) (word name) _ ws s (λ n rest q. subst (FitsSaid g) (some_is _ _ (ended_fits _ rest s q)) (numbered_small g.roles n)) h
+log_fits g ws s h = after_fits (FitsSaid g) (word name) _ ws s (λ n rest q. subst (FitsSaid g) (some_same (ended_fits _ rest s q)) (numbered_small g.roles n)) h
 
 event_fits : (g : Graph) (sent : Bool) (ws : List Word) (s : Said) → event_form g sent ws ≡ Some s → FitsSaid g s
 unfolding event_form
@@ -313,13 +298,13 @@ adds_line g d e l is f h =
 
 -- the sessions that are read fit
 pub reads_sessions : (g : Graph) (n : ℕ) (d : SoFar) (ls : List Line) (logs : Logs) → IsGraph g → Fine g d → read_sessions g n d ls ≡ Ok logs → AllByRecursion (Fit g) logs.sessions
-reads_sessions g n d [] logs is f h = elim (cases_of (is_whole g d)) [
+reads_sessions g n d [] logs is f h = elim (cases_Bool (is_whole g d)) [
   | inl y ↦ (let q : ◌≡◌ {A = Result Logs Fault} (Ok (record { graph = g; sessions = all_sessions d })) (Ok logs) = rw y at h in subst (λ (l : Logs). AllByRecursion (Fit g) l.sessions) (ok_is _ _ q) (closed g d f y))
   | inr z ↦ absurd (err_ok _ _ (rw z at h))
 ]
 reads_sessions g n d (l ∷ ls) logs is f h = by (add_line g d l) (λ e q. adds_line g d e l is f q) (λ e k q. reads_sessions g (n + 1) e ls logs is k q) h
   where
-    by : (added : Result SoFar Kind) → ((e : SoFar) → added ≡ Ok e → Fine g e) → ((e : SoFar) → Fine g e → read_sessions g (n + 1) e ls ≡ Ok logs → AllByRecursion (Fit g) logs.sessions)
+    by : (added : Result SoFar Mistake) → ((e : SoFar) → added ≡ Ok e → Fine g e) → ((e : SoFar) → Fine g e → read_sessions g (n + 1) e ls ≡ Ok logs → AllByRecursion (Fit g) logs.sessions)
         → go_on n added (λ d'. read_sessions g (n + 1) d' ls) ≡ Ok logs → AllByRecursion (Fit g) logs.sessions
     by (Ok e) k r q = r e (k e refl) q
     by (Err kind) k r q = absurd (err_ok _ _ q)

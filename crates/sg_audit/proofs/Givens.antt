@@ -1,20 +1,19 @@
 -- Variables with what they are given, one after the other.
-use Rattle.std.proofs.Common.{◌≡◌, ℕ, ◌<◌, true, ◌&&◌, List, [], ◌∷◌, ◌++◌, length, get_or, refl, ◌∙◌, inl, inr}
+use Rattle.std.proofs.Common.{◌≡◌, ℕ, ◌<◌, true, ◌&&◌, List, ◌∷◌, ◌++◌, length, refl, inl, inr}
 use Rattle.std.specs.Prelude.{Option, Some, None, IsSome, IsTrue, IfSome, ◌↔◌}
-use Rattle.std.proofs.lemmas.List.{get_or-map, length-map}
+use Rattle.std.proofs.lemmas.Bool.{cases_Bool}
 use Rattle.sg_model.specs.Lists.{has_text}
 use Rattle.sg_model.specs.Names.{Name}
-use Rattle.sg_protocol.specs.Graph.{Graph, Edge, IsGraph, role_name, variable_name}
+use Rattle.sg_protocol.specs.Graph.{Graph, IsGraph, role_name, variable_name}
 use Rattle.sg_graph.specs.Parts.{variable_names, edge_names, edge_name}
-use Rattle.sg_graph.proofs.Found.{cases_of}
 use Rattle.sg_parse.specs.Reading.{place_of}
-use Rattle.sg_parse.proofs.Names.{place_there, names_differ, role_place, variable_place}
+use Rattle.sg_parse.proofs.Names.{role_place, variable_place, label_place}
 use Rattle.sg_audit.specs.Said.{numbered}
 
 -- ---- numbers of names
 
 numbered_is : (names : List Name) (n : Name) (o : Option ℕ) → (IsSome o ↔ IsTrue (has_text n names)) → IfSome o (λ r. place_of n names ≡ r) → o ≡ numbered names n
-numbered_is names n None f p = elim (cases_of (has_text n names)) [ inl y ↦ (let s = f.1 y in absurd (cc)) | inr z ↦ rw z refl ]
+numbered_is names n None f p = elim (cases_Bool (has_text n names)) [ inl y ↦ (let s = f.1 y in absurd (cc)) | inr z ↦ rw z refl ]
 numbered_is names n (Some r) f p = let y : has_text n names ≡ true = f.0 refl in rw (y, p) refl
 
 pub role_is : (g : Graph) (n : Name) (o : Option ℕ) → IsGraph g → (IsSome o ↔ IsTrue (has_text n g.roles)) → IfSome o (λ r. (r < length g.roles) × (role_name g r ≡ n)) → o ≡ numbered g.roles n
@@ -24,12 +23,6 @@ role_is g n (Some r) is f p = numbered_is g.roles n (Some r) f (role_place g n r
 pub variable_is : (g : Graph) (n : Name) (o : Option ℕ) → IsGraph g → (IsSome o ↔ IsTrue (has_text n (variable_names g))) → IfSome o (λ x. (x < length g.variables) × (variable_name g x ≡ n)) → o ≡ numbered (variable_names g) n
 variable_is g n None is f p = numbered_is (variable_names g) n None f tt
 variable_is g n (Some x) is f p = numbered_is (variable_names g) n (Some x) f (variable_place g n x is p.0 p.1)
-
-label_place : (g : Graph) (n : Name) (e : ℕ) → IsGraph g → e < length g.edges → edge_name g e ≡ n → place_of n (edge_names g) ≡ e
-label_place g n e is h q =
-    let within : e < length (edge_names g) = rw length-map h in
-    let named : get_or (edge_names g) e [] ≡ n = get_or-map (λ (d : Edge). d.name) g.edges e _ [] h ∙ q in
-    rw (← named) (place_there (edge_names g) e (names_differ (edge_names g) is.edge_names) within)
 
 pub label_is : (g : Graph) (n : Name) (o : Option ℕ) → IsGraph g → (IsSome o ↔ IsTrue (has_text n (edge_names g))) → IfSome o (λ e. (e < length g.edges) × (edge_name g e ≡ n)) → o ≡ numbered (edge_names g) n
 label_is g n None is f p = numbered_is (edge_names g) n None f tt

@@ -3,8 +3,8 @@ use Rattle.std.proofs.Common.{◌≡◌, ℕ, zero, suc, ◌<◌, ◌≤◌, Boo
 use Rattle.std.specs.Prelude.{IsPermutation}
 use Rattle.std.specs.List.{Contains}
 use Rattle.std.proofs.lemmas.List.Sorted.{Contains-permutation, IsPermutation-sym}
+use Rattle.std.proofs.lemmas.Bool.{cases_Bool}
 use Rattle.sg_protocol.specs.Calls.{Event}
-use Rattle.sg_graph.proofs.Found.{cases_of}
 use Rattle.sg_audit.specs.Merged.{moment, AscendFrom}
 use Rattle.sg_audit.proofs.Moments.{RiseFrom, rise_lower, ascend_lower}
 
@@ -48,7 +48,7 @@ in_either x (z ∷ zs) ys (inr h) = elim (in_either x zs ys h) [ inl a ↦ inl (
 
 pub in_kept : {X : Type 0} (p : X → Bool) (x : X) (xs : List X) → In x (filter p xs) → In x xs × (p x ≡ true)
 in_kept p x [] h = absurd h
-in_kept p x (y ∷ ys) h = elim (cases_of (p y)) [ inl t ↦ here t (λ g. in_kept p x ys g) (rw t at h) | inr f ↦ (let r = in_kept p x ys (rw f at h) in (inr r.0, r.1)) ]
+in_kept p x (y ∷ ys) h = elim (cases_Bool (p y)) [ inl t ↦ here t (λ g. in_kept p x ys g) (rw t at h) | inr f ↦ (let r = in_kept p x ys (rw f at h) in (inr r.0, r.1)) ]
   where
     here : p y ≡ true → (In x (filter p ys) → In x ys × (p x ≡ true)) → In x (y ∷ filter p ys) → In x (y ∷ ys) × (p x ≡ true)
     here t more (inl e) = (inl e, subst (λ z. p z ≡ true) e t)
@@ -57,19 +57,19 @@ in_kept p x (y ∷ ys) h = elim (cases_of (p y)) [ inl t ↦ here t (λ g. in_ke
 pub kept_in : {X : Type 0} (p : X → Bool) (x : X) (xs : List X) → In x xs → p x ≡ true → In x (filter p xs)
 kept_in p x [] h t = absurd h
 kept_in p x (y ∷ ys) (inl e) t = let t' : p y ≡ true = subst (λ z. p z ≡ true) (sym e) t in rw t' (inl e)
-kept_in p x (y ∷ ys) (inr h) t = elim (cases_of (p y)) [ inl u ↦ rw u (inr (kept_in p x ys h t)) | inr u ↦ rw u (kept_in p x ys h t) ]
+kept_in p x (y ∷ ys) (inr h) t = elim (cases_Bool (p y)) [ inl u ↦ rw u (inr (kept_in p x ys h t)) | inr u ↦ rw u (kept_in p x ys h t) ]
 
 pub rise_kept : (p : Event → Bool) (a : ℕ) (es : List Event) → RiseFrom a es → RiseFrom a (filter p es)
 rise_kept p a [] h = tt
 rise_kept p a (e ∷ es) h =
     let more = rise_kept p (suc (moment e)) es h.1 in
-    elim (cases_of (p e)) [ inl t ↦ rw t (h.0, more) | inr f ↦ rw f (rise_lower (suc (moment e)) a (filter p es) (let l = h.0 in omega arith) more) ]
+    elim (cases_Bool (p e)) [ inl t ↦ rw t (h.0, more) | inr f ↦ rw f (rise_lower (suc (moment e)) a (filter p es) (let l = h.0 in omega arith) more) ]
 
 pub ascend_kept : (p : Event → Bool) (a : ℕ) (es : List Event) → AscendFrom a es → AscendFrom a (filter p es)
 ascend_kept p a [] h = tt
 ascend_kept p a (e ∷ es) h =
     let more = ascend_kept p (moment e) es h.1 in
-    elim (cases_of (p e)) [ inl t ↦ rw t (h.0, more) | inr f ↦ rw f (ascend_lower (moment e) a (filter p es) h.0 more) ]
+    elim (cases_Bool (p e)) [ inl t ↦ rw t (h.0, more) | inr f ↦ rw f (ascend_lower (moment e) a (filter p es) h.0 more) ]
 
 -- ---- lists that rise
 

@@ -6,13 +6,10 @@ use Rattle.std.specs.List.Sorted.{IsNonDecreasingBy}
 use Rattle.std.proofs.lemmas.Bool.Decides.{nat_tests}
 use Rattle.std.proofs.lemmas.List.Sorted.{all_adjacent_from_non_decreasing}
 use Rattle.std.proofs.lemmas.List.Sums.{sum_by-cons}
+use Rattle.std.proofs.lemmas.Bool.{cases_Bool}
+use Rattle.sg_model.proofs.Small.{same_or_not, first_false, second_false}
 use Rattle.sg_protocol.specs.Calls.{Event}
-use Rattle.sg_graph.proofs.Found.{cases_of}
 use Rattle.sg_audit.specs.Merged.{moment, has_two, clashes, AscendFrom}
-
--- a number is the other or not
-pub cases_place : (x n : ℕ) → (x ≡ n) ⊎ (x ≢ n)
-cases_place x n = elim (cases_of (x == n)) [ inl e ↦ inl (grind (arith, nat_tests, e)) | inr e ↦ inr (λ h. absurd (let z : (x == n) ≡ true = grind (arith, nat_tests, h) in let y : true ≡ false = sym z ∙ e in cc)) ]
 
 -- how many events have the moment
 abbrev pub count : ℕ → List Event → ℕ
@@ -56,13 +53,13 @@ from_next a e f es n h = ((let p = h.0 in omega (arith, n)), h.1)
 -- where no two neighbours have one moment, no two events have
 pub one_each : (a m : ℕ) (es : List Event) → AscendFrom a es → first_twice es ≡ None → count m es ≤ 1
 one_each a m [] h n = omega arith
-one_each a m (e ∷ []) h n = elim (cases_place (moment e) m) [ inl q ↦ (let c = count_yes m e [] q in omega (arith, c)) | inr q ↦ (let c = count_no m e [] q in omega (arith, c)) ]
-one_each a m (e ∷ f ∷ es) h n = elim (cases_of (moment e == moment f)) [
+one_each a m (e ∷ []) h n = elim (same_or_not (moment e) m) [ inl q ↦ (let c = count_yes m e [] q in omega (arith, c)) | inr q ↦ (let c = count_no m e [] q in omega (arith, c)) ]
+one_each a m (e ∷ f ∷ es) h n = elim (cases_Bool (moment e == moment f)) [
   | inl s ↦ (let bad : Some (moment e) ≡ None = rw s at n in absurd (cc))
   | inr s ↦
       (let other : moment e ≢ moment f = (λ q. absurd (let t : (moment e == moment f) ≡ true = grind (arith, nat_tests, q) in let z : true ≡ false = sym t ∙ s in cc)) in
       let n' : first_twice (f ∷ es) ≡ None = rw s at n in
-      elim (cases_place (moment e) m) [
+      elim (same_or_not (moment e) m) [
         | inl q ↦ (let c = count_yes m e (f ∷ es) q in let z = none_below (suc (moment e)) m (f ∷ es) (from_next a e f es other h.1) (omega arith) in omega (arith, c, z))
         | inr q ↦ (let c = count_no m e (f ∷ es) q in let z = one_each (moment e) m (f ∷ es) h.1 n' in omega (arith, c, z))
       ])
@@ -72,7 +69,7 @@ one_each a m (e ∷ f ∷ es) h n = elim (cases_of (moment e == moment f)) [
 pub twice : (a m : ℕ) (es : List Event) → AscendFrom a es → first_twice es ≡ Some m → (2 ≤ count m es) × ((k : ℕ) → k < m → count k es ≤ 1)
 twice a m [] h n = absurd (cc)
 twice a m (e ∷ []) h n = absurd (cc)
-twice a m (e ∷ f ∷ es) h n = elim (cases_of (moment e == moment f)) [
+twice a m (e ∷ f ∷ es) h n = elim (cases_Bool (moment e == moment f)) [
   | inl s ↦
       (let is : Some (moment e) ≡ Some m = rw s at n in
       let here : moment e ≡ m = cc in
@@ -88,10 +85,10 @@ twice a m (e ∷ f ∷ es) h n = elim (cases_of (moment e == moment f)) [
 ]
   where
     at_least : 2 ≤ count m (f ∷ es) → 2 ≤ count m (e ∷ f ∷ es)
-    at_least b = elim (cases_place (moment e) m) [ inl q ↦ (let c = count_yes m e (f ∷ es) q in omega (arith, b, c)) | inr q ↦ (let c = count_no m e (f ∷ es) q in omega (arith, b, c)) ]
+    at_least b = elim (same_or_not (moment e) m) [ inl q ↦ (let c = count_yes m e (f ∷ es) q in omega (arith, b, c)) | inr q ↦ (let c = count_no m e (f ∷ es) q in omega (arith, b, c)) ]
 
     below : (k : ℕ) → count k (f ∷ es) ≤ 1 → moment e ≢ moment f → count k (e ∷ f ∷ es) ≤ 1
-    below k b other = elim (cases_place (moment e) k) [
+    below k b other = elim (same_or_not (moment e) k) [
       | inl q ↦ (let c = count_yes k e (f ∷ es) q in let z = none_below (suc (moment e)) k (f ∷ es) (from_next a e f es other h.1) (omega arith) in omega (arith, c, z))
       | inr q ↦ (let c = count_no k e (f ∷ es) q in omega (arith, b, c))
     ]
@@ -118,7 +115,7 @@ least_clash m es h n =
     )
   where
     halves : (m : ℕ) → (m ≡ 2 * (m / 2)) ⊎ (m ≡ 2 * (m / 2) + 1)
-    halves m = elim (cases_place (m % 2) 0) [ inl q ↦ inl (omega (arith, q)) | inr q ↦ inr (omega (arith, q)) ]
+    halves m = elim (same_or_not (m % 2) 0) [ inl q ↦ inl (omega (arith, q)) | inr q ↦ inr (omega (arith, q)) ]
 
     either : (a b : Bool) → b ≡ true → IsTrue (a || b)
     either true b h = refl
@@ -127,7 +124,7 @@ least_clash m es h n =
 -- events that ascend, of which no two have one moment, rise
 none_at_first : (m : ℕ) (es : List Event) → AscendFrom m es → count m es ≡ 0 → AscendFrom (suc m) es
 none_at_first m [] h z = tt
-none_at_first m (e ∷ es) h z = elim (cases_place (moment e) m) [ inl q ↦ (let c = count_yes m e es q in absurd (omega (arith, z, c))) | inr q ↦ ((let p = h.0 in omega (arith, p, q)), h.1) ]
+none_at_first m (e ∷ es) h z = elim (same_or_not (moment e) m) [ inl q ↦ (let c = count_yes m e es q in absurd (omega (arith, z, c))) | inr q ↦ ((let p = h.0 in omega (arith, p, q)), h.1) ]
 
 pub rise : (a : ℕ) (es : List Event) → AscendFrom a es → ((m : ℕ) → count m es ≤ 1) → RiseFrom a es
 rise a [] h c = tt
@@ -135,26 +132,18 @@ rise a (e ∷ es) h c = (
   h.0,
   rise (suc (moment e)) es
       (none_at_first (moment e) es h.1 (let x = count_yes (moment e) e es refl in let y = c (moment e) in omega (arith, x, y)))
-      (λ m. elim (cases_place (moment e) m) [ inl q ↦ (let x = count_yes m e es q in let y = c m in omega (arith, x, y)) | inr q ↦ (let x = count_no m e es q in let y = c m in omega (arith, x, y)) ]),
+      (λ m. elim (same_or_not (moment e) m) [ inl q ↦ (let x = count_yes m e es q in let y = c m in omega (arith, x, y)) | inr q ↦ (let x = count_no m e es q in let y = c m in omega (arith, x, y)) ]),
 )
 
 -- no clash, so at most one event has a moment
 pub one_at : (es : List Event) → ((t : ℕ) → clashes es t ≡ false) → (m : ℕ) → count m es ≤ 1
 one_at es h m =
     let c = h (m / 2) in
-    elim (cases_place (m % 2) 0) [
-      | inl q ↦ (let e : m ≡ 2 * (m / 2) = omega (arith, q) in subst (λ k. count k es ≤ 1) (sym e) (not_two _ (first _ _ c)))
-      | inr q ↦ (let e : m ≡ 2 * (m / 2) + 1 = omega (arith, q) in subst (λ k. count k es ≤ 1) (sym e) (not_two _ (second _ _ c)))
+    elim (same_or_not (m % 2) 0) [
+      | inl q ↦ (let e : m ≡ 2 * (m / 2) = omega (arith, q) in subst (λ k. count k es ≤ 1) (sym e) (not_two _ (first_false _ _ c)))
+      | inr q ↦ (let e : m ≡ 2 * (m / 2) + 1 = omega (arith, q) in subst (λ k. count k es ≤ 1) (sym e) (not_two _ (second_false _ _ c)))
     ]
   where
-    first : (a b : Bool) → (a || b) ≡ false → a ≡ false
-    first true b h = h
-    first false b h = refl
-
-    second : (a b : Bool) → (a || b) ≡ false → b ≡ false
-    second true b h = absurd (cc)
-    second false b h = h
-
     not_two : (n : ℕ) → nat_le 2 n ≡ false → n ≤ 1
     not_two n h = grind (arith, nat_tests, h)
 

@@ -2,18 +2,13 @@
 use Rattle.std.proofs.Common.{◌≡◌, ◌≢◌, ℕ, zero, suc, ◌+◌, ◌-◌, ◌<◌, ◌≤◌, ◌==◌, true, false, List, [], ◌∷◌, drop, map, length, get_or, refl, ap, ◌∙◌, arith}
 use Rattle.std.specs.Prelude.{Some, None}
 use Rattle.std.proofs.lemmas.Bool.Decides.{nat_tests}
+use Rattle.sg_model.proofs.Small.{drop_from}
 use Rattle.sg_protocol.specs.Calls.{Event}
 use Rattle.sg_audit.specs.Merged.{moment}
 use Rattle.sg_audit.proofs.Moments.{first_twice}
 
--- the element at a place and those behind it
-pub drop_at : {X : Type 0} (xs : List X) (i : ℕ) (x : X) → i < length xs → x ≡ get_or xs i x → drop i xs ≡ x ∷ drop (suc i) xs
-drop_at [] i x l e = absurd (omega arith)
-drop_at (z ∷ zs) zero x l e = rw e refl
-drop_at (z ∷ zs) (suc i) x l e = drop_at zs i x (omega arith) e
-
 two_at : {X : Type 0} (xs : List X) (i : ℕ) (x y : X) → suc i < length xs → x ≡ get_or xs i x → y ≡ get_or xs (suc i) y → drop i xs ≡ x ∷ y ∷ drop (suc (suc i)) xs
-two_at xs i x y l e f = drop_at xs i x (omega arith) e ∙ ap (λ zs. x ∷ zs) (drop_at xs (suc i) y l f)
+two_at xs i x y l e f = drop_from xs i x (omega arith) e ∙ ap (λ zs. x ∷ zs) (drop_from xs (suc i) y l f)
 
 here : {X : Type 0} (view : X → Event) (xs : List X) (i : ℕ) (x y : X) → suc i < length xs → x ≡ get_or xs i x → y ≡ get_or xs (suc i) y → moment (view x) ≡ moment (view y)
     → first_twice (map view (drop i xs)) ≡ Some (moment (view y))
@@ -25,7 +20,7 @@ other : {X : Type 0} (view : X → Event) (xs : List X) (i : ℕ) (x y : X) → 
     → first_twice (map view (drop i xs)) ≡ first_twice (map view (drop (suc i) xs))
 other view xs i x y l e f s =
     let t : (moment (view x) == moment (view y)) ≡ false = grind (arith, nat_tests, s) in
-    rw (two_at xs i x y l e f, drop_at xs (suc i) y l f) (rw t refl)
+    rw (two_at xs i x y l e f, drop_from xs (suc i) y l f) (rw t refl)
 
 last : {X : Type 0} (view : X → Event) (xs : List X) (i : ℕ) → length xs ≤ suc i → first_twice (map view (drop i xs)) ≡ None
 last view [] zero l = refl

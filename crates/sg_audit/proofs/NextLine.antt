@@ -14,8 +14,8 @@ use Rattle.sg_audit.specs.Said.{Given, Said, SaidSession, SaidLog, SaidEvent, Sa
 use Rattle.sg_audit.specs.Sessions.{Session, change_last, event, stored_step, with_event as with_one, added}
 use Rattle.sg_audit.specs.Faults.{where', fault, is_too_many, is_unknown, is_repeated}
 use Rattle.sg_audit.specs.SoFar.{SoFar, all_logs, all_sessions}
-use Rattle.sg_audit.specs.declared.fault.Kind.{Kind}
-use Rattle.sg_audit.specs.declared.fault.Kind.TheVariants.{Form, TooManyEvents, Unknown, Twice}
+use Rattle.sg_audit.specs.declared.fault.Mistake.{Mistake}
+use Rattle.sg_audit.specs.declared.fault.Mistake.TheVariants.{Form, TooManyEvents, Unknown, Twice}
 use Rattle.sg_audit.proofs.OneLine.{session_by, told_by, Kept, sessions_told, next}
 
 -- ---- what is told
@@ -91,7 +91,7 @@ count_stays d logs walk (Some n) h = counted d.done (with_last d logs walk n) �
 
 -- an event stands in a session and in a log
 in_session : (g : Graph) (d : SoFar) (sent : Bool) (label : Option ℕ) (time : ℕ) (v : Given Value) → d.name ≡ None → fault g (told_by d) (SaidEvent sent label time v) ≡ None → ⊥
-in_session g d sent label time v e h = let bad : ◌≡◌ {A = Option Kind} (Some Form) None = rw e at h in absurd (cc)
+in_session g d sent label time v e h = let bad : ◌≡◌ {A = Option Mistake} (Some Form) None = rw e at h in absurd (cc)
 
 in_log : (g : Graph) (d : SoFar) (sent : Bool) (label : Option ℕ) (time : ℕ) (v : Given Value) → Kept d → d.role ≡ None → fault g (told_by d) (SaidEvent sent label time v) ≡ None → ⊥
 in_log g d sent label time v k q h = by d.name refl
@@ -99,7 +99,7 @@ in_log g d sent label time v k q h = by d.name refl
     none : all_logs d ≡ []
     none = ap (λ p. option_map_or (λ r. d.logs ++ (r, d.events) ∷ []) p d.logs) q ∙ k.first q
 
-    closed : (w : Option (List StoredStep)) (o : Option Kind) → first_some (where' (not (is_none w) || true || falls v) Form ∷ o ∷ where' (is_unknown (SaidEvent sent label time v)) Unknown ∷ where' (is_repeated (told_by d) (SaidEvent sent label time v)) Twice ∷ []) ≡ None → ⊥
+    closed : (w : Option (List StoredStep)) (o : Option Mistake) → first_some (where' (not (is_none w) || true || falls v) Form ∷ o ∷ where' (is_unknown (SaidEvent sent label time v)) Unknown ∷ where' (is_repeated (told_by d) (SaidEvent sent label time v)) Twice ∷ []) ≡ None → ⊥
     closed None o p = cc
     closed (Some w) o p = cc
 

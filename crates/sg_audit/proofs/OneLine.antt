@@ -4,20 +4,22 @@ use Rattle.std.specs.Prelude.{Option, Some, None, is_some, is_none, option_map, 
 use Rattle.std.specs.List.{list_all, list_any}
 use Rattle.std.specs.Option.{option_map_or}
 use Rattle.std.proofs.lemmas.Bool.Decides.{nat_tests}
+use Rattle.std.proofs.lemmas.Bool.{cases_Bool}
 use Rattle.sg_base.specs.Sets.{with_member}
 use Rattle.sg_model.specs.Lists.{has_text, is_in, below, first_some, keys_of, rises_from}
 use Rattle.sg_model.specs.Names.{Name}
 use Rattle.sg_model.specs.Values.{Value}
+use Rattle.sg_model.proofs.Small.{first_false, second_false}
 use Rattle.sg_protocol.specs.Graph.{Graph}
 use Rattle.sg_protocol.specs.Walk.{StoredStep}
-use Rattle.sg_graph.proofs.Found.{cases_of}
+use Rattle.sg_parse.proofs.Sets.{rising-differ}
 use Rattle.sg_audit.specs.Merged.{Log, roles_of, events_of}
 use Rattle.sg_audit.specs.Said.{Given, SaidStep, Said, SaidSession, SaidLog, SaidEvent, SaidWalk, differ, falls, rise}
 use Rattle.sg_audit.specs.Sessions.{Session, Told, sessions_of, event, stored_step}
 use Rattle.sg_audit.specs.Faults.{last_logs, event_count, is_double, is_strange, where', fault, is_open as is_open_now, all_have_logs as all_have, is_whole as is_over}
 use Rattle.sg_audit.specs.SoFar.{SoFar, all_logs, all_sessions, all_have_logs, is_whole, is_open, add, add_session, add_log, open_log, add_event, count_event, with_event, add_walk, is_unknown}
-use Rattle.sg_audit.specs.declared.fault.Kind.{Kind}
-use Rattle.sg_audit.specs.declared.fault.Kind.TheVariants.{Form, TooManyEvents, Unknown, Twice}
+use Rattle.sg_audit.specs.declared.fault.Mistake.{Mistake}
+use Rattle.sg_audit.specs.declared.fault.Mistake.TheVariants.{Form, TooManyEvents, Unknown, Twice}
 use Rattle.sg_audit.proofs.Fitting.{Fine}
 
 -- ---- what the reader keeps
@@ -46,7 +48,7 @@ sessions_told d = by d.name
 -- ---- tests
 
 -- an answer, where nothing is wrong
-abbrev pub judged : {A : Type 0} → Option Kind → A → Result A Kind
+abbrev pub judged : {A : Type 0} → Option Mistake → A → Result A Mistake
 judged None x = Ok x
 judged (Some kind) x = Err kind
 
@@ -67,19 +69,12 @@ all_same p q (n ∷ ns) h = λ i. h n i && all_same p q ns h i
 
 lower : (m least : ℕ) (ns : List ℕ) → m < least → rises_from least ns ≡ true → is_in m ns ≡ false
 lower m least [] l h = refl
-lower m least (n ∷ ns) l h = elim (cases_of (nat_lt n least)) [
+lower m least (n ∷ ns) l h = elim (cases_Bool (nat_lt n least)) [
   | inl y ↦ (let bad : false ≡ true = rw y at h in absurd (cc))
   | inr z ↦ (let r : rises_from (suc n) ns ≡ true = rw z at h in
       let up : least ≤ n = grind (arith, nat_tests, z) in
       let other : (n == m) ≡ false = grind (arith, nat_tests, up, l) in
       rw (other, lower m (suc n) ns (omega (arith, up, l)) r) refl)
-]
-
-pub rising_differ : (least : ℕ) (ns : List ℕ) → rises_from least ns ≡ true → differ ns ≡ true
-rising_differ least [] h = refl
-rising_differ least (n ∷ ns) h = elim (cases_of (nat_lt n least)) [
-  | inl y ↦ (let bad : false ≡ true = rw y at h in absurd (cc))
-  | inr z ↦ (let r : rises_from (suc n) ns ≡ true = rw z at h in rw (lower n (suc n) ns (omega arith) r, rising_differ (suc n) ns r) refl)
 ]
 
 -- ---- the tests of what the reader keeps, and of what is told
@@ -186,7 +181,7 @@ event_same g d sent label time v f k =
     found r q None = sym (kinds_unknown (is_open d) (nat_le 100000 d.count) (falls v) (not v.known) (is_double v) (with_event d (event sent (unwrap_or d.role 0) 0 time v.pairs)))
     found r q (Some l) =
         ap (λ o. if not (is_open d) || false || falls v then Err Form else if nat_le 100000 d.count then Err TooManyEvents else if not v.known then Err Unknown else if is_double v then Err Twice else Ok (with_event d (event sent (unwrap_or o 0) l time v.pairs))) q
-        ∙ sym (kinds (is_open d) (nat_le 100000 d.count) v.known (differ (keys_of v.pairs)) (rise v) (with_event d (event sent r l time v.pairs)) (rising_differ 0 (keys_of v.pairs)))
+        ∙ sym (kinds (is_open d) (nat_le 100000 d.count) v.known (differ (keys_of v.pairs)) (rise v) (with_event d (event sent r l time v.pairs)) (rising-differ 0 (keys_of v.pairs)))
 
     by : (o : Option Name) → d.name ≡ o → (p : Option ℕ) → d.role ≡ p → Same
     by None e p q = rw e refl
@@ -208,16 +203,8 @@ event_same g d sent label time v f k =
 -- where no step is strange and none falls, those that don't rise name a variable twice
 same_double : (ss : List SaidStep) → list_any (λ s. falls s.writes) ss ≡ false → list_any is_unknown ss ≡ false → list_any (λ s. not (rise s.writes)) ss ≡ list_any (λ s. is_double s.writes) ss
 same_double [] h u = refl
-same_double (s ∷ ss) h u = λ i. one s.writes.known (differ (keys_of s.writes.pairs)) (rise s.writes) (rising_differ 0 (keys_of s.writes.pairs)) (front _ _ h) (label s.label s.writes.known (front _ _ u)) i || same_double ss (back _ _ h) (back _ _ u) i
+same_double (s ∷ ss) h u = λ i. one s.writes.known (differ (keys_of s.writes.pairs)) (rise s.writes) (rising-differ 0 (keys_of s.writes.pairs)) (first_false _ _ h) (label s.label s.writes.known (first_false _ _ u)) i || same_double ss (second_false _ _ h) (second_false _ _ u) i
   where
-    front : (a b : Bool) → (a || b) ≡ false → a ≡ false
-    front false b p = refl
-    front true b p = p
-
-    back : (a b : Bool) → (a || b) ≡ false → b ≡ false
-    back false b p = p
-    back true b p = absurd (cc)
-
     label : (l : Option ℕ) (known : Bool) → (is_none l || not known) ≡ false → known ≡ true
     label l true p = refl
     label None false p = absurd (cc)
@@ -235,7 +222,7 @@ unfolding add_walk
 walk_same g d ss f = sym (in_turn (not (is_open_now (told_by d)) || all_have g (told_by d) || list_any (λ s. falls s.writes) ss) false (list_any is_strange ss) (list_any (λ s. is_double s.writes) ss) (next d (SaidWalk ss))
     ∙ by d.name refl)
   where
-    rest : Bool → Result SoFar Kind
+    rest : Bool → Result SoFar Mistake
     rest twice = if twice then Err Twice else Ok (next d (SaidWalk ss))
 
     -- the order of both, where the tests of a walk that may stand here are these

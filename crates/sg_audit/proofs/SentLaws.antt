@@ -6,6 +6,7 @@ use Rattle.sg_model.specs.Last.{Map, merge}
 use Rattle.std.proofs.lemmas.List.Elements.{All-head, All-tail}
 use Rattle.sg_model.specs.Shape.{Walk, Arrow, sender, receiver, source, target}
 use Rattle.sg_model.specs.Values.{Value}
+use Rattle.sg_model.proofs.Small.{length_map}
 use Rattle.sg_protocol.specs.Graph.{Graph, Node, Edge, IsGraph, shape, reads}
 use Rattle.sg_protocol.specs.Calls.{Event, Started, Sent, Received}
 use Rattle.sg_protocol.specs.Walk.{StoredStep, Act, Sends, Receives, OnePath, act_if, acts_of_event, counts, honest_acts, labels, shown, stored}
@@ -46,15 +47,11 @@ sender_small g is e l =
     (at_map (λ (a : Arrow). a.source < length g.nodes) (λ (d : Edge). (d.source < length g.nodes) × (d.target < length g.nodes)) (λ (d : Edge). record { source = d.source; target = d.target; writes = d.writes; reads = d.reads }) g.edges (λ d h. h.0) is.ends e
     (record { source = 0; target = 0; writes = []; reads = [] }) l)
 
-edge_count : {A B : Type 0} (f : A → B) (xs : List A) → length (map f xs) ≡ length xs
-edge_count f [] = refl
-edge_count f (x ∷ xs) = ap suc (edge_count f xs)
-
 walked_senders : (g : Graph) (honest : ℕ → Bool) → IsGraph g → ((r : ℕ) → r < length g.roles → honest r ≡ true) → (m : ℕ) (ss : List StoredStep) → Walk (shape g) m (labels ss)
     → AllByRecursion (λ s. honest (sender (shape g) s.label) ≡ true) ss
 walked_senders g honest is h m [] w = tt
 walked_senders g honest is h m (s ∷ ss) w = (
-  h (sender (shape g) s.label) (sender_small g is s.label (subst (λ n. s.label < n) (edge_count (λ (d : Edge). record { source = d.source; target = d.target; writes = d.writes; reads = d.reads }) g.edges) w.0)),
+  h (sender (shape g) s.label) (sender_small g is s.label (subst (λ n. s.label < n) (length_map (λ (d : Edge). record { source = d.source; target = d.target; writes = d.writes; reads = d.reads }) g.edges) w.0)),
   walked_senders g honest is h (target (shape g) s.label) ss w.2,
 )
 

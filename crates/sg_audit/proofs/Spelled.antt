@@ -18,7 +18,7 @@ use Rattle.sg_audit.specs.SoFar.{nothing, is_whole, all_sessions}
 use Rattle.sg_audit.specs.Read.{go_on, read, read_lines, read_sessions, with_graph}
 use Rattle.sg_audit.specs.Taken.{Refuses, logs_held}
 use Rattle.sg_audit.specs.declared.session.Logs.{Logs as Held}
-use Rattle.sg_audit.specs.declared.fault.Kind.TheVariants.{Form as FormKind, Unknown as UnknownKind, Twice as TwiceKind, TooManyEvents as TooManyKind}
+use Rattle.sg_audit.specs.declared.fault.Mistake.TheVariants.{Form as FormKind, Unknown as UnknownKind, Twice as TwiceKind, TooManyEvents as TooManyKind}
 use Rattle.sg_audit.specs.declared.fault.LogFault.{LogFault}
 use Rattle.sg_audit.specs.declared.fault.LogFault.TheVariants.{Form, Unknown, Twice, Graph as InGraph, TooManyEvents, OutOfMemory}
 use Rattle.sg_audit.proofs.Fitting.{nothing_fine}

@@ -1,8 +1,8 @@
 -- What lines tell is what the reader keeps of them.
 use Rattle.std.proofs.Common.{◌≡◌, ℕ, ◌+◌, true, false, List, [], ◌∷◌, ◌++◌, length, refl, sym, ap, ◌∙◌, subst, inl, inr, arith, append_assoc, append-nil, length-append}
 use Rattle.std.specs.Prelude.{Option, Some, None, Result, Ok, Err}
+use Rattle.std.proofs.lemmas.Bool.{cases_Bool}
 use Rattle.sg_protocol.specs.Graph.{Graph, IsGraph}
-use Rattle.sg_graph.proofs.Found.{cases_of}
 use Rattle.sg_sched.specs.Text.{content, words}
 use Rattle.sg_sched.specs.Format.Forms.{is_skipped}
 use Rattle.sg_sched.specs.Format.Spells.{Line}
@@ -13,8 +13,8 @@ use Rattle.sg_audit.specs.Faults.{fault, is_whole as is_over}
 use Rattle.sg_audit.specs.Spells.{Tell, Nothing, Skip, Say, Fault, WrongLine}
 use Rattle.sg_audit.specs.SoFar.{SoFar, nothing, is_whole, add}
 use Rattle.sg_audit.specs.Read.{add_line, go_on, read_sessions}
-use Rattle.sg_audit.specs.declared.fault.Kind.{Kind}
-use Rattle.sg_audit.specs.declared.fault.Kind.TheVariants.{Form}
+use Rattle.sg_audit.specs.declared.fault.Mistake.{Mistake}
+use Rattle.sg_audit.specs.declared.fault.Mistake.TheVariants.{Form}
 use Rattle.sg_audit.proofs.Fitting.{Fine, form_fits, adds, nothing_fine}
 use Rattle.sg_audit.proofs.OneLine.{told_by, Kept, sessions_told, next, judged, add_same, same_whole}
 use Rattle.sg_audit.proofs.NextLine.{moved, kept}
@@ -38,7 +38,7 @@ said_line g d l s k h = rw (k, h) refl
 pub right_line : (g : Graph) (d : SoFar) (l : Line) (s : Said) → Fine g d → Kept d → is_skipped l ≡ false → form g (words (content l)) ≡ Some s → fault g (told_by d) s ≡ None → add_line g d l ≡ Ok (next d s)
 right_line g d l s f k n h e = said_line g d l s n h ∙ add_same g d s f k ∙ ap (λ o. judged o (next d s)) e
 
-pub wrong_line : (g : Graph) (d : SoFar) (l : Line) (s : Said) (kind : Kind) → Fine g d → Kept d → is_skipped l ≡ false → form g (words (content l)) ≡ Some s → fault g (told_by d) s ≡ Some kind → add_line g d l ≡ Err kind
+pub wrong_line : (g : Graph) (d : SoFar) (l : Line) (s : Said) (kind : Mistake) → Fine g d → Kept d → is_skipped l ≡ false → form g (words (content l)) ≡ Some s → fault g (told_by d) s ≡ Some kind → add_line g d l ≡ Err kind
 wrong_line g d l s kind f k n h e = said_line g d l s n h ∙ add_same g d s f k ∙ ap (λ o. judged o (next d s)) e
 
 pub fine_next : (g : Graph) (d : SoFar) (l : Line) (s : Said) → IsGraph g → Fine g d → Kept d → form g (words (content l)) ≡ Some s → fault g (told_by d) s ≡ None → Fine g (next d s)
@@ -99,18 +99,18 @@ pub data Ends (g : Graph) (n : ℕ) (ls : List Line) : Result Logs Fault → Typ
   Well : (t : Told) → Tell g ls t → is_over g t ≡ true → Ends g n ls (Ok (record { graph = g; sessions = sessions_of t }))
   Few : (t : Told) → Tell g ls t → is_over g t ≡ false → Ends g n ls (Err (WrongLine (n + length ls) Form))
   Formless : (t : Told) (right rest : List Line) (line : Line) → ls ≡ right ++ line ∷ rest → Tell g right t → is_skipped line ≡ false → form g (words (content line)) ≡ None → Ends g n ls (Err (WrongLine (n + length right) Form))
-  Faulty : (t : Told) (right rest : List Line) (line : Line) (said : Said) {kind : Kind} → ls ≡ right ++ line ∷ rest → Tell g right t → is_skipped line ≡ false → form g (words (content line)) ≡ Some said
+  Faulty : (t : Told) (right rest : List Line) (line : Line) (said : Said) {kind : Mistake} → ls ≡ right ++ line ∷ rest → Tell g right t → is_skipped line ≡ false → form g (words (content line)) ≡ Some said
       → fault g t said ≡ Some kind → Ends g n ls (Err (WrongLine (n + length right) kind))
 
 pub ends : (g : Graph) (n : ℕ) (front : List Line) (d : SoFar) (ls : List Line) → IsGraph g → Fine g d → Kept d → Tell g front (told_by d) → Ends g n (front ++ ls) (read_sessions g (n + length front) d ls)
-ends g n front d [] is f k tell = elim (cases_of (is_whole g d)) [
+ends g n front d [] is f k tell = elim (cases_Bool (is_whole g d)) [
   | inl y ↦ subst (Ends g n (front ++ [])) (sym (rw (sessions_told d, y) refl)) (Well (told_by d) whole (same_whole g d f ∙ y))
   | inr z ↦ subst (Ends g n (front ++ [])) (sym (rw (append-nil front, z) refl)) (Few (told_by d) whole (same_whole g d f ∙ z))
 ]
   where
     whole : Tell g (front ++ []) (told_by d)
     whole = subst (λ ls. Tell g ls (told_by d)) (sym (append-nil front)) tell
-ends g n front d (l ∷ ls) is f k tell = elim (cases_of (is_skipped l)) [
+ends g n front d (l ∷ ls) is f k tell = elim (cases_Bool (is_skipped l)) [
   | inl y ↦ on (λ e f' k' t. ends g n (front ++ l ∷ []) e ls is f' k' t) d f k (Skip l tell y) (skip_line g d l y)
   | inr z ↦ by (λ e f' k' t. ends g n (front ++ l ∷ []) e ls is f' k' t) z (form g (words (content l))) refl
 ]
@@ -132,10 +132,10 @@ ends g n front d (l ∷ ls) is f k tell = elim (cases_of (is_skipped l)) [
         (subst (λ xs. Ends g n xs (read_sessions g (n + length (front ++ l ∷ [])) e ls)) (append_assoc front (l ∷ []) ls) rest)
 
     -- the line is not taken
-    off : (kind : Kind) → Ends g n (front ++ l ∷ ls) (Err (WrongLine (n + length front) kind)) → add_line g d l ≡ Err kind → Goal
+    off : (kind : Mistake) → Ends g n (front ++ l ∷ ls) (Err (WrongLine (n + length front) kind)) → add_line g d l ≡ Err kind → Goal
     off kind e a = subst (Ends g n (front ++ l ∷ ls)) (sym (ap (λ r. go_on (n + length front) r (λ d'. read_sessions g (n + length front + 1) d' ls)) a)) e
 
-    of : Rest → (s : Said) → is_skipped l ≡ false → form g (words (content l)) ≡ Some s → (o : Option Kind) → fault g (told_by d) s ≡ o → Goal
+    of : Rest → (s : Said) → is_skipped l ≡ false → form g (words (content l)) ≡ Some s → (o : Option Mistake) → fault g (told_by d) s ≡ o → Goal
     of more s z h None e = on more (next d s) (fine_next g d l s is f k h e) (kept g d s k e) (subst (Tell g (front ++ l ∷ [])) (sym (moved d s k)) (Say l s tell z (form_is g (words (content l)) s h) e)) (right_line g d l s f k z h e)
     of more s z h (Some kind) e = off kind (Faulty (told_by d) front ls l s refl tell z h e) (wrong_line g d l s kind f k z h e)
 

@@ -5,13 +5,14 @@ use Rattle.std.proofs.Common.{sym, ◌∙◌, ap}
 use Rattle.sg_model.specs.Lists.{has_text}
 use Rattle.sg_model.specs.Names.{Name, is_name}
 use Rattle.sg_model.specs.Values.{Value, TextValue}
+use Rattle.sg_model.proofs.Small.{and_left, and_right, some_same}
 use Rattle.sg_parse.specs.Reading.{place_of}
 use Rattle.sg_sched.specs.Format.Said.{Word, Given as Pair, given_word}
 use Rattle.sg_sched.specs.Format.Values.{spelled_value, is_value, value_of}
 use Rattle.sg_sched.specs.Format.Reading.{split_at}
-use Rattle.sg_sched.proofs.FormLaws.{some_is, none_some}
+use Rattle.sg_sched.proofs.FormLaws.{none_some}
 use Rattle.sg_sched.proofs.PartLaws.{split_is, split_ok}
-use Rattle.sg_sched.proofs.FormatWords.{both_left, both_right, both, name_lacks}
+use Rattle.sg_sched.proofs.FormatWords.{both, name_lacks}
 use Rattle.sg_audit.specs.Said.{Given, one_given, both_given}
 use Rattle.sg_audit.specs.Reading.{as_named, assigned, all_assigned, shown_or_hidden}
 use Rattle.sg_audit.specs.Written.{shown_value, given_in}
@@ -54,7 +55,7 @@ unfolding assigned
 pair_is {A} names read ok value r w v h = found (split_at 61 w) refl h
   where
     valued : (p : Word × Word) → split_at 61 w ≡ Some p → is_name p.0 ≡ true → (b : Bool) → ok p.1 ≡ b → option_map (one_given names p.0) (if b then Some (value p.1) else None) ≡ Some v → Pairs names ok value w v
-    valued p e n true q h = record { pair = record { variable = p.0; value = p.1 }; spelled = split_is 61 w p.0 p.1 e; form = both n q; gives = sym (some_is h) }
+    valued p e n true q h = record { pair = record { variable = p.0; value = p.1 }; spelled = split_is 61 w p.0 p.1 e; form = both n q; gives = sym (some_same h) }
     valued p e n false q h = none_some h
 
     named : (p : Word × Word) → split_at 61 w ≡ Some p → (b : Bool) → is_name p.0 ≡ b → (if b then option_map (one_given names p.0) (read p.1) else None) ≡ Some v → Pairs names ok value w v
@@ -69,8 +70,8 @@ pub pair_ok : {A : Type 0} (names : List Name) (read : Word → Option A) (ok : 
     → assigned names read (given_word p) ≡ Some (one_given names p.variable (value p.value))
 unfolding assigned
 pair_ok names read ok value r p h =
-    let n = both_left (is_name p.variable) (ok p.value) h in
-    let v = both_right (is_name p.variable) (ok p.value) h in
+    let n = and_left (is_name p.variable) (ok p.value) h in
+    let v = and_right (is_name p.variable) (ok p.value) h in
     ap (option_and_then (as_named names read)) (split_ok 61 p.variable p.value (name_lacks 61 p.variable refl n))
     ∙ ap (λ b. if b then option_map (one_given names p.variable) (read p.value) else None) n
     ∙ ap (option_map (one_given names p.variable)) (r.reads p.value ∙ ap (λ b. if b then Some (value p.value) else None) v)
@@ -102,7 +103,7 @@ pub record AllPairs {A : Type 0} (names : List Name) (ok : Word → Bool) (value
   pub gives : v ≡ given_in names value list
 
 pub pairs_are : {A : Type 0} (names : List Name) (read : Word → Option A) (ok : Word → Bool) (value : Word → A) → IsReader read ok value → (ws : List Word) (v : Given A) → all_assigned names read ws ≡ Some v → AllPairs names ok value ws v
-pairs_are names read ok value r [] v h = record { list = []; spelled = refl; form = refl; gives = sym (some_is h) }
+pairs_are names read ok value r [] v h = record { list = []; spelled = refl; form = refl; gives = sym (some_same h) }
 pairs_are {A} names read ok value r (w ∷ ws) v h = first (assigned names read w) refl (pairs_are names read ok value r ws) h
   where
     rest : ((u : Given A) → all_assigned names read ws ≡ Some u → AllPairs names ok value ws u) → (x : Given A) → assigned names read w ≡ Some x → (o : Option (Given A)) → all_assigned names read ws ≡ o → option_map (both_given x) o ≡ Some v → AllPairs names ok value (w ∷ ws) v
@@ -114,7 +115,7 @@ pairs_are {A} names read ok value r (w ∷ ws) v h = first (assigned names read 
           list = a.pair ∷ b.list;
           spelled = λ i. a.spelled i ∷ b.spelled i;
           form = both a.form b.form;
-          gives = sym (some_is h) ∙ (λ i. both_given (a.gives i) (b.gives i)) ∙ in_front names value a.pair b.list;
+          gives = sym (some_same h) ∙ (λ i. both_given (a.gives i) (b.gives i)) ∙ in_front names value a.pair b.list;
         }
 
     first : (o : Option (Given A)) → assigned names read w ≡ o → ((u : Given A) → all_assigned names read ws ≡ Some u → AllPairs names ok value ws u) → option_and_then (λ v. option_map (both_given v) (all_assigned names read ws)) o ≡ Some v → AllPairs names ok value (w ∷ ws) v
@@ -125,6 +126,6 @@ pub pairs_ok : {A : Type 0} (names : List Name) (read : Word → Option A) (ok :
     → all_assigned names read (map given_word ps) ≡ Some (given_in names value ps)
 pairs_ok names read ok value r [] h = refl
 pairs_ok names read ok value r (p ∷ ps) h =
-    let a = pair_ok names read ok value r p (both_left (is_name p.variable && ok p.value) (list_all (λ p. is_name p.variable && ok p.value) ps) h) in
-    let b = pairs_ok names read ok value r ps (both_right (is_name p.variable && ok p.value) (list_all (λ p. is_name p.variable && ok p.value) ps) h) in
+    let a = pair_ok names read ok value r p (and_left (is_name p.variable && ok p.value) (list_all (λ p. is_name p.variable && ok p.value) ps) h) in
+    let b = pairs_ok names read ok value r ps (and_right (is_name p.variable && ok p.value) (list_all (λ p. is_name p.variable && ok p.value) ps) h) in
     (λ i. option_and_then (λ v. option_map (both_given v) (b i)) (a i)) ∙ ap Some (in_front names value p ps)

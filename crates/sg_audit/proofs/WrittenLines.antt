@@ -8,13 +8,14 @@ use Rattle.std.proofs.lemmas.Slice.Eq.{bytes_eq-Decides}
 use Rattle.sg_base.specs.Words.{number, from_one, name}
 use Rattle.sg_model.specs.Names.{Name, is_name}
 use Rattle.sg_model.specs.Values.{Value}
+use Rattle.sg_model.proofs.Small.{and_left, and_right, some_same}
 use Rattle.sg_protocol.specs.Graph.{Graph}
 use Rattle.sg_graph.specs.Parts.{variable_names, edge_names}
 use Rattle.sg_sched.specs.Format.Said.{Word}
 use Rattle.sg_sched.specs.Format.Values.{spelled_value, is_value, value_of}
 use Rattle.sg_sched.specs.Format.Reading.{word, after, ended}
-use Rattle.sg_sched.proofs.FormLaws.{some_is, none_some, step, ended_is, line_up}
-use Rattle.sg_sched.proofs.FormatWords.{both_left, both_right, both}
+use Rattle.sg_sched.proofs.FormLaws.{none_some, step, ended_is, line_up, name_ok}
+use Rattle.sg_sched.proofs.FormatWords.{both}
 use Rattle.sg_sched.proofs.NumberLaws.{number_is, number_ok}
 use Rattle.sg_audit.specs.Said.{Given, SaidStep, Said, SaidSession, SaidLog, SaidEvent, SaidWalk, numbered}
 use Rattle.sg_audit.specs.Reading.{all_assigned, steps, time, session_form, log_form, event_form, walk_form, form}
@@ -29,12 +30,8 @@ unfolding name
 name_is w n h = by (is_name w) refl h
   where
     by : (b : Bool) → is_name w ≡ b → (if b then Some w else None) ≡ Some n → (w ≡ n) × (is_name n ≡ true)
-    by true e h = (some_is h, subst (λ v. is_name v ≡ true) (some_is h) e)
+    by true e h = (some_same h, subst (λ v. is_name v ≡ true) (some_same h) e)
     by false e h = none_some h
-
-name_ok : (n : Name) → is_name n ≡ true → name n ≡ Some n
-unfolding name
-name_ok n h = rw h refl
 
 -- a time, as its digits are written
 abbrev pub is_time : ℕ → Bool
@@ -49,7 +46,7 @@ time_is w t h = found (number 1000000 w) refl h
     from n e true z h =
         let d = number_is 1000000 w n (omega arith) e in
         let one : nat_le 1 n ≡ true = grind (arith, nat_tests, z) in
-        subst (λ m. (w ≡ decimal m) × (is_time m ≡ true)) (some_is h) (d.same, both one d.within)
+        subst (λ m. (w ≡ decimal m) × (is_time m ≡ true)) (some_same h) (d.same, both one d.within)
 
     found : (o : Option ℕ) → number 1000000 w ≡ o → option_and_then from_one o ≡ Some t → (w ≡ decimal t) × (is_time t ≡ true)
     found None e h = none_some h
@@ -58,8 +55,8 @@ time_is w t h = found (number 1000000 w) refl h
 time_ok : (t : ℕ) → is_time t ≡ true → time (decimal t) ≡ Some t
 unfolding time
 time_ok t h =
-    let one : nat_lt 0 t ≡ true = grind (arith, nat_tests, both_left (nat_le 1 t) (nat_le t 1000000) h) in
-    ap (option_and_then from_one) (number_ok 1000000 t (omega arith) (both_right (nat_le 1 t) (nat_le t 1000000) h)) ∙ ap (λ b. if b then Some t else None) one
+    let one : nat_lt 0 t ≡ true = grind (arith, nat_tests, and_left (nat_le 1 t) (nat_le t 1000000) h) in
+    ap (option_and_then from_one) (number_ok 1000000 t (omega arith) (and_right (nat_le 1 t) (nat_le t 1000000) h)) ∙ ap (λ b. if b then Some t else None) one
 
 -- ---- what is read is written so
 
@@ -69,7 +66,7 @@ session_is g ws s h =
     let a = step name (λ n. ended (Some (SaidSession n))) ws s h in
     let e = ended_is (Some (SaidSession a.value)) a.rest s a.more in
     let n = name_is a.first a.value a.was in
-    record { written = ASession a.value; spelled = ap (λ r. codes "session" ∷ r) (line_up a.all n.0 e.0); form = n.1; says = some_is e.1 }
+    record { written = ASession a.value; spelled = ap (λ r. codes "session" ∷ r) (line_up a.all n.0 e.0); form = n.1; says = some_same e.1 }
 
 log_is : (g : Graph) (ws : List Word) (s : Said) → log_form g ws ≡ Some s → Says g (codes "log" ∷ ws) s
 unfolding log_form
@@ -77,7 +74,7 @@ log_is g ws s h =
     let a = step name (λ n. ended (Some (SaidLog (numbered g.roles n)))) ws s h in
     let e = ended_is (Some (SaidLog (numbered g.roles a.value))) a.rest s a.more in
     let n = name_is a.first a.value a.was in
-    record { written = ALog a.value; spelled = ap (λ r. codes "log" ∷ r) (line_up a.all n.0 e.0); form = n.1; says = some_is e.1 }
+    record { written = ALog a.value; spelled = ap (λ r. codes "log" ∷ r) (line_up a.all n.0 e.0); form = n.1; says = some_same e.1 }
 
 -- the first word of an event
 abbrev event_word : Bool → Word
@@ -101,7 +98,7 @@ event_is g sent ws s h =
           written = AnEvent sent label at a.list;
           spelled = ap (λ r. event_word sent ∷ r) (e ∙ ap (λ r. label ∷ decimal at ∷ r) a.spelled);
           form = both (both n t) a.form;
-          says = ap (SaidEvent sent (numbered (edge_names g) label) at) (sym a.gives) ∙ some_is h;
+          says = ap (SaidEvent sent (numbered (edge_names g) label) at) (sym a.gives) ∙ some_same h;
         }
 
 walk_is : (g : Graph) (ws : List Word) (s : Said) → walk_form g ws ≡ Some s → Says g (codes "walk" ∷ ws) s
@@ -112,7 +109,7 @@ walk_is g ws s h = found (steps g ws) refl h
     found None e h = none_some h
     found (Some ss) e h =
         let a = steps_are g ws ss e in
-        record { written = AWalk a.list; spelled = ap (λ r. codes "walk" ∷ r) a.spelled; form = a.form; says = ap SaidWalk a.says ∙ some_is h }
+        record { written = AWalk a.list; spelled = ap (λ r. codes "walk" ∷ r) a.spelled; form = a.form; says = ap SaidWalk a.says ∙ some_same h }
 
 -- a form's words behind its first word
 first_is : {g : Graph} {first w : Word} {ws : List Word} {s : Said} → bytes_eq w first ≡ true → Says g (first ∷ ws) s → Says g (w ∷ ws) s
@@ -140,11 +137,11 @@ unfolding form session_form log_form event_form walk_form word
 written_ok g (ASession n) h = rw (name_ok n h) refl
 written_ok g (ALog role) h = rw (name_ok role h) refl
 written_ok g (AnEvent true label at ps) h =
-    let front = both_left (is_name label && is_time at) (list_all is_given ps) h in
-    rw (name_ok label (both_left (is_name label) (is_time at) front), time_ok at (both_right (is_name label) (is_time at) front), pairs_ok (variable_names g) spelled_value is_value value_of of_values ps (both_right (is_name label && is_time at) (list_all is_given ps) h)) refl
+    let front = and_left (is_name label && is_time at) (list_all is_given ps) h in
+    rw (name_ok label (and_left (is_name label) (is_time at) front), time_ok at (and_right (is_name label) (is_time at) front), pairs_ok (variable_names g) spelled_value is_value value_of of_values ps (and_right (is_name label && is_time at) (list_all is_given ps) h)) refl
 written_ok g (AnEvent false label at ps) h =
-    let front = both_left (is_name label && is_time at) (list_all is_given ps) h in
-    rw (name_ok label (both_left (is_name label) (is_time at) front), time_ok at (both_right (is_name label) (is_time at) front), pairs_ok (variable_names g) spelled_value is_value value_of of_values ps (both_right (is_name label && is_time at) (list_all is_given ps) h)) refl
+    let front = and_left (is_name label && is_time at) (list_all is_given ps) h in
+    rw (name_ok label (and_left (is_name label) (is_time at) front), time_ok at (and_right (is_name label) (is_time at) front), pairs_ok (variable_names g) spelled_value is_value value_of of_values ps (and_right (is_name label && is_time at) (list_all is_given ps) h)) refl
 written_ok g (AWalk ss) h = rw (steps_ok g ss h) refl
 
 pub form_ok : (g : Graph) (ws : List Word) (s : Said) → Says g ws s → form g ws ≡ Some s

@@ -1,16 +1,19 @@
 -- A step of a walk, as it is read and as it is written.
-use Rattle.std.specs.Prelude.{◌≡◌, ℕ, ◌==◌, nat_lt, nat_le, Bool, true, false, not, ◌&&◌, ◌||◌, if◌then◌else◌, List, [], ◌∷◌, ◌++◌, map, length, codes, bytes_eq, refl, Option, Some, None, option_map, option_and_then, is_some, ⊤, pos, neg_ℤ}
+use Rattle.std.specs.Prelude.{◌≡◌, ℕ, ◌==◌, nat_lt, Bool, true, false, not, ◌&&◌, ◌||◌, if◌then◌else◌, List, [], ◌∷◌, ◌++◌, map, length, codes, bytes_eq, refl, Option, Some, None, option_map, option_and_then, is_some, ⊤, pos, neg_ℤ}
 use Rattle.std.specs.List.{list_all, onto_first}
 use Rattle.std.proofs.Common.{sym, ◌∙◌, ap, true≢false, append-nil}
-use Rattle.std.proofs.lemmas.Bool.{eqb-true}
+use Rattle.std.proofs.lemmas.Bool.{eqb-true, not-true}
 use Rattle.std.proofs.lemmas.Slice.Eq.{bytes_eq-Decides}
 use Rattle.sg_model.specs.Names.{is_name}
 use Rattle.sg_model.specs.Values.{Value, IntValue}
+use Rattle.sg_model.proofs.Small.{and_left, and_right, some_same}
 use Rattle.sg_sched.specs.Format.Said.{Word, Given as Pair, given_word, joined_names}
 use Rattle.sg_sched.specs.Format.Values.{is_value, int_value, text_value, text_bytes, as_text, put_before, hex_byte, is_plain}
 use Rattle.sg_base.specs.Words.{number, from_one, is_digit, has_needless_zero, up_to, value}
-use Rattle.sg_sched.proofs.FormLaws.{some_is, none_some}
-use Rattle.sg_sched.proofs.FormatWords.{both_left, both_right, lacks, lacks_other, name_lacks}
+use Rattle.sg_sched.proofs.FormLaws.{none_some}
+use Rattle.sg_sched.proofs.FormatWords.{lacks, lacks_other, name_lacks}
+use Rattle.sg_sched.proofs.PartLaws.{joined_onto}
+use Rattle.sg_sched.proofs.ValueLaws.{no_quote}
 use Rattle.sg_audit.specs.Reading.{parts}
 use Rattle.sg_audit.specs.Written.{is_write}
 use Rattle.sg_audit.proofs.WrittenGivens.{is_shown}
@@ -32,7 +35,7 @@ onto [] ps = ps
 onto (c ∷ cs) ps = onto_first c (onto cs ps)
 
 open_more : (q : Bool) (v w : Word) (r : Bool) → open_after q v ≡ Some r → open_after q (v ++ w) ≡ open_after r w
-open_more q [] w r h = ap (λ b. open_after b w) (some_is h)
+open_more q [] w r h = ap (λ b. open_after b w) (some_same h)
 open_more q (c ∷ cs) w r h = by (c == 34) refl q (λ p k. open_more p cs w r k) h
   where
     -- the same of the bytes behind this one
@@ -52,7 +55,7 @@ open_more q (c ∷ cs) w r h = by (c == 34) refl q (λ p k. open_more p cs w r k
     by false e q more h = inner q more e h
 
 parts_onto : (q : Bool) (w rest : Word) (r : Bool) → open_after q w ≡ Some r → parts q (w ++ rest) ≡ onto w (parts r rest)
-parts_onto q [] rest r h = ap (λ b. parts b rest) (some_is h)
+parts_onto q [] rest r h = ap (λ b. parts b rest) (some_same h)
 parts_onto q (c ∷ cs) rest r h = by (c == 34) refl q (λ p k. parts_onto p cs rest r k) h
   where
     -- the same of the bytes behind this one
@@ -83,11 +86,6 @@ are_closed (w ∷ ws) = (open_after false w ≡ Some false) × are_closed ws
 pub parts_joined : (w : Word) (ws : List Word) → are_closed (w ∷ ws) → parts false (joined_names (w ∷ ws)) ≡ w ∷ ws
 parts_joined w [] h = ap (parts false) (sym (append-nil w)) ∙ parts_onto false w [] false h.0 ∙ onto_one w [] [] ∙ ap (λ v. v ∷ []) (append-nil w)
 parts_joined w (v ∷ vs) h = parts_onto false w (44 ∷ joined_names (v ∷ vs)) false h.0 ∙ onto_one w [] (parts false (joined_names (v ∷ vs))) ∙ (λ i. append-nil w i ∷ parts_joined v vs h.1 i)
-
--- the parts, joined again
-joined_onto : (c : ℕ) (p : Word) (ps : List Word) → joined_names ((c ∷ p) ∷ ps) ≡ c ∷ joined_names (p ∷ ps)
-joined_onto c p [] = refl
-joined_onto c p (q ∷ qs) = refl
 
 -- there is a first part
 pub record Split (q : Bool) (w : Word) : Type 0 where
@@ -120,20 +118,16 @@ split_of q (c ∷ cs) = by (λ r. split_of r cs) (c == 34) refl
 closed_plain : (w : Word) → lacks 34 w ≡ true → lacks 44 w ≡ true → open_after false w ≡ Some false
 closed_plain [] p q = refl
 closed_plain (c ∷ cs) p q =
-    let quote : (c == 34) ≡ false = not_true (c == 34) (both_left (not (c == 34)) (lacks 34 cs) p) in
-    let comma : (c == 44) ≡ false = not_true (c == 44) (both_left (not (c == 44)) (lacks 44 cs) q) in
-    rw (quote, comma) (closed_plain cs (both_right (not (c == 34)) (lacks 34 cs) p) (both_right (not (c == 44)) (lacks 44 cs) q))
-  where
-    not_true : (b : Bool) → not b ≡ true → b ≡ false
-    not_true false h = refl
-    not_true true h = sym h
+    let quote : (c == 34) ≡ false = not-true (c == 34) (and_left (not (c == 34)) (lacks 34 cs) p) in
+    let comma : (c == 44) ≡ false = not-true (c == 44) (and_left (not (c == 44)) (lacks 44 cs) q) in
+    rw (quote, comma) (closed_plain cs (and_right (not (c == 34)) (lacks 34 cs) p) (and_right (not (c == 44)) (lacks 44 cs) q))
 
 number_digits : (most : ℕ) (w : Word) (n : ℕ) → number most w ≡ Some n → list_all is_digit w ≡ true
 unfolding number
 number_digits most w n h = by (nat_lt 0 (length w) && not (has_needless_zero w) && list_all is_digit w) refl h
   where
     by : (b : Bool) → (nat_lt 0 (length w) && not (has_needless_zero w) && list_all is_digit w) ≡ b → (if b then up_to most (value w) else None) ≡ Some n → list_all is_digit w ≡ true
-    by true e h = both_right (nat_lt 0 (length w) && not (has_needless_zero w)) (list_all is_digit w) e
+    by true e h = and_right (nat_lt 0 (length w) && not (has_needless_zero w)) (list_all is_digit w) e
     by false e h = none_some h
 
 closed_digits : (w : Word) → list_all is_digit w ≡ true → open_after false w ≡ Some false
@@ -173,13 +167,6 @@ closed_int (c ∷ cs) v h = by (c == 45) refl h
 -- inside quotes a byte that isn't one keeps them open
 inside : (c : ℕ) (cs : Word) → (c == 34) ≡ false → open_after true (c ∷ cs) ≡ open_after true cs
 inside c cs e = rw e refl
-
-plain_no_quote : (c : ℕ) → is_plain c ≡ true → (c == 34) ≡ false
-plain_no_quote c h = not_true (c == 34) (both_right (nat_le 33 c && nat_le c 126) (not (c == 34)) (both_left (nat_le 33 c && nat_le c 126 && not (c == 34)) (not (c == 92)) h))
-  where
-    not_true : (b : Bool) → not b ≡ true → b ≡ false
-    not_true false h = refl
-    not_true true h = sym h
 
 -- a byte before others, where both are there
 pub record Before (x : Option ℕ) (xs : Option (List ℕ)) : Type 0 where
@@ -236,10 +223,10 @@ closed_text (q ∷ []) h = by (q == 34) refl h
     by false e h = absurd (true≢false (sym h))
 closed_text (c ∷ x ∷ []) h =
     let b = before_is (if is_plain c then Some c else None) (text_bytes (x ∷ [])) h in
-    inside c (x ∷ []) (plain_no_quote c (plain_is c b.byte)) ∙ closed_text (x ∷ []) b.more
+    inside c (x ∷ []) (no_quote c (plain_is c b.byte)) ∙ closed_text (x ∷ []) b.more
 closed_text (c ∷ x ∷ h ∷ []) t =
     let b = before_is (if is_plain c then Some c else None) (text_bytes (x ∷ h ∷ [])) t in
-    inside c (x ∷ h ∷ []) (plain_no_quote c (plain_is c b.byte)) ∙ closed_text (x ∷ h ∷ []) b.more
+    inside c (x ∷ h ∷ []) (no_quote c (plain_is c b.byte)) ∙ closed_text (x ∷ h ∷ []) b.more
 closed_text (c ∷ x ∷ h ∷ l ∷ cs) t = by (closed_text cs) (closed_text (x ∷ h ∷ l ∷ cs)) (c == 92) refl (x == 120) refl t
   where
     by : (is_some (text_bytes cs) ≡ true → open_after true cs ≡ Some false) → (is_some (text_bytes (x ∷ h ∷ l ∷ cs)) ≡ true → open_after true (x ∷ h ∷ l ∷ cs) ≡ Some false) → (b : Bool) → (c == 92) ≡ b → (d : Bool) → (x == 120) ≡ d
@@ -251,7 +238,7 @@ closed_text (c ∷ x ∷ h ∷ l ∷ cs) t = by (closed_text cs) (closed_text (x
     by short long true e false f t = absurd (true≢false (sym t))
     by short long false e d f t =
         let b = before_is (if is_plain c then Some c else None) (text_bytes (x ∷ h ∷ l ∷ cs)) t in
-        inside c (x ∷ h ∷ l ∷ cs) (plain_no_quote c (plain_is c b.byte)) ∙ long b.more
+        inside c (x ∷ h ∷ l ∷ cs) (no_quote c (plain_is c b.byte)) ∙ long b.more
 
 closed_value : (w : Word) → is_value w ≡ true → open_after false w ≡ Some false
 closed_value [] h = absurd (true≢false (sym h))
@@ -278,10 +265,10 @@ closed_shown w h = by (bytes_eq w (codes "?")) refl h
 
 closed_write : (p : Pair) → is_write p ≡ true → open_after false (given_word p) ≡ Some false
 closed_write p h =
-    let n = both_left (is_name p.variable) (is_shown p.value) h in
-    let v = both_right (is_name p.variable) (is_shown p.value) h in
+    let n = and_left (is_name p.variable) (is_shown p.value) h in
+    let v = and_right (is_name p.variable) (is_shown p.value) h in
     open_more false p.variable (61 ∷ p.value) false (closed_plain p.variable (name_lacks 34 p.variable refl n) (name_lacks 44 p.variable refl n)) ∙ closed_shown p.value v
 
 pub closed_writes : (ps : List Pair) → list_all is_write ps ≡ true → are_closed (map given_word ps)
 closed_writes [] h = tt
-closed_writes (p ∷ ps) h = (closed_write p (both_left (is_write p) (list_all is_write ps) h), closed_writes ps (both_right (is_write p) (list_all is_write ps) h))
+closed_writes (p ∷ ps) h = (closed_write p (and_left (is_write p) (list_all is_write ps) h), closed_writes ps (and_right (is_write p) (list_all is_write ps) h))

@@ -7,13 +7,14 @@ use Rattle.std.proofs.lemmas.Grind.{common_steps}
 use Rattle.std.proofs.lemmas.Bool.{eqb-true}
 use Rattle.sg_model.specs.Names.{Name, is_name}
 use Rattle.sg_model.specs.Values.{Value}
+use Rattle.sg_model.proofs.Small.{and_left, and_right, some_same}
 use Rattle.sg_protocol.specs.Graph.{Graph}
 use Rattle.sg_graph.specs.Parts.{variable_names, edge_names}
 use Rattle.sg_sched.specs.Format.Said.{Word, Given as Pair, given_word, joined_names}
 use Rattle.sg_sched.specs.Format.Reading.{split_at}
-use Rattle.sg_sched.proofs.FormLaws.{some_is, none_some}
+use Rattle.sg_sched.proofs.FormLaws.{none_some}
 use Rattle.sg_sched.proofs.PartLaws.{split_is, split_ok}
-use Rattle.sg_sched.proofs.FormatWords.{both_left, both_right, both, lacks, name_lacks}
+use Rattle.sg_sched.proofs.FormatWords.{both, lacks, name_lacks}
 use Rattle.sg_audit.specs.Said.{Given, SaidStep, numbered}
 use Rattle.sg_audit.specs.Reading.{all_assigned, shown_or_hidden, parts, unclosed, written, labelled, unstarred, step, steps}
 use Rattle.sg_audit.specs.Written.{WrittenStep, writes_word, step_word, is_write, is_step, shown_value, given_in, step_in}
@@ -43,7 +44,7 @@ unclosed_is (c ∷ cs) v h = by (slice_index (c ∷ cs) (length (c ∷ cs) - 1) 
     by false e h = none_some h
     by true e h =
         let last : slice_index (c ∷ cs) (length cs) ≡ 41 = ap (slice_index (c ∷ cs)) (sym less) ∙ eqb-true _ 41 e in
-        ends_with c cs last ∙ ap (λ n. take n (c ∷ cs) ++ 41 ∷ []) (sym less) ∙ ap (λ x. x ++ 41 ∷ []) (some_is h)
+        ends_with c cs last ∙ ap (λ n. take n (c ∷ cs) ++ 41 ∷ []) (sym less) ∙ ap (λ x. x ++ 41 ∷ []) (some_same h)
 
 -- ---- what a step writes
 
@@ -81,7 +82,7 @@ writes_are names w v h = found (unclosed w) refl h
 writes_ok : (names : List Name) (ps : List Pair) → are_some ps ≡ true → written names (joined_names (map given_word ps) ++ 41 ∷ []) ≡ Some (given_in names shown_value ps)
 writes_ok names [] h = absurd (true≢false (sym h))
 writes_ok names (p ∷ ps) h =
-    let all : list_all is_write (p ∷ ps) ≡ true = both_right (nat_lt 0 (length (p ∷ ps))) (list_all is_write (p ∷ ps)) h in
+    let all : list_all is_write (p ∷ ps) ≡ true = and_right (nat_lt 0 (length (p ∷ ps))) (list_all is_write (p ∷ ps)) h in
     ap (option_and_then (λ inner. all_assigned names shown_or_hidden (parts false inner))) (unclosed_ok (joined_names (map given_word (p ∷ ps))))
     ∙ ap (all_assigned names shown_or_hidden) (parts_joined (given_word p) (map given_word ps) (closed_writes (p ∷ ps) all))
     ∙ pairs_ok names shown_or_hidden is_shown shown_value of_writes (p ∷ ps) all
@@ -90,7 +91,7 @@ writes_ok names (p ∷ ps) h =
 
 split_lacks : (mark : ℕ) (w : Word) → lacks mark w ≡ true → split_at mark w ≡ None
 split_lacks mark [] h = refl
-split_lacks mark (c ∷ cs) h = by (split_lacks mark cs (both_right (not (c == mark)) (lacks mark cs) h)) (c == mark) refl (both_left (not (c == mark)) (lacks mark cs) h)
+split_lacks mark (c ∷ cs) h = by (split_lacks mark cs (and_right (not (c == mark)) (lacks mark cs) h)) (c == mark) refl (and_left (not (c == mark)) (lacks mark cs) h)
   where
     by : split_at mark cs ≡ None → (b : Bool) → (c == mark) ≡ b → not (c == mark) ≡ true → split_at mark (c ∷ cs) ≡ None
     by rest false e l = rw (e, rest) refl
@@ -101,7 +102,7 @@ no_star : (n rest : Word) → is_name n ≡ true → unstarred (n ++ rest) ≡ n
 no_star [] rest h = absurd (true≢false (sym h))
 no_star (c ∷ cs) rest h =
     let lack : lacks 42 (c ∷ cs) ≡ true = name_lacks 42 (c ∷ cs) refl h in
-    by (c == 42) refl (both_left (not (c == 42)) (lacks 42 cs) lack)
+    by (c == 42) refl (and_left (not (c == 42)) (lacks 42 cs) lack)
   where
     by : (b : Bool) → (c == 42) ≡ b → not (c == 42) ≡ true → unstarred (c ∷ (cs ++ rest)) ≡ c ∷ (cs ++ rest)
     by false e l = rw e refl
@@ -146,7 +147,7 @@ step_is g w s h = found (split_at 40 (unstarred w)) refl h
       written = record { starred = star.starred; label = unstarred w; writes = None };
       spelled = star.all ∙ ap (λ x. (if star.starred then codes "*" else []) ++ x) (sym (append-nil (unstarred w)));
       form = both e refl;
-      says = some_is h;
+      says = some_same h;
     }
 
     listed : (p : Word × Word) → split_at 40 (unstarred w) ≡ Some p → is_name p.0 ≡ true → (o : Option (Given (Option Value))) → written (variable_names g) p.1 ≡ o
@@ -158,7 +159,7 @@ step_is g w s h = found (split_at 40 (unstarred w)) refl h
           written = record { starred = star.starred; label = p.0; writes = Some a.list };
           spelled = star.all ∙ ap (λ x. (if star.starred then codes "*" else []) ++ x) (split_is 40 (unstarred w) p.0 p.1 e ∙ ap (λ x. p.0 ++ 40 ∷ x) a.spelled);
           form = both n a.form;
-          says = (λ i. record { label = numbered (edge_names g) p.0; writes = sym a.gives i }) ∙ some_is h;
+          says = (λ i. record { label = numbered (edge_names g) p.0; writes = sym a.gives i }) ∙ some_same h;
         }
 
     named : (p : Word × Word) → split_at 40 (unstarred w) ≡ Some p → (b : Bool) → is_name p.0 ≡ b
@@ -173,8 +174,8 @@ step_is g w s h = found (split_at 40 (unstarred w)) refl h
 pub step_ok : (g : Graph) (s : WrittenStep) → is_step s ≡ true → step g (step_word s) ≡ Some (step_in g s)
 unfolding step
 step_ok g s h =
-    let n = both_left (is_name s.label) (option_map_or are_some s.writes true) h in
-    ap (λ u. labelled g u (split_at 40 u)) (unstar_ok s n) ∙ by s.writes refl n (both_right (is_name s.label) (option_map_or are_some s.writes true) h)
+    let n = and_left (is_name s.label) (option_map_or are_some s.writes true) h in
+    ap (λ u. labelled g u (split_at 40 u)) (unstar_ok s n) ∙ by s.writes refl n (and_right (is_name s.label) (option_map_or are_some s.writes true) h)
   where
     by : (o : Option (List Pair)) → s.writes ≡ o → is_name s.label ≡ true → option_map_or are_some o true ≡ true
         → labelled g (s.label ++ writes_word s.writes) (split_at 40 (s.label ++ writes_word s.writes)) ≡ Some (record { label = numbered (edge_names g) s.label; writes = given_in (variable_names g) shown_value (option_map_or (λ ps. ps) s.writes []) })
@@ -198,7 +199,7 @@ pub record AllSteps (g : Graph) (ws : List Word) (ss : List SaidStep) : Type 0 w
   pub says : map (step_in g) list ≡ ss
 
 pub steps_are : (g : Graph) (ws : List Word) (ss : List SaidStep) → steps g ws ≡ Some ss → AllSteps g ws ss
-steps_are g [] ss h = record { list = []; spelled = refl; form = refl; says = some_is h }
+steps_are g [] ss h = record { list = []; spelled = refl; form = refl; says = some_same h }
 steps_are g (w ∷ ws) ss h = first (step g w) refl (steps_are g ws) h
   where
     rest : ((us : List SaidStep) → steps g ws ≡ Some us → AllSteps g ws us) → (s : SaidStep) → step g w ≡ Some s → (o : Option (List SaidStep)) → steps g ws ≡ o → option_map (λ us. s ∷ us) o ≡ Some ss → AllSteps g (w ∷ ws) ss
@@ -206,7 +207,7 @@ steps_are g (w ∷ ws) ss h = first (step g w) refl (steps_are g ws) h
     rest ih s e (Some us) f h =
         let a = step_is g w s e in
         let b = ih us f in
-        record { list = a.written ∷ b.list; spelled = λ i. a.spelled i ∷ b.spelled i; form = both a.form b.form; says = (λ i. a.says i ∷ b.says i) ∙ some_is h }
+        record { list = a.written ∷ b.list; spelled = λ i. a.spelled i ∷ b.spelled i; form = both a.form b.form; says = (λ i. a.says i ∷ b.says i) ∙ some_same h }
 
     first : (o : Option SaidStep) → step g w ≡ o → ((us : List SaidStep) → steps g ws ≡ Some us → AllSteps g ws us) → option_and_then (λ s. option_map (λ us. s ∷ us) (steps g ws)) o ≡ Some ss → AllSteps g (w ∷ ws) ss
     first None e ih h = none_some h
@@ -215,6 +216,6 @@ steps_are g (w ∷ ws) ss h = first (step g w) refl (steps_are g ws) h
 pub steps_ok : (g : Graph) (ss : List WrittenStep) → list_all is_step ss ≡ true → steps g (map step_word ss) ≡ Some (map (step_in g) ss)
 steps_ok g [] h = refl
 steps_ok g (s ∷ ss) h =
-    let a = step_ok g s (both_left (is_step s) (list_all is_step ss) h) in
-    let b = steps_ok g ss (both_right (is_step s) (list_all is_step ss) h) in
+    let a = step_ok g s (and_left (is_step s) (list_all is_step ss) h) in
+    let b = steps_ok g ss (and_right (is_step s) (list_all is_step ss) h) in
     λ i. option_and_then (λ s. option_map (λ us. s ∷ us) (b i)) (a i)

@@ -2,7 +2,7 @@
 use Rattle.std.specs.Prelude.{◌≡◌, ℕ, ◌<◌, false, List, Option, Some, None, IsTrue, ⊤}
 use Rattle.sg_protocol.specs.Graph.{Graph}
 use Rattle.sg_protocol.specs.Walk.{StoredStep}
-use Rattle.sg_walk.specs.Views.{steps_of}
+use Rattle.sg_walk.specs.Model.{steps_of}
 use Rattle.sg_audit.specs.Merged.{Log, events_of, clashes}
 use Rattle.sg_audit.specs.Agree.{Agree, NoneClashes}
 use Rattle.sg_audit.specs.declared.answer.Audit.{Audit}

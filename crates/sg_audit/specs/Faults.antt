@@ -3,12 +3,13 @@ use Rattle.std.specs.Prelude.{ℕ, ◌==◌, nat_le, Bool, false, not, ◌||◌,
 use Rattle.std.specs.List.{list_any, list_all}
 use Rattle.std.specs.Option.{option_map_or}
 use Rattle.sg_model.specs.Lists.{has_text, is_in, below, keys_of, first_some}
+use Rattle.sg_model.specs.Limits.{most_events}
 use Rattle.sg_protocol.specs.Graph.{Graph}
 use Rattle.sg_audit.specs.Merged.{Log, roles_of, events_of}
 use Rattle.sg_audit.specs.Said.{Given, SaidStep, Said, SaidSession, SaidLog, SaidEvent, SaidWalk, differ, falls}
 use Rattle.sg_audit.specs.Sessions.{Told, sessions_of}
-use Rattle.sg_audit.specs.declared.fault.Kind.{Kind}
-use Rattle.sg_audit.specs.declared.fault.Kind.TheVariants.{Form, TooManyEvents, Unknown, Twice}
+use Rattle.sg_audit.specs.declared.fault.Mistake.{Mistake}
+use Rattle.sg_audit.specs.declared.fault.Mistake.TheVariants.{Form, TooManyEvents, Unknown, Twice}
 
 -- ---- what is told
 
@@ -52,7 +53,7 @@ is_wrong g t (SaidWalk steps) = not (is_open t) || all_have_logs g t || list_any
 
 -- the event 100,001
 abbrev pub is_too_many : Told → Said → Bool
-is_too_many t (SaidEvent sent label time v) = nat_le 100000 (event_count t)
+is_too_many t (SaidEvent sent label time v) = nat_le most_events (event_count t)
 is_too_many t other = false
 
 -- a role, a label or a variable isn't the graph's
@@ -70,9 +71,9 @@ is_repeated t (SaidEvent sent label time v) = is_double v
 is_repeated t (SaidWalk steps) = list_any (λ s. is_double s.writes) steps
 
 -- the kind, where the test says so
-abbrev pub where' : Bool → Kind → Option Kind
+abbrev pub where' : Bool → Mistake → Option Mistake
 where' b kind = if b then Some kind else None
 
 -- what is wrong with a line, the first in this order
-abbrev pub fault : Graph → Told → Said → Option Kind
+abbrev pub fault : Graph → Told → Said → Option Mistake
 fault g t l = first_some (where' (is_wrong g t l) Form ∷ where' (is_too_many t l) TooManyEvents ∷ where' (is_unknown l) Unknown ∷ where' (is_repeated t l) Twice ∷ [])

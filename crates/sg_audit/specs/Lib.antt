@@ -1,7 +1,7 @@
 pub mod Sent
 pub mod Merged
 pub mod Agree
-pub mod Held
+pub mod Model
 pub mod Answers
 pub mod Said
 pub mod Reading

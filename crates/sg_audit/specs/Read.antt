@@ -12,7 +12,7 @@ use Rattle.sg_audit.specs.Reading.{form}
 use Rattle.sg_audit.specs.SoFar.{SoFar, Added, nothing, add, all_sessions, is_whole}
 use Rattle.sg_audit.specs.Sessions.{Logs}
 use Rattle.sg_audit.specs.Spells.{Fault, WrongLine, NoGraph}
-use Rattle.sg_audit.specs.declared.fault.Kind.TheVariants.{Form}
+use Rattle.sg_audit.specs.declared.fault.Mistake.TheVariants.{Form}
 
 -- the lines that are left, and the number of those before them
 pub record LinesLeft : Type 0 where

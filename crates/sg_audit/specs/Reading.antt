@@ -3,6 +3,7 @@ use Rattle.std.specs.Prelude.{ℕ, suc, ◌==◌, ◌-◌, Bool, true, false, no
 use Rattle.std.specs.List.{onto_first}
 use Rattle.sg_model.specs.Names.{Name, is_name}
 use Rattle.sg_model.specs.Values.{Value}
+use Rattle.sg_model.specs.Limits.{most_time}
 use Rattle.sg_base.specs.Words.{number, from_one, name}
 use Rattle.sg_protocol.specs.Graph.{Graph}
 use Rattle.sg_graph.specs.Parts.{variable_names, edge_names}
@@ -93,7 +94,7 @@ log_form g =
 
 -- a time, from 1 to 1,000,000
 unfoldable pub time : Word → Option ℕ
-time w = option_and_then from_one (number 1000000 w)
+time w = option_and_then from_one (number most_time w)
 
 -- sent LABEL TIME VAR=VALUE .., and the same of received
 unfoldable pub event_form : Graph → Bool → Left → Option Said

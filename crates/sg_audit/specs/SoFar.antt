@@ -6,14 +6,15 @@ use Rattle.sg_base.specs.Sets.{with_member}
 use Rattle.sg_model.specs.Lists.{has_text, is_in, below}
 use Rattle.sg_model.specs.Names.{Name}
 use Rattle.sg_model.specs.Values.{Value}
+use Rattle.sg_model.specs.Limits.{most_events}
 use Rattle.sg_protocol.specs.Graph.{Graph}
 use Rattle.sg_protocol.specs.Calls.{Event}
 use Rattle.sg_protocol.specs.Walk.{StoredStep}
 use Rattle.sg_audit.specs.Merged.{Log}
 use Rattle.sg_audit.specs.Said.{Given, SaidStep, Said, SaidSession, SaidLog, SaidEvent, SaidWalk, falls, rise}
 use Rattle.sg_audit.specs.Sessions.{Session, event, stored_step}
-use Rattle.sg_audit.specs.declared.fault.Kind.{Kind}
-use Rattle.sg_audit.specs.declared.fault.Kind.TheVariants.{Form, TooManyEvents, Unknown, Twice}
+use Rattle.sg_audit.specs.declared.fault.Mistake.{Mistake}
+use Rattle.sg_audit.specs.declared.fault.Mistake.TheVariants.{Form, TooManyEvents, Unknown, Twice}
 
 -- the names of all sessions, the number of all events, the sessions before the last one; of the last one its name, its logs before the last log, the roles that have a log, the role and the events of the last log, and the walk
 pub record SoFar : Type 0 where
@@ -53,7 +54,7 @@ is_open d = is_some d.name && is_none d.walk
 
 -- what a line adds, or what is wrong with it
 abbrev pub Added : Type 0
-Added = Result SoFar Kind
+Added = Result SoFar Mistake
 
 -- ---- sessions and logs
 
@@ -87,7 +88,7 @@ put_event d sent role (Some label) time v = if not v.known then Err Unknown else
 
 -- an event of the role of the last log; there are at most 100,000
 abbrev pub count_event : SoFar → Bool → Option ℕ → ℕ → Given Value → ℕ → Added
-count_event d sent label time v role = if falls v then Err Form else if nat_le 100000 d.count then Err TooManyEvents else put_event d sent role label time v
+count_event d sent label time v role = if falls v then Err Form else if nat_le most_events d.count then Err TooManyEvents else put_event d sent role label time v
 
 -- an event stands in a log
 unfoldable pub add_event : SoFar → Bool → Option ℕ → ℕ → Given Value → Added

@@ -12,8 +12,8 @@ use Rattle.sg_audit.specs.Said.{Said}
 use Rattle.sg_audit.specs.Written.{Says}
 use Rattle.sg_audit.specs.Sessions.{Logs, Told, sessions_of, added}
 use Rattle.sg_audit.specs.Faults.{fault, is_whole}
-use Rattle.sg_audit.specs.declared.fault.Kind.{Kind}
-use Rattle.sg_audit.specs.declared.fault.Kind.TheVariants.{Form, Unknown, Twice, TooManyEvents}
+use Rattle.sg_audit.specs.declared.fault.Mistake.{Mistake}
+use Rattle.sg_audit.specs.declared.fault.Mistake.TheVariants.{Form, Unknown, Twice, TooManyEvents}
 use Rattle.sg_audit.specs.declared.fault.LogFault.{LogFault}
 use Rattle.sg_audit.specs.declared.fault.LogFault.TheVariants.{Form as FormAt, Unknown as UnknownAt, Twice as TwiceAt, Graph as InGraph, TooManyEvents as TooMany}
 
@@ -71,7 +71,7 @@ pub record SpellsLogs (bytes : List ℕ) (l : Logs) : Type 0 where
 
 -- a line, counted from 1, and what is wrong with it; or what is wrong with the graph text
 pub data Fault : Type 0 where
-  WrongLine : (line : ℕ) → Kind → Fault
+  WrongLine : (line : ℕ) → Mistake → Fault
   NoGraph : ParseFault → Fault
 
 -- the first of these lines that is wrong. Where a line is missing, the number after the last one is told, and where the block isn't closed, that of the last line
@@ -83,7 +83,7 @@ pub data IsFirstFault (ls : List Line) : Fault → Type 0 where
   OfGraph : (block rest : List Line) (text : List ℕ) {e : ParseFault} → ls ≡ block ++ rest → IsBlock block text → read text ≡ Err e → IsFirstFault ls (NoGraph e)
   OfNoForm : (g : AGraph) (t : Told) (right rest : List Line) (line : Line) → ls ≡ right ++ line ∷ rest → TellAfter g right t → IsFalse (is_skipped line)
       → ((said : Said) → SaysLine g line said → ⊥) → IsFirstFault ls (WrongLine (length right + 1) Form)
-  OfAForm : (g : AGraph) (t : Told) (right rest : List Line) (line : Line) (said : Said) {kind : Kind} → ls ≡ right ++ line ∷ rest → TellAfter g right t → IsFalse (is_skipped line)
+  OfAForm : (g : AGraph) (t : Told) (right rest : List Line) (line : Line) (said : Said) {kind : Mistake} → ls ≡ right ++ line ∷ rest → TellAfter g right t → IsFalse (is_skipped line)
       → SaysLine g line said → fault g t said ≡ Some kind → IsFirstFault ls (WrongLine (length right + 1) kind)
   TooFew : (g : AGraph) (t : Told) → TellAfter g ls t → IsFalse (is_whole g t) → IsFirstFault ls (WrongLine (length ls + 1) Form)
 

@@ -2,8 +2,8 @@
 use Rattle.std.specs.Prelude.{◌≡◌, ◌<◌, ℕ, IfSome, map, Option, option_map, Result, Ok, Err, OnOk, IfErr, ⊤}
 use Rattle.sg_base.specs.declared.value.Value.{Value as Held}
 use Rattle.sg_model.specs.Values.{Value}
-use Rattle.sg_walk.specs.Views.{values_of, writes_of, steps_of}
-use Rattle.sg_audit.specs.Held.{log_of}
+use Rattle.sg_walk.specs.Model.{values_of, writes_of, steps_of}
+use Rattle.sg_audit.specs.Model.{log_of}
 use Rattle.sg_audit.specs.Said.{Given, SaidStep, Said, SaidSession, SaidLog, SaidEvent, SaidWalk}
 use Rattle.sg_audit.specs.SoFar.{SoFar, Added}
 use Rattle.sg_audit.specs.Sessions.{Session, Logs}
@@ -11,10 +11,10 @@ use Rattle.sg_audit.specs.Spells.{Fault, WrongLine, NoGraph}
 use Rattle.sg_audit.specs.declared.given.Given.{Given as Taken}
 use Rattle.sg_audit.specs.declared.line.Line.{Line}
 use Rattle.sg_audit.specs.declared.line.Line.TheVariants.{Session as ALine, Log, Event, Walk}
-use Rattle.sg_audit.specs.declared.step.Step.{Step}
+use Rattle.sg_audit.specs.declared.step.GivenStep.{GivenStep}
 use Rattle.sg_audit.specs.declared.session.SessionLog.{SessionLog}
 use Rattle.sg_audit.specs.declared.session.Logs.{Logs as Held'}
-use Rattle.sg_audit.specs.declared.fault.Kind.TheVariants.{Form as FormKind, Unknown as UnknownKind, Twice as TwiceKind, TooManyEvents as TooManyKind}
+use Rattle.sg_audit.specs.declared.fault.Mistake.TheVariants.{Form as FormKind, Unknown as UnknownKind, Twice as TwiceKind, TooManyEvents as TooManyKind}
 use Rattle.sg_audit.specs.declared.fault.Stop.{Stop}
 use Rattle.sg_audit.specs.declared.fault.Stop.TheVariants.{Wrong, OutOfMemory as NoMemory}
 use Rattle.sg_audit.specs.declared.fault.LogFault.{LogFault}
@@ -29,7 +29,7 @@ abbrev pub given_writes : Taken (Option Held) → Given (Option Value)
 given_writes v = record { pairs = writes_of v.pairs; known = v.known }
 
 -- a step that is held
-abbrev pub step_said : Step → SaidStep
+abbrev pub step_said : GivenStep → SaidStep
 step_said s = record { label = s.label; writes = given_writes s.writes }
 
 -- what a line that is held says

@@ -6,6 +6,7 @@ use Rattle.std.specs.Fmt.{decimal}
 use Rattle.sg_model.specs.Lists.{has_text}
 use Rattle.sg_model.specs.Names.{Name, is_name}
 use Rattle.sg_model.specs.Values.{Value}
+use Rattle.sg_model.specs.Limits.{most_time}
 use Rattle.sg_protocol.specs.Graph.{Graph}
 use Rattle.sg_graph.specs.Parts.{variable_names, edge_names}
 use Rattle.sg_sched.specs.Format.Said.{Word, Given as Pair, given_word, joined_names}
@@ -61,7 +62,7 @@ is_step s = is_name s.label && option_map_or (λ ps. nat_lt 0 (length ps) && lis
 abbrev pub is_form : Written → Bool
 is_form (ASession n) = is_name n
 is_form (ALog role) = is_name role
-is_form (AnEvent sent label time values) = is_name label && (nat_le 1 time && nat_le time 1000000) && list_all is_given values
+is_form (AnEvent sent label time values) = is_name label && (nat_le 1 time && nat_le time most_time) && list_all is_given values
 is_form (AWalk steps) = list_all is_step steps
 
 -- ---- what is said

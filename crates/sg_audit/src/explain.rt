@@ -1,12 +1,12 @@
 //! The audit of the logs of one session.
 ghost use Rattle.std.specs.Prelude.{◌≡◌, IfOk, map, unwrap_or};
 ghost use Rattle.std.specs.List.{AllByRecursion};
-ghost use Rattle.sg_walk.specs.Views.{event_of, steps_of};
+ghost use Rattle.sg_walk.specs.Model.{event_of, steps_of};
 ghost use Rattle.sg_audit.specs.Agree.{AreLogs, NoneClashes};
 ghost use Rattle.sg_audit.specs.Merged.{AscendFrom, IsMerged};
 ghost use Rattle.sg_audit.specs.Sent.{sent_steps};
 ghost use Rattle.sg_audit.specs.Answers.{IsAnswer};
-ghost use Rattle.sg_audit.specs.Held.{logs_of, told_of};
+ghost use Rattle.sg_audit.specs.Model.{logs_of, told_of};
 
 use crate::answer::Audit;
 use crate::merge::{all_ascend, first_clash, merge};

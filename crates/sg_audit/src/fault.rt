@@ -31,7 +31,7 @@ pub enum LogFault {
 
 // What can be wrong with a line.
 #[derive(Debug, Clone, Copy, PartialEq, Eq)]
-pub(crate) enum Kind {
+pub(crate) enum Mistake {
     Form,
     TooManyEvents,
     Unknown,
@@ -41,7 +41,7 @@ pub(crate) enum Kind {
 // Why a line wasn't taken.
 #[derive(Debug, Clone, Copy, PartialEq, Eq)]
 pub(crate) enum Stop {
-    Wrong(Kind),
+    Wrong(Mistake),
     OutOfMemory,
 }
 

@@ -2,8 +2,8 @@
 ghost use Rattle.std.specs.Prelude.{◌≡◌, ◌<◌, ◌↔◌, [], if◌then◌else◌, option_map, Some, None, IfOk, IfSome, MatchOption};
 ghost use Rattle.sg_graph.specs.Parts.{variable_names, edge_names};
 ghost use Rattle.sg_sched.specs.Format.Values.{spelled_value};
-ghost use Rattle.sg_walk.specs.Views.{writes_of};
-ghost use Rattle.sg_base.specs.Values.{value_of};
+ghost use Rattle.sg_walk.specs.Model.{writes_of};
+ghost use Rattle.sg_base.specs.Model.{value_of};
 ghost use Rattle.sg_audit.specs.Said.{numbered, both_given, nothing_given};
 ghost use Rattle.sg_audit.specs.Reading.{assigned, all_assigned, shown_or_hidden, parts};
 ghost use Rattle.sg_audit.specs.Taken.{given_values, given_writes};

@@ -6,7 +6,7 @@ ghost use Rattle.sg_audit.specs.Taken.{Fits, said};
 ghost use Rattle.sg_sched.specs.Format.Reading.{word};
 
 use crate::given::{Given, label_named, read_values, role_named};
-use crate::step::{Step, read_steps};
+use crate::step::{GivenStep, read_steps};
 use sg_base::{Label, Name, OutOfMemory, Role, Seq, Time, Value, read_number};
 use sg_graph::Graph;
 use sg_sched::Words;
@@ -23,7 +23,7 @@ pub(crate) enum Line {
         time: Time,
         values: Given<Value>,
     },
-    Walk(Seq<Step>),
+    Walk(Seq<GivenStep>),
 }
 
 /// What the words of a line say, if they are of a form.

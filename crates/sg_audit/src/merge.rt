@@ -1,9 +1,9 @@
 //! The events of several logs by time.
 ghost use Rattle.std.specs.Prelude.{◌≡◌, ◌++◌, ◌*◌, ◌<◌, ◌/◌, ◌↔◌, ℕ, false, map, flat_map, IfOk, OnOk, IsTrue, MatchOption, IsPermutation};
 ghost use Rattle.std.specs.List.{AllByRecursion};
-ghost use Rattle.sg_walk.specs.Views.{event_of};
+ghost use Rattle.sg_walk.specs.Model.{event_of};
 ghost use Rattle.sg_audit.specs.Merged.{moment, AscendFrom, clashes};
-ghost use Rattle.sg_audit.specs.Held.{log_of};
+ghost use Rattle.sg_audit.specs.Model.{log_of};
 
 use crate::copy::copy_event;
 use sg_base::{OutOfMemory, Role, Seq, Time};

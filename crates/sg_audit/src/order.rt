@@ -8,7 +8,7 @@ ghost use Rattle.sg_audit.specs.SoFar.{is_unknown};
 ghost use Rattle.sg_audit.specs.Taken.{given_values, given_writes, step_said};
 
 use crate::given::Given;
-use crate::step::Step;
+use crate::step::GivenStep;
 use sg_base::{Value, Var};
 
 /// Whether the variables of an event rise.
@@ -32,7 +32,7 @@ fn values_differ(given: &Given<Value>) -> bool
 }
 
 /// Whether the variables of some step are all declared, none is named twice, and they don't rise.
-pub(crate) fn some_fall(steps: &[Step]) -> bool
+pub(crate) fn some_fall(steps: &[GivenStep]) -> bool
     ensures { result ≡ list_any (λ s. falls s.writes) (map step_said steps.now) }
 {
     for step in steps {
@@ -44,7 +44,7 @@ pub(crate) fn some_fall(steps: &[Step]) -> bool
 }
 
 /// Whether the variables of some step don't rise.
-pub(crate) fn some_not_rise(steps: &[Step]) -> bool
+pub(crate) fn some_not_rise(steps: &[GivenStep]) -> bool
     ensures { result ≡ list_any (λ s. not (rise s.writes)) (map step_said steps.now) }
 {
     for step in steps {
@@ -56,7 +56,7 @@ pub(crate) fn some_not_rise(steps: &[Step]) -> bool
 }
 
 /// Whether the label or a variable of some step isn't declared.
-pub(crate) fn some_unknown(steps: &[Step]) -> bool
+pub(crate) fn some_unknown(steps: &[GivenStep]) -> bool
     ensures { result ≡ list_any is_unknown (map step_said steps.now) }
 {
     for step in steps {
@@ -67,7 +67,7 @@ pub(crate) fn some_unknown(steps: &[Step]) -> bool
     false
 }
 
-fn is_unknown(step: &Step) -> bool
+fn is_unknown(step: &GivenStep) -> bool
     ensures { result ≡ is_unknown (step_said step.now) }
 {
     step.label.is_none() || !step.writes.known

@@ -7,9 +7,9 @@ ghost use Rattle.sg_audit.specs.Read.{add_line, read, read_block, read_lines, re
 ghost use Rattle.sg_audit.specs.SoFar.{nothing};
 ghost use Rattle.sg_audit.specs.Taken.{Refuses, Takes, fault_at, logs_held, session_of};
 ghost use Rattle.sg_audit.specs.Agree.{AreLogs};
-ghost use Rattle.sg_audit.specs.Held.{logs_of, told_of};
+ghost use Rattle.sg_audit.specs.Model.{logs_of, told_of};
 
-use crate::fault::{Kind, LogFault, Stop};
+use crate::fault::{LogFault, Mistake, Stop};
 use crate::line::read_line;
 use crate::lines::{Lines, closes, opens};
 use crate::reader::Reader;
@@ -152,7 +152,7 @@ fn take_line(alloc: Global, graph: &Graph, reader: &mut Reader, line: &[u8]) -> 
     }
     match read_line(alloc, graph, &mut Words::new(line_content(line))) {
         Ok(Some(line)) => reader.add(graph, line),
-        Ok(None) => Err(Stop::Wrong(Kind::Form)),
+        Ok(None) => Err(Stop::Wrong(Mistake::Form)),
         Err(_) => Err(Stop::OutOfMemory),
     }
 }
@@ -162,10 +162,10 @@ fn fault_at(line: u32, stop: Stop) -> LogFault
     ensures { result ≡ fault_at line stop }
 {
     match stop {
-        Stop::Wrong(Kind::Form) => LogFault::Form { line },
-        Stop::Wrong(Kind::Unknown) => LogFault::Unknown { line },
-        Stop::Wrong(Kind::Twice) => LogFault::Twice { line },
-        Stop::Wrong(Kind::TooManyEvents) => LogFault::TooManyEvents,
+        Stop::Wrong(Mistake::Form) => LogFault::Form { line },
+        Stop::Wrong(Mistake::Unknown) => LogFault::Unknown { line },
+        Stop::Wrong(Mistake::Twice) => LogFault::Twice { line },
+        Stop::Wrong(Mistake::TooManyEvents) => LogFault::TooManyEvents,
         Stop::OutOfMemory => LogFault::OutOfMemory,
     }
 }

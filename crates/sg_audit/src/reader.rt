@@ -5,17 +5,17 @@ ghost use Rattle.sg_audit.specs.SoFar.{nothing, all_logs, all_sessions, all_have
 ghost use Rattle.sg_audit.specs.Sessions.{event, stored_step};
 ghost use Rattle.sg_audit.specs.Taken.{Fits, Takes, said, session_of, given_values, step_said};
 ghost use Rattle.sg_model.specs.Lists.{is_in, below};
-ghost use Rattle.sg_walk.specs.Views.{event_of, step_of, steps_of};
+ghost use Rattle.sg_walk.specs.Model.{event_of, step_of, steps_of};
 
-use crate::fault::{Kind, Stop};
+use crate::fault::{Mistake, Stop};
 use crate::given::Given;
 use crate::line::Line;
 use crate::order::{some_fall, some_not_rise, some_unknown, values_fall, values_rise};
 use crate::session::SessionLog;
-use crate::step::Step;
+use crate::step::GivenStep;
 use sg_base::{Label, Name, OutOfMemory, Role, RoleSet, Seq, Sid, Time, Value};
 use sg_graph::Graph;
-use sg_sched::NameSet;
+use sg_parse::NameSet;
 use sg_walk::{Event, StoredStep, StoredWalk};
 use std::alloc::Global;
 use std::marker::Model;
@@ -42,9 +42,9 @@ pub(crate) struct Reader {
 impl Model for Reader {
     ghost use Rattle.std.specs.Prelude.{map, option_map};
     ghost use Rattle.sg_audit.specs.SoFar.{SoFar};
-    ghost use Rattle.sg_audit.specs.Held.{log_of};
+    ghost use Rattle.sg_audit.specs.Model.{log_of};
     ghost use Rattle.sg_audit.specs.Taken.{session_of};
-    ghost use Rattle.sg_walk.specs.Views.{event_of, steps_of};
+    ghost use Rattle.sg_walk.specs.Model.{event_of, steps_of};
 
     ghost Value = { SoFar };
 
@@ -124,10 +124,10 @@ impl Reader {
         ensures { Takes (add_session graph.now self.old name) self.new result }
     {
         if !self.is_whole(graph) {
-            return Err(Stop::Wrong(Kind::Form));
+            return Err(Stop::Wrong(Mistake::Form));
         }
         if self.names.has(&name) {
-            return Err(Stop::Wrong(Kind::Twice));
+            return Err(Stop::Wrong(Mistake::Twice));
         }
         if self.close_session().is_err() || self.names.add(name).is_err() {
             return Err(Stop::OutOfMemory);
@@ -169,13 +169,13 @@ impl Reader {
         ensures { Takes (add_log self.old role) self.new result }
     {
         if !self.is_open() {
-            return Err(Stop::Wrong(Kind::Form));
+            return Err(Stop::Wrong(Mistake::Form));
         }
         let Some(role) = role else {
-            return Err(Stop::Wrong(Kind::Unknown));
+            return Err(Stop::Wrong(Mistake::Unknown));
         };
         if self.roles.has(role) {
-            return Err(Stop::Wrong(Kind::Twice));
+            return Err(Stop::Wrong(Mistake::Twice));
         }
         if self.close_log().is_err() {
             return Err(Stop::OutOfMemory);
@@ -196,25 +196,25 @@ impl Reader {
         ensures { Takes (add_event self.old sent label time (given_values values)) self.new result }
     {
         if !self.is_open() {
-            return Err(Stop::Wrong(Kind::Form));
+            return Err(Stop::Wrong(Mistake::Form));
         }
         let Some(role) = self.role else {
-            return Err(Stop::Wrong(Kind::Form));
+            return Err(Stop::Wrong(Mistake::Form));
         };
         if values_fall(&values) {
-            return Err(Stop::Wrong(Kind::Form));
+            return Err(Stop::Wrong(Mistake::Form));
         }
         if self.count >= MOST_EVENTS {
-            return Err(Stop::Wrong(Kind::TooManyEvents));
+            return Err(Stop::Wrong(Mistake::TooManyEvents));
         }
         let Some(label) = label else {
-            return Err(Stop::Wrong(Kind::Unknown));
+            return Err(Stop::Wrong(Mistake::Unknown));
         };
         if !values.known {
-            return Err(Stop::Wrong(Kind::Unknown));
+            return Err(Stop::Wrong(Mistake::Unknown));
         }
         if !values_rise(&values) {
-            return Err(Stop::Wrong(Kind::Twice));
+            return Err(Stop::Wrong(Mistake::Twice));
         }
         if let Err(_) = self.events.push(event(sent, role, label, time, values)) {
             return Err(Stop::OutOfMemory);
@@ -224,20 +224,20 @@ impl Reader {
     }
 
     #[tactic(auto, unfolding(crate::specs::SoFar::add_walk))]
-    fn add_walk(&mut self, graph: &Graph, steps: Seq<Step>) -> Result<(), Stop>
+    fn add_walk(&mut self, graph: &Graph, steps: Seq<GivenStep>) -> Result<(), Stop>
         ensures { Takes (add_walk graph.now self.old (map step_said steps)) self.new result }
     {
         if !self.is_open() || self.all_have_logs(graph) {
-            return Err(Stop::Wrong(Kind::Form));
+            return Err(Stop::Wrong(Mistake::Form));
         }
         if some_fall(steps.as_slice()) {
-            return Err(Stop::Wrong(Kind::Form));
+            return Err(Stop::Wrong(Mistake::Form));
         }
         if some_unknown(steps.as_slice()) {
-            return Err(Stop::Wrong(Kind::Unknown));
+            return Err(Stop::Wrong(Mistake::Unknown));
         }
         if some_not_rise(steps.as_slice()) {
-            return Err(Stop::Wrong(Kind::Twice));
+            return Err(Stop::Wrong(Mistake::Twice));
         }
         match stored_walk(self.alloc, steps) {
             Ok(walk) => self.walk = Some(walk),
@@ -293,7 +293,7 @@ fn event(sent: bool, role: Role, label: Label, time: Time, values: Given<Value>)
 }
 
 // The walk of the steps, whose labels are there.
-fn stored_walk(alloc: Global, steps: Seq<Step>) -> Result<StoredWalk, OutOfMemory>
+fn stored_walk(alloc: Global, steps: Seq<GivenStep>) -> Result<StoredWalk, OutOfMemory>
     ensures { IfOk result (λ w. steps_of w ≡ map stored_step (map step_said steps)) }
 {
     let mut stored = Vec::new(alloc);
@@ -305,7 +305,7 @@ fn stored_walk(alloc: Global, steps: Seq<Step>) -> Result<StoredWalk, OutOfMemor
     })
 }
 
-fn stored_step(step: Step) -> StoredStep
+fn stored_step(step: GivenStep) -> StoredStep
     ensures { step_of result ≡ stored_step (step_said step) }
 {
     StoredStep {

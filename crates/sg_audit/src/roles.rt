@@ -2,7 +2,7 @@
 ghost use Rattle.std.specs.Prelude.{◌≡◌, ◌<◌, ℕ, map};
 ghost use Rattle.std.specs.List.{AllByRecursion};
 ghost use Rattle.sg_model.specs.Lists.{is_in};
-ghost use Rattle.sg_audit.specs.Held.{log_of};
+ghost use Rattle.sg_audit.specs.Model.{log_of};
 ghost use Rattle.sg_audit.specs.Merged.{roles_of};
 
 use sg_base::{Role, RoleSet, Seq};

@@ -1,7 +1,7 @@
 //! The walk that the sends of all roles make.
 ghost use Rattle.std.specs.Prelude.{◌≡◌, map, IfOk};
 ghost use Rattle.sg_protocol.specs.Walk.{shown};
-ghost use Rattle.sg_walk.specs.Views.{event_of, steps_of, values_of, writes_of};
+ghost use Rattle.sg_walk.specs.Model.{event_of, steps_of, values_of, writes_of};
 ghost use Rattle.sg_audit.specs.Sent.{sent_steps};
 
 use sg_base::{OutOfMemory, Seq, Value, Var};

@@ -7,14 +7,19 @@ use sg_walk::{Event, StoredWalk};
 /// role has none, the walk that is told. Identifiers in events are zeros, and no receipt joins.
 #[derive(Debug, Drop)]
 pub struct SessionLog {
+    /// The session's name.
     pub name: Name,
+    /// The roles that have a log, and what each did.
     pub logs: Seq<(Role, Seq<Event>)>,
+    /// The walk that is told, if one is.
     pub walk: Option<StoredWalk>,
 }
 
 /// The logs of a file: the graph, and its sessions in the order of the text.
 #[derive(Debug, Drop)]
 pub struct Logs {
+    /// The graph of all sessions.
     pub graph: Graph,
+    /// The sessions.
     pub sessions: Seq<SessionLog>,
 }

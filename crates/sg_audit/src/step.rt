@@ -12,7 +12,7 @@ use std::alloc::Global;
 
 /// A step: its label, if the graph has it, and what it writes.
 #[derive(Debug, Drop)]
-pub(crate) struct Step {
+pub(crate) struct GivenStep {
     pub label: Option<Label>,
     pub writes: Given<Option<Value>>,
 }
@@ -22,7 +22,7 @@ pub(crate) fn read_steps(
     alloc: Global,
     graph: &Graph,
     words: &mut Words<'_>,
-) -> Result<Option<Seq<Step>>, OutOfMemory>
+) -> Result<Option<Seq<GivenStep>>, OutOfMemory>
     ensures { IfOk result (λ o. option_map (map step_said) o ≡ steps graph.now words.old) }
 {
     let mut all = Seq::new(alloc);
@@ -37,7 +37,7 @@ pub(crate) fn read_steps(
 
 // A step, with or without `*`.
 #[tactic(auto, unfolding(crate::specs::Reading::step))]
-fn read_step(alloc: Global, graph: &Graph, word: &[u8]) -> Result<Option<Step>, OutOfMemory>
+fn read_step(alloc: Global, graph: &Graph, word: &[u8]) -> Result<Option<GivenStep>, OutOfMemory>
     ensures { IfOk result (λ o. option_map step_said o ≡ step graph.now word.now) }
 {
     let word = unstarred(word);
@@ -57,11 +57,11 @@ fn unstarred(word: &[u8]) -> &[u8]
 }
 
 // A label alone.
-fn bare_step(alloc: Global, graph: &Graph, word: &[u8]) -> Option<Step>
+fn bare_step(alloc: Global, graph: &Graph, word: &[u8]) -> Option<GivenStep>
     ensures { option_map step_said result ≡ labelled graph.now word.now None }
 {
     let name = Name::new(word)?;
-    Some(Step {
+    Some(GivenStep {
         label: label_named(graph, &name),
         writes: Given {
             pairs: Seq::new(alloc),
@@ -76,14 +76,14 @@ fn written_step(
     graph: &Graph,
     name: &[u8],
     rest: &[u8],
-) -> Result<Option<Step>, OutOfMemory>
+) -> Result<Option<GivenStep>, OutOfMemory>
     ensures { IfOk result (λ o. option_map step_said o ≡ labelled graph.now name.now (Some (name.now, rest.now))) }
 {
     let Some(name) = Name::new(name) else {
         return Ok(None);
     };
     match read_written(alloc, graph, rest)? {
-        Some(writes) => Ok(Some(Step {
+        Some(writes) => Ok(Some(GivenStep {
             label: label_named(graph, &name),
             writes,
         })),

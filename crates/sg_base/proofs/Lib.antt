@@ -1,6 +1,5 @@
 mod Lookup
 mod Pieces
-pub mod Ranges
 pub mod SameName
 mod Seeded
 pub mod SetLaws

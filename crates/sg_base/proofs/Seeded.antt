@@ -3,7 +3,7 @@ use Rattle.std.proofs.lemmas.List.{map-append}
 use Rattle.rand_core.specs.Steps.{fill_via_u32, word_bytes}
 use Rattle.rand_chacha.specs.ChaCha.{ChaCha, next_word, key_of}
 use Rattle.sg_model.specs.Lists.{below}
-use Rattle.sg_base.proofs.Ranges.{below-suc}
+use Rattle.sg_model.proofs.Numbers.{below-suc}
 use Rattle.sg_base.specs.Seeded.{stream_word, seeded_words}
 
 -- four words from a generator that does not wrap

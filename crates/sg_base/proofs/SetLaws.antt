@@ -9,14 +9,7 @@ use Rattle.std.proofs.lemmas.Bool.{eqb-true, eq-eqb}
 use Rattle.std.specs.Prelude.{◌↔◌}
 use Rattle.sg_base.specs.Sets.{members, mask_of, with_member}
 use Rattle.sg_model.specs.Lists.{range_from, is_in}
-
--- a test of the elements below a bound may be replaced by one that agrees there
-pub filter-range_from : (p q : ℕ → Bool) (i k : ℕ) → ((x : ℕ) → i ≤ x → x < i + k → p x ≡ q x) → filter p (range_from i k) ≡ filter q (range_from i k)
-filter-range_from p q i zero h = refl
-filter-range_from p q i (suc k) h =
-    let here : p i ≡ q i = h i (omega arith) (omega arith) in
-    let rest : filter p (range_from (suc i) k) ≡ filter q (range_from (suc i) k) = filter-range_from p q (suc i) k (λ x a b. h x (omega arith) (omega arith)) in
-    rw (here, rest)
+use Rattle.sg_model.proofs.Numbers.{filter-range_from}
 
 -- an element that is put in front if it counts
 is_in-if : (b : Bool) (i x : ℕ) (xs : List ℕ) → is_in x (if b then i ∷ xs else xs) ≡ ((b && (i == x)) || is_in x xs)
@@ -42,6 +35,19 @@ is_in-filter p i (suc k) x =
     is_in-if (p i) i x (filter p (range_from (suc i) k))
     ∙ ap (λ r. (p i && (i == x)) || r) (is_in-filter p (suc i) k x)
     ∙ range_step i k x (p i) (p x) (ap p)
+
+-- a number is in a set with one more exactly if it is the one more or was in the set
+pub is_in-with_member : (width x y : ℕ) (xs : List ℕ) → x < width → is_in x (with_member width xs y) ≡ ((x == y) || is_in x xs)
+unfolding with_member
+is_in-with_member width x y xs h =
+    let low : nat_le 0 x ≡ true = grind (arith, nat_tests) in
+    let high : nat_lt x (0 + width) ≡ true = grind (arith, nat_tests) in
+    is_in-filter (λ z. (z == y) || is_in z xs) 0 width x ∙ rw (low, high) refl
+
+-- a role is in a set with one more exactly if it is a role, and the one more or in the set
+pub is_in-with_role : (x r : ℕ) (set : List ℕ) → is_in r (with_member 16 set x) ≡ (nat_lt r 16 && ((r == x) || is_in r set))
+unfolding with_member
+is_in-with_role x r set = is_in-filter (λ y. (y == x) || is_in y set) 0 16 r ∙ grind (arith, nat_tests)
 
 -- no bit is set in 0
 pub members-zero : (width : ℕ) → members width 0 ≡ []

@@ -7,5 +7,5 @@ pub mod Reading
 pub mod Seeded
 pub mod Sets
 pub mod SetsBack
-pub mod Values
+pub mod Model
 pub mod Words

@@ -3,20 +3,20 @@ use Rattle.std.specs.Prelude.{◌≡◌, ℕ, ◌+◌, ◌≤◌, ◌↔◌, Lis
 use Rattle.sg_base.specs.declared.byte_in.Short.{Short}
 
 -- bytes, and a place in them
-pub record Place : Type 0 where
+pub record Cursor : Type 0 where
   pub bytes : List ℕ
   pub at : ℕ
 
 -- the n bytes at the place
-abbrev pub field : Place → ℕ → List ℕ
+abbrev pub field : Cursor → ℕ → List ℕ
 field p n = take n (drop p.at p.bytes)
 
 -- the place behind the next n bytes
-abbrev pub past : Place → ℕ → Place
+abbrev pub past : Cursor → ℕ → Cursor
 past p n = record { bytes = p.bytes; at = p.at + n }
 
 -- n bytes are there and the place moves past them, or it stays and is answered
-pub record Moves {A : Type 0} (n : ℕ) (old new : Place) (result : Result A Short) : Type 0 where
+pub record Moves {A : Type 0} (n : ℕ) (old new : Cursor) (result : Result A Short) : Type 0 where
   pub found : IsOk result ↔ (old.at + n ≤ length old.bytes)
   pub moved : OnOk result (new ≡ past old n)
   pub stays : OnErr result (new ≡ old)

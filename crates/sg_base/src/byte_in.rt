@@ -10,6 +10,7 @@ use thiserror::Error;
 #[derive(Debug, Clone, Copy, PartialEq, Eq, Error)]
 #[error("a field at {at} is cut short")]
 pub struct Short {
+    /// Where the field begins.
     pub at: usize,
 }
 
@@ -23,9 +24,9 @@ pub struct ByteIn<'a> {
 
 impl<'a> Model for ByteIn<'a> {
     ghost use Rattle.std.specs.Prelude.{◌≤◌, length};
-    ghost use Rattle.sg_base.specs.Reading.{Place};
+    ghost use Rattle.sg_base.specs.Reading.{Cursor};
 
-    ghost Value = { Place };
+    ghost Value = { Cursor };
 
     ghost view = { λ r. record { bytes = r.bytes.now; at = r.at } };
 

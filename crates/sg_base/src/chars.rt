@@ -1,6 +1,7 @@
 //! Texts of bounded length.
 ghost use Rattle.std.specs.Prelude.{◌≡◌, ◌<◌, ◌↔◌, ◌≤◌, length, Err, IfOk, IfErr, IsTrue, OnOk};
 ghost use Rattle.std.specs.Str.{IsUtf8};
+ghost use Rattle.sg_model.specs.Limits.{most_text_bytes};
 
 use crate::OutOfMemory;
 use std::alloc::Global;
@@ -44,10 +45,10 @@ impl Chars {
     /// The text of these bytes.
     pub fn new(alloc: Global, bytes: &[u8]) -> Result<Chars, CharsFault>
         ensures value { IfOk result (λ c. c ≡ bytes.now) }
-        ensures text { OnOk result (IsUtf8 bytes.now × (length bytes.now ≤ 1024)) }
-        ensures too_long { 1024 < length bytes.now → result ≡ Err (CharsFault.TooLong (length bytes.now)) }
-        ensures not_text { length bytes.now ≤ 1024 → ¬ IsUtf8 bytes.now → result ≡ Err CharsFault.NotText }
-        ensures memory { IsUtf8 bytes.now → length bytes.now ≤ 1024 → IfErr result (λ e. e ≡ CharsFault.OutOfMemory) }
+        ensures text { OnOk result (IsUtf8 bytes.now × (length bytes.now ≤ most_text_bytes)) }
+        ensures too_long { most_text_bytes < length bytes.now → result ≡ Err (CharsFault.TooLong (length bytes.now)) }
+        ensures not_text { length bytes.now ≤ most_text_bytes → ¬ IsUtf8 bytes.now → result ≡ Err CharsFault.NotText }
+        ensures memory { IsUtf8 bytes.now → length bytes.now ≤ most_text_bytes → IfErr result (λ e. e ≡ CharsFault.OutOfMemory) }
     {
         if bytes.len() > 1024 {
             return Err(CharsFault::TooLong { bytes: bytes.len() });
@@ -64,7 +65,7 @@ impl Chars {
     /// The bytes. It takes no memory.
     pub fn as_bytes(&self) -> &[u8]
         ensures bytes { result.now ≡ self.now }
-        ensures text { IsUtf8 self.now × (length self.now ≤ 1024) }
+        ensures text { IsUtf8 self.now × (length self.now ≤ most_text_bytes) }
     {
         self.bytes.as_slice()
     }

@@ -13,6 +13,7 @@ mod sealed;
 mod seq;
 mod sets;
 mod system;
+mod told;
 mod value;
 mod word;
 
@@ -20,7 +21,7 @@ pub use address::Addr;
 pub use byte_in::{ByteIn, Short};
 pub use byte_out::ByteOut;
 pub use chars::{Chars, CharsFault};
-pub use memory::{MemFiles, MemFresh, MemLink, MemSink};
+pub use memory::{FaultPlan, MemFiles, MemFresh, MemLink, MemSink};
 pub use name::Name;
 pub use number::{Label, NodeId, Role, Sid, Tag, Time, Var};
 pub use outside::{Failed, FileFault, Files, Fresh, Link, LinkFault, Sink, write_all};
@@ -28,6 +29,7 @@ pub use sealed::Sealed;
 pub use seq::Seq;
 pub use sets::{RoleSet, VarSet};
 pub use system::{StdFiles, StdSink};
+pub use told::tell_bytes;
 pub use value::{Opening, Value, VarType};
 pub use word::{read_hex, read_number};
 

@@ -8,6 +8,7 @@ mod sink;
 pub use files::MemFiles;
 pub use fresh::MemFresh;
 pub use link::MemLink;
+pub use plan::FaultPlan;
 pub use sink::MemSink;
 
 #[cfg(test)]

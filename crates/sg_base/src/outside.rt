@@ -19,6 +19,7 @@ pub enum FileFault {
     /// The file has more bytes than were asked for.
     #[error("the file is too long")]
     TooLong,
+    /// Memory was wanted, and none was to be had.
     #[error("out of memory")]
     OutOfMemory,
 }
@@ -77,6 +78,7 @@ pub enum LinkFault {
     /// The system failed.
     #[error("the link failed")]
     Failed,
+    /// Memory was wanted, and none was to be had.
     #[error("out of memory")]
     OutOfMemory,
 }

@@ -1,5 +1,6 @@
 //! A made frame, which must be spent.
 ghost use Rattle.std.specs.Prelude.{◌≡◌, ◌<◌, ◌≤◌, length};
+ghost use Rattle.sg_model.specs.Limits.{most_frame_bytes};
 
 use crate::Name;
 use std::marker::Model;
@@ -14,19 +15,20 @@ pub struct Sealed {
 
 impl Model for Sealed {
     ghost use Rattle.std.specs.Prelude.{◌≤◌, ◌<◌, ℕ, List, length};
+    ghost use Rattle.sg_model.specs.Limits.{most_frame_bytes};
 
     ghost Value = { List ℕ × List ℕ };
 
     ghost view = { λ s. (s.to, s.bytes.items) };
 
-    ghost invariant = { λ s. (0 < length s.bytes.items) × (length s.bytes.items ≤ 60000) };
+    ghost invariant = { λ s. (0 < length s.bytes.items) × (length s.bytes.items ≤ most_frame_bytes) };
 }
 
 impl Sealed {
     /// The frame of these bytes. It takes no memory.
     pub fn seal(to: Name, bytes: Vec<u8>) -> Sealed
         requires some { 0 < length bytes.items }
-        requires fits { length bytes.items ≤ 60000 }
+        requires fits { length bytes.items ≤ most_frame_bytes }
         ensures { result ≡ (to, bytes.items) }
     {
         Sealed { to, bytes }
@@ -43,7 +45,7 @@ impl Sealed {
     pub fn bytes(&self) -> &[u8]
         ensures bytes { result.now ≡ self.now.1 }
         ensures some { 0 < length self.now.1 }
-        ensures fits { length self.now.1 ≤ 60000 }
+        ensures fits { length self.now.1 ≤ most_frame_bytes }
     {
         self.bytes.as_slice()
     }
@@ -53,7 +55,7 @@ impl Sealed {
         ensures to { result.0 ≡ self.0 }
         ensures bytes { result.1.items ≡ self.1 }
         ensures some { 0 < length self.1 }
-        ensures fits { length self.1 ≤ 60000 }
+        ensures fits { length self.1 ≤ most_frame_bytes }
     {
         let Sealed { to, bytes } = self;
         (to, bytes)

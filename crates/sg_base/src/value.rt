@@ -17,12 +17,14 @@ pub enum VarType {
 /// A value of a variable.
 #[derive(Debug, Drop)]
 pub enum Value {
+    /// A number.
     Int(i64),
+    /// A text.
     Text(Chars),
 }
 
 impl Value {
-    ghost use Rattle.sg_base.specs.Values.{kind_of};
+    ghost use Rattle.sg_base.specs.Model.{kind_of};
 
     /// The type of the value.
     pub fn kind(&self) -> VarType
@@ -59,14 +61,17 @@ impl Value {
 /// What opens a commitment: the variable, the sixteen bytes that hide the value, and the value.
 #[derive(Debug, Drop)]
 pub struct Opening {
+    /// The variable.
     pub var: Var,
+    /// The bytes that hide the value.
     pub confounder: [u8; 16],
+    /// The value.
     pub value: Value,
 }
 
 impl Model for Opening {
     ghost use Rattle.sg_model.specs.Values.{Opening};
-    ghost use Rattle.sg_base.specs.Values.{value_of};
+    ghost use Rattle.sg_base.specs.Model.{value_of};
 
     ghost Value = { Opening };
 

@@ -37,7 +37,7 @@ insert_new xs a absent = by (list_any (same a) xs) refl
     by true e = absurd (absent (Contains-list_any same (λ x y. (same-Decides x y).0) xs a e))
     by false e = ap (λ b. if b then xs else xs ++ a ∷ []) e
 
-same-parts : (sid : List ℕ) (r : ℕ) (j : Join) → (bytes_eq j.0 sid && (j.1 == r)) ≡ same (sid, r) j
+pub same-parts : (sid : List ℕ) (r : ℕ) (j : Join) → (bytes_eq j.0 sid && (j.1 == r)) ≡ same (sid, r) j
 same-parts sid r j = same_from_decides _ _ (Decides-like _ (λ h i. (sym h.0 i, sym h.1 i)) (λ e. (ap (λ (k : Join). k.0) (sym e), ap (λ (k : Join). k.1) (sym e))) (Decides-and _ _ (bytes_eq-Decides j.0 sid) (Decides-eqb j.1 r))) (same-Decides (sid, r) j)
 
 any-parts : (xs : List Join) (sid : List ℕ) (r : ℕ) → list_any (λ (j : Join). bytes_eq j.0 sid && (j.1 == r)) xs ≡ list_any (same (sid, r)) xs

@@ -1,6 +1,7 @@
 //! The pairs of session and role that were joined.
 ghost use Rattle.std.specs.Prelude.{◌≡◌, ◌≢◌, ◌<◌, ◌≤◌, ◌↔◌, ◌⊎◌, ◌++◌, [], ◌∷◌, length, AllPairs, Contains, IfOk, IsOk, IsTrue, OnErr, OnOk};
 ghost use Rattle.indexmap.specs.IndexSet.{spare};
+ghost use Rattle.sg_model.specs.Limits.{most_joins};
 
 use crate::Ticket;
 use indexmap::IndexSet;
@@ -23,12 +24,13 @@ impl Model for Cache {
     ghost use Rattle.std.specs.Prelude.{◌≤◌, length};
     ghost use Rattle.indexmap.specs.IndexSet.{spare};
     ghost use Rattle.sg_cache.specs.Joins.{Joins};
+    ghost use Rattle.sg_model.specs.Limits.{most_joins};
 
     ghost Value = { Joins };
 
     ghost view = { λ c. record { pairs = c.joins.keys; spare = spare c.joins } };
 
-    ghost invariant = { λ c. length c.joins.keys ≤ 65536 };
+    ghost invariant = { λ c. length c.joins.keys ≤ most_joins };
 }
 
 /// Why a pair can't be claimed, the first cause that holds.
@@ -57,7 +59,7 @@ impl Cache {
 
     /// Makes room for one more pair.
     pub fn reserve(&mut self) -> Result<(), OutOfMemory>
-        requires { length self.old.pairs < 65536 }
+        requires { length self.old.pairs < most_joins }
         ensures room { OnOk result (0 < self.new.spare) }
         ensures same { self.new.pairs ≡ self.old.pairs }
     {
@@ -68,7 +70,7 @@ impl Cache {
     /// as before, and so is the room but where memory was wanted.
     pub fn claim(&mut self, sid: Sid, role: Role) -> Result<Ticket, ClaimFault>
         ensures joined { (result ≡ Err ClaimFault.Joined) ↔ Contains self.old.pairs (sid, role) }
-        ensures full { (result ≡ Err ClaimFault.CacheFull) ↔ ((¬ Contains self.old.pairs (sid, role)) × (length self.old.pairs ≡ 65536)) }
+        ensures full { (result ≡ Err ClaimFault.CacheFull) ↔ ((¬ Contains self.old.pairs (sid, role)) × (length self.old.pairs ≡ most_joins)) }
         ensures memory { 0 < self.old.spare → result ≢ Err ClaimFault.OutOfMemory }
         ensures ticket { IfOk result (λ t. t ≡ (sid, role)) }
         ensures added { OnOk result (self.new.pairs ≡ self.old.pairs ++ (sid, role) ∷ []) }
@@ -97,7 +99,7 @@ impl Cache {
     /// The number of pairs, at most 65,536. It takes no memory.
     pub fn len(&self) -> u32
         ensures count { result ≡ length self.now.pairs }
-        ensures most { result ≤ 65536 }
+        ensures most { result ≤ most_joins }
         ensures different { AllPairs (λ a b. a ≢ b) self.now.pairs }
     {
         self.joins.len() as u32

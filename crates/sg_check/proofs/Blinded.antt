@@ -3,9 +3,10 @@ use Rattle.std.proofs.Common.{◌≡◌, ◌≢◌, ℕ, ◌<◌, ◌≤◌, ◌
 use Rattle.std.specs.Prelude.{⊤}
 use Rattle.sg_model.specs.Shape.{Shape, Walk, end_of, Blinding, Sighted, role_at}
 use Rattle.sg_model.proofs.Walks.{blinding_turned, leads_on}
+use Rattle.sg_model.proofs.Small.{same_or_not}
 use Rattle.sg_protocol.specs.Graph.{Graph, IsGraph, shape}
 use Rattle.sg_reach.specs.Reaches.{IsWithin, LeadsPast}
-use Rattle.sg_reach.proofs.Cases.{less_or, same_or_not}
+use Rattle.sg_reach.proofs.Cases.{less_or}
 use Rattle.sg_reach.proofs.Pair.{pair, leads_first, leads_second, first_leads, second_leads}
 use Rattle.sg_reach.proofs.There.{ends_there, end_there, role_there}
 use Rattle.sg_check.specs.Blind.{PairAtNode, IsBefore, IsBlind, IsClear, IsLeastBlinding, IsFaultAmong, AtNode, AtPair, AtPlace}

@@ -17,12 +17,18 @@ pub enum BlindFault {
     /// and one to a node of the second, neither past another node of the two.
     #[error("a node blinds two roles")]
     Blinding {
+        /// The node.
         node: NodeId,
+        /// The first role.
         a: Role,
+        /// The second role.
         b: Role,
+        /// A walk to a node of the first role.
         walk_a: Seq<Label>,
+        /// A walk to a node of the second role.
         walk_b: Seq<Label>,
     },
+    /// Memory was wanted, and none was to be had.
     #[error("out of memory")]
     OutOfMemory,
 }

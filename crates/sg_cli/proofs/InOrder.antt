@@ -4,6 +4,7 @@ use Rattle.std.specs.Prelude.{OnOk, nat_lt}
 use Rattle.std.proofs.lemmas.Bool.{cases_Bool, ltb-true, ltb-false}
 use Rattle.std.proofs.lemmas.List.{drop_more, map_more, map-append, take-append-drop, take_all}
 use Rattle.std.proofs.lemmas.Result.{on_ok_weaker}
+use Rattle.sg_model.specs.Limits.{most_program_file, most_script_file}
 use Rattle.sg_base.specs.Outside.{HasRisen}
 use Rattle.sg_keys.specs.KeyFile.{SpellsKeys}
 use Rattle.sg_protocol.specs.Keyring.{Keyring, Program}
@@ -75,18 +76,18 @@ pub refuses : (told : Told) (f0 f1 : ℕ) (most : ℕ) (file bytes read : List �
 refuses told f0 f1 most file bytes read R e same has few r = inr (bytes, has, few, subst (λ b. R b e) same r)
 
 -- the program of a file is added, where its bytes were
-pub adds_held : {E : Type 0} (r : Result (Unit {0}) E) (told : Told) (file bytes read : List ℕ) (before after : List Program) → read ≡ bytes → Has told file (Some bytes) → length bytes ≤ 8388608
-    → OnOk r (Adds (λ p. IsTextOf p read) before after) → OnOk r (Adds (λ p. Holds told 8388608 file (IsTextOf p)) before after)
+pub adds_held : {E : Type 0} (r : Result (Unit {0}) E) (told : Told) (file bytes read : List ℕ) (before after : List Program) → read ≡ bytes → Has told file (Some bytes) → length bytes ≤ most_program_file
+    → OnOk r (Adds (λ p. IsTextOf p read) before after) → OnOk r (Adds (λ p. Holds told most_program_file file (IsTextOf p)) before after)
 adds_held r told file bytes read before after same has few h =
-    on_ok_weaker r (adds_weaker (λ p. IsTextOf p read) (λ p. Holds told 8388608 file (IsTextOf p)) before after (λ p t. holds told 8388608 file bytes read (IsTextOf p) same has few t)) h
+    on_ok_weaker r (adds_weaker (λ p. IsTextOf p read) (λ p. Holds told most_program_file file (IsTextOf p)) before after (λ p t. holds told most_program_file file bytes read (IsTextOf p) same has few t)) h
 
 -- one more program
 pub one_more : {X : Type 0} (f : X → List ℕ) (told told' : Told) (names : List X) (i : ℕ) (d : X) (before after : List Program) → i < length names
-    → told' ≡ told → HoldPrograms told (map f (take i names)) before → Adds (λ p. Holds told' 8388608 (f (get_or names i d)) (IsTextOf p)) before after → HoldPrograms told (map f (take (i + 1) names)) after
+    → told' ≡ told → HoldPrograms told (map f (take i names)) before → Adds (λ p. Holds told' most_program_file (f (get_or names i d)) (IsTextOf p)) before after → HoldPrograms told (map f (take (i + 1) names)) after
 one_more f told told' names i d before after l same held added =
     subst (λ files. HoldPrograms told files after) (sym (map_more f names i d l))
     (subst (HoldPrograms told (map f (take i names) ++ f (get_or names i d) ∷ [])) (sym added.is)
-    (OneMore held (subst (λ t. Holds t 8388608 (f (get_or names i d)) (IsTextOf added.program)) same added.such) added.alone))
+    (OneMore held (subst (λ t. Holds t most_program_file (f (get_or names i d)) (IsTextOf added.program)) same added.such) added.alone))
 
 -- all of them
 pub all_held : {X : Type 0} (f : X → List ℕ) (told : Told) (names : List X) (i : ℕ) (programs : List Program) → length names ≤ i → HoldPrograms told (map f (take i names)) programs → HoldPrograms told (map f names) programs
@@ -94,7 +95,7 @@ all_held f told names i programs l held = subst (λ ns. HoldPrograms told (map f
 
 -- it ends at a program
 pub stops : {X : Type 0} (f : X → List ℕ) (told told' : Told) (f0 f1 f2 : ℕ) (names : List X) (i : ℕ) (d : X) (programs : List Program) (e : Ending) → i < length names
-    → told' ≡ told → f0 ≤ f1 → f1 ≤ f2 → HoldPrograms told (map f (take i names)) programs → EndsAt told' f1 f2 8388608 (f (get_or names i d)) (RefusesProgram programs) e → StopsAtProgram told f0 f2 (map f names) e
+    → told' ≡ told → f0 ≤ f1 → f1 ≤ f2 → HoldPrograms told (map f (take i names)) programs → EndsAt told' f1 f2 most_program_file (f (get_or names i d)) (RefusesProgram programs) e → StopsAtProgram told f0 f2 (map f names) e
 stops f told told' f0 f1 f2 names i d programs e l same a b held h = record {
   before = map f (take i names);
   file = f (get_or names i d);
@@ -102,7 +103,7 @@ stops f told told' f0 f1 f2 names i d programs e l same a b held h = record {
   programs = programs;
   are = parts f names i d l;
   held = held;
-  ends = ends_later 8388608 (f (get_or names i d)) (RefusesProgram programs) told told' f0 f1 f2 e same a b h;
+  ends = ends_later most_program_file (f (get_or names i d)) (RefusesProgram programs) told told' f0 f1 f2 e same a b h;
 }
 
 -- it ends at a program of these files after others
@@ -114,12 +115,12 @@ stops_later told told' f0 f1 f2 files e same a b h = record {
   programs = h.programs;
   are = h.are;
   held = subst (λ t. HoldPrograms t h.before h.programs) same h.held;
-  ends = ends_later 8388608 h.file (RefusesProgram h.programs) told told' f0 f1 f2 e same a b h.ends;
+  ends = ends_later most_program_file h.file (RefusesProgram h.programs) told told' f0 f1 f2 e same a b h.ends;
 }
 
 -- ---- a setup: the keys are read first, then the programs, then the script
 
-module _ (named : Named) (keys : Keyring) (told told1 : Told) (same1 : told1 ≡ told) (held : Holds told 1048576 named.keys (λ bytes. SpellsKeys bytes keys)) where
+module _ (named : Named) (keys : Keyring) (told told1 : Told) (same1 : told1 ≡ told) (held : Holds told most_script_file named.keys (λ bytes. SpellsKeys bytes keys)) where
   -- it ends at a program
   pub lacks_program : (f0 f1 f2 : ℕ) (e : Ending) → f0 ≤ f1 → f1 ≤ f2 → StopsAtProgram told1 f1 f2 named.programs e → LacksSetup told f0 f2 named e
   lacks_program f0 f1 f2 e a b h = AtProgram held (stops_later told told1 f0 f1 f2 named.programs e same1 a b h)
@@ -129,14 +130,14 @@ module _ (named : Named) (keys : Keyring) (told told1 : Told) (same1 : told1 ≡
     all_here = subst (λ t. HoldPrograms t named.programs programs) same1 all
 
     -- it ends at the script
-    pub lacks_script : (f0 f2 f3 : ℕ) (e : Ending) → f0 ≤ f2 → f2 ≤ f3 → EndsAt told2 f2 f3 1048576 named.script (RefusesScript programs) e → LacksSetup told f0 f3 named e
+    pub lacks_script : (f0 f2 f3 : ℕ) (e : Ending) → f0 ≤ f2 → f2 ≤ f3 → EndsAt told2 f2 f3 most_script_file named.script (RefusesScript programs) e → LacksSetup told f0 f3 named e
     lacks_script f0 f2 f3 e a b h =
-        AtScript held all_here (ends_later 1048576 named.script (RefusesScript programs) told told2 f0 f2 f3 e (same2 ∙ same1) a b h)
+        AtScript held all_here (ends_later most_script_file named.script (RefusesScript programs) told told2 f0 f2 f3 e (same2 ∙ same1) a b h)
 
     -- it is there
-    pub has_setup : (script : Script) → Holds told2 1048576 named.script (λ bytes. SpellsScript programs bytes script) → HasSetup told named (record { keys = keys; programs = programs; script = script })
+    pub has_setup : (script : Script) → Holds told2 most_script_file named.script (λ bytes. SpellsScript programs bytes script) → HasSetup told named (record { keys = keys; programs = programs; script = script })
     has_setup script h = record {
       keys = held;
       programs = all_here;
-      script = subst (λ t. Holds t 1048576 named.script (λ bytes. SpellsScript programs bytes script)) (same2 ∙ same1) h;
+      script = subst (λ t. Holds t most_script_file named.script (λ bytes. SpellsScript programs bytes script)) (same2 ∙ same1) h;
     }

@@ -3,7 +3,7 @@ use Rattle.std.proofs.Common.{◌≡◌, ℕ, zero, suc, ◌<◌, ◌≤◌, ◌
 use Rattle.std.specs.Prelude.{Option, Some, None, All, Contains, bytes_eq, position, slice_get, filter_map, nat_lt, option_map, option_and_then, is_some, unwrap_or}
 use Rattle.std.specs.List.{AllByRecursion, list_all, cons_option}
 use Rattle.std.specs.Option.{option_map_or}
-use Rattle.std.proofs.lemmas.Bool.{and_parts, cases_Bool, eqb-true}
+use Rattle.std.proofs.lemmas.Bool.{and_parts, cases_Bool, eqb-true, or_parts}
 use Rattle.std.proofs.lemmas.List.{length-map}
 use Rattle.std.proofs.lemmas.List.Elements.{All-from_recursion}
 use Rattle.std.proofs.lemmas.List.Quantifiers.{position-Some}
@@ -27,7 +27,7 @@ use Rattle.sg_sched.specs.Format.Spells.{Line, Add, Skip, Say, Show, Declare, No
 use Rattle.sg_read.specs.Plus.{plus}
 use Rattle.sg_read.proofs.Growing.{one_more}
 use Rattle.sg_read.proofs.Places.{some_place}
-use Rattle.sg_read.proofs.RightLines.{IsRight, right, neither, in_group}
+use Rattle.sg_read.proofs.RightLines.{IsRight, right, in_group}
 use Rattle.sg_world.specs.Account.{CanBeNamed}
 
 -- ---- what is known of a step
@@ -135,12 +135,12 @@ module _ (p : SoFar) (a : AllFit p) where
 
   said_more : (said : Said) (i : Item) → IsRight p said → made_after p said ≡ Some i → AllFit (plus p i)
   said_more SaidBlock i r m = absurd (cc)
-  said_more (SaidEdge label from to) i r m = early_more (EdgeItem (edge label from to)) i 0 (omega arith) (in_group p 0 (neither (nat_lt 0 p.group) _ r.form).0) refl (cc)
+  said_more (SaidEdge label from to) i r m = early_more (EdgeItem (edge label from to)) i 0 (omega arith) (in_group p 0 (or_parts (nat_lt 0 p.group) _ r.form).0) refl (cc)
   said_more (SaidHonest who) i r m = early_more (HonestItem who) i 1 (omega arith) (in_group p 1 r.form) refl (cc)
   said_more (SaidKey one two digits) i r m = let k : PairKey = record { one = one; two = two; key = bytes_of digits } in early_more (KeyItem k) i 2 (omega arith) (in_group p 2 r.form) refl (cc)
   said_more (SaidSession name graph nonce names version) i r m =
       let s : Session = record { name = name; graph = place graph (graph_names (graphs_of_past p)); nonce = nonce; names = names; version = version } in
-      early_more (SessionItem s) i 3 (omega arith) (in_group p 3 (neither (nat_lt 3 p.group) _ r.form).0) refl (cc)
+      early_more (SessionItem s) i 3 (omega arith) (in_group p 3 (or_parts (nat_lt 3 p.group) _ r.form).0) refl (cc)
   said_more (SaidStart who session) i r m = step_more (StartStep who (place session (session_names p))) i (record { of = r.honest; names = tt }) (cc)
   said_more (SaidAct who session label vs) i r m =
       let k = known_act session label vs (graph_for session p) r.known in

@@ -5,7 +5,7 @@ use Rattle.sg_model.specs.Lists.{is_in}
 use Rattle.sg_model.specs.Names.{Name}
 use Rattle.sg_protocol.specs.Graph.{Graph}
 use Rattle.sg_protocol.specs.Walk.{StoredStep}
-use Rattle.sg_walk.specs.Views.{steps_of}
+use Rattle.sg_walk.specs.Model.{steps_of}
 use Rattle.sg_audit.specs.Merged.{roles_of}
 use Rattle.sg_audit.specs.Sessions.{Session}
 use Rattle.sg_audit.specs.Answers.{IsAnswer}

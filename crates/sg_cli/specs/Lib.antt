@@ -8,4 +8,4 @@ pub mod Ends
 pub mod Setup
 pub mod Runs
 pub mod Top
-pub mod Held
+pub mod Model

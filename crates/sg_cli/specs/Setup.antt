@@ -1,6 +1,7 @@
 -- What a run is given: the files that its words name, and the keys, the programs and the script that they hold.
 use Rattle.std.specs.Prelude.{◌≡◌, ◌≢◌, ℕ, ◌+◌, ◌≤◌, ◌⊎◌, true, false, List, [], ◌∷◌, ◌++◌, length, Some, Err, ⊤}
 use Rattle.std.specs.List.{list_any}
+use Rattle.sg_model.specs.Limits.{most_program_file, most_script_file}
 use Rattle.sg_protocol.specs.Keyring.{Keyring, Program}
 use Rattle.sg_keys.specs.KeyFile.{SpellsKeys, key_file}
 use Rattle.sg_keys.specs.declared.key_file.KeyFault.TheVariants.{OutOfMemory as NoMemoryForKeys}
@@ -50,13 +51,13 @@ pub record Adds (Such : Program → Type 0) (before after : List Program) : Type
 pub data HoldPrograms (told : Told) : (files : List (List ℕ)) → List Program → Type 0 where
   NoPrograms : HoldPrograms told [] []
   OneMore : {files : List (List ℕ)} {programs : List Program} {file : List ℕ} {p : Program} → HoldPrograms told files programs
-      → Holds told 8388608 file (IsTextOf p) → list_any (clashes p) programs ≡ false → HoldPrograms told (files ++ file ∷ []) (programs ++ p ∷ [])
+      → Holds told most_program_file file (IsTextOf p) → list_any (clashes p) programs ≡ false → HoldPrograms told (files ++ file ∷ []) (programs ++ p ∷ [])
 
 -- the files hold the setup
 pub record HasSetup (told : Told) (named : Named) (s : Setup) : Type 0 where
-  pub keys : Holds told 1048576 named.keys (λ bytes. SpellsKeys bytes s.keys)
+  pub keys : Holds told most_script_file named.keys (λ bytes. SpellsKeys bytes s.keys)
   pub programs : HoldPrograms told named.programs s.programs
-  pub script : Holds told 1048576 named.script (λ bytes. SpellsScript s.programs bytes s.script)
+  pub script : Holds told most_script_file named.script (λ bytes. SpellsScript s.programs bytes s.script)
 
 -- ---- what is refused
 
@@ -97,12 +98,12 @@ pub record StopsAtProgram (told : Told) (faults faults' : ℕ) (files : List (Li
   pub programs : List Program
   pub are : files ≡ before ++ file ∷ behind
   pub held : HoldPrograms told before programs
-  pub ends : EndsAt told faults faults' 8388608 file (RefusesProgram programs) ending
+  pub ends : EndsAt told faults faults' most_program_file file (RefusesProgram programs) ending
 
 -- there is no setup, by the first cause: the keys are looked at first, then the programs in order, then the script
 pub data LacksSetup (told : Told) (faults faults' : ℕ) (named : Named) (ending : Ending) : Type 0 where
-  AtKeys : EndsAt told faults faults' 1048576 named.keys RefusesKeys ending → LacksSetup told faults faults' named ending
-  AtProgram : {keys : Keyring} → Holds told 1048576 named.keys (λ bytes. SpellsKeys bytes keys) → StopsAtProgram told faults faults' named.programs ending
+  AtKeys : EndsAt told faults faults' most_script_file named.keys RefusesKeys ending → LacksSetup told faults faults' named ending
+  AtProgram : {keys : Keyring} → Holds told most_script_file named.keys (λ bytes. SpellsKeys bytes keys) → StopsAtProgram told faults faults' named.programs ending
       → LacksSetup told faults faults' named ending
-  AtScript : {keys : Keyring} {programs : List Program} → Holds told 1048576 named.keys (λ bytes. SpellsKeys bytes keys) → HoldPrograms told named.programs programs
-      → EndsAt told faults faults' 1048576 named.script (RefusesScript programs) ending → LacksSetup told faults faults' named ending
+  AtScript : {keys : Keyring} {programs : List Program} → Holds told most_script_file named.keys (λ bytes. SpellsKeys bytes keys) → HoldPrograms told named.programs programs
+      → EndsAt told faults faults' most_script_file named.script (RefusesScript programs) ending → LacksSetup told faults faults' named ending

@@ -1,6 +1,7 @@
 -- What the program leaves, and how it says why it ends.
 use Rattle.std.specs.Prelude.{◌≡◌, ◌≢◌, ℕ, ◌⊎◌, List, [], Option, Some, None, ⊤}
 use Rattle.sg_base.specs.Outside.{HasRisen, Appends, AppendsFront}
+use Rattle.sg_model.specs.Limits.{most_graph_file, most_logs_file, most_schedule_file}
 use Rattle.sg_words.specs.Command.{Command, Check, Compile, Run, Replay, Audit, Compose, command_of}
 use Rattle.sg_cli.specs.Ending.{Ending, NoCommand, NoMemory, status_of, line_of}
 use Rattle.sg_cli.specs.Ends.{Told, Output, OnFile, Checks, Compiles, Replays, Audits, Composes}
@@ -14,12 +15,12 @@ IsRun other = ⊥
 -- the work that a command asks for ends so
 abbrev pub Works : Option Command → Told → (faults faults' : ℕ) → (old new : Outside) → Ending → Type 0
 Works None told faults faults' old new ending = IsUntouched old new × (ending ≡ NoCommand)
-Works (Some (Check file)) told faults faults' old new ending = OnFile Checks 4194304 file told faults faults' old.out new.out ending
-Works (Some (Compile file role)) told faults faults' old new ending = OnFile (Compiles role) 4194304 file told faults faults' old.out new.out ending
+Works (Some (Check file)) told faults faults' old new ending = OnFile Checks most_graph_file file told faults faults' old.out new.out ending
+Works (Some (Compile file role)) told faults faults' old new ending = OnFile (Compiles role) most_graph_file file told faults faults' old.out new.out ending
 Works (Some (Run keys script most programs)) told faults faults' old new ending = Runs (record { keys = keys; programs = programs; script = script }) most told faults faults' old new ending
-Works (Some (Replay file)) told faults faults' old new ending = OnFile Replays 16777216 file told faults faults' old.out new.out ending
-Works (Some (Audit file)) told faults faults' old new ending = OnFile Audits 16777216 file told faults faults' old.out new.out ending
-Works (Some (Compose file)) told faults faults' old new ending = OnFile Composes 4194304 file told faults faults' old.out new.out ending
+Works (Some (Replay file)) told faults faults' old new ending = OnFile Replays most_schedule_file file told faults faults' old.out new.out ending
+Works (Some (Audit file)) told faults faults' old new ending = OnFile Audits most_logs_file file told faults faults' old.out new.out ending
+Works (Some (Compose file)) told faults faults' old new ending = OnFile Composes most_graph_file file told faults faults' old.out new.out ending
 
 -- the work that the words ask for ends so, or memory was wanted to read them
 abbrev pub Does : (words : List (List ℕ)) → Told → (faults faults' : ℕ) → (old new : Outside) → Ending → Type 0

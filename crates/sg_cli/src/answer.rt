@@ -2,10 +2,10 @@
 ghost use Rattle.std.specs.Prelude.{◌≡◌, ◌++◌, ℕ, List, All, IfOk, OnOk, codes, map};
 ghost use Rattle.sg_audit.specs.Agree.{AreLogs};
 ghost use Rattle.sg_audit.specs.Answers.{IsAnswer};
-ghost use Rattle.sg_audit.specs.Held.{logs_of, told_of};
+ghost use Rattle.sg_audit.specs.Model.{logs_of, told_of};
 ghost use Rattle.sg_audit.specs.Taken.{session_of};
 ghost use Rattle.sg_protocol.specs.Walk.{IsStoredWalk};
-ghost use Rattle.sg_walk.specs.Views.{steps_of};
+ghost use Rattle.sg_walk.specs.Model.{steps_of};
 ghost use Rattle.sg_cli.specs.Audited.{AllAnswered, Answered, answer_text, clash_text, said_text, yes_text};
 
 use sg_audit::{Audit, SessionLog, audit, roles_of};

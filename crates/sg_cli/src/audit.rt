@@ -1,15 +1,16 @@
 //! The command `audit`: reads logs, checks their graph, and says of each session whether its logs agree.
 ghost use Rattle.std.specs.Prelude.{◌≡◌, ◌≤◌, ◌∷◌, [], All, length, map};
+ghost use Rattle.sg_model.specs.Limits.{most_logs_file};
 ghost use Rattle.sg_protocol.specs.IsSchedule.{AreCompiled};
 ghost use Rattle.sg_protocol.specs.Texts.{real};
 ghost use Rattle.sg_program.specs.Compiled.{IsWhole};
 ghost use Rattle.sg_audit.specs.Agree.{AreLogs};
-ghost use Rattle.sg_audit.specs.Held.{logs_of, told_of};
+ghost use Rattle.sg_audit.specs.Model.{logs_of, told_of};
 ghost use Rattle.sg_audit.specs.Spells.{SpellsLogs};
 ghost use Rattle.sg_audit.specs.Taken.{logs_held, session_of};
 ghost use Rattle.sg_cli.specs.Ending.{ending_of_logs};
 ghost use Rattle.sg_cli.specs.Ends.{Audits, OnFile};
-ghost use Rattle.sg_cli.specs.Held.{ending_held};
+ghost use Rattle.sg_cli.specs.Model.{ending_held};
 
 use crate::answer::answers_text;
 use crate::ending::{Ending, Wrong};
@@ -31,7 +32,7 @@ pub fn audit<'w, F: Files, O: Sink>(
     files: &mut F,
     out: &mut O,
 ) -> Ending<'w>
-    ensures { OnFile Audits 16_777_216 file.now (F.held files.old) (F.faults files.old) (F.faults files.new)
+    ensures { OnFile Audits most_logs_file file.now (F.held files.old) (F.faults files.old) (F.faults files.new)
         (record { bytes = O.written out.old; faults = O.faults out.old }) (record { bytes = O.written out.new; faults = O.faults out.new }) (ending_held result) }
 {
     match read_file(alloc, file, files, MOST_BYTES) {
@@ -41,7 +42,7 @@ pub fn audit<'w, F: Files, O: Sink>(
 }
 
 fn audit_bytes<O: Sink>(alloc: Global, bytes: &[u8], out: &mut O) -> Ending<'static>
-    requires { length bytes.now ≤ 16_777_216 }
+    requires { length bytes.now ≤ most_logs_file }
     ensures { Audits bytes.now (record { bytes = O.written out.old; faults = O.faults out.old }) (record { bytes = O.written out.new; faults = O.faults out.new }) (ending_held result) }
 {
     match read_logs(alloc, bytes) {

@@ -1,12 +1,13 @@
 //! The command `check`: parses a graph, compiles it, and says whether it is accepted, and how many views each role has.
 ghost use Rattle.std.specs.Prelude.{◌≡◌, ◌++◌, ◌∷◌, [], All, IfOk, OnOk};
+ghost use Rattle.sg_model.specs.Limits.{most_graph_file};
 ghost use Rattle.sg_protocol.specs.IsSchedule.{AreCompiled};
 ghost use Rattle.sg_protocol.specs.Texts.{real};
 ghost use Rattle.sg_parse.specs.Grammar.{SpellsGraph};
 ghost use Rattle.sg_program.specs.Compiled.{IsWhole};
 ghost use Rattle.sg_cli.specs.Accepted.{accepted_line, check_text, views_line};
 ghost use Rattle.sg_cli.specs.Ends.{Checks, OnFile};
-ghost use Rattle.sg_cli.specs.Held.{ending_held};
+ghost use Rattle.sg_cli.specs.Model.{ending_held};
 
 use crate::ending::Ending;
 use crate::file::read_file;
@@ -24,7 +25,7 @@ pub fn check<'w, F: Files, O: Sink>(
     files: &mut F,
     out: &mut O,
 ) -> Ending<'w>
-    ensures { OnFile Checks 4_194_304 file.now (F.held files.old) (F.faults files.old) (F.faults files.new)
+    ensures { OnFile Checks most_graph_file file.now (F.held files.old) (F.faults files.old) (F.faults files.new)
         (record { bytes = O.written out.old; faults = O.faults out.old }) (record { bytes = O.written out.new; faults = O.faults out.new }) (ending_held result) }
 {
     match read_file(alloc, file, files, MOST_BYTES) {

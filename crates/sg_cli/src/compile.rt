@@ -1,11 +1,12 @@
 //! The command `compile`: parses a graph, compiles it for one of its roles, and writes the program.
 ghost use Rattle.std.specs.Prelude.{◌≡◌, ◌<◌, ◌≤◌, length, IsTrue, MatchOption};
+ghost use Rattle.sg_model.specs.Limits.{most_graph_file};
 ghost use Rattle.sg_model.specs.Lists.{has_text};
 ghost use Rattle.sg_protocol.specs.Graph.{role_name};
 ghost use Rattle.sg_parse.specs.Grammar.{SpellsGraph};
 ghost use Rattle.sg_program.specs.Compiled.{IsCompiled};
 ghost use Rattle.sg_cli.specs.Ends.{Compiles, OnFile, RefusesRole};
-ghost use Rattle.sg_cli.specs.Held.{ending_held};
+ghost use Rattle.sg_cli.specs.Model.{ending_held};
 
 use crate::ending::Ending;
 use crate::file::read_file;
@@ -23,7 +24,7 @@ pub fn compile<'w, F: Files, O: Sink>(
     files: &mut F,
     out: &mut O,
 ) -> Ending<'w>
-    ensures { OnFile (Compiles role.now) 4_194_304 file.now (F.held files.old) (F.faults files.old) (F.faults files.new)
+    ensures { OnFile (Compiles role.now) most_graph_file file.now (F.held files.old) (F.faults files.old) (F.faults files.new)
         (record { bytes = O.written out.old; faults = O.faults out.old }) (record { bytes = O.written out.new; faults = O.faults out.new }) (ending_held result) }
 {
     match read_file(alloc, file, files, MOST_BYTES) {

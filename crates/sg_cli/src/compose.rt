@@ -1,12 +1,13 @@
 //! The command `compose`: reads parts, expands them, checks the expansion and writes its canonical text.
 ghost use Rattle.std.specs.Prelude.{◌≡◌, ◌≤◌, ◌∷◌, [], All, Ok, length};
+ghost use Rattle.sg_model.specs.Limits.{most_graph_file};
 ghost use Rattle.sg_protocol.specs.IsSchedule.{AreCompiled};
 ghost use Rattle.sg_protocol.specs.Texts.{real};
 ghost use Rattle.sg_program.specs.Compiled.{IsWhole};
 ghost use Rattle.sg_parse.specs.PartsGrammar.{SpellsParts};
 ghost use Rattle.sg_compose.specs.Expansion.{expansion};
 ghost use Rattle.sg_cli.specs.Ends.{Composes, OnFile};
-ghost use Rattle.sg_cli.specs.Held.{ending_held};
+ghost use Rattle.sg_cli.specs.Model.{ending_held};
 
 use crate::ending::Ending;
 use crate::file::read_file;
@@ -26,7 +27,7 @@ pub fn compose<'w, F: Files, O: Sink>(
     files: &mut F,
     out: &mut O,
 ) -> Ending<'w>
-    ensures { OnFile Composes 4_194_304 file.now (F.held files.old) (F.faults files.old) (F.faults files.new)
+    ensures { OnFile Composes most_graph_file file.now (F.held files.old) (F.faults files.old) (F.faults files.new)
         (record { bytes = O.written out.old; faults = O.faults out.old }) (record { bytes = O.written out.new; faults = O.faults out.new }) (ending_held result) }
 {
     match read_file(alloc, file, files, MOST_BYTES) {

@@ -1,7 +1,7 @@
 //! How the program ends, and what it says of it.
 ghost use Rattle.std.specs.Prelude.{◌≡◌, ◌≢◌, ◌++◌, ◌∷◌, [], IfOk, OnErr, OnOk, codes, decimal};
 ghost use Rattle.sg_cli.specs.Ending.{status_of, line_of, wrong_text};
-ghost use Rattle.sg_cli.specs.Held.{ending_held};
+ghost use Rattle.sg_cli.specs.Model.{ending_held};
 
 use crate::input::{BadProgram, put_no_keys, put_no_program, put_no_script};
 use crate::refusal::{put_no_expansion, put_no_graph, put_refusal};

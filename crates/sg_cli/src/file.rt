@@ -1,7 +1,7 @@
 //! The files that the words name.
 ghost use Rattle.std.specs.Prelude.{◌≡◌, ◌≤◌, Some, IfErr, IfOk, length};
 ghost use Rattle.sg_cli.specs.Ends.{Has, IsUnread};
-ghost use Rattle.sg_cli.specs.Held.{ending_held};
+ghost use Rattle.sg_cli.specs.Model.{ending_held};
 
 use crate::ending::Ending;
 use sg_base::{FileFault, Files};

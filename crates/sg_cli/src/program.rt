@@ -1,8 +1,8 @@
 //! The program, but for the real objects.
 ghost use Rattle.std.specs.Prelude.{◌≡◌, ◌⊎◌, map, option_map, string_bytes};
 ghost use Rattle.sg_words.specs.Command.{command_of};
-ghost use Rattle.sg_words.specs.Held.{command_held};
-ghost use Rattle.sg_cli.specs.Held.{ending_held};
+ghost use Rattle.sg_words.specs.Model.{command_held};
+ghost use Rattle.sg_cli.specs.Model.{ending_held};
 ghost use Rattle.sg_cli.specs.Runs.{CanHavePlayed};
 ghost use Rattle.sg_cli.specs.Top.{Ends, IsRun, MayPlay, Puts, Says, Works};
 

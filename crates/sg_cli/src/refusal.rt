@@ -1,13 +1,13 @@
 //! Why a graph is refused, in words.
 ghost use Rattle.std.specs.Prelude.{◌≡◌, ◌++◌, ◌∷◌, [], OnOk, codes, decimal};
-ghost use Rattle.sg_protocol.specs.Graph.{role_name, variable_name, node_name};
+ghost use Rattle.sg_protocol.specs.Graph.{role_name, node_name};
 ghost use Rattle.sg_graph.specs.Parts.{edge_name};
 ghost use Rattle.sg_cli.specs.Refusal.{parse_text, compose_text, use_text, shape_text, reads_text, roles_text, blinded_text, walks_text, blinding_text, views_text, refusal_text, place_text, walk_text};
 
 use sg_base::{ByteOut, Label, Name, NodeId, OutOfMemory, Role, Var};
 use sg_check::{BlindFault, ShapeFault};
 use sg_compose::ComposeFault;
-use sg_graph::Graph;
+use sg_graph::{Graph, put_label, put_node, put_role, put_var};
 use sg_know::ReadFault;
 use sg_parse::ParseFault;
 use sg_program::CompileFault;
@@ -250,44 +250,4 @@ fn put_next(out: &mut ByteOut, graph: &Graph, label: Label) -> Result<(), OutOfM
 {
     out.u8(b' ')?;
     put_label(out, graph, label)
-}
-
-// Writes the name of a label's edge, nothing where no edge has the label.
-fn put_label(out: &mut ByteOut, graph: &Graph, label: Label) -> Result<(), OutOfMemory>
-    ensures { OnOk result (out.new ≡ out.old ++ edge_name graph.now label) }
-{
-    if label.0 >= graph.edges() {
-        return Ok(());
-    }
-    out.bytes(graph.edge_name(label).as_bytes())
-}
-
-// Writes the name of a node, nothing where the graph has no such node.
-fn put_node(out: &mut ByteOut, graph: &Graph, node: NodeId) -> Result<(), OutOfMemory>
-    ensures { OnOk result (out.new ≡ out.old ++ node_name graph.now node) }
-{
-    if node.0 >= graph.nodes() {
-        return Ok(());
-    }
-    out.bytes(graph.node_name(node).as_bytes())
-}
-
-// Writes the name of a role, nothing where the graph has no such role.
-fn put_role(out: &mut ByteOut, graph: &Graph, role: Role) -> Result<(), OutOfMemory>
-    ensures { OnOk result (out.new ≡ out.old ++ role_name graph.now role) }
-{
-    if role.0 >= graph.roles() {
-        return Ok(());
-    }
-    out.bytes(graph.role_name(role).as_bytes())
-}
-
-// Writes the name of a variable, nothing where the graph has no such variable.
-fn put_var(out: &mut ByteOut, graph: &Graph, var: Var) -> Result<(), OutOfMemory>
-    ensures { OnOk result (out.new ≡ out.old ++ variable_name graph.now var) }
-{
-    if var.0 >= graph.vars() {
-        return Ok(());
-    }
-    out.bytes(graph.var_name(var).as_bytes())
 }

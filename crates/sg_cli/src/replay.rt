@@ -3,6 +3,7 @@
 //! The run of a replay is the core's, so what holds of every run holds of it: where the premises hold, a receipt from an honest sender has
 //! a send, frames show the last steps of honest senders, and a frame that is awaited and delivered is received (`sg_world::laws`).
 ghost use Rattle.std.specs.Prelude.{◌≡◌, ◌<◌, ◌≤◌, true, All, IfErr, IfOk, OnOk, length};
+ghost use Rattle.sg_model.specs.Limits.{most_schedule_file, most_steps};
 ghost use Rattle.sg_program.specs.All.{IsAllFault};
 ghost use Rattle.sg_program.specs.Compiled.{IsWhole};
 ghost use Rattle.sg_protocol.specs.IsSchedule.{AreCompiled};
@@ -16,7 +17,7 @@ ghost use Rattle.sg_sched.specs.Format.Spells.{SpellsSchedule};
 ghost use Rattle.sg_sched.specs.Format.StepsHeld.{step_of};
 ghost use Rattle.sg_cli.specs.Ending.{ending_of_fault, ending_of_line};
 ghost use Rattle.sg_cli.specs.Ends.{OnFile, Refuses, Replays};
-ghost use Rattle.sg_cli.specs.Held.{ending_held};
+ghost use Rattle.sg_cli.specs.Model.{ending_held};
 ghost use Rattle.sg_cli.specs.Replayed.{CanBeReplayed, HasNoRoom, Reports, Stops};
 
 use crate::ending::{Ending, Wrong};
@@ -39,7 +40,7 @@ pub fn replay<'w, F: Files, O: Sink>(
     files: &mut F,
     out: &mut O,
 ) -> Ending<'w>
-    ensures { OnFile Replays 16_777_216 file.now (F.held files.old) (F.faults files.old) (F.faults files.new)
+    ensures { OnFile Replays most_schedule_file file.now (F.held files.old) (F.faults files.old) (F.faults files.new)
         (record { bytes = O.written out.old; faults = O.faults out.old }) (record { bytes = O.written out.new; faults = O.faults out.new }) (ending_held result) }
 {
     match read_file(alloc, file, files, MOST_BYTES) {
@@ -49,7 +50,7 @@ pub fn replay<'w, F: Files, O: Sink>(
 }
 
 fn replay_bytes<O: Sink>(alloc: Global, bytes: &[u8], out: &mut O) -> Ending<'static>
-    requires { length bytes.now ≤ 16_777_216 }
+    requires { length bytes.now ≤ most_schedule_file }
     ensures { Replays bytes.now (record { bytes = O.written out.old; faults = O.faults out.old }) (record { bytes = O.written out.new; faults = O.faults out.new }) (ending_held result) }
 {
     match read_schedule(alloc, bytes) {
@@ -102,7 +103,7 @@ fn replay_schedule<O: Sink>(
     schedule: &Schedule,
     out: &mut O,
 ) -> Ending<'static>
-    requires short { length bytes.now ≤ 16_777_216 }
+    requires short { length bytes.now ≤ most_schedule_file }
     requires spelled { SpellsSchedule real bytes.now schedule.now }
     requires can { CanBeReplayed schedule.now }
     ensures { Replays bytes.now (record { bytes = O.written out.old; faults = O.faults out.old }) (record { bytes = O.written out.new; faults = O.faults out.new }) (ending_held result) }
@@ -175,7 +176,7 @@ fn report_of(
 
 // Takes a step of an honest principal, or a craft, or says how the program ends where it isn't taken.
 fn take(world: &mut World<'_>, step: &Step) -> Result<(), Ending<'static>>
-    requires few { length world.old.schedule.steps < 200_000 }
+    requires few { length world.old.schedule.steps < most_steps }
     requires step { CanBeTaken world.old.schedule (step_of step.now) }
     requires honest { is_taken world.old.schedule (step_of step.now) ≡ true }
     ensures taken { OnOk result (world.new ≡ with_taken world.old (step_of step.now)) }

@@ -4,7 +4,7 @@
 //! (`sg_play`): each call that it makes is a step of a node, so what holds of every run holds of it.
 ghost use Rattle.std.specs.Prelude.{◌≡◌, ◌≤◌, ◌⊎◌, Err, OnOk, map};
 ghost use Rattle.sg_base.specs.Outside.{HasRisen};
-ghost use Rattle.sg_cli.specs.Held.{ending_held};
+ghost use Rattle.sg_cli.specs.Model.{ending_held};
 ghost use Rattle.sg_cli.specs.Runs.{CanHavePlayed, Plays, Runs, Takes, TakesAtMost};
 
 use crate::ending::Ending;

@@ -1,9 +1,10 @@
 //! What a run is given: the keys, the programs and the script of the files that its words name.
 ghost use Rattle.std.specs.Prelude.{◌≡◌, ◌+◌, ◌≤◌, Ok, IfErr, IfOk, OnOk, length, map};
+ghost use Rattle.sg_model.specs.Limits.{most_program_file, most_script_file};
 ghost use Rattle.sg_keys.specs.KeyFile.{SpellsKeys, key_file};
 ghost use Rattle.sg_program.specs.Loading.{IsLoadFault};
 ghost use Rattle.sg_script.specs.Format.{SpellsScript};
-ghost use Rattle.sg_cli.specs.Held.{ending_held};
+ghost use Rattle.sg_cli.specs.Model.{ending_held};
 ghost use Rattle.sg_cli.specs.Setup.{Adds, EndsAt, HasSetup, HoldPrograms, Holds, IsTextOf, LacksSetup, RefusesKeys, RefusesProgram, RefusesScript, StopsAtProgram};
 
 use crate::ending::Ending;
@@ -62,9 +63,9 @@ fn read_keys<'w, F: Files>(
     file: &'w str,
     files: &mut F,
 ) -> Result<(Keyring, Keyring), Ending<'w>>
-    ensures holds { IfOk result (λ k. Holds (F.held files.old) 1_048_576 file.now (λ bytes. SpellsKeys bytes k.0)) }
+    ensures holds { IfOk result (λ k. Holds (F.held files.old) most_script_file file.now (λ bytes. SpellsKeys bytes k.0)) }
     ensures same { IfOk result (λ k. k.1 ≡ k.0) }
-    ensures ends { IfErr result (λ ending. EndsAt (F.held files.old) (F.faults files.old) (F.faults files.new) 1_048_576 file.now RefusesKeys (ending_held ending)) }
+    ensures ends { IfErr result (λ ending. EndsAt (F.held files.old) (F.faults files.old) (F.faults files.new) most_script_file file.now RefusesKeys (ending_held ending)) }
     ensures kept { F.held files.new ≡ F.held files.old }
     ensures falls { F.faults files.old ≤ F.faults files.new }
 {
@@ -121,8 +122,8 @@ fn add_program<'w, F: Files>(
     files: &mut F,
     programs: &mut Programs,
 ) -> Result<(), Ending<'w>>
-    ensures added { OnOk result (Adds (λ p. Holds (F.held files.old) 8_388_608 file.now (IsTextOf p)) programs.old programs.new) }
-    ensures ends { IfErr result (λ ending. EndsAt (F.held files.old) (F.faults files.old) (F.faults files.new) 8_388_608 file.now (RefusesProgram programs.old) (ending_held ending)) }
+    ensures added { OnOk result (Adds (λ p. Holds (F.held files.old) most_program_file file.now (IsTextOf p)) programs.old programs.new) }
+    ensures ends { IfErr result (λ ending. EndsAt (F.held files.old) (F.faults files.old) (F.faults files.new) most_program_file file.now (RefusesProgram programs.old) (ending_held ending)) }
     ensures kept { F.held files.new ≡ F.held files.old }
     ensures falls { F.faults files.old ≤ F.faults files.new }
 {
@@ -194,8 +195,8 @@ fn script_of<'w, F: Files>(
     programs: &Programs,
     files: &mut F,
 ) -> Result<Script, Ending<'w>>
-    ensures holds { IfOk result (λ s. Holds (F.held files.old) 1_048_576 file.now (λ bytes. SpellsScript programs.now bytes s)) }
-    ensures ends { IfErr result (λ ending. EndsAt (F.held files.old) (F.faults files.old) (F.faults files.new) 1_048_576 file.now (RefusesScript programs.now) (ending_held ending)) }
+    ensures holds { IfOk result (λ s. Holds (F.held files.old) most_script_file file.now (λ bytes. SpellsScript programs.now bytes s)) }
+    ensures ends { IfErr result (λ ending. EndsAt (F.held files.old) (F.faults files.old) (F.faults files.new) most_script_file file.now (RefusesScript programs.now) (ending_held ending)) }
     ensures falls { F.faults files.old ≤ F.faults files.new }
 {
     let bytes = read_file(alloc, file, files, MOST_BYTES)?;

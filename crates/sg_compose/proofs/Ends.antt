@@ -1,7 +1,7 @@
 -- What the end of a graph that can be used says of its edges, and how many of its nodes are added.
-use Rattle.std.proofs.Common.{◌≡◌, ◌≢◌, ℕ, zero, suc, ◌+◌, ◌-◌, ◌<◌, ◌≤◌, ◌==◌, nat_le, nat_lt, not, Bool, true, false, ◌&&◌, ◌||◌, inl, inr, List, [], ◌∷◌, ◌++◌, filter, length, get_or, set, take, Some, None, refl, sym, ap, subst, ◌∙◌, arith, if◌then◌else◌, append-nil, length-append}
+use Rattle.std.proofs.Common.{◌≡◌, ◌≢◌, ℕ, zero, suc, ◌+◌, ◌-◌, ◌<◌, ◌≤◌, ◌==◌, nat_le, nat_lt, not, Bool, true, false, ◌&&◌, ◌||◌, inl, inr, List, [], ◌∷◌, ◌++◌, filter, length, get_or, set, take, Some, None, refl, sym, ap, subst, ◌∙◌, arith, if◌then◌else◌, length-append}
 use Rattle.std.specs.List.{list_any}
-use Rattle.std.proofs.lemmas.Bool.{eq-eqb}
+use Rattle.std.proofs.lemmas.Bool.{eq-eqb, cases_Bool, and_parts, not-true, or_right}
 use Rattle.std.proofs.lemmas.Bool.Decides.{nat_tests}
 use Rattle.std.proofs.lemmas.List.{get_or-map}
 use Rattle.sg_base.proofs.SetLaws.{is_in-filter}
@@ -10,11 +10,9 @@ use Rattle.sg_model.specs.Shape.{Shape, source, target}
 use Rattle.sg_model.specs.Shape as Shapes
 use Rattle.sg_protocol.specs.Graph.{Graph, Edge, shape}
 use Rattle.sg_graph.specs.Parts.{edge_at}
-use Rattle.sg_graph.proofs.Found.{cases_of}
-use Rattle.sg_base.proofs.Ranges.{below-suc}
-use Rattle.sg_graph.proofs.Growth.{both}
+use Rattle.sg_model.proofs.Numbers.{filter_below_in, filter_below_out}
+use Rattle.sg_model.proofs.Small.{first_false, second_false, or_true, or_false}
 use Rattle.std.proofs.lemmas.List.Folds.{list_any_more, list_any-append}
-use Rattle.std.proofs.lemmas.List.Elements.{filter-append}
 use Rattle.std.proofs.lemmas.List.{get_or-set_same, get_or-set_other}
 use Rattle.std.proofs.Math.Seq.{get_or-append_seam}
 use Rattle.sg_compose.specs.Expansion.{is_inside, is_entered, is_final, finals, sole, end_of, inside}
@@ -23,16 +21,8 @@ use Rattle.sg_compose.proofs.Split.{arrow_of}
 -- none passes, so the one at a place doesn't
 none-at : {A : Type 0} (p : A → Bool) (xs : List A) (k : ℕ) (d : A) → list_any p xs ≡ false → k < length xs → p (get_or xs k d) ≡ false
 none-at p [] k d h l = absurd (omega arith)
-none-at p (x ∷ xs) zero d h l = left (p x) (list_any p xs) h
-  where
-    left : (a b : Bool) → (a || b) ≡ false → a ≡ false
-    left true b h = absurd (cc)
-    left false b h = refl
-none-at p (x ∷ xs) (suc k) d h l = none-at p xs k d (right (p x) (list_any p xs) h) (omega (arith, l))
-  where
-    right : (a b : Bool) → (a || b) ≡ false → b ≡ false
-    right true b h = absurd (cc)
-    right false b h = h
+none-at p (x ∷ xs) zero d h l = first_false (p x) (list_any p xs) h
+none-at p (x ∷ xs) (suc k) d h l = none-at p xs k d (second_false (p x) (list_any p xs) h) (omega (arith, l))
 
 -- the source and the target of an edge
 pub source_at : (g : Graph) (e : ℕ) → e < length g.edges → source (shape g) e ≡ (edge_at g e).source
@@ -64,8 +54,8 @@ ends-at g m h = pick (is_entered g) refl h
         let one = sole-one (finals g) m h in
         let yes : (m == m) ≡ true = eq-eqb m m refl in
         let listed : is_in m (finals g) ≡ true = ap (is_in m) one.0 ∙ rw yes refl in
-        let parts = both (nat_le 0 m && nat_lt m (0 + length g.nodes)) (is_final g m) (sym (is_in-filter (is_final g) 0 (length g.nodes) m) ∙ listed) in
-        let within = both (nat_le 0 m) (nat_lt m (0 + length g.nodes)) parts.0 in
+        let parts = and_parts (nat_le 0 m && nat_lt m (0 + length g.nodes)) (is_final g m) (sym (is_in-filter (is_final g) 0 (length g.nodes) m) ∙ listed) in
+        let within = and_parts (nat_le 0 m) (nat_lt m (0 + length g.nodes)) parts.0 in
         let below' : m < length g.nodes = grind (arith, nat_tests, within.1) in
         record {
           late = one.1;
@@ -75,10 +65,6 @@ ends-at g m h = pick (is_entered g) refl h
           not_left = λ k l z. (let no = none-at (λ e. e.source == m) g.edges k (record { name = []; source = 0; target = 0; writes = []; reads = [] }) (not-true (list_any (λ e. e.source == m) g.edges) parts.1) l in
               let same : (edge_at g k).source ≡ m = sym (source_at g k l) ∙ z in let yes : ((edge_at g k).source == m) ≡ true = eq-eqb (edge_at g k).source m same in absurd (cc));
         }
-      where
-        not-true : (b : Bool) → not b ≡ true → b ≡ false
-        not-true true h = absurd (cc)
-        not-true false h = refl
 
 -- ---- how many nodes are added
 
@@ -93,7 +79,7 @@ none-left m a (suc k) x l =
 
 one-left : (m a k : ℕ) → a ≢ 0 → a ≤ m → m < a + k → suc (length (filter (is_inside m) (range_from a k))) ≡ k
 one-left m a zero x l r = absurd (omega (arith, l, r))
-one-left m a (suc k) x l r = elim (cases_of (a == m)) [
+one-left m a (suc k) x l r = elim (cases_Bool (a == m)) [
   | inl y ↦
       (let same : a ≡ m = grind (arith, nat_tests, y) in
       let drop : is_inside m a ≡ false = outside (a == 0) (a == m) y in
@@ -126,7 +112,7 @@ pub mark-more : (g : Graph) (left : List Bool) (i s : ℕ) → length left ≡ 2
 mark-more g left i s long lt at few so_far n ln =
     let more = list_any_more (λ (e : Edge). e.source == n) g.edges i (record { name = []; source = 0; target = 0; writes = []; reads = [] }) lt in
     let more' : list_any (λ e. e.source == n) (take (i + 1) g.edges) ≡ (list_any (λ e. e.source == n) (take i g.edges) || (s == n)) = more ∙ ap (λ k. list_any (λ e. e.source == n) (take i g.edges) || (k == n)) (sym at) in
-    elim (cases_of (s == n)) [
+    elim (cases_Bool (s == n)) [
       | inl y ↦
           (let same : n ≡ s = grind (arith, nat_tests, y) in
           let inside' : s < length left = omega (arith, long, few) in
@@ -136,21 +122,6 @@ mark-more g left i s long lt at few so_far n ln =
           (let other : n ≢ s = grind (arith, nat_tests, d) in
           get_or-set_other left s n true false other ∙ so_far n ln ∙ sym (more' ∙ rw d (or_false (list_any (λ e. e.source == n) (take i g.edges)))))
     ]
-  where
-    or_true : (b : Bool) → (b || true) ≡ true
-    or_true true = refl
-    or_true false = refl
-
-    or_false : (b : Bool) → (b || false) ≡ b
-    or_false true = refl
-    or_false false = refl
-
--- a node more that passes, or not
-pub filter-there : (p : ℕ → Bool) (n : ℕ) → p n ≡ true → filter p (below (n + 1)) ≡ filter p (below n) ++ n ∷ []
-filter-there p n h = ap (filter p) (below-suc n) ∙ filter-append p (below n) (n ∷ []) ∙ rw h refl
-
-pub filter-away : (p : ℕ → Bool) (n : ℕ) → p n ≡ false → filter p (below (n + 1)) ≡ filter p (below n)
-filter-away p n h = ap (filter p) (below-suc n) ∙ filter-append p (below n) (n ∷ []) ∙ rw h (append-nil (filter p (below n)))
 
 -- what was counted
 pub record Counted (p : ℕ → Bool) (n count last : ℕ) : Type 0 where
@@ -159,7 +130,7 @@ pub record Counted (p : ℕ → Bool) (n count last : ℕ) : Type 0 where
 
 pub counted-there : (p : ℕ → Bool) (n count last : ℕ) → p n ≡ true → Counted p n count last → Counted p (n + 1) (count + 1) n
 counted-there p n count last h c =
-    let more = filter-there p n h in
+    let more = filter_below_in p n h in
     let long : length (filter p (below n) ++ n ∷ []) ≡ length (filter p (below n)) + 1 = length-append (filter p (below n)) (n ∷ []) in
     let before : (count + 1) - 1 ≡ length (filter p (below n)) = omega (arith, c.many) in
     record {
@@ -169,18 +140,18 @@ counted-there p n count last h c =
 
 pub counted-away : (p : ℕ → Bool) (n count last : ℕ) → p n ≡ false → Counted p n count last → Counted p (n + 1) count last
 counted-away p n count last h c =
-    let same = filter-away p n h in
+    let same = filter_below_out p n h in
     record { many = c.many ∙ ap length (sym same); latest = λ l. c.latest l ∙ ap (λ xs. get_or xs (count - 1) 0) (sym same) }
 
 -- ---- tests of the nodes that pass another test
 
 -- none of those so far, and not the next
 pub any-inside-more : (p q : ℕ → Bool) (n : ℕ) → list_any p (filter q (below n)) ≡ false → (q n && p n) ≡ false → list_any p (filter q (below (n + 1))) ≡ false
-any-inside-more p q n none h = elim (cases_of (q n)) [
+any-inside-more p q n none h = elim (cases_Bool (q n)) [
   | inl y ↦
       (let away : p n ≡ false = rw y at h in
-      ap (list_any p) (filter-there q n y) ∙ list_any-append p (filter q (below n)) (n ∷ []) ∙ rw (none, away) refl)
-  | inr d ↦ ap (list_any p) (filter-away q n d) ∙ none
+      ap (list_any p) (filter_below_in q n y) ∙ list_any-append p (filter q (below n)) (n ∷ []) ∙ rw (none, away) refl)
+  | inr d ↦ ap (list_any p) (filter_below_out q n d) ∙ none
 ]
 
 -- one of them
@@ -188,19 +159,15 @@ pub any-inside-hit : (p q : ℕ → Bool) (n k : ℕ) → n < k → (q n && p n)
 any-inside-hit p q n k l h = go 0 k (omega arith) (omega (arith, l))
   where
     parts : (q n ≡ true) × (p n ≡ true)
-    parts = both (q n) (p n) h
+    parts = and_parts (q n) (p n) h
 
     tail : (b : Bool) (a : ℕ) (xs : List ℕ) → list_any p xs ≡ true → list_any p (if b then a ∷ xs else xs) ≡ true
-    tail true a xs h = or_any (p a) (list_any p xs) h
-      where
-        or_any : (x y : Bool) → y ≡ true → (x || y) ≡ true
-        or_any true y h = refl
-        or_any false y h = h
+    tail true a xs h = or_right (p a) (list_any p xs) h
     tail false a xs h = h
 
     go : (a k : ℕ) → a ≤ n → n < a + k → list_any p (filter q (range_from a k)) ≡ true
     go a zero le lt = absurd (omega (arith, le, lt))
-    go a (suc k) le lt = elim (cases_of (a == n)) [
+    go a (suc k) le lt = elim (cases_Bool (a == n)) [
       | inl y ↦ (let same : a ≡ n = grind (arith, nat_tests, y) in rw (same, parts.0, parts.1) refl)
       | inr d ↦ (let apart : a ≢ n = grind (arith, nat_tests, d) in tail (q a) a (filter q (range_from (suc a) k)) (go (suc a) k (omega (arith, le, apart)) (omega (arith, lt))))
     ]

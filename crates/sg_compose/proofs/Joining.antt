@@ -1,14 +1,15 @@
 -- The graph with one use more is the outer graph with one graph more put in.
-use Rattle.std.proofs.Common.{◌≡◌, ◌≢◌, ℕ, zero, suc, ◌+◌, ◌-◌, ◌<◌, ◌≤◌, ◌==◌, nat_lt, true, false, ◌⊎◌, inl, inr, List, [], ◌∷◌, ◌++◌, map, length, get_or, Some, refl, sym, ap, subst, ◌∙◌, arith, if◌then◌else◌, length-append}
+use Rattle.std.proofs.Common.{◌≡◌, ◌≢◌, ℕ, zero, ◌+◌, ◌-◌, ◌<◌, ◌≤◌, ◌==◌, nat_lt, true, false, ◌⊎◌, inl, inr, List, [], ◌∷◌, ◌++◌, map, length, get_or, Some, refl, sym, ap, subst, ◌∙◌, arith, if◌then◌else◌, length-append}
 use Rattle.std.specs.Prelude.{All, Contains}
 use Rattle.std.proofs.lemmas.Bool.Decides.{nat_tests}
 use Rattle.std.proofs.lemmas.List.{get_or-map, get_or_append_left, get_or-append-add, length-map, map-append}
 use Rattle.std.proofs.lemmas.List.Elements.{All-append, Contains-append_left, Contains-append_right}
+use Rattle.std.proofs.lemmas.Bool.{cases_Bool}
 use Rattle.sg_model.specs.Shape.{Shape, source, target}
 use Rattle.sg_model.specs.Shape as Shapes
 use Rattle.sg_protocol.specs.Graph.{Graph, Edge, shape}
 use Rattle.sg_graph.specs.Parts.{edge_at}
-use Rattle.sg_graph.proofs.Found.{cases_of}
+use Rattle.sg_graph.proofs.Growth.{All-map, All-one}
 use Rattle.sg_parse.specs.Parts.{Use}
 use Rattle.sg_compose.specs.Expansion.{end_of, inside, stands, new_edge, new_nodes, new_edges, with_use}
 use Rattle.sg_compose.specs.Walks.{Inset}
@@ -35,11 +36,11 @@ stands-inside count from to m x start end =
 
 pub stands-below : (count from to m x n : ℕ) → m ≢ 0 → m < n → x < n → from < count → to < count → stands count from to m x < count + (n - 2)
     ⊎ (stands count from to m x < count)
-stands-below count from to m x n late mn xn f t = elim (cases_of (x == 0)) [
+stands-below count from to m x n late mn xn f t = elim (cases_Bool (x == 0)) [
   | inl y ↦ rw y (inr f)
-  | inr a ↦ (elim (cases_of (x == m)) [
+  | inr a ↦ (elim (cases_Bool (x == m)) [
     | inl y ↦ rw (a, y) (inr t)
-    | inr b ↦ (elim (cases_of (nat_lt x m)) [
+    | inr b ↦ (elim (cases_Bool (nat_lt x m)) [
       | inl c ↦ (let less : x < m = grind (arith, nat_tests, c) in let some : x ≢ 0 = grind (arith, nat_tests, a) in rw (a, b, c) (inl (omega (arith, less, some, mn))))
       | inr c ↦ (let more : m ≤ x = grind (arith, nat_tests, c) in let other : x ≢ m = grind (arith, nat_tests, b) in rw (a, b, c) (inl (omega (arith, more, other, late, xn))))
     ])
@@ -52,7 +53,7 @@ unrank m r = if nat_lt (r + 1) m then r + 1 else r + 2
 
 unrank-rank : (count from to m x : ℕ) → x ≢ 0 → x ≢ m → m ≢ 0 → unrank m (stands count from to m x - count) ≡ x
 unrank-rank count from to m x start end late =
-    rw ((stands-inside count from to m x start end).0) (elim (cases_of (nat_lt x m)) [
+    rw ((stands-inside count from to m x start end).0) (elim (cases_Bool (nat_lt x m)) [
       | inl c ↦
           (let less : x < m = grind (arith, nat_tests, c) in
           let r : (count + (x - 1)) - count + 1 ≡ x = omega (arith, start) in
@@ -124,13 +125,6 @@ joined-none g r = record {
   within = λ k d l. absurd (omega arith);
   ranged = r;
 }
-
-All-map : {X : Type 0} (P Q : X → Type 0) (xs : List X) → ((x : X) → P x → Q x) → All P xs → All Q xs
-All-map P Q xs step all = λ k d l. step (get_or xs k d) (all k d l)
-
-All-one : {X : Type 0} (P : X → Type 0) (x : X) → P x → All P (x ∷ [])
-All-one P x p zero d l = p
-All-one P x p (suc k) d l = absurd (omega arith)
 
 module _ (h g inner : Graph) (u : Use) (m : ℕ) (is : List Inset) (j : Joined h g is) (end : end_of inner ≡ Some m) (from : u.from < length g.nodes) (to : u.to < length g.nodes) (inner_ranged : Ranged inner) where
   abbrev k : Graph
@@ -207,7 +201,7 @@ module _ (h g inner : Graph) (u : Use) (m : ℕ) (is : List Inset) (j : Joined h
       (omega (arith, few, all-edges), ap (λ (a : Shapes.Arrow). a.source) same ∙ o.1, ap (λ (a : Shapes.Arrow). a.target) same ∙ o.2, o.3, o.4)
 
   every-one : (l : ℕ) → l < length (shape k).edges → (l < length (shape g).edges) ⊎ ((q : Inset) × Contains (is ++ i ∷ []) q × (e : ℕ) × (e < length q.inner.edges) × (l ≡ q.edges + e))
-  every-one l lt = pick (cases_of (nat_lt l (length h.edges)))
+  every-one l lt = pick (cases_Bool (nat_lt l (length h.edges)))
     where
       old : (l < length (shape g).edges) ⊎ ((q : Inset) × Contains is q × (e : ℕ) × (e < length q.inner.edges) × (l ≡ q.edges + e))
           → (l < length (shape g).edges) ⊎ ((q : Inset) × Contains (is ++ i ∷ []) q × (e : ℕ) × (e < length q.inner.edges) × (l ≡ q.edges + e))

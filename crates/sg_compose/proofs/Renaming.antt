@@ -1,17 +1,17 @@
 -- Names, roles and variables as a use gives them.
 use Rattle.std.proofs.Common.{◌≡◌, ℕ, ◌+◌, ◌<◌, ◌≤◌, ◌==◌, nat_le, nat_lt, not, Bool, true, false, ◌||◌, inl, inr, List, [], ◌∷◌, ◌++◌, map, filter, length, bytes_eq, refl, sym, ap, subst, ◌∙◌, arith}
 use Rattle.std.specs.List.{list_all}
-use Rattle.std.proofs.lemmas.Bool.{eq-eqb}
+use Rattle.std.proofs.lemmas.Bool.{eq-eqb, cases_Bool, not-true, and_parts}
 use Rattle.std.proofs.lemmas.Bool.Decides.{nat_tests}
 use Rattle.std.proofs.lemmas.List.{map-append}
 use Rattle.std.proofs.lemmas.Slice.Eq.{bytes_eq-Decides}
 use Rattle.sg_base.specs.Sets.{with_member}
-use Rattle.sg_base.proofs.SetLaws.{is_in-filter, filter-range_from}
+use Rattle.sg_base.proofs.SetLaws.{is_in-filter}
 use Rattle.sg_model.specs.Lists.{below, is_in, has_text, rises_from}
 use Rattle.sg_model.specs.Names.{Name, reserved}
+use Rattle.sg_model.proofs.Numbers.{filter-range_from, is_in-more}
+use Rattle.sg_model.proofs.Small.{or_true}
 use Rattle.sg_protocol.specs.Graph.{AreNumbers}
-use Rattle.sg_graph.proofs.Found.{cases_of}
-use Rattle.sg_graph.proofs.Growth.{both, refused}
 use Rattle.sg_graph.proofs.Rising.{one_if, below_more, below_zero, below_all}
 use Rattle.sg_graph.proofs.Sets.{rises_filter, all_filter}
 use Rattle.sg_compose.specs.Expansion.{rising}
@@ -20,7 +20,7 @@ use Rattle.sg_compose.specs.Expansion.{rising}
 
 has-score : (u n : List ℕ) → is_in 95 (u ++ 95 ∷ n) ≡ true
 has-score [] n = refl
-has-score (x ∷ u) n = elim (cases_of (x == 95)) [
+has-score (x ∷ u) n = elim (cases_Bool (x == 95)) [
   | inl y ↦ rw y refl
   | inr d ↦ rw d (has-score u n)
 ]
@@ -28,9 +28,9 @@ has-score (x ∷ u) n = elim (cases_of (x == 95)) [
 free-of : (t : Name) (ws : List Name) → is_in 95 t ≡ true → list_all (λ w. not (is_in 95 w)) ws ≡ true → has_text t ws ≡ false
 free-of t [] h a = refl
 free-of t (w ∷ ws) h a =
-    let parts = both (not (is_in 95 w)) (list_all (λ w. not (is_in 95 w)) ws) a in
-    let out : is_in 95 w ≡ false = refused (is_in 95 w) parts.0 in
-    let apart : bytes_eq t w ≡ false = elim (cases_of (bytes_eq t w)) [
+    let parts = and_parts (not (is_in 95 w)) (list_all (λ w. not (is_in 95 w)) ws) a in
+    let out : is_in 95 w ≡ false = not-true (is_in 95 w) parts.0 in
+    let apart : bytes_eq t w ≡ false = elim (cases_Bool (bytes_eq t w)) [
       | inl y ↦ (let same : t ≡ w = (bytes_eq-Decides t w).0 y in let clash : is_in 95 w ≡ true = subst (λ v. is_in 95 v ≡ true) same h in absurd (cc))
       | inr d ↦ d
     ] in
@@ -46,18 +46,6 @@ none-pass : (xs : List ℕ) → filter (λ x. false) xs ≡ []
 none-pass [] = refl
 none-pass (x ∷ xs) = none-pass xs
 
-is_in-last : (x y : ℕ) (ns : List ℕ) → is_in x (ns ++ y ∷ []) ≡ (is_in x ns || (y == x))
-is_in-last x y [] = or_false (y == x)
-  where
-    or_false : (b : Bool) → (b || false) ≡ b
-    or_false true = refl
-    or_false false = refl
-is_in-last x y (n ∷ ns) = rw (is_in-last x y ns) (or_assoc (n == x) (is_in x ns) (y == x))
-  where
-    or_assoc : (a b c : Bool) → (a || (b || c)) ≡ ((a || b) || c)
-    or_assoc true b c = refl
-    or_assoc false b c = refl
-
 -- one number more
 rising-more : (w y : ℕ) (ns : List ℕ) → with_member w (rising w ns) y ≡ rising w (ns ++ y ∷ [])
 unfolding with_member rising
@@ -69,7 +57,7 @@ rising-more w y ns = filter-range_from (λ x. (x == y) || is_in x (rising w ns))
         let b : nat_lt x (0 + w) ≡ true = grind (arith, nat_tests) in
         let there : is_in x (rising w ns) ≡ is_in x ns = is_in-filter (λ z. is_in z ns) 0 w x ∙ rw (a, b) refl in
         let turned : (x == y) ≡ (y == x) = grind (arith, nat_tests) in
-        rw (there, is_in-last x y ns, turned) (turn (y == x) (is_in x ns))
+        rw (there, is_in-more x y ns, turned) (turn (y == x) (is_in x ns))
       where
         turn : (p q : Bool) → (p || q) ≡ (q || p)
         turn true true = refl
@@ -79,7 +67,7 @@ rising-more w y ns = filter-range_from (λ x. (x == y) || is_in x (rising w ns))
 
 module _ (w : ℕ) (f : ℕ → ℕ) (xs : List ℕ) (n : ℕ) (are : AreNumbers n xs) where
   parts' : (rises_from 0 xs ≡ true) × (list_all (λ k. nat_lt k n) xs ≡ true)
-  parts' = both (rises_from 0 xs) (list_all (λ k. nat_lt k n) xs) are
+  parts' = and_parts (rises_from 0 xs) (list_all (λ k. nat_lt k n) xs) are
 
   -- before the first number
   pub gathered-none : [] ≡ rising w (map f (filter (λ x. nat_lt x 0) xs))
@@ -111,7 +99,7 @@ module _ (w : ℕ) (f : ℕ → ℕ) (xs : List ℕ) (n : ℕ) (are : AreNumbers
       more : (ks : List ℕ) → list_all (λ k. nat_lt k n) ks ≡ true → list_all (λ k. nat_lt k i) ks ≡ true
       more [] h = refl
       more (k ∷ ks) h =
-          let p = both (nat_lt k n) (list_all (λ k. nat_lt k n) ks) h in
+          let p = and_parts (nat_lt k n) (list_all (λ k. nat_lt k n) ks) h in
           let here : nat_lt k i ≡ true = grind (arith, nat_tests, p.0) in
           rw (here, more ks p.1) refl
 
@@ -120,7 +108,7 @@ module _ (w : ℕ) (f : ℕ → ℕ) (xs : List ℕ) (n : ℕ) (are : AreNumbers
     where
       go : (ks : List ℕ) → list_all (λ k. nat_lt k n) ks ≡ true → is_in i ks ≡ true → i < n
       go [] a h = absurd (cc)
-      go (k ∷ ks) a h = (let p = both (nat_lt k n) (list_all (λ k. nat_lt k n) ks) a in elim (cases_of (k == i)) [
+      go (k ∷ ks) a h = (let p = and_parts (nat_lt k n) (list_all (λ k. nat_lt k n) ks) a in elim (cases_Bool (k == i)) [
         | inl y ↦ (let same : k ≡ i = grind (arith, nat_tests, y) in let less : k < n = grind (arith, nat_tests, p.0) in omega (arith, same, less))
         | inr d ↦ go ks p.1 (rw d at h)
       ])
@@ -134,14 +122,10 @@ rising-numbers w n f xs low =
   where
     image : (y : ℕ) (xs : List ℕ) → ((x : ℕ) → is_in x xs ≡ true → f x < n) → is_in y (map f xs) ≡ true → nat_lt y n ≡ true
     image y [] low h = absurd (cc)
-    image y (x ∷ xs) low h = elim (cases_of (f x == y)) [
+    image y (x ∷ xs) low h = elim (cases_Bool (f x == y)) [
       | inl e ↦ (let same : f x ≡ y = grind (arith, nat_tests, e) in let yes : (x == x) ≡ true = eq-eqb x x refl in let less : f x < n = low x (rw yes refl) in grind (arith, nat_tests, less, same))
       | inr d ↦ image y xs (λ z i. low z (rw i (or_true (x == z)))) (rw d at h)
     ]
-      where
-        or_true : (b : Bool) → (b || true) ≡ true
-        or_true true = refl
-        or_true false = refl
 
 -- some number
 pub rising-some : (w : ℕ) (f : ℕ → ℕ) (xs : List ℕ) → 0 < length xs → ((x : ℕ) → f x < w) → 0 < length (rising w (map f xs))
@@ -158,16 +142,3 @@ rising-some w f (x ∷ xs) l low =
     some : (y : ℕ) (ys : List ℕ) → is_in y ys ≡ true → 0 < length ys
     some y [] h = absurd (cc)
     some y (z ∷ ys) h = omega arith
-
--- numbers below a bound are below a greater one
-pub numbers-grow : (m n : ℕ) (ks : List ℕ) → m ≤ n → AreNumbers m ks → AreNumbers n ks
-numbers-grow m n ks le h =
-    let parts = both (rises_from 0 ks) (list_all (λ k. nat_lt k m) ks) h in
-    rw (parts.0, more ks parts.1) refl
-  where
-    more : (ks : List ℕ) → list_all (λ k. nat_lt k m) ks ≡ true → list_all (λ k. nat_lt k n) ks ≡ true
-    more [] h = refl
-    more (k ∷ ks) h =
-        let p = both (nat_lt k m) (list_all (λ k. nat_lt k m) ks) h in
-        let here : nat_lt k n ≡ true = grind (arith, nat_tests, p.0) in
-        rw (here, more ks p.1) refl

@@ -6,8 +6,8 @@ use Rattle.std.proofs.lemmas.List.{length-map}
 use Rattle.std.proofs.lemmas.List.Elements.{All-contains}
 use Rattle.sg_model.specs.Shape.{Shape, Walk, source, target}
 use Rattle.sg_model.specs.Shape as Shapes
+use Rattle.sg_model.proofs.Small.{same_or_not}
 use Rattle.sg_protocol.specs.Graph.{Edge, shape}
-use Rattle.sg_graph.proofs.Found.{cases_of}
 use Rattle.sg_compose.specs.Expansion.{end_of, stands}
 use Rattle.sg_compose.specs.Walks.{Inset, renamed, IsComplete, Pending, Filled, Here, Along, Through}
 
@@ -53,13 +53,6 @@ pub record Joins (h g : Shape) (N : ℕ) (is : List Inset) (owner : ℕ → Inse
 -- a walk from m is filled or pends
 abbrev pub Splits : Shape → List Inset → ℕ → List ℕ → Type 0
 Splits g is m w = ((n : ℕ) × Filled g is m w n) ⊎ Pending g is m w
-
--- equal numbers, or not
-same_or_not : (x y : ℕ) → (x ≡ y) ⊎ (x ≢ y)
-same_or_not x y = elim (cases_of (x == y)) [
-  | inl e ↦ inl (grind (arith, nat_tests, e))
-  | inr d ↦ inr (let apart : x ≢ y = grind (arith, nat_tests, d) in apart)
-]
 
 pub spot-end : (i : Inset) → finish i ≢ 0 → spot i (finish i) ≡ i.to
 spot-end i late = go (finish i) late

@@ -3,6 +3,7 @@ use Rattle.std.specs.Prelude.{ℕ, suc, ◌+◌, ◌-◌, ◌==◌, nat_lt, Bool
 use Rattle.std.specs.List.{list_any}
 use Rattle.sg_model.specs.Lists.{below, is_in, has_text}
 use Rattle.sg_model.specs.Shape.{role_at}
+use Rattle.sg_model.specs.Limits.{most_edges, most_name_bytes, most_nodes, most_variables}
 use Rattle.sg_protocol.specs.Graph.{Graph, Name, Variable, Node, Edge, shape, node_name}
 use Rattle.sg_graph.specs.Adding.{no_parts}
 use Rattle.sg_graph.specs.Parts.{variable_names, node_names, edge_names}
@@ -113,7 +114,7 @@ roles_fit g inner u m = (length u.roles == length inner.roles) && (role_at (shap
 
 -- a name has more than 32 bytes
 abbrev pub is_long : Name → Bool
-is_long n = nat_lt 32 (length n)
+is_long n = nat_lt most_name_bytes (length n)
 
 -- a new name is too long
 abbrev pub has_long : Graph → Use → ℕ → Bool
@@ -127,8 +128,8 @@ clashes g inner u m = list_any (λ v. has_text (inner_name u v.name) (variable_n
 
 -- there would be more variables, nodes or edges than a graph has
 abbrev pub too_large : Graph → Graph → ℕ → Bool
-too_large g inner m = nat_lt 32 (length g.variables + length inner.variables) || nat_lt 256 (length g.nodes + length (inside inner m))
-    || nat_lt 512 (length g.edges + length inner.edges)
+too_large g inner m = nat_lt most_variables (length g.variables + length inner.variables) || nat_lt most_nodes (length g.nodes + length (inside inner m))
+    || nat_lt most_edges (length g.edges + length inner.edges)
 
 -- ---- parts
 

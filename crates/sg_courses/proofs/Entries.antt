@@ -2,9 +2,8 @@
 use Rattle.std.proofs.Common.{◌≡◌, ◌⊎◌, nat_lt, ℕ, zero, suc, ◌+◌, inl, inr, ◌<◌, ◌≤◌, ◌==◌, true, false, ◌&&◌, List, [], ◌∷◌, map, length, refl, sym, ◌∙◌, ap, subst, arith}
 use Rattle.std.specs.Prelude.{Option, Some, None, Ok, Err, Contains, bytes_eq}
 use Rattle.std.specs.Option.{option_map_or}
-use Rattle.std.proofs.lemmas.Bool.{and_parts, eqb-true, eq-eqb}
+use Rattle.std.proofs.lemmas.Bool.{and_parts, eqb-true, eq-eqb, cases_Bool}
 use Rattle.std.proofs.lemmas.Bool.Decides.{nat_tests}
-use Rattle.sg_graph.proofs.Found.{cases_of}
 use Rattle.sg_grown.specs.Courses.{is_receipt}
 use Rattle.sg_law.proofs.Members.{all_in, in_left, in_map, in_flat}
 use Rattle.sg_law.proofs.Take.{contains_from_in}
@@ -122,13 +121,13 @@ has_role g c (NotDelivered r) e h named = absurd (cc)
 -- ---- programs
 
 differs : (k r : ℕ) → k ≤ r → (k ≡ r → ⊥) → suc k ≤ r
-differs k r low d = elim (cases_of (nat_lt k r)) [
+differs k r low d = elim (cases_Bool (nat_lt k r)) [
   | inl y ↦ (let h : k < r = grind (arith, nat_tests, y) in omega (arith, h))
   | inr n ↦ absurd (d (let h : r ≤ k = grind (arith, nat_tests, n) in omega (arith, h, low)))
 ]
 
 cases_place : (k r : ℕ) → (k ≡ r) ⊎ (k ≡ r → ⊥)
-cases_place k r = elim (cases_of (k == r)) [
+cases_place k r = elim (cases_Bool (k == r)) [
   | inl y ↦ inl (eqb-true k r y)
   | inr n ↦ inr (λ e. absurd (let z : true ≡ false = sym (eq-eqb k r e) ∙ n in cc))
 ]

@@ -3,7 +3,7 @@ use Rattle.std.proofs.Common.{◌≡◌, ℕ, false, inl, inr, List, [], ◌∷�
 use Rattle.std.specs.Prelude.{Some, None, bytes_eq}
 use Rattle.std.specs.Map.{lookup}
 use Rattle.std.specs.List.{AllByRecursion}
-use Rattle.sg_graph.proofs.Found.{cases_of}
+use Rattle.std.proofs.lemmas.Bool.{cases_Bool}
 use Rattle.sg_grown.specs.Events.{grown_along}
 use Rattle.sg_grown.proofs.Coursed.{courses_are_grown}
 use Rattle.sg_grown.proofs.Parted.{events_of-part}
@@ -23,7 +23,7 @@ use Rattle.sg_courses.proofs.Going.{Entry, keys, no_steps}
 -- the course that is found is that of the session
 found_course : (P : List ℕ → Course → Type 0) (es : List Entry) (sid : List ℕ) (c : Course) → AllByRecursion (λ (e : Entry). P e.0 e.1) es → lookup (bytes_eq sid) es ≡ Some c → P sid c
 found_course P [] sid c a h = absurd (cc)
-found_course P (e ∷ es) sid c a h = elim (cases_of (bytes_eq sid e.0)) [
+found_course P (e ∷ es) sid c a h = elim (cases_Bool (bytes_eq sid e.0)) [
   | inl y ↦ (let two : Some e.1 ≡ Some c = rw y at h in let same : e.1 ≡ c = cc in subst (λ x. P sid x) same (subst (λ x. P x e.1) (sym (same_bytes sid e.0 y)) a.0))
   | inr n ↦ found_course P es sid c a.1 (rw n at h)
 ]
@@ -31,7 +31,7 @@ found_course P (e ∷ es) sid c a h = elim (cases_of (bytes_eq sid e.0)) [
 -- where none is found, the sid isn't there
 none_found : (es : List Entry) (sid : List ℕ) → lookup (bytes_eq sid) es ≡ None → has_text sid (keys es) ≡ false
 none_found [] sid h = refl
-none_found (e ∷ es) sid h = elim (cases_of (bytes_eq sid e.0)) [
+none_found (e ∷ es) sid h = elim (cases_Bool (bytes_eq sid e.0)) [
   | inl y ↦ absurd (let two : Some e.1 ≡ None = rw y at h in cc)
   | inr n ↦ rw n (none_found es sid (rw n at h))
 ]

@@ -2,20 +2,19 @@
 use Rattle.std.proofs.Common.{◌≡◌, ℕ, zero, suc, ◌<◌, nat_lt, Bool, true, false, not, ◌||◌, ◌&&◌, cond, List, [], ◌∷◌, ◌++◌, map, filter, length, refl, sym, ◌∙◌, ap, subst, inl, inr, arith, append-nil}
 use Rattle.std.specs.Prelude.{Some, Ok, bytes_eq, find, flat_map, slice_get, option_and_then}
 use Rattle.std.specs.List.{AllByRecursion, list_any}
-use Rattle.std.proofs.lemmas.Bool.{and_parts, or_parts}
+use Rattle.std.proofs.lemmas.Bool.{and_parts, or_parts, cases_Bool, not-true, or_right}
 use Rattle.std.proofs.lemmas.Bool.Decides.{nat_tests}
 use Rattle.std.proofs.lemmas.Grind.{flat_map-append}
 use Rattle.std.proofs.lemmas.List.{map-append}
 use Rattle.std.proofs.lemmas.List.Elements.{filter-append}
 use Rattle.indexmap.specs.IndexMap.{set_value_at}
-use Rattle.sg_graph.proofs.Found.{cases_of}
 use Rattle.sg_grown.specs.Courses.{IsCourse, is_receipt}
 use Rattle.sg_grown.specs.Sessions.{is_of_session, steps_of_session}
 use Rattle.sg_grown.proofs.Coursed.{goes_on, courses_show_views}
 use Rattle.sg_lines.specs.Sessions.{firsts}
 use Rattle.sg_lines.proofs.Firsts.{has_text-firsts, has_text-filtered, firsts-new, firsts-again}
 use Rattle.sg_model.specs.Lists.{has_text, all_differ, is_in}
-use Rattle.sg_model.proofs.Small.{same_bytes, bytes_same, bytes_refl, all-append, clash, not_true}
+use Rattle.sg_model.proofs.Small.{same_bytes, bytes_same, bytes_refl, all-append, clash, or_false}
 use Rattle.sg_protocol.specs.Calls.{Event, Call, Deliver, Happened, sid_of, role_of}
 use Rattle.sg_protocol.specs.Evidence.{IsView}
 use Rattle.sg_protocol.specs.Frame.{Cast, Frame}
@@ -50,7 +49,7 @@ not_itself t [] = refl
 not_itself t (u ∷ us) = by (bytes_eq u t) refl (not_itself t us)
   where
     turned : bytes_eq u t ≡ false → bytes_eq t u ≡ false
-    turned n = elim (cases_of (bytes_eq t u)) [ inl y ↦ absurd (let z : true ≡ false = sym (bytes_same u t (sym (same_bytes t u y))) ∙ n in cc) | inr m ↦ m ]
+    turned n = elim (cases_Bool (bytes_eq t u)) [ inl y ↦ absurd (let z : true ≡ false = sym (bytes_same u t (sym (same_bytes t u y))) ∙ n in cc) | inr m ↦ m ]
 
     by : (b : Bool) → bytes_eq u t ≡ b → has_text t (filter (λ s. not (bytes_eq s t)) us) ≡ false → has_text t (cond (not b) (u ∷ filter (λ s. not (bytes_eq s t)) us) (filter (λ s. not (bytes_eq s t)) us)) ≡ false
     by true e rest = rest
@@ -60,7 +59,7 @@ filter_differ : (q : List ℕ → Bool) (ts : List (List ℕ)) → all_differ ts
 filter_differ q [] d = refl
 filter_differ q (u ∷ us) d =
     let ps = and_parts (not (has_text u us)) (all_differ us) d in
-    by (q u) (filter_differ q us ps.1) (has_text-filtered q u us (not_true (has_text u us) ps.0))
+    by (q u) (filter_differ q us ps.1) (has_text-filtered q u us (not-true (has_text u us) ps.0))
   where
     by : (b : Bool) → all_differ (filter q us) ≡ true → has_text u (filter q us) ≡ false → all_differ (cond b (u ∷ filter q us) (filter q us)) ≡ true
     by true rest none = rw none rest
@@ -76,10 +75,6 @@ firsts_differ (t ∷ ts) = rw (not_itself t (firsts ts)) (filter_differ (λ s. n
 -- the step with its one event
 of_session : (sid : List ℕ) (l : Logged) (e : Event) → events_of_outcome l.outcome ≡ e ∷ [] → is_of_session sid l ≡ (bytes_eq (sid_of e) sid || false)
 of_session sid l e one = ap (list_any (λ x. bytes_eq (sid_of x) sid)) one
-
-or_false : (b : Bool) → (b || false) ≡ b
-or_false true = refl
-or_false false = refl
 
 pub more_of : (sid : List ℕ) (before : List Logged) (l : Logged) (e : Event) → events_of_outcome l.outcome ≡ e ∷ [] → sid_of e ≡ sid → steps_of_session sid (before ++ l ∷ []) ≡ steps_of_session sid before ++ l ∷ []
 more_of sid before l e one is =
@@ -101,7 +96,7 @@ any_event sid (e ∷ es) h =
     rw (turned ps.0) (any_event sid es ps.1)
   where
     turned : bytes_eq sid (sid_of e) ≡ false → bytes_eq (sid_of e) sid ≡ false
-    turned n = elim (cases_of (bytes_eq (sid_of e) sid)) [ inl y ↦ absurd (let z : true ≡ false = sym (bytes_same sid (sid_of e) (sym (same_bytes (sid_of e) sid y))) ∙ n in cc) | inr m ↦ m ]
+    turned n = elim (cases_Bool (bytes_eq (sid_of e) sid)) [ inl y ↦ absurd (let z : true ≡ false = sym (bytes_same sid (sid_of e) (sym (same_bytes (sid_of e) sid y))) ∙ n in cc) | inr m ↦ m ]
 
 has_text_parts : (t : List ℕ) (xs ys : List (List ℕ)) → has_text t (xs ++ ys) ≡ false → (has_text t xs ≡ false) × (has_text t ys ≡ false)
 has_text_parts t [] ys h = (refl, h)
@@ -152,10 +147,6 @@ module _ (s : Schedule) (log : List Logged) (before : List Logged) (l : Logged) 
   in_keys [] i sid old at = absurd (cc)
   in_keys (x ∷ xs) zero sid old at = (let q : x ≡ (sid, old) = cc in rw (bytes_same sid x.0 (sym (ap (λ (z : Entry). z.0) q))) refl)
   in_keys (x ∷ xs) (suc i) sid old at = or_right (bytes_eq sid x.0) (has_text sid (keys xs)) (in_keys xs i sid old at)
-    where
-      or_right : (a b : Bool) → b ≡ true → (a || b) ≡ true
-      or_right true b h = refl
-      or_right false b h = h
 
   all_at : (sid : List ℕ) → ((x : Entry) → bytes_eq sid x.0 ≡ false → Before x → Now x) → (old new : Course) → (Before (sid, old) → Now (sid, new)) → (es : List Entry) (i : ℕ) → all_differ (keys es) ≡ true → slice_get es i ≡ Some (sid, old)
       → AllByRecursion Before es → AllByRecursion Now (set_value_at es i new)
@@ -164,13 +155,13 @@ module _ (s : Schedule) (log : List Logged) (before : List Logged) (l : Logged) 
       let q : x ≡ (sid, old) = cc in
       let name : x.0 ≡ sid = ap (λ (z : Entry). z.0) q in
       let ps = and_parts (not (has_text x.0 (keys xs))) (all_differ (keys xs)) d in
-      (subst (λ z. Now (z, new)) (sym name) (step (subst Before q a.0)), all_others sid other xs (subst (λ z. has_text z (keys xs) ≡ false) name (not_true (has_text x.0 (keys xs)) ps.0)) a.1)
+      (subst (λ z. Now (z, new)) (sym name) (step (subst Before q a.0)), all_others sid other xs (subst (λ z. has_text z (keys xs) ≡ false) name (not-true (has_text x.0 (keys xs)) ps.0)) a.1)
   all_at sid other old new step (x ∷ xs) (suc i) d at a =
       let ps = and_parts (not (has_text x.0 (keys xs))) (all_differ (keys xs)) d in
-      (other x (differs x xs sid i old at (not_true (has_text x.0 (keys xs)) ps.0)) a.0, all_at sid other old new step xs i ps.1 at a.1)
+      (other x (differs x xs sid i old at (not-true (has_text x.0 (keys xs)) ps.0)) a.0, all_at sid other old new step xs i ps.1 at a.1)
     where
       differs : (x : Entry) (xs : List Entry) (sid : List ℕ) (i : ℕ) (old : Course) → slice_get xs i ≡ Some (sid, old) → has_text x.0 (keys xs) ≡ false → bytes_eq sid x.0 ≡ false
-      differs x xs sid i old at n = elim (cases_of (bytes_eq sid x.0)) [
+      differs x xs sid i old at n = elim (cases_Bool (bytes_eq sid x.0)) [
         | inl y ↦ clash (has_text x.0 (keys xs)) (subst (λ z. has_text z (keys xs) ≡ true) (same_bytes sid x.0 y) (in_keys xs i sid old at)) n
         | inr m ↦ m
       ]

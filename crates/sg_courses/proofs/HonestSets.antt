@@ -1,12 +1,12 @@
 -- The set of the honest roles of a cast, role by role.
-use Rattle.std.proofs.Common.{◌≡◌, ℕ, zero, suc, ◌+◌, ◌<◌, ◌==◌, nat_lt, Bool, true, false, ◌&&◌, ◌||◌, inl, inr, List, [], ◌∷◌, length, get_or, refl, sym, ◌∙◌, ap, arith}
-use Rattle.std.proofs.lemmas.Bool.{eqb-true}
+use Rattle.std.proofs.Common.{◌≡◌, ℕ, zero, suc, ◌+◌, ◌<◌, ◌==◌, nat_lt, Bool, true, false, ◌&&◌, inl, inr, List, [], ◌∷◌, length, get_or, refl, sym, ◌∙◌, ap, arith}
+use Rattle.std.proofs.lemmas.Bool.{eqb-true, cases_Bool}
 use Rattle.std.proofs.lemmas.Bool.Decides.{nat_tests}
 use Rattle.sg_base.specs.Sets.{with_member}
-use Rattle.sg_base.proofs.SetLaws.{is_in-filter}
-use Rattle.sg_graph.proofs.Found.{cases_of}
+use Rattle.sg_base.proofs.SetLaws.{is_in-with_role}
 use Rattle.sg_model.specs.Lists.{is_in, has_text}
 use Rattle.sg_model.specs.Names.{Name}
+use Rattle.sg_model.proofs.Small.{and_false}
 use Rattle.sg_protocol.specs.Frame.{Cast}
 use Rattle.sg_protocol.specs.Session.{principal}
 
@@ -14,16 +14,12 @@ use Rattle.sg_protocol.specs.Session.{principal}
 abbrev pub AreHonestBelow : List Name → Cast → ℕ → List ℕ → Type 0
 AreHonestBelow names cast n set = (r : ℕ) → is_in r set ≡ (nat_lt r n && has_text (principal cast r) names)
 
-member : (x r : ℕ) (set : List ℕ) → is_in r (with_member 16 set x) ≡ (nat_lt r 16 && ((r == x) || is_in r set))
-unfolding with_member
-member x r set = is_in-filter (λ y. (y == x) || is_in y set) 0 16 r ∙ grind (arith, nat_tests)
-
 next_at : (n r : ℕ) → (r == n) ≡ false → nat_lt r (n + 1) ≡ nat_lt r n
 next_at n r e = grind (arith, nat_tests, e)
 
 -- one role more, which is honest
 pub honest_more : (names : List Name) (cast : Cast) (n : ℕ) (set : List ℕ) → n < 16 → has_text (principal cast n) names ≡ true → AreHonestBelow names cast n set → AreHonestBelow names cast (n + 1) (with_member 16 set n)
-honest_more names cast n set small honest h r = member n r set ∙ elim (cases_of (r == n)) [
+honest_more names cast n set small honest h r = is_in-with_role n r set ∙ elim (cases_Bool (r == n)) [
   | inl e ↦
       (let same : r ≡ n = eqb-true r n e in
       let a : nat_lt r 16 ≡ true = grind (arith, nat_tests, same, small) in
@@ -37,15 +33,11 @@ honest_more names cast n set small honest h r = member n r set ∙ elim (cases_o
   where
     within : (c : Bool) → nat_lt r n ≡ c → (nat_lt r 16 && (c && has_text (principal cast r) names)) ≡ (c && has_text (principal cast r) names)
     within true e = ap (λ b. b && has_text (principal cast r) names) (let z : nat_lt r 16 ≡ true = grind (arith, nat_tests, e, small) in z)
-    within false e = nothing (nat_lt r 16)
-      where
-        nothing : (b : Bool) → (b && false) ≡ false
-        nothing true = refl
-        nothing false = refl
+    within false e = and_false (nat_lt r 16)
 
 -- one role more, which is not
 pub honest_same : (names : List Name) (cast : Cast) (n : ℕ) (set : List ℕ) → has_text (principal cast n) names ≡ false → AreHonestBelow names cast n set → AreHonestBelow names cast (n + 1) set
-honest_same names cast n set other h r = h r ∙ elim (cases_of (r == n)) [
+honest_same names cast n set other h r = h r ∙ elim (cases_Bool (r == n)) [
   | inl e ↦
       (let same : r ≡ n = eqb-true r n e in
       let no : has_text (principal cast r) names ≡ false = ap (λ k. has_text (principal cast k) names) same ∙ other in

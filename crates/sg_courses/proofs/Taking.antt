@@ -1,9 +1,7 @@
 -- What a course makes of a frame, by the program that is found for the receiver.
-use Rattle.std.proofs.Common.{◌≡◌, ℕ, zero, suc, ◌<◌, ◌≤◌, ◌==◌, ◌&&◌, ◌↔◌, Bool, true, bytes_eq, All, length, get_or, map, List, [], ◌∷◌, ◌++◌, refl, sym, ◌∙◌, ap, subst, arith}
+use Rattle.std.proofs.Common.{◌≡◌, ℕ, zero, suc, ◌<◌, ◌≤◌, ◌&&◌, Bool, bytes_eq, All, length, get_or, map, List, [], ◌∷◌, ◌++◌, refl, sym, ◌∙◌, ap, subst, arith}
 use Rattle.std.specs.Prelude.{Option, Some, None, Result, Ok, Err, OnOk, OnErr, find, slice_get}
-use Rattle.std.proofs.lemmas.Bool.Decides.{nat_tests, same_from_decides}
 use Rattle.std.proofs.lemmas.List.{map-append}
-use Rattle.std.proofs.lemmas.Slice.Eq.{bytes_eq-Decides}
 use Rattle.indexmap.specs.IndexMap.{set_value_at}
 use Rattle.sg_grown.specs.Events.{pair_of}
 use Rattle.sg_grown.specs.Examples.{AreShown, view_since}
@@ -11,6 +9,7 @@ use Rattle.sg_grown.specs.declared.shown.Shown.{Shown}
 use Rattle.sg_protocol.specs.Calls.{Event}
 use Rattle.sg_protocol.specs.Evidence.{IsView, IsViewTable}
 use Rattle.sg_model.specs.Names.{Name}
+use Rattle.sg_model.proofs.Small.{bytes_eq-swap, eqb-swap}
 use Rattle.sg_protocol.specs.Frame.{Cast, Frame}
 use Rattle.sg_protocol.specs.Graph.{Graph}
 use Rattle.sg_protocol.specs.Grown.{IsExample}
@@ -38,18 +37,9 @@ on_err P Q (Err e) f h = f h
 
 -- ---- programs
 
-turned_text : (a b : List ℕ) → bytes_eq a b ≡ bytes_eq b a
-turned_text a b = same_from_decides _ _ (bytes_eq-Decides a b) (turn (bytes_eq-Decides b a))
-  where
-    turn : (bytes_eq b a ≡ true) ↔ (b ≡ a) → (bytes_eq b a ≡ true) ↔ (a ≡ b)
-    turn d = (λ y. sym (d.0 y), λ e. d.1 (sym e))
-
-turned_number : (a b : ℕ) → (a == b) ≡ (b == a)
-turned_number a b = grind (arith, nat_tests)
-
 -- the search for a digest and a role is that of the definition
 pub found_for : (d : List ℕ) (r : ℕ) (ps : List Program) → find (is_for d r) ps ≡ program_for ps d r
-found_for d r ps = ap (λ (test : Program → Bool). find test ps) (λ i p. turned_text d p.digest i && turned_number r p.role i)
+found_for d r ps = ap (λ (test : Program → Bool). find test ps) (λ i p. bytes_eq-swap d p.digest i && eqb-swap r p.role i)
 
 -- ---- a frame
 

@@ -2,5 +2,6 @@ pub mod Courses
 pub mod Runs
 pub mod Adding
 pub mod Tables
-pub mod Held
+pub mod Model
+pub mod Invariant
 pub mod Laws

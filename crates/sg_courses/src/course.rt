@@ -4,7 +4,7 @@ ghost use Rattle.sg_grown.specs.Events.{grown_along};
 ghost use Rattle.sg_model.specs.Lists.{is_in};
 ghost use Rattle.sg_protocol.specs.Node.{program_for};
 ghost use Rattle.sg_protocol.specs.Spelling.{HasSpelling};
-ghost use Rattle.sg_walk.specs.Views.{event_of, steps_of};
+ghost use Rattle.sg_walk.specs.Model.{event_of, steps_of};
 ghost use Rattle.sg_courses.specs.Adding.{Adds, Begins, Takes};
 
 use crate::honest::honest_roles;
@@ -35,7 +35,8 @@ impl<'r> Model for Course<'r> {
 
     ghost Value = { Course };
 
-    ghost use Rattle.sg_courses.specs.Held.{course_of, HoldsCourse};
+    ghost use Rattle.sg_courses.specs.Model.{course_of};
+    ghost use Rattle.sg_courses.specs.Invariant.{HoldsCourse};
 
     ghost view = { course_of };
 

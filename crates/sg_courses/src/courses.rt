@@ -12,7 +12,7 @@ ghost use Rattle.sg_protocol.specs.Schedule.{Schedule};
 ghost use Rattle.sg_protocol.specs.Spelling.{HasSpelling};
 ghost use Rattle.sg_protocol.specs.Texts.{real};
 ghost use Rattle.sg_protocol.specs.World.{Logged};
-ghost use Rattle.sg_walk.specs.Views.{event_of, steps_of};
+ghost use Rattle.sg_walk.specs.Model.{event_of, steps_of};
 ghost use Rattle.sg_courses.specs.Adding.{Adds, Takes};
 ghost use Rattle.sg_courses.specs.Courses.{Course as Kept};
 ghost use Rattle.sg_courses.specs.Tables.{Begun, GoesAt};
@@ -20,12 +20,12 @@ ghost use Rattle.sg_courses.specs.Runs.{AreCourses, GoOn, IsExplainedBy, IsUnbro
 
 use crate::Course;
 use indexmap::IndexMap;
-use sg_base::{OutOfMemory, Role, Sid};
+use sg_base::{OutOfMemory, Sid};
 use sg_crypt::Cast;
 use sg_frame::{DecodeFault, Frame, decode};
 use sg_premises::Honest;
 use sg_program::Programs;
-use sg_walk::{Event, StoredWalk};
+use sg_walk::{Event, StoredWalk, role_of, sid_of};
 use std::alloc::{AllocError, Global};
 use std::marker::Model;
 
@@ -42,7 +42,7 @@ impl<'r> Model for Courses<'r> {
 
     ghost Value = { Courses };
 
-    ghost use Rattle.sg_courses.specs.Held.{courses_of};
+    ghost use Rattle.sg_courses.specs.Model.{courses_of};
 
     ghost view = { courses_of };
 }
@@ -165,28 +165,6 @@ impl<'r> Courses<'r> {
             Some(course) => Ok(Some(course.walk(alloc)?)),
             None => Ok(None),
         }
-    }
-}
-
-// The session of an event.
-fn sid_of(event: &Event) -> Sid
-    ensures { result ≡ sid_of (event_of event.now) }
-{
-    match event {
-        Event::Started { sid, .. } => *sid,
-        Event::Sent { sid, .. } => *sid,
-        Event::Received { sid, .. } => *sid,
-    }
-}
-
-// The role of an event.
-fn role_of(event: &Event) -> Role
-    ensures { result ≡ role_of (event_of event.now) }
-{
-    match event {
-        Event::Started { role, .. } => *role,
-        Event::Sent { role, .. } => *role,
-        Event::Received { role, .. } => *role,
     }
 }
 

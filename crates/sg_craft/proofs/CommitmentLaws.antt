@@ -6,23 +6,19 @@ use Rattle.std.proofs.Math.Seq.{take-append_seam}
 use Rattle.sg_model.specs.Last.{Map}
 use Rattle.sg_model.specs.Values.{Opening}
 use Rattle.sg_model.specs.Lists.{below, range_from, value_at}
+use Rattle.sg_model.proofs.Small.{same_number}
 use Rattle.sg_protocol.specs.Crafted.{committed_to, known_item}
 use Rattle.sg_protocol.specs.Frame.{Item}
 use Rattle.sg_protocol.specs.Graph.{Graph}
 use Rattle.sg_protocol.specs.Session.{commitments, committed}
 use Rattle.sg_protocol.proofs.Ends.{committed-append}
 use Rattle.sg_protocol.specs.Texts.{real}
+use Rattle.sg_protocol.proofs.KeptLaws.{not_equal}
 use Rattle.sg_craft.specs.Making.{overwritten}
 use Rattle.sg_craft.specs.Means.{Means}
 
-is_same : (a b : ℕ) → a ≡ b → (a == b) ≡ true
-is_same a b h = grind (arith, nat_tests)
-
 is_other : (a b : ℕ) → a < b → (a == b) ≡ false
 is_other a b h = grind (arith, nat_tests)
-
-is_greater : (a b : ℕ) → b < a → (a == b) ≡ false
-is_greater a b h = grind (arith, nat_tests)
 
 map_above : {A : Type 0} (f h : ℕ → A) (k n : ℕ) → ((x : ℕ) → k ≤ x → f x ≡ h x) → map f (range_from k n) ≡ map h (range_from k n)
 map_above f h k zero e = refl
@@ -32,10 +28,10 @@ module _ {A : Type 0} (f : ℕ → A) (v : A) where
   set_range : (k n i : ℕ) → set (map f (range_from k n)) i v ≡ map (λ y. if k + i == y then v else f y) (range_from k n)
   set_range k zero i = refl
   set_range k (suc n) zero =
-      let here : (k + zero == k) ≡ true = is_same (k + zero) k (omega arith) in
+      let here : (k + zero == k) ≡ true = same_number (k + zero) k (omega arith) in
       λ j. (sym (ap (λ b. if b then v else f k) here) j) ∷ map_above f (λ y. if k + zero == y then v else f y) (suc k) n (λ x l. sym (ap (λ b. if b then v else f x) (is_other (k + zero) x (omega arith)))) j
   set_range k (suc n) (suc i) =
-      let here : (k + suc i == k) ≡ false = is_greater (k + suc i) k (omega arith) in
+      let here : (k + suc i == k) ≡ false = not_equal (k + suc i) k (omega arith) in
       let e : suc k + i ≡ k + suc i = omega arith in
       λ j. (sym (ap (λ b. if b then v else f k) here) j) ∷ (set_range (suc k) n i ∙ ap (λ m. map (λ y. if m == y then v else f y) (range_from (suc k) n)) e) j
 

@@ -1,20 +1,16 @@
 -- Crafted items, and their range.
-use Rattle.std.proofs.Common.{◌≡◌, ℕ, zero, suc, ◌+◌, ◌<◌, ◌≤◌, Bool, true, false, List, [], ◌∷◌, ◌++◌, map, length, take, drop, get_or, replicate, ◌==◌, ◌-◌, if◌then◌else◌, lit<, Option, Some, None, drop-cons, drop_of_length-le, length-take-le, refl, sym, ap, subst, ◌∙◌, inl, inr, arith, append_assoc, append-nil, length-append}
+use Rattle.std.proofs.Common.{◌≡◌, ℕ, zero, suc, ◌+◌, ◌<◌, ◌≤◌, Bool, true, false, List, [], ◌∷◌, ◌++◌, map, length, take, drop, get_or, replicate, ◌==◌, ◌-◌, if◌then◌else◌, lit<, Option, Some, None, drop-cons, refl, sym, ap, subst, ◌∙◌, arith, append_assoc, append-nil}
 use Rattle.std.specs.List.{AllByRecursion}
 use Rattle.std.proofs.lemmas.List.{take_more}
-use Rattle.std.proofs.Math.Seq.{drop-append_seam}
 use Rattle.sg_model.specs.Last.{Map}
 use Rattle.sg_model.specs.Lists.{keys_of, rises_from, value_at}
-use Rattle.sg_model.specs.Bytes.{AreBytes}
 use Rattle.sg_model.specs.Values.{Opening}
 use Rattle.sg_model.proofs.Small.{all-append}
 use Rattle.sg_protocol.specs.Crafted.{committed_to, crafted_item, crafted_items, known_item, no_tag}
 use Rattle.sg_protocol.specs.Frame.{Item, IsItem, IsTag}
 use Rattle.sg_protocol.specs.Schedule.{Source, CraftItem}
 use Rattle.sg_protocol.specs.Session.{Session, new_session, commitments}
-use Rattle.sg_protocol.specs.Texts.{real, cut}
-use Rattle.sg_protocol.specs.TextLaws.{IsVersion}
-use Rattle.sg_protocol.proofs.Spelled.{to_bytes, from_bytes, bytes-append, bytes-take, bytes-zeros}
+use Rattle.sg_protocol.specs.Texts.{real}
 use Rattle.sg_craft.proofs.CommitmentLaws.{over_items}
 use Rattle.sg_craft.specs.Making.{overwritten, plain_item, tag_made, item_by, zero_item}
 use Rattle.sg_craft.specs.Means.{Means, with_keys, with_frames}
@@ -114,15 +110,6 @@ items_count m before [] = refl
 items_count m before (c ∷ cs) = ap suc (items_count m (before ++ item_after m before c ∷ []) cs)
 
 -- ---- cut tags
-
-pub cut_in_range : (v : ℕ) → IsVersion v → (t : List ℕ) → AreBytes 32 t → IsTag v (cut v t)
-cut_in_range v (inl e) t h = subst (λ v. IsTag v (cut v t)) (sym e) record { bytes = h; zeros = (let l : length t ≤ 32 = (let k = h.0 in omega (arith, k)) in drop_of_length-le t l) }
-cut_in_range v (inr e) t h =
-    let front : length (take 16 t) ≡ 16 = length-take-le 16 t (let k = h.0 in omega (arith, k)) in
-    subst (λ v. IsTag v (cut v t)) (sym e) record {
-      bytes = ((let a = length-append (take 16 t) (replicate 16 0) in omega (arith, a, front)), to_bytes _ (bytes-append (take 16 t) (replicate 16 0) (bytes-take 16 t (from_bytes t h.1)) (bytes-zeros 16)));
-      zeros = subst (λ n. drop n (take 16 t ++ replicate 16 0) ≡ replicate 16 0) front (drop-append_seam (take 16 t) (replicate 16 0));
-    }
 
 -- ---- item after item
 

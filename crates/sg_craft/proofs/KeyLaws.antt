@@ -14,7 +14,8 @@ use Rattle.sg_protocol.specs.Crafted.{pair_key}
 use Rattle.sg_protocol.specs.Schedule.{PairKey}
 use Rattle.sg_protocol.proofs.Finding.{find_all, find_passes}
 use Rattle.sg_base.proofs.SameName.{same-bytes_eq, same-bytes_eq_back}
-use Rattle.sg_craft.specs.Keys.{AreApart, is_in_order, key_of_entry}
+use Rattle.sg_craft.specs.Model.{is_in_order, key_of_entry}
+use Rattle.sg_craft.specs.Invariant.{AreApart}
 use Rattle.sg_craft.specs.declared.keys.Pair.{Pair}
 use Rattle.sg_craft.specs.contracts.keys.PairPartialEq.TheImpl.{eq-value}
 

@@ -1,3 +1,4 @@
-pub mod Keys
+pub mod Model
+pub mod Invariant
 pub mod Making
 pub mod Means

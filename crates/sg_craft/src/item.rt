@@ -1,7 +1,7 @@
 //! Items of a crafted frame.
 ghost use Rattle.std.specs.Prelude.{◌≡◌, ◌∷◌, [], map, IfOk, OnOk};
 ghost use Rattle.std.specs.List.{AllByRecursion};
-ghost use Rattle.sg_model.specs.Bytes.{AreBytes, IsBytes};
+ghost use Rattle.sg_model.specs.Bytes.{AreBytes};
 ghost use Rattle.sg_model.specs.Shape.{sender};
 ghost use Rattle.sg_protocol.specs.Crafted.{committed_to, crafted_items, known_item};
 ghost use Rattle.sg_protocol.specs.Frame.{IsItem, IsTag};
@@ -16,7 +16,7 @@ ghost use Rattle.sg_craft.specs.Means.{with_keys, with_frames};
 use crate::Means;
 use crate::commitments::{committed_to, none_yet, overwrite};
 use crate::source::tag_by;
-use sg_base::{Label, NodeId, Opening, OutOfMemory, Role, Seq, Tag};
+use sg_base::{Label, NodeId, Opening, OutOfMemory, Role, Seq, Tag, tell_bytes};
 use sg_crypt::{cut, item_text};
 use sg_frame::Item;
 use sg_graph::Graph;
@@ -157,8 +157,3 @@ fn tell(tag: &Tag)
 {
     tell_bytes(&tag.0);
 }
-
-// What the type `u8` says of each of these.
-fn tell_bytes(bytes: &[u8])
-    ensures { IsBytes bytes.now }
-{}

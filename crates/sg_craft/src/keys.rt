@@ -28,7 +28,8 @@ impl Model for PairKeys {
 
     ghost Value = { List PairKey };
 
-    ghost use Rattle.sg_craft.specs.Keys.{keys_kept, AreApart};
+    ghost use Rattle.sg_craft.specs.Model.{keys_kept};
+    ghost use Rattle.sg_craft.specs.Invariant.{AreApart};
 
     ghost view = { keys_kept };
 
@@ -36,7 +37,8 @@ impl Model for PairKeys {
 }
 
 impl PairKeys {
-    ghost use Rattle.sg_craft.specs.Keys.{AreApart, is_in_order};
+    ghost use Rattle.sg_craft.specs.Model.{is_in_order};
+    ghost use Rattle.sg_craft.specs.Invariant.{AreApart};
 
     /// These keys, of different pairs of principals, whichever stands first.
     pub fn new(alloc: Global, keys: &[PairKey]) -> Result<PairKeys, OutOfMemory>
@@ -85,7 +87,8 @@ impl PairKeys {
     }
 }
 
-ghost use Rattle.sg_craft.specs.Keys.{AreApart, key_of_entry};
+ghost use Rattle.sg_craft.specs.Model.{key_of_entry};
+ghost use Rattle.sg_craft.specs.Invariant.{AreApart};
 
 // Adds the key of a pair that has none as the last one.
 fn put_last(table: &mut IndexMap<Pair, [u8; 32]>, key: &PairKey) -> Result<(), OutOfMemory>

@@ -6,7 +6,8 @@ use Rattle.std.proofs.Math.Seq.{take-append_seam}
 use Rattle.sg_model.specs.Names.{Name, is_name}
 use Rattle.sg_model.specs.Bytes.{AreBytes}
 use Rattle.sg_protocol.specs.TextLaws.{IsVersion}
-use Rattle.sg_crypt.specs.Casts.{first_of, filled, HoldsCast}
+use Rattle.sg_crypt.specs.Model.{first_of, filled}
+use Rattle.sg_crypt.specs.Invariant.{HoldsCast}
 
 -- the first name everywhere, and then the names, are the names filled up
 pub filled_up : (names places : List Name) (x : Name) → x ≡ get_or names 0 x → 0 < length names → places ≡ names →

@@ -1,3 +1,3 @@
-pub mod Casts
+pub mod Model
+pub mod Invariant
 pub mod CastsBack
-pub mod Keys

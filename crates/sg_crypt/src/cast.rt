@@ -1,13 +1,12 @@
 //! Who takes part in a session.
 ghost use Rattle.std.specs.Prelude.{◌≡◌, ◌↔◌, ◌≤◌, length, slice_get, IfSome, IsSome, IsTrue};
 ghost use Rattle.std.specs.List.{AllByRecursion};
-ghost use Rattle.sg_model.specs.Bytes.{IsBytes};
 ghost use Rattle.sg_model.specs.Names.{is_name};
 ghost use Rattle.sg_protocol.specs.Frame.{IsCastOf};
 ghost use Rattle.sg_protocol.specs.TextLaws.{IsVersion};
-ghost use Rattle.sg_crypt.specs.Casts.{filled};
+ghost use Rattle.sg_crypt.specs.Model.{filled};
 
-use sg_base::{Name, Role};
+use sg_base::{Name, Role, tell_bytes};
 use std::marker::Model;
 
 /// Who takes part in a session: the version of its frames, 1 or 2, the digest of its graph, sixteen bytes that tell it from other
@@ -26,7 +25,8 @@ impl Model for Cast {
 
     ghost Value = { Cast };
 
-    ghost use Rattle.sg_crypt.specs.Casts.{cast_of, fields_of, HoldsCast};
+    ghost use Rattle.sg_crypt.specs.Model.{cast_of, fields_of};
+    ghost use Rattle.sg_crypt.specs.Invariant.{HoldsCast};
     ghost use Rattle.sg_crypt.specs.CastsBack.{fields_of-cast_of};
 
     ghost view = { cast_of };
@@ -116,11 +116,6 @@ fn filled(names: &[Name]) -> [Name; 16]
     places[..names.len()].copy_from_slice(names);
     places
 }
-
-// What the type `u8` says of each of these.
-fn tell_bytes(bytes: &[u8])
-    ensures { IsBytes bytes.now }
-{}
 
 // What the type `Name` says of each of these.
 fn tell_names(names: &[Name])

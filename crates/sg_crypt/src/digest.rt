@@ -1,7 +1,7 @@
 //! What is hashed: graphs, sessions, and openings of commitments.
 ghost use Rattle.std.specs.Prelude.{◌≡◌, ℕ, List, ◌++◌, codes};
 ghost use Rattle.sha2.specs.Hashers.{Holds256};
-ghost use Rattle.sg_base.specs.Values.{value_of};
+ghost use Rattle.sg_base.specs.Model.{value_of};
 ghost use Rattle.sg_protocol.specs.Graph.{Graph, canonical};
 ghost use Rattle.sg_protocol.specs.Spelling.{u8, short_text, kind_code, sized, opening_bytes};
 ghost use Rattle.sg_protocol.specs.Texts.{real, graph_digest, session_id, commitment};

@@ -19,7 +19,7 @@ pub struct Key {
 
 impl Model for Key {
     ghost use Rattle.std.specs.Prelude.{List, ℕ};
-    ghost use Rattle.sg_crypt.specs.Keys.{IsReady};
+    ghost use Rattle.sg_crypt.specs.Invariant.{IsReady};
 
     ghost Value = { List ℕ };
 

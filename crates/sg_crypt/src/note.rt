@@ -75,8 +75,11 @@ fn before(a: &[u8], b: &[u8]) -> bool
 /// How long each of the three lists is.
 #[derive(Debug, Clone, Copy, PartialEq, Eq)]
 pub struct Counts {
+    /// Of the texts that were tagged.
     pub made: usize,
+    /// Of those whose tag was found right.
     pub found: usize,
+    /// Of those that were hashed.
     pub hashed: usize,
 }
 

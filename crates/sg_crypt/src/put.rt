@@ -1,6 +1,6 @@
 //! Fields that texts and frames share, written to a growing list of bytes.
 ghost use Rattle.std.specs.Prelude.{◌≡◌, ◌++◌, length, take, OnOk, OnErr};
-ghost use Rattle.sg_base.specs.Values.{value_of};
+ghost use Rattle.sg_base.specs.Model.{value_of};
 ghost use Rattle.sg_protocol.specs.Spelling.{u8, short_text, kind_code, sized, opening_bytes};
 
 use sg_base::{ByteOut, Name, Opening, OutOfMemory, Value};

@@ -1,9 +1,9 @@
 -- The other principal of a pair shares no other key with the first.
-use Rattle.std.proofs.Common.{◌≡◌, ◌≢◌, ℕ, zero, suc, ◌+◌, ◌<◌, ◌++◌, length, take, get_or, All, ap, arith, ◌⊎◌, Bool, true, false, ◌||◌, List, [], ◌∷◌, map, filter_map, bytes_eq, if◌then◌else◌, Option, Some, None, IfSome, refl, sym, ◌∙◌, subst, inl, inr}
+use Rattle.std.proofs.Common.{◌≡◌, ◌≢◌, ℕ, ◌+◌, ◌<◌, ◌++◌, length, take, get_or, All, ap, arith, ◌⊎◌, Bool, true, false, ◌||◌, List, [], ◌∷◌, map, filter_map, bytes_eq, if◌then◌else◌, Option, Some, None, IfSome, refl, sym, ◌∙◌, subst, inl, inr}
 use Rattle.std.specs.List.{AllByRecursion, cons_option}
 use Rattle.std.proofs.lemmas.List.{get_or-take, length-take, take_more}
 use Rattle.std.proofs.lemmas.List.Elements.{filter_map-append, recursion_from_All}
-use Rattle.sg_model.proofs.Small.{same_bytes}
+use Rattle.sg_model.proofs.Small.{same_bytes, same_at}
 use Rattle.sg_model.specs.Lists.{has_text}
 use Rattle.sg_model.specs.Names.{Name}
 use Rattle.sg_protocol.specs.IsSchedule.{IsPairKey}
@@ -65,12 +65,6 @@ fresh me js k is all = by (shared me k) (of_two me k)
     by : (o : Option Peer) → IfSome o (λ p. IsOther me p.name k) → IfSome o (λ p. has_text p.name (names_of (keyring_of js me)) ≡ false)
     by None h = tt
     by (Some p) h = rw (differ p.name me (other p.name h)) (among me p.name k h js all)
-
--- an element that is there is read whatever the default
-same_at : {X : Type 0} (xs : List X) (i : ℕ) (c d : X) → i < length xs → get_or xs i c ≡ get_or xs i d
-same_at [] i c d h = absurd (omega arith)
-same_at (x ∷ xs) zero c d h = refl
-same_at (x ∷ xs) (suc i) c d h = same_at xs i c d (omega arith)
 
 -- the pair at a place has another principal than those before it
 pub fresh_at : (me : Name) (keys : List PairKey) (i : ℕ) (k : PairKey) (ring : Keyring) → ring ≡ keyring_of (take i keys) me → ArePairs keys → i < length keys → k ≡ get_or keys i k → IfSome (shared me k) (λ p. has_text p.name (names_of ring) ≡ false)

@@ -5,6 +5,7 @@ use Rattle.std.proofs.lemmas.Bool.{leb-true, le-ltb}
 use Rattle.std.specs.Int.{Width, w8, w16, w32, byte_len, from_be_bytes}
 use Rattle.std.specs.Str.{is_utf8}
 use Rattle.sg_model.specs.Names.{is_name}
+use Rattle.sg_model.proofs.Small.{and_left}
 use Rattle.sg_protocol.specs.Spelling.{magic}
 use Rattle.sg_protocol.specs.Reading
 
@@ -16,10 +17,6 @@ StaysWithin end (Err at) = at ≤ end
 -- so at each place
 pub record IsBounded {A : Type 0} (r : Reading.Reader A) : Type 0 where
   pub go : (at : ℕ) (bs : List ℕ) → StaysWithin (at + length bs) (r at bs)
-
-and_left : (a b : Bool) → (a && b) ≡ true → a ≡ true
-and_left true b h = refl
-and_left false b h = h
 
 bounded-field : (n : ℕ) (test : List ℕ → Bool) → IsBounded (Reading.field n test)
 bounded-field n test = record { go = λ at bs. pick at bs (nat_le n (length bs) && test (take n bs)) (λ e. leb-true n (length bs) (and_left _ _ e)) }

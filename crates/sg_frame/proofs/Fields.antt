@@ -6,33 +6,33 @@ use Rattle.std.proofs.lemmas.List.{length-take-le, drop_all}
 use Rattle.std.proofs.lemmas.Bool.{le-leb}
 use Rattle.std.proofs.Math.Seq.{drop-drop}
 use Rattle.std.specs.Int.{Width, byte_len, from_be_bytes}
-use Rattle.sg_base.specs.Reading.{Place, past}
+use Rattle.sg_base.specs.Reading.{Cursor, past}
 use Rattle.sg_base.specs.Reading as here
 use Rattle.sg_protocol.specs.Reading.{field, number, is_within, if_none_left}
 use Rattle.sg_frame.specs.Reads.{left}
 
 -- so many bytes are left at the place
-pub there : (n : ℕ) (p : Place) → p.at + n ≤ length p.bytes → nat_le n (length (left p)) ≡ true
+pub there : (n : ℕ) (p : Cursor) → p.at + n ≤ length p.bytes → nat_le n (length (left p)) ≡ true
 there n p h = le-leb n (length (left p)) (simp length-drop (omega arith))
 
 -- the bytes are there and pass
-pub field_found : (n : ℕ) (test : List ℕ → Bool) (p : Place) → p.at + n ≤ length p.bytes → test (here.field p n) ≡ true →
+pub field_found : (n : ℕ) (test : List ℕ → Bool) (p : Cursor) → p.at + n ≤ length p.bytes → test (here.field p n) ≡ true →
     field n test p.at (left p) ≡ Ok (record { value = here.field p n; at = p.at + n; rest = left (past p n) })
 field_found n test p h t = rw (there n p h, t, drop-drop n p.at p.bytes)
 
 -- the number is there and in its range
-pub number_found : (w : Width) (low high v : ℕ) (p : Place) → p.at + byte_len w ≤ length p.bytes → v ≡ from_be_bytes w (here.field p (byte_len w)) → low ≤ v → v ≤ high →
+pub number_found : (w : Width) (low high v : ℕ) (p : Cursor) → p.at + byte_len w ≤ length p.bytes → v ≡ from_be_bytes w (here.field p (byte_len w)) → low ≤ v → v ≤ high →
     number w low high p.at (left p) ≡ Ok (record { value = v; at = p.at + byte_len w; rest = left (past p (byte_len w)) })
 number_found w low high v p h e l u =
     let inside : is_within low high (from_be_bytes w (here.field p (byte_len w))) ≡ true = rw (← e, le-leb low v l) (le-leb v high u) in
     rw (field_found (byte_len w) (λ bs. is_within low high (from_be_bytes w bs)) p h inside, e)
 
 -- the bytes are there and do not pass
-pub field_refused : (n : ℕ) (test : List ℕ → Bool) (p : Place) → p.at + n ≤ length p.bytes → test (here.field p n) ≡ false → field n test p.at (left p) ≡ Err p.at
+pub field_refused : (n : ℕ) (test : List ℕ → Bool) (p : Cursor) → p.at + n ≤ length p.bytes → test (here.field p n) ≡ false → field n test p.at (left p) ≡ Err p.at
 field_refused n test p h t = rw (there n p h, t)
 
 -- a field has its length
-pub field_long : (n : ℕ) (p : Place) → p.at + n ≤ length p.bytes → length (here.field p n) ≡ n
+pub field_long : (n : ℕ) (p : Cursor) → p.at + n ≤ length p.bytes → length (here.field p n) ≡ n
 field_long n p h = length-take-le n (left p) (simp length-drop (omega arith))
 
 -- what is no text is not UTF-8
@@ -44,11 +44,11 @@ no_utf8 bs h = go (is_utf8 bs) refl
     go false e = refl
 
 -- no byte is left at the end
-pub none_left : {A : Type 0} (x : A) (p : Place) → (p.at + 1 ≤ length p.bytes → ⊥) → if_none_left x p.at (left p) ≡ Ok x
+pub none_left : {A : Type 0} (x : A) (p : Cursor) → (p.at + 1 ≤ length p.bytes → ⊥) → if_none_left x p.at (left p) ≡ Ok x
 none_left x p h = rw (drop_all p.at p.bytes (omega arith))
 
 -- a byte is left before the end
-pub some_left : {A : Type 0} (x : A) (p : Place) → p.at + 1 ≤ length p.bytes → if_none_left x p.at (left p) ≡ Err p.at
+pub some_left : {A : Type 0} (x : A) (p : Cursor) → p.at + 1 ≤ length p.bytes → if_none_left x p.at (left p) ≡ Err p.at
 some_left x p h = go (left p) (simp length-drop (omega arith))
   where
     go : (bs : List ℕ) → 1 ≤ length bs → if_none_left x p.at bs ≡ Err p.at

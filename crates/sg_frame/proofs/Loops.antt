@@ -1,6 +1,6 @@
 -- Readings one after the other, as a loop does them.
 use Rattle.std.proofs.Common.{◌≡◌, ℕ, suc, ◌-◌, ◌+◌, ◌≤◌, ◌<◌, List, [], ◌∷◌, ◌++◌, Result, Ok, Err, refl, sym, ap, ◌∙◌, append_assoc, arith}
-use Rattle.sg_base.specs.Reading.{Place}
+use Rattle.sg_base.specs.Reading.{Cursor}
 use Rattle.sg_protocol.specs.Reading.{Read, Reader, give, on, times, rising_times}
 use Rattle.sg_frame.specs.declared.fault.Stop.{Stop}
 use Rattle.sg_frame.specs.declared.fault.Stop.TheVariants.{Malformed, OutOfMemory}
@@ -15,11 +15,11 @@ regroup front x (Ok r) = ap (λ xs. Ok (record { value = xs; at = r.at; rest = r
 regroup front x (Err at) = refl
 
 -- the place behind what was read
-abbrev pub Gives : {A : Type 0} → Reader A → Place → A → Place → Type 0
+abbrev pub Gives : {A : Type 0} → Reader A → Cursor → A → Cursor → Type 0
 Gives reader p x q = reader p.at (left p) ≡ Ok (record { value = x; at = q.at; rest = left q })
 
 -- one more reading
-pub times_more : {A : Type 0} (reader : Reader A) (front : List A) (count i : ℕ) (p q : Place) (x : A) (total : Result (Read (List A)) ℕ) → i < count → Gives reader p x q →
+pub times_more : {A : Type 0} (reader : Reader A) (front : List A) (count i : ℕ) (p q : Cursor) (x : A) (total : Result (Read (List A)) ℕ) → i < count → Gives reader p x q →
     with_front front (times (count - i) reader p.at (left p)) ≡ total → with_front (front ++ x ∷ []) (times (count - (i + 1)) reader q.at (left q)) ≡ total
 times_more reader front count i p q x total lt h so_far =
     let k : count - i ≡ suc (count - (i + 1)) = omega arith in
@@ -28,7 +28,7 @@ times_more reader front count i p q x total lt h so_far =
     sym one ∙ so_far
 
 -- a reading that stops
-pub times_stop : {A : Type 0} (e : Stop) (reader : Reader A) (front : List A) (count i : ℕ) (p : Place) (total : Result (Read (List A)) ℕ) → i < count → StopsWith e (reader p.at (left p)) →
+pub times_stop : {A : Type 0} (e : Stop) (reader : Reader A) (front : List A) (count i : ℕ) (p : Cursor) (total : Result (Read (List A)) ℕ) → i < count → StopsWith e (reader p.at (left p)) →
     with_front front (times (count - i) reader p.at (left p)) ≡ total → StopsWith e total
 times_stop OutOfMemory reader front count i p total lt h so_far = tt
 times_stop (Malformed at) reader front count i p total lt h so_far =
@@ -37,7 +37,7 @@ times_stop (Malformed at) reader front count i p total lt h so_far =
     sym so_far ∙ one
 
 -- one more reading, of a greater key
-pub rising_more : {A : Type 0} (key : A → ℕ) (reader : ℕ → Reader A) (front : List A) (count i least : ℕ) (p q : Place) (x : A) (total : Result (Read (List A)) ℕ) → i < count →
+pub rising_more : {A : Type 0} (key : A → ℕ) (reader : ℕ → Reader A) (front : List A) (count i least : ℕ) (p q : Cursor) (x : A) (total : Result (Read (List A)) ℕ) → i < count →
     Gives (reader least) p x q → with_front front (rising_times key (count - i) least reader p.at (left p)) ≡ total →
     with_front (front ++ x ∷ []) (rising_times key (count - (i + 1)) (key x + 1) reader q.at (left q)) ≡ total
 rising_more key reader front count i least p q x total lt h so_far =
@@ -48,7 +48,7 @@ rising_more key reader front count i least p q x total lt h so_far =
     sym one ∙ so_far
 
 -- a reading that stops
-pub rising_stop : {A : Type 0} (e : Stop) (key : A → ℕ) (reader : ℕ → Reader A) (front : List A) (count i least : ℕ) (p : Place) (total : Result (Read (List A)) ℕ) → i < count →
+pub rising_stop : {A : Type 0} (e : Stop) (key : A → ℕ) (reader : ℕ → Reader A) (front : List A) (count i least : ℕ) (p : Cursor) (total : Result (Read (List A)) ℕ) → i < count →
     StopsWith e (reader least p.at (left p)) → with_front front (rising_times key (count - i) least reader p.at (left p)) ≡ total → StopsWith e total
 rising_stop OutOfMemory key reader front count i least p total lt h so_far = tt
 rising_stop (Malformed at) key reader front count i least p total lt h so_far =

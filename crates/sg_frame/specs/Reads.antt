@@ -1,6 +1,6 @@
 -- What a function that reads owes the definition of its construct.
 use Rattle.std.specs.Prelude.{◌≡◌, ℕ, List, drop, Result, Ok, Err}
-use Rattle.sg_base.specs.Reading.{Place}
+use Rattle.sg_base.specs.Reading.{Cursor}
 use Rattle.sg_protocol.specs.Reading.{Read, Reader}
 use Rattle.sg_frame.specs.declared.fault.DecodeFault.{DecodeFault}
 use Rattle.sg_frame.specs.declared.fault.DecodeFault.TheVariants as faults
@@ -8,7 +8,7 @@ use Rattle.sg_frame.specs.declared.fault.Stop.{Stop}
 use Rattle.sg_frame.specs.declared.fault.Stop.TheVariants.{Malformed, OutOfMemory}
 
 -- the bytes from the place on
-abbrev pub left : Place → List ℕ
+abbrev pub left : Cursor → List ℕ
 left p = drop p.at p.bytes
 
 -- reading stopped where the definition says, or for want of memory
@@ -17,12 +17,12 @@ StopsWith OutOfMemory read = Unit {0}
 StopsWith (Malformed at) read = read ≡ Err at
 
 -- what was read is, seen so, what the definition reads, and the place stands behind it
-abbrev pub ReadsSeen : {X A : Type 0} → (X → A) → Reader A → Place → Place → Result X Stop → Type 0
+abbrev pub ReadsSeen : {X A : Type 0} → (X → A) → Reader A → Cursor → Cursor → Result X Stop → Type 0
 ReadsSeen view reader old new (Ok x) = reader old.at (left old) ≡ Ok (record { value = view x; at = new.at; rest = left new })
 ReadsSeen view reader old new (Err e) = StopsWith e (reader old.at (left old))
 
 -- what was read is what the definition reads, and the place stands behind it
-abbrev pub Reads : {A : Type 0} → Reader A → Place → Place → Result A Stop → Type 0
+abbrev pub Reads : {A : Type 0} → Reader A → Cursor → Cursor → Result A Stop → Type 0
 Reads reader old new result = ReadsSeen (λ x. x) reader old new result
 
 -- what was read is all of the bytes, or reading stopped where the definition says, or for want of memory

@@ -1,7 +1,7 @@
 //! The openings of a frame.
 ghost use Rattle.std.specs.Prelude.{◌≡◌, ◌≤◌, ◌==◌, if◌then◌else◌, length, IfOk};
 ghost use Rattle.std.specs.Str.{is_utf8};
-ghost use Rattle.sg_base.specs.Values.{value_of};
+ghost use Rattle.sg_base.specs.Model.{value_of};
 ghost use Rattle.sg_protocol.specs.Reading.{field, rising_times, read_int, read_text, read_opening};
 ghost use Rattle.sg_frame.specs.Reads.{Reads, ReadsSeen};
 

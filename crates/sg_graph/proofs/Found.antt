@@ -1,23 +1,19 @@
 -- What the first place of a name says of the names.
-use Rattle.std.proofs.Common.{◌≡◌, ℕ, ◌+◌, ◌<◌, nat_lt, Bool, true, false, ◌⊎◌, List, [], ◌∷◌, map, length, get_or, refl, sym, ◌∙◌, inl, inr, arith}
+use Rattle.std.proofs.Common.{◌≡◌, ℕ, ◌+◌, ◌<◌, nat_lt, Bool, true, false, List, [], ◌∷◌, map, length, get_or, refl, sym, ◌∙◌, inl, inr, arith}
 use Rattle.std.specs.Prelude.{Option, Some, None, position, bytes_eq, IsSome, IsTrue, is_some, ◌↔◌}
 use Rattle.std.specs.List.{list_any, position_or_len, position_from}
 use Rattle.std.proofs.lemmas.Bool.Decides.{nat_tests}
 use Rattle.std.proofs.lemmas.Iterator.Adapters.{position_from-zero}
 use Rattle.std.proofs.lemmas.List.Sums.{passes_at_first}
 use Rattle.std.proofs.lemmas.Slice.Eq.{bytes_eq-Decides}
+use Rattle.std.proofs.lemmas.Bool.{cases_Bool}
 use Rattle.sg_model.specs.Lists.{has_text}
 use Rattle.sg_model.specs.Names.{Name}
-
--- either value of a test
-pub cases_of : (b : Bool) → (b ≡ true) ⊎ (b ≡ false)
-cases_of true = inl refl
-cases_of false = inr refl
 
 -- the first place of one that passes is a place of one that passes
 pub passes_there : {X : Type 0} (p : X → Bool) (xs : List X) (i : ℕ) (d : X) → position p xs ≡ Some i → (i < length xs) × (p (get_or xs i d) ≡ true)
 passes_there p xs i d h =
-    elim (cases_of (nat_lt (position_or_len p xs) (length xs))) [
+    elim (cases_Bool (nat_lt (position_or_len p xs) (length xs))) [
       | inl y ↦
           (let e : Some (position_or_len p xs) ≡ Some i = rw y at h in
           let same : position_or_len p xs ≡ i = cc in
@@ -30,12 +26,12 @@ passes_there p xs i d h =
 -- where the search from n on finds a place, one passes
 some_from : {X : Type 0} (p : X → Bool) (xs : List X) (n i : ℕ) → position_from p n xs ≡ Some i → list_any p xs ≡ true
 some_from p [] n i h = absurd (cc)
-some_from p (x ∷ xs) n i h = elim (cases_of (p x)) [ inl y ↦ rw y refl | inr z ↦ rw z (some_from p xs (n + 1) i (rw z at h)) ]
+some_from p (x ∷ xs) n i h = elim (cases_Bool (p x)) [ inl y ↦ rw y refl | inr z ↦ rw z (some_from p xs (n + 1) i (rw z at h)) ]
 
 -- where it finds none, none passes
 none_from : {X : Type 0} (p : X → Bool) (xs : List X) (n : ℕ) → position_from p n xs ≡ None → list_any p xs ≡ false
 none_from p [] n h = refl
-none_from p (x ∷ xs) n h = elim (cases_of (p x)) [ inl y ↦ (let e : Some n ≡ None = rw y at h in absurd (cc)) | inr z ↦ rw z (none_from p xs (n + 1) (rw z at h)) ]
+none_from p (x ∷ xs) n h = elim (cases_Bool (p x)) [ inl y ↦ (let e : Some n ≡ None = rw y at h in absurd (cc)) | inr z ↦ rw z (none_from p xs (n + 1) (rw z at h)) ]
 
 -- where there is a first place, one passes
 pub some_passes : {X : Type 0} (p : X → Bool) (xs : List X) (i : ℕ) → position p xs ≡ Some i → list_any p xs ≡ true

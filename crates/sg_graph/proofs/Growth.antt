@@ -1,83 +1,36 @@
 -- A graph with one part more is a graph.
-use Rattle.std.proofs.Common.{◌≡◌, ℕ, zero, suc, ◌+◌, ◌<◌, ◌≤◌, nat_lt, Bool, true, false, not, ◌&&◌, ◌||◌, List, [], ◌∷◌, ◌++◌, length, get_or, refl, sym, ◌∙◌, inl, inr, arith, add-zero, add-one, zero-add, length-append}
-use Rattle.std.specs.Prelude.{All, bytes_eq}
+use Rattle.std.proofs.Common.{◌≡◌, zero, suc, ◌+◌, ◌<◌, ◌≤◌, Bool, true, false, not, ◌&&◌, List, [], ◌∷◌, ◌++◌, length, get_or, refl, ◌∙◌, arith, add-zero, add-one, zero-add}
+use Rattle.std.specs.Prelude.{All}
 use Rattle.std.specs.List.{list_all}
 use Rattle.std.proofs.lemmas.List.{map-append}
-use Rattle.std.proofs.lemmas.List.Folds.{list_all-append, list_any-append}
+use Rattle.std.proofs.lemmas.List.Folds.{list_all-append}
 use Rattle.std.proofs.lemmas.List.Elements.{All-append}
-use Rattle.std.proofs.lemmas.Slice.Eq.{bytes_eq-Decides}
-use Rattle.std.proofs.lemmas.Bool.Decides.{nat_tests}
-use Rattle.sg_model.specs.Lists.{has_text, all_differ, rises_from, range_from, below}
+use Rattle.std.proofs.lemmas.Bool.{and_parts}
+use Rattle.sg_model.specs.Lists.{has_text, all_differ, range_from, below}
 use Rattle.sg_model.specs.Names.{is_name, reserved}
+use Rattle.sg_model.proofs.Small.{length-more}
+use Rattle.sg_model.proofs.Differ.{all_differ-append}
 use Rattle.sg_protocol.specs.Graph.{Graph, Name, Variable, Node, Edge, IsGraph, AreNames, AreNumbers}
 use Rattle.sg_graph.specs.Adding.{no_parts, with_role, with_variable, with_node, with_edge}
 use Rattle.sg_graph.specs.Parts.{variable_names, node_names, edge_names}
-use Rattle.sg_graph.proofs.Found.{cases_of}
-
--- both parts of a test hold
-pub both : (a b : Bool) → (a && b) ≡ true → (a ≡ true) × (b ≡ true)
-both true b h = (refl, h)
-both false b h = absurd (cc)
-
--- a test that isn't true is false
-pub refused : (b : Bool) → not b ≡ true → b ≡ false
-refused true h = sym h
-refused false h = refl
-
--- two texts differ in either order
-bytes_eq-flip : (s t : List ℕ) → bytes_eq s t ≡ false → bytes_eq t s ≡ false
-bytes_eq-flip s t h = elim (cases_of (bytes_eq t s)) [
-  | inl y ↦ (let e : s ≡ t = sym ((bytes_eq-Decides t s).0 y) in let z : bytes_eq s t ≡ true = (bytes_eq-Decides s t).1 e in absurd (cc))
-  | inr n ↦ n
-]
-
--- texts that differ still do with one more that differs from each
-all_differ-append : (ts : List Name) (t : Name) → all_differ ts ≡ true → has_text t ts ≡ false → all_differ (ts ++ t ∷ []) ≡ true
-all_differ-append [] t d h = refl
-all_differ-append (u ∷ us) t d h =
-    let parts = both (not (has_text u us)) (all_differ us) d in
-    let apart : (bytes_eq t u ≡ false) × (has_text t us ≡ false) = neither (bytes_eq t u) (has_text t us) h in
-    let first : has_text u (us ++ t ∷ []) ≡ false =
-    list_any-append (bytes_eq u) us (t ∷ []) ∙ rw (refused (has_text u us) parts.0, bytes_eq-flip t u apart.0) in
-    rw (first, all_differ-append us t parts.1 apart.1)
-  where
-    neither : (a b : Bool) → (a || b) ≡ false → (a ≡ false) × (b ≡ false)
-    neither true b h = absurd (cc)
-    neither false b h = (refl, h)
+use Rattle.sg_graph.proofs.Sets.{numbers_within}
 
 -- names with one more
 AreNames-append : (ns : List Name) (n : Name) → AreNames ns → is_name n ≡ true → has_text n reserved ≡ false → has_text n ns ≡ false → AreNames (ns ++ n ∷ [])
 AreNames-append ns n named is free new =
     let p : Name → Bool = λ n. is_name n && not (has_text n reserved) in
-    let parts = both (list_all p ns) (all_differ ns) named in
+    let parts = and_parts (list_all p ns) (all_differ ns) named in
     let all : list_all p (ns ++ n ∷ []) ≡ true = list_all-append p ns (n ∷ []) ∙ rw (parts.0, is, free) in
     rw (all, all_differ-append ns n parts.1 new)
 
--- numbers below a bound are below a greater one
-AreNumbers-grows : (m n : ℕ) → m ≤ n → (ks : List ℕ) → AreNumbers m ks → AreNumbers n ks
-AreNumbers-grows m n le ks h =
-    let parts = both (rises_from 0 ks) (list_all (λ k. nat_lt k m) ks) h in
-    rw (parts.0, below_more ks parts.1)
-  where
-    below_more : (ks : List ℕ) → list_all (λ k. nat_lt k m) ks ≡ true → list_all (λ k. nat_lt k n) ks ≡ true
-    below_more [] h = refl
-    below_more (k ∷ ks) h =
-        let parts = both (nat_lt k m) (list_all (λ k. nat_lt k m) ks) h in
-        let here : nat_lt k n ≡ true = grind (arith, nat_tests, parts.0) in
-        rw (here, below_more ks parts.1)
-
 -- what holds of each element and follows of it
-All-map : {X : Type 0} (P Q : X → Type 0) (xs : List X) → ((x : X) → P x → Q x) → All P xs → All Q xs
+pub All-map : {X : Type 0} (P Q : X → Type 0) (xs : List X) → ((x : X) → P x → Q x) → All P xs → All Q xs
 All-map P Q xs step all = λ k d l. step (get_or xs k d) (all k d l)
 
 -- what holds of one element
-All-one : {X : Type 0} (P : X → Type 0) (x : X) → P x → All P (x ∷ [])
+pub All-one : {X : Type 0} (P : X → Type 0) (x : X) → P x → All P (x ∷ [])
 All-one P x p zero d l = p
 All-one P x p (suc k) d l = absurd (omega arith)
-
--- the length with one element more
-length-more : {X : Type 0} (xs : List X) (x : X) → length (xs ++ x ∷ []) ≡ length xs + 1
-length-more xs x = length-append xs (x ∷ [])
 
 -- no parts are a graph
 pub IsGraph-no_parts : (name : Name) → is_name name ≡ true → has_text name reserved ≡ false → IsGraph (no_parts name)
@@ -105,7 +58,7 @@ IsGraph-with_role g name h is free new room =
       variable_names = h.variable_names;
       node_names = h.node_names;
       edge_names = h.edge_names;
-      writers = All-map (λ (v : Variable). AreNumbers (length g.roles) v.writers × (0 < length v.writers)) (λ (v : Variable). AreNumbers (length (g.roles ++ name ∷ [])) v.writers × (0 < length v.writers)) g.variables (λ v w. (AreNumbers-grows _ _ more v.writers w.0, w.1)) h.writers;
+      writers = All-map (λ (v : Variable). AreNumbers (length g.roles) v.writers × (0 < length v.writers)) (λ (v : Variable). AreNumbers (length (g.roles ++ name ∷ [])) v.writers × (0 < length v.writers)) g.variables (λ v w. (numbers_within _ _ v.writers more w.0, w.1)) h.writers;
       roles = All-map (λ (n : Node). n.role < length g.roles) (λ (n : Node). n.role < length (g.roles ++ name ∷ [])) g.nodes (λ n w. omega (arith, more, w)) h.roles;
       ends = h.ends;
       variables = h.variables;
@@ -126,7 +79,7 @@ IsGraph-with_variable g v h is free new there some room =
       writers = (let P : Variable → Type 0 = λ v. AreNumbers (length g.roles) v.writers × (0 < length v.writers) in All-append P g.variables (v ∷ []) h.writers (All-one P v (there, some)));
       roles = h.roles;
       ends = h.ends;
-      variables = All-map (λ (e : Edge). AreNumbers (length g.variables) e.writes × AreNumbers (length g.variables) e.reads) (λ (e : Edge). AreNumbers (length (g.variables ++ v ∷ [])) e.writes × AreNumbers (length (g.variables ++ v ∷ [])) e.reads) g.edges (λ e w. (AreNumbers-grows _ _ more e.writes w.0, AreNumbers-grows _ _ more e.reads w.1)) h.variables;
+      variables = All-map (λ (e : Edge). AreNumbers (length g.variables) e.writes × AreNumbers (length g.variables) e.reads) (λ (e : Edge). AreNumbers (length (g.variables ++ v ∷ [])) e.writes × AreNumbers (length (g.variables ++ v ∷ [])) e.reads) g.edges (λ e w. (numbers_within _ _ e.writes more w.0, numbers_within _ _ e.reads more w.1)) h.variables;
       sizes = (h.sizes.0, omega (arith, room, length-more g.variables v), h.sizes.2, h.sizes.3);
     }
 

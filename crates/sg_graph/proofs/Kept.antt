@@ -5,14 +5,15 @@ use Rattle.std.specs.Prelude.{All, Option, position, bytes_eq}
 use Rattle.sg_model.specs.Shape.{Arrow, edge_at, role_at}
 use Rattle.sg_protocol.specs.Graph.{Graph, Name, Variable, Node, Edge, shape}
 use Rattle.sg_graph.specs.Edges.{edge_of_label}
-use Rattle.sg_graph.specs.View.{HoldsGraph, graph_of, variable_of, node_of, edge_of}
+use Rattle.sg_graph.specs.Model.{graph_of, variable_of, node_of, edge_of}
+use Rattle.sg_graph.specs.Invariant.{HoldsGraph}
 use Rattle.sg_graph.specs.declared.graph.Variable.{Variable as KeptVariable}
 use Rattle.sg_graph.specs.declared.graph.Node.{Node as KeptNode}
 use Rattle.sg_graph.specs.declared.graph.NamedEdge.{NamedEdge}
 use Rattle.sg_graph.specs.declared.graph.Graph.TheInside.{Inside}
 use Rattle.sg_model.specs.Lists.{below}
 use Rattle.sg_graph.proofs.Found.{position-map}
-use Rattle.sg_base.proofs.Ranges.{below-suc, below-at}
+use Rattle.sg_model.proofs.Numbers.{below-suc, below-at}
 
 -- a place among the roles
 pub role_place : (g : Inside) (now : Graph) (seen : List Name) (name : Name) (o : Option ℕ) → graph_of g ≡ now → seen ≡ g.roles.items

@@ -3,14 +3,14 @@ use Rattle.std.proofs.Common.{◌≡◌, ◌≢◌, ℕ, zero, suc, ◌+◌, ◌
 use Rattle.std.proofs.lemmas.Bool.{cases_Bool, cases_eq, eqb-true, eq-eqb, ne_eqb}
 use Rattle.std.proofs.lemmas.List.{length-map, length-set, get_or-map, get_or-set_same, get_or-set_other, map-append, same_lists, length-append, get_or_append_left, get_or-append-add}
 use Rattle.std.proofs.lemmas.List.Elements.{filter-append, filter_passes, All-filter}
-use Rattle.sg_base.proofs.Ranges.{below-suc, below-at, range_from-at, length-range_from}
-use Rattle.sg_base.proofs.SetLaws.{filter-range_from}
+use Rattle.sg_model.proofs.Numbers.{below-suc, below-at, range_from-at, length-range_from, filter-range_from}
 use Rattle.sg_model.specs.Lists.{below, range_from}
 use Rattle.sg_model.specs.Shape.{Arrow, source}
 use Rattle.sg_protocol.specs.Graph.{Graph, IsGraph, Node, Edge, shape}
 use Rattle.sg_graph.specs.Adding.{with_node, with_edge}
 use Rattle.sg_graph.specs.Edges.{leaving_from, leaving_of}
-use Rattle.sg_graph.specs.View.{HoldsGraph, graph_of}
+use Rattle.sg_graph.specs.Model.{graph_of}
+use Rattle.sg_graph.specs.Invariant.{HoldsGraph}
 use Rattle.sg_graph.specs.declared.graph.Graph.TheInside.{Inside}
 
 -- each label there is that of an edge that leaves the node

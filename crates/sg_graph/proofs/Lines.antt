@@ -3,9 +3,9 @@ use Rattle.std.proofs.Common.{◌≡◌, ℕ, ◌+◌, ◌<◌, nat_lt, Bool, tr
 use Rattle.std.specs.List.{flat_map, list_all}
 use Rattle.std.proofs.lemmas.List.{map-append}
 use Rattle.std.proofs.lemmas.Grind.{flat_map-append}
+use Rattle.std.proofs.lemmas.Bool.{and_parts}
 use Rattle.sg_model.specs.Lists.{is_in, rises_from}
 use Rattle.sg_protocol.specs.Graph.{Name, AreNumbers, spaced, clause}
-use Rattle.sg_graph.proofs.Growth.{both}
 use Rattle.sg_graph.proofs.Rising.{below_more, below_zero, below_all}
 
 -- the words of no number
@@ -17,7 +17,7 @@ pub words_more : (name : ℕ → Name) (n : ℕ) (xs : List ℕ) (i : ℕ) (star
     → now ≡ start ++ spaced (map name (filter (λ x. nat_lt x i) xs)) → next ≡ now ++ 32 ∷ name i
     → next ≡ start ++ spaced (map name (filter (λ x. nat_lt x (i + 1)) xs))
 words_more name n xs i start now next h there before more =
-    let rises = (both (rises_from 0 xs) (list_all (λ k. nat_lt k n) xs) h).0 in
+    let rises = (and_parts (rises_from 0 xs) (list_all (λ k. nat_lt k n) xs) h).0 in
     let taken : filter (λ x. nat_lt x (i + 1)) xs ≡ filter (λ x. nat_lt x i) xs ++ i ∷ [] = below_more 0 i xs rises ∙ rw there in
     let word : flat_map (λ (n : Name). 32 ∷ n) (name i ∷ []) ≡ 32 ∷ name i = append-nil (32 ∷ name i) in
     more ∙ rw (before, append_assoc, taken, map-append, flat_map-append, word)
@@ -26,7 +26,7 @@ words_more name n xs i start now next h there before more =
 pub words_same : (name : ℕ → Name) (n : ℕ) (xs : List ℕ) (i : ℕ) (start now : List ℕ) → AreNumbers n xs → is_in i xs ≡ false
     → now ≡ start ++ spaced (map name (filter (λ x. nat_lt x i) xs)) → now ≡ start ++ spaced (map name (filter (λ x. nat_lt x (i + 1)) xs))
 words_same name n xs i start now h away before =
-    let rises = (both (rises_from 0 xs) (list_all (λ k. nat_lt k n) xs) h).0 in
+    let rises = (and_parts (rises_from 0 xs) (list_all (λ k. nat_lt k n) xs) h).0 in
     let taken : filter (λ x. nat_lt x (i + 1)) xs ≡ filter (λ x. nat_lt x i) xs = below_more 0 i xs rises ∙ rw (away, append-nil) in
     before ∙ rw taken
 
@@ -34,7 +34,7 @@ words_same name n xs i start now h away before =
 pub words_all : (name : ℕ → Name) (n : ℕ) (xs : List ℕ) (i : ℕ) (start now : List ℕ) → AreNumbers n xs → i ≡ n
     → now ≡ start ++ spaced (map name (filter (λ x. nat_lt x i) xs)) → now ≡ start ++ spaced (map name xs)
 words_all name n xs i start now h end before =
-    let within = (both (rises_from 0 xs) (list_all (λ k. nat_lt k n) xs) h).1 in
+    let within = (and_parts (rises_from 0 xs) (list_all (λ k. nat_lt k n) xs) h).1 in
     before ∙ rw (end, below_all n xs within)
 
 -- a clause of some names

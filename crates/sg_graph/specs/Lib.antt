@@ -1,4 +1,5 @@
 pub mod Adding
 pub mod Edges
 pub mod Parts
-pub mod View
+pub mod Model
+pub mod Invariant

@@ -5,9 +5,14 @@ use sg_base::{Label, NodeId, VarSet};
 /// and reads variables.
 #[derive(Debug, Clone, Copy)]
 pub struct Edge {
+    /// Its number.
     pub label: Label,
+    /// The node of the role that sends.
     pub source: NodeId,
+    /// The node of the role that receives.
     pub target: NodeId,
+    /// The variables that the sender writes.
     pub writes: VarSet,
+    /// The variables that the receiver reads.
     pub reads: VarSet,
 }

@@ -52,7 +52,8 @@ impl Model for Graph {
 
     ghost Value = { Graph };
 
-    ghost use Rattle.sg_graph.specs.View.{graph_of, HoldsGraph};
+    ghost use Rattle.sg_graph.specs.Model.{graph_of};
+    ghost use Rattle.sg_graph.specs.Invariant.{HoldsGraph};
 
     ghost view = { graph_of };
 

@@ -10,10 +10,12 @@
 
 mod edge;
 mod graph;
+mod named;
 mod text;
 mod walk;
 
 pub use edge::Edge;
 pub use graph::{AddFault, Graph};
+pub use named::{put_label, put_node, put_role, put_var};
 pub use text::canonical_text;
 pub use walk::is_walk;

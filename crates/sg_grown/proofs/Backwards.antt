@@ -1,14 +1,14 @@
 -- Lists that are gone through from the end.
 use Rattle.std.proofs.Common.{◌≡◌, ℕ, suc, ◌+◌, ◌-◌, ◌<◌, List, [], ◌∷◌, ◌++◌, drop, length, get_or, map, reverse, refl, ap, sym, ◌∙◌, arith, append_assoc}
 use Rattle.std.proofs.lemmas.List.{map-append, reverse-append}
-use Rattle.sg_walk.proofs.Pairs.{next}
+use Rattle.sg_model.proofs.Small.{drop_from}
 
 -- one element more behind which the rest stands
 pub one_back : {A : Type 0} (xs : List A) (back : ℕ) (x : A) → back < length xs → x ≡ get_or xs (length xs - 1 - back) x → drop (length xs - (back + 1)) xs ≡ x ∷ drop (length xs - back) xs
 one_back xs back x l e =
     let here : length xs - (back + 1) ≡ length xs - 1 - back = omega arith in
     let place : suc (length xs - 1 - back) ≡ length xs - back = omega arith in
-    ap (λ n. drop n xs) here ∙ next xs (length xs - 1 - back) x (omega arith) e ∙ ap (λ n. x ∷ drop n xs) place
+    ap (λ n. drop n xs) here ∙ drop_from xs (length xs - 1 - back) x (omega arith) e ∙ ap (λ n. x ∷ drop n xs) place
 
 -- what stands in front of a list stands behind it in reverse
 pub push_back : {A : Type 0} (front xs old new : List A) (x : A) → old ≡ front ++ reverse xs → new ≡ old ++ x ∷ [] → new ≡ front ++ reverse (x ∷ xs)

@@ -4,12 +4,12 @@ use Rattle.std.specs.Prelude.{All}
 use Rattle.std.specs.List.{list_all, AllByRecursion}
 use Rattle.std.proofs.lemmas.Bool.Decides.{nat_tests}
 use Rattle.std.proofs.lemmas.List.{map-append, take_more, take_all}
+use Rattle.std.proofs.lemmas.Bool.{and_parts}
 use Rattle.sg_base.specs.Sets.{with_member}
-use Rattle.sg_base.proofs.SetLaws.{is_in-filter, filter-range_from}
-use Rattle.sg_graph.proofs.Growth.{both}
-use Rattle.sg_law.proofs.Lists.{is_in-append}
+use Rattle.sg_base.proofs.SetLaws.{is_in-filter}
 use Rattle.sg_model.specs.Last.{Map}
 use Rattle.sg_model.specs.Lists.{is_in, keys_of, rises_from}
+use Rattle.sg_model.proofs.Numbers.{filter-range_from, is_in-append}
 use Rattle.sg_protocol.specs.Evidence.{rising}
 use Rattle.sg_protocol.specs.Frame.{Item, Frame, IsItem}
 use Rattle.sg_protocol.specs.Graph.{AreNumbers}
@@ -54,19 +54,19 @@ set_more delta at w vars new l is before more =
 
 small_keys : (xs : List ℕ) → list_all (λ x. nat_lt x 32) xs ≡ true → AllByRecursion (λ x. x < 32) xs
 small_keys [] h = tt
-small_keys (x ∷ xs) h = (let parts = both (nat_lt x 32) (list_all (λ x. nat_lt x 32) xs) h in let a = parts.0 in grind (arith, nat_tests, a), (let parts = both (nat_lt x 32) (list_all (λ x. nat_lt x 32) xs) h in small_keys xs parts.1))
+small_keys (x ∷ xs) h = (let parts = and_parts (nat_lt x 32) (list_all (λ x. nat_lt x 32) xs) h in let a = parts.0 in grind (arith, nat_tests, a), (let parts = and_parts (nat_lt x 32) (list_all (λ x. nat_lt x 32) xs) h in small_keys xs parts.1))
 
 -- the set of all keys is the keys
 pub set_whole : (delta : Map (List ℕ)) (at : ℕ) (vars : List ℕ) → AreNumbers 32 (keys_of delta) → length delta ≤ at → vars ≡ set_of (keys_of (take at delta)) → vars ≡ keys_of delta
 unfolding set_of
 set_whole delta at vars h l before =
-    let parts = both (rises_from 0 (keys_of delta)) (list_all (λ x. nat_lt x 32) (keys_of delta)) h in
+    let parts = and_parts (rises_from 0 (keys_of delta)) (list_all (λ x. nat_lt x 32) (keys_of delta)) h in
     before ∙ ap (λ d. rising 32 (keys_of d)) (take_all at delta l) ∙ sym (keys_in_order 32 delta) ∙ ap keys_of (in_order-all 32 delta parts.0 (small_keys (keys_of delta) parts.1))
 
 -- each key is below 32
 pub key_small : (delta : Map (List ℕ)) (at : ℕ) (w : ℕ × List ℕ) → AreNumbers 32 (keys_of delta) → at < length delta → w ≡ get_or delta at w → w.0 < 32
 key_small delta at w h l is =
-    let parts = both (rises_from 0 (keys_of delta)) (list_all (λ x. nat_lt x 32) (keys_of delta)) h in
+    let parts = and_parts (rises_from 0 (keys_of delta)) (list_all (λ x. nat_lt x 32) (keys_of delta)) h in
     subst (λ (v : ℕ × List ℕ). v.0 < 32) (sym is) (at_place delta at (small_keys (keys_of delta) parts.1) l)
   where
     at_place : (ws : Map (List ℕ)) (at : ℕ) → AllByRecursion (λ x. x < 32) (keys_of ws) → at < length ws → (get_or ws at w).0 < 32

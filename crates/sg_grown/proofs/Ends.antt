@@ -1,17 +1,16 @@
 -- The last label that a role sent, with one event more.
 use Rattle.std.proofs.Common.{◌≡◌, ◌≢◌, ℕ, ◌<◌, ◌==◌, true, false, if◌then◌else◌, List, [], ◌∷◌, ◌++◌, map, length, get_or, refl, ap, sym, ◌∙◌, append-nil, inl, inr, arith}
 use Rattle.std.specs.Prelude.{Option, Some, None, filter_map, slice_set}
-use Rattle.std.proofs.lemmas.Bool.{eq-eqb}
+use Rattle.std.proofs.lemmas.Bool.{eq-eqb, cases_Bool}
 use Rattle.std.proofs.lemmas.Bool.Decides.{nat_tests}
 use Rattle.std.proofs.lemmas.List.{get_or-set_same, get_or-set_other, length-map, map-set}
 use Rattle.std.proofs.lemmas.List.Elements.{filter_map-append}
-use Rattle.sg_graph.proofs.Found.{cases_of}
 use Rattle.sg_law.proofs.Lists.{last-append}
 use Rattle.sg_model.specs.Last.{Map, last}
 use Rattle.sg_model.specs.Values.{Value}
 use Rattle.sg_protocol.specs.Calls.{Event, Sent}
 use Rattle.sg_protocol.specs.Grown.{label_sent}
-use Rattle.sg_vis.specs.Origins.{origin_of}
+use Rattle.sg_vis.specs.Model.{origin_of}
 use Rattle.sg_vis.specs.declared.view.Origin.{Origin}
 use Rattle.sg_vis.specs.declared.view.Origin.TheVariants.{After}
 use Rattle.sg_grown.specs.Examples.{AreOrigins}
@@ -27,7 +26,7 @@ origins_same before origins e none are r b =
 -- a sending
 pub origins_sent : (before : List Event) (old new : List (Option ℕ)) (sid : List ℕ) (role label time : ℕ) (values : Map Value) → ((r : ℕ) → r < 16 → get_or new r None ≡ (if role == r then Some label else get_or old r None))
     → AreOrigins before old → AreOrigins (before ++ Sent sid role label time values ∷ []) new
-origins_sent before old new sid role label time values put are r b = elim (cases_of (role == r)) [
+origins_sent before old new sid role label time values put are r b = elim (cases_Bool (role == r)) [
   | inl own ↦
       (let e : Event = Sent sid role label time values in
       let one : filter_map (label_sent r) (e ∷ []) ≡ label ∷ [] = rw own refl in
@@ -42,7 +41,7 @@ origins_sent before old new sid role label time values put are r b = elim (cases
 
 -- a label that is put in its role's place
 pub put_at : (last : List Origin) (now : List (Option ℕ)) (i role label : ℕ) → map origin_of last ≡ now → i ≡ role → i < length last → (r : ℕ) → r < 16 → get_or (map origin_of (slice_set last i (After label))) r None ≡ (if role == r then Some label else get_or now r None)
-put_at last now i role label seen at within r b = elim (cases_of (role == r)) [
+put_at last now i role label seen at within r b = elim (cases_Bool (role == r)) [
   | inl own ↦
       (let same : r ≡ i = grind (arith, nat_tests, own, at) in
       let l : i < length (map origin_of last) = rw length-map within in

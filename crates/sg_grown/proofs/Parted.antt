@@ -5,7 +5,8 @@ use Rattle.std.specs.List.{list_any}
 use Rattle.std.proofs.lemmas.Grind.{flat_map-append}
 use Rattle.std.proofs.lemmas.List.Elements.{filter-append}
 use Rattle.std.proofs.lemmas.Slice.Eq.{bytes_eq-Decides}
-use Rattle.sg_graph.proofs.Found.{cases_of}
+use Rattle.std.proofs.lemmas.Bool.{cases_Bool, or_parts}
+use Rattle.std.proofs.lemmas.List.{map-append}
 use Rattle.sg_protocol.specs.Calls.{Event, sid_of}
 use Rattle.sg_protocol.specs.Evidence.{IsView}
 use Rattle.sg_protocol.specs.Graph.{Graph}
@@ -18,7 +19,6 @@ use Rattle.sg_protocol.specs.World.{Logged}
 use Rattle.sg_protocol.proofs.GrownWalks.{walks_are_grown, frames_show_views}
 use Rattle.sg_grown.specs.Events.{grown_along}
 use Rattle.sg_grown.specs.Sessions.{is_of_session, steps_of_session, events_beside, SessionsAreGrown, SessionsShowViews}
-use Rattle.sg_grown.proofs.Fresh.{neither}
 
 -- ---- events of a session
 
@@ -29,7 +29,7 @@ events_of-append sid xs ys =
 
 none_pass : {A : Type 0} (p : A → Bool) (xs : List A) → list_any p xs ≡ false → filter p xs ≡ []
 none_pass p [] h = refl
-none_pass p (x ∷ xs) h = let parts = neither (p x) (list_any p xs) h in rw parts.0 (none_pass p xs parts.1)
+none_pass p (x ∷ xs) h = let parts = or_parts (p x) (list_any p xs) h in rw parts.0 (none_pass p xs parts.1)
 
 -- a step that has no event of the session
 no_event : (sid : List ℕ) (l : Logged) → is_of_session sid l ≡ false → events_of sid (l ∷ []) ≡ []
@@ -38,7 +38,7 @@ no_event sid l h = ap (filter (λ e. bytes_eq (sid_of e) sid)) (append-nil (even
 -- the session's steps have all its events
 pub events_of-part : (sid : List ℕ) (log : List Logged) → events_of sid (steps_of_session sid log) ≡ events_of sid log
 events_of-part sid [] = refl
-events_of-part sid (l ∷ ls) = elim (cases_of (is_of_session sid l)) [
+events_of-part sid (l ∷ ls) = elim (cases_Bool (is_of_session sid l)) [
   | inl y ↦ rw y (events_of-append sid (l ∷ []) (filter (is_of_session sid) ls) ∙ ap (λ es. events_of sid (l ∷ []) ++ es) (events_of-part sid ls) ∙ sym (events_of-append sid (l ∷ []) ls))
   | inr n ↦ rw n (events_of-part sid ls ∙ sym (events_of-append sid (l ∷ []) ls ∙ ap (λ es. es ++ events_of sid ls) (no_event sid l n)))
 ]
@@ -47,15 +47,11 @@ beside_one : (walk : List ℕ) (es : List Event) → map (λ (p : Event × List 
 beside_one walk [] = refl
 beside_one walk (e ∷ es) = ap (λ l. e ∷ l) (beside_one walk es)
 
-map-two : {A B : Type 0} (f : A → B) (xs ys : List A) → map f (xs ++ ys) ≡ map f xs ++ map f ys
-map-two f [] ys = refl
-map-two f (x ∷ xs) ys = ap (λ l. f x ∷ l) (map-two f xs ys)
-
 -- the events beside their walks are those of the steps
 pub events_beside-are : (sid : List ℕ) (part : List (Logged × List ℕ)) → map (λ (p : Event × List ℕ). p.0) (events_beside sid part) ≡ events_of sid (map (λ (l : Logged × List ℕ). l.0) part)
 events_beside-are sid [] = refl
 events_beside-are sid (l ∷ ls) =
-    map-two (λ (p : Event × List ℕ). p.0) (map (λ e. (e, l.1)) (events_of sid (l.0 ∷ []))) (events_beside sid ls)
+    map-append (λ (p : Event × List ℕ). p.0) (map (λ e. (e, l.1)) (events_of sid (l.0 ∷ []))) (events_beside sid ls)
     ∙ (λ i. beside_one l.1 (events_of sid (l.0 ∷ [])) i ++ events_beside-are sid ls i)
     ∙ sym (events_of-append sid (l.0 ∷ []) (map (λ (l : Logged × List ℕ). l.0) ls))
 
@@ -73,7 +69,7 @@ first_of l = l.0
 spread_all : (sid : List ℕ) (log : List Logged) (part : List (Logged × List ℕ)) → map first_of (spread sid log part) ≡ log
 spread_all sid [] part = refl
 spread_all sid (l ∷ ls) [] = ap (λ ms. l ∷ ms) (spread_all sid ls [])
-spread_all sid (l ∷ ls) (p ∷ ps) = elim (cases_of (is_of_session sid l)) [
+spread_all sid (l ∷ ls) (p ∷ ps) = elim (cases_Bool (is_of_session sid l)) [
   | inl y ↦ rw y (ap (λ ms. l ∷ ms) (spread_all sid ls ps))
   | inr n ↦ rw n (ap (λ ms. l ∷ ms) (spread_all sid ls (p ∷ ps)))
 ]
@@ -102,11 +98,11 @@ none_before sid before others l n e = e ∙ sym (events_of-append sid before (l 
 spread_shown : (g : Graph) (sid : List ℕ) (before others : List Logged) (log : List Logged) (part : List (Logged × List ℕ)) → events_of sid others ≡ events_of sid before → map first_of part ≡ steps_of_session sid log → AllShown g sid others part
     → AllShown g sid before (spread sid log part)
 spread_shown g sid before others [] part e are all = tt
-spread_shown g sid before others (l ∷ ls) [] e are all = elim (cases_of (is_of_session sid l)) [
+spread_shown g sid before others (l ∷ ls) [] e are all = elim (cases_Bool (is_of_session sid l)) [
   | inl y ↦ absurd (let z : [] ≡ l ∷ steps_of_session sid ls = rw y at are in cc)
   | inr n ↦ (not_taken g sid before l n, spread_shown g sid (before ++ l ∷ []) others ls [] (none_before sid before others l n e) (rw n at are) tt)
 ]
-spread_shown g sid before others (l ∷ ls) (p ∷ ps) e are all = elim (cases_of (is_of_session sid l)) [
+spread_shown g sid before others (l ∷ ls) (p ∷ ps) e are all = elim (cases_Bool (is_of_session sid l)) [
   | inl y ↦
       (let are' : p.0 ∷ map first_of ps ≡ l ∷ steps_of_session sid ls = rw y at are in
       let is : l ≡ p.0 = cc in
@@ -126,11 +122,11 @@ spread_grown : (g : Graph) (honest : ℕ → Bool) (sid : List ℕ) (steps : Lis
     → walk_grown g honest sid steps (spread sid log part) ≡ grown_along g honest steps (events_beside sid part)
 spread_grown g honest sid steps [] [] are = refl
 spread_grown g honest sid steps [] (p ∷ ps) are = absurd (cc)
-spread_grown g honest sid steps (l ∷ ls) [] are = elim (cases_of (is_of_session sid l)) [
+spread_grown g honest sid steps (l ∷ ls) [] are = elim (cases_Bool (is_of_session sid l)) [
   | inl y ↦ absurd (let z : [] ≡ l ∷ steps_of_session sid ls = rw y at are in cc)
   | inr n ↦ ap (λ es. walk_grown g honest sid (grown_by_all g honest steps es []) (spread sid ls [])) (no_event sid l n) ∙ spread_grown g honest sid steps ls [] (rw n at are)
 ]
-spread_grown g honest sid steps (l ∷ ls) (p ∷ ps) are = elim (cases_of (is_of_session sid l)) [
+spread_grown g honest sid steps (l ∷ ls) (p ∷ ps) are = elim (cases_Bool (is_of_session sid l)) [
   | inl y ↦
       (let are' : p.0 ∷ map first_of ps ≡ l ∷ steps_of_session sid ls = rw y at are in
       let is : l ≡ p.0 = cc in
@@ -165,14 +161,14 @@ past sid x xs before l n r = (x ∷ r.0, r.1, ap (λ ls. x ∷ ls) r.2, events_o
 parted : (sid : List ℕ) (log before : List Logged) (l : Logged) (after : List Logged) → steps_of_session sid log ≡ before ++ l ∷ after → StandsIn sid log before l
 parted sid [] [] l after e = absurd (cc)
 parted sid [] (b ∷ bs) l after e = absurd (cc)
-parted sid (x ∷ xs) [] l after e = elim (cases_of (is_of_session sid x)) [
+parted sid (x ∷ xs) [] l after e = elim (cases_Bool (is_of_session sid x)) [
   | inl y ↦
       (let e' : x ∷ steps_of_session sid xs ≡ l ∷ after = rw y at e in
       let same : x ≡ l = cc in
       ([], xs, ap (λ k. k ∷ xs) same, refl))
   | inr n ↦ past sid x xs [] l n (parted sid xs [] l after (rw n at e))
 ]
-parted sid (x ∷ xs) (b ∷ bs) l after e = elim (cases_of (is_of_session sid x)) [
+parted sid (x ∷ xs) (b ∷ bs) l after e = elim (cases_Bool (is_of_session sid x)) [
   | inl y ↦
       (let e' : x ∷ steps_of_session sid xs ≡ b ∷ (bs ++ l ∷ after) = rw y at e in
       let same : x ≡ b = cc in

@@ -8,12 +8,13 @@ use Rattle.sg_base.specs.declared.value.Value.{Value as Held}
 use Rattle.sg_model.specs.Last.{Map}
 use Rattle.sg_model.specs.Lists.{is_in, value_at, keys_of}
 use Rattle.sg_model.specs.Values.{Value}
+use Rattle.sg_model.proofs.Small.{or_false}
 use Rattle.sg_protocol.specs.Calls.{Event, Started, Sent, Received}
 use Rattle.sg_protocol.specs.Graph.{Graph, IsGraph, writes}
 use Rattle.sg_protocol.specs.Grown.{hidden_steps, is_written}
 use Rattle.sg_protocol.specs.Walk.{StoredStep, shown}
 use Rattle.sg_protocol.proofs.Moves.{writes_below}
-use Rattle.sg_walk.specs.Views.{event_of, values_of}
+use Rattle.sg_walk.specs.Model.{event_of, values_of}
 use Rattle.sg_grown.specs.Events.{pair_of}
 use Rattle.sg_grown.specs.Filling.{filled_by, found_step, added, given, unless_written, added_by, given_by}
 use Rattle.sg_grown.specs.declared.shown.Shown.{Shown}
@@ -144,15 +145,11 @@ keys-shown : (values : List (ℕ × Held)) → keys_of (shown (values_of values)
 keys-shown [] = refl
 keys-shown (v ∷ vs) = ap (λ ks. v.0 ∷ ks) (keys-shown vs)
 
-or-false : (b : Bool) → (b || false) ≡ b
-or-false true = refl
-or-false false = refl
-
 -- what is kept behind a step that was sent
 pub kept_sent : (g : Graph) (honest : ℕ → Bool) (f k : ℕ → Option Value) (sid : List ℕ) (r label time : ℕ) (values : List (ℕ × Held)) (walk : List ℕ) → ((x : ℕ) → x < 32 → k x ≡ (if is_in x (map (λ w. w.0) values) then None else f x))
     → Agree k (unless_written (added g honest (Sent sid r label time (values_of values)) walk) f)
 kept_sent g honest f k sid r label time values walk h x b =
-    h x b ∙ ap (λ ks. if is_in x ks then None else f x) (sym (keys-shown values)) ∙ ap (λ t. if t then None else f x) (sym (or-false (is_in x (keys_of (shown (values_of values))))))
+    h x b ∙ ap (λ ks. if is_in x ks then None else f x) (sym (keys-shown values)) ∙ ap (λ t. if t then None else f x) (sym (or_false (is_in x (keys_of (shown (values_of values))))))
 
 -- the steps that were received, with what was kept after it was learnt
 pub filled_received : (g : Graph) → IsGraph g → (f k : ℕ → Option Value) (values : Map Value) (es ls : List ℕ) → ((x : ℕ) → x < 32 → k x ≡ option_or (value_at values x) (f x)) → ls ≡ es

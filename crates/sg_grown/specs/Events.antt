@@ -4,7 +4,7 @@ use Rattle.sg_protocol.specs.Calls.{Event}
 use Rattle.sg_protocol.specs.Graph.{Graph}
 use Rattle.sg_protocol.specs.Grown.{grown_by}
 use Rattle.sg_protocol.specs.Walk.{StoredStep}
-use Rattle.sg_walk.specs.Views.{event_of}
+use Rattle.sg_walk.specs.Model.{event_of}
 use Rattle.sg_grown.specs.declared.shown.Shown.{Shown}
 
 -- the event, and the walk beside it

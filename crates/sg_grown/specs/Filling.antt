@@ -1,7 +1,7 @@
 -- The same walk, told from its end: what each event adds, and which values later receipts give it.
 use Rattle.std.specs.Prelude.{ℕ, Bool, if◌then◌else◌, List, [], ◌∷◌, ◌++◌, map, get_or, Option, None, option_map}
 use Rattle.std.specs.Option.{option_or}
-use Rattle.sg_base.specs.Values.{value_of}
+use Rattle.sg_base.specs.Model.{value_of}
 use Rattle.sg_law.specs.Grown.{after_honest}
 use Rattle.sg_model.specs.Last.{after_last}
 use Rattle.sg_model.specs.Lists.{value_at}

@@ -6,7 +6,7 @@ ghost use Rattle.sg_protocol.specs.Graph.{AreNumbers, Graph};
 ghost use Rattle.sg_protocol.specs.Grown.{IsExample};
 ghost use Rattle.sg_protocol.specs.Spelling.{HasSpelling};
 ghost use Rattle.sg_protocol.specs.Verdict.{seen};
-ghost use Rattle.sg_vis.specs.Origins.{origin_of};
+ghost use Rattle.sg_vis.specs.Model.{origin_of};
 ghost use Rattle.sg_vis.specs.Table.{view_from, views_of};
 ghost use Rattle.sg_grown.specs.Examples.{AreShown, HasRow, view_since};
 

@@ -4,7 +4,7 @@ ghost use Rattle.sg_model.specs.Lists.{is_in};
 ghost use Rattle.sg_protocol.specs.Graph.{AreNumbers, IsGraph, writes};
 ghost use Rattle.sg_protocol.specs.Grown.{hidden_steps};
 ghost use Rattle.sg_protocol.specs.Walk.{shown};
-ghost use Rattle.sg_walk.specs.Views.{event_of, step_of, steps_of, values_of, writes_of};
+ghost use Rattle.sg_walk.specs.Model.{event_of, step_of, steps_of, values_of, writes_of};
 ghost use Rattle.sg_grown.specs.Events.{grown_along, pair_of};
 ghost use Rattle.sg_grown.specs.Filling.{added, filled_by, found_step, given, unless_written, value_in};
 

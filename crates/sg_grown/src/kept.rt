@@ -1,10 +1,10 @@
 //! The values that receipts give to steps before them.
 ghost use Rattle.std.specs.Prelude.{◌≡◌, ◌<◌, ◌==◌, ℕ, if◌then◌else◌, None, option_map};
 ghost use Rattle.std.specs.Option.{option_or};
-ghost use Rattle.sg_base.specs.Values.{value_of};
+ghost use Rattle.sg_base.specs.Model.{value_of};
 ghost use Rattle.sg_model.specs.Lists.{is_in, keys_of, value_at};
 ghost use Rattle.sg_grown.specs.Filling.{value_in};
-ghost use Rattle.sg_walk.specs.Views.{values_of};
+ghost use Rattle.sg_walk.specs.Model.{values_of};
 
 use sg_base::{Value, Var, VarSet};
 

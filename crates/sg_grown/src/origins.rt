@@ -1,8 +1,8 @@
 //! The last label that each role sent.
 ghost use Rattle.std.specs.Prelude.{◌≡◌, ◌<◌, ◌==◌, ℕ, if◌then◌else◌, [], ◌∷◌, ◌++◌, List, None, Some, get_or};
 ghost use Rattle.sg_protocol.specs.Calls.{Event as Happening};
-ghost use Rattle.sg_vis.specs.Origins.{origin_of};
-ghost use Rattle.sg_walk.specs.Views.{event_of};
+ghost use Rattle.sg_vis.specs.Model.{origin_of};
+ghost use Rattle.sg_walk.specs.Model.{event_of};
 ghost use Rattle.sg_grown.specs.Examples.{AreOrigins};
 
 use sg_base::{Label, Role};
@@ -19,7 +19,7 @@ pub struct Origins {
 
 impl Model for Origins {
     ghost use Rattle.std.specs.Prelude.{◌≡◌, ℕ, List, Option, map, length};
-    ghost use Rattle.sg_vis.specs.Origins.{origin_of};
+    ghost use Rattle.sg_vis.specs.Model.{origin_of};
 
     ghost Value = { List (Option ℕ) };
 

@@ -6,6 +6,8 @@ use sg_walk::Event;
 /// looked at.
 #[derive(Debug, Clone, Copy)]
 pub struct Shown<'e> {
+    /// The event.
     pub event: &'e Event,
+    /// The walk.
     pub walk: &'e [Label],
 }

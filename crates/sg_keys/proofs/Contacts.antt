@@ -5,7 +5,7 @@ use Rattle.std.specs.Map.{lookup}
 use Rattle.sg_protocol.specs.Keyring.{Peer}
 use Rattle.sg_model.specs.Lists.{has_text}
 use Rattle.sg_keys.specs.declared.keyring.Contact.{Contact}
-use Rattle.sg_keys.specs.Inside.{peer_of, names_in}
+use Rattle.sg_keys.specs.Model.{peer_of, names_in}
 use Rattle.sg_base.proofs.SameName.{same, same-bytes_eq, same-bytes_eq_back}
 
 -- an entry of the table

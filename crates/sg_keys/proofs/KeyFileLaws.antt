@@ -8,7 +8,7 @@ use Rattle.sg_keys.specs.declared.key_file.KeyFault.{KeyFault}
 use Rattle.sg_keys.specs.declared.key_file.KeyFault.TheVariants.{NotToml, BadEntry, Twice, OutOfMemory}
 use Rattle.sg_keys.specs.Names.{names_of}
 use Rattle.sg_keys.specs.KeyFile.{Head, head_of, peer_of, document, SpellsKeyring, SpellsKeys, then_with, with_entries, alone, answer_to, answer_to_head, key_file}
-use Rattle.sg_keys.proofs.Differ.{all_differ-append, absent_before}
+use Rattle.sg_model.proofs.Differ.{all_differ-append, absent_before}
 
 -- a keyring with further peers
 abbrev pub with_more : Keyring → List Peer → Keyring

@@ -1,5 +1,4 @@
 pub mod Contacts
-pub mod Differ
 pub mod DocumentLaws
 pub mod KeyFileLaws
 pub mod SplitLaws

@@ -13,7 +13,7 @@ keys_alone p [] = refl
 keys_alone p (e ∷ es) = ap (λ b. p (string_bytes e.0) && b) (keys_alone p es)
 
 -- the items of a list of data are that list
-list_of-items_of : (ds : List Data) → list_of (items_of ds) ≡ ds
+pub list_of-items_of : (ds : List Data) → list_of (items_of ds) ≡ ds
 list_of-items_of [] = refl
 list_of-items_of (d ∷ ds) = ap (λ es. d ∷ es) (list_of-items_of ds)
 

@@ -1,4 +1,4 @@
-pub mod Inside
+pub mod Model
 pub mod KeyFile
 pub mod Names
 pub mod Words

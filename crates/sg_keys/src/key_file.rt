@@ -5,7 +5,7 @@ ghost use Rattle.sg_keys.specs.KeyFile.{document, key_file, head_of, peer_of, wi
 ghost use Rattle.sg_keys.specs.Names.{peer_at};
 
 use crate::table::{
-    address_at, entries, has_head_keys_alone, has_peer_keys_alone, key_at, name_at,
+    address_at, has_head_keys_alone, has_peer_keys_alone, key_at, name_at, tables_at,
 };
 use crate::{Keyring, PeerFault};
 use sg_base::{Addr, Name};
@@ -109,7 +109,7 @@ fn read_head(table: &Table) -> Option<Head<'_>>
     }
     let me = name_at(table, "me")?;
     let listen = address_at(table, "listen")?;
-    let entries = entries(table)?;
+    let entries = tables_at(table, "peer")?;
     Some(Head {
         me,
         listen,

@@ -36,7 +36,7 @@ impl Model for Keyring {
     ghost Value = { Keyring };
 
     ghost use Rattle.sg_keys.specs.Names.{names_of};
-    ghost use Rattle.sg_keys.specs.Inside.{keyring_of};
+    ghost use Rattle.sg_keys.specs.Model.{keyring_of};
 
     ghost view = { keyring_of };
 
@@ -163,7 +163,7 @@ impl Keyring {
     }
 }
 
-ghost use Rattle.sg_keys.specs.Inside.{names_in};
+ghost use Rattle.sg_keys.specs.Model.{names_in};
 
 // The name is a peer's.
 fn has_peer(peers: &IndexMap<Name, Contact>, name: &Name) -> bool

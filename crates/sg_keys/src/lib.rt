@@ -15,7 +15,8 @@
 //! key = "1111111111111111111111111111111111111111111111111111111111111111"
 //! ```
 //!
-//! with exactly these keys. There may be no `peer` at all.
+//! with exactly these keys. There may be no `peer` at all. What stands at a key of a table, `text_at`, `name_at` and `tables_at` read for
+//! scripts too.
 #![tactic(auto)]
 
 mod key_file;
@@ -25,3 +26,4 @@ mod word;
 
 pub use key_file::KeyFault;
 pub use keyring::{Keyring, PeerFault};
+pub use table::{name_at, tables_at, text_at};

@@ -1,5 +1,5 @@
-//! What the tables of a key file hold.
-ghost use Rattle.std.specs.Prelude.{◌≡◌, codes, is_some, map, string_bytes, option_map, option_and_then};
+//! What the tables of a TOML text hold at their keys, and those of a key file.
+ghost use Rattle.std.specs.Prelude.{◌≡◌, is_some, map, string_bytes, option_map, option_and_then};
 ghost use Rattle.std.specs.List.{list_all};
 ghost use Rattle.std.specs.BTreeMap.{keys};
 ghost use Rattle.toml.specs.Data.{as_str, as_array, as_table, get_member};
@@ -12,8 +12,8 @@ use crate::word::read_address;
 use sg_base::{Addr, Name, read_hex};
 use toml::{Table, Value};
 
-// The text at a key.
-fn text_at<'a>(table: &'a Table, key: &str) -> Option<&'a str>
+/// The text at a key.
+pub fn text_at<'a>(table: &'a Table, key: &str) -> Option<&'a str>
     ensures { option_map (λ s. s.now) result ≡ text_at key.now (table_view table.now) }
 {
     match table.get(key) {
@@ -24,7 +24,7 @@ fn text_at<'a>(table: &'a Table, key: &str) -> Option<&'a str>
 
 /// The name that the text at a key spells.
 #[tactic(auto, unfolding(sg_base::specs::Words::name))]
-pub(crate) fn name_at(table: &Table, key: &str) -> Option<Name>
+pub fn name_at(table: &Table, key: &str) -> Option<Name>
     ensures { result ≡ at name key.now (table_view table.now) }
 {
     Name::new(text_at(table, key)?.as_bytes())
@@ -109,11 +109,11 @@ fn tables_of(value: &Value) -> Option<&[Value]>
     }
 }
 
-/// The entries of the peers, none where there is no `peer`; `None` where it is no list of tables.
-pub(crate) fn entries(table: &Table) -> Option<&[Value]>
-    ensures { option_map (λ vs. map view vs.now) result ≡ tables_of (get_member (codes "peer") (table_view table.now)) }
+/// The tables of the list at a key, none where the key is missing; `None` where it is no list of tables.
+pub fn tables_at<'a>(table: &'a Table, key: &str) -> Option<&'a [Value]>
+    ensures { option_map (λ vs. map view vs.now) result ≡ tables_of (get_member key.now (table_view table.now)) }
 {
-    match table.get("peer") {
+    match table.get(key) {
         Some(value) => tables_of(value),
         None => Some(&[]),
     }

@@ -9,6 +9,7 @@ use Rattle.sg_base.proofs.SetLaws.{is_in-filter}
 use Rattle.sg_model.specs.Lists.{is_in, rises_from}
 use Rattle.sg_model.specs.Shape.{Arrow, edge_at, source}
 use Rattle.sg_protocol.specs.Graph.{Graph, Edge, IsGraph, AreNumbers, shape, writes, reads}
+use Rattle.sg_graph.proofs.Sets.{number_below}
 
 -- past the last edge there is none
 no_edge : (g : Graph) (e : ℕ) → length g.edges ≤ e → get_or (shape g).edges e (record { source = 0; target = 0; writes = []; reads = [] }) ≡ record { source = 0; target = 0; writes = []; reads = [] }
@@ -39,10 +40,6 @@ all_below n x (y ∷ ys) h i =
       | inl e ↦ (let same : y ≡ x = eqb-true y x e in rw same at (ltb-true y n parts.0))
       | inr d ↦ all_below n x ys parts.1 (rw d at i)
     ]
-
--- each number is below n
-pub number_below : (n x : ℕ) (xs : List ℕ) → AreNumbers n xs → is_in x xs ≡ true → x < n
-number_below n x xs h i = all_below n x xs (and_parts (rises_from 0 xs) (list_all (λ k. nat_lt k n) xs) h).1 i
 
 -- the first number is one of them
 pub is_in_first : (x : ℕ) (xs : List ℕ) → is_in x (x ∷ xs) ≡ true

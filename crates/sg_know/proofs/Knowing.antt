@@ -5,6 +5,7 @@ use Rattle.std.proofs.lemmas.Bool.{cases_Bool, or_parts}
 use Rattle.std.proofs.lemmas.List.Folds.{list_any-append}
 use Rattle.sg_model.specs.Lists.{is_in, from_last}
 use Rattle.sg_model.specs.Shape.{Shape, end_of, target}
+use Rattle.sg_model.proofs.Small.{or_false}
 use Rattle.sg_protocol.specs.Graph.{Graph, shape, writes}
 use Rattle.sg_protocol.specs.Knowledge.{learns, knows}
 use Rattle.sg_know.specs.States.{known_if, mark_of, mark_after, is_known, state_after, state_along}
@@ -17,27 +18,19 @@ from_last-none p (x ∷ xs) h = let parts = or_parts (p x) (list_any p xs) h in 
 -- whether some element passes q, from the last one that passes p on, with one element more
 any_from_last : {A : Type 0} (p q : A → Bool) (xs : List A) (y : A)
     → list_any q (from_last p (xs ++ y ∷ [])) ≡ (if p y then q y else (list_any q (from_last p xs) || (list_any p xs && q y)))
-any_from_last p q [] y = elim (cases_Bool (p y)) [ inl h ↦ rw h (or_none (q y)) | inr h ↦ rw h refl ]
-  where
-    or_none : (a : Bool) → (a || false) ≡ a
-    or_none true = refl
-    or_none false = refl
+any_from_last p q [] y = elim (cases_Bool (p y)) [ inl h ↦ rw h (or_false (q y)) | inr h ↦ rw h refl ]
 any_from_last p q (x ∷ xs) y =
     elim (cases_Bool (p y)) [
       | inl h ↦ (let e : list_any p (xs ++ y ∷ []) ≡ true = list_any-append p xs (y ∷ []) ∙ rw h (or_true (list_any p xs)) in rw e (any_from_last p q xs y ∙ rw h refl))
       | inr h ↦
-          (let e : list_any p (xs ++ y ∷ []) ≡ list_any p xs = list_any-append p xs (y ∷ []) ∙ rw h (or_none (list_any p xs)) in
+          (let e : list_any p (xs ++ y ∷ []) ≡ list_any p xs = list_any-append p xs (y ∷ []) ∙ rw h (or_false (list_any p xs)) in
           let rest : list_any q (from_last p (xs ++ y ∷ [])) ≡ (list_any q (from_last p xs) || (list_any p xs && q y)) = any_from_last p q xs y ∙ rw h refl in
           elim (cases_Bool (list_any p xs)) [
             | inl k ↦ rw (e, k) (rest ∙ rw (k, h) (both (list_any q (from_last p xs)) (p x) (q y)))
-            | inr k ↦ rw (e, k) (elim (cases_Bool (p x)) [ inl l ↦ rw (l, h) (list_any-append q (x ∷ xs) (y ∷ []) ∙ ap (λ b. list_any q (x ∷ xs) || b) (or_none (q y))) | inr l ↦ rw (l, h) refl ])
+            | inr k ↦ rw (e, k) (elim (cases_Bool (p x)) [ inl l ↦ rw (l, h) (list_any-append q (x ∷ xs) (y ∷ []) ∙ ap (λ b. list_any q (x ∷ xs) || b) (or_false (q y))) | inr l ↦ rw (l, h) refl ])
           ])
     ]
   where
-    or_none : (a : Bool) → (a || false) ≡ a
-    or_none true = refl
-    or_none false = refl
-
     or_true : (a : Bool) → (a || (true || false)) ≡ true
     or_true true = refl
     or_true false = refl

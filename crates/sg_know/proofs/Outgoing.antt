@@ -1,5 +1,5 @@
 -- The edges that leave a node.
-use Rattle.std.proofs.Common.{◌≡◌, ℕ, zero, suc, ◌+◌, ◌<◌, ◌==◌, nat_le, nat_lt, Bool, true, false, ◌&&◌, ◌||◌, List, [], ◌∷◌, ◌++◌, map, filter, length, get_or, set, replicate, take, if◌then◌else◌, append-nil, refl, sym, ap, ◌∙◌, subst, inl, inr, arith}
+use Rattle.std.proofs.Common.{◌≡◌, ℕ, zero, suc, ◌+◌, ◌<◌, ◌==◌, nat_le, nat_lt, Bool, true, false, ◌&&◌, ◌||◌, List, [], ◌∷◌, map, filter, length, get_or, set, replicate, take, if◌then◌else◌, append-nil, refl, sym, ap, ◌∙◌, subst, inl, inr, arith}
 use Rattle.std.proofs.lemmas.Bool.{cases_Bool, cases_eq, and_parts, eqb-true, eq-eqb, ne_eqb}
 use Rattle.std.proofs.lemmas.Bool.Decides.{nat_tests}
 use Rattle.std.proofs.lemmas.List.{length-map, length-set, get_or-map, get_or-set_same, get_or-set_other, same_lists, take_more}
@@ -7,6 +7,7 @@ use Rattle.std.proofs.lemmas.List.Elements.{filter-append}
 use Rattle.sg_base.proofs.SetLaws.{is_in-filter}
 use Rattle.sg_model.specs.Lists.{is_in, range_from, below}
 use Rattle.sg_model.specs.Shape.{source}
+use Rattle.sg_model.proofs.Numbers.{is_in-append}
 use Rattle.sg_protocol.specs.Graph.{Graph, shape}
 use Rattle.sg_graph.specs.Edges.{leaving_from}
 
@@ -29,15 +30,6 @@ pub is_in-at : (xs : List ℕ) (k d : ℕ) → k < length xs → is_in (get_or x
 is_in-at [] k d l = absurd (omega arith)
 is_in-at (x ∷ xs) zero d l = rw (eq-eqb x x refl) refl
 is_in-at (x ∷ xs) (suc k) d l = elim (cases_Bool (x == get_or xs k d)) [ inl e ↦ rw e refl | inr e ↦ rw e (is_in-at xs k d (omega arith)) ]
-
--- a number is in two lists joined exactly if it is in one of them
-is_in-append : (e : ℕ) (xs ys : List ℕ) → is_in e (xs ++ ys) ≡ (is_in e xs || is_in e ys)
-is_in-append e [] ys = refl
-is_in-append e (x ∷ xs) ys = ap (λ b. (x == e) || b) (is_in-append e xs ys) ∙ assoc (x == e) (is_in e xs) (is_in e ys)
-  where
-    assoc : (a b c : Bool) → (a || (b || c)) ≡ ((a || b) || c)
-    assoc true b c = refl
-    assoc false b c = refl
 
 -- what holds of each number taken so far, and of the next, holds of each number taken then
 pub taken_more : (P : ℕ → Type 0) (xs : List ℕ) (k d : ℕ) → k < length xs → ((e : ℕ) → is_in e (take k xs) ≡ true → P e) → P (get_or xs k d)

@@ -6,7 +6,7 @@ use Rattle.std.proofs.lemmas.List.{get_or_append_left, get_or_push, length_push,
 use Rattle.sg_model.specs.Shape.{Shape, Walk, end_of, source, target}
 use Rattle.sg_protocol.specs.Graph.{Graph, shape}
 use Rattle.sg_know.specs.declared.states.State.{State}
-use Rattle.sg_know.specs.declared.states.Step.{Step}
+use Rattle.sg_know.specs.declared.states.Arrival.{Arrival}
 use Rattle.sg_know.specs.declared.states.Reached.{Reached}
 use Rattle.sg_know.specs.States.{AreReached, AreThere, ComesBy, Enters, Extends, Has, IsPath, begin, state_after, state_along, state_at, step_at}
 use Rattle.sg_know.specs.States.IsPath.{Begins, Goes}
@@ -82,9 +82,9 @@ Has-enters old new t (inr h) =
 reached_still : (g : Graph) (r x : ℕ) (old new : List Reached) (i : ℕ) → Extends old new → i < length old
     → MatchOption (step_at old i) (state_at old i ≡ begin.state) (ComesBy g r x old i) → MatchOption (step_at new i) (state_at new i ≡ begin.state) (ComesBy g r x new i)
 reached_still g r x old new i e l m =
-    subst (λ (o : Option Step). MatchOption o (state_at new i ≡ begin.state) (ComesBy g r x new i)) (sym (ap (λ (t : Reached). t.by) (same_there old new i e l))) (onto (step_at old i) m)
+    subst (λ (o : Option Arrival). MatchOption o (state_at new i ≡ begin.state) (ComesBy g r x new i)) (sym (ap (λ (t : Reached). t.by) (same_there old new i e l))) (onto (step_at old i) m)
   where
-    onto : (o : Option Step) → MatchOption o (state_at old i ≡ begin.state) (ComesBy g r x old i) → MatchOption o (state_at new i ≡ begin.state) (ComesBy g r x new i)
+    onto : (o : Option Arrival) → MatchOption o (state_at old i ≡ begin.state) (ComesBy g r x old i) → MatchOption o (state_at new i ≡ begin.state) (ComesBy g r x new i)
     onto None b = state_stays old new i e l ∙ b
     onto (Some s) b =
         let before : state_at new s.from ≡ state_at old s.from = state_stays old new s.from e (omega (arith, b.earlier)) in
@@ -112,7 +112,7 @@ AreReached-enters g r x at e old new h l there leaves (inr k) = subst (AreReache
         let end : length old ≡ i = omega (arith, length_push old t) in
         let here : get_or (old ++ t ∷ []) i begin ≡ t = get_or_push old t begin i end in
         let before : state_at (old ++ t ∷ []) at ≡ state_at old at = state_stays old (old ++ t ∷ []) at goes_on l in
-        subst (λ (o : Option Step). MatchOption o (state_at (old ++ t ∷ []) i ≡ begin.state) (ComesBy g r x (old ++ t ∷ []) i)) (sym (ap (λ (t : Reached). t.by) here))
+        subst (λ (o : Option Arrival). MatchOption o (state_at (old ++ t ∷ []) i ≡ begin.state) (ComesBy g r x (old ++ t ∷ []) i)) (sym (ap (λ (t : Reached). t.by) here))
         (record {
           earlier = omega arith;
           there = there;

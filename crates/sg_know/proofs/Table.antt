@@ -8,7 +8,7 @@ use Rattle.std.proofs.lemmas.List.Sums.{sum_by-set}
 use Rattle.sg_know.specs.declared.states.Mark.{Mark}
 use Rattle.sg_know.specs.declared.states.Mark.TheVariants.{Unwritten, Unknown, Known}
 use Rattle.sg_know.specs.declared.states.State.{State}
-use Rattle.sg_know.specs.declared.states.Step.{Step}
+use Rattle.sg_know.specs.declared.states.Arrival.{Arrival}
 use Rattle.sg_know.specs.declared.states.Reached.{Reached}
 use Rattle.sg_know.specs.States.{AreInOrder, IsTable, begin, key_of, rank_of, state_at}
 
@@ -83,8 +83,8 @@ IsTable-more states places t key n h l k e free = record {
         omega (arith, sums', h.count, longer)
 
 -- one state more, from an earlier one
-pub AreInOrder-more : (states : List Reached) (t : Reached) → AreInOrder states → IfSome t.by (λ (s : Step). s.from < length states) → AreInOrder (states ++ t ∷ [])
-AreInOrder-more states t h l = each_more (λ i s. IfSome s.by (λ (p : Step). p.from < i)) states t h l
+pub AreInOrder-more : (states : List Reached) (t : Reached) → AreInOrder states → IfSome t.by (λ (s : Arrival). s.from < length states) → AreInOrder (states ++ t ∷ [])
+AreInOrder-more states t h l = each_more (λ i s. IfSome s.by (λ (p : Arrival). p.from < i)) states t h l
 
 -- a place of the table that holds none is empty
 pub is_free : (places : List (Option ℕ)) (key : ℕ) (found : Option ℕ) → key < length places → found ≡ get_or places key found → is_some found ≡ false → get_or places key None ≡ None

@@ -1,4 +1,5 @@
 pub mod Parts
 pub mod Reads
 pub mod States
-pub mod View
+pub mod Model
+pub mod Invariant

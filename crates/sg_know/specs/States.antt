@@ -3,13 +3,14 @@ use Rattle.std.specs.Prelude.{◌≡◌, ◌⊎◌, ℕ, ◌+◌, ◌*◌, ◌<�
 use Rattle.std.specs.List.{list_any, count_by}
 use Rattle.sg_model.specs.Lists.{is_in}
 use Rattle.sg_model.specs.Shape.{Walk, end_of, source, target, sender}
+use Rattle.sg_model.specs.Limits.{most_nodes}
 use Rattle.sg_protocol.specs.Graph.{Graph, shape, writes, reads}
 use Rattle.sg_protocol.specs.Knowledge.{learns, knows}
 use Rattle.sg_know.specs.declared.bad.UnknownRead.{UnknownRead}
 use Rattle.sg_know.specs.declared.states.Mark.{Mark}
 use Rattle.sg_know.specs.declared.states.Mark.TheVariants.{Unwritten, Unknown, Known}
 use Rattle.sg_know.specs.declared.states.State.{State}
-use Rattle.sg_know.specs.declared.states.Step.{Step}
+use Rattle.sg_know.specs.declared.states.Arrival.{Arrival}
 use Rattle.sg_know.specs.declared.states.Reached.{Reached}
 
 -- ---- states
@@ -55,7 +56,7 @@ abbrev pub state_at : List Reached → ℕ → State
 state_at states i = (get_or states i begin).state
 
 -- the edge by which the state at a place was come to, with the place that it came from
-abbrev pub step_at : List Reached → ℕ → Option Step
+abbrev pub step_at : List Reached → ℕ → Option Arrival
 step_at states i = (get_or states i begin).by
 
 -- the list has the state
@@ -75,7 +76,7 @@ abbrev pub AreThere : Graph → List Reached → Type 0
 AreThere g states = (i : ℕ) → i < length states → (state_at states i).node < length g.nodes
 
 -- the edge leads to the state at place i from an earlier one
-pub record ComesBy (g : Graph) (r x : ℕ) (states : List Reached) (i : ℕ) (s : Step) : Type 0 where
+pub record ComesBy (g : Graph) (r x : ℕ) (states : List Reached) (i : ℕ) (s : Arrival) : Type 0 where
   pub earlier : s.from < i
   pub there : s.label < length g.edges
   pub leaves : source (shape g) s.label ≡ (state_at states s.from).node
@@ -93,7 +94,7 @@ pub record IsClosure (g : Graph) (r x : ℕ) (states : List Reached) : Type 0 wh
 -- the labels by which the state at a place was come to
 pub data IsPath (states : List Reached) : ℕ → List ℕ → Type 0 where
   Begins : {i : ℕ} → step_at states i ≡ None → IsPath states i []
-  Goes : {i : ℕ} {s : Step} {labels : List ℕ} → step_at states i ≡ Some s → IsPath states s.from labels → IsPath states i (labels ++ s.label ∷ [])
+  Goes : {i : ℕ} {s : Arrival} {labels : List ℕ} → step_at states i ≡ Some s → IsPath states s.from labels → IsPath states i (labels ++ s.label ∷ [])
 
 -- the role knows the variable
 abbrev pub is_known : Mark → Bool
@@ -130,7 +131,7 @@ key_of s = 3 * s.node + rank_of s.mark
 -- each state of the list has its place at its number in the table, and the table has no other places
 pub record IsTable (states : List Reached) (places : List (Option ℕ)) : Type 0 where
   pub size : length places ≡ 768
-  pub within : (i : ℕ) → i < length states → (state_at states i).node < 256
+  pub within : (i : ℕ) → i < length states → (state_at states i).node < most_nodes
   pub noted : (i : ℕ) → i < length states → get_or places (key_of (state_at states i)) None ≡ Some i
   pub right : (k : ℕ) → IfSome (get_or places k None) (λ i. (i < length states) × (key_of (state_at states i) ≡ k))
   pub count : count_by is_some places ≡ length states

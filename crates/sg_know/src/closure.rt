@@ -6,7 +6,7 @@ ghost use Rattle.sg_protocol.specs.Graph.{shape, writes};
 ghost use Rattle.sg_protocol.specs.Knowledge.{learns};
 ghost use Rattle.sg_know.specs.States.{AreReached, AreThere, Extends, Has, IsClosure, known_if, mark_after, state_along, state_at};
 
-use crate::states::{Mark, Reached, State, States, Step};
+use crate::states::{Arrival, Mark, Reached, State, States};
 use sg_base::{Label, NodeId, OutOfMemory, Role, Var};
 use sg_graph::Graph;
 use std::alloc::Global;
@@ -57,7 +57,7 @@ fn follow(
     for label in graph.edges_from(state.node) {
         states.enter(Reached {
             state: along(graph, role, var, *label, &state),
-            by: Some(Step {
+            by: Some(Arrival {
                 from: at,
                 label: *label,
             }),

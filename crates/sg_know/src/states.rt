@@ -26,7 +26,7 @@ pub(crate) struct State {
 
 /// The edge by which a state was come to, and the place of the state that it came from.
 #[derive(Debug, Clone, Copy)]
-pub(crate) struct Step {
+pub(crate) struct Arrival {
     pub from: usize,
     pub label: Label,
 }
@@ -35,7 +35,7 @@ pub(crate) struct Step {
 #[derive(Debug, Clone, Copy)]
 pub(crate) struct Reached {
     pub state: State,
-    pub by: Option<Step>,
+    pub by: Option<Arrival>,
 }
 
 /// States, each once, in the order in which they were come to. There are 256 nodes and three marks at most.
@@ -51,7 +51,8 @@ impl Model for States {
 
     ghost Value = { List Reached };
 
-    ghost use Rattle.sg_know.specs.View.{states_of, HoldsStates};
+    ghost use Rattle.sg_know.specs.Model.{states_of};
+    ghost use Rattle.sg_know.specs.Invariant.{HoldsStates};
 
     ghost view = { states_of };
 
@@ -87,7 +88,7 @@ impl States {
     }
 
     /// The edge by which the state at a place was come to, from an earlier one.
-    fn step(&self, place: usize) -> Option<Step>
+    fn step(&self, place: usize) -> Option<Arrival>
         requires { place < length self.now }
         ensures step { result ≡ step_at self.now place }
         ensures earlier { IfSome result (λ s. s.from < place) }

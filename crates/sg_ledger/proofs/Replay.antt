@@ -8,7 +8,7 @@ use Rattle.std.proofs.lemmas.List.Elements.{All-push}
 use Rattle.sg_ledger.specs.Disk.{overlaid, Torn, Elapses}
 use Rattle.sg_ledger.specs.Memory.{Platter, at_rest, taken, after_call, after_calls, Leaves, IsImage, Medium, platter_at, platter, LeftSince, with_call, padded, torn_by, picked}
 use Rattle.sg_ledger.proofs.Tears.{torn_not, torn_whole}
-use Rattle.sg_ledger.specs.Tied.{all_taken, state_of, IsTied}
+use Rattle.sg_ledger.specs.Invariant.{all_taken, state_of, IsTied}
 use Rattle.sg_ledger.specs.declared.medium.Medium.TheInside.{Inside}
 use Rattle.sg_ledger.specs.declared.medium.Call.{Call}
 use Rattle.sg_ledger.specs.declared.medium.Call.TheVariants.{Kept, Wrote, Tore, Synced}

@@ -1,5 +1,6 @@
 -- The file of a ledger: its head, then 65,536 slots of 34 bytes, and the joins that its bytes stand for.
 use Rattle.std.specs.Prelude.{◌≡◌, ◌≢◌, ◌⊎◌, ℕ, zero, suc, ◌+◌, ◌*◌, ◌<◌, ◌≤◌, List, [], ◌∷◌, ◌++◌, length, take, drop, get_or, Bool, All, AllPairs}
+use Rattle.sg_model.specs.Limits.{most_joins}
 
 -- a pair of session and role
 abbrev pub Join : Type 0
@@ -47,7 +48,7 @@ pub record SlotsStandFor (file : List ℕ) (count : ℕ) (joins : List Join) : T
 -- the bytes of a ledger stand for joins
 pub record StandsFor (file : List ℕ) (joins : List Join) : Type 0 where
   pub ledger : IsLedger file
-  pub slots : SlotsStandFor file 65536 joins
+  pub slots : SlotsStandFor file most_joins joins
 
 -- they stand for the joins, or for the joins and one more
 abbrev pub StandsForOneOf : List Join → Join → List ℕ → Type 0
@@ -62,7 +63,7 @@ IsBadSlot file n = IsOpen (slot_of file n) × (
 
 -- the first such slot
 abbrev pub IsFirstBadSlot : List ℕ → ℕ → Type 0
-IsFirstBadSlot file n = (n < 65536) × IsBadSlot file n × ((m : ℕ) → m < n → ¬ IsBadSlot file m)
+IsFirstBadSlot file n = (n < most_joins) × IsBadSlot file n × ((m : ℕ) → m < n → ¬ IsBadSlot file m)
 
 -- what clauses see of an opened ledger: its joins in order, and whether a call to add one has failed
 pub record Opened : Type 0 where

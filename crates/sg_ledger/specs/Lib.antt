@@ -1,9 +1,9 @@
 pub mod Disk
 pub mod Format
-pub mod Held
+pub mod Model
 pub mod Laws
 pub mod Memory
 pub mod Opening
 pub mod Plan
 pub mod Runs
-pub mod Tied
+pub mod Invariant

@@ -1,5 +1,6 @@
 //! The ledger: joins that outlive a restart.
 ghost use Rattle.std.specs.Prelude.{◌≡◌, ◌≢◌, ◌⊎◌, ◌↔◌, ◌++◌, ◌+◌, ◌^◌, ◌<◌, ◌≤◌, [], ◌∷◌, List, ℕ, Some, true, false, length, take, drop, All, AllPairs, Contains, IfOk, IfErr, IsTrue, OnErr, OnOk};
+ghost use Rattle.sg_model.specs.Limits.{most_joins};
 ghost use Rattle.sg_base.specs.Outside.{HasRisen};
 ghost use Rattle.sg_ledger.specs.Disk.{overlaid, Torn, Keeps, LeavesOnly, WhereTold};
 ghost use Rattle.sg_ledger.specs.Format.{magic, Join, IsBlank, StandsFor, StandsForOneOf};
@@ -25,6 +26,7 @@ pub enum CreateFault {
     /// The disk failed.
     #[error("the disk failed")]
     Failed,
+    /// Memory was wanted, and none was to be had.
     #[error("out of memory")]
     OutOfMemory,
 }
@@ -44,6 +46,7 @@ pub enum OpenFault {
     /// The disk failed.
     #[error("the disk failed")]
     Failed,
+    /// Memory was wanted, and none was to be had.
     #[error("out of memory")]
     OutOfMemory,
 }
@@ -60,6 +63,7 @@ pub enum AddJoinFault {
     /// The disk failed, and so has the ledger: it is to be opened again.
     #[error("the disk failed")]
     Failed,
+    /// Memory was wanted, and none was to be had.
     #[error("out of memory")]
     OutOfMemory,
 }
@@ -75,12 +79,13 @@ pub struct Ledger {
 impl Model for Ledger {
     ghost use Rattle.std.specs.Prelude.{◌≤◌, length};
     ghost use Rattle.sg_ledger.specs.Format.{Opened};
+    ghost use Rattle.sg_model.specs.Limits.{most_joins};
 
     ghost Value = { Opened };
 
     ghost view = { λ l. record { joins = l.joins.keys; failed = l.failed } };
 
-    ghost invariant = { λ l. length l.joins.keys ≤ 65536 };
+    ghost invariant = { λ l. length l.joins.keys ≤ most_joins };
 }
 
 impl Ledger {
@@ -144,7 +149,7 @@ impl Ledger {
     /// The joins, in the order in which they were added, all different. It takes no memory.
     pub fn joins(&self) -> &[(Sid, Role)]
         ensures joins { result.now ≡ self.now.joins }
-        ensures most { length result.now ≤ 65536 }
+        ensures most { length result.now ≤ most_joins }
         ensures differ { AllPairs (λ a b. a ≢ b) result.now }
     {
         self.joins.as_slice()
@@ -166,7 +171,7 @@ impl Ledger {
         requires stands { (image : List ℕ) → D.may_leave disk.old image → StandsFor image self.old.joins }
         ensures never_falls { D.faults disk.old ≤ D.faults disk.new }
         ensures twice { (result ≡ Err AddJoinFault.Twice) ↔ Contains self.old.joins (sid, role) }
-        ensures full { (result ≡ Err AddJoinFault.Full) ↔ ((¬ Contains self.old.joins (sid, role)) × (length self.old.joins ≡ 65536)) }
+        ensures full { (result ≡ Err AddJoinFault.Full) ↔ ((¬ Contains self.old.joins (sid, role)) × (length self.old.joins ≡ most_joins)) }
         ensures failed { result ≡ Err AddJoinFault.Failed → HasRisen (D.faults disk.old) (D.faults disk.new) }
         ensures added { OnOk result (self.new ≡ record { joins = self.old.joins ++ (sid, role) ∷ []; failed = false }) }
         ensures broken { result ≡ Err AddJoinFault.Failed → self.new ≡ record { joins = self.old.joins; failed = true } }
@@ -257,7 +262,7 @@ fn write_join<D: Disk>(
     joins: &IndexSet<(Sid, Role)>,
     join: (Sid, Role),
 ) -> Result<(), Failed>
-    requires room { length joins.now.keys < 65536 }
+    requires room { length joins.now.keys < most_joins }
     requires role { join.1 < 16 }
     requires absent { ¬ Contains joins.now.keys join }
     requires stands { (image : List ℕ) → D.may_leave disk.old image → StandsFor image joins.now.keys }

@@ -46,7 +46,7 @@ pub(crate) struct Medium {
 
 impl Model for Medium {
     ghost use Rattle.sg_ledger.specs.Memory.{Medium as Held};
-    ghost use Rattle.sg_ledger.specs.Tied.{IsTied};
+    ghost use Rattle.sg_ledger.specs.Invariant.{IsTied};
 
     ghost Value = { Held };
 

@@ -26,7 +26,7 @@ pub struct MemDisk {
 }
 
 impl Model for MemDisk {
-    ghost use Rattle.sg_ledger.specs.Held.{DiskHeld};
+    ghost use Rattle.sg_ledger.specs.Model.{DiskHeld};
 
     ghost Value = { DiskHeld };
 

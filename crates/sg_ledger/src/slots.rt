@@ -1,6 +1,7 @@
 //! The slots of a ledger's file, and the joins that they stand for.
 ghost use Rattle.std.specs.Prelude.{◌≡◌, ◌≢◌, ◌⊎◌, ◌↔◌, ◌++◌, ◌<◌, ◌≤◌, [], ◌∷◌, ℕ, length, true, false, Contains, IfOk, IfErr, IsTrue, IsOk, OnErr, OnOk};
 ghost use Rattle.indexmap.specs.IndexSet.{spare};
+ghost use Rattle.sg_model.specs.Limits.{most_joins};
 ghost use Rattle.sg_ledger.specs.Format.{slot_of, IsOpen, pair_of, SlotsStandFor};
 ghost use Rattle.sg_ledger.specs.Opening.{RefusesSlots};
 
@@ -57,7 +58,7 @@ fn sid_of(bytes: &[u8]) -> Sid
 }
 
 fn slot_bytes(file: &[u8], slot: usize) -> &[u8]
-    requires within { slot < 65536 }
+    requires within { slot < most_joins }
     requires length { length file.now ≡ 2228232 }
     ensures slot { result.now ≡ slot_of file.now slot }
     ensures length { length result.now ≡ 34 }
@@ -69,7 +70,7 @@ fn slot_bytes(file: &[u8], slot: usize) -> &[u8]
 /// The joins that the slots of a file stand for, or the first slot that no ledger has.
 pub(crate) fn read_slots(alloc: Global, file: &[u8]) -> Result<IndexSet<(Sid, Role)>, OpenFault>
     requires { length file.now ≡ 2228232 }
-    ensures joins { IfOk result (λ joins. SlotsStandFor file.now 65536 joins.keys) }
+    ensures joins { IfOk result (λ joins. SlotsStandFor file.now most_joins joins.keys) }
     ensures bad { IfErr result (λ e. RefusesSlots file.now e) }
 {
     let mut joins = IndexSet::new(alloc);

@@ -6,10 +6,6 @@ use Rattle.std.proofs.lemmas.Slice.Eq.{bytes_eq-Decides}
 use Rattle.sg_model.specs.Lists.{has_text}
 use Rattle.sg_lines.specs.Sessions.{firsts}
 
--- a text is itself
-pub bytes_eq-same : (t : List ℕ) → bytes_eq t t ≡ true
-bytes_eq-same t = (bytes_eq-Decides t t).1 refl
-
 -- what is left of texts still has a text that passes
 module _ (q : List ℕ → Bool) (t : List ℕ) where
   pub has_text-filter : q t ≡ true → (ts : List (List ℕ)) → has_text t (filter q ts) ≡ has_text t ts

@@ -10,8 +10,9 @@ use Rattle.std.proofs.lemmas.Bool.Decides.{Decides-like, same_from_decides}
 use Rattle.std.proofs.lemmas.Slice.Eq.{bytes_eq-Decides}
 use Rattle.sg_model.specs.Lists.{has_text}
 use Rattle.sg_model.specs.Names.{Name}
+use Rattle.sg_model.proofs.Small.{bytes_refl}
 use Rattle.sg_lines.specs.Sessions.{firsts, Met, declared_sids, undeclared, all_sids, numbered, session_name, Naming, naming, with_declared, with_event}
-use Rattle.sg_lines.proofs.Firsts.{bytes_eq-same, has_text-filter, has_text-filtered, has_text-firsts, firsts-new, firsts-again}
+use Rattle.sg_lines.proofs.Firsts.{has_text-filter, has_text-filtered, has_text-firsts, firsts-new, firsts-again}
 
 -- ---- which sids there are
 
@@ -135,7 +136,7 @@ name-new letter m sid h =
     let miss = or_parts (has_text sid (declared_sids m)) (has_text sid m.events) (sym (has_text-all_sids m sid) ∙ h) in
     missed_name (found_in m sid) _ (find_declared sid m.declared ∙ miss.0)
     ∙ ap (λ o. option_map_or (λ n. numbered letter (n + 1)) o []) (ap (position (bytes_eq sid)) (undeclared-new m sid h)
-    ∙ position-push_new (bytes_eq sid) (undeclared m) sid (has_text-filtered (is_other m) sid (firsts m.events) (has_text-firsts sid m.events ∙ miss.1)) (bytes_eq-same sid))
+    ∙ position-push_new (bytes_eq sid) (undeclared m) sid (has_text-filtered (is_other m) sid (firsts m.events) (has_text-firsts sid m.events ∙ miss.1)) (bytes_refl sid))
 
 -- ---- the table
 
@@ -147,7 +148,7 @@ paired f k = (k, f k)
 names-same : (f g : List ℕ → Name) (ks : List (List ℕ)) → ((k : List ℕ) → has_text k ks ≡ true → f k ≡ g k) → map (paired f) ks ≡ map (paired g) ks
 names-same f g [] h = refl
 names-same f g (k ∷ ks) h =
-    let here : f k ≡ g k = h k (or_left (bytes_eq k k) (has_text k ks) (bytes_eq-same k)) in
+    let here : f k ≡ g k = h k (or_left (bytes_eq k k) (has_text k ks) (bytes_refl k)) in
     let rest : map (paired f) ks ≡ map (paired g) ks = names-same f g ks (λ j m. h j (or_right (bytes_eq j k) (has_text j ks) m)) in
     λ i. (k, here i) ∷ rest i
 
@@ -216,7 +217,7 @@ name-of_declared : (letter : ℕ) (m : Met) (name : Name) (sid : List ℕ) → h
 name-of_declared letter m name sid h =
     let other : Name = option_map_or (λ n. numbered letter (n + 1)) (position (bytes_eq sid) (undeclared (with_declared m name sid))) [] in
     ap (λ o. called o other) (find-append (λ (d : Name × List ℕ). bytes_eq d.1 sid) m.declared ((name, sid) ∷ []))
-    ∙ ap (λ b. called (option_or (found_in m sid) (cond b (Some (name, sid)) None)) other) (bytes_eq-same sid)
+    ∙ ap (λ b. called (option_or (found_in m sid) (cond b (Some (name, sid)) None)) other) (bytes_refl sid)
     ∙ found_second (found_in m sid) (name, sid) other (find_declared sid m.declared ∙ h)
 
 declared_there : (m : Met) (sid : List ℕ) (b : Bool) → m.events ≡ [] → has_text sid (all_sids m) ≡ b → has_text sid (declared_sids m) ≡ b

@@ -1,11 +1,12 @@
 -- The steps of a stored walk are the graph's, and how they are written.
-use Rattle.std.proofs.Common.{◌≡◌, ℕ, ◌<◌, nat_lt, Bool, true, sym, ap, refl, subst, List, [], ◌∷◌, ◌++◌, length, if◌then◌else◌}
+use Rattle.std.proofs.Common.{◌≡◌, ℕ, ◌<◌, nat_lt, Bool, sym, ap, refl, subst, List, [], ◌∷◌, ◌++◌, length, if◌then◌else◌}
 use Rattle.std.specs.Prelude.{flat_map, codes}
 use Rattle.std.specs.List.{AllByRecursion, list_all}
-use Rattle.std.proofs.lemmas.Bool.{and_parts, ltb-true}
+use Rattle.std.proofs.lemmas.Bool.{and_parts}
 use Rattle.std.proofs.lemmas.List.{get_or-map, length-map}
 use Rattle.sg_model.specs.Lists.{keys_of, rises_from}
 use Rattle.sg_model.specs.Shape.{Arrow, Walk, sender, target}
+use Rattle.sg_model.proofs.Small.{all_below}
 use Rattle.sg_protocol.specs.Graph.{Graph, Edge, IsGraph, shape, writes}
 use Rattle.sg_protocol.specs.Walk.{StoredStep, IsStoredStep, IsStoredWalk, labels}
 use Rattle.sg_graph.specs.Parts.{edge_at, edge_name}
@@ -15,16 +16,12 @@ use Rattle.sg_lines.specs.Walks.{HasSteps, step_text, walk_line, written}
 abbrev arrow : Edge → Arrow
 arrow e = record { source = e.source; target = e.target; writes = e.writes; reads = e.reads }
 
-below_each : (n : ℕ) (ks : List ℕ) → list_all (λ k. nat_lt k n) ks ≡ true → AllByRecursion (λ x. x < n) ks
-below_each n [] h = tt
-below_each n (k ∷ ks) h = let both = and_parts (nat_lt k n) (list_all (λ k. nat_lt k n) ks) h in (ltb-true k n both.0, below_each n ks both.1)
-
 module _ (g : Graph) (is : IsGraph g) where
   writes_below : (e : ℕ) → e < length g.edges → AllByRecursion (λ x. x < length g.variables) (writes g e)
   writes_below e there =
       let at : writes g e ≡ (edge_at g e).writes = ap (λ (a : Arrow). a.writes) (get_or-map arrow g.edges e (record { name = []; source = 0; target = 0; writes = []; reads = [] }) (record { source = 0; target = 0; writes = []; reads = [] }) there) in
       let numbers = (is.variables e (record { name = []; source = 0; target = 0; writes = []; reads = [] }) there).0 in
-      subst (AllByRecursion (λ x. x < length g.variables)) (sym at) (below_each (length g.variables) (edge_at g e).writes (and_parts (rises_from 0 (edge_at g e).writes) (list_all (λ k. nat_lt k (length g.variables)) (edge_at g e).writes) numbers).1)
+      subst (AllByRecursion (λ x. x < length g.variables)) (sym at) (all_below (length g.variables) (edge_at g e).writes (and_parts (rises_from 0 (edge_at g e).writes) (list_all (λ k. nat_lt k (length g.variables)) (edge_at g e).writes) numbers).1)
 
   steps_from : (m : ℕ) (steps : List StoredStep) → Walk (shape g) m (labels steps) → AllByRecursion (IsStoredStep g) steps → HasSteps g steps
   steps_from m [] w v = tt

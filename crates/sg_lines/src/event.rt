@@ -2,13 +2,12 @@
 ghost use Rattle.std.specs.Prelude.{◌≡◌, ◌<◌, ◌++◌, OnOk, codes, length};
 ghost use Rattle.std.specs.Fmt.{decimal};
 ghost use Rattle.sg_protocol.specs.Told.{HasEvent};
-ghost use Rattle.sg_walk.specs.Views.{event_of};
+ghost use Rattle.sg_walk.specs.Model.{event_of};
 ghost use Rattle.sg_lines.specs.Events.{event_text, event_values, moved_text, sent_to};
 
-use crate::named::{put_label, put_role};
 use crate::value::put_values;
 use sg_base::{ByteOut, Label, Name, OutOfMemory, Time};
-use sg_graph::Graph;
+use sg_graph::{Graph, put_label, put_role};
 use sg_walk::Event;
 use std::alloc::Global;
 

@@ -10,13 +10,11 @@
 #![tactic(auto)]
 
 mod event;
-mod named;
 mod names;
 mod value;
 mod walk;
 
 pub use event::{put_event, put_event_values, put_sent_to};
-pub use named::{put_label, put_role, put_var};
 pub use names::SessionNames;
 pub use value::{put_assigned, put_value, put_values};
 pub use walk::put_walk;

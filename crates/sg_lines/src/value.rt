@@ -2,13 +2,12 @@
 ghost use Rattle.std.specs.Prelude.{◌≡◌, ◌<◌, ◌/◌, ◌%◌, ◌++◌, ◌∷◌, [], false, All, OnOk, flat_map, length, option_map};
 ghost use Rattle.std.specs.Fmt.{digit_glyph, signed_decimal};
 ghost use Rattle.std.specs.Option.{option_copied};
-ghost use Rattle.sg_base.specs.Values.{value_of};
+ghost use Rattle.sg_base.specs.Model.{value_of};
 ghost use Rattle.sg_lines.specs.Values.{assigned, is_plain, quoted_byte, value_or_hidden, value_text, values_text};
-ghost use Rattle.sg_walk.specs.Views.{values_of};
+ghost use Rattle.sg_walk.specs.Model.{values_of};
 
-use crate::named::put_var;
 use sg_base::{ByteOut, Chars, OutOfMemory, Value, Var};
-use sg_graph::Graph;
+use sg_graph::{Graph, put_var};
 use std::alloc::Global;
 
 /// Writes a value: a number in digits, a text between quotes.

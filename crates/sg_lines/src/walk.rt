@@ -1,14 +1,13 @@
 //! Stored walks.
 ghost use Rattle.std.specs.Prelude.{◌≡◌, ◌<◌, ◌++◌, ◌∷◌, [], All, OnOk, codes, flat_map, if◌then◌else◌, length, map, option_map};
-ghost use Rattle.sg_base.specs.Values.{value_of};
+ghost use Rattle.sg_base.specs.Model.{value_of};
 ghost use Rattle.sg_model.specs.Lists.{is_in};
-ghost use Rattle.sg_walk.specs.Views.{step_of, steps_of, writes_of};
+ghost use Rattle.sg_walk.specs.Model.{step_of, steps_of, writes_of};
 ghost use Rattle.sg_lines.specs.Walks.{HasSteps, step_text, walk_line, write_text, written};
 
-use crate::named::put_label;
 use crate::value::put_assigned;
 use sg_base::{ByteOut, OutOfMemory, RoleSet, Value, Var};
-use sg_graph::Graph;
+use sg_graph::{Graph, put_label};
 use sg_walk::{StoredStep, StoredWalk};
 use std::alloc::Global;
 

@@ -6,7 +6,7 @@ use Rattle.sg_model.specs.Last.{has, last_of, last_or, last, after_last, Map, En
 use Rattle.sg_model.proofs.LastOf.{has-append, last_of-drop, last_of-keep}
 
 -- a name that is written by neither
-has-kept : {A : Type 0} (k : ℕ) (xs later : Map A) → (has (λ (x : ℕ × A). x.0) k (filter (λ (w : ℕ × A). not (has (λ (x : ℕ × A). x.0) w.0 later)) xs) || has (λ (x : ℕ × A). x.0) k later) ≡ (has (λ (x : ℕ × A). x.0) k xs || has (λ (x : ℕ × A). x.0) k later)
+pub has-kept : {A : Type 0} (k : ℕ) (xs later : Map A) → (has (λ (x : ℕ × A). x.0) k (filter (λ (w : ℕ × A). not (has (λ (x : ℕ × A). x.0) w.0 later)) xs) || has (λ (x : ℕ × A). x.0) k later) ≡ (has (λ (x : ℕ × A). x.0) k xs || has (λ (x : ℕ × A). x.0) k later)
 has-kept k [] later = refl
 has-kept {A = A} k (w ∷ ws) later =
     elim (cases_Bool (has (λ (x : ℕ × A). x.0) w.0 later)) [
@@ -18,12 +18,8 @@ has-kept {A = A} k (w ∷ ws) later =
     or_again true b c d e = refl
     or_again false b c d e = e
 
-    or_true : (a b : Bool) → b ≡ true → (a || b) ≡ true
-    or_true true b e = refl
-    or_true false b e = e
-
     dropped : ((w.0 == k) ≡ true) ⊎ ((w.0 == k) ≡ false) → has (λ (x : ℕ × A). x.0) w.0 later ≡ true → (has (λ (x : ℕ × A). x.0) k ws || has (λ (x : ℕ × A). x.0) k later) ≡ (((w.0 == k) || has (λ (x : ℕ × A). x.0) k ws) || has (λ (x : ℕ × A). x.0) k later)
-    dropped (inl same) e = rw same (or_true _ _ (subst (λ n. has (λ (x : ℕ × A). x.0) n later ≡ true) (eqb-true w.0 k same) e))
+    dropped (inl same) e = rw same (or_right _ _ (subst (λ n. has (λ (x : ℕ × A). x.0) n later ≡ true) (eqb-true w.0 k same) e))
     dropped (inr other) e = rw other
 
 -- two tests in turn
@@ -73,7 +69,7 @@ module _ {K A : Type 0} (role : K → ℕ) (x : Entry K A) (xs : List (Entry K A
   pub evidence-keep : has (λ y. role y.step) (role x.step) xs ≡ false → evidence role (x ∷ xs) ≡ x ∷ evidence role xs
   evidence-keep e = rw e
 
-carry-carry : {K A : Type 0} (v w : Map A) (xs : List (Entry K A)) → carry v (carry w xs) ≡ carry (merge v w) xs
+pub carry-carry : {K A : Type 0} (v w : Map A) (xs : List (Entry K A)) → carry v (carry w xs) ≡ carry (merge v w) xs
 carry-carry v w [] = refl
 carry-carry v w (x ∷ xs) = ap (λ z. record { step = x.step; writes = z } ∷ xs) (merge_assoc v w x.writes)
 

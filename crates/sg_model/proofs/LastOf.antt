@@ -3,10 +3,7 @@ use Rattle.std.proofs.Common.{◌≡◌, ◌⊎◌, ℕ, ◌==◌, Bool, true, f
 use Rattle.std.proofs.lemmas.Bool.{cases_Bool, eqb-true, eq-eqb, or_parts, or_cases, or_left, true≢false}
 use Rattle.sg_model.specs.Last.{has, last_of, Sublist, Covered}
 use Rattle.sg_model.specs.Last.Sublist.{Done, Skip, Keep}
-
-or_assoc : (a b c : Bool) → (a || (b || c)) ≡ ((a || b) || c)
-or_assoc true b c = refl
-or_assoc false b c = refl
+use Rattle.sg_model.proofs.Small.{or_assoc}
 
 pub has-append : {A : Type 0} (key : A → ℕ) (k : ℕ) (xs ys : List A) → has key k (xs ++ ys) ≡ (has key k xs || has key k ys)
 has-append key k [] ys = refl

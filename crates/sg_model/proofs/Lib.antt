@@ -1,4 +1,6 @@
 pub mod Small
+pub mod Numbers
+pub mod Differ
 pub mod LastOf
 pub mod Evidence
 pub mod Walks

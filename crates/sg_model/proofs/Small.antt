@@ -1,14 +1,17 @@
 -- Small lemmas that many proofs open with: on answers, bytes, options, lists, what holds of each element, and ranges of numbers.
-use Rattle.std.specs.Prelude.{◌≡◌, ℕ, zero, suc, ◌+◌, ◌<◌, ◌≤◌, ◌==◌, nat_lt, ◌&&◌, ◌⊎◌, Bool, true, false, not, List, [], ◌∷◌, ◌++◌, map, filter, take, length, bytes_eq, refl, Option, Some, None}
+use Rattle.std.specs.Prelude.{◌≡◌, ◌≢◌, ℕ, zero, suc, ◌+◌, ◌<◌, ◌≤◌, ◌==◌, nat_lt, ◌&&◌, ◌||◌, ◌⊎◌, Bool, true, false, List, [], ◌∷◌, ◌++◌, map, filter, take, drop, length, get_or, bytes_eq, refl, Option, Some, None}
 use Rattle.std.specs.List.{list_all, AllByRecursion}
-use Rattle.std.proofs.Common.{◌∙◌, ap, subst, inl, inr, arith}
-use Rattle.std.proofs.lemmas.Bool.{cases_Bool, and_parts, eqb-true}
-use Rattle.std.proofs.lemmas.Bool.Decides.{nat_tests}
+use Rattle.std.proofs.Common.{◌∙◌, sym, ap, subst, inl, inr, arith, length-append}
+use Rattle.std.proofs.lemmas.Bool.{cases_Bool, and_parts, or_parts, eqb-true}
+use Rattle.std.proofs.lemmas.Bool.Decides.{nat_tests, Decides-like, same_from_decides}
 use Rattle.std.proofs.lemmas.Slice.Eq.{bytes_eq-Decides}
 use Rattle.sg_model.specs.Last.{last}
 use Rattle.sg_model.specs.Lists.{range_from, first_some}
 
 -- two truths of one answer, and the two cases of an option
+pub contradicts : {b : Bool} → b ≡ true → b ≡ false → ⊥
+contradicts t f = absurd (let z : true ≡ false = sym t ∙ f in cc)
+
 pub clash : {A : Type 0} (b : Bool) → b ≡ true → b ≡ false → A
 clash b t f = cc
 
@@ -17,6 +20,32 @@ cases_Option None = inl refl
 cases_Option (Some x) = inr (x, refl)
 
 -- parts of answers
+pub or_false : (b : Bool) → (b || false) ≡ b
+or_false true = refl
+or_false false = refl
+
+pub or_true : (b : Bool) → (b || true) ≡ true
+or_true true = refl
+or_true false = refl
+
+pub or_assoc : (a b c : Bool) → (a || (b || c)) ≡ ((a || b) || c)
+or_assoc true b c = refl
+or_assoc false b c = refl
+
+pub first_false : (a b : Bool) → (a || b) ≡ false → a ≡ false
+first_false a b h = (or_parts a b h).0
+
+pub second_false : (a b : Bool) → (a || b) ≡ false → b ≡ false
+second_false a b h = (or_parts a b h).1
+
+pub and_false : (b : Bool) → (b && false) ≡ false
+and_false true = refl
+and_false false = refl
+
+pub and_true : (b : Bool) → (b && true) ≡ b
+and_true true = refl
+and_true false = refl
+
 pub and_left : (a b : Bool) → (a && b) ≡ true → a ≡ true
 and_left true b h = refl
 and_left false b h = h
@@ -25,13 +54,27 @@ pub and_right : (a b : Bool) → (a && b) ≡ true → b ≡ true
 and_right true b h = h
 and_right false b h = cc
 
-pub not_false : (b : Bool) → not b ≡ false → b ≡ true
-not_false true h = refl
-not_false false h = absurd (cc)
+-- two numbers are the same or not
+pub same_or_not : (a b : ℕ) → (a ≡ b) ⊎ (a ≢ b)
+same_or_not a b = elim (cases_Bool (a == b)) [ inl y ↦ inl (grind (arith, nat_tests, y)) | inr n ↦ inr (λ e. grind (arith, nat_tests, n, e)) ]
 
-pub not_true : (b : Bool) → not b ≡ true → b ≡ false
-not_true true h = absurd (let z : false ≡ true = h in cc)
-not_true false h = refl
+pub same_number : (a b : ℕ) → a ≡ b → (a == b) ≡ true
+same_number a b h = grind (arith, nat_tests)
+
+-- the equality of numbers goes both ways
+pub eqb-swap : (a b : ℕ) → (a == b) ≡ (b == a)
+eqb-swap a b = grind (arith, nat_tests)
+
+pub zero_less : (n : ℕ) → nat_lt 0 (suc n) ≡ true
+zero_less n = grind (arith, nat_tests)
+
+-- a number below one more is below, or is it
+pub upto : (k n : ℕ) → k < n + 1 → (k < n) ⊎ (k ≡ n)
+upto k n u = elim (cases_Bool (nat_lt k n)) [ inl y ↦ inl (grind (arith, nat_tests, y)) | inr z ↦ inr (grind (arith, nat_tests, z)) ]
+
+-- what is some is one thing
+pub some_same : {A : Type 0} {x y : A} → Some x ≡ Some y → x ≡ y
+some_same h = cc
 
 -- bytes
 pub same_bytes : (a b : List ℕ) → bytes_eq a b ≡ true → a ≡ b
@@ -42,6 +85,12 @@ bytes_same a b h = (bytes_eq-Decides a b).1 h
 
 pub bytes_refl : (t : List ℕ) → bytes_eq t t ≡ true
 bytes_refl t = (bytes_eq-Decides t t).1 refl
+
+pub bytes_eq-swap : (a b : List ℕ) → bytes_eq a b ≡ bytes_eq b a
+bytes_eq-swap a b = same_from_decides _ _ (bytes_eq-Decides a b) (Decides-like _ sym sym (bytes_eq-Decides b a))
+
+pub bytes_eq-flip : (a b : List ℕ) → bytes_eq a b ≡ false → bytes_eq b a ≡ false
+bytes_eq-flip a b h = bytes_eq-swap b a ∙ h
 
 -- lists
 pub none_parts : {F : Type 0} (o : Option F) (os : List (Option F)) → first_some (o ∷ os) ≡ None → (o ≡ None) × (first_some os ≡ None)
@@ -55,6 +104,44 @@ both_nil (x ∷ xs) ys e = absurd (cc)
 pub no_last : {A : Type 0} (xs : List A) → last xs ≡ None → xs ≡ []
 no_last [] e = refl
 no_last (x ∷ xs) e = absurd (cc)
+
+pub length-more : {A : Type 0} (xs : List A) (x : A) → length (xs ++ x ∷ []) ≡ length xs + 1
+length-more xs x = length-append xs (x ∷ [])
+
+-- an element of a list is the same whatever is asked for in its place
+pub same_at : {A : Type 0} (xs : List A) (i : ℕ) (d e : A) → i < length xs → get_or xs i d ≡ get_or xs i e
+same_at [] i d e l = absurd (omega arith)
+same_at (x ∷ xs) zero d e l = refl
+same_at (x ∷ xs) (suc i) d e l = same_at xs i d e (omega arith)
+
+pub length_map : {A B : Type 0} (f : A → B) (xs : List A) → length (map f xs) ≡ length xs
+length_map f [] = refl
+length_map f (x ∷ xs) = ap suc (length_map f xs)
+
+pub heads : {A : Type 0} (x y : A) (xs ys : List A) → x ∷ xs ≡ y ∷ ys → x ≡ y
+heads x y xs ys e = cc
+
+pub tails : {A : Type 0} (x y : A) (xs ys : List A) → x ∷ xs ≡ y ∷ ys → xs ≡ ys
+tails x y xs ys e = cc
+
+pub right_empty : {A : Type 0} (xs : List A) (y : A) → xs ++ y ∷ [] ≡ [] → ⊥
+right_empty [] y e = cc
+right_empty (x ∷ xs) y e = cc
+
+-- what stands behind a place, and behind the end
+pub drop_from : {A : Type 0} (xs : List A) (i : ℕ) (x : A) → i < length xs → x ≡ get_or xs i x → drop i xs ≡ x ∷ drop (suc i) xs
+drop_from [] i x h e = absurd (omega arith)
+drop_from (y ∷ ys) zero x h e = ap (λ z. z ∷ ys) (sym e)
+drop_from (y ∷ ys) (suc i) x h e = drop_from ys i x (omega arith) e
+
+pub drop_at : {A : Type 0} (xs : List A) (i : ℕ) (x : A) → i < length xs → x ≡ get_or xs i x → drop i xs ≡ x ∷ drop (i + 1) xs
+drop_at xs i x h e = let k : suc i ≡ i + 1 = omega arith in drop_from xs i x h e ∙ ap (λ n. x ∷ drop n xs) k
+
+pub drop_end : {A : Type 0} (xs : List A) (i : ℕ) → length xs ≤ i → drop i xs ≡ []
+drop_end [] zero h = refl
+drop_end [] (suc i) h = refl
+drop_end (x ∷ xs) zero h = absurd (omega arith)
+drop_end (x ∷ xs) (suc i) h = drop_end xs i (omega arith)
 
 pub map_same : {A : Type 0} (f h : ℕ → A) (xs : List ℕ) → ((x : ℕ) → f x ≡ h x) → map f xs ≡ map h xs
 map_same f h [] e = refl
@@ -73,6 +160,10 @@ take_most (suc n) (x ∷ t) = let l = take_most n t in omega (arith, l)
 pub all-append : {A : Type 0} (P : A → Type 0) (xs ys : List A) → AllByRecursion P xs → AllByRecursion P ys → AllByRecursion P (xs ++ ys)
 all-append P [] ys a b = b
 all-append P (x ∷ xs) ys a b = (a.0, all-append P xs ys a.1 b)
+
+pub all-both : {A : Type 0} (P Q : A → Type 0) (xs : List A) → AllByRecursion P xs → AllByRecursion Q xs → AllByRecursion (λ x. P x × Q x) xs
+all-both P Q [] a b = tt
+all-both P Q (x ∷ xs) a b = ((a.0, b.0), all-both P Q xs a.1 b.1)
 
 pub all-parts : {A : Type 0} (P : A → Type 0) (xs ys : List A) → AllByRecursion P (xs ++ ys) → AllByRecursion P xs × AllByRecursion P ys
 all-parts P [] ys a = (tt, a)

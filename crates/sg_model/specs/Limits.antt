@@ -59,7 +59,11 @@ most_joins = 65536
 abbrev pub most_live : ℕ
 most_live = 4096
 
--- ---- schedules and their record
+-- how often a choice of a script is taken
+abbrev pub most_times : ℕ
+most_times = 1000000
+
+-- ---- schedules, logs and the record of a replay
 
 -- steps of a schedule
 abbrev pub most_steps : ℕ
@@ -68,6 +72,10 @@ most_steps = 200000
 -- declared sessions of a schedule
 abbrev pub most_declared : ℕ
 most_declared = 100000
+
+-- events that the logs of one session tell
+abbrev pub most_events : ℕ
+most_events = 100000
 
 -- bytes of the record of a replay
 abbrev pub most_record_bytes : ℕ
@@ -87,7 +95,7 @@ most_deliveries = 1000000
 
 -- ---- files
 
--- bytes of a graph's text
+-- bytes of a graph's text, and of a text of parts
 abbrev pub most_graph_file : ℕ
 most_graph_file = 4194304
 
@@ -98,6 +106,10 @@ most_program_file = 8388608
 -- bytes of a file of keys, and of a script
 abbrev pub most_script_file : ℕ
 most_script_file = 1048576
+
+-- bytes of a file of logs
+abbrev pub most_logs_file : ℕ
+most_logs_file = 16777216
 
 -- bytes of a schedule
 abbrev pub most_schedule_file : ℕ

@@ -32,8 +32,8 @@ use Rattle.sg_protocol.proofs.Backed.{states_are_backed}
 use Rattle.sg_protocol.proofs.NodeStates.{node_states_stand}
 use Rattle.sg_protocol.proofs.RealHash.{real_hash}
 use Rattle.sg_walk.specs.declared.event.Event.{Event}
-use Rattle.sg_walk.specs.Views.{event_of}
-use Rattle.sg_role.specs.States.{State}
+use Rattle.sg_walk.specs.Model.{event_of}
+use Rattle.sg_role.specs.Model.{State}
 use Rattle.sg_role.specs.Sending.{WaitsOrEnds, with_notes, step_of}
 use Rattle.sg_role.specs.declared.sent.Sent.{Sent}
 use Rattle.sg_role.specs.declared.sent.Sent.TheVariants as Done

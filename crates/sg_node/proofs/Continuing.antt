@@ -5,7 +5,7 @@ use Rattle.std.specs.List.{AllByRecursion}
 use Rattle.std.proofs.Common.{sym, ◌∙◌, ap, subst}
 use Rattle.std.proofs.lemmas.Bool.{eqb-true}
 use Rattle.indexmap.specs.IndexMap.{set_value_at}
-use Rattle.sg_model.proofs.Small.{and_right}
+use Rattle.sg_model.proofs.Small.{and_right, and_true, and_false}
 use Rattle.sg_model.specs.Lists.{first_some}
 use Rattle.sg_protocol.specs.Calls.{Happened, NotDelivered, UnknownSession, NotWaiting}
 use Rattle.sg_protocol.specs.Frame.{Cast, Frame}
@@ -25,7 +25,7 @@ use Rattle.sg_protocol.proofs.RealHash.{real_hash}
 use Rattle.sg_role.specs.Accepting.{Acceptance, state_after}
 use Rattle.sg_role.specs.Faults.{Refuses}
 use Rattle.sg_role.specs.Sending.{with_notes}
-use Rattle.sg_role.specs.States.{State}
+use Rattle.sg_role.specs.Model.{State}
 use Rattle.sg_role.specs.declared.fault.Refusal.{Refusal as RoleRefusal}
 use Rattle.sg_node.specs.Answers.{IsAnswer}
 use Rattle.sg_node.specs.declared.node.Node.TheInside.{Inside}
@@ -38,16 +38,8 @@ use Rattle.sg_node.proofs.Found.{Its, AtPlace, none_here, place, replaced, its_p
 use Rattle.sg_node.proofs.Receipts.{role_refused, early, no_text, no_session, not_waiting, next_rows_waiting, next_notes, unless_left, left_live}
 
 turned : (v a b : Bool) → (v && a && b) ≡ (a && b && v)
-turned true a b = sym (yes (a && b))
-  where
-    yes : (b : Bool) → (b && true) ≡ b
-    yes true = refl
-    yes false = refl
-turned false a b = sym (no (a && b))
-  where
-    no : (b : Bool) → (b && false) ≡ false
-    no true = refl
-    no false = refl
+turned true a b = sym (and_true (a && b))
+turned false a b = sym (and_false (a && b))
 
 -- a place passes where what is held there is held for the frame
 module _ (f : Frame) (ps : List Program) (js : List (List ℕ × ℕ)) where

@@ -16,7 +16,7 @@ use Rattle.sg_protocol.specs.Backed.{IsBackedAtTurn, IsBackedWaiting}
 use Rattle.sg_protocol.specs.IsSchedule.{IsProgram}
 use Rattle.sg_protocol.specs.NodeStates.{StandsLive, StandsIf, StandsForNode, replace_held}
 use Rattle.sg_role.specs.Accepting.{Acceptance, goes_on, state_after}
-use Rattle.sg_role.specs.States.{State}
+use Rattle.sg_role.specs.Model.{State}
 use Rattle.sg_node.specs.declared.node.Node.TheInside.{Inside}
 use Rattle.sg_node.specs.declared.sessions.Live.{Live}
 use Rattle.sg_node.specs.declared.sessions.Live.TheVariants.{AtTurn, Waiting}

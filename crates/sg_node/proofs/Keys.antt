@@ -3,18 +3,13 @@ use Rattle.std.specs.Prelude.{◌≡◌, ℕ, suc, ◌<◌, ◌==◌, ◌&&◌, 
 use Rattle.std.specs.List.{AllByRecursion, IsDistinct, list_any}
 use Rattle.std.proofs.Common.{sym, ◌∙◌, ap, subst, inl, inr, arith}
 use Rattle.std.proofs.lemmas.Bool.{cases_Bool}
-use Rattle.std.proofs.lemmas.Bool.Decides.{Decides-eqb, Decides-and, Decides-like, same_from_decides, nat_tests}
-use Rattle.std.proofs.lemmas.Slice.Eq.{bytes_eq-Decides}
+use Rattle.std.proofs.lemmas.Bool.Decides.{nat_tests}
 use Rattle.indexmap.specs.IndexMap.{insert_entry}
-use Rattle.sg_model.proofs.Small.{clash}
-use Rattle.sg_cache.proofs.SameJoin.{Join, same, same-Decides, any_same}
+use Rattle.sg_model.proofs.Small.{clash, and_false, and_true}
+use Rattle.sg_cache.proofs.SameJoin.{Join, same, same-Decides, any_same, same-parts}
 use Rattle.sg_node.specs.declared.sessions.Live.{Live}
 use Rattle.sg_node.specs.Slots.{Slot, is_of, is_of_role, earlier_of, first_place}
 use Rattle.sg_node.proofs.Places.{live_at, earlier_position, same_position, place_is_position}
-
--- the test of both parts is the test of the key
-of_parts : (sid : List ℕ) (r : ℕ) (j : Join) → (bytes_eq j.0 sid && (j.1 == r)) ≡ same (sid, r) j
-of_parts sid r j = same_from_decides _ _ (Decides-like _ (λ h i. (sym h.0 i, sym h.1 i)) (λ e. (ap (λ (k : Join). k.0) (sym e), ap (λ (k : Join). k.1) (sym e))) (Decides-and _ _ (bytes_eq-Decides j.0 sid) (Decides-eqb j.1 r))) (same-Decides (sid, r) j)
 
 -- the place is of the key, and what is there passes
 module _ (q : Option Live → Bool) (sid : List ℕ) (r : ℕ) where
@@ -22,26 +17,18 @@ module _ (q : Option Live → Bool) (sid : List ℕ) (r : ℕ) where
   by_key s = q s.1 && bytes_eq (s.0).0 sid && ((s.0).1 == r)
 
   of_key : (s : Slot) → by_key s ≡ (q s.1 && same (sid, r) s.0)
-  of_key s = grouped (q s.1) (bytes_eq (s.0).0 sid) ((s.0).1 == r) ∙ ap (λ b. q s.1 && b) (of_parts sid r s.0)
+  of_key s = grouped (q s.1) (bytes_eq (s.0).0 sid) ((s.0).1 == r) ∙ ap (λ b. q s.1 && b) (same-parts sid r s.0)
     where
       grouped : (a b c : Bool) → ((a && b) && c) ≡ (a && (b && c))
       grouped true b c = refl
       grouped false b c = refl
-
-  no : (b : Bool) → (b && false) ≡ false
-  no true = refl
-  no false = refl
-
-  yes : (b : Bool) → (b && true) ≡ b
-  yes true = refl
-  yes false = refl
 
   -- where a key stands first, none behind it has it
   none_behind : (j : Join) → same (sid, r) j ≡ true → (ss : List Slot) → AllByRecursion (λ k. same j k ≡ false) (map (λ s. s.0) ss) → first_place by_key ss ≡ None
   none_behind j e [] h = refl
   none_behind j e (s ∷ ss) h =
       let f : same (sid, r) s.0 ≡ false = subst (λ k. same k s.0 ≡ false) (sym ((same-Decides (sid, r) j).0 e)) h.0 in
-      let t : by_key s ≡ false = of_key s ∙ ap (λ b. q s.1 && b) f ∙ no (q s.1) in
+      let t : by_key s ≡ false = of_key s ∙ ap (λ b. q s.1 && b) f ∙ and_false (q s.1) in
       rw t (ap (option_map suc) (none_behind j e ss h.1))
 
   -- the place where the key stands, if what is there passes
@@ -51,10 +38,10 @@ module _ (q : Option Live → Bool) (sid : List ℕ) (r : ℕ) where
   place_of_key [] d = refl
   place_of_key (s ∷ ss) d = elim (cases_Bool (same (sid, r) s.0)) [
     | inl e ↦
-        let t : by_key s ≡ q s.1 = of_key s ∙ ap (λ b. q s.1 && b) e ∙ yes (q s.1) in
+        let t : by_key s ≡ q s.1 = of_key s ∙ ap (λ b. q s.1 && b) e ∙ and_true (q s.1) in
         rw (t, e) (elim (cases_Bool (q s.1)) [ inl f ↦ rw f refl | inr f ↦ rw f (ap (option_map suc) (none_behind s.0 e ss d.0)) ])
     | inr e ↦
-        let t : by_key s ≡ false = of_key s ∙ ap (λ b. q s.1 && b) e ∙ no (q s.1) in
+        let t : by_key s ≡ false = of_key s ∙ ap (λ b. q s.1 && b) e ∙ and_false (q s.1) in
         rw (t, e) (ap (option_map suc) (place_of_key ss d.1) ∙ shifted (first_place (same (sid, r)) (map (λ s. s.0) ss)))
   ]
     where
@@ -93,12 +80,8 @@ is_below o sid n s = is_of o sid s && nat_lt (s.0).1 n
 pub none_below : (o : Bool) (sid : List ℕ) (ss : List Slot) → first_place (is_below o sid 0) ss ≡ None
 none_below o sid [] = refl
 none_below o sid (s ∷ ss) = let e : nat_lt (s.0).1 0 ≡ false = grind (arith, nat_tests) in
-    let t : is_below o sid 0 s ≡ false = ap (λ b. is_of o sid s && b) e ∙ no (is_of o sid s) in
+    let t : is_below o sid 0 s ≡ false = ap (λ b. is_of o sid s && b) e ∙ and_false (is_of o sid s) in
     rw t (ap (option_map suc) (none_below o sid ss))
-  where
-    no : (b : Bool) → (b && false) ≡ false
-    no true = refl
-    no false = refl
 
 -- one more role
 pub one_below : (o : Bool) (sid : List ℕ) (n : ℕ) (ss : List Slot) → first_place (is_below o sid (n + 1)) ss ≡ earlier_of (first_place (is_below o sid n) ss) (first_place (is_of_role o sid n) ss)
@@ -119,8 +102,4 @@ pub all_below : (o : Bool) (sid : List ℕ) (n : ℕ) (ss : List Slot) → AllBy
 all_below o sid n ss h = same_position (λ (s : Slot). (s.0).1 < n) (is_below o sid n) (is_of o sid) (λ s l. full (is_of o sid s) (nat_lt (s.0).1 n) (grind (arith, nat_tests, l))) ss h
   where
     full : (a b : Bool) → b ≡ true → (a && b) ≡ a
-    full a b e = rw e (yes a)
-      where
-        yes : (b : Bool) → (b && true) ≡ b
-        yes true = refl
-        yes false = refl
+    full a b e = rw e (and_true a)

@@ -1,8 +1,8 @@
 -- The program that starts a graph with a digest.
-use Rattle.std.specs.Prelude.{◌≡◌, ℕ, ◌==◌, ◌&&◌, Bool, true, if◌then◌else◌, List, [], ◌∷◌, bytes_eq, find, refl, Some, unwrap_or}
+use Rattle.std.specs.Prelude.{◌≡◌, ℕ, ◌==◌, ◌&&◌, Bool, true, if◌then◌else◌, List, [], ◌∷◌, bytes_eq, find, refl, Some}
 use Rattle.std.proofs.Common.{sym, ◌∙◌, ap, inl, inr}
 use Rattle.std.proofs.lemmas.Bool.{cases_Bool, eqb-true, eq-eqb}
-use Rattle.sg_model.proofs.Small.{clash, and_left, and_right, same_bytes}
+use Rattle.sg_model.proofs.Small.{clash, and_left, and_right, same_bytes, some_same}
 use Rattle.sg_model.specs.Shape.{role_at}
 use Rattle.sg_protocol.specs.Graph.{shape}
 use Rattle.sg_protocol.specs.Keyring.{Program}
@@ -10,19 +10,16 @@ use Rattle.sg_protocol.specs.Node.{program_for, starter}
 use Rattle.sg_protocol.proofs.Finding.{find_passes}
 use Rattle.sg_node.proofs.Places.{some_none}
 
-some_is : {A : Type 0} (x y : A) → Some x ≡ Some y → x ≡ y
-some_is x y e = ap (λ o. unwrap_or o x) e
-
 -- two that are found first, each of which passes the other's test, are one
 same_first : {A : Type 0} (p q : A → Bool) (xs : List A) (a b : A) → find p xs ≡ Some a → find q xs ≡ Some b → q a ≡ true → p b ≡ true → b ≡ a
 same_first p q [] a b e f g h = some_none a (sym e)
 same_first p q (x ∷ xs) a b e f g h = elim (cases_Bool (p x)) [
   | inl i ↦
-      let xa : x ≡ a = some_is x a (sym (ap (λ t. if t then Some x else find p xs) i) ∙ e) in
+      let xa : x ≡ a = some_same (sym (ap (λ t. if t then Some x else find p xs) i) ∙ e) in
       let qx : q x ≡ true = ap q xa ∙ g in
-      sym (some_is x b (sym (ap (λ t. if t then Some x else find q xs) qx) ∙ f)) ∙ xa
+      sym (some_same (sym (ap (λ t. if t then Some x else find q xs) qx) ∙ f)) ∙ xa
   | inr i ↦ elim (cases_Bool (q x)) [
-    | inl j ↦ clash (p x) (ap p (some_is x b (sym (ap (λ t. if t then Some x else find q xs) j) ∙ f)) ∙ h) i
+    | inl j ↦ clash (p x) (ap p (some_same (sym (ap (λ t. if t then Some x else find q xs) j) ∙ f)) ∙ h) i
     | inr j ↦ same_first p q xs a b (sym (ap (λ t. if t then Some x else find p xs) i) ∙ e) (sym (ap (λ t. if t then Some x else find q xs) j) ∙ f) g h
   ]
 ]

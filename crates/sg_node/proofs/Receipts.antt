@@ -3,6 +3,7 @@ use Rattle.std.specs.Prelude.{◌≡◌, ℕ, ◌==◌, ◌&&◌, nat_lt, nat_le
 use Rattle.std.specs.Option.{option_map_or}
 use Rattle.std.specs.List.{list_any}
 use Rattle.std.proofs.Common.{sym, ◌∙◌, ap, subst, take, append-nil}
+use Rattle.std.proofs.Math.Seq.{take-append_seam, take-length}
 use Rattle.sg_model.proofs.Small.{clash}
 use Rattle.sg_model.specs.Lists.{first_some}
 use Rattle.sg_protocol.specs.Calls.{Event, Answer, Happened, NotDelivered, Refusal, UnknownGraph, BadCast, UnknownPeer, BadSession, Joined, CacheFull, SessionsFull, UnknownSession, NotWaiting}
@@ -18,11 +19,11 @@ use Rattle.sg_protocol.specs.Texts.{real, session_id, session_text_of}
 use Rattle.sg_protocol.specs.Verdict.{row, rows, rows_of_session, rows_of_join, rows_of_next, join_rows, next_rows, decided}
 use Rattle.sg_role.specs.Accepting.{Acceptance, goes_on, state_after}
 use Rattle.sg_role.specs.Faults.{Refuses}
-use Rattle.sg_role.specs.States.{State}
+use Rattle.sg_role.specs.Model.{State}
 use Rattle.sg_role.specs.declared.fault.Refusal.{Refusal as RoleRefusal}
 use Rattle.sg_role.specs.declared.fault.Refusal.TheVariants as role
 use Rattle.sg_walk.specs.declared.event.Event.{Event as WalkEvent}
-use Rattle.sg_walk.specs.Views.{event_of}
+use Rattle.sg_walk.specs.Model.{event_of}
 use Rattle.sg_node.specs.declared.fault.Refusal.{Refusal as NodeRefusal}
 use Rattle.sg_node.specs.Answers.{IsAnswer, delivery_answer}
 use Rattle.sg_node.specs.declared.sessions.Live.TheVariants.{AtTurn}
@@ -72,23 +73,15 @@ received a e (Err y) k h q = clash true refl (sym k)
 
 -- ---- notes
 
-front : {A : Type 0} (xs ys : List A) → take (length xs) (xs ++ ys) ≡ xs
-front [] ys = refl
-front (x ∷ xs) ys = ap (λ z. x ∷ z) (front xs ys)
-
-whole : {A : Type 0} (xs : List A) → take (length xs) xs ≡ xs
-whole [] = refl
-whole (x ∷ xs) = ap (λ z. x ∷ z) (whole xs)
-
 -- what was noted beside one more text, where as many are kept as there were
 pub restored : (n mid : Notes) (a b h : ℕ) (t : List ℕ) → a ≡ length n.made → b ≡ length n.found → h ≡ length n.hashed →
     mid ≡ record n { hashed = n.hashed ++ t ∷ [] } → record { made = take a mid.made; found = take b mid.found; hashed = take h mid.hashed } ≡ n
 restored n mid a b h t ea eb eh e =
     ap (λ (m : Notes). record { made = take a m.made; found = take b m.found; hashed = take h m.hashed }) e
     ∙ (λ i. record {
-      made = (ap (λ k. take k n.made) ea ∙ whole n.made) i;
-      found = (ap (λ k. take k n.found) eb ∙ whole n.found) i;
-      hashed = (ap (λ k. take k (n.hashed ++ t ∷ [])) eh ∙ front n.hashed (t ∷ [])) i;
+      made = (ap (λ k. take k n.made) ea ∙ take-length n.made) i;
+      found = (ap (λ k. take k n.found) eb ∙ take-length n.found) i;
+      hashed = (ap (λ k. take k (n.hashed ++ t ∷ [])) eh ∙ take-append_seam n.hashed (t ∷ [])) i;
     })
 
 module _ (m : Node) (f : Frame) where

@@ -15,7 +15,7 @@ use Rattle.sg_protocol.specs.Reading.{read}
 use Rattle.sg_protocol.specs.Texts.{real}
 use Rattle.sg_protocol.specs.Verdict.{rows, receipt, decided, verdict_on}
 use Rattle.sg_walk.specs.declared.event.Event.{Event}
-use Rattle.sg_walk.specs.Views.{event_of}
+use Rattle.sg_walk.specs.Model.{event_of}
 use Rattle.sg_node.specs.declared.fault.Refusal.{Refusal}
 use Rattle.sg_node.specs.declared.fault.Refusal.TheVariants as refusals
 use Rattle.sg_node.specs.Answers.{IsAnswer, delivery_answer, GoesOn}

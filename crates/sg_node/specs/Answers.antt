@@ -9,7 +9,7 @@ use Rattle.sg_protocol.specs.Spelling.{spelling}
 use Rattle.sg_protocol.specs.Acting.{answer}
 use Rattle.sg_protocol.specs.Texts.{real}
 use Rattle.sg_walk.specs.declared.event.Event.{Event}
-use Rattle.sg_walk.specs.Views.{event_of}
+use Rattle.sg_walk.specs.Model.{event_of}
 use Rattle.sg_node.specs.declared.fault.StartFault.{StartFault}
 use Rattle.sg_node.specs.declared.fault.ActFault.{ActFault}
 use Rattle.sg_node.specs.declared.fault.Refusal.{Refusal}

@@ -4,7 +4,7 @@ use Rattle.std.specs.List.{AllByRecursion}
 use Rattle.sg_protocol.specs.Standing.{Held}
 use Rattle.sg_protocol.specs.Frame.{Frame}
 use Rattle.sg_role.specs.Accepting.{Acceptance, goes_on, state_after}
-use Rattle.sg_role.specs.States.{State}
+use Rattle.sg_role.specs.Model.{State}
 use Rattle.sg_role.specs.declared.sent.Sent.{Sent}
 use Rattle.sg_role.specs.declared.sent.Sent.TheVariants as Sends
 use Rattle.sg_node.specs.declared.sessions.Live.{Live}

@@ -1,29 +1,23 @@
 //! How a node acts in a session.
 ghost use Rattle.std.specs.Prelude.{◌≡◌, ◌≢◌, ◌<◌, Err, None, length, slice_get, option_and_then, OnErr};
-ghost use Rattle.std.specs.List.{AllByRecursion};
 ghost use Rattle.indexmap.specs.IndexMap.{set_value_at};
-ghost use Rattle.sg_base.specs.Values.{value_of};
-ghost use Rattle.sg_model.specs.Bytes.{AreBytes};
 ghost use Rattle.sg_protocol.specs.Acting.{answer};
 ghost use Rattle.sg_protocol.specs.Calls.{Act};
-ghost use Rattle.sg_protocol.specs.Frame.{IsValue};
 ghost use Rattle.sg_protocol.specs.NodeStates.{StandsForPast};
 ghost use Rattle.sg_protocol.specs.Notes.{notes as noted_of};
 ghost use Rattle.sg_protocol.specs.Past.{Past, node_of};
 ghost use Rattle.sg_protocol.specs.Texts.{real};
-ghost use Rattle.sg_protocol.specs.Ranges.{AreValues};
-ghost use Rattle.sg_walk.specs.Views.{event_of, values_of};
+ghost use Rattle.sg_walk.specs.Model.{event_of, values_of};
 ghost use Rattle.sg_role.specs.Sending.{event_sent, frame_made, with_notes};
 ghost use Rattle.sg_node.specs.Answers.{IsActAnswer, GoesOn};
 ghost use Rattle.sg_node.specs.Faults.{of_send};
 ghost use Rattle.sg_node.specs.Slots.{left_by};
 
-use crate::deliver::tell_bytes;
 use crate::sessions::{Live, Sessions};
 use crate::{ActFault, Node};
 use sg_base::{Label, Sealed, Sid, Value, Var};
 use sg_crypt::Notes;
-use sg_role::{SendFault, Sent};
+use sg_role::{SendFault, Sent, tell_values};
 use sg_walk::Event;
 
 impl<'p> Node<'p> {
@@ -93,55 +87,5 @@ fn not_sent(fault: SendFault) -> ActFault
     match fault {
         SendFault::OutOfMemory => ActFault::OutOfMemory,
         fault => ActFault::Send(fault),
-    }
-}
-
-// What the types say of these values and of the bytes to hide them.
-fn tell_values(values: &[(Var, Value)], confounders: &[[u8; 16]])
-    requires { length confounders.now ≡ length values.now }
-    ensures { AreValues (values_of values.now) confounders.now }
-{
-    tell_each(values);
-    tell_confounders(confounders);
-}
-
-// What the types say of each of these.
-fn tell_each(values: &[(Var, Value)])
-    ensures { AllByRecursion (λ w. (w.0 < 256) × IsValue w.1) (values_of values.now) }
-{
-    for at in 0..values.len() {
-        let given = &values[at];
-        tell_var(given.0);
-        tell_value(&given.1);
-    }
-}
-
-// What the type `Var` says of this.
-fn tell_var(var: Var)
-    ensures { var < 256 }
-{
-    let _number = var.0;
-}
-
-// What the type `Value` says of this.
-fn tell_value(value: &Value)
-    ensures { IsValue (value_of value.now) }
-{
-    match value {
-        Value::Int(number) => {
-            let _number = *number;
-        }
-        Value::Text(text) => {
-            tell_bytes(text.as_bytes());
-        }
-    }
-}
-
-// What the type `u8` says of each of these.
-fn tell_confounders(confounders: &[[u8; 16]])
-    ensures { AllByRecursion (AreBytes 16) confounders.now }
-{
-    for at in 0..confounders.len() {
-        tell_bytes(&confounders[at]);
     }
 }

@@ -2,7 +2,6 @@
 ghost use Rattle.std.specs.Prelude.{◌≡◌, ◌≢◌, ◌<◌, ◌++◌, ◌&&◌, ◌↔◌, [], ◌∷◌, true, IsTrue, nat_lt, length, slice_get, option_and_then, Ok, Err, None, Some, IfOk, IsOk, OnErr, OnOk};
 ghost use Rattle.std.specs.Option.{option_copied};
 ghost use Rattle.indexmap.specs.IndexMap.{set_value_at};
-ghost use Rattle.sg_model.specs.Bytes.{IsBytes};
 ghost use Rattle.sg_protocol.specs.Acting.{answer};
 ghost use Rattle.sg_protocol.specs.Calls.{Deliver};
 ghost use Rattle.sg_protocol.specs.Node.{Node as DefinedNode, program_for, is_cast, stranger};
@@ -12,7 +11,7 @@ ghost use Rattle.sg_protocol.specs.Past.{Past, node_of};
 ghost use Rattle.sg_protocol.specs.Spelling.{SpellsFrame};
 ghost use Rattle.sg_protocol.specs.Texts.{real, session_id, session_text_of};
 ghost use Rattle.sg_protocol.specs.Verdict.{verdict_on};
-ghost use Rattle.sg_walk.specs.Views.{event_of};
+ghost use Rattle.sg_walk.specs.Model.{event_of};
 ghost use Rattle.sg_role.specs.Sending.{with_notes};
 ghost use Rattle.sg_node.specs.Answers.{IsAnswer, delivery_answer, GoesOn};
 ghost use Rattle.sg_node.specs.Joining.{refusal_for};
@@ -24,7 +23,7 @@ use crate::fault::refused;
 use crate::join::{Obstacle, first_obstacle, join_session, make_room, note_session};
 use crate::sessions::{Live, Sessions};
 use crate::{Node, Refusal};
-use sg_base::Sid;
+use sg_base::{Sid, tell_bytes};
 use sg_crypt::{Cast, Notes, session_id};
 use sg_frame::{DecodeFault, Frame, decode};
 use sg_keys::Keyring;
@@ -270,8 +269,3 @@ fn refusal_of(obstacle: Obstacle) -> Refusal
         Obstacle::Sessions => Refusal::SessionsFull,
     }
 }
-
-/// What the type `u8` says of each of these.
-pub(crate) fn tell_bytes(bytes: &[u8])
-    ensures { IsBytes bytes.now }
-{}

@@ -1,9 +1,10 @@
 //! What a node looks at before it joins a session, and how it joins.
 ghost use Rattle.std.specs.Prelude.{◌≡◌, ◌≢◌, ◌<◌, ◌++◌, [], ◌∷◌, length, map, None, Some, Contains, IfSome, IsSome, IfOk, IsOk, OnOk, OnErr};
+ghost use Rattle.sg_model.specs.Limits.{most_joins};
 ghost use Rattle.sg_model.specs.Shape.{role_at};
 ghost use Rattle.sg_protocol.specs.Graph.{shape};
 ghost use Rattle.sg_protocol.specs.Texts.{session_text_of};
-ghost use Rattle.sg_walk.specs.Views.{event_of};
+ghost use Rattle.sg_walk.specs.Model.{event_of};
 ghost use Rattle.sg_role.specs.Accepting.{goes_on, state_after};
 ghost use Rattle.sg_role.specs.Sending.{TurnsOrEnds};
 ghost use Rattle.sg_node.specs.Slots.{held_in, left_after, slot_of};
@@ -54,7 +55,7 @@ pub(crate) fn first_obstacle(
 
 /// Makes room for one more pair and one more session.
 pub(crate) fn make_room(joins: &mut Cache, sessions: &mut Sessions) -> Result<(), OutOfMemory>
-    requires { length joins.old.pairs < 65536 }
+    requires { length joins.old.pairs < most_joins }
     ensures joins { joins.new.pairs ≡ joins.old.pairs }
     ensures sessions { sessions.new.slots ≡ sessions.old.slots }
     ensures room { OnOk result ((0 < joins.new.spare) × (0 < sessions.new.spare)) }
@@ -66,7 +67,7 @@ pub(crate) fn make_room(joins: &mut Cache, sessions: &mut Sessions) -> Result<()
 /// Claims a pair that isn't there, where room was made. It takes no memory.
 pub(crate) fn claim(joins: &mut Cache, sid: Sid, role: Role) -> Ticket
     requires absent { ¬ Contains joins.old.pairs (sid, role) }
-    requires count { length joins.old.pairs < 65536 }
+    requires count { length joins.old.pairs < most_joins }
     requires room { 0 < joins.old.spare }
     ensures ticket { result ≡ (sid, role) }
     ensures joins { joins.new.pairs ≡ joins.old.pairs ++ (sid, role) ∷ [] }
@@ -86,7 +87,7 @@ pub(crate) fn note_session(alloc: Global, cast: &Cast, notes: &mut Notes) -> Res
 /// Joins a session in a role that starts its graph and has done nothing: it is at its first turn. Room was made, so it takes no memory.
 pub(crate) fn begin_session<'p>(joins: &mut Cache, sessions: &mut Sessions<'p>, before: Before<'p>)
     requires absent { ¬ Contains joins.old.pairs (before.held.sid, before.held.role) }
-    requires count { length joins.old.pairs < 65536 }
+    requires count { length joins.old.pairs < most_joins }
     requires room { 0 < joins.old.spare }
     requires place { 0 < sessions.old.spare }
     requires free { ¬ Contains (map (λ s. s.0) sessions.old.slots) (before.held.sid, before.held.role) }
@@ -113,7 +114,7 @@ pub(crate) fn join_session<'p>(
     accepted: Accepted<'p>,
 ) -> Result<Event, Refusal>
     requires absent { ¬ Contains joins.old.pairs (before.held.sid, before.held.role) }
-    requires count { length joins.old.pairs < 65536 }
+    requires count { length joins.old.pairs < most_joins }
     requires room { 0 < joins.old.spare }
     requires place { 0 < sessions.old.spare }
     requires free { ¬ Contains (map (λ s. s.0) sessions.old.slots) (before.held.sid, before.held.role) }

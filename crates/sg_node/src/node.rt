@@ -1,6 +1,7 @@
 //! A principal's node.
 ghost use Rattle.std.specs.Prelude.{◌≡◌, ◌≢◌, ◌≤◌, [], length, AllPairs, IfOk};
 ghost use Rattle.std.specs.List.{AllByRecursion};
+ghost use Rattle.sg_model.specs.Limits.{most_joins};
 ghost use Rattle.sg_protocol.specs.Acting.{answer};
 ghost use Rattle.sg_protocol.specs.Calls.{Abandon};
 ghost use Rattle.sg_protocol.specs.IsSchedule.{IsProgram};
@@ -73,7 +74,7 @@ impl<'p> Node<'p> {
         programs: &'p Programs,
         joins: &[(Sid, Role)],
     ) -> Result<Node<'p>, OutOfMemory>
-        requires count { length joins.now ≤ 65536 }
+        requires count { length joins.now ≤ most_joins }
         requires different { AllPairs (λ a b. a ≢ b) joins.now }
         ensures made { IfOk result (λ n. n ≡ new_state keys programs.entry.now joins.now) }
         ensures stands { IfOk result (λ n. StandsForPast n (new_past keys programs.entry.now joins.now)) }
@@ -128,7 +129,7 @@ fn tell_programs(programs: &Programs)
 
 // These pairs, claimed one after the other.
 fn claimed(alloc: Global, joins: &[(Sid, Role)]) -> Result<Cache, OutOfMemory>
-    requires count { length joins.now ≤ 65536 }
+    requires count { length joins.now ≤ most_joins }
     requires different { AllPairs (λ a b. a ≢ b) joins.now }
     ensures { IfOk result (λ c. c.pairs ≡ joins.now) }
 {

@@ -1,20 +1,21 @@
 -- The canonical text of a graph spells the graph.
-use Rattle.std.proofs.Common.{◌≡◌, ℕ, zero, suc, ◌<◌, ◌≤◌, ◌==◌, nat_lt, not, Bool, true, false, ◌&&◌, ◌||◌, List, [], ◌∷◌, ◌++◌, map, length, get_or, codes, refl, sym, ap, subst, ◌∙◌, arith, append_assoc, append-nil, flat_map, map-id}
+use Rattle.std.proofs.Common.{◌≡◌, ℕ, zero, suc, ◌<◌, ◌≤◌, ◌==◌, nat_lt, not, true, ◌&&◌, List, [], ◌∷◌, ◌++◌, map, length, get_or, codes, refl, sym, ap, subst, ◌∙◌, arith, append_assoc, append-nil, flat_map, map-id}
 use Rattle.std.specs.Prelude.{All}
 use Rattle.std.specs.List.{list_all, AllByRecursion}
 use Rattle.std.proofs.lemmas.List.{length-map, get_or-map}
-use Rattle.std.proofs.lemmas.Bool.{eq-eqb}
+use Rattle.std.proofs.lemmas.Bool.{eq-eqb, and_parts}
 use Rattle.sg_model.specs.Lists.{has_text, all_differ, is_in, rises_from}
 use Rattle.sg_model.specs.Names.{Name, is_name, reserved}
+use Rattle.sg_model.proofs.Small.{all-both, or_true}
 use Rattle.sg_protocol.specs.Graph.{Graph, IsGraph, Variable, Node, Edge, VariableKind, Int, Text, kind_text, role_name, variable_name, node_name, AreNumbers, AreNames, spaced, clause, ended, variable_line, node_line, edge_line, canonical}
 use Rattle.sg_graph.specs.Parts.{variable_names, node_names}
-use Rattle.sg_graph.proofs.Growth.{both}
+use Rattle.sg_graph.proofs.Sets.{number_below}
 use Rattle.sg_parse.specs.Grammar.{IsOrderOf, named, head_tokens, role_tokens, node_tokens, SpellsVariable, SpellsClause, Without, With, SpellsEdge, InTurn, Done, Then, SpellsGraph}
 use Rattle.sg_parse.specs.declared.token.Token.{Token}
 use Rattle.sg_parse.specs.declared.token.Token.TheVariants.{Word, Colon, Semicolon, Arrow, End}
 use Rattle.sg_parse.proofs.TookStatements.{SpellsRole, SpellsNode}
 use Rattle.sg_parse.proofs.TookGraph.{in_turn-flat}
-use Rattle.sg_parse.proofs.Sets.{number_below, rising-differ}
+use Rattle.sg_parse.proofs.Sets.{rising-differ}
 use Rattle.sg_parse.proofs.Lexing.{Lexes, StandsApart, lex-end, lex-space, lex-line, lex-colon, lex-semicolon, lex-arrow, lex-word}
 
 -- lists that are equal have the same tokens
@@ -22,18 +23,18 @@ lexes-as : (cs bs : List ℕ) (ts : List Token) → cs ≡ bs → Lexes bs ts �
 lexes-as cs bs ts e h = subst (λ l. Lexes l ts) (sym e) h
 
 -- the name at a place is a name
-name-is : (ns : List Name) (r : ℕ) → r < length ns → list_all (λ n. is_name n && not (has_text n reserved)) ns ≡ true → is_name (get_or ns r []) ≡ true
+pub name-is : (ns : List Name) (r : ℕ) → r < length ns → list_all (λ n. is_name n && not (has_text n reserved)) ns ≡ true → is_name (get_or ns r []) ≡ true
 name-is [] r l h = absurd (omega arith)
-name-is (n ∷ ns) zero l h = (both (is_name n) (not (has_text n reserved)) (both (is_name n && not (has_text n reserved)) (list_all (λ n. is_name n && not (has_text n reserved)) ns) h).0).0
-name-is (n ∷ ns) (suc r) l h = name-is ns r (omega arith) (both (is_name n && not (has_text n reserved)) (list_all (λ n. is_name n && not (has_text n reserved)) ns) h).1
+name-is (n ∷ ns) zero l h = (and_parts (is_name n) (not (has_text n reserved)) (and_parts (is_name n && not (has_text n reserved)) (list_all (λ n. is_name n && not (has_text n reserved)) ns) h).0).0
+name-is (n ∷ ns) (suc r) l h = name-is ns r (omega arith) (and_parts (is_name n && not (has_text n reserved)) (list_all (λ n. is_name n && not (has_text n reserved)) ns) h).1
 
 -- so for names
 is-name : (ns : List Name) (r : ℕ) → AreNames ns → r < length ns → is_name (get_or ns r []) ≡ true
-is-name ns r are l = name-is ns r l (both (list_all (λ n. is_name n && not (has_text n reserved)) ns) (all_differ ns) are).0
+is-name ns r are l = name-is ns r l (and_parts (list_all (λ n. is_name n && not (has_text n reserved)) ns) (all_differ ns) are).0
 
 -- the numbers of a set stand in an order of it
 order-self : (k : ℕ) (set : List ℕ) → AreNumbers k set → IsOrderOf set set
-order-self k set h = record { same = λ n. refl; once = rising-differ 0 set (both (rises_from 0 set) (list_all (λ x. nat_lt x k) set) h).0 }
+order-self k set h = record { same = λ n. refl; once = rising-differ 0 set (and_parts (rises_from 0 set) (list_all (λ x. nat_lt x k) set) h).0 }
 
 -- the end of a statement
 lex-ended : (rest : List ℕ) (ts : List Token) → Lexes rest ts → Lexes (59 ∷ 10 ∷ rest) (Semicolon ∷ ts)
@@ -52,10 +53,6 @@ lex-spaced name_at names (x ∷ xs) rest ts is a h =
     let word' : Lexes (name_at x ++ (spaced (map name_at xs) ++ rest)) (Word (get_or names x []) ∷ (named names xs ++ ts)) =
     subst (λ n. Lexes (name_at x ++ (spaced (map name_at xs) ++ rest)) (Word n ∷ (named names xs ++ ts))) here.0 word in
     (lexes-as _ (32 ∷ (name_at x ++ (spaced (map name_at xs) ++ rest))) _ (ap (λ l. 32 ∷ l) (append_assoc (name_at x) (spaced (map name_at xs)) rest)) (lex-space _ _ word'), refl)
-  where
-    or_true : (b : Bool) → (b || true) ≡ true
-    or_true true = refl
-    or_true false = refl
 
 -- the line of a role
 lex-role : (n : Name) (rest : List ℕ) (ts : List Token) → is_name n ≡ true → Lexes rest ts → Lexes (ended (codes "role " ++ n) ++ rest) (role_tokens n ++ ts)
@@ -140,18 +137,14 @@ all-rec : {A : Type 0} (P : A → Type 0) (xs : List A) → All P xs → AllByRe
 all-rec P [] all = tt
 all-rec P (x ∷ xs) all = (all 0 x (omega arith), all-rec P xs (λ k d l. all (suc k) d (omega (arith, l))))
 
-both-rec : {A : Type 0} (P Q : A → Type 0) (xs : List A) → AllByRecursion P xs → AllByRecursion Q xs → AllByRecursion (λ x. P x × Q x) xs
-both-rec P Q [] p q = tt
-both-rec P Q (x ∷ xs) p q = ((p.0, q.0), both-rec P Q xs p.1 q.1)
-
 names-rec : {A : Type 0} (name_of : A → Name) (xs : List A) → list_all (λ n. is_name n && not (has_text n reserved)) (map name_of xs) ≡ true → AllByRecursion (λ x. is_name (name_of x) ≡ true) xs
 names-rec name_of [] h = tt
 names-rec name_of (x ∷ xs) h =
-    let parts = both (is_name (name_of x) && not (has_text (name_of x) reserved)) (list_all (λ n. is_name n && not (has_text n reserved)) (map name_of xs)) h in
-    ((both (is_name (name_of x)) (not (has_text (name_of x) reserved)) parts.0).0, names-rec name_of xs parts.1)
+    let parts = and_parts (is_name (name_of x) && not (has_text (name_of x) reserved)) (list_all (λ n. is_name n && not (has_text n reserved)) (map name_of xs)) h in
+    ((and_parts (is_name (name_of x)) (not (has_text (name_of x) reserved)) parts.0).0, names-rec name_of xs parts.1)
 
 all_names : {A : Type 0} (name_of : A → Name) (xs : List A) → AreNames (map name_of xs) → AllByRecursion (λ x. is_name (name_of x) ≡ true) xs
-all_names name_of xs h = names-rec name_of xs (both (list_all (λ n. is_name n && not (has_text n reserved)) (map name_of xs)) (all_differ (map name_of xs)) h).0
+all_names name_of xs h = names-rec name_of xs (and_parts (list_all (λ n. is_name n && not (has_text n reserved)) (map name_of xs)) (all_differ (map name_of xs)) h).0
 
 -- lines in turn
 lex-lines : {A : Type 0} (line : A → List ℕ) (Spells : A → List Token → Type 0) (P : A → Type 0)
@@ -175,14 +168,14 @@ canonical-spells g is two one =
     (λ e rest ts p h. lex-edge g e rest ts is p.0 p.1 p.2 h) g.edges [] (End ∷ []) (edge_facts g.edges (all_names (λ (e : Edge). e.name) g.edges is.edge_names) (all-rec _ g.edges is.ends) (all-rec _ g.edges is.variables)) lex-end in
     let nodes = lex-lines (node_line g) (SpellsNode g) (λ n. (is_name n.name ≡ true) × (n.role < length g.roles))
     (λ n rest ts p h. (node_tokens g n, refl, lex-node g n rest ts p.0 (is-name g.roles n.role is.role_names p.1) h)) g.nodes (flat_map (edge_line g) g.edges ++ []) (edges.0 ++ End ∷ [])
-    (both-rec (λ n. is_name n.name ≡ true) (λ n. n.role < length g.roles) g.nodes (all_names (λ (n : Node). n.name) g.nodes is.node_names) (all-rec _ g.nodes is.roles)) edges.2 in
+    (all-both (λ n. is_name n.name ≡ true) (λ n. n.role < length g.roles) g.nodes (all_names (λ (n : Node). n.name) g.nodes is.node_names) (all-rec _ g.nodes is.roles)) edges.2 in
     let variables = lex-lines (variable_line g) (SpellsVariable g) (λ v. (is_name v.name ≡ true) × (AreNumbers (length g.roles) v.writers × (0 < length v.writers)))
     (λ v rest ts p h. lex-variable g v rest ts is p.0 (p.1).0 h) g.variables (flat_map (node_line g) g.nodes ++ (flat_map (edge_line g) g.edges ++ [])) (nodes.0 ++ (edges.0 ++ End ∷ []))
-    (both-rec (λ v. is_name v.name ≡ true) (λ v. AreNumbers (length g.roles) v.writers × (0 < length v.writers)) g.variables (all_names (λ (v : Variable). v.name) g.variables is.variable_names) (all-rec _ g.variables is.writers)) nodes.2 in
+    (all-both (λ v. is_name v.name ≡ true) (λ v. AreNumbers (length g.roles) v.writers × (0 < length v.writers)) g.variables (all_names (λ (v : Variable). v.name) g.variables is.variable_names) (all-rec _ g.variables is.writers)) nodes.2 in
     let roles = lex-lines (λ r. ended (codes "role " ++ r)) (SpellsRole g) (λ r. is_name r ≡ true) (λ r rest ts p h. (role_tokens r, refl, lex-role r rest ts p h)) g.roles
     (flat_map (variable_line g) g.variables ++ (flat_map (node_line g) g.nodes ++ (flat_map (edge_line g) g.edges ++ []))) (variables.0 ++ (nodes.0 ++ (edges.0 ++ End ∷ [])))
     (names-rec (λ r. r) g.roles (role_list g is)) variables.2 in
-    let named = (both (list_all (λ n. is_name n && not (has_text n reserved)) (g.name ∷ [])) true is.named).0 in
+    let named = (and_parts (list_all (λ n. is_name n && not (has_text n reserved)) (g.name ∷ [])) true is.named).0 in
     let name : is_name g.name ≡ true = name-is (g.name ∷ []) 0 (omega arith) named in
     let all = lex-head g.name _ _ name roles.2 in
     let text : Lexes (canonical g) (head_tokens g.name ++ (roles.0 ++ (variables.0 ++ (nodes.0 ++ (edges.0 ++ End ∷ []))))) = lexes-as (canonical g) _ _ (regroup (ended (codes "graph " ++ g.name)) (flat_map (λ r. ended (codes "role " ++ r)) g.roles) (flat_map (variable_line g) g.variables) (flat_map (node_line g) g.nodes) (flat_map (edge_line g) g.edges)) all in
@@ -210,4 +203,4 @@ canonical-spells g is two one =
     edge_facts (e ∷ es) p q r = ((p.0, q.0, r.0), edge_facts es p.1 q.1 r.1)
 
     role_list : (g : Graph) → IsGraph g → list_all (λ n. is_name n && not (has_text n reserved)) (map (λ r. r) g.roles) ≡ true
-    role_list g is = rw map-id (both (list_all (λ n. is_name n && not (has_text n reserved)) g.roles) (all_differ g.roles) is.role_names).0
+    role_list g is = rw map-id (and_parts (list_all (λ n. is_name n && not (has_text n reserved)) g.roles) (all_differ g.roles) is.role_names).0

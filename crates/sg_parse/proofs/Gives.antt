@@ -2,10 +2,10 @@
 use Rattle.std.proofs.Common.{◌≡◌, ℕ, ◌<◌, not, Bool, true, false, ◌&&◌, List, [], ◌∷◌, ◌++◌, length, get_or, codes, Ok, refl, ap, ◌∙◌, append_assoc, if◌then◌else◌}
 use Rattle.std.specs.List.{list_all}
 use Rattle.std.proofs.lemmas.Slice.Eq.{bytes_eq-Decides}
+use Rattle.std.proofs.lemmas.Bool.{and_parts}
 use Rattle.sg_model.specs.Lists.{has_text, all_differ}
 use Rattle.sg_model.specs.Names.{Name, is_name, reserved}
 use Rattle.sg_protocol.specs.Graph.{VariableKind, Int, Text, kind_text, AreNames}
-use Rattle.sg_graph.proofs.Growth.{both}
 use Rattle.sg_parse.specs.Tokens.{is_word}
 use Rattle.sg_parse.specs.Reading.{Reader, after, give, is_next, branch, token, skip, name, new_name, known_name, read_kind, fail}
 use Rattle.sg_parse.specs.declared.token.Placed.{Placed}
@@ -93,7 +93,7 @@ gives-new names n us free new = record {
 pub gives-known : (names : List Name) (r : ℕ) (us : List Token) → AreNames names → r < length names → Gives (known_name names) (Word (get_or names r []) ∷ []) us r
 gives-known names r us are l = record {
   go = λ ps e.
-      let parts = both (list_all (λ n. is_name n && not (has_text n reserved)) names) (all_differ names) are in
+      let parts = and_parts (list_all (λ n. is_name n && not (has_text n reserved)) names) (all_differ names) are in
       let f = name-there ps (get_or names r []) us (name-at names r l parts.0) e in
       (f.1, f.2, known_read names ps f.1 (get_or names r []) f.0 r f.3 (named_there names r l) (place_there names r parts.1 l));
 }

@@ -2,17 +2,17 @@
 use Rattle.std.proofs.Common.{◌≡◌, ℕ, zero, suc, ◌+◌, ◌<◌, ◌≤◌, ◌==◌, not, Bool, true, false, ◌&&◌, ◌||◌, inl, inr, List, [], ◌∷◌, ◌++◌, length, get_or, codes, bytes_eq, Ok, refl, sym, ap, subst, ◌∙◌, arith, append_assoc, append-nil, length-append, flat_map, if◌then◌else◌}
 use Rattle.std.specs.Prelude.{All, Some, slice_get}
 use Rattle.std.specs.List.{list_all}
-use Rattle.std.proofs.lemmas.Bool.{eq-eqb}
+use Rattle.std.proofs.lemmas.Bool.{eq-eqb, cases_Bool, not-true, and_parts}
 use Rattle.std.proofs.lemmas.Bool.Decides.{nat_tests}
 use Rattle.std.proofs.lemmas.List.{length-map, map-append, get_or-map}
 use Rattle.std.proofs.lemmas.List.Folds.{list_any-append}
 use Rattle.sg_model.specs.Lists.{has_text, is_in, all_differ}
 use Rattle.sg_model.specs.Names.{Name, is_name, reserved}
+use Rattle.sg_model.proofs.Numbers.{is_in-more}
+use Rattle.sg_model.proofs.Small.{or_true, first_false}
 use Rattle.sg_protocol.specs.Graph.{Graph, IsGraph, Node, AreNames, node_name}
 use Rattle.sg_graph.specs.Adding.{no_parts}
 use Rattle.sg_graph.specs.Parts.{node_names}
-use Rattle.sg_graph.proofs.Found.{cases_of}
-use Rattle.sg_graph.proofs.Growth.{both, refused}
 use Rattle.sg_parse.specs.Grammar.{named, differ, head_tokens, role_tokens, node_tokens, InTurn, Done, Then, SpellsStatements}
 use Rattle.sg_parse.specs.Parts.{Part, Use, IsUse, IsPart, AreParts, part_names, use_names}
 use Rattle.sg_parse.specs.PartsGrammar.{use_tokens, SpellsPart, SpellsParts}
@@ -33,18 +33,6 @@ use Rattle.sg_parse.proofs.Places.{repeat-there, repeat-away}
 
 -- ---- places
 
-is_in-one_more : (n p : ℕ) (places : List ℕ) → is_in n (places ++ p ∷ []) ≡ (is_in n places || (p == n))
-is_in-one_more n p [] = or_false (p == n)
-  where
-    or_false : (b : Bool) → (b || false) ≡ b
-    or_false true = refl
-    or_false false = refl
-is_in-one_more n p (q ∷ qs) = rw (is_in-one_more n p qs) (or_assoc (q == n) (is_in n qs) (p == n))
-  where
-    or_assoc : (a b c : Bool) → (a || (b || c)) ≡ ((a || b) || c)
-    or_assoc true b c = refl
-    or_assoc false b c = refl
-
 module _ (names : List Name) (are : AreNames names) where
   more-there : (order places : List ℕ) (us : List Token) (ps : List Placed) → All (λ r. r < length names) order → differ order ≡ true → ((n : ℕ) → is_in n order ≡ true → is_in n places ≡ false)
       → head_is is_named us ≡ false → bare ps ≡ named names order ++ us
@@ -58,21 +46,17 @@ module _ (names : List Name) (are : AreNames names) where
       let l : x < length names = below 0 x (omega arith) in
       let tok : p.token ≡ Word (get_or names x []) = cc in
       let rest : bare ps ≡ named names xs ++ us = cc in
-      let parts = both (list_all (λ n. is_name n && not (has_text n reserved)) names) (all_differ names) are in
+      let parts = and_parts (list_all (λ n. is_name n && not (has_text n reserved)) names) (all_differ names) are in
       let free : has_text (get_or names x []) reserved ≡ false = name-at names x l parts.0 in
       let same : (x == x) ≡ true = eq-eqb x x refl in
       let new : is_in x places ≡ false = apart x (rw same refl) in
-      let once' = both (not (is_in x xs)) (differ xs) once in
-      let out : is_in x xs ≡ false = refused (is_in x xs) once'.0 in
-      let r = more-there xs (places ++ x ∷ []) us ps (λ k d l. below (suc k) d (omega (arith, l))) once'.1 (λ n i. is_in-one_more n x places ∙ rw (apart n (rw i (or_true (x == n)))) (other n i out)) h rest in
+      let once' = and_parts (not (is_in x xs)) (differ xs) once in
+      let out : is_in x xs ≡ false = not-true (is_in x xs) once'.0 in
+      let r = more-there xs (places ++ x ∷ []) us ps (λ k d l. below (suc k) d (omega (arith, l))) once'.1 (λ n i. is_in-more n x places ∙ rw (apart n (rw i (or_true (x == n)))) (other n i out)) h rest in
       (r.0, r.1, rw (tok, free, named_there names x l, place_there names x parts.1 l, new) (r.2 ∙ ap (λ l. Ok (record { value = l; rest = r.0 })) (append_assoc places (x ∷ []) xs)))
     where
-      or_true : (b : Bool) → (b || true) ≡ true
-      or_true true = refl
-      or_true false = refl
-
       other : (n : ℕ) → is_in n xs ≡ true → is_in x xs ≡ false → (x == n) ≡ false
-      other n i out = elim (cases_of (x == n)) [
+      other n i out = elim (cases_Bool (x == n)) [
         | inl y ↦ (let same : x ≡ n = grind (arith, nat_tests, y) in let clash : is_in n xs ≡ false = subst (λ m. is_in m xs ≡ false) same out in absurd (cc))
         | inr d ↦ d
       ]
@@ -81,7 +65,7 @@ module _ (names : List Name) (are : AreNames names) where
       → Gives (some_places names) (named names order) us order
   gives-places [] us some below once h = absurd (omega (arith, some))
   gives-places (x ∷ xs) us some below once h =
-      let parts = both (list_all (λ n. is_name n && not (has_text n reserved)) names) (all_differ names) are in
+      let parts = and_parts (list_all (λ n. is_name n && not (has_text n reserved)) names) (all_differ names) are in
       let free : has_text (get_or names x []) reserved ≡ false = name-at names x (below 0 x (omega arith)) parts.0 in
       let begins : head_is is_named (named names (x ∷ xs) ++ us) ≡ true = rw free refl in
       let more : Gives (more_places names []) (named names (x ∷ xs)) us (x ∷ xs) = record { go = λ ps e. more-there (x ∷ xs) [] us ps below once (λ n i. refl) h e } in
@@ -202,8 +186,8 @@ names-of ps i each d = rw (all ps i each, d) refl
     all (p ∷ ps) i each =
         let first : IsPart (i + 0) p = each 0 p refl in
         let named' = first.graph.named in
-        let parts = both (list_all (λ n. is_name n && not (has_text n reserved)) (p.graph.name ∷ [])) true named' in
-        let here = (both (is_name p.graph.name && not (has_text p.graph.name reserved)) true parts.0).0 in
+        let parts = and_parts (list_all (λ n. is_name n && not (has_text n reserved)) (p.graph.name ∷ [])) true named' in
+        let here = (and_parts (is_name p.graph.name && not (has_text p.graph.name reserved)) true parts.0).0 in
         rw (here, all ps (suc i) (λ k q e. (let same : i + suc k ≡ suc i + k = omega arith in subst (λ m. IsPart m q) same (each (suc k) q e)))) refl
 
 -- the names before others
@@ -211,20 +195,16 @@ names-front : (as' bs : List Name) → AreNames (as' ++ bs) → AreNames as'
 names-front [] bs h = refl
 names-front (a ∷ as') bs h =
     let p : Name → Bool = λ n. is_name n && not (has_text n reserved) in
-    let parts = both (list_all p (a ∷ (as' ++ bs))) (all_differ (a ∷ (as' ++ bs))) h in
-    let l = both (p a) (list_all p (as' ++ bs)) parts.0 in
-    let d = both (not (has_text a (as' ++ bs))) (all_differ (as' ++ bs)) parts.1 in
+    let parts = and_parts (list_all p (a ∷ (as' ++ bs))) (all_differ (a ∷ (as' ++ bs))) h in
+    let l = and_parts (p a) (list_all p (as' ++ bs)) parts.0 in
+    let d = and_parts (not (has_text a (as' ++ bs))) (all_differ (as' ++ bs)) parts.1 in
     let rest = names-front as' bs (rw (l.1, d.1) refl) in
-    let rest' = both (list_all p as') (all_differ as') rest in
-    let out : has_text a as' ≡ false = front as' bs (refused (has_text a (as' ++ bs)) d.0) in
+    let rest' = and_parts (list_all p as') (all_differ as') rest in
+    let out : has_text a as' ≡ false = front as' bs (not-true (has_text a (as' ++ bs)) d.0) in
     rw (l.0, rest'.0, out, rest'.1) refl
   where
-    left : (x y : Bool) → (x || y) ≡ false → x ≡ false
-    left true y h = absurd (cc)
-    left false y h = refl
-
     front : (ns ms : List Name) → has_text a (ns ++ ms) ≡ false → has_text a ns ≡ false
-    front ns ms h = left (has_text a ns) (has_text a ms) (sym (list_any-append (bytes_eq a) ns ms) ∙ h)
+    front ns ms h = first_false (has_text a ns) (has_text a ms) (sym (list_any-append (bytes_eq a) ns ms) ∙ h)
 
 -- a part has some token
 part-some : (names : List Name) (p : Part) (ts : List Token) → SpellsPart names p ts → 1 ≤ length ts

@@ -1,15 +1,14 @@
 -- Names in any order are read into their set.
-use Rattle.std.proofs.Common.{◌≡◌, ℕ, ◌<◌, ◌≤◌, ◌==◌, not, Bool, true, false, ◌&&◌, ◌||◌, inl, inr, List, [], ◌∷◌, ◌++◌, length, get_or, Ok, refl, sym, ap, subst, ◌∙◌, arith}
+use Rattle.std.proofs.Common.{◌≡◌, ℕ, ◌<◌, ◌≤◌, ◌==◌, not, Bool, true, false, ◌&&◌, inl, inr, List, [], ◌∷◌, ◌++◌, length, get_or, Ok, refl, sym, ap, subst, ◌∙◌, arith}
 use Rattle.std.specs.List.{list_all}
-use Rattle.std.proofs.lemmas.Bool.{eq-eqb}
+use Rattle.std.proofs.lemmas.Bool.{eq-eqb, cases_Bool, not-true, and_parts}
 use Rattle.std.proofs.lemmas.Bool.Decides.{nat_tests}
 use Rattle.sg_base.specs.Sets.{with_member}
 use Rattle.sg_model.specs.Lists.{has_text, is_in, all_differ}
 use Rattle.sg_model.specs.Names.{Name, is_name, reserved}
+use Rattle.sg_model.proofs.Small.{or_true}
 use Rattle.sg_protocol.specs.Graph.{AreNumbers, AreNames}
-use Rattle.sg_graph.proofs.Found.{cases_of}
-use Rattle.sg_graph.proofs.Growth.{both, refused}
-use Rattle.sg_graph.proofs.Sets.{AreNumbers-with_member, AreNumbers-none}
+use Rattle.sg_graph.proofs.Sets.{AreNumbers-with_member, AreNumbers-none, number_below}
 use Rattle.sg_parse.specs.Grammar.{IsOrderOf, named, differ, SpellsClause, Without, With}
 use Rattle.sg_parse.specs.Tokens.{is_word, is_named}
 use Rattle.sg_parse.specs.Reading.{give, skip, more_names, some_names, read_clause}
@@ -19,7 +18,7 @@ use Rattle.sg_parse.specs.declared.token.Token.TheVariants.{Word}
 use Rattle.sg_parse.proofs.Took.{bare}
 use Rattle.sg_parse.proofs.Names.{named_there, place_there}
 use Rattle.sg_parse.proofs.Middle.{name-at}
-use Rattle.sg_parse.proofs.Sets.{number_below, is_in-with, joined_all, joined_order}
+use Rattle.sg_parse.proofs.Sets.{is_in-with, joined_all, joined_order}
 use Rattle.sg_parse.proofs.Gives.{Gives, gives-give, gives-after, gives-skip, gives-first, gives-second, head_is, word-is}
 
 -- all of these numbers are places, stand once, and are not in the set
@@ -33,8 +32,8 @@ joinable-next width k x set order a w j =
     let e : (x == x) ≡ true = eq-eqb x x refl in
     let first : is_in x (x ∷ order) ≡ true = rw e refl in
     let l : x < k = j.below x first in
-    let parts = both (not (is_in x order)) (differ order) j.once in
-    let out : is_in x order ≡ false = refused (is_in x order) parts.0 in (
+    let parts = and_parts (not (is_in x order)) (differ order) j.once in
+    let out : is_in x order ≡ false = not-true (is_in x order) parts.0 in (
       l,
       j.apart x first,
       record {
@@ -44,12 +43,8 @@ joinable-next width k x set order a w j =
       },
     )
   where
-    or_true : (b : Bool) → (b || true) ≡ true
-    or_true true = refl
-    or_true false = refl
-
     other : (n : ℕ) → is_in n order ≡ true → is_in x order ≡ false → (x == n) ≡ false
-    other n i out = elim (cases_of (x == n)) [
+    other n i out = elim (cases_Bool (x == n)) [
       | inl y ↦ (let same : x ≡ n = grind (arith, nat_tests, y) in let clash : is_in n order ≡ false = subst (λ m. is_in m order ≡ false) same out in absurd (cc))
       | inr d ↦ d
     ]
@@ -66,7 +61,7 @@ module _ (width : ℕ) (names : List Name) (are : AreNames names) (fits : length
       let next = joinable-next width (length names) x set xs a fits j in
       let tok : p.token ≡ Word (get_or names x []) = cc in
       let rest : bare ps ≡ named names xs ++ us = cc in
-      let parts = both (list_all (λ n. is_name n && not (has_text n reserved)) names) (all_differ names) are in
+      let parts = and_parts (list_all (λ n. is_name n && not (has_text n reserved)) names) (all_differ names) are in
       let free : has_text (get_or names x []) reserved ≡ false = name-at names x next.0 parts.0 in
       let r = more-there xs (with_member width set x) us ps (AreNumbers-with_member width (length names) x set a next.0) next.2 h rest in
       (r.0, r.1, rw (tok, free, named_there names x next.0, place_there names x parts.1 next.0, next.1) r.2)
@@ -87,7 +82,7 @@ module _ (width : ℕ) (names : List Name) (are : AreNames names) (fits : length
       } in
       let e : (x == x) ≡ true = eq-eqb x x refl in
       let first : is_in x (x ∷ xs) ≡ true = rw e refl in
-      let parts = both (list_all (λ n. is_name n && not (has_text n reserved)) names) (all_differ names) are in
+      let parts = and_parts (list_all (λ n. is_name n && not (has_text n reserved)) names) (all_differ names) are in
       let free : has_text (get_or names x []) reserved ≡ false = name-at names x (j.below x first) parts.0 in
       let begins : head_is is_named (named names (x ∷ xs) ++ us) ≡ true = rw free refl in
       let all : joined_all width [] (x ∷ xs) ≡ set = joined_order width (length names) set (x ∷ xs) a fits is in

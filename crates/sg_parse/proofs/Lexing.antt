@@ -3,8 +3,8 @@ use Rattle.std.proofs.Common.{◌≡◌, ℕ, suc, ◌+◌, ◌≤◌, ◌==◌,
 use Rattle.std.specs.List.{prefix_len, list_all}
 use Rattle.std.proofs.Math.Seq.{take-append_seam, drop-append_seam}
 use Rattle.std.proofs.lemmas.Bool.Decides.{nat_tests}
+use Rattle.std.proofs.lemmas.Bool.{and_parts}
 use Rattle.sg_model.specs.Names.{is_letter, is_name_byte, is_name}
-use Rattle.sg_graph.proofs.Growth.{both}
 use Rattle.sg_parse.specs.Tokens.{OfWord, Apart, part_of, is_separator, leading, has_head, mark, begun, tokens_from, word_at}
 use Rattle.sg_parse.specs.declared.token.Placed.{Placed}
 use Rattle.sg_parse.specs.declared.token.Token.{Token}
@@ -51,7 +51,7 @@ word_length : (cs rest : List ℕ) → list_all is_name_byte cs ≡ true → Sta
 word_length [] [] h a = refl
 word_length [] (b ∷ bs) h a = rw a refl
 word_length (c ∷ cs) rest h a =
-    let parts = both (is_name_byte c) (list_all is_name_byte cs) h in
+    let parts = and_parts (is_name_byte c) (list_all is_name_byte cs) h in
     rw (parts.0, one-add) (ap suc (word_length cs rest parts.1 a))
 
 -- a letter is no separator and begins no comment
@@ -66,7 +66,7 @@ letter_apart c h =
     rw (a, b, d, e, f) refl
   where
     pick : (c : ℕ) (b : Bool) → nat_lt c 97 ≡ b → (if b then nat_le 65 c && nat_le c 90 else nat_le c 122) ≡ true → 65 ≤ c
-    pick c true e h = (let p = (both (nat_le 65 c) (nat_le c 90) h).0 in grind (arith, nat_tests, p))
+    pick c true e h = (let p = (and_parts (nat_le 65 c) (nat_le c 90) h).0 in grind (arith, nat_tests, p))
     pick c false e h = grind (arith, nat_tests, e)
 
     range : (c : ℕ) → is_letter c ≡ true → 65 ≤ c
@@ -76,8 +76,8 @@ letter_apart c h =
 pub lex-word : (w rest : List ℕ) (ts : List Token) → is_name w ≡ true → StandsApart rest → Lexes rest ts → Lexes (w ++ rest) (Word w ∷ ts)
 lex-word [] rest ts n a h = absurd (cc)
 lex-word (c ∷ cs) rest ts n a h =
-    let all = both (is_letter c && list_all is_name_byte cs) (nat_le (length cs) 31) n in
-    let parts = both (is_letter c) (list_all is_name_byte cs) all.0 in
+    let all = and_parts (is_letter c && list_all is_name_byte cs) (nat_le (length cs) 31) n in
+    let parts = and_parts (is_letter c) (list_all is_name_byte cs) all.0 in
     let name : is_name_byte c ≡ true = letter_in_name c parts.0 in
     let long : prefix_len is_name_byte (cs ++ rest) ≡ length cs = word_length cs rest parts.1 a in
     let short : length cs ≤ 31 = (let m = all.1 in grind (arith, nat_tests, m)) in

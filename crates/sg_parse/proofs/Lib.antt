@@ -9,11 +9,11 @@ pub mod Lexing
 pub mod Loops
 pub mod Middle
 pub mod Names
+pub mod NewName
 pub mod PartsAgree
 pub mod Places
 pub mod Readings
 pub mod Room
-pub mod SameName
 pub mod Scanning
 pub mod Sets
 pub mod Sound

@@ -3,9 +3,10 @@ use Rattle.std.proofs.Common.{◌≡◌, ℕ, zero, suc, ◌+◌, ◌-◌, ◌<�
 use Rattle.std.specs.Prelude.{Option, Some, None, position, bytes_eq, IsSome, IfSome, IsTrue}
 use Rattle.std.specs.List.{list_any, position_from}
 use Rattle.std.proofs.lemmas.Iterator.Adapters.{position_from-zero}
+use Rattle.std.proofs.lemmas.Bool.{cases_Bool}
 use Rattle.sg_model.specs.Lists.{has_text, is_in}
 use Rattle.sg_protocol.specs.Graph.{Name}
-use Rattle.sg_graph.proofs.Found.{cases_of, some_passes, none_passes}
+use Rattle.sg_graph.proofs.Found.{some_passes, none_passes}
 use Rattle.sg_parse.specs.Owed.{Refuses}
 use Rattle.sg_parse.specs.PartsReading.{one_place, with_place, repeat}
 use Rattle.sg_parse.specs.Reading.{Read, Reader, on, is_next, name, place_of, known}
@@ -36,7 +37,7 @@ place_twice names places ps qs n at r h has place old =
 -- the first place of a name, from n on
 place_from : (m : Name) (ns : List Name) (n i : ℕ) → position_from (bytes_eq m) n ns ≡ Some i → n + place_of m ns ≡ i
 place_from m [] n i h = absurd (cc)
-place_from m (k ∷ ks) n i h = elim (cases_of (bytes_eq m k)) [
+place_from m (k ∷ ks) n i h = elim (cases_Bool (bytes_eq m k)) [
   | inl y ↦ (let e : Some n ≡ Some i = rw y at h in let same : n ≡ i = cc in rw y (omega (arith, same)))
   | inr z ↦ (let rest = place_from m ks (n + 1) i (rw z at h) in rw z (omega (arith, rest)))
 ]

@@ -6,8 +6,8 @@ use Rattle.std.proofs.lemmas.Bool.Decides.{nat_tests}
 use Rattle.std.specs.List.{prefix_len, list_all}
 use Rattle.std.proofs.lemmas.List.Folds.{length-prefix_len}
 use Rattle.std.proofs.Math.Seq.{drop-drop}
+use Rattle.std.proofs.lemmas.Bool.{cases_Bool}
 use Rattle.sg_model.specs.Names.{is_letter, is_name_byte, is_name}
-use Rattle.sg_graph.proofs.Found.{cases_of}
 use Rattle.sg_parse.specs.Tokens.{Part, OfWord, OfComment, OfArrow, Apart, goes_on, part_of, is_separator, leading, begun, mark, tokens_from, word_at, has_head}
 use Rattle.sg_parse.specs.declared.token.Placed.{Placed}
 use Rattle.sg_parse.specs.declared.token.Token.TheVariants.{End}
@@ -55,11 +55,11 @@ comment_begins bs i h e = passed Apart bs i h (rw e refl) ∙ rw e refl
 
 -- a separator is part of nothing
 separates : (b : ℕ) → is_separator b ≡ true → ((is_separator b || (b == 35)) ≡ true) × (part_of Apart b ≡ Apart)
-separates b h = elim (cases_of (b == 32)) [
+separates b h = elim (cases_Bool (b == 32)) [
   | inl y ↦ (let e : b ≡ 32 = grind (arith, nat_tests, y) in rw e (refl, refl))
-  | inr n ↦ (elim (cases_of (b == 9)) [
+  | inr n ↦ (elim (cases_Bool (b == 9)) [
     | inl y ↦ (let e : b ≡ 9 = grind (arith, nat_tests, y) in rw e (refl, refl))
-    | inr m ↦ (elim (cases_of (b == 13)) [
+    | inr m ↦ (elim (cases_Bool (b == 13)) [
       | inl y ↦ (let e : b ≡ 13 = grind (arith, nat_tests, y) in rw e (refl, refl))
       | inr k ↦ (let last : (b == 10) ≡ true = rw (n, m, k) at h in let e : b ≡ 10 = grind (arith, nat_tests, last) in rw e (refl, refl))
     ])
@@ -83,15 +83,15 @@ ends bs i rest e = let over : length bs ≤ i = omega arith in rw (drop_of_lengt
 
 -- a letter may stand in a name
 pub letter_in_name : (b : ℕ) → is_letter b ≡ true → is_name_byte b ≡ true
-letter_in_name b l = elim (cases_of (nat_le 48 b && nat_le b 57)) [
+letter_in_name b l = elim (cases_Bool (nat_le 48 b && nat_le b 57)) [
   | inl y ↦ rw y refl
-  | inr n ↦ (elim (cases_of (nat_le 95 b && nat_le b 95)) [ inl z ↦ rw (n, z) refl | inr m ↦ rw (n, m) l ])
+  | inr n ↦ (elim (cases_Bool (nat_le 95 b && nat_le b 95)) [ inl z ↦ rw (n, z) refl | inr m ↦ rw (n, m) l ])
 ]
 
 -- behind a word other tokens begin
 pub word_ends : (at : ℕ) (bs : List ℕ) → tokens_from OfWord at bs ≡ tokens_from Apart (at + prefix_len is_name_byte bs) (drop (prefix_len is_name_byte bs) bs)
 word_ends at [] = none OfWord at ∙ rw add-zero (sym (none Apart at))
-word_ends at (b ∷ bs) = elim (cases_of (is_name_byte b)) [
+word_ends at (b ∷ bs) = elim (cases_Bool (is_name_byte b)) [
   | inl y ↦
       (let one : tokens_from OfWord at (b ∷ bs) ≡ tokens_from OfWord (suc at) bs = step OfWord at b bs ∙ rw y refl in
       let place : suc at + prefix_len is_name_byte bs ≡ at + suc (prefix_len is_name_byte bs) = omega arith in
@@ -123,7 +123,7 @@ word_there bs i h l e =
 -- the first bytes that may stand in a name all may
 all_name_bytes : (bs : List ℕ) → list_all is_name_byte (take_while is_name_byte bs) ≡ true
 all_name_bytes [] = refl
-all_name_bytes (b ∷ bs) = elim (cases_of (is_name_byte b)) [ inl y ↦ rw (y, one-add) (rw y (all_name_bytes bs)) | inr n ↦ rw n refl ]
+all_name_bytes (b ∷ bs) = elim (cases_Bool (is_name_byte b)) [ inl y ↦ rw (y, one-add) (rw y (all_name_bytes bs)) | inr n ↦ rw n refl ]
 
 -- a word that isn't too long is a name
 pub word_is_name : (bs : List ℕ) (i : ℕ) → i < length bs → is_letter (get_or bs i 0) ≡ true → length (take_while is_name_byte (drop i bs)) ≤ 32
@@ -167,9 +167,9 @@ mark_there bs i h e l other =
     pick : (b : ℕ) (head : Bool) → ((b == 45) && head) ≡ false
         → leading (record { token = mark b head; at = i }) (tokens_from (part_of Apart b) (i + 1) (drop (i + 1) bs))
         ≡ leading (record { token = mark b head; at = i }) (tokens_from Apart (i + 1) (drop (i + 1) bs))
-    pick b head o = elim (cases_of (b == 58)) [
+    pick b head o = elim (cases_Bool (b == 58)) [
       | inl y ↦ (let is : b ≡ 58 = grind (arith, nat_tests, y) in rw is refl)
-      | inr n ↦ (elim (cases_of (b == 59)) [
+      | inr n ↦ (elim (cases_Bool (b == 59)) [
         | inl z ↦ (let is : b ≡ 59 = grind (arith, nat_tests, z) in rw is refl)
         | inr m ↦ rw (n, m, o) refl
       ])

@@ -1,29 +1,15 @@
 -- Sets of places, as names join them.
 use Rattle.std.proofs.Common.{◌≡◌, ℕ, suc, ◌+◌, ◌<◌, ◌≤◌, ◌==◌, nat_le, nat_lt, not, Bool, true, false, ◌&&◌, ◌||◌, List, [], ◌∷◌, length, refl, sym, ap, ◌∙◌, inl, inr, arith}
 use Rattle.std.specs.List.{list_all}
-use Rattle.std.proofs.lemmas.Bool.{eq-eqb}
+use Rattle.std.proofs.lemmas.Bool.{eq-eqb, cases_Bool, not-true, and_parts}
 use Rattle.std.proofs.lemmas.Bool.Decides.{nat_tests}
 use Rattle.sg_base.specs.Sets.{with_member}
 use Rattle.sg_base.proofs.SetLaws.{is_in-filter}
 use Rattle.sg_model.specs.Lists.{is_in, rises_from}
+use Rattle.sg_model.proofs.Small.{or_true}
 use Rattle.sg_protocol.specs.Graph.{AreNumbers}
-use Rattle.sg_graph.proofs.Found.{cases_of}
-use Rattle.sg_graph.proofs.Growth.{both, refused}
-use Rattle.sg_graph.proofs.Sets.{AreNumbers-with_member, AreNumbers-none}
+use Rattle.sg_graph.proofs.Sets.{AreNumbers-with_member, AreNumbers-none, number_below}
 use Rattle.sg_parse.specs.Grammar.{IsOrderOf, differ}
-
--- each number of a list of numbers that are there is below their count
-pub number_below : (n y : ℕ) (xs : List ℕ) → AreNumbers n xs → is_in y xs ≡ true → y < n
-number_below n y xs h i = go xs (both (rises_from 0 xs) (list_all (λ k. nat_lt k n) xs) h).1 i
-  where
-    go : (xs : List ℕ) → list_all (λ k. nat_lt k n) xs ≡ true → is_in y xs ≡ true → y < n
-    go [] h i = absurd (cc)
-    go (x ∷ xs) h i =
-        let parts = both (nat_lt x n) (list_all (λ k. nat_lt k n) xs) h in
-        elim (cases_of (x == y)) [
-          | inl e ↦ (let few = parts.0 in grind (arith, nat_tests, e, few))
-          | inr d ↦ go xs parts.1 (rw d at i)
-        ]
 
 -- the numbers of a set with one more
 pub is_in-with : (width k x n : ℕ) (set : List ℕ) → AreNumbers k set → x < k → k ≤ width → is_in n (with_member width set x) ≡ (is_in n set || (x == n))
@@ -33,7 +19,7 @@ is_in-with width k x n set h l w =
   where
     pick : (b : Bool) → is_in n set ≡ b → ((nat_le 0 n && nat_lt n (0 + width)) && ((n == x) || b)) ≡ (b || (x == n))
     pick true e = (let below : n < k = number_below k n set h e in let low : nat_lt n (0 + width) ≡ true = grind (arith, nat_tests, below) in grind (arith, nat_tests, low))
-    pick false e = elim (cases_of (x == n)) [
+    pick false e = elim (cases_Bool (x == n)) [
       | inl y ↦ (let low : nat_lt n (0 + width) ≡ true = grind (arith, nat_tests, y) in grind (arith, nat_tests, low, y))
       | inr d ↦ (let o : (n == x) ≡ false = grind (arith, nat_tests, d) in rw (d, o) (grind (arith, nat_tests)))
     ]
@@ -47,9 +33,9 @@ some-in n (x ∷ xs) h = omega arith
 least_in : (least n : ℕ) (xs : List ℕ) → rises_from least xs ≡ true → is_in n xs ≡ true → least ≤ n
 least_in least n [] h i = absurd (cc)
 least_in least n (x ∷ xs) h i =
-    let parts = both (not (nat_lt x least)) (rises_from (suc x) xs) h in
-    let low : nat_lt x least ≡ false = refused (nat_lt x least) parts.0 in
-    elim (cases_of (x == n)) [
+    let parts = and_parts (not (nat_lt x least)) (rises_from (suc x) xs) h in
+    let low : nat_lt x least ≡ false = not-true (nat_lt x least) parts.0 in
+    elim (cases_Bool (x == n)) [
       | inl e ↦ grind (arith, nat_tests, e, low)
       | inr d ↦ (let l : suc x ≤ n = least_in (suc x) n xs parts.1 (rw d at i) in grind (arith, nat_tests, l, low))
     ]
@@ -68,8 +54,8 @@ rising-same least (x ∷ xs) [] a b same =
     let no : is_in x (x ∷ xs) ≡ false = same x in
     absurd (cc)
 rising-same least (x ∷ xs) (y ∷ ys) a b same =
-    let pa = both (not (nat_lt x least)) (rises_from (suc x) xs) a in
-    let pb = both (not (nat_lt y least)) (rises_from (suc y) ys) b in
+    let pa = and_parts (not (nat_lt x least)) (rises_from (suc x) xs) a in
+    let pb = and_parts (not (nat_lt y least)) (rises_from (suc y) ys) b in
     let ex : (x == x) ≡ true = eq-eqb x x refl in
     let ey : (y == y) ≡ true = eq-eqb y y refl in
     let here_x : is_in x (x ∷ xs) ≡ true = rw ex refl in
@@ -82,13 +68,13 @@ rising-same least (x ∷ xs) (y ∷ ys) a b same =
     rw head (ap (λ l. y ∷ l) (rising-same (suc y) xs ys (rw head at pa.1) pb.1 (λ n. tail n x y xs ys head pa.1 pb.1 (same n))))
   where
     least_first : (m n : ℕ) (ms : List ℕ) → rises_from (suc m) ms ≡ true → is_in n (m ∷ ms) ≡ true → m ≤ n
-    least_first m n ms r i = elim (cases_of (m == n)) [
+    least_first m n ms r i = elim (cases_Bool (m == n)) [
       | inl e ↦ grind (arith, nat_tests, e)
       | inr d ↦ (let l : suc m ≤ n = least_in (suc m) n ms r (rw d at i) in omega (arith, l))
     ]
 
     tail : (n x y : ℕ) (xs ys : List ℕ) → x ≡ y → rises_from (suc x) xs ≡ true → rises_from (suc y) ys ≡ true → is_in n (x ∷ xs) ≡ is_in n (y ∷ ys) → is_in n xs ≡ is_in n ys
-    tail n x y xs ys head a b same = elim (cases_of (y == n)) [
+    tail n x y xs ys head a b same = elim (cases_Bool (y == n)) [
       | inl e ↦
           (let k : y ≡ n = grind (arith, nat_tests, e) in
           let xa : is_in n xs ≡ false = away n (suc x) xs a (omega (arith, k, head)) in
@@ -98,7 +84,7 @@ rising-same least (x ∷ xs) (y ∷ ys) a b same =
     ]
       where
         away : (n least : ℕ) (zs : List ℕ) → rises_from least zs ≡ true → n < least → is_in n zs ≡ false
-        away n least zs r l = elim (cases_of (is_in n zs)) [
+        away n least zs r l = elim (cases_Bool (is_in n zs)) [
           | inl y ↦ (let m : least ≤ n = least_in least n zs r y in absurd (omega (arith, l, m)))
           | inr z ↦ z
         ]
@@ -122,10 +108,6 @@ is_in-joined_all width k set (x ∷ xs) a w below =
     let rest = is_in-joined_all width k (with_member width set x) xs (AreNumbers-with_member width k x set a l) w (λ n i. below n (rw i (or_true (x == n)))) in
     (λ n. rest.0 n ∙ rw (is_in-with width k x n set a l w) (or_assoc (is_in n set) (x == n) (is_in n xs)), rest.1)
   where
-    or_true : (b : Bool) → (b || true) ≡ true
-    or_true true = refl
-    or_true false = refl
-
     or_assoc : (a b c : Bool) → ((a || b) || c) ≡ (a || (b || c))
     or_assoc true b c = refl
     or_assoc false b c = refl
@@ -134,15 +116,15 @@ is_in-joined_all width k set (x ∷ xs) a w below =
 pub joined_order : (width k : ℕ) (set order : List ℕ) → AreNumbers k set → k ≤ width → IsOrderOf set order → joined_all width [] order ≡ set
 joined_order width k set order a w is =
     let all = is_in-joined_all width k [] order (AreNumbers-none k) w (λ n i. number_below k n set a (sym (is.same n) ∙ i)) in
-    rising-same 0 (joined_all width [] order) set (both (rises_from 0 (joined_all width [] order)) (list_all (λ x. nat_lt x k) (joined_all width [] order)) all.1).0
-    (both (rises_from 0 set) (list_all (λ x. nat_lt x k) set) a).0 (λ n. all.0 n ∙ is.same n)
+    rising-same 0 (joined_all width [] order) set (and_parts (rises_from 0 (joined_all width [] order)) (list_all (λ x. nat_lt x k) (joined_all width [] order)) all.1).0
+    (and_parts (rises_from 0 set) (list_all (λ x. nat_lt x k) set) a).0 (λ n. all.0 n ∙ is.same n)
 
 -- rising numbers differ
 pub rising-differ : (least : ℕ) (xs : List ℕ) → rises_from least xs ≡ true → differ xs ≡ true
 rising-differ least [] h = refl
 rising-differ least (x ∷ xs) h =
-    let parts = both (not (nat_lt x least)) (rises_from (suc x) xs) h in
-    let out : is_in x xs ≡ false = elim (cases_of (is_in x xs)) [
+    let parts = and_parts (not (nat_lt x least)) (rises_from (suc x) xs) h in
+    let out : is_in x xs ≡ false = elim (cases_Bool (is_in x xs)) [
       | inl y ↦ (let m : suc x ≤ x = least_in (suc x) x xs parts.1 y in absurd (omega (arith, m)))
       | inr z ↦ z
     ] in

@@ -1,10 +1,9 @@
 -- Tokens that are read are those of what is read.
 use Rattle.std.proofs.Common.{◌≡◌, ℕ, ◌<◌, Bool, true, false, ◌⊎◌, inl, inr, List, [], ◌∷◌, ◌++◌, map, length, get_or, bytes_eq, Result, Ok, Err, refl, sym, ap, subst, ◌∙◌, arith, if◌then◌else◌, append_assoc}
 use Rattle.std.proofs.lemmas.Slice.Eq.{bytes_eq-Decides}
+use Rattle.std.proofs.lemmas.Bool.{cases_Bool, not-true}
 use Rattle.sg_model.specs.Lists.{has_text}
 use Rattle.sg_model.specs.Names.{Name, is_name, reserved}
-use Rattle.sg_graph.proofs.Found.{cases_of}
-use Rattle.sg_graph.proofs.Growth.{refused}
 use Rattle.sg_parse.specs.Tokens.{is_word, is_named, is_colon, is_semicolon, is_arrow, is_use, is_as, is_end, text_of}
 use Rattle.sg_parse.specs.Reading as Reading
 use Rattle.sg_parse.specs.Reading.{Read, Reader, on, after, give, is_next, branch, token, skip, word, name, new_name, known_name, place_of}
@@ -148,7 +147,7 @@ only-end Bad h = absurd (cc)
 
 -- a token that is a name, as its bytes
 pub named-word : (t : Token) → IsSpelled t → is_named t ≡ true → (t ≡ Word (text_of t)) × (is_name (text_of t) ≡ true) × (has_text (text_of t) reserved ≡ false)
-named-word (Word v) s h = (refl, s, refused (has_text v reserved) h)
+named-word (Word v) s h = (refl, s, not-true (has_text v reserved) h)
 named-word Colon s h = absurd (cc)
 named-word Semicolon s h = absurd (cc)
 named-word Arrow s h = absurd (cc)
@@ -196,7 +195,7 @@ took-new names ps o s h =
 -- the place of a name that is there
 pub place_has : (n : Name) (names : List Name) → has_text n names ≡ true → (place_of n names < length names) × (get_or names (place_of n names) [] ≡ n)
 place_has n [] h = absurd (cc)
-place_has n (m ∷ ms) h = elim (cases_of (bytes_eq n m)) [
+place_has n (m ∷ ms) h = elim (cases_Bool (bytes_eq n m)) [
   | inl y ↦ (let e : n ≡ m = (bytes_eq-Decides n m).0 y in rw y (omega arith, sym e))
   | inr z ↦ (let rest = place_has n ms (rw z at h) in rw z (omega (arith, rest.0), rest.1))
 ]

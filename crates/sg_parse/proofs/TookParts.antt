@@ -1,19 +1,20 @@
 -- Parts that are read are spelled by the text.
-use Rattle.std.proofs.Common.{◌≡◌, ℕ, zero, suc, ◌+◌, ◌<◌, ◌≤◌, ◌==◌, not, Bool, true, false, ◌&&◌, ◌||◌, ◌⊎◌, inl, inr, List, [], ◌∷◌, ◌++◌, length, get_or, codes, bytes_eq, Ok, Err, refl, sym, ap, subst, ◌∙◌, arith, if◌then◌else◌, append_assoc, append-nil, length-append, flat_map}
+use Rattle.std.proofs.Common.{◌≡◌, ℕ, zero, suc, ◌+◌, ◌<◌, ◌≤◌, ◌==◌, not, Bool, true, false, ◌&&◌, ◌||◌, ◌⊎◌, inl, inr, List, [], ◌∷◌, ◌++◌, length, get_or, codes, Ok, Err, refl, sym, ap, subst, ◌∙◌, arith, if◌then◌else◌, append_assoc, append-nil, length-append, flat_map}
 use Rattle.std.specs.Prelude.{All, Some, slice_get}
 use Rattle.std.specs.List.{list_all}
-use Rattle.std.proofs.lemmas.Bool.{eq-eqb}
+use Rattle.std.proofs.lemmas.Bool.{eq-eqb, cases_Bool, and_parts}
 use Rattle.std.proofs.lemmas.Bool.Decides.{nat_tests}
 use Rattle.std.proofs.lemmas.List.{length-map, map-append}
-use Rattle.std.proofs.lemmas.List.Folds.{list_all-append, list_any-append}
-use Rattle.std.proofs.lemmas.Slice.Eq.{bytes_eq-Decides}
+use Rattle.std.proofs.lemmas.List.Folds.{list_all-append}
 use Rattle.sg_model.specs.Lists.{has_text, is_in, all_differ}
 use Rattle.sg_model.specs.Names.{Name, is_name, reserved}
+use Rattle.sg_model.proofs.Numbers.{is_in-more}
+use Rattle.sg_model.proofs.Differ.{all_differ-append}
+use Rattle.sg_model.proofs.Small.{or_true, first_false}
 use Rattle.sg_protocol.specs.Graph.{Graph, IsGraph, AreNames, node_name}
 use Rattle.sg_graph.specs.Adding.{no_parts}
 use Rattle.sg_graph.specs.Parts.{node_names}
-use Rattle.sg_graph.proofs.Found.{cases_of}
-use Rattle.sg_graph.proofs.Growth.{both, refused, IsGraph-no_parts}
+use Rattle.sg_graph.proofs.Growth.{IsGraph-no_parts}
 use Rattle.sg_parse.specs.Grammar.{named, differ, head_tokens, InTurn, Done, Then}
 use Rattle.sg_parse.specs.Parts.{Part, Use, IsUse, IsPart, part_names, use_names}
 use Rattle.sg_parse.specs.PartsGrammar.{use_tokens, SpellsPart, SpellsParts}
@@ -33,58 +34,21 @@ use Rattle.sg_parse.proofs.Places.{repeat-there, repeat-away, repeat-none}
 
 -- ---- names that differ, with one more
 
-bytes_eq-flip : (s t : List ℕ) → bytes_eq s t ≡ false → bytes_eq t s ≡ false
-bytes_eq-flip s t h = elim (cases_of (bytes_eq t s)) [
-  | inl y ↦ (let e : s ≡ t = sym ((bytes_eq-Decides t s).0 y) in let z : bytes_eq s t ≡ true = (bytes_eq-Decides s t).1 e in absurd (cc))
-  | inr n ↦ n
-]
-
--- texts that differ still do with one more that is none of them
-pub differ-one_more : (ts : List Name) (t : Name) → all_differ ts ≡ true → has_text t ts ≡ false → all_differ (ts ++ t ∷ []) ≡ true
-differ-one_more [] t d h = refl
-differ-one_more (u ∷ us) t d h =
-    let parts = both (not (has_text u us)) (all_differ us) d in
-    let apart : (bytes_eq t u ≡ false) × (has_text t us ≡ false) = neither (bytes_eq t u) (has_text t us) h in
-    let first : has_text u (us ++ t ∷ []) ≡ false =
-    list_any-append (bytes_eq u) us (t ∷ []) ∙ rw (refused (has_text u us) parts.0, bytes_eq-flip t u apart.0) refl in
-    rw (first, differ-one_more us t parts.1 apart.1) refl
-  where
-    neither : (a b : Bool) → (a || b) ≡ false → (a ≡ false) × (b ≡ false)
-    neither true b h = absurd (cc)
-    neither false b h = (refl, h)
-
 -- names with one more
 names-one_more : (ns : List Name) (n : Name) → AreNames ns → IsFresh ns n → AreNames (ns ++ n ∷ [])
 names-one_more ns n are f =
     let p : Name → Bool = λ n. is_name n && not (has_text n reserved) in
-    let parts = both (list_all p ns) (all_differ ns) are in
+    let parts = and_parts (list_all p ns) (all_differ ns) are in
     let all : list_all p (ns ++ n ∷ []) ≡ true = list_all-append p ns (n ∷ []) ∙ rw (parts.0, f.name, f.free) refl in
-    rw (all, differ-one_more ns n parts.1 f.new) refl
+    rw (all, all_differ-append ns n parts.1 f.new) refl
 
 -- ---- places
-
--- the places with one more
-is_in-one_more : (n p : ℕ) (places : List ℕ) → is_in n (places ++ p ∷ []) ≡ (is_in n places || (p == n))
-is_in-one_more n p [] = or_false (p == n)
-  where
-    or_false : (b : Bool) → (b || false) ≡ b
-    or_false true = refl
-    or_false false = refl
-is_in-one_more n p (q ∷ qs) = rw (is_in-one_more n p qs) (or_assoc (q == n) (is_in n qs) (p == n))
-  where
-    or_assoc : (a b c : Bool) → (a || (b || c)) ≡ ((a || b) || c)
-    or_assoc true b c = refl
-    or_assoc false b c = refl
 
 -- what holds of each number of a list
 all-in : (P : ℕ → Type 0) (xs : List ℕ) → ((n : ℕ) → is_in n xs ≡ true → P n) → All P xs
 all-in P [] h k d l = absurd (omega arith)
 all-in P (x ∷ xs) h zero d l = (let same : (x == x) ≡ true = eq-eqb x x refl in h x (rw same refl))
 all-in P (x ∷ xs) h (suc k) d l = all-in P xs (λ n i. h n (rw i (or_true (x == n)))) k d (omega (arith, l))
-  where
-    or_true : (b : Bool) → (b || true) ≡ true
-    or_true true = refl
-    or_true false = refl
 
 record TookPlaces (names : List Name) (places : List ℕ) (ps : List Placed) (o : Read (List ℕ)) : Type 0 where
   order : List ℕ
@@ -116,9 +80,9 @@ module _ (names : List Name) where
       let place : ℕ = place_of (text_of p.token) names in
       let there = place_has (text_of p.token) names has in
       let same : (place == place) ≡ true = eq-eqb place place refl in
-      let absent : is_in place t.order ≡ false = elim (cases_of (is_in place t.order)) [
+      let absent : is_in place t.order ≡ false = elim (cases_Bool (is_in place t.order)) [
         | inl y ↦
-            (let clash : is_in place (places ++ place ∷ []) ≡ true = is_in-one_more place place places ∙ rw (new, same) refl in
+            (let clash : is_in place (places ++ place ∷ []) ≡ true = is_in-more place place places ∙ rw (new, same) refl in
             let clash' : is_in place (places ++ place ∷ []) ≡ false = t.apart place y in
             absurd (cc))
         | inr n ↦ n
@@ -128,23 +92,19 @@ module _ (names : List Name) where
         took = record { begins = (rw there.1 (ap (λ u. u ∷ bare ps) w)) ∙ ap (λ l. Word (get_or names place []) ∷ l) t.took.begins; sound = t.took.sound };
         value = sym (append_assoc places (place ∷ []) t.order) ∙ t.value;
         once = rw (absent, t.once) refl;
-        apart = λ n e. apart' place n t.order new e (λ i. sym (is_in-one_more n place places) ∙ t.apart n i);
+        apart = λ n e. apart' place n t.order new e (λ i. sym (is_in-more n place places) ∙ t.apart n i);
         below = λ n e. below' place n t.order there.0 e (t.below n);
         some = λ e. omega arith;
       }
     where
-      left : (a b : Bool) → (a || b) ≡ false → a ≡ false
-      left true b h = absurd (cc)
-      left false b h = refl
-
       apart' : (place n : ℕ) (order : List ℕ) → is_in place places ≡ false → is_in n (place ∷ order) ≡ true → (is_in n order ≡ true → (is_in n places || (place == n)) ≡ false) → is_in n places ≡ false
-      apart' place n order new e later = elim (cases_of (place == n)) [
+      apart' place n order new e later = elim (cases_Bool (place == n)) [
         | inl y ↦ (let same : place ≡ n = grind (arith, nat_tests, y) in subst (λ k. is_in k places ≡ false) same new)
-        | inr d ↦ left (is_in n places) (place == n) (later (rw d at e))
+        | inr d ↦ first_false (is_in n places) (place == n) (later (rw d at e))
       ]
 
       below' : (place n : ℕ) (order : List ℕ) → place < length names → is_in n (place ∷ order) ≡ true → (is_in n order ≡ true → n < length names) → n < length names
-      below' place n order l e later = elim (cases_of (place == n)) [
+      below' place n order l e later = elim (cases_Bool (place == n)) [
         | inl y ↦ (let same : place ≡ n = grind (arith, nat_tests, y) in subst (λ k. k < length names) same l)
         | inr d ↦ later (rw d at e)
       ]
@@ -341,7 +301,7 @@ parts-grown : (xs ys : List Part) (ts : List Token) → Grown PartFits xs ys ts 
 parts-grown xs [] ts NoMore d = (subst (λ l. all_differ (part_names l) ≡ true) (sym (append-nil xs)) d, (λ k p e. absurd (cc)), Done)
 parts-grown xs (y ∷ ys) ts (OneMore {ts = front} {us = us} f rest) d =
     let more : all_differ (part_names (xs ++ y ∷ [])) ≡ true =
-    subst (λ l. all_differ l ≡ true) (sym (map-append (λ (p : Part). p.graph.name) xs (y ∷ []))) (differ-one_more (part_names xs) y.graph.name d f.2) in
+    subst (λ l. all_differ l ≡ true) (sym (map-append (λ (p : Part). p.graph.name) xs (y ∷ []))) (all_differ-append (part_names xs) y.graph.name d f.2) in
     let r = parts-grown (xs ++ y ∷ []) ys us rest more in
     let all : (xs ++ y ∷ []) ++ ys ≡ xs ++ y ∷ ys = append_assoc xs (y ∷ []) ys in
     let names : part_names (xs ++ y ∷ ys) ≡ part_names xs ++ part_names (y ∷ ys) = map-append (λ (p : Part). p.graph.name) xs (y ∷ ys) in

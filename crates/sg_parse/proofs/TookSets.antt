@@ -1,12 +1,12 @@
 -- Names that are read into a set.
 use Rattle.std.proofs.Common.{◌≡◌, ℕ, ◌≤◌, ◌==◌, Bool, true, false, ◌||◌, ◌⊎◌, inl, inr, List, [], ◌∷◌, length, get_or, Ok, Err, refl, sym, ap, subst, ◌∙◌, arith, if◌then◌else◌}
-use Rattle.std.proofs.lemmas.Bool.{eq-eqb}
+use Rattle.std.proofs.lemmas.Bool.{eq-eqb, cases_Bool}
 use Rattle.std.proofs.lemmas.Bool.Decides.{nat_tests}
 use Rattle.sg_base.specs.Sets.{with_member}
 use Rattle.sg_model.specs.Lists.{has_text, is_in}
 use Rattle.sg_model.specs.Names.{Name}
+use Rattle.sg_model.proofs.Small.{first_false}
 use Rattle.sg_protocol.specs.Graph.{AreNumbers}
-use Rattle.sg_graph.proofs.Found.{cases_of}
 use Rattle.sg_graph.proofs.Sets.{AreNumbers-with_member, AreNumbers-none}
 use Rattle.sg_parse.specs.Grammar.{IsOrderOf, named, differ, SpellsClause, Without, With}
 use Rattle.sg_parse.specs.Tokens.{is_word, is_named, text_of}
@@ -51,7 +51,7 @@ no_more_names names set ps o s a away h =
 module _ (names : List Name) (width : ℕ) (set : List ℕ) (place : ℕ) (ps : List Placed) (o : Read (List ℕ)) (new : is_in place set ≡ false)
     (with' : (n : ℕ) → is_in n (with_member width set place) ≡ (is_in n set || (place == n))) (t : TookSet names (with_member width set place) ps o) where
   absent : is_in place t.order ≡ false
-  absent = elim (cases_of (is_in place t.order)) [
+  absent = elim (cases_Bool (is_in place t.order)) [
     | inl y ↦
         (let same : (place == place) ≡ true = eq-eqb place place refl in
         let clash : false ≡ (is_in place set || (place == place)) = sym (t.apart place y) ∙ with' place in
@@ -61,17 +61,13 @@ module _ (names : List Name) (width : ℕ) (set : List ℕ) (place : ℕ) (ps : 
   ]
 
   apart' : (n : ℕ) → is_in n (place ∷ t.order) ≡ true → is_in n set ≡ false
-  apart' n e = elim (cases_of (place == n)) [
+  apart' n e = elim (cases_Bool (place == n)) [
     | inl y ↦ (let same : place ≡ n = grind (arith, nat_tests, y) in subst (λ k. is_in k set ≡ false) same new)
     | inr d ↦
         (let later : is_in n t.order ≡ true = rw d at e in
         let both : (is_in n set || (place == n)) ≡ false = sym (with' n) ∙ t.apart n later in
-        left (is_in n set) (place == n) both)
+        first_false (is_in n set) (place == n) both)
   ]
-    where
-      left : (a b : Bool) → (a || b) ≡ false → a ≡ false
-      left true b h = absurd (cc)
-      left false b h = refl
 
 module _ (width : ℕ) (names : List Name) (fits : length names ≤ width) where
   one_name : (set : List ℕ) (p : Placed) (ps : List Placed) (o : Read (List ℕ)) → AreNumbers (length names) set → p.token ≡ Word (text_of p.token)

@@ -2,6 +2,7 @@
 use Rattle.std.specs.Prelude.{ℕ, zero, suc, Bool, false, if◌then◌else◌, List, [], ◌∷◌, codes, bytes_eq, Result, Ok, Err}
 use Rattle.sg_base.specs.Sets.{with_member}
 use Rattle.sg_model.specs.Lists.{has_text, is_in}
+use Rattle.sg_model.specs.Limits.{most_edges, most_roles, most_variables}
 use Rattle.sg_protocol.specs.Graph.{Graph, Name, VariableKind, Int, Text}
 use Rattle.sg_graph.specs.Adding.{no_parts, with_role, with_variable, with_node, with_edge}
 use Rattle.sg_graph.specs.Parts.{variable_names, node_names, edge_names}
@@ -152,7 +153,7 @@ read_variable g =
     after (token is_colon) λ _.
     after read_kind λ kind.
     after (token (is_word (codes "by"))) λ _.
-    after (some_names 16 g.roles) λ writers.
+    after (some_names most_roles g.roles) λ writers.
     after (token is_semicolon) λ _.
     give (with_variable g (record { name = n; kind = kind; writers = writers }))
 
@@ -167,7 +168,7 @@ read_node g =
 
 -- the variables of an edge after this word, or none where the word isn't there
 abbrev pub read_clause : List ℕ → List Name → Reader (List ℕ)
-read_clause first names = branch (is_word first) (after skip λ _. some_names 32 names) (give [])
+read_clause first names = branch (is_word first) (after skip λ _. some_names most_variables names) (give [])
 
 -- an edge
 abbrev pub read_edge : Graph → Reader Graph
@@ -206,7 +207,7 @@ read_roles g =
 
 -- up to 32 variables
 abbrev pub read_variables : Graph → Reader Graph
-read_variables g = up_to 32 (codes "var") read_variable g
+read_variables g = up_to most_variables (codes "var") read_variable g
 
 -- a node and up to 256
 abbrev pub read_nodes : Graph → Reader Graph
@@ -214,7 +215,7 @@ read_nodes g = after (statement (codes "node") read_node g) λ g. up_to 255 (cod
 
 -- up to 512 edges
 abbrev pub read_edges : Graph → Reader Graph
-read_edges g = up_to 512 (codes "edge") read_edge g
+read_edges g = up_to most_edges (codes "edge") read_edge g
 
 -- the graph's name
 abbrev pub read_head : Reader Graph

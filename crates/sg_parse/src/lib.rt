@@ -41,6 +41,7 @@ mod uses;
 mod variable;
 
 pub use fault::ParseFault;
+pub use name_set::NameSet;
 pub use part::{Part, Use};
 pub use parts::{parse_parts, part_readings_are_spelled};
 pub use text::{canonical_texts_are_read, parse_graph, readings_are_spelled};

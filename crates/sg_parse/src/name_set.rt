@@ -1,15 +1,15 @@
 //! Different names in the order in which they were added, found without a scan.
-ghost use Rattle.std.specs.Prelude.{◌≡◌, ◌<◌, ◌++◌, [], ◌∷◌, false, bytes_eq, length, position, IfSome, OnErr, OnOk};
+ghost use Rattle.std.specs.Prelude.{◌≡◌, ◌<◌, ◌++◌, [], ◌∷◌, false, bytes_eq, length, position, IfOk, IfSome, OnErr, OnOk};
 ghost use Rattle.sg_model.specs.Lists.{has_text};
 
 use indexmap::IndexSet;
-use sg_base::{Name, OutOfMemory};
+use sg_base::{Name, OutOfMemory, Seq};
 use std::alloc::Global;
 use std::marker::Model;
 
 /// Different names in order. A clause sees their list.
 #[derive(Drop)]
-pub(crate) struct NameSet {
+pub struct NameSet {
     names: IndexSet<Name>,
 }
 
@@ -54,5 +54,19 @@ impl NameSet {
     {
         self.names.insert(name)?;
         Ok(())
+    }
+
+    /// The names in order, as a list of their own.
+    pub fn to_list(&self, alloc: Global) -> Result<Seq<Name>, OutOfMemory>
+        ensures { IfOk result (λ names. names ≡ self.now) }
+    {
+        Ok(Seq::from_vec(self.names.as_slice().to_vec(alloc)?))
+    }
+
+    /// The names in order.
+    pub fn as_slice(&self) -> &[Name]
+        ensures { result.now ≡ self.now }
+    {
+        self.names.as_slice()
     }
 }

@@ -5,13 +5,14 @@ use Rattle.std.proofs.Math.ListN.{get_or-append}
 use Rattle.std.proofs.Math.Seq.{get_or-append_seam}
 use Rattle.std.proofs.lemmas.Bool.Decides.{nat_tests}
 use Rattle.sg_base.specs.Sets.{with_member}
+use Rattle.sg_base.proofs.SetLaws.{is_in-with_member}
 use Rattle.sg_model.specs.Lists.{is_in}
 use Rattle.sg_model.specs.Shape.{end_of, sender, receiver, target}
+use Rattle.sg_model.proofs.Small.{same_or_not}
 use Rattle.sg_protocol.specs.Graph.{Graph, AreNumbers, shape}
 use Rattle.sg_protocol.specs.Targets.{IsTarget}
 use Rattle.sg_reach.specs.Reaches.{Closure, IsFirstOf}
-use Rattle.sg_reach.proofs.Cases.{same_or_not}
-use Rattle.sg_reach.proofs.Pair.{pair, is_in-with_member, leads_first, first_leads}
+use Rattle.sg_reach.proofs.Pair.{pair, leads_first, first_leads}
 
 -- a role other than sender and receiver is a target exactly where it has a node in the closure of the edge's end past the role and the sender
 pub found_target : (g : Graph) (e t : ℕ) (o : Option ℕ) → t < 16 → sender (shape g) e < 16 → t ≢ sender (shape g) e → t ≢ receiver (shape g) e

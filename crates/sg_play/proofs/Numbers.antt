@@ -5,7 +5,7 @@ use Rattle.std.proofs.lemmas.Bool.Decides.{nat_tests}
 use Rattle.sg_base.specs.declared.value.Value.{Value}
 use Rattle.sg_model.proofs.Small.{and_left, and_right}
 use Rattle.sg_model.specs.Lists.{keys_of}
-use Rattle.sg_walk.specs.Views.{values_of}
+use Rattle.sg_walk.specs.Model.{values_of}
 
 below : (x n : ℕ) → nat_lt x n ≡ true → x < n
 below x n h = grind (arith, nat_tests, h)

@@ -1,13 +1,12 @@
 -- The table of choices: what stands in the queue of each node.
 use Rattle.std.proofs.Common.{◌≡◌, ℕ, ◌-◌, ◌==◌, nat_lt, Bool, true, false, ◌&&◌, inl, inr, arith, List, [], ◌∷◌, ◌++◌, bytes_eq, Some, None, cond, if◌then◌else◌, refl, sym, ap, ◌∙◌, unwrap_or, filter, find, slice_get}
 use Rattle.std.specs.Map.{lookup}
-use Rattle.std.proofs.lemmas.Bool.{cases_Bool}
+use Rattle.std.proofs.lemmas.Bool.{cases_Bool, and_parts}
 use Rattle.std.proofs.lemmas.Bool.Decides.{Decides-eqb, Decides-like, same_from_decides, nat_tests}
 use Rattle.std.proofs.lemmas.List.{append-nil}
 use Rattle.std.proofs.lemmas.List.Elements.{filter-append}
 use Rattle.std.proofs.lemmas.Slice.Eq.{bytes_eq-Decides}
 use Rattle.sg_model.proofs.Small.{and_left}
-use Rattle.sg_program.proofs.SameName.{both}
 use Rattle.sg_base.proofs.SameName.{same, same_is, same-bytes_eq_back}
 use Rattle.sg_script.specs.Script.{Choice}
 use Rattle.sg_play.specs.Choosing.{is_ready, used, ready}
@@ -53,7 +52,7 @@ queue_updated old new spot w u g n = ap (λ o. unwrap_or o []) (sym (at_parts ne
 
 -- a node that passes the test of a spot is that of the spot
 same_spot : (g : List ℕ) (n : ℕ) (s : Spot) → is_spot g n s ≡ true → is_spot g n ≡ is_spot s.0 s.1
-same_spot g n s e = let parts = both _ _ e in λ i. is_spot ((bytes_eq-Decides g s.0).0 parts.0 i) ((Decides-eqb n s.1).0 parts.1 i)
+same_spot g n s e = let parts = and_parts _ _ e in λ i. is_spot ((bytes_eq-Decides g s.0).0 parts.0 i) ((Decides-eqb n s.1).0 parts.1 i)
 
 -- what stands there
 at_spot : (t : Table) (s : Spot) (q : List Choice) (g : List ℕ) (n : ℕ) → unwrap_or (lookup (eq s) t) [] ≡ q → is_spot g n s ≡ true → queue_at t g n ≡ q
@@ -136,7 +135,7 @@ used_here g n (c ∷ cs) = elim (cases_Bool (is_ready g n c)) [
 -- a choice for one node is not for another
 not_other : (g g' : List ℕ) (n n' : ℕ) (c : Choice) → is_spot g' n' (g, n) ≡ false → (bytes_eq c.graph g && (c.node == n)) ≡ true → (bytes_eq c.graph g' && (c.node == n')) ≡ false
 not_other g g' n n' c h e =
-    let parts = both _ _ e in
+    let parts = and_parts _ _ e in
     (λ i. texts-swap c.graph g' i && eqb-swap c.node n' i) ∙ (λ i. bytes_eq g' ((bytes_eq-Decides c.graph g).0 parts.0 i) && (n' == (Decides-eqb c.node n).0 parts.1 i)) ∙ h
 
 -- at another node
@@ -156,7 +155,7 @@ holds_used old new g n cs u h g' n' = u g' n' ∙ elim (cases_Bool (is_spot g' n
 ]
   where
     here : is_spot g' n' (g, n) ≡ true → used_first (ready g' n' cs) ≡ ready g' n' (used g n cs)
-    here e = let parts = both _ _ e in
+    here e = let parts = and_parts _ _ e in
         sym ((λ i. ready g' n' (used (sym ((bytes_eq-Decides g' g).0 parts.0) i) (sym ((Decides-eqb n' n).0 parts.1) i) cs)) ∙ used_here g' n' cs)
 
 -- what stands first in a queue is the first choice that is ready

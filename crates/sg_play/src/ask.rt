@@ -7,18 +7,18 @@ ghost use Rattle.sg_protocol.specs.Past.{Past, node_of};
 ghost use Rattle.sg_protocol.specs.Texts.{real};
 ghost use Rattle.sg_protocol.specs.Told.{graph_of_call};
 ghost use Rattle.sg_report.specs.Outcome.{outcome_of};
-ghost use Rattle.sg_walk.specs.Views.{values_of};
+ghost use Rattle.sg_walk.specs.Model.{values_of};
 ghost use Rattle.sg_play.specs.Asking.{Comes};
 
 use crate::PlayFault;
-use crate::types::{tell_bytes, tell_cast, tell_values};
-use sg_base::{Label, Sealed, Sid, Value, Var};
+use crate::types::tell_cast;
+use sg_base::{Label, Sealed, Sid, Value, Var, tell_bytes};
 use sg_crypt::{Cast, Notes};
 use sg_frame::{DecodeFault, decode};
 use sg_graph::Graph;
 use sg_node::{ActFault, Node, Refusal, StartFault};
 use sg_report::Outcome;
-use sg_role::SendFault;
+use sg_role::{SendFault, tell_values};
 use std::alloc::Global;
 
 /// Starts a session.

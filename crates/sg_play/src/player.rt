@@ -7,7 +7,7 @@ ghost use Rattle.sg_protocol.specs.Calls.{Call, Start, Abandon, Deliver, sid_of}
 ghost use Rattle.sg_report.specs.Lines.{graph_or_none, line_text};
 ghost use Rattle.sg_report.specs.Outcome.{outcome_of};
 ghost use Rattle.sg_report.specs.Told.{Told};
-ghost use Rattle.sg_walk.specs.Views.{event_of};
+ghost use Rattle.sg_walk.specs.Model.{event_of};
 ghost use Rattle.sg_play.specs.Meeting.{met_more, sid_told};
 ghost use Rattle.sg_play.specs.Posting.{frames_made};
 ghost use Rattle.sg_play.specs.Steps.{session_told, sid_left};

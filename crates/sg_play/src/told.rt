@@ -7,7 +7,7 @@ ghost use Rattle.sg_protocol.specs.Told.{HasEvent, HasNumbers};
 ghost use Rattle.sg_report.specs.Lines.{graph_or_none, line_text};
 ghost use Rattle.sg_report.specs.Outcome.{outcome_of};
 ghost use Rattle.sg_report.specs.Told.{CanBeTold, Told};
-ghost use Rattle.sg_walk.specs.Views.{event_of, values_of};
+ghost use Rattle.sg_walk.specs.Model.{event_of, values_of};
 
 use crate::PlayFault;
 use sg_base::{Label, Name, Role, Value, Var};

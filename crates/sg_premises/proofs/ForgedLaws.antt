@@ -1,5 +1,5 @@
 -- The first forged note, step by step.
-use Rattle.std.proofs.Common.{◌≡◌, ℕ, suc, ◌+◌, ◌<◌, ◌≤◌, Bool, true, false, not, ◌&&◌, ◌||◌, List, [], ◌∷◌, ◌++◌, map, length, take, drop, get_or, drop-cons, drop_of_length-le, find, flat_map, if◌then◌else◌, nat_lt, option_map, Some, None, refl, sym, ap, ◌∙◌, arith, append_assoc, append-nil, length-append, zero}
+use Rattle.std.proofs.Common.{◌≡◌, ℕ, suc, ◌+◌, ◌<◌, ◌≤◌, Bool, true, false, not, ◌&&◌, ◌||◌, List, [], ◌∷◌, ◌++◌, map, length, take, drop, get_or, drop-cons, drop_of_length-le, find, flat_map, if◌then◌else◌, nat_lt, option_map, Some, None, refl, sym, ap, ◌∙◌, arith, append_assoc, append-nil, length-append}
 use Rattle.std.specs.List.{list_any}
 use Rattle.std.specs.Option.{option_or}
 use Rattle.std.proofs.lemmas.Bool.Decides.{nat_tests}
@@ -7,6 +7,8 @@ use Rattle.std.proofs.lemmas.Grind.{flat_map-append}
 use Rattle.std.proofs.lemmas.List.{map-append, length-map, take_more}
 use Rattle.std.proofs.lemmas.List.Folds.{find-append, list_any-append}
 use Rattle.sg_model.specs.Lists.{has_text, range_from}
+use Rattle.sg_model.proofs.Small.{or_false}
+use Rattle.sg_model.proofs.Numbers.{range_from-suc}
 use Rattle.sg_protocol.specs.Broken.{same_note, was_made_before, is_forged, found_notes, first_forged}
 use Rattle.sg_protocol.specs.Notes.{Note, Notes}
 use Rattle.sg_protocol.specs.Schedule.{Schedule}
@@ -114,20 +116,12 @@ module _ (k : ℕ) (n : Note) where
       let no : nat_lt l.number k ≡ false = ap (λ m. nat_lt m k) head ∙ not_less a h in
       λ i. (no i && list_any (same_note n) l.notes.made) || made_above ls (suc a) tail (omega arith) i
 
-or_false : (y : Bool) → y || false ≡ y
-or_false true = refl
-or_false false = refl
-
 was_made : (before rest : List Logged) (n : Note) → map number before ≡ range_from 1 (length before) → map number rest ≡ range_from (suc (length before)) (length rest) → was_made_before (suc (length before)) n (before ++ rest) ≡ list_any (same_note n) (flat_map made_by before)
 was_made before rest n a b =
     let k = suc (length before) in
     list_any-append (λ (l : Logged). nat_lt l.number k && list_any (same_note n) l.notes.made) before rest
     ∙ (λ i. made_below k n before 1 a (omega arith) i || made_above k n rest k b (omega arith) i)
     ∙ or_false _
-
-range_more : (a n : ℕ) → range_from a (suc n) ≡ range_from a n ++ (a + n) ∷ []
-range_more a zero = ap (λ m. m ∷ []) (let e : a ≡ a + 0 = omega arith in e)
-range_more a (suc n) = ap (λ l. a ∷ l) (range_more (suc a) n ∙ ap (λ m. range_from (suc a) n ++ m ∷ []) (let e : suc a + n ≡ a + suc n = omega arith in e))
 
 module _ (s : Schedule) (w : World) where
   go : (before rest : List Logged) → w.log ≡ before ++ rest → map number before ≡ range_from 1 (length before) → map number rest ≡ range_from (suc (length before)) (length rest)
@@ -139,7 +133,7 @@ module _ (s : Schedule) (w : World) where
       let tail : map number ls ≡ range_from (suc k) (length ls) = cc in
       let longer : length (before ++ l ∷ []) ≡ k = length-append before (l ∷ []) ∙ (let e : length before + 1 ≡ k = omega arith in e) in
       let numbers : map number (before ++ l ∷ []) ≡ range_from 1 (length (before ++ l ∷ [])) =
-      map-append number before (l ∷ []) ∙ (λ i. a i ++ head i ∷ []) ∙ ap (λ m. range_from 1 (length before) ++ m ∷ []) (let e : suc (length before) ≡ 1 + length before = omega arith in e) ∙ sym (range_more 1 (length before)) ∙ ap (range_from 1) (sym longer) in
+      map-append number before (l ∷ []) ∙ (λ i. a i ++ head i ∷ []) ∙ ap (λ m. range_from 1 (length before) ++ m ∷ []) (let e : suc (length before) ≡ 1 + length before = omega arith in e) ∙ sym (range_from-suc 1 (length before)) ∙ ap (range_from 1) (sym longer) in
       find-append (is_forged s w) (map (λ n. (l.number, n)) l.notes.found) (found_notes ls)
       ∙ (λ i. option_or
       ((find_map (λ (n : Note). (l.number, n)) (is_forged s w) l.notes.found ∙ here l.number head) i)

@@ -1,15 +1,16 @@
 -- The set of notes that are kept, in the words of the notes.
 use Rattle.std.proofs.Common.{◌≡◌, Bool, true, false, List, [], ◌∷◌, ◌++◌, map, ◌&&◌, ◌||◌, if◌then◌else◌, bytes_eq, refl, sym, ap, ◌∙◌, inl, inr}
 use Rattle.std.specs.List.{list_any}
-use Rattle.std.proofs.lemmas.Bool.{cases_Bool, and_parts}
+use Rattle.std.proofs.lemmas.Bool.{cases_Bool}
 use Rattle.std.proofs.lemmas.List.{map-append}
 use Rattle.std.proofs.lemmas.List.Folds.{list_any-append}
 use Rattle.indexmap.specs.IndexSet.{insert_key}
-use Rattle.sg_model.proofs.Small.{same_bytes}
+use Rattle.sg_model.proofs.Small.{or_false}
 use Rattle.sg_protocol.specs.Notes.{Note}
 use Rattle.sg_protocol.specs.Broken.{same_note}
+use Rattle.sg_protocol.proofs.Broken.{same_note_is}
 use Rattle.sg_premises.specs.declared.made.Said.{Said}
-use Rattle.sg_premises.specs.Made.{note_kept}
+use Rattle.sg_premises.specs.Model.{note_kept}
 use Rattle.sg_premises.specs.contracts.made.SaidPartialEq.TheImpl.{eq-value}
 use Rattle.sg_base.proofs.SameName.{same-bytes_eq}
 
@@ -25,15 +26,6 @@ same_said a b = (λ i. same-bytes_eq a.one b.one i && (same-bytes_eq a.two b.two
     and_assoc true y z = refl
     and_assoc false y z = refl
 
-same_is : (m n : Note) → same_note m n ≡ true → m ≡ n
-same_is m n h =
-    let a = and_parts (bytes_eq m.one n.one && bytes_eq m.two n.two) (bytes_eq m.text n.text) h in
-    let b = and_parts (bytes_eq m.one n.one) (bytes_eq m.two n.two) a.0 in
-    let p = same_bytes m.one n.one b.0 in
-    let q = same_bytes m.two n.two b.1 in
-    let r = same_bytes m.text n.text a.1 in
-    λ i. record { one = p i; two = q i; text = r i }
-
 -- a note is in the set where it is among the notes
 pub any_kept : (s : Said) (keys : List Said) → list_any (same_kept s) keys ≡ list_any (same_note (note_kept s)) (map note_kept keys)
 any_kept s [] = refl
@@ -44,14 +36,10 @@ or_there true y h = refl
 or_there false false h = refl
 or_there false true h = h refl
 
-or_false : (y : Bool) → y || false ≡ y
-or_false true = refl
-or_false false = refl
-
 -- a note is among those after an insert where it was there or is the one inserted
 pub any_added : (n : Note) (keys : List Said) (k : Said) → list_any (same_note n) (map note_kept (insert_key same_kept keys k)) ≡ (list_any (same_note n) (map note_kept keys) || same_note n (note_kept k))
 any_added n keys k = elim (cases_Bool (list_any (same_kept k) keys)) [
-  | inl e ↦ ap (λ b. list_any (same_note n) (map note_kept (if b then keys else keys ++ k ∷ []))) e ∙ or_there _ _ (λ h. ap (λ m. list_any (same_note m) (map note_kept keys)) (same_is n (note_kept k) h) ∙ sym (any_kept k keys) ∙ e)
+  | inl e ↦ ap (λ b. list_any (same_note n) (map note_kept (if b then keys else keys ++ k ∷ []))) e ∙ or_there _ _ (λ h. ap (λ m. list_any (same_note m) (map note_kept keys)) (same_note_is n (note_kept k) h) ∙ sym (any_kept k keys) ∙ e)
   | inr e ↦
       ap (λ b. list_any (same_note n) (map note_kept (if b then keys else keys ++ k ∷ []))) e
       ∙ ap (list_any (same_note n)) (map-append note_kept keys (k ∷ []))

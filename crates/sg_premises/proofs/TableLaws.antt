@@ -2,10 +2,9 @@
 use Rattle.std.proofs.Common.{◌≡◌, ℕ, Bool, true, false, cond, List, [], ◌∷◌, ◌++◌, map, if◌then◌else◌, bytes_eq, option_map, Option, Some, None, refl, sym, ap, ◌∙◌, Bor}
 use Rattle.std.specs.Map.{lookup}
 use Rattle.std.specs.Option.{option_or}
-use Rattle.std.proofs.lemmas.Bool.Decides.{Decides-like, same_from_decides}
 use Rattle.std.proofs.lemmas.List.{map-append}
-use Rattle.std.proofs.lemmas.Slice.Eq.{bytes_eq-Decides}
 use Rattle.indexmap.specs.IndexMap.{insert_entry}
+use Rattle.sg_model.proofs.Small.{bytes_eq-swap}
 use Rattle.sg_premises.specs.Collisions.{text_under}
 
 -- an entry, and what is seen of it
@@ -15,9 +14,6 @@ Entry = List ℕ × Bor (List ℕ)
 abbrev pub seen : Entry → List ℕ × List ℕ
 seen e = (e.0, (e.1).now)
 
-eq_sym : (a b : List ℕ) → bytes_eq a b ≡ bytes_eq b a
-eq_sym a b = same_from_decides _ _ (bytes_eq-Decides a b) (Decides-like _ sym sym (bytes_eq-Decides b a))
-
 by_test : (b : Bool) (v : Bor (List ℕ)) (o : Option (Bor (List ℕ))) (u : Option (List ℕ)) → u ≡ option_map (λ t. t.now) o → (if b then Some v.now else u) ≡ option_map (λ t. t.now) (cond b (Some v) o)
 by_test true v o u h = refl
 by_test false v o u h = h
@@ -25,7 +21,7 @@ by_test false v o u h = h
 -- what the table has under a digest
 pub under-lookup : (h : List ℕ) (es : List Entry) → text_under h (map seen es) ≡ option_map (λ t. t.now) (lookup (bytes_eq h) es)
 under-lookup h [] = refl
-under-lookup h (e ∷ es) = ap (λ b. if b then Some (e.1).now else text_under h (map seen es)) (eq_sym e.0 h) ∙ by_test (bytes_eq h e.0) e.1 (lookup (bytes_eq h) es) _ (under-lookup h es)
+under-lookup h (e ∷ es) = ap (λ b. if b then Some (e.1).now else text_under h (map seen es)) (bytes_eq-swap e.0 h) ∙ by_test (bytes_eq h e.0) e.1 (lookup (bytes_eq h) es) _ (under-lookup h es)
 
 none_there : (o : Option (Bor (List ℕ))) → option_map (λ t. t.now) o ≡ None → o ≡ None
 none_there None h = refl

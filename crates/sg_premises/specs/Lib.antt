@@ -1,3 +1,3 @@
 pub mod Collisions
 pub mod Forged
-pub mod Made
+pub mod Model

@@ -3,7 +3,7 @@ ghost use Rattle.std.specs.Prelude.{◌≡◌, ◌||◌, [], OnOk};
 ghost use Rattle.std.specs.List.{list_any};
 ghost use Rattle.sg_protocol.specs.Notes.{Note};
 ghost use Rattle.sg_protocol.specs.Broken.{same_note};
-ghost use Rattle.sg_premises.specs.Made.{note_kept};
+ghost use Rattle.sg_premises.specs.Model.{note_kept};
 
 use indexmap::IndexSet;
 use sg_base::{Name, OutOfMemory};
@@ -31,7 +31,7 @@ impl<'n> Model for Made<'n> {
 
     ghost Value = { List Note };
 
-    ghost use Rattle.sg_premises.specs.Made.{notes_kept};
+    ghost use Rattle.sg_premises.specs.Model.{notes_kept};
 
     ghost view = { notes_kept };
 }

@@ -3,6 +3,7 @@ use Rattle.std.proofs.Common.{◌≡◌, ◌≢◌, ◌≤◌, ℕ, zero, suc, �
 use Rattle.std.specs.List.{All}
 use Rattle.std.proofs.lemmas.List.{map-append}
 use Rattle.std.proofs.lemmas.List.Elements.{All-append}
+use Rattle.sg_model.proofs.Numbers.{below-suc}
 use Rattle.sg_protocol.specs.Graph.{Graph}
 use Rattle.sg_protocol.specs.Keyring.{Program}
 use Rattle.sg_program.specs.All.{IsGraphFault, IsStopped, all_fault, pairs_of, roles_of}
@@ -11,7 +12,6 @@ use Rattle.sg_program.specs.Refused.{IsRefusal}
 use Rattle.sg_program.specs.declared.check.CompileFault.{CompileFault}
 use Rattle.sg_program.specs.declared.check.CompileFault.TheVariants.{Shape, Reads, Blinding, Views, OutOfMemory}
 use Rattle.sg_program.proofs.Behind.{compiled_own}
-use Rattle.sg_program.proofs.Lines.{below_more}
 
 one_whole : (p : Program) → IsWhole p → All IsWhole (p ∷ [])
 one_whole p w zero d l = w
@@ -27,7 +27,7 @@ each_more xs ys p g r more each c =
 pub pairs_more : (xs ys : List Program) (p : Program) (before : List (Graph × ℕ)) (g : Graph) (n : ℕ) → ys ≡ xs ++ p ∷ [] → pairs_of xs ≡ before ++ roles_of g n
     → IsCompiled g n p → pairs_of ys ≡ before ++ roles_of g (n + 1)
 pairs_more xs ys p before g n more all c =
-    let next : roles_of g (n + 1) ≡ roles_of g n ++ (g, n) ∷ [] = ap (map (λ r. (g, r))) (below_more n) ∙ map-append _ _ _ in
+    let next : roles_of g (n + 1) ≡ roles_of g n ++ (g, n) ∷ [] = ap (map (λ r. (g, r))) (below-suc n) ∙ map-append _ _ _ in
     ap pairs_of more ∙ map-append (λ (q : Program). (q.graph, q.role)) xs (p ∷ []) ∙ (λ i. all i ++ (c.graph i, c.role i) ∷ [])
     ∙ append_assoc before (roles_of g n) ((g, n) ∷ []) ∙ ap (λ rs. before ++ rs) (sym next)
 

@@ -1,16 +1,14 @@
 -- Programs of one name, of which a new one is the first or has the digest.
-use Rattle.std.proofs.Common.{◌≡◌, ℕ, ◌==◌, not, Bool, true, false, ◌&&◌, ◌||◌, List, [], ◌∷◌, ◌++◌, map, bytes_eq, Option, Some, None, option_map, IsTrue, refl, sym, ap, ◌∙◌, subst, inl, inr, ◌⊎◌, true≢false}
+use Rattle.std.proofs.Common.{◌≡◌, ℕ, ◌==◌, not, Bool, true, false, ◌&&◌, ◌||◌, List, [], ◌∷◌, ◌++◌, map, bytes_eq, Option, Some, None, option_map, IsTrue, refl, sym, ap, ◌∙◌, subst, inl, inr, true≢false}
 use Rattle.std.specs.List.{list_any, find, AllByRecursion}
 use Rattle.std.specs.Option.{option_or}
 use Rattle.std.proofs.lemmas.Slice.Eq.{bytes_eq-Decides}
 use Rattle.std.proofs.lemmas.List.Folds.{find-append}
+use Rattle.std.proofs.lemmas.Bool.{cases_Bool}
+use Rattle.sg_model.proofs.Small.{or_false}
 use Rattle.sg_protocol.specs.Graph.{Name}
 use Rattle.sg_protocol.specs.Keyring.{Program}
 use Rattle.sg_program.specs.Together.{is_named, is_pair, clashes, part_of}
-
-cases_of : (b : Bool) → (b ≡ true) ⊎ (b ≡ false)
-cases_of true = inl refl
-cases_of false = inr refl
 
 -- the same name and role
 abbrev pub is_part : Name → ℕ → Program → Bool
@@ -20,7 +18,7 @@ is_part n r q = is_named n q && (r == q.role)
 pub none_named : (p : Program) (xs : List Program) → find (is_named p.graph.name) xs ≡ None → list_any (clashes p) xs ≡ false
 none_named p [] h = refl
 none_named p (x ∷ xs) h =
-    elim (cases_of (is_named p.graph.name x)) [
+    elim (cases_Bool (is_named p.graph.name x)) [
       | inl y ↦ absurd (some_not_none (rw y at h))
       | inr n ↦ rw n (none_named p xs (rw n at h))
     ]
@@ -32,7 +30,7 @@ none_named p (x ∷ xs) h =
 pub other_digest : (p f : Program) (xs : List Program) → find (is_named p.graph.name) xs ≡ Some f → bytes_eq p.digest f.digest ≡ false → list_any (clashes p) xs ≡ true
 other_digest p f [] h other = absurd (cc)
 other_digest p f (x ∷ xs) h other =
-    elim (cases_of (is_named p.graph.name x)) [
+    elim (cases_Bool (is_named p.graph.name x)) [
       | inl y ↦
           (let same : x ≡ f = some_same (rw y at h) in
           let far : bytes_eq p.digest x.digest ≡ false = rw same other in
@@ -53,16 +51,12 @@ pub same_digest : (p : Program) (d : List ℕ) (xs : List Program) → d ≡ p.d
 same_digest p d [] e all = refl
 same_digest p d (x ∷ xs) e all =
     let later = same_digest p d xs e all.1 in
-    elim (cases_of (is_named p.graph.name x)) [
+    elim (cases_Bool (is_named p.graph.name x)) [
       | inl y ↦
           (let near : bytes_eq p.digest x.digest ≡ true = (bytes_eq-Decides p.digest x.digest).1 (sym e ∙ all.0 y) in
           rw (y, near, later) (ap (λ b. b || list_any (is_part p.graph.name p.role) xs) (or_false (p.role == x.role))))
       | inr n ↦ rw n later
     ]
-  where
-    or_false : (b : Bool) → (b || false) ≡ b
-    or_false true = refl
-    or_false false = refl
 
 -- a program that clashes with none has no part that is there
 pub no_part : (p : Program) (xs : List Program) → list_any (clashes p) xs ≡ false → list_any (is_part p.graph.name p.role) xs ≡ false
@@ -78,7 +72,7 @@ no_part p (x ∷ xs) h = by (is_named p.graph.name x) (p.role == x.role) (not (b
 -- and has the digest of the first of its name
 pub has_digest : (p f : Program) (xs : List Program) → list_any (clashes p) xs ≡ false → find (is_named p.graph.name) xs ≡ Some f → f.digest ≡ p.digest
 has_digest p f xs h first =
-    elim (cases_of (bytes_eq p.digest f.digest)) [
+    elim (cases_Bool (bytes_eq p.digest f.digest)) [
       | inl y ↦ sym ((bytes_eq-Decides p.digest f.digest).0 y)
       | inr n ↦ absurd (true≢false (sym (other_digest p f xs first n) ∙ h))
     ]

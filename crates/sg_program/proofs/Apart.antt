@@ -7,6 +7,7 @@ use Rattle.std.proofs.lemmas.List.Elements.{All-append, All-from_recursion}
 use Rattle.std.proofs.lemmas.List.Folds.{list_any_none}
 use Rattle.std.proofs.lemmas.Slice.Eq.{bytes_eq-Decides}
 use Rattle.sg_model.specs.Lists.{all_differ, below, has_text}
+use Rattle.sg_model.proofs.Small.{all-append}
 use Rattle.sg_protocol.specs.Graph.{Graph}
 use Rattle.sg_protocol.specs.IsSchedule.{parts}
 use Rattle.sg_protocol.specs.Keyring.{Program}
@@ -51,17 +52,13 @@ apart_more g n p xs ys more c apart =
 
 -- ---- several graphs
 
-both_by : {X : Type 0} (P : X → Type 0) (xs ys : List X) → AllByRecursion P xs → AllByRecursion P ys → AllByRecursion P (xs ++ ys)
-both_by P [] ys a b = b
-both_by P (x ∷ xs) ys a b = (a.0, both_by P xs ys a.1 b)
-
 of_roles : (P : Graph → Type 0) (g : Graph) (rs : List ℕ) → P g → AllByRecursion (λ (t : Graph × ℕ). P t.0) (map (λ r. (g, r)) rs)
 of_roles P g [] h = tt
 of_roles P g (r ∷ rs) h = (h, of_roles P g rs h)
 
 of_parts : (P : Graph → Type 0) (gs : List Graph) → AllByRecursion P gs → AllByRecursion (λ (t : Graph × ℕ). P t.0) (parts gs)
 of_parts P [] h = tt
-of_parts P (g ∷ gs) h = both_by (λ (t : Graph × ℕ). P t.0) (map (λ r. (g, r)) (below (length g.roles))) (parts gs) (of_roles P g (below (length g.roles)) h.0) (of_parts P gs h.1)
+of_parts P (g ∷ gs) h = all-append (λ (t : Graph × ℕ). P t.0) (map (λ r. (g, r)) (below (length g.roles))) (parts gs) (of_roles P g (below (length g.roles)) h.0) (of_parts P gs h.1)
 
 of_programs : (P : Graph → Type 0) (programs : List Program) → AllByRecursion (λ (t : Graph × ℕ). P t.0) (pairs_of programs) → AllByRecursion (λ (q : Program). P q.graph) programs
 of_programs P [] h = tt

@@ -1,13 +1,13 @@
 -- In a canonical text no line is `table`.
-use Rattle.std.proofs.Common.{◌≡◌, ℕ, ◌==◌, Bool, true, false, not, ◌&&◌, List, [], ◌∷◌, ◌++◌, map, take, get_or, zero, suc, bytes_eq, Option, Some, None, refl, sym, ap, ◌∙◌, append_assoc, append-nil}
+use Rattle.std.proofs.Common.{◌≡◌, ℕ, ◌==◌, true, false, not, ◌&&◌, List, [], ◌∷◌, ◌++◌, map, take, get_or, zero, suc, bytes_eq, Option, Some, None, refl, sym, ap, ◌∙◌, append_assoc, append-nil}
 use Rattle.std.specs.Prelude.{codes, flat_map}
 use Rattle.std.specs.List.{list_all}
+use Rattle.std.proofs.lemmas.Bool.{not-true, and_parts}
 use Rattle.sg_model.specs.Lists.{all_differ, has_text}
 use Rattle.sg_protocol.specs.Graph.{Graph, IsGraph, AreNames, Name, VariableKind, Int, Text, Variable, Node, Edge, is_name, reserved, canonical, clause, edge_line, ended, kind_text, node_line, node_name, role_name, spaced, variable_line, variable_name}
 use Rattle.sg_program.specs.Loading.{at_table}
 use Rattle.sg_program.specs.Text.{line}
 use Rattle.sg_program.proofs.Reading.{is_free, is_inner, name_free}
-use Rattle.sg_program.proofs.SameName.{both}
 use Rattle.sg_program.proofs.Tabled.{behind, table_on}
 
 -- the search for the line goes past these bytes
@@ -20,18 +20,14 @@ behind_append a b (Some s) = λ i. Some (sym (append_assoc a b s.0) i, s.1)
 
 pub free_append : (a b : List ℕ) → is_free a ≡ true → is_free b ≡ true → is_free (a ++ b) ≡ true
 free_append [] b fa fb = fb
-free_append (x ∷ xs) b fa fb = let parts = both (is_inner x) (is_free xs) fa in rw (parts.0, free_append xs b parts.1 fb) refl
-
-not_true : (b : Bool) → not b ≡ true → b ≡ false
-not_true true h = sym h
-not_true false h = refl
+free_append (x ∷ xs) b fa fb = let parts = and_parts (is_inner x) (is_free xs) fa in rw (parts.0, free_append xs b parts.1 fb) refl
 
 -- the rest of a line
 skip_inner : (xs rest : List ℕ) → is_free xs ≡ true → at_table false (xs ++ 10 ∷ rest) ≡ behind (xs ++ 10 ∷ []) (at_table true rest)
 skip_inner [] rest f = refl
 skip_inner (x ∷ xs) rest f =
-    let parts = both (is_inner x) (is_free xs) f in
-    table_on false x (xs ++ 10 ∷ rest) refl ∙ ap (behind (x ∷ [])) (ap (λ b. at_table b (xs ++ 10 ∷ rest)) (not_true (x == 10) parts.0) ∙ skip_inner xs rest parts.1)
+    let parts = and_parts (is_inner x) (is_free xs) f in
+    table_on false x (xs ++ 10 ∷ rest) refl ∙ ap (behind (x ∷ [])) (ap (λ b. at_table b (xs ++ 10 ∷ rest)) (not-true (x == 10) parts.0) ∙ skip_inner xs rest parts.1)
     ∙ behind_append (x ∷ []) (xs ++ 10 ∷ []) (at_table true rest)
 
 differs : (c : ℕ) → (116 == c) ≡ false → (ys : List ℕ) → bytes_eq (line (codes "table")) (c ∷ ys) ≡ false
@@ -61,23 +57,23 @@ skip_each : {A : Type 0} (name : A → List ℕ) (text : A → List ℕ) → ((x
     → (xs : List A) → list_all is_free (map name xs) ≡ true → Skipped (flat_map text xs)
 skip_each name text one [] f = skip_none
 skip_each name text one (x ∷ xs) f =
-    let parts = both (is_free (name x)) (list_all is_free (map name xs)) f in
+    let parts = and_parts (is_free (name x)) (list_all is_free (map name xs)) f in
     skip_append (text x) (flat_map text xs) (one x parts.0) (skip_each name text one xs parts.1)
 
 -- names are free
 names_free : (names : List Name) → list_all (λ n. is_name n && not (has_text n reserved)) names ≡ true → list_all is_free names ≡ true
 names_free [] h = refl
 names_free (n ∷ ns) h =
-    let parts = both (is_name n && not (has_text n reserved)) (list_all (λ m. is_name m && not (has_text m reserved)) ns) h in
-    rw (name_free n (both (is_name n) (not (has_text n reserved)) parts.0).0, names_free ns parts.1) refl
+    let parts = and_parts (is_name n && not (has_text n reserved)) (list_all (λ m. is_name m && not (has_text m reserved)) ns) h in
+    rw (name_free n (and_parts (is_name n) (not (has_text n reserved)) parts.0).0, names_free ns parts.1) refl
 
 are_free : (names : List Name) → AreNames names → list_all is_free names ≡ true
-are_free names h = names_free names (both (list_all (λ n. is_name n && not (has_text n reserved)) names) (all_differ names) h).0
+are_free names h = names_free names (and_parts (list_all (λ n. is_name n && not (has_text n reserved)) names) (all_differ names) h).0
 
 at_free : {A : Type 0} (name : A → List ℕ) (xs : List A) (d : A) (k : ℕ) → is_free (name d) ≡ true → list_all is_free (map name xs) ≡ true → is_free (name (get_or xs k d)) ≡ true
 at_free name [] d k fd f = fd
-at_free name (x ∷ xs) d zero fd f = (both (is_free (name x)) (list_all is_free (map name xs)) f).0
-at_free name (x ∷ xs) d (suc k) fd f = at_free name xs d k fd (both (is_free (name x)) (list_all is_free (map name xs)) f).1
+at_free name (x ∷ xs) d zero fd f = (and_parts (is_free (name x)) (list_all is_free (map name xs)) f).0
+at_free name (x ∷ xs) d (suc k) fd f = at_free name xs d k fd (and_parts (is_free (name x)) (list_all is_free (map name xs)) f).1
 
 spaced_free : (name : ℕ → Name) → ((k : ℕ) → is_free (name k) ≡ true) → (ks : List ℕ) → is_free (spaced (map name ks)) ≡ true
 spaced_free name each [] = refl
@@ -138,7 +134,7 @@ module _ (g : Graph) (h : IsGraph g) where
   skip_canonical : Skipped (canonical g)
   skip_canonical =
       let head : Skipped (ended (codes "graph " ++ g.name)) = skip_word 103 (codes "raph " ++ g.name) refl refl
-      (free_append (codes "raph ") g.name refl (both (is_free g.name) true (are_free (g.name ∷ []) h.named)).0) in
+      (free_append (codes "raph ") g.name refl (and_parts (is_free g.name) true (are_free (g.name ∷ []) h.named)).0) in
       let roles : Skipped (flat_map (λ (r : Name). ended (codes "role " ++ r)) g.roles) = skip_each (λ (n : Name). n) (λ (r : Name). ended (codes "role " ++ r)) skip_role g.roles (rw map_id (are_free g.roles h.role_names)) in
       let variables = skip_each (λ (v : Variable). v.name) (variable_line g) skip_variable g.variables (are_free (map (λ (v : Variable). v.name) g.variables) h.variable_names) in
       let nodes = skip_each (λ (n : Node). n.name) (node_line g) skip_node g.nodes (are_free (map (λ (n : Node). n.name) g.nodes) h.node_names) in

@@ -11,6 +11,6 @@ pub mod OneTable
 pub mod Only
 pub mod Places
 pub mod Reading
-pub mod SameName
+pub mod SameKey
 pub mod Tabled
 pub mod Tables

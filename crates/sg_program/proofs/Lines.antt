@@ -1,18 +1,12 @@
 -- Numbers taken in order, those that pass a test, and what is written for each.
-use Rattle.std.proofs.Common.{◌≡◌, ℕ, zero, suc, ◌+◌, Bool, true, false, List, [], ◌∷◌, ◌++◌, map, filter, take, if◌then◌else◌, refl, ap, ◌∙◌, arith, append_assoc, append-nil, add-one}
+use Rattle.std.proofs.Common.{◌≡◌, ℕ, suc, ◌+◌, Bool, true, false, List, [], ◌∷◌, ◌++◌, map, filter, take, if◌then◌else◌, refl, ap, ◌∙◌, append_assoc, append-nil}
 use Rattle.std.specs.List.{flat_map}
 use Rattle.std.specs.Prelude.{Some, slice_get}
 use Rattle.std.proofs.lemmas.List.{map-append, take_more}
 use Rattle.std.proofs.lemmas.Option.{slice_get_within, get_or_from_slice_get}
 use Rattle.std.proofs.lemmas.Grind.{flat_map-append}
-use Rattle.sg_model.specs.Lists.{below, range_from}
-
--- one number more
-range_more : (a k : ℕ) → range_from a (suc k) ≡ range_from a k ++ (a + k) ∷ []
-range_more a zero = ap (λ n. n ∷ []) (omega arith)
-range_more a (suc k) =
-    let e : suc a + k ≡ a + suc k = omega arith in
-    ap (λ ns. a ∷ ns) (range_more (suc a) k ∙ ap (λ n. range_from (suc a) k ++ n ∷ []) e)
+use Rattle.sg_model.specs.Lists.{below}
+use Rattle.sg_model.proofs.Numbers.{below-suc}
 
 -- a number, where it passes
 abbrev pub one_if : Bool → ℕ → List ℕ
@@ -31,15 +25,9 @@ filter_more p [] i = by (p i)
     by false = refl
 filter_more p (x ∷ xs) i = with_first (p x) x (filter p xs) (filter p (xs ++ i ∷ [])) (one_if (p i) i) (filter_more p xs i)
 
--- the numbers below one more
-pub below_more : (i : ℕ) → below (i + 1) ≡ below i ++ i ∷ []
-below_more i =
-    let zero_plus : 0 + i ≡ i = omega arith in
-    ap (range_from 0) (add-one i) ∙ range_more 0 i ∙ ap (λ n. range_from 0 i ++ n ∷ []) zero_plus
-
 -- of one number more, that number comes in where it passes
 pub passing_more : (p : ℕ → Bool) (i : ℕ) → filter p (below (i + 1)) ≡ filter p (below i) ++ one_if (p i) i
-passing_more p i = ap (filter p) (below_more i) ∙ filter_more p (below i) i
+passing_more p i = ap (filter p) (below-suc i) ∙ filter_more p (below i) i
 
 -- what is written for the names of the numbers that pass, with one that passes
 pub written_more : (put : List ℕ → List ℕ) (name : ℕ → List ℕ) (p : ℕ → Bool) (i : ℕ) (start now next : List ℕ) → p i ≡ true

@@ -8,6 +8,7 @@ use Rattle.sg_model.specs.Lists.{all_differ, has_text}
 use Rattle.sg_protocol.specs.Graph.{Graph, IsGraph, Name, is_name, reserved, canonical, role_name}
 use Rattle.sg_protocol.specs.Keyring.{Program}
 use Rattle.sg_protocol.proofs.GraphText.{canonical_same}
+use Rattle.sg_parse.proofs.Canonical.{name-is}
 use Rattle.sg_program.specs.Compiled.{IsRefused, IsWhole}
 use Rattle.sg_program.specs.Loading.{HasFront, HasGraph, HasRole, HasStart, IsLoadFault, IsMalformed, NoStart, NoRole, NoGraph, OtherStart, at_table}
 use Rattle.sg_program.specs.Text.{line, program_text, role_line, start_line, table_text, version}
@@ -19,12 +20,6 @@ use Rattle.sg_program.proofs.Only.{one_program, not_refused}
 use Rattle.sg_program.proofs.Reading.{front_goes, is_free, line_unique, name_free}
 
 -- ---- names
-
--- the first of names that are names
-named_at : (names : List Name) (r : ℕ) → r < length names → list_all (λ n. is_name n && not (has_text n reserved)) names ≡ true → is_name (get_or names r []) ≡ true
-named_at [] r l h = absurd (omega (arith, l))
-named_at (n ∷ ns) zero l h = (and_parts (is_name n) (not (has_text n reserved)) (and_parts (is_name n && not (has_text n reserved)) (list_all (λ m. is_name m && not (has_text m reserved)) ns) h).0).0
-named_at (n ∷ ns) (suc r) l h = named_at ns r (omega (arith, l)) (and_parts (is_name n && not (has_text n reserved)) (list_all (λ m. is_name m && not (has_text m reserved)) ns) h).1
 
 -- of names that differ one stands at one place
 place_once : (names : List Name) (r s : ℕ) → all_differ names ≡ true → r < length names → s < length names → get_or names r [] ≡ get_or names s [] → r ≡ s
@@ -43,7 +38,7 @@ role_once : (g : Graph) (r s : ℕ) → IsGraph g → r < length g.roles → s <
 role_once g r s is l m e = place_once g.roles r s (and_parts (list_all (λ n. is_name n && not (has_text n reserved)) g.roles) (all_differ g.roles) is.role_names).1 l m e
 
 role_named : (g : Graph) (r : ℕ) → IsGraph g → r < length g.roles → is_name (role_name g r) ≡ true
-role_named g r is l = named_at g.roles r l (and_parts (list_all (λ n. is_name n && not (has_text n reserved)) g.roles) (all_differ g.roles) is.role_names).0
+role_named g r is l = name-is g.roles r l (and_parts (list_all (λ n. is_name n && not (has_text n reserved)) g.roles) (all_differ g.roles) is.role_names).0
 
 -- ---- lines
 

@@ -3,7 +3,7 @@ use Rattle.std.proofs.Common.{◌≡◌, ℕ, suc, zero, ◌<◌, ◌==◌, nat_
 use Rattle.std.specs.Ordering.{is_lt}
 use Rattle.std.specs.declared.cmp.Ordering.{Ordering}
 use Rattle.std.specs.declared.cmp.Ordering.TheVariants.{Less, Equal, Greater}
-use Rattle.std.proofs.lemmas.Bool.{cases_Bool, cases_order, and_parts, eqb-true, not-true}
+use Rattle.std.proofs.lemmas.Bool.{cases_Bool, and_parts, not-true}
 use Rattle.std.proofs.lemmas.Bool.Decides.{nat_tests}
 use Rattle.std.proofs.lemmas.Cmp.{tied_itself}
 use Rattle.std.proofs.lemmas.List.{ext_get_or}
@@ -12,7 +12,8 @@ use Rattle.sg_model.specs.Lists.{is_in, rises_from}
 use Rattle.sg_protocol.specs.Evidence.{View, IsViewTable, are_ordered, are_ordered_after, view_before}
 use Rattle.sg_protocol.specs.Graph.{Graph, AreNumbers}
 use Rattle.sg_protocol.specs.Targets.{IsTargetTable}
-use Rattle.sg_know.proofs.Bounds.{number_below, is_in_first}
+use Rattle.sg_graph.proofs.Sets.{number_below}
+use Rattle.sg_parse.proofs.Sets.{rising-same}
 use Rattle.sg_vis.specs.Order.{compared}
 use Rattle.sg_vis.proofs.Ordered.{compared_total, before-compared}
 
@@ -109,43 +110,10 @@ lacks x least (y ∷ ys) l h =
 past : (x y : ℕ) (ys : List ℕ) → (y == x) ≡ false → is_in x (y ∷ ys) ≡ is_in x ys
 past x y ys h = rw h refl
 
--- rising numbers are told by which of them there are
-same_rising : (least : ℕ) (xs ys : List ℕ) → rises_from least xs ≡ true → rises_from least ys ≡ true → ((x : ℕ) → is_in x xs ≡ is_in x ys) → xs ≡ ys
-same_rising least [] [] h k e = refl
-same_rising least [] (y ∷ ys) h k e = absurd (true≢false (sym (e y ∙ is_in_first y ys)))
-same_rising least (x ∷ xs) [] h k e = absurd (true≢false (sym (is_in_first x xs) ∙ e x))
-same_rising least (x ∷ xs) (y ∷ ys) h k e =
-    elim (cases_order x y) [
-      | inl s ↦ (λ i. s i ∷ same_rising (suc x) xs ys xs_rise (subst (λ z. rises_from (suc z) ys ≡ true) (sym s) ys_rise) (later s) i)
-      | inr d ↦ elim d [
-        | inl l ↦
-            (let apart : (y == x) ≡ false = grind (arith, nat_tests, l) in
-            absurd (true≢false (sym (is_in_first x xs) ∙ e x ∙ past x y ys apart ∙ lacks x (suc y) ys (omega (arith, l)) ys_rise)))
-        | inr l ↦
-            (let apart : (x == y) ≡ false = grind (arith, nat_tests, l) in
-            absurd (true≢false (sym (is_in_first y ys) ∙ sym (e y) ∙ past y x xs apart ∙ lacks y (suc x) xs (omega (arith, l)) xs_rise)))
-      ]
-    ]
-  where
-    xs_rise : rises_from (suc x) xs ≡ true
-    xs_rise = (and_parts (not (nat_lt x least)) (rises_from (suc x) xs) h).1
-
-    ys_rise : rises_from (suc y) ys ≡ true
-    ys_rise = (and_parts (not (nat_lt y least)) (rises_from (suc y) ys) k).1
-
-    later : x ≡ y → (z : ℕ) → is_in z xs ≡ is_in z ys
-    later s z =
-        elim (cases_Bool (x == z)) [
-          | inl t ↦
-              (let same : x ≡ z = eqb-true x z t in
-              lacks z (suc x) xs (omega (arith, same)) xs_rise ∙ sym (lacks z (suc y) ys (omega (arith, same, s)) ys_rise))
-          | inr d ↦ sym (past z x xs d) ∙ e z ∙ past z y ys (subst (λ w. (w == z) ≡ false) s d)
-        ]
-
 -- two sets of numbers below n that have the same of them are the same
 same_numbers : (n : ℕ) (xs ys : List ℕ) → AreNumbers n xs → AreNumbers n ys → ((x : ℕ) → x < n → is_in x xs ≡ true → is_in x ys ≡ true) → ((x : ℕ) → x < n → is_in x ys ≡ true → is_in x xs ≡ true) → xs ≡ ys
 same_numbers n xs ys a b f g =
-    same_rising 0 xs ys (and_parts (rises_from 0 xs) (list_all (λ k. nat_lt k n) xs) a).0 (and_parts (rises_from 0 ys) (list_all (λ k. nat_lt k n) ys) b).0 both
+    rising-same 0 xs ys (and_parts (rises_from 0 xs) (list_all (λ k. nat_lt k n) xs) a).0 (and_parts (rises_from 0 ys) (list_all (λ k. nat_lt k n) ys) b).0 both
   where
     both : (x : ℕ) → is_in x xs ≡ is_in x ys
     both x =

@@ -6,6 +6,7 @@ use Rattle.std.proofs.lemmas.List.{get_or_past}
 use Rattle.std.proofs.lemmas.List.Elements.{Contains-get_or}
 use Rattle.indexmap.proofs.IndexTableLemmas.Probe.{pigeonhole}
 use Rattle.sg_model.specs.Shape.{Blinding, Walk, sender}
+use Rattle.sg_model.proofs.Small.{same_at}
 use Rattle.sg_protocol.specs.Accepted.{Accepted}
 use Rattle.sg_protocol.specs.Evidence.{IsView, IsOpenView, IsViewTable}
 use Rattle.sg_protocol.specs.Graph.{Graph, shape}
@@ -28,7 +29,6 @@ use Rattle.sg_vis.specs.Limits.{Explains}
 use Rattle.sg_vis.specs.declared.view.OpenView.{OpenView}
 use Rattle.sg_vis.specs.declared.fault.ViewFault.{ViewFault}
 use Rattle.sg_vis.specs.declared.fault.ViewFault.TheVariants.{TooManyOpen, TooManyViews, OutOfMemory as ViewMemory}
-use Rattle.sg_vis.proofs.Ordered.{same_at}
 use Rattle.sg_program.specs.Compiled.{IsCompiled, IsRefused}
 use Rattle.sg_program.specs.declared.check.CompileFault.{CompileFault}
 use Rattle.sg_program.specs.declared.check.CompileFault.TheVariants.{Shape, Reads, Blinding as Blinded, Views, OutOfMemory}

@@ -1,5 +1,5 @@
 -- The place of the first element that passes, and what is found there.
-use Rattle.std.proofs.Common.{◌≡◌, ℕ, ◌<◌, ◌≤◌, Bool, true, false, List, length, Option, Some, None, cond, nat_lt, refl, sym, ap, ◌∙◌, arith, ◌+◌, [], ◌∷◌, ◌++◌, eqb, if◌then◌else◌, inl, inr, ◌⊎◌, length-append, not}
+use Rattle.std.proofs.Common.{◌≡◌, ℕ, ◌<◌, ◌≤◌, Bool, true, false, List, length, Option, Some, None, cond, nat_lt, refl, sym, ap, ◌∙◌, arith, ◌+◌, [], ◌∷◌, ◌++◌, eqb, if◌then◌else◌, inl, inr, length-append, not}
 use Rattle.std.proofs.lemmas.List.Sums.{prefix_len-le-length}
 use Rattle.std.specs.Prelude.{slice_get}
 use Rattle.std.specs.Option.{option_or}
@@ -7,10 +7,7 @@ use Rattle.std.specs.List.{find, position, position_or_len}
 use Rattle.std.proofs.lemmas.List.Folds.{find_at, position_or_len_push}
 use Rattle.std.proofs.lemmas.Option.{slice_get_past}
 use Rattle.std.proofs.lemmas.Bool.Decides.{nat_tests}
-
-cases_of : (b : Bool) → (b ≡ true) ⊎ (b ≡ false)
-cases_of true = inl refl
-cases_of false = inr refl
+use Rattle.std.proofs.lemmas.Bool.{cases_Bool}
 
 chosen : (b : Bool) (n i : ℕ) → cond b (Some n) None ≡ Some i → (b ≡ true) × (n ≡ i)
 chosen true n i h = (refl, cc)
@@ -40,7 +37,7 @@ place_in i n = cond (nat_lt i n) (Some i) None
 
 one_more : (here : Bool) (i n : ℕ) → i ≤ n → place_in (cond (eqb i n) (n + cond here 0 1) i) (n + 1) ≡ option_or (place_in i n) (if here then Some n else None)
 one_more here i n le =
-    elim (cases_of (eqb i n)) [
+    elim (cases_Bool (eqb i n)) [
       | inl e ↦
           (let same : i ≡ n = grind (arith, nat_tests, e) in
           let out : nat_lt i n ≡ false = grind (arith, nat_tests, same) in

@@ -8,11 +8,11 @@ use Rattle.std.proofs.lemmas.List.{take-append-drop, get_or-take}
 use Rattle.std.proofs.lemmas.List.Quantifiers.{position-Some}
 use Rattle.std.proofs.lemmas.List.Sums.{list_all-from_AllPass}
 use Rattle.std.proofs.lemmas.Slice.Eq.{bytes_eq-Decides}
+use Rattle.std.proofs.lemmas.Bool.{and_parts}
 use Rattle.sg_model.specs.Names.{is_letter, is_name_byte}
 use Rattle.sg_protocol.specs.Graph.{Name, is_name}
 use Rattle.sg_program.specs.Loading.{HasRole}
 use Rattle.sg_program.specs.Text.{line}
-use Rattle.sg_program.proofs.SameName.{both}
 
 -- ---- beginnings
 
@@ -45,14 +45,14 @@ inner_by p miss c hit = by (c == 10) refl
 
 free_by : (p : ℕ → Bool) → p 10 ≡ false → (xs : List ℕ) → list_all p xs ≡ true → is_free xs ≡ true
 free_by p miss [] all = refl
-free_by p miss (x ∷ xs) all = let parts = both (p x) (list_all p xs) all in rw (inner_by p miss x parts.0, free_by p miss xs parts.1) refl
+free_by p miss (x ∷ xs) all = let parts = and_parts (p x) (list_all p xs) all in rw (inner_by p miss x parts.0, free_by p miss xs parts.1) refl
 
 -- a name has no line end
 pub name_free : (n : Name) → is_name n ≡ true → is_free n ≡ true
 name_free [] h = refl
 name_free (c ∷ cs) h =
-    let parts = both (is_letter c && list_all is_name_byte cs) (nat_le (length cs) 31) h in
-    let parts' = both (is_letter c) (list_all is_name_byte cs) parts.0 in
+    let parts = and_parts (is_letter c && list_all is_name_byte cs) (nat_le (length cs) 31) h in
+    let parts' = and_parts (is_letter c) (list_all is_name_byte cs) parts.0 in
     rw (inner_by is_letter refl c parts'.0, free_by is_name_byte refl cs parts'.1) refl
 
 -- lines that begin the same text are the same
@@ -67,17 +67,17 @@ line_unique [] (b ∷ bs) x y fa fb e = absurd (end_in b bs (head_of e) fb)
     head_of h = cc
 
     end_in : (c : ℕ) (cs : List ℕ) → 10 ≡ c → is_free (c ∷ cs) ≡ true → ⊥
-    end_in c cs e f = true≢false (sym (subst (λ d. is_inner d ≡ true) (sym e) (both (is_inner c) (is_free cs) f).0))
+    end_in c cs e f = true≢false (sym (subst (λ d. is_inner d ≡ true) (sym e) (and_parts (is_inner c) (is_free cs) f).0))
 line_unique (a ∷ more) [] x y fa fb e = absurd (end_in a more (head_of e) fa)
   where
     head_of : a ∷ (more ++ 10 ∷ x) ≡ 10 ∷ y → 10 ≡ a
     head_of h = cc
 
     end_in : (c : ℕ) (cs : List ℕ) → 10 ≡ c → is_free (c ∷ cs) ≡ true → ⊥
-    end_in c cs e f = true≢false (sym (subst (λ d. is_inner d ≡ true) (sym e) (both (is_inner c) (is_free cs) f).0))
+    end_in c cs e f = true≢false (sym (subst (λ d. is_inner d ≡ true) (sym e) (and_parts (is_inner c) (is_free cs) f).0))
 line_unique (a ∷ more) (b ∷ bs) x y fa fb e =
     let heads : a ≡ b = head_of e in
-    let rest = line_unique more bs x y (both (is_inner a) (is_free more) fa).1 (both (is_inner b) (is_free bs) fb).1 (tail_of e) in
+    let rest = line_unique more bs x y (and_parts (is_inner a) (is_free more) fa).1 (and_parts (is_inner b) (is_free bs) fb).1 (tail_of e) in
     ((λ i. heads i ∷ rest.0 i), rest.1)
   where
     head_of : a ∷ (more ++ 10 ∷ x) ≡ b ∷ (bs ++ 10 ∷ y) → a ≡ b
@@ -112,7 +112,7 @@ no_end xs a rest f e = ended a (subst (λ ys. is_free ys ≡ true) e f)
   where
     ended : (b : List ℕ) → is_free (b ++ 10 ∷ rest) ≡ true → ⊥
     ended [] h = true≢false (sym h)
-    ended (y ∷ ys) h = ended ys (both (is_inner y) (is_free (ys ++ 10 ∷ rest)) h).1
+    ended (y ∷ ys) h = ended ys (and_parts (is_inner y) (is_free (ys ++ 10 ∷ rest)) h).1
 
 -- where no line end is found there is none
 pub none_free : (xs : List ℕ) → find (λ c. c == 10) xs ≡ None → is_free xs ≡ true

@@ -4,19 +4,14 @@ use Rattle.std.specs.List.{list_any}
 use Rattle.std.specs.Map.{lookup}
 use Rattle.std.specs.Option.{option_or}
 use Rattle.std.proofs.lemmas.Slice.Eq.{bytes_eq-Decides}
-use Rattle.std.proofs.lemmas.Bool.Decides.{Decides-eqb, Decides-like, same_from_decides}
+use Rattle.std.proofs.lemmas.Bool.Decides.{Decides-eqb}
+use Rattle.std.proofs.lemmas.Bool.{and_parts}
 use Rattle.indexmap.specs.IndexSet.{insert_key}
+use Rattle.sg_model.proofs.Small.{bytes_eq-swap, eqb-swap}
 use Rattle.sg_program.specs.declared.programs.Key.{Key}
 use Rattle.sg_program.specs.Together.{is_key, is_pair}
-use Rattle.sg_program.proofs.SameName.{same, same_is, same-bytes, both}
+use Rattle.sg_base.proofs.SameName.{same, same_is, same-bytes_eq}
 use Rattle.sg_program.proofs.Places.{first_put, first_kept}
-
--- equality of texts and of numbers goes both ways
-pub bytes_eq-swap : (a b : List ℕ) → bytes_eq a b ≡ bytes_eq b a
-bytes_eq-swap a b = same_from_decides _ _ (bytes_eq-Decides a b) (Decides-like _ sym sym (bytes_eq-Decides b a))
-
-eqb-swap : (a b : ℕ) → (a == b) ≡ (b == a)
-eqb-swap a b = same_from_decides _ _ (Decides-eqb a b) (Decides-like _ sym sym (Decides-eqb b a))
 
 none_from : (o : Option ℕ) → is_some o ≡ false → o ≡ None
 none_from None h = refl
@@ -38,7 +33,7 @@ pub name_put : (name : List ℕ) (place : ℕ) (old new : List (List ℕ × ℕ)
     → ((n : List ℕ) → lookup (same n) new ≡ cond (same name n) (Some place) (lookup (same n) old))
     → (n : List ℕ) → lookup (bytes_eq n) new ≡ option_or (lookup (bytes_eq n) old) (if bytes_eq n name then Some place else None)
 name_put name place old new gone update n =
-    first_put (same name n) (bytes_eq n name) (lookup (bytes_eq n) old) (lookup (bytes_eq n) new) place (same-bytes name n ∙ bytes_eq-swap name n)
+    first_put (same name n) (bytes_eq n name) (lookup (bytes_eq n) old) (lookup (bytes_eq n) new) place (same-bytes_eq name n ∙ bytes_eq-swap name n)
     (rw (← same_is n) (update n))
     (λ e. (λ i. lookup (bytes_eq ((bytes_eq-Decides n name).0 e i)) old) ∙ rw (← same_is name) (none_from _ gone))
 
@@ -56,7 +51,7 @@ key_swap d r key = λ i. bytes_eq-swap key.digest d i && eqb-swap key.role r i
 
 key_same : (d : List ℕ) (r : ℕ) (key : Key) → is_key d r key ≡ true → is_key d r ≡ is_key key.digest key.role
 key_same d r key e =
-    let parts = both _ _ e in
+    let parts = and_parts _ _ e in
     λ i. is_key ((bytes_eq-Decides d key.digest).0 parts.0 i) ((Decides-eqb r key.role).0 parts.1 i)
 
 -- a place for a key that has none

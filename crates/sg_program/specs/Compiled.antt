@@ -1,5 +1,6 @@
 -- Why a graph isn't compiled for a role, and the programs of several graphs.
 use Rattle.std.specs.Prelude.{◌≡◌, ◌≢◌, ℕ, ◌≤◌, length}
+use Rattle.sg_model.specs.Limits.{most_views}
 use Rattle.sg_protocol.specs.Accepted.{Accepted}
 use Rattle.sg_protocol.specs.Graph.{Graph}
 use Rattle.sg_protocol.specs.IsSchedule.{IsProgram}
@@ -17,7 +18,7 @@ pub record IsCompiled (g : Graph) (r : ℕ) (p : Program) : Type 0 where
   pub program : IsProgram real p
   pub graph : p.graph ≡ g
   pub role : p.role ≡ r
-  pub few : length p.views ≤ 4096
+  pub few : length p.views ≤ most_views
   pub few_open : FewOpen g r
 
 -- a compiled program

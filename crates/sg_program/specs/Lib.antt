@@ -1,6 +1,7 @@
 pub mod All
 pub mod Compiled
-pub mod Inside
+pub mod Model
+pub mod Invariant
 pub mod Loading
 pub mod Refused
 pub mod Text

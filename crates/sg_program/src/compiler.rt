@@ -1,5 +1,6 @@
 //! The compiler.
 ghost use Rattle.std.specs.Prelude.{◌≡◌, ◌≤◌, ◌<◌, length, IfErr, IfOk};
+ghost use Rattle.sg_model.specs.Limits.{most_views};
 ghost use Rattle.sg_protocol.specs.Keyring.{Program};
 ghost use Rattle.std.specs.List.{All};
 ghost use Rattle.sg_protocol.specs.Accepted.{Accepted};
@@ -62,7 +63,7 @@ fn with_views(
     requires accepted { Accepted graph.now }
     requires there { role < length graph.now.roles }
     requires views { IsViewTable graph.now role (views_of views) }
-    requires few { length views ≤ 4096 }
+    requires few { length views ≤ most_views }
     requires few_open { FewOpen graph.now role }
     requires shown { All (λ s. Shows graph.now role s.walk s.view) views }
     ensures { IfOk result (IsCompiled graph.now role) }

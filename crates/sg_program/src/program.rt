@@ -26,7 +26,8 @@ impl Model for Program {
 
     ghost Value = { Program };
 
-    ghost use Rattle.sg_program.specs.Inside.{program_of, HoldsProgram};
+    ghost use Rattle.sg_program.specs.Model.{program_of};
+    ghost use Rattle.sg_program.specs.Invariant.{HoldsProgram};
 
     ghost view = { program_of };
 

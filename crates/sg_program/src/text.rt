@@ -7,14 +7,14 @@ ghost use Rattle.sg_protocol.specs.Evidence.{mask};
 ghost use Rattle.sg_protocol.specs.Graph.{AreNumbers, spaced};
 ghost use Rattle.sg_protocol.specs.Spelling.{u32};
 ghost use Rattle.sg_graph.specs.Parts.{edge_name};
-ghost use Rattle.sg_vis.specs.Origins.{origin_of};
+ghost use Rattle.sg_vis.specs.Model.{origin_of};
 ghost use Rattle.sg_vis.specs.Table.{views_of};
 ghost use Rattle.sg_graph.specs.Edges.{leaving_from};
 ghost use Rattle.sg_program.specs.Text.{item_text, line, mask_text, nodes_of, origin_text, program_text, role_line, start_line, table_lines, turn_line, version, view_line};
 
 use crate::Program;
-use sg_base::{ByteOut, Label, Name, NodeId, OutOfMemory, Role, RoleSet, Var, VarSet};
-use sg_graph::{Graph, canonical_text};
+use sg_base::{ByteOut, Name, NodeId, OutOfMemory, Role, RoleSet, Var, VarSet};
+use sg_graph::{Graph, canonical_text, put_label};
 use sg_vis::{Origin, Seen, View, ViewId, ViewTable};
 use std::alloc::Global;
 
@@ -181,16 +181,6 @@ fn put_item(out: &mut ByteOut, graph: &Graph, item: &Seen) -> Result<(), OutOfMe
     put_label(out, graph, item.label)?;
     out.u8(b'/')?;
     put_mask(out, item.delta)
-}
-
-// The name of a label, which an edge has.
-fn put_label(out: &mut ByteOut, graph: &Graph, label: Label) -> Result<(), OutOfMemory>
-    ensures { OnOk result (out.new ≡ out.old ++ edge_name graph.now label) }
-{
-    if label.0 >= graph.edges() {
-        return Ok(());
-    }
-    out.bytes(graph.edge_name(label).as_bytes())
 }
 
 fn put_mask(out: &mut ByteOut, vars: VarSet) -> Result<(), OutOfMemory>

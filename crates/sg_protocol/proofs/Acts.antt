@@ -4,7 +4,7 @@ use Rattle.std.specs.Prelude.{◌≡◌, ◌≢◌, ℕ, ◌+◌, ◌<◌, ◌==
 use Rattle.std.specs.List.{list_all, AllByRecursion}
 use Rattle.std.specs.Option.{option_map_or}
 use Rattle.std.proofs.Common.{sym, ◌∙◌, ap, subst, inl, inr, arith}
-use Rattle.std.proofs.lemmas.Bool.{eqb-true, ne_eqb, and_parts}
+use Rattle.std.proofs.lemmas.Bool.{eqb-true, ne_eqb, and_parts, not-false}
 use Rattle.std.proofs.lemmas.Bool.Decides.{nat_tests}
 use Rattle.std.proofs.lemmas.List.{map-append}
 use Rattle.sg_model.specs.Last as A
@@ -39,7 +39,7 @@ use Rattle.sg_protocol.proofs.Paths.{flat_map-append}
 use Rattle.sg_protocol.proofs.Entries.{entry, entries, entries-com, by, Roles, edges_same, evidence_for-ents, evidence_for-role, last_tags, shown-steps, shown-com, as_entry}
 use Rattle.sg_protocol.proofs.Moves.{step, FitItem, FitItems, NoteOk, Matches, row_none, map_none, note_text, fit-append, roles-append, are_held, writes_below}
 use Rattle.sg_model.specs.Lists.{rises_from, keys_of, in_order}
-use Rattle.sg_model.proofs.Small.{not_false, none_parts, map_same}
+use Rattle.sg_model.proofs.Small.{none_parts, map_same}
 use Rattle.sg_law.proofs.Members.{in_parts}
 use Rattle.sg_law.specs.Values.{MayWrite}
 use Rattle.sg_law.proofs.Upto.{upto-at, last-after, after-more}
@@ -97,8 +97,8 @@ act_rows p x label values h =
     let two : (row (not (leaves p.graph x label)) NoSuchLabel ≡ None) × (first_some (bad ∷ spent ∷ []) ≡ None) = none_parts _ _ (none_under Send (rows_of_send p x label values) one.1) in
     let three : (bad ≡ None) × (first_some (spent ∷ []) ≡ None) = none_parts _ _ two.1 in
     let four : (spent ≡ None) × (first_some {A = SendFault} [] ≡ None) = none_parts _ _ three.1 in
-    let l = and_parts (nat_lt label (length p.graph.edges)) (source (shape p.graph) label == place p.graph x) (not_false (leaves p.graph x label) (row_none _ _ two.0)) in
-    record { turn = not_false (at_turn p.graph x) (row_none _ _ one.0); edge = l.0; leaves = eqb-true (source (shape p.graph) label) (place p.graph x) l.1; good = map_none _ _ three.0; time = row_none _ _ four.0 }
+    let l = and_parts (nat_lt label (length p.graph.edges)) (source (shape p.graph) label == place p.graph x) (not-false (leaves p.graph x label) (row_none _ _ two.0)) in
+    record { turn = not-false (at_turn p.graph x) (row_none _ _ one.0); edge = l.0; leaves = eqb-true (source (shape p.graph) label) (place p.graph x) l.1; good = map_none _ _ three.0; time = row_none _ _ four.0 }
 
 module _ (sha : Hash) (hash : IsHash sha) (s : Schedule) (sid : List ℕ) (cast : Cast) (keys : Keyring) (p : Program) (x : Session) (label : ℕ) (values : Map Value) (F : ℕ × Value → List ℕ) (st : State) (who : Name)
     (is : IsGraph p.graph) (acc : Accepted p.graph) (m : Matches p.graph sid cast st who x) (hon : is_honest s who ≡ true) (version : IsVersion cast.version) (long : length sid ≡ 32)

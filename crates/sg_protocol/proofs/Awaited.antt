@@ -5,7 +5,7 @@ use Rattle.std.specs.Option.{option_map_or}
 use Rattle.std.proofs.Common.{sym, ◌∙◌, ap, subst, inl, inr, arith}
 use Rattle.std.proofs.lemmas.Bool.{cases_Bool, eqb-true, eq-eqb, ne_eqb, and_from, and_parts, lt-ltb}
 use Rattle.std.proofs.lemmas.Bool.Decides.{nat_tests}
-use Rattle.std.proofs.lemmas.List.Elements.{All-head, All-tail, recursion_from_All}
+use Rattle.std.proofs.lemmas.List.Elements.{All-head, All-tail, recursion_from_All, filter_map-append}
 use Rattle.sg_model.specs.Last.{Map, has, last, after_last}
 use Rattle.sg_model.specs.Lists.{all_differ, below, range_from, first_some}
 use Rattle.sg_model.specs.Shape.{Arrow, role_at, source, sender, receiver}
@@ -43,7 +43,6 @@ use Rattle.sg_law.proofs.Lists.{last-append}
 use Rattle.sg_protocol.proofs.Isolation.{of_sid, find-filter}
 use Rattle.sg_protocol.proofs.ReadLaws.{read-spelling}
 use Rattle.sg_protocol.proofs.Finding.{find_passes, find_all, one_place}
-use Rattle.sg_protocol.proofs.Course.{filter_map-append}
 use Rattle.sg_protocol.proofs.Whole.{FirstCast, found_in, find_some, program_graph, first_past}
 use Rattle.sg_protocol.proofs.Whole as W
 use Rattle.sg_protocol.proofs.First.{first_cast}

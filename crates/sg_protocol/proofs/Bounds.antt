@@ -17,14 +17,14 @@ use Rattle.sg_protocol.specs.Spelling.{u8, u16, u32, pair_bytes, map_bytes, item
 use Rattle.sg_protocol.specs.Sending.{entry_of, item_of, tags_left, own_item, frame_sent}
 use Rattle.sg_protocol.specs.Graph.{Graph, shape, writes}
 use Rattle.sg_model.specs.Shape.{source, receiver}
-use Rattle.sg_model.proofs.Small.{take_most}
+use Rattle.sg_model.proofs.Small.{take_most, length_map}
 use Rattle.sg_protocol.specs.Texts.{Hash, IsHash}
 use Rattle.sg_protocol.specs.Keyring.{Keyring, Program}
 use Rattle.sg_protocol.specs.Session.{Session, told, place, time, at_turn}
 use Rattle.sg_protocol.specs.IsSchedule.{IsProgram}
 use Rattle.sg_protocol.specs.Bounds.{ShownOnce, ShownAreFew, FramesAreShort, IsSession, IsShortFrame, SentAreShort}
 use Rattle.sg_protocol.proofs.Entries.{has-after_last}
-use Rattle.sg_protocol.proofs.Sent.{Ent, Dist, sent_spelled, all_told, dist_ev, has-ev, len_map, len_left, roles_below, evidence_fit, after_fit, ents_fit, pigeon, len_concat, flat33, flat1046, opening_len, join_len, item_len, flat1527}
+use Rattle.sg_protocol.proofs.Sent.{Ent, Dist, sent_spelled, all_told, dist_ev, has-ev, len_left, roles_below, evidence_fit, after_fit, ents_fit, pigeon, len_concat, flat33, flat1046, opening_len, join_len, item_len, flat1527}
 
 -- ---- items
 
@@ -64,8 +64,8 @@ shown_are_few g v k is h a =
     let es : List Ent = after_last (λ (y : Ent). y.step.role) k (map entry_of is) in
     let roles : List ℕ = map (λ (y : Ent). y.step.role) (A.evidence (λ (i : Item). i.role) es) in
     let l1 = len_left (map (item_of g) (A.evidence (λ (i : Item). i.role) es)) in
-    let l2 = len_map (item_of g) (A.evidence (λ (i : Item). i.role) es) in
-    let l3 = len_map (λ (y : Ent). y.step.role) (A.evidence (λ (i : Item). i.role) es) in
+    let l2 = length_map (item_of g) (A.evidence (λ (i : Item). i.role) es) in
+    let l3 = length_map (λ (y : Ent). y.step.role) (A.evidence (λ (i : Item). i.role) es) in
     let none : has (λ (y : ℕ). y) k roles ≡ false = has-map (λ (y : Ent). y.step.role) (λ (y : ℕ). y) k (A.evidence (λ (i : Item). i.role) es) ∙ has-ev k es ∙ has-after_last (λ (y : Ent). y.step.role) k (map entry_of is) in
     let p = pigeon 16 (k ∷ roles) (none, dist_ev es) (h, roles_below v (A.evidence (λ (i : Item). i.role) es) (evidence_fit v es (after_fit v k (map entry_of is) (ents_fit v is a)))) in
     omega (arith, l1, l2, l3, p)

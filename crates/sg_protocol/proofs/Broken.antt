@@ -3,10 +3,10 @@ use Rattle.std.specs.Prelude.{◌≡◌, ◌≢◌, ℕ, ◌<◌, ◌⊎◌, Boo
 use Rattle.std.specs.List.{list_any}
 use Rattle.std.specs.Option.{option_or}
 use Rattle.std.proofs.Common.{sym, ◌∙◌, ap, subst, inl, inr, arith, append_assoc, append-nil}
-use Rattle.std.proofs.lemmas.Bool.{cases_Bool, and_from, and_parts}
+use Rattle.std.proofs.lemmas.Bool.{cases_Bool, and_from, and_parts, not-true}
 use Rattle.std.proofs.lemmas.Bool.Decides.{nat_tests}
 use Rattle.std.proofs.lemmas.List.Elements.{All-nil, All-cons}
-use Rattle.sg_model.proofs.Small.{not_true, clash, same_bytes, bytes_same}
+use Rattle.sg_model.proofs.Small.{clash, same_bytes, bytes_same}
 use Rattle.sg_law.proofs.Members.{in_left, in_right, in_parts, in_map, in_flat}
 use Rattle.sg_protocol.specs.Texts.{Hash}
 use Rattle.sg_protocol.specs.Notes.{Note}
@@ -80,8 +80,8 @@ find_found {A = A} p (y ∷ xs) x h = elim (cases_Bool (p y)) [
 
 -- ---- a tag that nobody made
 
-same_is : (m n : Note) → same_note m n ≡ true → m ≡ n
-same_is m n h =
+pub same_note_is : (m n : Note) → same_note m n ≡ true → m ≡ n
+same_note_is m n h =
     let a = and_parts (bytes_eq m.one n.one && bytes_eq m.two n.two) (bytes_eq m.text n.text) h in
     let b = and_parts (bytes_eq m.one n.one) (bytes_eq m.two n.two) a.0 in
     let p = same_bytes m.one n.one b.0 in
@@ -97,7 +97,7 @@ made k n log h =
     let r = any_in (λ (l : Logged). nat_lt l.number k && list_any (same_note n) l.notes.made) log h in
     let a = and_parts (nat_lt (r.0).number k) (list_any (same_note n) (r.0).notes.made) r.2 in
     let b = any_in (same_note n) (r.0).notes.made a.1 in
-    (r.0, contains_from_in log r.0 r.1, less (r.0).number a.0, contains_from_in (r.0).notes.made n (subst (In (r.0).notes.made) (sym (same_is n b.0 b.2)) b.1))
+    (r.0, contains_from_in log r.0 r.1, less (r.0).number a.0, contains_from_in (r.0).notes.made n (subst (In (r.0).notes.made) (sym (same_note_is n b.0 b.2)) b.1))
   where
     less : (a : ℕ) → nat_lt a k ≡ true → a < k
     less a h = grind (arith, nat_tests)
@@ -114,7 +114,7 @@ forged_is : (s : Schedule) (w : World) (k : ℕ) (n : Note) → is_forged s w (k
 forged_is s w k n h =
     let a = and_parts (is_honest s n.one && is_honest s n.two) (not (was_made_before k n w.log)) h in
     let b = and_parts (is_honest s n.one) (is_honest s n.two) a.0 in
-    (b.0, b.1, λ m. clash (was_made_before k n w.log) (was_made k n w.log m) (not_true (was_made_before k n w.log) a.1))
+    (b.0, b.1, λ m. clash (was_made_before k n w.log) (was_made k n w.log m) (not-true (was_made_before k n w.log) a.1))
 
 unforged_is : (s : Schedule) (w : World) (k : ℕ) (n : Note) → is_forged s w (k, n) ≡ false → IsForged s w k n → ⊥
 unforged_is s w k n h f = elim (cases_Bool (was_made_before k n w.log)) [
@@ -164,7 +164,7 @@ forged_is_first s w = ((forged_none s w, none_forged s w), first)
 collide_is : (sha : Hash) (a b : List ℕ) → collide sha a b ≡ true → (sha a ≡ sha b) × (a ≢ b)
 collide_is sha a b h =
     let p = and_parts (bytes_eq (sha a) (sha b)) (not (bytes_eq a b)) h in
-    (same_bytes (sha a) (sha b) p.0, λ q. clash (bytes_eq a b) (bytes_same a b q) (not_true (bytes_eq a b) p.1))
+    (same_bytes (sha a) (sha b) p.0, λ q. clash (bytes_eq a b) (bytes_same a b q) (not-true (bytes_eq a b) p.1))
 
 collide_not : (sha : Hash) (a b : List ℕ) → collide sha a b ≡ false → sha a ≡ sha b → a ≡ b
 collide_not sha a b h e = elim (cases_Bool (bytes_eq a b)) [

@@ -4,7 +4,7 @@ use Rattle.std.specs.Prelude.{filter_map, ◌≡◌, ℕ, ◌+◌, ◌<◌, ◌=
 use Rattle.std.specs.List.{list_all, list_any, AllByRecursion}
 use Rattle.std.specs.Option.{option_map_or}
 use Rattle.std.proofs.Common.{sym, ◌∙◌, ap, subst, inl, inr, append-nil}
-use Rattle.std.proofs.lemmas.Bool.{eqb-true, eq-eqb, ne_eqb, cases_Bool, and_parts}
+use Rattle.std.proofs.lemmas.Bool.{eqb-true, eq-eqb, ne_eqb, cases_Bool, and_parts, not-false}
 use Rattle.std.proofs.lemmas.List.{map-append}
 use Rattle.std.proofs.lemmas.Slice.Eq.{bytes_eq-Decides}
 use Rattle.sg_model.specs.Last.{Map, has, last, up_to_last}
@@ -49,7 +49,7 @@ use Rattle.sg_protocol.proofs.Gives.{item_sid, frame_sid, opened_values}
 use Rattle.std.specs.Prelude.{Result, Ok, Err, option_and_then}
 use Rattle.std.proofs.lemmas.List.Elements.{filter-append}
 use Rattle.sg_model.specs.Bytes.{IsBytes}
-use Rattle.sg_model.proofs.Small.{not_false, clash, none_parts, all-append, same_bytes}
+use Rattle.sg_model.proofs.Small.{clash, none_parts, all-append, same_bytes}
 use Rattle.sg_law.proofs.Members.{in_left, in_right, in_map, in_parts}
 use Rattle.sg_protocol.specs.Reading.{read}
 use Rattle.sg_protocol.specs.Node.{Node, is_for, is_cast, stranger, session_with, session_for, has_joined, program_for, starter}
@@ -451,7 +451,7 @@ module _ (sha : Hash) (hash : IsHash sha) (s : Schedule) (programs : List Progra
               let one : (row (not (is_cast n.keys p.graph c p.role)) StartFault.BadCast ≡ None) × (first_some (option_map StartFault.UnknownPeer (stranger n.keys c) ∷ row (has_joined n.joins (session_id sha c) p.role) StartFault.Joined ∷ row (nat_le 65536 (length n.joins)) StartFault.CacheFull ∷ row (nat_le 4096 (length n.live)) StartFault.SessionsFull ∷ []) ≡ None) = none_parts _ _ e in
               let two = none_parts (option_map StartFault.UnknownPeer (stranger n.keys c)) (row (has_joined n.joins (session_id sha c) p.role) StartFault.Joined ∷ row (nat_le 65536 (length n.joins)) StartFault.CacheFull ∷ row (nat_le 4096 (length n.live)) StartFault.SessionsFull ∷ []) one.1 in
               let three = none_parts (row (has_joined n.joins (session_id sha c) p.role) StartFault.Joined) (row (nat_le 65536 (length n.joins)) StartFault.CacheFull ∷ row (nat_le 4096 (length n.live)) StartFault.SessionsFull ∷ []) two.1 in
-              let cp = cast_parts n.keys p.graph c p.role (not_false (is_cast n.keys p.graph c p.role) (row_none _ _ one.0)) in
+              let cp = cast_parts n.keys p.graph c p.role (not-false (is_cast n.keys p.graph c p.role) (row_none _ _ one.0)) in
               let free : has_joined n.joins sid p.role ≡ false = subst (λ z. has_joined n.joins z p.role ≡ false) same (row_none _ _ three.0) in
               let is_who : principal cast p.role ≡ who = subst (λ (z : Cast). principal z p.role ≡ who) its (cp.1 ∙ ok.me) in
               let inside : p.role < length cast.names = subst (λ (z : Cast). p.role < length z.names) its cp.0 in
@@ -994,12 +994,12 @@ module _ (sha : Hash) (hash : IsHash sha) (s : Schedule) (programs : List Progra
               let rs : T.Rows sha n.keys p x f = T.rows_of sha n.keys p x f r6.1 in
               let sess : session_of_frame n f ≡ Some (p, x) = ap (λ o. option_and_then (λ (z : Session). option_map (λ (q : Program). (q, z)) (program_for n.programs z.cast.graph z.role)) (option_map_or (λ c. Some (new_session f.sid c f.receiver)) o (session_for n.live f))) jc ∙ ap (λ o. option_map (λ (q : Program). (q, x)) o) pc in
               let nts : notes_of_read sha n (Ok f) ≡ nts_of 16 (Some (p, x)) = notes_are e (p, x) sess in
-              let of_c : session_id sha c ≡ sid = sym (same_bytes f.sid (session_id sha c) (not_false (bytes_eq f.sid (session_id sha c)) (row_none _ _ r3.0))) ∙ fs in
+              let of_c : session_id sha c ≡ sid = sym (same_bytes f.sid (session_id sha c) (not-false (bytes_eq f.sid (session_id sha c)) (row_none _ _ r3.0))) ∙ fs in
               let co = subst (λ o. IfSome o (Frame'.IsCastOf f.version)) jc spelled.fields.join in
               let fits : CastFits c = cast_fits c (subst IsVersion (sym co.version) spelled.fields.version) (subst (λ v. Frame'.IsCastOf v c) (sym co.version) co) in
               let in_hashed : In (notes_of_read sha n (Ok f)).hashed (session_text_of c) = subst (λ (z : Notes). In z.hashed (session_text_of c)) (sym nts) (in_left (hashed_of_join f 16) (nts_in 16 (Some (p, x))).hashed (session_text_of c) (subst (λ o. In (option_map_or (λ c. session_text_of c ∷ []) o []) (session_text_of c)) (sym jc) (inl refl))) in
               let its : c ≡ cast = one_cast c fits (hs (session_text_of c) in_hashed) of_c in
-              let cp = cast_parts n.keys p.graph c f.receiver (and_parts (is_cast n.keys p.graph c f.receiver) (nat_lt f.sender (length c.names)) (not_false (is_cast n.keys p.graph c f.receiver && nat_lt f.sender (length c.names)) (row_none _ _ r1.0))).0 in
+              let cp = cast_parts n.keys p.graph c f.receiver (and_parts (is_cast n.keys p.graph c f.receiver) (nat_lt f.sender (length c.names)) (not-false (is_cast n.keys p.graph c f.receiver && nat_lt f.sender (length c.names)) (row_none _ _ r1.0))).0 in
               let free : has_joined n.joins sid f.receiver ≡ false = subst (λ z. has_joined n.joins z f.receiver ≡ false) fs (row_none _ _ r4.0) in
               let is_who : principal cast f.receiver ≡ who = subst (λ (z : Cast). principal z f.receiver ≡ who) its (cp.1 ∙ ok.me) in
               let inside : f.receiver < length cast.names = subst (λ (z : Cast). f.receiver < length z.names) its cp.0 in

@@ -45,7 +45,7 @@ use Rattle.sg_protocol.proofs.Paths.{acts_of, TypedDeed}
 use Rattle.sg_protocol.proofs.Acts as C
 use Rattle.std.proofs.lemmas.List.{length-append}
 use Rattle.std.proofs.lemmas.Bool.{cases_Bool}
-use Rattle.std.proofs.lemmas.List.Elements.{filter-append}
+use Rattle.std.proofs.lemmas.List.Elements.{filter-append, filter_map-append}
 use Rattle.sg_model.specs.Values.{IntValue, TextValue}
 use Rattle.sg_model.proofs.Small.{same_bytes, all-append, all_weaker}
 use Rattle.sg_law.proofs.Members.{in_left, in_right, in_flat, in_parts}
@@ -57,14 +57,6 @@ use Rattle.sg_protocol.specs.IsSchedule.{IsStep}
 use Rattle.sg_law.proofs.Upto.{in_from_Contains}
 use Rattle.sg_protocol.proofs.Finding.{find_passes}
 use Rattle.sg_protocol.proofs.Calls.{Out, NodeOk, node_kept, start_out, abandon_out, act_out, deliver_out}
-
-pub filter_map-append : {X Y : Type 0} (f : X → Option Y) (xs ys : List X) → filter_map f (xs ++ ys) ≡ filter_map f xs ++ filter_map f ys
-filter_map-append f [] ys = refl
-filter_map-append f (x ∷ xs) ys = ap (cons_option (f x)) (filter_map-append f xs ys) ∙ moved_in (f x) (filter_map f xs) (filter_map f ys)
-  where
-    moved_in : {A : Type 0} (o : Option A) (l m : List A) → cons_option o (l ++ m) ≡ cons_option o l ++ m
-    moved_in None l m = refl
-    moved_in (Some a) l m = refl
 
 -- ---- pasts
 

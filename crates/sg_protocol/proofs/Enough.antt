@@ -3,13 +3,13 @@ use Rattle.std.specs.Prelude.{◌≡◌, ℕ, ◌+◌, ◌<◌, ◌==◌, nat_le
 use Rattle.std.specs.List.{AllByRecursion, cons_option, list_all, list_any}
 use Rattle.std.specs.Option.{option_or, option_map_or}
 use Rattle.std.proofs.Common.{sym, ◌∙◌, ap, subst, inl, inr, arith, append_assoc, append-nil}
-use Rattle.std.proofs.lemmas.Bool.{cases_Bool, and_parts}
+use Rattle.std.proofs.lemmas.Bool.{cases_Bool, and_parts, not-false}
 use Rattle.sg_model.specs.Last.{Map, Entry, has, last, up_to_last, evidence}
 use Rattle.sg_model.specs.Lists.{below, first_some, same_text, value_at}
 use Rattle.sg_model.specs.Shape.{sender, receiver, target, role_at, source}
 use Rattle.sg_model.specs.Values.{Value, Opening}
 use Rattle.sg_model.proofs.Evidence.{evidence_again, evidence_since, has-evidence}
-use Rattle.sg_model.proofs.Small.{not_false, same_bytes, range_same, range_at}
+use Rattle.sg_model.proofs.Small.{same_bytes, range_same, range_at, or_true, or_false}
 use Rattle.sg_law.proofs.Lists.{has-append, has-map, last-append}
 use Rattle.sg_law.proofs.Com.{option_or-assoc}
 use Rattle.sg_protocol.specs.Graph.{Graph, IsGraph, shape, reads}
@@ -28,17 +28,13 @@ use Rattle.sg_protocol.specs.Node.{program_for}
 use Rattle.sg_protocol.specs.NodeAfter.{is_over}
 use Rattle.sg_protocol.specs.Notes.{Note, Notes, note_of, row_number, hashed_openings, notes_in_session, notes_of_sent}
 use Rattle.sg_protocol.specs.Enough.{KeepsSame, KeptIsEnough}
-use Rattle.sg_protocol.proofs.KeptLaws.{kept-kept, shown_to-kept}
+use Rattle.sg_protocol.proofs.KeptLaws.{kept-kept, shown_to-kept, or_none}
 use Rattle.sg_protocol.proofs.Moves.{row_none}
 use Rattle.sg_protocol.proofs.Paths.{flat_map-append}
 use Rattle.sg_protocol.proofs.Sent.{reads_in}
 use Rattle.sg_protocol.proofs.Ends.{committed-append}
 
 -- ---- lists
-
-or_none : {A : Type 0} (o : Option A) → o ≡ option_or o None
-or_none None = refl
-or_none (Some x) = refl
 
 last_opening-append : (x : ℕ) (es fs : List Exchange) → last_opening x (es ++ fs) ≡ option_or (last_opening x fs) (last_opening x es)
 last_opening-append x [] fs = or_none (last_opening x fs)
@@ -70,10 +66,6 @@ up_free key k (y ∷ ys) h =
 pub up_later : {A : Type 0} (key : A → ℕ) (k : ℕ) (xs ys : List A) → has key k ys ≡ true → up_to_last key k (xs ++ ys) ≡ xs ++ up_to_last key k ys
 up_later key k [] ys h = refl
 up_later key k (x ∷ xs) ys h = rw (has-append key k xs ys ∙ ap (λ b. has key k xs || b) h ∙ or_true (has key k xs)) (ap (λ l. x ∷ l) (up_later key k xs ys h))
-  where
-    or_true : (b : Bool) → (b || true) ≡ true
-    or_true true = refl
-    or_true false = refl
 
 pub up_before : {A : Type 0} (key : A → ℕ) (k : ℕ) (xs ys : List A) → has key k ys ≡ false → up_to_last key k (xs ++ ys) ≡ up_to_last key k xs
 up_before key k [] ys h = up_free key k ys h
@@ -83,10 +75,6 @@ up_before key k (x ∷ xs) ys h =
       | inl e ↦ rw e (ap (λ l. x ∷ l) (up_before key k xs ys h))
       | inr e ↦ rw e refl
     ])
-  where
-    or_false : (b : Bool) → (b || false) ≡ b
-    or_false true = refl
-    or_false false = refl
 
 up_some : {A : Type 0} (key : A → ℕ) (k : ℕ) (ys : List A) → has key k ys ≡ true → (z : A) × (zs : List A) × (up_to_last key k ys ≡ z ∷ zs)
 up_some key k [] h = absurd (clash h)
@@ -120,7 +108,7 @@ up_same F key k xs ys more e =
       | inr h ↦ ap (λ l. F (last l)) (up_before key k xs more h) ∙ e ∙ sym (ap (λ l. F (last l)) (up_before key k ys more h))
     ]
 
-has-kept : (g : Graph) (r : ℕ) (items : List Item) → has (λ (i : Item). i.role) r (kept_items g items) ≡ has (λ (i : Item). i.role) r items
+pub has-kept : (g : Graph) (r : ℕ) (items : List Item) → has (λ (i : Item). i.role) r (kept_items g items) ≡ has (λ (i : Item). i.role) r items
 has-kept g r items =
     has-map (item_of g) (λ (i : Item). i.role) r (evidence (λ (i : Item). i.role) (map entry_of items))
     ∙ has-evidence (λ (i : Item). i.role) r (map entry_of items)
@@ -315,7 +303,7 @@ module _ (sha : Hash) (keys : Keyring) (p : Program) (s t : Session) (f : Frame)
 
   openings_same : view_row (origin t) ≡ None → opening_row s ≡ opening_row t
   openings_same h =
-      let shown : is_shown p t f ≡ true = not_false (is_shown p t f) (row_none _ _ h) in
+      let shown : is_shown p t f ≡ true = not-false (is_shown p t f) (row_none _ _ h) in
       let vars : map (λ (o : Opening). o.variable) f.openings ≡ option_map_or (reads p.graph) (last_label f.items) [] = same_bytes _ _ (and_parts _ _ shown).1 in
       ap (option_map (λ (o : Opening). BadOpening o.variable)) (find_same _ _ f.openings
       (all_below (λ (o : Opening). o.variable < length p.graph.variables) (λ (o : Opening). not (is_right sha p.graph s f o) ≡ not (is_right sha p.graph t f o)) f.openings
@@ -349,7 +337,7 @@ module _ (sha : Hash) (keys : Keyring) (p : Program) (s t : Session) (f : Frame)
 
   all_right : view_row (origin t) ≡ None → AllByRecursion (λ (o : Opening). not (is_right sha p.graph s f o) ≡ not (is_right sha p.graph t f o)) f.openings
   all_right h =
-      let shown : is_shown p t f ≡ true = not_false (is_shown p t f) (row_none _ _ h) in
+      let shown : is_shown p t f ≡ true = not-false (is_shown p t f) (row_none _ _ h) in
       let vars : map (λ (o : Opening). o.variable) f.openings ≡ option_map_or (reads p.graph) (last_label f.items) [] = same_bytes _ _ (and_parts _ _ shown).1 in
       all_below (λ (o : Opening). o.variable < length p.graph.variables) (λ (o : Opening). not (is_right sha p.graph s f o) ≡ not (is_right sha p.graph t f o)) f.openings
       (below_reads (length p.graph.variables) f.openings _ vars (reads_below (last_label f.items))) right_same

@@ -1,15 +1,17 @@
 -- One schedule, with two graphs, a compromised role and a crafted frame, of which all that the laws ask is shown; and two that break a premise each.
-use Rattle.std.specs.Prelude.{◌≡◌, ◌≢◌, ◌⊎◌, ℕ, zero, suc, ◌<◌, ◌≤◌, nat_lt, ◌&&◌, Bool, true, false, List, [], ◌∷◌, map, length, get_or, replicate, codes, refl, Option, Some, None, option_map, is_some, AllPairs, Contains, IsTrue, ◌↔◌}
+use Rattle.std.specs.Prelude.{◌≡◌, ◌≢◌, ◌⊎◌, ℕ, zero, suc, ◌<◌, ◌≤◌, nat_lt, Bool, true, false, List, [], ◌∷◌, map, length, get_or, replicate, codes, refl, Option, Some, None, option_map, is_some, AllPairs, Contains, IsTrue, ◌↔◌}
 use Rattle.std.specs.List.{list_all}
 use Rattle.std.specs.Option.{option_map_or}
 use Rattle.std.proofs.Common.{sym, ◌∙◌, ap, subst, inl, inr, arith}
 use Rattle.std.proofs.lemmas.Bool.Decides.{nat_tests}
 use Rattle.std.proofs.lemmas.List.Elements.{All-from_recursion}
 use Rattle.std.proofs.lemmas.List.Kept.{AllPairs-cons}
+use Rattle.std.proofs.lemmas.Bool.{and_parts}
 use Rattle.sg_model.specs.Bytes.{IsBytes}
 use Rattle.sg_model.specs.Lists.{is_in}
 use Rattle.sg_model.specs.Names.{Name}
 use Rattle.sg_model.specs.Shape.{Walk, Blinding, role_at, end_of, sender, receiver}
+use Rattle.sg_model.proofs.Small.{and_right}
 use Rattle.sg_protocol.specs.Graph.{Graph, Variable, Node, Edge, IsGraph, AreNames, AreNumbers, shape, writes, reads}
 use Rattle.sg_protocol.specs.Accepted.{Accepted}
 use Rattle.sg_protocol.specs.Evidence.{View, IsView, IsViewTable, view_of}
@@ -212,19 +214,11 @@ premises = record { unforged = unforged; collision_free = collision_free }
 
 bytes_all : (bs : List ℕ) → list_all (λ b. nat_lt b 256) bs ≡ true → IsBytes bs
 bytes_all [] h i = omega arith
-bytes_all (b ∷ bs) h zero = less b (parts (nat_lt b 256) (list_all (λ b. nat_lt b 256) bs) h).0
+bytes_all (b ∷ bs) h zero = less b (and_parts (nat_lt b 256) (list_all (λ b. nat_lt b 256) bs) h).0
   where
-    parts : (a b : Bool) → (a && b) ≡ true → (a ≡ true) × (b ≡ true)
-    parts true b h = (refl, h)
-    parts false b h = absurd (let z : false ≡ true = h in cc)
-
     less : (b : ℕ) → nat_lt b 256 ≡ true → b < 256
     less b h = grind (arith, nat_tests)
-bytes_all (b ∷ bs) h (suc i) = bytes_all bs (parts (nat_lt b 256) (list_all (λ b. nat_lt b 256) bs) h) i
-  where
-    parts : (a b : Bool) → (a && b) ≡ true → b ≡ true
-    parts true b h = h
-    parts false b h = absurd (let z : false ≡ true = h in cc)
+bytes_all (b ∷ bs) h (suc i) = bytes_all bs (and_right (nat_lt b 256) (list_all (λ b. nat_lt b 256) bs) h) i
 
 no_pairs : (R : PairKey → PairKey → Type 0) → AllPairs R []
 no_pairs R i j d l m = absurd (omega (arith, m))

@@ -2,10 +2,10 @@
 use Rattle.std.specs.Prelude.{◌≡◌, ℕ, zero, suc, ◌<◌, ◌==◌, get_or, ◌&&◌, ◌⊎◌, Bool, true, false, not, cond, List, [], ◌∷◌, ◌++◌, length, find, bytes_eq, refl, Some, None}
 use Rattle.std.specs.List.{AllByRecursion}
 use Rattle.std.proofs.Common.{sym, ap, subst, inl, inr, arith}
-use Rattle.std.proofs.lemmas.Bool.{eq-eqb, cases_Bool, and_parts}
+use Rattle.std.proofs.lemmas.Bool.{eq-eqb, cases_Bool, and_parts, not-true}
 use Rattle.std.proofs.lemmas.Slice.Eq.{bytes_eq-Decides}
 use Rattle.sg_model.specs.Lists.{all_differ, has_text}
-use Rattle.sg_model.proofs.Small.{clash, not_true}
+use Rattle.sg_model.proofs.Small.{clash}
 use Rattle.sg_protocol.specs.Node.{has_joined}
 
 -- what stands at a place of a list of names is among them
@@ -18,8 +18,8 @@ text_there t (u ∷ us) (suc k) l e = elim (cases_Bool (bytes_eq t u)) [ inl f �
 pub one_place : (ts : List (List ℕ)) (h k : ℕ) → all_differ ts ≡ true → h < length ts → k < length ts → get_or ts h [] ≡ get_or ts k [] → h ≡ k
 one_place [] h k d l m e = absurd (omega arith)
 one_place (t ∷ ts) zero zero d l m e = refl
-one_place (t ∷ ts) zero (suc k) d l m e = absurd (clash (has_text t ts) (text_there t ts k (omega arith) e) (not_true (has_text t ts) (and_parts (not (has_text t ts)) (all_differ ts) d).0))
-one_place (t ∷ ts) (suc h) zero d l m e = absurd (clash (has_text t ts) (text_there t ts h (omega arith) (sym e)) (not_true (has_text t ts) (and_parts (not (has_text t ts)) (all_differ ts) d).0))
+one_place (t ∷ ts) zero (suc k) d l m e = absurd (clash (has_text t ts) (text_there t ts k (omega arith) e) (not-true (has_text t ts) (and_parts (not (has_text t ts)) (all_differ ts) d).0))
+one_place (t ∷ ts) (suc h) zero d l m e = absurd (clash (has_text t ts) (text_there t ts h (omega arith) (sym e)) (not-true (has_text t ts) (and_parts (not (has_text t ts)) (all_differ ts) d).0))
 one_place (t ∷ ts) (suc h) (suc k) d l m e = ap suc (one_place ts h k (and_parts (not (has_text t ts)) (all_differ ts) d).1 (omega arith) (omega arith) e)
 
 -- pairs that are joined later

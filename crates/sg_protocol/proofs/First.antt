@@ -3,7 +3,7 @@ use Rattle.std.specs.Prelude.{◌≡◌, ◌≢◌, ℕ, ◌+◌, ◌==◌, nat_
 use Rattle.std.specs.List.{list_any, AllByRecursion}
 use Rattle.std.specs.Option.{option_map_or}
 use Rattle.std.proofs.Common.{sym, ◌∙◌, ap, subst, inl, inr, append_assoc, append-nil}
-use Rattle.std.proofs.lemmas.Bool.{eqb-true, cases_Bool, and_parts}
+use Rattle.std.proofs.lemmas.Bool.{eqb-true, cases_Bool, and_parts, not-false}
 use Rattle.std.proofs.lemmas.Slice.Eq.{bytes_eq-Decides}
 use Rattle.sg_model.specs.Last.{Map, last}
 use Rattle.sg_model.specs.Lists.{first_some, all_differ}
@@ -28,7 +28,7 @@ use Rattle.sg_protocol.specs.Acting.{rows_of_act, openings_for, answer, started,
 use Rattle.sg_protocol.specs.Notes.{Notes, notes, notes_of_start, notes_of_read, hashed_of_join, row_number}
 use Rattle.std.specs.Prelude.{Result, Ok, Err, option_and_then}
 use Rattle.sg_model.specs.Bytes.{IsBytes}
-use Rattle.sg_model.proofs.Small.{not_false, same_bytes, none_parts, both_nil}
+use Rattle.sg_model.proofs.Small.{same_bytes, none_parts, both_nil}
 use Rattle.sg_law.proofs.Members.{in_left, in_right, in_flat}
 use Rattle.sg_protocol.specs.Reading.{read}
 use Rattle.sg_protocol.specs.Node.{Node, is_for, is_cast, stranger, session_with, session_for, has_joined, program_for, starter}
@@ -111,8 +111,8 @@ module _ (sha : Hash) (hash : IsHash sha) (s : Schedule) (programs : List Progra
             program = p;
             there = subst (λ z. In z p) ps (found_in (λ (p : Program). bytes_eq p.digest c.graph && (p.role == role_at (shape p.graph) 0)) n.programs p sp);
             digest = same_bytes p.digest c.graph (and_parts (bytes_eq p.digest c.graph) (p.role == role_at (shape p.graph) 0) (find_passes (λ (p : Program). bytes_eq p.digest c.graph && (p.role == role_at (shape p.graph) 0)) n.programs p sp)).0;
-            differ = cast_differ n.keys p.graph c p.role (not_false (is_cast n.keys p.graph c p.role) (row_none _ _ one.0));
-            lengths = cast_length n.keys p.graph c p.role (not_false (is_cast n.keys p.graph c p.role) (row_none _ _ one.0));
+            differ = cast_differ n.keys p.graph c p.role (not-false (is_cast n.keys p.graph c p.role) (row_none _ _ one.0));
+            lengths = cast_length n.keys p.graph c p.role (not-false (is_cast n.keys p.graph c p.role) (row_none _ _ one.0));
           }
       | inr h ↦ inl (rw h refl, filter-append (of_sid sid) n.live (still n.programs (new_session (session_id sha c) c p.role)) ∙ ap (λ l. l ++ filter (of_sid sid) (still n.programs (new_session (session_id sha c) c p.role))) quiet ∙ still-other sid n.programs (new_session (session_id sha c) c p.role) h)
     ]
@@ -194,14 +194,14 @@ module _ (sha : Hash) (hash : IsHash sha) (s : Schedule) (programs : List Progra
             cast = c;
             has_event = rw ((bytes_eq-Decides f.sid sid).1 fs) refl;
             in_call = ap (λ r. option_and_then (λ (f : Frame). f.join) (result_ok r)) is_read ∙ jc;
-            sid_is = sym (same_bytes f.sid (session_id sha c) (not_false (bytes_eq f.sid (session_id sha c)) (row_none _ _ r3.0))) ∙ fs;
+            sid_is = sym (same_bytes f.sid (session_id sha c) (not-false (bytes_eq f.sid (session_id sha c)) (row_none _ _ r3.0))) ∙ fs;
             fits = cast_fits c (subst IsVersion (sym co.version) spelled.fields.version) (subst (λ v. Frame'.IsCastOf v c) (sym co.version) co);
             is_hashed = in_left (hashed_of_join f (row_number (first_some (rows sha n f)))) _ (session_text_of c) (subst (λ o. In (hashed_of_join f (row_number o)) (session_text_of c)) (sym e) (subst (λ o. In (option_map_or (λ c. session_text_of c ∷ []) o []) (session_text_of c)) (sym jc) (inl refl)));
             program = p;
             there = subst (λ z. In z p) ps (found_in (λ (p : Program). bytes_eq p.digest c.graph && (p.role == f.receiver)) n.programs p pc);
             digest = same_bytes p.digest c.graph (and_parts (bytes_eq p.digest c.graph) (p.role == f.receiver) (find_passes (λ (p : Program). bytes_eq p.digest c.graph && (p.role == f.receiver)) n.programs p pc)).0;
-            differ = cast_differ n.keys p.graph c f.receiver (and_parts (is_cast n.keys p.graph c f.receiver) (nat_lt f.sender (length c.names)) (not_false (is_cast n.keys p.graph c f.receiver && nat_lt f.sender (length c.names)) (row_none _ _ r1.0))).0;
-            lengths = cast_length n.keys p.graph c f.receiver (and_parts (is_cast n.keys p.graph c f.receiver) (nat_lt f.sender (length c.names)) (not_false (is_cast n.keys p.graph c f.receiver && nat_lt f.sender (length c.names)) (row_none _ _ r1.0))).0;
+            differ = cast_differ n.keys p.graph c f.receiver (and_parts (is_cast n.keys p.graph c f.receiver) (nat_lt f.sender (length c.names)) (not-false (is_cast n.keys p.graph c f.receiver && nat_lt f.sender (length c.names)) (row_none _ _ r1.0))).0;
+            lengths = cast_length n.keys p.graph c f.receiver (and_parts (is_cast n.keys p.graph c f.receiver) (nat_lt f.sender (length c.names)) (not-false (is_cast n.keys p.graph c f.receiver && nat_lt f.sender (length c.names)) (row_none _ _ r1.0))).0;
           }
 
       rows_join : (c : Cast) → f.join ≡ Some c → (o : Option Program) → program_for n.programs c.graph f.receiver ≡ o → first_some (rows sha n f) ≡ first_some (option_map_or (rows_of_join sha n f c) o (Some UnknownGraph ∷ []))

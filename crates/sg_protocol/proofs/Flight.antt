@@ -2,7 +2,7 @@
 use Rattle.std.specs.Prelude.{◌||◌, ◌≡◌, ◌≢◌, ℕ, ◌+◌, ◌<◌, ◌==◌, ◌⊎◌, Bool, true, false, not, if◌then◌else◌, List, [], ◌∷◌, ◌++◌, map, filter, flat_map, find, length, bytes_eq, refl, Option, Some, None, option_map, IfSome, Ok}
 use Rattle.std.specs.List.{AllByRecursion, cons_option, list_any}
 use Rattle.std.proofs.Common.{sym, ◌∙◌, ap, subst, inl, inr, arith, append-nil, append_assoc}
-use Rattle.std.proofs.lemmas.Bool.{cases_Bool, eqb-true, eq-eqb, ne_eqb}
+use Rattle.std.proofs.lemmas.Bool.{cases_Bool, eqb-true, eq-eqb, ne_eqb, not-true}
 use Rattle.std.proofs.lemmas.List.{map-append}
 use Rattle.std.proofs.lemmas.Slice.Eq.{bytes_eq-Decides}
 use Rattle.sg_model.specs.Last.{has, last, last_or, last_of, after_last}
@@ -11,7 +11,7 @@ use Rattle.sg_model.specs.Shape.{end_of, role_at, source, receiver}
 use Rattle.sg_model.specs.Values.{Opening}
 use Rattle.sg_model.specs.Names.{Name}
 use Rattle.sg_model.specs.Bytes.{IsBytes}
-use Rattle.sg_model.proofs.Small.{clash, same_bytes, not_true}
+use Rattle.sg_model.proofs.Small.{clash, same_bytes, or_true}
 use Rattle.sg_law.proofs.Members.{in_left, in_parts}
 use Rattle.sg_protocol.specs.Graph.{Graph, IsGraph, shape, reads}
 use Rattle.sg_protocol.specs.Accepted.{Accepted}
@@ -59,10 +59,10 @@ use Rattle.sg_protocol.proofs.RelayGives as Y
 use Rattle.sg_protocol.proofs.Entries as Entries'
 use Rattle.sg_protocol.proofs.Keys as Keys'
 use Rattle.std.specs.Option.{option_map_or}
-use Rattle.std.proofs.lemmas.List.Elements.{filter-append}
+use Rattle.std.proofs.lemmas.List.Elements.{filter-append, filter_map-append}
 use Rattle.sg_protocol.proofs.Finding.{one_place, find_passes}
 use Rattle.sg_protocol.proofs.Calls.{Unmoved, WasLeft, HasStarted, HasTaken, HasGiven, TakesFrame}
-use Rattle.sg_protocol.proofs.Course.{Progress, keep_all, Suffix, Outs, past_called, next_past, node_more, in_after, in_before, suffix_trans, suffix_one, filter_map-append}
+use Rattle.sg_protocol.proofs.Course.{Progress, keep_all, Suffix, Outs, past_called, next_past, node_more, in_after, in_before, suffix_trans, suffix_one}
 use Rattle.sg_protocol.proofs.Showing.{shows_called}
 use Rattle.sg_protocol.proofs.Splits.{split_at_end, in_split, split_in, two_splits, rises_mid, role_small}
 
@@ -646,7 +646,7 @@ module _ (sha : Hash) (s : Schedule) (programs : List Program) (sid : List ℕ) 
             sym (ap (λ q. option_map_or (λ (p : Program). if at_turn p.graph y then not (list_any (λ e. e.source == place p.graph y) p.graph.edges) else not (option_map_or (may_return p) (origin y) true)) q true) prog_y
             ∙ ap (λ b. if b then not (list_any (λ e. e.source == place (the_p.0).graph y) (the_p.0).graph.edges) else not (option_map_or (may_return the_p.0) (origin y) true)) (subst (λ z. at_turn z y ≡ true) (sym p_graph) turn)) ∙ o in
             ap (λ m. list_any (λ e. e.source == m) g.edges) (sym (at_end sha s.keys sid cast targets g (honest_items sid log') y relay turn))
-            ∙ subst (λ (z : Graph). list_any (λ e. e.source == place z y) z.edges ≡ false) p_graph (not_true _ none)
+            ∙ subst (λ (z : Graph). list_any (λ e. e.source == place z y) z.edges ≡ false) p_graph (not-true _ none)
 
     happened_silent : (ev : Event) → a ≡ Happened ev → Silent l0
     happened_silent ev e1 e to f o i = (let z : Answered (Happened ev) ≡ Answered (Sends e to f) = ap (λ z. Answered z) (sym e1) ∙ o in absurd (cc))
@@ -1023,10 +1023,6 @@ module _ (sha : Hash) (s : Schedule) (programs : List Program) (sid : List ℕ) 
         | inr r ↦ new_frame before l rest e to f r.0 r.1 r.2 o
       ]
 
-      either : (b : Bool) → (b || true) ≡ true
-      either true = refl
-      either false = refl
-
       on_given : Flight (called sha w k who c past)
       on_given = assemble (subst Steps_ (sym items_now) given.steps_)
           (settled (extended h.x (Gave h.item os)) h.now record {
@@ -1036,7 +1032,7 @@ module _ (sha : Hash) (s : Schedule) (programs : List Program) (sid : List ℕ) 
             inside_ = h.inside;
             relay = subst (λ l. Relay_ l (extended h.x (Gave h.item os))) (sym items_now) given.relay_;
             taken = λ t. absurd (clash (at_turn g (extended h.x (Gave h.item os))) t h.wait);
-            stepped = λ t. ap (has by_role (h.x).role) items_now ∙ has-both (h.x).role done (h.item ∷ []) ∙ rw (eq-eqb (h.item).role (h.x).role given.item_role) (either (has by_role (h.x).role done));
+            stepped = λ t. ap (has by_role (h.x).role) items_now ∙ has-both (h.x).role done (h.item ∷ []) ∙ rw (eq-eqb (h.item).role (h.x).role given.item_role) (or_true (has by_role (h.x).role done));
           } (out.more_joins (h.x).role (here (fl.tracks who past its_past)).1)) others frames_
 
       -- the frame is new, so nobody has taken it

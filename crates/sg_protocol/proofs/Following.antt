@@ -10,6 +10,7 @@ use Rattle.sg_model.specs.Lists.{is_in, below, range_from, keys_of, value_at, fr
 use Rattle.sg_model.specs.Shape.{Walk, end_of, role_at, source, target, sender, receiver}
 use Rattle.sg_model.specs.Values.{Opening}
 use Rattle.sg_model.proofs.Small.{same_bytes, all_tests}
+use Rattle.sg_model.proofs.Numbers.{below_in}
 use Rattle.sg_law.proofs.Lists.{has-last_of, last-append, last-append_some}
 use Rattle.sg_law.proofs.Upto.{upto-at, upto-more}
 use Rattle.sg_law.proofs.Cut.{last-option_map, last-last_of}
@@ -47,13 +48,6 @@ get_range f d k (suc j) (suc x) l = (get_range f d (suc k) j x (omega (arith, l)
 pub get_below : {A : Type 0} (f : ℕ → A) (d : A) (n x : ℕ) → x < n → get_or (map f (below n)) x d ≡ f x
 get_below f d n x l = get_range f d 0 n x l ∙ ap f (omega arith)
 
-in_all : (n x : ℕ) (xs : List ℕ) → AllByRecursion (λ y. y < n) xs → is_in x xs ≡ true → x < n
-in_all n x [] a h = absurd (cc)
-in_all n x (y ∷ ys) a h = elim (cases_Bool (y == x)) [
-  | inl e ↦ subst (λ z. z < n) (eqb-true y x e) a.0
-  | inr e ↦ in_all n x ys a.1 (rw e at h)
-]
-
 -- where some element from the last one that passes on is found, one passes
 from_some : {A : Type 0} (f p : A → Bool) (xs : List A) → list_any f (from_last p xs) ≡ true → (y : A) × (p y ≡ true)
 from_some f p [] h = absurd (cc)
@@ -67,7 +61,7 @@ from_some f p (x ∷ xs) h = elim (cases_Bool (list_any p xs)) [
 
 -- what is known was written, so it is a variable of the graph
 pub knows_below : (g : Graph) → IsGraph g → (r x : ℕ) (w : List ℕ) → knows g r x w ≡ true → x < length g.variables
-knows_below g is r x w h = let y = from_some (learns g r x) (λ e. is_in x (writes g e)) w h in in_all (length g.variables) x (writes g y.0) (writes_below g is y.0) y.1
+knows_below g is r x w h = let y = from_some (learns g r x) (λ e. is_in x (writes g e)) w h in below_in (length g.variables) x (writes g y.0) (writes_below g is y.0) y.1
 
 -- ---- what a session holds of a variable
 

@@ -2,7 +2,7 @@
 use Rattle.std.specs.Prelude.{filter_map, codes, ◌≡◌, ℕ, zero, suc, ◌+◌, ◌<◌, ◌≤◌, ◌==◌, nat_lt, nat_le, if◌then◌else◌, ◌||◌, ◌&&◌, Bool, true, false, not, List, [], ◌∷◌, ◌++◌, map, length, find, refl, Option, Some, None, option_map}
 use Rattle.std.specs.List.{cons_option, list_all, list_any, AllByRecursion}
 use Rattle.std.proofs.Common.{sym, ◌∙◌, ap, subst, inl, inr, arith}
-use Rattle.std.proofs.lemmas.Bool.{eqb-true, eq-eqb, or_parts, cases_Bool, and_parts}
+use Rattle.std.proofs.lemmas.Bool.{eqb-true, eq-eqb, or_parts, cases_Bool, and_parts, not-false}
 use Rattle.std.proofs.lemmas.Bool.Decides.{nat_tests}
 use Rattle.sg_model.specs.Last.{Map}
 use Rattle.sg_model.specs.Lists.{is_in, value_at, below, range_from}
@@ -17,7 +17,7 @@ use Rattle.sg_law.specs.Values.{State, Made, told_with_item, com_of, Move, Commi
 use Rattle.sg_law.specs.Values.Move.{Writes, Takes}
 use Rattle.sg_protocol.proofs.Moves.{writes_below}
 use Rattle.sg_model.specs.Lists.{rises_from, keys_of, in_order}
-use Rattle.sg_model.proofs.Small.{not_false, clash}
+use Rattle.sg_model.proofs.Small.{clash}
 use Rattle.sg_law.specs.Values.{MayWrite}
 use Rattle.sg_protocol.specs.Acting.{is_bad, is_typed, is_out_of_order, openings_for}
 use Rattle.sg_protocol.proofs.Paths.{writes_rise}
@@ -223,7 +223,7 @@ module _ (g : Graph) (is : IsGraph g) (label : ℕ) (values : Map Value) (small 
       go [] s f = refl
       go (w ∷ ws) s f =
           let here = (or_parts ((w.0 == w.0) && not (is_typed g w)) (list_any (λ (v : ℕ × Value). (v.0 == w.0) && not (is_typed g v)) ws) (f w.0 s.0)).0 in
-          let t : is_typed g w ≡ true = not_false (is_typed g w) (rw (eq-eqb w.0 w.0 refl) at here) in
+          let t : is_typed g w ≡ true = not-false (is_typed g w) (rw (eq-eqb w.0 w.0 refl) at here) in
           rw t (go ws s.1 (λ x l. (or_parts ((w.0 == x) && not (is_typed g w)) (list_any (λ (v : ℕ × Value). (v.0 == x) && not (is_typed g v)) ws) (f x l)).1))
 
 -- openings whose confounders are made of the values

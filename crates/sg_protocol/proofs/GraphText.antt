@@ -8,10 +8,10 @@ use Rattle.std.proofs.lemmas.List.Concat.{flat_map-append}
 use Rattle.std.proofs.lemmas.List.Elements.{recursion_from_All}
 use Rattle.std.proofs.lemmas.List.Folds.{list_any_at}
 use Rattle.std.proofs.lemmas.Slice.Eq.{bytes_eq-Decides}
-use Rattle.std.proofs.lemmas.Bool.{ltb-true}
+use Rattle.std.proofs.lemmas.Bool.{ltb-true, and_from}
 use Rattle.sg_model.specs.Lists.{has_text, all_differ, rises_from}
 use Rattle.sg_model.specs.Names.{Name, is_letter, is_name_byte, is_name, reserved}
-use Rattle.sg_model.proofs.Small.{and_left, and_right, all-append, all_weaker}
+use Rattle.sg_model.proofs.Small.{and_left, and_right, all-append, all_weaker, all-both}
 use Rattle.sg_protocol.specs.Graph.{VariableKind, Int, Text, Variable, Node, Edge, Graph, IsGraph, AreNumbers, ended, spaced, clause, kind_text, variable_line, node_line, edge_line, canonical}
 use Rattle.sg_protocol.specs.TextLaws.{OneGraph}
 use Rattle.sg_protocol.proofs.TextLaws.{one_canonical}
@@ -98,7 +98,7 @@ words = record {
 abbrev good : List ℕ → Bool
 good n = is_name n && not (has_text n reserved)
 
-letter_byte : (a b x : Bool) → x ≡ true → (if a then true else (if b then true else x)) ≡ true
+pub letter_byte : (a b x : Bool) → x ≡ true → (if a then true else (if b then true else x)) ≡ true
 letter_byte true b x h = refl
 letter_byte false true x h = refl
 letter_byte false false x h = h
@@ -107,11 +107,7 @@ name_word : (n : List ℕ) → is_name n ≡ true → IsWord n
 name_word [] h = refl
 name_word (c ∷ cs) h =
     let both : (is_letter c && list_all is_name_byte cs) ≡ true = and_left (is_letter c && list_all is_name_byte cs) _ h in
-    both_true (is_name_byte c) (list_all is_name_byte cs) (letter_byte _ _ (is_letter c) (and_left (is_letter c) (list_all is_name_byte cs) both)) (and_right (is_letter c) (list_all is_name_byte cs) both)
-  where
-    both_true : (a b : Bool) → a ≡ true → b ≡ true → (a && b) ≡ true
-    both_true true b h k = k
-    both_true false b h k = h
+    and_from (is_name_byte c) (list_all is_name_byte cs) (letter_byte _ _ (is_letter c) (and_left (is_letter c) (list_all is_name_byte cs) both)) (and_right (is_letter c) (list_all is_name_byte cs) both)
 
 good_word : (n : List ℕ) → good n ≡ true → IsWord n
 good_word n h = name_word n (and_left (is_name n) (not (has_text n reserved)) h)
@@ -173,10 +169,6 @@ numbers_same n f p (k ∷ ks) (l ∷ ls) h j e =
     let a : k ≡ l = p.same k l (ltb-true k n (and_left (nat_lt k n) _ h)) (ltb-true l n (and_left (nat_lt l n) _ j)) d in
     let b : ks ≡ ls = numbers_same n f p ks ls (and_right (nat_lt k n) _ h) (and_right (nat_lt l n) _ j) r in
     cc
-
-all_both : {A : Type 0} (P Q : A → Type 0) (xs : List A) → AllByRecursion P xs → AllByRecursion Q xs → AllByRecursion (λ x. P x × Q x) xs
-all_both P Q [] h k = tt
-all_both P Q (x ∷ xs) h k = ((h.0, k.0), all_both P Q xs h.1 k.1)
 
 all_good : {A : Type 0} (f : A → Name) (xs : List A) → list_all good (map f xs) ≡ true → AllByRecursion (λ x. good (f x) ≡ true) xs
 all_good f [] h = tt
@@ -389,19 +381,19 @@ edges m n f g p q = record { same = edge_same; begins = λ x s. refl; next = λ 
 -- ---- graphs
 
 all_variables : (g : Graph) → IsGraph g → AllByRecursion (IsVariable (length g.roles)) g.variables
-all_variables g h = all_both (λ v. good v.name ≡ true) (λ v. AreBelow (length g.roles) v.writers) g.variables
+all_variables g h = all-both (λ v. good v.name ≡ true) (λ v. AreBelow (length g.roles) v.writers) g.variables
     (all_good (λ v. v.name) g.variables (and_left _ (all_differ (map (λ v. v.name) g.variables)) h.variable_names))
     (all_weaker (λ v. AreNumbers (length g.roles) v.writers × (0 < length v.writers)) (λ v. AreBelow (length g.roles) v.writers) (λ v a. and_right (rises_from 0 v.writers) _ a.0) g.variables (recursion_from_All (λ v. AreNumbers (length g.roles) v.writers × (0 < length v.writers)) g.variables h.writers))
 
 all_nodes : (g : Graph) → IsGraph g → AllByRecursion (IsNode (length g.roles)) g.nodes
-all_nodes g h = all_both (λ n. good n.name ≡ true) (λ n. n.role < length g.roles) g.nodes
+all_nodes g h = all-both (λ n. good n.name ≡ true) (λ n. n.role < length g.roles) g.nodes
     (all_good (λ n. n.name) g.nodes (and_left _ (all_differ (map (λ n. n.name) g.nodes)) h.node_names))
     (recursion_from_All (λ n. n.role < length g.roles) g.nodes h.roles)
 
 all_edges : (g : Graph) → IsGraph g → AllByRecursion (IsEdge (length g.nodes) (length g.variables)) g.edges
-all_edges g h = all_both (λ e. good e.name ≡ true) (λ e. ((e.source < length g.nodes) × (e.target < length g.nodes)) × (AreBelow (length g.variables) e.writes × AreBelow (length g.variables) e.reads)) g.edges
+all_edges g h = all-both (λ e. good e.name ≡ true) (λ e. ((e.source < length g.nodes) × (e.target < length g.nodes)) × (AreBelow (length g.variables) e.writes × AreBelow (length g.variables) e.reads)) g.edges
     (all_good (λ e. e.name) g.edges (and_left _ (all_differ (map (λ e. e.name) g.edges)) h.edge_names))
-    (all_both (λ e. (e.source < length g.nodes) × (e.target < length g.nodes)) (λ e. AreBelow (length g.variables) e.writes × AreBelow (length g.variables) e.reads) g.edges
+    (all-both (λ e. (e.source < length g.nodes) × (e.target < length g.nodes)) (λ e. AreBelow (length g.variables) e.writes × AreBelow (length g.variables) e.reads) g.edges
     (recursion_from_All (λ e. (e.source < length g.nodes) × (e.target < length g.nodes)) g.edges h.ends)
     (all_weaker (λ e. AreNumbers (length g.variables) e.writes × AreNumbers (length g.variables) e.reads) (λ e. AreBelow (length g.variables) e.writes × AreBelow (length g.variables) e.reads) (λ e a. (and_right (rises_from 0 e.writes) _ a.0, and_right (rises_from 0 e.reads) _ a.1)) g.edges
     (recursion_from_All (λ e. AreNumbers (length g.variables) e.writes × AreNumbers (length g.variables) e.reads) g.edges h.variables)))

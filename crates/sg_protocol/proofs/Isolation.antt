@@ -9,7 +9,7 @@ use Rattle.sg_model.specs.Last.{last, Map}
 use Rattle.sg_model.specs.Lists.{first_some}
 use Rattle.sg_protocol.specs.Frame.{Frame, Cast, Item}
 use Rattle.sg_model.specs.Values.{Opening, Value}
-use Rattle.sg_model.proofs.Small.{and_left, clash, same_bytes, length_filter}
+use Rattle.sg_model.proofs.Small.{and_left, clash, same_bytes, length_filter, length-more, or_assoc}
 use Rattle.sg_protocol.specs.Reading.{read}
 use Rattle.sg_protocol.specs.Texts.{Hash, session_id}
 use Rattle.sg_protocol.specs.Session.{Session, Took, Gave, extended, new_session}
@@ -34,10 +34,6 @@ find-filter p q h (x ∷ xs) = elim (cases_Bool (q x)) [
 any-append : {A : Type 0} (p : A → Bool) (xs ys zs : List A) → list_any p xs ≡ list_any p ys → list_any p (xs ++ zs) ≡ list_any p (ys ++ zs)
 any-append {A = A} p xs ys zs h = split xs ∙ ap (λ b. b || list_any p zs) h ∙ sym (split ys)
   where
-    or_assoc : (a b c : Bool) → (a || (b || c)) ≡ ((a || b) || c)
-    or_assoc true b c = refl
-    or_assoc false b c = refl
-
     split : (xs : List A) → list_any p (xs ++ zs) ≡ (list_any p xs || list_any p zs)
     split [] = refl
     split (x ∷ xs) = ap (λ b. p x || b) (split xs) ∙ or_assoc (p x) (list_any p xs) (list_any p zs)
@@ -187,10 +183,6 @@ module _ (sha : Hash) (sid : List ℕ) (n n' : Node) (b : Beside sid n n') where
 
 -- ---- the nodes after a call
 
-length-snoc : {A : Type 0} (xs : List A) (x : A) → length (xs ++ x ∷ []) ≡ length xs + 1
-length-snoc [] x = refl
-length-snoc (y ∷ ys) x = omega (arith, length-snoc ys x)
-
 any-snoc : {A : Type 0} (p : A → Bool) (xs : List A) (x : A) → p x ≡ false → list_any p (xs ++ x ∷ []) ≡ list_any p xs
 any-snoc p [] x h = rw h refl
 any-snoc p (y ∷ ys) x h = ap (λ b. p y || b) (any-snoc p ys x h)
@@ -217,7 +209,7 @@ module _ (sid : List ℕ) (n n' : Node) (b : Beside sid n n') where
     programs = b.programs;
     live = rw (b.live, b.programs, filter-append (of_sid sid) n.live (still n.programs s), still-own sid n.programs s h) refl;
     joins = λ t r k. any-append (λ j. bytes_eq j.0 t && (j.1 == r)) n'.joins n.joins ((s.sid, s.role) ∷ []) (b.joins t r k);
-    fewer = omega (arith, b.fewer, length-snoc n.joins (s.sid, s.role), length-snoc n'.joins (s.sid, s.role));
+    fewer = omega (arith, b.fewer, length-more n.joins (s.sid, s.role), length-more n'.joins (s.sid, s.role));
   }
 
   other_joined : (s : Session) → bytes_eq s.sid sid ≡ false → Beside sid (joined n s) n'
@@ -226,7 +218,7 @@ module _ (sid : List ℕ) (n n' : Node) (b : Beside sid n n') where
     programs = b.programs;
     live = rw (filter-append (of_sid sid) n.live (still n.programs s), still-other sid n.programs s h, b.live) (sym (append-nil (filter (of_sid sid) n.live)));
     joins = λ t r k. b.joins t r k ∙ sym (any-snoc (λ j. bytes_eq j.0 t && (j.1 == r)) n.joins (s.sid, s.role) (rw (both_false s.sid sid t h k) refl));
-    fewer = omega (arith, b.fewer, length-snoc n.joins (s.sid, s.role));
+    fewer = omega (arith, b.fewer, length-more n.joins (s.sid, s.role));
   }
     where
       append-nil : {A : Type 0} (xs : List A) → xs ++ [] ≡ xs

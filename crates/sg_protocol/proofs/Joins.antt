@@ -3,7 +3,7 @@ use Rattle.std.specs.Prelude.{◌≡◌, ℕ, ◌+◌, ◌==◌, ◌||◌, ◌&&
 use Rattle.std.specs.List.{list_any, list_all, AllByRecursion}
 use Rattle.std.specs.Option.{option_map_or}
 use Rattle.std.proofs.Common.{ap, sym, subst, inl, inr}
-use Rattle.std.proofs.lemmas.Bool.{eqb-true, eq-eqb, cases_Bool, and_from}
+use Rattle.std.proofs.lemmas.Bool.{eqb-true, eq-eqb, cases_Bool, and_from, or_right}
 use Rattle.sg_model.specs.Last.{last, Map}
 use Rattle.sg_model.specs.Lists.{first_some}
 use Rattle.sg_protocol.specs.Frame.{Frame, Cast, Item}
@@ -48,11 +48,7 @@ more p (j ∷ js) ks h = elim (cases_Bool (p j)) [ inl e ↦ rw e refl | inr e �
 
 at_end : (p : List ℕ × ℕ → Bool) (js : List (List ℕ × ℕ)) (k : List ℕ × ℕ) → p k ≡ true → list_any p (js ++ k ∷ []) ≡ true
 at_end p [] k h = rw h refl
-at_end p (j ∷ js) k h = or_true (p j) (list_any p (js ++ k ∷ [])) (at_end p js k h)
-  where
-    or_true : (a b : Bool) → b ≡ true → (a || b) ≡ true
-    or_true true b h = refl
-    or_true false b h = h
+at_end p (j ∷ js) k h = or_right (p j) (list_any p (js ++ k ∷ [])) (at_end p js k h)
 
 owns_more : (js ks : List (List ℕ × ℕ)) (ss : List Session) → Owns js ss → Owns (js ++ ks) ss
 owns_more js ks [] h = refl

@@ -8,7 +8,7 @@ use Rattle.std.proofs.lemmas.Bool.Decides.{nat_tests}
 use Rattle.std.proofs.lemmas.List.{map-append}
 use Rattle.sg_model.specs.Last.{Map, Entry, has, merge, carry, evidence, after_last}
 use Rattle.sg_model.specs.Lists.{range_from, value_at, in_order}
-use Rattle.sg_model.proofs.Small.{clash, cases_Option}
+use Rattle.sg_model.proofs.Small.{clash, cases_Option, heads, tails}
 use Rattle.sg_protocol.specs.Graph.{Graph}
 use Rattle.sg_protocol.specs.Frame.{Item}
 use Rattle.sg_protocol.specs.Sending.{entry_of, item_of, shown_to, tags_left}
@@ -20,7 +20,7 @@ use Rattle.sg_protocol.specs.Kept.{kept_items}
 abbrev picks : {A : Type 0} → Map A → List ℕ → Map A
 picks m xs = filter_map (λ x. option_map (λ v. (x, v)) (value_at m x)) xs
 
-not_equal : (k x : ℕ) → x < k → (k == x) ≡ false
+pub not_equal : (k x : ℕ) → x < k → (k == x) ≡ false
 not_equal k x h = elim (cases_Bool (k == x)) [ inl e ↦ absurd (omega (arith, h, eqb-true k x e)) | inr e ↦ e ]
 
 above : (k x : ℕ) → k ≤ x → (k == x) ≡ false → suc k ≤ x
@@ -65,7 +65,7 @@ in_order-in_order n m = in_order-same n (in_order n m) m (λ x h. value_at-in_or
 
 -- ---- merged maps
 
-or_none : {A : Type 0} (o : Option A) → o ≡ option_or o None
+pub or_none : {A : Type 0} (o : Option A) → o ≡ option_or o None
 or_none None = refl
 or_none (Some x) = refl
 
@@ -104,12 +104,6 @@ E = Entry Item (List ℕ)
 
 abbrev role_of : E → ℕ
 role_of e = e.step.role
-
-heads : {A : Type 0} (x y : A) (xs ys : List A) → x ∷ xs ≡ y ∷ ys → x ≡ y
-heads x y xs ys e = cc
-
-tails : {A : Type 0} (x y : A) (xs ys : List A) → x ∷ xs ≡ y ∷ ys → xs ≡ ys
-tails x y xs ys e = cc
 
 module _ (g : Graph) where
   has-items : (k : ℕ) (xs : List E) → has (λ (i : Item). i.role) k (map (item_of g) xs) ≡ has role_of k xs

@@ -7,7 +7,7 @@ use Rattle.sg_model.specs.Last.{Map, has, last}
 use Rattle.sg_model.specs.Lists.{value_at, keys_of, is_in, from_last}
 use Rattle.sg_model.specs.Shape.{Walk, role_at, target, sender, receiver}
 use Rattle.sg_model.specs.Values.{Opening}
-use Rattle.sg_model.proofs.Small.{clash}
+use Rattle.sg_model.proofs.Small.{clash, or_false, or_assoc, first_false, second_false}
 use Rattle.sg_protocol.specs.Graph.{Graph, shape, writes, reads}
 use Rattle.sg_protocol.specs.Knowledge.{learns, knows}
 use Rattle.sg_protocol.specs.Frame.{Item}
@@ -16,15 +16,7 @@ use Rattle.sg_protocol.proofs.Ends.{labels}
 
 any-append : {A : Type 0} (p : A → Bool) (xs ys : List A) → list_any p (xs ++ ys) ≡ (list_any p xs || list_any p ys)
 any-append p [] ys = refl
-any-append p (x ∷ xs) ys = ap (λ b. p x || b) (any-append p xs ys) ∙ assoc (p x) (list_any p xs) (list_any p ys)
-  where
-    assoc : (a b c : Bool) → (a || (b || c)) ≡ ((a || b) || c)
-    assoc true b c = refl
-    assoc false b c = refl
-
-or_false : (a : Bool) → (a || false) ≡ a
-or_false true = refl
-or_false false = refl
+any-append p (x ∷ xs) ys = ap (λ b. p x || b) (any-append p xs ys) ∙ or_assoc (p x) (list_any p xs) (list_any p ys)
 
 from_last-no : {A : Type 0} (p : A → Bool) (xs : List A) (y : A) → p y ≡ false → from_last p (xs ++ y ∷ []) ≡ (if list_any p xs then from_last p xs ++ y ∷ [] else [])
 from_last-no p [] y e = rw e refl
@@ -65,19 +57,11 @@ module _ (g : Graph) (r v : ℕ) where
   pub knows_past : (w es : List ℕ) → list_any (learns g r v) es ≡ false → knows g r v (w ++ es) ≡ true → (knows g r v w ≡ true) × (list_any wrote es ≡ false)
   knows_past w [] l k = (subst (λ z. knows g r v z ≡ true) (append-nil w) k, refl)
   knows_past w (e ∷ es) l k =
-      let le : learns g r v e ≡ false = left (learns g r v e) (list_any (learns g r v) es) l in
-      let ls : list_any (learns g r v) es ≡ false = right (learns g r v e) (list_any (learns g r v) es) l in
+      let le : learns g r v e ≡ false = first_false (learns g r v e) (list_any (learns g r v) es) l in
+      let ls : list_any (learns g r v) es ≡ false = second_false (learns g r v e) (list_any (learns g r v) es) l in
       let ih = knows_past (w ++ e ∷ []) es ls (subst (λ z. knows g r v z ≡ true) (sym (append_assoc w (e ∷ []) es)) k) in
       let m = knows_more w e ih.0 le in
       (m.0, rw (m.1, ih.1) refl)
-    where
-      left : (a b : Bool) → (a || b) ≡ false → a ≡ false
-      left true b h = absurd (cc)
-      left false b h = refl
-
-      right : (a b : Bool) → (a || b) ≡ false → b ≡ false
-      right true b h = absurd (cc)
-      right false b h = h
 
   -- a role that sends none of the steps learns only from the last one
   pub unlearned : (m : ℕ) (es : List ℕ) → Walk (shape g) m es → has (sender (shape g)) r es ≡ false → IfSome (last es) (λ e. is_in v (reads g e) ≡ false) → list_any (learns g r v) es ≡ false

@@ -3,12 +3,12 @@ use Rattle.std.specs.Prelude.{◌≡◌, ℕ, nat_lt, nat_le, ◌&&◌, Bool, tr
 use Rattle.std.specs.List.{AllByRecursion}
 use Rattle.std.specs.Option.{option_map_or}
 use Rattle.std.proofs.Common.{sym, ◌∙◌, subst, inl, inr}
-use Rattle.std.proofs.lemmas.Bool.{cases_Bool, and_parts}
+use Rattle.std.proofs.lemmas.Bool.{cases_Bool, and_parts, not-false}
 use Rattle.sg_model.specs.Last.{Map, last}
 use Rattle.sg_model.specs.Lists.{first_some}
 use Rattle.sg_model.specs.Values.{Value}
 use Rattle.sg_model.specs.Names.{Name}
-use Rattle.sg_model.proofs.Small.{not_false, same_bytes, none_parts}
+use Rattle.sg_model.proofs.Small.{same_bytes, none_parts}
 use Rattle.sg_protocol.specs.Frame.{Cast, Item, Frame}
 use Rattle.sg_protocol.specs.Reading.{read}
 use Rattle.sg_protocol.specs.Texts.{Hash, session_id}
@@ -32,7 +32,7 @@ module _ (sha : Hash) (n : Node) where
   begun : (c : Cast) (p : Program) → starter n.programs c.graph ≡ Some p → first_some (rows_of_start n p (session_id sha c) c) ≡ None → Begun c p
   begun c p q e =
       let one = none_parts (row (not (is_cast n.keys p.graph c p.role)) StartFault.BadCast) (option_map StartFault.UnknownPeer (stranger n.keys c) ∷ row (has_joined n.joins (session_id sha c) p.role) StartFault.Joined ∷ row (nat_le 65536 (length n.joins)) StartFault.CacheFull ∷ row (nat_le 4096 (length n.live)) StartFault.SessionsFull ∷ []) e in
-      record { found = q; cast = not_false (is_cast n.keys p.graph c p.role) (row_none _ _ one.0) }
+      record { found = q; cast = not-false (is_cast n.keys p.graph c p.role) (row_none _ _ one.0) }
 
   -- ---- an act
 
@@ -136,8 +136,8 @@ module _ (sha : Hash) (n : Node) where
           record {
             p = p;
             found_p = q;
-            cast = (and_parts (is_cast n.keys p.graph c f.receiver) (nat_lt f.sender (length c.names)) (not_false _ (row_none _ _ one.0))).0;
-            sid = same_bytes f.sid (session_id sha c) (not_false (bytes_eq f.sid (session_id sha c)) (row_none _ _ three.0));
+            cast = (and_parts (is_cast n.keys p.graph c f.receiver) (nat_lt f.sender (length c.names)) (not-false _ (row_none _ _ one.0))).0;
+            sid = same_bytes f.sid (session_id sha c) (not-false (bytes_eq f.sid (session_id sha c)) (row_none _ _ three.0));
             rows = six.1;
           }
 

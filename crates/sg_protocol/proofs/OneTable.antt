@@ -17,7 +17,7 @@ use Rattle.sg_protocol.proofs.SeenItems.{keys_in_order, rising_same}
 use Rattle.sg_protocol.specs.Evidence as Evidence'
 
 -- numbers that rise are known by their set
-numbers_by_set : (n : ℕ) (xs ys : List ℕ) → AreNumbers n xs → AreNumbers n ys → ((t : ℕ) → t < n → is_in t xs ≡ is_in t ys) → xs ≡ ys
+pub numbers_by_set : (n : ℕ) (xs ys : List ℕ) → AreNumbers n xs → AreNumbers n ys → ((t : ℕ) → t < n → is_in t xs ≡ is_in t ys) → xs ≡ ys
 numbers_by_set n xs ys a b e = sym (own xs a) ∙ rising_same n xs ys e ∙ own ys b
   where
     keys_named : (zs : List ℕ) → keys_of {A = List ℕ} (map (λ z. (z, [])) zs) ≡ zs

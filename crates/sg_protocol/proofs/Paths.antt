@@ -4,14 +4,14 @@ use Rattle.std.specs.List.{list_all, AllByRecursion}
 use Rattle.std.specs.Option.{option_or}
 use Rattle.std.specs.Bool.{beq}
 use Rattle.std.proofs.Common.{sym, ◌∙◌, ap, subst, inl, inr, arith, append_assoc}
-use Rattle.std.proofs.lemmas.Bool.{eqb-true, eq-eqb, or_cases, cases_Bool, and_from}
+use Rattle.std.proofs.lemmas.Bool.{eqb-true, eq-eqb, or_cases, cases_Bool, and_from, not-true, not-false, and_parts}
 use Rattle.std.proofs.lemmas.List.Elements.{All-head, All-tail}
 use Rattle.std.proofs.lemmas.Bool.Decides.{nat_tests}
 use Rattle.sg_model.specs.Last.{Map, merge, last, last_or}
 use Rattle.sg_model.specs.Lists.{is_in, value_at, keys_of, rises_from}
 use Rattle.sg_model.specs.Shape.{Arrow, Walk, sender, receiver}
 use Rattle.sg_model.specs.Values.{Value}
-use Rattle.sg_model.proofs.Small.{not_true, not_false}
+use Rattle.sg_model.proofs.Small.{and_true, and_left}
 use Rattle.sg_protocol.specs.Graph.{Graph, Edge, IsGraph, AreNumbers, shape, writes, reads}
 use Rattle.sg_protocol.specs.Calls.{Event}
 use Rattle.sg_protocol.specs.Acting.{is_typed}
@@ -84,10 +84,6 @@ module _ (g : Graph) (honest : ℕ → Bool) where
   close_acts false true ds act e = e
   close_acts false false ds act e = e
 
-  and_true_right : (b : Bool) → (b && true) ≡ b
-  and_true_right true = refl
-  and_true_right false = refl
-
   pub acts_same : (early : Bool) (st : ℕ → Option (Option Value)) (store : Map (Option Value)) → ((x : ℕ) → st x ≡ value_at store x) → (ss : List Stored) → flat_map (acts_of g) (deeds (shape g) honest early st ss) ≡ honest_acts g honest (not early) store (steps_of ss)
   acts_same early st store same [] = refl
   acts_same early st store same (s ∷ []) =
@@ -107,7 +103,7 @@ module _ (g : Graph) (honest : ℕ → Bool) where
       ∙ ap (λ l. act_if (honest (sender (shape g) (along s))) (Sends (sender (shape g) (along s)) (along s) s.values) ++ l)
       (flat_map-append (acts_of g) r ds
       ∙ ap (λ l. l ++ flat_map (acts_of g) ds) (read_acts (honest (receiver (shape g) (along s))) (after_step st s) (merge store s.values) (store_after st store same s) s
-      ∙ ap (λ b. act_if b (Receives (receiver (shape g) (along s)) (along s) (stored (merge store s.values) (reads g (along s))))) (sym (and_true_right (honest (receiver (shape g) (along s))))))
+      ∙ ap (λ b. act_if b (Receives (receiver (shape g) (along s)) (along s) (stored (merge store s.values) (reads g (along s))))) (sym (and_true (honest (receiver (shape g) (along s))))))
       ∙ ap (λ l. act_if (honest (receiver (shape g) (along s)) && true) (Receives (receiver (shape g) (along s)) (along s) (stored (merge store s.values) (reads g (along s)))) ++ l)
       (acts_same early (after_step st s) (merge store s.values) (store_after st store same s) (t ∷ ss)))
       ∙ sym (append_assoc (act_if (honest (sender (shape g) (along s))) (Sends (sender (shape g) (along s)) (along s) s.values))
@@ -144,10 +140,6 @@ module _ (g : Graph) (honest : ℕ → Bool) where
           | inr d ↦ rw d (low_out ws x (suc w.0) (grind (arith, nat_tests)) (rw e at r))
         ]
       ]
-
-  and_parts : (a b : Bool) → (a && b) ≡ true → (a ≡ true) × (b ≡ true)
-  and_parts true b h = (refl, h)
-  and_parts false b h = absurd (cc)
 
   -- what holds of all that is looked up holds of all
   all_looked_up : (P : ℕ × Option Value → Bool) (m : Map (Option Value)) (n : ℕ) → rises_from n (keys_of m) ≡ true → ((x : ℕ) (r : Option Value) → value_at m x ≡ Some r → P (x, r) ≡ true) → list_all P m ≡ true
@@ -203,7 +195,7 @@ module _ (g : Graph) (honest : ℕ → Bool) where
         | inl d ↦ receipt_typed (honest (receiver (shape g) (along s))) (after_step st s) s x v e parts.0 d
         | inr d ↦
             let ds = and_parts (not (is_in x (writes g (along t)))) (carried (shape g) honest early x (along t) (map along ts)) d in
-            let none : value_at t.values x ≡ None = value_at-unnamed t.values x (named-in (shape g) t x names.0 ∙ not_true (is_in x (writes g (along t))) ds.0) in
+            let none : value_at t.values x ≡ None = value_at-unnamed t.values x (named-in (shape g) t x names.0 ∙ not-true (is_in x (writes g (along t))) ds.0) in
             typed_carried early (after_step st s) t ts x v names.1 (ap (λ o. option_or o (after_step st s x)) none ∙ e) later.1 ds.1
       ]
 
@@ -262,11 +254,7 @@ edge_fact P Q f d (e ∷ es) all zero = f e (All-head P e es all)
 edge_fact P Q f d (e ∷ es) all (suc k) = edge_fact P Q f d es (All-tail P e es all) k
 
 pub writes_rise : (g : Graph) → IsGraph g → (e : ℕ) → rises_from 0 (writes g e) ≡ true
-writes_rise g is e = edge_fact (λ (e : Edge). AreNumbers (length g.variables) e.writes × AreNumbers (length g.variables) e.reads) (λ (a : Arrow). rises_from 0 a.writes ≡ true) (λ e h. left (rises_from 0 e.writes) _ h.0) refl g.edges is.variables e
-  where
-    left : (a b : Bool) → (a && b) ≡ true → a ≡ true
-    left true b h = refl
-    left false b h = h
+writes_rise g is e = edge_fact (λ (e : Edge). AreNumbers (length g.variables) e.writes × AreNumbers (length g.variables) e.reads) (λ (a : Arrow). rises_from 0 a.writes ≡ true) (λ e h. and_left (rises_from 0 e.writes) _ h.0) refl g.edges is.variables e
 
 -- the walk of the law is the stored walk of the events
 pub one_path : (g : Graph) (honest : ℕ → Bool) (commit : Commit) (moves : List Move) (events : List Event) → IsGraph g → (f : Followed (shape g) honest commit moves) →
@@ -279,7 +267,7 @@ one_path g honest commit moves events is f same typed = record {
   };
   held = subst (λ o. IfSome o (λ s. IsTrue (honest (sender (shape g) s.label) || honest (receiver (shape g) s.label)))) (sym (last_steps f.steps)) (held_of (last f.steps) f.ends);
   explained = same ∙ ap (flat_map (acts_of g)) (sym f.done) ∙ acts_same g honest f.early nothing_stored [] (λ x. refl) f.steps;
-  awaited = λ e. subst (λ o. IfSome o (λ s. IsTrue (honest (sender (shape g) s.label) && honest (receiver (shape g) s.label)))) (sym (last_steps f.steps)) (awaited_of (last f.steps) (f.to_come (not_false f.early e)));
+  awaited = λ e. subst (λ o. IfSome o (λ s. IsTrue (honest (sender (shape g) s.label) && honest (receiver (shape g) s.label)))) (sym (last_steps f.steps)) (awaited_of (last f.steps) (f.to_come (not-false f.early e)));
   hidden = hidden_steps g honest (writes_rise g is) f.early f.steps f.names f.exact;
 }
   where
@@ -288,14 +276,10 @@ one_path g honest commit moves events is f same typed = record {
     or_true false b (inl h) = absurd (cc)
     or_true false b (inr h) = h
 
-    and_true : (a b : Bool) → a ≡ true → b ≡ true → (a && b) ≡ true
-    and_true true b h k = k
-    and_true false b h k = h
-
     held_of : (o : Option Stored) → IfSome o (λ (s : Stored). (honest (sender (shape g) (along s)) ≡ true) ⊎ (honest (receiver (shape g) (along s)) ≡ true)) → IfSome (option_map step_of o) (λ s. IsTrue (honest (sender (shape g) s.label) || honest (receiver (shape g) s.label)))
     held_of None h = tt
     held_of (Some s) h = or_true _ _ h
 
     awaited_of : (o : Option Stored) → IsSomeAnd o (λ (s : Stored). (honest (sender (shape g) (along s)) ≡ true) × (honest (receiver (shape g) (along s)) ≡ true)) → IfSome (option_map step_of o) (λ s. IsTrue (honest (sender (shape g) s.label) && honest (receiver (shape g) s.label)))
     awaited_of None h = tt
-    awaited_of (Some s) h = and_true _ _ h.0 h.1
+    awaited_of (Some s) h = and_from _ _ h.0 h.1

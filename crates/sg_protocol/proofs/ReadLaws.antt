@@ -8,7 +8,7 @@ use Rattle.std.proofs.Math.Facts.{Fits-lt-pow, Fits-of_z}
 use Rattle.std.proofs.lemmas.Int.{to_z-of_z}
 use Rattle.std.proofs.Math.Seq.{take-append_seam, drop-append_seam}
 use Rattle.std.proofs.lemmas.List.{append_assoc, length-append, append-nil, take-append-drop, length-take-le}
-use Rattle.std.proofs.lemmas.Bool.{le-leb, leb-true, ltb-false, le-ltb, eqb-true, and_from}
+use Rattle.std.proofs.lemmas.Bool.{le-leb, leb-true, ltb-false, le-ltb, eqb-true, and_from, not-true}
 use Rattle.std.proofs.lemmas.Nat.{from_be_bytes-to_be_bytes_2, from_be_bytes-to_be_bytes_4, from_be_bytes-to_be_bytes_8}
 use Rattle.sg_model.specs.Last.{Map}
 use Rattle.sg_model.specs.Lists.{rises_from, keys_of}
@@ -18,7 +18,7 @@ use Rattle.sg_protocol.specs.Spelling
 use Rattle.sg_protocol.specs.Frame
 use Rattle.sg_model.specs.Bytes
 use Rattle.sg_model.specs.Values
-use Rattle.sg_model.proofs.Small.{and_left, and_right, not_true}
+use Rattle.sg_model.proofs.Small.{and_left, and_right}
 
 -- the reader reads x from these bytes, wherever they stand and whatever follows
 pub record Reads {A : Type 0} (r : Reading.Reader A) (bs : List ℕ) (x : A) : Type 0 where
@@ -53,7 +53,7 @@ reads-rising : {A : Type 0} (key : A → ℕ) (r : ℕ → Reading.Reader A) (sp
 reads-rising key r spell least [] up h = reads-give []
 reads-rising key r spell least (x ∷ xs) up h =
     reads-after (r least) (λ y. Reading.after (Reading.rising_times key (length xs) (suc (key y)) r) (λ ys. Reading.give (y ∷ ys))) (spell x) (flat_map spell xs) x (x ∷ xs)
-    (h.0 least (ltb-false (key x) least (not_true (nat_lt (key x) least) (and_left _ _ up))))
+    (h.0 least (ltb-false (key x) least (not-true (nat_lt (key x) least) (and_left _ _ up))))
     (reads-map (Reading.rising_times key (length xs) (suc (key x)) r) (λ ys. x ∷ ys) (flat_map spell xs) xs (reads-rising key r spell (suc (key x)) xs (and_right (not (nat_lt (key x) least)) _ up) h.1))
 
 within : (low high n : ℕ) → low ≤ n → n ≤ high → Reading.is_within low high n ≡ true

@@ -6,6 +6,7 @@ use Rattle.std.proofs.lemmas.Bool.{cases_Bool, eqb-true}
 use Rattle.std.proofs.lemmas.List.Elements.{filter_agree}
 use Rattle.sg_model.specs.Last.{Map, Entry, merge, has, after_last, carry, evidence}
 use Rattle.sg_model.specs.Lists.{value_at, in_order}
+use Rattle.sg_model.proofs.Small.{or_assoc}
 use Rattle.sg_protocol.specs.Graph.{Graph}
 use Rattle.sg_protocol.specs.Frame.{Item}
 use Rattle.sg_protocol.specs.Session.{committed}
@@ -19,11 +20,7 @@ by_role i = i.role
 -- an element of the first list or of the second
 pub has-both : (k : ℕ) (xs ys : List Item) → has by_role k (xs ++ ys) ≡ (has by_role k xs || has by_role k ys)
 has-both k [] ys = refl
-has-both k (x ∷ xs) ys = ap (λ b. (x.role == k) || b) (has-both k xs ys) ∙ assoc (x.role == k) (has by_role k xs) (has by_role k ys)
-  where
-    assoc : (a b c : Bool) → (a || (b || c)) ≡ ((a || b) || c)
-    assoc true b c = refl
-    assoc false b c = refl
+has-both k (x ∷ xs) ys = ap (λ b. (x.role == k) || b) (has-both k xs ys) ∙ or_assoc (x.role == k) (has by_role k xs) (has by_role k ys)
 
 or_true : (a b : Bool) → a ≡ true → (a || b) ≡ true
 or_true true b h = refl

@@ -6,6 +6,7 @@ use Rattle.std.proofs.lemmas.List.Folds.{list_any-from_Any, Any-from_list_any}
 use Rattle.sg_model.specs.Last.{has, last, up_to_last, after_last}
 use Rattle.sg_model.specs.Shape.{Shape, Walk, end_of, role_at, source, sender, target}
 use Rattle.sg_model.proofs.LastOf.{has-append, eqb_same}
+use Rattle.sg_model.proofs.Small.{or_true}
 use Rattle.sg_law.proofs.Walks.{walk-append, walk_join, end_of-append, end_of_same}
 use Rattle.sg_protocol.specs.Graph.{Graph, IsGraph, shape}
 use Rattle.sg_protocol.specs.Evidence.{View, IsView, view_of, same_origin}
@@ -43,10 +44,6 @@ up_to-cut {A = A} key k (x ∷ xs) y ys own free = rw is (more (up_to_last key k
   where
     is : has key k (xs ++ y ∷ ys) ≡ true
     is = has-append key k xs (y ∷ ys) ∙ ap (λ b. has key k xs || (b || has key k ys)) (eq-eqb (key y) k own) ∙ or_true (has key k xs)
-      where
-        or_true : (b : Bool) → (b || true) ≡ true
-        or_true true = refl
-        or_true false = refl
 
     more : (zs : List A) → last zs ≡ Some y → last (x ∷ zs) ≡ Some y
     more [] e = absurd (cc)

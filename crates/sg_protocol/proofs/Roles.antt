@@ -6,13 +6,13 @@ use Rattle.std.specs.Result.{result_ok}
 use Rattle.std.proofs.Common.{sym, ◌∙◌, ap, subst, inl, inr}
 use Rattle.sg_law.proofs.Take.{contains_from_in}
 use Rattle.std.proofs.lemmas.Slice.Eq.{bytes_eq-Decides}
-use Rattle.std.proofs.lemmas.Bool.{cases_Bool, and_parts}
+use Rattle.std.proofs.lemmas.Bool.{cases_Bool, and_parts, not-false}
 use Rattle.std.proofs.lemmas.List.Elements.{filter-append, recursion_from_All}
 use Rattle.sg_model.specs.Lists.{first_some}
 use Rattle.sg_model.specs.Last.{Map}
 use Rattle.sg_model.specs.Names.{Name}
 use Rattle.sg_model.specs.Values.{Value}
-use Rattle.sg_model.proofs.Small.{not_false, same_bytes, none_parts, both_nil}
+use Rattle.sg_model.proofs.Small.{same_bytes, none_parts, both_nil}
 use Rattle.sg_law.proofs.Members.{in_right, in_flat, all_in}
 use Rattle.sg_law.proofs.Upto.{In, in_from_Contains}
 use Rattle.sg_protocol.specs.Graph.{Graph}
@@ -118,7 +118,7 @@ module _ (sha : Hash) (hash : IsHash sha) (programs : List Program) (s : Schedul
         by_rows p None q h (inr i) = absurd i
         by_rows p None q h (inl i) =
             let one = none_parts (row (not (is_cast n.keys p.graph c p.role)) StartFault.BadCast) (option_map StartFault.UnknownPeer (stranger n.keys c) ∷ row (has_joined n.joins (session_id sha c) p.role) StartFault.Joined ∷ row (nat_le 65536 (length n.joins)) StartFault.CacheFull ∷ row (nat_le 4096 (length n.live)) StartFault.SessionsFull ∷ []) q in
-            let ic : is_cast n.keys p.graph c p.role ≡ true = not_false (is_cast n.keys p.graph c p.role) (row_none _ _ one.0) in
+            let ic : is_cast n.keys p.graph c p.role ≡ true = not-false (is_cast n.keys p.graph c p.role) (row_none _ _ one.0) in
             record {
               cast = c;
               fits = fits;

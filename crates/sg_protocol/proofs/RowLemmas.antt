@@ -1,8 +1,8 @@
 -- Tags, times and tests of reduced items.
-use Rattle.std.specs.Prelude.{◌≡◌, ℕ, ◌+◌, ◌<◌, ◌≤◌, ◌==◌, nat_lt, nat_le, ◌&&◌, ◌⊎◌, Bool, true, false, not, List, [], ◌∷◌, map, filter, find, position, length, refl, Option, Some, None, IfSome}
+use Rattle.std.specs.Prelude.{◌≡◌, ℕ, ◌+◌, ◌<◌, ◌≤◌, ◌==◌, nat_lt, nat_le, ◌⊎◌, Bool, true, false, not, List, [], ◌∷◌, map, filter, find, position, length, refl, Option, Some, None, IfSome}
 use Rattle.std.specs.List.{list_all, prefix_len}
 use Rattle.std.proofs.Common.{sym, ◌∙◌, ap, subst, inl, inr, arith}
-use Rattle.std.proofs.lemmas.Bool.{cases_Bool, eqb-true, eq-eqb}
+use Rattle.std.proofs.lemmas.Bool.{cases_Bool, eqb-true, eq-eqb, and_parts}
 use Rattle.std.proofs.lemmas.Bool.Decides.{nat_tests}
 use Rattle.sg_model.specs.Last.{Map, has, last, up_to_last}
 use Rattle.sg_model.specs.Lists.{value_at, keys_of, is_in, first_some}
@@ -28,13 +28,9 @@ all_position {A = A} p xs h = rw (go xs h, not_less (length xs)) refl
     not_less : (n : ℕ) → nat_lt n n ≡ false
     not_less n = elim (cases_Bool (nat_lt n n)) [ inl e ↦ absurd (let l : n < n = grind (arith, nat_tests) in omega (arith, l)) | inr e ↦ e ]
 
-    head : (b c : Bool) → (b && c) ≡ true → (b ≡ true) × (c ≡ true)
-    head true c h = (refl, h)
-    head false c h = absurd (cc)
-
     go : (xs : List A) → list_all p xs ≡ true → prefix_len (λ c. not (not (p c))) xs ≡ length xs
     go [] h = refl
-    go (x ∷ xs) h = let q = head (p x) (list_all p xs) h in rw q.0 (ap (λ n. 1 + n) (go xs q.1) ∙ omega arith)
+    go (x ∷ xs) h = let q = and_parts (p x) (list_all p xs) h in rw q.0 (ap (λ n. 1 + n) (go xs q.1) ∙ omega arith)
 
 pub all_find : {A : Type 0} (p : A → Bool) (xs : List A) → list_all p xs ≡ true → find (λ c. not (p c)) xs ≡ None
 all_find p [] h = refl

@@ -11,7 +11,7 @@ use Rattle.sg_model.specs.Last.{Map, merge, has, last, after_last, up_to_last}
 use Rattle.sg_model.specs.Lists.{value_at, in_order, keys_of, is_in, same_text, first_some}
 use Rattle.sg_model.specs.Shape.{Walk, end_of, role_at, target, sender, receiver}
 use Rattle.sg_model.specs.Values.{Opening}
-use Rattle.sg_model.proofs.Small.{clash, bytes_refl, cases_Option, all-right, no_last}
+use Rattle.sg_model.proofs.Small.{clash, bytes_refl, cases_Option, all-right, no_last, first_false}
 use Rattle.sg_protocol.specs.Graph.{Graph, IsGraph, shape, writes, reads}
 use Rattle.sg_protocol.specs.Evidence.{IsView, IsViewTable, has_view}
 use Rattle.sg_protocol.specs.Targets.{IsTargetTable}
@@ -225,8 +225,8 @@ module _ (sha : Hash) (keys : List PairKey) (sid : List ℕ) (cast : Cast) (targ
   is_target : (m : ℕ) (i j : Item) (xs : List Item) → Walk (shape g) m (labels (i ∷ j ∷ xs)) → Roles (shape g) (i ∷ j ∷ xs) → has by_role x.role (i ∷ j ∷ xs) ≡ false → has by_role i.role (j ∷ xs) ≡ false → role_at (shape g) (end_of (shape g) m (labels (i ∷ j ∷ xs))) ≡ x.role → is_in x.role (targets i.label) ≡ true
   is_target m i j xs w r n own_none e =
       subst (λ l. is_in x.role l ≡ true) (same_targets i.label) ((table.each i.label x.role (let l = w.0 in omega (arith, l, edges_same g)) role_small).1 record {
-        not_sender = λ q. clash (i.role == x.role) (eq-eqb i.role x.role (r.0 ∙ sym q)) (first (i.role == x.role) (has by_role x.role (j ∷ xs)) n);
-        not_receiver = λ q. clash (j.role == x.role) (eq-eqb j.role x.role (r.1.0 ∙ ap (role_at (shape g)) w.2.1 ∙ sym q)) (first (j.role == x.role) (has by_role x.role xs) (rest (i.role == x.role) (has by_role x.role (j ∷ xs)) n));
+        not_sender = λ q. clash (i.role == x.role) (eq-eqb i.role x.role (r.0 ∙ sym q)) (first_false (i.role == x.role) (has by_role x.role (j ∷ xs)) n);
+        not_receiver = λ q. clash (j.role == x.role) (eq-eqb j.role x.role (r.1.0 ∙ ap (role_at (shape g)) w.2.1 ∙ sym q)) (first_false (j.role == x.role) (has by_role x.role xs) (rest (i.role == x.role) (has by_role x.role (j ∷ xs)) n));
         walk = labels (j ∷ xs);
         leads = record {
           walk = w.2;
@@ -236,17 +236,13 @@ module _ (sha : Hash) (keys : List PairKey) (sid : List ℕ) (cast : Cast) (targ
         };
       })
     where
-      first : (a b : Bool) → (a || b) ≡ false → a ≡ false
-      first true b h = absurd (cc)
-      first false b h = refl
-
       rest : (a b : Bool) → (a || b) ≡ false → b ≡ false
       rest true b h = absurd (cc)
       rest false b h = h
 
       senders : (y : ℕ) (zs : List Item) → Roles (shape g) zs → has by_role y zs ≡ false → has (sender (shape g)) y (labels zs) ≡ false
       senders y [] r h = refl
-      senders y (z ∷ zs) r h = rw (ap (λ q. q == y) (sym r.0) ∙ first (z.role == y) (has by_role y zs) h) (senders y zs r.1 (rest (z.role == y) (has by_role y zs) h))
+      senders y (z ∷ zs) r h = rw (ap (λ q. q == y) (sym r.0) ∙ first_false (z.role == y) (has by_role y zs) h) (senders y zs r.1 (rest (z.role == y) (has by_role y zs) h))
 
   assoc : (a b c : Option (List ℕ)) → option_or (option_or a b) c ≡ option_or a (option_or b c)
   assoc None b c = refl

@@ -8,13 +8,13 @@ use Rattle.std.proofs.lemmas.List.{map-append}
 use Rattle.sg_model.specs.Last.{Map, Entry, merge, has, last, after_last, up_to_last, carry, evidence, evidence_for}
 use Rattle.sg_model.specs.Lists.{value_at, in_order, below, range_from, keys_of, is_in}
 use Rattle.sg_model.specs.Shape.{sender}
-use Rattle.sg_model.proofs.Small.{bytes_refl}
+use Rattle.sg_model.proofs.Small.{bytes_refl, or_true}
+use Rattle.sg_model.proofs.Numbers.{is_in-append}
 use Rattle.sg_protocol.specs.Graph.{Graph, shape, writes}
 use Rattle.sg_protocol.specs.Evidence.{View, Seen, view_of, walked, rising, same_origin, same_items, same_view, has_view}
 use Rattle.sg_protocol.specs.Frame.{Item}
 use Rattle.sg_protocol.specs.Verdict.{seen}
 use Rattle.sg_law.proofs.Cut as Cut'
-use Rattle.sg_law.proofs.Lists.{is_in-append}
 use Rattle.sg_protocol.proofs.Entries.{Roles}
 use Rattle.sg_protocol.proofs.Reduced.{by_role, lead, reduced}
 use Rattle.sg_protocol.proofs.Ends.{labels}
@@ -41,15 +41,11 @@ in_merge {A = A} x a b = ap (is_in x) (map-append (λ (w : ℕ × A). w.0) (filt
     has_in x [] = refl
     has_in x (w ∷ ws) = ap (λ z. (w.0 == x) || z) (has_in x ws)
 
-    either : (d : Bool) → (d || true) ≡ true
-    either true = refl
-    either false = refl
-
     go : (ws : Map A) → (is_in x (keys_of (filter (λ (w : ℕ × A). not (has (λ (y : ℕ × A). y.0) w.0 b)) ws)) || is_in x (keys_of b)) ≡ (is_in x (keys_of ws) || is_in x (keys_of b))
     go [] = refl
     go (w ∷ ws) = elim (cases_Bool (has (λ (y : ℕ × A). y.0) w.0 b)) [
       | inl e ↦ rw e (elim (cases_Bool (w.0 == x)) [
-        | inl d ↦ (let i : is_in x (keys_of b) ≡ true = subst (λ z. is_in z (keys_of b) ≡ true) (eqb-true w.0 x d) (sym (has_in w.0 b) ∙ e) in rw (d, i) (either _))
+        | inl d ↦ (let i : is_in x (keys_of b) ≡ true = subst (λ z. is_in z (keys_of b) ≡ true) (eqb-true w.0 x d) (sym (has_in w.0 b) ∙ e) in rw (d, i) (or_true _))
         | inr d ↦ rw d (go ws)
       ])
       | inr e ↦ rw e (elim (cases_Bool (w.0 == x)) [ inl d ↦ rw d refl | inr d ↦ rw d (go ws) ])

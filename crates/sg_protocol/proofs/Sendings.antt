@@ -3,7 +3,7 @@ use Rattle.std.specs.Prelude.{◌≡◌, ◌≢◌, ℕ, ◌+◌, ◌==◌, nat_
 use Rattle.std.specs.List.{list_any, AllByRecursion}
 use Rattle.std.specs.Option.{option_map_or}
 use Rattle.std.proofs.Common.{sym, ◌∙◌, ap, subst, inl, inr}
-use Rattle.std.proofs.lemmas.Bool.{eqb-true, cases_Bool, and_parts}
+use Rattle.std.proofs.lemmas.Bool.{eqb-true, cases_Bool, and_parts, not-false}
 use Rattle.std.proofs.lemmas.List.Elements.{All-head, All-tail, filter-append}
 use Rattle.sg_model.specs.Last.{Map, last}
 use Rattle.sg_model.specs.Lists.{first_some}
@@ -28,7 +28,7 @@ use Rattle.sg_protocol.specs.Acting.{rows_of_act, openings_for, answer, answer_a
 use Rattle.sg_protocol.proofs.TextLaws.{one_item, one_body, one_frame, kinds_differ}
 use Rattle.std.specs.Prelude.{Result, Ok, Err, option_and_then}
 use Rattle.sg_model.specs.Bytes.{IsBytes}
-use Rattle.sg_model.proofs.Small.{not_false, same_bytes, none_parts, both_nil, all-append}
+use Rattle.sg_model.proofs.Small.{same_bytes, none_parts, both_nil, all-append}
 use Rattle.sg_law.proofs.Members.{in_left, in_right, in_flat, in_parts}
 use Rattle.sg_protocol.specs.Reading.{read}
 use Rattle.sg_protocol.specs.Node.{Node, is_for, is_cast, stranger, session_with, session_for, has_joined, program_for, starter}
@@ -121,7 +121,7 @@ module _ (sha : Hash) (hash : IsHash sha) (programs : List Program) (s : Schedul
         by_rows p (Some f) e hs = live
         by_rows p None e hs =
             let one = none_parts (row (not (is_cast n.keys p.graph c p.role)) StartFault.BadCast) (option_map StartFault.UnknownPeer (stranger n.keys c) ∷ row (has_joined n.joins (session_id sha c) p.role) StartFault.Joined ∷ row (nat_le 65536 (length n.joins)) StartFault.CacheFull ∷ row (nat_le 4096 (length n.live)) StartFault.SessionsFull ∷ []) e in
-            let ic : is_cast n.keys p.graph c p.role ≡ true = not_false (is_cast n.keys p.graph c p.role) (row_none _ _ one.0) in
+            let ic : is_cast n.keys p.graph c p.role ≡ true = not-false (is_cast n.keys p.graph c p.role) (row_none _ _ one.0) in
             all-append (Known who) n.live (still n.programs (new_session (session_id sha c) c p.role)) live (still_known who n.programs (new_session (session_id sha c) c p.role) record { id = refl; is_hashed = hs (session_text_of c) (inl refl); me = same_bytes (principal c p.role) n.keys.me (and_parts _ (bytes_eq (principal c p.role) n.keys.me) ic).1 ∙ me })
 
         by_program : (o : Option Program) → let a : Answer = option_map_or (λ (p : Program). started (session_id sha c) p.role (first_some (rows_of_start n p (session_id sha c) c))) o (NotStarted StartFault.UnknownGraph) in
@@ -157,9 +157,9 @@ module _ (sha : Hash) (hash : IsHash sha) (programs : List Program) (s : Schedul
                 let r1 = none_parts (row (not (is_cast n.keys p.graph c f.receiver && nat_lt f.sender (length c.names))) BadCast) (option_map UnknownPeer (stranger n.keys c) ∷ row (not (bytes_eq f.sid (session_id sha c))) BadSession ∷ row (has_joined n.joins f.sid f.receiver) Joined ∷ row (nat_le 65536 (length n.joins)) CacheFull ∷ row (nat_le 4096 (length n.live)) SessionsFull ∷ rows_of_session sha n.keys p x f) rj in
                 let r2 = none_parts (option_map UnknownPeer (stranger n.keys c)) (row (not (bytes_eq f.sid (session_id sha c))) BadSession ∷ row (has_joined n.joins f.sid f.receiver) Joined ∷ row (nat_le 65536 (length n.joins)) CacheFull ∷ row (nat_le 4096 (length n.live)) SessionsFull ∷ rows_of_session sha n.keys p x f) r1.1 in
                 let r3 = none_parts (row (not (bytes_eq f.sid (session_id sha c))) BadSession) (row (has_joined n.joins f.sid f.receiver) Joined ∷ row (nat_le 65536 (length n.joins)) CacheFull ∷ row (nat_le 4096 (length n.live)) SessionsFull ∷ rows_of_session sha n.keys p x f) r2.1 in
-                let ic : is_cast n.keys p.graph c f.receiver ≡ true = (and_parts (is_cast n.keys p.graph c f.receiver) (nat_lt f.sender (length c.names)) (not_false (is_cast n.keys p.graph c f.receiver && nat_lt f.sender (length c.names)) (row_none _ _ r1.0))).0 in
+                let ic : is_cast n.keys p.graph c f.receiver ≡ true = (and_parts (is_cast n.keys p.graph c f.receiver) (nat_lt f.sender (length c.names)) (not-false (is_cast n.keys p.graph c f.receiver && nat_lt f.sender (length c.names)) (row_none _ _ r1.0))).0 in
                 let in_hashed : In (notes_of_read sha n (Ok f)).hashed (session_text_of c) = in_left (hashed_of_join f (row_number (first_some (rows sha n f)))) _ (session_text_of c) (subst (λ o. In (hashed_of_join f (row_number o)) (session_text_of c)) (sym e) (subst (λ o. In (option_map_or (λ c. session_text_of c ∷ []) o []) (session_text_of c)) (sym j) (inl refl))) in
-                all-append (Known who) n.live (still n.programs (extended x (Took f))) live (still_known who n.programs (extended x (Took f)) record { id = sym (same_bytes f.sid (session_id sha c) (not_false (bytes_eq f.sid (session_id sha c)) (row_none _ _ r3.0))); is_hashed = hs (session_text_of c) in_hashed; me = same_bytes (principal c f.receiver) n.keys.me (and_parts _ (bytes_eq (principal c f.receiver) n.keys.me) ic).1 ∙ me })
+                all-append (Known who) n.live (still n.programs (extended x (Took f))) live (still_known who n.programs (extended x (Took f)) record { id = sym (same_bytes f.sid (session_id sha c) (not-false (bytes_eq f.sid (session_id sha c)) (row_none _ _ r3.0))); is_hashed = hs (session_text_of c) in_hashed; me = same_bytes (principal c f.receiver) n.keys.me (and_parts _ (bytes_eq (principal c f.receiver) n.keys.me) ic).1 ∙ me })
 
             by_program : (o : Option Program) → program_for n.programs c.graph f.receiver ≡ o → AllByRecursion (Known who) (joined n (extended (new_session f.sid c f.receiver) (Took f))).live
             by_program None pc = (let q : Some UnknownGraph ≡ None = rows_join None pc in absurd (cc))
@@ -366,7 +366,7 @@ module _ (sha : Hash) (hash : IsHash sha) (programs : List Program) (s : Schedul
   tag_row : (keys : Keyring) (p : Program) (x : Session) (f : Frame) → first_some (rows_of_session sha keys p x f) ≡ None → tag_for sha keys x.cast f.sender (text_of f) ≡ f.tag
   tag_row keys p x f h =
       let one = none_parts (row (not (has_frame_tag sha keys x f)) BadFrameTag) (row (not (is_shown p x f)) NoSuchView ∷ bad_time 1 (own_time x) f.items ∷ option_map (λ n. BadEvidence (n + 1)) (position (λ c. not (has_item_tag sha keys x c)) (texts_checked p.graph x f)) ∷ option_map (λ o. BadOpening o.variable) (find (λ o. not (is_right sha p.graph x f o)) f.openings) ∷ []) h in
-      same_bytes (tag_for sha keys x.cast f.sender (text_of f)) f.tag (and_parts (nat_lt f.sender (length x.cast.names)) (bytes_eq (tag_for sha keys x.cast f.sender (text_of f)) f.tag) (not_false (has_frame_tag sha keys x f) (row_none _ _ one.0))).1
+      same_bytes (tag_for sha keys x.cast f.sender (text_of f)) f.tag (and_parts (nat_lt f.sender (length x.cast.names)) (bytes_eq (tag_for sha keys x.cast f.sender (text_of f)) f.tag) (not-false (has_frame_tag sha keys x f) (row_none _ _ one.0))).1
 
   module _ (who : Name) (n : Node) (me : n.keys.me ≡ who) (live : AllByRecursion (Known who) n.live) (fit : AllByRecursion FitSession n.live) (f : Frame) (spelled : HasSpelling f) (none : first_some (rows sha n f) ≡ None)
       (hs : (t : List ℕ) → In (notes_of_read sha n (Ok f)).hashed t → In (hashed s wf) t) where
@@ -386,13 +386,13 @@ module _ (sha : Hash) (hash : IsHash sha) (programs : List Program) (s : Schedul
         let r4 = none_parts (row (has_joined n.joins f.sid f.receiver) Joined) (row (nat_le 65536 (length n.joins)) CacheFull ∷ row (nat_le 4096 (length n.live)) SessionsFull ∷ rows_of_session sha n.keys p x f) r3.1 in
         let r5 = none_parts (row (nat_le 65536 (length n.joins)) CacheFull) (row (nat_le 4096 (length n.live)) SessionsFull ∷ rows_of_session sha n.keys p x f) r4.1 in
         let r6 = none_parts (row (nat_le 4096 (length n.live)) SessionsFull) (rows_of_session sha n.keys p x f) r5.1 in
-        let ic : is_cast n.keys p.graph c f.receiver ≡ true = (and_parts (is_cast n.keys p.graph c f.receiver) (nat_lt f.sender (length c.names)) (not_false (is_cast n.keys p.graph c f.receiver && nat_lt f.sender (length c.names)) (row_none _ _ r1.0))).0 in
+        let ic : is_cast n.keys p.graph c f.receiver ≡ true = (and_parts (is_cast n.keys p.graph c f.receiver) (nat_lt f.sender (length c.names)) (not-false (is_cast n.keys p.graph c f.receiver && nat_lt f.sender (length c.names)) (row_none _ _ r1.0))).0 in
         let co = subst (λ o. IfSome o (IsCastOf f.version)) j spelled.fields.join in
         let sess : session_of_frame n f ≡ Some (p, x) = ap (λ o. option_and_then (λ (z : Session). option_map (λ (q : Program). (q, z)) (program_for n.programs z.cast.graph z.role)) (option_map_or (λ c. Some (new_session f.sid c f.receiver)) o (session_for n.live f))) j ∙ ap (λ o. option_map (λ (q : Program). (q, x)) o) pc in
         record {
           cast = c;
           fits = TL.cast_fits c (subst IsVersion (sym co.version) spelled.fields.version) (subst (λ v. IsCastOf v c) (sym co.version) co);
-          id = sym (same_bytes f.sid (session_id sha c) (not_false (bytes_eq f.sid (session_id sha c)) (row_none _ _ r3.0)));
+          id = sym (same_bytes f.sid (session_id sha c) (not-false (bytes_eq f.sid (session_id sha c)) (row_none _ _ r3.0)));
           is_hashed = hs (session_text_of c) (in_left (hashed_of_join f (row_number (first_some (rows sha n f)))) _ (session_text_of c) (subst (λ o. In (hashed_of_join f (row_number o)) (session_text_of c)) (sym none) (subst (λ o. In (option_map_or (λ c. session_text_of c ∷ []) o []) (session_text_of c)) (sym j) (inl refl))));
           me = same_bytes (principal c f.receiver) n.keys.me (and_parts _ (bytes_eq (principal c f.receiver) n.keys.me) ic).1 ∙ me;
           version = co.version;

@@ -32,7 +32,7 @@ use Rattle.sg_protocol.proofs.Acts as C
 use Rattle.std.specs.Prelude.{IsTrue}
 use Rattle.sg_model.specs.Values.{IntValue, TextValue}
 use Rattle.sg_model.specs.Names.{is_name, is_name_byte, is_letter}
-use Rattle.sg_model.proofs.Small.{all-append, all_filter, length_filter}
+use Rattle.sg_model.proofs.Small.{all-append, all_filter, length_filter, length_map}
 use Rattle.sg_protocol.specs.IsSchedule.{IsProgram}
 use Rattle.std.specs.Prelude.{replicate, take}
 use Rattle.std.specs.List.{concat}
@@ -245,10 +245,6 @@ dist_ev (e ∷ es) = elim (cases_Bool (has (λ (y : Ent). y.step.role) e.step.ro
     same_roles [] h = tt
     same_roles (z ∷ zs) h = h
 
-pub len_map : {A B : Type 0} (f : A → B) (xs : List A) → length (map f xs) ≡ length xs
-len_map f [] = refl
-len_map f (x ∷ xs) = let l = len_map f xs in omega (arith, l)
-
 pub len_left : (is : List Item) → length (tags_left is) ≡ length is
 len_left [] = refl
 len_left (i ∷ is) = let l = len_left is in omega (arith, l)
@@ -261,8 +257,8 @@ shown_few : (g : Graph) (v k : ℕ) (is : List Item) → AllByRecursion (IsItem 
 shown_few g v k is a =
     let es : List Ent = after_last (λ (y : Ent). y.step.role) k (map entry_of is) in
     let l1 = len_left (map (item_of g) (A.evidence (λ (i : Item). i.role) es)) in
-    let l2 = len_map (item_of g) (A.evidence (λ (i : Item). i.role) es) in
-    let l3 = len_map (λ (y : Ent). y.step.role) (A.evidence (λ (i : Item). i.role) es) in
+    let l2 = length_map (item_of g) (A.evidence (λ (i : Item). i.role) es) in
+    let l3 = length_map (λ (y : Ent). y.step.role) (A.evidence (λ (i : Item). i.role) es) in
     let p = pigeon 16 (map (λ (y : Ent). y.step.role) (A.evidence (λ (i : Item). i.role) es)) (dist_ev es) (roles_below v (A.evidence (λ (i : Item). i.role) es) (evidence_fit v es (after_fit v k (map entry_of is) (ents_fit v is a)))) in
     omega (arith, l1, l2, l3, p)
 
@@ -270,7 +266,7 @@ shown_some : (g : Graph) (k : ℕ) (is : List Item) (i : Item) → (i.role ≡ k
 shown_some g k is i ne =
     let es : List Ent = after_last (λ (y : Ent). y.step.role) k (map entry_of (is ++ i ∷ [])) in
     let l1 = len_left (map (item_of g) (A.evidence (λ (i : Item). i.role) es)) in
-    let l2 = len_map (item_of g) (A.evidence (λ (i : Item). i.role) es) in
+    let l2 = length_map (item_of g) (A.evidence (λ (i : Item). i.role) es) in
     let p : has (λ (y : Ent). y.step.role) i.role (A.evidence (λ (i : Item). i.role) es) ≡ true = has-ev i.role es ∙ kept is in
     (let q = some_len (A.evidence (λ (i : Item). i.role) es) p in omega (arith, l1, l2, q))
   where
@@ -395,7 +391,7 @@ spelled_len f l j n a m b t =
 
 -- ---- tags
 
-cut_tag : (v : ℕ) → IsVersion v → (t : List ℕ) → AreBytes 32 t → IsTag v (cut v t)
+pub cut_tag : (v : ℕ) → IsVersion v → (t : List ℕ) → AreBytes 32 t → IsTag v (cut v t)
 cut_tag v (inl e) t h = subst (λ v. IsTag v (cut v t)) (sym e) record { bytes = h; zeros = ap (drop 32) (sym (append-nil t)) ∙ drop_app 32 t [] h.0 }
 cut_tag v (inr e) t h = subst (λ v. IsTag v (cut v t)) (sym e) record {
   bytes = ((let a = length-append (take 16 t) (replicate 16 0) in let b : length (take 16 t) ≡ 16 = length-take-le 16 t (let l = h.0 in omega (arith, l)) in omega (arith, a, b)), to_bytes _ (bytes-append (take 16 t) (replicate 16 0) (bytes-take 16 t (from_bytes t h.1)) (bytes-zeros 16)));
@@ -545,7 +541,7 @@ module _ (sha : Hash) (hash : IsHash sha) (p : Program) (ip : IsProgram sha p) (
       go (o ∷ zs) = ap (λ l. o.variable ∷ l) (go zs)
 
   oi_len : length oi.delta ≤ 32
-  oi_len = (let a = len_map {B = ℕ × List ℕ} (λ (o : Opening). (o.variable, commitment sha x.sid o)) os in let b : length (map (λ (o : Opening). o.variable) os) ≡ length (writes g label) = ap length names_os in let c = len_map (λ (o : Opening). o.variable) os in let d = writes_few in omega (arith, a, b, c, d))
+  oi_len = (let a = length_map {B = ℕ × List ℕ} (λ (o : Opening). (o.variable, commitment sha x.sid o)) os in let b : length (map (λ (o : Opening). o.variable) os) ≡ length (writes g label) = ap length names_os in let c = length_map (λ (o : Opening). o.variable) os in let d = writes_few in omega (arith, a, b, c, d))
 
   oi_delta : (zs : List Opening) → AllByRecursion IsOpening zs → AllByRecursion (λ (d : ℕ × List ℕ). (d.0 < 32) × AreBytes 32 d.1) (map (λ (o : Opening). (o.variable, commitment sha x.sid o)) zs)
   oi_delta [] a = tt
@@ -566,7 +562,7 @@ module _ (sha : Hash) (hash : IsHash sha) (p : Program) (ip : IsProgram sha p) (
     time = ((omega arith), (let a = C.le_false 1000000 (time x) early in omega (arith, a)));
     variables = (oi_len, ap (rises_from 0) (oi_keys ∙ names_os) ∙ writes_rise g ip.is_graph label);
     delta = oi_delta os open_os;
-    roles = ((let a = len_map {B = ℕ × List ℕ} (λ t. (t, tag_for sha keys x.cast t (text_to g x (told x) (plain_item sha x label os) t))) (targets_of p label) in let b = ts_few in omega (arith, a, b)), ap (rises_from 0) (keys_tags (λ t. tag_for sha keys x.cast t (text_to g x (told x) (plain_item sha x label os) t)) (targets_of p label)) ∙ ts_rise);
+    roles = ((let a = length_map {B = ℕ × List ℕ} (λ t. (t, tag_for sha keys x.cast t (text_to g x (told x) (plain_item sha x label os) t))) (targets_of p label) in let b = ts_few in omega (arith, a, b)), ap (rises_from 0) (keys_tags (λ t. tag_for sha keys x.cast t (text_to g x (told x) (plain_item sha x label os) t)) (targets_of p label)) ∙ ts_rise);
     tags = tags_of (λ t. tag_for sha keys x.cast t (text_to g x (told x) (plain_item sha x label os) t)) (λ t. tag_ok t _) (targets_of p label) (below_weak (length g.roles) 16 (targets_of p label) few_roles ts_below);
   }
 

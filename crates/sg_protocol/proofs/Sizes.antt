@@ -1,5 +1,5 @@
 -- How many bytes a step adds to the record.
-use Rattle.std.specs.Prelude.{◌≡◌, ℕ, zero, suc, ◌+◌, ◌*◌, ◌<◌, ◌≤◌, ◌==◌, nat_lt, nat_le, ◌&&◌, Bool, true, false, not, if◌then◌else◌, List, [], ◌∷◌, ◌++◌, map, flat_map, length, codes, sum_by, take, take_while, bytes_eq, refl, Option, Some, None, option_map, option_and_then, IfSome, IsSomeAnd, IsTrue, slice_get, Result, Ok, Err}
+use Rattle.std.specs.Prelude.{◌≡◌, ℕ, suc, ◌+◌, ◌*◌, ◌<◌, ◌≤◌, ◌==◌, nat_lt, nat_le, ◌&&◌, Bool, true, false, not, if◌then◌else◌, List, [], ◌∷◌, ◌++◌, map, flat_map, length, codes, sum_by, take, take_while, bytes_eq, refl, Option, Some, None, option_map, option_and_then, IfSome, IsSomeAnd, IsTrue, slice_get, Result, Ok, Err}
 use Rattle.std.specs.List.{AllByRecursion, list_all, prefix_len}
 use Rattle.std.specs.Option.{option_or, option_map_or}
 use Rattle.std.proofs.Common.{sym, ◌∙◌, ap, subst, inl, inr, arith}
@@ -11,7 +11,8 @@ use Rattle.sg_model.specs.Lists.{below, range_from, rises_from, value_at, same_t
 use Rattle.sg_model.specs.Names.{Name, is_name, is_name_byte, is_letter}
 use Rattle.sg_model.specs.Values.{Value, Opening}
 use Rattle.sg_model.specs.Bytes.{IsBytes, AreBytes}
-use Rattle.sg_model.proofs.Small.{all-append, take_most}
+use Rattle.sg_model.proofs.Small.{all-append, take_most, length_map}
+use Rattle.sg_model.proofs.Numbers.{length-range_from}
 use Rattle.std.proofs.lemmas.List.{length-append, length-take-le}
 use Rattle.std.proofs.lemmas.List.Elements.{recursion_from_All}
 use Rattle.sg_protocol.specs.Graph.{Graph, IsGraph, writes}
@@ -42,7 +43,7 @@ use Rattle.sg_protocol.proofs.Moves.{writes_below, note_text}
 use Rattle.sg_protocol.proofs.Paths.{writes_rise}
 use Rattle.sg_protocol.proofs.Fits.{Fit, fit_new, fit_next, fit_bytes, fit_sends, declared_in, ActSent, act_sends, act_fit}
 use Rattle.sg_protocol.proofs.ReadBack.{read-SpellsFrame}
-use Rattle.sg_protocol.proofs.Sent.{FitSession, len_concat, flat33, len_map, opening_len}
+use Rattle.sg_protocol.proofs.Sent.{FitSession, len_concat, flat33, opening_len}
 
 -- ---- sums
 
@@ -97,10 +98,6 @@ commits_len : (is : List Item) → AllByRecursion Sized is → (xs : List ℕ) �
 commits_len is a [] = tt
 commits_len is a (x ∷ xs) = (maybe_len (committed x is) (committed_fits x is a), commits_len is a xs)
 
-range_len : (n k : ℕ) → length (range_from n k) ≡ k
-range_len n zero = refl
-range_len n (suc k) = (let i = range_len (suc n) k in omega (arith, i))
-
 -- ---- texts
 
 text_len : (g : Graph) → length g.variables ≤ 32 → (x : Session) → length x.sid ≡ 32 → (before : List Item) (i : Item) (t : ℕ) → AllByRecursion Sized (before ++ i ∷ []) → length (text_to g x before i t) ≤ 1105
@@ -108,8 +105,8 @@ text_len g few x long before i t a =
     let c = len_concat ((if x.cast.version == 2 then codes "sg-item-2" else codes "sg-item-1") ∷ x.sid ∷ u8 i.role ∷ u8 t ∷ u16 i.label ∷ u32 i.time ∷ flat_map maybe_commitment (commitments g (before ++ i ∷ [])) ∷ []) in
     let h = head x.cast.version in
     let f = flat33 maybe_commitment (commitments g (before ++ i ∷ [])) (commits_len (before ++ i ∷ []) a (below (length g.variables))) in
-    let m = len_map (λ y. committed y (before ++ i ∷ [])) (below (length g.variables)) in
-    let r = range_len 0 (length g.variables) in
+    let m = length_map (λ y. committed y (before ++ i ∷ [])) (below (length g.variables)) in
+    let r = length-range_from 0 (length g.variables) in
     omega (arith, c, h, f, m, r, few, long)
   where
     head : (v : ℕ) → length (if v == 2 then codes "sg-item-2" else codes "sg-item-1") ≡ 9
@@ -437,7 +434,7 @@ module _ (sha : Hash) (hash : IsHash sha) (programs : List Program) (s : Schedul
         few_writes : (g : Graph) → IsGraph g → (label : ℕ) (os : List Opening) → map (λ (o : Opening). o.variable) os ≡ writes g label → length os ≤ 32
         few_writes g is label os e =
             let r = rising_len 32 (writes g label) 0 (writes_rise g is label) (all_below (writes g label) (weaken (length g.variables) is.sizes.1 (writes g label) (writes_below g is label))) (omega arith) in
-            let m = len_map (λ (o : Opening). o.variable) os in
+            let m = length_map (λ (o : Opening). o.variable) os in
             let q = ap (λ l. length l) e in
             omega (arith, r, m, q)
           where

@@ -19,6 +19,7 @@ use Rattle.sg_protocol.specs.World.{World, Logged, Outcome, Answered, Crafted, N
 use Rattle.sg_protocol.specs.World as World'
 use Rattle.sg_model.specs.Names.{is_name, is_name_byte, is_letter}
 use Rattle.sg_model.specs.Lists.{below}
+use Rattle.sg_model.proofs.Small.{and_false}
 use Rattle.std.specs.Prelude.{replicate, take, set, bit_xor, ◌%◌, ◌/◌}
 use Rattle.std.specs.List.{concat}
 
@@ -63,7 +64,7 @@ u64_bytes n = (mod_byte (n / 72057594037927936), (mod_byte (n / 281474976710656)
 all_flips : list_all (λ b. nat_lt (bit_xor b 1) 256) (below 256) ≡ true
 all_flips = refl
 
-range_all : (p : ℕ → Bool) (k j : ℕ) → list_all p (range_from k j) ≡ true → (x : ℕ) → k ≤ x → x < k + j → p x ≡ true
+pub range_all : (p : ℕ → Bool) (k j : ℕ) → list_all p (range_from k j) ≡ true → (x : ℕ) → k ≤ x → x < k + j → p x ≡ true
 range_all p k zero h x l u = absurd (omega arith)
 range_all p k (suc j) h x l u = elim (cases_Bool (k == x)) [
   | inl e ↦ subst (λ z. p z ≡ true) (eqb-true k x e) (and_parts (p k) (list_all p (range_from (suc k) j)) h).0
@@ -155,10 +156,6 @@ letter_byte c h = elim (cases_Bool (nat_lt c 256)) [
 
     high_lt : (c k : ℕ) → k ≤ 256 → nat_lt c 256 ≡ false → nat_lt c k ≡ false
     high_lt c k l e = grind (arith, nat_tests)
-
-    and_false : (a : Bool) → (a && false) ≡ false
-    and_false true = refl
-    and_false false = refl
 
     no : (c : ℕ) → nat_lt c 256 ≡ false → is_name_byte c ≡ true → ⊥
     no c e h =

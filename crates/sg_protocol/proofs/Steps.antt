@@ -85,7 +85,7 @@ module _ (sha : Hash) (s : Schedule) where
 abbrev new_past : List PairKey → List Program → Name → Past
 new_past keys programs me = record { keys = keyring_of keys me; programs = programs; first = []; calls = [] }
 
-begins : (keys : List PairKey) (programs : List Program) (names : List Name) (who : Name) → list_any (bytes_eq who) names ≡ true → (p : Past) × (find (λ (p : Past). bytes_eq p.keys.me who) (map (λ me. record { keys = keyring_of keys me; programs = programs; first = []; calls = [] }) names) ≡ Some p)
+pub begins : (keys : List PairKey) (programs : List Program) (names : List Name) (who : Name) → list_any (bytes_eq who) names ≡ true → (p : Past) × (find (λ (p : Past). bytes_eq p.keys.me who) (map (λ me. record { keys = keyring_of keys me; programs = programs; first = []; calls = [] }) names) ≡ Some p)
 begins keys programs [] who h = absurd (let z : false ≡ true = h in cc)
 begins keys programs (n ∷ ns) who h = elim (cases_Bool (bytes_eq n who)) [
   | inl e ↦ (new_past keys programs n, rw e refl)

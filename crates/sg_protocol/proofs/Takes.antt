@@ -3,7 +3,7 @@ use Rattle.std.specs.Prelude.{◌≡◌, ◌≢◌, ℕ, ◌+◌, ◌<◌, ◌==
 use Rattle.std.specs.List.{list_all, AllByRecursion}
 use Rattle.std.specs.Option.{option_map_or}
 use Rattle.std.proofs.Common.{sym, ◌∙◌, ap, subst, inl, arith, append_assoc, append-nil}
-use Rattle.std.proofs.lemmas.Bool.{eqb-true, eq-eqb, and_parts}
+use Rattle.std.proofs.lemmas.Bool.{eqb-true, eq-eqb, and_parts, not-false}
 use Rattle.std.proofs.lemmas.List.{map-append}
 use Rattle.sg_model.specs.Last.{Map, has, last, last_or, last_of, after_last, up_to_last}
 use Rattle.sg_model.specs.Lists.{first_some, same_text}
@@ -15,7 +15,7 @@ use Rattle.sg_protocol.specs.Evidence.{Seen, View, IsView, IsViewTable, has_view
 use Rattle.sg_protocol.specs.Frame.{Cast, Item, Frame, IsItem}
 use Rattle.sg_protocol.specs.Spelling.{HasSpelling}
 use Rattle.sg_model.specs.Bytes.{AreBytes}
-use Rattle.sg_model.proofs.Small.{not_false, same_bytes, none_parts, range_at}
+use Rattle.sg_model.proofs.Small.{same_bytes, none_parts, range_at}
 use Rattle.sg_law.proofs.Members.{in_left, in_right, in_map}
 use Rattle.sg_protocol.specs.Texts.{Hash, commitment, item_text_of}
 use Rattle.sg_protocol.specs.TextLaws.{IsVersion}
@@ -63,7 +63,7 @@ rows_of sha keys p x f h =
     let three : (bad_time 1 (own_time x) f.items ≡ None) × (first_some (evid ∷ open_ ∷ []) ≡ None) = none_parts _ _ two.1 in
     let four : (evid ≡ None) × (first_some (open_ ∷ []) ≡ None) = none_parts _ _ three.1 in
     let five : (open_ ≡ None) × (first_some {A = Refusal} [] ≡ None) = none_parts _ _ four.1 in
-    let shown : is_shown p x f ≡ true = not_false (is_shown p x f) (row_none _ _ two.0) in
+    let shown : is_shown p x f ≡ true = not-false (is_shown p x f) (row_none _ _ two.0) in
     let a = and_parts _ (bytes_eq (map (λ (o : Opening). o.variable) f.openings) (option_map_or (reads p.graph) (last_label f.items) [])) shown in
     let b = and_parts _ (has_right_tags p f.items) a.0 in
     let c = and_parts _ (option_map_or (λ (i : Item). i.role == f.sender) (last f.items) false) b.0 in

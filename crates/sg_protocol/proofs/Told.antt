@@ -4,14 +4,15 @@ use Rattle.std.specs.List.{AllByRecursion, list_any}
 use Rattle.std.specs.Option.{option_map_or}
 use Rattle.std.specs.Result.{result_ok}
 use Rattle.std.proofs.Common.{sym, ◌∙◌, ap, subst, inl, inr}
-use Rattle.std.proofs.lemmas.Bool.{cases_Bool, eqb-true, and_parts}
+use Rattle.std.proofs.lemmas.Bool.{cases_Bool, eqb-true, and_parts, not-false}
 use Rattle.std.proofs.lemmas.List.Elements.{recursion_from_All}
 use Rattle.sg_model.specs.Last.{Map, last}
 use Rattle.sg_model.specs.Lists.{first_some, is_in, keys_of, below}
 use Rattle.sg_model.specs.Shape.{role_at}
 use Rattle.sg_model.specs.Names.{Name}
 use Rattle.sg_model.specs.Values.{Value, Opening}
-use Rattle.sg_model.proofs.Small.{clash, not_false, same_bytes, bytes_same}
+use Rattle.sg_model.proofs.Small.{clash, same_bytes, bytes_same}
+use Rattle.sg_model.proofs.Numbers.{below_in}
 use Rattle.sg_law.proofs.Members.{in_left}
 use Rattle.sg_law.proofs.Upto.{In, in_from_Contains}
 use Rattle.sg_protocol.specs.Graph.{Graph, shape, writes, reads}
@@ -43,15 +44,7 @@ use Rattle.sg_protocol.proofs.Whole.{found_in}
 
 -- ---- lists
 
--- a variable that is written, where it is in a list
-below_at : (n x : ℕ) (xs : List ℕ) → AllByRecursion (λ y. y < n) xs → is_in x xs ≡ true → x < n
-below_at n x [] a h = absurd (let q : false ≡ true = h in cc)
-below_at n x (y ∷ ys) a h = elim (cases_Bool (y == x)) [
-  | inl e ↦ subst (λ z. z < n) (eqb-true y x e) a.0
-  | inr e ↦ below_at n x ys a.1 (rw e at h)
-]
-
-out_of_order_in : (x : ℕ) (xs : List ℕ) → is_in x xs ≡ false → is_out_of_order x xs ≡ false
+pub out_of_order_in : (x : ℕ) (xs : List ℕ) → is_in x xs ≡ false → is_out_of_order x xs ≡ false
 out_of_order_in x [] h = refl
 out_of_order_in x (y ∷ ys) h = elim (cases_Bool (y == x)) [
   | inl e ↦ absurd (let q : true ≡ false = rw e at h in cc)
@@ -62,7 +55,7 @@ out_of_order_in x (y ∷ ys) h = elim (cases_Bool (y == x)) [
     go true b c e f = rw (e, f) refl
     go false b c e f = f
 
-untyped_in : (g : Graph) (x : ℕ) (vs : Map Value) → is_in x (keys_of vs) ≡ false → list_any (λ (w : ℕ × Value). (w.0 == x) && not (is_typed g w)) vs ≡ false
+pub untyped_in : (g : Graph) (x : ℕ) (vs : Map Value) → is_in x (keys_of vs) ≡ false → list_any (λ (w : ℕ × Value). (w.0 == x) && not (is_typed g w)) vs ≡ false
 untyped_in g x [] h = refl
 untyped_in g x (v ∷ vs) h = elim (cases_Bool (v.0 == x)) [
   | inl e ↦ absurd (let q : true ≡ false = rw e at h in cc)
@@ -74,7 +67,7 @@ bad_named : (g : Graph) (label : ℕ) (values : Map Value) (x : ℕ) → AllByRe
 bad_named g label values x a h = elim (cases_Bool (is_in x (keys_of values))) [
   | inl e ↦ inr e
   | inr e ↦ elim (cases_Bool (is_in x (writes g label))) [
-    | inl w ↦ inl (below_at (length g.variables) x (writes g label) a w)
+    | inl w ↦ inl (below_in (length g.variables) x (writes g label) a w)
     | inr w ↦ absurd (clash (is_bad g label values x) h (rw (w, e, out_of_order_in x (keys_of values) e, untyped_in g x values e) refl))
   ]
 ]
@@ -124,7 +117,7 @@ unopened sha keys p x f v h =
     let two = past_row (not (is_shown p x f)) Refusal.NoSuchView (Refusal.BadOpening v) r2 (λ e. cc) one.1 in
     let three = past_time 1 (own_time x) f.items v r3 two.1 in
     let four = past_map (λ n. Refusal.BadEvidence (n + 1)) evid (Refusal.BadOpening v) (open_ ∷ []) (λ n e. cc) three in
-    record { shown = not_false (is_shown p x f) two.0; there = go wrong refl four }
+    record { shown = not-false (is_shown p x f) two.0; there = go wrong refl four }
   where
     go : (o : Option Opening) → find (λ o. not (is_right sha p.graph x f o)) f.openings ≡ o → first_some (option_map (λ (o : Opening). Refusal.BadOpening o.variable) o ∷ []) ≡ Some (Refusal.BadOpening v) → In (map (λ (o : Opening). o.variable) f.openings) v
     go None q e = absurd (let n : None ≡ Some (Refusal.BadOpening v) = e in cc)
@@ -361,7 +354,7 @@ module _ (sha : Hash) (n : Node) (programs : AllByRecursion (IsProgram sha) n.pr
             its = program_is c.graph f.receiver p q;
             receiver = refl;
             sid = refl;
-            its_from = inr (ap (λ r. option_and_then (λ (f : Frame). f.join) (result_ok r)) rd ∙ j, sym (same_bytes f.sid (session_id sha c) (not_false (bytes_eq f.sid (session_id sha c)) three.0)), subst (λ r. In (notes_of_read sha n r).hashed (session_text_of c)) (sym rd) text);
+            its_from = inr (ap (λ r. option_and_then (λ (f : Frame). f.join) (result_ok r)) rd ∙ j, sym (same_bytes f.sid (session_id sha c) (not-false (bytes_eq f.sid (session_id sha c)) three.0)), subst (λ r. In (notes_of_read sha n r).hashed (session_text_of c)) (sym rd) text);
             looked = six.1;
           }
 

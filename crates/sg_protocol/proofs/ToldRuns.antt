@@ -1,5 +1,5 @@
 -- The entries of a run are told by the graphs of their calls.
-use Rattle.std.specs.Prelude.{◌≡◌, ℕ, suc, ◌+◌, ◌-◌, ◌<◌, ◌⊎◌, true, List, [], ◌∷◌, ◌++◌, map, flat_map, take, length, bytes_eq, refl, Option, Some, None, option_map, option_and_then, Result, Ok, Err, Contains}
+use Rattle.std.specs.Prelude.{◌≡◌, ℕ, suc, ◌+◌, ◌-◌, ◌⊎◌, true, List, [], ◌∷◌, ◌++◌, map, flat_map, take, length, bytes_eq, refl, Option, Some, None, option_map, option_and_then, Result, Ok, Err, Contains}
 use Rattle.std.specs.List.{AllByRecursion}
 use Rattle.std.specs.Option.{option_map_or}
 use Rattle.std.specs.Result.{result_ok}
@@ -7,8 +7,6 @@ use Rattle.std.proofs.Common.{sym, ◌∙◌, ap, subst, inl, inr, arith}
 use Rattle.std.proofs.lemmas.List.Elements.{recursion_from_All}
 use Rattle.std.proofs.lemmas.Slice.Eq.{bytes_eq-Decides}
 use Rattle.std.proofs.Math.Seq.{take-append_seam}
-use Rattle.sg_model.specs.Lists.{keys_of}
-use Rattle.sg_model.specs.Last.{Map}
 use Rattle.sg_model.specs.Names.{Name}
 use Rattle.sg_model.specs.Values.{Value}
 use Rattle.sg_model.proofs.Small.{same_bytes, bytes_same}
@@ -16,7 +14,7 @@ use Rattle.sg_law.proofs.Members.{in_left, in_right, in_flat, in_map, in_parts, 
 use Rattle.sg_law.proofs.Take.{contains_from_in}
 use Rattle.sg_law.proofs.Upto.{In, in_from_Contains}
 use Rattle.sg_protocol.specs.Graph.{Graph, IsGraph}
-use Rattle.sg_protocol.specs.Frame.{Cast, Frame, IsValue}
+use Rattle.sg_protocol.specs.Frame.{Cast, Frame}
 use Rattle.sg_protocol.specs.Reading.{read}
 use Rattle.sg_protocol.specs.Texts.{Hash, IsHash, session_id, session_text_of, graph_text_of, graph_digest}
 use Rattle.sg_protocol.specs.TextLaws.{CastFits}
@@ -36,7 +34,7 @@ use Rattle.sg_protocol.specs.IsSchedule.{IsProgram, AreCompiled, IsSchedule, IsS
 use Rattle.sg_protocol.specs.Headline.{IsOfCast}
 use Rattle.sg_protocol.specs.Told.{IsTold, GivesVariables, IsAnswered, EntriesAreAnswered, EntriesAreTold, EntriesHaveOneGraph, IsOfOneGraph, StepsAreTold, names_numbers}
 use Rattle.sg_protocol.proofs.TextLaws as TL
-use Rattle.sg_protocol.proofs.Course.{Suffix, suffix_all}
+use Rattle.sg_protocol.proofs.Course.{Suffix, suffix_all, small_values}
 use Rattle.sg_protocol.proofs.Finding.{find_passes}
 use Rattle.sg_protocol.proofs.First.{first_cast, first_of_live}
 use Rattle.sg_protocol.proofs.FirstSteps.{run_first}
@@ -159,17 +157,13 @@ all_mid : (P : Step → Type 0) (xs : List Step) (y : Step) (ys : List Step) →
 all_mid P [] y ys a = a.0
 all_mid P (x ∷ xs) y ys a = all_mid P xs y ys a.1
 
-small_keys : (vs : Map Value) → AllByRecursion (λ (w : ℕ × Value). (w.0 < 256) × IsValue w.1) vs → AllByRecursion (λ k. k < 256) (keys_of vs)
-small_keys [] a = tt
-small_keys (v ∷ vs) a = ((a.0).0, small_keys vs a.1)
-
 call_small : (sha : Hash) (s : Schedule) (w : World) (k : ℕ) (x : Step) (c : Call) → IsStep sha s x → call_of sha s w k x ≡ Some c → GivesVariables c
 call_small sha s w k (StartStep who n) c good e = go (cast_of s n) e
   where
     go : (o : Option Cast) → option_map Start o ≡ Some c → GivesVariables c
     go None e = absurd (cc)
     go (Some d) e = (let r : Start d ≡ c = cc in subst GivesVariables r tt)
-call_small sha s w k (ActStep who n label values) c good e = (let r : Act (sid_at sha s n) label values (map (λ (v : ℕ × Value). confounder k v.0) values) ≡ c = cc in subst GivesVariables r (small_keys values good))
+call_small sha s w k (ActStep who n label values) c good e = (let r : Act (sid_at sha s n) label values (map (λ (v : ℕ × Value). confounder k v.0) values) ≡ c = cc in subst GivesVariables r (small_values values good))
 call_small sha s w k (AbandonStep who n) c good e = (let r : Abandon (sid_at sha s n) ≡ c = cc in subst GivesVariables r tt)
 call_small sha s w k (DeliverStep who what) c good e = go (bytes_of w what) e
   where

@@ -3,13 +3,13 @@ use Rattle.std.specs.Prelude.{◌≡◌, ℕ, ◌<◌, ◌≤◌, ◌==◌, ◌&
 use Rattle.std.specs.List.{AllByRecursion, list_all}
 use Rattle.std.specs.Option.{option_map_or}
 use Rattle.std.proofs.Common.{sym, ◌∙◌, ap, subst, inl, inr, arith}
-use Rattle.std.proofs.lemmas.Bool.{cases_Bool, eqb-true, eq-eqb, and_from, and_parts}
+use Rattle.std.proofs.lemmas.Bool.{cases_Bool, eqb-true, eq-eqb, and_from, and_parts, not-false}
 use Rattle.std.proofs.lemmas.List.{length-append}
 use Rattle.std.proofs.lemmas.List.Elements.{filter-append, recursion_from_All}
 use Rattle.sg_model.specs.Last.{Map, last}
 use Rattle.sg_model.specs.Lists.{first_some, all_differ}
 use Rattle.sg_model.specs.Values.{Value}
-use Rattle.sg_model.proofs.Small.{not_false, clash, same_bytes, none_parts}
+use Rattle.sg_model.proofs.Small.{clash, same_bytes, none_parts}
 use Rattle.sg_law.proofs.Members.{rec_in}
 use Rattle.sg_protocol.specs.Frame.{Frame, Cast, Item}
 use Rattle.sg_protocol.specs.Reading.{read}
@@ -175,7 +175,7 @@ module _ (sha : Hash) (n : Node) (t : Tidy n) where
       go (Some f) e = t
       go None e =
           let one = none_parts (row (not (is_cast n.keys p.graph c p.role)) StartFault.BadCast) _ e in
-          let ic : is_cast n.keys p.graph c p.role ≡ true = not_false (is_cast n.keys p.graph c p.role) (row_none _ _ one.0) in
+          let ic : is_cast n.keys p.graph c p.role ≡ true = not-false (is_cast n.keys p.graph c p.role) (row_none _ _ one.0) in
           let three : row (has_joined n.joins (session_id sha c) p.role) StartFault.Joined ≡ None = third _ _ _ _ e in
           tidy_joined (new_session (session_id sha c) c p.role) (and_parts (length c.names == length p.graph.roles) (all_differ c.names) (and_parts (length c.names == length p.graph.roles && all_differ c.names) (nat_lt p.role (length c.names)) (and_parts (length c.names == length p.graph.roles && all_differ c.names && nat_lt p.role (length c.names)) (bytes_eq (principal c p.role) n.keys.me) ic).0).0).1
           (row_none _ _ three) (owns_after n (Start c) (Happened (Started (session_id sha c) p.role)) t.owns)
@@ -197,7 +197,7 @@ module _ (sha : Hash) (n : Node) (t : Tidy n) where
           by_program None e = absurd (let z : Some Refusal.UnknownGraph ≡ None = e in cc)
           by_program (Some p) e =
               let one = none_parts (row (not (is_cast n.keys p.graph c f.receiver && nat_lt f.sender (length c.names))) Refusal.BadCast) (option_map Refusal.UnknownPeer (stranger n.keys c) ∷ row (not (bytes_eq f.sid (session_id sha c))) Refusal.BadSession ∷ row (has_joined n.joins f.sid f.receiver) Refusal.Joined ∷ row (nat_le 65536 (length n.joins)) Refusal.CacheFull ∷ row (nat_le 4096 (length n.live)) Refusal.SessionsFull ∷ rows_of_session sha n.keys p (new_session f.sid c f.receiver) f) e in
-              let ic : (is_cast n.keys p.graph c f.receiver && nat_lt f.sender (length c.names)) ≡ true = not_false (is_cast n.keys p.graph c f.receiver && nat_lt f.sender (length c.names)) (row_none (not (is_cast n.keys p.graph c f.receiver && nat_lt f.sender (length c.names))) Refusal.BadCast one.0) in
+              let ic : (is_cast n.keys p.graph c f.receiver && nat_lt f.sender (length c.names)) ≡ true = not-false (is_cast n.keys p.graph c f.receiver && nat_lt f.sender (length c.names)) (row_none (not (is_cast n.keys p.graph c f.receiver && nat_lt f.sender (length c.names))) Refusal.BadCast one.0) in
               let four : row (has_joined n.joins f.sid f.receiver) Refusal.Joined ≡ None = fourth (row (not (is_cast n.keys p.graph c f.receiver && nat_lt f.sender (length c.names))) Refusal.BadCast) (option_map Refusal.UnknownPeer (stranger n.keys c)) (row (not (bytes_eq f.sid (session_id sha c))) Refusal.BadSession) (row (has_joined n.joins f.sid f.receiver) Refusal.Joined) (row (nat_le 65536 (length n.joins)) Refusal.CacheFull ∷ row (nat_le 4096 (length n.live)) Refusal.SessionsFull ∷ rows_of_session sha n.keys p (new_session f.sid c f.receiver) f) e in
               tidy_joined (extended (new_session f.sid c f.receiver) (Took f)) (and_parts (length c.names == length p.graph.roles) (all_differ c.names) (and_parts (length c.names == length p.graph.roles && all_differ c.names) (nat_lt f.receiver (length c.names)) (and_parts (length c.names == length p.graph.roles && all_differ c.names && nat_lt f.receiver (length c.names)) (bytes_eq (principal c f.receiver) n.keys.me) (and_parts (is_cast n.keys p.graph c f.receiver) (nat_lt f.sender (length c.names)) ic).0).0).0).1
               (row_none (has_joined n.joins f.sid f.receiver) Refusal.Joined four) its_owns

@@ -2,7 +2,7 @@
 use Rattle.std.specs.Prelude.{codes, ◌≡◌, ℕ, ◌==◌, nat_le, ◌||◌, ◌&&◌, ◌⊎◌, Bool, true, false, not, List, [], ◌∷◌, ◌++◌, map, flat_map, length, find, bytes_eq, refl, Some}
 use Rattle.std.specs.List.{list_all, AllByRecursion}
 use Rattle.std.proofs.Common.{sym, ◌∙◌, ap, subst, inl, inr, append_assoc}
-use Rattle.std.proofs.lemmas.Bool.{eqb-true, cases_Bool, and_parts}
+use Rattle.std.proofs.lemmas.Bool.{eqb-true, cases_Bool, and_parts, not-true}
 use Rattle.std.proofs.lemmas.List.Elements.{recursion_from_All}
 use Rattle.std.proofs.lemmas.Slice.Eq.{bytes_eq-Decides}
 use Rattle.sg_model.specs.Lists.{below, all_differ}
@@ -51,7 +51,7 @@ use Rattle.sg_law.proofs.Upto.{in_from_Contains}
 use Rattle.sg_protocol.proofs.Finding.{find_passes, find_all}
 use Rattle.sg_protocol.proofs.Calls.{NodeOk}
 use Rattle.sg_model.specs.Names.{is_name, is_name_byte, is_letter, reserved}
-use Rattle.sg_model.proofs.Small.{same_bytes, clash, not_true}
+use Rattle.sg_model.proofs.Small.{same_bytes, clash}
 use Rattle.sg_law.proofs.Members.{in_left, in_map, rec_in, all_in, in_parts}
 use Rattle.sg_law.specs.Values.{Binding, Followed}
 use Rattle.sg_law.proofs.Follow.{grown_follows}
@@ -123,7 +123,7 @@ same_named (x ∷ gs) g g' d (inl p) (inl q) e = p ∙ sym q
 same_named (x ∷ gs) g g' d (inl p) (inr j) e = absurd (differs x gs g' d j (ap (λ (z : Graph). z.name) (sym p) ∙ e))
   where
     differs : (x : Graph) (gs : List Graph) (y : Graph) → all_differ (map (λ (g : Graph). g.name) (x ∷ gs)) ≡ true → In gs y → x.name ≡ y.name → ⊥
-    differs x gs y d j e = clash (has_text x.name (map (λ (g : Graph). g.name) gs)) (there gs j) (not_true (has_text x.name (map (λ (g : Graph). g.name) gs)) (and_parts (not (has_text x.name (map (λ (g : Graph). g.name) gs))) (all_differ (map (λ (g : Graph). g.name) gs)) d).0)
+    differs x gs y d j e = clash (has_text x.name (map (λ (g : Graph). g.name) gs)) (there gs j) (not-true (has_text x.name (map (λ (g : Graph). g.name) gs)) (and_parts (not (has_text x.name (map (λ (g : Graph). g.name) gs))) (all_differ (map (λ (g : Graph). g.name) gs)) d).0)
       where
         there : (zs : List Graph) → In zs y → has_text x.name (map (λ (g : Graph). g.name) zs) ≡ true
         there [] i = absurd i
@@ -132,7 +132,7 @@ same_named (x ∷ gs) g g' d (inl p) (inr j) e = absurd (differs x gs g' d j (ap
 same_named (x ∷ gs) g g' d (inr i) (inl q) e = absurd (differs x gs g d i (ap (λ (z : Graph). z.name) (sym q) ∙ sym e))
   where
     differs : (x : Graph) (gs : List Graph) (y : Graph) → all_differ (map (λ (g : Graph). g.name) (x ∷ gs)) ≡ true → In gs y → x.name ≡ y.name → ⊥
-    differs x gs y d j e = clash (has_text x.name (map (λ (g : Graph). g.name) gs)) (there gs j) (not_true (has_text x.name (map (λ (g : Graph). g.name) gs)) (and_parts (not (has_text x.name (map (λ (g : Graph). g.name) gs))) (all_differ (map (λ (g : Graph). g.name) gs)) d).0)
+    differs x gs y d j e = clash (has_text x.name (map (λ (g : Graph). g.name) gs)) (there gs j) (not-true (has_text x.name (map (λ (g : Graph). g.name) gs)) (and_parts (not (has_text x.name (map (λ (g : Graph). g.name) gs))) (all_differ (map (λ (g : Graph). g.name) gs)) d).0)
       where
         there : (zs : List Graph) → In zs y → has_text x.name (map (λ (g : Graph). g.name) zs) ≡ true
         there [] i = absurd i

@@ -1,16 +1,17 @@
 -- Walks past no node of some roles.
 use Rattle.std.proofs.Common.{◌≡◌, ℕ, ◌<◌, ◌==◌, Bool, true, false, ◌||◌, List, [], ◌∷◌, length, refl, inl, inr, arith, eq-eqb}
 use Rattle.std.proofs.lemmas.Bool.Decides.{nat_tests}
+use Rattle.std.proofs.lemmas.Bool.{cases_Bool}
 use Rattle.sg_model.specs.Last.{has}
 use Rattle.sg_model.specs.Lists.{is_in}
 use Rattle.sg_model.specs.Shape.{Shape, source, target, sender}
+use Rattle.sg_model.proofs.Small.{second_false}
 use Rattle.sg_reach.specs.Reaches.{LeadsPast}
-use Rattle.sg_reach.proofs.Cases.{cases_of}
 
 -- two roles of which one is in a list and the other isn't differ
 pub roles_differ : (r s : ℕ) (past : List ℕ) → is_in r past ≡ true → is_in s past ≡ false → (s == r) ≡ false
 roles_differ r s past here gone =
-    elim (cases_of (s == r)) [
+    elim (cases_Bool (s == r)) [
       | inl y ↦ (let same : s ≡ r = grind (arith, nat_tests, y) in let e : is_in r past ≡ false = rw same at gone in absurd (cc))
       | inr n ↦ n
     ]
@@ -27,7 +28,7 @@ leads_by g past n e es l free x =
 -- a first edge that leads past no node of the roles leaves none of them
 pub first_free : (g : Shape) (m : ℕ) (past : List ℕ) (n e : ℕ) (es : List ℕ) → LeadsPast g m past n (e ∷ es) → is_in (sender g e) past ≡ false
 first_free g m past n e es x =
-    elim (cases_of (is_in (sender g e) past)) [
+    elim (cases_Bool (is_in (sender g e) past)) [
       | inl y ↦
           (let none : ((sender g e == sender g e) || has (sender g) (sender g e) es) ≡ false = x.clear (sender g e) y in
           let same : (sender g e == sender g e) ≡ true = eq-eqb (sender g e) (sender g e) refl in
@@ -38,8 +39,4 @@ first_free g m past n e es x =
 -- and the other edges lead on from its target
 pub first_off : (g : Shape) (m : ℕ) (past : List ℕ) (n e : ℕ) (es : List ℕ) → LeadsPast g m past n (e ∷ es) → LeadsPast g (target g e) past n es
 first_off g m past n e es x =
-    record { walk = x.walk.2; ends = x.ends; clear = λ r h. rest (sender g e == r) (has (sender g) r es) (x.clear r h) }
-  where
-    rest : (a b : Bool) → (a || b) ≡ false → b ≡ false
-    rest true b h = absurd (cc)
-    rest false b h = h
+    record { walk = x.walk.2; ends = x.ends; clear = λ r h. second_false (sender g e == r) (has (sender g) r es) (x.clear r h) }

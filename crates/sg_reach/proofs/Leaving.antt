@@ -4,9 +4,10 @@ use Rattle.std.specs.Prelude.{Option, Some, None}
 use Rattle.std.proofs.Math.ListN.{set}
 use Rattle.std.proofs.lemmas.List.{get_or-set_same, get_or-set_other}
 use Rattle.sg_model.specs.Shape.{Shape, source}
+use Rattle.sg_model.proofs.Small.{same_or_not}
 use Rattle.sg_reach.specs.Found.{IsLeft}
-use Rattle.sg_reach.specs.Inside.{IsNextOf}
-use Rattle.sg_reach.proofs.Cases.{same_or_not, less_or}
+use Rattle.sg_reach.specs.Invariant.{IsNextOf}
+use Rattle.sg_reach.proofs.Cases.{less_or}
 
 -- a label that leaves the node is the first one from itself on
 pub next_here : (g : Shape) (l n : ℕ) → l < length g.edges → source g l ≡ n → IsNextOf g n l (Some l)

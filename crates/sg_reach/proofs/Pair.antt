@@ -1,24 +1,16 @@
 -- Walks past no node of two roles.
 use Rattle.std.proofs.Common.{◌≡◌, ℕ, ◌+◌, ◌<◌, ◌==◌, nat_le, nat_lt, Bool, true, false, ◌⊎◌, ◌||◌, ◌&&◌, List, [], refl, sym, ◌∙◌, inl, inr, arith, eq-eqb}
 use Rattle.std.proofs.lemmas.Bool.Decides.{nat_tests}
+use Rattle.std.proofs.lemmas.Bool.{cases_Bool}
 use Rattle.sg_base.specs.Sets.{with_member}
-use Rattle.sg_base.proofs.SetLaws.{is_in-filter}
+use Rattle.sg_base.proofs.SetLaws.{is_in-filter, is_in-with_member}
 use Rattle.sg_model.specs.Lists.{is_in}
 use Rattle.sg_model.specs.Shape.{Shape, Leads, end_of, role_at}
 use Rattle.sg_reach.specs.Reaches.{LeadsPast}
-use Rattle.sg_reach.proofs.Cases.{cases_of}
 
 -- the set of two roles
 abbrev pub pair : ℕ → ℕ → List ℕ
 pair a b = with_member 16 (with_member 16 [] a) b
-
--- a number is in a set with one more exactly if it is the one more or was in the set
-pub is_in-with_member : (width x y : ℕ) (xs : List ℕ) → x < width → is_in x (with_member width xs y) ≡ ((x == y) || is_in x xs)
-unfolding with_member
-is_in-with_member width x y xs h =
-    let low : nat_le 0 x ≡ true = grind (arith, nat_tests) in
-    let high : nat_lt x (0 + width) ≡ true = grind (arith, nat_tests) in
-    is_in-filter (λ z. (z == y) || is_in z xs) 0 width x ∙ rw (low, high) refl
 
 -- no number that isn't below the width is in a set
 pub is_in_past : (width x y : ℕ) (xs : List ℕ) → is_in x (with_member width xs y) ≡ true → x < width
@@ -54,7 +46,7 @@ pair_only a b r h =
     let small = is_in_past 16 r b (with_member 16 [] a) h in
     let e : ((r == b) || is_in r (with_member 16 [] a)) ≡ true = sym (is_in-with_member 16 r b (with_member 16 [] a) small) ∙ h in
     let e' : is_in r (with_member 16 [] a) ≡ ((r == a) || false) = is_in-with_member 16 r a [] small in
-    elim (cases_of (r == b)) [
+    elim (cases_Bool (r == b)) [
       | inl y ↦ inr (grind (arith, nat_tests, y))
       | inr n ↦ (let f : is_in r (with_member 16 [] a) ≡ true = rw n at e in inl (first (r == a) refl (sym e' ∙ f)))
     ]

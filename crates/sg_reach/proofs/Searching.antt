@@ -7,11 +7,12 @@ use mathlib.Core.Bool.{cond}
 use Rattle.std.proofs.lemmas.List.{get_or-set_same, get_or-set_other, get_or-replicate, length-replicate, get_or_past}
 use Rattle.sg_model.specs.Lists.{is_in}
 use Rattle.sg_model.specs.Shape.{Shape, source, target, sender, role_at}
+use Rattle.sg_model.proofs.Small.{same_or_not}
 use Rattle.sg_reach.specs.Found.{found_at, IsFound, edges_to, IsFoundBy, Waits, IsSearch, IsLeft}
-use Rattle.sg_reach.specs.Inside.{IsNextOf}
+use Rattle.sg_reach.specs.Invariant.{IsNextOf}
 use Rattle.sg_reach.specs.declared.search.Found.{Found}
 use Rattle.sg_reach.specs.declared.search.Search.{Search}
-use Rattle.sg_reach.proofs.Cases.{same_or_not, less_or}
+use Rattle.sg_reach.proofs.Cases.{less_or}
 use Rattle.sg_reach.proofs.Leaving.{left_on}
 
 -- what a place of a list counts

@@ -2,6 +2,7 @@
 use Rattle.std.specs.Prelude.{◌≡◌, ℕ, zero, suc, ◌<◌, ◌≤◌, true, false, List, length, get_or, count_by, is_some, Option, Some, None, option_map, ◌⊎◌}
 use Rattle.sg_model.specs.Lists.{is_in}
 use Rattle.sg_model.specs.Shape.{Shape, source, target, sender}
+use Rattle.sg_model.specs.Limits.{most_nodes}
 use Rattle.sg_reach.specs.declared.search.Found.{Found}
 use Rattle.sg_reach.specs.declared.search.Search.{Search}
 
@@ -37,7 +38,7 @@ Waits s n = (i : ℕ) × (s.at ≤ i) × (i < s.count) × (get_or s.queue i 0 �
 
 -- each node that was found has its walk and stands in the queue once; those before `at` were followed, but for the edges that are left
 pub record IsSearch (g : Shape) (left : ℕ → Type 0) (s : Search) : Type 0 where
-  pub sizes : (length s.found ≡ 256) × (length s.queue ≡ 256)
+  pub sizes : (length s.found ≡ most_nodes) × (length s.queue ≡ most_nodes)
   pub begun : IsFound s.found s.from
   pub walks : AreWalks g s.from s.past s.found
   pub short : (n : ℕ) (f : Found) → found_at s.found n ≡ Some f → f.edges < s.count

@@ -1,3 +1,4 @@
 pub mod Found
-pub mod Inside
+pub mod Model
+pub mod Invariant
 pub mod Reaches

@@ -21,7 +21,8 @@ impl<'g> Model for Reach<'g> {
 
     ghost Value = { Closure };
 
-    ghost use Rattle.sg_reach.specs.Inside.{closure_of, HoldsReach};
+    ghost use Rattle.sg_reach.specs.Model.{closure_of};
+    ghost use Rattle.sg_reach.specs.Invariant.{HoldsReach};
 
     ghost view = { closure_of };
 

@@ -25,7 +25,8 @@ impl<'g> Model for Ways<'g> {
 
     ghost Value = { Graph };
 
-    ghost use Rattle.sg_reach.specs.Inside.{graph_of_ways, HoldsWays};
+    ghost use Rattle.sg_reach.specs.Model.{graph_of_ways};
+    ghost use Rattle.sg_reach.specs.Invariant.{HoldsWays};
 
     ghost view = { graph_of_ways };
 

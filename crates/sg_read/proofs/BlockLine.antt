@@ -2,7 +2,7 @@
 use Rattle.std.proofs.Common.{◌≡◌, refl}
 use Rattle.sg_sched.specs.declared.line.Line.{Line}
 use Rattle.sg_sched.specs.declared.line.Line.TheVariants.{Block, Edge, Honest, Key, Session, Start, Act, Abandon, Deliver, Craft}
-use Rattle.sg_sched.specs.Format.Held.{said}
+use Rattle.sg_sched.specs.Format.Model.{said}
 use Rattle.sg_sched.specs.Format.Said.{SaidBlock}
 
 -- only one line begins a block

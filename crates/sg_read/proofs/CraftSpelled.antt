@@ -26,7 +26,7 @@ use Rattle.sg_protocol.specs.Schedule.{Schedule, Source, CraftJoin, CraftItem, c
 use Rattle.sg_protocol.specs.World.{new_world}
 use Rattle.sg_protocol.specs.Crafted.{committed_to, crafted_item, crafted_items, known_item, crafted_cast, crafted_frame, nonce_of, tag_by}
 use Rattle.sg_protocol.proofs.RealHash.{real_hash}
-use Rattle.sg_protocol.proofs.Sent.{len_concat}
+use Rattle.sg_protocol.proofs.Sent.{len_concat, cut_tag}
 use Rattle.sg_protocol.proofs.Spelled.{to_bytes, bytes-append, bytes-zeros, u64_bytes}
 use Rattle.sg_sched.specs.Format.Said.{Committed, From, SaidItem, SaidCraft}
 use Rattle.sg_sched.specs.Format.Forms.{is_committed, are_committed, is_item, is_join, is_craft, is_source, are_names, is_wide}
@@ -38,7 +38,7 @@ use Rattle.sg_read.specs.Crafting.{lens, opening_len, item_len, join_len, frame_
 use Rattle.sg_read.proofs.FormParts.{ItemParts, item_parts, committed_value}
 use Rattle.sg_read.proofs.LengthLaws.{map_len, four, opening_is, names_are, flat_len}
 use Rattle.sg_read.proofs.Places.{some_place}
-use Rattle.sg_read.proofs.Tags.{cut_is_tag, cut_taken, tag_has}
+use Rattle.sg_read.proofs.Tags.{cut_taken, tag_has}
 
 -- ---- places
 
@@ -151,7 +151,7 @@ module _ (p : SoFar) (g : Graph) (is_graph : IsGraph g) (ps : List Program) (s :
   variables_few = let a = length-map g.variables (λ v. v.name) in let b = is_graph.sizes.1 in omega (arith, a, b)
 
   tag_of : (text : List ℕ) (t : Source) → IsTag v (cut v (tag_by real s (new_world ps s) text t))
-  tag_of text t = cut_is_tag v version _ (tag_has ps s text t)
+  tag_of text t = cut_tag v version _ (tag_has ps s text t)
 
   item_fits : (before : List Item) (i : SaidItem) → KnownItem p (Some g) i → IsItem v (crafted_item real s (new_world ps s) h x before (craft_item (Some g) i))
   item_fits before i k =

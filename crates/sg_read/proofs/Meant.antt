@@ -3,7 +3,7 @@ use Rattle.std.proofs.Common.{◌≡◌, ℕ, zero, suc, ◌<◌, Bool, true, fa
 use Rattle.std.specs.Prelude.{Option, Some, None, option_map, option_and_then, bytes_eq, slice_get, nat_lt, nat_le, IsSomeAnd, IsTrue, Contains}
 use Rattle.std.specs.List.{list_all, AllByRecursion}
 use Rattle.std.specs.Option.{option_map_or}
-use Rattle.std.proofs.lemmas.Bool.{leb-false, and_parts, cases_Bool}
+use Rattle.std.proofs.lemmas.Bool.{leb-false, and_parts, cases_Bool, or_parts}
 use Rattle.std.proofs.lemmas.List.{length-map}
 use Rattle.std.proofs.lemmas.List.Elements.{All-from_recursion}
 use Rattle.std.proofs.lemmas.Option.{slice_get-map, slice_get_within, get_or_from_slice_get}
@@ -33,7 +33,7 @@ use Rattle.sg_read.specs.Plus.{plus}
 use Rattle.sg_read.specs.Whole.{schedule_of_past}
 use Rattle.sg_read.proofs.CraftSpelled.{nonce_has, place_below}
 use Rattle.sg_read.proofs.Growing.{one_more}
-use Rattle.sg_read.proofs.RightLines.{IsRight, right, neither, in_group}
+use Rattle.sg_read.proofs.RightLines.{IsRight, right, in_group}
 use Rattle.sg_read.proofs.SessionsDeclared.{HasFewRoles, IsOf, Sound, sound, said_more, graph_more}
 use Rattle.sg_sched.specs.Format.Kinds.{TooManySteps}
 use Rattle.sg_read.specs.Holding.{HasRoles}
@@ -78,7 +78,7 @@ said_meant p m said i form r e = by said form r e (said_more p m.sound said i fo
     by (SaidSession name graph nonce names version) form r e sound =
         let s : Session = record { name = name; graph = place graph (graph_names (graphs_of_past p)); nonce = nonce; names = names; version = version } in
         let same : SessionItem s ≡ i = cc in
-        let late = (neither (nat_lt 3 p.group) _ r.form).0 in
+        let late = (or_parts (nat_lt 3 p.group) _ r.form).0 in
         subst (λ i. Meant (plus p i)) same (session_meant p m s (in_group p 3 late) (subst (λ i. Sound (plus p i)) (sym same) sound))
     by (SaidStart who session) form r e sound = step (StartStep who (place session (session_names p))) (cc) r.few (there session r.known) sound
     by (SaidAct who session label vs) form r e sound =

@@ -2,7 +2,7 @@
 use Rattle.std.proofs.Common.{◌≡◌, ℕ, zero, suc, ◌+◌, ◌<◌, ◌≤◌, ◌==◌, Bool, true, false, not, ◌&&◌, List, [], ◌∷◌, map, length, get_or, refl, sym, ap, ◌∙◌, subst, arith, if◌then◌else◌, inl, inr}
 use Rattle.std.specs.Prelude.{Option, Some, None, option_map, option_and_then, position, bytes_eq, slice_get, nat_le, unwrap_or, is_some, filter_map}
 use Rattle.std.specs.List.{list_all, AllByRecursion, cons_option}
-use Rattle.std.proofs.lemmas.Bool.{leb-true, and_parts, cases_Bool}
+use Rattle.std.proofs.lemmas.Bool.{leb-true, and_parts, cases_Bool, not-false}
 use Rattle.std.proofs.lemmas.List.{length-map}
 use Rattle.std.proofs.lemmas.List.Quantifiers.{position-Some}
 use Rattle.std.proofs.lemmas.Option.{slice_get-get_or}
@@ -156,7 +156,7 @@ in_graph p c g s is form k r short version there =
 pub craft_fits : (p : SoFar) (m : Meant p) (c : SaidCraft) → is_craft c ≡ true → IsRight p (SaidMake c) → FitsCraft p.sessions (craft p (graph_for c.session p) c)
 craft_fits p m c form r =
     let g0 = graph_for c.session p in
-    let fine : (rises g0 c && is_short g0 (session_named c.session p) c) ≡ true = not_false (rises g0 c && is_short g0 (session_named c.session p) c) r.form in
+    let fine : (rises g0 c && is_short g0 (session_named c.session p) c) ≡ true = not-false (rises g0 c && is_short g0 (session_named c.session p) c) r.form in
     let rs = and_parts (rises g0 c) (is_short g0 (session_named c.session p) c) fine in
     let k = known_craft p c g0 r.known in
     let s = session_at p c.session k.session in
@@ -167,7 +167,3 @@ craft_fits p m c form r =
     let few : nat_le (frame_len s.0 c) 60000 ≡ true = short_is g0 s.0 c (session_named c.session p) s.1 ∙ rs.1 in
     subst (λ (g : Option Graph). FitsCraft p.sessions (craft p g c)) (sym at)
     (in_graph p c g s.0 is form (subst (IsKnown p c) at k) (ap (λ g. rises g c) (sym at) ∙ rs.0) (leb-true (frame_len s.0 c) 60000 few) o.version s.2)
-  where
-    not_false : (b : Bool) → not b ≡ false → b ≡ true
-    not_false true h = refl
-    not_false false h = absurd (cc)

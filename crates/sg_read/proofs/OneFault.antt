@@ -1,10 +1,11 @@
 -- Bytes have one first fault at most, and none where they spell a schedule.
 use Rattle.std.proofs.Common.{◌≡◌, ℕ, suc, ◌+◌, Bool, true, false, not, ◌||◌, List, [], ◌∷◌, ◌++◌, length, refl, sym, ap, ◌∙◌, subst, append_assoc, append-nil}
-use Rattle.std.specs.Prelude.{Option, Some, None, Result, Ok, Err, codes, bytes_eq}
-use Rattle.std.specs.List.{list_all}
+use Rattle.std.specs.Prelude.{Option, Some, None, Result, Err, codes, bytes_eq}
 use Rattle.std.proofs.lemmas.List.Elements.{filter_map-append}
+use Rattle.std.proofs.lemmas.Bool.{or_parts}
 use Rattle.sg_model.specs.Lists.{has_text}
-use Rattle.sg_model.proofs.Small.{same_bytes}
+use Rattle.sg_model.proofs.Small.{same_bytes, contradicts}
+use Rattle.sg_model.proofs.Differ.{no_text_both}
 use Rattle.sg_protocol.specs.Graph.{Graph, Edge}
 use Rattle.sg_protocol.specs.Schedule.{Schedule}
 use Rattle.sg_protocol.specs.Texts.{Hash}
@@ -19,17 +20,15 @@ use Rattle.sg_sched.specs.Format.Items.{Item, GraphItem, EdgeItem, HonestItem, K
 use Rattle.sg_sched.specs.Format.Made.{made}
 use Rattle.sg_sched.specs.Format.Kinds.{Kind, Graph as OfGraph}
 use Rattle.sg_sched.specs.Format.Faults.{fault}
-use Rattle.sg_sched.specs.Format.Spells.{Line, closes, IsOpened, IsBlock, Skip, Say, Show, Declare, Nothing, Next, SpellsSchedule, IsWrong, OfNoForm, OfAForm, NotClosed, NoGraph, SameGraph, IsWrongAt, IsPairAt, IsFirstFault, AtIt, AtEdge}
-use Rattle.sg_sched.proofs.FormatWords.{both_left, both_right}
+use Rattle.sg_sched.specs.Format.Spells.{Line, IsOpened, IsBlock, Skip, Say, Show, Declare, Nothing, Next, SpellsSchedule, IsWrong, OfNoForm, OfAForm, NotClosed, NoGraph, SameGraph, IsWrongAt, IsPairAt, IsFirstFault, AtIt, AtEdge}
 use Rattle.sg_sched.proofs.FormatReading.{says_one}
 use Rattle.sg_sched.proofs.FormatOnce.{head_same, tail_same, first_closing}
-use Rattle.sg_sched.proofs.FormatPieces.{laid}
-use Rattle.sg_sched.proofs.FormatApart.{one_text, names_append}
+use Rattle.sg_sched.proofs.FormatPieces.{laid, ok_same}
+use Rattle.sg_sched.proofs.FormatApart.{one_text, names_append, never_closed, ok_err}
 use Rattle.sg_sched.proofs.FormatNotBoth.{not_both}
 use Rattle.sg_sched.proofs.FormatPairOnce.{no_pair_at}
-use Rattle.sg_read.proofs.RightLines.{right, neither}
-use Rattle.sg_read.proofs.StandingLaws.{no_text_both}
-use Rattle.sg_read.proofs.SamePast.{clash, ok_same, front, same_past, wrong_ends, edge_ends, some_edges, pair_named, pair_ends}
+use Rattle.sg_read.proofs.RightLines.{right}
+use Rattle.sg_read.proofs.SamePast.{front, same_past, wrong_ends, edge_ends, some_edges, pair_named, pair_ends}
 
 -- ---- no block of the name `pair` where an edge is declared
 
@@ -51,7 +50,7 @@ NoPair items = has_text (codes "pair") (graph_names (blocks items)) ≡ false
 
 edge_right : (items : List Item) (said : Said) (e : Edge) → made items said ≡ Some (EdgeItem e) → fault items said ≡ None → NoPair items
 edge_right items SaidBlock e m f = absurd (cc)
-edge_right items (SaidEdge label from to) e m f = (neither _ _ (right (so_far items) (SaidEdge label from to) f).once).1
+edge_right items (SaidEdge label from to) e m f = (or_parts _ _ (right (so_far items) (SaidEdge label from to) f).once).1
 edge_right items (SaidHonest who) e m f = absurd (cc)
 edge_right items (SaidKey one two digits) e m f = absurd (cc)
 edge_right items (SaidSession name graph nonce names version) e m f = absurd (cc)
@@ -85,7 +84,7 @@ shown_no_pair items g fresh some h =
   where
     by : (b : Bool) → bytes_eq (codes "pair") g.name ≡ b → (b || false) ≡ false
     by false e = refl
-    by true e = absurd (clash (pair_named items some) (ap (λ n. has_text n (graph_names (graphs items))) (same_bytes (codes "pair") g.name e) ∙ fresh))
+    by true e = absurd (contradicts (pair_named items some) (ap (λ n. has_text n (graph_names (graphs items))) (same_bytes (codes "pair") g.name e) ∙ fresh))
 
 no_pair_block : {ls : List Line} {items : List Item} → Declare ls items → (edges items ≡ [] → ⊥) → NoPair items
 no_pair_block Nothing some = absurd (some refl)
@@ -117,13 +116,6 @@ no_fault : (before : List Item) (line opening : Line) (ls ls' : List Line) (said
 no_fault before line opening ls ls' said k says wrong opens in_group e =
     no_kind (sym wrong ∙ ap (fault before) (says_one opening said SaidBlock (subst (λ l. SaysLine l said) (head_same e) says) opens) ∙ in_group)
 
--- lines of which none closes a block have no closing line
-never_closed : (i j : List Line) (c : Line) (r : List Line) → list_all (λ l. not (closes l)) i ≡ true → closes c ≡ true → i ≡ j ++ c ∷ r → ⊥
-never_closed [] [] c r a p e = cc
-never_closed [] (y ∷ ys) c r a p e = cc
-never_closed (x ∷ xs) [] c r a p e = clash (both_left (not (closes x)) _ a) (ap (λ l. not (closes l)) (head_same e) ∙ ap not p)
-never_closed (x ∷ xs) (y ∷ ys) c r a p e = never_closed xs ys c r (both_right (not (closes x)) _ a) p (tail_same e)
-
 -- a block that isn't closed is none that is
 open_or_block : (before : List Item) (opening : Line) (inner block rest : List Line) (text : List ℕ) → IsOpened before opening inner → IsBlock before block text → (opening ∷ inner) ++ [] ≡ block ++ rest → ⊥
 open_or_block before opening inner block rest text op b e =
@@ -142,12 +134,6 @@ err_same e f r p q = ap inside (sym p ∙ q)
     inside : Result Graph ParseFault → ParseFault
     inside (Err x) = x
     inside other = e
-
-ok_err : {g : Graph} {e : ParseFault} {r : Result Graph ParseFault} → r ≡ Ok g → r ≡ Err e → ⊥
-ok_err p q = differ (sym p ∙ q)
-  where
-    differ : {g : Graph} {e : ParseFault} → Ok g ≡ Err e → ⊥
-    differ e = cc
 
 -- the same number of lines, and the same kind
 pub record SameFault (these these' : List Line) (k j : Kind) : Type 0 where
@@ -204,7 +190,7 @@ module _ (before : List Item) where
       ok_err (spells-read text g spells) (ap read (sym (one_text before these block rest rest' t text b' b e)) ∙ bad)
   wrong_or_pair these rest block rest' _ text g (SameGraph {text = t} {g = g'} b' spells' same) b spells named free e =
       let graphs_same : g' ≡ g = ok_same g' g (read t) (spells-read t g' spells') (ap read (one_text before these block rest rest' t text b' b e) ∙ spells-read text g spells) in
-      clash same (ap (λ n. has_text n (graph_names (blocks before))) (ap (λ (x : Graph). x.name) graphs_same ∙ named) ∙ free)
+      contradicts same (ap (λ n. has_text n (graph_names (blocks before))) (ap (λ (x : Graph). x.name) graphs_same ∙ named) ∙ free)
 
 -- ---- one first fault
 

@@ -11,8 +11,8 @@ use Rattle.std.proofs.lemmas.List.Folds.{list_all-append}
 use Rattle.sg_model.specs.Lists.{has_text, all_differ, below, range_from}
 use Rattle.sg_model.specs.Names.{Name, is_name, is_name_byte, reserved}
 use Rattle.sg_model.proofs.Small.{all_weaker}
+use Rattle.sg_model.proofs.Differ.{all_differ-append}
 use Rattle.sg_protocol.specs.Graph.{Graph, Node, Edge, IsGraph, AreNames, AreNumbers}
-use Rattle.sg_parse.proofs.TookParts.{differ-one_more}
 use Rattle.sg_sched.specs.Pair.{node, node_count, pair_graph}
 use Rattle.sg_sched.proofs.NodeNames.{decimal_one, decimal_two, decimal_three, digit_plain}
 use Rattle.sg_sched.proofs.PairLaws.{nodes_push, length_nodes, name_new}
@@ -63,7 +63,7 @@ nodes_differ (suc n) h =
     let new = name_new g n (omega (arith, before)) refl in
     ap (λ ns. all_differ (map (λ (n : Node). n.name) ns)) (nodes_push n)
     ∙ ap all_differ (map_push (λ (n : Node). n.name) (map node (below n)) (node n))
-    ∙ differ-one_more (map (λ (n : Node). n.name) (map node (below n))) (110 ∷ decimal n) (nodes_differ n before) new
+    ∙ all_differ-append (map (λ (n : Node). n.name) (map node (below n))) (110 ∷ decimal n) (nodes_differ n before) new
 
 digit_name : (d : ℕ) → d < 10 → is_name_byte (48 + d) ≡ true
 digit_name d h = grind (arith, nat_tests)

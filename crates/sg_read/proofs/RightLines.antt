@@ -1,7 +1,7 @@
 -- What is known of a line of a form that is right.
-use Rattle.std.proofs.Common.{◌≡◌, ℕ, ◌≤◌, Bool, true, false, not, ◌||◌, List, [], ◌∷◌, refl}
+use Rattle.std.proofs.Common.{◌≡◌, ℕ, ◌≤◌, Bool, true, false, not, List, [], ◌∷◌, refl}
 use Rattle.std.specs.Prelude.{Option, None, nat_lt}
-use Rattle.std.proofs.lemmas.Bool.{ltb-false}
+use Rattle.std.proofs.lemmas.Bool.{ltb-false, not-false}
 use Rattle.sg_model.proofs.Small.{none_parts}
 use Rattle.sg_sched.specs.Format.Said.{Said}
 use Rattle.sg_sched.specs.Format.Items.{SoFar}
@@ -20,10 +20,6 @@ no_kind : (b : Bool) (k : Kind) → where' b k ≡ None → b ≡ false
 no_kind true k h = absurd (cc)
 no_kind false k h = refl
 
-not_false : (b : Bool) → not b ≡ false → b ≡ true
-not_false true h = refl
-not_false false h = absurd (cc)
-
 pub right : (p : SoFar) (said : Said) → fault_after p said ≡ None → IsRight p said
 right p said h =
     let e : List (Option Kind) = [] in
@@ -39,14 +35,10 @@ right p said h =
     record {
       form = no_kind (is_wrong p said) Form a.0;
       few = b.0;
-      known = not_false (is_known p said) (no_kind (not (is_known p said)) Unknown c.0);
+      known = not-false (is_known p said) (no_kind (not (is_known p said)) Unknown c.0);
       once = no_kind (is_repeated p said) Twice d.0;
-      honest = not_false (is_honest p said) (no_kind (not (is_honest p said)) NotHonest f.0);
+      honest = not-false (is_honest p said) (no_kind (not (is_honest p said)) NotHonest f.0);
     }
-
-pub neither : (a b : Bool) → (a || b) ≡ false → (a ≡ false) × (b ≡ false)
-neither false b h = (refl, h)
-neither true b h = absurd (cc)
 
 -- it isn't out of its group
 pub in_group : (p : SoFar) (n : ℕ) → nat_lt n p.group ≡ false → p.group ≤ n

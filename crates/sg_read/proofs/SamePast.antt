@@ -1,13 +1,14 @@
 -- Two ways to read the same lines come to the same place, if neither goes on.
-use Rattle.std.proofs.Common.{◌≡◌, ℕ, Bool, true, false, ◌||◌, List, [], ◌∷◌, ◌++◌, refl, sym, ap, ◌∙◌, subst, append_assoc, append-nil}
-use Rattle.std.specs.Prelude.{Option, Some, None, Result, Ok, codes, bytes_eq}
+use Rattle.std.proofs.Common.{◌≡◌, ℕ, true, List, [], ◌∷◌, ◌++◌, refl, sym, ap, ◌∙◌, subst, append_assoc, append-nil}
+use Rattle.std.specs.Prelude.{codes}
 use Rattle.std.proofs.lemmas.List.Elements.{filter_map-append}
 use Rattle.sg_model.specs.Lists.{has_text}
 use Rattle.sg_model.specs.Names.{Name}
+use Rattle.sg_model.proofs.Small.{contradicts, some_same, right_empty}
+use Rattle.sg_model.proofs.Differ.{later_text}
 use Rattle.sg_protocol.specs.Graph.{Graph, Edge}
 use Rattle.sg_parse.specs.Grammar.{SpellsGraph}
 use Rattle.sg_parse.specs.Reading.{read}
-use Rattle.sg_parse.specs.declared.fault.ParseFault.{ParseFault}
 use Rattle.sg_parse.proofs.GivesGraph.{spells-read}
 use Rattle.sg_sched.specs.Pair.{edge, graphs_of}
 use Rattle.sg_sched.specs.Format.Said.{SaidBlock, SaidEdge}
@@ -18,23 +19,10 @@ use Rattle.sg_sched.specs.Format.Kinds.{Kind}
 use Rattle.sg_sched.specs.Format.Spells.{Line, IsBlock, Add, Skip, Say, Show, Declare, IsWrong}
 use Rattle.sg_sched.proofs.FormatReading.{says_one}
 use Rattle.sg_sched.proofs.FormatOnce.{not_skipped, head_same}
-use Rattle.sg_sched.proofs.FormatPieces.{laid, one_add, say_or_show, skip_or_show}
+use Rattle.sg_sched.proofs.FormatPieces.{laid, one_add, say_or_show, skip_or_show, ok_same}
 use Rattle.sg_sched.proofs.FormatOne.{Front, Done, More, of_declare}
 use Rattle.sg_sched.proofs.FormatApart.{add_or_wrong, one_text, names_append}
 use Rattle.sg_sched.proofs.FormatNotBoth.{behind}
-
-pub clash : {b : Bool} → b ≡ true → b ≡ false → ⊥
-clash p q = true_false (sym p ∙ q)
-  where
-    true_false : true ≡ false → ⊥
-    true_false e = cc
-
-pub ok_same : (g h : Graph) (r : Result Graph ParseFault) → r ≡ Ok g → r ≡ Ok h → g ≡ h
-ok_same g h r p q = ap inside (sym p ∙ q)
-  where
-    inside : Result Graph ParseFault → Graph
-    inside (Ok x) = x
-    inside other = g
 
 -- lines that declare items, from the front
 pub front : {right : List Line} {items : List Item} → Declare right items → Front [] right items
@@ -72,28 +60,17 @@ left_empty : {A : Type 0} (xs ys : List A) → xs ++ ys ≡ [] → xs ≡ []
 left_empty [] ys e = refl
 left_empty (x ∷ xs) ys e = absurd (cc)
 
-right_empty : {A : Type 0} (xs : List A) (y : A) → xs ++ y ∷ [] ≡ [] → ⊥
-right_empty [] y e = cc
-right_empty (x ∷ xs) y e = cc
-
 -- an edge stays
 edges_stay : {before all : List Item} {ls : List Line} → Front before ls all → (edges before ≡ [] → ⊥) → edges all ≡ [] → ⊥
 edges_stay Done h e = h e
 edges_stay (More {before = b} {new = n} a f) h e = edges_stay f (λ none. h (left_empty (edges b) (edges n) (sym (filter_map-append as_edge b n) ∙ none))) e
-
-some_item : {i j : Item} → Some i ≡ Some j → i ≡ j
-some_item {i = i} e = ap inside e
-  where
-    inside : Option Item → Item
-    inside None = i
-    inside (Some x) = x
 
 -- where no edge is declared, a way ends at an edge line
 pub edge_ends : (items : List Item) (line : Line) (rest : List Line) (label : Name) (from to : ℕ) → SaysLine line (SaidEdge label from to) → (all : List Item) → edges all ≡ [] → Ends items (line ∷ rest) all
 edge_ends items line rest label from to says all none new _ later (Skip {line = l} s) e ls f = not_skipped line (SaidEdge label from to) says (subst (λ l. is_skipped l ≡ true) (sym (head_same e)) s)
 edge_ends items line rest label from to says all none _ _ later (Say {line = l} {said = t} {item = i} says' right makes) e ls f =
     let same : t ≡ SaidEdge label from to = says_one line t (SaidEdge label from to) (subst (λ l. SaysLine l t) (sym (head_same e)) says') says in
-    let item : i ≡ EdgeItem (edge label from to) = some_item (sym makes ∙ ap (made items) same) in
+    let item : i ≡ EdgeItem (edge label from to) = some_same (sym makes ∙ ap (made items) same) in
     edges_stay (subst (λ i. Front (items ++ i ∷ []) ls all) item f) (λ h. right_empty (edges items) (edge label from to) (sym (filter_map-append as_edge items (EdgeItem (edge label from to) ∷ [])) ∙ h)) none
 edge_ends items line rest label from to says all none _ more later (Show {text = text} b spells fresh) e ls f =
     absurd (other (says_one line SaidBlock (SaidEdge label from to) (subst (λ l. SaysLine l SaidBlock) (sym (head_same (e ∙ laid items more later text b))) b.opened.opens) says))
@@ -121,14 +98,6 @@ pair_among : (es : List Edge) → (es ≡ [] → ⊥) → has_text (codes "pair"
 pair_among [] h = absurd (h refl)
 pair_among (e ∷ es) h = refl
 
-later_text : (n : Name) (xs ys : List Name) → has_text n ys ≡ true → has_text n (xs ++ ys) ≡ true
-later_text n [] ys h = h
-later_text n (x ∷ xs) ys h = or_true (bytes_eq n x) (later_text n xs ys h)
-  where
-    or_true : (a : Bool) {b : Bool} → b ≡ true → (a || b) ≡ true
-    or_true true h = refl
-    or_true false h = h
-
 -- where an edge is declared, so is a graph named `pair`
 pub pair_named : (items : List Item) → (edges items ≡ [] → ⊥) → has_text (codes "pair") (graph_names (graphs items)) ≡ true
 pair_named items h = ap (has_text (codes "pair")) (names_append (blocks items) (graphs_of (edges items)))
@@ -141,4 +110,4 @@ pair_ends items block rest text g some b spells named all new _ later (Skip {lin
 pair_ends items block rest text g some b spells named all _ _ later (Say {line = l} {said = t} {item = i} says right makes) e ls f = say_or_show items l t i block later rest text says makes b (sym e)
 pair_ends items block rest text g some b spells named all _ more later (Show {text = text'} {g = g'} b' spells' fresh) e ls f =
     let same : g' ≡ g = ok_same g' g (read text') (spells-read text' g' spells') (ap read (one_text items more block later rest text' text b' b (sym e)) ∙ spells-read text g spells) in
-    clash (pair_named items some) (ap (λ n. has_text n (graph_names (graphs items))) (sym (ap (λ (x : Graph). x.name) same ∙ named)) ∙ fresh)
+    contradicts (pair_named items some) (ap (λ n. has_text n (graph_names (graphs items))) (sym (ap (λ (x : Graph). x.name) same ∙ named)) ∙ fresh)

@@ -6,7 +6,7 @@ use Rattle.std.specs.Cmp.Lexicographic.{pointwise}
 use Rattle.indexmap.specs.IndexSet.{insert_key}
 use Rattle.sg_model.specs.Names.{Name}
 use Rattle.sg_sched.specs.Format.Faults.{same_names, is_like}
-use Rattle.sg_sched.proofs.SameName.{same, same-bytes}
+use Rattle.sg_base.proofs.SameName.{same, same-bytes_eq}
 use Rattle.sg_read.specs.Sessions.{session_of, sessions_of}
 use Rattle.sg_read.specs.declared.sessions.Like.{Like}
 use Rattle.sg_read.specs.contracts.sessions.LikePartialEq.TheImpl.{eq-value}
@@ -49,7 +49,7 @@ pub names_same : (xs ys : List Name) → pointwise same xs ys ≡ same_names xs 
 names_same [] [] = refl
 names_same [] (y ∷ ys) = refl
 names_same (x ∷ xs) [] = refl
-names_same (x ∷ xs) (y ∷ ys) = λ i. same-bytes x y i && names_same xs ys i
+names_same (x ∷ xs) (y ∷ ys) = λ i. same-bytes_eq x y i && names_same xs ys i
 
 regroup : (p q r s : Bool) → p && (q && (r && s)) ≡ p && q && r && s
 regroup true true r s = refl

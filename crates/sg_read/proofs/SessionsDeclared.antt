@@ -3,7 +3,7 @@ use Rattle.std.proofs.Common.{◌≡◌, ℕ, zero, suc, ◌<◌, ◌≤◌, ◌
 use Rattle.std.specs.Prelude.{Option, Some, None, position, bytes_eq, slice_get, nat_lt, nat_le, unwrap_or, is_some}
 use Rattle.std.specs.List.{list_all, AllByRecursion}
 use Rattle.std.specs.Option.{option_map_or}
-use Rattle.std.proofs.lemmas.Bool.{eqb-true}
+use Rattle.std.proofs.lemmas.Bool.{eqb-true, or_parts, not-false}
 use Rattle.std.proofs.lemmas.List.{length-map}
 use Rattle.std.proofs.lemmas.List.Quantifiers.{position-Some}
 use Rattle.std.proofs.lemmas.Option.{slice_get-get_or, slice_get_within}
@@ -25,7 +25,7 @@ use Rattle.sg_read.specs.Plus.{plus}
 use Rattle.sg_read.specs.Whole.{HaveCasts}
 use Rattle.sg_read.proofs.Growing.{one_more}
 use Rattle.sg_read.proofs.Places.{some_place}
-use Rattle.sg_read.proofs.RightLines.{IsRight, right, neither, in_group}
+use Rattle.sg_read.proofs.RightLines.{IsRight, right, in_group}
 
 -- ---- what is held of graphs and sessions
 
@@ -122,7 +122,7 @@ module _ (p : SoFar) (s : Sound p) where
       → IsRight p (SaidSession name graph nonce names version) → Sound (plus p (SessionItem (record { name = name; graph = place graph (graph_names (graphs_of_past p)); nonce = nonce; names = names; version = version })))
   session_more name graph nonce names version form r =
       let gs = graphs_of_past p in
-      let f = neither _ (not (fits_graph p graph names)) r.form in
+      let f = or_parts _ (not (fits_graph p graph names)) r.form in
       let at = named graph gs r.known in
       let a = is_name name && is_name graph && is_wide nonce && nat_le 1 (length names) in
       let b = are_names names in
@@ -137,7 +137,7 @@ module _ (p : SoFar) (s : Sound p) where
             graph = at.0;
             there = at.1;
             roles = some_at gs (place graph (graph_names gs)) at.0 s.graphs at.1;
-            count = fits p graph names at.0 r.known at.1 (fine (fits_graph p graph names) f.1);
+            count = fits p graph names at.0 r.known at.1 (not-false (fits_graph p graph names) f.1);
             differ = and_right (a && b) c abc;
             names = and_right a b ab;
             version = version_of version (and_right (a && b && c) v form);
@@ -146,12 +146,8 @@ module _ (p : SoFar) (s : Sound p) where
         );
         none_yet = λ h. absurd (omega (arith, h));
       }
-    where
-      fine : (x : Bool) → not x ≡ false → x ≡ true
-      fine true h = refl
-      fine false h = absurd (cc)
 
-  -- an item that is neither a graph nor a session
+  -- an item that is or_parts a graph nor a session
   other_more : (q : SoFar) → graphs_of_past q ≡ graphs_of_past p → q.sessions ≡ p.sessions → p.group ≤ q.group → Sound q
   other_more q gs ss later = record {
     graphs = subst (AllByRecursion HasFewRoles) (sym gs) s.graphs;
@@ -167,7 +163,7 @@ module _ (p : SoFar) (s : Sound p) where
   said_more SaidBlock i form r m = absurd (cc)
   said_more (SaidEdge label from to) i form r m =
       let same : EdgeItem (edge label from to) ≡ i = cc in
-      let late = (neither (nat_lt 0 p.group) _ r.form).0 in
+      let late = (or_parts (nat_lt 0 p.group) _ r.form).0 in
       subst (λ i. Sound (plus p i)) same (edge_more (edge label from to) (in_group p 0 late))
   said_more (SaidHonest who) i form r m = let same : HonestItem who ≡ i = cc in subst (λ i. Sound (plus p i)) same (other_more (plus p (HonestItem who)) refl refl (omega arith))
   said_more (SaidKey one two digits) i form r m =

@@ -22,7 +22,8 @@ use Rattle.sg_sched.specs.declared.fault.LineFault.TheVariants.{Line as AtLine, 
 use Rattle.sg_read.specs.Adding.{after_line}
 use Rattle.sg_read.specs.Block.{IsOpen, IsClosed}
 use Rattle.sg_read.specs.Plus.{plus, nothing}
-use Rattle.sg_model.proofs.Small.{same_bytes}
+use Rattle.sg_model.proofs.Small.{same_bytes, right_empty}
+use Rattle.sg_model.proofs.Differ.{no_text_both}
 use Rattle.sg_sched.specs.declared.fault.Kind.TheVariants.{Form as KindForm, Unknown as KindUnknown, Twice as KindTwice, NotHonest as KindNotHonest, Graph as KindGraph, TooManySteps as KindTooManySteps, TooManySessions as KindTooManySessions}
 use Rattle.sg_read.specs.declared.stop.Stop.{Stop}
 use Rattle.sg_read.specs.declared.stop.Stop.TheVariants.{Wrong, OutOfMemory}
@@ -64,10 +65,6 @@ kept_edge right more items items' n same (inr e) = inr ((λ none. e.0 (sym same 
 one_edge : (items : List Item) (i : Item) → edges (items ++ i ∷ []) ≡ (plus (so_far items) i).edges
 one_edge items i = ap (λ (p : SoFar). p.edges) (one_more items i)
 
-some_more : {A : Type 0} (xs : List A) (x : A) → xs ++ x ∷ [] ≡ [] → ⊥
-some_more [] x e = cc
-some_more (y ∷ ys) x e = cc
-
 -- the words of an edge line
 record SaysEdge (said : Said) : Type 0 where
   label : Name
@@ -92,7 +89,7 @@ module _ (right : List Line) (items : List Item) (line : Line) (said : Said) (sa
   first : (i : Item) → made items said ≡ Some i → edges items ≡ [] → EdgeOf (right ++ line ∷ []) (items ++ i ∷ []) (suc (length right))
   first (GraphItem g) m none = inl (one_edge items (GraphItem g) ∙ none)
   first (EdgeItem e) m none = inr (
-    (λ h. some_more (edges items) e (sym (one_edge items (EdgeItem e)) ∙ h)),
+    (λ h. right_empty (edges items) e (sym (one_edge items (EdgeItem e)) ∙ h)),
     (let s = says_edge items said e m in record {
       right = right;
       edge_line = line;
@@ -116,7 +113,7 @@ module _ (right : List Line) (items : List Item) (line : Line) (said : Said) (sa
   -- it is not the first one
   not_first : (i : Item) (n : ℕ) → (edges items ≡ [] → ⊥) → IsFirstEdge right n → EdgeOf (right ++ line ∷ []) (items ++ i ∷ []) n
   not_first (GraphItem g) n some e = inr ((λ h. some (sym (one_edge items (GraphItem g)) ∙ h)), later_edge right (line ∷ []) n e)
-  not_first (EdgeItem d) n some e = inr ((λ h. some_more (edges items) d (sym (one_edge items (EdgeItem d)) ∙ h)), later_edge right (line ∷ []) n e)
+  not_first (EdgeItem d) n some e = inr ((λ h. right_empty (edges items) d (sym (one_edge items (EdgeItem d)) ∙ h)), later_edge right (line ∷ []) n e)
   not_first (HonestItem who) n some e = inr ((λ h. some (sym (one_edge items (HonestItem who)) ∙ h)), later_edge right (line ∷ []) n e)
   not_first (KeyItem k) n some e = inr ((λ h. some (sym (one_edge items (KeyItem k)) ∙ h)), later_edge right (line ∷ []) n e)
   not_first (SessionItem s) n some e = inr ((λ h. some (sym (one_edge items (SessionItem s)) ∙ h)), later_edge right (line ∷ []) n e)
@@ -390,14 +387,6 @@ pair_named n (e ∷ es) h = by (bytes_eq n (codes "pair")) refl h
     by : (b : Bool) → bytes_eq n (codes "pair") ≡ b → (b || false) ≡ true → IsPairName n (e ∷ es)
     by true q h = record { named = same_bytes n (codes "pair") q; some = λ none. cc }
     by false q h = absurd (cc)
-
-pub no_text_both : (t : Name) (xs ys : List Name) → has_text t xs ≡ false → has_text t ys ≡ false → has_text t (xs ++ ys) ≡ false
-no_text_both t [] ys a b = b
-no_text_both t (x ∷ xs) ys a b = by (bytes_eq t x) a (λ h. no_text_both t xs ys h b)
-  where
-    by : (c : Bool) → (c || has_text t xs) ≡ false → (has_text t xs ≡ false → has_text t (xs ++ ys) ≡ false) → (c || has_text t (xs ++ ys)) ≡ false
-    by true a next = absurd (cc)
-    by false a next = next a
 
 -- a name of no graph
 pub fresh_name : (n : Name) (p : SoFar) → has_text n (graph_names p.blocks) ≡ false → has_text n (graph_names (graphs_of p.edges)) ≡ false → has_text n (graph_names (graphs_of_past p)) ≡ false

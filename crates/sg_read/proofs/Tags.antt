@@ -1,10 +1,10 @@
 -- Tags and commitments of crafted frames have their bytes.
-use Rattle.std.proofs.Common.{◌≡◌, ℕ, ◌==◌, ◌≤◌, List, [], ◌∷◌, ◌++◌, length, take, drop, replicate, refl, sym, ap, ◌∙◌, subst, arith, append-nil, inl, inr}
+use Rattle.std.proofs.Common.{◌≡◌, ℕ, ◌==◌, ◌≤◌, List, length, take, refl, arith, inl, inr}
 use Rattle.std.specs.Prelude.{None}
 use Rattle.std.proofs.lemmas.Bool.{cases_Bool}
-use Rattle.std.proofs.lemmas.List.{length-append, length-take-le}
+use Rattle.std.proofs.lemmas.List.{length-take-le}
 use Rattle.sg_model.specs.Bytes.{AreBytes}
-use Rattle.sg_protocol.specs.Frame.{IsTag, tag_len}
+use Rattle.sg_protocol.specs.Frame.{tag_len}
 use Rattle.sg_protocol.specs.TextLaws.{IsVersion}
 use Rattle.sg_protocol.specs.Texts.{real, cut}
 use Rattle.sg_protocol.specs.Keyring.{Program}
@@ -12,26 +12,8 @@ use Rattle.sg_protocol.specs.Schedule.{Schedule, Source, Key, CopyItem, CopySeal
 use Rattle.sg_protocol.specs.World.{new_world}
 use Rattle.sg_protocol.specs.Crafted.{no_tag, frame_read, tag_by}
 use Rattle.sg_protocol.proofs.RealHash.{real_hash}
-use Rattle.sg_protocol.proofs.Spelled.{to_bytes, from_bytes, bytes-append, bytes-take, bytes-zeros}
-
-drop_front : (xs ys : List ℕ) → drop (length xs) (xs ++ ys) ≡ ys
-drop_front [] ys = refl
-drop_front (x ∷ xs) ys = drop_front xs ys
-
-drop_some : (n : ℕ) (xs ys : List ℕ) → length xs ≡ n → drop n (xs ++ ys) ≡ ys
-drop_some n xs ys e = ap (λ k. drop k (xs ++ ys)) (sym e) ∙ drop_front xs ys
-
--- 32 bytes, cut as the version has it, are a tag
-pub cut_is_tag : (v : ℕ) → IsVersion v → (t : List ℕ) → AreBytes 32 t → IsTag v (cut v t)
-cut_is_tag v (inl e) t h = subst (λ v. IsTag v (cut v t)) (sym e) record { bytes = h; zeros = ap (drop 32) (sym (append-nil t)) ∙ drop_some 32 t [] h.0 }
-cut_is_tag v (inr e) t h =
-    let long = h.0 in
-    let some : length (take 16 t) ≡ 16 = length-take-le 16 t (omega (arith, long)) in
-    let all = length-append (take 16 t) (replicate 16 0) in
-    subst (λ v. IsTag v (cut v t)) (sym e) record {
-      bytes = (omega (arith, all, some), to_bytes (take 16 t ++ replicate 16 0) (bytes-append (take 16 t) (replicate 16 0) (bytes-take 16 t (from_bytes t h.1)) (bytes-zeros 16)));
-      zeros = drop_some 16 (take 16 t) (replicate 16 0) some;
-    }
+use Rattle.sg_protocol.proofs.Spelled.{to_bytes, bytes-zeros}
+use Rattle.sg_protocol.proofs.Sent.{cut_tag}
 
 most_sent : (v : ℕ) → tag_len v ≤ 32
 most_sent v = elim (cases_Bool (v == 2)) [ inl e ↦ rw e (omega arith) | inr e ↦ rw e (omega arith) ]
@@ -39,7 +21,7 @@ most_sent v = elim (cases_Bool (v == 2)) [ inl e ↦ rw e (omega arith) | inr e 
 -- what is sent of a cut tag
 pub cut_taken : (v : ℕ) → IsVersion v → (t : List ℕ) → AreBytes 32 t → length (take (tag_len v) (cut v t)) ≡ tag_len v
 cut_taken v is t h =
-    let k = (cut_is_tag v is t h).bytes.0 in
+    let k = (cut_tag v is t h).bytes.0 in
     let m = most_sent v in
     length-take-le (tag_len v) (cut v t) (omega (arith, k, m))
 

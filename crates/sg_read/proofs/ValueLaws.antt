@@ -1,14 +1,15 @@
 -- Variables that differ, and values in rising number.
-use Rattle.std.proofs.Common.{◌≡◌, ℕ, zero, suc, ◌+◌, ◌-◌, ◌<◌, ◌==◌, Bool, true, false, ◌&&◌, List, [], ◌∷◌, map, length, drop, get_or, refl, sym, ap, ◌∙◌, arith, filter_map, if◌then◌else◌}
+use Rattle.std.proofs.Common.{◌≡◌, ℕ, suc, ◌+◌, ◌-◌, ◌<◌, ◌==◌, Bool, true, false, ◌&&◌, List, [], ◌∷◌, map, length, drop, get_or, refl, sym, ap, ◌∙◌, arith, filter_map, if◌then◌else◌}
 use Rattle.std.specs.Prelude.{Option, Some, None, option_map, option_and_then, slice_get}
 use Rattle.std.specs.List.{list_all, cons_option}
-use Rattle.std.proofs.lemmas.Bool.{eqb-true, eq-eqb}
+use Rattle.std.proofs.lemmas.Bool.{eqb-true}
 use Rattle.std.proofs.lemmas.List.{length-map}
 use Rattle.std.proofs.lemmas.Option.{slice_get-get_or, get_or_from_slice_get}
 use Rattle.sg_model.specs.Last.{Map}
 use Rattle.sg_model.specs.Lists.{has_text, range_from, value_at, in_order}
 use Rattle.sg_model.specs.Names.{Name}
 use Rattle.sg_model.specs.Values.{Value}
+use Rattle.sg_model.proofs.Small.{drop_at}
 use Rattle.sg_protocol.specs.Graph.{Graph}
 use Rattle.sg_sched.specs.Format.Said.{Given}
 use Rattle.sg_sched.specs.Format.Values.{value_of}
@@ -18,15 +19,6 @@ use Rattle.sg_sched.specs.Format.Faults.{knows_variable}
 use Rattle.sg_read.specs.Adding.{known_values}
 use Rattle.sg_read.specs.Numbers.{all_made, number_of, numbers_of, numbered, from_number}
 use Rattle.sg_read.proofs.Places.{known_place}
-
--- the next one of a list
-drop_suc : {A : Type 0} (xs : List A) (i : ℕ) (x : A) → i < length xs → x ≡ get_or xs i x → drop i xs ≡ x ∷ drop (suc i) xs
-drop_suc [] i x h e = absurd (omega (arith, h))
-drop_suc (y ∷ ys) zero x h e = ap (λ z. z ∷ ys) (sym e)
-drop_suc (y ∷ ys) (suc i) x h e = drop_suc ys i x (omega (arith, h)) e
-
-pub drop_next : {A : Type 0} (xs : List A) (i : ℕ) (x : A) → i < length xs → x ≡ get_or xs i x → drop i xs ≡ x ∷ drop (i + 1) xs
-drop_next xs i x h e = let k : suc i ≡ i + 1 = omega arith in drop_suc xs i x h e ∙ ap (λ n. x ∷ drop n xs) k
 
 -- ---- in rising number
 
@@ -101,9 +93,6 @@ by_numbers g vs = ap (option_map (λ ns. from_number 0 (numbered ns vs))) (numbe
 
 -- ---- what stands in the place of a number
 
-pub same_number : (n x : ℕ) → n ≡ x → (n == x) ≡ true
-same_number n x e = eq-eqb n x e
-
 pub other_number : (n x : ℕ) → (n ≡ x → ⊥) → (n == x) ≡ false
 other_number n x h = by (n == x) refl
   where
@@ -118,5 +107,5 @@ stands ns vs x i n h same e =
     let v : Given = get_or vs i (record { variable = []; value = [] }) in
     let s : slice_get vs i ≡ Some v = slice_get-get_or vs i (record { variable = []; value = [] }) w in
     let f : v ≡ get_or vs i v = sym (get_or_from_slice_get vs i v v s) in
-    (λ k. value_at (numbered (drop_next ns i n h e k) (drop_next vs i v w f k)) x)
+    (λ k. value_at (numbered (drop_at ns i n h e k) (drop_at vs i v w f k)) x)
     ∙ ap (λ (o : Option Given). if n == x then option_map (λ v. value_of v.value) o else value_at (numbered (drop (i + 1) ns) (drop (i + 1) vs)) x) (sym s)

@@ -6,6 +6,7 @@ use Rattle.sg_model.specs.Last.{Map}
 use Rattle.sg_model.specs.Names.{Name}
 use Rattle.sg_model.specs.Values.{Value}
 use Rattle.sg_model.specs.Lists.{has_text, all_differ}
+use Rattle.sg_model.specs.Limits.{most_declared, most_edges, most_steps}
 use Rattle.sg_protocol.specs.Graph.{Graph}
 use Rattle.sg_protocol.specs.Schedule.{Step, StartStep, ActStep, AbandonStep}
 use Rattle.sg_sched.specs.Pair.{edge, labels}
@@ -37,7 +38,7 @@ after_line past said = added past (fault_after past said) (made_after past said)
 unfoldable pub add_edge : SoFar → Name → ℕ → ℕ → Added
 add_edge past label from to =
     if nat_lt 0 past.group then Err Form
-    else if nat_le 512 (length past.edges) then Err Form
+    else if nat_le most_edges (length past.edges) then Err Form
     else if has_text label (labels past.edges) then Err Twice
     else if has_text (codes "pair") (graph_names past.blocks) then Err Twice
     else Ok (plus past (EdgeItem (edge label from to)))
@@ -69,7 +70,7 @@ unfoldable pub add_session : SoFar → Name → Name → ℕ → List Name → �
 add_session past name graph nonce names version =
     if nat_lt 3 past.group then Err Form
     else if not (fits_at past (position (bytes_eq graph) (graph_names (graphs_of_past past))) names) then Err Form
-    else if nat_le 100000 (length past.sessions) then Err TooManySessions
+    else if nat_le most_declared (length past.sessions) then Err TooManySessions
     else option_map_or (λ place.
     if has_text name (session_names past) then Err Twice
     else if list_any (is_like place nonce names version) past.sessions then Err Twice
@@ -85,7 +86,7 @@ session_place past session = position (bytes_eq session) (session_names past)
 -- at most 200,000 steps. It has names that are declared, none of them twice, and it is of an honest principal
 unfoldable pub add_step : SoFar → Bool → Bool → Option Step → Added
 add_step past repeated honest step =
-    if nat_le 200000 (length past.steps) then Err TooManySteps
+    if nat_le most_steps (length past.steps) then Err TooManySteps
     else option_map_or (λ s. if repeated then Err Twice else if honest then Ok (plus past (StepItem s)) else Err NotHonest) step (Err Unknown)
 
 -- the step of a start

@@ -1,5 +1,6 @@
 -- What bytes spell is a schedule as the protocol has them, and each of its steps can be taken.
 use Rattle.std.specs.Prelude.{◌≡◌, ℕ, ◌≤◌, List, length, All}
+use Rattle.sg_model.specs.Limits.{most_steps}
 use Rattle.sg_protocol.specs.IsSchedule.{IsSchedule}
 use Rattle.sg_protocol.specs.Schedule.{Schedule}
 use Rattle.sg_protocol.specs.Texts.{real}
@@ -17,7 +18,7 @@ pub record SameDeclared (s t : Schedule) : Type 0 where
 pub record IsMeant (s : Schedule) : Type 0 where
   pub schedule : IsSchedule real s
   pub roles : All HasRoles s.graphs
-  pub few : length s.steps ≤ 200000
+  pub few : length s.steps ≤ most_steps
   pub steps : All (λ x. (t : Schedule) → SameDeclared s t → CanBeTaken t x) s.steps
 
 -- what bytes spell is meant so

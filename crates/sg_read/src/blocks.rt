@@ -5,7 +5,7 @@ ghost use Rattle.sg_read.specs.Holding.{HasRoles};
 
 use sg_base::{Name, OutOfMemory, Seq};
 use sg_graph::Graph;
-use sg_sched::NameSet;
+use sg_parse::NameSet;
 use std::alloc::Global;
 use std::marker::Model;
 

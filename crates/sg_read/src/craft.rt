@@ -1,7 +1,7 @@
 //! Crafts: what is made of their words, where all names are declared.
 ghost use Rattle.std.specs.Prelude.{◌≡◌, map, position, bytes_eq, option_map, option_copied, IfOk, IfSome, IsTrue};
 ghost use Rattle.std.specs.List.{list_all};
-ghost use Rattle.sg_base.specs.Values.{value_of};
+ghost use Rattle.sg_base.specs.Model.{value_of};
 ghost use Rattle.sg_protocol.specs.Schedule.{confounder};
 ghost use Rattle.sg_sched.specs.Format.Crafts.{source_of, tag_of};
 ghost use Rattle.sg_sched.specs.Format.Forms.{is_committed, is_item};

@@ -15,8 +15,9 @@ use crate::sessions::Like;
 use crate::stop::Stop;
 use sg_base::{Name, OutOfMemory, read_hex};
 use sg_graph::Graph;
+use sg_parse::NameSet;
 use sg_sched::node_name::name_of;
-use sg_sched::{Kind, NameSet, PairKey};
+use sg_sched::{Kind, PairKey};
 
 const MOST_EDGES: usize = 512;
 

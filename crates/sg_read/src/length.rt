@@ -1,6 +1,7 @@
 //! How long the frame of a craft is, up to 60,000 bytes.
 ghost use Rattle.std.specs.Prelude.{◌≡◌, ◌<◌, ◌≤◌, ◌+◌, nat_le, length, unwrap_or, IfOk, IfSome, IsTrue, MatchOption};
 ghost use Rattle.std.specs.List.{list_all};
+ghost use Rattle.sg_model.specs.Limits.{most_frame_bytes};
 ghost use Rattle.sg_protocol.specs.Frame.{tag_len};
 ghost use Rattle.sg_sched.specs.Format.Forms.{is_committed, is_craft, is_item};
 ghost use Rattle.sg_read.specs.Crafting.{lens, name_len, item_len, opening_len, join_len};
@@ -22,7 +23,7 @@ pub(crate) fn is_short(
     craft: &CraftLine<'_>,
 ) -> Result<bool, OutOfMemory>
     requires { IsTrue (is_craft craft.now) }
-    ensures { IfOk result (λ b. b ≡ nat_le (42 + join_len names.now craft.now.join + lens (item_len version) craft.now.items + lens opening_len craft.now.openings + tag_len version) 60000) }
+    ensures { IfOk result (λ b. b ≡ nat_le (42 + join_len names.now craft.now.join + lens (item_len version) craft.now.items + lens opening_len craft.now.openings + tag_len version) most_frame_bytes) }
 {
     let Some(join) = join_len(names, &craft.join) else {
         return Ok(false);
@@ -46,7 +47,7 @@ fn tag_len(version: u8) -> u32
 
 // The bytes of a cast with other names, if they are no more than a frame has.
 fn join_len(names: &[Name], join: &Option<CraftJoin>) -> Option<u32>
-    ensures { MatchOption result (60000 < join_len names.now join.now) (λ n. (n ≡ join_len names.now join.now) × (n ≤ 60000)) }
+    ensures { MatchOption result (most_frame_bytes < join_len names.now join.now) (λ n. (n ≡ join_len names.now join.now) × (n ≤ most_frame_bytes)) }
 {
     let Some(join) = join else {
         return Some(0);
@@ -64,7 +65,7 @@ fn join_len(names: &[Name], join: &Option<CraftJoin>) -> Option<u32>
 
 #[tactic(auto, using(crate::proofs::FormParts::name_few))]
 fn names_len(names: &[Name]) -> Option<u32>
-    ensures { MatchOption result (60000 < lens name_len names.now) (λ n. (n ≡ lens name_len names.now) × (n ≤ 60000)) }
+    ensures { MatchOption result (most_frame_bytes < lens name_len names.now) (λ n. (n ≡ lens name_len names.now) × (n ≤ most_frame_bytes)) }
 {
     let mut len = 0u32;
     for name in names {
@@ -79,7 +80,7 @@ fn names_len(names: &[Name]) -> Option<u32>
 #[tactic(auto, using(crate::proofs::FormParts::each))]
 fn items_len(version: u8, items: &[ItemLine<'_>]) -> Option<u32>
     requires { IsTrue (list_all is_item items.now) }
-    ensures { MatchOption result (60000 < lens (item_len version) items.now) (λ n. (n ≡ lens (item_len version) items.now) × (n ≤ 60000)) }
+    ensures { MatchOption result (most_frame_bytes < lens (item_len version) items.now) (λ n. (n ≡ lens (item_len version) items.now) × (n ≤ most_frame_bytes)) }
 {
     let mut len = 0u32;
     for item in items {
@@ -105,7 +106,7 @@ fn item_len(version: u8, item: &ItemLine<'_>) -> u32
 #[tactic(auto, using(crate::proofs::FormParts::each))]
 fn openings_len(alloc: Global, list: &[Committed<'_>]) -> Result<Option<u32>, OutOfMemory>
     requires { IsTrue (list_all is_committed list.now) }
-    ensures { IfOk result (λ o. MatchOption o (60000 < lens opening_len list.now) (λ n. (n ≡ lens opening_len list.now) × (n ≤ 60000))) }
+    ensures { IfOk result (λ o. MatchOption o (most_frame_bytes < lens opening_len list.now) (λ n. (n ≡ lens opening_len list.now) × (n ≤ most_frame_bytes))) }
 {
     let mut len = 0u32;
     for committed in list {

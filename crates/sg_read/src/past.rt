@@ -11,9 +11,10 @@ use crate::blocks::Blocks;
 use crate::sessions::Sessions;
 use sg_base::{Name, Seq};
 use sg_graph::Graph;
+use sg_parse::NameSet;
+use sg_sched::Step;
 use sg_sched::keys::Keys;
 use sg_sched::pair::Pair;
-use sg_sched::{NameSet, Step};
 use std::alloc::Global;
 use std::marker::Model;
 

@@ -2,7 +2,7 @@
 ghost use Rattle.std.specs.Prelude.{◌≡◌, ℕ, List, ◌+◌, ◌<◌, ◌≤◌, ◌^◌, [], length, IfOk, IsTrue, MatchResult, Ok, Err};
 ghost use Rattle.sg_parse.specs.Grammar.{SpellsGraph};
 ghost use Rattle.sg_sched.specs.Format.Forms.{is_form};
-ghost use Rattle.sg_sched.specs.Format.Held.{said};
+ghost use Rattle.sg_sched.specs.Format.Model.{said};
 ghost use Rattle.sg_read.specs.Adding.{after_line};
 ghost use Rattle.sg_read.specs.Plus.{nothing};
 ghost use Rattle.sg_read.specs.Standing.{Stands, Opens, Says, Shows, IsFault};

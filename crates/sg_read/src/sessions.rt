@@ -1,13 +1,14 @@
 //! The sessions that are declared, found by their names, and by what makes two of them alike, without a scan.
 ghost use Rattle.std.specs.Prelude.{◌≡◌, ◌<◌, ◌++◌, [], ◌∷◌, false, length, map, bytes_eq, position, slice_get, option_map, IfOk, IfSome, OnOk, Some};
 ghost use Rattle.std.specs.List.{list_any};
+ghost use Rattle.sg_model.specs.Limits.{most_declared};
 ghost use Rattle.sg_model.specs.Lists.{has_text};
 ghost use Rattle.sg_sched.specs.Format.Faults.{is_like};
 ghost use Rattle.sg_read.specs.Sessions.{session_of};
 
 use indexmap::IndexSet;
 use sg_base::{Name, OutOfMemory};
-use sg_sched::NameSet;
+use sg_parse::NameSet;
 use std::alloc::Global;
 use std::marker::Model;
 
@@ -31,12 +32,13 @@ impl Model for Sessions {
     ghost use Rattle.std.specs.Prelude.{◌≡◌, ◌≤◌, List, length};
     ghost use Rattle.sg_sched.specs.Format.Items.{Session};
     ghost use Rattle.sg_read.specs.Sessions.{sessions_of};
+    ghost use Rattle.sg_model.specs.Limits.{most_declared};
 
     ghost Value = { List Session };
 
     ghost view = { λ s. sessions_of s.names s.likes.keys };
 
-    ghost invariant = { λ s. (length s.names ≡ length s.likes.keys) × (length s.names ≤ 100000) };
+    ghost invariant = { λ s. (length s.names ≡ length s.likes.keys) × (length s.names ≤ most_declared) };
 }
 
 impl Sessions {
@@ -61,7 +63,7 @@ impl Sessions {
     pub fn place(&self, name: &Name) -> Option<usize>
         ensures place { result ≡ position (bytes_eq name.now) (map (λ s. s.name) self.now) }
         ensures within { IfSome result (λ i. i < length self.now) }
-        ensures few { IfSome result (λ i. i < 100000) }
+        ensures few { IfSome result (λ i. i < most_declared) }
     {
         self.names.place(name)
     }
@@ -94,7 +96,7 @@ impl Sessions {
     /// Adds a session of a new name that is like no other, the 100,000th at the latest.
     pub fn add(&mut self, name: Name, like: Like) -> Result<(), OutOfMemory>
         requires new_name { has_text name (map (λ s. s.name) self.old) ≡ false }
-        requires room { length self.old < 100000 }
+        requires room { length self.old < most_declared }
         requires other { list_any (is_like like.graph like.nonce like.names.items like.version) self.old ≡ false }
         ensures { OnOk result (self.new ≡ self.old ++ session_of name like ∷ []) }
     {

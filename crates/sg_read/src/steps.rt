@@ -3,7 +3,7 @@ ghost use Rattle.std.specs.Prelude.{◌≡◌, if◌then◌else◌, map, option_
 ghost use Rattle.std.specs.List.{list_all};
 ghost use Rattle.sg_sched.specs.Format.Said.{SaidStart, SaidAct, SaidAbandon, SaidDeliver};
 ghost use Rattle.sg_sched.specs.Format.Forms.{is_given};
-ghost use Rattle.sg_sched.specs.Format.Held.{delivered};
+ghost use Rattle.sg_sched.specs.Format.Model.{delivered};
 ghost use Rattle.sg_sched.specs.Format.Made.{what_of as made};
 ghost use Rattle.sg_sched.specs.Format.StepsHeld.{step_of, what_of};
 ghost use Rattle.sg_sched.specs.Format.Values.{bytes_of};

@@ -1,7 +1,7 @@
 //! How one more line is taken.
 ghost use Rattle.std.specs.Prelude.{◌≡◌, IsTrue};
 ghost use Rattle.sg_sched.specs.Format.Forms.{is_form};
-ghost use Rattle.sg_sched.specs.Format.Held.{said};
+ghost use Rattle.sg_sched.specs.Format.Model.{said};
 ghost use Rattle.sg_sched.specs.Format.Said.{SaidBlock};
 ghost use Rattle.sg_read.specs.Adding.{after_line};
 ghost use Rattle.sg_read.specs.Taken.{Takes};

@@ -2,7 +2,7 @@
 ghost use Rattle.std.specs.Prelude.{◌≡◌, ℕ, ◌<◌, ◌+◌, ◌++◌, length, map, slice_get, Some, None, option_map, MatchOption, IfOk, OnOk, IsTrue};
 ghost use Rattle.std.specs.List.{list_all};
 ghost use Rattle.sg_base.specs.declared.value.Value.{Value};
-ghost use Rattle.sg_base.specs.Values.{value_of};
+ghost use Rattle.sg_base.specs.Model.{value_of};
 ghost use Rattle.sg_model.specs.Lists.{all_differ, value_at};
 ghost use Rattle.sg_sched.specs.Format.Forms.{is_given};
 ghost use Rattle.sg_sched.specs.Format.Items.{variables_of};
@@ -12,8 +12,9 @@ ghost use Rattle.sg_read.specs.Numbers.{numbers_of, numbered, from_number};
 
 use sg_base::{OutOfMemory, Seq, Value, Var};
 use sg_graph::Graph;
+use sg_parse::NameSet;
 use sg_sched::place::var_place;
-use sg_sched::{Given, NameSet, read_value};
+use sg_sched::{Given, read_value};
 use std::alloc::Global;
 
 /// What is given to variables of the graph, or `None` where a variable isn't one of them.

@@ -3,4 +3,4 @@ pub mod Outcome
 pub mod Reasons
 pub mod Lines
 pub mod Report
-pub mod Held
+pub mod Model

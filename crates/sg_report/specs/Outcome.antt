@@ -4,7 +4,7 @@ use Rattle.sg_node.specs.Faults.{start_fault, act_fault, refusal}
 use Rattle.sg_report.specs.Told.{Told, Happened, Sends, Abandoned, Crafted, NotStarted, NotActed, NotAbandoned, NotDelivered, NoFrame}
 use Rattle.sg_report.specs.declared.outcome.Outcome.{Outcome}
 use Rattle.sg_report.specs.declared.outcome.Outcome.TheVariants as held
-use Rattle.sg_walk.specs.Views.{event_of}
+use Rattle.sg_walk.specs.Model.{event_of}
 
 -- what is told of an outcome. None for want of memory, which is the fault of no outcome
 abbrev pub outcome_of : Outcome → Option Told

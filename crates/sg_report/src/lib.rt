@@ -5,18 +5,15 @@
 //! memory: that is the call's.
 //!
 //! A report has a line for each step, the lines of the two premises, and where both hold the walk of each session with an event, the
-//! declared sessions in order and then the others. `put_line` and `report_line` write a line by itself, for callers that print as they
-//! go. `write_report` puts a whole report together from what an account says: its lines, the names of its sessions, what broke a
-//! premise, and its walks.
+//! declared sessions in order and then the others. `report_line` is the line of a step, `put_line` writes it behind what is written,
+//! and `put_premises` writes the two of the premises.
 #![tactic(auto)]
 
 mod line;
 mod outcome;
 mod premises;
 mod reason;
-mod report;
 
 pub use line::{put_line, report_line};
 pub use outcome::Outcome;
 pub use premises::{Forgery, put_premises};
-pub use report::{Line, SessionWalk, write_report};

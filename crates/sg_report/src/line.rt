@@ -3,7 +3,7 @@ ghost use Rattle.std.specs.Prelude.{◌≡◌, ◌++◌, IfOk, IfSome, IsSomeAnd
 ghost use Rattle.std.specs.Option.{option_copied};
 ghost use Rattle.sg_lines.specs.Events.{event_text, event_values, sent_to};
 ghost use Rattle.sg_protocol.specs.Told.{HasEvent};
-ghost use Rattle.sg_walk.specs.Views.{event_of};
+ghost use Rattle.sg_walk.specs.Model.{event_of};
 ghost use Rattle.sg_report.specs.Lines.{by_whom, graph_or_none, line_text, told_text};
 ghost use Rattle.sg_report.specs.Outcome.{outcome_of};
 ghost use Rattle.sg_report.specs.Told.{CanBeTold, Happened, Sends};

@@ -1,7 +1,7 @@
 //! The lines of the two premises.
 ghost use Rattle.std.specs.Prelude.{◌≡◌, ◌++◌, ◌∷◌, [], OnOk, Some, codes};
 ghost use Rattle.std.specs.Option.{option_copied, option_map};
-ghost use Rattle.sg_report.specs.Held.{forgery_of};
+ghost use Rattle.sg_report.specs.Model.{forgery_of};
 ghost use Rattle.sg_report.specs.Report.{collision_line, premise_lines, unforged_line};
 
 use crate::reason::put_number;

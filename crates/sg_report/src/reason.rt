@@ -10,8 +10,7 @@ ghost use Rattle.sg_report.specs.Reasons.{act_text, refusal_text, send_text, sta
 ghost use Rattle.sg_report.specs.Told.{CanBeTold, NotActed, NotDelivered};
 
 use sg_base::{ByteOut, Name, OutOfMemory, Time, Var};
-use sg_graph::Graph;
-use sg_lines::put_var;
+use sg_graph::{Graph, put_var};
 use sg_node::{ActFault, Refusal, StartFault};
 use sg_role::SendFault;
 use std::alloc::{AllocError, Global};

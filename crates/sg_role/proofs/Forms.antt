@@ -1,17 +1,18 @@
 -- The form of a frame's items, item by item.
 use Rattle.std.proofs.Common.{◌≡◌, ℕ, zero, suc, ◌+◌, ◌-◌, ◌<◌, ◌≤◌, ◌==◌, Bool, true, false, ◌&&◌, ◌||◌, not, nat_lt, bytes_eq, List, [], ◌∷◌, filter, take, drop, get_or, length, refl, sym, ap, ◌∙◌, arith, inl, inr}
 use Rattle.std.specs.List.{list_all}
-use Rattle.std.proofs.lemmas.Bool.{and_parts, cases_Bool, eqb-true, eq-eqb, ne_eqb}
+use Rattle.std.proofs.lemmas.Bool.{and_parts, cases_Bool}
 use Rattle.std.proofs.lemmas.Bool.Decides.{nat_tests}
 use Rattle.sg_base.specs.Sets.{with_member}
+use Rattle.sg_base.proofs.SetLaws.{is_in-with_member}
 use Rattle.sg_model.specs.Last.{Map, has}
-use Rattle.sg_model.specs.Lists.{is_in, below, range_from, keys_of, rises_from}
+use Rattle.sg_model.specs.Lists.{is_in, range_from, keys_of, rises_from}
+use Rattle.sg_model.proofs.Small.{drop_at, eqb-swap, and_false}
 use Rattle.sg_protocol.specs.Frame.{Item}
 use Rattle.sg_protocol.specs.Graph.{AreNumbers}
 use Rattle.sg_protocol.specs.Keyring.{Program, targets_of}
 use Rattle.sg_protocol.specs.Verdict.{has_right_tags}
-use Rattle.sg_role.proofs.Lists.{drop_at}
-use Rattle.sg_role.proofs.Rising.{in_filter, filter_numbers}
+use Rattle.sg_role.proofs.Rising.{filter_numbers}
 
 -- ---- members
 
@@ -24,10 +25,6 @@ in_range x k (suc j) a b = elim (cases_Bool (k == x)) [
   where
     up : (k x : ℕ) → k ≤ x → (k == x) ≡ false → suc k ≤ x
     up k x a e = grind (arith, nat_tests)
-
-pub in_with : (width x y : ℕ) (xs : List ℕ) → x < width → is_in x (with_member width xs y) ≡ ((x == y) || is_in x xs)
-unfolding with_member
-in_with width x y xs l = in_filter (λ z. (z == y) || is_in z xs) (below width) x ∙ ap (λ b. b && ((x == y) || is_in x xs)) (in_range x 0 width (omega arith) (omega (arith, l)))
 
 pub key_less : {A : Type 0} (n : ℕ) (m : Map A) (at : ℕ) (d : ℕ × A) → AreNumbers n (keys_of m) → at < length m → (get_or m at d).0 < n
 key_less {A = A} n m at d a l = go m at (and_parts (rises_from 0 (keys_of m)) (list_all (λ k. nat_lt k n) (keys_of m)) a).1 l
@@ -47,9 +44,6 @@ in_more {A = A} m at x w l e = ap (λ k. is_in x (keys_of (take k m))) (later at
     later : (k : ℕ) → k + 1 ≡ suc k
     later k = omega arith
 
-    turn : (a b : ℕ) → (a == b) ≡ (b == a)
-    turn a b = elim (cases_Bool (a == b)) [ inl e ↦ e ∙ sym (eq-eqb b a (sym (eqb-true a b e))) | inr e ↦ e ∙ sym (ne_eqb b a (λ q. let f : true ≡ false = sym (eq-eqb a b (sym q)) ∙ e in cc)) ]
-
     swap : (a b c : Bool) → (a || (b || c)) ≡ (b || (a || c))
     swap true true c = refl
     swap true false c = refl
@@ -57,7 +51,7 @@ in_more {A = A} m at x w l e = ap (λ k. is_in x (keys_of (take k m))) (later at
 
     go : (m : Map A) (at : ℕ) → at < length m → is_in x (keys_of (take (suc at) m)) ≡ ((x == (get_or m at w).0) || is_in x (keys_of (take at m)))
     go [] at l = absurd (omega (arith, l))
-    go (v ∷ vs) zero l = ap (λ b. b || false) (turn v.0 x)
+    go (v ∷ vs) zero l = ap (λ b. b || false) (eqb-swap v.0 x)
     go (v ∷ vs) (suc at) l = ap (λ b. (v.0 == x) || b) (go vs at (omega (arith, l))) ∙ swap (v.0 == x) (x == (get_or vs at w).0) (is_in x (keys_of (take at vs)))
 
 -- ---- tags, from the last item on
@@ -68,11 +62,7 @@ by_role i = i.role
 suffix : (p : Program) (k : ℕ) (items : List Item) → has_right_tags p (drop k items) ≡ false → has_right_tags p items ≡ false
 suffix p zero items h = h
 suffix p (suc k) [] h = h
-suffix p (suc k) (i ∷ is) h = rw (suffix p k is h) (never (bytes_eq (keys_of i.tags) (filter (λ t. not (has by_role t is)) (targets_of p i.label))))
-  where
-    never : (b : Bool) → (b && false) ≡ false
-    never true = refl
-    never false = refl
+suffix p (suc k) (i ∷ is) h = rw (suffix p k is h) (and_false (bytes_eq (keys_of i.tags) (filter (λ t. not (has by_role t is)) (targets_of p i.label))))
 
 module _ (p : Program) (items : List Item) (back : ℕ) (i : Item) (l : back < length items) (e : i ≡ get_or items (length items - 1 - back) i) where
   abbrev left : ℕ
@@ -109,7 +99,4 @@ module _ (p : Program) (items : List Item) (back : ℕ) (i : Item) (l : back < l
 
   pub later_more : (later more : List ℕ) → ((t : ℕ) → t < 16 → is_in t later ≡ has by_role t (drop (length items - back) items)) → more ≡ with_member 16 later i.role
       → (t : ℕ) → t < 16 → is_in t more ≡ has by_role t (drop (length items - (back + 1)) items)
-  later_more later more s w t m = ap (is_in t) w ∙ in_with 16 t i.role later m ∙ ap (λ b. (t == i.role) || b) (s t m) ∙ ap (λ b. b || has by_role t (drop (length items - back) items)) (turn t i.role) ∙ sym (ap (has by_role t) next)
-    where
-      turn : (a b : ℕ) → (a == b) ≡ (b == a)
-      turn a b = elim (cases_Bool (a == b)) [ inl e ↦ e ∙ sym (eq-eqb b a (sym (eqb-true a b e))) | inr e ↦ e ∙ sym (ne_eqb b a (λ q. let f : true ≡ false = sym (eq-eqb a b (sym q)) ∙ e in cc)) ]
+  later_more later more s w t m = ap (is_in t) w ∙ is_in-with_member 16 t i.role later m ∙ ap (λ b. (t == i.role) || b) (s t m) ∙ ap (λ b. b || has by_role t (drop (length items - back) items)) (eqb-swap t i.role) ∙ sym (ap (has by_role t) next)

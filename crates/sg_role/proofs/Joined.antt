@@ -1,10 +1,11 @@
 -- The evidence of kept items, made from the front.
-use Rattle.std.proofs.Common.{◌≡◌, ℕ, ◌==◌, ◌||◌, List, [], ◌∷◌, map, length, refl, sym, ◌∙◌, ap, inl, inr}
+use Rattle.std.proofs.Common.{◌≡◌, ℕ, List, [], ◌∷◌, map, length, refl, sym, ◌∙◌, ap, inl, inr}
 use Rattle.std.specs.Option.{option_or}
 use Rattle.std.proofs.lemmas.Bool.{cases_Bool}
 use Rattle.sg_model.proofs.Evidence.{evidence-drop, evidence-keep, merge_assoc}
 use Rattle.sg_model.specs.Last.{Map, Entry, has, merge, carry, evidence}
 use Rattle.sg_model.specs.Lists.{in_order, value_at}
+use Rattle.sg_law.proofs.Lists.{has-map}
 use Rattle.sg_protocol.specs.Frame.{Item}
 use Rattle.sg_protocol.specs.Graph.{Graph}
 use Rattle.sg_protocol.specs.Kept.{kept_items}
@@ -17,10 +18,6 @@ value_merged a b x = value_at-merge a b x
 
 abbrev E : Type 0
 E = Entry Item (List ℕ)
-
-pub has-map : {A B : Type 0} (f : A → B) (key : B → ℕ) (k : ℕ) (xs : List A) → has key k (map f xs) ≡ has (λ x. key (f x)) k xs
-has-map f key k [] = refl
-has-map f key k (x ∷ xs) = ap (λ b. (key (f x) == k) || b) (has-map f key k xs)
 
 module _ (g : Graph) where
   abbrev n : ℕ

@@ -1,13 +1,14 @@
 -- What is kept, item by item and variable by variable.
-use Rattle.std.proofs.Common.{◌≡◌, ℕ, ◌+◌, ◌<◌, ◌||◌, true, false, List, [], ◌∷◌, ◌++◌, map, filter_map, length, drop, get_or, append_assoc, refl, sym, ◌∙◌, ap, Option, Some, None, option_map, append-nil}
-use Rattle.std.specs.List.{cons_option}
+use Rattle.std.proofs.Common.{◌≡◌, ℕ, ◌+◌, ◌<◌, ◌||◌, true, false, List, [], ◌∷◌, ◌++◌, map, filter_map, length, drop, get_or, append_assoc, refl, sym, ◌∙◌, ap, Some, None, option_map, append-nil}
 use Rattle.std.proofs.lemmas.List.{map-append}
+use Rattle.std.proofs.lemmas.List.Elements.{filter_map-append}
 use Rattle.sg_model.proofs.LastOf.{has-append}
 use Rattle.sg_model.specs.Last.{Map, has, merge}
 use Rattle.sg_model.specs.Lists.{below, in_order, value_at}
+use Rattle.sg_model.proofs.Numbers.{below-suc}
+use Rattle.sg_model.proofs.Small.{drop_at}
 use Rattle.sg_protocol.specs.Frame.{Item}
 use Rattle.sg_role.specs.Keeping.{kept_from}
-use Rattle.sg_role.proofs.Lists.{below_more, drop_at}
 
 -- ---- items
 
@@ -48,20 +49,8 @@ module _ (n : ℕ) (items later : List Item) (at : ℕ) (i : Item) (l : at < len
 
 -- ---- variables
 
--- one variable more
-pub map_below_more : {A : Type 0} (f : ℕ → A) (i : ℕ) → map f (below (i + 1)) ≡ map f (below i) ++ f i ∷ []
-map_below_more f i = ap (map f) (below_more i) ∙ map-append f (below i) (i ∷ [])
-
-filter_map_append : {A B : Type 0} (f : A → Option B) (xs ys : List A) → filter_map f (xs ++ ys) ≡ filter_map f xs ++ filter_map f ys
-filter_map_append f [] ys = refl
-filter_map_append {B = B} f (x ∷ xs) ys = ap (cons_option (f x)) (filter_map_append f xs ys) ∙ go (f x) (filter_map f xs) (filter_map f ys)
-  where
-    go : (o : Option B) (l r : List B) → cons_option o (l ++ r) ≡ cons_option o l ++ r
-    go None l r = refl
-    go (Some y) l r = refl
-
 pub in_order_some : {A : Type 0} (i : ℕ) (m : Map A) (v : A) → value_at m i ≡ Some v → in_order (i + 1) m ≡ in_order i m ++ (i, v) ∷ []
-in_order_some i m v e = ap (filter_map (λ x. option_map (λ v. (x, v)) (value_at m x))) (below_more i) ∙ filter_map_append (λ x. option_map (λ v. (x, v)) (value_at m x)) (below i) (i ∷ []) ∙ rw e refl
+in_order_some i m v e = ap (filter_map (λ x. option_map (λ v. (x, v)) (value_at m x))) (below-suc i) ∙ filter_map-append (λ x. option_map (λ v. (x, v)) (value_at m x)) (below i) (i ∷ []) ∙ rw e refl
 
 pub in_order_none : {A : Type 0} (i : ℕ) (m : Map A) → value_at m i ≡ None → in_order (i + 1) m ≡ in_order i m
-in_order_none i m e = ap (filter_map (λ x. option_map (λ v. (x, v)) (value_at m x))) (below_more i) ∙ filter_map_append (λ x. option_map (λ v. (x, v)) (value_at m x)) (below i) (i ∷ []) ∙ rw e (append-nil (in_order i m))
+in_order_none i m e = ap (filter_map (λ x. option_map (λ v. (x, v)) (value_at m x))) (below-suc i) ∙ filter_map-append (λ x. option_map (λ v. (x, v)) (value_at m x)) (below i) (i ∷ []) ∙ rw e (append-nil (in_order i m))

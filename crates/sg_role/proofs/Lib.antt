@@ -1,4 +1,3 @@
-pub mod Counted
 pub mod Edges
 pub mod Forms
 pub mod Joined

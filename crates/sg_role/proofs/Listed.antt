@@ -10,10 +10,11 @@ use Rattle.sg_protocol.specs.IsSchedule.{IsProgram}
 use Rattle.sg_protocol.specs.Keyring.{Program, targets_of}
 use Rattle.sg_protocol.specs.Texts.{real}
 use Rattle.sg_protocol.proofs.Sent.{reads_in}
-use Rattle.sg_role.proofs.Rising.{numbers_self, wider, and_both}
+use Rattle.sg_graph.proofs.Sets.{numbers_within}
+use Rattle.sg_role.proofs.Rising.{numbers_self, and_both}
 
 pub targets_listed : (p : Program) → IsProgram real p → (label : ℕ) → filter (λ x. is_in x (targets_of p label)) (below 16) ≡ targets_of p label
-targets_listed p ip label = numbers_self 16 (targets_of p label) (wider (length p.graph.roles) 16 (targets_of p label) ip.is_graph.sizes.0 (ip.targets.rising label))
+targets_listed p ip label = numbers_self 16 (targets_of p label) (numbers_within (length p.graph.roles) 16 (targets_of p label) ip.is_graph.sizes.0 (ip.targets.rising label))
 
 pub targets_there : (p : Program) → IsProgram real p → (label : ℕ) → AllByRecursion (λ t. t < length p.graph.roles) (targets_of p label)
 targets_there p ip label = all_below (length p.graph.roles) (targets_of p label) (and_parts (rises_from 0 (targets_of p label)) (list_all (λ k. nat_lt k (length p.graph.roles)) (targets_of p label)) (ip.targets.rising label)).1
@@ -21,7 +22,7 @@ targets_there p ip label = all_below (length p.graph.roles) (targets_of p label)
 pub reads_listed : (g : Graph) → IsGraph g → (label : ℕ) → filter (λ x. is_in x (reads g label)) (below 32) ≡ reads g label
 reads_listed g is label =
     let r = reads_in (length g.variables) g.edges is.variables label in
-    numbers_self 32 (reads g label) (wider (length g.variables) 32 (reads g label) is.sizes.1 (and_both (rises_from 0 (reads g label)) (list_all (λ k. nat_lt k (length g.variables)) (reads g label)) r.0 (tests (length g.variables) (reads g label) r.1)))
+    numbers_self 32 (reads g label) (numbers_within (length g.variables) 32 (reads g label) is.sizes.1 (and_both (rises_from 0 (reads g label)) (list_all (λ k. nat_lt k (length g.variables)) (reads g label)) r.0 (tests (length g.variables) (reads g label) r.1)))
   where
     tests : (n : ℕ) (xs : List ℕ) → AllByRecursion (λ x. x < n) xs → list_all (λ k. nat_lt k n) xs ≡ true
     tests n [] a = refl

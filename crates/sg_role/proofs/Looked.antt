@@ -2,7 +2,9 @@
 use Rattle.std.proofs.Common.{◌≡◌, ℕ, ◌+◌, ◌<◌, ◌≤◌, Bool, true, false, not, List, [], ◌∷◌, ◌++◌, length, take, drop, get_or, if◌then◌else◌, map, Option, Some, None, option_map, position, take_while, refl, sym, ap, ◌∙◌, arith, append_assoc, inl, inr}
 use Rattle.std.proofs.lemmas.Bool.{cases_Bool}
 use Rattle.std.proofs.lemmas.List.Sums.{take_while-cons}
+use Rattle.std.proofs.Math.Seq.{take-length}
 use Rattle.sg_model.specs.Values.{Opening}
+use Rattle.sg_model.proofs.Small.{drop_at, drop_end}
 use Rattle.sg_protocol.specs.Calls.{Refusal, BadEvidence, BadOpening}
 use Rattle.sg_protocol.specs.Frame.{Item}
 use Rattle.sg_protocol.specs.Graph.{Graph}
@@ -13,7 +15,7 @@ use Rattle.sg_protocol.specs.Standing.{Held}
 use Rattle.sg_protocol.specs.Texts.{real}
 use Rattle.sg_protocol.specs.Verdict.{has_item_tag, has_kind}
 use Rattle.sg_role.specs.Looking.{bare, overwritten, overwritten_by, text_for, texts_from, found_items, evidence_row, opens, opening_row, hashed_from, KeepsNotes}
-use Rattle.sg_role.proofs.Lists.{drop_at, drop_all, drop_more, position_step, take_keep, take_self}
+use Rattle.sg_role.proofs.Lists.{drop_more, position_step, take_keep}
 
 -- ---- openings
 
@@ -98,7 +100,7 @@ module _ (keys : Keyring) (h : Held) where
     two m = let d = drop_more items (at + 1) m in (d.0, d.1, d.2, drop_at items at i l e ∙ ap (λ r. i ∷ r) d.2)
 
     one : length items ≤ at + 1 → (drop (at + 1) items ≡ []) × (drop at items ≡ i ∷ [])
-    one m = let d = drop_all items (at + 1) m in (d, drop_at items at i l e ∙ ap (λ r. i ∷ r) d)
+    one m = let d = drop_end items (at + 1) m in (d, drop_at items at i l e ∙ ap (λ r. i ∷ r) d)
 
     pub looked_right : at + 1 < length items → is_right i now ≡ true → looked n cs (drop at items) ≡ looked (n + 1) now (drop (at + 1) items)
     looked_right m r = let t = two m in ap (looked n cs) t.3 ∙ rw r (sym (ap (looked (n + 1) now) t.2))
@@ -128,7 +130,7 @@ module _ (keys : Keyring) (h : Held) where
       × (n.made ≡ n0.made) × (n.hashed ≡ n0.hashed) × KeepsNotes n0 n
 
   pub begins : (items : List Item) (n0 : Notes) → Looking items n0 0 h.kept.commitments n0
-  begins items n0 = (refl, row_looked items, ap (λ l. n0.found ++ l) (sym (items_found items)), refl, refl, (take_self n0.made, take_self n0.found, take_self n0.hashed))
+  begins items n0 = (refl, row_looked items, ap (λ l. n0.found ++ l) (sym (items_found items)), refl, refl, (take-length n0.made, take-length n0.found, take-length n0.hashed))
 
   module _ (items : List Item) (n0 : Notes) (at : ℕ) (i : Item) (l : at < length items) (e : i ≡ get_or items at i) (cs : List (Option (List ℕ))) (n : Notes) (inv : Looking items n0 at cs n) where
     abbrev next : List (Option (List ℕ))

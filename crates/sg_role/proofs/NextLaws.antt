@@ -6,6 +6,8 @@ use Rattle.sg_model.specs.Lists.{below, range_from, first_some}
 use Rattle.sg_model.specs.Last.{Map, last, up_to_last}
 use Rattle.sg_model.specs.Shape.{target}
 use Rattle.sg_model.specs.Values.{Value, Opening}
+use Rattle.sg_model.proofs.Small.{length_map}
+use Rattle.sg_model.proofs.Numbers.{length-range_from}
 use Rattle.sg_protocol.specs.Acting.{openings_for}
 use Rattle.sg_protocol.specs.Backed.{IsBackedAtTurn, IsBackedWaiting}
 use Rattle.sg_protocol.specs.Frame.{Item}
@@ -19,10 +21,9 @@ use Rattle.sg_protocol.specs.Session.{Session, Gave, opening_in, known}
 use Rattle.sg_protocol.specs.Standing.{Held, StandsAtTurn, held, kept_with, held_after}
 use Rattle.sg_protocol.specs.Texts.{real}
 use Rattle.sg_role.specs.Sending.{WaitsOrEnds}
-use Rattle.sg_role.specs.States.{State}
+use Rattle.sg_role.specs.Model.{State}
 use Rattle.sg_role.specs.Stepping.{send_rows, step_item, step_commitments, items_after, openings_after, held_next}
 use Rattle.sg_role.specs.declared.sent.Sent.{Sent}
-use Rattle.sg_role.proofs.Counted.{length_map, length_range}
 use Rattle.sg_role.proofs.SendLaws.{waits_after}
 use Rattle.sg_role.proofs.StepLaws.{item_held}
 
@@ -31,7 +32,7 @@ pub openings_counted : (p : Program) (h : Held) → IsBackedAtTurn real p h → 
 openings_counted p h b =
     ap (λ (z : Held). length z.kept.openings) b.stands.holds
     ∙ length_map (known b.session) (below (length p.graph.variables))
-    ∙ length_range 0 (length p.graph.variables)
+    ∙ length-range_from 0 (length p.graph.variables)
 
 module _ (keys : Keyring) (p : Program) (h : Held) (label : ℕ) (written : List Opening) where
   abbrev own : Item

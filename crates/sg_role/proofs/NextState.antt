@@ -21,7 +21,7 @@ use Rattle.sg_protocol.proofs.Enough.{up_free}
 use Rattle.sg_protocol.proofs.Following.{get_below}
 use Rattle.sg_protocol.proofs.RealHash.{real_hash}
 use Rattle.sg_role.specs.Looking.{is_seen, overwritten_by, rows_from}
-use Rattle.sg_role.specs.States.{HoldsBefore, HoldsTurn}
+use Rattle.sg_role.specs.Invariant.{HoldsBefore, HoldsTurn}
 use Rattle.sg_role.proofs.Shown.{seen_frame}
 use Rattle.sg_role.proofs.Spelled.{all_at}
 use Rattle.sg_role.proofs.Translated.{all_more, rising_items, rows_same}

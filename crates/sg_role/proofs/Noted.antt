@@ -1,8 +1,10 @@
 -- Rows in order: the number of the first that holds, and what is noted up to it.
 use Rattle.std.proofs.Common.{◌≡◌, ◌≢◌, ℕ, ◌+◌, nat_le, Bool, true, false, not, List, [], ◌∷◌, ◌++◌, map, length, take, refl, sym, ap, subst, ◌∙◌, Option, Some, None, option_map, append_assoc, append-nil, inl, inr}
 use Rattle.std.proofs.lemmas.Bool.{cases_Bool}
+use Rattle.std.proofs.Math.Seq.{take-append_seam, take-length}
 use Rattle.sg_model.specs.Lists.{first_some}
 use Rattle.sg_model.specs.Values.{Opening}
+use Rattle.sg_model.proofs.Small.{heads, tails}
 use Rattle.sg_protocol.specs.Calls.{Refusal, BadFrameTag, NoSuchView, BadTime, BadEvidence, BadOpening}
 use Rattle.sg_protocol.specs.Frame.{Item, Frame}
 use Rattle.sg_protocol.specs.Keyring.{Keyring, Program}
@@ -168,20 +170,6 @@ module _ (keys : Keyring) (p : Program) (h : Held) (f : Frame) where
 
 -- ---- earlier notes are kept
 
-take_self : {A : Type 0} (xs : List A) → take (length xs) xs ≡ xs
-take_self [] = refl
-take_self (x ∷ xs) = ap (λ l. x ∷ l) (take_self xs)
-
-take_front : {A : Type 0} (xs ys : List A) → take (length xs) (xs ++ ys) ≡ xs
-take_front [] ys = refl
-take_front (x ∷ xs) ys = ap (λ l. x ∷ l) (take_front xs ys)
-
-heads : {A : Type 0} (x y : A) (xs ys : List A) → x ∷ xs ≡ y ∷ ys → x ≡ y
-heads x y xs ys e = cc
-
-tails : {A : Type 0} (x y : A) (xs ys : List A) → x ∷ xs ≡ y ∷ ys → xs ≡ ys
-tails x y xs ys e = cc
-
 take_twice : {A : Type 0} (xs ys zs : List A) → take (length xs) ys ≡ xs → take (length ys) zs ≡ ys → take (length xs) zs ≡ xs
 take_twice [] ys zs e q = refl
 take_twice (x ∷ xs) [] zs e q = absurd (cc)
@@ -191,7 +179,7 @@ take_twice (x ∷ xs) (y ∷ ys) (z ∷ zs) e q =
     ∙ ap (λ l. x ∷ l) (take_twice xs ys zs (tails y x (take (length xs) ys) xs e) (tails z y (take (length ys) zs) ys q))
 
 pub keeps_found : (a b : Notes) (more : List Note) → b ≡ record a { found = a.found ++ more } → KeepsNotes a b
-keeps_found a b more e = subst (KeepsNotes a) (sym e) (take_self a.made, take_front a.found more, take_self a.hashed)
+keeps_found a b more e = subst (KeepsNotes a) (sym e) (take-length a.made, take-append_seam a.found more, take-length a.hashed)
 
 pub keeps_twice : (a b c : Notes) → KeepsNotes a b → KeepsNotes b c → KeepsNotes a c
 keeps_twice a b c k l = (take_twice a.made b.made c.made k.0 l.0, take_twice a.found b.found c.found k.1 l.1, take_twice a.hashed b.hashed c.hashed k.2 l.2)

@@ -5,7 +5,10 @@ use Rattle.std.proofs.lemmas.Bool.{and_parts, cases_Bool, eqb-true, ne_eqb}
 use Rattle.std.proofs.lemmas.Bool.Decides.{nat_tests}
 use Rattle.std.proofs.lemmas.Slice.Eq.{bytes_eq-Decides}
 use Rattle.sg_model.specs.Lists.{is_in, below, range_from, rises_from}
+use Rattle.sg_model.proofs.Numbers.{filter-range_from}
+use Rattle.sg_model.proofs.Small.{and_false}
 use Rattle.sg_protocol.specs.Graph.{AreNumbers}
+use Rattle.sg_protocol.proofs.OneTable.{numbers_by_set}
 
 pub and_both : (a b : Bool) → a ≡ true → b ≡ true → (a && b) ≡ true
 and_both true b h k = k
@@ -23,13 +26,6 @@ not_below least x (y ∷ ys) l h =
     let a = and_parts (not (nat_lt y least)) (rises_from (suc y) ys) h in
     let m : least ≤ y = at_least y least a.0 in
     rw (ne_eqb y x (λ q. absurd (omega (arith, l, m, q)))) (not_below (suc y) x ys (omega (arith, l, m)) a.1)
-
-filter_range : (p q : ℕ → Bool) (k j : ℕ) → ((x : ℕ) → k ≤ x → x < k + j → p x ≡ q x) → filter p (range_from k j) ≡ filter q (range_from k j)
-filter_range p q k zero e = refl
-filter_range p q k (suc j) e =
-    let rest : filter p (range_from (suc k) j) ≡ filter q (range_from (suc k) j) = filter_range p q (suc k) j (λ x a b. e x (omega (arith, a)) (omega (arith, b))) in
-    let here : p k ≡ q k = e k (omega arith) (omega arith) in
-    elim (cases_Bool (q k)) [ inl h ↦ rw (here ∙ h, h) (ap (λ l. k ∷ l) rest) | inr h ↦ rw (here ∙ h, h) rest ]
 
 self_from : (k j : ℕ) (xs : List ℕ) → rises_from k xs ≡ true → list_all (λ x. nat_lt x (k + j)) xs ≡ true → filter (λ x. is_in x xs) (range_from k j) ≡ xs
 self_from k zero [] r a = refl
@@ -49,7 +45,7 @@ self_from k (suc j) (y ∷ ys) r a =
       | inl e ↦ (
           let same : y ≡ k = eqb-true y k e in
           let skip : filter (λ x. is_in x (y ∷ ys)) (range_from (suc k) j) ≡ filter (λ x. is_in x ys) (range_from (suc k) j) =
-          filter_range (λ x. is_in x (y ∷ ys)) (λ x. is_in x ys) (suc k) j (λ x b c. ap (λ z. z || is_in x ys) (ne_eqb y x (λ w. absurd (omega (arith, b, w, same))))) in
+          filter-range_from (λ x. is_in x (y ∷ ys)) (λ x. is_in x ys) (suc k) j (λ x b c. ap (λ z. z || is_in x ys) (ne_eqb y x (λ w. absurd (omega (arith, b, w, same))))) in
           let rest : filter (λ x. is_in x ys) (range_from (suc k) j) ≡ ys = self_from (suc k) j ys (ap (λ n. rises_from (suc n) ys) (sym same) ∙ p.1) q.1 in
           rw e (ap (λ z. z ∷ filter (λ x. is_in x (y ∷ ys)) (range_from (suc k) j)) (sym same) ∙ ap (λ l. y ∷ l) (skip ∙ rest)))
       | inr e ↦ (
@@ -71,11 +67,8 @@ numbers_self n xs a =
     let same : 0 + n ≡ n = omega arith in
     self_from 0 n xs p.0 (ap (λ m. list_all (λ k. nat_lt k m) xs) same ∙ p.1)
 
-pub same_rising : (n : ℕ) (xs ys : List ℕ) → AreNumbers n xs → AreNumbers n ys → ((x : ℕ) → x < n → is_in x xs ≡ is_in x ys) → xs ≡ ys
-same_rising n xs ys a b e = sym (numbers_self n xs a) ∙ filter_range (λ x. is_in x xs) (λ x. is_in x ys) 0 n (λ x l m. e x (omega (arith, m))) ∙ numbers_self n ys b
-
 pub equal_rising : (n : ℕ) (xs ys : List ℕ) → AreNumbers n xs → AreNumbers n ys → ((x : ℕ) → x < n → is_in x xs ≡ is_in x ys) → bytes_eq xs ys ≡ true
-equal_rising n xs ys a b e = (bytes_eq-Decides xs ys).1 (same_rising n xs ys a b e)
+equal_rising n xs ys a b e = (bytes_eq-Decides xs ys).1 (numbers_by_set n xs ys a b e)
 
 -- ---- filters
 
@@ -84,14 +77,10 @@ in_filter p [] t = refl
 in_filter p (x ∷ xs) t = elim (cases_Bool (x == t)) [
   | inl e ↦ elim (cases_Bool (p x)) [
     | inl h ↦ rw (h, e) (sym (subst (λ z. p z ≡ true) (eqb-true x t e) h))
-    | inr h ↦ (let k : p t ≡ false = subst (λ z. p z ≡ false) (eqb-true x t e) h in rw (h, e, k) (in_filter p xs t ∙ ap (λ b. is_in t xs && b) k ∙ never (is_in t xs)))
+    | inr h ↦ (let k : p t ≡ false = subst (λ z. p z ≡ false) (eqb-true x t e) h in rw (h, e, k) (in_filter p xs t ∙ ap (λ b. is_in t xs && b) k ∙ and_false (is_in t xs)))
   ]
   | inr e ↦ elim (cases_Bool (p x)) [ inl h ↦ rw (h, e) (in_filter p xs t) | inr h ↦ rw (h, e) (in_filter p xs t) ]
 ]
-  where
-    never : (b : Bool) → (b && false) ≡ false
-    never true = refl
-    never false = refl
 
 lower : (l m : ℕ) (xs : List ℕ) → l ≤ m → rises_from m xs ≡ true → rises_from l xs ≡ true
 lower l m [] h r = refl
@@ -118,18 +107,6 @@ pub numbers_filter : (p : ℕ → Bool) (n : ℕ) (xs : List ℕ) → AreNumbers
 numbers_filter p n xs a =
     let r = and_parts (rises_from 0 xs) (list_all (λ k. nat_lt k n) xs) a in
     and_both (rises_from 0 (filter p xs)) (list_all (λ k. nat_lt k n) (filter p xs)) (filter_rises p 0 xs r.0) (filter_all p (λ k. nat_lt k n) xs r.1)
-
-pub wider : (m n : ℕ) (xs : List ℕ) → m ≤ n → AreNumbers m xs → AreNumbers n xs
-wider m n xs h a =
-    let r = and_parts (rises_from 0 xs) (list_all (λ k. nat_lt k m) xs) a in
-    and_both (rises_from 0 xs) (list_all (λ k. nat_lt k n) xs) r.0 (go xs r.1)
-  where
-    go : (xs : List ℕ) → list_all (λ k. nat_lt k m) xs ≡ true → list_all (λ k. nat_lt k n) xs ≡ true
-    go [] e = refl
-    go (x ∷ xs) e = let r = and_parts (nat_lt x m) (list_all (λ k. nat_lt k m) xs) e in and_both (nat_lt x n) (list_all (λ k. nat_lt k n) xs) (less x r.0) (go xs r.1)
-      where
-        less : (x : ℕ) → nat_lt x m ≡ true → nat_lt x n ≡ true
-        less x e = let l : x < m = grind (arith, nat_tests) in let k : x < n = omega (arith, l, h) in grind (arith, nat_tests)
 
 -- the filters of numbers below n by tests that agree there
 pub filter_numbers : (p q : ℕ → Bool) (n : ℕ) (xs : List ℕ) → list_all (λ k. nat_lt k n) xs ≡ true → ((x : ℕ) → x < n → p x ≡ q x) → filter p xs ≡ filter q xs

@@ -1,34 +1,28 @@
 -- What is shown and kept, place by place.
 use Rattle.std.proofs.Common.{◌≡◌, ℕ, zero, suc, ◌+◌, ◌-◌, length-drop, slice_set, slice_get, if◌then◌else◌, ◌<◌, ◌≤◌, ◌==◌, ◌||◌, Bool, true, false, List, [], ◌∷◌, ◌++◌, map, filter, filter_map, length, drop, take, get_or, refl, sym, ◌∙◌, ap, Option, Some, None, option_map, arith, inl, inr, add-one, append_assoc, append-nil}
 use Rattle.std.specs.List.{cons_option, list_any}
-use Rattle.std.proofs.lemmas.Bool.{eqb-true, eq-eqb, ne_eqb}
+use Rattle.std.proofs.lemmas.Bool.{eqb-true, eq-eqb, ne_eqb, or_parts}
 use Rattle.std.proofs.lemmas.List.{same_lists}
-use Rattle.sg_model.proofs.Small.{map_same}
+use Rattle.sg_model.proofs.Small.{map_same, some_same, same_at, length_map}
 use Rattle.sg_model.specs.Values.{Opening}
 use Rattle.sg_protocol.proofs.Following.{get_below}
 use Rattle.sg_protocol.specs.Session.{opening_in}
-use Rattle.sg_role.proofs.Counted.{length_map, length_range}
 use Rattle.sg_role.proofs.Translated.{set_map}
 use Rattle.sg_role.specs.Stepping.{openings_after}
-use Rattle.sg_vis.proofs.Ordered.{same_at}
 use Rattle.std.specs.Option.{option_or}
 use Rattle.std.proofs.lemmas.Bool.{cases_Bool}
 use Rattle.sg_model.proofs.LastOf.{has-append}
 use Rattle.sg_model.specs.Last.{Map, has, merge, after_last}
 use Rattle.sg_model.specs.Lists.{below, in_order, value_at, is_in}
+use Rattle.sg_model.proofs.Numbers.{length-range_from}
 use Rattle.sg_protocol.specs.Frame.{Item}
-use Rattle.sg_role.proofs.Lists.{below_more, take_over}
-use Rattle.sg_role.proofs.Walked.{filter_below_in, filter_below_out}
+use Rattle.sg_role.proofs.Lists.{take_over}
 
 -- ---- after the last item of a role
 
 pub after_none : (xs : List Item) (k : ℕ) → has (λ (i : Item). i.role) k xs ≡ false → xs ≡ after_last (λ (i : Item). i.role) k xs
 after_none [] k h = refl
-after_none (y ∷ ys) k h = let p = or_none (y.role == k) (has (λ (i : Item). i.role) k ys) h in rw (p.1, p.0) refl
-  where
-    or_none : (a b : Bool) → (a || b) ≡ false → (a ≡ false) × (b ≡ false)
-    or_none true b e = absurd (cc)
-    or_none false b e = (refl, e)
+after_none (y ∷ ys) k h = let p = or_parts (y.role == k) (has (λ (i : Item). i.role) k ys) h in rw (p.1, p.0) refl
 
 -- where the role has an item at the front or later, the front one doesn't come after the last
 pub after_step : (x : Item) (rest : List Item) (k : ℕ) → has (λ (i : Item). i.role) k (x ∷ rest) ≡ true → after_last (λ (i : Item). i.role) k (x ∷ rest) ≡ after_last (λ (i : Item). i.role) k rest
@@ -66,7 +60,7 @@ all_kept xs = sym (same_lists (openings_after (length xs) xs []) xs count (λ k 
     get_below (λ x. get_or xs x None) d (length xs) k l ∙ same_at xs k None d l))
   where
     count : length (openings_after (length xs) xs []) ≡ length xs
-    count = length_map (λ x. get_or xs x None) (below (length xs)) ∙ length_range 0 (length xs)
+    count = length_map (λ x. get_or xs x None) (below (length xs)) ∙ length-range_from 0 (length xs)
 
 -- one more that was written before those
 pub taken_more : (n : ℕ) (old : List (Option Opening)) (o : Opening) (os : List Opening) → slice_set (openings_after n old os) o.variable (Some o) ≡ openings_after n old (o ∷ os)
@@ -81,12 +75,9 @@ taken_more n old o os = set_map (λ x. option_or (opening_in os x) (get_or old x
 
 -- ---- views
 
-some_is : {A : Type 0} (y x : A) → Some y ≡ Some x → y ≡ x
-some_is y x e = cc
-
 any_suc : {A : Type 0} (p : A → Bool) (xs : List A) (k : ℕ) (v : A) → slice_get xs k ≡ Some v → list_any p (drop k xs) ≡ (p v || list_any p (drop (suc k) xs))
 any_suc p [] k v e = absurd (cc)
-any_suc p (x ∷ xs) zero v e = ap (λ z. p z || list_any p xs) (some_is x v e)
+any_suc p (x ∷ xs) zero v e = ap (λ z. p z || list_any p xs) (some_same e)
 any_suc p (x ∷ xs) (suc k) v e = any_suc p xs k v e
 
 pub any_at : {A : Type 0} (p : A → Bool) (xs : List A) (k : ℕ) (v : A) → slice_get xs k ≡ Some v → list_any p (drop k xs) ≡ (p v || list_any p (drop (k + 1) xs))

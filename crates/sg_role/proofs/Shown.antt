@@ -20,7 +20,7 @@ use Rattle.sg_protocol.specs.Verdict.{row, seen, has_right_tags}
 use Rattle.sg_protocol.proofs.Bridge.{labels-view_of, has_view-Contains}
 use Rattle.sg_protocol.proofs.Entries.{Roles, seen_labels, has-after_last}
 use Rattle.sg_protocol.proofs.Enough.{below_reads}
-use Rattle.sg_model.proofs.Small.{same_bytes}
+use Rattle.sg_model.proofs.Small.{same_bytes, length_map, or_true}
 use Rattle.sg_protocol.proofs.OneTable.{reads_small}
 use Rattle.sg_protocol.proofs.Splits.{role_small}
 use Rattle.sg_protocol.proofs.Takes.{all_roles}
@@ -48,10 +48,6 @@ all_unmap : (P : ℕ → Type 0) (is : List Item) → AllByRecursion P (map (λ 
 all_unmap P [] a = tt
 all_unmap P (i ∷ is) a = (a.0, all_unmap P is a.1)
 
-same_length : {A B : Type 0} (f : A → B) (xs : List A) → length (map f xs) ≡ length xs
-same_length f [] = refl
-same_length f (x ∷ xs) = ap suc (same_length f xs)
-
 module _ (g : Graph) (r : ℕ) (o : Option ℕ) (items : List Item) (viewed : IsView g r (record { origin = o; items = map seen items })) where
   abbrev since : List ℕ
   since = after_last (sender (shape g)) r viewed.walk
@@ -63,7 +59,7 @@ module _ (g : Graph) (r : ℕ) (o : Option ℕ) (items : List Item) (viewed : Is
   labels_below =
       let walk = walk_below (shape g) 0 viewed.walk viewed.follows in
       let seen_ = all_last_of (λ e. e < length (shape g).edges) (sender (shape g)) since (all_after (λ e. e < length (shape g).edges) (sender (shape g)) r viewed.walk walk) in
-      subst (λ n. AllByRecursion (λ (i : Item). i.label < n) items) (same_length (λ (e : Edge). record { source = e.source; target = e.target; writes = e.writes; reads = e.reads }) g.edges)
+      subst (λ n. AllByRecursion (λ (i : Item). i.label < n) items) (length_map (λ (e : Edge). record { source = e.source; target = e.target; writes = e.writes; reads = e.reads }) g.edges)
       (all_unmap (λ e. e < length (shape g).edges) items (subst (AllByRecursion (λ e. e < length (shape g).edges)) (sym labels_seen) seen_))
 
   pub none_own : list_all (λ (i : Item). i.role == sender (shape g) i.label) items ≡ true → has (λ (i : Item). i.role) r items ≡ false
@@ -124,10 +120,6 @@ seen_frame p ip o f h =
         all_members : (xs : List ℕ) → ((x : ℕ) → is_in x xs ≡ true → x < length p.graph.variables) → AllByRecursion (λ x. x < length p.graph.variables) xs
         all_members [] k = tt
         all_members (x ∷ xs) k = (k x (rw (eq-eqb x x refl) refl), all_members xs (λ y m. k y (rw m (or_true (x == y)))))
-          where
-            or_true : (b : Bool) → (b || true) ≡ true
-            or_true true = refl
-            or_true false = refl
 
     the_last : (l : Option Item) → last f.items ≡ l → option_map_or (λ (i : Item). i.role == f.sender) l false ≡ true → (i : Item) × (last f.items ≡ Some i)
     the_last None e h = absurd (cc)

@@ -3,11 +3,12 @@ use Rattle.std.proofs.Common.{◌≡◌, ℕ, zero, suc, ◌+◌, ◌<◌, ◌�
 use Rattle.std.specs.List.{AllByRecursion, cons_option, list_all}
 use Rattle.std.specs.Option.{option_or}
 use Rattle.std.proofs.lemmas.Bool.{cases_Bool}
-use Rattle.sg_model.proofs.Evidence.{has-evidence, evidence_again, evidence_since}
+use Rattle.sg_model.proofs.Evidence.{evidence_again, evidence_since}
 use Rattle.sg_model.specs.Last.{Map, Entry, has, last, after_last, evidence, evidence_for}
 use Rattle.sg_model.specs.Lists.{below, value_at, first_some}
 use Rattle.sg_model.specs.Shape.{receiver}
 use Rattle.sg_model.specs.Values.{Value, Opening}
+use Rattle.sg_law.proofs.Lists.{has-map}
 use Rattle.sg_protocol.specs.Acting.{rows_of_send}
 use Rattle.sg_protocol.specs.Frame.{Cast, Item, Frame}
 use Rattle.sg_protocol.specs.Graph.{Graph, IsGraph, shape, reads}
@@ -22,7 +23,7 @@ use Rattle.sg_protocol.proofs.Ends.{below_same, committed-append}
 use Rattle.sg_protocol.proofs.Following.{get_below}
 use Rattle.sg_protocol.proofs.KeptLaws.{kept-kept}
 use Rattle.sg_protocol.proofs.Sent.{reads_in}
-use Rattle.sg_role.proofs.Joined.{has-map}
+use Rattle.sg_protocol.proofs.Enough.{has-kept}
 use Rattle.sg_role.specs.Stepping.{first_bad, send_rows, delta_of, commitments_after, own_text, step_commitments, step_item, items_after, frame_with, plain_step, step_frame, step_notes}
 
 after_last_map : (g : Graph) (r : ℕ) (es : List (Entry Item (List ℕ))) → after_last (λ (i : Item). i.role) r (map (item_of g) es) ≡ map (item_of g) (after_last (λ (e : Entry Item (List ℕ)). e.step.role) r es)
@@ -36,12 +37,6 @@ after_last_map g r (e ∷ es) = rw (has-map (item_of g) (λ (i : Item). i.role) 
 -- what is shown of items is what is left of what is kept of them
 shown_left : (g : Graph) (r : ℕ) (items : List Item) → tags_left (after_last (λ (i : Item). i.role) r (kept_items g items)) ≡ shown_to g r items
 shown_left g r items = ap tags_left (after_last_map g r (evidence (λ (i : Item). i.role) (map entry_of items)) ∙ ap (map (item_of g)) (evidence_since (λ (i : Item). i.role) r (map entry_of items)))
-
-kept_has : (g : Graph) (r : ℕ) (items : List Item) → has (λ (i : Item). i.role) r (kept_items g items) ≡ has (λ (i : Item). i.role) r items
-kept_has g r items =
-    has-map (item_of g) (λ (i : Item). i.role) r (evidence (λ (i : Item). i.role) (map entry_of items))
-    ∙ has-evidence (λ (i : Item). i.role) r (map entry_of items)
-    ∙ has-map entry_of (λ (e : Entry Item (List ℕ)). e.step.role) r items
 
 picked_same : (n : ℕ) (f h : ℕ → Option Opening) (xs : List ℕ) → AllByRecursion (λ x. x < n) xs → ((x : ℕ) → x < n → f x ≡ h x) → filter_map f xs ≡ filter_map h xs
 picked_same n f h [] a e = refl
@@ -90,7 +85,7 @@ module _ (keys : Keyring) (p : Program) (s : Session) (label : ℕ) (written : L
     sid = s.sid;
     sender = s.role;
     receiver = to;
-    join = if kept_has p.graph to (told s) j then None else Some s.cast;
+    join = if has-kept p.graph to (told s) j then None else Some s.cast;
     items = ((ap (λ i. tags_left (after_last (λ (k : Item). k.role) to (items_after p.graph h i))) item_same)
         ∙ (ap (λ l. tags_left (after_last (λ (k : Item). k.role) to l)) items_same)
         ∙ shown_left p.graph to (told s ++ own_item real keys p s label written ∷ [])) j;

@@ -1,7 +1,7 @@
 -- Which values an edge takes, variable by variable, and the rows of a step.
-use Rattle.std.proofs.Common.{◌≡◌, ℕ, zero, suc, ◌+◌, ◌-◌, ◌<◌, ◌≤◌, ◌==◌, ◌&&◌, ◌||◌, nat_lt, nat_le, Bool, true, false, not, List, [], ◌∷◌, map, find, length, take, get_or, subst, refl, sym, ◌∙◌, ap, Option, Some, None, option_map, IsTrue, arith, inl, inr, add-one}
+use Rattle.std.proofs.Common.{◌≡◌, ℕ, zero, suc, ◌+◌, ◌-◌, ◌<◌, ◌≤◌, ◌==◌, ◌&&◌, ◌||◌, nat_lt, Bool, true, false, not, List, [], ◌∷◌, map, find, length, take, get_or, subst, refl, sym, ◌∙◌, ap, Option, Some, None, option_map, IsTrue, arith, inl, inr, add-one}
 use Rattle.std.specs.List.{list_any, list_all, AllByRecursion}
-use Rattle.std.proofs.lemmas.Bool.{cases_Bool}
+use Rattle.std.proofs.lemmas.Bool.{cases_Bool, and_parts}
 use Rattle.std.proofs.lemmas.Bool.Decides.{nat_tests}
 use Rattle.std.proofs.lemmas.Bool.{eqb-true}
 use Rattle.sg_model.specs.Last.{Map}
@@ -12,6 +12,7 @@ use Rattle.sg_protocol.specs.Calls.{SendFault}
 use Rattle.sg_protocol.specs.Graph.{Graph, writes, AreNumbers}
 use Rattle.sg_protocol.specs.Keyring.{Program}
 use Rattle.sg_protocol.specs.Standing.{Held}
+use Rattle.sg_protocol.proofs.Told.{out_of_order_in, untyped_in}
 use Rattle.sg_role.specs.Stepping.{first_bad}
 
 -- ---- the first of the numbers
@@ -34,30 +35,10 @@ first_start g label vs = refl
 
 -- ---- one variable
 
-no_order : (x : ℕ) (ys : List ℕ) → is_in x ys ≡ false → is_out_of_order x ys ≡ false
-no_order x [] h = refl
-no_order x (y ∷ ys) h = let r = rest (y == x) (is_in x ys) h in rw (r, no_order x ys r) (go (nat_le x y))
-  where
-    rest : (a b : Bool) → (a || b) ≡ false → b ≡ false
-    rest true b e = absurd (cc)
-    rest false b e = e
-
-    go : (b : Bool) → ((b && false) || false) ≡ false
-    go true = refl
-    go false = refl
-
-no_type : (g : Graph) (x : ℕ) (vs : Map Value) → is_in x (keys_of vs) ≡ false → list_any (λ (w : ℕ × Value). (w.0 == x) && not (is_typed g w)) vs ≡ false
-no_type g x [] h = refl
-no_type g x (v ∷ vs) h = let r = both (v.0 == x) (is_in x (keys_of vs)) h in rw r.0 (no_type g x vs r.1)
-  where
-    both : (a b : Bool) → (a || b) ≡ false → (a ≡ false) × (b ≡ false)
-    both true b e = absurd (cc)
-    both false b e = (refl, e)
-
 pub bad_unwritten : (g : Graph) (label : ℕ) (vs : Map Value) (x : ℕ) → is_in x (writes g label) ≡ false → is_in x (keys_of vs) ≡ is_bad g label vs x
 bad_unwritten g label vs x w = elim (cases_Bool (is_in x (keys_of vs))) [
   | inl k ↦ rw (w, k) refl
-  | inr k ↦ rw (w, k, no_order x (keys_of vs) k, no_type g x vs k) refl
+  | inr k ↦ rw (w, k, out_of_order_in x (keys_of vs) k, untyped_in g x vs k) refl
 ]
 
 pub bad_written : (g : Graph) (label : ℕ) (vs : Map Value) (x : ℕ) → is_in x (writes g label) ≡ true →
@@ -76,20 +57,16 @@ number_in n ws x a h = below_all n ws x (second (rises_from 0 ws) (list_all (λ 
     second true false e = absurd (cc)
     second false b e = absurd (cc)
 
-    parts : (a b : Bool) → (a && b) ≡ true → (a ≡ true) × (b ≡ true)
-    parts true b e = (refl, e)
-    parts false b e = absurd (cc)
-
     below_all : (n : ℕ) (ws : List ℕ) (x : ℕ) → list_all (λ k. nat_lt k n) ws ≡ true → is_in x ws ≡ true → x < n
     below_all n [] x a h = absurd (cc)
-    below_all n (w ∷ ws) x a h = let p = parts (nat_lt w n) (list_all (λ k. nat_lt k n) ws) a in elim (cases_Bool (w == x)) [
+    below_all n (w ∷ ws) x a h = let p = and_parts (nat_lt w n) (list_all (λ k. nat_lt k n) ws) a in elim (cases_Bool (w == x)) [
       | inl q ↦ (let e = eqb-true w x q in let l = p.0 in grind (arith, nat_tests))
       | inr q ↦ below_all n ws x p.1 (ap (λ b. b || is_in x ws) (sym q) ∙ h)
     ]
 
 -- ---- what is told of each
 
-all_suc : {A B : Type 0} (P : B → Type 0) (f : A → B) (xs : List A) (at : ℕ) (x : A) → at < length xs → x ≡ get_or xs at x → AllByRecursion P (map f (take at xs)) → P (f x) → AllByRecursion P (map f (take (suc at) xs))
+pub all_suc : {A B : Type 0} (P : B → Type 0) (f : A → B) (xs : List A) (at : ℕ) (x : A) → at < length xs → x ≡ get_or xs at x → AllByRecursion P (map f (take at xs)) → P (f x) → AllByRecursion P (map f (take (suc at) xs))
 all_suc P f [] at x l e a p = absurd (omega (arith, l))
 all_suc P f (y ∷ ys) zero x l e a p = (subst (λ z. P (f z)) e p, tt)
 all_suc P f (y ∷ ys) (suc at) x l e a p = (a.0, all_suc P f ys at x (omega (arith, l)) e a.1 p)

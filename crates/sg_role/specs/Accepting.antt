@@ -5,9 +5,9 @@ use Rattle.sg_protocol.specs.Graph.{Graph}
 use Rattle.sg_protocol.specs.Keyring.{Program}
 use Rattle.sg_protocol.specs.Calls.{Event}
 use Rattle.sg_protocol.specs.Standing.{Held}
-use Rattle.sg_walk.specs.Views.{event_of}
+use Rattle.sg_walk.specs.Model.{event_of}
 use Rattle.sg_role.specs.declared.accepted.Accepted.TheInside.{Inside}
-use Rattle.sg_role.specs.States.{State, state_of}
+use Rattle.sg_role.specs.Model.{State, state_of}
 
 -- a frame that was accepted: the program, what the role held when the frame was looked at, what it holds with the frame, what it received, and the number of the view that it was shown
 pub record Acceptance : Type 0 where

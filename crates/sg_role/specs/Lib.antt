@@ -3,5 +3,6 @@ pub mod Faults
 pub mod Keeping
 pub mod Looking
 pub mod Sending
-pub mod States
+pub mod Model
+pub mod Invariant
 pub mod Stepping

@@ -7,8 +7,8 @@ use Rattle.sg_protocol.specs.Calls as Protocol
 use Rattle.sg_protocol.specs.Calls.{Event}
 use Rattle.sg_protocol.specs.Standing.{Held}
 use Rattle.sg_protocol.specs.Notes.{Notes}
-use Rattle.sg_walk.specs.Views.{event_of}
-use Rattle.sg_role.specs.States.{State}
+use Rattle.sg_walk.specs.Model.{event_of}
+use Rattle.sg_role.specs.Model.{State}
 use Rattle.sg_role.specs.declared.sent.Sent.{Sent}
 use Rattle.sg_role.specs.declared.sent.Sent.TheVariants.{Waiting, Ended}
 use Rattle.sg_role.specs.declared.taken.Taken.{Taken}

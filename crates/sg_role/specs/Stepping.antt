@@ -5,6 +5,7 @@ use Rattle.sg_model.specs.Last.{Map, has, after_last}
 use Rattle.sg_model.specs.Lists.{below, value_at}
 use Rattle.sg_model.specs.Shape.{receiver, source, target}
 use Rattle.sg_model.specs.Values.{Value, Opening}
+use Rattle.sg_model.specs.Limits.{most_time}
 use Rattle.sg_protocol.specs.Acting.{is_bad}
 use Rattle.sg_protocol.specs.Calls.{SendFault, NoSuchLabel, BadValues, TimeSpent}
 use Rattle.sg_protocol.specs.Frame.{Item, Frame}
@@ -27,7 +28,7 @@ abbrev pub send_rows : Program → Held → ℕ → Map Value → List (Option S
 send_rows p h label values =
     row (not (nat_lt label (length p.graph.edges) && (source (shape p.graph) label == h.kept.place))) NoSuchLabel
     ∷ option_map BadValues (first_bad p.graph label values)
-    ∷ row (nat_le 1000000 h.kept.time) TimeSpent
+    ∷ row (nat_le most_time h.kept.time) TimeSpent
     ∷ []
 
 -- the commitments of what is written

@@ -1,6 +1,6 @@
 //! A frame that was accepted.
 ghost use Rattle.std.specs.Prelude.{◌≡◌};
-ghost use Rattle.sg_walk.specs.Views.{event_of};
+ghost use Rattle.sg_walk.specs.Model.{event_of};
 
 use crate::kept::Kept;
 use sg_vis::ViewId;
@@ -23,7 +23,7 @@ impl<'p> Model for Accepted<'p> {
     ghost Value = { Acceptance };
 
     ghost use Rattle.sg_role.specs.Accepting.{acceptance_of, state_after};
-    ghost use Rattle.sg_role.specs.States.{HoldsTurn};
+    ghost use Rattle.sg_role.specs.Invariant.{HoldsTurn};
 
     ghost view = { acceptance_of };
 

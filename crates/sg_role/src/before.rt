@@ -1,7 +1,7 @@
 //! What a role keeps before what comes next.
 ghost use Rattle.std.specs.Prelude.{◌≡◌, ◌+◌, length, get_or, IfOk, IsTrue, None, ◌↔◌};
 ghost use Rattle.std.specs.Option.{option_copied};
-ghost use Rattle.sg_vis.specs.Origins.{origin_of};
+ghost use Rattle.sg_vis.specs.Model.{origin_of};
 ghost use Rattle.sg_protocol.specs.Backed.{IsBackedBefore};
 ghost use Rattle.sg_protocol.specs.Frame.{IsCastOf};
 ghost use Rattle.sg_protocol.specs.IsSchedule.{IsProgram};
@@ -25,11 +25,12 @@ pub struct Before<'p> {
 }
 
 impl<'p> Model for Before<'p> {
-    ghost use Rattle.sg_role.specs.States.{State};
+    ghost use Rattle.sg_role.specs.Model.{State};
 
     ghost Value = { State };
 
-    ghost use Rattle.sg_role.specs.States.{state_of, HoldsBefore};
+    ghost use Rattle.sg_role.specs.Model.{state_of};
+    ghost use Rattle.sg_role.specs.Invariant.{HoldsBefore};
 
     ghost view = { λ b. state_of b.kept };
 

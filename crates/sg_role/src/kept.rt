@@ -7,7 +7,7 @@ ghost use Rattle.sg_protocol.specs.Session.{principal};
 ghost use Rattle.sg_protocol.specs.Standing.{nothing_kept};
 ghost use Rattle.sg_protocol.specs.Texts.{real, session_id};
 ghost use Rattle.sg_role.specs.Accepting.{goes_on};
-ghost use Rattle.sg_role.specs.States.{state_of};
+ghost use Rattle.sg_role.specs.Model.{state_of};
 
 use sg_base::{Label, Name, NodeId, Opening, OutOfMemory, Role, Sid, Time};
 use sg_crypt::{Cast, session_id};

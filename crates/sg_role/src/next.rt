@@ -10,9 +10,10 @@ ghost use Rattle.sg_protocol.specs.Session.{last_label, opening_in, Took};
 ghost use Rattle.sg_protocol.specs.Spelling.{HasSpelling};
 ghost use Rattle.sg_protocol.specs.Standing.{held_after};
 ghost use Rattle.sg_protocol.specs.Verdict.{receipt};
-ghost use Rattle.sg_walk.specs.Views.{event_of, values_of};
+ghost use Rattle.sg_walk.specs.Model.{event_of, values_of};
 ghost use Rattle.sg_role.specs.Looking.{is_seen, overwritten_by};
-ghost use Rattle.sg_role.specs.States.{state_of, HoldsBefore};
+ghost use Rattle.sg_role.specs.Model.{state_of};
+ghost use Rattle.sg_role.specs.Invariant.{HoldsBefore};
 ghost use Rattle.sg_role.specs.Keeping.{kept_from};
 
 use crate::kept::{Kept, copied};
@@ -251,7 +252,7 @@ fn copied_item(alloc: Global, item: &Item) -> Result<Item, OutOfMemory>
 // ---- openings
 
 // The openings of so many variables, those that are shown first.
-#[tactic(auto, using(crate::proofs::Keeping::map_below_more))]
+#[tactic(auto, using(crate::proofs::Lists::map_below))]
 fn openings_with(
     alloc: Global,
     count: u8,

@@ -1,6 +1,7 @@
 //! The own item of a step.
 ghost use Rattle.std.specs.Prelude.{◌≡◌, ◌<◌, ◌++◌, [], ◌∷◌, None, map, filter, get_or, length, unwrap_or, IfOk, OnOk, OnErr};
 ghost use Rattle.std.specs.List.{AllByRecursion};
+ghost use Rattle.sg_model.specs.Limits.{most_time};
 ghost use Rattle.sg_protocol.specs.Acting.{openings_for};
 ghost use Rattle.sg_protocol.specs.Keyring.{key_of};
 ghost use Rattle.sg_protocol.specs.Notes.{note_of};
@@ -8,8 +9,8 @@ ghost use Rattle.sg_protocol.specs.Sending.{tag_for};
 ghost use Rattle.sg_protocol.specs.Session.{principal};
 ghost use Rattle.sg_protocol.specs.TextLaws.{IsVersion};
 ghost use Rattle.sg_protocol.specs.Texts.{real, cut, hmac, commitment, commitment_text_of};
-ghost use Rattle.sg_walk.specs.Views.{values_of};
-ghost use Rattle.sg_role.specs.States.{state_of};
+ghost use Rattle.sg_walk.specs.Model.{values_of};
+ghost use Rattle.sg_role.specs.Model.{state_of};
 ghost use Rattle.sg_role.specs.Stepping.{delta_of, commitments_after, own_text, Extends};
 ghost use Rattle.sg_model.specs.Lists.{value_at, is_in, below};
 ghost use Rattle.std.specs.Option.{option_or};
@@ -92,7 +93,7 @@ fn commit_one(
 }
 
 /// The current commitments after a delta.
-#[tactic(auto, using(crate::proofs::Walked::map_below_more))]
+#[tactic(auto, using(crate::proofs::Lists::map_below))]
 pub(crate) fn commitments_with(
     alloc: Global,
     count: u8,
@@ -166,7 +167,7 @@ pub(crate) fn tags_for(
     notes: &mut Notes,
 ) -> Result<Vec<(Role, Tag)>, OutOfMemory>
     requires targets { AllByRecursion (λ t. t < length kept.now.cast.names) targets.now }
-    requires time { kept.now.time < 1000000 }
+    requires time { kept.now.time < most_time }
     ensures value { IfOk result (λ d. d.items ≡ map (λ t. (t, tag_for real keys.now kept.now.cast t (own_text (state_of kept.now).held label commitments.now t))) targets.now) }
     ensures noted { OnOk result (notes.new ≡ record notes.old {
       made = notes.old.made ++ map (λ t. note_of keys.now.me (principal kept.now.cast t) (own_text (state_of kept.now).held label commitments.now t)) targets.now;
@@ -193,7 +194,7 @@ fn tag_target(
     notes: &mut Notes,
 ) -> Result<Tag, OutOfMemory>
     requires target { target < length kept.now.cast.names }
-    requires time { kept.now.time < 1000000 }
+    requires time { kept.now.time < most_time }
     ensures value { IfOk result (λ t. t ≡ tag_for real keys.now kept.now.cast target (own_text (state_of kept.now).held label commitments.now target)) }
     ensures noted { OnOk result (notes.new ≡ record notes.old {
       made = notes.old.made ++ note_of keys.now.me (principal kept.now.cast target) (own_text (state_of kept.now).held label commitments.now target) ∷ [];

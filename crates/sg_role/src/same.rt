@@ -1,6 +1,6 @@
 //! Whether two roles keep the same.
 ghost use Rattle.std.specs.Prelude.{◌≡◌, ◌↔◌, IsTrue};
-ghost use Rattle.sg_role.specs.States.{state_of};
+ghost use Rattle.sg_role.specs.Model.{state_of};
 
 use crate::kept::Kept;
 use sg_base::{Name, Opening, Role, Tag, Var};

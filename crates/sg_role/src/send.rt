@@ -1,9 +1,10 @@
 //! What a role sends at its turn.
 ghost use Rattle.std.specs.Prelude.{◌≡◌, ◌+◌, ◌<◌, map, length, Some, None, IfOk, IfErr};
 ghost use Rattle.std.specs.List.{list_any};
+ghost use Rattle.sg_model.specs.Limits.{most_time};
 ghost use Rattle.sg_protocol.specs.Backed.{IsBackedWaiting};
 ghost use Rattle.sg_protocol.specs.Evidence.{same_origin};
-ghost use Rattle.sg_role.specs.States.{state_of};
+ghost use Rattle.sg_role.specs.Model.{state_of};
 ghost use Rattle.sg_role.specs.Stepping.{held_next};
 ghost use Rattle.sg_vis.specs.Table.{views_of};
 ghost use Rattle.sg_model.specs.Lists.{first_some};
@@ -19,13 +20,13 @@ ghost use Rattle.sg_protocol.specs.Session.{Session, Gave, principal};
 ghost use Rattle.sg_protocol.specs.Spelling.{spelling};
 ghost use Rattle.sg_protocol.specs.Standing.{StandsAtTurn, held_after};
 ghost use Rattle.sg_protocol.specs.Texts.{real};
-ghost use Rattle.sg_walk.specs.Views.{event_of, values_of};
+ghost use Rattle.sg_walk.specs.Model.{event_of, values_of};
 ghost use Rattle.sg_role.specs.Faults.{RefusesToSend};
 ghost use Rattle.sg_role.specs.Sending.{event_sent, frame_made, with_notes, WaitsOrEnds, step_of};
 
 use crate::evidence::take_over;
 use crate::kept::Kept;
-use crate::step::{Step, make_step, next_time};
+use crate::step::{MadeStep, make_step, next_time};
 use crate::values::{check_step, tell_values};
 use crate::{Await, Before, Done, SendFault, Sent, Turn};
 use sg_base::{Label, Opening, Value, Var};
@@ -95,9 +96,9 @@ fn tell(kept: &Kept, values: &[(Var, Value)], confounders: &[[u8; 16]])
 }
 
 // The role after a step, which takes its state's place. It takes no memory.
-fn go_on<'p>(turn: Turn<'p>, label: Label, step: Step) -> Sent<'p>
+fn go_on<'p>(turn: Turn<'p>, label: Label, step: MadeStep) -> Sent<'p>
     requires label { label < length turn.program.graph.edges }
-    requires time { turn.held.kept.time < 1000000 }
+    requires time { turn.held.kept.time < most_time }
     requires backed { IsBackedWaiting real turn.program (held_next turn.program turn.held label step.items.items step.commitments.items step.written.items) }
     ensures event { event_sent result ≡ event_of step.event }
     ensures frame { frame_made result ≡ step.sealed }
@@ -107,7 +108,7 @@ fn go_on<'p>(turn: Turn<'p>, label: Label, step: Step) -> Sent<'p>
     }) result }
 {
     let Turn { kept } = turn;
-    let Step {
+    let MadeStep {
         event,
         sealed,
         written,
@@ -136,7 +137,7 @@ fn next_kept<'p>(
     written: Vec<Opening>,
 ) -> Kept<'p>
     requires label { label < length (state_of kept).program.graph.edges }
-    requires time { (state_of kept).held.kept.time < 1000000 }
+    requires time { (state_of kept).held.kept.time < most_time }
     ensures { state_of result ≡ record {
       program = (state_of kept.entry).program;
       held = held_next (state_of kept.entry).program (state_of kept.entry).held label items.items commitments.items written.items;

@@ -1,6 +1,7 @@
 //! What a step makes while the state stays as it is.
 ghost use Rattle.std.specs.Prelude.{◌≡◌, ◌<◌, ◌≤◌, ◌+◌, ◌-◌, ◌++◌, [], ◌∷◌, Some, None, if◌then◌else◌, map, length, take, replicate, IfOk, OnOk, OnErr};
 ghost use Rattle.std.specs.List.{AllByRecursion};
+ghost use Rattle.sg_model.specs.Limits.{most_time};
 ghost use Rattle.sg_model.specs.Lists.{first_some};
 ghost use Rattle.sg_model.specs.Shape.{receiver};
 ghost use Rattle.sg_protocol.specs.Acting.{openings_for};
@@ -13,9 +14,10 @@ ghost use Rattle.sg_protocol.specs.Session.{principal};
 ghost use Rattle.sg_protocol.specs.Spelling.{HasSpelling, spelling};
 ghost use Rattle.sg_protocol.specs.Bounds.{IsShortFrame};
 ghost use Rattle.sg_protocol.specs.Texts.{real, commitment_text_of};
-ghost use Rattle.sg_walk.specs.Views.{event_of, values_of};
+ghost use Rattle.sg_walk.specs.Model.{event_of, values_of};
 ghost use Rattle.sg_role.specs.Sending.{with_notes, step_of};
-ghost use Rattle.sg_role.specs.States.{state_of, HoldsTurn};
+ghost use Rattle.sg_role.specs.Model.{state_of};
+ghost use Rattle.sg_role.specs.Invariant.{HoldsTurn};
 ghost use Rattle.sg_role.specs.Stepping.{send_rows, own_text, step_commitments, step_item, items_after, step_frame, step_notes, frame_with, Extends};
 
 use crate::evidence::{items_with, openings_of, shown_to, vars_of};
@@ -34,7 +36,7 @@ use sg_walk::Event;
 use std::alloc::Global;
 
 /// What a step makes: what it did and the frame, what is written, and the items and commitments that are kept afterwards.
-pub(crate) struct Step {
+pub(crate) struct MadeStep {
     pub event: Event,
     pub sealed: Sealed,
     pub written: Vec<Opening>,
@@ -51,7 +53,7 @@ pub(crate) fn make_step(
     values: &[(Var, Value)],
     confounders: &[[u8; 16]],
     notes: &mut Notes,
-) -> Result<Step, OutOfMemory>
+) -> Result<MadeStep, OutOfMemory>
     requires turn { HoldsTurn (state_of kept.now) }
     requires count { length confounders.now ≡ length values.now }
     requires none { first_some (send_rows (state_of kept.now).program (state_of kept.now).held label (values_of values.now)) ≡ None }
@@ -75,7 +77,7 @@ pub(crate) fn make_step(
     let items = items_with(alloc, count, kept.items.as_slice(), &own)?;
     let frame = untagged(alloc, kept, label, items.as_slice(), written.as_slice())?;
     let sealed = seal(alloc, kept, keys, &frame, notes)?;
-    Ok(Step {
+    Ok(MadeStep {
         event,
         sealed,
         written,
@@ -91,7 +93,7 @@ fn step_event(
     label: Label,
     values: &[(Var, Value)],
 ) -> Result<Event, OutOfMemory>
-    requires { kept.now.time < 1000000 }
+    requires { kept.now.time < most_time }
     ensures { IfOk result (λ e. event_of e ≡ step_of (state_of kept.now).held label (values_of values.now)) }
 {
     Ok(Event::Sent {
@@ -105,7 +107,7 @@ fn step_event(
 
 /// The time of the step.
 pub(crate) fn next_time(kept: &Kept) -> Time
-    requires { kept.now.time < 1000000 }
+    requires { kept.now.time < most_time }
     ensures { result ≡ kept.now.time + 1 }
 {
     Time(kept.time.0 + 1)
@@ -131,7 +133,7 @@ fn own_item(
     notes: &mut Notes,
 ) -> Result<(Item, Vec<Option<[u8; 32]>>), OutOfMemory>
     requires label { label < length (state_of kept.now).program.graph.edges }
-    requires time { kept.now.time < 1000000 }
+    requires time { kept.now.time < most_time }
     requires counted { length kept.now.cast.names ≡ length (state_of kept.now).program.graph.roles }
     ensures item { IfOk result (λ r. r.0 ≡ step_item keys.now (state_of kept.now).program (state_of kept.now).held label written.now) }
     ensures commitments { IfOk result (λ r. r.1.items ≡ step_commitments (state_of kept.now).program (state_of kept.now).held written.now) }

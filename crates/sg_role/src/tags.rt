@@ -12,7 +12,7 @@ ghost use Rattle.sg_protocol.specs.Texts.{real, cut, hmac};
 ghost use Rattle.sg_protocol.specs.Verdict.{row, has_frame_tag, has_item_tag};
 ghost use Rattle.sg_role.specs.Faults.{Refuses};
 ghost use Rattle.sg_role.specs.Looking.{bare, evidence_row, found_items, overwritten, overwritten_by, text_for, KeepsNotes};
-ghost use Rattle.sg_role.specs.States.{state_of};
+ghost use Rattle.sg_role.specs.Model.{state_of};
 
 use crate::Refusal;
 use crate::kept::{Kept, copied};

@@ -1,5 +1,6 @@
 //! Whether the times of a frame's items rise.
 ghost use Rattle.std.specs.Prelude.{◌≡◌, ◌≤◌, None, length, All, IfOk, IfErr};
+ghost use Rattle.sg_model.specs.Limits.{most_time};
 ghost use Rattle.sg_protocol.specs.Verdict.{bad_time};
 ghost use Rattle.sg_role.specs.Faults.{Refuses};
 
@@ -10,8 +11,8 @@ use sg_frame::Item;
 /// Whether each item's time is above that of the item before it, and the first above this one. It takes no memory.
 pub(crate) fn check_times(before: Time, items: &[Item]) -> Result<(), Refusal>
     requires few { length items.now ≤ 65535 }
-    requires before { before ≤ 1000000 }
-    requires times { All (λ i. i.time ≤ 1000000) items.now }
+    requires before { before ≤ most_time }
+    requires times { All (λ i. i.time ≤ most_time) items.now }
     ensures right { IfOk result (λ u. bad_time 1 before items.now ≡ None) }
     ensures wrong { IfErr result (Refuses (bad_time 1 before items.now)) }
 {

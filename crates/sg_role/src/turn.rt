@@ -21,11 +21,12 @@ pub struct Turn<'p> {
 }
 
 impl<'p> Model for Turn<'p> {
-    ghost use Rattle.sg_role.specs.States.{State};
+    ghost use Rattle.sg_role.specs.Model.{State};
 
     ghost Value = { State };
 
-    ghost use Rattle.sg_role.specs.States.{state_of, HoldsTurn};
+    ghost use Rattle.sg_role.specs.Model.{state_of};
+    ghost use Rattle.sg_role.specs.Invariant.{HoldsTurn};
 
     ghost view = { λ t. state_of t.kept };
 

@@ -3,20 +3,20 @@ ghost use Rattle.std.specs.Prelude.{◌≡◌, ◌<◌, ◌+◌, ◌==◌, ◌&&
 ghost use Rattle.sg_model.specs.Lists.{below, first_some, is_in, keys_of};
 ghost use Rattle.sg_protocol.specs.Acting.{is_bad, is_out_of_order, is_typed};
 ghost use Rattle.std.specs.List.{list_any, AllByRecursion};
-ghost use Rattle.sg_base.specs.Values.{value_of};
-ghost use Rattle.sg_model.specs.Bytes.{AreBytes, IsBytes};
+ghost use Rattle.sg_base.specs.Model.{value_of};
+ghost use Rattle.sg_model.specs.Bytes.{AreBytes};
 ghost use Rattle.sg_protocol.specs.Frame.{IsValue};
 ghost use Rattle.sg_protocol.specs.Ranges.{AreValues};
 ghost use Rattle.sg_model.specs.Shape.{source};
 ghost use Rattle.sg_protocol.specs.Graph.{shape};
-ghost use Rattle.sg_walk.specs.Views.{values_of};
+ghost use Rattle.sg_walk.specs.Model.{values_of};
 ghost use Rattle.sg_role.specs.Faults.{RefusesToSend};
-ghost use Rattle.sg_role.specs.States.{state_of};
+ghost use Rattle.sg_role.specs.Model.{state_of};
 ghost use Rattle.sg_role.specs.Stepping.{first_bad, send_rows};
 
 use crate::SendFault;
 use crate::kept::Kept;
-use sg_base::{Label, Value, Var};
+use sg_base::{Label, Value, Var, tell_bytes};
 use sg_graph::Graph;
 
 const LAST: u32 = 1_000_000;
@@ -133,8 +133,8 @@ fn has_other_type(graph: &Graph, values: &[(Var, Value)], var: Var) -> bool
     false
 }
 
-/// What the types say of values and of the bytes that hide them.
-pub(crate) fn tell_values(values: &[(Var, Value)], confounders: &[[u8; 16]])
+/// What the types say of values and of the bytes that hide them. Nothing is done.
+pub fn tell_values(values: &[(Var, Value)], confounders: &[[u8; 16]])
     requires { length confounders.now ≡ length values.now }
     ensures { AreValues (values_of values.now) confounders.now }
 {
@@ -182,8 +182,3 @@ fn tell_confounders(confounders: &[[u8; 16]])
         tell_bytes(&confounders[at]);
     }
 }
-
-// What the type `u8` says of each of these.
-fn tell_bytes(bytes: &[u8])
-    ensures { IsBytes bytes.now }
-{}

@@ -11,7 +11,8 @@ ghost use Rattle.sg_protocol.specs.Verdict.{receipt, rows_of_session, seen};
 ghost use Rattle.sg_role.specs.Faults.{Refuses};
 ghost use Rattle.sg_role.specs.Looking.{is_seen, notes_from, overwritten_by, rows_from, KeepsNotes};
 ghost use Rattle.sg_role.specs.Sending.{with_notes};
-ghost use Rattle.sg_role.specs.States.{state_of, HoldsBefore, HoldsTurn};
+ghost use Rattle.sg_role.specs.Model.{state_of};
+ghost use Rattle.sg_role.specs.Invariant.{HoldsBefore, HoldsTurn};
 
 use crate::kept::Kept;
 use crate::next::{after_frame, copy_of, receipt_of};

@@ -12,7 +12,7 @@ ghost use Rattle.sg_protocol.specs.Spelling.{HasSpelling};
 ghost use Rattle.sg_protocol.specs.Verdict.{row, seen, has_right_tags};
 ghost use Rattle.sg_role.specs.Faults.{Refuses};
 ghost use Rattle.sg_role.specs.Looking.{HasRisingVars, is_seen};
-ghost use Rattle.sg_role.specs.States.{state_of};
+ghost use Rattle.sg_role.specs.Model.{state_of};
 
 use crate::Refusal;
 use crate::kept::Kept;

@@ -4,7 +4,7 @@ ghost use Rattle.sg_model.specs.Shape.{role_at};
 ghost use Rattle.sg_protocol.specs.Backed.{IsBackedWaiting};
 ghost use Rattle.sg_protocol.specs.Graph.{shape};
 ghost use Rattle.sg_protocol.specs.Texts.{real};
-ghost use Rattle.sg_walk.specs.Views.{event_of};
+ghost use Rattle.sg_walk.specs.Model.{event_of};
 ghost use Rattle.sg_role.specs.Accepting.{goes_on, state_after};
 ghost use Rattle.sg_role.specs.Sending.{TurnsOrEnds};
 
@@ -23,11 +23,11 @@ pub struct Await<'p> {
 }
 
 impl<'p> Model for Await<'p> {
-    ghost use Rattle.sg_role.specs.States.{State};
+    ghost use Rattle.sg_role.specs.Model.{State};
 
     ghost Value = { State };
 
-    ghost use Rattle.sg_role.specs.States.{HoldsWaiting};
+    ghost use Rattle.sg_role.specs.Invariant.{HoldsWaiting};
 
     ghost view = { λ a. a.before };
 

@@ -3,22 +3,19 @@ use Rattle.std.specs.Prelude.{◌≡◌, ℕ, ◌%◌, ◌==◌, nat_le, Bool, t
 use Rattle.std.specs.List.{list_all}
 use Rattle.std.specs.Fmt.{decimal}
 use Rattle.std.proofs.Common.{sym, ◌∙◌, ap, arith}
-use Rattle.std.proofs.lemmas.Bool.{eqb-true}
+use Rattle.std.proofs.lemmas.Bool.{eqb-true, not-true}
 use Rattle.sg_model.specs.Names.{Name, is_name, reserved}
 use Rattle.sg_model.specs.Lists.{has_text, all_differ}
+use Rattle.sg_model.proofs.Small.{and_left, and_right}
 use Rattle.sg_sched.specs.Words.{names}
 use Rattle.sg_sched.specs.Format.Said.{Word, Given, SaidEdge, SaidKey, SaidSession, SaidAct, joined_names, given_word, version_words}
 use Rattle.sg_sched.specs.Format.Forms.{is_form, is_given, is_wide, are_names}
 use Rattle.sg_sched.specs.Format.Values.{is_hex_of}
 use Rattle.sg_sched.specs.Format.Reading.{word, edge_form, edge_of, key_form, session_form, version, act_form}
-use Rattle.sg_sched.proofs.FormatWords.{both_left, both_right, name_list, name_list-joined}
+use Rattle.sg_sched.proofs.FormatWords.{name_list, name_list-joined}
 use Rattle.sg_sched.proofs.FormLaws.{name_ok, hex_ok}
 use Rattle.sg_sched.proofs.NumberLaws.{number_ok, is_wide_of}
 use Rattle.sg_sched.proofs.PartLaws.{givens_ok}
-
-not_true : (b : Bool) → not b ≡ true → b ≡ false
-not_true true h = sym h
-not_true false h = refl
 
 pub edge_complete : (label : Name) (from to : ℕ) → is_form (SaidEdge label from to) ≡ true → edge_form (label ∷ decimal from ∷ decimal to ∷ []) ≡ Some (SaidEdge label from to)
 unfolding edge_form word
@@ -26,15 +23,15 @@ edge_complete label from to h =
     let a1 = is_name label && not (has_text label reserved) in
     let a2 = a1 && nat_le from 255 in
     let a3 = a2 && nat_le to 255 in
-    let h3 : a3 ≡ true = both_left a3 (not (from % 2 == to % 2)) h in
-    let h2 : a2 ≡ true = both_left a2 (nat_le to 255) h3 in
-    let h1 : a1 ≡ true = both_left a1 (nat_le from 255) h2 in
+    let h3 : a3 ≡ true = and_left a3 (not (from % 2 == to % 2)) h in
+    let h2 : a2 ≡ true = and_left a2 (nat_le to 255) h3 in
+    let h1 : a1 ≡ true = and_left a1 (nat_le from 255) h2 in
     rw (
-      name_ok label (both_left (is_name label) (not (has_text label reserved)) h1),
-      number_ok 255 from (omega arith) (both_right a1 (nat_le from 255) h2),
-      number_ok 255 to (omega arith) (both_right a2 (nat_le to 255) h3),
-      not_true (has_text label reserved) (both_right (is_name label) (not (has_text label reserved)) h1),
-      not_true (from % 2 == to % 2) (both_right a3 (not (from % 2 == to % 2)) h),
+      name_ok label (and_left (is_name label) (not (has_text label reserved)) h1),
+      number_ok 255 from (omega arith) (and_right a1 (nat_le from 255) h2),
+      number_ok 255 to (omega arith) (and_right a2 (nat_le to 255) h3),
+      not-true (has_text label reserved) (and_right (is_name label) (not (has_text label reserved)) h1),
+      not-true (from % 2 == to % 2) (and_right a3 (not (from % 2 == to % 2)) h),
     ) refl
 
 pub key_complete : (one two : Name) (ds : Word) → is_form (SaidKey one two ds) ≡ true → key_form (one ∷ two ∷ ds ∷ []) ≡ Some (SaidKey one two ds)
@@ -42,13 +39,13 @@ unfolding key_form word
 key_complete one two ds h =
     let a1 = is_name one && is_name two in
     let a2 = a1 && not (bytes_eq one two) in
-    let h2 : a2 ≡ true = both_left a2 (is_hex_of 32 ds) h in
-    let h1 : a1 ≡ true = both_left a1 (not (bytes_eq one two)) h2 in
+    let h2 : a2 ≡ true = and_left a2 (is_hex_of 32 ds) h in
+    let h1 : a1 ≡ true = and_left a1 (not (bytes_eq one two)) h2 in
     rw (
-      name_ok one (both_left (is_name one) (is_name two) h1),
-      name_ok two (both_right (is_name one) (is_name two) h1),
-      hex_ok 32 ds (both_right a2 (is_hex_of 32 ds) h),
-      not_true (bytes_eq one two) (both_right a1 (not (bytes_eq one two)) h2),
+      name_ok one (and_left (is_name one) (is_name two) h1),
+      name_ok two (and_right (is_name one) (is_name two) h1),
+      hex_ok 32 ds (and_right a2 (is_hex_of 32 ds) h),
+      not-true (bytes_eq one two) (and_right a1 (not (bytes_eq one two)) h2),
     ) refl
 
 names_ok : (n : Name) (ns : List Name) → list_all is_name (n ∷ ns) ≡ true → all_differ (n ∷ ns) ≡ true → names (joined_names (n ∷ ns)) ≡ Some (n ∷ ns)
@@ -82,23 +79,23 @@ session_complete name graph nonce ns v h =
     let a3 = a2 && nat_le 1 (length ns) in
     let a4 = a3 && are_names ns in
     let a5 = a4 && all_differ ns in
-    let h5 : a5 ≡ true = both_left a5 (v == 1 || v == 2) h in
-    let h4 : a4 ≡ true = both_left a4 (all_differ ns) h5 in
-    let h3 : a3 ≡ true = both_left a3 (are_names ns) h4 in
-    let h2 : a2 ≡ true = both_left a2 (nat_le 1 (length ns)) h3 in
-    let h1 : a1 ≡ true = both_left a1 (is_wide nonce) h2 in
-    session_with name graph nonce ns v (both_left (is_name name) (is_name graph) h1) (both_right (is_name name) (is_name graph) h1) (both_right a1 (is_wide nonce) h2) (both_right a2 (nat_le 1 (length ns)) h3)
-    (both_right a3 (are_names ns) h4) (both_right a4 (all_differ ns) h5) (both_right a5 (v == 1 || v == 2) h)
+    let h5 : a5 ≡ true = and_left a5 (v == 1 || v == 2) h in
+    let h4 : a4 ≡ true = and_left a4 (all_differ ns) h5 in
+    let h3 : a3 ≡ true = and_left a3 (are_names ns) h4 in
+    let h2 : a2 ≡ true = and_left a2 (nat_le 1 (length ns)) h3 in
+    let h1 : a1 ≡ true = and_left a1 (is_wide nonce) h2 in
+    session_with name graph nonce ns v (and_left (is_name name) (is_name graph) h1) (and_right (is_name name) (is_name graph) h1) (and_right a1 (is_wide nonce) h2) (and_right a2 (nat_le 1 (length ns)) h3)
+    (and_right a3 (are_names ns) h4) (and_right a4 (all_differ ns) h5) (and_right a5 (v == 1 || v == 2) h)
 
 pub act_complete : (who session label : Name) (vs : List Given) → is_form (SaidAct who session label vs) ≡ true → act_form (who ∷ session ∷ label ∷ map given_word vs) ≡ Some (SaidAct who session label vs)
 unfolding act_form word
 act_complete who session label vs h =
-    let n = both_left (are_names (who ∷ session ∷ label ∷ [])) (list_all is_given vs) h in
-    let m = both_right (is_name who) (is_name session && (is_name label && true)) n in
-    let l = both_right (is_name session) (is_name label && true) m in
+    let n = and_left (are_names (who ∷ session ∷ label ∷ [])) (list_all is_given vs) h in
+    let m = and_right (is_name who) (is_name session && (is_name label && true)) n in
+    let l = and_right (is_name session) (is_name label && true) m in
     rw (
-      name_ok who (both_left (is_name who) (is_name session && (is_name label && true)) n),
-      name_ok session (both_left (is_name session) (is_name label && true) m),
-      name_ok label (both_left (is_name label) true l),
-      givens_ok vs (both_right (are_names (who ∷ session ∷ label ∷ [])) (list_all is_given vs) h),
+      name_ok who (and_left (is_name who) (is_name session && (is_name label && true)) n),
+      name_ok session (and_left (is_name session) (is_name label && true) m),
+      name_ok label (and_left (is_name label) true l),
+      givens_ok vs (and_right (are_names (who ∷ session ∷ label ∷ [])) (list_all is_given vs) h),
     ) refl

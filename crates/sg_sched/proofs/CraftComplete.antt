@@ -8,6 +8,7 @@ use Rattle.std.proofs.lemmas.Grind.{common_steps}
 use Rattle.std.proofs.lemmas.Bool.{leb-true, le-leb, eqb-true, ltb-true}
 use Rattle.std.proofs.lemmas.Fmt.{decimal_is_IsNumeral}
 use Rattle.sg_model.specs.Names.{Name, is_name}
+use Rattle.sg_model.proofs.Small.{and_left, and_right}
 use Rattle.sg_protocol.specs.Schedule.{CraftJoin}
 use Rattle.sg_base.specs.Words.{name, number}
 use Rattle.sg_sched.specs.Words.{frame}
@@ -16,7 +17,7 @@ use Rattle.sg_sched.specs.Format.Forms.{is_committed, is_source, is_tag, is_item
 use Rattle.sg_sched.specs.Format.Values.{is_value}
 use Rattle.sg_sched.specs.Format.Reading.{Left, Taker, word, after, ended, split_at}
 use Rattle.sg_sched.specs.Format.CraftReading.{split_last, last_step, committed, behind_equal, time, run, run_step, few, some_of, listed, copy_source, source, repeated, more_after, tag, item, is_next, all_names, name_list, sixteen, cast, optional, join_parts, join, opened, exactly, ends, seal_form, some_items, craft_form}
-use Rattle.sg_sched.proofs.FormatWords.{both_left, both_right, both, same_self, name_lacks, name_list as pieces, name_list-joined}
+use Rattle.sg_sched.proofs.FormatWords.{both, same_self, name_lacks, name_list as pieces, name_list-joined, wide}
 use Rattle.sg_sched.proofs.FormatCraftReading.{hash_split, hash_step, hash_split-at, digits_lack, digits_no_seal}
 use Rattle.sg_sched.proofs.FormatWholeCraft.{CraftFacts, craft_facts}
 use Rattle.sg_sched.proofs.FormLaws.{name_ok}
@@ -44,40 +45,37 @@ same_split : (w : Word) → split_last 35 w ≡ hash_split w
 same_split [] = refl
 same_split (c ∷ cs) = ap (last_step 35 c cs) (same_split cs) ∙ one_step c cs (hash_split cs)
 
-wide_step : (n : ℕ) → is_wide n ≡ true → n < 2 ^ 64
-wide_step n h = ltb-true n 18446744073709551616 h
-
 committed_ok : (c : Committed) → is_committed c ≡ true → committed (committed_word c) ≡ Some c
 unfolding committed
 committed_ok c h =
-    let front = both_left (is_name c.variable && is_value c.value) (is_wide c.step) h in
-    let wide = both_right (is_name c.variable && is_value c.value) (is_wide c.step) h in
-    let digits = digits_lack (decimal c.step) (decimal_is_IsNumeral c.step (wide_step c.step wide)).0.1 in
+    let front = and_left (is_name c.variable && is_value c.value) (is_wide c.step) h in
+    let low = and_right (is_name c.variable && is_value c.value) (is_wide c.step) h in
+    let digits = digits_lack (decimal c.step) (decimal_is_IsNumeral c.step (wide c.step low)).0.1 in
     let last : split_last 35 (c.value ++ 35 ∷ decimal c.step) ≡ Some (c.value, decimal c.step) = same_split (c.value ++ 35 ∷ decimal c.step) ∙ hash_split-at c.value (decimal c.step) digits in
-    ap (option_and_then (λ (p : Word × Word). option_and_then (behind_equal p.0) (split_last 35 p.1))) (split_ok 61 c.variable (c.value ++ 35 ∷ decimal c.step) (name_lacks 61 c.variable refl (both_left (is_name c.variable) (is_value c.value) front)))
+    ap (option_and_then (λ (p : Word × Word). option_and_then (behind_equal p.0) (split_last 35 p.1))) (split_ok 61 c.variable (c.value ++ 35 ∷ decimal c.step) (name_lacks 61 c.variable refl (and_left (is_name c.variable) (is_value c.value) front)))
     ∙ ap (option_and_then (behind_equal c.variable)) last
-    ∙ rw (front, number_ok 18446744073709551615 c.step (omega arith) (is_wide_of c.step wide)) refl
+    ∙ rw (front, number_ok 18446744073709551615 c.step (omega arith) (is_wide_of c.step low)) refl
 
 pub run_ok : (cs : List Committed) (rest : Left) → list_all is_committed cs ≡ true → run rest ≡ ([], rest) → run (run_words cs ++ rest) ≡ (cs, rest)
 run_ok [] rest h e = e
-run_ok (c ∷ cs) rest h e = rw (committed_ok c (both_left (is_committed c) (list_all is_committed cs) h), run_ok cs rest (both_right (is_committed c) (list_all is_committed cs) h) e) refl
+run_ok (c ∷ cs) rest h e = rw (committed_ok c (and_left (is_committed c) (list_all is_committed cs) h), run_ok cs rest (and_right (is_committed c) (list_all is_committed cs) h) e) refl
 
 -- ---- sources
 
 pub source_ok : (s : From) (rest : Left) → is_source s ≡ true → source (from_words s ++ rest) ≡ Some (s, rest)
 unfolding source copy_source word
 source_ok FromZero rest h = refl
-source_ok (FromKey one two) rest h = rw (name_ok one (both_left (is_name one) (is_name two) h), name_ok two (both_right (is_name one) (is_name two) h)) refl
+source_ok (FromKey one two) rest h = rw (name_ok one (and_left (is_name one) (is_name two) h), name_ok two (and_right (is_name one) (is_name two) h)) refl
 source_ok (FromSeal n) rest h = rw (frame_ok n h) refl
 source_ok (FromItem n i role) rest h =
-    let front = both_left (is_frame n && is_short i) (is_name role) h in
-    let short = both_right (is_frame n) (is_short i) front in
+    let front = and_left (is_frame n && is_short i) (is_name role) h in
+    let short = and_right (is_frame n) (is_short i) front in
     let small : i < 2 ^ 64 = omega (arith, ltb-true i 4294967296 short) in
     rw (
-      frame_ok n (both_left (is_frame n) (is_short i) front),
+      frame_ok n (and_left (is_frame n) (is_short i) front),
       digits_no_seal (decimal i) (decimal_is_IsNumeral i small).0.1,
       number_ok 4294967295 i (omega arith) (is_short_of i short),
-      name_ok role (both_right (is_frame n && is_short i) (is_name role) h),
+      name_ok role (and_right (is_frame n && is_short i) (is_name role) h),
     ) refl
 
 -- ---- what is repeated
@@ -99,8 +97,8 @@ repeated_ok first take print ok Guard r (suc n) (x ∷ xs) rest l h g e =
     rw (
       same_self first,
       append_assoc (print x) (printed first print xs) rest,
-      r.takes x (printed first print xs ++ rest) (both_left (ok x) (list_all ok xs) h) (guarded xs),
-      repeated_ok first take print ok Guard r n xs rest (omega arith) (both_right (ok x) (list_all ok xs) h) g e,
+      r.takes x (printed first print xs ++ rest) (and_left (ok x) (list_all ok xs) h) (guarded xs),
+      repeated_ok first take print ok Guard r n xs rest (omega arith) (and_right (ok x) (list_all ok xs) h) g e,
     ) refl
   where
     guarded : (ys : List _) → Guard (printed first print ys ++ rest)
@@ -111,7 +109,7 @@ repeated_ok first take print ok Guard r (suc n) (x ∷ xs) rest l h g e =
 
 tag_ok : (t : Name × From) (rest : Left) → is_tag t ≡ true → tag (tag_print t ++ rest) ≡ Some (t, rest)
 unfolding tag word
-tag_ok t rest h = rw (name_ok t.0 (both_left (is_name t.0) (is_source t.1) h), source_ok t.1 rest (both_right (is_name t.0) (is_source t.1) h)) refl
+tag_ok t rest h = rw (name_ok t.0 (and_left (is_name t.0) (is_source t.1) h), source_ok t.1 rest (and_right (is_name t.0) (is_source t.1) h)) refl
 
 tag_repeats : Repeats (codes "tag") tag tag_print is_tag (λ ws. Unit {0})
 tag_repeats = record { takes = λ t rest h g. tag_ok t rest h; first_guards = λ ws. tt }
@@ -137,18 +135,18 @@ item_ok i rest h b =
     let a2 = a1 && nat_le i.time 1000000 in
     let a3 = a2 && are_committed i.delta in
     let a4 = a3 && nat_le (length i.tags) 14 in
-    let h4 : a4 ≡ true = both_left a4 (list_all is_tag i.tags) h in
-    let h3 : a3 ≡ true = both_left a3 (nat_le (length i.tags) 14) h4 in
-    let h2 : a2 ≡ true = both_left a2 (are_committed i.delta) h3 in
-    let h1 : a1 ≡ true = both_left a1 (nat_le i.time 1000000) h2 in
-    let delta = both_right a2 (are_committed i.delta) h3 in
+    let h4 : a4 ≡ true = and_left a4 (list_all is_tag i.tags) h in
+    let h3 : a3 ≡ true = and_left a3 (nat_le (length i.tags) 14) h4 in
+    let h2 : a2 ≡ true = and_left a2 (are_committed i.delta) h3 in
+    let h1 : a1 ≡ true = and_left a1 (nat_le i.time 1000000) h2 in
+    let delta = and_right a2 (are_committed i.delta) h3 in
     rw (
       append_assoc (map committed_word i.delta) (flat_map tag_words i.tags) rest,
-      name_ok i.label (both_left (is_name i.label) (nat_le 1 i.time) h1),
-      time_ok i.time (both_right (is_name i.label) (nat_le 1 i.time) h1) (both_right a1 (nat_le i.time 1000000) h2),
-      run_ok i.delta (flat_map tag_words i.tags ++ rest) (both_right (nat_le (length i.delta) 32) (list_all is_committed i.delta) delta) (tags_run i.tags rest b.no_run),
-      both_left (nat_le (length i.delta) 32) (list_all is_committed i.delta) delta,
-      repeated_ok (codes "tag") tag tag_print is_tag (λ ws. Unit {0}) tag_repeats 14 i.tags rest (leb-true (length i.tags) 14 (both_right a3 (nat_le (length i.tags) 14) h4)) (both_right a4 (list_all is_tag i.tags) h) tt b.no_tag,
+      name_ok i.label (and_left (is_name i.label) (nat_le 1 i.time) h1),
+      time_ok i.time (and_right (is_name i.label) (nat_le 1 i.time) h1) (and_right a1 (nat_le i.time 1000000) h2),
+      run_ok i.delta (flat_map tag_words i.tags ++ rest) (and_right (nat_le (length i.delta) 32) (list_all is_committed i.delta) delta) (tags_run i.tags rest b.no_run),
+      and_left (nat_le (length i.delta) 32) (list_all is_committed i.delta) delta,
+      repeated_ok (codes "tag") tag tag_print is_tag (λ ws. Unit {0}) tag_repeats 14 i.tags rest (leb-true (length i.tags) 14 (and_right a3 (nat_le (length i.tags) 14) h4)) (and_right a4 (list_all is_tag i.tags) h) tt b.no_tag,
     ) refl
 
 pub item_behind : (ws : Left) → Behind (codes "item" ∷ ws)

@@ -8,6 +8,7 @@ use Rattle.std.proofs.lemmas.Grind.{common_steps}
 use Rattle.std.proofs.lemmas.Bool.{leb-true, le-leb, eqb-true}
 use Rattle.std.proofs.lemmas.Slice.Eq.{bytes_eq-Decides}
 use Rattle.sg_model.specs.Names.{Name, is_name}
+use Rattle.sg_model.proofs.Small.{some_same}
 use Rattle.sg_protocol.specs.Schedule.{CraftJoin}
 use Rattle.sg_base.specs.Words.{name, number}
 use Rattle.sg_sched.specs.Words.{frame}
@@ -15,8 +16,8 @@ use Rattle.sg_sched.specs.Format.Said.{Word, Committed, From, SaidItem, SaidCraf
 use Rattle.sg_sched.specs.Format.Forms.{is_committed, is_source, is_item, are_committed, is_join, is_wide, are_names, is_craft, is_form}
 use Rattle.sg_sched.specs.Format.Reading.{Left, Taker, word, after, ended}
 use Rattle.sg_sched.specs.Format.CraftReading.{run, few, some_of, listed, source, repeated, item, all_names, name_list, sixteen, cast, optional, join_parts, join, opened, exactly, ends, ends_of, seal_form, some_items, craft_form}
-use Rattle.sg_sched.proofs.FormatWords.{both_left, both_right, both, name_list as pieces}
-use Rattle.sg_sched.proofs.FormLaws.{some_is, none_some, step, ended_is, line_up, name_is, Fits, fits}
+use Rattle.sg_sched.proofs.FormatWords.{both, name_list as pieces}
+use Rattle.sg_sched.proofs.FormLaws.{none_some, step, ended_is, line_up, name_is, Fits, fits}
 use Rattle.sg_sched.proofs.NumberLaws.{number_is, wide_is}
 use Rattle.sg_sched.proofs.PartLaws.{joined_back}
 use Rattle.sg_sched.proofs.TakerLaws.{Taken, taken_is, taken_of, Took, took, run_words, run_is, source_is, printed, TookAll, repeated_is}
@@ -29,7 +30,7 @@ some_of_is r q h = by (length r.0 == 0) refl h
   where
     by : (b : Bool) → (length r.0 == 0) ≡ b → (if b then None else Some r) ≡ Some q → (r ≡ q) × ((length r.0 == 0) ≡ false)
     by true e h = none_some h
-    by false e h = (some_is h, e)
+    by false e h = (some_same h, e)
 
 list_some : (first : List ℕ) (cs : List Committed) → (length cs == 0) ≡ false → list_words first cs ≡ first ∷ run_words cs
 list_some first [] e = absurd (cc e)
@@ -90,11 +91,11 @@ cast_is w ns h = first (name_list w) refl h
     parts ps ms h = in_parts (list_all is_name ps) refl h
       where
         in_parts : (b : Bool) → list_all is_name ps ≡ b → (if b then Some ps else None) ≡ Some ms → (ps ≡ ms) × (are_names ps ≡ true)
-        in_parts true e h = (some_is h, e)
+        in_parts true e h = (some_same h, e)
         in_parts false e h = none_some h
 
     by : (ms : List Name) → (w ≡ joined_names ms) × (are_names ms ≡ true) → (b : Bool) → (nat_le 2 (length ms) && nat_le (length ms) 16) ≡ b → (if b then Some ms else None) ≡ Some ns → (w ≡ joined_names ns) × (are_cast ns ≡ true)
-    by ms f true e h = subst (λ (ns : List Name). (w ≡ joined_names ns) × (are_cast ns ≡ true)) (some_is h) (f.0, both e f.1)
+    by ms f true e h = subst (λ (ns : List Name). (w ≡ joined_names ns) × (are_cast ns ≡ true)) (some_same h) (f.0, both e f.1)
     by ms f false e h = none_some h
 
     first : (o : Option (List Name)) → name_list w ≡ o → option_and_then sixteen o ≡ Some ns → (w ≡ joined_names ns) × (are_cast ns ≡ true)
@@ -177,7 +178,7 @@ seal_is ws s h =
     let b = taken_is source (λ seal. ended (Some seal)) a.rest s a.more in
     let e = ended_is (Some b.value) b.rest s b.more in
     let t = source_is a.rest b.value b.rest b.was in
-    subst (λ s. SealIs ws s) (some_is e.1) (record { words = line_up a.all (exactly_is (codes "seal") a.first a.value a.was) (t.words ∙ ap (λ (r : Left). from_words b.value ++ r) e.0 ∙ append-nil (from_words b.value)); form = t.form })
+    subst (λ s. SealIs ws s) (some_same e.1) (record { words = line_up a.all (exactly_is (codes "seal") a.first a.value a.was) (t.words ∙ ap (λ (r : Left). from_words b.value ++ r) e.0 ∙ append-nil (from_words b.value)); form = t.form })
 
 -- a craft of its parts
 abbrev made : Ends → Option CraftJoin → List Committed → List SaidItem → List Committed → From → SaidCraft

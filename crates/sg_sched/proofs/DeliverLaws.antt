@@ -4,14 +4,15 @@ use Rattle.std.specs.Fmt.{decimal}
 use Rattle.std.proofs.Common.{sym, ◌∙◌, ap, subst, arith}
 use Rattle.std.proofs.lemmas.Slice.Eq.{bytes_eq-Decides}
 use Rattle.sg_model.specs.Names.{Name, is_name}
+use Rattle.sg_model.proofs.Small.{and_left, and_right, some_same}
 use Rattle.sg_base.specs.Words.{name, number}
 use Rattle.sg_sched.specs.Words.{frame}
 use Rattle.sg_sched.specs.Format.Said.{Word, Delivered, Said, SaidDeliver, TheFrame, TheFlipped, TheCut, TheBytes, line_words, delivered_words, frame_word}
 use Rattle.sg_sched.specs.Format.Forms.{is_form, is_delivered, is_frame, is_short}
 use Rattle.sg_sched.specs.Format.Values.{is_hex}
 use Rattle.sg_sched.specs.Format.Reading.{Left, word, after, ended, hex, short, frame_form, what_form, deliver_form}
-use Rattle.sg_sched.proofs.FormatWords.{both_left, both_right, both, same_self}
-use Rattle.sg_sched.proofs.FormLaws.{some_is, none_some, step, ended_is, line_up, name_is, name_ok, Fits, fits}
+use Rattle.sg_sched.proofs.FormatWords.{both, same_self}
+use Rattle.sg_sched.proofs.FormLaws.{none_some, step, ended_is, line_up, name_is, name_ok, Fits, fits}
 use Rattle.sg_sched.proofs.NumberLaws.{number_is, number_ok, frame_is, frame_ok, short_is, is_short_of}
 
 -- the words behind the name
@@ -22,7 +23,7 @@ record Gives (who : Name) (ws : Left) (s : Said) : Type 0 where
   pub said : SaidDeliver who what ≡ s
 
 gives : {who : Name} {ws : Left} {s : Said} (what : Delivered) → ws ≡ delivered_words what → is_delivered what ≡ true → Some (SaidDeliver who what) ≡ Some s → Gives who ws s
-gives what w f h = record { what = what; words = w; form = f; said = some_is h }
+gives what w f h = record { what = what; words = w; form = f; said = some_same h }
 
 -- flip I and cut I
 change_is : (who : Name) (n : ℕ) (make : ℕ → Delivered) (w mark : Word) (ws : Left) (s : Said) → ((i : ℕ) → frame_word n ∷ mark ∷ decimal i ∷ [] ≡ delivered_words (make i)) → ((i : ℕ) → is_short i ≡ true → is_delivered (make i) ≡ true) → w ≡ mark
@@ -49,7 +50,7 @@ unfolding hex
 digits_are w d h = by (is_hex w) refl h
   where
     by : (b : Bool) → is_hex w ≡ b → (if b then Some w else None) ≡ Some d → (w ≡ d) × (is_hex d ≡ true)
-    by true e h = (some_is h, subst (λ v. is_hex v ≡ true) (some_is h) e)
+    by true e h = (some_same h, subst (λ v. is_hex v ≡ true) (some_same h) e)
     by false e h = none_some h
 
 digits_ok : (d : Word) → is_hex d ≡ true → hex d ≡ Some d
@@ -85,11 +86,11 @@ deliver_sound ws s h =
 
 pub deliver_complete : (who : Name) (what : Delivered) → is_form (SaidDeliver who what) ≡ true → deliver_form (who ∷ delivered_words what) ≡ Some (SaidDeliver who what)
 unfolding deliver_form what_form frame_form word
-deliver_complete who (TheFrame n) h = rw (name_ok who (both_left (is_name who) (is_frame n) h), frame_ok n (both_right (is_name who) (is_frame n) h)) refl
+deliver_complete who (TheFrame n) h = rw (name_ok who (and_left (is_name who) (is_frame n) h), frame_ok n (and_right (is_name who) (is_frame n) h)) refl
 deliver_complete who (TheFlipped n i) h =
-    let w = both_right (is_name who) (is_frame n && is_short i) h in
-    rw (name_ok who (both_left (is_name who) (is_frame n && is_short i) h), frame_ok n (both_left (is_frame n) (is_short i) w), number_ok 4294967295 i (omega arith) (is_short_of i (both_right (is_frame n) (is_short i) w))) refl
+    let w = and_right (is_name who) (is_frame n && is_short i) h in
+    rw (name_ok who (and_left (is_name who) (is_frame n && is_short i) h), frame_ok n (and_left (is_frame n) (is_short i) w), number_ok 4294967295 i (omega arith) (is_short_of i (and_right (is_frame n) (is_short i) w))) refl
 deliver_complete who (TheCut n i) h =
-    let w = both_right (is_name who) (is_frame n && is_short i) h in
-    rw (name_ok who (both_left (is_name who) (is_frame n && is_short i) h), frame_ok n (both_left (is_frame n) (is_short i) w), number_ok 4294967295 i (omega arith) (is_short_of i (both_right (is_frame n) (is_short i) w))) refl
-deliver_complete who (TheBytes ds) h = rw (name_ok who (both_left (is_name who) (is_hex ds) h), digits_ok ds (both_right (is_name who) (is_hex ds) h)) refl
+    let w = and_right (is_name who) (is_frame n && is_short i) h in
+    rw (name_ok who (and_left (is_name who) (is_frame n && is_short i) h), frame_ok n (and_left (is_frame n) (is_short i) w), number_ok 4294967295 i (omega arith) (is_short_of i (and_right (is_frame n) (is_short i) w))) refl
+deliver_complete who (TheBytes ds) h = rw (name_ok who (and_left (is_name who) (is_hex ds) h), digits_ok ds (and_right (is_name who) (is_hex ds) h)) refl

@@ -9,19 +9,16 @@ use Rattle.std.proofs.lemmas.Grind.{common_steps}
 use Rattle.std.proofs.lemmas.Slice.Eq.{bytes_eq-Decides}
 use Rattle.sg_model.specs.Names.{Name, is_name, reserved}
 use Rattle.sg_model.specs.Lists.{has_text, all_differ}
+use Rattle.sg_model.proofs.Small.{and_left, and_right, some_same}
 use Rattle.sg_base.specs.Words.{name, number, up_to}
 use Rattle.sg_sched.specs.Words.{frame}
 use Rattle.sg_sched.specs.Format.Said.{Word, Said, SaidBlock, SaidEdge, SaidHonest, SaidKey, SaidStart, SaidAbandon, line_words}
 use Rattle.sg_sched.specs.Format.Forms.{is_form, are_names}
 use Rattle.sg_sched.specs.Format.Values.{is_hex_of}
 use Rattle.sg_sched.specs.Format.Reading.{Left, Taker, word, after, ended, hex_of, block_form, honest_form, key_form, key_of, start_form, abandon_form}
-use Rattle.sg_sched.proofs.FormatWords.{both_left, both_right, both, same_self}
+use Rattle.sg_sched.proofs.FormatWords.{both, same_self}
 
 -- ---- steps
-
--- what is there is one
-pub some_is : {A : Type 0} {x y : A} → Some x ≡ Some y → x ≡ y
-some_is {A} {x} h = ap (λ (o : Option A). elim o as (λ o. A) [ None ↦ x | Some z ↦ z ]) h
 
 -- nothing is there where something is
 pub none_some : {A : Type 0} {P : Type 0} {x : A} → None ≡ Some x → P
@@ -65,7 +62,7 @@ unfolding name
 name_is w n h = by (is_name w) refl h
   where
     by : (b : Bool) → is_name w ≡ b → (if b then Some w else None) ≡ Some n → NameIs w n
-    by true e h = record { same = some_is h; name = subst (λ v. is_name v ≡ true) (some_is h) e }
+    by true e h = record { same = some_same h; name = subst (λ v. is_name v ≡ true) (some_same h) e }
     by false e h = none_some h
 
 pub name_ok : (n : Name) → is_name n ≡ true → name n ≡ Some n
@@ -80,7 +77,7 @@ pub record Fits (ws : Left) (s : Said) : Type 0 where
   pub form : is_form s ≡ true
 
 pub fits : {ws : Left} {s t : Said} → ws ≡ line_words s → is_form s ≡ true → Some s ≡ Some t → Fits ws t
-fits {ws} w f h = subst (λ s. Fits ws s) (some_is h) (record { words = w; form = f })
+fits {ws} w f h = subst (λ s. Fits ws s) (some_same h) (record { words = w; form = f })
 
 pub honest_sound : (ws : Left) (s : Said) → honest_form ws ≡ Some s → Fits (codes "honest" ∷ ws) s
 unfolding honest_form
@@ -116,11 +113,11 @@ abandon_sound ws s h =
 
 pub start_complete : (who session : Name) → is_form (SaidStart who session) ≡ true → start_form (who ∷ session ∷ []) ≡ Some (SaidStart who session)
 unfolding start_form word
-start_complete who session h = rw (name_ok who (both_left (is_name who) (is_name session && true) h), name_ok session (both_left (is_name session) true (both_right (is_name who) (is_name session && true) h))) refl
+start_complete who session h = rw (name_ok who (and_left (is_name who) (is_name session && true) h), name_ok session (and_left (is_name session) true (and_right (is_name who) (is_name session && true) h))) refl
 
 pub abandon_complete : (who session : Name) → is_form (SaidAbandon who session) ≡ true → abandon_form (who ∷ session ∷ []) ≡ Some (SaidAbandon who session)
 unfolding abandon_form word
-abandon_complete who session h = rw (name_ok who (both_left (is_name who) (is_name session && true) h), name_ok session (both_left (is_name session) true (both_right (is_name who) (is_name session && true) h))) refl
+abandon_complete who session h = rw (name_ok who (and_left (is_name who) (is_name session && true) h), name_ok session (and_left (is_name session) true (and_right (is_name who) (is_name session && true) h))) refl
 
 pub block_sound : (ws : Left) (s : Said) → block_form ws ≡ Some s → Fits (codes "graph" ∷ ws) s
 unfolding block_form
@@ -140,7 +137,7 @@ unfolding hex_of
 hex_is n w d h = by (is_hex_of n w) refl h
   where
     by : (b : Bool) → is_hex_of n w ≡ b → (if b then Some w else None) ≡ Some d → (w ≡ d) × (is_hex_of n d ≡ true)
-    by true e h = (some_is h, subst (λ v. is_hex_of n v ≡ true) (some_is h) e)
+    by true e h = (some_same h, subst (λ v. is_hex_of n v ≡ true) (some_same h) e)
     by false e h = none_some h
 
 pub hex_ok : (n : ℕ) (d : Word) → is_hex_of n d ≡ true → hex_of n d ≡ Some d

@@ -4,6 +4,7 @@ use Rattle.std.specs.List.{list_all, concat}
 use Rattle.std.proofs.Common.{sym, ◌∙◌, ap, subst, append-nil}
 use Rattle.sg_model.specs.Lists.{has_text}
 use Rattle.sg_model.specs.Names.{Name}
+use Rattle.sg_model.proofs.Small.{and_left, and_right, contradicts}
 use Rattle.sg_protocol.specs.Graph.{Graph}
 use Rattle.sg_parse.specs.Reading.{read}
 use Rattle.sg_parse.specs.declared.fault.ParseFault.{ParseFault}
@@ -16,16 +17,9 @@ use Rattle.sg_sched.specs.Format.Made.{made}
 use Rattle.sg_sched.specs.Format.Kinds.{Kind}
 use Rattle.sg_sched.specs.Format.Faults.{fault}
 use Rattle.sg_sched.specs.Format.Spells.{Line, closes, IsBlock, Add, Skip, Say, Show, IsWrong, OfNoForm, OfAForm, NotClosed, NoGraph, SameGraph}
-use Rattle.sg_sched.proofs.FormatWords.{both_left, both_right}
 use Rattle.sg_sched.proofs.FormatReading.{says_one}
 use Rattle.sg_sched.proofs.FormatOnce.{not_skipped, head_same, tail_same, first_closing}
-use Rattle.sg_sched.proofs.FormatPieces.{laid, say_or_show, skip_or_show}
-
-clash : {b : Bool} → b ≡ true → b ≡ false → ⊥
-clash p q = true_false (sym p ∙ q)
-  where
-    true_false : true ≡ false → ⊥
-    true_false e = cc
+use Rattle.sg_sched.proofs.FormatPieces.{laid, say_or_show, skip_or_show, ok_same}
 
 no_fault : {k : Kind} {o : Option Kind} → o ≡ Some k → o ≡ None → ⊥
 no_fault p q = some_none (sym p ∙ q)
@@ -50,11 +44,11 @@ block_among : (before : List Item) (n : Name) → has_text n (graph_names (block
 block_among before n h = ap (has_text n) (names_append (blocks before) (graphs_of (edges before))) ∙ among n (graph_names (blocks before)) (graph_names (graphs_of (edges before))) h
 
 -- lines of which none closes a block have no closing line
-never_closed : (i j : List Line) (c : Line) (r : List Line) → list_all (λ l. not (closes l)) i ≡ true → closes c ≡ true → i ≡ j ++ c ∷ r → ⊥
+pub never_closed : (i j : List Line) (c : Line) (r : List Line) → list_all (λ l. not (closes l)) i ≡ true → closes c ≡ true → i ≡ j ++ c ∷ r → ⊥
 never_closed [] [] c r a p e = cc
 never_closed [] (y ∷ ys) c r a p e = cc
-never_closed (x ∷ xs) [] c r a p e = clash (both_left (not (closes x)) _ a) (ap (λ l. not (closes l)) (head_same e) ∙ ap not p)
-never_closed (x ∷ xs) (y ∷ ys) c r a p e = never_closed xs ys c r (both_right (not (closes x)) _ a) p (tail_same e)
+never_closed (x ∷ xs) [] c r a p e = contradicts (and_left (not (closes x)) _ a) (ap (λ l. not (closes l)) (head_same e) ∙ ap not p)
+never_closed (x ∷ xs) (y ∷ ys) c r a p e = never_closed xs ys c r (and_right (not (closes x)) _ a) p (tail_same e)
 
 -- two blocks at the same place have the same text
 pub one_text : (before : List Item) (block block' rest rest' : List Line) (text text' : List ℕ) → (b : IsBlock before block text) (b' : IsBlock before block' text') → block ++ rest ≡ block' ++ rest' → text ≡ text'
@@ -63,22 +57,15 @@ one_text before block block' rest rest' text text' b b' e =
     let k = first_closing b.inner b'.inner b.closing b'.closing rest rest' b.opened.open_yet b'.opened.open_yet b.closed b'.closed (tail_same all) in
     b.within ∙ ap concat k.inner ∙ sym b'.within
 
-ok_err : {g : Graph} {e : ParseFault} {r : Result Graph ParseFault} → r ≡ Ok g → r ≡ Err e → ⊥
+pub ok_err : {g : Graph} {e : ParseFault} {r : Result Graph ParseFault} → r ≡ Ok g → r ≡ Err e → ⊥
 ok_err p q = differ (sym p ∙ q)
   where
     differ : {g : Graph} {e : ParseFault} → Ok g ≡ Err e → ⊥
     differ e = cc
 
-ok_same : (g h : Graph) (r : Result Graph ParseFault) → r ≡ Ok g → r ≡ Ok h → g ≡ h
-ok_same g h r p q = ap inside (sym p ∙ q)
-  where
-    inside : Result Graph ParseFault → Graph
-    inside (Ok x) = x
-    inside other = g
-
 -- lines that add items are not wrong
 pub add_or_wrong : (before : List Item) (more these rest rest' : List Line) (new : List Item) (kind : Kind) → Add before more new → IsWrong before these rest' kind → more ++ rest ≡ these ++ rest' → ⊥
-add_or_wrong before _ _ rest rest' _ kind (Skip {line = l} s) (OfNoForm {line = m} no_skip none) e = clash s (ap is_skipped (head_same e) ∙ no_skip)
+add_or_wrong before _ _ rest rest' _ kind (Skip {line = l} s) (OfNoForm {line = m} no_skip none) e = contradicts s (ap is_skipped (head_same e) ∙ no_skip)
 add_or_wrong before _ _ rest rest' _ kind (Say {line = l} {said = t} says right makes) (OfNoForm {line = m} no_skip none) e = none t (subst (λ l. SaysLine l t) (head_same e) says)
 add_or_wrong before more _ rest rest' _ kind (Show {text = text} b spells fresh) (OfNoForm {line = m} no_skip none) e =
     none SaidBlock (subst (λ l. SaysLine l SaidBlock) (head_same (sym (laid before more rest text b) ∙ e)) b.opened.opens)
@@ -103,4 +90,4 @@ add_or_wrong before _ these rest rest' _ _ (Skip {line = l} s) (SameGraph {text 
 add_or_wrong before _ these rest rest' _ _ (Say {line = l} {said = s} {item = i} says right makes) (SameGraph {text = text} b spells same) e = say_or_show before l s i these rest rest' text says makes b e
 add_or_wrong before more these rest rest' _ _ (Show {text = t} {g = g} b spells fresh) (SameGraph {text = t'} {g = g'} b' spells' same) e =
     let graphs_same : g ≡ g' = ok_same g g' (read t) (spells-read t g spells) (ap read (one_text before more these rest rest' t t' b b' e) ∙ spells-read t' g' spells') in
-    clash (block_among before g'.name same) (ap (λ (h : Graph). has_text h.name (graph_names (graphs before))) (sym graphs_same) ∙ fresh)
+    contradicts (block_among before g'.name same) (ap (λ (h : Graph). has_text h.name (graph_names (graphs before))) (sym graphs_same) ∙ fresh)

@@ -8,10 +8,11 @@ use Rattle.std.proofs.lemmas.Bool.{eqb-true}
 use Rattle.std.proofs.lemmas.Fmt.{decimal_is_IsNumeral}
 use Rattle.std.proofs.lemmas.Str.Parse.{digit_from_value}
 use Rattle.sg_model.specs.Names.{Name, is_name}
+use Rattle.sg_model.proofs.Small.{and_left, and_right}
 use Rattle.sg_sched.specs.Format.Said.{Word, Committed, From, FromKey, FromItem, FromSeal, FromZero, committed_word, from_words, tag_words}
 use Rattle.sg_sched.specs.Format.Forms.{is_committed, is_source, is_tag, is_wide, is_short, is_frame}
 use Rattle.sg_sched.specs.Format.Values.{is_value}
-use Rattle.sg_sched.proofs.FormatWords.{both_left, both_right, both, lacks, name_lacks, equal_split, equal_split-at, number_word, number_decimal, frame_number, frame_is_wide, short_is_wide, wide}
+use Rattle.sg_sched.proofs.FormatWords.{both, lacks, name_lacks, equal_split, equal_split-at, number_word, number_decimal, frame_number, frame_is_wide, short_is_wide, wide}
 
 -- ---- VAR=VALUE#K
 
@@ -28,7 +29,7 @@ hash_split (c ∷ cs) = hash_step c cs (c == 35) (hash_split cs)
 
 hash_none : (w : Word) → lacks 35 w ≡ true → hash_split w ≡ None
 hash_none [] h = refl
-hash_none (c ∷ cs) h = by (c == 35) (hash_none cs (both_right (not (c == 35)) (lacks 35 cs) h)) (both_left (not (c == 35)) (lacks 35 cs) h)
+hash_none (c ∷ cs) h = by (c == 35) (hash_none cs (and_right (not (c == 35)) (lacks 35 cs) h)) (and_left (not (c == 35)) (lacks 35 cs) h)
   where
     by : (b : Bool) → hash_split cs ≡ None → not b ≡ true → hash_step c cs b (hash_split cs) ≡ None
     by false ih l = rw ih
@@ -53,8 +54,8 @@ committed_said w = option_and_then (λ (p : Word × Word). option_and_then (λ (
 
 pub committed_complete : (c : Committed) → is_committed c ≡ true → committed_said (committed_word c) ≡ Some c
 committed_complete c h =
-    let names = both_left (is_name c.variable) (is_value c.value) (both_left (is_name c.variable && is_value c.value) (is_wide c.step) h) in
-    let small = wide c.step (both_right (is_name c.variable && is_value c.value) (is_wide c.step) h) in
+    let names = and_left (is_name c.variable) (is_value c.value) (and_left (is_name c.variable && is_value c.value) (is_wide c.step) h) in
+    let small = wide c.step (and_right (is_name c.variable && is_value c.value) (is_wide c.step) h) in
     rw (
       equal_split-at c.variable (c.value ++ 35 ∷ decimal c.step) (name_lacks 61 c.variable refl names),
       hash_split-at c.value (decimal c.step) (digits_lack (decimal c.step) (decimal_is_IsNumeral c.step small).0.1),
@@ -73,7 +74,7 @@ run (w ∷ ws) = run_step w ws (committed_said w) (run ws)
 
 pub run_complete : (cs : List Committed) (rest : List Word) → list_all is_committed cs ≡ true → run rest ≡ ([], rest) → run (map committed_word cs ++ rest) ≡ (cs, rest)
 run_complete [] rest h e = e
-run_complete (c ∷ cs) rest h e = rw (committed_complete c (both_left (is_committed c) _ h), run_complete cs rest (both_right (is_committed c) _ h) e)
+run_complete (c ∷ cs) rest h e = rw (committed_complete c (and_left (is_committed c) _ h), run_complete cs rest (and_right (is_committed c) _ h) e)
 
 -- ---- SOURCE
 
@@ -111,9 +112,9 @@ source_complete FromZero rest h = refl
 source_complete (FromKey one two) rest h = refl
 source_complete (FromSeal n) rest h = rw (number_decimal n (frame_is_wide n h))
 source_complete (FromItem n i role) rest h =
-    let front = both_left (is_frame n && is_short i) (is_name role) h in
-    let small = short_is_wide i (both_right (is_frame n) (is_short i) front) in
-    rw (number_decimal n (frame_is_wide n (both_left (is_frame n) (is_short i) front)), digits_no_seal (decimal i) (decimal_is_IsNumeral i small).0.1, number_decimal i small)
+    let front = and_left (is_frame n && is_short i) (is_name role) h in
+    let small = short_is_wide i (and_right (is_frame n) (is_short i) front) in
+    rw (number_decimal n (frame_is_wide n (and_left (is_frame n) (is_short i) front)), digits_no_seal (decimal i) (decimal_is_IsNumeral i small).0.1, number_decimal i small)
 
 -- ---- tag ROLE SOURCE ..
 
@@ -133,9 +134,9 @@ pub tags_complete : (n : ℕ) (ts : List (Name × From)) (rest : List Word) → 
 tags_complete n [] rest l h e = e n
 tags_complete zero (t ∷ ts) rest l h e = absurd (omega arith)
 tags_complete (suc n) ((r, s) ∷ ts) rest l h e =
-    let right = both_right (is_name r) (is_source s) (both_left (is_tag (r, s)) (list_all is_tag ts) h) in
+    let right = and_right (is_name r) (is_source s) (and_left (is_tag (r, s)) (list_all is_tag ts) h) in
     rw (
       append_assoc (from_words s) (flat_map tag_words ts) rest,
       source_complete s (flat_map tag_words ts ++ rest) right,
-      tags_complete n ts rest (omega arith) (both_right (is_tag (r, s)) (list_all is_tag ts) h) e,
+      tags_complete n ts rest (omega arith) (and_right (is_tag (r, s)) (list_all is_tag ts) h) e,
     )

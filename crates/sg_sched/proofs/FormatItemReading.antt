@@ -4,9 +4,10 @@ use Rattle.std.specs.List.{list_all}
 use Rattle.std.proofs.Common.{arith, append_assoc}
 use Rattle.std.proofs.lemmas.Bool.{leb-true}
 use Rattle.sg_model.specs.Names.{Name, is_name}
+use Rattle.sg_model.proofs.Small.{and_left, and_right}
 use Rattle.sg_sched.specs.Format.Said.{Word, Committed, From, SaidItem, committed_word, tag_words, item_words}
 use Rattle.sg_sched.specs.Format.Forms.{is_committed, are_committed, is_tag, is_item}
-use Rattle.sg_sched.proofs.FormatWords.{both_left, both_right, number_word, number_decimal, time_is_wide}
+use Rattle.sg_sched.proofs.FormatWords.{number_word, number_decimal, time_is_wide}
 use Rattle.sg_sched.proofs.FormatCraftReading.{committed_said, run, run_complete, tags_said, tags_complete}
 
 -- an item with its tags, and the items that follow
@@ -53,13 +54,13 @@ pub record ItemFacts (i : SaidItem) : Type 0 where
 
 item_facts : (i : SaidItem) → is_item i ≡ true → ItemFacts i
 item_facts i h =
-    let tags = both_right (is_name i.label && nat_le 1 i.time && nat_le i.time 1000000 && are_committed i.delta && nat_le (length i.tags) 14) (list_all is_tag i.tags) h in
-    let h1 = both_left (is_name i.label && nat_le 1 i.time && nat_le i.time 1000000 && are_committed i.delta && nat_le (length i.tags) 14) (list_all is_tag i.tags) h in
-    let count = both_right (is_name i.label && nat_le 1 i.time && nat_le i.time 1000000 && are_committed i.delta) (nat_le (length i.tags) 14) h1 in
-    let h2 = both_left (is_name i.label && nat_le 1 i.time && nat_le i.time 1000000 && are_committed i.delta) (nat_le (length i.tags) 14) h1 in
-    let delta = both_right (is_name i.label && nat_le 1 i.time && nat_le i.time 1000000) (are_committed i.delta) h2 in
-    let time = both_right (is_name i.label && nat_le 1 i.time) (nat_le i.time 1000000) (both_left (is_name i.label && nat_le 1 i.time && nat_le i.time 1000000) (are_committed i.delta) h2) in
-    record { time = time_is_wide i.time time; delta = both_right (nat_le (length i.delta) 32) (list_all is_committed i.delta) delta; count = leb-true (length i.tags) 14 count; tags = tags }
+    let tags = and_right (is_name i.label && nat_le 1 i.time && nat_le i.time 1000000 && are_committed i.delta && nat_le (length i.tags) 14) (list_all is_tag i.tags) h in
+    let h1 = and_left (is_name i.label && nat_le 1 i.time && nat_le i.time 1000000 && are_committed i.delta && nat_le (length i.tags) 14) (list_all is_tag i.tags) h in
+    let count = and_right (is_name i.label && nat_le 1 i.time && nat_le i.time 1000000 && are_committed i.delta) (nat_le (length i.tags) 14) h1 in
+    let h2 = and_left (is_name i.label && nat_le 1 i.time && nat_le i.time 1000000 && are_committed i.delta) (nat_le (length i.tags) 14) h1 in
+    let delta = and_right (is_name i.label && nat_le 1 i.time && nat_le i.time 1000000) (are_committed i.delta) h2 in
+    let time = and_right (is_name i.label && nat_le 1 i.time) (nat_le i.time 1000000) (and_left (is_name i.label && nat_le 1 i.time && nat_le i.time 1000000) (are_committed i.delta) h2) in
+    record { time = time_is_wide i.time time; delta = and_right (nat_le (length i.delta) 32) (list_all is_committed i.delta) delta; count = leb-true (length i.tags) 14 count; tags = tags }
 
 pub items_complete : (n : ℕ) (is : List SaidItem) (k : Word) (ks : List Word) → length is ≤ n → list_all is_item is ≡ true → Stops k
     → items_said n (flat_map item_words is ++ k ∷ ks) ≡ Some (is, k ∷ ks)
@@ -67,7 +68,7 @@ items_complete zero [] k ks l h e = refl
 items_complete (suc n) [] k ks l h e = rw e.no_item
 items_complete zero (i ∷ is) k ks l h e = absurd (omega arith)
 items_complete (suc n) (i ∷ is) k ks l h e =
-    let f = item_facts i (both_left (is_item i) (list_all is_item is) h) in
+    let f = item_facts i (and_left (is_item i) (list_all is_item is) h) in
     let rest = flat_map item_words is ++ k ∷ ks in
     rw (
       append_assoc (map committed_word i.delta ++ flat_map tag_words i.tags) (flat_map item_words is) (k ∷ ks),
@@ -75,5 +76,5 @@ items_complete (suc n) (i ∷ is) k ks l h e =
       number_decimal i.time f.time,
       run_complete i.delta (flat_map tag_words i.tags ++ (flat_map item_words is ++ k ∷ ks)) f.delta (run_tags i.tags (flat_map item_words is ++ k ∷ ks) (run_items is k ks e)),
       tags_complete 14 i.tags (flat_map item_words is ++ k ∷ ks) f.count f.tags (tags_items is k ks e),
-      items_complete n is k ks (omega arith) (both_right (is_item i) (list_all is_item is) h) e,
+      items_complete n is k ks (omega arith) (and_right (is_item i) (list_all is_item is) h) e,
     )

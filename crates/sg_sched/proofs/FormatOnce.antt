@@ -1,19 +1,16 @@
 -- Lines declare one list of items at most.
-use Rattle.std.specs.Prelude.{◌≡◌, ℕ, suc, ◌≤◌, ◌==◌, nat_lt, Bool, true, false, not, ◌||◌, List, [], ◌∷◌, ◌++◌, filter, length, refl}
+use Rattle.std.specs.Prelude.{◌≡◌, ℕ, suc, ◌==◌, nat_lt, Bool, true, false, not, ◌||◌, List, [], ◌∷◌, ◌++◌, filter, length, refl}
 use Rattle.std.specs.List.{list_all, slice_split, onto_first}
 use Rattle.std.proofs.Common.{sym, ◌∙◌, ap, subst, arith}
-use Rattle.std.proofs.lemmas.Bool.{eqb-true, ltb-false}
+use Rattle.std.proofs.lemmas.Bool.{eqb-true}
+use Rattle.sg_model.proofs.Small.{and_left, and_right, contradicts, zero_less}
 use Rattle.sg_sched.specs.Text.{content, words}
 use Rattle.sg_sched.specs.Format.Said.{Word, Said, SaidBlock, SaidEdge, SaidHonest, SaidKey, SaidSession, SaidStart, SaidAct, SaidAbandon, SaidDeliver, SaidMake, line_words}
 use Rattle.sg_sched.specs.Format.Forms.{SaysLine, is_comment, is_skipped}
 use Rattle.sg_sched.specs.Format.Spells.{Line, closes}
-use Rattle.sg_sched.proofs.FormatWords.{both_left, both_right}
 
 true_false : true ≡ false → ⊥
 true_false e = cc
-
-clash : {b : Bool} → b ≡ true → b ≡ false → ⊥
-clash p q = true_false (sym p ∙ q)
 
 -- ---- a line of a form is not skipped
 
@@ -47,16 +44,9 @@ suc_zero n = by (suc n == 0) refl
     by false e = refl
     by true e = let same : suc n ≡ 0 = eqb-true (suc n) 0 e in absurd (omega arith)
 
-zero_less : (n : ℕ) → nat_lt 0 (suc n) ≡ true
-zero_less n = by (nat_lt 0 (suc n)) refl
-  where
-    by : (b : Bool) → nat_lt 0 (suc n) ≡ b → b ≡ true
-    by true e = refl
-    by false e = let over : suc n ≤ 0 = ltb-false 0 (suc n) e in absurd (omega arith)
-
 empty_is : (ws : List Word) → (length ws == 0) ≡ true → is_empty ws ≡ true
 empty_is [] e = refl
-empty_is (w ∷ ws) e = absurd (clash e (suc_zero (length ws)))
+empty_is (w ∷ ws) e = absurd (contradicts e (suc_zero (length ws)))
 
 some_word : (said : Said) → is_empty (line_words said) ≡ false
 some_word SaidBlock = refl
@@ -82,15 +72,15 @@ pub not_skipped : (line : Line) (said : Said) → SaysLine line said → is_skip
 not_skipped line said says skipped = by (is_comment (content line)) refl
   where
     comment_or_blank : (is_comment (content line) || length (words (content line)) == 0) ≡ true
-    comment_or_blank = both_right (list_all (λ b. nat_lt b 128) (content line)) (is_comment (content line) || length (words (content line)) == 0) skipped
+    comment_or_blank = and_right (list_all (λ b. nat_lt b 128) (content line)) (is_comment (content line) || length (words (content line)) == 0) skipped
 
     blank : (a b : Bool) → (a || b) ≡ true → a ≡ false → b ≡ true
     blank true b p q = absurd (true_false q)
     blank false b p q = p
 
     by : (b : Bool) → is_comment (content line) ≡ b → ⊥
-    by true e = clash (hash_first (content line) e) (ap first_hash says.spelled ∙ no_hash said)
-    by false e = clash (empty_is (words (content line)) (blank (is_comment (content line)) (length (words (content line)) == 0) comment_or_blank e)) (ap is_empty says.spelled ∙ some_word said)
+    by true e = contradicts (hash_first (content line) e) (ap first_hash says.spelled ∙ no_hash said)
+    by false e = contradicts (empty_is (words (content line)) (blank (is_comment (content line)) (length (words (content line)) == 0) comment_or_blank e)) (ap is_empty says.spelled ∙ some_word said)
 
 -- ---- a block ends at its first closing line
 
@@ -121,8 +111,8 @@ pub record SameEnd (i j : List Line) (c d : Line) (r s : List Line) : Type 0 whe
 pub first_closing : (i j : List Line) (c d : Line) (r s : List Line) → list_all (λ l. not (closes l)) i ≡ true → list_all (λ l. not (closes l)) j ≡ true → closes c ≡ true → closes d ≡ true
     → i ++ c ∷ r ≡ j ++ d ∷ s → SameEnd i j c d r s
 first_closing [] [] c d r s a b p q e = record { inner = refl; closing = head_same e; rest = tail_same e }
-first_closing [] (y ∷ ys) c d r s a b p q e = absurd (clash (both_left (not (closes y)) _ b) (ap (λ l. not (closes l)) (sym (head_same e)) ∙ ap not p))
-first_closing (x ∷ xs) [] c d r s a b p q e = absurd (clash (both_left (not (closes x)) _ a) (ap (λ l. not (closes l)) (head_same e) ∙ ap not q))
+first_closing [] (y ∷ ys) c d r s a b p q e = absurd (contradicts (and_left (not (closes y)) _ b) (ap (λ l. not (closes l)) (sym (head_same e)) ∙ ap not p))
+first_closing (x ∷ xs) [] c d r s a b p q e = absurd (contradicts (and_left (not (closes x)) _ a) (ap (λ l. not (closes l)) (head_same e) ∙ ap not q))
 first_closing (x ∷ xs) (y ∷ ys) c d r s a b p q e =
-    let k = first_closing xs ys c d r s (both_right (not (closes x)) _ a) (both_right (not (closes y)) _ b) p q (tail_same e) in
+    let k = first_closing xs ys c d r s (and_right (not (closes x)) _ a) (and_right (not (closes y)) _ b) p q (tail_same e) in
     record { inner = cons_same (head_same e) k.inner; closing = k.closing; rest = k.rest }

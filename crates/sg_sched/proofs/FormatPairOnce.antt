@@ -1,8 +1,10 @@
 -- A text with edge lines and a block of a graph named `pair` spells no schedule.
-use Rattle.std.specs.Prelude.{◌≡◌, ℕ, Bool, true, false, ◌||◌, List, [], ◌∷◌, ◌++◌, bytes_eq, codes, refl, Option, Some, None, Result, Ok}
+use Rattle.std.specs.Prelude.{◌≡◌, ℕ, Bool, true, false, List, [], ◌∷◌, ◌++◌, codes, refl, Option, Some, None, Result, Ok}
 use Rattle.std.proofs.Common.{sym, ◌∙◌, ap, subst, append-nil}
 use Rattle.sg_model.specs.Lists.{has_text}
 use Rattle.sg_model.specs.Names.{Name}
+use Rattle.sg_model.proofs.Differ.{later_text}
+use Rattle.sg_model.proofs.Small.{contradicts}
 use Rattle.sg_protocol.specs.Graph.{Graph, Edge}
 use Rattle.sg_protocol.specs.Texts.{Hash}
 use Rattle.sg_protocol.specs.Schedule.{Schedule}
@@ -66,14 +68,6 @@ pair_of (KeyItem k ∷ is) h = pair_of is h
 pair_of (SessionItem s ∷ is) h = pair_of is h
 pair_of (StepItem s ∷ is) h = pair_of is h
 
-later_text : (n : Name) (xs ys : List Name) → has_text n ys ≡ true → has_text n (xs ++ ys) ≡ true
-later_text n [] ys h = h
-later_text n (x ∷ xs) ys h = or_true (bytes_eq n x) (later_text n xs ys h)
-  where
-    or_true : (a : Bool) {b : Bool} → b ≡ true → (a || b) ≡ true
-    or_true true h = refl
-    or_true false h = h
-
 pair_named : (is : List Item) → some_edge is ≡ true → has_text (codes "pair") (graph_names (graphs is)) ≡ true
 pair_named is h = ap (has_text (codes "pair")) (names_append (blocks is) (graphs_of (edges is)))
     ∙ later_text (codes "pair") (graph_names (blocks is)) (graph_names (graphs_of (edges is))) (pair_of is h)
@@ -106,7 +100,7 @@ no_pair before all _ block rest text g (More {rest = r} (Skip {line = l} s) f) h
 no_pair before all _ block rest text g (More {rest = r} (Say {line = l} {said = t} {item = i} says right makes) f) h b spells named e = say_or_show before l t i block r rest text says makes b e
 no_pair before all _ block rest text g (More {rest = r} (Show {block = block'} {text = text'} {g = g'} b' spells' fresh) f) h b spells named e =
     let same : g' ≡ g = ok_same g' g (read text') (spells-read text' g' spells') (ap read (one_text before block' block r rest text' text b' b e) ∙ spells-read text g spells) in
-    clash (pair_named before h) (ap (λ n. has_text n (graph_names (graphs before))) (sym (ap (λ (x : Graph). x.name) same ∙ named)) ∙ fresh)
+    contradicts (pair_named before h) (ap (λ n. has_text n (graph_names (graphs before))) (sym (ap (λ (x : Graph). x.name) same ∙ named)) ∙ fresh)
   where
     ok_same : (g h : Graph) (r : Result Graph ParseFault) → r ≡ Ok g → r ≡ Ok h → g ≡ h
     ok_same g h r p q = ap inside (sym p ∙ q)
@@ -114,12 +108,6 @@ no_pair before all _ block rest text g (More {rest = r} (Show {block = block'} {
         inside : Result Graph ParseFault → Graph
         inside (Ok x) = x
         inside other = g
-
-    clash : {b : Bool} → b ≡ true → b ≡ false → ⊥
-    clash p q = true_false (sym p ∙ q)
-      where
-        true_false : true ≡ false → ⊥
-        true_false e = cc
 
 -- bytes that spell a schedule have no block of a graph named `pair` beside edge lines
 pub no_pair_at : (sha : Hash) (bytes : List ℕ) (s : Schedule) (n : ℕ) → SpellsSchedule sha bytes s → IsPairAt (lines bytes) n → ⊥

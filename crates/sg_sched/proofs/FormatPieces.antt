@@ -1,7 +1,8 @@
 -- Lines declare one list of items at most.
-use Rattle.std.specs.Prelude.{◌≡◌, ℕ, true, List, [], ◌∷◌, ◌++◌, refl, Option, Some, None, Result, Ok}
+use Rattle.std.specs.Prelude.{◌≡◌, ℕ, true, List, [], ◌∷◌, ◌++◌, refl, Some, None, Result, Ok}
 use Rattle.std.specs.List.{concat}
 use Rattle.std.proofs.Common.{sym, ◌∙◌, ap, subst, append_assoc}
+use Rattle.sg_model.proofs.Small.{some_same}
 use Rattle.sg_protocol.specs.Graph.{Graph}
 use Rattle.sg_parse.specs.Grammar.{SpellsGraph}
 use Rattle.sg_parse.specs.Reading.{read}
@@ -21,17 +22,10 @@ pub record SameAdd (these those : List Line) (new new' : List Item) (rest rest' 
   pub items : new ≡ new'
   pub behind : rest ≡ rest'
 
-some_same : {i j : Item} → Some i ≡ Some j → i ≡ j
-some_same {i = i} e = ap inside e
-  where
-    inside : Option Item → Item
-    inside None = i
-    inside (Some x) = x
-
 none_some : {i : Item} → None ≡ Some i → ⊥
 none_some e = cc
 
-ok_same : (g h : Graph) (r : Result Graph ParseFault) → r ≡ Ok g → r ≡ Ok h → g ≡ h
+pub ok_same : (g h : Graph) (r : Result Graph ParseFault) → r ≡ Ok g → r ≡ Ok h → g ≡ h
 ok_same g h r p q = ap inside (sym p ∙ q)
   where
     inside : Result Graph ParseFault → Graph

@@ -3,14 +3,15 @@ use Rattle.std.specs.Prelude.{◌≡◌, ℕ, ◌<◌, ◌^◌, ◌%◌, ◌==�
 use Rattle.std.specs.List.{list_all}
 use Rattle.std.specs.Fmt.{decimal}
 use Rattle.std.proofs.Common.{sym, ◌∙◌, ap}
-use Rattle.std.proofs.lemmas.Bool.{eqb-true}
+use Rattle.std.proofs.lemmas.Bool.{eqb-true, not-true}
 use Rattle.sg_model.specs.Lists.{has_text, all_differ}
 use Rattle.sg_model.specs.Names.{Name, is_name, reserved}
+use Rattle.sg_model.proofs.Small.{and_left, and_right}
 use Rattle.sg_sched.specs.Text.{content, words}
 use Rattle.sg_sched.specs.Format.Said.{Word, Said, SaidBlock, SaidEdge, SaidHonest, SaidKey, SaidSession, SaidStart, SaidAct, SaidAbandon, SaidDeliver, SaidMake, Delivered, TheFrame, TheFlipped, TheCut, TheBytes, line_words, joined_names, delivered_words, version_words}
 use Rattle.sg_sched.specs.Format.Forms.{is_form, SaysLine, is_wide, is_short, is_frame, is_given, is_delivered, are_names}
 use Rattle.sg_sched.proofs.FormatWholeCraft.{craft_said, craft_complete}
-use Rattle.sg_sched.proofs.FormatWords.{both_left, both_right, number_word, number_decimal, name_list, name_list-joined, givens_said, givens_complete, frame_number, short_is_wide, frame_is_wide, byte_is_wide, wide}
+use Rattle.sg_sched.proofs.FormatWords.{number_word, number_decimal, name_list, name_list-joined, givens_said, givens_complete, frame_number, short_is_wide, frame_is_wide, byte_is_wide, wide}
 
 -- ---- the forms, from behind the first word
 
@@ -106,33 +107,33 @@ session_complete name graph n nonce (m ∷ ms) version small some names v = by (
 
 deliver_complete : (who : Name) (what : Delivered) → is_delivered what ≡ true → deliver_said (who ∷ delivered_words what) ≡ Some (SaidDeliver who what)
 deliver_complete who (TheFrame n) h = rw (number_decimal n (frame_is_wide n h))
-deliver_complete who (TheFlipped n i) h = rw (number_decimal n (frame_is_wide n (both_left (is_frame n) (is_short i) h)), number_decimal i (short_is_wide i (both_right (is_frame n) (is_short i) h)))
-deliver_complete who (TheCut n i) h = rw (number_decimal n (frame_is_wide n (both_left (is_frame n) (is_short i) h)), number_decimal i (short_is_wide i (both_right (is_frame n) (is_short i) h)))
+deliver_complete who (TheFlipped n i) h = rw (number_decimal n (frame_is_wide n (and_left (is_frame n) (is_short i) h)), number_decimal i (short_is_wide i (and_right (is_frame n) (is_short i) h)))
+deliver_complete who (TheCut n i) h = rw (number_decimal n (frame_is_wide n (and_left (is_frame n) (is_short i) h)), number_decimal i (short_is_wide i (and_right (is_frame n) (is_short i) h)))
 deliver_complete who (TheBytes ds) h = refl
 
 -- a line of a form is found by its words
 pub complete : (said : Said) → is_form said ≡ true → said_of (line_words said) ≡ Some said
 complete SaidBlock h = refl
 complete (SaidEdge label a b) h =
-    let ends = both_left (is_name label && not (has_text label reserved) && nat_le a 255 && nat_le b 255) (not (a % 2 == b % 2)) h in
-    let first = both_right (is_name label && not (has_text label reserved)) (nat_le a 255) (both_left (is_name label && not (has_text label reserved) && nat_le a 255) (nat_le b 255) ends) in
-    let second = both_right (is_name label && not (has_text label reserved) && nat_le a 255) (nat_le b 255) ends in
+    let ends = and_left (is_name label && not (has_text label reserved) && nat_le a 255 && nat_le b 255) (not (a % 2 == b % 2)) h in
+    let first = and_right (is_name label && not (has_text label reserved)) (nat_le a 255) (and_left (is_name label && not (has_text label reserved) && nat_le a 255) (nat_le b 255) ends) in
+    let second = and_right (is_name label && not (has_text label reserved) && nat_le a 255) (nat_le b 255) ends in
     rw (number_decimal a (byte_is_wide a first), number_decimal b (byte_is_wide b second))
 complete (SaidHonest who) h = refl
 complete (SaidKey one two ds) h = refl
 complete (SaidSession name graph nonce ns version) h =
-    let v = both_right (is_name name && is_name graph && is_wide nonce && nat_le 1 (length ns) && are_names ns && all_differ ns) (version == 1 || version == 2) h in
-    let h1 = both_left (is_name name && is_name graph && is_wide nonce && nat_le 1 (length ns) && are_names ns && all_differ ns) (version == 1 || version == 2) h in
-    let h2 = both_left (is_name name && is_name graph && is_wide nonce && nat_le 1 (length ns) && are_names ns) (all_differ ns) h1 in
-    let names = both_right (is_name name && is_name graph && is_wide nonce && nat_le 1 (length ns)) (are_names ns) h2 in
-    let h3 = both_left (is_name name && is_name graph && is_wide nonce && nat_le 1 (length ns)) (are_names ns) h2 in
-    let some = both_right (is_name name && is_name graph && is_wide nonce) (nat_le 1 (length ns)) h3 in
-    let small = both_right (is_name name && is_name graph) (is_wide nonce) (both_left (is_name name && is_name graph && is_wide nonce) (nat_le 1 (length ns)) h3) in
+    let v = and_right (is_name name && is_name graph && is_wide nonce && nat_le 1 (length ns) && are_names ns && all_differ ns) (version == 1 || version == 2) h in
+    let h1 = and_left (is_name name && is_name graph && is_wide nonce && nat_le 1 (length ns) && are_names ns && all_differ ns) (version == 1 || version == 2) h in
+    let h2 = and_left (is_name name && is_name graph && is_wide nonce && nat_le 1 (length ns) && are_names ns) (all_differ ns) h1 in
+    let names = and_right (is_name name && is_name graph && is_wide nonce && nat_le 1 (length ns)) (are_names ns) h2 in
+    let h3 = and_left (is_name name && is_name graph && is_wide nonce && nat_le 1 (length ns)) (are_names ns) h2 in
+    let some = and_right (is_name name && is_name graph && is_wide nonce) (nat_le 1 (length ns)) h3 in
+    let small = and_right (is_name name && is_name graph) (is_wide nonce) (and_left (is_name name && is_name graph && is_wide nonce) (nat_le 1 (length ns)) h3) in
     session_complete name graph name nonce ns version (wide nonce small) some names v
 complete (SaidStart who session) h = refl
-complete (SaidAct who session label vs) h = rw (givens_complete vs (both_right (are_names (who ∷ session ∷ label ∷ [])) (list_all is_given vs) h))
+complete (SaidAct who session label vs) h = rw (givens_complete vs (and_right (are_names (who ∷ session ∷ label ∷ [])) (list_all is_given vs) h))
 complete (SaidAbandon who session) h = refl
-complete (SaidDeliver who what) h = deliver_complete who what (both_right (is_name who) (is_delivered what) h)
+complete (SaidDeliver who what) h = deliver_complete who what (and_right (is_name who) (is_delivered what) h)
 complete (SaidMake c) h = craft_complete c h
 
 -- the words say nothing that is of a form
@@ -151,11 +152,7 @@ no_form line bad said says = formless (ap rejects (sym (complete said says.form)
         false_true e = cc
 
     formless : not (is_form said) ≡ true → ⊥
-    formless e = clash (not_true (is_form said) e) says.form
-      where
-        not_true : (b : Bool) → not b ≡ true → b ≡ false
-        not_true false p = refl
-        not_true true p = cc
+    formless e = clash (not-true (is_form said) e) says.form
 
 -- a line says one thing at most
 pub says_one : (line : List ℕ) (s t : Said) → SaysLine line s → SaysLine line t → s ≡ t

@@ -6,10 +6,11 @@ use Rattle.std.specs.Fmt.{decimal}
 use Rattle.std.proofs.Common.{sym, ◌∙◌, ap, append-nil}
 use Rattle.std.proofs.lemmas.Bool.{leb-true}
 use Rattle.sg_model.specs.Names.{Name}
+use Rattle.sg_model.proofs.Small.{and_left, and_right}
 use Rattle.sg_protocol.specs.Schedule.{CraftJoin}
 use Rattle.sg_sched.specs.Format.Said.{Word, Committed, From, SaidItem, SaidCraft, Said, SaidMake, committed_word, from_words, item_words, join_words, list_words, option_words, joined_names}
 use Rattle.sg_sched.specs.Format.Forms.{is_committed, are_committed, is_source, is_item, is_join, is_wide, are_names, is_craft}
-use Rattle.sg_sched.proofs.FormatWords.{both_left, both_right, same_self, number_word, number_decimal, name_list, name_list-joined, wide}
+use Rattle.sg_sched.proofs.FormatWords.{same_self, number_word, number_decimal, name_list, name_list-joined, wide}
 use Rattle.sg_sched.proofs.FormatCraftReading.{committed_said, run, run_complete, source_said, source_complete}
 use Rattle.sg_sched.proofs.FormatItemReading.{items_said, items_complete}
 
@@ -76,7 +77,7 @@ cast_complete : (nonce : Option ℕ) (names : Option (List Name)) (k l : Word) (
     → cast_said nonce (option_words (codes "cast") (option_map joined_names names) ++ k ∷ l ∷ ks) ≡ Some (Some (record { nonce = nonce; names = names }), k ∷ l ∷ ks)
 cast_complete n' None k l ks e h = rw e.no_cast
 cast_complete n' (Some []) k l ks e h = absurd (cc)
-cast_complete n' (Some (n ∷ ns)) k l ks e h = rw (name_list-joined n ns (both_right (nat_le 2 (length (n ∷ ns)) && nat_le (length (n ∷ ns)) 16) (are_names (n ∷ ns)) h))
+cast_complete n' (Some (n ∷ ns)) k l ks e h = rw (name_list-joined n ns (and_right (nat_le 2 (length (n ∷ ns)) && nat_le (length (n ∷ ns)) 16) (are_names (n ∷ ns)) h))
 
 nonce_complete : (nonce : Option ℕ) (names : Option (List Name)) (k l : Word) (ks : List Word) → Behind k → option_map_or is_wide nonce true ≡ true
     → option_map_or (λ ns. nat_le 2 (length ns) && nat_le (length ns) 16 && are_names ns) names true ≡ true
@@ -88,8 +89,8 @@ nonce_complete None (Some ns) k l ks e w h = cast_complete None (Some ns) k l ks
 join_complete : (j : Option CraftJoin) (k l : Word) (ks : List Word) → Behind k → option_map_or is_join j true ≡ true → join_said (join_words j ++ k ∷ l ∷ ks) ≡ Some (j, k ∷ l ∷ ks)
 join_complete None k l ks e h = rw e.no_join
 join_complete (Some j) k l ks e h = nonce_complete j.nonce j.names k l ks e
-    (both_left (option_map_or is_wide j.nonce true) (option_map_or (λ ns. nat_le 2 (length ns) && nat_le (length ns) 16 && are_names ns) j.names true) h)
-    (both_right (option_map_or is_wide j.nonce true) (option_map_or (λ ns. nat_le 2 (length ns) && nat_le (length ns) 16 && are_names ns) j.names true) h)
+    (and_left (option_map_or is_wide j.nonce true) (option_map_or (λ ns. nat_le 2 (length ns) && nat_le (length ns) 16 && are_names ns) j.names true) h)
+    (and_right (option_map_or is_wide j.nonce true) (option_map_or (λ ns. nat_le 2 (length ns) && nat_le (length ns) 16 && are_names ns) j.names true) h)
 
 -- ---- the whole
 
@@ -150,21 +151,21 @@ craft_facts c h =
     let t4 = t3 && nat_le (length c.items) 65535 in
     let t5 = t4 && list_all is_item c.items in
     let t6 = t5 && are_committed c.openings in
-    let h6 : t6 ≡ true = both_left t6 (is_source c.seal) h in
-    let h5 : t5 ≡ true = both_left t5 (are_committed c.openings) h6 in
-    let h4 : t4 ≡ true = both_left t4 (list_all is_item c.items) h5 in
-    let h3 : t3 ≡ true = both_left t3 (nat_le (length c.items) 65535) h4 in
-    let h2 : t2 ≡ true = both_left t2 (nat_le 1 (length c.items)) h3 in
-    let h1 : t1 ≡ true = both_left t1 (list_all is_committed c.know) h2 in
+    let h6 : t6 ≡ true = and_left t6 (is_source c.seal) h in
+    let h5 : t5 ≡ true = and_left t5 (are_committed c.openings) h6 in
+    let h4 : t4 ≡ true = and_left t4 (list_all is_item c.items) h5 in
+    let h3 : t3 ≡ true = and_left t3 (nat_le (length c.items) 65535) h4 in
+    let h2 : t2 ≡ true = and_left t2 (nat_le 1 (length c.items)) h3 in
+    let h1 : t1 ≡ true = and_left t1 (list_all is_committed c.know) h2 in
     record {
-      join = both_right t0 (option_map_or is_join c.join true) h1;
-      know = both_right t1 (list_all is_committed c.know) h2;
-      some = both_right t2 (nat_le 1 (length c.items)) h3;
-      count = leb-true (length c.items) 65535 (both_right t3 (nat_le (length c.items) 65535) h4);
-      items = both_right t4 (list_all is_item c.items) h5;
-      few_openings = both_left (nat_le (length c.openings) 32) (list_all is_committed c.openings) (both_right t5 (are_committed c.openings) h6);
-      openings = both_right (nat_le (length c.openings) 32) (list_all is_committed c.openings) (both_right t5 (are_committed c.openings) h6);
-      seal = both_right t6 (is_source c.seal) h;
+      join = and_right t0 (option_map_or is_join c.join true) h1;
+      know = and_right t1 (list_all is_committed c.know) h2;
+      some = and_right t2 (nat_le 1 (length c.items)) h3;
+      count = leb-true (length c.items) 65535 (and_right t3 (nat_le (length c.items) 65535) h4);
+      items = and_right t4 (list_all is_item c.items) h5;
+      few_openings = and_left (nat_le (length c.openings) 32) (list_all is_committed c.openings) (and_right t5 (are_committed c.openings) h6);
+      openings = and_right (nat_le (length c.openings) 32) (list_all is_committed c.openings) (and_right t5 (are_committed c.openings) h6);
+      seal = and_right t6 (is_source c.seal) h;
     }
 
 -- a craft of a form, with up to n items, is found by its words

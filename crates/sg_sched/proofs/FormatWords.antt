@@ -8,18 +8,12 @@ use Rattle.std.proofs.lemmas.Bool.{leb-true, ltb-true, eqb-true}
 use Rattle.std.proofs.lemmas.Fmt.{decimal_is_IsNumeral}
 use Rattle.std.proofs.lemmas.Slice.Eq.{bytes_eq-Decides}
 use Rattle.sg_model.specs.Names.{Name, is_letter, is_name, is_name_byte}
+use Rattle.sg_model.proofs.Small.{and_left, and_right}
+use Rattle.sg_protocol.proofs.GraphText.{letter_byte}
 use Rattle.sg_sched.specs.Format.Said.{Word, Given, joined_names, given_word}
 use Rattle.sg_sched.specs.Format.Forms.{is_wide, is_short, is_frame, is_given}
 
 -- ---- tests
-
-pub both_left : (a b : Bool) → (a && b) ≡ true → a ≡ true
-both_left true b h = refl
-both_left false b h = h
-
-pub both_right : (a b : Bool) → (a && b) ≡ true → b ≡ true
-both_right true b h = h
-both_right false b h = absurd (cc)
 
 pub both : {a b : Bool} → a ≡ true → b ≡ true → (a && b) ≡ true
 both {a = true} p q = q
@@ -60,18 +54,13 @@ other_byte test x c lack pass = by (c == x) refl
 
 pub lacks_other : (test : ℕ → Bool) (x : ℕ) (cs : Word) → test x ≡ false → list_all test cs ≡ true → lacks x cs ≡ true
 lacks_other test x [] lack h = refl
-lacks_other test x (c ∷ cs) lack h = both (other_byte test x c lack (both_left (test c) (list_all test cs) h)) (lacks_other test x cs lack (both_right (test c) (list_all test cs) h))
-
-letter_byte : (a b c : Bool) → c ≡ true → (if a then true else (if b then true else c)) ≡ true
-letter_byte true b c h = refl
-letter_byte false true c h = refl
-letter_byte false false c h = h
+lacks_other test x (c ∷ cs) lack h = both (other_byte test x c lack (and_left (test c) (list_all test cs) h)) (lacks_other test x cs lack (and_right (test c) (list_all test cs) h))
 
 pub name_bytes : (n : Name) → is_name n ≡ true → list_all is_name_byte n ≡ true
 name_bytes [] h = refl
-name_bytes (c ∷ cs) h = let front = both_left (is_letter c && list_all is_name_byte cs) (nat_le (length cs) 31) h in
-    both (letter_byte (nat_le 48 c && nat_le c 57) (nat_le 95 c && nat_le c 95) (is_letter c) (both_left (is_letter c) (list_all is_name_byte cs) front))
-    (both_right (is_letter c) (list_all is_name_byte cs) front)
+name_bytes (c ∷ cs) h = let front = and_left (is_letter c && list_all is_name_byte cs) (nat_le (length cs) 31) h in
+    both (letter_byte (nat_le 48 c && nat_le c 57) (nat_le 95 c && nat_le c 95) (is_letter c) (and_left (is_letter c) (list_all is_name_byte cs) front))
+    (and_right (is_letter c) (list_all is_name_byte cs) front)
 
 pub name_lacks : (x : ℕ) (n : Name) → is_name_byte x ≡ false → is_name n ≡ true → lacks x n ≡ true
 name_lacks x n lack h = lacks_other is_name_byte x n lack (name_bytes n h)
@@ -84,7 +73,7 @@ name_list w = slice_split (λ b. b == 44) w
 
 one_part : (n : Word) → lacks 44 n ≡ true → name_list n ≡ n ∷ []
 one_part [] h = refl
-one_part (c ∷ cs) h = by (c == 44) (one_part cs (both_right (not (c == 44)) (lacks 44 cs) h)) (both_left (not (c == 44)) (lacks 44 cs) h)
+one_part (c ∷ cs) h = by (c == 44) (one_part cs (and_right (not (c == 44)) (lacks 44 cs) h)) (and_left (not (c == 44)) (lacks 44 cs) h)
   where
     by : (b : Bool) → name_list cs ≡ cs ∷ [] → not b ≡ true → cond b ([] ∷ name_list cs) (onto_first c (name_list cs)) ≡ (c ∷ cs) ∷ []
     by false ih l = rw ih
@@ -92,16 +81,16 @@ one_part (c ∷ cs) h = by (c == 44) (one_part cs (both_right (not (c == 44)) (l
 
 first_part : (n r : Word) → lacks 44 n ≡ true → name_list (n ++ 44 ∷ r) ≡ n ∷ name_list r
 first_part [] r h = refl
-first_part (c ∷ cs) r h = by (c == 44) (first_part cs r (both_right (not (c == 44)) (lacks 44 cs) h)) (both_left (not (c == 44)) (lacks 44 cs) h)
+first_part (c ∷ cs) r h = by (c == 44) (first_part cs r (and_right (not (c == 44)) (lacks 44 cs) h)) (and_left (not (c == 44)) (lacks 44 cs) h)
   where
     by : (b : Bool) → name_list (cs ++ 44 ∷ r) ≡ cs ∷ name_list r → not b ≡ true → cond b ([] ∷ name_list (cs ++ 44 ∷ r)) (onto_first c (name_list (cs ++ 44 ∷ r))) ≡ (c ∷ cs) ∷ name_list r
     by false ih l = rw ih
     by true ih l = absurd (cc)
 
 pub name_list-joined : (n : Name) (ns : List Name) → list_all is_name (n ∷ ns) ≡ true → name_list (joined_names (n ∷ ns)) ≡ n ∷ ns
-name_list-joined n [] h = one_part n (name_lacks 44 n refl (both_left (is_name n) true h))
-name_list-joined n (m ∷ ms) h = first_part n (joined_names (m ∷ ms)) (name_lacks 44 n refl (both_left (is_name n) _ h))
-    ∙ ap (λ (r : List Name). n ∷ r) (name_list-joined m ms (both_right (is_name n) _ h))
+name_list-joined n [] h = one_part n (name_lacks 44 n refl (and_left (is_name n) true h))
+name_list-joined n (m ∷ ms) h = first_part n (joined_names (m ∷ ms)) (name_lacks 44 n refl (and_left (is_name n) _ h))
+    ∙ ap (λ (r : List Name). n ∷ r) (name_list-joined m ms (and_right (is_name n) _ h))
 
 -- ---- VAR=VALUE
 
@@ -117,7 +106,7 @@ equal_split (c ∷ cs) = equal_step c cs (c == 61) (equal_split cs)
 
 pub equal_split-at : (n v : Word) → lacks 61 n ≡ true → equal_split (n ++ 61 ∷ v) ≡ Some (n, v)
 equal_split-at [] v h = refl
-equal_split-at (c ∷ cs) v h = by (c == 61) (equal_split-at cs v (both_right (not (c == 61)) (lacks 61 cs) h)) (both_left (not (c == 61)) (lacks 61 cs) h)
+equal_split-at (c ∷ cs) v h = by (c == 61) (equal_split-at cs v (and_right (not (c == 61)) (lacks 61 cs) h)) (and_left (not (c == 61)) (lacks 61 cs) h)
   where
     by : (b : Bool) → equal_split (cs ++ 61 ∷ v) ≡ Some (cs, v) → not b ≡ true → equal_step c (cs ++ 61 ∷ v) b (equal_split (cs ++ 61 ∷ v)) ≡ Some (c ∷ cs, v)
     by false ih l = rw ih
@@ -135,8 +124,8 @@ givens_said (w ∷ ws) = option_and_then (λ v. option_map (λ vs. v ∷ vs) (gi
 pub givens_complete : (vs : List Given) → list_all is_given vs ≡ true → givens_said (map given_word vs) ≡ Some vs
 givens_complete [] h = refl
 givens_complete (v ∷ vs) h = rw (
-  equal_split-at v.variable v.value (name_lacks 61 v.variable refl (both_left (is_name v.variable) _ (both_left (is_given v) _ h))),
-  givens_complete vs (both_right (is_given v) _ h),
+  equal_split-at v.variable v.value (name_lacks 61 v.variable refl (and_left (is_name v.variable) _ (and_left (is_given v) _ h))),
+  givens_complete vs (and_right (is_given v) _ h),
 )
 
 -- ---- frames
@@ -152,7 +141,7 @@ pub short_is_wide : (n : ℕ) → is_short n ≡ true → n < 2 ^ 64
 short_is_wide n h = let l = ltb-true n 4294967296 h in omega arith
 
 pub frame_is_wide : (n : ℕ) → is_frame n ≡ true → n < 2 ^ 64
-frame_is_wide n h = short_is_wide n (both_right (nat_lt 0 n) (is_short n) h)
+frame_is_wide n h = short_is_wide n (and_right (nat_lt 0 n) (is_short n) h)
 
 pub byte_is_wide : (n : ℕ) → nat_le n 255 ≡ true → n < 2 ^ 64
 byte_is_wide n h = let l = leb-true n 255 h in omega arith

@@ -8,6 +8,7 @@ use Rattle.std.proofs.lemmas.Grind.{common_steps}
 use Rattle.std.proofs.lemmas.Bool.{leb-true, le-leb, eqb-true}
 use Rattle.std.proofs.lemmas.Slice.Eq.{bytes_eq-Decides}
 use Rattle.sg_model.specs.Names.{Name, is_name}
+use Rattle.sg_model.proofs.Small.{some_same}
 use Rattle.sg_protocol.specs.Schedule.{CraftJoin}
 use Rattle.sg_base.specs.Words.{name, number}
 use Rattle.sg_sched.specs.Words.{frame}
@@ -15,8 +16,8 @@ use Rattle.sg_sched.specs.Format.Said.{Word, Committed, From, SaidItem, SaidCraf
 use Rattle.sg_sched.specs.Format.Forms.{is_committed, is_source, is_tag, is_item, are_committed, is_join, is_wide, are_names, is_craft, is_form}
 use Rattle.sg_sched.specs.Format.Reading.{Left, Taker, word, after, ended}
 use Rattle.sg_sched.specs.Format.CraftReading.{time, run, few, some_of, listed, source, repeated, tag, item, is_next, all_names, name_list, sixteen, cast, optional, join_parts, join, opened, exactly, ends, ends_of, seal_form, some_items, craft_form}
-use Rattle.sg_sched.proofs.FormatWords.{both_left, both_right, both}
-use Rattle.sg_sched.proofs.FormLaws.{some_is, none_some, step, ended_is, line_up, name_is, Fits, fits}
+use Rattle.sg_sched.proofs.FormatWords.{both}
+use Rattle.sg_sched.proofs.FormLaws.{none_some, step, ended_is, line_up, name_is, Fits, fits}
 use Rattle.sg_sched.proofs.NumberLaws.{number_is, wide_is}
 use Rattle.sg_sched.proofs.PartLaws.{joined_back}
 use Rattle.sg_sched.proofs.TakerLaws.{Taken, taken_is, taken_of, Took, took, run_words, run_is, source_is, printed, TookAll, repeated_is}
@@ -50,7 +51,7 @@ unfolding time
 time_is w t h = first (number 1000000 w) refl h
   where
     by : (k : ℕ) → number 1000000 w ≡ Some k → (b : Bool) → nat_le 1 k ≡ b → (if b then Some k else None) ≡ Some t → TimeIs w t
-    by k e true q h = let n = number_is 1000000 w k (omega arith) e in subst (λ t. TimeIs w t) (some_is h) (record { same = n.same; low = q; high = n.within })
+    by k e true q h = let n = number_is 1000000 w k (omega arith) e in subst (λ t. TimeIs w t) (some_same h) (record { same = n.same; low = q; high = n.within })
     by k e false q h = none_some h
 
     first : (o : Option ℕ) → number 1000000 w ≡ o → option_and_then (λ t. if nat_le 1 t then Some t else None) o ≡ Some t → TimeIs w t
@@ -61,7 +62,7 @@ pub few_is : (r q : List Committed × Left) → few r ≡ Some q → (r ≡ q) �
 few_is r q h = by (nat_le (length r.0) 32) refl h
   where
     by : (b : Bool) → nat_le (length r.0) 32 ≡ b → (if b then Some r else None) ≡ Some q → (r ≡ q) × (nat_le (length r.0) 32 ≡ true)
-    by true e h = (some_is h, e)
+    by true e h = (some_same h, e)
     by false e h = none_some h
 
 record Few (ws : Left) (cs : List Committed) (rest : Left) : Type 0 where

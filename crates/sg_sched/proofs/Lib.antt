@@ -1,5 +1,4 @@
 pub mod TextLaws
-pub mod SameName
 pub mod NamesLaws
 pub mod SameBoth
 pub mod NodeNames

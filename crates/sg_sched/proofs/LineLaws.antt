@@ -4,7 +4,7 @@ use Rattle.std.proofs.Common.{sym, ◌∙◌, ap}
 use Rattle.std.proofs.lemmas.Slice.Eq.{bytes_eq-Decides}
 use Rattle.sg_sched.specs.Format.Said.{Word, Said, SaidBlock, SaidEdge, SaidHonest, SaidKey, SaidSession, SaidStart, SaidAct, SaidAbandon, SaidDeliver, SaidMake, line_words}
 use Rattle.sg_sched.specs.Format.Forms.{is_form, SaysLine}
-use Rattle.sg_sched.specs.Format.Held.{said}
+use Rattle.sg_sched.specs.Format.Model.{said}
 use Rattle.sg_sched.specs.declared.line.Line.{Line}
 use Rattle.sg_sched.specs.Text.{words, content}
 use Rattle.sg_sched.specs.Format.Reading.{Left, block_form, edge_form, honest_form, key_form, session_form, start_form, act_form, abandon_form, deliver_form}

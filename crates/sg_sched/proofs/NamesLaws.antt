@@ -5,10 +5,11 @@ use Rattle.std.proofs.lemmas.Grind.{common_steps}
 use Rattle.std.proofs.lemmas.List.Folds.{list_any_at}
 use Rattle.std.proofs.lemmas.List.{append_assoc, append-nil}
 use Rattle.std.proofs.lemmas.Slice.Eq.{bytes_eq-Decides}
-use Rattle.std.proofs.lemmas.Bool.Decides.{same_from_decides, nat_tests}
+use Rattle.std.proofs.lemmas.Bool.Decides.{nat_tests}
 use Rattle.std.proofs.lemmas.List.Sums.{passes_at_first}
 use Rattle.sg_model.specs.Names.{is_name}
 use Rattle.sg_model.specs.Lists.{has_text, all_differ}
+use Rattle.sg_model.proofs.Small.{bytes_eq-swap}
 
 -- a text of the list after it
 pub has_text-middle : (t : List ℕ) (front rest : List (List ℕ)) → has_text t (front ++ t ∷ rest) ≡ true
@@ -33,12 +34,6 @@ differ_twice t (f ∷ fs) rest h = by (bytes_eq t f) refl (differ_twice t fs res
         let later : has_text t fs ≡ true = sym (ap (λ b. b || has_text t fs) e) ∙ h in
         grind (arith, common_steps, ih later)
 
--- which text comes first does not matter
-bytes_eq-sym : (a b : List ℕ) → bytes_eq a b ≡ bytes_eq b a
-bytes_eq-sym a b =
-    let d = bytes_eq-Decides a b in
-    same_from_decides (bytes_eq a b) (bytes_eq b a) (λ h. sym (d.0 h), λ e. d.1 (sym e)) (bytes_eq-Decides b a)
-
 -- a text that does not stand before
 pub differ_push : (t : List ℕ) (front : List (List ℕ)) → has_text t front ≡ false → all_differ front ≡ true → all_differ (front ++ t ∷ []) ≡ true
 differ_push t [] h d = refl
@@ -50,7 +45,7 @@ differ_push t (f ∷ fs) h d = step (bytes_eq t f) (has_text t fs) (has_text f f
     step : (s u v w : Bool) → bytes_eq t f ≡ s → has_text t fs ≡ u → has_text f fs ≡ v → all_differ fs ≡ w → s || u ≡ false → not v && w ≡ true →
         (has_text t fs ≡ false → all_differ fs ≡ true → all_differ (fs ++ t ∷ []) ≡ true) → not (has_text f (fs ++ t ∷ [])) && all_differ (fs ++ t ∷ []) ≡ true
     step false false false true es eu ev ew h d ih =
-        let apart : bytes_eq f t ≡ false = bytes_eq-sym f t ∙ es in
+        let apart : bytes_eq f t ≡ false = bytes_eq-swap f t ∙ es in
         let other : has_text f (fs ++ t ∷ []) ≡ false = any_push (bytes_eq f) fs ev apart in
         let rest = ih eu ew in
         (λ i. not (other i) && rest i)
@@ -97,7 +92,7 @@ place_in (n ∷ ns) (suc i) d h = step (has_text n ns) (bytes_eq (get_or ns i []
         position_or_len (bytes_eq (get_or ns i [])) (n ∷ ns) ≡ suc i
     step true v eu ev d ih = absurd (true≢false (sym (ap (λ b. not b && all_differ ns) (sym eu) ∙ d)))
     step false true eu ev d ih =
-        let same : bytes_eq n (get_or ns i []) ≡ true = bytes_eq-sym n (get_or ns i []) ∙ ev in
+        let same : bytes_eq n (get_or ns i []) ≡ true = bytes_eq-swap n (get_or ns i []) ∙ ev in
         absurd (true≢false (sym (list_any_at (bytes_eq n) ns i [] (omega arith) same) ∙ eu))
     step false false eu ev d ih =
         let rest = ih (ap (λ b. not b && all_differ ns) (sym eu) ∙ d) in

@@ -8,17 +8,18 @@ use Rattle.std.proofs.lemmas.Grind.{common_steps}
 use Rattle.std.proofs.lemmas.Bool.{leb-true, le-leb, ltb-true, lt-ltb, eqb-true}
 use Rattle.std.proofs.lemmas.Fmt.{decimal_is_IsNumeral, first_decimal, decimal-digits_value, digits_decimal, digits_value-decimal}
 use Rattle.std.proofs.lemmas.Str.Parse.{IsNumeralModel, IsDigitsTest, numerals_by_fold}
+use Rattle.sg_model.proofs.Small.{and_left, and_right, some_same}
 use Rattle.sg_base.specs.Words.{number, from_one, up_to, value, is_digit, has_needless_zero}
 use Rattle.sg_sched.specs.Words.{frame}
 use Rattle.sg_sched.specs.Format.Said.{Word, frame_word}
 use Rattle.sg_sched.specs.Format.Forms.{is_short, is_wide, is_frame}
-use Rattle.sg_sched.proofs.FormLaws.{some_is, none_some}
-use Rattle.sg_sched.proofs.FormatWords.{both_left, both_right, both}
+use Rattle.sg_sched.proofs.FormLaws.{none_some}
+use Rattle.sg_sched.proofs.FormatWords.{both}
 
 tells : IsDigitsTest (λ ds. list_all is_digit ds ≡ true)
 tells = record {
   empty = refl;
-  parts = λ c cs e. let k = both_left (is_digit c) (list_all is_digit cs) e in ((leb-true 48 c (both_left (nat_le 48 c) (nat_le c 57) k), leb-true c 57 (both_right (nat_le 48 c) (nat_le c 57) k)), both_right (is_digit c) (list_all is_digit cs) e);
+  parts = λ c cs e. let k = and_left (is_digit c) (list_all is_digit cs) e in ((leb-true 48 c (and_left (nat_le 48 c) (nat_le c 57) k), leb-true c 57 (and_right (nat_le 48 c) (nat_le c 57) k)), and_right (is_digit c) (list_all is_digit cs) e);
   more = λ c cs k e. both (both (le-leb 48 c k.0) (le-leb c 57 k.1)) e;
 }
 
@@ -41,17 +42,17 @@ unfolding number
 number_is most w n l h = by (nat_lt 0 (length w) && not (has_needless_zero w) && list_all is_digit w) refl h
   where
     in_range : (b : Bool) → nat_le (value w) most ≡ b → (if b then Some (value w) else None) ≡ Some n → (value w ≡ n) × (nat_le (value w) most ≡ true)
-    in_range true e h = (some_is h, e)
+    in_range true e h = (some_same h, e)
     in_range false e h = none_some h
 
     by : (b : Bool) → (nat_lt 0 (length w) && not (has_needless_zero w) && list_all is_digit w) ≡ b → (if b then up_to most (value w) else None) ≡ Some n → NumberIs most w n
     by false e h = none_some h
     by true e h =
         let r = in_range (nat_le (value w) most) refl h in
-        let front = both_left (nat_lt 0 (length w) && not (has_needless_zero w)) (list_all is_digit w) e in
-        let some = ltb-true 0 (length w) (both_left (nat_lt 0 (length w)) (not (has_needless_zero w)) front) in
-        let plain = both_right (nat_lt 0 (length w)) (not (has_needless_zero w)) front in
-        let digits = both_right (nat_lt 0 (length w) && not (has_needless_zero w)) (list_all is_digit w) e in
+        let front = and_left (nat_lt 0 (length w) && not (has_needless_zero w)) (list_all is_digit w) e in
+        let some = ltb-true 0 (length w) (and_left (nat_lt 0 (length w)) (not (has_needless_zero w)) front) in
+        let plain = and_right (nat_lt 0 (length w)) (not (has_needless_zero w)) front in
+        let digits = and_right (nat_lt 0 (length w) && not (has_needless_zero w)) (list_all is_digit w) e in
         let small : value w < 2 ^ 64 = omega (arith, leb-true (value w) most r.1, l) in
         record { same = sym (ap decimal (sym r.0) ∙ decimal-digits_value own w digits some (no_zero w plain some) small); within = subst (λ m. nat_le m most ≡ true) r.0 r.1 }
 
@@ -89,7 +90,7 @@ frame_is (c ∷ cs) n h = by (c == 102) refl h
     from : (k : ℕ) → number 4294967295 cs ≡ Some k → (c == 102) ≡ true → (b : Bool) → nat_lt 0 k ≡ b → (if b then Some k else None) ≡ Some n → ((c ∷ cs) ≡ frame_word n) × (is_frame n ≡ true)
     from k e f true z h =
         let d = number_is 4294967295 cs k (omega arith) e in
-        subst (λ m. ((c ∷ cs) ≡ frame_word m) × (is_frame m ≡ true)) (some_is h) ((λ i. eqb-true c 102 f i ∷ d.same i), both z (short_is k d.within))
+        subst (λ m. ((c ∷ cs) ≡ frame_word m) × (is_frame m ≡ true)) (some_same h) ((λ i. eqb-true c 102 f i ∷ d.same i), both z (short_is k d.within))
     from k e f false z h = none_some h
 
     found : (o : Option ℕ) → number 4294967295 cs ≡ o → (c == 102) ≡ true → option_and_then from_one o ≡ Some n → ((c ∷ cs) ≡ frame_word n) × (is_frame n ≡ true)
@@ -102,4 +103,4 @@ frame_is (c ∷ cs) n h = by (c == 102) refl h
 
 pub frame_ok : (n : ℕ) → is_frame n ≡ true → frame (frame_word n) ≡ Some n
 unfolding frame
-frame_ok n h = rw (number_ok 4294967295 n (omega arith) (is_short_of n (both_right (nat_lt 0 n) (is_short n) h)), both_left (nat_lt 0 n) (is_short n) h) refl
+frame_ok n h = rw (number_ok 4294967295 n (omega arith) (is_short_of n (and_right (nat_lt 0 n) (is_short n) h)), and_left (nat_lt 0 n) (is_short n) h) refl

@@ -1,5 +1,5 @@
 -- The graph `pair`, node by node and edge by edge.
-use Rattle.std.proofs.Common.{◌≡◌, ℕ, zero, suc, ◌+◌, ◌^◌, ◌<◌, ◌≤◌, max, Bool, true, false, ◌||◌, List, [], ◌∷◌, ◌++◌, length, map, bytes_eq, refl, sym, ap, ◌∙◌, arith, add-one, add-zero}
+use Rattle.std.proofs.Common.{◌≡◌, ℕ, zero, suc, ◌+◌, ◌^◌, ◌<◌, ◌≤◌, max, Bool, true, false, ◌||◌, List, [], ◌∷◌, ◌++◌, length, map, bytes_eq, refl, sym, ap, ◌∙◌, arith, add-one}
 use Rattle.std.specs.Fmt.{decimal}
 use Rattle.std.proofs.lemmas.Fmt.{decimal_injective}
 use Rattle.std.proofs.lemmas.Slice.Eq.{bytes_eq-Decides}
@@ -7,25 +7,18 @@ use Rattle.std.proofs.lemmas.List.{map_push, length-map}
 use Rattle.std.proofs.lemmas.Grind.{common_steps}
 use Rattle.sg_model.specs.Names.{Name}
 use Rattle.sg_model.specs.Lists.{has_text, below, range_from}
+use Rattle.sg_model.proofs.Numbers.{length-range_from, range_from-suc}
 use Rattle.sg_protocol.specs.Graph.{Graph, Edge}
 use Rattle.sg_graph.specs.Adding.{with_node, with_edge}
 use Rattle.sg_graph.specs.Parts.{node_names}
 use Rattle.sg_sched.specs.Pair.{edge, node, node_count, pair_graph}
 
-range_push : (a k : ℕ) → range_from a (suc k) ≡ range_from a k ++ (a + k) ∷ []
-range_push a zero = ap (λ n. n ∷ []) (sym (add-zero a))
-range_push a (suc k) = ap (λ l. a ∷ l) (range_push (suc a) k) ∙ ap (λ n. a ∷ (range_from (suc a) k ++ n ∷ [])) (omega arith)
-
-length_range : (a k : ℕ) → length (range_from a k) ≡ k
-length_range a zero = refl
-length_range a (suc k) = ap suc (length_range (suc a) k)
-
 -- one node more
 pub nodes_push : (n : ℕ) → map node (below (suc n)) ≡ map node (below n) ++ node n ∷ []
-nodes_push n = ap (map node) (range_push 0 n ∙ ap (λ m. below n ++ m ∷ []) (omega arith)) ∙ map_push node (below n) n
+nodes_push n = ap (map node) (range_from-suc 0 n ∙ ap (λ m. below n ++ m ∷ []) (omega arith)) ∙ map_push node (below n) n
 
 pub length_nodes : (n : ℕ) → length (map node (below n)) ≡ n
-length_nodes n = length-map (below n) node ∙ length_range 0 n
+length_nodes n = length-map (below n) node ∙ length-range_from 0 n
 
 -- nodes of different numbers have different names
 name_apart : (n m : ℕ) → n < 2 ^ 64 → m < n → bytes_eq (110 ∷ decimal n) (110 ∷ decimal m) ≡ false

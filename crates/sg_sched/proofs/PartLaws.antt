@@ -9,14 +9,15 @@ use Rattle.std.proofs.lemmas.List.Splits.{slice_split-cons_yes, slice_split-cons
 use Rattle.std.proofs.lemmas.Slice.Eq.{bytes_eq-Decides}
 use Rattle.sg_model.specs.Names.{Name, is_name, reserved}
 use Rattle.sg_model.specs.Lists.{has_text, all_differ}
+use Rattle.sg_model.proofs.Small.{and_left, and_right, some_same}
 use Rattle.sg_base.specs.Words.{name, number}
 use Rattle.sg_sched.specs.Words.{names, frame}
 use Rattle.sg_sched.specs.Format.Said.{Word, Given, Said, SaidEdge, SaidSession, SaidAct, SaidDeliver, TheFrame, TheFlipped, TheCut, TheBytes, line_words, joined_names, given_word, version_words}
 use Rattle.sg_sched.specs.Format.Forms.{is_form, is_given, is_wide, is_short, are_names}
 use Rattle.sg_sched.specs.Format.Values.{is_value, is_hex}
 use Rattle.sg_sched.specs.Format.Reading.{Left, Taker, word, after, ended, edge_form, edge_of, session_form, version, act_form, given, given_of, givens, split_at, split_step, hex, short, frame_form, what_form, deliver_form}
-use Rattle.sg_sched.proofs.FormatWords.{both_left, both_right, both, same_self, lacks, name_lacks, name_list, name_list-joined}
-use Rattle.sg_sched.proofs.FormLaws.{some_is, none_some, step, ended_is, line_up, name_is, name_ok, Fits, fits}
+use Rattle.sg_sched.proofs.FormatWords.{both, same_self, lacks, name_lacks, name_list, name_list-joined}
+use Rattle.sg_sched.proofs.FormLaws.{none_some, step, ended_is, line_up, name_is, name_ok, Fits, fits}
 use Rattle.sg_sched.proofs.NumberLaws.{number_is, number_ok, frame_is, frame_ok, short_is, is_short_of, wide_is, is_wide_of}
 
 -- ---- edges
@@ -54,7 +55,7 @@ parts_of (c ∷ cs) = by (c == 44) refl (parts_of cs)
     by true e p = record { first = []; more = name_list cs; all = slice_split-cons_yes (λ b. b == 44) c cs e }
     by false e p = record { first = c ∷ p.first; more = p.more; all = slice_split-cons_no (λ b. b == 44) c cs e ∙ ap (onto_first c) p.all }
 
-joined_onto : (c : ℕ) (p : Word) (ps : List Word) → joined_names ((c ∷ p) ∷ ps) ≡ c ∷ joined_names (p ∷ ps)
+pub joined_onto : (c : ℕ) (p : Word) (ps : List Word) → joined_names ((c ∷ p) ∷ ps) ≡ c ∷ joined_names (p ∷ ps)
 joined_onto c p [] = refl
 joined_onto c p (q ∷ qs) = refl
 
@@ -82,7 +83,7 @@ names_are w ns h = by (list_all is_name (name_list w) && all_differ (name_list w
     some_parts p = ap (λ (ps : List Word). nat_le 1 (length ps)) p.all ∙ le-leb 1 (length (p.first ∷ p.more)) (omega arith)
 
     by : (b : Bool) → (list_all is_name (name_list w) && all_differ (name_list w)) ≡ b → (if b then Some (name_list w) else None) ≡ Some ns → NamesAre w ns
-    by true e h = subst (λ (ns : List Name). NamesAre w ns) (some_is h) (record { same = sym (joined_back w); some = some_parts (parts_of w); names = both_left (list_all is_name (name_list w)) (all_differ (name_list w)) e; differ = both_right (list_all is_name (name_list w)) (all_differ (name_list w)) e })
+    by true e h = subst (λ (ns : List Name). NamesAre w ns) (some_same h) (record { same = sym (joined_back w); some = some_parts (parts_of w); names = and_left (list_all is_name (name_list w)) (all_differ (name_list w)) e; differ = and_right (list_all is_name (name_list w)) (all_differ (name_list w)) e })
     by false e h = none_some h
 
 -- ---- sessions
@@ -97,11 +98,11 @@ second ws = Some (2, ws)
 
 version_is : (ws rest : Left) (v : ℕ) → version ws ≡ Some (v, rest) → VersionIs ws v rest
 unfolding version
-version_is [] rest v h = let e = some_is h in subst (λ (p : ℕ × Left). VersionIs [] p.0 p.1) e (record { all = refl; known = refl })
+version_is [] rest v h = let e = some_same h in subst (λ (p : ℕ × Left). VersionIs [] p.0 p.1) e (record { all = refl; known = refl })
 version_is (w ∷ ws) rest v h = by (bytes_eq w (codes "v2")) refl h
   where
     by : (b : Bool) → bytes_eq w (codes "v2") ≡ b → (if b then second ws else None) ≡ Some (v, rest) → VersionIs (w ∷ ws) v rest
-    by true e h = subst (λ (p : ℕ × Left). VersionIs (w ∷ ws) p.0 p.1) (some_is h) (record { all = ap (λ x. x ∷ ws) ((bytes_eq-Decides w (codes "v2")).0 e); known = refl })
+    by true e h = subst (λ (p : ℕ × Left). VersionIs (w ∷ ws) p.0 p.1) (some_same h) (record { all = ap (λ x. x ∷ ws) ((bytes_eq-Decides w (codes "v2")).0 e); known = refl })
     by false e h = none_some h
 
 -- after a version, the words behind it
@@ -146,7 +147,7 @@ in_front c p = (c ∷ p.0, p.1)
 
 split_before : (mark c : ℕ) (cs f b : Word) → (o : Option (Word × Word)) → ((f b : Word) → o ≡ Some (f, b) → cs ≡ f ++ mark ∷ b) → option_map (in_front c) o ≡ Some (f, b) → (c ∷ cs) ≡ f ++ mark ∷ b
 split_before mark c cs f b None ih h = none_some h
-split_before mark c cs f b (Some p) ih h = ap (λ (r : Word). c ∷ r) (ih p.0 p.1 refl) ∙ ap (λ (q : Word × Word). q.0 ++ mark ∷ q.1) (some_is h)
+split_before mark c cs f b (Some p) ih h = ap (λ (r : Word). c ∷ r) (ih p.0 p.1 refl) ∙ ap (λ (q : Word × Word). q.0 ++ mark ∷ q.1) (some_same h)
 
 -- what is found before an empty front
 abbrev found_first : Word → Option (Word × Word)
@@ -157,12 +158,12 @@ split_is mark [] f b h = none_some h
 split_is mark (c ∷ cs) f b h = by (c == mark) refl (λ f b h. split_is mark cs f b h) h
   where
     by : (q : Bool) → (c == mark) ≡ q → ((f b : Word) → split_at mark cs ≡ Some (f, b) → cs ≡ f ++ mark ∷ b) → (if q then found_first cs else option_map (in_front c) (split_at mark cs)) ≡ Some (f, b) → (c ∷ cs) ≡ f ++ mark ∷ b
-    by true e ih h = ap (λ x. x ∷ cs) (eqb-true c mark e) ∙ ap (λ (q : Word × Word). q.0 ++ mark ∷ q.1) (some_is h)
+    by true e ih h = ap (λ x. x ∷ cs) (eqb-true c mark e) ∙ ap (λ (q : Word × Word). q.0 ++ mark ∷ q.1) (some_same h)
     by false e ih h = split_before mark c cs f b (split_at mark cs) ih h
 
 pub split_ok : (mark : ℕ) (n v : Word) → lacks mark n ≡ true → split_at mark (n ++ mark ∷ v) ≡ Some (n, v)
 split_ok mark [] v h = let same : (mark == mark) ≡ true = grind (arith, common_steps) in rw same refl
-split_ok mark (c ∷ cs) v h = by (c == mark) refl (split_ok mark cs v (both_right (not (c == mark)) (lacks mark cs) h)) (both_left (not (c == mark)) (lacks mark cs) h)
+split_ok mark (c ∷ cs) v h = by (c == mark) refl (split_ok mark cs v (and_right (not (c == mark)) (lacks mark cs) h)) (and_left (not (c == mark)) (lacks mark cs) h)
   where
     by : (b : Bool) → (c == mark) ≡ b → split_at mark (cs ++ mark ∷ v) ≡ Some (cs, v) → not (c == mark) ≡ true → split_at mark (c ∷ (cs ++ mark ∷ v)) ≡ Some (c ∷ cs, v)
     by false e ih l = ap (λ b. if b then found_first (cs ++ mark ∷ v) else option_map (in_front c) (split_at mark (cs ++ mark ∷ v))) e ∙ ap (option_map (in_front c)) ih
@@ -173,7 +174,7 @@ unfolding given
 given_is w v h = found (split_at 61 w) refl h
   where
     by : (p : Word × Word) → split_at 61 w ≡ Some p → (b : Bool) → (is_name p.0 && is_value p.1) ≡ b → (if b then Some (record { variable = p.0; value = p.1 }) else None) ≡ Some v → (w ≡ given_word v) × (is_given v ≡ true)
-    by p e true q h = subst (λ (v : Given). (w ≡ given_word v) × (is_given v ≡ true)) (some_is h) (split_is 61 w p.0 p.1 e, q)
+    by p e true q h = subst (λ (v : Given). (w ≡ given_word v) × (is_given v ≡ true)) (some_same h) (split_is 61 w p.0 p.1 e, q)
     by p e false q h = none_some h
 
     found : (o : Option (Word × Word)) → split_at 61 w ≡ o → option_and_then given_of o ≡ Some v → (w ≡ given_word v) × (is_given v ≡ true)
@@ -182,10 +183,10 @@ given_is w v h = found (split_at 61 w) refl h
 
 pub given_ok : (v : Given) → is_given v ≡ true → given (given_word v) ≡ Some v
 unfolding given
-given_ok v h = ap (option_and_then given_of) (split_ok 61 v.variable v.value (name_lacks 61 v.variable refl (both_left (is_name v.variable) (is_value v.value) h))) ∙ ap (λ b. if b then Some v else None) h
+given_ok v h = ap (option_and_then given_of) (split_ok 61 v.variable v.value (name_lacks 61 v.variable refl (and_left (is_name v.variable) (is_value v.value) h))) ∙ ap (λ b. if b then Some v else None) h
 
 pub givens_are : (ws : Left) (vs : List Given) → givens ws ≡ Some vs → (ws ≡ map given_word vs) × (list_all is_given vs ≡ true)
-givens_are [] vs h = subst (λ (vs : List Given). ([] ≡ map given_word vs) × (list_all is_given vs ≡ true)) (some_is h) (refl, refl)
+givens_are [] vs h = subst (λ (vs : List Given). ([] ≡ map given_word vs) × (list_all is_given vs ≡ true)) (some_same h) (refl, refl)
 givens_are (w ∷ ws) vs h = first (given w) refl (λ us f. givens_are ws us f) h
   where
     rest : ((us : List Given) → givens ws ≡ Some us → (ws ≡ map given_word us) × (list_all is_given us ≡ true)) → (v : Given) → given w ≡ Some v → (o : Option (List Given)) → givens ws ≡ o → option_map (λ vs. v ∷ vs) o ≡ Some vs → ((w ∷ ws) ≡ map given_word vs) × (list_all is_given vs ≡ true)
@@ -193,7 +194,7 @@ givens_are (w ∷ ws) vs h = first (given w) refl (λ us f. givens_are ws us f) 
     rest ih v e (Some us) f h =
         let g = given_is w v e in
         let r = ih us f in
-        subst (λ (vs : List Given). ((w ∷ ws) ≡ map given_word vs) × (list_all is_given vs ≡ true)) (some_is h) ((λ i. g.0 i ∷ r.0 i), both g.1 r.1)
+        subst (λ (vs : List Given). ((w ∷ ws) ≡ map given_word vs) × (list_all is_given vs ≡ true)) (some_same h) ((λ i. g.0 i ∷ r.0 i), both g.1 r.1)
 
     first : (o : Option Given) → given w ≡ o → ((us : List Given) → givens ws ≡ Some us → (ws ≡ map given_word us) × (list_all is_given us ≡ true)) → option_and_then (λ v. option_map (λ vs. v ∷ vs) (givens ws)) o ≡ Some vs → ((w ∷ ws) ≡ map given_word vs) × (list_all is_given vs ≡ true)
     first None e ih h = none_some h
@@ -201,7 +202,7 @@ givens_are (w ∷ ws) vs h = first (given w) refl (λ us f. givens_are ws us f) 
 
 pub givens_ok : (vs : List Given) → list_all is_given vs ≡ true → givens (map given_word vs) ≡ Some vs
 givens_ok [] h = refl
-givens_ok (v ∷ vs) h = rw (given_ok v (both_left (is_given v) (list_all is_given vs) h), givens_ok vs (both_right (is_given v) (list_all is_given vs) h)) refl
+givens_ok (v ∷ vs) h = rw (given_ok v (and_left (is_given v) (list_all is_given vs) h), givens_ok vs (and_right (is_given v) (list_all is_given vs) h)) refl
 
 pub act_sound : (ws : Left) (s : Said) → act_form ws ≡ Some s → Fits (codes "act" ∷ ws) s
 unfolding act_form

@@ -8,7 +8,7 @@ use Rattle.sg_protocol.specs.Schedule.{PairKey}
 use Rattle.sg_sched.specs.Keys.{is_of, has_key}
 use Rattle.sg_sched.specs.declared.keys.Both.{Both}
 use Rattle.sg_sched.specs.contracts.keys.BothPartialEq.TheImpl.{eq-value}
-use Rattle.sg_sched.proofs.SameName.{same_is}
+use Rattle.sg_base.proofs.SameName.{same_is}
 
 -- the two principals of a key
 abbrev pub both_of : PairKey → Both

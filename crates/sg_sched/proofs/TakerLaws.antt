@@ -6,6 +6,7 @@ use Rattle.std.proofs.Common.{sym, ◌∙◌, ap, subst, arith, append-nil, appe
 use Rattle.std.proofs.lemmas.Bool.{leb-true, le-leb, eqb-true}
 use Rattle.std.proofs.lemmas.Slice.Eq.{bytes_eq-Decides}
 use Rattle.sg_model.specs.Names.{Name, is_name}
+use Rattle.sg_model.proofs.Small.{some_same}
 use Rattle.sg_base.specs.Words.{name, number}
 use Rattle.sg_sched.specs.Words.{frame}
 use Rattle.sg_sched.specs.Format.Said.{Word, Committed, From, FromKey, FromItem, FromSeal, FromZero, SaidItem, committed_word, from_words, tag_words, item_words}
@@ -13,8 +14,8 @@ use Rattle.sg_sched.specs.Format.Forms.{is_committed, is_source, is_tag, is_item
 use Rattle.sg_sched.specs.Format.Values.{is_value}
 use Rattle.sg_sched.specs.Format.Reading.{Left, Taker, word, after, ended, split_at}
 use Rattle.sg_sched.specs.Format.CraftReading.{split_last, last_step, committed, behind_equal, time, run, run_step, few, copy_source, source, repeated, more_after, tag, item, is_next}
-use Rattle.sg_sched.proofs.FormatWords.{both_left, both_right, both, same_self}
-use Rattle.sg_sched.proofs.FormLaws.{some_is, none_some, step, Step, line_up, name_is, name_ok}
+use Rattle.sg_sched.proofs.FormatWords.{both, same_self}
+use Rattle.sg_sched.proofs.FormLaws.{none_some, step, Step, line_up, name_is, name_ok}
 use Rattle.sg_sched.proofs.NumberLaws.{number_is, number_ok, frame_is, frame_ok, short_is, is_short_of, wide_is, is_wide_of}
 use Rattle.sg_sched.proofs.PartLaws.{split_is}
 
@@ -44,7 +45,7 @@ pub record Took {A : Type 0} (print : A → Left) (ok : A → Bool) (ws : Left) 
   pub form : ok x ≡ true
 
 pub took : {A : Type 0} (print : A → Left) (ok : A → Bool) {ws : Left} {x y : A} {r rest : Left} → ws ≡ print x ++ r → ok x ≡ true → taken_of x r ≡ taken_of y rest → Took print ok ws y rest
-took {A} print ok {ws = ws} w f h = subst (λ (p : A × Left). Took print ok ws p.0 p.1) (some_is h) (record { words = w; form = f })
+took {A} print ok {ws = ws} w f h = subst (λ (p : A × Left). Took print ok ws p.0 p.1) (some_same h) (record { words = w; form = f })
 
 -- ---- commitments
 
@@ -57,11 +58,11 @@ split_last_is mark [] f b h = none_some h
 split_last_is mark (c ∷ cs) f b h = by (split_last mark cs) (λ f b e. split_last_is mark cs f b e) h
   where
     here : (q : Bool) → (c == mark) ≡ q → (if q then none_before cs else None) ≡ Some (f, b) → (c ∷ cs) ≡ f ++ mark ∷ b
-    here true e h = ap (λ x. x ∷ cs) (eqb-true c mark e) ∙ ap (λ (q : Word × Word). q.0 ++ mark ∷ q.1) (some_is h)
+    here true e h = ap (λ x. x ∷ cs) (eqb-true c mark e) ∙ ap (λ (q : Word × Word). q.0 ++ mark ∷ q.1) (some_same h)
     here false e h = none_some h
 
     by : (o : Option (Word × Word)) → ((f b : Word) → o ≡ Some (f, b) → cs ≡ f ++ mark ∷ b) → last_step mark c cs o ≡ Some (f, b) → (c ∷ cs) ≡ f ++ mark ∷ b
-    by (Some p) ih h = ap (λ (r : Word). c ∷ r) (ih p.0 p.1 refl) ∙ ap (λ (q : Word × Word). q.0 ++ mark ∷ q.1) (some_is h)
+    by (Some p) ih h = ap (λ (r : Word). c ∷ r) (ih p.0 p.1 refl) ∙ ap (λ (q : Word × Word). q.0 ++ mark ∷ q.1) (some_same h)
     by None ih h = here (c == mark) refl h
 
 pub committed_is : (w : Word) (c : Committed) → committed w ≡ Some c → (w ≡ committed_word c) × (is_committed c ≡ true)
@@ -73,7 +74,7 @@ committed_is w c h = first (split_at 61 w) refl h
     number_behind v value digits s t None e h = none_some h
     number_behind v value digits s t (Some k) e h =
         let n = number_is 18446744073709551615 digits k (omega arith) e in
-        subst (λ (c : Committed). (w ≡ committed_word c) × (is_committed c ≡ true)) (some_is h) (s ∙ ap (λ (d : Word). v ++ 61 ∷ (value ++ 35 ∷ d)) n.same, both t (wide_is k n.within))
+        subst (λ (c : Committed). (w ≡ committed_word c) × (is_committed c ≡ true)) (some_same h) (s ∙ ap (λ (d : Word). v ++ 61 ∷ (value ++ 35 ∷ d)) n.same, both t (wide_is k n.within))
 
     tested : (v : Word) (p : Word × Word) → w ≡ v ++ 61 ∷ (p.0 ++ 35 ∷ p.1) → (b : Bool) → (is_name v && is_value p.0) ≡ b
         → (if b then option_map (λ k. record { variable = v; value = p.0; step = k }) (number 18446744073709551615 p.1) else None) ≡ Some c → (w ≡ committed_word c) × (is_committed c ≡ true)
@@ -171,7 +172,7 @@ abbrev nothing_taken : {A : Type 0} → Left → Option (List A × Left)
 nothing_taken ws = Some ([], ws)
 
 none_taken : {A : Type 0} (first : List ℕ) (print : A → Left) (ok : A → Bool) (n : ℕ) (ws : Left) (xs : List A) (rest : Left) → taken_of [] ws ≡ taken_of xs rest → TookAll first print ok n ws xs rest
-none_taken {A} first print ok n ws xs rest h = subst (λ (p : List A × Left). TookAll first print ok n ws p.0 p.1) (some_is h) (record { words = refl; form = refl; few = omega arith })
+none_taken {A} first print ok n ws xs rest h = subst (λ (p : List A × Left). TookAll first print ok n ws p.0 p.1) (some_same h) (record { words = refl; form = refl; few = omega arith })
 
 pub repeated_is : {A : Type 0} (first : List ℕ) (take : Taker A) (print : A → Left) (ok : A → Bool) → ((ws : Left) (x : A) (rest : Left) → take ws ≡ Some (x, rest) → Took print ok ws x rest)
     → (n : ℕ) (ws : Left) (xs : List A) (rest : Left) → repeated first take n ws ≡ Some (xs, rest) → TookAll first print ok n ws xs rest
@@ -182,7 +183,7 @@ repeated_is {A} first take print ok is (suc n) (w ∷ ws) xs rest h = by (bytes_
     more : (x : A) (r : Left) → w ≡ first → Took print ok ws x r → (o : Option (List A × Left)) → ((ys : List A) → o ≡ Some (ys, rest) → TookAll first print ok n r ys rest) → more_after x o ≡ Some (xs, rest) → TookAll first print ok (suc n) (w ∷ ws) xs rest
     more x r e t None ih h = none_some h
     more x r e t (Some p) ih h =
-        let same = some_is h in
+        let same = some_same h in
         let front = ih p.0 (ap (λ (q : List A × Left). taken_of p.0 q.1) same) in
         let words : (w ∷ ws) ≡ printed first print (x ∷ p.0) ++ rest = (λ i. e i ∷ (t.words ∙ ap (λ (r : Left). print x ++ r) front.words ∙ sym (append_assoc (print x) (printed first print p.0) rest)) i) in
         subst (λ (ys : List A). TookAll first print ok (suc n) (w ∷ ws) ys rest) (ap (λ (q : List A × Left). q.0) same) (record { words = words; form = both t.form front.form; few = omega (arith, front.few) })

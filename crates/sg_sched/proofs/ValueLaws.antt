@@ -2,13 +2,13 @@
 use Rattle.std.proofs.Common.{◌≡◌, ◌≢◌, ◌≤◌, length, ℕ, suc, ◌+◌, ◌*◌, ◌==◌, Bool, true, false, not, ◌&&◌, nat_le, List, [], ◌∷◌, ◌++◌, append_assoc, slice_index, Option, Some, None, option_map, option_and_then, Ok, Err, Result, refl, sym, ap, ◌∙◌, arith}
 use Rattle.std.specs.Result.{result_ok}
 use Rattle.std.proofs.lemmas.Grind.{common_steps}
-use Rattle.std.proofs.lemmas.Bool.{eqb-true, leb-true, le-leb}
+use Rattle.std.proofs.lemmas.Bool.{eqb-true, leb-true, le-leb, not-true}
 use Rattle.std.proofs.lemmas.Str.{IsUtf8-from_is_utf8, is_utf8-from_IsUtf8}
 use Rattle.std.specs.Str.{IsUtf8, is_utf8}
 use Rattle.sg_model.specs.Values.{TextValue}
+use Rattle.sg_model.proofs.Small.{and_left, and_right}
 use Rattle.hex.specs.Hex.{hex_digit_value, digit_or_error, ◌>>=◌, decode_sized, decode_pairs}
 use Rattle.sg_sched.specs.Format.Values.{is_plain, hex_byte, put_before, text_bytes, as_text}
-use Rattle.sg_sched.proofs.FormatWords.{both_left, both_right}
 
 -- two digits are one byte
 pub hex_two : (h l : ℕ) → hex_byte h l ≡ option_map (λ bs. slice_index bs 0) (result_ok (decode_sized (h ∷ l ∷ []) 1))
@@ -21,16 +21,12 @@ hex_two h l = by (hex_digit_value h) (hex_digit_value l)
     by (Some a) None = refl
     by (Some a) (Some b) = refl
 
-not_true : (b : Bool) → not b ≡ true → b ≡ false
-not_true true h = sym h
-not_true false h = refl
-
 -- a byte that stands for itself is no quote and no backslash
-no_quote : (c : ℕ) → is_plain c ≡ true → (c == 34) ≡ false
-no_quote c h = not_true (c == 34) (both_right (nat_le 33 c && nat_le c 126) (not (c == 34)) (both_left (nat_le 33 c && nat_le c 126 && not (c == 34)) (not (c == 92)) h))
+pub no_quote : (c : ℕ) → is_plain c ≡ true → (c == 34) ≡ false
+no_quote c h = not-true (c == 34) (and_right (nat_le 33 c && nat_le c 126) (not (c == 34)) (and_left (nat_le 33 c && nat_le c 126 && not (c == 34)) (not (c == 92)) h))
 
 no_backslash : (c : ℕ) → is_plain c ≡ true → (c == 92) ≡ false
-no_backslash c h = not_true (c == 92) (both_right (nat_le 33 c && nat_le c 126 && not (c == 34)) (not (c == 92)) h)
+no_backslash c h = not-true (c == 92) (and_right (nat_le 33 c && nat_le c 126 && not (c == 34)) (not (c == 92)) h)
 
 -- a byte that stands for itself
 pub plain_step : (c : ℕ) (cs : List ℕ) → is_plain c ≡ true → text_bytes (c ∷ cs) ≡ put_before (Some c) (text_bytes cs)

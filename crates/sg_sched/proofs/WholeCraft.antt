@@ -1,18 +1,20 @@
 -- A whole craft of a form is read.
-use Rattle.std.specs.Prelude.{◌≡◌, ℕ, suc, ◌≤◌, ◌==◌, nat_le, Bool, true, false, not, ◌&&◌, if◌then◌else◌, List, [], ◌∷◌, ◌++◌, map, flat_map, length, codes, bytes_eq, refl, Option, Some, None, option_map, option_and_then}
+use Rattle.std.specs.Prelude.{◌≡◌, ℕ, suc, ◌≤◌, ◌==◌, nat_le, true, false, not, ◌&&◌, if◌then◌else◌, List, [], ◌∷◌, ◌++◌, map, flat_map, length, codes, bytes_eq, refl, Option, Some, None, option_map, option_and_then}
 use Rattle.std.specs.List.{list_all}
 use Rattle.std.specs.Option.{option_map_or}
 use Rattle.std.specs.Fmt.{decimal}
 use Rattle.std.proofs.Common.{sym, ◌∙◌, ap, arith, append-nil, append_assoc}
 use Rattle.std.proofs.lemmas.Grind.{common_steps}
+use Rattle.std.proofs.lemmas.Bool.{not-true}
 use Rattle.sg_model.specs.Names.{Name, is_name}
+use Rattle.sg_model.proofs.Small.{and_left, and_right}
 use Rattle.sg_protocol.specs.Schedule.{CraftJoin}
 use Rattle.sg_base.specs.Words.{name, number}
 use Rattle.sg_sched.specs.Format.Said.{Word, Committed, From, SaidItem, SaidCraft, Said, SaidMake, committed_word, from_words, item_words, join_words, list_words, option_words, joined_names}
 use Rattle.sg_sched.specs.Format.Forms.{is_committed, is_source, is_item, are_committed, is_join, is_wide, are_names, is_craft}
 use Rattle.sg_sched.specs.Format.Reading.{Left, Taker, word, after, ended}
 use Rattle.sg_sched.specs.Format.CraftReading.{committed, run, few, some_of, listed, source, repeated, item, is_next, all_names, name_list, sixteen, cast, optional, join_parts, join, opened, exactly, ends, seal_form, some_items, craft_form}
-use Rattle.sg_sched.proofs.FormatWords.{both_left, both_right, both, same_self, name_list as pieces, name_list-joined}
+use Rattle.sg_sched.proofs.FormatWords.{both, same_self, name_list as pieces, name_list-joined}
 use Rattle.sg_sched.proofs.FormatWholeCraft.{CraftFacts, craft_facts, craft_rest}
 use Rattle.sg_sched.proofs.FormLaws.{name_ok}
 use Rattle.sg_sched.proofs.NumberLaws.{number_ok, is_wide_of}
@@ -32,8 +34,8 @@ listed_ok first (c ∷ cs) rest h e r =
 
 opened_ok : (cs : List Committed) (rest : Left) → are_committed cs ≡ true → is_next (codes "open") rest ≡ false → run rest ≡ ([], rest) → opened (list_words (codes "open") cs ++ rest) ≡ Some (cs, rest)
 opened_ok cs rest h e r =
-    ap (option_and_then few) (listed_ok (codes "open") cs rest (both_right (nat_le (length cs) 32) (list_all is_committed cs) h) e r)
-    ∙ ap (λ b. if b then Some (cs, rest) else None) (both_left (nat_le (length cs) 32) (list_all is_committed cs) h)
+    ap (option_and_then few) (listed_ok (codes "open") cs rest (and_right (nat_le (length cs) 32) (list_all is_committed cs) h) e r)
+    ∙ ap (λ b. if b then Some (cs, rest) else None) (and_left (nat_le (length cs) 32) (list_all is_committed cs) h)
 
 -- ---- join
 
@@ -48,8 +50,8 @@ cast_ok : (ns : List Name) → (nat_le 2 (length ns) && nat_le (length ns) 16 &&
 unfolding cast
 cast_ok [] h = absurd (cc h)
 cast_ok (n ∷ ns) h =
-    let names = both_right (nat_le 2 (length (n ∷ ns)) && nat_le (length (n ∷ ns)) 16) (are_names (n ∷ ns)) h in
-    let count = both_left (nat_le 2 (length (n ∷ ns)) && nat_le (length (n ∷ ns)) 16) (are_names (n ∷ ns)) h in
+    let names = and_right (nat_le 2 (length (n ∷ ns)) && nat_le (length (n ∷ ns)) 16) (are_names (n ∷ ns)) h in
+    let count = and_left (nat_le 2 (length (n ∷ ns)) && nat_le (length (n ∷ ns)) 16) (are_names (n ∷ ns)) h in
     ap (λ (ps : List Name). option_and_then sixteen (all_names ps)) (name_list-joined n ns names)
     ∙ ap (λ b. option_and_then sixteen (if b then Some (n ∷ ns) else None)) names
     ∙ ap (λ b. if b then Some (n ∷ ns) else None) count
@@ -75,8 +77,8 @@ join_ok : (j : Option CraftJoin) (rest : Left) → option_map_or is_join j true 
 unfolding join join_parts
 join_ok None rest h a = join_other rest a.no_join
 join_ok (Some j) rest h a =
-    let w = both_left (option_map_or is_wide j.nonce true) (option_map_or (λ ns. nat_le 2 (length ns) && nat_le (length ns) 16 && are_names ns) j.names true) h in
-    let n = both_right (option_map_or is_wide j.nonce true) (option_map_or (λ ns. nat_le 2 (length ns) && nat_le (length ns) 16 && are_names ns) j.names true) h in
+    let w = and_left (option_map_or is_wide j.nonce true) (option_map_or (λ ns. nat_le 2 (length ns) && nat_le (length ns) 16 && are_names ns) j.names true) h in
+    let n = and_right (option_map_or is_wide j.nonce true) (option_map_or (λ ns. nat_le 2 (length ns) && nat_le (length ns) 16 && are_names ns) j.names true) h in
     rw (
       append_assoc (option_words (codes "nonce") (option_map decimal j.nonce)) (option_words (codes "cast") (option_map joined_names j.names)) rest,
       optional_ok (codes "nonce") (number 18446744073709551615) decimal j.nonce (option_words (codes "cast") (option_map joined_names j.names) ++ rest) (nonce_read j.nonce w) (nonce_next j.names rest a),
@@ -89,19 +91,15 @@ seal_ok : (s : From) → is_source s ≡ true → seal_form (codes "seal" ∷ fr
 unfolding seal_form word
 seal_ok s h = ap (λ o. option_and_then (λ (p : From × Left). ended (Some p.0) p.1) o) (ap source (sym (append-nil (from_words s))) ∙ source_ok s [] h)
 
-not_true : (b : Bool) → not b ≡ true → b ≡ false
-not_true true h = sym h
-not_true false h = refl
-
 ends_ok : (session from to : Name) (rest : Left) → are_names (session ∷ from ∷ to ∷ []) ≡ true → not (bytes_eq from to) ≡ true → ends (session ∷ codes "from" ∷ from ∷ codes "to" ∷ to ∷ rest) ≡ Some ((session, from, to), rest)
 unfolding ends word
 ends_ok session from to rest h d =
-    let m = both_right (is_name session) (is_name from && (is_name to && true)) h in
+    let m = and_right (is_name session) (is_name from && (is_name to && true)) h in
     rw (
-      name_ok session (both_left (is_name session) (is_name from && (is_name to && true)) h),
-      name_ok from (both_left (is_name from) (is_name to && true) m),
-      name_ok to (both_left (is_name to) true (both_right (is_name from) (is_name to && true) m)),
-      not_true (bytes_eq from to) d,
+      name_ok session (and_left (is_name session) (is_name from && (is_name to && true)) h),
+      name_ok from (and_left (is_name from) (is_name to && true) m),
+      name_ok to (and_left (is_name to) true (and_right (is_name from) (is_name to && true) m)),
+      not-true (bytes_eq from to) d,
     ) refl
 
 -- ---- the whole
@@ -164,12 +162,12 @@ front c h =
     let t4 = t3 && nat_le (length c.items) 65535 in
     let t5 = t4 && list_all is_item c.items in
     let t6 = t5 && are_committed c.openings in
-    both_left t0 (option_map_or is_join c.join true) (both_left t1 (list_all is_committed c.know) (both_left t2 (nat_le 1 (length c.items)) (both_left t3 (nat_le (length c.items) 65535)
-    (both_left t4 (list_all is_item c.items) (both_left t5 (are_committed c.openings) (both_left t6 (is_source c.seal) h))))))
+    and_left t0 (option_map_or is_join c.join true) (and_left t1 (list_all is_committed c.know) (and_left t2 (nat_le 1 (length c.items)) (and_left t3 (nat_le (length c.items) 65535)
+    (and_left t4 (list_all is_item c.items) (and_left t5 (are_committed c.openings) (and_left t6 (is_source c.seal) h))))))
 
 pub craft_reads : (c : SaidCraft) → is_craft c ≡ true → craft_form (craft_rest c) ≡ Some (SaidMake c)
 unfolding craft_form
 craft_reads c h =
     let f = craft_facts c h in
     let t = front c h in
-    craft_found 65535 c c.items f (both_left (are_names (c.session ∷ c.from ∷ c.to ∷ [])) (not (bytes_eq c.from c.to)) t) (both_right (are_names (c.session ∷ c.from ∷ c.to ∷ [])) (not (bytes_eq c.from c.to)) t) f.some f.count f.items
+    craft_found 65535 c c.items f (and_left (are_names (c.session ∷ c.from ∷ c.to ∷ [])) (not (bytes_eq c.from c.to)) t) (and_right (are_names (c.session ∷ c.from ∷ c.to ∷ [])) (not (bytes_eq c.from c.to)) t) f.some f.count f.items

@@ -12,4 +12,4 @@ pub mod Form
 pub mod Crafts
 pub mod StepsHeld
 pub mod Sources
-pub mod Held
+pub mod Model

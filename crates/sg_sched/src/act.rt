@@ -1,7 +1,7 @@
 //! The form of an act.
 ghost use Rattle.std.specs.Prelude.{◌≡◌, IfOk, IfSome, option_copied, option_map, Some, None, MatchOption, ◌<◌, length};
 ghost use Rattle.sg_sched.specs.Format.Reading.{split_at, given, givens, act_form};
-ghost use Rattle.sg_sched.specs.Format.Held.{said};
+ghost use Rattle.sg_sched.specs.Format.Model.{said};
 
 use crate::form::take_name;
 use crate::line::{Given, Line};

@@ -5,13 +5,13 @@ ghost use Rattle.sg_sched.specs.Words.{frame};
 ghost use Rattle.sg_sched.specs.Format.Reading.{word};
 ghost use Rattle.sg_sched.specs.Format.CraftReading.{split_last, committed, name_list, cast, exactly, time, run, few, listed, copy_source, source, repeated, tag, item, is_next, optional, join_parts, join, opened, seal_form, ends, craft_form};
 ghost use Rattle.sg_sched.specs.Format.Sources.{from_of};
-ghost use Rattle.sg_sched.specs.Format.Held.{said, taken};
+ghost use Rattle.sg_sched.specs.Format.Model.{said, taken};
 
 use crate::act::split_at;
 use crate::craft::CraftJoin;
 use crate::form::{take_name, take_number};
 use crate::line::{Committed, CraftLine, From, ItemLine, Line, TagLine};
-use crate::name_set::split_part;
+use crate::names::split_part;
 use crate::text::Words;
 use crate::value::is_value;
 use crate::word::{read_frame, read_name};

@@ -3,14 +3,15 @@ ghost use Rattle.std.specs.Prelude.{◌≡◌, ◌≤◌, IfOk, IfSome, option_m
 ghost use Rattle.sg_base.specs.Words.{name, number};
 ghost use Rattle.sg_sched.specs.Words.{names, frame};
 ghost use Rattle.sg_sched.specs.Format.Reading.{word, hex_of, hex, short, version, given, givens, block_form, edge_form, honest_form, key_form, session_form, start_form, act_form, abandon_form, frame_form, what_form, deliver_form};
-ghost use Rattle.sg_sched.specs.Format.Held.{said, taken, delivered};
+ghost use Rattle.sg_sched.specs.Format.Model.{said, taken, delivered};
 
 use crate::line::{Delivered, Line};
-use crate::name_set::{NameSet, read_names};
+use crate::names::read_names;
 use crate::text::Words;
 use crate::value::{is_hex, is_key};
 use crate::word::{read_frame, read_name};
 use sg_base::{Name, OutOfMemory, read_number};
+use sg_parse::NameSet;
 use std::alloc::Global;
 
 #[tactic(auto, unfolding(crate::specs::Format::Reading::word))]

@@ -2,11 +2,14 @@
 use sg_base::Name;
 use std::marker::Model;
 
-/// The 32-byte key of two different principals.
-#[derive(Debug, Drop)]
+/// The 32-byte key of two different principals. It has no `Debug`, which would print the key.
+#[derive(Drop)]
 pub struct PairKey {
+    /// One of them.
     pub one: Name,
+    /// The other one.
     pub two: Name,
+    /// Their key.
     pub key: [u8; 32],
 }
 

@@ -1,7 +1,7 @@
 //! What a line of a schedule says, word by word.
 use crate::craft::CraftJoin;
-use crate::name_set::NameSet;
 use sg_base::{Name, Seq};
+use sg_parse::NameSet;
 use std::marker::Model;
 
 /// `VAR=VALUE`, the value as it is written.

@@ -3,7 +3,7 @@ ghost use Rattle.std.specs.Prelude.{◌≡◌, ◌==◌, ◌&&◌, ◌||◌, nat
 ghost use Rattle.std.specs.List.{list_all};
 ghost use Rattle.sg_sched.specs.Text.{words};
 ghost use Rattle.sg_sched.specs.Format.Form.{form};
-ghost use Rattle.sg_sched.specs.Format.Held.{said};
+ghost use Rattle.sg_sched.specs.Format.Model.{said};
 ghost use Rattle.sg_sched.specs.Format.Said.{Said};
 ghost use Rattle.sg_sched.specs.Format.Forms.{SaysLine, is_comment};
 

@@ -23,8 +23,8 @@ impl Model for Declared {
     ghost view = { λ d. record { name = d.name; cast = d.cast } };
 }
 
-/// What is declared, and the steps, each in the order of their lines.
-#[derive(Debug, Drop)]
+/// What is declared, and the steps, each in the order of their lines. It has no `Debug`, which would print the keys.
+#[derive(Drop)]
 pub struct Schedule {
     /// The graphs of the blocks, and after them `pair`, if there are edge lines.
     pub graphs: Seq<Graph>,

@@ -1,5 +1,4 @@
 pub mod ListLaws
 pub mod NameLaws
 pub mod ScriptLaws
-pub mod TableLaws
 pub mod WholeLaws

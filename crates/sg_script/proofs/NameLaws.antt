@@ -1,19 +1,18 @@
 -- Names: they are ASCII, and their places in a graph.
-use Rattle.std.proofs.Common.{◌≡◌, ℕ, zero, suc, ◌<◌, true, ◌&&◌, List, [], ◌∷◌, length, get_or, bytes_eq, position, refl, ◌∙◌, arith, nat_le}
+use Rattle.std.proofs.Common.{◌≡◌, ℕ, zero, suc, ◌<◌, true, ◌&&◌, List, [], ◌∷◌, length, get_or, bytes_eq, position, refl, arith, nat_le}
 use Rattle.std.specs.Prelude.{Option, Some, None, IsSome, IsTrue, IfSome, ◌↔◌}
 use Rattle.std.specs.List.{list_all}
 use Rattle.std.specs.Str.{IsAscii, IsUtf8}
 use Rattle.std.proofs.lemmas.Bool.Decides.{nat_tests}
-use Rattle.std.proofs.lemmas.List.{get_or-map, length-map}
 use Rattle.std.proofs.lemmas.Str.{IsUtf8-from_ascii}
-use Rattle.sg_graph.proofs.Growth.{both}
+use Rattle.std.proofs.lemmas.Bool.{and_parts}
 use Rattle.sg_graph.specs.Parts.{variable_names, node_names, edge_names, edge_name}
 use Rattle.sg_model.specs.Lists.{has_text}
 use Rattle.sg_model.specs.Names.{Name, is_letter, is_name_byte, is_name}
 use Rattle.sg_parse.specs.Reading.{place_of}
-use Rattle.sg_parse.proofs.Names.{place_there, names_differ, variable_place, node_place}
+use Rattle.sg_parse.proofs.Names.{variable_place, node_place, label_place}
 use Rattle.sg_parse.proofs.Places.{first_place, place_is_there}
-use Rattle.sg_protocol.specs.Graph.{Graph, Edge, IsGraph, node_name, variable_name}
+use Rattle.sg_protocol.specs.Graph.{Graph, IsGraph, node_name, variable_name}
 
 -- ---- ASCII
 
@@ -25,14 +24,14 @@ byte_low c h = grind (arith, nat_tests)
 
 bytes_low : (cs : List ℕ) → list_all is_name_byte cs ≡ true → (i : ℕ) → get_or cs i 0 < 128
 bytes_low [] h i = omega arith
-bytes_low (c ∷ cs) h zero = byte_low c (both (is_name_byte c) (list_all is_name_byte cs) h).0
-bytes_low (c ∷ cs) h (suc i) = bytes_low cs (both (is_name_byte c) (list_all is_name_byte cs) h).1 i
+bytes_low (c ∷ cs) h zero = byte_low c (and_parts (is_name_byte c) (list_all is_name_byte cs) h).0
+bytes_low (c ∷ cs) h (suc i) = bytes_low cs (and_parts (is_name_byte c) (list_all is_name_byte cs) h).1 i
 
 name_low : (n : Name) → is_name n ≡ true → IsAscii n
 name_low [] h i = omega arith
-name_low (c ∷ cs) h zero = letter_low c (both (is_letter c) (list_all is_name_byte cs) (both (is_letter c && list_all is_name_byte cs) (nat_le (length cs) 31) h).0).0
+name_low (c ∷ cs) h zero = letter_low c (and_parts (is_letter c) (list_all is_name_byte cs) (and_parts (is_letter c && list_all is_name_byte cs) (nat_le (length cs) 31) h).0).0
 name_low (c ∷ cs) h (suc i) =
-    bytes_low cs (both (is_letter c) (list_all is_name_byte cs) (both (is_letter c && list_all is_name_byte cs) (nat_le (length cs) 31) h).0).1 i
+    bytes_low cs (and_parts (is_letter c) (list_all is_name_byte cs) (and_parts (is_letter c && list_all is_name_byte cs) (nat_le (length cs) 31) h).0).1 i
 
 -- a name is UTF-8
 pub name_text : (n : Name) → is_name n ≡ true → IsUtf8 n
@@ -59,12 +58,6 @@ variable_is g n (Some x) is f p = number_is (variable_names g) n (Some x) f (var
 pub node_is : (g : Graph) (n : Name) (o : Option ℕ) → IsGraph g → (IsSome o ↔ IsTrue (has_text n (node_names g))) → IfSome o (λ m. (m < length g.nodes) × (node_name g m ≡ n)) → o ≡ position (bytes_eq n) (node_names g)
 node_is g n None is f p = number_is (node_names g) n None f tt
 node_is g n (Some m) is f p = number_is (node_names g) n (Some m) f (node_place g n m is p.0 p.1)
-
-label_place : (g : Graph) (n : Name) (e : ℕ) → IsGraph g → e < length g.edges → edge_name g e ≡ n → place_of n (edge_names g) ≡ e
-label_place g n e is h q =
-    let within : e < length (edge_names g) = rw length-map h in
-    let named : get_or (edge_names g) e [] ≡ n = get_or-map (λ (d : Edge). d.name) g.edges e _ [] h ∙ q in
-    rw (← named) (place_there (edge_names g) e (names_differ (edge_names g) is.edge_names) within)
 
 -- the label that is found
 pub label_is : (g : Graph) (n : Name) (o : Option ℕ) → IsGraph g → (IsSome o ↔ IsTrue (has_text n (edge_names g))) → IfSome o (λ e. (e < length g.edges) × (edge_name g e ≡ n)) → o ≡ position (bytes_eq n) (edge_names g)

@@ -5,16 +5,17 @@ use Rattle.std.specs.List.{All, AllByRecursion}
 use Rattle.std.proofs.lemmas.Bool.Decides.{nat_tests}
 use Rattle.std.proofs.lemmas.List.{length-map}
 use Rattle.std.proofs.lemmas.List.Elements.{All-from_recursion}
+use Rattle.std.proofs.lemmas.Bool.{and_parts}
 use Rattle.toml.specs.Data.{Data, Items, Members, get_member, as_str, as_integer, as_array, as_table}
 use Rattle.sg_base.specs.Words.{name}
 use Rattle.sg_graph.proofs.Found.{passes_there}
-use Rattle.sg_graph.proofs.Growth.{both}
 use Rattle.sg_graph.specs.Parts.{variable_names, node_names, edge_names}
 use Rattle.sg_keys.specs.KeyFile.{at, has_keys_alone, list_of, text_at}
 use Rattle.sg_model.specs.Last.{Map}
 use Rattle.sg_model.specs.Lists.{below, range_from, rises_from}
 use Rattle.sg_model.specs.Names.{Name, is_name}
 use Rattle.sg_model.specs.Values.{Value}
+use Rattle.sg_model.proofs.Small.{some_same}
 use Rattle.sg_protocol.specs.Graph.{Graph}
 use Rattle.sg_protocol.specs.Keyring.{Program}
 use Rattle.sg_protocol.specs.TextLaws.{IsVersion}
@@ -38,16 +39,13 @@ tested : {A : Type 0} (b : Bool) (o : Option A) (y : A) → (if b then o else No
 tested true o y h = (refl, h)
 tested false o y h = absurd (cc)
 
-some_same : {A : Type 0} {x y : A} → Some x ≡ Some y → x ≡ y
-some_same h = cc
-
 -- ---- numbers
 
 between_within : (least most : ℕ) (z : ℤ) (v : ℕ) → between least most z ≡ Some v → (least ≤ v) × (v ≤ most)
 between_within least most (pos n) v h =
     let t = tested (nat_le least n && nat_le n most) (Some n) v h in
     let same : n ≡ v = some_same t.1 in
-    let tests = both (nat_le least n) (nat_le n most) t.0 in
+    let tests = and_parts (nat_le least n) (nat_le n most) t.0 in
     let low : least ≤ n = grind (arith, nat_tests, tests.0) in
     let high : n ≤ most = grind (arith, nat_tests, tests.1) in
     (omega arith, omega arith)
@@ -109,7 +107,7 @@ pub record IsCast (c : List Name) : Type 0 where
 cast_is : (ds : List Data) (c : List Name) → cast_in ds ≡ Some c → IsCast c
 cast_is ds c h =
     let t = tested (nat_le 2 (length ds) && nat_le (length ds) 16) (all_there (map name_of ds)) c h in
-    let tests = both (nat_le 2 (length ds)) (nat_le (length ds) 16) t.0 in
+    let tests = and_parts (nat_le 2 (length ds)) (nat_le (length ds) 16) t.0 in
     let low : 2 ≤ length ds = grind (arith, nat_tests, tests.0) in
     let high : length ds ≤ 16 = grind (arith, nat_tests, tests.1) in
     let each = there_is (map name_of ds) c t.1 in

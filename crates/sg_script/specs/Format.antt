@@ -8,6 +8,7 @@ use Rattle.sg_model.specs.Last.{Map}
 use Rattle.sg_model.specs.Lists.{below}
 use Rattle.sg_model.specs.Names.{Name}
 use Rattle.sg_model.specs.Values.{Value, IntValue, TextValue}
+use Rattle.sg_model.specs.Limits.{most_roles, most_text_bytes, most_times}
 use Rattle.sg_protocol.specs.Graph.{Graph}
 use Rattle.sg_protocol.specs.Keyring.{Program}
 use Rattle.sg_program.specs.Together.{is_named}
@@ -39,7 +40,7 @@ all_there (Some x ∷ os) = option_map (λ xs. x ∷ xs) (all_there os)
 
 -- names in order, 2 to 16
 abbrev pub cast_in : List Data → Option (List Name)
-cast_in ds = if nat_le 2 (length ds) && nat_le (length ds) 16 then all_there (map name_of ds) else None
+cast_in ds = if nat_le 2 (length ds) && nat_le (length ds) most_roles then all_there (map name_of ds) else None
 
 -- the cast of an entry
 abbrev pub cast_of : Option Data → Option (List Name)
@@ -59,7 +60,7 @@ number_of names text = option_and_then (λ n. position (bytes_eq n) names) (name
 -- an integer, or a text of at most 1,024 bytes
 abbrev pub spelled_value : Data → Option Value
 spelled_value (integer z) = Some (IntValue z)
-spelled_value (string s) = if nat_le (length s) 1024 then Some (TextValue s) else None
+spelled_value (string s) = if nat_le (length s) most_text_bytes then Some (TextValue s) else None
 spelled_value _ = None
 
 -- what a variable is given, where its name is a key: itself with its value, or nothing where that is no value
@@ -114,7 +115,7 @@ choice_from n _ _ _ _ = None
 abbrev pub choice_at : Members → Name → Graph → Option Choice
 choice_at table n g =
     choice_from n (at (number_of (node_names g)) (codes "node") table) (at (number_of (edge_names g)) (codes "label") table)
-    (values_or_none (variable_names g) (get_member (codes "values") table)) (number_or 1 1 1000000 (get_member (codes "times") table))
+    (values_or_none (variable_names g) (get_member (codes "values") table)) (number_or 1 1 most_times (get_member (codes "times") table))
 
 -- a table with a graph of which a program is there
 abbrev pub choice_in : List Program → Members → Option Choice

@@ -4,6 +4,7 @@ use Rattle.sg_model.specs.Last.{Map}
 use Rattle.sg_model.specs.Lists.{rises_from}
 use Rattle.sg_model.specs.Names.{Name, is_name}
 use Rattle.sg_model.specs.Values.{Value}
+use Rattle.sg_model.specs.Limits.{most_roles, most_times}
 use Rattle.sg_protocol.specs.Keyring.{Program}
 use Rattle.sg_protocol.specs.TextLaws.{IsVersion}
 use Rattle.sg_program.specs.Together.{is_named}
@@ -35,7 +36,7 @@ pub record IsStart (programs : List Program) (s : Start) : Type 0 where
   pub found : find (is_named s.graph) programs ≡ Some program
   pub version : IsVersion s.version
   pub two : 2 ≤ length s.cast
-  pub sixteen : length s.cast ≤ 16
+  pub sixteen : length s.cast ≤ most_roles
   pub names : All (λ n. IsTrue (is_name n)) s.cast
 
 -- a program of its graph is there, which has the node and the label; the variables rise, and the graph has them
@@ -47,7 +48,7 @@ pub record IsChoice (programs : List Program) (c : Choice) : Type 0 where
   pub rise : IsTrue (rises_from 0 (map (λ w. w.0) c.values))
   pub variables : All (λ w. w.0 < length program.graph.variables) c.values
   pub once : 1 ≤ c.times
-  pub many : c.times ≤ 1000000
+  pub many : c.times ≤ most_times
 
 -- each start and each choice is one
 pub record IsScript (programs : List Program) (s : Script) : Type 0 where

@@ -5,10 +5,11 @@ ghost use Rattle.sg_script.specs.Format.{choice_at, choice_in, choice_of};
 
 use crate::ScriptChoice;
 use crate::graph::{graph_named, label_at, node_at};
-use crate::table::{has_choice_keys_alone, name_at, number_or};
+use crate::table::{has_choice_keys_alone, number_or};
 use crate::value::values_at;
 use sg_base::{Name, OutOfMemory};
 use sg_graph::Graph;
+use sg_keys::name_at;
 use sg_program::Programs;
 use std::alloc::Global;
 use toml::{Table, Value};

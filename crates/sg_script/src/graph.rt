@@ -8,9 +8,10 @@ ghost use Rattle.sg_keys.specs.KeyFile.{at, has_keys_alone};
 ghost use Rattle.sg_protocol.specs.Graph.{variable_name};
 ghost use Rattle.sg_script.specs.Format.{graph_named, number_of};
 
-use crate::table::{read_name, text_at};
+use crate::table::read_name;
 use sg_base::{Label, Name, NodeId, Var};
 use sg_graph::Graph;
+use sg_keys::text_at;
 use sg_program::Programs;
 use std::str;
 use toml::Table;

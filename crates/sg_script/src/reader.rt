@@ -8,9 +8,10 @@ ghost use Rattle.sg_script.specs.Script.{IsScript, Script};
 
 use crate::choice::read_choice;
 use crate::start::read_start;
-use crate::table::{has_script_keys_alone, tables_at};
+use crate::table::has_script_keys_alone;
 use crate::{Script, ScriptChoice, ScriptFault, ScriptStart};
 use sg_base::Seq;
+use sg_keys::tables_at;
 use sg_program::Programs;
 use std::alloc::Global;
 use toml::{Table, Value};

@@ -38,7 +38,7 @@ pub struct ScriptChoice {
 
 impl Model for ScriptChoice {
     ghost use Rattle.sg_script.specs.Script.{Choice};
-    ghost use Rattle.sg_walk.specs.Views.{values_of};
+    ghost use Rattle.sg_walk.specs.Model.{values_of};
 
     ghost Value = { Choice };
 

@@ -7,8 +7,9 @@ ghost use Rattle.sg_script.specs.Format.{all_there, cast_in, cast_of, name_of, s
 
 use crate::ScriptStart;
 use crate::graph::has_graph;
-use crate::table::{has_start_keys_alone, name_at, name_of, number_or, value_at};
+use crate::table::{has_start_keys_alone, name_of, number_or, value_at};
 use sg_base::{Name, OutOfMemory, Seq};
+use sg_keys::name_at;
 use sg_program::Programs;
 use std::alloc::Global;
 use toml::{Table, Value};

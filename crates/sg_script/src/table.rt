@@ -1,10 +1,10 @@
 //! What the tables of a script hold.
-ghost use Rattle.std.specs.Prelude.{◌≡◌, codes, is_some, map, string_bytes, option_map, option_and_then};
+ghost use Rattle.std.specs.Prelude.{◌≡◌, string_bytes, option_map, option_and_then};
 ghost use Rattle.std.specs.List.{list_all};
 ghost use Rattle.std.specs.BTreeMap.{keys};
-ghost use Rattle.toml.specs.Data.{as_str, as_integer, as_array, as_table, get_member};
-ghost use Rattle.toml.specs.View.{view, items_view, table_view};
-ghost use Rattle.sg_keys.specs.KeyFile.{has_keys_alone, text_at, at, tables_in, tables_of};
+ghost use Rattle.toml.specs.Data.{as_str, as_integer, get_member};
+ghost use Rattle.toml.specs.View.{view, table_view};
+ghost use Rattle.sg_keys.specs.KeyFile.{has_keys_alone};
 ghost use Rattle.sg_base.specs.Words.{name};
 ghost use Rattle.sg_script.specs.Format.{between, number_or, name_of, is_start_key, is_choice_key, is_script_key};
 
@@ -18,29 +18,12 @@ pub(crate) fn value_at<'a>(table: &'a Table, key: &str) -> Option<&'a Value>
     table.get(key)
 }
 
-/// The text at a key.
-pub(crate) fn text_at<'a>(table: &'a Table, key: &str) -> Option<&'a str>
-    ensures { option_map (λ s. s.now) result ≡ text_at key.now (table_view table.now) }
-{
-    match table.get(key) {
-        Some(value) => value.as_str(),
-        None => None,
-    }
-}
-
 /// The name that a text is.
 #[tactic(auto, unfolding(sg_base::specs::Words::name))]
 pub(crate) fn read_name(text: &str) -> Option<Name>
     ensures { result ≡ name text.now }
 {
     Name::new(text.as_bytes())
-}
-
-/// The name that the text at a key is.
-pub(crate) fn name_at(table: &Table, key: &str) -> Option<Name>
-    ensures { result ≡ at name key.now (table_view table.now) }
-{
-    read_name(text_at(table, key)?)
 }
 
 /// The name that a value is.
@@ -139,41 +122,4 @@ fn are_script_keys(table: &Table) -> bool
     ensures { result ≡ list_all (λ k. is_script_key (string_bytes k)) (keys table.now) }
 {
     table.keys().all(|key| is_script_key(key.as_str()))
-}
-
-fn are_tables(values: &[Value]) -> bool
-    ensures { result ≡ list_all (λ v. is_some (as_table (view v))) values.now }
-{
-    values.iter().all(|value| value.is_table())
-}
-
-// The values, where each is a table.
-fn tables_in(values: &[Value]) -> Option<&[Value]>
-    ensures { option_map (λ vs. map view vs.now) result ≡ tables_in (items_view values.now) }
-{
-    if are_tables(values) {
-        Some(values)
-    } else {
-        None
-    }
-}
-
-// The items of a list of tables.
-fn tables_of(value: &Value) -> Option<&[Value]>
-    ensures { option_map (λ vs. map view vs.now) result ≡ option_and_then tables_in (as_array (view value.now)) }
-{
-    match value.as_array() {
-        Some(array) => tables_in(array.as_slice()),
-        None => None,
-    }
-}
-
-/// The tables of the list at a key, none where the key is missing; `None` where it is no list of tables.
-pub(crate) fn tables_at<'a>(table: &'a Table, key: &str) -> Option<&'a [Value]>
-    ensures { option_map (λ vs. map view vs.now) result ≡ tables_of (get_member key.now (table_view table.now)) }
-{
-    match table.get(key) {
-        Some(value) => tables_of(value),
-        None => Some(&[]),
-    }
 }

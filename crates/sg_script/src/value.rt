@@ -2,11 +2,12 @@
 ghost use Rattle.std.specs.Prelude.{◌≡◌, ◌<◌, codes, filter_map, if◌then◌else◌, length, nat_le, option_map, Some, None, IfOk};
 ghost use Rattle.toml.specs.Data.{get_member};
 ghost use Rattle.toml.specs.View.{view, table_view};
-ghost use Rattle.sg_base.specs.Values.{value_of};
+ghost use Rattle.sg_model.specs.Limits.{most_text_bytes};
+ghost use Rattle.sg_base.specs.Model.{value_of};
 ghost use Rattle.sg_graph.specs.Parts.{variable_names};
 ghost use Rattle.sg_model.specs.Lists.{below};
 ghost use Rattle.sg_model.specs.Values.{TextValue};
-ghost use Rattle.sg_walk.specs.Views.{values_of};
+ghost use Rattle.sg_walk.specs.Model.{values_of};
 ghost use Rattle.sg_script.specs.Format.{all_there, given, spelled_value, values_in, values_or_none};
 
 use crate::graph::{has_variables_alone, variable_text};
@@ -97,7 +98,7 @@ fn read_value(alloc: Global, value: &Entry) -> Result<Option<Value>, OutOfMemory
 
 // A text of at most 1,024 bytes.
 fn read_text(alloc: Global, text: &str) -> Result<Option<Value>, OutOfMemory>
-    ensures { IfOk result (λ o. option_map value_of o ≡ (if nat_le (length text.now) 1024 then Some (TextValue text.now) else None)) }
+    ensures { IfOk result (λ o. option_map value_of o ≡ (if nat_le (length text.now) most_text_bytes then Some (TextValue text.now) else None)) }
 {
     match Chars::new(alloc, text.as_bytes()) {
         Ok(text) => Ok(Some(Value::Text(text))),

@@ -1,7 +1,8 @@
 -- The pieces of a connection removed one after the other.
-use Rattle.std.proofs.Common.{◌≡◌, ℕ, suc, ◌+◌, ◌<◌, ◌==◌, ◌||◌, Bool, true, false, if◌then◌else◌, eq-eqb, drop-cons, List, [], ◌∷◌, ◌++◌, map, reverse, length, get_or, take, drop, refl, sym, ap, ◌∙◌, arith}
+use Rattle.std.proofs.Common.{◌≡◌, ℕ, suc, ◌+◌, ◌<◌, ◌==◌, Bool, true, false, if◌then◌else◌, eq-eqb, drop-cons, List, [], ◌∷◌, ◌++◌, map, reverse, length, get_or, take, drop, refl, sym, ap, ◌∙◌, arith}
 use Rattle.std.specs.List.{remove, list_any}
 use Rattle.std.proofs.lemmas.List.{take_at, drop_at, length-take-le, map-append, reverse-append}
+use Rattle.std.proofs.lemmas.Bool.{or_parts}
 use Rattle.sg_base.specs.declared.address.Addr.{Addr}
 use Rattle.sg_base.specs.Memory.{SinkHeld}
 use Rattle.sg_stream.specs.Memory.{writer_of}
@@ -19,15 +20,11 @@ without-piece conn at ps new x last within read this is more gone =
     let back : drop at (take at ps ++ drop (suc at) ps) ≡ drop (suc at) ps = drop_at (take at ps) (drop (suc at) ps) at long in
     rw (gone, here, step, front, back) refl
 
-or-false : (a b : Bool) → (a || b) ≡ false → (a ≡ false) × (b ≡ false)
-or-false true b e = absurd (cc)
-or-false false b e = (refl, e)
-
 -- a number that no piece has, no piece has after a connection was closed
 pub any-without : (n conn : ℕ) (ps : List (ℕ × List ℕ)) → list_any (λ p. p.0 == n) ps ≡ false → list_any (λ p. p.0 == n) (without conn ps) ≡ false
 any-without n conn [] none = none
 any-without n conn (p ∷ ps) none =
-    let h = or-false (p.0 == n) (list_any (λ q. q.0 == n) ps) none in
+    let h = or_parts (p.0 == n) (list_any (λ q. q.0 == n) ps) none in
     let rest : list_any (λ q. q.0 == n) (without conn ps) ≡ false = any-without n conn ps h.1 in
     elim (p.0 == conn) as (λ b. list_any (λ q. q.0 == n) (if b then (if length p.1 == 0 then ps else without conn ps) else p ∷ without conn ps) ≡ false) [
       | true ↦ elim (length p.1 == 0) as (λ b. list_any (λ q. q.0 == n) (if b then ps else without conn ps) ≡ false) [ true ↦ h.1 | false ↦ rest ]
@@ -38,7 +35,7 @@ any-without n conn (p ∷ ps) none =
 pub without-none : (conn : ℕ) (ps : List (ℕ × List ℕ)) → list_any (λ p. p.0 == conn) ps ≡ false → without conn ps ≡ ps
 without-none conn [] none = refl
 without-none conn (p ∷ ps) none =
-    let h = or-false (p.0 == conn) (list_any (λ q. q.0 == conn) ps) none in
+    let h = or_parts (p.0 == conn) (list_any (λ q. q.0 == conn) ps) none in
     rw h.0 (ap (λ qs. p ∷ qs) (without-none conn ps h.1))
 
 -- the connection that was closed last is the latest

@@ -2,11 +2,12 @@
 use Rattle.std.specs.Prelude.{◌≡◌, ◌⊎◌, ℕ, ◌<◌, ◌≤◌, List, ◌++◌, All, length, map, take}
 use Rattle.std.specs.List.{concat}
 use Rattle.std.specs.Int.{w32, to_be_bytes, from_be_bytes}
+use Rattle.sg_model.specs.Limits.{most_frame_bytes}
 
 -- a frame: 1 to 60,000 bytes
 pub record IsFrame (frame : List ℕ) : Type 0 where
   pub some : 0 < length frame
-  pub fits : length frame ≤ 60000
+  pub fits : length frame ≤ most_frame_bytes
 
 -- the message of a frame: its length in four bytes, the high byte first, and the frame
 abbrev pub message : List ℕ → List ℕ
@@ -30,4 +31,4 @@ pub record Framed (bytes : List ℕ) (frames : List (List ℕ)) (rest : List ℕ
 pub record BeginsBad (bytes : List ℕ) (len : ℕ) : Type 0 where
   pub whole : 4 ≤ length bytes
   pub spelled : from_be_bytes w32 (take 4 bytes) ≡ len
-  pub bad : (len ≡ 0) ⊎ (60000 < len)
+  pub bad : (len ≡ 0) ⊎ (most_frame_bytes < len)

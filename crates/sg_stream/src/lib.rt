@@ -13,7 +13,6 @@
 mod calls;
 mod conns;
 mod memory;
-mod plan;
 mod reader;
 
 pub use calls::cutting_does_not_matter;

@@ -6,8 +6,7 @@ ghost use Rattle.sg_stream.specs.Traffic.{without, after_take, after_connect, af
 ghost use Rattle.sg_stream.specs.Memory.{writer_of};
 
 use crate::Conns;
-use crate::plan::FaultPlan;
-use sg_base::{Addr, Failed, LinkFault, MemSink, OutOfMemory, Seq, Sink};
+use sg_base::{Addr, Failed, FaultPlan, LinkFault, MemSink, OutOfMemory, Seq, Sink};
 use std::alloc::Global;
 use std::collections::VecDeque;
 use std::marker::Model;

@@ -1,6 +1,7 @@
 //! A reader of frames.
 ghost use Rattle.std.specs.Prelude.{◌≡◌, ℕ, ◌+◌, ◌<◌, ◌≤◌, ◌↔◌, [], ◌++◌, None, length, take, drop, IfOk, IfErr, IfSome, IfNone, OnErr, OnOk};
 ghost use Rattle.std.specs.Int.{w32, to_be_bytes};
+ghost use Rattle.sg_model.specs.Limits.{most_frame_bytes};
 ghost use Rattle.sg_stream.specs.Framed.{IsFrame, message, BeginsMessage, BeginsBad};
 ghost use Rattle.sg_stream.specs.Faults.{IsBad};
 
@@ -123,7 +124,7 @@ fn first_frame(alloc: Global, bytes: &[u8]) -> Result<Option<Vec<u8>>, StreamFau
 
 // The length of the frame whose message begins the bytes, where it is there whole.
 fn frame_length(bytes: &[u8]) -> Result<Option<usize>, StreamFault>
-    ensures there { IfOk result (λ found. IfSome found (λ len. (0 < len) × (len ≤ 60000) × (4 + len ≤ length bytes.now) × (to_be_bytes w32 len ≡ take 4 bytes.now))) }
+    ensures there { IfOk result (λ found. IfSome found (λ len. (0 < len) × (len ≤ most_frame_bytes) × (4 + len ≤ length bytes.now) × (to_be_bytes w32 len ≡ take 4 bytes.now))) }
     ensures none { IfOk result (λ found. IfNone found ((¬ BeginsMessage bytes.now) × ((len : ℕ) → ¬ BeginsBad bytes.now len))) }
     ensures bad { IfErr result (λ e. IsBad bytes.now e) }
 {

@@ -1,103 +1,11 @@
 //! Graphs that are refused and graphs that aren't.
-ghost use Rattle.std.specs.Prelude.{◌≡◌, false};
-ghost use Rattle.sg_model.specs.Lists.{has_text};
-ghost use Rattle.sg_model.specs.Names.{reserved};
-
-use sg_base::{Label, Name, NodeId, Role, Seq, VarSet};
+use crate::fixtures::{graph_of, pair, relay, shop};
+use sg_base::{Label, NodeId, Role, Seq};
 use sg_check::{BlindFault, ShapeFault, check_blinding, check_shape};
 use sg_graph::Graph;
 use std::alloc::Global;
 use std::process::Abort;
 use std::test::Fail;
-
-// A graph of these roles, of nodes with their roles' places, and of edges with the places of the nodes that they join.
-fn graph_of(
-    alloc: Global,
-    rt: &impl Abort,
-    roles: &[&str],
-    nodes: &[(&str, u8)],
-    edges: &[(&str, u16, u16)],
-) -> Result<Graph, Fail> {
-    let mut graph = Graph::new(alloc, named(rt, "g"));
-    for role in roles {
-        graph.add_role(named(rt, role))?;
-    }
-    for (name, role) in nodes {
-        assert!(rt; *role < graph.roles());
-        graph.add_node(named(rt, name), Role(*role))?;
-    }
-    for (label, source, target) in edges {
-        assert!(rt; *source < graph.nodes());
-        assert!(rt; *target < graph.nodes());
-        graph.add_edge(
-            named(rt, label),
-            NodeId(*source),
-            NodeId(*target),
-            VarSet::empty(),
-            VarSet::empty(),
-        )?;
-    }
-    Ok(graph)
-}
-
-// Roles a and b: a asks, b answers.
-fn pair(alloc: Global, rt: &impl Abort) -> Result<Graph, Fail> {
-    graph_of(
-        alloc,
-        rt,
-        &["a", "b"],
-        &[("n0", 0), ("n1", 1), ("n2", 0)],
-        &[("Request", 0, 1), ("Reply", 1, 2)],
-    )
-}
-
-// Roles c, p and w: a customer, a platform and a warehouse.
-fn shop(alloc: Global, rt: &impl Abort) -> Result<Graph, Fail> {
-    graph_of(
-        alloc,
-        rt,
-        &["c", "p", "w"],
-        &[
-            ("n0", 0),
-            ("n1", 1),
-            ("n2", 2),
-            ("n3", 1),
-            ("n4", 0),
-            ("n5", 1),
-            ("n6", 0),
-            ("n7", 1),
-        ],
-        &[
-            ("Order", 0, 1),
-            ("Ask", 1, 2),
-            ("Offer", 2, 3),
-            ("Refuse", 2, 5),
-            ("Pass", 3, 4),
-            ("Deny", 5, 6),
-            ("Retry", 4, 1),
-            ("Accept", 4, 7),
-        ],
-    )
-}
-
-// Roles c, a, d and b in a row.
-fn relay(alloc: Global, rt: &impl Abort) -> Result<Graph, Fail> {
-    graph_of(
-        alloc,
-        rt,
-        &["c", "a", "d", "b"],
-        &[("n0", 0), ("n1", 1), ("n2", 2), ("n3", 3)],
-        &[("Put", 0, 1), ("Hand", 1, 2), ("Show", 2, 3)],
-    )
-}
-
-fn named(rt: &impl Abort, text: &str) -> Name
-    ensures { has_text result reserved ≡ false }
-{
-    let name = Name::new(text.as_bytes()).expect(rt, "a name");
-    assert!(rt; !name.reserved());
-    name
-}
 
 // The place of the graph's blinding, as numbers, and its two walks.
 fn refusal(rt: &impl Abort, alloc: Global, graph: &Graph) -> (u16, u8, u8, Seq<Label>, Seq<Label>) {

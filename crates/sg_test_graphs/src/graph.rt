@@ -1,47 +1,23 @@
 //! The canonical text of a graph that its builder did not print, refusals of each kind, and walks.
-ghost use Rattle.std.specs.Prelude.{◌≡◌, ◌<◌, false, length};
+ghost use Rattle.std.specs.Prelude.{◌≡◌, ◌<◌, false};
 ghost use Rattle.sg_model.specs.Lists.{has_text};
 ghost use Rattle.sg_model.specs.Names.{reserved};
-ghost use Rattle.sg_protocol.specs.Graph.{AreNumbers};
 
-use sg_base::{Label, Name, NodeId, Role, RoleSet, VarSet, VarType};
+use crate::fixtures::{SHOP, named, node_of, role_of, role_set, var_set};
+use sg_base::{Label, Name, VarSet, VarType};
 use sg_graph::{AddFault, Graph, canonical_text, is_walk};
 use std::alloc::Global;
 use std::process::Abort;
 use std::test::Fail;
 
-const SHOP: &str = "graph shop;
-role c;
-role p;
-role w;
-var q: text by c;
-var price: int by w;
-node n0: c;
-node n1: p;
-node n2: w;
-node n3: p;
-node n4: c;
-node n5: p;
-node n6: c;
-node n7: p;
-edge Order: n0 -> n1 writes q reads q;
-edge Ask: n1 -> n2 reads q;
-edge Offer: n2 -> n3 writes price reads price;
-edge Refuse: n2 -> n5;
-edge Pass: n3 -> n4 reads price;
-edge Deny: n5 -> n6;
-edge Retry: n4 -> n1 writes q reads q;
-edge Accept: n4 -> n7;
-";
-
 #[test]
 fn the_shop_has_its_text(rt: HostRuntime) -> Result<(), Fail> {
     let graph = shop(rt.alloc(), &rt)?;
     let text = canonical_text(rt.alloc(), &graph)?;
-    assert!(rt; text.as_slice() == SHOP.as_bytes());
+    assert!(rt; text.as_slice() == SHOP);
     let copy = graph.copy(rt.alloc())?;
     let again = canonical_text(rt.alloc(), &copy)?;
-    assert!(rt; again.as_slice() == SHOP.as_bytes());
+    assert!(rt; again.as_slice() == SHOP);
     Ok(())
 }
 
@@ -90,7 +66,7 @@ fn a_refusal_leaves_the_graph(rt: HostRuntime) -> Result<(), Fail> {
         Err(AddFault::Twice)
     );
     let text = canonical_text(rt.alloc(), &graph)?;
-    assert!(rt; text.as_slice() == SHOP.as_bytes());
+    assert!(rt; text.as_slice() == SHOP);
     Ok(())
 }
 
@@ -192,14 +168,6 @@ fn shop(alloc: Global, rt: &impl Abort) -> Result<Graph, Fail> {
     Ok(graph)
 }
 
-fn named(rt: &impl Abort, text: &str) -> Name
-    ensures { has_text result reserved ≡ false }
-{
-    let name = Name::new(text.as_bytes()).expect(rt, "a name");
-    assert!(rt; !name.reserved());
-    name
-}
-
 fn numbered(rt: &impl Abort, number: u16) -> Name
     requires { number < 1000 }
     ensures { has_text result reserved ≡ false }
@@ -209,42 +177,4 @@ fn numbered(rt: &impl Abort, number: u16) -> Name
     let name = Name::new(&text).expect(rt, "a name");
     assert!(rt; !name.reserved());
     name
-}
-
-fn role_of(rt: &impl Abort, graph: &Graph, name: &str) -> Role
-    ensures { result < length graph.now.roles }
-{
-    graph.find_role(&named(rt, name)).expect(rt, "a role")
-}
-
-fn role_set(rt: &impl Abort, graph: &Graph, names: &[&str]) -> RoleSet
-    ensures there { AreNumbers (length graph.now.roles) result }
-    ensures some { 0 < length result }
-{
-    let mut roles = RoleSet::empty();
-    for name in names {
-        let role = role_of(rt, graph, name);
-        assert!(rt; role.0 < 16);
-        roles = roles.with(role);
-    }
-    assert!(rt; !roles.is_empty());
-    roles
-}
-
-fn node_of(rt: &impl Abort, graph: &Graph, name: &str) -> NodeId
-    ensures { result < length graph.now.nodes }
-{
-    graph.find_node(&named(rt, name)).expect(rt, "a node")
-}
-
-fn var_set(rt: &impl Abort, graph: &Graph, names: &[&str]) -> VarSet
-    ensures { AreNumbers (length graph.now.variables) result }
-{
-    let mut vars = VarSet::empty();
-    for name in names {
-        let var = graph.find_var(&named(rt, name)).expect(rt, "a variable");
-        assert!(rt; var.0 < 32);
-        vars = vars.with(var);
-    }
-    vars
 }

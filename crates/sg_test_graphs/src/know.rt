@@ -1,7 +1,5 @@
 //! Graphs that are small enough to follow each walk by hand.
-mod graphs;
-
-use graphs::{Parts, graph_of};
+use crate::fixtures::{Parts, graph_of_parts};
 use sg_know::{ReadFault, check_reads};
 use std::alloc::Global;
 use std::process::Abort;
@@ -17,7 +15,7 @@ enum Verdict<'a> {
 }
 
 fn comes(rt: &impl Abort, alloc: Global, parts: Parts, verdict: Verdict) -> Result<bool, Fail> {
-    let graph = graph_of(alloc, rt, parts)?;
+    let graph = graph_of_parts(alloc, rt, parts)?;
     Ok(is_verdict(&check_reads(alloc, &graph), verdict))
 }
 

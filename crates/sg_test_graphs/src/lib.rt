@@ -6,10 +6,14 @@ mod check;
 #[cfg(test)]
 mod compose;
 #[cfg(test)]
+mod fixtures;
+#[cfg(test)]
 mod graph;
 #[cfg(test)]
 mod know;
 #[cfg(test)]
 mod parse;
+#[cfg(test)]
+mod plan;
 #[cfg(test)]
 mod reach;

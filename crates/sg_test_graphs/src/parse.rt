@@ -1,3 +1,4 @@
+use crate::fixtures::SHOP;
 use sg_base::{OutOfMemory, Role, Var};
 use sg_graph::{Graph, canonical_text};
 use sg_parse::{ParseFault, Part, parse_graph, parse_parts};
@@ -15,30 +16,6 @@ node n1: b;
 node n2: a;
 edge Request: n0 -> n1;
 edge Reply: n1 -> n2;
-";
-
-const SHOP: &[u8] = b"graph shop;
-role c;
-role p;
-role w;
-var q: text by c;
-var price: int by w;
-node n0: c;
-node n1: p;
-node n2: w;
-node n3: p;
-node n4: c;
-node n5: p;
-node n6: c;
-node n7: p;
-edge Order: n0 -> n1 writes q reads q;
-edge Ask: n1 -> n2 reads q;
-edge Offer: n2 -> n3 writes price reads price;
-edge Refuse: n2 -> n5;
-edge Pass: n3 -> n4 reads price;
-edge Deny: n5 -> n6;
-edge Retry: n4 -> n1 writes q reads q;
-edge Accept: n4 -> n7;
 ";
 
 const RELAY: &[u8] = b"graph relay;

@@ -1,9 +1,6 @@
 //! Closures of a graph that is small enough to follow by hand.
-ghost use Rattle.std.specs.Prelude.{◌≡◌, ◌≤◌, false, length};
-ghost use Rattle.sg_model.specs.Lists.{has_text};
-ghost use Rattle.sg_model.specs.Names.{reserved};
-
-use sg_base::{Label, Name, NodeId, Role, RoleSet, VarSet};
+use crate::fixtures::graph_of;
+use sg_base::{Label, NodeId, Role, RoleSet};
 use sg_graph::Graph;
 use sg_reach::{Reach, Ways};
 use std::alloc::Global;
@@ -26,44 +23,6 @@ fn ring(alloc: Global, rt: &impl Abort) -> Result<Graph, Fail> {
             ("In", 4, 1),
         ],
     )
-}
-
-// A graph of these roles, of nodes with their roles' places, and of edges with the places of the nodes that they join.
-fn graph_of(
-    alloc: Global,
-    rt: &impl Abort,
-    roles: &[&str],
-    nodes: &[(&str, u8)],
-    edges: &[(&str, u16, u16)],
-) -> Result<Graph, Fail> {
-    let mut graph = Graph::new(alloc, named(rt, "g"));
-    for role in roles {
-        graph.add_role(named(rt, role))?;
-    }
-    for (name, role) in nodes {
-        assert!(rt; *role < graph.roles());
-        graph.add_node(named(rt, name), Role(*role))?;
-    }
-    for (label, source, target) in edges {
-        assert!(rt; *source < graph.nodes());
-        assert!(rt; *target < graph.nodes());
-        graph.add_edge(
-            named(rt, label),
-            NodeId(*source),
-            NodeId(*target),
-            VarSet::empty(),
-            VarSet::empty(),
-        )?;
-    }
-    Ok(graph)
-}
-
-fn named(rt: &impl Abort, text: &str) -> Name
-    ensures { has_text result reserved ≡ false }
-{
-    let name = Name::new(text.as_bytes()).expect(rt, "a name");
-    assert!(rt; !name.reserved());
-    name
 }
 
 // The nodes that are reached, as a mask of the five.

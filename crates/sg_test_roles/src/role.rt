@@ -1,8 +1,8 @@
 //! A session of `shop`, frame by frame, and frames and steps that are refused.
 mod frames;
-mod parts;
+pub mod parts;
 
-use parts::{ALICE, BOB, CARL, PAIR, Part, SHOP};
+use parts::{ALICE, BOB, CARL, PAIR, Part, SHOP, load};
 use sg_base::{Addr, Chars, Label, Name, Sealed, Time, Value, Var};
 use sg_cache::{Cache, Ticket};
 use sg_crypt::{Cast, Notes};
@@ -34,11 +34,6 @@ enum State<'p> {
     Waits(Await<'p>),
     Turns(Turn<'p>),
     Ended,
-}
-
-fn load(alloc: Global, role: &str, graph: &str, table: &str) -> Option<Program> {
-    let text = format!(in alloc; "sg-program 1\nrole {role}\n{graph}table\n{table}end\n").ok()?;
-    Program::load(alloc, text.as_bytes()).ok()
 }
 
 fn keyring(alloc: Global, me: &[u8], peers: &[(&'static [u8], u8)]) -> Option<Keyring> {

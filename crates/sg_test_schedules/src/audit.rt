@@ -1,7 +1,7 @@
 //! Logs of sessions that are short enough to follow by hand.
 ghost use Rattle.std.specs.Prelude.{All};
 ghost use Rattle.sg_audit.specs.Agree.{AreLogs};
-ghost use Rattle.sg_audit.specs.Held.{logs_of, told_of};
+ghost use Rattle.sg_audit.specs.Model.{logs_of, told_of};
 
 use sg_audit::{Audit, LogFault, SessionLog, audit, read_logs};
 use sg_graph::Graph;

@@ -1,6 +1,7 @@
 //! Walks of runs with compromised roles, and an example of what a frame shows.
 ghost use Rattle.std.specs.Prelude.{◌<◌, All, IsTrue, length};
 
+use crate::fixtures::SHOP;
 use sg_base::{Chars, Label, Role, RoleSet, Seq, Sid, Time, Value, Var};
 use sg_frame::decode;
 use sg_graph::Graph;
@@ -34,38 +35,14 @@ struct Step(u16, Option<(u8, Plain)>);
 // A run: the graph, the honest roles, what they did, a walk whose front parts show what was received, and the walk that explains it.
 #[derive(Clone, Copy)]
 struct Run {
-    graph: &'static [u8],
+    graph: &'static str,
     honest: u16,
     done: &'static [Did],
     example: &'static [u16],
     walk: &'static [Step],
 }
 
-const SHOP: &[u8] = b"graph shop;
-role c;
-role p;
-role w;
-var q: text by c;
-var price: int by w;
-node n0: c;
-node n1: p;
-node n2: w;
-node n3: p;
-node n4: c;
-node n5: p;
-node n6: c;
-node n7: p;
-edge Order: n0 -> n1 writes q reads q;
-edge Ask: n1 -> n2 reads q;
-edge Offer: n2 -> n3 writes price reads price;
-edge Refuse: n2 -> n5;
-edge Pass: n3 -> n4 reads price;
-edge Deny: n5 -> n6;
-edge Retry: n4 -> n1 writes q reads q;
-edge Accept: n4 -> n7;
-";
-
-const RELAY: &[u8] = b"graph relay;
+const RELAY: &str = "graph relay;
 role c;
 role a;
 role d;
@@ -157,7 +134,7 @@ const RUNS: [Run; 4] = [
 fn walks_of_runs(rt: HostRuntime) -> Result<(), Fail> {
     let alloc = rt.alloc();
     for run in &RUNS {
-        let graph = parse_graph(alloc, run.graph)?;
+        let graph = parse_graph(alloc, run.graph.as_bytes())?;
         let labels = labels_of(alloc, run.example)?;
         let mut events = Vec::new(alloc);
         for did in run.done {
@@ -294,7 +271,7 @@ fn is_value(value: &Option<Value>, wanted: Plain) -> bool {
 #[test]
 fn what_a_frame_shows(rt: HostRuntime) -> Result<(), Fail> {
     let alloc = rt.alloc();
-    let graph = parse_graph(alloc, SHOP)?;
+    let graph = parse_graph(alloc, SHOP.as_bytes())?;
     assert!(rt; graph.roles() == 3);
     let table = views(alloc, &graph, Role(0))?;
     // Offer writes the price; it and Pass are what the first role is shown after Order.

@@ -2,9 +2,9 @@
 #![tactic(auto)]
 
 #[cfg(test)]
-mod grown;
+mod fixtures;
 #[cfg(test)]
-mod plan;
+mod grown;
 #[cfg(test)]
 mod program;
 #[cfg(test)]

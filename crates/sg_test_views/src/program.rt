@@ -1,6 +1,7 @@
 //! Programs of small graphs: their texts, and texts that are none.
 ghost use Rattle.std.specs.Prelude.{◌≤◌, length, IfOk};
 
+use crate::fixtures::SHOP;
 use sg_base::{Name, Role};
 use sg_graph::Graph;
 use sg_parse::parse_graph;
@@ -11,29 +12,6 @@ use std::alloc::Global;
 use std::process::Abort;
 use std::slice;
 use std::test::Fail;
-
-const SHOP: &str = "graph shop;\n\
-    role c;\n\
-    role p;\n\
-    role w;\n\
-    var q: text by c;\n\
-    var price: int by w;\n\
-    node n0: c;\n\
-    node n1: p;\n\
-    node n2: w;\n\
-    node n3: p;\n\
-    node n4: c;\n\
-    node n5: p;\n\
-    node n6: c;\n\
-    node n7: p;\n\
-    edge Order: n0 -> n1 writes q reads q;\n\
-    edge Ask: n1 -> n2 reads q;\n\
-    edge Offer: n2 -> n3 writes price reads price;\n\
-    edge Refuse: n2 -> n5;\n\
-    edge Pass: n3 -> n4 reads price;\n\
-    edge Deny: n5 -> n6;\n\
-    edge Retry: n4 -> n1 writes q reads q;\n\
-    edge Accept: n4 -> n7;\n";
 
 const NOTE: &str = "graph note;\n\
     role a;\n\

@@ -1,12 +1,24 @@
 //! Walks against events on graphs that are small enough to follow by hand.
-mod graphs;
-
-use graphs::{note, shop};
+use crate::fixtures::SHOP;
 use sg_base::{Chars, Label, Role, RoleSet, Seq, Sid, Time, Value, Var};
 use sg_graph::Graph;
+use sg_parse::parse_graph;
 use sg_walk::{Event, StoredStep, StoredWalk, check_part};
 use std::alloc::Global;
 use std::test::Fail;
+
+// Roles a and b, which both write x; the receiver of Hum doesn't read it.
+const NOTE: &[u8] = b"graph note;
+role a;
+role b;
+var x: int by a b;
+node n0: a;
+node n1: b;
+node n2: a;
+edge Bid: n0 -> n1 writes x reads x;
+edge Ask: n1 -> n2 writes x reads x;
+edge Hum: n2 -> n1 writes x;
+";
 
 // A value of a case.
 #[derive(Clone, Copy)]
@@ -131,7 +143,7 @@ const W: u16 = 0b100;
 #[test]
 fn what_two_roles_of_the_shop_did(rt: HostRuntime) -> Result<(), Fail> {
     let alloc = rt.alloc();
-    let graph = shop(alloc, &rt)?;
+    let graph = parse_graph(alloc, SHOP.as_bytes())?;
     let t = Trial {
         alloc,
         graph: &graph,
@@ -156,7 +168,7 @@ fn what_two_roles_of_the_shop_did(rt: HostRuntime) -> Result<(), Fail> {
 #[test]
 fn how_walks_of_the_shop_end(rt: HostRuntime) -> Result<(), Fail> {
     let alloc = rt.alloc();
-    let graph = shop(alloc, &rt)?;
+    let graph = parse_graph(alloc, SHOP.as_bytes())?;
     let t = Trial {
         alloc,
         graph: &graph,
@@ -181,7 +193,7 @@ fn how_walks_of_the_shop_end(rt: HostRuntime) -> Result<(), Fail> {
 #[test]
 fn two_roles_write_one_variable(rt: HostRuntime) -> Result<(), Fail> {
     let alloc = rt.alloc();
-    let graph = note(alloc, &rt)?;
+    let graph = parse_graph(alloc, NOTE)?;
     let t = Trial {
         alloc,
         graph: &graph,

@@ -1,21 +1,20 @@
 -- A search with one place more.
-use Rattle.std.proofs.Common.{◌≡◌, ℕ, ◌+◌, ◌-◌, ◌<◌, ◌≤◌, ◌==◌, nat_lt, Bool, true, false, ◌⊎◌, if◌then◌else◌, List, [], ◌∷◌, ◌++◌, length, get_or, refl, sym, ap, ◌∙◌, subst, inl, inr, arith, All, Contains, length-append, append-nil, append_assoc, Result, Ok, Err, Some, slice_get, map, take}
+use Rattle.std.proofs.Common.{◌≡◌, ℕ, ◌+◌, ◌-◌, ◌<◌, ◌≤◌, ◌==◌, Bool, true, false, if◌then◌else◌, List, [], ◌∷◌, ◌++◌, length, get_or, refl, sym, ap, ◌∙◌, subst, inl, inr, arith, All, Contains, length-append, append-nil, append_assoc, Result, Ok, Err, Some, slice_get, map, take}
 use Rattle.std.specs.Result.{OnOk}
 use Rattle.std.specs.Option.{IfSome}
 use Rattle.std.proofs.lemmas.Option.{slice_get-get_or, get_or_from_slice_get}
 use Rattle.std.proofs.lemmas.Bool.{cases_Bool}
-use Rattle.std.proofs.lemmas.Bool.Decides.{nat_tests}
 use Rattle.std.proofs.lemmas.List.{get_or_append_left, get_or-append_right, map-append, take_more}
 use Rattle.std.proofs.lemmas.List.Elements.{All-nil, All-cons, All-push, All-head, All-tail, Contains-get_or, Contains-append_left, Contains-push, filter-append}
 use Rattle.std.proofs.lemmas.List.Quantifiers.{all_pairs_push}
 use Rattle.sg_model.specs.Shape.{role_at, source, sender}
+use Rattle.sg_model.proofs.Small.{length-more, same_at, upto}
 use Rattle.sg_protocol.specs.Graph.{Graph, shape}
 use Rattle.sg_protocol.specs.Evidence.{Seen, View}
 use Rattle.sg_vis.specs.declared.places.Place.{Place}
 use Rattle.sg_vis.specs.declared.view.OpenView.{OpenView}
 use Rattle.sg_vis.specs.Search.{nothing, settled, next_place, HasPlace, Searched, IsLinked, LeadsInto, Followed, FollowedBelow, Extends, Adds, Puts, is_open, open_places, open_view}
 use Rattle.sg_vis.specs.Steps.{items_after, joined, next_view, HasLabels}
-use Rattle.sg_vis.proofs.Ordered.{same_at}
 
 -- ---- labels of edges
 
@@ -53,27 +52,21 @@ pub both_ok : {T E : Type 0} (r : Result T E) (P Q R : Type 0) → OnOk r P → 
 both_ok (Ok x) P Q R h k f = f h k
 both_ok (Err e) P Q R h k f = tt
 
-upto : (k n : ℕ) → k < n + 1 → (k < n) ⊎ (k ≡ n)
-upto k n u = elim (cases_Bool (nat_lt k n)) [ inl y ↦ inl (grind (arith, nat_tests, y)) | inr z ↦ inr (grind (arith, nat_tests, z)) ]
-
 at_end : {A : Type 0} (xs : List A) (x d : A) → get_or (xs ++ x ∷ []) (length xs) d ≡ x
 at_end xs x d = get_or-append_right xs (x ∷ []) (length xs) (length xs) d refl (omega arith) ∙ ap (λ k. get_or (x ∷ []) k d) (let z : length xs - length xs ≡ 0 = omega arith in z)
-
-long : {A : Type 0} (xs : List A) (x : A) → length (xs ++ x ∷ []) ≡ length xs + 1
-long xs x = length-append xs (x ∷ [])
 
 -- the place that an edge leads to, if it is new
 searched-more : (g : Graph) (r : ℕ) (places : List Place) (at e : ℕ) (p : Place) → Searched g r places → at < length places → p ≡ get_or places at p → e < length g.edges → source (shape g) e ≡ p.node
     → (HasPlace places (next_place g r p at e).node (next_place g r p at e).view → ⊥) → Searched g r (places ++ next_place g r p at e ∷ [])
 searched-more g r places at e p s l is label leaves new = record {
   graph = s.graph;
-  some = omega (arith, s.some, long places next);
+  some = omega (arith, s.some, length-more places next);
   first = λ d. subst (λ (q : Place). (q.node ≡ 0) × (q.view ≡ nothing)) (sym (before 0 d s.some)) (s.first d);
-  back = λ i d o m. elim (upto i (length places) (subst (λ n. i < n) (long places next) m)) [
+  back = λ i d o m. elim (upto i (length places) (subst (λ n. i < n) (length-more places next) m)) [
     | inl b ↦ subst (λ (q : Place). q.before < i) (sym (before i d b)) (s.back i d o b)
     | inr b ↦ subst (λ (q : Place). q.before < i) (sym (last i d b)) (subst (λ n. at < n) (sym b) l)
   ];
-  linked = λ i d o m. elim (upto i (length places) (subst (λ n. i < n) (long places next) m)) [
+  linked = λ i d o m. elim (upto i (length places) (subst (λ n. i < n) (length-more places next) m)) [
     | inl b ↦
         (let back = s.back i d o b in
         subst (λ (q : Place). IsLinked g r q (get_or (places ++ next ∷ []) q.before d)) (sym (before i d b))

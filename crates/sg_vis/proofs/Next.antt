@@ -2,14 +2,14 @@
 use Rattle.std.proofs.Common.{◌≡◌, ℕ, ◌<◌, ◌==◌, nat_lt, Bool, true, false, ◌||◌, if◌then◌else◌, List, [], ◌∷◌, ◌++◌, map, length, get_or, Some, refl, sym, ap, ◌∙◌, inl, inr}
 use Rattle.std.specs.Bool.{⊤}
 use Rattle.std.specs.List.{list_all}
-use Rattle.std.proofs.lemmas.Bool.{cases_Bool, eqb-true, eq-eqb}
+use Rattle.std.proofs.lemmas.Bool.{cases_Bool, eqb-true, eq-eqb, and_parts}
 use Rattle.std.proofs.lemmas.List.{get_or-map, map-append}
 use Rattle.sg_model.specs.Last.{has, last, last_or, after_last, up_to_last, Map, Entry, merge, carry, evidence}
 use Rattle.sg_model.specs.Lists.{keys_of, rises_from}
 use Rattle.sg_model.specs.Shape.{Arrow, sender}
 use Rattle.sg_model.proofs.LastOf.{has-append}
-use Rattle.sg_model.proofs.Evidence.{merge_assoc, has-evidence, evidence-drop, evidence-keep, evidence_again}
-use Rattle.sg_graph.proofs.Growth.{both}
+use Rattle.sg_model.proofs.Evidence.{has-evidence, evidence-drop, evidence-keep, evidence_again, carry-carry}
+use Rattle.sg_model.proofs.Small.{or_false, or_true}
 use Rattle.sg_protocol.specs.Evidence.{Seen, view_of, walked, rising}
 use Rattle.sg_protocol.specs.Graph.{Graph, IsGraph, AreNumbers, Edge, shape, writes}
 use Rattle.sg_vis.specs.Steps.{items_after, joined, next_view}
@@ -28,18 +28,6 @@ last-snoc (y ∷ ys) x = ap Some (by y ys x)
 module _ {A : Type 0} (key : A → ℕ) (k : ℕ) (x : A) where
   has-snoc : (xs : List A) (b : Bool) → (key x == k) ≡ b → has key k (xs ++ x ∷ []) ≡ (has key k xs || b)
   has-snoc xs b e = has-append key k xs (x ∷ []) ∙ ap (λ t. has key k xs || t) (or_false (key x == k) ∙ e)
-    where
-      or_false : (a : Bool) → (a || false) ≡ a
-      or_false true = refl
-      or_false false = refl
-
-  or_true : (a : Bool) → (a || true) ≡ true
-  or_true true = refl
-  or_true false = refl
-
-  or_false : (a : Bool) → (a || false) ≡ a
-  or_false true = refl
-  or_false false = refl
 
   after_last-own : (key x == k) ≡ true → (xs : List A) → after_last key k (xs ++ x ∷ []) ≡ []
   after_last-own e [] = rw e
@@ -100,10 +88,6 @@ carry-nothing : {K A : Type 0} (xs : List (Entry K A)) → carry [] xs ≡ xs
 carry-nothing [] = refl
 carry-nothing (x ∷ xs) = refl
 
-carry-carry : {K A : Type 0} (v w : Map A) (xs : List (Entry K A)) → carry v (carry w xs) ≡ carry (merge v w) xs
-carry-carry v w [] = refl
-carry-carry v w (x ∷ xs) = ap (λ z. record { step = x.step; writes = z } ∷ xs) (merge_assoc v w x.writes)
-
 turned : (a b : ℕ) (t : Bool) → (a == b) ≡ t → (b == a) ≡ t
 turned a b true e = eq-eqb b a (sym (eqb-true a b e))
 turned a b false e = by (b == a) refl
@@ -143,7 +127,7 @@ written g e h l =
     let plain : Edge = record { name = []; source = 0; target = 0; writes = []; reads = [] } in
     let edge : writes g e ≡ (get_or g.edges e plain).writes = ap (λ (a : Arrow). a.writes) (get_or-map (λ (e : Edge). record { source = e.source; target = e.target; writes = e.writes; reads = e.reads }) g.edges e plain (record { source = 0; target = 0; writes = []; reads = [] }) l) in
     let numbers : AreNumbers (length g.variables) (get_or g.edges e plain).writes = (h.variables e plain l).0 in
-    ap (list_all (λ k. nat_lt k (length g.variables))) edge ∙ (both (rises_from 0 (get_or g.edges e plain).writes) (list_all (λ k. nat_lt k (length g.variables)) (get_or g.edges e plain).writes) numbers).1
+    ap (list_all (λ k. nat_lt k (length g.variables))) edge ∙ (and_parts (rises_from 0 (get_or g.edges e plain).writes) (list_all (λ k. nat_lt k (length g.variables)) (get_or g.edges e plain).writes) numbers).1
 
 seen-with_entry : (g : Graph) (e : ℕ) → IsGraph g → e < length g.edges → (v : Map (Unit {0})) (is : List (Entry ℕ (Unit {0}))) →
     map (seen_of g) (with_entry (sender (shape g)) v is (entry_of g e)) ≡ items_after g e (rising (length g.variables) (keys_of v)) (map (seen_of g) is)

@@ -9,6 +9,7 @@ use Rattle.std.proofs.lemmas.List.{length-map, get_or-map}
 use Rattle.std.proofs.lemmas.Option.{slice_get-get_or}
 use Rattle.std.proofs.lemmas.Bool.{cases_Bool}
 use Rattle.std.proofs.lemmas.Bool.Decides.{nat_tests}
+use Rattle.sg_model.proofs.Small.{same_at, upto}
 use Rattle.sg_protocol.specs.Evidence.{Seen, View, mask, same_origin, origin_before, items_before, view_before, are_ordered, are_ordered_after}
 use Rattle.sg_vis.specs.Order.{StandsAt, origin_number, seen_compared, items_compared, compared}
 use Rattle.sg_vis.specs.Table.{ShownView, views_of}
@@ -128,12 +129,6 @@ ended (suc at) (x ∷ xs) [] l m d = absurd (omega arith)
 ended (suc at) (x ∷ xs) (y ∷ ys) l m (inl d) = ended at xs ys (omega arith) (omega arith) (inl (omega arith)) ∙ sym (cmp-suc (length xs) (length ys))
 ended (suc at) (x ∷ xs) (y ∷ ys) l m (inr d) = ended at xs ys (omega arith) (omega arith) (inr (omega arith)) ∙ sym (cmp-suc (length xs) (length ys))
 
--- an element of a list is the same whatever is asked for in its place
-pub same_at : {A : Type 0} (xs : List A) (i : ℕ) (d e : A) → i < length xs → get_or xs i d ≡ get_or xs i e
-same_at [] i d e l = absurd (omega arith)
-same_at (x ∷ xs) zero d e l = refl
-same_at (x ∷ xs) (suc i) d e l = same_at xs i d e (omega arith)
-
 -- where a row comes before a view, so do those before it
 pub less_upto : (table : List ShownView) (v : View) (m : ℕ) (s : ShownView) → AllPairs (λ a b. compared a.view b.view ≡ Less) table → m < length table → s ≡ get_or table m s
     → compared s.view v ≡ Less → (k : ℕ) (d : ShownView) → k < m + 1 → compared (get_or table k d).view v ≡ Less
@@ -143,9 +138,6 @@ less_upto table v m s h l e less k d u =
       | inl b ↦ compared_total.trans (get_or table k d).view s.view v (subst (λ (x : ShownView). compared (get_or table k d).view x.view ≡ Less) at (h k m d b l)) less
       | inr b ↦ ap (λ i. compared (get_or table i d).view v) b ∙ ap (λ (x : ShownView). compared x.view v) at ∙ less
     ]
-  where
-    upto : (k m : ℕ) → k < m + 1 → (k < m) ⊎ (k ≡ m)
-    upto k m u = elim (cases_Bool (nat_lt k m)) [ inl y ↦ inl (grind (arith, nat_tests, y)) | inr n ↦ inr (grind (arith, nat_tests, n)) ]
 
 -- where a row comes after a view, so do those after it
 pub more_from : (table : List ShownView) (v : View) (m : ℕ) (s : ShownView) → AllPairs (λ a b. compared a.view b.view ≡ Less) table → m < length table → s ≡ get_or table m s

@@ -7,8 +7,9 @@ use Rattle.std.proofs.lemmas.List.{length-map, get_or-map}
 use Rattle.std.proofs.lemmas.List.Elements.{Contains-get_or, filter_passes, All-filter, All-map}
 use Rattle.std.proofs.lemmas.List.Kept.{AllPairs-filter}
 use Rattle.sg_model.specs.Shape.{Shape, Walk, end_of, role_at, source, target, sender, receiver}
-use Rattle.sg_protocol.specs.Graph.{Graph, IsGraph, shape, Edge}
+use Rattle.sg_protocol.specs.Graph.{Graph, IsGraph, shape}
 use Rattle.sg_protocol.specs.Evidence.{Seen, View, view_of, IsView, IsOpenView, IsViewTable}
+use Rattle.sg_protocol.proofs.Entries.{edges_same}
 use Rattle.sg_vis.specs.declared.places.Place.{Place}
 use Rattle.sg_vis.specs.declared.view.OpenView.{OpenView}
 use Rattle.sg_vis.specs.Limits.{FewOpen, ManyOpen}
@@ -32,9 +33,6 @@ end_of-snoc g m (x ∷ xs) e = end_of-snoc g (target g x) xs e
 Walk-snoc : (g : Shape) (m : ℕ) (es : List ℕ) (e : ℕ) → Walk g m es → e < length g.edges → source g e ≡ end_of g m es → Walk g m (es ++ e ∷ [])
 Walk-snoc g m [] e w l s = (l, s, tt)
 Walk-snoc g m (x ∷ xs) e w l s = (w.0, w.1, Walk-snoc g (target g x) xs e w.2 l s)
-
-labels : (g : Graph) → length (shape g).edges ≡ length g.edges
-labels g = length-map g.edges (λ (e : Edge). record { source = e.source; target = e.target; writes = e.writes; reads = e.reads })
 
 -- a walk that has an edge, as the edges before its last one, and the last
 record Parts (es : List ℕ) : Type 0 where
@@ -62,7 +60,7 @@ Walk-parts : (g : Graph) (es : List ℕ) → Walk (shape g) 0 es → es ≢ [] �
 Walk-parts g es w h =
     let p = parts es h in
     let cut = back (shape g) 0 p.front p.final (subst (Walk (shape g) 0) p.whole w) in
-    record { front = p.front; final = p.final; whole = p.whole; follows = cut.0; label = subst (λ n. p.final < n) (labels g) cut.1; leaves = cut.2 }
+    record { front = p.front; final = p.final; whole = p.whole; follows = cut.0; label = subst (λ n. p.final < n) (edges_same g) cut.1; leaves = cut.2 }
   where
     back : (s : Shape) (m : ℕ) (es : List ℕ) (e : ℕ) → Walk s m (es ++ e ∷ []) → Walk s m es × (e < length s.edges) × (source s e ≡ end_of s m es)
     back s m [] e w = (tt, w.0, w.1)
@@ -84,7 +82,7 @@ arrives_on g r p walk i e h a l s =
     let seen : view_of g r (walk ++ e ∷ []) ≡ next_view g r p.view e =
     view_of-snoc g r walk e h l ∙ sym (settled-next g r p.node (view_of g r walk) e s) ∙ ap (λ v. next_view g r v e) a.seen in
     record {
-      follows = Walk-snoc (shape g) 0 walk e a.follows (subst (λ n. e < n) (sym (labels g)) l) (s ∙ sym a.ends);
+      follows = Walk-snoc (shape g) 0 walk e a.follows (subst (λ n. e < n) (sym (edges_same g)) l) (s ∙ sym a.ends);
       ends = end_of-snoc (shape g) 0 walk e;
       seen = ap (settled g r (target (shape g) e)) seen;
     }
@@ -93,7 +91,7 @@ arrives_on g r p walk i e h a l s =
 pub shown_on : (g : Graph) (r : ℕ) (p : Place) (walk : List ℕ) (e : ℕ) → IsGraph g → Arrives g r p walk → e < length g.edges → source (shape g) e ≡ p.node → receiver (shape g) e ≡ r
     → Shows g r (walk ++ e ∷ []) (next_view g r p.view e)
 shown_on g r p walk e h a l s t = record {
-  follows = Walk-snoc (shape g) 0 walk e a.follows (subst (λ n. e < n) (sym (labels g)) l) (s ∙ sym a.ends);
+  follows = Walk-snoc (shape g) 0 walk e a.follows (subst (λ n. e < n) (sym (edges_same g)) l) (s ∙ sym a.ends);
   moves = moves walk;
   ends = ap (role_at (shape g)) (end_of-snoc (shape g) 0 walk e) ∙ t;
   seen = view_of-snoc g r walk e h l ∙ sym (settled-next g r p.node (view_of g r walk) e s) ∙ ap (λ v. next_view g r v e) a.seen;
@@ -153,7 +151,7 @@ found g r places d s f walk w =
         → HasPlace places (end_of (shape g) 0 (pre ++ es)) (settled g r (end_of (shape g) 0 (pre ++ es)) (view_of g r (pre ++ es)))
     on pre [] h w = subst (λ l. HasPlace places (end_of (shape g) 0 l) (settled g r (end_of (shape g) 0 l) (view_of g r l))) (sym (append-nil pre)) h
     on pre (e ∷ es) h w =
-        let label : e < length g.edges = subst (λ n. e < n) (labels g) w.0 in
+        let label : e < length g.edges = subst (λ n. e < n) (edges_same g) w.0 in
         let there = h.there in
         let followed : Followed g r places h.place = subst (Followed g r places) there.2 (f there.0 h.place there.1 there.1) in
         let into = followed e label (w.1 ∙ sym h.node) in

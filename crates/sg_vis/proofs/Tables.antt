@@ -1,5 +1,5 @@
 -- A table with one row more.
-use Rattle.std.proofs.Common.{◌≡◌, ◌≢◌, ℕ, ◌+◌, ◌-◌, ◌<◌, ◌≤◌, ◌==◌, nat_lt, Bool, ◌⊎◌, List, [], ◌∷◌, map, length, get_or, insert, sym, ap, ◌∙◌, subst, inl, inr, arith, All, AllPairs, Contains, length-append, Result, Ok, Err, Some, slice_get}
+use Rattle.std.proofs.Common.{◌≡◌, ◌≢◌, ℕ, ◌+◌, ◌-◌, ◌<◌, ◌≤◌, ◌==◌, nat_lt, Bool, List, [], ◌∷◌, map, length, get_or, insert, sym, ap, ◌∙◌, subst, inl, inr, arith, All, AllPairs, Contains, length-append, Result, Ok, Err, Some, slice_get}
 use Rattle.std.specs.Result.{IfErr}
 use Rattle.std.specs.Option.{IfSome}
 use Rattle.std.proofs.lemmas.Option.{slice_get-get_or, get_or_from_slice_get}
@@ -13,6 +13,7 @@ use Rattle.std.proofs.lemmas.List.Edits.{length-insert, get_or-insert_below, get
 use Rattle.std.proofs.lemmas.List.Elements.{All-push, All-map}
 use Rattle.std.proofs.lemmas.List.Quantifiers.{all_pairs_push}
 use Rattle.sg_model.specs.Shape.{source, receiver}
+use Rattle.sg_model.proofs.Small.{same_at, upto}
 use Rattle.sg_protocol.specs.Graph.{Graph, shape}
 use Rattle.sg_protocol.specs.Evidence.{View, IsView}
 use Rattle.sg_vis.specs.declared.places.Place.{Place}
@@ -23,7 +24,7 @@ use Rattle.sg_vis.specs.Order.{compared, HoldsTable, StandsAt}
 use Rattle.sg_vis.specs.Search.{AreRows, Keeps, Shown, ShownBelow}
 use Rattle.sg_vis.specs.Steps.{next_view}
 use Rattle.sg_vis.specs.Table.{ShownView, Shows, views_of}
-use Rattle.sg_vis.proofs.Ordered.{compared_total, absent, same_at}
+use Rattle.sg_vis.proofs.Ordered.{compared_total, absent}
 
 -- the places of a list with one element put in: before it, at it, behind it
 data Spot (xs : ℕ) (p : ℕ) : ℕ → Type 0 where
@@ -157,9 +158,6 @@ explains_full g r table v p walk (TooManyViews list) few rows s at full = (
 pub if_err : {T E : Type 0} (r : Result T E) (P Q : E → Type 0) → IfErr r P → ((e : E) → P e → Q e) → IfErr r Q
 if_err (Ok x) P Q h f = tt
 if_err (Err e) P Q h f = f e h
-
-upto : (k n : ℕ) → k < n + 1 → (k < n) ⊎ (k ≡ n)
-upto k n u = elim (cases_Bool (nat_lt k n)) [ inl y ↦ inl (grind (arith, nat_tests, y)) | inr z ↦ inr (grind (arith, nat_tests, z)) ]
 
 -- the view behind one edge more from a place is there, if the edge leads to a node of r
 pub shown-more : (g : Graph) (r : ℕ) (places : List Place) (before after : List View) (at i : ℕ) (labels : List ℕ) (e : ℕ) → at < length places → Keeps before after → i < length labels → e ≡ get_or labels i e

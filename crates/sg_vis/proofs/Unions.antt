@@ -4,15 +4,16 @@ use Rattle.std.specs.List.{list_all}
 use Rattle.std.specs.Int.{bit_at}
 use Rattle.std.specs.Prelude.{bit_or}
 use Rattle.std.proofs.lemmas.Bool.Decides.{nat_tests}
-use Rattle.std.proofs.lemmas.Bool.{cases_Bool, eqb-true}
+use Rattle.std.proofs.lemmas.Bool.{cases_Bool, eqb-true, and_parts}
 use Rattle.std.proofs.lemmas.Nat.Bits.{bit_at_or, bit_at-lt}
-use Rattle.sg_model.specs.Last.{has, Map, merge}
+use Rattle.sg_model.specs.Last.{Map, merge}
 use Rattle.sg_model.specs.Lists.{is_in, below, range_from, keys_of}
-use Rattle.sg_model.proofs.LastOf.{has-append}
+use Rattle.sg_model.proofs.Numbers.{filter-range_from}
 use Rattle.sg_base.specs.Sets.{members}
-use Rattle.sg_base.proofs.SetLaws.{filter-range_from, is_in-filter, is_in-members}
+use Rattle.sg_base.proofs.SetLaws.{is_in-filter, is_in-members}
 use Rattle.sg_protocol.specs.Evidence.{rising}
 use Rattle.sg_protocol.specs.Graph.{writes}
+use Rattle.sg_protocol.proofs.SeenItems.{in_merge}
 use Rattle.sg_vis.specs.Steps.{joined}
 
 -- nothing passes a test that is always refused
@@ -52,13 +53,9 @@ both_or false b c = refl
 within : (n x : ℕ) (xs : List ℕ) → list_all (λ k. nat_lt k n) xs ≡ true → is_in x xs ≡ (nat_lt x n && is_in x xs)
 within n x [] h = grind (arith, nat_tests)
 within n x (y ∷ ys) h =
-    let parts = both (nat_lt y n) (list_all (λ k. nat_lt k n) ys) h in
+    let parts = and_parts (nat_lt y n) (list_all (λ k. nat_lt k n) ys) h in
     step (cases_Bool (y == x)) parts.0 (within n x ys parts.1)
   where
-    both : (a b : Bool) → (a && b) ≡ true → (a ≡ true) × (b ≡ true)
-    both true b h = (refl, h)
-    both false b h = absurd (cc)
-
     step : ((y == x) ≡ true) ⊎ ((y == x) ≡ false) → nat_lt y n ≡ true → is_in x ys ≡ (nat_lt x n && is_in x ys) → ((y == x) || is_in x ys) ≡ (nat_lt x n && ((y == x) || is_in x ys))
     step (inl e) l ih = let same : y ≡ x = eqb-true y x e in let l' : nat_lt x n ≡ true = subst (λ k. nat_lt k n ≡ true) same l in rw (e, l') refl
     step (inr e) l ih = rw e ih
@@ -74,41 +71,9 @@ rising-both n a b c le h d e =
 
 -- ---- the variables of a map that replaces another
 
-is_in-keys : {A : Type 0} (x : ℕ) (m : Map A) → is_in x (keys_of m) ≡ has (λ (w : ℕ × A). w.0) x m
-is_in-keys x [] = refl
-is_in-keys x (w ∷ ws) = ap (λ b. (w.0 == x) || b) (is_in-keys x ws)
-
-has-kept : {A : Type 0} (k : ℕ) (xs later : Map A) → (has (λ (x : ℕ × A). x.0) k (filter (λ (w : ℕ × A). not (has (λ (x : ℕ × A). x.0) w.0 later)) xs) || has (λ (x : ℕ × A). x.0) k later) ≡ (has (λ (x : ℕ × A). x.0) k xs || has (λ (x : ℕ × A). x.0) k later)
-has-kept k [] later = refl
-has-kept {A = A} k (w ∷ ws) later =
-    elim (cases_Bool (has (λ (x : ℕ × A). x.0) w.0 later)) [
-      | inl e ↦ rw e (has-kept k ws later ∙ dropped (cases_Bool (w.0 == k)) e)
-      | inr e ↦ rw e (or_again (w.0 == k) _ _ _ (has-kept k ws later))
-    ]
-  where
-    or_again : (a b c d : Bool) → (b || d) ≡ (c || d) → ((a || b) || d) ≡ ((a || c) || d)
-    or_again true b c d e = refl
-    or_again false b c d e = e
-
-    or_true : (a b : Bool) → b ≡ true → (a || b) ≡ true
-    or_true true b e = refl
-    or_true false b e = e
-
-    dropped : ((w.0 == k) ≡ true) ⊎ ((w.0 == k) ≡ false) → has (λ (x : ℕ × A). x.0) w.0 later ≡ true → (has (λ (x : ℕ × A). x.0) k ws || has (λ (x : ℕ × A). x.0) k later) ≡ (((w.0 == k) || has (λ (x : ℕ × A). x.0) k ws) || has (λ (x : ℕ × A). x.0) k later)
-    dropped (inl same) e = rw same (or_true _ _ (subst (λ n. has (λ (x : ℕ × A). x.0) n later ≡ true) (eqb-true w.0 k same) e))
-    dropped (inr other) e = rw other
-
--- a variable of a map that replaces another is one of either
-pub is_in-merge : {A : Type 0} (x : ℕ) (a b : Map A) → is_in x (keys_of (merge a b)) ≡ (is_in x (keys_of a) || is_in x (keys_of b))
-is_in-merge {A = A} x a b =
-    is_in-keys x (merge a b)
-    ∙ has-append (λ (w : ℕ × A). w.0) x (filter (λ (w : ℕ × A). not (has (λ (x : ℕ × A). x.0) w.0 b)) a) b
-    ∙ has-kept x a b
-    ∙ sym (ap (λ t. t || is_in x (keys_of b)) (is_in-keys x a) ∙ ap (λ t. has (λ (w : ℕ × A). w.0) x a || t) (is_in-keys x b))
-
 -- the deltas of two maps are joined
 pub rising-merge : {A : Type 0} (n : ℕ) (a b : Map A) → n ≤ 32 → rising n (keys_of (merge a b)) ≡ joined (rising n (keys_of a)) (rising n (keys_of b))
-rising-merge n a b le = rising-both n (keys_of a) (keys_of b) (rising n (keys_of b)) le (λ x. is_in-rising n x (keys_of b)) (keys_of (merge a b)) (λ x. is_in-merge x a b)
+rising-merge n a b le = rising-both n (keys_of a) (keys_of b) (rising n (keys_of b)) le (λ x. is_in-rising n x (keys_of b)) (keys_of (merge a b)) (λ x. in_merge x a b)
 
 -- the variables alone
 abbrev pub units : List ℕ → Map (Unit {0})
@@ -122,7 +87,7 @@ keys-units (x ∷ xs) = ap (λ ys. x ∷ ys) (keys-units xs)
 pub rising-written : (n : ℕ) (a : Map (Unit {0})) (xs : List ℕ) → n ≤ 32 → list_all (λ k. nat_lt k n) xs ≡ true → rising n (keys_of (merge a (units xs))) ≡ joined (rising n (keys_of a)) xs
 rising-written n a xs le all =
     rising-both n (keys_of a) xs xs le (λ x. within n x xs all) (keys_of (merge a (units xs)))
-    (λ x. is_in-merge x a (units xs) ∙ ap (λ ys. is_in x (keys_of a) || is_in x ys) (keys-units xs))
+    (λ x. in_merge x a (units xs) ∙ ap (λ ys. is_in x (keys_of a) || is_in x ys) (keys-units xs))
 
 -- ---- masks
 

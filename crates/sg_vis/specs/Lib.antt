@@ -1,7 +1,7 @@
 pub mod Keys
 pub mod Limits
 pub mod Order
-pub mod Origins
+pub mod Model
 pub mod Search
 pub mod Steps
 pub mod Table

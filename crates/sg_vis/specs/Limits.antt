@@ -1,5 +1,6 @@
 -- How many views and open views there may be.
 use Rattle.std.specs.Prelude.{◌≡◌, ◌≢◌, ℕ, ◌≤◌, List, [], ◌∷◌, ◌++◌, length, All, AllPairs, Contains, ⊤}
+use Rattle.sg_model.specs.Limits.{most_open_views, most_views}
 use Rattle.sg_protocol.specs.Graph.{Graph}
 use Rattle.sg_protocol.specs.Evidence.{View, IsView, IsOpenView}
 use Rattle.sg_vis.specs.Table.{ShownView, views_of}
@@ -10,7 +11,7 @@ use Rattle.sg_vis.specs.declared.fault.ViewFault.TheVariants.{TooManyOpen, TooMa
 -- a list of at most 65,536 has each open view of r
 pub record FewOpen (g : Graph) (r : ℕ) : Type 0 where
   pub list : List OpenView
-  pub few : length list ≤ 65536
+  pub few : length list ≤ most_open_views
   pub each : (o : OpenView) → IsOpenView g r o.node o.view → Contains list o
 
 -- the list has 65,537 different open views of r
@@ -39,4 +40,4 @@ MatchViews OutOfMemory P = ⊤
 
 -- the table is full, and these are its views and one more; or memory was wanted
 abbrev pub IsFull : List ShownView → View → ViewFault → Type 0
-IsFull table v fault = MatchViews fault (λ list. (length table ≡ 4096) × (list ≡ views_of table ++ v ∷ []))
+IsFull table v fault = MatchViews fault (λ list. (length table ≡ most_views) × (list ≡ views_of table ++ v ∷ []))

@@ -4,6 +4,7 @@ use Rattle.std.specs.declared.cmp.Ordering.{Ordering}
 use Rattle.std.specs.declared.cmp.Ordering.TheVariants.{Less, Greater}
 use Rattle.std.specs.Ordering.{nat_cmp, ordering_then}
 use Rattle.std.specs.Cmp.Lexicographic.{slice_cmp}
+use Rattle.sg_model.specs.Limits.{most_views}
 use Rattle.sg_protocol.specs.Evidence.{Seen, View, mask}
 use Rattle.sg_vis.specs.Table.{ShownView}
 
@@ -27,7 +28,7 @@ compared a b = ordering_then (nat_cmp (origin_number a.origin) (origin_number b.
 -- each view comes before each later one, and there are at most 4,096
 pub record HoldsTable (table : List ShownView) : Type 0 where
   pub ordered : AllPairs (λ a b. compared a.view b.view ≡ Less) table
-  pub few : length table ≤ 4096
+  pub few : length table ≤ most_views
 
 -- the view would stand at place i: each view before it comes before the view, and each from there on comes after it
 pub record StandsAt (table : List ShownView) (v : View) (i : ℕ) : Type 0 where

@@ -1,5 +1,6 @@
 //! The views of a role.
 ghost use Rattle.std.specs.Prelude.{◌≡◌, ℕ, ◌<◌, ◌≤◌, ◌++◌, [], ◌∷◌, length, insert, slice_get, All, Contains, IfErr, IfOk, IfSome, OnOk};
+ghost use Rattle.sg_model.specs.Limits.{most_open_views, most_views};
 ghost use Rattle.sg_model.specs.Shape.{source, receiver};
 ghost use Rattle.sg_protocol.specs.Evidence.{IsViewTable};
 ghost use Rattle.sg_protocol.specs.Graph.{Graph, shape};
@@ -25,7 +26,7 @@ const MOST_VIEWS: usize = 4_096;
 pub fn views(alloc: Global, graph: &Graph, role: Role) -> Result<ViewTable, ViewFault>
     ensures table { IfOk result (λ t. IsViewTable graph.now role (views_of t)) }
     ensures walks { IfOk result (λ t. All (λ s. Shows graph.now role s.walk s.view) t) }
-    ensures few { IfOk result (λ t. length t ≤ 4096) }
+    ensures few { IfOk result (λ t. length t ≤ most_views) }
     ensures few_open { IfOk result (λ t. FewOpen graph.now role) }
     ensures refused { IfErr result (Explains graph.now role) }
 {
@@ -43,7 +44,7 @@ fn all_rows(
 ) -> Result<Vec<Row>, ViewFault>
     requires searched { Searched graph.now role places.now }
     requires followed { FollowedBelow graph.now role places.now (length places.now) }
-    requires few { length (open_places places.now) ≤ 65536 }
+    requires few { length (open_places places.now) ≤ most_open_views }
     ensures rows { IfOk result (λ rows. AreRows graph.now role rows.items) }
     ensures shown { IfOk result (λ rows. ShownBelow graph.now role (views_of rows.items) places.now (length places.now)) }
     ensures refused { IfErr result (Explains graph.now role) }
@@ -66,7 +67,7 @@ fn add_rows(
 ) -> Result<(), ViewFault>
     requires searched { Searched graph.now role places.now }
     requires followed { FollowedBelow graph.now role places.now (length places.now) }
-    requires few { length (open_places places.now) ≤ 65536 }
+    requires few { length (open_places places.now) ≤ most_open_views }
     requires there { at < length places.now }
     requires rows { AreRows graph.now role rows.old.items }
     ensures rows { OnOk result (AreRows graph.now role rows.new.items) }
@@ -95,7 +96,7 @@ fn add_row(
 ) -> Result<(), ViewFault>
     requires searched { Searched graph.now role places.now }
     requires followed { FollowedBelow graph.now role places.now (length places.now) }
-    requires few { length (open_places places.now) ≤ 65536 }
+    requires few { length (open_places places.now) ≤ most_open_views }
     requires there { at < length places.now }
     requires label { label < length graph.now.edges }
     requires source { IfSome (slice_get places.now at) (λ p. source (shape graph.now) label ≡ p.node) }

@@ -3,7 +3,7 @@ ghost use Rattle.std.specs.Prelude.{◌≡◌};
 ghost use Rattle.sg_base.specs.Sets.{members};
 ghost use Rattle.sg_protocol.specs.Evidence.{mask};
 ghost use Rattle.sg_vis.specs.Order.{compared, items_compared, origin_number, seen_compared};
-ghost use Rattle.sg_vis.specs.Origins.{origin_of};
+ghost use Rattle.sg_vis.specs.Model.{origin_of};
 ghost use Rattle.sg_vis.specs.Table.{view_from};
 
 use crate::{Origin, Seen, View};

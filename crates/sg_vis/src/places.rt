@@ -1,5 +1,6 @@
 //! The places that a search has found: a node, and what a role sees of a walk to it.
 ghost use Rattle.std.specs.Prelude.{◌≡◌, ◌<◌, ◌≤◌, ◌^◌, ◌++◌, ◌&&◌, [], ◌∷◌, Some, if◌then◌else◌, length, map, slice_get, IfOk, OnErr, OnOk};
+ghost use Rattle.sg_model.specs.Limits.{most_open_views};
 ghost use Rattle.sg_base.specs.Sets.{members};
 ghost use Rattle.sg_protocol.specs.Evidence.{mask};
 ghost use Rattle.sg_vis.specs.Keys.{AreKeyed, AreSets, key_of};
@@ -83,7 +84,7 @@ impl Places {
 
     /// Puts a place at the end, if its node and view are not there.
     pub(crate) fn add(&mut self, place: Place) -> Result<(), OutOfMemory>
-        requires { length (open_places self.old) ≤ 65536 }
+        requires { length (open_places self.old) ≤ most_open_views }
         ensures added { OnOk result (Adds self.old self.new place) }
         ensures err { OnErr result (self.new ≡ self.old) }
     {

@@ -1,5 +1,6 @@
 //! The search for all places, and the walk to each.
 ghost use Rattle.std.specs.Prelude.{◌≡◌, ℕ, ◌+◌, ◌<◌, ◌≤◌, [], length, slice_get, IfErr, IfOk, IfSome, OnErr, OnOk};
+ghost use Rattle.sg_model.specs.Limits.{most_open_views};
 ghost use Rattle.sg_model.specs.Shape.{source};
 ghost use Rattle.sg_protocol.specs.Graph.{Graph, shape};
 ghost use Rattle.sg_vis.specs.Limits.{Explains};
@@ -19,7 +20,7 @@ const MOST_OPEN: usize = 65_536;
 pub(crate) fn all_places(alloc: Global, graph: &Graph, role: Role) -> Result<Places, ViewFault>
     ensures searched { IfOk result (Searched graph.now role) }
     ensures followed { IfOk result (λ places. FollowedBelow graph.now role places (length places)) }
-    ensures few { IfOk result (λ places. length (open_places places) ≤ 65536) }
+    ensures few { IfOk result (λ places. length (open_places places) ≤ most_open_views) }
     ensures refused { IfErr result (Explains graph.now role) }
 {
     let mut places = first_place(alloc, graph)?;
@@ -34,7 +35,7 @@ pub(crate) fn all_places(alloc: Global, graph: &Graph, role: Role) -> Result<Pla
 // The start, where nothing is seen.
 fn first_place(alloc: Global, graph: &Graph) -> Result<Places, ViewFault>
     ensures searched { (r : ℕ) → IfOk result (Searched graph.now r) }
-    ensures few { IfOk result (λ places. length (open_places places) ≤ 65536) }
+    ensures few { IfOk result (λ places. length (open_places places) ≤ most_open_views) }
     ensures refused { IfErr result (λ e. e ≡ ViewFault.OutOfMemory) }
 {
     // A graph's numbers are there, whatever is asked of it.
@@ -72,9 +73,9 @@ fn follow(
 ) -> Result<(), ViewFault>
     requires there { at < length places.old }
     requires searched { Searched graph.now role places.old }
-    requires few { length (open_places places.old) ≤ 65536 }
+    requires few { length (open_places places.old) ≤ most_open_views }
     ensures searched { OnOk result (Searched graph.now role places.new) }
-    ensures few { OnOk result (length (open_places places.new) ≤ 65536) }
+    ensures few { OnOk result (length (open_places places.new) ≤ most_open_views) }
     ensures extends { OnOk result (Extends places.old places.new) }
     ensures followed { OnOk result (IfSome (slice_get places.old at) (Followed graph.now role places.new)) }
     ensures refused { IfErr result (Explains graph.now role) }
@@ -99,9 +100,9 @@ fn follow_edge(
     requires label { label < length graph.now.edges }
     requires source { IfSome (slice_get places.old at) (λ p. source (shape graph.now) label ≡ p.node) }
     requires searched { Searched graph.now role places.old }
-    requires few { length (open_places places.old) ≤ 65536 }
+    requires few { length (open_places places.old) ≤ most_open_views }
     ensures searched { OnOk result (Searched graph.now role places.new) }
-    ensures few { OnOk result (length (open_places places.new) ≤ 65536) }
+    ensures few { OnOk result (length (open_places places.new) ≤ most_open_views) }
     ensures extends { OnOk result (Extends places.old places.new) }
     ensures leads { OnOk result (IfSome (slice_get places.old at) (λ p. LeadsInto graph.now role places.new p label)) }
     ensures refused { IfErr result (Explains graph.now role) }
@@ -114,7 +115,7 @@ fn follow_edge(
 
 // Refuses more open views than there may be, of which there is at most one more.
 fn check_open(places: &Places) -> Result<(), ViewFault>
-    ensures few { OnOk result (length (open_places places.now) ≤ 65536) }
+    ensures few { OnOk result (length (open_places places.now) ≤ most_open_views) }
     ensures refused { (g : Graph) (r : ℕ) → Searched g r places.now → length (open_places places.now) ≤ 65537 → IfErr result (Explains g r) }
 {
     if places.open() <= MOST_OPEN {
@@ -139,7 +140,7 @@ fn add_next(
     requires label { label < length graph.now.edges }
     requires source { IfSome (slice_get places.old at) (λ p. source (shape graph.now) label ≡ p.node) }
     requires searched { Searched graph.now role places.old }
-    requires few { length (open_places places.old) ≤ 65536 }
+    requires few { length (open_places places.old) ≤ most_open_views }
     ensures searched { OnOk result (Searched graph.now role places.new) }
     ensures one_more { OnOk result (length (open_places places.new) ≤ length (open_places places.old) + 1) }
     ensures extends { OnOk result (Extends places.old places.new) }

@@ -1,8 +1,9 @@
 //! The table of a role's views.
 ghost use Rattle.std.specs.Prelude.{◌≡◌, ◌<◌, ◌≤◌, Some, length, slice_get, AllPairs, Contains, IfErr, IfOk, MatchOption};
 ghost use Rattle.std.specs.declared.cmp.Ordering.TheVariants.{Less};
+ghost use Rattle.sg_model.specs.Limits.{most_views};
 ghost use Rattle.sg_vis.specs.Order.{StandsAt, compared};
-ghost use Rattle.sg_vis.specs.Origins.{origin_of};
+ghost use Rattle.sg_vis.specs.Model.{origin_of};
 ghost use Rattle.sg_vis.specs.Table.{view_from, views_of, walks_of};
 
 use crate::order::compare;
@@ -63,7 +64,7 @@ impl ViewTable {
     /// The number of views, at most 4,096. It takes no memory.
     pub fn len(&self) -> u16
         ensures count { result ≡ length self.now }
-        ensures most { result ≤ 4096 }
+        ensures most { result ≤ most_views }
     {
         self.rows.len() as u16
     }

@@ -17,7 +17,9 @@ pub enum Origin {
 /// A step that is seen: its label, and the variables written since the step that is seen before it, up to and including this one.
 #[derive(Debug, Clone, Copy)]
 pub struct Seen {
+    /// The step's label.
     pub label: Label,
+    /// The variables.
     pub delta: VarSet,
 }
 
@@ -34,13 +36,15 @@ impl Model for Seen {
 /// What a role sees of a walk: its own last label, and what it is shown since.
 #[derive(Debug, Drop)]
 pub struct View {
+    /// The role's own last label, or the start.
     pub from: Origin,
+    /// The steps that it is shown.
     pub items: Seq<Seen>,
 }
 
 impl Model for View {
     ghost use Rattle.sg_protocol.specs.Evidence.{View};
-    ghost use Rattle.sg_vis.specs.Origins.{origin_of};
+    ghost use Rattle.sg_vis.specs.Model.{origin_of};
 
     ghost Value = { View };
 
@@ -63,6 +67,8 @@ impl View {
 /// An open view: a node of another role, and what a role sees of a walk to it.
 #[derive(Debug, Drop)]
 pub struct OpenView {
+    /// The node.
     pub node: NodeId,
+    /// What the role sees.
     pub view: View,
 }

@@ -4,18 +4,18 @@ use Rattle.std.specs.Prelude.{Option, is_none}
 use Rattle.std.specs.List.{list_all}
 use Rattle.std.specs.Bool.{beq}
 use Rattle.std.proofs.lemmas.Bool.Decides.{nat_tests}
+use Rattle.std.proofs.lemmas.Bool.{and_parts}
 use Rattle.sg_model.specs.Last.{Map}
 use Rattle.sg_model.specs.Lists.{is_in, keys_of}
 use Rattle.sg_model.specs.Shape.{sender, receiver}
 use Rattle.sg_model.specs.Values.{Value}
+use Rattle.sg_model.proofs.Small.{drop_from, drop_end, and_true}
 use Rattle.sg_protocol.specs.Graph.{Graph, shape, reads, writes}
 use Rattle.sg_protocol.specs.Walk.{counts, is_carried, are_hidden}
-use Rattle.sg_graph.proofs.Growth.{both}
 use Rattle.sg_walk.specs.Matching.{IsNamed, is_still_carried}
-use Rattle.sg_walk.specs.Views.{step_of, writes_of}
+use Rattle.sg_walk.specs.Model.{step_of, writes_of}
 use Rattle.sg_walk.specs.declared.stored.StoredStep.{StoredStep as Step}
 use Rattle.sg_walk.proofs.Explained.{counts_as}
-use Rattle.sg_walk.proofs.Pairs.{next, drop_end}
 use Rattle.sg_walk.proofs.Steps.{keys_writes}
 
 -- what is hidden on the steps from a place on is right, and the variables that honest roles receive there are carried
@@ -54,7 +54,7 @@ hidden_same : (hs : Bool) (carried : List Bool) (f : ℕ → Bool) (ws : Map (Op
     → list_all (λ w. beq (is_none w.1) (not hs && not (get_or carried w.0 false))) ws ≡ list_all (λ w. beq (is_none w.1) (not hs && not (f w.0))) ws
 hidden_same hs carried f [] s h = refl
 hidden_same hs carried f (w ∷ ws) s h =
-    let parts = both (nat_lt w.0 32) (list_all (λ x. nat_lt x 32) (keys_of ws)) s in
+    let parts = and_parts (nat_lt w.0 32) (list_all (λ x. nat_lt x 32) (keys_of ws)) s in
     let less : w.0 < 32 = (let a = parts.0 in grind (arith, nat_tests, a)) in
     rw (h w.0 less) (ap (λ r. beq (is_none w.1) (not hs && not (f w.0)) && r) (hidden_same hs carried f ws parts.1 h))
 
@@ -86,10 +86,6 @@ tested g honest taken steps i s hears hs xs carried carried' result l xe he hse 
     let test : result ≡ list_all (λ w. beq (is_none w.1) (not (honest (sender (shape g) s.label)) && not (f w.0))) (writes_of s.writes) =
     re ∙ same ∙ ap (λ h. list_all (λ w. beq (is_none w.1) (not h && not (f w.0))) (writes_of s.writes)) hse in
     ap (λ r. list_all (λ w. beq (is_none w.1) (not (honest (sender (shape g) s.label)) && not (f w.0))) (writes_of s.writes) && r) k.rest ∙ and_true _ ∙ sym test
-  where
-    and_true : (b : Bool) → (b && true) ≡ b
-    and_true true = refl
-    and_true false = refl
 
 -- a step whose writes are not hidden as they should
 pub hide_wrong : (g : Graph) (honest : ℕ → Bool) (taken : Bool) (steps : List Step) (left i : ℕ) (s : Step) (hears hs : Bool) (xs : List ℕ) (carried carried' : List Bool) (result : Bool)
@@ -105,7 +101,7 @@ hide_wrong g honest taken steps left i s hears hs xs carried carried' result le 
     let ls : left ≡ suc i = omega arith in
     let he' = subst (λ n. hears ≡ (honest (receiver (shape g) s.label) && (taken || not (n == length steps)))) le he in
     let t = tested g honest taken steps i s hears hs xs carried carried' result l xe he' hse new small re (subst (λ n. Hiding g honest taken steps n carried) ls k) in
-    rest_wrong g honest taken steps i (ap (λ ss. are_hidden g honest taken (map step_of ss)) (next steps i s l is) ∙ t ∙ wrong)
+    rest_wrong g honest taken steps i (ap (λ ss. are_hidden g honest taken (map step_of ss)) (drop_from steps i s l is) ∙ t ∙ wrong)
 
 -- a step whose writes are hidden as they should
 pub hide_on : (g : Graph) (honest : ℕ → Bool) (taken : Bool) (steps : List Step) (left i : ℕ) (s : Step) (hears hs : Bool) (xs : List ℕ) (carried carried' carried'' : List Bool) (result : Bool)
@@ -124,7 +120,7 @@ hide_on g honest taken steps left i s hears hs xs carried carried' carried'' res
     let he' = subst (λ n. hears ≡ (honest (receiver (shape g) s.label) && (taken || not (n == length steps)))) le he in
     let k' = subst (λ n. Hiding g honest taken steps n carried) ls k in
     let t = tested g honest taken steps i s hears hs xs carried carried' result l xe he' hse new small re k' in
-    let cut = next steps i s l is in
+    let cut = drop_from steps i s l is in
     let now = now_carried g honest taken steps i s hears xs carried carried' l xe he' new k' in
     let keys : keys_of s.writes ≡ writes g s.label = sym (keys_writes s.writes) ∙ named.1 in
     record {

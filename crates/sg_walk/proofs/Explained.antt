@@ -4,22 +4,23 @@ use Rattle.std.proofs.lemmas.List.{get_or-replicate}
 use Rattle.std.specs.Prelude.{Option, Some, None, IsTrue, IfSome, unwrap_or, flat_map, slice_get, MatchOption, is_none}
 use Rattle.std.specs.List.{list_all}
 use Rattle.std.proofs.lemmas.Bool.Decides.{nat_tests}
+use Rattle.std.proofs.lemmas.Bool.{cases_Bool, and_parts}
 use Rattle.sg_model.specs.Last.{Map, merge}
 use Rattle.sg_model.specs.Lists.{is_in, value_at, keys_of}
 use Rattle.sg_model.specs.Shape.{sender, receiver}
 use Rattle.sg_base.specs.declared.value.Value.{Value as Held}
 use Rattle.sg_model.specs.Values.{Value}
+use Rattle.sg_model.proofs.Small.{drop_from, drop_end}
 use Rattle.sg_protocol.specs.Graph.{Graph, shape, reads}
 use Rattle.sg_protocol.specs.Walk.{StoredStep, Act, Sends, Receives, act_if, counts, honest_acts, acts_of_event, stored, shown}
 use Rattle.sg_protocol.proofs.KeptLaws.{value_at-merge}
-use Rattle.sg_graph.proofs.Found.{cases_of}
-use Rattle.sg_graph.proofs.Growth.{both}
+use Rattle.sg_protocol.proofs.Known.{value_none}
 use Rattle.sg_walk.specs.Matching.{IsNextAct, Takes, acts_from, is_start, kept, value_from}
-use Rattle.sg_walk.specs.Views.{event_of, step_of, values_of, writes_of}
+use Rattle.sg_walk.specs.Model.{event_of, step_of, values_of, writes_of}
 use Rattle.sg_walk.specs.declared.event.Event.{Event as Told}
 use Rattle.sg_walk.specs.declared.event.Event.TheVariants.{Started, Sent, Received}
 use Rattle.sg_walk.specs.declared.stored.StoredStep.{StoredStep as Step}
-use Rattle.sg_walk.proofs.Pairs.{next, drop_end, cons_head}
+use Rattle.sg_walk.proofs.Pairs.{cons_head}
 use Rattle.sg_walk.proofs.Steps.{keys_writes}
 
 -- ---- the events
@@ -32,7 +33,7 @@ one_act (Received sid r label time values joins) h = (_, refl)
 
 -- what is done from a place on, with the event of the place in front
 acts_next : (events : List Told) (at : ℕ) (e : Told) → at < length events → e ≡ get_or events at e → acts_from events at ≡ acts_of_event (event_of e) ++ acts_from events (suc at)
-acts_next events at e l is = ap (λ l. flat_map acts_of_event (map event_of l)) (next events at e l is)
+acts_next events at e l is = ap (λ l. flat_map acts_of_event (map event_of l)) (drop_from events at e l is)
 
 not_start : (events : List Told) (at : ℕ) (e : Told) → at < length events → e ≡ get_or events at e → IfSome (slice_get events at) (λ e. is_start e ≡ false) → is_start e ≡ false
 not_start [] at e l is h = absurd (omega arith)
@@ -53,11 +54,7 @@ takes_other events from at e true a h is n d = λ rest q.
 
 found : {A : Type 0} (m : Map A) (x : ℕ) → is_in x (keys_of m) ≡ true → (r : A) × (value_at m x ≡ Some r)
 found [] x h = absurd (cc)
-found (w ∷ ws) x h = elim (cases_of (w.0 == x)) [ inl e ↦ (w.1, rw e refl) | inr e ↦ (let h' : is_in x (keys_of ws) ≡ true = rw e at h in let r = found ws x h' in (r.0, rw e r.1)) ]
-
-missing : {A : Type 0} (m : Map A) (x : ℕ) → is_in x (keys_of m) ≡ false → value_at m x ≡ None
-missing [] x h = refl
-missing (w ∷ ws) x h = elim (cases_of (w.0 == x)) [ inl e ↦ absurd (let z : true ≡ false = rw e at h in cc) | inr e ↦ (let h' : is_in x (keys_of ws) ≡ false = rw e at h in rw e (missing ws x h')) ]
+found (w ∷ ws) x h = elim (cases_Bool (w.0 == x)) [ inl e ↦ (w.1, rw e refl) | inr e ↦ (let h' : is_in x (keys_of ws) ≡ true = rw e at h in let r = found ws x h' in (r.0, rw e r.1)) ]
 
 -- the places are those of the last writes of the store
 abbrev pub ArePlaces : List StoredStep → List (Option ℕ) → Map (Option Value) → Type 0
@@ -74,14 +71,14 @@ places_on : (steps : List Step) (i : ℕ) (s : Step) (places places' : List (Opt
     → ArePlaces (map step_of steps) places store → ArePlaces (map step_of steps) places' (merge store (writes_of s.writes))
 places_on steps i s places places' store l is new h x b =
     rw (new x b, value_at-merge store (writes_of s.writes) x)
-    (elim (cases_of (is_in x (keys_of s.writes))) [
+    (elim (cases_Bool (is_in x (keys_of s.writes))) [
       | inl y ↦
           (let y' : is_in x (keys_of (writes_of s.writes)) ≡ true = rw keys_writes y in
           let r = found (writes_of s.writes) x y' in
           rw (y, step_there steps i s (record { label = 0; writes = [] }) l is, r.1) refl)
       | inr n ↦
           (let n' : is_in x (keys_of (writes_of s.writes)) ≡ false = rw keys_writes n in
-          rw (n, missing (writes_of s.writes) x n') (h x b))
+          rw (n, value_none (writes_of s.writes) x n') (h x b))
     ])
 
 -- what the places give is what is stored
@@ -89,7 +86,7 @@ kept_stored : (steps : List StoredStep) (places : List (Option ℕ)) (store : Ma
     → ArePlaces steps places store → kept steps places xs ≡ stored store xs
 kept_stored steps places store [] b h = refl
 kept_stored steps places store (x ∷ xs) b h =
-    let parts = both (nat_lt x 32) (list_all (λ x. nat_lt x 32) xs) b in
+    let parts = and_parts (nat_lt x 32) (list_all (λ x. nat_lt x 32) xs) b in
     let less : x < 32 = (let a = parts.0 in grind (arith, nat_tests, a)) in
     rw (h x less) (ap (λ l. (x, unwrap_or (value_at store x) None) ∷ l) (kept_stored steps places store xs parts.1 h))
 
@@ -150,7 +147,7 @@ refuse_receipt W g honest taken events steps i at sent places places' s hears xs
     let now = merge k.store (writes_of s.writes) in
     let at_places = places_on steps i s places places' k.store l is new k.noted in
     let same : kept (map step_of steps) places' xs ≡ stored now (reads g s.label) = kept_stored (map step_of steps) places' now xs small at_places ∙ ap (stored now) xe in
-    let cut = subst (λ ss. acts_from events at ≡ honest_acts g honest taken k.store (map step_of ss)) (next steps i s l is) (k.rest.0 w) ∙ acts_of_step g honest taken k.store s (map step_of (drop (suc i) steps)) in
+    let cut = subst (λ ss. acts_from events at ≡ honest_acts g honest taken k.store (map step_of ss)) (drop_from steps i s l is) (k.rest.0 w) ∙ acts_of_step g honest taken k.store s (map step_of (drop (suc i) steps)) in
     let rest = after_same (honest (sender (shape g) s.label)) _ _ _ (sym t ∙ cut) in
     let hears' : hears ≡ (honest (receiver (shape g) s.label) && counts taken (map step_of (drop (suc i) steps))) = he ∙ ap (λ b. honest (receiver (shape g) s.label) && b) (sym (counts_as taken steps i l)) in
     t' _ (rest ∙ ap (λ b. act_if b (Receives (receiver (shape g) s.label) s.label (stored now (reads g s.label))) ++ honest_acts g honest taken now (map step_of (drop (suc i) steps))) (sym hears')
@@ -173,7 +170,7 @@ explain_step W g honest taken events steps i at sent received places places' s h
     let act : List Act = act_if hears (Receives (receiver (shape g) s.label) s.label (kept (map step_of steps) places' xs)) in
     let acts : act ++ rest' ≡ act_if (honest (receiver (shape g) s.label) && counts taken (map step_of (drop (suc i) steps))) (Receives (receiver (shape g) s.label) s.label (stored now (reads g s.label))) ++ rest' =
     ap (λ m. act_if hears (Receives (receiver (shape g) s.label) s.label m) ++ rest') same ∙ ap (λ b. act_if b (Receives (receiver (shape g) s.label) s.label (stored now (reads g s.label))) ++ rest') hears' in
-    let cut = next steps i s l is in
+    let cut = drop_from steps i s l is in
     let up : suc i ≡ i + 1 = omega arith in
     record {
       store = now;

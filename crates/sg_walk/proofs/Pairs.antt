@@ -2,26 +2,14 @@
 use Rattle.std.proofs.Common.{◌≡◌, ℕ, zero, suc, ◌+◌, ◌<◌, ◌≤◌, ◌==◌, nat_lt, true, false, not, List, [], ◌∷◌, map, filter, drop, length, get_or, refl, ap, sym, ◌∙◌, subst, inl, inr, arith, add-one, ◌↔◌}
 use Rattle.std.specs.List.{list_all}
 use Rattle.std.proofs.lemmas.Bool.Decides.{nat_tests}
+use Rattle.std.proofs.lemmas.Bool.{cases_Bool, not-true, and_parts}
 use Rattle.sg_model.specs.Lists.{is_in, rises_from}
+use Rattle.sg_model.proofs.Numbers.{absent}
+use Rattle.sg_model.proofs.Small.{drop_end}
 use Rattle.sg_protocol.specs.Graph.{AreNumbers}
-use Rattle.sg_graph.proofs.Found.{cases_of}
-use Rattle.sg_graph.proofs.Growth.{both, refused}
 use Rattle.sg_walk.specs.Matching.{is_next}
 
 -- ---- cutting
-
--- behind a place stands its element
-pub next : {A : Type 0} (xs : List A) (i : ℕ) (x : A) → i < length xs → x ≡ get_or xs i x → drop i xs ≡ x ∷ drop (suc i) xs
-next [] i x h e = absurd (omega arith)
-next (y ∷ ys) zero x h e = ap (λ z. z ∷ ys) (sym e)
-next (y ∷ ys) (suc i) x h e = next ys i x (omega arith) e
-
--- nothing stands behind the end
-pub drop_end : {A : Type 0} (xs : List A) (i : ℕ) → length xs ≤ i → drop i xs ≡ []
-drop_end [] zero h = refl
-drop_end [] (suc i) h = refl
-drop_end (x ∷ xs) zero h = absurd (omega arith)
-drop_end (x ∷ xs) (suc i) h = drop_end xs i (omega arith)
 
 -- where nothing stands behind a place, the list is at its end
 pub end_drop : {A : Type 0} (xs : List A) (i : ℕ) → drop i xs ≡ [] → length xs ≤ i
@@ -50,33 +38,23 @@ from_zero (x ∷ xs) = let out : nat_lt x 0 ≡ false = grind (arith, nat_tests)
 
 pub from_end : (n : ℕ) (xs : List ℕ) → list_all (λ x. nat_lt x n) xs ≡ true → from n xs ≡ []
 from_end n [] h = refl
-from_end n (x ∷ xs) h = let parts = both (nat_lt x n) (list_all (λ x. nat_lt x n) xs) h in rw parts.0 (from_end n xs parts.1)
+from_end n (x ∷ xs) h = let parts = and_parts (nat_lt x n) (list_all (λ x. nat_lt x n) xs) h in rw parts.0 (from_end n xs parts.1)
 
 -- rising numbers from least on are all from each lower bound on
 from_least : (least n : ℕ) (xs : List ℕ) → n ≤ least → rises_from least xs ≡ true → from n xs ≡ xs
 from_least least n [] le h = refl
 from_least least n (x ∷ xs) le h =
-    let parts = both (not (nat_lt x least)) (rises_from (suc x) xs) h in
-    let here = refused (nat_lt x least) parts.0 in
+    let parts = and_parts (not (nat_lt x least)) (rises_from (suc x) xs) h in
+    let here = not-true (nat_lt x least) parts.0 in
     let out : nat_lt x n ≡ false = grind (arith, nat_tests, here) in
     let up : n ≤ suc x = grind (arith, nat_tests, here) in
     rw out (ap (λ ys. x ∷ ys) (from_least (suc x) n xs up parts.1))
 
--- no number below least is one of them
-absent : (least i : ℕ) → i < least → (xs : List ℕ) → rises_from least xs ≡ true → is_in i xs ≡ false
-absent least i le [] h = refl
-absent least i le (x ∷ xs) h =
-    let parts = both (not (nat_lt x least)) (rises_from (suc x) xs) h in
-    let here = refused (nat_lt x least) parts.0 in
-    let out : (x == i) ≡ false = grind (arith, nat_tests, here) in
-    let up : i < suc x = grind (arith, nat_tests, here) in
-    rw out (absent (suc x) i up xs parts.1)
-
 from_yes : (least i : ℕ) (xs : List ℕ) → rises_from least xs ≡ true → is_in i xs ≡ true → from i xs ≡ i ∷ from (suc i) xs
 from_yes least i [] h t = absurd (cc)
 from_yes least i (x ∷ xs) h t =
-    let parts = both (not (nat_lt x least)) (rises_from (suc x) xs) h in
-    elim (cases_of (x == i)) [
+    let parts = and_parts (not (nat_lt x least)) (rises_from (suc x) xs) h in
+    elim (cases_Bool (x == i)) [
       | inl e ↦
           (let same : x ≡ i = grind (arith, nat_tests, e) in
           let a : nat_lt x i ≡ false = grind (arith, nat_tests, e) in
@@ -86,7 +64,7 @@ from_yes least i (x ∷ xs) h t =
           rw (a, b, from_least (suc x) i xs l parts.1, from_least (suc x) (suc i) xs l' parts.1) (ap (λ z. z ∷ xs) same))
       | inr d ↦
           (let t' : is_in i xs ≡ true = rw d at t in
-          elim (cases_of (nat_lt x i)) [
+          elim (cases_Bool (nat_lt x i)) [
             | inl y ↦
                 (let b : nat_lt x (suc i) ≡ true = grind (arith, nat_tests, y) in
                 rw (y, b) (from_yes (suc x) i xs parts.1 t'))
@@ -100,11 +78,11 @@ from_yes least i (x ∷ xs) h t =
 from_no : (i : ℕ) (xs : List ℕ) → is_in i xs ≡ false → from i xs ≡ from (suc i) xs
 from_no i [] t = refl
 from_no i (x ∷ xs) t =
-    elim (cases_of (x == i)) [
+    elim (cases_Bool (x == i)) [
       | inl e ↦ absurd (let z : true ≡ false = rw e at t in cc)
       | inr d ↦
           (let t' : is_in i xs ≡ false = rw d at t in
-          elim (cases_of (nat_lt x i)) [
+          elim (cases_Bool (nat_lt x i)) [
             | inl y ↦ (let b : nat_lt x (suc i) ≡ true = grind (arith, nat_tests, y) in rw (y, b) (from_no i xs t'))
             | inr n ↦ (let b : nat_lt x (suc i) ≡ false = grind (arith, nat_tests, n, d) in rw (n, b) (ap (λ ys. x ∷ ys) (from_no i xs t')))
           ])
@@ -130,7 +108,7 @@ Keyed-pass pairs vars p i t k =
 pub Keyed-other : {A : Type 0} (n : ℕ) (pairs : List (ℕ × A)) (vars : List ℕ) (p i : ℕ) → AreNumbers n vars → is_in i vars ≡ true
     → is_next (map (λ w. w.0) (drop p pairs)) i ≡ false → Keyed pairs vars p i → map (λ w. w.0) pairs ≡ vars → ⊥
 Keyed-other n pairs vars p i a t o k e =
-    let rises = (both (rises_from 0 vars) (list_all (λ x. nat_lt x n) vars) a).0 in
+    let rises = (and_parts (rises_from 0 vars) (list_all (λ x. nat_lt x n) vars) a).0 in
     let same : map (λ w. w.0) (drop p pairs) ≡ i ∷ from (suc i) vars = k.rest.0 e ∙ from_yes 0 i vars rises t in
     let o' : is_next (i ∷ from (suc i) vars) i ≡ false = subst (λ l. is_next l i ≡ false) same o in
     let y : (i == i) ≡ true = grind (arith, nat_tests) in
@@ -140,7 +118,7 @@ Keyed-other n pairs vars p i a t o k e =
 pub Keyed-step : {A : Type 0} (n : ℕ) (pairs : List (ℕ × A)) (vars : List ℕ) (p i : ℕ) → AreNumbers n vars → is_in i vars ≡ true → p < length pairs
     → is_next (map (λ w. w.0) (drop p pairs)) i ≡ true → Keyed pairs vars p i → Keyed pairs vars (p + 1) (i + 1)
 Keyed-step {A} n pairs vars p i a t l o k =
-    let rises = (both (rises_from 0 vars) (list_all (λ x. nat_lt x n) vars) a).0 in
+    let rises = (and_parts (rises_from 0 vars) (list_all (λ x. nat_lt x n) vars) a).0 in
     let yes = from_yes 0 i vars rises t in
     let cut : (w : ℕ × A) × (drop p pairs ≡ w ∷ drop (suc p) pairs) = some pairs p l in
     let o' : ((cut.0).0 == i) ≡ true = subst (λ l. is_next (map (λ w. w.0) l) i ≡ true) cut.1 o in
@@ -164,7 +142,7 @@ Keyed-step {A} n pairs vars p i a t l o k =
 pub Keyed-end : {A : Type 0} (n : ℕ) (pairs : List (ℕ × A)) (vars : List ℕ) (p : ℕ) → AreNumbers n vars → Keyed pairs vars p n
     → (p ≡ length pairs) ↔ (map (λ w. w.0) pairs ≡ vars)
 Keyed-end {A} n pairs vars p a k =
-    let none = from_end n vars (both (rises_from 0 vars) (list_all (λ x. nat_lt x n) vars) a).1 in (
+    let none = from_end n vars (and_parts (rises_from 0 vars) (list_all (λ x. nat_lt x n) vars) a).1 in (
       λ e. (let d : drop p pairs ≡ [] = drop_end pairs p (omega arith) in k.rest.1 (ap (λ l. map (λ (w : ℕ × A). w.0) l) d ∙ sym none)),
       λ e. (let d : length pairs ≤ p = end_drop pairs p (empty (drop p pairs) (k.rest.0 e ∙ none)) in let w = k.within in omega arith),
     )

@@ -3,24 +3,23 @@ use Rattle.std.proofs.Common.{◌≡◌, ◌≢◌, ℕ, suc, ◌+◌, ◌<◌, 
 use Rattle.std.specs.Prelude.{slice_set}
 use Rattle.std.specs.List.{list_all}
 use Rattle.std.proofs.lemmas.Bool.Decides.{nat_tests}
+use Rattle.std.proofs.lemmas.Bool.{cases_Bool, and_parts}
 use Rattle.sg_model.specs.Lists.{is_in, keys_of}
+use Rattle.sg_model.proofs.Small.{drop_from}
 use Rattle.sg_protocol.specs.Graph.{Graph, writes, AreNumbers}
-use Rattle.sg_graph.proofs.Found.{cases_of}
-use Rattle.sg_graph.proofs.Growth.{both}
 use Rattle.sg_walk.specs.Matching.{IsNamed}
-use Rattle.sg_walk.specs.Views.{step_of}
+use Rattle.sg_walk.specs.Model.{step_of}
 use Rattle.sg_walk.specs.declared.stored.StoredStep.{StoredStep as Step}
-use Rattle.sg_walk.proofs.Pairs.{next}
 use Rattle.sg_walk.proofs.Steps.{keys_writes, numbers_below}
 
 -- the first of the variables that are left is below 32, and so are the others
 pub small_head : {B : Type 0} (ws : List (ℕ × B)) (i : ℕ) (w : ℕ × B) → i < length ws → w ≡ get_or ws i w → list_all (λ x. nat_lt x 32) (keys_of (drop i ws)) ≡ true
     → (w.0 < 32) × (list_all (λ x. nat_lt x 32) (keys_of (drop (i + 1) ws)) ≡ true)
 small_head {B} ws i w l e s =
-    let cut = next ws i w l e in
+    let cut = drop_from ws i w l e in
     let up : suc i ≡ i + 1 = omega arith in
     let s' : list_all (λ x. nat_lt x 32) (keys_of (w ∷ drop (suc i) ws)) ≡ true = subst (λ (l : List (ℕ × B)). list_all (λ x. nat_lt x 32) (keys_of l) ≡ true) cut s in
-    let parts = both (nat_lt w.0 32) (list_all (λ x. nat_lt x 32) (keys_of (drop (suc i) ws))) s' in
+    let parts = and_parts (nat_lt w.0 32) (list_all (λ x. nat_lt x 32) (keys_of (drop (suc i) ws))) s' in
     ((let a = parts.0 in grind (arith, nat_tests, a)), subst (λ k. list_all (λ x. nat_lt x 32) (keys_of (drop k ws)) ≡ true) up parts.1)
 
 -- a value is put at the place of one more variable
@@ -28,12 +27,12 @@ pub put_on : {V B : Type 0} (v d : V) (places : List V) (ws : List (ℕ × B)) (
     → ((x : ℕ) → x < 32 → (if is_in x (keys_of (drop i ws)) then v else get_or places x d) ≡ F x)
     → (x : ℕ) → x < 32 → (if is_in x (keys_of (drop (i + 1) ws)) then v else get_or (slice_set places n v) x d) ≡ F x
 put_on {V} {B} v d places ws i w F n en lw wide l e h x b =
-    let cut = next ws i w l e in
+    let cut = drop_from ws i w l e in
     let up : suc i ≡ i + 1 = omega arith in
     let h' : (if ((w.0 == x) || is_in x (keys_of (drop (suc i) ws))) then v else get_or places x d) ≡ F x =
     subst (λ (l : List (ℕ × B)). (if is_in x (keys_of l) then v else get_or places x d) ≡ F x) cut (h x b) in
     subst (λ k. (if is_in x (keys_of (drop k ws)) then v else get_or (slice_set places n v) x d) ≡ F x) up
-    (step (is_in x (keys_of (drop (suc i) ws))) h' (cases_of (w.0 == x)))
+    (step (is_in x (keys_of (drop (suc i) ws))) h' (cases_Bool (w.0 == x)))
   where
     branch : (t : Bool) → (if t then v else v) ≡ v
     branch true = refl

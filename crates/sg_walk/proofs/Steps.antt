@@ -2,38 +2,31 @@
 use Rattle.std.proofs.Common.{◌≡◌, ℕ, zero, suc, ◌+◌, ◌-◌, ◌<◌, ◌≤◌, nat_lt, Bool, true, false, List, [], ◌∷◌, map, drop, length, get_or, refl, ap, sym, ◌∙◌, subst, arith, ◌↔◌}
 use Rattle.std.specs.Prelude.{Option, Some, IsTrue, ⊤}
 use Rattle.std.specs.List.{list_all, AllByRecursion}
-use Rattle.std.proofs.lemmas.Bool.Decides.{nat_tests}
+use Rattle.std.proofs.lemmas.Bool.{and_parts}
 use Rattle.sg_model.specs.Lists.{keys_of, rises_from}
 use Rattle.sg_model.specs.Last.{last, last_or}
 use Rattle.sg_model.specs.Shape.{Walk, target}
+use Rattle.sg_model.proofs.Small.{drop_from, drop_end}
 use Rattle.sg_protocol.specs.Graph.{Graph, shape, writes, AreNumbers}
 use Rattle.sg_protocol.specs.Walk.{StoredStep, IsStoredStep, IsStoredWalk, is_typed_or_hidden, labels}
-use Rattle.sg_graph.proofs.Growth.{both}
+use Rattle.sg_protocol.proofs.Entries.{edges_same}
 use Rattle.sg_walk.specs.Matching.{IsNamed, Follows}
 use Rattle.sg_base.specs.declared.value.Value.{Value as Held}
-use Rattle.sg_walk.specs.Views.{step_of, writes_of}
+use Rattle.sg_walk.specs.Model.{step_of, writes_of}
 use Rattle.sg_walk.specs.declared.stored.StoredStep.{StoredStep as Step}
-use Rattle.sg_walk.proofs.Pairs.{next, drop_end}
 
 -- the steps are a walk from node m, with values
 abbrev pub StepsFrom : Graph → ℕ → List StoredStep → Type 0
 StepsFrom g m [] = ⊤
 StepsFrom g m (s ∷ ss) = Follows g m s × StepsFrom g (target (shape g) s.label) ss
 
-edge_count : (g : Graph) → length (shape g).edges ≡ length g.edges
-edge_count g = same_length _ g.edges
-  where
-    same_length : {A B : Type 0} (f : A → B) (xs : List A) → length (map f xs) ≡ length xs
-    same_length f [] = refl
-    same_length f (x ∷ xs) = ap suc (same_length f xs)
-
 joined : (g : Graph) (m : ℕ) (ss : List StoredStep) → Walk (shape g) m (labels ss) → AllByRecursion (IsStoredStep g) ss → StepsFrom g m ss
 joined g m [] w v = tt
-joined g m (s ∷ ss) w v = ((subst (λ n. s.label < n) (edge_count g) w.0, w.1, v.0), joined g (target (shape g) s.label) ss w.2 v.1)
+joined g m (s ∷ ss) w v = ((subst (λ n. s.label < n) (edges_same g) w.0, w.1, v.0), joined g (target (shape g) s.label) ss w.2 v.1)
 
 walked : (g : Graph) (m : ℕ) (ss : List StoredStep) → StepsFrom g m ss → Walk (shape g) m (labels ss)
 walked g m [] h = tt
-walked g m (s ∷ ss) h = (subst (λ n. s.label < n) (sym (edge_count g)) h.0.0, h.0.1, walked g (target (shape g) s.label) ss h.1)
+walked g m (s ∷ ss) h = (subst (λ n. s.label < n) (sym (edges_same g)) h.0.0, h.0.1, walked g (target (shape g) s.label) ss h.1)
 
 valued : (g : Graph) (m : ℕ) (ss : List StoredStep) → StepsFrom g m ss → AllByRecursion (IsStoredStep g) ss
 valued g m [] h = tt
@@ -71,7 +64,7 @@ last_at {A} {B} f (y ∷ ys) x l e = ap Some (from y ys x (subst (λ n. x ≡ ge
 
 -- numbers below a bound, as a test
 pub numbers_below : (n : ℕ) (xs : List ℕ) → AreNumbers n xs → list_all (λ x. nat_lt x n) xs ≡ true
-numbers_below n xs h = (both (rises_from 0 xs) (list_all (λ x. nat_lt x n) xs) h).1
+numbers_below n xs h = (and_parts (rises_from 0 xs) (list_all (λ x. nat_lt x n) xs) h).1
 
 -- ---- the loop over the steps
 
@@ -79,7 +72,7 @@ numbers_below n xs h = (both (rises_from 0 xs) (list_all (λ x. nat_lt x n) xs) 
 pub steps_on : (W : Type 0) (g : Graph) (m n : ℕ) (xs : List Step) (i : ℕ) (x : Step) → i < length xs → x ≡ get_or xs i x → Follows g m (step_of x)
     → n ≡ target (shape g) x.label → (W ↔ StepsFrom g m (map step_of (drop i xs))) → (W ↔ StepsFrom g n (map step_of (drop (i + 1) xs)))
 steps_on W g m n xs i x l e f t k =
-    let cut = next xs i x l e in
+    let cut = drop_from xs i x l e in
     let up : suc i ≡ i + 1 = omega arith in
     let k' : W ↔ StepsFrom g m (map step_of (x ∷ drop (suc i) xs)) = subst (λ ys. W ↔ StepsFrom g m (map step_of ys)) cut k in
     let inner : W ↔ StepsFrom g n (map step_of (drop (suc i) xs)) = (
@@ -91,19 +84,6 @@ steps_on W g m n xs i x l e f t k =
 -- no step is left
 pub steps_end : (W : Type 0) (g : Graph) (m : ℕ) (xs : List Step) (i : ℕ) → length xs ≤ i → (W ↔ StepsFrom g m (map step_of (drop i xs))) → W
 steps_end W g m xs i l k = k.1 (subst (λ ys. StepsFrom g m (map step_of ys)) (sym (drop_end xs i l)) tt)
-
--- numbers below a bound are numbers below each greater one
-pub numbers_within : (n k : ℕ) (xs : List ℕ) → n ≤ k → AreNumbers n xs → AreNumbers k xs
-numbers_within n k xs le h =
-    let parts = both (rises_from 0 xs) (list_all (λ x. nat_lt x n) xs) h in
-    rw parts.0 (wider xs parts.1)
-  where
-    wider : (xs : List ℕ) → list_all (λ x. nat_lt x n) xs ≡ true → list_all (λ x. nat_lt x k) xs ≡ true
-    wider [] h = refl
-    wider (x ∷ xs) h =
-        let parts = both (nat_lt x n) (list_all (λ x. nat_lt x n) xs) h in
-        let up : nat_lt x k ≡ true = (let a = parts.0 in grind (arith, nat_tests, a)) in
-        rw up (wider xs parts.1)
 
 -- the variables of the writes stay where the values are seen
 pub keys_writes : (ws : List (ℕ × Option Held)) → keys_of (writes_of ws) ≡ map (λ w. w.0) ws

@@ -2,6 +2,7 @@
 use Rattle.std.proofs.Common.{◌≡◌, ℕ, Bool, true, false, ◌&&◌, ◌||◌, ◌⊎◌, List, refl, ap, sym, ◌∙◌, subst, inl, inr, ◌↔◌}
 use Rattle.std.specs.Prelude.{Option, Some, None, IsTrue, IfSome, flat_map, []}
 use Rattle.std.specs.Option.{option_map_or}
+use Rattle.std.proofs.lemmas.Bool.{cases_Bool}
 use Rattle.sg_model.specs.Last.{last}
 use Rattle.sg_model.specs.Shape.{sender, receiver}
 use Rattle.sg_protocol.specs.Calls.{Event}
@@ -25,10 +26,6 @@ each : (f h : StoredStep → Bool) (o : Option StoredStep) (a b : Bool) → a �
 each f h None a b e d = (λ t. tt, λ t. rw (e, d) refl)
 each f h (Some s) a b e d = (λ t. subst (λ c. IsTrue (c && h s)) e (subst (λ c. IsTrue (a && c)) d t), λ t. subst (λ c. IsTrue (c && b)) (sym e) (subst (λ c. IsTrue (f s && c)) (sym d) t))
 
-cases_taken : (b : Bool) → (b ≡ true) ⊎ (b ≡ false)
-cases_taken true = inl refl
-cases_taken false = inr refl
-
 -- a walk that doesn't, with two honest ends
 pub path_last : (g : Graph) (honest : ℕ → Bool) (events : List Event) (steps : List StoredStep) (sent received b : Bool) → IsStoredWalk g steps → Ends g honest steps sent received → (IsPart g honest true events steps → ⊥)
     → sent ≡ true → received ≡ true → (IsTrue b ↔ IsPart g honest false events steps) → IsTrue b ↔ OnePath g honest events steps
@@ -36,7 +33,7 @@ path_last g honest events steps sent received b w ends n s r p =
     let held = either (λ s. honest (sender (shape g) s.label)) (λ s. honest (receiver (shape g) s.label)) (last steps) sent received ends.0 ends.1 in
     let both = each (λ s. honest (sender (shape g) s.label)) (λ s. honest (receiver (shape g) s.label)) (last steps) sent received ends.0 ends.1 in (
       λ t. record { taken = false; walk = w; held = held.0 (rw s refl); explained = (p.0 t).0; awaited = λ z. both.0 (rw (s, r) refl); hidden = (p.0 t).1 },
-      λ o. p.1 (not_taken o (cases_taken o.taken)),
+      λ o. p.1 (not_taken o (cases_Bool o.taken)),
     )
   where
     not_taken : (o : OnePath g honest events steps) → (o.taken ≡ true) ⊎ (o.taken ≡ false) → IsPart g honest false events steps
@@ -48,7 +45,7 @@ pub path_none : (g : Graph) (honest : ℕ → Bool) (events : List Event) (steps
     → (sent && received) ≡ false → OnePath g honest events steps → ⊥
 path_none g honest events steps sent received ends n s o =
     let both = each (λ s. honest (sender (shape g) s.label)) (λ s. honest (receiver (shape g) s.label)) (last steps) sent received ends.0 ends.1 in
-    case (cases_taken o.taken) both
+    case (cases_Bool o.taken) both
   where
     case : (o.taken ≡ true) ⊎ (o.taken ≡ false) → (IsTrue (sent && received) ↔ IfSome (last steps) (λ s. IsTrue (honest (sender (shape g) s.label) && honest (receiver (shape g) s.label)))) → ⊥
     case (inl t) both = n (subst (λ t. flat_map acts_of_event events ≡ honest_acts g honest t [] steps) t o.explained, subst (λ t. IsTrue (are_hidden g honest t steps)) t o.hidden)

@@ -1,2 +1,2 @@
 pub mod Matching
-pub mod Views
+pub mod Model

@@ -6,7 +6,7 @@ use Rattle.sg_model.specs.Shape.{source}
 use Rattle.sg_model.specs.Values.{Value}
 use Rattle.sg_protocol.specs.Graph.{Graph, shape, writes}
 use Rattle.sg_protocol.specs.Walk.{StoredStep, IsStoredStep, Act, acts_of_event, is_carried, is_written_first}
-use Rattle.sg_walk.specs.Views.{event_of}
+use Rattle.sg_walk.specs.Model.{event_of}
 use Rattle.sg_walk.specs.declared.event.Event.{Event as Told}
 use Rattle.sg_walk.specs.declared.event.Event.TheVariants.{Started, Sent, Received}
 

@@ -12,6 +12,6 @@ mod event;
 mod part;
 mod stored;
 
-pub use event::Event;
+pub use event::{Event, role_of, sid_of};
 pub use part::check_part;
 pub use stored::{StoredStep, StoredWalk};

@@ -8,7 +8,7 @@ ghost use Rattle.sg_model.specs.Shape.{sender, receiver};
 ghost use Rattle.sg_protocol.specs.Graph.{shape};
 ghost use Rattle.sg_protocol.specs.Walk.{OnePath, acts_of_event, are_hidden, honest_acts};
 ghost use Rattle.sg_walk.specs.Matching.{IsNamed};
-ghost use Rattle.sg_walk.specs.Views.{event_of, steps_of};
+ghost use Rattle.sg_walk.specs.Model.{event_of, steps_of};
 
 mod explained;
 mod hidden;

@@ -7,13 +7,16 @@ use std::alloc::Global;
 /// A step: its label, and each variable that it writes, in rising order, with its value. `None` is a hidden value.
 #[derive(Debug, Drop)]
 pub struct StoredStep {
+    /// The label.
     pub label: Label,
+    /// The variables and their values.
     pub writes: Seq<(Var, Option<Value>)>,
 }
 
 /// The steps of a walk from the start, with the values that are written on it.
 #[derive(Debug, Drop)]
 pub struct StoredWalk {
+    /// The steps.
     pub steps: Seq<StoredStep>,
 }
 

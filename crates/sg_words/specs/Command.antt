@@ -2,6 +2,7 @@
 use Rattle.std.specs.Prelude.{ℕ, ◌==◌, Bool, if◌then◌else◌, List, [], ◌∷◌, codes, slice_index, Option, Some, None, option_map, bytes_eq}
 use Rattle.std.specs.List.{list_any}
 use Rattle.sg_base.specs.Words.{number}
+use Rattle.sg_model.specs.Limits.{most_deliveries}
 
 -- a command of the table
 pub data Command : Type 0 where
@@ -42,7 +43,7 @@ running [] = None
 running (keys ∷ []) = None
 running (keys ∷ script ∷ []) = None
 running (keys ∷ script ∷ n ∷ []) = None
-running (keys ∷ script ∷ n ∷ program ∷ more) = option_map (λ d. Run keys script d (program ∷ more)) (number 1000000 n)
+running (keys ∷ script ∷ n ∷ program ∷ more) = option_map (λ d. Run keys script d (program ∷ more)) (number most_deliveries n)
 
 -- the command of this name, with these words behind it
 abbrev pub named : (name : List ℕ) → List (List ℕ) → Option Command

@@ -1,3 +1,3 @@
 pub mod Command
-pub mod Held
+pub mod Model
 pub mod Given

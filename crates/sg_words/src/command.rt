@@ -2,7 +2,7 @@
 ghost use Rattle.std.specs.Prelude.{◌≡◌, map, option_map};
 ghost use Rattle.std.specs.List.{list_any};
 ghost use Rattle.sg_words.specs.Command.{command_of, few, is_option, named, on_file, on_file_and_role, running};
-ghost use Rattle.sg_words.specs.Held.{command_held};
+ghost use Rattle.sg_words.specs.Model.{command_held};
 
 use sg_base::read_number;
 

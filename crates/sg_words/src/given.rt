@@ -2,7 +2,7 @@
 ghost use Rattle.std.specs.Prelude.{◌≡◌, IfErr, IfOk, drop, map, option_map, string_bytes};
 ghost use Rattle.clap.specs.Words.{kind_of};
 ghost use Rattle.sg_words.specs.Command.{command_of};
-ghost use Rattle.sg_words.specs.Held.{command_held};
+ghost use Rattle.sg_words.specs.Model.{command_held};
 ghost use Rattle.sg_words.specs.Given.{IsBehindDashes, words_found};
 
 use crate::command::{Command, read_command};

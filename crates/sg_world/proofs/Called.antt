@@ -1,10 +1,10 @@
 -- What a node answers to a call, as what comes of the step.
-use Rattle.std.proofs.Common.{◌≡◌, ◌≢◌, ℕ, ◌+◌, ◌<◌, List, [], ◌∷◌, map, length, Option, Some, None, option_map, slice_get, Result, Ok, Err, IfOk, OnErr, ◌++◌, get_or, take, refl, sym, ◌∙◌, ap, subst}
+use Rattle.std.proofs.Common.{◌≡◌, ◌≢◌, ℕ, ◌+◌, ◌<◌, List, [], ◌∷◌, map, length, Option, Some, None, option_map, slice_get, Result, Ok, Err, IfOk, ◌++◌, get_or, take, refl, sym, ◌∙◌, ap, subst}
 use Rattle.std.specs.List.{AllByRecursion}
 use Rattle.std.specs.Option.{option_map_or}
 use Rattle.std.proofs.lemmas.List.{map-append, map_more}
 use Rattle.sg_base.specs.declared.value.Value.{Value as Held}
-use Rattle.sg_base.specs.Values.{value_of}
+use Rattle.sg_base.specs.Model.{value_of}
 use Rattle.sg_model.specs.Bytes.{AreBytes}
 use Rattle.sg_model.specs.Last.{Map}
 use Rattle.sg_model.specs.Names.{Name}
@@ -26,7 +26,7 @@ use Rattle.sg_protocol.specs.Spelling.{spelling, u64}
 use Rattle.sg_protocol.specs.Texts.{real, session_id}
 use Rattle.sg_protocol.specs.Told.{graph_of_call}
 use Rattle.sg_protocol.specs.World.{World, call_of}
-use Rattle.sg_walk.specs.Views.{values_of}
+use Rattle.sg_walk.specs.Model.{values_of}
 use Rattle.sg_role.specs.Sending.{with_notes}
 use Rattle.sg_role.specs.declared.fault.SendFault.TheVariants as sending
 use Rattle.sg_node.specs.Answers.{IsAnswer, GoesOn}
@@ -116,11 +116,6 @@ comes_quiet number old new past call told graph notes c e range h graphed noted 
 pub if_is_ok : {A E : Type 0} (Q : A → Type 0) (r : Result A E) → ((x : A) → r ≡ Ok x → Q x) → IfOk r Q
 if_is_ok Q (Ok x) f = f x refl
 if_is_ok Q (Err e) f = tt
-
--- what holds where there is none
-pub if_err : {A E : Type 0} (P Q : Type 0) (r : Result A E) → (P → Q) → OnErr r P → OnErr r Q
-if_err P Q (Ok x) f h = tt
-if_err P Q (Err e) f h = f h
 
 -- ---- the call of a step
 

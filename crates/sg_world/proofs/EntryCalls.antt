@@ -1,23 +1,21 @@
 -- The call of each entry of a log is that of its step, in the world of the entries before it.
-use Rattle.std.proofs.Common.{◌≡◌, ℕ, zero, suc, ◌+◌, ◌⊎◌, true, false, inl, inr, List, [], ◌∷◌, ◌++◌, map, length, refl, sym, ◌∙◌, ap, subst, arith, append_assoc, append-nil}
-use Rattle.std.specs.Prelude.{Option, Some, None, find, bytes_eq, filter_map, option_map, slice_get}
-use Rattle.std.specs.List.{list_all, list_any}
+use Rattle.std.proofs.Common.{◌≡◌, ℕ, zero, suc, ◌+◌, true, List, [], ◌∷◌, ◌++◌, map, length, refl, sym, ◌∙◌, ap, subst, arith, append_assoc, append-nil}
+use Rattle.std.specs.Prelude.{Option, Some, None, filter_map, option_map, slice_get}
+use Rattle.std.specs.List.{list_all}
 use Rattle.std.specs.Option.{option_map_or}
 use Rattle.std.proofs.lemmas.Bool.{and_parts}
 use Rattle.std.proofs.lemmas.List.Elements.{filter_map-append}
-use Rattle.sg_graph.proofs.Found.{cases_of}
 use Rattle.sg_model.specs.Names.{Name}
-use Rattle.sg_model.proofs.Small.{same_bytes, bytes_same}
 use Rattle.sg_protocol.specs.Calls.{Call}
 use Rattle.sg_protocol.specs.Keyring.{Program}
 use Rattle.sg_protocol.specs.Past.{Past}
 use Rattle.sg_protocol.specs.Run.{run, events_of_outcome, called_if, world_after, world_after_all}
-use Rattle.sg_protocol.specs.Schedule.{PairKey, Schedule, Step, is_honest, StartStep, ActStep, AbandonStep, DeliverStep, CraftStep}
+use Rattle.sg_protocol.specs.Schedule.{Schedule, Step, is_honest, StartStep, ActStep, AbandonStep, DeliverStep, CraftStep}
 use Rattle.sg_protocol.specs.Steps.{is_taken}
 use Rattle.sg_protocol.specs.Texts.{real}
-use Rattle.sg_protocol.specs.World.{World, Logged, past_of, new_world, keyring_of, call_of, frames}
+use Rattle.sg_protocol.specs.World.{World, Logged, past_of, new_world, call_of, frames}
 use Rattle.sg_protocol.proofs.Course.{past_called, next_past}
-use Rattle.sg_protocol.proofs.Steps.{steps_add_entries}
+use Rattle.sg_protocol.proofs.Steps.{steps_add_entries, begins}
 
 -- each honest principal has a past
 abbrev Peopled : Schedule → World → Type 0
@@ -102,19 +100,6 @@ module _ (s : Schedule) where
         silent = q.silent;
       }
 
--- the past of each honest principal, before the first step
-peopled : (keys : List PairKey) (programs : List Program) (names : List Name) (who : Name) → list_any (bytes_eq who) names ≡ true
-    → (p : Past) × (find (λ (p : Past). bytes_eq p.keys.me who) (map (λ me. record { keys = keyring_of keys me; programs = programs; first = []; calls = [] }) names) ≡ Some p)
-peopled keys programs [] who h = absurd (let z : false ≡ true = h in cc)
-peopled keys programs (n ∷ ns) who h = elim (cases_of (bytes_eq n who)) [
-  | inl e ↦ (record { keys = keyring_of keys n; programs = programs; first = []; calls = [] }, rw e refl)
-  | inr e ↦ (let r = peopled keys programs ns who (others (cases_of (bytes_eq who n)) e) in (r.0, rw e r.1))
-]
-  where
-    others : (bytes_eq who n ≡ true) ⊎ (bytes_eq who n ≡ false) → bytes_eq n who ≡ false → list_any (bytes_eq who) ns ≡ true
-    others (inl q) e = absurd (let z : true ≡ false = sym (bytes_same n who (sym (same_bytes who n q))) ∙ e in cc)
-    others (inr q) e = (rw q at h)
-
 -- the world in which an entry's step was taken: its log are the entries before, and the frames recorded so far are the first ones of the run
 pub record WorldBefore (programs : List Program) (s : Schedule) (before : List Logged) (l : Logged) (x : Step) : Type 0 where
   pub world : World
@@ -126,7 +111,7 @@ pub record WorldBefore (programs : List Program) (s : Schedule) (before : List L
 pub entry_call : (programs : List Program) (s : Schedule) (before : List Logged) (l : Logged) (after : List Logged) (x : Step) → list_all (is_taken s) s.steps ≡ true → (run real programs s).log ≡ before ++ l ∷ after
     → slice_get s.steps (length before) ≡ Some x → WorldBefore programs s before l x
 entry_call programs s before l after x taken parts at =
-    let q = found_from s (new_world programs s) 1 s.steps before l after x (peopled s.keys programs s.honest) taken parts at in
+    let q = found_from s (new_world programs s) 1 s.steps before l after x (begins s.keys programs s.honest) taken parts at in
     record {
       world = q.world;
       call = q.call ∙ ap (λ n. call_of real s q.world n x) (let j : 1 + length before ≡ suc (length before) = omega arith in j);

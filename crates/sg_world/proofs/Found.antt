@@ -3,9 +3,10 @@ use Rattle.std.proofs.Common.{◌≡◌, ℕ, zero, suc, ◌+◌, ◌<◌, true,
 use Rattle.std.specs.Map.{lookup}
 use Rattle.std.specs.Option.{option_map_or}
 use Rattle.std.proofs.lemmas.List.{map_more}
+use Rattle.std.proofs.lemmas.Bool.{or_parts}
 use Rattle.sg_base.proofs.SameName.{same, any_same, same-bytes_eq, same-Decides}
 use Rattle.sg_graph.proofs.Found.{passes_there, none_passes}
-use Rattle.sg_keys.proofs.Differ.{absent_before, neither}
+use Rattle.sg_model.proofs.Differ.{absent_before}
 use Rattle.sg_model.specs.Lists.{all_differ, has_text}
 use Rattle.sg_model.specs.Names.{Name}
 use Rattle.sg_protocol.specs.Keyring.{Keyring, Program}
@@ -53,7 +54,7 @@ nodes_more keys programs ms i m old now ring node is within at rung made more =
 pub lookup_absent : {X : Type 0} (who : Name) (es : List (Name × X)) → has_text who (map (λ (e : Name × X). e.0) es) ≡ false → lookup (same who) es ≡ None
 lookup_absent who [] h = refl
 lookup_absent {X} who (e ∷ es) h =
-    let parts = neither (bytes_eq who e.0) (has_text who (map (λ (e : Name × X). e.0) es)) h in
+    let parts = or_parts (bytes_eq who e.0) (has_text who (map (λ (e : Name × X). e.0) es)) h in
     rw (same-bytes_eq who e.0, parts.0) (lookup_absent who es parts.1)
 
 -- the entry of a value at a place

@@ -1,12 +1,6 @@
 -- The last element of a list.
-use Rattle.std.proofs.Common.{◌≡◌, suc, ◌-◌, List, [], ◌∷◌, map, length, option_map, slice_get, refl, ◌∙◌, ap, arith}
+use Rattle.std.proofs.Common.{◌≡◌, suc, ◌-◌, List, [], ◌∷◌, length, slice_get, refl, ◌∙◌, ap, arith}
 use Rattle.sg_model.specs.Last.{last}
-
--- the last of images
-pub last-map : {A B : Type 0} (f : A → B) (xs : List A) → last (map f xs) ≡ option_map f (last xs)
-last-map f [] = refl
-last-map f (x ∷ []) = refl
-last-map f (x ∷ y ∷ xs) = last-map f (y ∷ xs)
 
 -- it stands at the last place
 pub last_got : {A : Type 0} (xs : List A) → slice_get xs (length xs - 1) ≡ last xs

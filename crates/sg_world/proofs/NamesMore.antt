@@ -6,9 +6,9 @@ use Rattle.std.specs.Option.{option_to_list}
 use Rattle.std.proofs.lemmas.Bool.{or_right}
 use Rattle.std.proofs.lemmas.List.Folds.{list_any-append}
 use Rattle.std.proofs.lemmas.List.{get_or-map, map-append, take_more}
+use Rattle.std.proofs.lemmas.List.Elements.{filter_map-append}
 use Rattle.sg_lines.specs.Sessions.{Met, with_declared, with_event}
 use Rattle.sg_model.specs.Lists.{has_text}
-use Rattle.sg_protocol.proofs.Course.{filter_map-append}
 use Rattle.sg_protocol.specs.Schedule.{Declared}
 use Rattle.sg_protocol.specs.Texts.{real, session_id}
 use Rattle.sg_world.specs.Kept.{Taken}

@@ -3,6 +3,7 @@ use Rattle.std.proofs.Common.{◌≡◌, ℕ, zero, suc, ◌+◌, ◌-◌, ◌<�
 use Rattle.std.specs.Prelude.{Option, Some, option_and_then, slice_get, if◌then◌else◌}
 use Rattle.std.specs.List.{list_all}
 use Rattle.std.specs.Option.{option_to_list}
+use Rattle.sg_model.proofs.Small.{length_map}
 use Rattle.sg_protocol.specs.Calls as Protocol
 use Rattle.sg_protocol.specs.Calls.{Event, events_of_answer}
 use Rattle.sg_protocol.specs.Keyring.{Program}
@@ -57,10 +58,6 @@ map_at f [] i x e = absurd (cc)
 map_at f (y ∷ ys) zero x e = (let same : y ≡ x = cc in ap (λ z. Some (f z)) same)
 map_at f (y ∷ ys) (suc i) x e = map_at f ys i x e
 
-map_length : {A B : Type 0} (f : A → B) (xs : List A) → length (map f xs) ≡ length xs
-map_length f [] = refl
-map_length f (x ∷ xs) = ap suc (map_length f xs)
-
 -- a list parted at a place
 parted : (xs : List Logged) (i : ℕ) → i < length xs → (l : Logged) × (slice_get xs i ≡ Some l) × (xs ≡ take i xs ++ l ∷ drop (suc i) xs)
 parted [] i h = absurd (omega (arith, h))
@@ -98,7 +95,7 @@ module _ (programs : List Program) (s : Schedule) (entries : List Taken) (record
   log = (run real programs s).log
 
   pub as_many : length entries ≡ length log
-  as_many = sym (map_length (λ (e : Taken). e.told) entries) ∙ ap length h.told ∙ map_length {B = Option Told} Some (told_log log) ∙ told_length [] log
+  as_many = sym (length_map (λ (e : Taken). e.told) entries) ∙ ap length h.told ∙ length_map {B = Option Told} Some (told_log log) ∙ told_length [] log
 
   pub all_taken : (i : ℕ) → i ≡ length entries → take i log ≡ log
   all_taken i e = take_whole log i (e ∙ as_many)

@@ -1,8 +1,8 @@
 -- The nodes stand for their pasts, also after a call at one of them.
-use Rattle.std.proofs.Common.{◌≡◌, ℕ, zero, suc, Bool, true, false, not, ◌||◌, List, [], ◌∷◌, map, find, bytes_eq, if◌then◌else◌, Some, slice_get, refl, sym, ◌∙◌, ap, subst}
+use Rattle.std.proofs.Common.{◌≡◌, ℕ, zero, suc, Bool, true, false, not, List, [], ◌∷◌, map, find, bytes_eq, if◌then◌else◌, Some, slice_get, refl, sym, ◌∙◌, ap, subst}
 use Rattle.indexmap.specs.IndexMap.{set_value_at}
-use Rattle.std.proofs.lemmas.Bool.{and_parts}
-use Rattle.sg_model.proofs.Small.{same_bytes, bytes_same, not_true, clash}
+use Rattle.std.proofs.lemmas.Bool.{and_parts, not-true, or_right, or_parts}
+use Rattle.sg_model.proofs.Small.{same_bytes, bytes_same, clash}
 use Rattle.sg_model.specs.Lists.{has_text, all_differ}
 use Rattle.sg_model.specs.Names.{Name}
 use Rattle.sg_protocol.specs.Calls.{Call}
@@ -34,10 +34,6 @@ pub in_names : (ns : List Named) (i : ℕ) (who : Name) (old : NodeState) → sl
 in_names [] i who old e = absurd (cc)
 in_names (n ∷ ns) zero who old e = let q : n ≡ (who, old) = cc in rw (bytes_same who n.0 (sym (ap (λ (z : Named). z.0) q))) refl
 in_names (n ∷ ns) (suc i) who old e = or_right (bytes_eq who n.0) (has_text who (names ns)) (in_names ns i who old e)
-  where
-    or_right : (a b : Bool) → b ≡ true → (a || b) ≡ true
-    or_right true b h = refl
-    or_right false b h = h
 
 -- the first name is not that of a later node
 first_differs : (n : Named) (ns : List Named) (who : Name) → all_differ (names (n ∷ ns)) ≡ true → has_text who (names ns) ≡ true → bytes_eq n.0 who ≡ false
@@ -45,7 +41,7 @@ first_differs n ns who d h = by (bytes_eq n.0 who) refl
   where
     by : (t : Bool) → bytes_eq n.0 who ≡ t → bytes_eq n.0 who ≡ false
     by false e = e
-    by true e = clash (has_text n.0 (names ns)) (subst (λ (z : Name). has_text z (names ns) ≡ true) (sym (same_bytes n.0 who e)) h) (not_true (has_text n.0 (names ns)) (and_parts (not (has_text n.0 (names ns))) (all_differ (names ns)) d).0)
+    by true e = clash (has_text n.0 (names ns)) (subst (λ (z : Name). has_text z (names ns) ≡ true) (sym (same_bytes n.0 who e)) h) (not-true (has_text n.0 (names ns)) (and_parts (not (has_text n.0 (names ns))) (all_differ (names ns)) d).0)
 
 pub found : (ns : List Named) (ps : List Past) (i : ℕ) (who : Name) (old : NodeState) → StandForPasts ns ps → all_differ (names ns) ≡ true → slice_get ns i ≡ Some (who, old) → Found old who ps
 found [] ps i who old h d e = absurd (cc)
@@ -69,14 +65,10 @@ others [] [] who call h a = refl
 others [] (p ∷ ps) who call h a = absurd h
 others (n ∷ ns) [] who call h a = refl
 others (n ∷ ns) (p ∷ ps) who call h a =
-    let parts = neither (bytes_eq who n.0) (has_text who (names ns)) a in
+    let parts = or_parts (bytes_eq who n.0) (has_text who (names ns)) a in
     let other : bytes_eq p.keys.me who ≡ false = subst (λ (z : Name). bytes_eq z who ≡ false) (sym h.0.me) (swapped who n.0 parts.0) in
     (λ i. (if other i then past_after real p call else p) ∷ others ns ps who call h.1 parts.1 i)
   where
-    neither : (a b : Bool) → (a || b) ≡ false → (a ≡ false) × (b ≡ false)
-    neither true b h = absurd (cc)
-    neither false b h = (refl, h)
-
     swapped : (a b : Name) → bytes_eq a b ≡ false → bytes_eq b a ≡ false
     swapped a b e = by (bytes_eq b a) refl
       where
@@ -92,7 +84,7 @@ after (n ∷ ns) (p ∷ ps) zero who old new call h d e go =
     let q : n ≡ (who, old) = cc in
     let named : n.0 ≡ who = ap (λ (z : Named). z.0) q in
     let me : p.keys.me ≡ who = h.0.me ∙ named in
-    let apart = not_true (has_text n.0 (names ns)) (and_parts (not (has_text n.0 (names ns))) (all_differ (names ns)) d).0 in
+    let apart = not-true (has_text n.0 (names ns)) (and_parts (not (has_text n.0 (names ns))) (all_differ (names ns)) d).0 in
     let now : StandsAs (n.0, new) (past_after real p call) = subst (λ (z : Name). StandsAs (z, new) (past_after real p call)) (sym named) (go p me (subst (λ (z : Named). StandsForPast z.1 p) q h.0.stands) h.0.told) in
     let first : next who call p ≡ past_after real p call = (rw (bytes_same p.keys.me who me) refl) in
     (subst (StandsAs (n.0, new)) (sym first) now, subst (StandForPasts ns) (sym (others ns ps who call h.1 (subst (λ (z : Name). has_text z (names ns) ≡ false) named apart))) h.1)

@@ -1,11 +1,10 @@
 -- The entries of a run's log, each beside its step.
-use Rattle.std.specs.Prelude.{◌≡◌, ℕ, ◌+◌, ◌⊎◌, ⊤, true, false, List, [], ◌∷◌, ◌++◌, map, find, bytes_eq, refl, Option, Some, None, option_map}
-use Rattle.std.specs.List.{list_all, list_any, AllZip}
+use Rattle.std.specs.Prelude.{◌≡◌, ℕ, ◌+◌, ⊤, true, List, [], ◌∷◌, ◌++◌, map, refl, Option, Some, None, option_map}
+use Rattle.std.specs.List.{list_all, AllZip}
 use Rattle.std.specs.Option.{option_map_or}
-use Rattle.std.proofs.Common.{sym, ◌∙◌, ap, subst, inl, inr, append_assoc, append-nil}
-use Rattle.std.proofs.lemmas.Bool.{cases_Bool, and_parts}
+use Rattle.std.proofs.Common.{sym, ◌∙◌, ap, subst, append_assoc, append-nil}
+use Rattle.std.proofs.lemmas.Bool.{and_parts}
 use Rattle.sg_model.specs.Names.{Name}
-use Rattle.sg_model.proofs.Small.{same_bytes, bytes_same}
 use Rattle.sg_protocol.specs.Calls.{Call}
 use Rattle.sg_protocol.specs.Keyring.{Program}
 use Rattle.sg_protocol.specs.Past.{Past}
@@ -15,6 +14,7 @@ use Rattle.sg_protocol.specs.Steps.{is_taken}
 use Rattle.sg_protocol.specs.Texts.{real}
 use Rattle.sg_protocol.specs.World.{World, Logged, Outcome, Answered, past_of, new_world, keyring_of, call_of}
 use Rattle.sg_protocol.proofs.Course.{past_called, next_past}
+use Rattle.sg_protocol.proofs.Steps.{begins}
 
 -- nothing was answered
 abbrev pub IsSilent : Outcome → Type 0
@@ -79,20 +79,8 @@ module _ (s : Schedule) where
 abbrev new_past : List PairKey → List Program → Name → Past
 new_past keys programs me = record { keys = keyring_of keys me; programs = programs; first = []; calls = [] }
 
-peopled_first : (keys : List PairKey) (programs : List Program) (names : List Name) (who : Name) → list_any (bytes_eq who) names ≡ true
-    → (p : Past) × (find (λ (p : Past). bytes_eq p.keys.me who) (map (λ me. record { keys = keyring_of keys me; programs = programs; first = []; calls = [] }) names) ≡ Some p)
-peopled_first keys programs [] who h = absurd (let z : false ≡ true = h in cc)
-peopled_first keys programs (n ∷ ns) who h = elim (cases_Bool (bytes_eq n who)) [
-  | inl e ↦ (new_past keys programs n, rw e refl)
-  | inr e ↦ let r = peopled_first keys programs ns who (others (cases_Bool (bytes_eq who n)) e) in (r.0, rw e r.1)
-]
-  where
-    others : (bytes_eq who n ≡ true) ⊎ (bytes_eq who n ≡ false) → bytes_eq n who ≡ false → list_any (bytes_eq who) ns ≡ true
-    others (inl q) e = absurd (let z : true ≡ false = sym (bytes_same n who (sym (same_bytes who n q))) ∙ e in cc)
-    others (inr q) e = (rw q at h)
-
 -- where each step is a craft or an honest principal's, each has its entry
 pub entries_of_steps : (programs : List Program) (s : Schedule) → list_all (is_taken s) s.steps ≡ true → AllZip (EntryOf s) s.steps (run real programs s).log
 entries_of_steps programs s e =
-    let r : AllMore s [] (run real programs s).log s.steps = all_steps s (new_world programs s) 1 s.steps (peopled_first s.keys programs s.honest) e in
+    let r : AllMore s [] (run real programs s).log s.steps = all_steps s (new_world programs s) 1 s.steps (begins s.keys programs s.honest) e in
     subst (λ (l : List Logged). AllZip (EntryOf s) s.steps l) (sym r.parts) r.are

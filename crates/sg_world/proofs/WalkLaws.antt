@@ -10,6 +10,7 @@ use Rattle.std.proofs.lemmas.Option.{same_Some}
 use Rattle.std.proofs.Math.Seq.{take-length}
 use Rattle.std.proofs.lemmas.Bool.{cases_Bool}
 use Rattle.std.proofs.lemmas.Slice.Eq.{bytes_eq-Decides}
+use Rattle.std.proofs.lemmas.List.Elements.{filter_map-append}
 use Rattle.sg_courses.specs.Courses.{Course, Courses}
 use Rattle.sg_courses.specs.Runs.{AreCourses, IsCourseOf, IsExplainedBy, IsUnbroken, sids_of}
 use Rattle.sg_grown.proofs.Coursed.{courses_are_grown}
@@ -20,7 +21,6 @@ use Rattle.sg_lines.proofs.Steps.{HasSteps-IsStoredWalk}
 use Rattle.sg_lines.specs.Sessions.{Met, all_sids, naming, session_name, sids_met}
 use Rattle.sg_lines.specs.Walks.{HasSteps}
 use Rattle.sg_model.specs.Lists.{has_text}
-use Rattle.sg_protocol.proofs.Course.{filter_map-append}
 use Rattle.sg_protocol.proofs.RealHash.{real_hash}
 use Rattle.sg_protocol.proofs.Whole.{found_in}
 use Rattle.sg_protocol.specs.Calls.{Event, sid_of}
@@ -34,7 +34,7 @@ use Rattle.sg_protocol.specs.Texts.{real, graph_digest}
 use Rattle.sg_protocol.specs.Walk.{StoredStep, IsStoredWalk, OnePath}
 use Rattle.sg_report.specs.Lines.{graph_or_none}
 use Rattle.sg_report.specs.Report.{met}
-use Rattle.sg_walk.specs.Views.{steps_of}
+use Rattle.sg_walk.specs.Model.{steps_of}
 use Rattle.sg_walk.specs.declared.stored.StoredWalk.{StoredWalk}
 use Rattle.sg_world.specs.Account.{account, cast_met, graph_of, honest_in}
 use Rattle.sg_world.specs.Replay.{Replay, run_of}

@@ -1,6 +1,7 @@
 -- A replay as its parts keep it.
 use Rattle.std.proofs.Common.{◌≡◌, ℕ, ◌<◌, ◌≤◌, List, map, length, sum_by, Option, Some, option_map, sym, ◌∙◌, ap, subst}
 use Rattle.sg_model.specs.Last.{last}
+use Rattle.sg_law.proofs.Cut.{last-option_map}
 use Rattle.sg_protocol.proofs.Steps.{runs_go_by_step}
 use Rattle.sg_protocol.specs.IsSchedule.{AreCompiled, IsSchedule}
 use Rattle.sg_protocol.specs.Keyring.{Program}
@@ -13,7 +14,6 @@ use Rattle.sg_world.specs.Kept.{Recorded, Taken}
 use Rattle.sg_world.specs.Replay.{Replay, without_steps, with_taken, run_of, stepped}
 use Rattle.sg_world.specs.Setting.{Setting}
 use Rattle.sg_report.specs.Told.{Told, told_log}
-use Rattle.sg_world.proofs.Lasts.{last-map}
 use Rattle.sg_world.proofs.Begins.{begins, is_declared, new_named, nothing}
 use Rattle.sg_world.proofs.Pasts.{Named}
 
@@ -50,7 +50,7 @@ run_is rep new x h = ap run_of h ∙ runs_go_by_step real rep.programs rep.sched
 -- what is told of the last step
 pub last_told : (rep : Replay) (d : Setting) (nodes : List Named) (r : Recorded) → replay d nodes r ≡ rep → Holds d nodes r → option_map (λ (e : Taken). e.told) (last r.entries) ≡ option_map {U = Option Told} Some (last (told_log (run_of rep).log))
 last_told rep d nodes r is h =
-    sym (last-map (λ (e : Taken). e.told) r.entries) ∙ ap (λ (z : List (Option Told)). last z) h.run.told ∙ last-map (λ (t : Told). Some t) (told_log (run_of (replay d nodes r)).log)
+    sym (last-option_map (λ (e : Taken). e.told) r.entries) ∙ ap (λ (z : List (Option Told)). last z) h.run.told ∙ last-option_map (λ (t : Told). Some t) (told_log (run_of (replay d nodes r)).log)
     ∙ ap (λ (z : Replay). option_map {U = Option Told} Some (last (told_log (run_of z).log))) is
 
 -- what was noted in each step

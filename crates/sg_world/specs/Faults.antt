@@ -1,18 +1,15 @@
 -- Why a step is not taken.
 use Rattle.std.specs.Prelude.{◌≡◌, ℕ, ◌<◌, ⊤, Some, true, false}
+use Rattle.sg_model.specs.Limits.{most_record_before}
 use Rattle.sg_protocol.specs.Schedule.{Step, who_of}
 use Rattle.sg_protocol.specs.Steps.{is_taken}
 use Rattle.sg_world.specs.Replay.{Replay, size_of}
 use Rattle.sg_world.specs.declared.fault.StepFault.{StepFault}
 use Rattle.sg_world.specs.declared.fault.StepFault.TheVariants.{NotHonest, RecordFull, OutOfMemory}
 
--- the record holds more than this many bytes as a step begins that is not taken
-abbrev pub most_bytes : ℕ
-most_bytes = 264241152
-
--- the record is full
+-- the record holds more bytes than a step may begin with
 abbrev pub IsFull : Replay → Type 0
-IsFull r = most_bytes < size_of r
+IsFull r = most_record_before < size_of r
 
 -- why the step is not taken, in order
 abbrev pub IsStepFault : Replay → Step → StepFault → Type 0

@@ -2,6 +2,7 @@
 use Rattle.std.specs.Prelude.{◌≡◌, ◌≤◌, true, List, length, map}
 use Rattle.std.specs.List.{list_all}
 use Rattle.sg_model.specs.Names.{Name}
+use Rattle.sg_model.specs.Limits.{most_steps}
 use Rattle.sg_protocol.specs.IsSchedule.{AreCompiled, IsSchedule}
 use Rattle.sg_protocol.specs.NodeStates.{NodeState}
 use Rattle.sg_protocol.specs.Run.{run}
@@ -26,5 +27,5 @@ pub record Holds (d : Setting) (nodes : List (Name × NodeState)) (r : Recorded)
   pub schedule : IsSchedule real (schedule_of d nodes r)
   pub compiled : AreCompiled real d.graphs d.programs
   pub taken : list_all (is_taken (schedule_of d nodes r)) (schedule_of d nodes r).steps ≡ true
-  pub few : length r.entries ≤ 200000
+  pub few : length r.entries ≤ most_steps
   pub run : HoldsRun d.programs (schedule_of d nodes r) (run real d.programs (schedule_of d nodes r)) nodes r

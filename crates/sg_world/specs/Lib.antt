@@ -10,7 +10,8 @@ pub mod Recording
 pub mod Places
 pub mod Holds
 pub mod SettingHeld
-pub mod WorldHeld
+pub mod Model
+pub mod Invariant
 pub mod Account
 pub mod EntriesOfRun
 pub mod KeptLines

@@ -3,9 +3,9 @@ use Rattle.std.specs.Prelude.{◌≡◌, ℕ, ◌<◌, ⊤, true, false, List, m
 use Rattle.std.specs.Option.{option_map_or}
 use Rattle.sg_model.specs.Lists.{has_text}
 use Rattle.sg_model.specs.Names.{Name}
+use Rattle.sg_model.specs.Limits.{most_record_before}
 use Rattle.sg_protocol.specs.NodeStates.{NodeState}
 use Rattle.sg_protocol.specs.Schedule.{Step, who_of}
-use Rattle.sg_world.specs.Faults.{most_bytes}
 use Rattle.sg_world.specs.declared.fault.StepFault.{StepFault}
 use Rattle.sg_world.specs.declared.fault.StepFault.TheVariants.{NotHonest, RecordFull, OutOfMemory}
 
@@ -20,5 +20,5 @@ IsPlaceOf nodes x place = MatchOption place (who_of x ≡ None) (λ i. (n : Name
 -- the principal has no node; or it has one and the record has more bytes than it may have
 abbrev pub IsFaultOf : List Name → ℕ → Step → StepFault → Type 0
 IsFaultOf names size x (NotHonest name) = (who_of x ≡ Some name) × (has_text name names ≡ false)
-IsFaultOf names size x (RecordFull bytes) = (option_map_or (λ who. has_text who names) (who_of x) true ≡ true) × (most_bytes < size) × (bytes ≡ size)
+IsFaultOf names size x (RecordFull bytes) = (option_map_or (λ who. has_text who names) (who_of x) true ≡ true) × (most_record_before < size) × (bytes ≡ size)
 IsFaultOf names size x OutOfMemory = ⊤

@@ -2,7 +2,7 @@
 ghost use Rattle.std.specs.Prelude.{◌≡◌, ◌↔◌, ◌⊎◌, ℕ, ◌+◌, ◌<◌, ◌^◌, length, map, None, option_map, IfOk, IsTrue, OnErr};
 ghost use Rattle.std.specs.List.{AllByRecursion};
 ghost use Rattle.std.specs.Option.{option_copied};
-ghost use Rattle.sg_model.specs.Bytes.{AreBytes, IsBytes};
+ghost use Rattle.sg_model.specs.Bytes.{AreBytes};
 ghost use Rattle.sg_protocol.specs.Calls.{Start, Act, Abandon, Deliver};
 ghost use Rattle.sg_protocol.specs.Frame.{IsValue};
 ghost use Rattle.sg_protocol.specs.NodeStates.{NodeState, StandsForPast};
@@ -13,12 +13,12 @@ ghost use Rattle.sg_protocol.specs.Texts.{real};
 ghost use Rattle.sg_protocol.specs.Told.{graph_of_call};
 ghost use Rattle.sg_protocol.specs.World.{World, frames, bytes_of};
 ghost use Rattle.sg_sched.specs.Format.StepsHeld.{step_of, what_of};
-ghost use Rattle.sg_walk.specs.Views.{values_of};
+ghost use Rattle.sg_walk.specs.Model.{values_of};
 ghost use Rattle.sg_world.specs.Comes.{Comes, ComesOfCall, ComesOfNone, ComesOfStep, IsNamed, changed_to};
 
 use crate::record::Came;
 use crate::setting::Setting;
-use sg_base::{Label, OutOfMemory, Seq, Sid, Value, Var};
+use sg_base::{Label, OutOfMemory, Seq, Sid, Value, Var, tell_bytes};
 use sg_craft::{confounder, first_bytes, flipped, frame_at};
 use sg_crypt::{Cast, Notes};
 use sg_frame::{DecodeFault, decode};
@@ -288,10 +288,5 @@ fn tell_cast(cast: &Cast)
 {
     let _ = cast.version();
 }
-
-// What the type `u8` says of each of these.
-fn tell_bytes(bytes: &[u8])
-    ensures { IsBytes bytes.now }
-{}
 
 ghost use Rattle.sg_report.specs.Outcome.{outcome_of};

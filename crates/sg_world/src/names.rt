@@ -5,7 +5,6 @@ ghost use Rattle.sg_lines.specs.Sessions.{Met, naming};
 ghost use Rattle.sg_protocol.specs.Calls.{sid_of};
 ghost use Rattle.sg_protocol.specs.Texts.{real, session_id};
 ghost use Rattle.sg_report.specs.Outcome.{outcome_of};
-ghost use Rattle.sg_walk.specs.Views.{event_of};
 ghost use Rattle.sg_world.specs.EntriesOfRun.{event_told};
 ghost use Rattle.sg_world.specs.KeptLines.{declared_in, met_in, sid_kept};
 
@@ -15,7 +14,7 @@ use sg_base::{OutOfMemory, Sid};
 use sg_lines::SessionNames;
 use sg_report::Outcome;
 use sg_sched::Declared;
-use sg_walk::Event;
+use sg_walk::sid_of;
 use std::alloc::Global;
 
 /// What the sessions are called: the declared ones by their first names, and the others by `x` and a number in the order of their
@@ -88,16 +87,5 @@ pub(crate) fn sid_told(outcome: &Outcome) -> Option<Sid>
         Outcome::NotAbandoned => None,
         Outcome::NotDelivered(_) => None,
         Outcome::NoFrame => None,
-    }
-}
-
-// The session of an event.
-fn sid_of(event: &Event) -> Sid
-    ensures { result ≡ sid_of (event_of event.now) }
-{
-    match event {
-        Event::Started { sid, .. } => *sid,
-        Event::Sent { sid, .. } => *sid,
-        Event::Received { sid, .. } => *sid,
     }
 }

@@ -1,5 +1,6 @@
 //! The two premises of a replay's run, tried on its record.
 ghost use Rattle.std.specs.Prelude.{◌≡◌, ◌≤◌, IfOk, IfErr, IfSome, OnOk, option_map};
+ghost use Rattle.sg_model.specs.Limits.{most_steps};
 ghost use Rattle.sg_protocol.specs.Broken.{first_forged, first_collision};
 ghost use Rattle.sg_protocol.specs.Premises.{hashed, Unforged, CollisionFree};
 ghost use Rattle.sg_protocol.specs.Texts.{real};
@@ -101,7 +102,7 @@ impl<'p> World<'p> {
     // The first forged text.
     pub(crate) fn forged(&self) -> Result<Option<Forged<'_>>, OutOfMemory>
         ensures found { IfOk result (λ o. option_map (λ f. (f.step, f.note.now)) o ≡ first_forged self.now.schedule (run_of self.now)) }
-        ensures step { IfOk result (λ o. IfSome o (λ f. f.step ≤ 200000)) }
+        ensures step { IfOk result (λ o. IfSome o (λ f. f.step ≤ most_steps)) }
     {
         let honest = Principals { nodes: &self.nodes };
         first_forged(self.alloc, &honest, self.history.notes())
@@ -117,7 +118,7 @@ impl<'p> World<'p> {
 
 // The forged text as a fault, with a copy of the text.
 fn forged_fault(alloc: Global, forged: &Forged<'_>) -> ForgedFault
-    requires { forged.now.step ≤ 200000 }
+    requires { forged.now.step ≤ most_steps }
     ensures { IsForgedAs (forged.now.step, forged.now.note.now) result }
 {
     match forged.note.text().to_vec(alloc) {

@@ -1,10 +1,11 @@
 //! The report of a replay.
 ghost use Rattle.std.specs.Prelude.{◌≡◌, ◌≤◌, ◌++◌, All, IfOk, IfSome, OnOk, filter_map, flat_map, slice_get};
 ghost use Rattle.std.specs.Option.{option_map, option_to_list};
+ghost use Rattle.sg_model.specs.Limits.{most_steps};
 ghost use Rattle.sg_lines.specs.Sessions.{Met, all_sids, naming};
 ghost use Rattle.sg_lines.specs.Walks.{HasSteps, walk_line};
 ghost use Rattle.sg_model.specs.Lists.{is_in};
-ghost use Rattle.sg_report.specs.Held.{forgery_of};
+ghost use Rattle.sg_report.specs.Model.{forgery_of};
 ghost use Rattle.sg_report.specs.Report.{IsReport, lines_from, met, premise_lines, premises_hold};
 ghost use Rattle.sg_world.specs.Account.{CanBeNamed, account, forgery};
 ghost use Rattle.sg_world.specs.Walked.{CanWalkAll, PremisesHold, WalksAreWritten, path_at, path_line, steps_grown};
@@ -79,7 +80,7 @@ impl<'p> World<'p> {
 
 // What is reported of a forged text.
 fn reported(forged: &Forged<'_>) -> Forgery
-    requires { forged.now.step ≤ 200000 }
+    requires { forged.now.step ≤ most_steps }
     ensures { forgery_of result ≡ forgery (forged.now.step, forged.now.note.now) }
 {
     Forgery {

@@ -5,7 +5,7 @@ ghost use Rattle.sg_courses.specs.Runs.{AreCourses, IsUnbroken};
 ghost use Rattle.sg_model.specs.Lists.{has_text};
 ghost use Rattle.sg_protocol.specs.Run.{events_of};
 ghost use Rattle.sg_protocol.specs.Walk.{OnePath};
-ghost use Rattle.sg_walk.specs.Views.{steps_of};
+ghost use Rattle.sg_walk.specs.Model.{steps_of};
 ghost use Rattle.sg_world.specs.Account.{graph_of, honest_in};
 ghost use Rattle.sg_world.specs.KeptLines.{sid_kept};
 ghost use Rattle.sg_world.specs.Replay.{run_of};

@@ -1,7 +1,7 @@
 //! What a replay goes by.
 ghost use Rattle.std.specs.Prelude.{◌≡◌, ◌<◌, ◌≤◌, All, AllPairs, length, map, sum_by, option_map, slice_get, Some, IfOk};
 ghost use Rattle.std.specs.Option.{option_copied};
-ghost use Rattle.sg_craft.specs.Keys.{AreApart};
+ghost use Rattle.sg_craft.specs.Invariant.{AreApart};
 ghost use Rattle.sg_protocol.specs.IsSchedule.{AreCompiled};
 ghost use Rattle.sg_protocol.specs.Node.{program_for};
 ghost use Rattle.sg_protocol.specs.Schedule.{graph_with};

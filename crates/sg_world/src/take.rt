@@ -1,5 +1,6 @@
 //! One step of a replay.
 ghost use Rattle.std.specs.Prelude.{◌≡◌, ℕ, ◌+◌, ◌<◌, ◌^◌, ◌≤◌, None, length, IfErr, IfOk, OnErr, OnOk};
+ghost use Rattle.sg_model.specs.Limits.{most_record_before, most_steps};
 ghost use Rattle.sg_protocol.specs.Schedule.{who_of};
 ghost use Rattle.sg_protocol.specs.Steps.{with_step};
 ghost use Rattle.sg_sched.specs.Format.StepsHeld.{step_of};
@@ -31,7 +32,7 @@ pub(crate) fn admit<'p>(
     step: &Step,
 ) -> Result<Option<usize>, StepFault>
     ensures place { IfOk result (IsPlaceOf nodes.now.entries (step_of step.now)) }
-    ensures size { IfOk result (λ p. history.now.done.size ≤ 264241152) }
+    ensures size { IfOk result (λ p. history.now.done.size ≤ most_record_before) }
     ensures refused { IfErr result (IsFaultOf (names_of nodes.now.entries) history.now.done.size (step_of step.now)) }
 {
     let place = place_for(nodes, step)?;
@@ -67,8 +68,8 @@ pub(crate) fn take_step<'p>(
 ) -> Result<(), OutOfMemory>
     requires holds { Holds setting.now nodes.old.entries history.old.done }
     requires place { IsPlaceOf nodes.old.entries (step_of step.now) place }
-    requires room { length history.old.done.entries < 200000 }
-    requires size { history.old.done.size ≤ 264241152 }
+    requires room { length history.old.done.entries < most_steps }
+    requires size { history.old.done.size ≤ most_record_before }
     requires step { CanBeTaken (schedule_of setting.now nodes.old.entries history.old.done) (step_of step.now) }
     ensures taken { OnOk result (Holds setting.now nodes.new.entries history.new.done) }
     ensures schedule { OnOk result (schedule_of setting.now nodes.new.entries history.new.done

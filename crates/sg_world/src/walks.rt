@@ -8,7 +8,7 @@ ghost use Rattle.sg_protocol.specs.Texts.{real};
 ghost use Rattle.sg_protocol.specs.World.{World, Logged, bytes_of, frames};
 ghost use Rattle.sg_report.specs.Outcome.{outcome_of};
 ghost use Rattle.sg_sched.specs.Format.StepsHeld.{what_of};
-ghost use Rattle.sg_walk.specs.Views.{event_of};
+ghost use Rattle.sg_walk.specs.Model.{event_of};
 ghost use Rattle.sg_world.specs.Comes.{changed_to};
 ghost use Rattle.sg_world.specs.EntriesOfRun.{AreOfRun, IsOfStep, event_told};
 

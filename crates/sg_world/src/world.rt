@@ -1,6 +1,7 @@
 //! A replay.
 ghost use Rattle.std.specs.Prelude.{◌≡◌, ◌<◌, ◌≤◌, All, length, map, Some, IfOk, IfErr, OnOk, OnErr, option_map};
 ghost use Rattle.sg_model.specs.Last.{last};
+ghost use Rattle.sg_model.specs.Limits.{most_steps};
 ghost use Rattle.sg_protocol.specs.IsSchedule.{AreCompiled, IsSchedule};
 ghost use Rattle.sg_protocol.specs.Texts.{real};
 ghost use Rattle.sg_sched.specs.Format.StepsHeld.{step_of};
@@ -40,7 +41,8 @@ impl<'p> Model for World<'p> {
 
     ghost Value = { Replay };
 
-    ghost use Rattle.sg_world.specs.WorldHeld.{replay_of, HoldsWorld};
+    ghost use Rattle.sg_world.specs.Model.{replay_of};
+    ghost use Rattle.sg_world.specs.Invariant.{HoldsWorld};
 
     ghost view = { replay_of };
 
@@ -98,7 +100,7 @@ impl<'p> World<'p> {
 
     /// Takes a step. After a refusal the world is as before.
     pub fn step(&mut self, step: &Step) -> Result<(), StepFault>
-        requires room { length self.old.schedule.steps < 200_000 }
+        requires room { length self.old.schedule.steps < most_steps }
         requires step { CanBeTaken self.old.schedule (step_of step.now) }
         ensures taken { OnOk result (self.new ≡ with_taken self.old (step_of step.now)) }
         ensures run { OnOk result (run_of self.new ≡ stepped self.old (step_of step.now)) }

@@ -1,14 +1,14 @@
 //! Which calls of an object in memory fail, and how many did.
 ghost use Rattle.std.specs.Prelude.{◌≡◌, ◌↔◌, ◌==◌, ◌||◌, not, IsErr, IsTrue, OnOk, OnErr};
 ghost use Rattle.std.specs.List.{list_any};
-ghost use Rattle.sg_base.specs.Memory.{new_plan, fails_next, counted, failed};
+ghost use Rattle.sg_base.specs.Memory.{new_plan, fails_next, counted, failed, one_more};
 
 use crate::Failed;
 use std::marker::Model;
 
 /// The numbers of the calls that are to fail, counted from 1, with the number of calls and of faults so far.
 #[derive(Debug, Drop)]
-pub(super) struct FaultPlan {
+pub struct FaultPlan {
     fails: Vec<u32>,
     calls: u64,
     faults: u64,
@@ -23,7 +23,8 @@ impl Model for FaultPlan {
 }
 
 impl FaultPlan {
-    pub(super) fn new(fails: Vec<u32>) -> FaultPlan
+    /// No call was made. Those of these numbers are to fail.
+    pub fn new(fails: Vec<u32>) -> FaultPlan
         ensures { result ≡ new_plan fails.items }
     {
         FaultPlan {
@@ -34,7 +35,7 @@ impl FaultPlan {
     }
 
     /// Counts a call, which fails where it is on the list or where there is no room for it.
-    pub(super) fn call(&mut self, has_room: bool) -> Result<(), Failed>
+    pub fn call(&mut self, has_room: bool) -> Result<(), Failed>
         ensures cause { IsErr result ↔ IsTrue (fails_next self.old || not has_room) }
         ensures ok { OnOk result (self.new ≡ counted self.old) }
         ensures err { OnErr result (self.new ≡ failed self.old) }
@@ -46,6 +47,14 @@ impl FaultPlan {
         }
         self.faults = self.faults.saturating_add(1);
         Err(Failed)
+    }
+
+    /// Counts a fault of a call that was counted.
+    pub fn fault(&mut self)
+        ensures { self.new ≡ record self.old { faults = one_more self.old.faults } }
+    {
+        let faults = self.faults.saturating_add(1);
+        self.faults = faults;
     }
 }
 

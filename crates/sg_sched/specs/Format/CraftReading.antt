@@ -2,6 +2,7 @@
 use Rattle.std.specs.Prelude.{ℕ, zero, suc, ◌==◌, nat_le, ◌&&◌, Bool, false, if◌then◌else◌, List, [], ◌∷◌, length, codes, bytes_eq, Option, Some, None, option_map, option_and_then}
 use Rattle.std.specs.List.{list_all, slice_split}
 use Rattle.sg_model.specs.Names.{Name, is_name}
+use Rattle.sg_model.specs.Limits.{most_roles, most_time, most_variables}
 use Rattle.sg_protocol.specs.Schedule.{CraftJoin}
 use Rattle.sg_base.specs.Words.{name, number}
 use Rattle.sg_sched.specs.Words.{frame}
@@ -39,7 +40,7 @@ name_list w = all_names (slice_split (λ b. b == 44) w)
 
 -- 2 to 16 of them
 abbrev pub sixteen : List Name → Option (List Name)
-sixteen names = if nat_le 2 (length names) && nat_le (length names) 16 then Some names else None
+sixteen names = if nat_le 2 (length names) && nat_le (length names) most_roles then Some names else None
 
 -- NAME,NAME,.. of 2 to 16 names
 unfoldable pub cast : Word → Option (List Name)
@@ -51,7 +52,7 @@ exactly first w = if bytes_eq w first then Some tt else None
 
 -- a time from 1 to 1,000,000
 unfoldable pub time : Word → Option ℕ
-time w = option_and_then (λ t. if nat_le 1 t then Some t else None) (number 1000000 w)
+time w = option_and_then (λ t. if nat_le 1 t then Some t else None) (number most_time w)
 
 -- the next word is this one
 abbrev pub is_next : List ℕ → Left → Bool
@@ -72,7 +73,7 @@ run (w ∷ ws) = run_step w ws (committed w) (run ws)
 
 -- at most 32 of them
 abbrev pub few : List Committed × Left → Option (List Committed × Left)
-few r = if nat_le (length r.0) 32 then Some r else None
+few r = if nat_le (length r.0) most_variables then Some r else None
 
 -- one commitment or more
 abbrev pub some_of : List Committed × Left → Option (List Committed × Left)

@@ -4,6 +4,7 @@ use Rattle.std.specs.List.{list_any, list_all}
 use Rattle.std.specs.Option.{option_map_or}
 use Rattle.sg_model.specs.Names.{Name}
 use Rattle.sg_model.specs.Lists.{has_text, all_differ, rises_from, first_some}
+use Rattle.sg_model.specs.Limits.{most_declared, most_edges, most_frame_bytes, most_steps}
 use Rattle.sg_protocol.specs.Graph.{Graph}
 use Rattle.sg_protocol.specs.Frame.{Cast, Item as FrameItem, Frame}
 use Rattle.sg_protocol.specs.Spelling.{spelling}
@@ -83,13 +84,13 @@ blank_frame g s c = record {
 
 -- the frame has at most 60,000 bytes
 abbrev pub is_short : Option Graph → Option Session → SaidCraft → Bool
-is_short g s c = option_map_or (λ s. nat_le (length (spelling (blank_frame g s c))) 60000) s true
+is_short g s c = option_map_or (λ s. nat_le (length (spelling (blank_frame g s c))) most_frame_bytes) s true
 
 -- ---- form
 
 -- the line is out of its group, one edge too many, or of a number, an order or a length that its form hasn't
 abbrev pub is_wrong : SoFar → Said → Bool
-is_wrong past (SaidEdge label from to) = is_late past (SaidEdge label from to) || nat_le 512 (length past.edges)
+is_wrong past (SaidEdge label from to) = is_late past (SaidEdge label from to) || nat_le most_edges (length past.edges)
 is_wrong past (SaidSession name graph nonce names version) = is_late past (SaidSession name graph nonce names version) || not (fits_graph past graph names)
 is_wrong past (SaidMake c) = not (rises (graph_for c.session past) c && is_short (graph_for c.session past) (session_named c.session past) c)
 is_wrong past other = is_late past other
@@ -102,8 +103,8 @@ too_many past SaidBlock = None
 too_many past (SaidEdge label from to) = None
 too_many past (SaidHonest who) = None
 too_many past (SaidKey one two digits) = None
-too_many past (SaidSession name graph nonce names version) = if nat_le 100000 (length past.sessions) then Some TooManySessions else None
-too_many past step = if nat_le 200000 (length past.steps) then Some TooManySteps else None
+too_many past (SaidSession name graph nonce names version) = if nat_le most_declared (length past.sessions) then Some TooManySessions else None
+too_many past step = if nat_le most_steps (length past.steps) then Some TooManySteps else None
 
 -- ---- unknown
 

@@ -4,6 +4,7 @@ use Rattle.std.specs.List.{list_all}
 use Rattle.std.specs.Option.{option_map_or}
 use Rattle.sg_model.specs.Names.{Name, is_name, reserved}
 use Rattle.sg_model.specs.Lists.{has_text, all_differ}
+use Rattle.sg_model.specs.Limits.{most_roles, most_time, most_variables}
 use Rattle.sg_protocol.specs.Schedule.{CraftJoin}
 use Rattle.sg_sched.specs.Text.{content, words}
 use Rattle.sg_sched.specs.Format.Said.{Given, Committed, From, FromKey, FromItem, FromSeal, FromZero, SaidItem, SaidCraft, Delivered, TheFrame, TheFlipped, TheCut, TheBytes, Said, SaidBlock, SaidEdge, SaidHonest, SaidKey, SaidSession, SaidStart, SaidAct, SaidAbandon, SaidDeliver, SaidMake, line_words}
@@ -35,7 +36,7 @@ is_committed c = is_name c.variable && is_value c.value && is_wide c.step
 
 -- at most 32 of them, as many as there are variables
 abbrev pub are_committed : List Committed → Bool
-are_committed cs = nat_le (length cs) 32 && list_all is_committed cs
+are_committed cs = nat_le (length cs) most_variables && list_all is_committed cs
 
 -- a source has names and numbers in their ranges. Items of a copied frame are counted from 1, and item 0 is a form
 abbrev pub is_source : From → Bool
@@ -50,11 +51,11 @@ is_tag t = is_name t.0 && is_source t.1
 
 -- a time from 1 to 1,000,000, at most 32 commitments and at most 14 tags
 abbrev pub is_item : SaidItem → Bool
-is_item i = is_name i.label && nat_le 1 i.time && nat_le i.time 1000000 && are_committed i.delta && nat_le (length i.tags) 14 && list_all is_tag i.tags
+is_item i = is_name i.label && nat_le 1 i.time && nat_le i.time most_time && are_committed i.delta && nat_le (length i.tags) 14 && list_all is_tag i.tags
 
 -- a nonce below 2 ^ 64, and 2 to 16 names, equal ones allowed
 abbrev pub is_join : CraftJoin → Bool
-is_join j = option_map_or is_wide j.nonce true && option_map_or (λ ns. nat_le 2 (length ns) && nat_le (length ns) 16 && are_names ns) j.names true
+is_join j = option_map_or is_wide j.nonce true && option_map_or (λ ns. nat_le 2 (length ns) && nat_le (length ns) most_roles && are_names ns) j.names true
 
 -- two different roles, at least one item and no more than a frame can count
 abbrev pub is_craft : SaidCraft → Bool

@@ -1,7 +1,7 @@
 -- The steps that the program holds, as those of the definitions.
 use Rattle.std.specs.Prelude.{ℕ, map}
 use Rattle.sg_base.specs.declared.value.Value.{Value}
-use Rattle.sg_base.specs.Values.{value_of}
+use Rattle.sg_base.specs.Model.{value_of}
 use Rattle.sg_protocol.specs.Schedule as Protocol
 use Rattle.sg_protocol.specs.Schedule.{StartStep, ActStep, AbandonStep, DeliverStep, CraftStep, Whole as WholeFrame, Flipped, Cut as CutFrame, Bytes as AnyBytes}
 use Rattle.sg_sched.specs.declared.step.Step.{Step}

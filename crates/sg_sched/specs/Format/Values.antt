@@ -5,6 +5,7 @@ use Rattle.std.specs.Result.{result_ok}
 use Rattle.std.specs.Str.{is_utf8}
 use Rattle.hex.specs.Hex.{hex_digit_value, decode_of, decode_sized}
 use Rattle.sg_model.specs.Values.{Value, IntValue, TextValue}
+use Rattle.sg_model.specs.Limits.{most_text_bytes}
 use Rattle.sg_base.specs.Words.{number, from_one}
 use Rattle.sg_sched.specs.Format.Said.{Word}
 
@@ -43,7 +44,7 @@ text_bytes (c ∷ x ∷ h ∷ l ∷ cs) =
 
 -- UTF-8 of at most 1,024 bytes
 abbrev pub as_text : List ℕ → Option Value
-as_text bs = if is_utf8 bs && nat_le (length bs) 1024 then Some (TextValue bs) else None
+as_text bs = if is_utf8 bs && nat_le (length bs) most_text_bytes then Some (TextValue bs) else None
 
 -- a text between double quotes
 abbrev pub text_value : Word → Option Value

@@ -3,6 +3,7 @@ use crate::node::frames::REQUEST;
 use crate::node::parts::{
     cast, keyring, name, node, not_sent, not_started, programs, received, sends, sent, started,
 };
+use crate::role::parts::PAIR;
 use sg_base::{Label, NodeId, Role, Sid, Time};
 use sg_crypt::Cast;
 use sg_node::{ActFault, Node, StartFault};
@@ -10,41 +11,17 @@ use sg_program::Programs;
 use std::alloc::Global;
 use std::process::Abort;
 
-const PROGRAM_OF_A: &str = "sg-program 1\n\
-    role a\n\
-    graph pair;\n\
-    role a;\n\
-    role b;\n\
-    node n0: a;\n\
-    node n1: b;\n\
-    node n2: a;\n\
-    edge Request: n0 -> n1;\n\
-    edge Reply: n1 -> n2;\n\
-    table\n\
-    turn n0: Request\n\
+const TABLE_OF_A: &str = "turn n0: Request\n\
     turn n2:\n\
-    view Request: Reply/00000000\n\
-    end\n";
+    view Request: Reply/00000000\n";
 
-const PROGRAM_OF_B: &str = "sg-program 1\n\
-    role b\n\
-    graph pair;\n\
-    role a;\n\
-    role b;\n\
-    node n0: a;\n\
-    node n1: b;\n\
-    node n2: a;\n\
-    edge Request: n0 -> n1;\n\
-    edge Reply: n1 -> n2;\n\
-    table\n\
-    turn n1: Reply\n\
-    view start: Request/00000000\n\
-    end\n";
+const TABLE_OF_B: &str = "turn n1: Reply\n\
+    view start: Request/00000000\n";
 
 const REQUEST_LABEL: Label = Label(0);
 
 fn pair(alloc: Global, rt: &impl Abort) -> Programs {
-    programs(alloc, rt, &[PROGRAM_OF_A, PROGRAM_OF_B])
+    programs(alloc, rt, PAIR, &[("a", TABLE_OF_A), ("b", TABLE_OF_B)])
 }
 
 fn requester<'p>(alloc: Global, rt: &impl Abort, programs: &'p Programs) -> Node<'p> {

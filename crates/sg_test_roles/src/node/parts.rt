@@ -1,11 +1,12 @@
 //! Programs, nodes and casts, and what a node answers.
 ghost use Rattle.std.specs.Prelude.{◌≡◌, length};
 
+use crate::role::parts::load;
 use sg_base::{Addr, Label, Name, Sealed, Sid, Time, Value, Var};
 use sg_crypt::{Cast, Notes};
 use sg_keys::Keyring;
 use sg_node::{ActFault, Node, StartFault};
-use sg_program::{Program, Programs};
+use sg_program::Programs;
 use sg_walk::Event;
 use std::alloc::Global;
 use std::process::Abort;
@@ -14,20 +15,20 @@ pub fn name(rt: &impl Abort, text: &str) -> Name {
     Name::new(text.as_bytes()).expect(rt, "a name")
 }
 
-/// The programs of these texts.
-pub fn programs(alloc: Global, rt: &impl Abort, texts: &[&str]) -> Programs {
+/// The programs of a graph for these roles, each with its table.
+pub fn programs(alloc: Global, rt: &impl Abort, graph: &str, tables: &[(&str, &str)]) -> Programs {
     let mut programs = Programs::new(alloc);
-    for text in texts {
-        assert!(rt; is_added(alloc, &mut programs, text));
+    for (role, table) in tables {
+        assert!(rt; is_added(alloc, &mut programs, graph, role, table));
     }
     programs
 }
 
-// The text is a program's, and this is added.
-fn is_added(alloc: Global, programs: &mut Programs, text: &str) -> bool {
-    match Program::load(alloc, text.as_bytes()) {
-        Ok(program) => programs.add(program).is_ok(),
-        Err(_) => false,
+// The role's table is a program's, and this is added.
+fn is_added(alloc: Global, programs: &mut Programs, graph: &str, role: &str, table: &str) -> bool {
+    match load(alloc, role, graph, table) {
+        Some(program) => programs.add(program).is_ok(),
+        None => false,
     }
 }
 

@@ -3,6 +3,7 @@ use crate::node::frames::{ASK, OFFER, ORDER, PASS};
 use crate::node::parts::{
     bytes_of, cast, name, node, not_sent, not_started, programs, received, sends, started,
 };
+use crate::role::parts::{ALICE, BOB, SHOP};
 use sg_base::{Chars, Label, NodeId, Sid, Time, Value, Var};
 use sg_crypt::{Cast, Notes};
 use sg_node::{ActFault, Node, StartFault};
@@ -10,76 +11,6 @@ use sg_program::Programs;
 use sg_role::SendFault;
 use std::alloc::Global;
 use std::process::Abort;
-
-const PROGRAM_OF_C: &str = "sg-program 1\n\
-    role c\n\
-    graph shop;\n\
-    role c;\n\
-    role p;\n\
-    role w;\n\
-    var q: text by c;\n\
-    var price: int by w;\n\
-    node n0: c;\n\
-    node n1: p;\n\
-    node n2: w;\n\
-    node n3: p;\n\
-    node n4: c;\n\
-    node n5: p;\n\
-    node n6: c;\n\
-    node n7: p;\n\
-    edge Order: n0 -> n1 writes q reads q;\n\
-    edge Ask: n1 -> n2 reads q;\n\
-    edge Offer: n2 -> n3 writes price reads price;\n\
-    edge Refuse: n2 -> n5;\n\
-    edge Pass: n3 -> n4 reads price;\n\
-    edge Deny: n5 -> n6;\n\
-    edge Retry: n4 -> n1 writes q reads q;\n\
-    edge Accept: n4 -> n7;\n\
-    table\n\
-    turn n0: Order\n\
-    turn n4: Retry Accept\n\
-    turn n6:\n\
-    view Order: Offer/00000002 Pass/00000000\n\
-    view Order: Refuse/00000000 Deny/00000000\n\
-    view Retry: Offer/00000002 Pass/00000000\n\
-    view Retry: Refuse/00000000 Deny/00000000\n\
-    end\n";
-
-const PROGRAM_OF_P: &str = "sg-program 1\n\
-    role p\n\
-    graph shop;\n\
-    role c;\n\
-    role p;\n\
-    role w;\n\
-    var q: text by c;\n\
-    var price: int by w;\n\
-    node n0: c;\n\
-    node n1: p;\n\
-    node n2: w;\n\
-    node n3: p;\n\
-    node n4: c;\n\
-    node n5: p;\n\
-    node n6: c;\n\
-    node n7: p;\n\
-    edge Order: n0 -> n1 writes q reads q;\n\
-    edge Ask: n1 -> n2 reads q;\n\
-    edge Offer: n2 -> n3 writes price reads price;\n\
-    edge Refuse: n2 -> n5;\n\
-    edge Pass: n3 -> n4 reads price;\n\
-    edge Deny: n5 -> n6;\n\
-    edge Retry: n4 -> n1 writes q reads q;\n\
-    edge Accept: n4 -> n7;\n\
-    table\n\
-    turn n1: Ask\n\
-    turn n3: Pass\n\
-    turn n5: Deny\n\
-    turn n7:\n\
-    view start: Order/00000001\n\
-    view Ask: Offer/00000002\n\
-    view Ask: Refuse/00000000\n\
-    view Pass: Retry/00000001\n\
-    view Pass: Accept/00000000\n\
-    end\n";
 
 const ORDER_LABEL: Label = Label(0);
 
@@ -90,7 +21,12 @@ const OFFER_LABEL: Label = Label(2);
 const PASS_LABEL: Label = Label(4);
 
 fn shop(alloc: Global, rt: &impl Abort) -> Programs {
-    programs(alloc, rt, &[PROGRAM_OF_C, PROGRAM_OF_P])
+    programs(
+        alloc,
+        rt,
+        SHOP,
+        &[(ALICE.role, ALICE.table), (BOB.role, BOB.table)],
+    )
 }
 
 fn session(rt: &impl Abort, programs: &Programs, number: u32) -> Cast {

@@ -1,4 +1,6 @@
-//! The graphs of the sessions, and what each principal of the shop is in its session.
+//! The graphs of the sessions, their programs, and what each principal of the shop is in its session.
+use sg_program::Program;
+use std::alloc::Global;
 
 pub const SHOP: &str = "graph shop;\n\
     role c;\n\
@@ -81,3 +83,9 @@ pub const CARL: Part = Part {
     peers: &[(b"alice", 0x22), (b"bob", 0x33)],
     begins: false,
 };
+
+/// The program of a role of a graph, with this table.
+pub fn load(alloc: Global, role: &str, graph: &str, table: &str) -> Option<Program> {
+    let text = format!(in alloc; "sg-program 1\nrole {role}\n{graph}table\n{table}end\n").ok()?;
+    Program::load(alloc, text.as_bytes()).ok()
+}

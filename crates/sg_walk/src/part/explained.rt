@@ -5,8 +5,8 @@ ghost use Rattle.sg_model.specs.Lists.{is_in, keys_of};
 ghost use Rattle.sg_protocol.specs.Graph.{AreNumbers};
 ghost use Rattle.sg_protocol.specs.Walk.{Sends, Receives, act_if, acts_of_event, honest_acts, shown};
 ghost use Rattle.sg_walk.specs.Matching.{IsNamed, IsNextAct, Takes, acts_from, is_start, kept, value_from};
-ghost use Rattle.sg_base.specs.Values.{value_of};
-ghost use Rattle.sg_walk.specs.Views.{event_of, step_of, steps_of, values_of, writes_of};
+ghost use Rattle.sg_base.specs.Model.{value_of};
+ghost use Rattle.sg_walk.specs.Model.{event_of, step_of, steps_of, values_of, writes_of};
 
 use super::pairs::{are_shown, counts, edge_of, has_keys, place_of, writes_value};
 use crate::{Event, StoredStep, StoredWalk};

@@ -4,9 +4,9 @@ ghost use Rattle.std.specs.List.{AllByRecursion, list_all};
 ghost use Rattle.std.specs.Bool.{beq};
 ghost use Rattle.sg_model.specs.Lists.{is_in, keys_of};
 ghost use Rattle.sg_protocol.specs.Walk.{are_hidden};
-ghost use Rattle.sg_base.specs.Values.{value_of};
+ghost use Rattle.sg_base.specs.Model.{value_of};
 ghost use Rattle.sg_walk.specs.Matching.{IsNamed};
-ghost use Rattle.sg_walk.specs.Views.{steps_of, writes_of};
+ghost use Rattle.sg_walk.specs.Model.{steps_of, writes_of};
 
 use super::pairs::{counts, edge_of, place_of};
 use crate::{StoredStep, StoredWalk};

@@ -3,10 +3,10 @@ ghost use Rattle.std.specs.Prelude.{◌≡◌, ◌<◌, ◌↔◌, map, drop, le
 ghost use Rattle.sg_model.specs.Lists.{is_in, value_at};
 ghost use Rattle.sg_protocol.specs.Graph.{AreNumbers};
 ghost use Rattle.sg_protocol.specs.Walk.{shown};
-ghost use Rattle.sg_base.specs.Values.{value_of};
+ghost use Rattle.sg_base.specs.Model.{value_of};
 ghost use Rattle.sg_graph.specs.Edges.{edge_of_label};
 ghost use Rattle.sg_walk.specs.Matching.{is_next};
-ghost use Rattle.sg_walk.specs.Views.{values_of, writes_of};
+ghost use Rattle.sg_walk.specs.Model.{values_of, writes_of};
 
 use sg_base::{Label, Role, RoleSet, Value, Var, VarSet};
 use sg_graph::{Edge, Graph};

@@ -1,12 +1,12 @@
 //! Whether the steps are a walk with values.
 ghost use Rattle.std.specs.Prelude.{◌≡◌, ◌<◌, ◌↔◌, length, IsTrue, map, nat_lt, true, option_map, MatchOption};
-ghost use Rattle.sg_base.specs.Values.{value_of};
+ghost use Rattle.sg_base.specs.Model.{value_of};
 ghost use Rattle.std.specs.List.{list_all};
 ghost use Rattle.sg_protocol.specs.Walk.{IsStoredWalk, IsStoredStep, is_typed_or_hidden};
 ghost use Rattle.sg_model.specs.Shape.{target};
 ghost use Rattle.sg_protocol.specs.Graph.{shape};
 ghost use Rattle.sg_walk.specs.Matching.{Follows};
-ghost use Rattle.sg_walk.specs.Views.{writes_of, steps_of, step_of};
+ghost use Rattle.sg_walk.specs.Model.{writes_of, steps_of, step_of};
 
 use super::pairs::{edge_of, has_keys};
 use crate::{StoredStep, StoredWalk};

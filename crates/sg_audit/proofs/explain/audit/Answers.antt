@@ -1,8 +1,8 @@
 use Rattle.std.proofs.Common.{◌≡◌, ◌<◌, ℕ, false, sym, subst, map}
 use Rattle.std.specs.Prelude.{IsPermutation, IsTrue}
 use Rattle.std.specs.List.{AllByRecursion}
-use Rattle.sg_walk.specs.Views.{event_of}
-use Rattle.sg_audit.specs.Held.{log_of, logs_of}
+use Rattle.sg_walk.specs.Model.{event_of}
+use Rattle.sg_audit.specs.Model.{log_of, logs_of}
 use Rattle.sg_audit.specs.Merged.{Log, AscendFrom, clashes, events_of}
 use Rattle.sg_audit.proofs.Answering.{none_clashes, first_of_all, unordered}
 use Rattle.sg_audit.proofs.explain.audit.Goals as goal

@@ -1,8 +1,8 @@
 use Rattle.std.proofs.Common.{◌≡◌, ◌<◌, ◌∙◌, ℕ, sym, subst, ap, map}
 use Rattle.std.specs.List.{AllByRecursion}
 use Rattle.sg_model.specs.Lists.{is_in}
-use Rattle.sg_walk.specs.Views.{event_of, steps_of}
-use Rattle.sg_audit.specs.Held.{log_of, logs_of, told_of}
+use Rattle.sg_walk.specs.Model.{event_of, steps_of}
+use Rattle.sg_audit.specs.Model.{log_of, logs_of, told_of}
 use Rattle.sg_audit.specs.Merged.{roles_of}
 use Rattle.sg_audit.proofs.Answering.{same_honest, asked, agrees, disagrees, small_roles}
 use Rattle.sg_audit.proofs.explain.explain.Goals as goal

@@ -1,7 +1,7 @@
 use Rattle.std.proofs.Common.{◌↔◌, drop, map}
 use Rattle.std.specs.List.{AllByRecursion}
 use Rattle.sg_audit.specs.Merged.{AscendFrom}
-use Rattle.sg_audit.specs.Held.{log_of}
+use Rattle.sg_audit.specs.Model.{log_of}
 use Rattle.sg_audit.proofs.merge.all_ascend.Given as goal
 
 abbrev pub invariant-loop-log : goal.invariant-loop-log

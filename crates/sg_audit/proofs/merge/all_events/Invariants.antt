@@ -1,7 +1,7 @@
 use Rattle.std.proofs.Common.{◌≡◌, take, map}
 use Rattle.std.specs.Prelude.{flat_map}
-use Rattle.sg_walk.specs.Views.{event_of}
-use Rattle.sg_audit.specs.Held.{log_of}
+use Rattle.sg_walk.specs.Model.{event_of}
+use Rattle.sg_audit.specs.Model.{log_of}
 use Rattle.sg_audit.proofs.merge.all_events.Given as goal
 
 abbrev pub invariant-loop-log : goal.invariant-loop-log

@@ -1,6 +1,6 @@
 use Rattle.std.proofs.Common.{◌≡◌, ◌<◌, sym, subst, ◌∙◌, arith, map, ℕ, false}
 use Rattle.std.specs.Prelude.{Some, IsTrue}
-use Rattle.sg_walk.specs.Views.{event_of}
+use Rattle.sg_walk.specs.Model.{event_of}
 use Rattle.sg_audit.specs.Merged.{moment, clashes}
 use Rattle.sg_audit.proofs.Moments.{first_twice, no_clash, least_clash}
 use Rattle.sg_audit.proofs.Neighbours.{twice_here, twice_next, twice_end}

@@ -1,5 +1,5 @@
 use Rattle.std.proofs.Common.{◌≡◌, ◌-◌, drop, map}
-use Rattle.sg_walk.specs.Views.{event_of}
+use Rattle.sg_walk.specs.Model.{event_of}
 use Rattle.sg_audit.proofs.Moments.{first_twice}
 use Rattle.sg_audit.proofs.merge.first_clash.Given as goal
 

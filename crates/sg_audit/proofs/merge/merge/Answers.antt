@@ -1,7 +1,7 @@
 use Rattle.std.proofs.Common.{subst, map}
 use Rattle.std.specs.Prelude.{IsPermutation}
 use Rattle.std.proofs.lemmas.List.Sorted.{IsPermutation-map}
-use Rattle.sg_walk.specs.Views.{event_of}
+use Rattle.sg_walk.specs.Model.{event_of}
 use Rattle.sg_audit.proofs.merge.merge.Goals as goal
 
 pub returns-clause-all : goal.returns-clause-all

@@ -1,6 +1,6 @@
 use Rattle.std.proofs.Common.{rules}
 use Rattle.std.proofs.lemmas.List.Sorted.{IsNonDecreasingBy-from_sort_by_key}
-use Rattle.sg_walk.specs.Views.{event_of}
+use Rattle.sg_walk.specs.Model.{event_of}
 use Rattle.sg_audit.specs.Merged.{moment}
 use Rattle.sg_audit.proofs.Moments.{ascend_sorted}
 use Rattle.sg_audit.proofs.merge.sort_by_time.Goals as goal

@@ -1,5 +1,5 @@
 use Rattle.std.proofs.Common.{◌≡◌, map}
-use Rattle.sg_walk.specs.Views.{step_of}
+use Rattle.sg_walk.specs.Model.{step_of}
 use Rattle.sg_audit.specs.Sessions.{stored_step}
 use Rattle.sg_audit.specs.Taken.{step_said}
 use Rattle.sg_audit.proofs.reader.stored_walk.Given as goal

@@ -1,7 +1,7 @@
 use Rattle.std.proofs.Common.{◌≡◌, ◌<◌, ◌+◌, ◌-◌, ◌∙◌, ℕ, sym, ap, subst, arith, drop, map}
 use Rattle.sg_model.specs.Lists.{is_in}
 use Rattle.sg_base.specs.Sets.{with_member}
-use Rattle.sg_audit.specs.Held.{log_of}
+use Rattle.sg_audit.specs.Model.{log_of}
 use Rattle.sg_audit.specs.Merged.{roles_of}
 use Rattle.sg_audit.proofs.Honest.{one_more, small_at}
 use Rattle.sg_audit.proofs.roles.roles_of.Goals as goal

@@ -1,6 +1,6 @@
 use Rattle.std.proofs.Common.{◌≡◌, ℕ, ◌≤◌, drop, map, length}
 use Rattle.sg_model.specs.Lists.{is_in}
-use Rattle.sg_audit.specs.Held.{log_of}
+use Rattle.sg_audit.specs.Model.{log_of}
 use Rattle.sg_audit.specs.Merged.{roles_of}
 use Rattle.sg_audit.proofs.roles.roles_of.Given as goal
 

@@ -1,5 +1,5 @@
 use Rattle.std.proofs.Common.{◌≡◌, ◌++◌, drop, map}
-use Rattle.sg_walk.specs.Views.{event_of, step_of}
+use Rattle.sg_walk.specs.Model.{event_of, step_of}
 use Rattle.sg_audit.specs.Sent.{sent_steps}
 use Rattle.sg_audit.proofs.sent.sent_walk.Given as goal
 

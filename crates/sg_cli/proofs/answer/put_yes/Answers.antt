@@ -1,9 +1,9 @@
 use Rattle.std.proofs.Common.{ℕ, Bool, codes, map, ap, ◌∙◌}
 use Rattle.sg_model.specs.Lists.{is_in}
-use Rattle.sg_walk.specs.Views.{steps_of}
+use Rattle.sg_walk.specs.Model.{steps_of}
 use Rattle.sg_lines.specs.Walks.{walk_line}
 use Rattle.sg_lines.proofs.Steps.{HasSteps-IsStoredWalk, walk_line-same}
-use Rattle.sg_audit.specs.Held.{log_of}
+use Rattle.sg_audit.specs.Model.{log_of}
 use Rattle.sg_audit.specs.Merged.{roles_of}
 use Rattle.sg_audit.specs.Taken.{session_of}
 use Rattle.sg_cli.specs.Audited.{has_log, said_text}

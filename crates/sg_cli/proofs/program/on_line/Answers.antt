@@ -1,9 +1,9 @@
 use Rattle.std.proofs.Common.{List, ℕ, ◌≡◌, refl, sym, ap, ◌∙◌, subst, inl, inr}
 use Rattle.std.specs.Option.{option_map}
 use Rattle.sg_words.specs.Command.{command_of}
-use Rattle.sg_words.specs.Held.{command_held}
+use Rattle.sg_words.specs.Model.{command_held}
 use Rattle.sg_cli.specs.Ending.{NoMemory}
-use Rattle.sg_cli.specs.Held.{ending_held}
+use Rattle.sg_cli.specs.Model.{ending_held}
 use Rattle.sg_cli.proofs.Statuses.{may_play}
 use Rattle.sg_cli.proofs.program.on_line.Goals as goal
 

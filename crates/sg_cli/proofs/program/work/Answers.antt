@@ -1,6 +1,6 @@
 use Rattle.std.proofs.Common.{◌≡◌}
 use Rattle.sg_words.specs.declared.command.Command.TheVariants.{Run}
-use Rattle.sg_cli.specs.Held.{ending_held}
+use Rattle.sg_cli.specs.Model.{ending_held}
 use Rattle.sg_cli.proofs.Statuses.{of_run}
 use Rattle.sg_cli.proofs.program.work.Goals as goal
 

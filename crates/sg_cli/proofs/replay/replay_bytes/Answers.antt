@@ -1,5 +1,5 @@
 use Rattle.sg_protocol.specs.Texts.{real}
-use Rattle.sg_cli.specs.Held.{ending_held}
+use Rattle.sg_cli.specs.Model.{ending_held}
 use Rattle.sg_cli.proofs.Refused.{no_schedule}
 use Rattle.sg_cli.proofs.Spelled.{spelled_named, spelled_taken}
 use Rattle.sg_cli.proofs.replay.replay_bytes.Goals as goal

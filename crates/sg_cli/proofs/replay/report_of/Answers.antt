@@ -5,7 +5,7 @@ use Rattle.sg_protocol.specs.Steps.{is_taken}
 use Rattle.sg_sched.specs.Format.StepsHeld.{step_of}
 use Rattle.sg_sched.specs.Steps.{CanBeTaken}
 use Rattle.sg_world.specs.Replay.{Replay, with_taken}
-use Rattle.sg_cli.specs.Held.{ending_held}
+use Rattle.sg_cli.specs.Model.{ending_held}
 use Rattle.sg_cli.proofs.Replaying.{named, none_more, reports, stops}
 use Rattle.sg_cli.proofs.Steps.{all_taken, begins, can_be_taken, honest, more, room, whole}
 use Rattle.sg_cli.proofs.replay.report_of.Goals as goal

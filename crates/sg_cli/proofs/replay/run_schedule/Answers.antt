@@ -1,5 +1,5 @@
 use Rattle.std.proofs.Common.{sym, subst}
-use Rattle.sg_cli.specs.Held.{ending_held}
+use Rattle.sg_cli.specs.Model.{ending_held}
 use Rattle.sg_cli.specs.Replayed.{Reports}
 use Rattle.sg_cli.proofs.Replaying.{is_replay, stopped}
 use Rattle.sg_cli.proofs.replay.run_schedule.Goals as goal

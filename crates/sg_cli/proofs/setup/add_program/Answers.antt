@@ -1,6 +1,7 @@
 use Rattle.std.proofs.Common.{inl}
 use Rattle.std.proofs.lemmas.Result.{IfErr-weaker, err_from_is_err_and}
-use Rattle.sg_cli.specs.Held.{ending_held}
+use Rattle.sg_model.specs.Limits.{most_program_file}
+use Rattle.sg_cli.specs.Model.{ending_held}
 use Rattle.sg_cli.specs.Setup.{RefusesProgram}
 use Rattle.sg_cli.proofs.InOrder.{adds_held, refuses}
 use Rattle.sg_cli.proofs.setup.add_program.Goals as goal
@@ -18,6 +19,6 @@ returns-clause-added g c =
 pub returns-clause-ends : goal.returns-clause-ends
 returns-clause-ends g c =
     IfErr-weaker c.put_program.result _ _
-    (λ e h. refuses (g.F.Files.held c.args.files.now) (g.F.Files.faults c.args.files.now) (g.F.Files.faults c.read_file.new.files) 8388608 c.args.file.now c.in_ok-bytes.bytes.items c.as_slice.result.now
+    (λ e h. refuses (g.F.Files.held c.args.files.now) (g.F.Files.faults c.args.files.now) (g.F.Files.faults c.read_file.new.files) most_program_file c.args.file.now c.in_ok-bytes.bytes.items c.as_slice.result.now
     (RefusesProgram c.args.programs.now) (ending_held e) c.as_slice.ensures.value c.in_ok-bytes.ensures.found c.in_ok-bytes.ensures.few h)
     c.put_program.ensures.refused

@@ -1,6 +1,6 @@
 use Rattle.std.proofs.Common.{[], sym, subst, refl, ◌∙◌, arith, Bor, List, ℕ}
 use Rattle.std.proofs.lemmas.Result.{err_from_is_err_and}
-use Rattle.sg_cli.specs.Held.{ending_held}
+use Rattle.sg_cli.specs.Model.{ending_held}
 use Rattle.sg_cli.specs.Setup.{HoldPrograms, NoPrograms}
 use Rattle.sg_cli.proofs.InOrder.{all_held, one_more, stops}
 use Rattle.sg_cli.proofs.setup.read_programs.Goals as goal

@@ -1,6 +1,6 @@
 use Rattle.std.proofs.Common.{map, ◌∙◌, Bor, List, ℕ, arith}
 use Rattle.std.proofs.lemmas.Result.{err_from_is_err_and}
-use Rattle.sg_cli.specs.Held.{ending_held}
+use Rattle.sg_cli.specs.Model.{ending_held}
 use Rattle.sg_cli.specs.Setup.{Named, AtKeys}
 use Rattle.sg_cli.proofs.InOrder.{has_setup, lacks_program, lacks_script}
 use Rattle.sg_cli.proofs.setup.read_setup.Goals as goal

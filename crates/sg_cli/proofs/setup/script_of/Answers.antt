@@ -1,5 +1,6 @@
 use Rattle.std.proofs.Common.{inl}
 use Rattle.std.proofs.lemmas.Result.{err_from_is_err_and}
+use Rattle.sg_model.specs.Limits.{most_script_file}
 use Rattle.sg_script.specs.Format.{SpellsScript}
 use Rattle.sg_cli.specs.Ending.{ScriptRefused}
 use Rattle.sg_cli.specs.Setup.{RefusesScript}
@@ -13,7 +14,7 @@ returns-in_err-bytes-clause-ends g c =
 
 pub returns-in-Ok-clause-holds : goal.returns-in-Ok-clause-holds
 returns-in-Ok-clause-holds g c =
-    holds (g.F.Files.held c.args.files.now) 1048576 c.args.file.now c.in_ok-bytes.bytes.items c.as_slice.result.now (λ b. SpellsScript c.args.programs.now b c.in-Ok.script)
+    holds (g.F.Files.held c.args.files.now) most_script_file c.args.file.now c.in_ok-bytes.bytes.items c.as_slice.result.now (λ b. SpellsScript c.args.programs.now b c.in-Ok.script)
     c.as_slice.ensures.value c.in_ok-bytes.ensures.found c.in_ok-bytes.ensures.few c.in-Ok.ensures.spelled
 
 pub returns-in-Err-OutOfMemory-clause-ends : goal.returns-in-Err-OutOfMemory-clause-ends

@@ -1,19 +1,20 @@
 use Rattle.std.proofs.Common.{◌≡◌, ◌≢◌, ◌≤◌, ◌+◌, ◌-◌, length, arith, inl, inr}
+use Rattle.sg_graph.proofs.Sets.{numbers_within}
 use Rattle.sg_compose.specs.Expansion.{inside}
 use Rattle.sg_compose.proofs.Ends.{inside_length}
 use Rattle.sg_compose.proofs.Joining.{stands-below}
-use Rattle.sg_compose.proofs.Renaming.{number-below, numbers-grow, rising-numbers}
+use Rattle.sg_compose.proofs.Renaming.{number-below, rising-numbers}
 use Rattle.sg_compose.proofs.add.add_edge.Goals as goal
 
 pub shifted-writes-requires : goal.shifted-writes-requires
 shifted-writes-requires c =
     let room : length c.args.inner.now.variables ≤ 32 - c.args.vars = omega (arith, c.requires.vars, c.vars-count.ensures.graph.sizes.1) in
-    numbers-grow _ _ c.edge-edge.result.now.writes room c.edge-edge.ensures.sets.0
+    numbers_within _ _ c.edge-edge.result.now.writes room c.edge-edge.ensures.sets.0
 
 pub shifted-reads-requires : goal.shifted-reads-requires
 shifted-reads-requires c =
     let room : length c.args.inner.now.variables ≤ 32 - c.args.vars = omega (arith, c.requires.vars, c.vars-count.ensures.graph.sizes.1) in
-    numbers-grow _ _ c.edge-edge.result.now.reads room c.edge-edge.ensures.sets.1
+    numbers_within _ _ c.edge-edge.result.now.reads room c.edge-edge.ensures.sets.1
 
 pub add_edge-requires-clause-source : goal.add_edge-requires-clause-source
 add_edge-requires-clause-source c =

@@ -1,16 +1,16 @@
 use Rattle.std.proofs.Common.{◌≡◌, ℕ, ◌+◌, Bool, true, false, List, [], ◌∷◌, ◌++◌, map, filter, sym, ap, ◌∙◌, append_assoc}
 use Rattle.std.proofs.lemmas.List.{map-append}
 use Rattle.sg_model.specs.Lists.{below}
+use Rattle.sg_model.proofs.Numbers.{filter_below_in, filter_below_out}
 use Rattle.sg_protocol.specs.Graph.{Graph, Node}
 use Rattle.sg_graph.specs.Adding.{with_node}
 use Rattle.sg_compose.specs.Expansion.{is_inside, new_node}
-use Rattle.sg_compose.proofs.Ends.{filter-there, filter-away}
 use Rattle.sg_compose.proofs.add.add_nodes.Goals as goal
 use Rattle.sg_compose.proofs.add.add_nodes.Goals.{then-is_inside+in_ok-add_node, else-is_inside}
 
 one_more : (g : Graph) (f : ℕ → Node) (p : ℕ → Bool) (n : ℕ) → p n ≡ true → with_node (record g { nodes = g.nodes ++ map f (filter p (below n)) }) (f n) ≡ record g { nodes = g.nodes ++ map f (filter p (below (n + 1))) }
 one_more g f p n h =
-    ap (λ (l : List Node). record g { nodes = l }) (append_assoc g.nodes (map f (filter p (below n))) (f n ∷ []) ∙ ap (λ (l : List Node). g.nodes ++ l) (sym (map-append f (filter p (below n)) (n ∷ [])) ∙ ap (map f) (sym (filter-there p n h))))
+    ap (λ (l : List Node). record g { nodes = l }) (append_assoc g.nodes (map f (filter p (below n))) (f n ∷ []) ∙ ap (λ (l : List Node). g.nodes ++ l) (sym (map-append f (filter p (below n)) (n ∷ [])) ∙ ap (map f) (sym (filter_below_in p n h))))
 
 pub loop-number-preserved : goal.loop-number-preserved
 loop-number-preserved c =
@@ -22,5 +22,5 @@ loop-number-preserved c =
           w.graph-is ∙ w.in_ok-add_node.ensures.added ∙ ap (λ (g : Graph). with_node g (f c.loop-number.number)) c.loop-number.invariant ∙ one_more c.args.graph.now f p c.loop-number.number there)
       | else-is_inside w ↦
           (let away : p c.loop-number.number ≡ false = sym c.is_inside.ensures ∙ w.if-is_inside.false in
-          w.graph-is ∙ c.loop-number.invariant ∙ ap (λ (l : List ℕ). record c.args.graph.now { nodes = c.args.graph.now.nodes ++ map f l }) (sym (filter-away p c.loop-number.number away)))
+          w.graph-is ∙ c.loop-number.invariant ∙ ap (λ (l : List ℕ). record c.args.graph.now { nodes = c.args.graph.now.nodes ++ map f l }) (sym (filter_below_out p c.loop-number.number away)))
     ]

@@ -1,10 +1,11 @@
 use Rattle.std.proofs.Common.{arith}
+use Rattle.sg_graph.proofs.Sets.{numbers_within}
 use Rattle.sg_compose.specs.Expansion.{player}
-use Rattle.sg_compose.proofs.Renaming.{numbers-grow, rising-numbers, rising-some}
+use Rattle.sg_compose.proofs.Renaming.{rising-numbers, rising-some}
 use Rattle.sg_compose.proofs.add.add_var.Goals as goal
 
 pub players-writers-requires-clause-roles : goal.players-writers-requires-clause-roles
-players-writers-requires-clause-roles c = numbers-grow _ 16 c.writers.result c.roles-others.ensures.graph.sizes.0 c.writers.ensures.there.0
+players-writers-requires-clause-roles c = numbers_within _ 16 c.writers.result c.roles-others.ensures.graph.sizes.0 c.writers.ensures.there.0
 
 pub add_var-requires-clause-writers : goal.add_var-requires-clause-writers
 add_var-requires-clause-writers c = rw c.players-writers.ensures (rising-numbers 16 _ (player c.args.used.now) c.writers.result (λ x i. c.requires.players x))

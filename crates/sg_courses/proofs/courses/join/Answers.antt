@@ -1,6 +1,6 @@
 use Rattle.std.proofs.Common.{◌≡◌, Some, [], ◌∷◌, ◌++◌, sym, ◌∙◌, ap}
 use Rattle.sg_protocol.specs.Frame.{Cast, Frame}
-use Rattle.sg_walk.specs.Views.{event_of}
+use Rattle.sg_walk.specs.Model.{event_of}
 use Rattle.sg_courses.specs.Adding.{Takes}
 use Rattle.sg_courses.specs.Tables.{Begun}
 use Rattle.sg_courses.proofs.Taking.{begun_of, on_ok}

@@ -1,6 +1,6 @@
 use Rattle.std.proofs.Common.{◌≡◌}
 use Rattle.indexmap.specs.IndexMap.{set_value_at}
-use Rattle.sg_walk.specs.Views.{event_of}
+use Rattle.sg_walk.specs.Model.{event_of}
 use Rattle.sg_courses.specs.Adding.{Takes}
 use Rattle.sg_courses.specs.Tables.{GoesAt}
 use Rattle.sg_courses.proofs.Taking.{on_ok, on_err, goes_at_place, same_value}

@@ -1,7 +1,7 @@
 use Rattle.std.proofs.Common.{◌∙◌, ap, map}
 use Rattle.indexmap.specs.IndexMap.{insert_entry}
 use Rattle.sg_protocol.specs.Schedule.{PairKey}
-use Rattle.sg_craft.specs.Keys.{key_of_entry}
+use Rattle.sg_craft.specs.Model.{key_of_entry}
 use Rattle.sg_craft.proofs.KeyLaws.{same_pair, insert_last}
 use Rattle.sg_craft.proofs.keys.put_last.Goals as goal
 

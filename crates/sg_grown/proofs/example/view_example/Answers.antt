@@ -4,7 +4,7 @@ use Rattle.sg_model.specs.Lists.{keys_of}
 use Rattle.sg_protocol.specs.Frame.{Item, Frame}
 use Rattle.sg_protocol.specs.Graph.{AreNumbers}
 use Rattle.sg_protocol.specs.Verdict.{seen}
-use Rattle.sg_vis.specs.Origins.{origin_of}
+use Rattle.sg_vis.specs.Model.{origin_of}
 use Rattle.sg_vis.specs.Table.{view_from, views_of}
 use Rattle.sg_grown.specs.Examples.{HasRow, view_since}
 use Rattle.sg_grown.proofs.Deltas.{deltas_rise}

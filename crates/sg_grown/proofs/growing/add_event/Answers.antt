@@ -8,7 +8,7 @@ use Rattle.sg_model.specs.Lists.{is_in, value_at}
 use Rattle.sg_model.specs.Shape.{sender}
 use Rattle.sg_protocol.specs.Graph.{shape}
 use Rattle.sg_protocol.specs.Walk.{shown}
-use Rattle.sg_walk.specs.Views.{step_of, values_of}
+use Rattle.sg_walk.specs.Model.{step_of, values_of}
 use Rattle.sg_grown.specs.Filling.{value_in}
 use Rattle.sg_grown.proofs.Unknown.{still_shown, kept_sent, filled_received}
 use Rattle.sg_grown.proofs.growing.add_event.Goals as goal

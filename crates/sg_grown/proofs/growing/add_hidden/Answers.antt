@@ -1,5 +1,5 @@
 use Rattle.std.proofs.Common.{map, arith}
-use Rattle.sg_walk.specs.Views.{step_of}
+use Rattle.sg_walk.specs.Model.{step_of}
 use Rattle.sg_grown.specs.Filling.{value_in}
 use Rattle.sg_grown.proofs.Unknown.{step_back}
 use Rattle.sg_grown.proofs.growing.add_hidden.Goals as goal

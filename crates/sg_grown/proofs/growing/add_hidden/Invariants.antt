@@ -1,6 +1,6 @@
 use Rattle.std.proofs.Common.{◌≡◌, ℕ, ◌-◌, ◌<◌, ◌++◌, map, reverse, drop, length}
 use Rattle.sg_protocol.specs.Grown.{hidden_steps}
-use Rattle.sg_walk.specs.Views.{step_of}
+use Rattle.sg_walk.specs.Model.{step_of}
 use Rattle.sg_grown.specs.Filling.{filled_by, unless_written, value_in}
 use Rattle.sg_grown.proofs.growing.add_hidden.Given as goal
 

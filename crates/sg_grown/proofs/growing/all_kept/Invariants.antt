@@ -1,5 +1,5 @@
 use Rattle.std.proofs.Common.{◌≡◌, nat_lt, map, filter}
-use Rattle.sg_walk.specs.Views.{writes_of}
+use Rattle.sg_walk.specs.Model.{writes_of}
 use Rattle.sg_grown.specs.Filling.{value_in}
 use Rattle.sg_grown.proofs.growing.all_kept.Given as goal
 

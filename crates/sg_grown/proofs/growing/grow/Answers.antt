@@ -1,7 +1,7 @@
 use Rattle.std.proofs.Common.{◌≡◌, ◌-◌, map, reverse, drop, length, ap, sym, ◌∙◌, arith}
 use Rattle.std.proofs.lemmas.List.{reverse-reverse}
 use Rattle.sg_model.specs.Lists.{is_in}
-use Rattle.sg_walk.specs.Views.{step_of}
+use Rattle.sg_walk.specs.Model.{step_of}
 use Rattle.sg_grown.specs.Events.{pair_of}
 use Rattle.sg_grown.specs.Filling.{added_by, value_in}
 use Rattle.sg_grown.proofs.Backwards.{map-reverse}

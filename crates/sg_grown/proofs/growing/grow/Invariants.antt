@@ -1,6 +1,6 @@
 use Rattle.std.proofs.Common.{◌≡◌, ℕ, ◌-◌, ◌<◌, map, reverse, drop, length}
 use Rattle.sg_model.specs.Lists.{is_in}
-use Rattle.sg_walk.specs.Views.{step_of}
+use Rattle.sg_walk.specs.Model.{step_of}
 use Rattle.sg_grown.specs.Events.{pair_of}
 use Rattle.sg_grown.specs.Filling.{added_by, given_by, value_in}
 use Rattle.sg_grown.proofs.growing.grow.Given as goal

@@ -1,5 +1,5 @@
 use Rattle.std.proofs.Common.{length}
-use Rattle.sg_walk.proofs.Steps.{numbers_within}
+use Rattle.sg_graph.proofs.Sets.{numbers_within}
 use Rattle.sg_grown.proofs.growing.written_by.Goals as goal
 
 pub returns-clause-numbers : goal.returns-clause-numbers

@@ -1,7 +1,7 @@
 use Rattle.std.proofs.Common.{◌≡◌, ℕ, ◌-◌, ◌<◌, drop, length}
 use Rattle.std.specs.Option.{option_or}
 use Rattle.sg_model.specs.Lists.{value_at}
-use Rattle.sg_walk.specs.Views.{values_of}
+use Rattle.sg_walk.specs.Model.{values_of}
 use Rattle.sg_grown.specs.Filling.{value_in}
 use Rattle.sg_grown.proofs.kept.learn.Given as goal
 

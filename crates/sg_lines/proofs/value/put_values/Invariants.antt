@@ -1,6 +1,6 @@
 use Rattle.std.proofs.Common.{◌≡◌, ◌++◌, take}
 use Rattle.sg_lines.specs.Values.{values_text}
-use Rattle.sg_walk.specs.Views.{values_of}
+use Rattle.sg_walk.specs.Model.{values_of}
 use Rattle.sg_lines.proofs.value.put_values.Given as goal
 
 abbrev pub invariant-values : goal.invariant-values

@@ -1,6 +1,6 @@
 use Rattle.std.proofs.Common.{◌≡◌, ◌++◌, ◌∷◌, map, take}
 use Rattle.std.specs.Prelude.{flat_map}
-use Rattle.sg_walk.specs.Views.{writes_of}
+use Rattle.sg_walk.specs.Model.{writes_of}
 use Rattle.sg_lines.specs.Walks.{write_text}
 use Rattle.sg_lines.proofs.walk.put_more.Given as goal
 

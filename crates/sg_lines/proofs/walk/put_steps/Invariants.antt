@@ -1,7 +1,7 @@
 use Rattle.std.proofs.Common.{◌≡◌, ◌++◌, map, take}
 use Rattle.std.specs.Prelude.{flat_map}
 use Rattle.sg_model.specs.Lists.{is_in}
-use Rattle.sg_walk.specs.Views.{step_of}
+use Rattle.sg_walk.specs.Model.{step_of}
 use Rattle.sg_lines.specs.Walks.{step_text}
 use Rattle.sg_lines.proofs.walk.put_steps.Given as goal
 

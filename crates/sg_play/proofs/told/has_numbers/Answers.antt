@@ -1,7 +1,7 @@
 use Rattle.std.proofs.Common.{◌<◌, sym, ◌∙◌, subst, ℕ, arith}
 use Rattle.std.specs.List.{AllByRecursion}
 use Rattle.sg_model.specs.Lists.{keys_of}
-use Rattle.sg_walk.specs.Views.{values_of}
+use Rattle.sg_walk.specs.Model.{values_of}
 use Rattle.sg_play.proofs.Numbers.{vars_below}
 use Rattle.sg_play.proofs.told.has_numbers.Goals as goal
 

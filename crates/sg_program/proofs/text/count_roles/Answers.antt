@@ -1,7 +1,7 @@
 use Rattle.std.proofs.Common.{◌≡◌, ◌+◌, ◌++◌, [], ◌∷◌, nat_lt, true, false, filter, length, sym, ◌∙◌, ap, arith, length-append, append-nil, refl}
 use Rattle.sg_model.specs.Lists.{is_in, rises_from}
 use Rattle.std.specs.List.{list_all}
-use Rattle.sg_graph.proofs.Growth.{both}
+use Rattle.std.proofs.lemmas.Bool.{and_parts}
 use Rattle.sg_graph.proofs.Rising.{below_more, below_zero, below_all}
 use Rattle.sg_program.proofs.text.count_roles.Goals as goal
 use Rattle.sg_program.proofs.text.count_roles.Goals.{then-has, else-has}
@@ -11,7 +11,7 @@ loop-number-init c = (sym (ap length (below_zero c.args.roles)), omega arith)
 
 pub loop-number-preserved : goal.loop-number-preserved
 loop-number-preserved c =
-    let rises = (both (rises_from 0 c.args.roles) (list_all (λ k. nat_lt k (length c.args.graph.now.roles)) c.args.roles) c.requires).0 in
+    let rises = (and_parts (rises_from 0 c.args.roles) (list_all (λ k. nat_lt k (length c.args.graph.now.roles)) c.args.roles) c.requires).0 in
     let next = below_more 0 c.loop-number.number c.args.roles rises in
     elim c.if-has.branch [
       | then-has w ↦
@@ -28,7 +28,7 @@ loop-number-preserved c =
 
 pub returns : goal.returns
 returns c =
-    let all = (both (rises_from 0 c.args.roles) (list_all (λ k. nat_lt k (length c.args.graph.now.roles)) c.args.roles) c.requires).1 in
+    let all = (and_parts (rises_from 0 c.args.roles) (list_all (λ k. nat_lt k (length c.args.graph.now.roles)) c.args.roles) c.requires).1 in
     let whole : length (filter (λ x. nat_lt x (length c.args.graph.now.roles)) c.args.roles) ≡ length c.args.roles = ap length (below_all _ c.args.roles all) in
     let end : c.loop-number.number ≡ length c.args.graph.now.roles = omega arith in
     c.loop-number.invariant.0 ∙ rw end whole

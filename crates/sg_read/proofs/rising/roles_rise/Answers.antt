@@ -3,12 +3,12 @@ use Rattle.std.specs.Prelude.{Option, nat_lt}
 use Rattle.std.specs.Option.{option_map_or}
 use Rattle.std.proofs.lemmas.List.{drop_all}
 use Rattle.sg_model.specs.Names.{Name}
+use Rattle.sg_model.proofs.Small.{drop_at}
 use Rattle.sg_sched.specs.Format.Said.{From}
 use Rattle.sg_sched.specs.Format.Faults.{tag_roles}
 use Rattle.sg_sched.specs.Format.Items.{roles_of}
 use Rattle.sg_read.specs.Crafting.{rise_on}
 use Rattle.sg_read.proofs.RisingLaws.{rise_is}
-use Rattle.sg_read.proofs.ValueLaws.{drop_next}
 use Rattle.sg_read.proofs.rising.roles_rise.Goals as goal
 
 pub returns-in_default : goal.returns-in_default
@@ -21,7 +21,7 @@ returns-in_default c =
     let t : Name = c.tag.inside.role in
     let within : i < length xs = omega arith in
     let at : tag_roles (drop i xs) ≡ t ∷ tag_roles (drop (i + 1) xs) =
-    ap tag_roles (drop_next xs i c.tag-item.result within c.tag-item.is) ∙ ap (λ (x : Name × From). x.0 ∷ tag_roles (drop (i + 1) xs)) (sym c.tag.view_is) in
+    ap tag_roles (drop_at xs i c.tag-item.result within c.tag-item.is) ∙ ap (λ (x : Name × From). x.0 ∷ tag_roles (drop (i + 1) xs)) (sym c.tag.view_is) in
     sym (sym (rise_is (tag_roles xs) ds) ∙ c.loop-tag.invariant.same ∙ ap (λ ns. rise_on rose least ns ds) at
     ∙ ap (λ (o : Option ℕ). option_map_or (λ x. rise_on (rose && not (nat_lt x least)) (suc x) (tag_roles (drop (i + 1) xs)) ds) o true) (sym c.in_default.ensures))
 

@@ -1,6 +1,6 @@
 use Rattle.std.proofs.Common.{◌≡◌, ◌∙◌, ◌++◌, ℕ, List, ap, sym, map, [], append-nil, arith}
 use Rattle.sg_base.specs.declared.value.Value.{Value}
-use Rattle.sg_base.specs.Values.{value_of}
+use Rattle.sg_base.specs.Model.{value_of}
 use Rattle.sg_model.specs.Values.{Value as AValue}
 use Rattle.sg_read.specs.Numbers.{numbered, from_number}
 use Rattle.sg_read.proofs.ValueLaws.{at_end}

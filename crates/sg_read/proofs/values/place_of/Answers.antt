@@ -1,9 +1,10 @@
 use Rattle.std.proofs.Common.{◌∙◌, ◌+◌, ap, sym, drop, arith, Bool, if◌then◌else◌}
 use Rattle.std.specs.Prelude.{option_map, slice_get}
 use Rattle.sg_model.specs.Lists.{value_at}
+use Rattle.sg_model.proofs.Small.{same_number}
 use Rattle.sg_sched.specs.Format.Values.{value_of}
 use Rattle.sg_read.specs.Numbers.{numbered}
-use Rattle.sg_read.proofs.ValueLaws.{stands, same_number, other_number}
+use Rattle.sg_read.proofs.ValueLaws.{stands, other_number}
 use Rattle.sg_read.proofs.values.place_of.Goals as goal
 
 pub returns-then-one-number : goal.returns-then-one-number

@@ -3,7 +3,7 @@ use Rattle.std.specs.Prelude.{option_map, slice_get}
 use Rattle.std.proofs.lemmas.List.{map_push}
 use Rattle.std.proofs.lemmas.Option.{slice_get_read}
 use Rattle.sg_base.specs.declared.value.Value.{Value}
-use Rattle.sg_base.specs.Values.{value_of}
+use Rattle.sg_base.specs.Model.{value_of}
 use Rattle.sg_model.specs.Lists.{value_at}
 use Rattle.sg_model.specs.Values.{Value as AValue}
 use Rattle.sg_sched.specs.Format.Said.{Given}

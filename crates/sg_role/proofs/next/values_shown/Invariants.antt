@@ -1,5 +1,5 @@
 use Rattle.std.proofs.Common.{◌≡◌, map, take}
-use Rattle.sg_walk.specs.Views.{values_of}
+use Rattle.sg_walk.specs.Model.{values_of}
 use Rattle.sg_role.proofs.next.values_shown.Given as goal
 
 abbrev pub invariant-loop-at : goal.invariant-loop-at

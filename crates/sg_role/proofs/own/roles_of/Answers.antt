@@ -1,6 +1,6 @@
 use Rattle.std.proofs.Common.{rules, ◌≡◌, ◌++◌, [], ◌∷◌, true, false, sym, ap, ◌∙◌}
 use Rattle.sg_model.specs.Lists.{is_in}
-use Rattle.sg_role.proofs.Walked.{filter_below_in, filter_below_out}
+use Rattle.sg_model.proofs.Numbers.{filter_below_in, filter_below_out}
 use Rattle.sg_role.proofs.own.roles_of.Goals as goal
 use Rattle.sg_role.proofs.own.roles_of.Goals.{then-has+in_ok-push, else-has}
 

@@ -3,7 +3,7 @@ use Rattle.sg_protocol.specs.Notes.{note_of}
 use Rattle.sg_protocol.specs.Sending.{tag_for}
 use Rattle.sg_protocol.specs.Session.{principal}
 use Rattle.sg_protocol.specs.Texts.{real}
-use Rattle.sg_role.specs.States.{state_of}
+use Rattle.sg_role.specs.Model.{state_of}
 use Rattle.sg_role.specs.Stepping.{own_text}
 use Rattle.sg_role.proofs.own.tags_for.Given as goal
 

@@ -1,6 +1,6 @@
 use Rattle.std.proofs.Common.{◌≡◌, ◌++◌, drop}
 use Rattle.sg_protocol.specs.Acting.{openings_for}
-use Rattle.sg_walk.specs.Views.{values_of}
+use Rattle.sg_walk.specs.Model.{values_of}
 use Rattle.sg_role.proofs.own.written_openings.Given as goal
 
 abbrev pub invariant-loop-at : goal.invariant-loop-at

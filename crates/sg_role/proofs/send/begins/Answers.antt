@@ -1,10 +1,9 @@
 use Rattle.std.proofs.Common.{◌≡◌, ◌||◌, ◌+◌, Bool, true, false, Some, drop, length, sym, ap, ◌∙◌, arith}
 use Rattle.std.specs.List.{list_any}
+use Rattle.sg_model.proofs.Small.{length_map, drop_end}
 use Rattle.sg_protocol.specs.Evidence.{View, same_origin}
 use Rattle.sg_vis.specs.Table.{views_of, ShownView}
-use Rattle.sg_role.proofs.Counted.{length_map}
 use Rattle.sg_role.proofs.Showing.{any_at}
-use Rattle.sg_role.proofs.Walked.{none_left}
 use Rattle.sg_role.proofs.send.begins.Goals as goal
 
 pub returns-then-begins_after : goal.returns-then-begins_after
@@ -23,4 +22,4 @@ pub returns : goal.returns
 returns c =
     let p = λ (v : View). same_origin v.origin (Some c.args.label) in
     let count = length_map (λ (s : ShownView). s.view) c.args.table.now in
-    sym (ap (list_any p) (none_left (views_of c.args.table.now) c.loop-number.number (omega (arith, count)))) ∙ c.loop-number.invariant
+    sym (ap (list_any p) (drop_end (views_of c.args.table.now) c.loop-number.number (omega (arith, count)))) ∙ c.loop-number.invariant

@@ -2,7 +2,8 @@ use Rattle.std.proofs.Common.{◌≡◌, sym, ap, ◌∙◌, subst}
 use Rattle.sg_protocol.proofs.Backed.{states_are_backed}
 use Rattle.sg_protocol.proofs.RealHash.{real_hash}
 use Rattle.sg_protocol.specs.Texts.{real}
-use Rattle.sg_role.specs.States.{State, HoldsBefore, IsCounted, state_of}
+use Rattle.sg_role.specs.Model.{State, state_of}
+use Rattle.sg_role.specs.Invariant.{HoldsBefore, IsCounted}
 use Rattle.sg_role.specs.Stepping.{held_next}
 use Rattle.sg_role.proofs.send.go_on.Goals as goal
 

@@ -11,8 +11,8 @@ use Rattle.sg_protocol.specs.Notes.{Notes, note_of}
 use Rattle.sg_protocol.specs.Sending.{text_of}
 use Rattle.sg_protocol.specs.Session.{principal}
 use Rattle.sg_protocol.specs.Texts.{commitment_text_of}
-use Rattle.sg_walk.specs.Views.{values_of}
-use Rattle.sg_role.specs.States.{state_of}
+use Rattle.sg_walk.specs.Model.{values_of}
+use Rattle.sg_role.specs.Model.{state_of}
 use Rattle.sg_role.specs.Stepping.{own_text, step_commitments, step_item, items_after, step_frame, frame_with}
 use Rattle.sg_role.proofs.Sealing.{untagged_short}
 use Rattle.sg_role.proofs.SendLaws.{sends_short}

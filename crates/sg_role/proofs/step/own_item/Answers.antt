@@ -6,7 +6,7 @@ use Rattle.sg_protocol.specs.Notes.{Notes, note_of}
 use Rattle.sg_protocol.specs.Sending.{tag_for}
 use Rattle.sg_protocol.specs.Session.{principal}
 use Rattle.sg_protocol.specs.Texts.{real}
-use Rattle.sg_role.specs.States.{state_of}
+use Rattle.sg_role.specs.Model.{state_of}
 use Rattle.sg_role.specs.Stepping.{delta_of, commitments_after, own_text, step_commitments}
 use Rattle.sg_role.proofs.Walked.{extends_same}
 use Rattle.sg_role.proofs.step.own_item.Goals as goal

@@ -5,7 +5,7 @@ use Rattle.sg_protocol.specs.Session.{principal}
 use Rattle.sg_protocol.specs.Texts.{real}
 use Rattle.sg_protocol.specs.Verdict.{has_item_tag}
 use Rattle.sg_role.specs.Looking.{bare, overwritten, text_for}
-use Rattle.sg_role.specs.States.{state_of}
+use Rattle.sg_role.specs.Model.{state_of}
 use Rattle.sg_role.proofs.Looked.{Looking, begins, goes_right, goes_last}
 use Rattle.sg_role.proofs.tags.check_items.Goals as goal
 use Rattle.sg_role.proofs.tags.check_items.Goals.{then-at-items+in_ok-check_item, else-at-items}

@@ -1,4 +1,4 @@
-use Rattle.sg_role.specs.States.{state_of}
+use Rattle.sg_role.specs.Model.{state_of}
 use Rattle.sg_role.proofs.Looked.{Looking}
 use Rattle.sg_role.proofs.tags.check_items.Given as goal
 

@@ -1,6 +1,6 @@
 use Rattle.std.proofs.Common.{◌≡◌, ℕ, Bool, true, false, Some, sym, ap, ◌∙◌, arith}
 use Rattle.sg_protocol.specs.Acting.{is_bad}
-use Rattle.sg_walk.specs.Views.{values_of}
+use Rattle.sg_walk.specs.Model.{values_of}
 use Rattle.sg_role.proofs.ValueLaws.{first_here, first_later, first_end, first_start}
 use Rattle.sg_role.proofs.values.bad_value.Goals as goal
 

@@ -1,7 +1,7 @@
 use Rattle.std.proofs.Common.{◌≡◌, ◌-◌, find}
 use Rattle.sg_model.specs.Lists.{range_from}
 use Rattle.sg_protocol.specs.Acting.{is_bad}
-use Rattle.sg_walk.specs.Views.{values_of}
+use Rattle.sg_walk.specs.Model.{values_of}
 use Rattle.sg_role.specs.Stepping.{first_bad}
 use Rattle.sg_role.proofs.values.bad_value.Given as goal
 

@@ -1,7 +1,7 @@
 use Rattle.std.proofs.Common.{◌<◌, take}
 use Rattle.std.specs.List.{AllByRecursion}
 use Rattle.sg_protocol.specs.Frame.{IsValue}
-use Rattle.sg_walk.specs.Views.{values_of}
+use Rattle.sg_walk.specs.Model.{values_of}
 use Rattle.sg_role.proofs.values.tell_each.Given as goal
 
 abbrev pub invariant-loop-at : goal.invariant-loop-at

@@ -1,6 +1,6 @@
 use Rattle.std.proofs.Common.{sym, subst}
 use Rattle.std.proofs.lemmas.Str.{is_utf8-from_IsUtf8}
-use Rattle.sg_base.specs.Values.{value_of}
+use Rattle.sg_base.specs.Model.{value_of}
 use Rattle.sg_base.specs.declared.value.Value.{Value}
 use Rattle.sg_model.specs.Bytes.{IsBytes}
 use Rattle.sg_protocol.specs.Frame.{IsValue}

@@ -8,7 +8,7 @@ use Rattle.sg_protocol.specs.Verdict.{rows_of_session}
 use Rattle.sg_role.specs.Faults.{Refuses}
 use Rattle.sg_role.specs.Looking.{rows_from}
 use Rattle.sg_role.specs.Sending.{with_notes}
-use Rattle.sg_role.specs.States.{State, state_of}
+use Rattle.sg_role.specs.Model.{State, state_of}
 use Rattle.sg_role.proofs.NotedSame.{rows_held, notes_held}
 use Rattle.sg_role.proofs.verdict.examine.Goals as goal
 

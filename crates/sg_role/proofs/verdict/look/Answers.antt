@@ -8,7 +8,7 @@ use Rattle.sg_protocol.specs.Verdict.{bad_time}
 use Rattle.sg_role.specs.declared.fault.Refusal.TheVariants as told
 use Rattle.sg_role.specs.Faults.{Refuses}
 use Rattle.sg_role.specs.Looking.{evidence_row, opening_row, found_items, hashed_from, overwritten_by}
-use Rattle.sg_role.specs.States.{state_of}
+use Rattle.sg_role.specs.Model.{state_of}
 use Rattle.sg_role.proofs.NextState.{own_time_small, roles_there, variables_there, turn_next}
 use Rattle.sg_role.proofs.Noted.{tag_row, view_row, time_row, item_row, open_row, tagged, viewed, at_tag, at_view, at_time, at_item, at_opening, no_row, by_number, noted_none, noted_view, noted_time, noted_items, noted_opening, noted_accepted, with_items, with_openings, keeps_found, keeps_twice}
 use Rattle.sg_role.proofs.verdict.look.Goals as goal

@@ -3,7 +3,7 @@ use Rattle.sg_protocol.specs.Evidence.{View}
 use Rattle.sg_protocol.specs.Frame.{Frame}
 use Rattle.sg_protocol.specs.Verdict.{seen}
 use Rattle.sg_protocol.proofs.SeenItems.{view_there}
-use Rattle.sg_vis.specs.Origins.{origin_of}
+use Rattle.sg_vis.specs.Model.{origin_of}
 use Rattle.sg_role.specs.Looking.{HasRisingVars}
 use Rattle.sg_role.proofs.Shown.{labels_found, contains_at, not_viewed, all_true, all_false}
 use Rattle.sg_role.proofs.Spelled.{items_rise}

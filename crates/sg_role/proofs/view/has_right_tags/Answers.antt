@@ -6,12 +6,12 @@ use Rattle.sg_base.specs.Sets.{with_member}
 use Rattle.sg_protocol.specs.IsSchedule.{IsProgram}
 use Rattle.sg_protocol.specs.Keyring.{Program, targets_of}
 use Rattle.sg_protocol.specs.Texts.{real}
+use Rattle.sg_graph.proofs.Sets.{numbers_within}
 use Rattle.sg_role.proofs.Forms.{tags_wrong, tags_right, later_more}
-use Rattle.sg_role.proofs.Rising.{wider}
 use Rattle.sg_role.proofs.view.has_right_tags.Goals as goal
 
 numbers : (p : Program) → IsProgram real p → (e : ℕ) → AreNumbers 16 (targets_of p e)
-numbers p is e = wider (length p.graph.roles) 16 (targets_of p e) is.is_graph.sizes.0 (is.targets.rising e)
+numbers p is e = numbers_within (length p.graph.roles) 16 (targets_of p e) is.is_graph.sizes.0 (is.targets.rising e)
 
 pub has_tags-requires-clause-targets : goal.has_tags-requires-clause-targets
 has_tags-requires-clause-targets c =

@@ -1,6 +1,6 @@
 use Rattle.std.proofs.Common.{◌≡◌, ◌-◌, ◌∙◌, suc, ap, sym, arith, codes, Some}
 use Rattle.sg_sched.specs.Format.CraftReading.{repeated, tag}
-use Rattle.sg_sched.specs.Format.Held.{taken}
+use Rattle.sg_sched.specs.Format.Model.{taken}
 use Rattle.sg_sched.proofs.RunLaws.{found_before, stops, goes_on, repeated_full}
 use Rattle.sg_sched.proofs.craft_form.take_tags.Goals as goal
 

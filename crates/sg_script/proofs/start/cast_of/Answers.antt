@@ -1,6 +1,6 @@
 use Rattle.std.proofs.Common.{map}
 use Rattle.toml.specs.View.{view}
-use Rattle.sg_script.proofs.TableLaws.{list_of-items_of}
+use Rattle.sg_keys.proofs.TableLaws.{list_of-items_of}
 use Rattle.sg_script.proofs.start.cast_of.Goals as goal
 
 pub returns-in-Some : goal.returns-in-Some

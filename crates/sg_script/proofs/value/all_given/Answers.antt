@@ -1,11 +1,11 @@
 use Rattle.std.proofs.Common.{◌≡◌, ℕ, ◌<◌, [], ◌∷◌, length, None, Some, sym, arith}
 use Rattle.std.proofs.lemmas.List.{length-map, map-append}
 use Rattle.toml.specs.View.{table_view}
-use Rattle.sg_base.specs.Values.{value_of}
+use Rattle.sg_base.specs.Model.{value_of}
 use Rattle.sg_base.specs.declared.value.Value.{Value as Held}
 use Rattle.sg_model.specs.Values.{Value}
 use Rattle.sg_graph.specs.Parts.{variable_names}
-use Rattle.sg_walk.specs.Views.{values_of}
+use Rattle.sg_walk.specs.Model.{values_of}
 use Rattle.sg_script.specs.Format.{given}
 use Rattle.sg_script.proofs.ListLaws.{numbers-found, numbers-missing, numbers-skipped}
 use Rattle.sg_script.proofs.value.all_given.Goals as goal

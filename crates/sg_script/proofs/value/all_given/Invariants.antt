@@ -2,7 +2,7 @@ use Rattle.std.proofs.Common.{◌≡◌, ◌-◌, length, filter_map}
 use Rattle.toml.specs.View.{table_view}
 use Rattle.sg_graph.specs.Parts.{variable_names}
 use Rattle.sg_model.specs.Lists.{below, range_from}
-use Rattle.sg_walk.specs.Views.{values_of}
+use Rattle.sg_walk.specs.Model.{values_of}
 use Rattle.sg_script.specs.Format.{all_there, given}
 use Rattle.sg_script.proofs.ListLaws.{behind}
 use Rattle.sg_script.proofs.value.all_given.Given as goal

@@ -4,7 +4,7 @@ use Rattle.std.specs.List.{slice_get}
 use Rattle.sg_protocol.specs.Evidence.{View}
 use Rattle.sg_vis.specs.Limits.{Explains, IsFull}
 use Rattle.sg_vis.specs.Order.{HoldsTable, StandsAt}
-use Rattle.sg_vis.specs.Origins.{origin_of}
+use Rattle.sg_vis.specs.Model.{origin_of}
 use Rattle.sg_vis.specs.Search.{AreRows, Keeps}
 use Rattle.sg_vis.specs.Steps.{next_view}
 use Rattle.sg_vis.specs.Table.{ShownView, Shows, view_from, views_of}

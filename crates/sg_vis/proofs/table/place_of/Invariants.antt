@@ -1,7 +1,7 @@
 use Rattle.std.proofs.Common.{◌≡◌, ℕ, ◌-◌, ◌<◌, ◌≤◌, length, get_or}
 use Rattle.std.specs.declared.cmp.Ordering.TheVariants.{Less, Greater}
 use Rattle.sg_vis.specs.Order.{compared}
-use Rattle.sg_vis.specs.Origins.{origin_of}
+use Rattle.sg_vis.specs.Model.{origin_of}
 use Rattle.sg_vis.specs.Table.{ShownView, view_from}
 use Rattle.sg_vis.proofs.table.place_of.Given as goal
 

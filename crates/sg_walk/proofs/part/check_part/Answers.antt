@@ -1,6 +1,6 @@
 use Rattle.std.proofs.Common.{◌≡◌, true, false, ◌&&◌, map, sym, ◌∙◌}
 use Rattle.sg_model.specs.Lists.{is_in}
-use Rattle.sg_walk.specs.Views.{event_of, steps_of}
+use Rattle.sg_walk.specs.Model.{event_of, steps_of}
 use Rattle.sg_walk.proofs.Steps.{named}
 use Rattle.sg_walk.proofs.Whole.{path_last, path_none, and_left, and_right}
 use Rattle.sg_walk.proofs.part.check_part.Goals as goal

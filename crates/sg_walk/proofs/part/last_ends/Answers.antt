@@ -7,7 +7,7 @@ use Rattle.sg_model.specs.Lists.{is_in}
 use Rattle.sg_model.specs.Shape.{sender, receiver}
 use Rattle.sg_protocol.specs.Graph.{shape}
 use Rattle.sg_walk.specs.Matching.{IsNamed}
-use Rattle.sg_walk.specs.Views.{step_of, steps_of}
+use Rattle.sg_walk.specs.Model.{step_of, steps_of}
 use Rattle.sg_walk.proofs.Steps.{all_at, last_at}
 use Rattle.sg_walk.proofs.part.last_ends.Goals as goal
 

@@ -2,7 +2,7 @@ use Rattle.std.proofs.Common.{◌≡◌, ℕ, option_map, Err, inl, inr, refl, s
 use Rattle.std.specs.Option.{option_copied}
 use Rattle.std.proofs.lemmas.List.{length-map}
 use Rattle.sg_base.specs.declared.value.Value.{Value as Held}
-use Rattle.sg_base.specs.Values.{value_of}
+use Rattle.sg_base.specs.Model.{value_of}
 use Rattle.sg_model.proofs.Small.{clash}
 use Rattle.sg_protocol.specs.Acting.{answer}
 use Rattle.sg_protocol.specs.Calls as Protocol
@@ -13,7 +13,7 @@ use Rattle.sg_protocol.specs.Texts.{real}
 use Rattle.sg_role.specs.declared.fault.SendFault.TheVariants as sending
 use Rattle.sg_node.specs.Faults.{act_fault}
 use Rattle.sg_node.specs.declared.fault.ActFault.TheVariants as acting
-use Rattle.sg_walk.specs.Views.{event_of, values_of}
+use Rattle.sg_walk.specs.Model.{event_of, values_of}
 use Rattle.sg_report.specs.Told.{NotActed}
 use Rattle.sg_world.proofs.Called.{comes_quiet, comes_sent, err_same, noted_first, not_acted}
 use Rattle.sg_world.proofs.call.act.Goals as goal

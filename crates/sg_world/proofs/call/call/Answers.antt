@@ -8,7 +8,7 @@ use Rattle.sg_protocol.specs.Texts.{real}
 use Rattle.sg_protocol.specs.World.{call_of}
 use Rattle.sg_sched.specs.Format.StepsHeld.{step_of}
 use Rattle.sg_sched.specs.declared.step.Step.{Step}
-use Rattle.sg_walk.specs.Views.{values_of}
+use Rattle.sg_walk.specs.Model.{values_of}
 use Rattle.sg_world.specs.Comes.{Comes, ComesOfCall, ComesOfStep}
 use Rattle.sg_world.proofs.Called.{are_sixteen, comes_act, comes_start, if_is_ok}
 use Rattle.sg_world.proofs.call.call.Goals as goal

@@ -1,6 +1,6 @@
 use Rattle.std.proofs.Common.{◌≡◌, map, take}
 use Rattle.sg_protocol.specs.Schedule.{confounder}
-use Rattle.sg_walk.specs.Views.{values_of}
+use Rattle.sg_walk.specs.Model.{values_of}
 use Rattle.sg_world.proofs.call.confounders_of.Given as goal
 
 -- the confounders so far

@@ -2,11 +2,12 @@ use Rattle.std.proofs.Common.{◌≡◌, IfOk, refl, subst}
 use Rattle.indexmap.specs.IndexMap.{set_value_at}
 use Rattle.sg_sched.specs.Format.StepsHeld.{step_of}
 use Rattle.sg_world.specs.Comes.{ComesAt, ComesOfStep}
-use Rattle.sg_world.proofs.Called.{if_err, if_is_ok}
+use Rattle.sg_world.proofs.Called.{if_is_ok}
 use Rattle.sg_world.proofs.Found.{entry_at}
 use Rattle.sg_world.proofs.Goes.{same_value}
 use Rattle.std.proofs.Common.{◌∙◌, ap}
 use Rattle.sg_protocol.specs.NodeStates.{NodeState}
+use Rattle.sg_courses.proofs.Taking.{on_err}
 use Rattle.sg_world.proofs.nodes.call_at.Goals as goal
 
 pub returns-clause-comes : goal.returns-clause-comes
@@ -23,7 +24,7 @@ returns-clause-comes c = if_is_ok (ComesAt c.args.setting.now.sessions c.args.re
     })
 
 pub returns-clause-back : goal.returns-clause-back
-returns-clause-back c = if_err (c.call.new.node ≡ c.index_mut.result.now) (set_value_at c.args.nodes.now.entries c.args.place c.call.new.node ≡ c.args.nodes.now.entries) c.call.result
+returns-clause-back c = on_err (c.call.new.node ≡ c.index_mut.result.now) (set_value_at c.args.nodes.now.entries c.args.place c.call.new.node ≡ c.args.nodes.now.entries) c.call.result
     (λ same.
     let entry = entry_at c.args.nodes.now.entries c.args.place c.index_mut.result.now c.index_mut.ensures.value in
     ap (λ (z : NodeState). set_value_at c.args.nodes.now.entries c.args.place z) same ∙ same_value c.args.nodes.now.entries c.args.place entry.0 c.index_mut.result.now entry.1)

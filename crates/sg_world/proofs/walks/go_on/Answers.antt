@@ -9,7 +9,7 @@ use Rattle.sg_protocol.specs.Texts.{real}
 use Rattle.sg_protocol.specs.World.{call_of}
 use Rattle.sg_sched.specs.Format.StepsHeld.{step_of}
 use Rattle.sg_walk.specs.declared.event.Event.{Event as Told}
-use Rattle.sg_walk.specs.Views.{event_of}
+use Rattle.sg_walk.specs.Model.{event_of}
 use Rattle.sg_world.specs.EntriesOfRun.{event_told}
 use Rattle.sg_world.specs.Kept.{Taken}
 use Rattle.sg_world.proofs.Passing.{events_told}

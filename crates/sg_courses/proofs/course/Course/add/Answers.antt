@@ -1,6 +1,6 @@
 use Rattle.std.proofs.Common.{ap, subst}
 use Rattle.sg_grown.specs.Courses.{Notes}
-use Rattle.sg_walk.specs.Views.{event_of}
+use Rattle.sg_walk.specs.Model.{event_of}
 use Rattle.sg_courses.specs.Courses.{Course}
 use Rattle.sg_courses.proofs.Taking.{shown_more}
 use Rattle.sg_courses.proofs.course.Course.add.Goals as goal

@@ -5,8 +5,8 @@ use Rattle.sg_protocol.specs.Frame.{Frame}
 use Rattle.sg_protocol.specs.Graph.{Graph}
 use Rattle.sg_protocol.specs.Grown.{IsExample}
 use Rattle.sg_protocol.specs.Node.{program_for}
-use Rattle.sg_vis.specs.Origins.{origin_of}
-use Rattle.sg_walk.specs.Views.{event_of}
+use Rattle.sg_vis.specs.Model.{origin_of}
+use Rattle.sg_walk.specs.Model.{event_of}
 use Rattle.sg_grown.specs.Examples.{view_since}
 use Rattle.sg_courses.specs.Adding.{Adds, Takes}
 use Rattle.sg_courses.specs.Courses.{Course}

@@ -1,7 +1,7 @@
 use Rattle.std.proofs.Common.{map, IfOk, ◌≡◌, [], ap, subst}
 use Rattle.sg_grown.specs.Events.{grown_along, pair_of}
 use Rattle.sg_model.specs.Lists.{is_in}
-use Rattle.sg_walk.specs.Views.{steps_of}
+use Rattle.sg_walk.specs.Model.{steps_of}
 use Rattle.sg_courses.specs.Courses.{Course}
 use Rattle.sg_courses.proofs.course.Course.walk.Goals as goal
 

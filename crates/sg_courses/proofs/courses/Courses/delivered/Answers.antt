@@ -1,7 +1,7 @@
 use Rattle.std.proofs.Common.{refl, subst}
 use Rattle.sg_frame.specs.Reads.{Refuses}
 use Rattle.sg_protocol.specs.Reading.{read}
-use Rattle.sg_walk.specs.Views.{event_of}
+use Rattle.sg_walk.specs.Model.{event_of}
 use Rattle.sg_courses.proofs.Stepping.{malformed}
 use Rattle.sg_courses.proofs.courses.Courses.delivered.Goals as goal
 

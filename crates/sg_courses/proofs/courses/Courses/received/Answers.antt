@@ -1,7 +1,7 @@
 use Rattle.std.proofs.Common.{Some, sym, ◌∙◌, ap, subst, ◌≡◌}
 use Rattle.sg_model.specs.Lists.{has_text}
 use Rattle.sg_protocol.specs.Frame.{Cast, Frame}
-use Rattle.sg_walk.specs.Views.{event_of}
+use Rattle.sg_walk.specs.Model.{event_of}
 use Rattle.sg_courses.specs.Adding.{Takes}
 use Rattle.sg_courses.specs.Courses.{Courses}
 use Rattle.sg_courses.specs.Runs.{GoOn}

@@ -1,6 +1,6 @@
 use Rattle.std.proofs.Common.{[], Some, sym, ◌∙◌, ap, subst, List, ℕ}
 use Rattle.sg_model.specs.Lists.{has_text}
-use Rattle.sg_walk.specs.Views.{event_of}
+use Rattle.sg_walk.specs.Model.{event_of}
 use Rattle.sg_courses.specs.Adding.{Adds}
 use Rattle.sg_courses.specs.Courses.{Courses}
 use Rattle.sg_courses.specs.Runs.{GoOn}

@@ -1,6 +1,6 @@
 use Rattle.std.proofs.Common.{sym, ◌∙◌, ap}
 use Rattle.std.specs.Option.{option_copied}
-use Rattle.sg_walk.specs.Views.{steps_of}
+use Rattle.sg_walk.specs.Model.{steps_of}
 use Rattle.sg_courses.proofs.Explained.{explained, no_event}
 use Rattle.sg_courses.proofs.courses.Courses.walk.Goals as goal
 

@@ -1,6 +1,6 @@
 use Rattle.std.proofs.Common.{sym, subst, All}
 use Rattle.sg_protocol.specs.Schedule.{PairKey}
-use Rattle.sg_craft.specs.Keys.{AreApart}
+use Rattle.sg_craft.specs.Invariant.{AreApart}
 use Rattle.sg_craft.proofs.KeyLaws.{kept_apart}
 use Rattle.sg_craft.proofs.keys.PairKeys.add.Goals as goal
 

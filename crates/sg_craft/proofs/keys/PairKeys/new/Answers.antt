@@ -1,6 +1,6 @@
 use Rattle.std.proofs.Common.{ℕ, ◌<◌, sym, subst, List, length, take, All, arith}
 use Rattle.sg_protocol.specs.Schedule.{PairKey}
-use Rattle.sg_craft.specs.Keys.{AreApart}
+use Rattle.sg_craft.specs.Invariant.{AreApart}
 use Rattle.sg_craft.proofs.KeyLaws.{apart_before}
 use Rattle.sg_craft.proofs.keys.PairKeys.new.Goals as goal
 

@@ -1,6 +1,7 @@
 use Rattle.std.proofs.Common.{◌∙◌, ap, subst, find, option_map, AllPairs}
 use Rattle.sg_protocol.specs.Schedule.{PairKey}
-use Rattle.sg_craft.specs.Keys.{AreApart, is_in_order}
+use Rattle.sg_craft.specs.Model.{is_in_order}
+use Rattle.sg_craft.specs.Invariant.{AreApart}
 use Rattle.sg_craft.proofs.KeyLaws.{lookup-in_order}
 use Rattle.sg_craft.proofs.keys.PairKeys.of.Goals as goal
 

@@ -5,7 +5,7 @@ use Rattle.sg_protocol.specs.Graph.{Graph, IsGraph, Edge, AreNumbers}
 use Rattle.sg_graph.specs.Adding.{with_edge}
 use Rattle.sg_graph.specs.Edges.{leaving_of}
 use Rattle.sg_graph.specs.Parts.{edge_names}
-use Rattle.sg_graph.specs.View.{graph_of, edge_of}
+use Rattle.sg_graph.specs.Model.{graph_of, edge_of}
 use Rattle.sg_graph.specs.declared.graph.NamedEdge.{NamedEdge}
 use Rattle.sg_graph.proofs.Found.{unfound}
 use Rattle.sg_graph.proofs.Growth.{IsGraph-with_edge}

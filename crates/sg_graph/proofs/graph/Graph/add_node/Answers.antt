@@ -5,7 +5,7 @@ use Rattle.sg_protocol.specs.Graph.{Graph, IsGraph, Node}
 use Rattle.sg_graph.specs.Adding.{with_node}
 use Rattle.sg_graph.specs.Edges.{leaving_of}
 use Rattle.sg_graph.specs.Parts.{node_names}
-use Rattle.sg_graph.specs.View.{graph_of, node_of}
+use Rattle.sg_graph.specs.Model.{graph_of, node_of}
 use Rattle.sg_graph.specs.declared.graph.Node.{Node as Kept}
 use Rattle.sg_graph.proofs.Found.{unfound}
 use Rattle.sg_graph.proofs.Growth.{IsGraph-with_node}

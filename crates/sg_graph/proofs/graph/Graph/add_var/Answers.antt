@@ -3,7 +3,7 @@ use Rattle.std.proofs.lemmas.List.{map-append, length-map}
 use Rattle.sg_model.specs.Lists.{has_text}
 use Rattle.sg_protocol.specs.Graph.{Graph, IsGraph, Variable, AreNumbers}
 use Rattle.sg_graph.specs.Parts.{variable_names}
-use Rattle.sg_graph.specs.View.{graph_of, variable_of}
+use Rattle.sg_graph.specs.Model.{graph_of, variable_of}
 use Rattle.sg_graph.specs.declared.graph.Variable.{Variable as Kept}
 use Rattle.sg_graph.proofs.Found.{unfound}
 use Rattle.sg_graph.proofs.Growth.{IsGraph-with_variable}

@@ -1,5 +1,5 @@
 use Rattle.std.proofs.Common.{refl}
-use Rattle.sg_walk.specs.Views.{values_of}
+use Rattle.sg_walk.specs.Model.{values_of}
 use Rattle.sg_grown.proofs.Ends.{origins_same, origins_sent}
 use Rattle.sg_grown.proofs.origins.Origins.note.Goals as goal
 

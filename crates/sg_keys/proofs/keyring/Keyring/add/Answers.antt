@@ -1,15 +1,16 @@
 use Rattle.std.proofs.Common.{◌≡◌, false, sym, ◌∙◌, ◌∷◌}
+use Rattle.std.proofs.lemmas.Bool.{or_parts}
 use Rattle.sg_model.specs.Lists.{has_text}
-use Rattle.sg_keys.specs.Inside.{names_in}
+use Rattle.sg_keys.specs.Model.{names_in}
 use Rattle.sg_keys.proofs.Contacts.{names_in-append}
-use Rattle.sg_keys.proofs.Differ.{all_differ-append, neither}
+use Rattle.sg_model.proofs.Differ.{all_differ-append}
 use Rattle.sg_keys.proofs.keyring.Keyring.add.Goals as goal
 use Rattle.sg_keys.proofs.keyring.Keyring.add.Goals.{in-Ok, in-Err}
 
 pub put_last-requires : goal.put_last-requires
 put_last-requires c =
     let absent : has_text c.args.peer (c.self.inside.me ∷ names_in c.self.inside.peers.entries) ≡ false = rw (← c.self.view_is) at (sym c.has_name.ensures ∙ c.if-has_name.false) in
-    (neither _ _ absent).1
+    (or_parts _ _ absent).1
 
 pub invariant_of-self : goal.invariant_of-self
 invariant_of-self c =

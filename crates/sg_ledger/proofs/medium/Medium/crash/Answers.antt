@@ -1,6 +1,6 @@
 use Rattle.std.proofs.Common.{inr, sym, ◌∙◌, subst, List, ℕ}
 use Rattle.sg_ledger.specs.Memory.{Leaves, picked}
-use Rattle.sg_ledger.specs.Tied.{state_of}
+use Rattle.sg_ledger.specs.Invariant.{state_of}
 use Rattle.sg_ledger.proofs.Replay.{picked_leaves}
 use Rattle.sg_ledger.proofs.medium.Medium.crash.Goals as goal
 

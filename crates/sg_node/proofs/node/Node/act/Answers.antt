@@ -5,9 +5,9 @@ use Rattle.sg_protocol.specs.Calls.{Act}
 use Rattle.sg_protocol.specs.Calls as Protocol
 use Rattle.sg_protocol.specs.NodeStates.{NodeState, StandsForPast}
 use Rattle.sg_protocol.specs.Past.{node_of}
-use Rattle.sg_walk.specs.Views.{values_of}
+use Rattle.sg_walk.specs.Model.{values_of}
 use Rattle.sg_role.specs.Sending.{with_notes}
-use Rattle.sg_role.specs.States.{State}
+use Rattle.sg_role.specs.Model.{State}
 use Rattle.sg_node.specs.Answers.{GoesOn}
 use Rattle.sg_node.specs.Slots.{held_in, left_by}
 use Rattle.sg_node.specs.Invariant.{IsSlot}

@@ -8,7 +8,7 @@ use Rattle.sg_protocol.specs.Graph.{shape}
 use Rattle.sg_protocol.specs.Node.{starter, program_for, is_cast, stranger}
 use Rattle.sg_protocol.specs.NodeStates.{NodeState, StandsForNode, state_after}
 use Rattle.sg_protocol.specs.Texts.{real, session_id}
-use Rattle.sg_role.specs.States.{State}
+use Rattle.sg_role.specs.Model.{State}
 use Rattle.sg_node.specs.Answers.{IsAnswer, start_answer}
 use Rattle.sg_node.specs.Joining.{obstacle_to}
 use Rattle.sg_node.specs.Slots.{Slot, held_in}

@@ -9,10 +9,10 @@ use Rattle.sg_protocol.specs.Session.{Session}
 use Rattle.sg_protocol.specs.Standing.{StandsBefore}
 use Rattle.sg_protocol.specs.Texts.{real, session_id}
 use Rattle.sg_protocol.specs.Verdict.{rows_of_session, receipt, verdict_on}
-use Rattle.sg_walk.specs.Views.{event_of}
+use Rattle.sg_walk.specs.Model.{event_of}
 use Rattle.sg_role.specs.Faults.{Refuses}
 use Rattle.sg_role.specs.Sending.{with_notes}
-use Rattle.sg_role.specs.States.{State}
+use Rattle.sg_role.specs.Model.{State}
 use Rattle.sg_node.specs.Faults.{of_role, refusal}
 use Rattle.sg_node.specs.Slots.{held_in}
 use Rattle.sg_node.specs.Invariant.{IsSlot}

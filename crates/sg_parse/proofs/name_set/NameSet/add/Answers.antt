@@ -1,5 +1,5 @@
 use Rattle.std.proofs.Common.{◌∙◌}
-use Rattle.sg_parse.proofs.SameName.{insert_new}
+use Rattle.sg_parse.proofs.NewName.{insert_new}
 use Rattle.sg_parse.proofs.name_set.NameSet.add.Goals as goal
 
 pub returns-clause-ok : goal.returns-clause-ok

@@ -1,6 +1,6 @@
 use Rattle.std.proofs.Common.{◌∙◌, ap}
 use Rattle.std.specs.List.{list_any}
-use Rattle.sg_parse.proofs.SameName.{same_is}
+use Rattle.sg_base.proofs.SameName.{same_is}
 use Rattle.sg_parse.proofs.name_set.NameSet.has.Goals as goal
 
 pub returns : goal.returns

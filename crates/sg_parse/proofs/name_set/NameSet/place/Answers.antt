@@ -1,5 +1,5 @@
 use Rattle.std.proofs.Common.{◌∙◌, ap, position}
-use Rattle.sg_parse.proofs.SameName.{same_is}
+use Rattle.sg_base.proofs.SameName.{same_is}
 use Rattle.sg_parse.proofs.name_set.NameSet.place.Goals as goal
 
 pub returns-clause-place : goal.returns-clause-place

@@ -3,7 +3,7 @@ use Rattle.std.specs.Option.{option_copied}
 use Rattle.sg_protocol.specs.Calls.{Act}
 use Rattle.sg_report.specs.Outcome.{outcome_of}
 use Rattle.sg_script.specs.Script.{Choice}
-use Rattle.sg_walk.specs.Views.{values_of}
+use Rattle.sg_walk.specs.Model.{values_of}
 use Rattle.sg_play.specs.Posting.{frames_made}
 use Rattle.sg_play.proofs.Acting.{act_is, count_is, has_acted}
 use Rattle.sg_play.proofs.player.Player.try_act.Goals as goal

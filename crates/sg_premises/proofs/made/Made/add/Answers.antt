@@ -1,7 +1,7 @@
 use Rattle.std.proofs.Common.{◌∙◌, ap, map, ◌||◌}
 use Rattle.std.specs.List.{list_any}
 use Rattle.sg_protocol.specs.Broken.{same_note}
-use Rattle.sg_premises.specs.Made.{note_kept}
+use Rattle.sg_premises.specs.Model.{note_kept}
 use Rattle.sg_premises.proofs.SaidLaws.{any_added}
 use Rattle.sg_premises.proofs.made.Made.add.Goals as goal
 use Rattle.sg_premises.proofs.made.Made.add.Goals.{in-Ok, in-Err}

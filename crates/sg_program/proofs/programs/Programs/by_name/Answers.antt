@@ -3,7 +3,7 @@ use Rattle.std.specs.Prelude.{Some, None, position}
 use Rattle.std.specs.Map.{lookup}
 use Rattle.std.proofs.lemmas.Option.{slice_get_read}
 use Rattle.sg_program.specs.Together.{is_named}
-use Rattle.sg_program.proofs.SameName.{same_is}
+use Rattle.sg_base.proofs.SameName.{same_is}
 use Rattle.sg_program.proofs.Places.{first_there, none_there}
 use Rattle.sg_program.proofs.programs.Programs.by_name.Goals as goal
 

@@ -3,7 +3,7 @@ use Rattle.std.specs.Prelude.{Some, None, position}
 use Rattle.std.specs.Map.{lookup}
 use Rattle.std.proofs.lemmas.Option.{slice_get_read}
 use Rattle.sg_program.specs.Together.{is_for}
-use Rattle.sg_program.proofs.SameName.{same_key_is}
+use Rattle.sg_program.proofs.SameKey.{same_key_is}
 use Rattle.sg_program.proofs.Places.{first_there, none_there}
 use Rattle.sg_program.proofs.programs.Programs.find.Goals as goal
 

@@ -6,7 +6,7 @@ use Rattle.sg_model.specs.Lists.{is_in}
 use Rattle.sg_model.specs.Shape.{Shape, source, target, role_at}
 use Rattle.sg_protocol.specs.Graph.{Graph, shape}
 use Rattle.sg_reach.specs.Found.{IsSearch, IsLeft, found_at}
-use Rattle.sg_reach.specs.Inside.{IsNextOf}
+use Rattle.sg_reach.specs.Invariant.{IsNextOf}
 use Rattle.sg_reach.specs.declared.search.Found.{Found}
 use Rattle.sg_reach.proofs.Leaving.{left_at_first}
 use Rattle.sg_reach.proofs.Searching.{search_with, followed, count_free}

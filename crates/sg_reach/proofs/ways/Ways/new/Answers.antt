@@ -5,7 +5,7 @@ use Rattle.std.proofs.lemmas.List.{length-map, get_or_default}
 use Rattle.sg_protocol.specs.Graph.{shape}
 use Rattle.sg_model.specs.Shape.{source}
 use Rattle.sg_graph.specs.declared.edge.Edge.{Edge}
-use Rattle.sg_reach.specs.Inside.{IsNextOf}
+use Rattle.sg_reach.specs.Invariant.{IsNextOf}
 use Rattle.sg_reach.proofs.Leaving.{next_none, indexed}
 use Rattle.sg_reach.proofs.ways.Ways.new.Goals as goal
 

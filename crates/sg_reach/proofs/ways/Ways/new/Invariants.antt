@@ -2,7 +2,7 @@ use Rattle.std.proofs.Common.{◌≡◌, ◌<◌, ◌≤◌, length, ℕ, suc, g
 use Rattle.std.specs.Prelude.{None}
 use Rattle.sg_model.specs.Shape.{source}
 use Rattle.sg_protocol.specs.Graph.{shape}
-use Rattle.sg_reach.specs.Inside.{IsNextOf}
+use Rattle.sg_reach.specs.Invariant.{IsNextOf}
 use Rattle.sg_reach.proofs.ways.Ways.new.Given as goal
 
 abbrev pub invariant-loop-number : goal.invariant-loop-number

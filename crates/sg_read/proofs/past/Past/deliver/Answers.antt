@@ -1,6 +1,6 @@
 use Rattle.std.proofs.Common.{◌∙◌, subst, false, Some}
 use Rattle.sg_protocol.specs.Schedule.{DeliverStep}
-use Rattle.sg_sched.specs.Format.Held.{delivered}
+use Rattle.sg_sched.specs.Format.Model.{delivered}
 use Rattle.sg_read.specs.Adding.{Added, add_step}
 use Rattle.sg_read.specs.Taken.{Takes}
 use Rattle.sg_read.proofs.AddingLaws.{deliver_added}

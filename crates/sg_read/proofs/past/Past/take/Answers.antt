@@ -1,6 +1,6 @@
 use Rattle.std.proofs.Common.{◌∙◌, ap, sym, subst}
 use Rattle.sg_sched.specs.declared.line.Line.{Line}
-use Rattle.sg_sched.specs.Format.Held.{said}
+use Rattle.sg_sched.specs.Format.Model.{said}
 use Rattle.sg_read.specs.Adding.{Added, after_line}
 use Rattle.sg_read.specs.Taken.{Takes}
 use Rattle.sg_read.proofs.AddingLaws.{edge_added, honest_added, key_added, session_added}

@@ -1,7 +1,7 @@
 -- A line or a block, and what follows it.
 use Rattle.std.proofs.Common.{◌≡◌, ap, sym, subst, refl, rules, arith, Err, true, false}
 use Rattle.sg_sched.specs.Format.Forms.{SaysLine, is_skipped}
-use Rattle.sg_sched.specs.Format.Held.{said}
+use Rattle.sg_sched.specs.Format.Model.{said}
 use Rattle.sg_sched.specs.Format.Said.{SaidBlock}
 use Rattle.sg_read.specs.declared.reader.Reader.{Reader}
 use Rattle.sg_read.specs.Standing.{Stands}

@@ -2,7 +2,7 @@ use Rattle.std.proofs.Common.{sym, subst}
 use Rattle.sg_protocol.specs.Texts.{real, session_id, session_text_of}
 use Rattle.sg_protocol.proofs.Backed.{states_are_backed}
 use Rattle.sg_protocol.proofs.RealHash.{real_hash}
-use Rattle.sg_role.specs.States.{HoldsBefore}
+use Rattle.sg_role.specs.Invariant.{HoldsBefore}
 use Rattle.sg_role.proofs.before.Before.start.Goals as goal
 
 pub invariant_of-result : goal.invariant_of-result

@@ -9,10 +9,11 @@ use Rattle.sg_protocol.specs.IsSchedule.{IsProgram}
 use Rattle.sg_protocol.specs.Session.{principal}
 use Rattle.sg_protocol.specs.Spelling.{spelling}
 use Rattle.sg_protocol.specs.Texts.{real}
-use Rattle.sg_walk.specs.Views.{values_of}
+use Rattle.sg_walk.specs.Model.{values_of}
 use Rattle.sg_role.specs.Faults.{RefusesToSend}
 use Rattle.sg_role.specs.Sending.{with_notes}
-use Rattle.sg_role.specs.States.{State, HoldsTurn}
+use Rattle.sg_role.specs.Model.{State}
+use Rattle.sg_role.specs.Invariant.{HoldsTurn}
 use Rattle.sg_role.specs.Stepping.{send_rows, items_after, step_item, step_commitments, step_frame, step_notes}
 use Rattle.sg_role.proofs.NextLaws.{next_waits, next_stands}
 use Rattle.sg_role.proofs.SendLaws.{shows_own}

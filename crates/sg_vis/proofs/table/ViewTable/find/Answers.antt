@@ -1,6 +1,6 @@
 use Rattle.std.proofs.Common.{subst, ◌∙◌}
 use Rattle.sg_vis.specs.Order.{StandsAt}
-use Rattle.sg_vis.specs.Origins.{origin_of}
+use Rattle.sg_vis.specs.Model.{origin_of}
 use Rattle.sg_vis.specs.Table.{view_from}
 use Rattle.sg_vis.proofs.Ordered.{absent}
 use Rattle.sg_vis.proofs.table.ViewTable.find.Goals as goal

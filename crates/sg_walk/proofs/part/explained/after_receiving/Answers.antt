@@ -1,7 +1,7 @@
 use Rattle.std.proofs.Common.{map}
 use Rattle.sg_protocol.specs.Walk.{Receives}
 use Rattle.sg_walk.specs.Matching.{kept}
-use Rattle.sg_walk.specs.Views.{step_of}
+use Rattle.sg_walk.specs.Model.{step_of}
 use Rattle.sg_walk.proofs.Explained.{takes_other}
 use Rattle.sg_walk.proofs.part.explained.after_receiving.Goals as goal
 

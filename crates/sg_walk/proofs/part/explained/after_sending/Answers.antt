@@ -1,5 +1,5 @@
 use Rattle.sg_protocol.specs.Walk.{Sends}
-use Rattle.sg_walk.specs.Views.{writes_of}
+use Rattle.sg_walk.specs.Model.{writes_of}
 use Rattle.sg_walk.proofs.Explained.{takes_other}
 use Rattle.sg_walk.proofs.part.explained.after_sending.Goals as goal
 

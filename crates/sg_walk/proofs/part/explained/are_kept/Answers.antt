@@ -1,5 +1,5 @@
 use Rattle.std.proofs.Common.{map}
-use Rattle.sg_walk.specs.Views.{step_of}
+use Rattle.sg_walk.specs.Model.{step_of}
 use Rattle.sg_walk.proofs.Explained.{kept_keys}
 use Rattle.sg_walk.proofs.part.explained.are_kept.Goals as goal
 

@@ -5,7 +5,7 @@ use Rattle.sg_model.specs.Shape.{sender}
 use Rattle.sg_protocol.specs.Graph.{shape}
 use Rattle.sg_protocol.specs.Walk.{Sends, Receives, act_if, acts_of_event, honest_acts}
 use Rattle.sg_walk.specs.Matching.{Takes, kept, acts_from}
-use Rattle.sg_walk.specs.Views.{event_of, step_of, steps_of, writes_of}
+use Rattle.sg_walk.specs.Model.{event_of, step_of, steps_of, writes_of}
 use Rattle.sg_walk.proofs.Explained.{Explaining-init, refuse_receipt, explain_step, explain_end, explains_whole}
 use Rattle.sg_walk.proofs.Places.{small_keys}
 use Rattle.sg_walk.proofs.Steps.{named_at, numbers_below}

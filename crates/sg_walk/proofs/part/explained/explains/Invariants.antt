@@ -2,7 +2,7 @@ use Rattle.std.proofs.Common.{◌≡◌, map, []}
 use Rattle.std.specs.Prelude.{flat_map}
 use Rattle.sg_model.specs.Lists.{is_in}
 use Rattle.sg_protocol.specs.Walk.{acts_of_event, honest_acts}
-use Rattle.sg_walk.specs.Views.{event_of, steps_of}
+use Rattle.sg_walk.specs.Model.{event_of, steps_of}
 use Rattle.sg_walk.proofs.Explained.{Explaining}
 use Rattle.sg_walk.proofs.part.explained.explains.Given as goal
 

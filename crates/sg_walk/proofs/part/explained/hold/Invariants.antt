@@ -2,7 +2,7 @@ use Rattle.std.proofs.Common.{◌≡◌, ◌↔◌, nat_lt, true, map, drop}
 use Rattle.std.specs.List.{list_all}
 use Rattle.sg_protocol.specs.Walk.{shown}
 use Rattle.sg_walk.specs.Matching.{kept}
-use Rattle.sg_walk.specs.Views.{step_of, values_of}
+use Rattle.sg_walk.specs.Model.{step_of, values_of}
 use Rattle.sg_walk.proofs.part.explained.hold.Given as goal
 
 abbrev pub invariant-loop-value : goal.invariant-loop-value

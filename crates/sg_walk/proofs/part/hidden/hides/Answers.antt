@@ -2,7 +2,7 @@ use Rattle.std.proofs.Common.{◌≡◌, ◌-◌, ◌==◌, ◌&&◌, ◌||◌, 
 use Rattle.std.proofs.lemmas.List.{get_or-replicate}
 use Rattle.sg_model.specs.Lists.{is_in}
 use Rattle.sg_protocol.specs.Walk.{are_hidden}
-use Rattle.sg_walk.specs.Views.{step_of}
+use Rattle.sg_walk.specs.Model.{step_of}
 use Rattle.sg_walk.proofs.Concealed.{Hiding-init, hide_wrong, hide_on}
 use Rattle.sg_walk.proofs.Places.{small_keys}
 use Rattle.sg_walk.proofs.Steps.{named_at}

@@ -3,7 +3,7 @@ use Rattle.std.specs.Prelude.{is_none}
 use Rattle.std.specs.Bool.{beq}
 use Rattle.std.specs.List.{list_all}
 use Rattle.sg_model.specs.Lists.{keys_of}
-use Rattle.sg_walk.specs.Views.{writes_of}
+use Rattle.sg_walk.specs.Model.{writes_of}
 use Rattle.sg_walk.proofs.part.hidden.hides_all.Given as goal
 
 abbrev pub invariant-loop-write : goal.invariant-loop-write

@@ -1,6 +1,6 @@
 use Rattle.std.proofs.Common.{◌≡◌, ◌↔◌, drop}
 use Rattle.sg_protocol.specs.Walk.{shown}
-use Rattle.sg_walk.specs.Views.{values_of, writes_of}
+use Rattle.sg_walk.specs.Model.{values_of, writes_of}
 use Rattle.sg_walk.proofs.part.pairs.are_shown.Given as goal
 
 abbrev pub invariant-loop-place : goal.invariant-loop-place

@@ -1,6 +1,6 @@
 use Rattle.std.proofs.Common.{◌≡◌, drop}
 use Rattle.sg_model.specs.Lists.{value_at}
-use Rattle.sg_walk.specs.Views.{writes_of}
+use Rattle.sg_walk.specs.Model.{writes_of}
 use Rattle.sg_walk.proofs.part.pairs.writes_value.Given as goal
 
 abbrev pub invariant-loop-write : goal.invariant-loop-write

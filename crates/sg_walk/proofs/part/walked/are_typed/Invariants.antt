@@ -1,7 +1,7 @@
 use Rattle.std.proofs.Common.{◌≡◌, true, length, drop, map, nat_lt}
 use Rattle.std.specs.List.{list_all}
 use Rattle.sg_protocol.specs.Walk.{is_typed_or_hidden}
-use Rattle.sg_walk.specs.Views.{writes_of}
+use Rattle.sg_walk.specs.Model.{writes_of}
 use Rattle.sg_walk.proofs.part.walked.are_typed.Given as goal
 
 abbrev pub invariant-loop-write : goal.invariant-loop-write

@@ -1,6 +1,6 @@
 use Rattle.std.proofs.Common.{◌↔◌, map, drop}
 use Rattle.sg_protocol.specs.Walk.{IsStoredWalk}
-use Rattle.sg_walk.specs.Views.{step_of, steps_of}
+use Rattle.sg_walk.specs.Model.{step_of, steps_of}
 use Rattle.sg_walk.proofs.Steps.{StepsFrom}
 use Rattle.sg_walk.proofs.part.walked.is_stored_walk.Given as goal
 

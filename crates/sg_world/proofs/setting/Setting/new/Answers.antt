@@ -1,5 +1,5 @@
 use Rattle.std.proofs.Common.{AllPairs, ◌∙◌, ap, sym, subst}
-use Rattle.sg_craft.specs.Keys.{AreApart}
+use Rattle.sg_craft.specs.Invariant.{AreApart}
 use Rattle.sg_protocol.specs.Schedule.{Schedule}
 use Rattle.sg_world.proofs.setting.Setting.new.Goals as goal
 

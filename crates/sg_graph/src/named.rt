@@ -1,0 +1,47 @@
+//! Names of what a graph has by number, written behind what is there.
+ghost use Rattle.std.specs.Prelude.{◌≡◌, ◌++◌, OnOk};
+ghost use Rattle.sg_protocol.specs.Graph.{role_name, variable_name, node_name};
+ghost use Rattle.sg_graph.specs.Parts.{edge_name};
+
+use crate::Graph;
+use sg_base::{ByteOut, Label, NodeId, OutOfMemory, Role, Var};
+
+/// Writes the name of a label's edge, nothing where no edge has the label.
+pub fn put_label(out: &mut ByteOut, graph: &Graph, label: Label) -> Result<(), OutOfMemory>
+    ensures { OnOk result (out.new ≡ out.old ++ edge_name graph.now label) }
+{
+    if label.0 >= graph.edges() {
+        return Ok(());
+    }
+    out.bytes(graph.edge_name(label).as_bytes())
+}
+
+/// Writes the name of a node, nothing where the graph has no such node.
+pub fn put_node(out: &mut ByteOut, graph: &Graph, node: NodeId) -> Result<(), OutOfMemory>
+    ensures { OnOk result (out.new ≡ out.old ++ node_name graph.now node) }
+{
+    if node.0 >= graph.nodes() {
+        return Ok(());
+    }
+    out.bytes(graph.node_name(node).as_bytes())
+}
+
+/// Writes the name of a role, nothing where the graph has no such role.
+pub fn put_role(out: &mut ByteOut, graph: &Graph, role: Role) -> Result<(), OutOfMemory>
+    ensures { OnOk result (out.new ≡ out.old ++ role_name graph.now role) }
+{
+    if role.0 >= graph.roles() {
+        return Ok(());
+    }
+    out.bytes(graph.role_name(role).as_bytes())
+}
+
+/// Writes the name of a variable, nothing where the graph has no such variable.
+pub fn put_var(out: &mut ByteOut, graph: &Graph, var: Var) -> Result<(), OutOfMemory>
+    ensures { OnOk result (out.new ≡ out.old ++ variable_name graph.now var) }
+{
+    if var.0 >= graph.vars() {
+        return Ok(());
+    }
+    out.bytes(graph.var_name(var).as_bytes())
+}

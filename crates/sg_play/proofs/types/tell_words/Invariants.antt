@@ -1,7 +1,0 @@
-use Rattle.std.proofs.Common.{take}
-use Rattle.std.specs.List.{AllByRecursion}
-use Rattle.sg_model.specs.Bytes.{AreBytes}
-use Rattle.sg_play.proofs.types.tell_words.Given as goal
-
-abbrev pub invariant-loop-at : goal.invariant-loop-at
-invariant-loop-at l = AllByRecursion (AreBytes 16) (take l.at l.words)

@@ -1,6 +1,0 @@
-use Rattle.std.proofs.Common.{◌∙◌}
-use Rattle.sg_sched.proofs.SameName.{insert_new}
-use Rattle.sg_sched.proofs.name_set.NameSet.add.Goals as goal
-
-pub returns-clause-ok : goal.returns-clause-ok
-returns-clause-ok c = c.in_ok-insert.ensures.keys ∙ rw (← c.self.view_is) (insert_new c.self.inside.names.keys c.args.name (rw (c.self.view_is) c.requires))
