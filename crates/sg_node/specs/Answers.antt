@@ -1,6 +1,7 @@
 -- What the node answers, as an answer of the definitions.
-use Rattle.std.specs.Prelude.{◌≡◌, ℕ, List, Option, None, Some, option_map, Result, Ok, Err, All, ⊤}
+use Rattle.std.specs.Prelude.{◌≡◌, ℕ, Bool, true, false, List, Option, None, Some, option_map, Result, Ok, Err, All, ⊤}
 use Rattle.sg_protocol.specs.Calls.{Call, Answer, Happened, Sends, Abandoned, NotStarted, NotActed, NotAbandoned, NotDelivered}
+use Rattle.sg_protocol.specs.Calls as Protocol
 use Rattle.sg_protocol.specs.Frame.{Frame}
 use Rattle.sg_protocol.specs.Past.{Past, node_of, past_after, new_node, AreAnswers}
 use Rattle.sg_protocol.specs.Ranges.{IsCallInRange}
@@ -30,6 +31,12 @@ start_answer (Err fault) = option_map NotStarted (start_fault fault)
 abbrev pub IsActAnswer : Answer → Result (Event × (List ℕ × List ℕ)) ActFault → Type 0
 IsActAnswer a (Ok r) = (f : Frame) × (a ≡ Sends (event_of r.0) (r.1).0 f) × ((r.1).1 ≡ spelling f)
 IsActAnswer a (Err fault) = IsAnswer a (option_map NotActed (act_fault fault))
+
+-- an act that was answered so came to a session at its turn
+abbrev pub comes_to_a_turn : Answer → Bool
+comes_to_a_turn (NotActed Protocol.ActFault.UnknownSession) = false
+comes_to_a_turn (NotActed Protocol.ActFault.NotYourTurn) = false
+comes_to_a_turn other = true
 
 -- the answer to an abandonment
 abbrev pub abandon_answer : Result (Unit {0}) UnknownSession → Answer

@@ -1,5 +1,5 @@
 //! How a node acts in a session.
-ghost use Rattle.std.specs.Prelude.{◌≡◌, ◌≢◌, ◌<◌, Err, None, length, slice_get, option_and_then, OnErr};
+ghost use Rattle.std.specs.Prelude.{◌≡◌, ◌≢◌, ◌<◌, true, Err, None, length, slice_get, option_and_then, OnErr};
 ghost use Rattle.indexmap.specs.IndexMap.{set_value_at};
 ghost use Rattle.sg_protocol.specs.Acting.{answer};
 ghost use Rattle.sg_protocol.specs.Calls.{Act};
@@ -9,7 +9,7 @@ ghost use Rattle.sg_protocol.specs.Past.{Past, node_of};
 ghost use Rattle.sg_protocol.specs.Texts.{real};
 ghost use Rattle.sg_walk.specs.Model.{event_of, values_of};
 ghost use Rattle.sg_role.specs.Sending.{event_sent, frame_made, with_notes};
-ghost use Rattle.sg_node.specs.Answers.{IsActAnswer, GoesOn};
+ghost use Rattle.sg_node.specs.Answers.{IsActAnswer, GoesOn, comes_to_a_turn};
 ghost use Rattle.sg_node.specs.Faults.{of_send};
 ghost use Rattle.sg_node.specs.Slots.{left_by};
 
@@ -39,6 +39,10 @@ impl<'p> Node<'p> {
         ensures notes { (past : Past) → StandsForPast self.old past → result ≢ Err ActFault.OutOfMemory
             → notes.new ≡ with_notes notes.old (noted_of real (node_of past) (Act sid label (values_of values.now) confounders.now)) }
         ensures back { OnErr result ((self.new ≡ self.old) × (notes.new ≡ notes.old)) }
+        // Want of memory is told as itself, and never in the place of a refusal for which no turn is there.
+        ensures told { result ≢ Err (ActFault.Send SendFault.OutOfMemory) }
+        ensures memory { (past : Past) → StandsForPast self.old past → result ≡ Err ActFault.OutOfMemory
+            → comes_to_a_turn (answer real (node_of past) (Act sid label (values_of values.now) confounders.now)) ≡ true }
     {
         tell_values(values, confounders);
         let Some(index) = self.sessions.first(&sid, false) else {
@@ -82,7 +86,8 @@ fn keep<'p>(sessions: &mut Sessions<'p>, index: usize, sent: Sent<'p>) -> (Event
 
 // The fault of an act whose step is not sent.
 fn not_sent(fault: SendFault) -> ActFault
-    ensures { result ≡ of_send fault }
+    ensures fault { result ≡ of_send fault }
+    ensures told { result ≢ ActFault.Send SendFault.OutOfMemory }
 {
     match fault {
         SendFault::OutOfMemory => ActFault::OutOfMemory,

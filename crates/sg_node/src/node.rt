@@ -1,5 +1,5 @@
 //! A principal's node.
-ghost use Rattle.std.specs.Prelude.{◌≡◌, ◌≢◌, ◌≤◌, [], length, AllPairs, IfOk};
+ghost use Rattle.std.specs.Prelude.{◌≡◌, ◌≢◌, ◌≤◌, [], length, AllPairs, IfOk, IsOk};
 ghost use Rattle.std.specs.List.{AllByRecursion};
 ghost use Rattle.sg_model.specs.Limits.{most_joins};
 ghost use Rattle.sg_protocol.specs.Acting.{answer};
@@ -46,13 +46,14 @@ impl<'p> Model for Node<'p> {
 }
 
 impl<'p> Node<'p> {
-    /// A node with these keys and programs, without joins and sessions.
+    /// A node with these keys and programs, without joins and sessions. It takes no memory.
     #[tactic(auto, using(crate::proofs::Life::stands_new))]
     pub fn new(
         alloc: Global,
         keys: Keyring,
         programs: &'p Programs,
     ) -> Result<Node<'p>, OutOfMemory>
+        ensures ok { IsOk result }
         ensures made { IfOk result (λ n. n ≡ new_state keys programs.entry.now []) }
         ensures stands { IfOk result (λ n. StandsForPast n (new_past keys programs.entry.now [])) }
     {

@@ -1,5 +1,5 @@
 -- Why a step is not taken.
-use Rattle.std.specs.Prelude.{◌≡◌, ℕ, ◌<◌, ⊤, Some, true, false}
+use Rattle.std.specs.Prelude.{◌≡◌, ℕ, ◌<◌, Some, true, false}
 use Rattle.sg_model.specs.Limits.{most_record_before}
 use Rattle.sg_protocol.specs.Schedule.{Step, who_of}
 use Rattle.sg_protocol.specs.Steps.{is_taken}
@@ -11,12 +11,12 @@ use Rattle.sg_world.specs.declared.fault.StepFault.TheVariants.{NotHonest, Recor
 abbrev pub IsFull : Replay → Type 0
 IsFull r = most_record_before < size_of r
 
--- why the step is not taken, in order
-abbrev pub IsStepFault : Replay → Step → StepFault → Type 0
-IsStepFault r x (NotHonest name) = (who_of x ≡ Some name) × (is_taken r.schedule x ≡ false)
-IsStepFault r x (RecordFull bytes) = (is_taken r.schedule x ≡ true) × IsFull r × (bytes ≡ size_of r)
-IsStepFault r x OutOfMemory = ⊤
-
 -- the step is one of an honest principal or a craft, and the record is not full
 abbrev pub IsAdmitted : Replay → Step → Type 0
 IsAdmitted r x = (is_taken r.schedule x ≡ true) × (IsFull r → ⊥)
+
+-- why the step is not taken, in order. Memory is wanted for a step that is admitted alone
+abbrev pub IsStepFault : Replay → Step → StepFault → Type 0
+IsStepFault r x (NotHonest name) = (who_of x ≡ Some name) × (is_taken r.schedule x ≡ false)
+IsStepFault r x (RecordFull bytes) = (is_taken r.schedule x ≡ true) × IsFull r × (bytes ≡ size_of r)
+IsStepFault r x OutOfMemory = IsAdmitted r x

@@ -1,5 +1,5 @@
 -- The walks of the sessions of a replay, and why a session has none.
-use Rattle.std.specs.Prelude.{◌≡◌, ◌≢◌, ℕ, ⊤, List, [], ◌++◌, map, flat_map, Option, option_map}
+use Rattle.std.specs.Prelude.{◌≡◌, ◌≢◌, ℕ, List, [], ◌++◌, map, flat_map, Option, option_map}
 use Rattle.std.specs.List.{AllByRecursion}
 use Rattle.sg_courses.specs.Courses.{Course, Courses}
 use Rattle.sg_courses.specs.Runs.{course_at}
@@ -24,11 +24,11 @@ PremisesHold r = Premises real r.schedule (run_of r)
 
 -- ---- no walk
 
--- why there is no walk, in order
+-- why there is no walk, in order. Memory is wanted for a session with an event alone
 abbrev pub IsWalkFault : Replay → List ℕ → WalkFault → Type 0
 IsWalkFault r sid NoSuchSession = events_of sid (run_of r).log ≡ []
 IsWalkFault r sid PremiseBroken = (events_of sid (run_of r).log ≢ []) × (PremisesHold r → ⊥)
-IsWalkFault r sid OutOfMemory = ⊤
+IsWalkFault r sid OutOfMemory = events_of sid (run_of r).log ≢ []
 
 -- ---- walks
 

@@ -14,7 +14,7 @@ use Rattle.sg_node.specs.Invariant.{IsSlot}
 use Rattle.sg_node.specs.declared.sessions.Live.TheVariants.{AtTurn, Waiting}
 use Rattle.sg_node.proofs.Places.{live_at, some_none}
 use Rattle.sg_node.proofs.Found.{set_twice, set_same, at_set, length_set}
-use Rattle.sg_node.proofs.Acts.{with_none, quiet, first_at, not_there, not_its_turn, not_sent_by, its_session, act_answer, act_notes, act_slots, stays_by, goes_by}
+use Rattle.sg_node.proofs.Acts.{with_none, quiet, first_at, not_there, not_its_turn, not_sent_by, its_session, at_a_turn, act_answer, act_notes, act_slots, stays_by, goes_by}
 use Rattle.sg_node.proofs.node.Node.act.Goals as goal
 
 pub returns-in_default-clause-answer : goal.returns-in_default-clause-answer
@@ -69,13 +69,13 @@ pub returns-in-Ok-clause-notes : goal.returns-in-Ok-clause-notes
 returns-in-Ok-clause-notes c = λ past st k. let it = its_session c.self.inside c.self.invariant (node_of past) (subst (λ (z : NodeState). StandsForPast z past) (sym c.self.view_is) st) c.args.sid c.args.label (values_of c.args.values.now) c.args.confounders.now c.in-Some.index (sym c.in-Some.ensures) c.in-Some-AtTurn.turn (sym c.take.ensures.taken ∙ c.in-Some-AtTurn.is ∙ ap (λ z. Some z) c.in-Some-AtTurn.field-0-is) in c.in-Ok.ensures.notes it.session it.stands ∙ ap (with_notes c.args.notes.now) (sym (act_notes c.self.inside c.self.invariant (node_of past) (subst (λ (z : NodeState). StandsForPast z past) (sym c.self.view_is) st) c.args.sid c.args.label (values_of c.args.values.now) c.args.confounders.now c.in-Some.index (sym c.in-Some.ensures) c.in-Some-AtTurn.turn (sym c.take.ensures.taken ∙ c.in-Some-AtTurn.is ∙ ap (λ z. Some z) c.in-Some-AtTurn.field-0-is) c.tell_values.ensures c.in-Ok.sent (record { accepted = c.in-Ok.ensures.accepted; state = c.in-Ok.ensures.state })))
 
 pub returns-in-Err-clause-answer : goal.returns-in-Err-clause-answer
-returns-in-Err-clause-answer c = λ past st. (not_sent_by c.self.inside c.self.invariant (node_of past) (subst (λ (z : NodeState). StandsForPast z past) (sym c.self.view_is) st) c.args.sid c.args.label (values_of c.args.values.now) c.args.confounders.now c.in-Some.index (sym c.in-Some.ensures) c.in-Some-AtTurn.turn (sym c.take.ensures.taken ∙ c.in-Some-AtTurn.is ∙ ap (λ z. Some z) c.in-Some-AtTurn.field-0-is) c.in-Err.fault c.not_sent.result c.not_sent.ensures c.in-Err.ensures.refused).0
+returns-in-Err-clause-answer c = λ past st. (not_sent_by c.self.inside c.self.invariant (node_of past) (subst (λ (z : NodeState). StandsForPast z past) (sym c.self.view_is) st) c.args.sid c.args.label (values_of c.args.values.now) c.args.confounders.now c.in-Some.index (sym c.in-Some.ensures) c.in-Some-AtTurn.turn (sym c.take.ensures.taken ∙ c.in-Some-AtTurn.is ∙ ap (λ z. Some z) c.in-Some-AtTurn.field-0-is) c.in-Err.fault c.not_sent.result c.not_sent.ensures.fault c.in-Err.ensures.refused).0
 
 pub returns-in-Err-clause-state : goal.returns-in-Err-clause-state
-returns-in-Err-clause-state c = λ past st k. let f = (not_sent_by c.self.inside c.self.invariant (node_of past) (subst (λ (z : NodeState). StandsForPast z past) (sym c.self.view_is) st) c.args.sid c.args.label (values_of c.args.values.now) c.args.confounders.now c.in-Some.index (sym c.in-Some.ensures) c.in-Some-AtTurn.turn (sym c.take.ensures.taken ∙ c.in-Some-AtTurn.is ∙ ap (λ z. Some z) c.in-Some-AtTurn.field-0-is) c.in-Err.fault c.not_sent.result c.not_sent.ensures c.in-Err.ensures.refused).1 (λ q. k (ap Err q)) in subst (λ (z : NodeState). GoesOn z (record { keys = c.self.inside.keys; programs = c.self.inside.programs.now; joins = c.self.inside.joins.pairs; live = held_in c.put.new.self.slots }) (Act c.args.sid c.args.label (values_of c.args.values.now) c.args.confounders.now) past) c.self.view_is (stays_by c.self.inside c.self.invariant past (subst (λ (z : NodeState). StandsForPast z past) (sym c.self.view_is) st) c.args.sid c.args.label (values_of c.args.values.now) c.args.confounders.now c.tell_values.ensures c.put.new.self.slots (c.put.ensures.slots ∙ ap (λ z. set_value_at z c.in-Some.index (Some (AtTurn c.in-Err.turn))) c.take.ensures.slots ∙ set_twice c.self.inside.sessions.slots c.in-Some.index None (Some (AtTurn c.in-Err.turn)) ∙ ap (λ (t : State). set_value_at c.self.inside.sessions.slots c.in-Some.index (Some (AtTurn t))) c.in-Err.ensures.back.0 ∙ set_same c.self.inside.sessions.slots c.in-Some.index (Some (AtTurn c.in-Some-AtTurn.turn)) (sym c.take.ensures.taken ∙ c.in-Some-AtTurn.is ∙ ap (λ z. Some z) c.in-Some-AtTurn.field-0-is) (first_at c.self.inside c.self.invariant c.args.sid c.in-Some.index (sym c.in-Some.ensures)).within) f.0 f.1)
+returns-in-Err-clause-state c = λ past st k. let f = (not_sent_by c.self.inside c.self.invariant (node_of past) (subst (λ (z : NodeState). StandsForPast z past) (sym c.self.view_is) st) c.args.sid c.args.label (values_of c.args.values.now) c.args.confounders.now c.in-Some.index (sym c.in-Some.ensures) c.in-Some-AtTurn.turn (sym c.take.ensures.taken ∙ c.in-Some-AtTurn.is ∙ ap (λ z. Some z) c.in-Some-AtTurn.field-0-is) c.in-Err.fault c.not_sent.result c.not_sent.ensures.fault c.in-Err.ensures.refused).1 (λ q. k (ap Err q)) in subst (λ (z : NodeState). GoesOn z (record { keys = c.self.inside.keys; programs = c.self.inside.programs.now; joins = c.self.inside.joins.pairs; live = held_in c.put.new.self.slots }) (Act c.args.sid c.args.label (values_of c.args.values.now) c.args.confounders.now) past) c.self.view_is (stays_by c.self.inside c.self.invariant past (subst (λ (z : NodeState). StandsForPast z past) (sym c.self.view_is) st) c.args.sid c.args.label (values_of c.args.values.now) c.args.confounders.now c.tell_values.ensures c.put.new.self.slots (c.put.ensures.slots ∙ ap (λ z. set_value_at z c.in-Some.index (Some (AtTurn c.in-Err.turn))) c.take.ensures.slots ∙ set_twice c.self.inside.sessions.slots c.in-Some.index None (Some (AtTurn c.in-Err.turn)) ∙ ap (λ (t : State). set_value_at c.self.inside.sessions.slots c.in-Some.index (Some (AtTurn t))) c.in-Err.ensures.back.0 ∙ set_same c.self.inside.sessions.slots c.in-Some.index (Some (AtTurn c.in-Some-AtTurn.turn)) (sym c.take.ensures.taken ∙ c.in-Some-AtTurn.is ∙ ap (λ z. Some z) c.in-Some-AtTurn.field-0-is) (first_at c.self.inside c.self.invariant c.args.sid c.in-Some.index (sym c.in-Some.ensures)).within) f.0 f.1)
 
 pub returns-in-Err-clause-notes : goal.returns-in-Err-clause-notes
-returns-in-Err-clause-notes c = λ past st k. let f = (not_sent_by c.self.inside c.self.invariant (node_of past) (subst (λ (z : NodeState). StandsForPast z past) (sym c.self.view_is) st) c.args.sid c.args.label (values_of c.args.values.now) c.args.confounders.now c.in-Some.index (sym c.in-Some.ensures) c.in-Some-AtTurn.turn (sym c.take.ensures.taken ∙ c.in-Some-AtTurn.is ∙ ap (λ z. Some z) c.in-Some-AtTurn.field-0-is) c.in-Err.fault c.not_sent.result c.not_sent.ensures c.in-Err.ensures.refused).1 (λ q. k (ap Err q)) in c.in-Err.ensures.back.1 ∙ with_none c.args.notes.now ∙ ap (with_notes c.args.notes.now) (sym (quiet (node_of past) c.args.sid c.args.label (values_of c.args.values.now) c.args.confounders.now f.0 f.1))
+returns-in-Err-clause-notes c = λ past st k. let f = (not_sent_by c.self.inside c.self.invariant (node_of past) (subst (λ (z : NodeState). StandsForPast z past) (sym c.self.view_is) st) c.args.sid c.args.label (values_of c.args.values.now) c.args.confounders.now c.in-Some.index (sym c.in-Some.ensures) c.in-Some-AtTurn.turn (sym c.take.ensures.taken ∙ c.in-Some-AtTurn.is ∙ ap (λ z. Some z) c.in-Some-AtTurn.field-0-is) c.in-Err.fault c.not_sent.result c.not_sent.ensures.fault c.in-Err.ensures.refused).1 (λ q. k (ap Err q)) in c.in-Err.ensures.back.1 ∙ with_none c.args.notes.now ∙ ap (with_notes c.args.notes.now) (sym (quiet (node_of past) c.args.sid c.args.label (values_of c.args.values.now) c.args.confounders.now f.0 f.1))
 
 pub returns-in-Err-clause-back : goal.returns-in-Err-clause-back
 returns-in-Err-clause-back c = (ap (λ z. record { keys = c.self.inside.keys; programs = c.self.inside.programs.now; joins = c.self.inside.joins.pairs; live = held_in z }) (c.put.ensures.slots ∙ ap (λ z. set_value_at z c.in-Some.index (Some (AtTurn c.in-Err.turn))) c.take.ensures.slots ∙ set_twice c.self.inside.sessions.slots c.in-Some.index None (Some (AtTurn c.in-Err.turn)) ∙ ap (λ (t : State). set_value_at c.self.inside.sessions.slots c.in-Some.index (Some (AtTurn t))) c.in-Err.ensures.back.0 ∙ set_same c.self.inside.sessions.slots c.in-Some.index (Some (AtTurn c.in-Some-AtTurn.turn)) (sym c.take.ensures.taken ∙ c.in-Some-AtTurn.is ∙ ap (λ z. Some z) c.in-Some-AtTurn.field-0-is) (first_at c.self.inside c.self.invariant c.args.sid c.in-Some.index (sym c.in-Some.ensures)).within) ∙ c.self.view_is, c.in-Err.ensures.back.1)
@@ -103,3 +103,6 @@ returns-in-None-clause-notes c = some_none (first_at c.self.inside c.self.invari
 
 pub returns-in-None-clause-back : goal.returns-in-None-clause-back
 returns-in-None-clause-back c = some_none (first_at c.self.inside c.self.invariant c.args.sid c.in-Some.index (sym c.in-Some.ensures)).live (sym (first_at c.self.inside c.self.invariant c.args.sid c.in-Some.index (sym c.in-Some.ensures)).there ∙ sym c.take.ensures.taken ∙ c.in-None.is)
+
+pub returns-in-Err-clause-memory : goal.returns-in-Err-clause-memory
+returns-in-Err-clause-memory c = λ past st k. at_a_turn c.self.inside c.self.invariant (node_of past) (subst (λ (z : NodeState). StandsForPast z past) (sym c.self.view_is) st) c.args.sid c.args.label (values_of c.args.values.now) c.args.confounders.now c.in-Some.index (sym c.in-Some.ensures) c.in-Some-AtTurn.turn (sym c.take.ensures.taken ∙ c.in-Some-AtTurn.is ∙ ap (λ z. Some z) c.in-Some-AtTurn.field-0-is)
