@@ -1,5 +1,5 @@
 -- The walks of a replay's sessions, in the order in which they are reported.
-use Rattle.std.specs.Prelude.{◌≡◌, ◌≢◌, ℕ, ◌<◌, Bool, true, false, ◌||◌, if◌then◌else◌, List, [], ◌∷◌, ◌++◌, map, filter, filter_map, flat_map, find, cond, length, bytes_eq, refl, Option, Some, None, option_map, option_and_then, IfSome, MatchOption, All}
+use Rattle.std.specs.Prelude.{◌≡◌, ◌≢◌, ℕ, ◌<◌, Bool, true, false, ◌||◌, if◌then◌else◌, List, [], ◌∷◌, ◌++◌, map, filter, filter_map, flat_map, find, cond, length, bytes_eq, refl, Option, Some, None, option_map, option_and_then, IfOk, IfSome, MatchOption, Result, Ok, Err, All}
 use Rattle.std.specs.List.{AllByRecursion, cons_option}
 use Rattle.std.specs.Map.{lookup}
 use Rattle.std.specs.Option.{option_map_or, option_to_list}
@@ -38,7 +38,7 @@ use Rattle.sg_walk.specs.Model.{steps_of}
 use Rattle.sg_walk.specs.declared.stored.StoredWalk.{StoredWalk}
 use Rattle.sg_world.specs.Account.{account, cast_met, graph_of, honest_in}
 use Rattle.sg_world.specs.Replay.{Replay, run_of}
-use Rattle.sg_world.specs.Walked.{CanWalkAll, IsPath, Path, PremisesHold, WalksAreWritten, path_at, path_grown, path_line, steps_grown}
+use Rattle.sg_world.specs.Walked.{CanWalkAll, IsPath, Path, PremisesHold, WalksAreMade, WalksAreWritten, path_at, path_grown, path_line, steps_grown}
 
 -- ---- events
 
@@ -180,6 +180,23 @@ module _ (r : Replay) (compiled : AreCompiled real r.schedule.graphs r.programs)
   pub can_walk : (c : Courses) → AreCourses r.schedule (run_of r).log c → c.programs ≡ r.programs → CanWalkAll c
   can_walk c are same = have_steps c.courses (grown_paths c are same)
 
+  all_mapped : (es : List (List ℕ × Course)) → AllByRecursion (λ (e : List ℕ × Course). IsPath r (path_grown e)) es → AllByRecursion (IsPath r) (map path_grown es)
+  all_mapped [] h = tt
+  all_mapped (e ∷ es) h = (h.0, all_mapped es h.1)
+
+  sids_mapped : (es : List (List ℕ × Course)) → map (λ (p : Path). p.sid) (map path_grown es) ≡ map (λ (e : List ℕ × Course). e.0) es
+  sids_mapped [] = refl
+  sids_mapped (e ∷ es) = ap (λ (z : List (List ℕ)). e.0 ∷ z) (sids_mapped es)
+
+  -- the walks of all sessions with an event, in the order of their first events
+  pub walks_made : (c : Courses) → AreCourses r.schedule (run_of r).log c → c.programs ≡ r.programs → (count : ℕ) → count ≡ length c.courses → WalksAreMade r count
+  walks_made c are same count many = record {
+    paths = map path_grown c.courses;
+    each = all_mapped c.courses (grown_paths c are same);
+    sids = sids_mapped c.courses ∙ are.sids;
+    many = many ∙ sym (length-map c.courses path_grown);
+  }
+
   -- the walks of all sessions with an event, in their order
   pub walks_written : (c : Courses) → AreCourses r.schedule (run_of r).log c → c.programs ≡ r.programs → (old new : List ℕ)
       → new ≡ old ++ flat_map (path_line (met (account r))) (filter_map (path_at c) (all_sids (met (account r)))) → WalksAreWritten r old new
@@ -189,6 +206,11 @@ module _ (r : Replay) (compiled : AreCompiled real r.schedule.graphs r.programs)
     sids = told_met path_grown (λ sid w. refl) c.courses (met (account r)) (λ sid. ap (has_text sid) are.sids ∙ has_text-firsts sid (sids_of (run_of r).log));
     text = text;
   }
+
+-- where so many walks are made as there are courses
+pub made_ok : {E : Type 0} {P : ℕ → Type 0} {n : ℕ} (res : Result ℕ E) → ((count : ℕ) → count ≡ n → P count) → IfOk res (λ count. count ≡ n) → IfOk res P
+made_ok (Ok count) f h = f count h
+made_ok (Err e) f h = tt
 
 -- what a course's walk gives explains the session
 pub grown_path : (r : Replay) (c : Courses) (sid : List ℕ) (o : Option StoredWalk) (w : StoredWalk) → IsUnbroken r.programs r.schedule → AreCourses r.schedule (run_of r).log c → c.programs ≡ r.programs

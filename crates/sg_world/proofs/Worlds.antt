@@ -1,6 +1,9 @@
 -- A replay as its parts keep it.
-use Rattle.std.proofs.Common.{◌≡◌, ℕ, ◌<◌, ◌≤◌, List, map, length, sum_by, Option, Some, option_map, sym, ◌∙◌, ap, subst}
+use Rattle.std.proofs.Common.{◌≡◌, ℕ, zero, suc, ◌<◌, ◌≤◌, List, [], ◌∷◌, map, length, sum_by, slice_get, get_or, Option, Some, None, option_map, arith, sym, ◌∙◌, ap, subst}
+use Rattle.std.proofs.lemmas.List.{length-map}
+use Rattle.std.proofs.lemmas.Option.{slice_get_read}
 use Rattle.sg_model.specs.Last.{last}
+use Rattle.sg_model.specs.Limits.{most_record_before}
 use Rattle.sg_law.proofs.Cut.{last-option_map}
 use Rattle.sg_protocol.proofs.Steps.{runs_go_by_step}
 use Rattle.sg_protocol.specs.IsSchedule.{AreCompiled, IsSchedule}
@@ -9,11 +12,14 @@ use Rattle.sg_protocol.specs.Schedule.{Schedule, Step}
 use Rattle.sg_protocol.specs.Steps.{with_step}
 use Rattle.sg_protocol.specs.Texts.{real, graph_text_of}
 use Rattle.sg_protocol.specs.World.{Logged}
+use Rattle.sg_world.specs.Faults.{IsAdmitted, IsFull}
 use Rattle.sg_world.specs.Holds.{Holds, schedule_of}
 use Rattle.sg_world.specs.Kept.{Recorded, Taken}
-use Rattle.sg_world.specs.Replay.{Replay, without_steps, with_taken, run_of, stepped}
+use Rattle.sg_world.specs.Places.{IsPlaceOf}
+use Rattle.sg_world.specs.Replay.{Replay, without_steps, with_taken, run_of, size_of, stepped}
 use Rattle.sg_world.specs.Setting.{Setting}
 use Rattle.sg_report.specs.Told.{Told, told_log}
+use Rattle.sg_world.proofs.Found.{placed}
 use Rattle.sg_world.proofs.Begins.{begins, is_declared, new_named, nothing}
 use Rattle.sg_world.proofs.Pasts.{Named}
 
@@ -47,6 +53,13 @@ taken_is rep d nodes now r r2 x is h = ap (λ (z : Schedule). record { programs 
 pub run_is : (rep new : Replay) (x : Step) → new ≡ with_taken rep x → run_of new ≡ stepped rep x
 run_is rep new x h = ap run_of h ∙ runs_go_by_step real rep.programs rep.schedule x
 
+-- a step that has its place, where the record is not full, is admitted
+pub is_admitted : (rep : Replay) (d : Setting) (nodes : List Named) (r : Recorded) (x : Step) (place : Option ℕ) → replay d nodes r ≡ rep → Holds d nodes r → IsPlaceOf nodes x place → r.size ≤ most_record_before
+    → IsAdmitted rep x
+is_admitted rep d nodes r x place is h at small =
+    let sized : r.size ≡ size_of (replay d nodes r) = h.run.size in
+    subst (λ (z : Replay). IsAdmitted z x) is (placed nodes x place at, λ (full : IsFull (replay d nodes r)). omega (arith, small, sized, full))
+
 -- what is told of the last step
 pub last_told : (rep : Replay) (d : Setting) (nodes : List Named) (r : Recorded) → replay d nodes r ≡ rep → Holds d nodes r → option_map (λ (e : Taken). e.told) (last r.entries) ≡ option_map {U = Option Told} Some (last (told_log (run_of rep).log))
 last_told rep d nodes r is h =
@@ -56,3 +69,26 @@ last_told rep d nodes r is h =
 -- what was noted in each step
 pub noted : (rep : Replay) (d : Setting) (nodes : List Named) (r : Recorded) → replay d nodes r ≡ rep → Holds d nodes r → r.notes ≡ map (λ (l : Logged). l.notes) (run_of rep).log
 noted rep d nodes r is h = h.run.notes ∙ ap (λ (z : Replay). map (λ (l : Logged). l.notes) (run_of z).log) is
+
+-- as much is told as steps were taken
+pub told_many : (rep : Replay) (d : Setting) (nodes : List Named) (r : Recorded) → replay d nodes r ≡ rep → Holds d nodes r → length r.entries ≡ length (told_log (run_of rep).log)
+told_many rep d nodes r is h =
+    sym (length-map r.entries (λ (e : Taken). e.told)) ∙ ap (λ (z : List (Option Told)). length z) h.run.told ∙ length-map (told_log (run_of (replay d nodes r)).log) (λ (t : Told). Some t)
+    ∙ ap (λ (z : Replay). length (told_log (run_of z).log)) is
+
+-- what is told of the step at a place
+same_at : (es : List Taken) (ts : List Told) (i : ℕ) (e : Taken) → map (λ (e : Taken). e.told) es ≡ map Some ts → slice_get es i ≡ Some e → e.told ≡ slice_get ts i
+same_at [] ts i e h q = absurd (cc)
+same_at (x ∷ es) [] i e h q = absurd (cc)
+same_at (x ∷ es) (t ∷ ts) zero e h q = cc
+same_at (x ∷ es) (t ∷ ts) (suc i) e h q = same_at es ts i e (cc) q
+
+pub told_at : (rep : Replay) (d : Setting) (nodes : List Named) (r : Recorded) → replay d nodes r ≡ rep → Holds d nodes r → (i : ℕ) (e : Taken) → slice_get r.entries i ≡ Some e → e.told ≡ slice_get (told_log (run_of rep).log) i
+told_at rep d nodes r is h i e q = same_at r.entries (told_log (run_of (replay d nodes r)).log) i e h.run.told q ∙ ap (λ (z : Replay). slice_get (told_log (run_of z).log) i) is
+
+-- and so by a list that is the record's
+pub told_here : (rep : Replay) (d : Setting) (nodes : List Named) (r : Recorded) → replay d nodes r ≡ rep → Holds d nodes r → (es : List Taken) → es ≡ r.entries → (i : ℕ) (e : Taken) → i < length rep.schedule.steps → e ≡ get_or es i e
+    → e.told ≡ slice_get (told_log (run_of rep).log) i
+told_here rep d nodes r is h es same i e below at =
+    let many : length rep.schedule.steps ≡ length r.entries = sym (ap (λ (z : Replay). length z.schedule.steps) is) ∙ length-map r.entries (λ (t : Taken). t.step) in
+    told_at rep d nodes r is h i e (slice_get_read r.entries (length rep.schedule.steps) i e many below (at ∙ ap (λ (ts : List Taken). get_or ts i e) same))

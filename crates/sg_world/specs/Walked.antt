@@ -1,12 +1,13 @@
 -- The walks of the sessions of a replay, and why a session has none.
-use Rattle.std.specs.Prelude.{◌≡◌, ◌≢◌, ℕ, List, [], ◌++◌, map, flat_map, Option, option_map}
+use Rattle.std.specs.Prelude.{◌≡◌, ◌≢◌, ℕ, List, [], ◌++◌, map, flat_map, length, Option, option_map}
 use Rattle.std.specs.List.{AllByRecursion}
 use Rattle.sg_courses.specs.Courses.{Course, Courses}
 use Rattle.sg_courses.specs.Runs.{course_at}
 use Rattle.sg_grown.specs.Events.{grown_along}
-use Rattle.sg_lines.specs.Sessions.{Met, sids_met}
+use Rattle.sg_lines.specs.Sessions.{Met, firsts, sids_met}
 use Rattle.sg_lines.specs.Walks.{HasSteps, walk_line}
 use Rattle.sg_model.specs.Lists.{is_in}
+use Rattle.sg_protocol.specs.Calls.{sid_of}
 use Rattle.sg_protocol.specs.Graph.{Graph}
 use Rattle.sg_protocol.specs.Premises.{Premises}
 use Rattle.sg_protocol.specs.Run.{events_of}
@@ -55,6 +56,13 @@ pub record WalksAreWritten (r : Replay) (old new : List ℕ) : Type 0 where
   pub each : AllByRecursion (IsPath r) paths
   pub sids : map (λ p. p.sid) paths ≡ sids_met (met (account r))
   pub text : new ≡ old ++ flat_map (path_line (met (account r))) paths
+
+-- so many sessions have an event, and the walk of each was made, which explains the session, in the order of their first events
+pub record WalksAreMade (r : Replay) (count : ℕ) : Type 0 where
+  pub paths : List Path
+  pub each : AllByRecursion (IsPath r) paths
+  pub sids : map (λ p. p.sid) paths ≡ firsts (map sid_of (account r).events)
+  pub many : count ≡ length paths
 
 -- ---- walks that are grown
 

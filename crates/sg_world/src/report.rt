@@ -46,8 +46,8 @@ impl<'p> World<'p> {
         }
     }
 
-    // Writes whether the premises hold, and answers whether both do.
-    fn put_premises(&self, out: &mut ByteOut) -> Result<bool, OutOfMemory>
+    /// Writes the two lines that say whether the premises hold, and answers whether both do.
+    pub fn put_premises(&self, out: &mut ByteOut) -> Result<bool, OutOfMemory>
         ensures hold { IfOk result (λ b. b ≡ premises_hold (account self.now)) }
         ensures text { OnOk result (out.new ≡ out.old ++ premise_lines (account self.now).forged (account self.now).collision_free) }
     {

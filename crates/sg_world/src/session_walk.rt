@@ -1,5 +1,5 @@
 //! The walk that explains a session.
-ghost use Rattle.std.specs.Prelude.{◌≡◌, ◌≢◌, [], bytes_eq, filter_map, IfErr, IfOk, MatchBool, OnOk};
+ghost use Rattle.std.specs.Prelude.{◌≡◌, ◌≢◌, [], bytes_eq, filter_map, length, IfErr, IfOk, MatchBool, OnOk};
 ghost use Rattle.std.specs.Option.{option_to_list};
 ghost use Rattle.sg_courses.specs.Runs.{AreCourses, IsUnbroken};
 ghost use Rattle.sg_model.specs.Lists.{has_text};
@@ -9,7 +9,7 @@ ghost use Rattle.sg_walk.specs.Model.{steps_of};
 ghost use Rattle.sg_world.specs.Account.{graph_of, honest_in};
 ghost use Rattle.sg_world.specs.KeptLines.{sid_kept};
 ghost use Rattle.sg_world.specs.Replay.{run_of};
-ghost use Rattle.sg_world.specs.Walked.{IsWalkFault, PremisesHold};
+ghost use Rattle.sg_world.specs.Walked.{IsWalkFault, PremisesHold, WalksAreMade};
 
 use crate::World;
 use crate::names::sid_told;
@@ -19,6 +19,7 @@ use crate::walks::courses;
 use sg_base::{OutOfMemory, Sid};
 use sg_courses::Courses;
 use sg_walk::StoredWalk;
+use std::alloc::Global;
 use thiserror::Error;
 
 /// Why there is no walk of a session, the first cause that holds.
@@ -56,6 +57,15 @@ impl<'p> World<'p> {
             Ok(walk) => Ok(walk),
             Err(_) => Err(WalkFault::OutOfMemory),
         }
+    }
+
+    /// Makes the walk of each session with an event, one after another, and answers how many there are.
+    pub fn walks(&self) -> Result<usize, OutOfMemory>
+        requires { PremisesHold self.now }
+        ensures { IfOk result (WalksAreMade self.now) }
+    {
+        let courses = self.courses()?;
+        make_walks(self.alloc, &courses)
     }
 
     // The course of each session with an event.
@@ -103,6 +113,18 @@ impl<'p> World<'p> {
             None => unreachable!(),
         }
     }
+}
+
+// Makes the walk of each course, and answers how many there are.
+fn make_walks<'r>(alloc: Global, courses: &Courses<'r>) -> Result<usize, OutOfMemory>
+    ensures { IfOk result (λ count. count ≡ length courses.now.courses) }
+{
+    for place in 0..courses.len() {
+        if let Some((_, course)) = courses.at(place) {
+            let _walk = course.walk(alloc)?;
+        }
+    }
+    Ok(courses.len())
 }
 
 // An event of these steps has the identifier.

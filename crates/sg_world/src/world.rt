@@ -1,5 +1,5 @@
 //! A replay.
-ghost use Rattle.std.specs.Prelude.{◌≡◌, ◌<◌, ◌≤◌, All, length, map, Some, IfOk, IfErr, OnOk, OnErr, option_map};
+ghost use Rattle.std.specs.Prelude.{◌≡◌, ◌<◌, ◌≤◌, All, length, map, slice_get, Some, IfOk, IfErr, OnOk, OnErr, option_map};
 ghost use Rattle.sg_model.specs.Last.{last};
 ghost use Rattle.sg_model.specs.Limits.{most_steps};
 ghost use Rattle.sg_protocol.specs.IsSchedule.{AreCompiled, IsSchedule};
@@ -79,9 +79,19 @@ impl<'p> World<'p> {
 
     /// The number of steps that were taken. It takes no memory.
     pub fn len(&self) -> usize
-        ensures { result ≡ length self.now.schedule.steps }
+        ensures steps { result ≡ length self.now.schedule.steps }
+        ensures told { result ≡ length (told_log (run_of self.now).log) }
     {
         self.history.count()
+    }
+
+    /// What came of the step at a place, counted from 0. It takes no memory.
+    pub fn outcome(&self, place: usize) -> &Outcome
+        requires { place < length self.now.schedule.steps }
+        ensures { outcome_of result.now ≡ slice_get (told_log (run_of self.now).log) place }
+    {
+        let entry = &self.history.entries()[place];
+        &entry.outcome
     }
 
     /// What came of the last step, or `None` where none was taken. It takes no memory.
