@@ -1,12 +1,11 @@
 -- What the reader makes of one more line is what the line tells.
-use Rattle.std.proofs.Common.{◌≡◌, ℕ, suc, ◌<◌, ◌≤◌, ◌==◌, nat_lt, nat_le, Bool, true, false, not, ◌&&◌, ◌||◌, List, [], ◌∷◌, ◌++◌, map, length, flat_map, refl, sym, ap, ◌∙◌, inl, inr, arith, if◌then◌else◌, length-append}
+use Rattle.std.proofs.Common.{◌≡◌, ℕ, ◌==◌, nat_le, Bool, true, false, not, ◌&&◌, ◌||◌, List, [], ◌∷◌, ◌++◌, map, length, flat_map, refl, sym, ap, ◌∙◌, arith, if◌then◌else◌, length-append}
 use Rattle.std.specs.Prelude.{Option, Some, None, is_some, is_none, option_map, unwrap_or, Result, Ok, Err}
 use Rattle.std.specs.List.{list_all, list_any}
 use Rattle.std.specs.Option.{option_map_or}
 use Rattle.std.proofs.lemmas.Bool.Decides.{nat_tests}
-use Rattle.std.proofs.lemmas.Bool.{cases_Bool}
 use Rattle.sg_base.specs.Sets.{with_member}
-use Rattle.sg_model.specs.Lists.{has_text, is_in, below, first_some, keys_of, rises_from}
+use Rattle.sg_model.specs.Lists.{has_text, is_in, below, first_some, keys_of}
 use Rattle.sg_model.specs.Names.{Name}
 use Rattle.sg_model.specs.Values.{Value}
 use Rattle.sg_model.proofs.Small.{first_false, second_false}
@@ -64,18 +63,6 @@ in_turn false false false false x = refl
 all_same : (p q : ℕ → Bool) (ns : List ℕ) → ((n : ℕ) → p n ≡ q n) → list_all p ns ≡ list_all q ns
 all_same p q [] h = refl
 all_same p q (n ∷ ns) h = λ i. h n i && all_same p q ns h i
-
--- ---- rising numbers differ
-
-lower : (m least : ℕ) (ns : List ℕ) → m < least → rises_from least ns ≡ true → is_in m ns ≡ false
-lower m least [] l h = refl
-lower m least (n ∷ ns) l h = elim (cases_Bool (nat_lt n least)) [
-  | inl y ↦ (let bad : false ≡ true = rw y at h in absurd (cc))
-  | inr z ↦ (let r : rises_from (suc n) ns ≡ true = rw z at h in
-      let up : least ≤ n = grind (arith, nat_tests, z) in
-      let other : (n == m) ≡ false = grind (arith, nat_tests, up, l) in
-      rw (other, lower m (suc n) ns (omega (arith, up, l)) r) refl)
-]
 
 -- ---- the tests of what the reader keeps, and of what is told
 

@@ -9,8 +9,8 @@ use Rattle.sg_audit.specs.SoFar.{SoFar, Added}
 use Rattle.sg_audit.specs.Sessions.{Session, Logs}
 use Rattle.sg_audit.specs.Spells.{Fault, WrongLine, NoGraph}
 use Rattle.sg_audit.specs.declared.given.Given.{Given as Taken}
-use Rattle.sg_audit.specs.declared.line.Line.{Line}
-use Rattle.sg_audit.specs.declared.line.Line.TheVariants.{Session as ALine, Log, Event, Walk}
+use Rattle.sg_audit.specs.declared.line.LogLine.{LogLine}
+use Rattle.sg_audit.specs.declared.line.LogLine.TheVariants.{Session as ALine, Log, Event, Walk}
 use Rattle.sg_audit.specs.declared.step.GivenStep.{GivenStep}
 use Rattle.sg_audit.specs.declared.session.SessionLog.{SessionLog}
 use Rattle.sg_audit.specs.declared.session.Logs.{Logs as Held'}
@@ -33,14 +33,14 @@ abbrev pub step_said : GivenStep → SaidStep
 step_said s = record { label = s.label; writes = given_writes s.writes }
 
 -- what a line that is held says
-abbrev pub said : Line → Said
+abbrev pub said : LogLine → Said
 said (ALine n) = SaidSession n
 said (Log role) = SaidLog role
 said (Event sent label time values) = SaidEvent sent label time (given_values values)
 said (Walk steps) = SaidWalk (map step_said steps)
 
 -- a role is less than 16
-abbrev pub Fits : Line → Type 0
+abbrev pub Fits : LogLine → Type 0
 Fits (Log role) = IfSome role (λ r. r < 16)
 Fits other = ⊤
 

@@ -14,7 +14,7 @@ use std::alloc::Global;
 
 /// What a line says of a graph. A role or a label is `None` where the graph has none of the name.
 #[derive(Debug, Drop)]
-pub(crate) enum Line {
+pub(crate) enum LogLine {
     Session(Name),
     Log(Option<Role>),
     Event {
@@ -32,7 +32,7 @@ pub(crate) fn read_line(
     alloc: Global,
     graph: &Graph,
     words: &mut Words<'_>,
-) -> Result<Option<Line>, OutOfMemory>
+) -> Result<Option<LogLine>, OutOfMemory>
     ensures said { IfOk result (λ o. option_map said o ≡ form graph.now words.old) }
     ensures fits { IfOk result (λ o. IfSome o Fits) }
 {
@@ -56,7 +56,7 @@ pub(crate) fn read_line(
 
 // `NAME` of a session.
 #[tactic(auto, unfolding(crate::specs::Reading::session_form, sg_base::specs::Words::name, sg_sched::specs::Format::Reading::word))]
-fn session(words: &mut Words<'_>) -> Option<Line>
+fn session(words: &mut Words<'_>) -> Option<LogLine>
     ensures said { option_map said result ≡ session_form words.old }
     ensures fits { IfSome result Fits }
 {
@@ -64,12 +64,12 @@ fn session(words: &mut Words<'_>) -> Option<Line>
     if !words.is_empty() {
         return None;
     }
-    Some(Line::Session(name))
+    Some(LogLine::Session(name))
 }
 
 // `ROLE` of a log.
 #[tactic(auto, unfolding(crate::specs::Reading::log_form, sg_base::specs::Words::name, sg_sched::specs::Format::Reading::word))]
-fn log(graph: &Graph, words: &mut Words<'_>) -> Option<Line>
+fn log(graph: &Graph, words: &mut Words<'_>) -> Option<LogLine>
     ensures said { option_map said result ≡ log_form graph.now words.old }
     ensures fits { IfSome result Fits }
 {
@@ -77,7 +77,7 @@ fn log(graph: &Graph, words: &mut Words<'_>) -> Option<Line>
     if !words.is_empty() {
         return None;
     }
-    Some(Line::Log(role_named(graph, &name)))
+    Some(LogLine::Log(role_named(graph, &name)))
 }
 
 // `LABEL TIME VAR=VALUE ..` of an event.
@@ -87,7 +87,7 @@ fn event(
     graph: &Graph,
     sent: bool,
     words: &mut Words<'_>,
-) -> Result<Option<Line>, OutOfMemory>
+) -> Result<Option<LogLine>, OutOfMemory>
     ensures said { IfOk result (λ o. option_map said o ≡ event_form graph.now sent words.old) }
     ensures fits { IfOk result (λ o. IfSome o Fits) }
 {
@@ -104,7 +104,7 @@ fn event(
         return Ok(None);
     };
     match read_values(alloc, graph, words)? {
-        Some(values) => Ok(Some(Line::Event {
+        Some(values) => Ok(Some(LogLine::Event {
             sent,
             label: label_named(graph, &name),
             time,
@@ -128,12 +128,12 @@ fn read_time(word: &[u8]) -> Option<Time>
 
 // The steps of a walk.
 #[tactic(auto, unfolding(crate::specs::Reading::walk_form))]
-fn walk(alloc: Global, graph: &Graph, words: &mut Words<'_>) -> Result<Option<Line>, OutOfMemory>
+fn walk(alloc: Global, graph: &Graph, words: &mut Words<'_>) -> Result<Option<LogLine>, OutOfMemory>
     ensures said { IfOk result (λ o. option_map said o ≡ walk_form graph.now words.old) }
     ensures fits { IfOk result (λ o. IfSome o Fits) }
 {
     match read_steps(alloc, graph, words)? {
-        Some(steps) => Ok(Some(Line::Walk(steps))),
+        Some(steps) => Ok(Some(LogLine::Walk(steps))),
         None => Ok(None),
     }
 }

@@ -12,7 +12,7 @@ ghost use Rattle.sg_audit.specs.Model.{logs_of, told_of};
 use crate::fault::{LogFault, Mistake, Stop};
 use crate::line::read_line;
 use crate::lines::{Lines, closes, opens};
-use crate::reader::Reader;
+use crate::reader::LogsReader;
 use crate::session::{Logs, SessionLog};
 use sg_base::Seq;
 use sg_graph::Graph;
@@ -125,7 +125,7 @@ fn take_sessions(
 ) -> Result<Seq<SessionLog>, LogFault>
     ensures { MatchResult result (λ s. read_sessions graph.now (lines.old.number + 1) nothing lines.old.lines ≡ Ok (record { graph = graph.now; sessions = map session_of s })) (Refuses (read_sessions graph.now (lines.old.number + 1) nothing lines.old.lines)) }
 {
-    let mut reader = Reader::new(alloc);
+    let mut reader = LogsReader::new(alloc);
     'lines: while let Some(line) = lines.next() {
         if let Err(stop) = take_line(alloc, graph, &mut reader, line) {
             return Err(fault_at(lines.number(), stop));
@@ -144,7 +144,7 @@ fn take_sessions(
 
 // Takes a line with its line end.
 #[tactic(auto, unfolding(crate::specs::Read::add_line))]
-fn take_line(alloc: Global, graph: &Graph, reader: &mut Reader, line: &[u8]) -> Result<(), Stop>
+fn take_line(alloc: Global, graph: &Graph, reader: &mut LogsReader, line: &[u8]) -> Result<(), Stop>
     ensures { Takes (add_line graph.now reader.old line.now) reader.new result }
 {
     if is_skipped(line_content(line)) {

@@ -9,7 +9,7 @@ ghost use Rattle.sg_walk.specs.Model.{event_of, step_of, steps_of};
 
 use crate::fault::{Mistake, Stop};
 use crate::given::Given;
-use crate::line::Line;
+use crate::line::LogLine;
 use crate::order::{some_fall, some_not_rise, some_unknown, values_fall, values_rise};
 use crate::session::SessionLog;
 use crate::step::GivenStep;
@@ -26,7 +26,7 @@ const MOST_EVENTS: u32 = 100_000;
 
 /// What the lines so far have said.
 #[derive(Drop)]
-pub(crate) struct Reader {
+pub(crate) struct LogsReader {
     alloc: Global,
     names: NameSet,
     count: u32,
@@ -39,7 +39,7 @@ pub(crate) struct Reader {
     walk: Option<StoredWalk>,
 }
 
-impl Model for Reader {
+impl Model for LogsReader {
     ghost use Rattle.std.specs.Prelude.{map, option_map};
     ghost use Rattle.sg_audit.specs.SoFar.{SoFar};
     ghost use Rattle.sg_audit.specs.Model.{log_of};
@@ -61,12 +61,12 @@ impl Model for Reader {
     } };
 }
 
-impl Reader {
+impl LogsReader {
     /// Before the first session. It takes no memory.
-    pub fn new(alloc: Global) -> Reader
+    pub fn new(alloc: Global) -> LogsReader
         ensures { result ≡ nothing }
     {
-        Reader {
+        LogsReader {
             alloc,
             names: NameSet::new(alloc),
             count: 0,
@@ -82,20 +82,20 @@ impl Reader {
 
     /// Takes what a line says.
     #[tactic(auto, unfolding(crate::specs::SoFar::add))]
-    pub fn add(&mut self, graph: &Graph, line: Line) -> Result<(), Stop>
+    pub fn add(&mut self, graph: &Graph, line: LogLine) -> Result<(), Stop>
         requires { Fits line }
         ensures { Takes (add graph.now self.old (said line)) self.new result }
     {
         match line {
-            Line::Session(name) => self.add_session(graph, name),
-            Line::Log(role) => self.add_log(role),
-            Line::Event {
+            LogLine::Session(name) => self.add_session(graph, name),
+            LogLine::Log(role) => self.add_log(role),
+            LogLine::Event {
                 sent,
                 label,
                 time,
                 values,
             } => self.add_event(sent, label, time, values),
-            Line::Walk(steps) => self.add_walk(graph, steps),
+            LogLine::Walk(steps) => self.add_walk(graph, steps),
         }
     }
 

@@ -1,5 +1,5 @@
 -- Sets of small numbers.
-use Rattle.std.proofs.Common.{◌≡◌, ◌≢◌, ℕ, zero, suc, ◌+◌, ◌*◌, ◌/◌, ◌%◌, ◌^◌, ◌<◌, ◌≤◌, ◌==◌, nat_le, nat_lt, Bool, true, false, ◌&&◌, ◌||◌, List, [], ◌∷◌, if◌then◌else◌, filter, refl, ap, sym, ◌∙◌, arith}
+use Rattle.std.proofs.Common.{◌≡◌, ◌≢◌, ℕ, zero, suc, ◌+◌, ◌*◌, ◌/◌, ◌%◌, ◌^◌, ◌<◌, ◌≤◌, ◌==◌, nat_le, nat_lt, Bool, true, false, ◌&&◌, ◌||◌, List, [], ◌∷◌, ◌++◌, if◌then◌else◌, filter, refl, ap, sym, ◌∙◌, arith}
 use Rattle.std.proofs.lemmas.Bool.Decides.{nat_tests}
 use Rattle.std.proofs.lemmas.Nat.Bits.{bit_at-zero, bit_at_set_same, bit_at_set_other, shr_and_one}
 use Rattle.std.specs.Int.{Width, bit_at}
@@ -7,9 +7,9 @@ use mir.Val.{bits}
 use Rattle.std.specs.Prelude.{bit_or, bit_and}
 use Rattle.std.proofs.lemmas.Bool.{eqb-true, eq-eqb}
 use Rattle.std.specs.Prelude.{◌↔◌}
-use Rattle.sg_base.specs.Sets.{members, mask_of, with_member}
+use Rattle.sg_base.specs.Sets.{members, mask_of, with_member, set_of}
 use Rattle.sg_model.specs.Lists.{range_from, is_in}
-use Rattle.sg_model.proofs.Numbers.{filter-range_from}
+use Rattle.sg_model.proofs.Numbers.{filter-range_from, is_in-more}
 
 -- an element that is put in front if it counts
 is_in-if : (b : Bool) (i x : ℕ) (xs : List ℕ) → is_in x (if b then i ∷ xs else xs) ≡ ((b && (i == x)) || is_in x xs)
@@ -48,6 +48,25 @@ is_in-with_member width x y xs h =
 pub is_in-with_role : (x r : ℕ) (set : List ℕ) → is_in r (with_member 16 set x) ≡ (nat_lt r 16 && ((r == x) || is_in r set))
 unfolding with_member
 is_in-with_role x r set = is_in-filter (λ y. (y == x) || is_in y set) 0 16 r ∙ grind (arith, nat_tests)
+
+-- a set with one number more is that of the list with the number
+pub with_member-set_of : (width y : ℕ) (xs : List ℕ) → with_member width (set_of width xs) y ≡ set_of width (xs ++ y ∷ [])
+unfolding with_member set_of
+with_member-set_of width y xs = filter-range_from (λ x. (x == y) || is_in x (set_of width xs)) (λ x. is_in x (xs ++ y ∷ [])) 0 width each
+  where
+    each : (x : ℕ) → 0 ≤ x → x < 0 + width → ((x == y) || is_in x (set_of width xs)) ≡ is_in x (xs ++ y ∷ [])
+    each x lo hi =
+        let a : nat_le 0 x ≡ true = grind (arith, nat_tests) in
+        let b : nat_lt x (0 + width) ≡ true = grind (arith, nat_tests) in
+        let there : is_in x (set_of width xs) ≡ is_in x xs = is_in-filter (λ z. is_in z xs) 0 width x ∙ rw (a, b) refl in
+        let turned : (x == y) ≡ (y == x) = grind (arith, nat_tests) in
+        rw (there, is_in-more x y xs, turned) (turn (y == x) (is_in x xs))
+      where
+        turn : (p q : Bool) → (p || q) ≡ (q || p)
+        turn true true = refl
+        turn true false = refl
+        turn false true = refl
+        turn false false = refl
 
 -- no bit is set in 0
 pub members-zero : (width : ℕ) → members width 0 ≡ []

@@ -3,13 +3,13 @@ use Rattle.std.specs.List.{list_any}
 use Rattle.sg_base.specs.declared.address.Addr.{Addr}
 
 -- the numbers of the calls that are to fail, the calls so far, and the count of faults
-pub record Plan : Type 0 where
+pub record FaultPlan : Type 0 where
   pub fails : List ℕ
   pub calls : ℕ
   pub faults : ℕ
 
 -- the plan of an object that was not called yet
-abbrev pub new_plan : List ℕ → Plan
+abbrev pub new_plan : List ℕ → FaultPlan
 new_plan fails = record { fails = fails; calls = 0; faults = 0 }
 
 -- one more, up to the greatest number of 64 bits
@@ -17,31 +17,31 @@ abbrev pub one_more : ℕ → ℕ
 one_more n = if nat_lt n (2 ^ 64 - 1) then n + 1 else n
 
 -- the next call is on the list of those that are to fail
-abbrev pub fails_next : Plan → Bool
+abbrev pub fails_next : FaultPlan → Bool
 fails_next p = list_any (λ n. n == one_more p.calls) p.fails
 
 -- the plan after one more call
-abbrev pub counted : Plan → Plan
+abbrev pub counted : FaultPlan → FaultPlan
 counted p = record p { calls = one_more p.calls }
 
 -- the plan after one more call, which failed
-abbrev pub failed : Plan → Plan
+abbrev pub failed : FaultPlan → FaultPlan
 failed p = record (counted p) { faults = one_more p.faults }
 
 -- files in memory, each its name's bytes and its own
 pub record FilesHeld : Type 0 where
   pub files : List (List ℕ × List ℕ)
-  pub plan : Plan
+  pub plan : FaultPlan
 
 -- a sink in memory: the bytes written, and how many there may be
 pub record SinkHeld : Type 0 where
   pub bytes : List ℕ
   pub room : ℕ
-  pub plan : Plan
+  pub plan : FaultPlan
 
 -- a link in memory: the deliveries to come, the frames sent, and how many of these there may be
 pub record LinkHeld : Type 0 where
   pub deliveries : List (List ℕ)
   pub sent : List (Addr × List ℕ)
   pub room : ℕ
-  pub plan : Plan
+  pub plan : FaultPlan

@@ -14,3 +14,7 @@ mask_of xs = sum_by (λ x. 2 ^ x) xs
 -- the set of width numbers, with x
 unfoldable pub with_member : ℕ → List ℕ → ℕ → List ℕ
 with_member width xs x = filter (λ y. (y == x) || is_in y xs) (below width)
+
+-- the set of width numbers, of those that stand in the list
+unfoldable pub set_of : ℕ → List ℕ → List ℕ
+set_of width xs = filter (λ y. is_in y xs) (below width)

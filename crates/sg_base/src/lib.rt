@@ -30,7 +30,7 @@ pub use seq::Seq;
 pub use sets::{RoleSet, VarSet};
 pub use system::{StdFiles, StdSink};
 pub use told::tell_bytes;
-pub use value::{Opening, Value, VarType};
+pub use value::{Opening, Value, VarType, copy_openings};
 pub use word::{read_hex, read_number};
 
 /// The answer where memory was wanted and none was to be had.

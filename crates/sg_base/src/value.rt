@@ -1,7 +1,7 @@
 //! Values of variables, and what opens a commitment to one.
 ghost use Rattle.std.specs.Prelude.{◌≡◌, ◌↔◌, IfOk, IsTrue};
 
-use crate::{Chars, OutOfMemory, Var};
+use crate::{Chars, OutOfMemory, Seq, Var};
 use std::alloc::Global;
 use std::marker::Model;
 
@@ -90,4 +90,15 @@ impl Opening {
             value,
         })
     }
+}
+
+/// Equal openings.
+pub fn copy_openings(alloc: Global, openings: &[Opening]) -> Result<Seq<Opening>, OutOfMemory>
+    ensures { IfOk result (λ o. o ≡ openings.now) }
+{
+    let mut copies = Seq::new(alloc);
+    for opening in openings {
+        copies.push(opening.copy(alloc)?)?;
+    }
+    Ok(copies)
 }

@@ -7,7 +7,7 @@ ghost use Rattle.sg_check.specs.Blind.{IsBlindFault, IsFaultAmong, IsClear, AtNo
 
 use sg_base::{Label, NodeId, Role, RoleSet, Seq};
 use sg_graph::Graph;
-use sg_reach::{Reach, Ways};
+use sg_reach::Reach;
 use std::alloc::Global;
 
 /// Why a graph is refused for blinding.
@@ -38,52 +38,59 @@ pub fn check_blinding(alloc: Global, graph: &Graph) -> Result<(), BlindFault>
     ensures ok { IsOk result ↔ Sighted (shape graph.now) }
     ensures refused { IfErr result (IsBlindFault (shape graph.now)) }
 {
-    let ways = Ways::new(graph);
     for number in 0..graph.nodes() {
-        check_node(alloc, &ways, NodeId(number))?;
+        check_node(alloc, graph, NodeId(number))?;
     }
     Ok(())
 }
 
 // Whether the node blinds no two roles.
-fn check_node(alloc: Global, ways: &Ways, node: NodeId) -> Result<(), BlindFault>
-    requires { node < length ways.now.nodes }
-    ensures ok { OnOk result (IsClear (shape ways.now) (AtNode node)) }
-    ensures refused { IfErr result (IsFaultAmong (shape ways.now) (AtNode node)) }
+fn check_node(alloc: Global, graph: &Graph, node: NodeId) -> Result<(), BlindFault>
+    requires { node < length graph.now.nodes }
+    ensures ok { OnOk result (IsClear (shape graph.now) (AtNode node)) }
+    ensures refused { IfErr result (IsFaultAmong (shape graph.now) (AtNode node)) }
 {
-    for number in 0..ways.graph().roles() {
-        check_pairs(alloc, ways, node, Role(number))?;
+    for number in 0..graph.roles() {
+        check_pairs(alloc, graph, node, Role(number))?;
     }
     Ok(())
 }
 
 // Whether the node blinds no two roles of which this one is the first.
-fn check_pairs(alloc: Global, ways: &Ways, node: NodeId, a: Role) -> Result<(), BlindFault>
-    requires node { node < length ways.now.nodes }
-    requires role { a < length ways.now.roles }
-    ensures ok { OnOk result (IsClear (shape ways.now) (AtPair node a)) }
-    ensures refused { IfErr result (IsFaultAmong (shape ways.now) (AtPair node a)) }
+fn check_pairs(alloc: Global, graph: &Graph, node: NodeId, a: Role) -> Result<(), BlindFault>
+    requires node { node < length graph.now.nodes }
+    requires role { a < length graph.now.roles }
+    ensures ok { OnOk result (IsClear (shape graph.now) (AtPair node a)) }
+    ensures refused { IfErr result (IsFaultAmong (shape graph.now) (AtPair node a)) }
 {
-    let roles = ways.graph().roles();
+    let roles = graph.roles();
     for number in a.0 + 1..roles {
-        check_place(alloc, ways, node, a, Role(number))?;
+        check_place(alloc, graph, node, a, Role(number))?;
     }
     Ok(())
 }
 
 // Whether the node doesn't blind these two roles.
-fn check_place(alloc: Global, ways: &Ways, node: NodeId, a: Role, b: Role) -> Result<(), BlindFault>
-    requires node { node < length ways.now.nodes }
+fn check_place(
+    alloc: Global,
+    graph: &Graph,
+    node: NodeId,
+    a: Role,
+    b: Role,
+) -> Result<(), BlindFault>
+    requires node { node < length graph.now.nodes }
     requires rising { a < b }
-    requires role { b < length ways.now.roles }
-    ensures ok { OnOk result (IsClear (shape ways.now) (AtPlace node a b)) }
-    ensures refused { IfErr result (IsFaultAmong (shape ways.now) (AtPlace node a b)) }
+    requires role { b < length graph.now.roles }
+    ensures ok { OnOk result (IsClear (shape graph.now) (AtPlace node a b)) }
+    ensures refused { IfErr result (IsFaultAmong (shape graph.now) (AtPlace node a b)) }
 {
-    let own = ways.graph().node_role(node);
+    // At most 16.
+    let _roles = graph.roles();
+    let own = graph.node_role(node);
     if own == a || own == b {
         return Ok(());
     }
-    let reach = ways.reach(node, RoleSet::empty().with(a).with(b));
+    let reach = Reach::new(graph, node, RoleSet::empty().with(a).with(b));
     let Some(to_a) = reach.first_of(a) else {
         return Ok(());
     };

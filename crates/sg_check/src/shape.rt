@@ -7,7 +7,7 @@ ghost use Rattle.sg_check.specs.declared.shape.ShapeFault.{ShapeFault};
 
 use sg_base::{Label, NodeId, Role, RoleSet};
 use sg_graph::Graph;
-use sg_reach::Ways;
+use sg_reach::Reach;
 
 /// What is wrong with a graph's shape.
 #[derive(Debug, Clone, Copy, PartialEq, thiserror::Error)]
@@ -60,7 +60,7 @@ fn not_reached(graph: &Graph) -> Option<NodeId>
     if graph.nodes() == 0 {
         return None;
     }
-    let reach = Ways::new(graph).reach(NodeId(0), RoleSet::empty());
+    let reach = Reach::new(graph, NodeId(0), RoleSet::empty());
     for number in 0..graph.nodes() {
         let node = NodeId(number);
         if !reach.has(node) {

@@ -1,30 +1,12 @@
--- How an audit ends whose bytes are no logs, and a replay whose bytes are no schedule.
-use Rattle.std.proofs.Common.{◌≡◌, List, ℕ, ◌⊎◌, inl, inr, refl, sym, subst}
-use Rattle.sg_audit.specs.Spells.{IsFault}
-use Rattle.sg_audit.specs.declared.fault.LogFault.{LogFault}
-use Rattle.sg_audit.specs.declared.fault.LogFault.TheVariants.{Form, Unknown, Twice, Graph, TooManyEvents, OutOfMemory}
+-- How a replay ends whose bytes are no schedule.
+use Rattle.std.proofs.Common.{◌≡◌, List, ℕ, inl, refl, sym, subst}
 use Rattle.sg_read.specs.Standing.{IsFault as IsFirst}
 use Rattle.sg_sched.specs.Format.Kinds as Format
 use Rattle.sg_sched.specs.declared.fault.Kind.TheVariants as kind
 use Rattle.sg_sched.specs.declared.fault.LineFault.{LineFault}
 use Rattle.sg_sched.specs.declared.fault.LineFault.TheVariants as line
-use Rattle.sg_cli.specs.Ending.{Ending, ending_of_fault, ending_of_logs}
-use Rattle.sg_cli.specs.Ends.{Audits, Replays, Output}
-
--- the fault that is told is the first one, where memory was to be had
-first : (bytes : List ℕ) (e : LogFault) → (e ≡ OutOfMemory → ⊥) → (e ≡ OutOfMemory) ⊎ IsFault bytes e → IsFault bytes e
-first bytes e other (inl memory) = absurd (other memory)
-first bytes e other (inr fault) = fault
-
-ends : (bytes : List ℕ) (out : Output) (e : LogFault) → (e ≡ OutOfMemory) ⊎ IsFault bytes e → Audits bytes out out (ending_of_logs e)
-ends bytes out (Form n) h = (refl, (Form n, first bytes (Form n) (λ m. cc) h, refl))
-ends bytes out (Unknown n) h = (refl, (Unknown n, first bytes (Unknown n) (λ m. cc) h, refl))
-ends bytes out (Twice n) h = (refl, (Twice n, first bytes (Twice n) (λ m. cc) h, refl))
-ends bytes out (Graph fault) h = (refl, (Graph fault, first bytes (Graph fault) (λ m. cc) h, refl))
-ends bytes out TooManyEvents h = (refl, (TooManyEvents, first bytes TooManyEvents (λ m. cc) h, refl))
-ends bytes out OutOfMemory h = refl
-
--- ---- schedules
+use Rattle.sg_cli.specs.Ending.{Ending, ending_of_fault}
+use Rattle.sg_cli.specs.Ends.{Replays, Output}
 
 schedule_ends : (bytes : List ℕ) (out : Output) (e : LineFault) → IsFirst bytes e → Replays bytes out out (ending_of_fault e)
 schedule_ends bytes out (line.Line n kind.Form) h = (refl, (n, Format.Form, h, refl))

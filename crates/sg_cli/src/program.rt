@@ -14,7 +14,7 @@ use crate::ending::Ending;
 use crate::replay::replay;
 use crate::run::run;
 use sg_base::{Files, Fresh, Link, Sink, write_all};
-use sg_words::{Command, Given, Line};
+use sg_words::{Command, CommandLine, Given};
 use std::alloc::Global;
 
 /// Does what the words ask for, those after the program's name, and gives the exit status.
@@ -43,7 +43,7 @@ pub fn top<F: Files, O: Sink, E: Sink, L: Link, R: Fresh>(
     // The link and the random words are as before where no run began.
     ensures as_before { MayPlay (map string_bytes words.now) result ⊎ ((link.new ≡ link.old) × (fresh.new ≡ fresh.old)) }
 {
-    match Line::new(alloc, words) {
+    match CommandLine::new(alloc, words) {
         Ok(line) => on_line(alloc, &line, files, out, err, link, fresh),
         Err(_) => say(alloc, &Ending::NoMemory, err),
     }
@@ -52,7 +52,7 @@ pub fn top<F: Files, O: Sink, E: Sink, L: Link, R: Fresh>(
 // Does what a command line asks for.
 fn on_line<F: Files, O: Sink, E: Sink, L: Link, R: Fresh>(
     alloc: Global,
-    line: &Line<'_>,
+    line: &CommandLine<'_>,
     files: &mut F,
     out: &mut O,
     err: &mut E,

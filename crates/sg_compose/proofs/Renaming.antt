@@ -1,20 +1,18 @@
 -- Names, roles and variables as a use gives them.
-use Rattle.std.proofs.Common.{◌≡◌, ℕ, ◌+◌, ◌<◌, ◌≤◌, ◌==◌, nat_le, nat_lt, not, Bool, true, false, ◌||◌, inl, inr, List, [], ◌∷◌, ◌++◌, map, filter, length, bytes_eq, refl, sym, ap, subst, ◌∙◌, arith}
+use Rattle.std.proofs.Common.{◌≡◌, ℕ, ◌+◌, ◌<◌, ◌≤◌, ◌==◌, nat_le, nat_lt, not, Bool, true, false, inl, inr, List, [], ◌∷◌, ◌++◌, map, filter, length, bytes_eq, refl, sym, ap, subst, ◌∙◌, arith}
 use Rattle.std.specs.List.{list_all}
 use Rattle.std.proofs.lemmas.Bool.{eq-eqb, cases_Bool, not-true, and_parts}
 use Rattle.std.proofs.lemmas.Bool.Decides.{nat_tests}
 use Rattle.std.proofs.lemmas.List.{map-append}
 use Rattle.std.proofs.lemmas.Slice.Eq.{bytes_eq-Decides}
-use Rattle.sg_base.specs.Sets.{with_member}
-use Rattle.sg_base.proofs.SetLaws.{is_in-filter}
+use Rattle.sg_base.specs.Sets.{with_member, set_of}
+use Rattle.sg_base.proofs.SetLaws.{is_in-filter, with_member-set_of}
 use Rattle.sg_model.specs.Lists.{below, is_in, has_text, rises_from}
 use Rattle.sg_model.specs.Names.{Name, reserved}
-use Rattle.sg_model.proofs.Numbers.{filter-range_from, is_in-more}
 use Rattle.sg_model.proofs.Small.{or_true}
 use Rattle.sg_protocol.specs.Graph.{AreNumbers}
 use Rattle.sg_graph.proofs.Rising.{one_if, below_more, below_zero, below_all}
 use Rattle.sg_graph.proofs.Sets.{rises_filter, all_filter}
-use Rattle.sg_compose.specs.Expansion.{rising}
 
 -- ---- names
 
@@ -46,55 +44,36 @@ none-pass : (xs : List ℕ) → filter (λ x. false) xs ≡ []
 none-pass [] = refl
 none-pass (x ∷ xs) = none-pass xs
 
--- one number more
-rising-more : (w y : ℕ) (ns : List ℕ) → with_member w (rising w ns) y ≡ rising w (ns ++ y ∷ [])
-unfolding with_member rising
-rising-more w y ns = filter-range_from (λ x. (x == y) || is_in x (rising w ns)) (λ x. is_in x (ns ++ y ∷ [])) 0 w each
-  where
-    each : (x : ℕ) → 0 ≤ x → x < 0 + w → ((x == y) || is_in x (rising w ns)) ≡ is_in x (ns ++ y ∷ [])
-    each x lo hi =
-        let a : nat_le 0 x ≡ true = grind (arith, nat_tests) in
-        let b : nat_lt x (0 + w) ≡ true = grind (arith, nat_tests) in
-        let there : is_in x (rising w ns) ≡ is_in x ns = is_in-filter (λ z. is_in z ns) 0 w x ∙ rw (a, b) refl in
-        let turned : (x == y) ≡ (y == x) = grind (arith, nat_tests) in
-        rw (there, is_in-more x y ns, turned) (turn (y == x) (is_in x ns))
-      where
-        turn : (p q : Bool) → (p || q) ≡ (q || p)
-        turn true true = refl
-        turn true false = refl
-        turn false true = refl
-        turn false false = refl
-
 module _ (w : ℕ) (f : ℕ → ℕ) (xs : List ℕ) (n : ℕ) (are : AreNumbers n xs) where
   parts' : (rises_from 0 xs ≡ true) × (list_all (λ k. nat_lt k n) xs ≡ true)
   parts' = and_parts (rises_from 0 xs) (list_all (λ k. nat_lt k n) xs) are
 
   -- before the first number
-  pub gathered-none : [] ≡ rising w (map f (filter (λ x. nat_lt x 0) xs))
-  unfolding rising
-  gathered-none = sym (ap (λ l. rising w (map f l)) (below_zero xs) ∙ none-pass (below w))
+  pub gathered-none : [] ≡ set_of w (map f (filter (λ x. nat_lt x 0) xs))
+  unfolding set_of
+  gathered-none = sym (ap (λ l. set_of w (map f l)) (below_zero xs) ∙ none-pass (below w))
 
   -- a number that is there
-  pub gathered-there : (i : ℕ) (out : List ℕ) → is_in i xs ≡ true → out ≡ rising w (map f (filter (λ x. nat_lt x i) xs)) → with_member w out (f i) ≡ rising w (map f (filter (λ x. nat_lt x (i + 1)) xs))
+  pub gathered-there : (i : ℕ) (out : List ℕ) → is_in i xs ≡ true → out ≡ set_of w (map f (filter (λ x. nat_lt x i) xs)) → with_member w out (f i) ≡ set_of w (map f (filter (λ x. nat_lt x (i + 1)) xs))
   gathered-there i out there so_far =
       let step : filter (λ x. nat_lt x (i + 1)) xs ≡ filter (λ x. nat_lt x i) xs ++ one_if (is_in i xs) i = below_more 0 i xs parts'.0 in
       let step' : filter (λ x. nat_lt x (i + 1)) xs ≡ filter (λ x. nat_lt x i) xs ++ i ∷ [] = step ∙ ap (λ b. filter (λ x. nat_lt x i) xs ++ one_if b i) there in
-      ap (λ l. with_member w l (f i)) so_far ∙ rising-more w (f i) (map f (filter (λ x. nat_lt x i) xs)) ∙ ap (rising w) (sym (map-append f (filter (λ x. nat_lt x i) xs) (i ∷ [])) ∙ ap (map f) (sym step'))
+      ap (λ l. with_member w l (f i)) so_far ∙ with_member-set_of w (f i) (map f (filter (λ x. nat_lt x i) xs)) ∙ ap (set_of w) (sym (map-append f (filter (λ x. nat_lt x i) xs) (i ∷ [])) ∙ ap (map f) (sym step'))
 
   -- a number that isn't
-  pub gathered-away : (i : ℕ) (out : List ℕ) → is_in i xs ≡ false → out ≡ rising w (map f (filter (λ x. nat_lt x i) xs)) → out ≡ rising w (map f (filter (λ x. nat_lt x (i + 1)) xs))
+  pub gathered-away : (i : ℕ) (out : List ℕ) → is_in i xs ≡ false → out ≡ set_of w (map f (filter (λ x. nat_lt x i) xs)) → out ≡ set_of w (map f (filter (λ x. nat_lt x (i + 1)) xs))
   gathered-away i out away so_far =
       let step : filter (λ x. nat_lt x (i + 1)) xs ≡ filter (λ x. nat_lt x i) xs ++ one_if (is_in i xs) i = below_more 0 i xs parts'.0 in
       let same : filter (λ x. nat_lt x (i + 1)) xs ≡ filter (λ x. nat_lt x i) xs = step ∙ ap (λ b. filter (λ x. nat_lt x i) xs ++ one_if b i) away ∙ append-none (filter (λ x. nat_lt x i) xs) in
-      so_far ∙ ap (λ l. rising w (map f l)) (sym same)
+      so_far ∙ ap (λ l. set_of w (map f l)) (sym same)
     where
       append-none : (l : List ℕ) → l ++ [] ≡ l
       append-none [] = refl
       append-none (x ∷ l) = ap (λ k. x ∷ k) (append-none l)
 
   -- all numbers
-  pub gathered-all : (i : ℕ) (out : List ℕ) → n ≤ i → out ≡ rising w (map f (filter (λ x. nat_lt x i) xs)) → out ≡ rising w (map f xs)
-  gathered-all i out le so_far = so_far ∙ ap (λ l. rising w (map f l)) (below_all i xs (more xs parts'.1))
+  pub gathered-all : (i : ℕ) (out : List ℕ) → n ≤ i → out ≡ set_of w (map f (filter (λ x. nat_lt x i) xs)) → out ≡ set_of w (map f xs)
+  gathered-all i out le so_far = so_far ∙ ap (λ l. set_of w (map f l)) (below_all i xs (more xs parts'.1))
     where
       more : (ks : List ℕ) → list_all (λ k. nat_lt k n) ks ≡ true → list_all (λ k. nat_lt k i) ks ≡ true
       more [] h = refl
@@ -114,9 +93,9 @@ module _ (w : ℕ) (f : ℕ → ℕ) (xs : List ℕ) (n : ℕ) (are : AreNumbers
       ])
 
 -- numbers below n in rising order
-pub rising-numbers : (w n : ℕ) (f : ℕ → ℕ) (xs : List ℕ) → ((x : ℕ) → is_in x xs ≡ true → f x < n) → AreNumbers n (rising w (map f xs))
-unfolding rising
-rising-numbers w n f xs low =
+pub set_of-numbers : (w n : ℕ) (f : ℕ → ℕ) (xs : List ℕ) → ((x : ℕ) → is_in x xs ≡ true → f x < n) → AreNumbers n (set_of w (map f xs))
+unfolding set_of
+set_of-numbers w n f xs low =
     let p : ℕ → Bool = λ x. is_in x (map f xs) in
     rw (rises_filter p 0 0 w (omega arith), all_filter p n 0 w (λ y h. image y xs low h)) refl
   where
@@ -128,16 +107,16 @@ rising-numbers w n f xs low =
     ]
 
 -- some number
-pub rising-some : (w : ℕ) (f : ℕ → ℕ) (xs : List ℕ) → 0 < length xs → ((x : ℕ) → f x < w) → 0 < length (rising w (map f xs))
-unfolding rising
-rising-some w f [] l low = absurd (omega arith)
-rising-some w f (x ∷ xs) l low =
+pub set_of-some : (w : ℕ) (f : ℕ → ℕ) (xs : List ℕ) → 0 < length xs → ((x : ℕ) → f x < w) → 0 < length (set_of w (map f xs))
+unfolding set_of
+set_of-some w f [] l low = absurd (omega arith)
+set_of-some w f (x ∷ xs) l low =
     let yes : (f x == f x) ≡ true = eq-eqb (f x) (f x) refl in
     let a : nat_le 0 (f x) ≡ true = grind (arith, nat_tests) in
     let less : f x < w = low x in
     let b : nat_lt (f x) (0 + w) ≡ true = grind (arith, nat_tests, less) in
-    let there : is_in (f x) (rising w (map f (x ∷ xs))) ≡ true = is_in-filter (λ z. is_in z (map f (x ∷ xs))) 0 w (f x) ∙ rw (a, b, yes) refl in
-    some (f x) (rising w (map f (x ∷ xs))) there
+    let there : is_in (f x) (set_of w (map f (x ∷ xs))) ≡ true = is_in-filter (λ z. is_in z (map f (x ∷ xs))) 0 w (f x) ∙ rw (a, b, yes) refl in
+    some (f x) (set_of w (map f (x ∷ xs))) there
   where
     some : (y : ℕ) (ys : List ℕ) → is_in y ys ≡ true → 0 < length ys
     some y [] h = absurd (cc)

@@ -1,7 +1,8 @@
 -- Uses expanded: what a use puts into a graph, and why it can't.
 use Rattle.std.specs.Prelude.{ℕ, suc, ◌+◌, ◌-◌, ◌==◌, nat_lt, Bool, not, ◌&&◌, ◌||◌, if◌then◌else◌, List, [], ◌∷◌, ◌++◌, map, filter, length, get_or, Option, Some, None, Result, Ok, Err}
 use Rattle.std.specs.List.{list_any}
-use Rattle.sg_model.specs.Lists.{below, is_in, has_text}
+use Rattle.sg_base.specs.Sets.{set_of}
+use Rattle.sg_model.specs.Lists.{below, has_text}
 use Rattle.sg_model.specs.Shape.{role_at}
 use Rattle.sg_model.specs.Limits.{most_edges, most_name_bytes, most_nodes, most_variables}
 use Rattle.sg_protocol.specs.Graph.{Graph, Name, Variable, Node, Edge, shape, node_name}
@@ -56,13 +57,9 @@ inside inner m = filter (is_inside m) (below (length inner.nodes))
 abbrev pub stands : (count from to m x : ℕ) → ℕ
 stands count from to m x = if x == 0 then from else if x == m then to else count + (if nat_lt x m then x - 1 else x - 2)
 
--- the numbers below the width that are in the list, in rising order
-unfoldable pub rising : ℕ → List ℕ → List ℕ
-rising width ns = filter (λ x. is_in x ns) (below width)
-
 -- the roles that play these roles
 abbrev pub players : Use → List ℕ → List ℕ
-players u rs = rising 16 (map (player u) rs)
+players u rs = set_of 16 (map (player u) rs)
 
 -- a variable that is added
 abbrev pub new_variable : Use → Variable → Variable
@@ -74,7 +71,7 @@ new_node inner u x = record { name = inner_name u (node_name inner x); role = pl
 
 -- variables, where so many are there before
 abbrev pub shifted : (variables : ℕ) → List ℕ → List ℕ
-shifted variables xs = rising 32 (map (λ x. variables + x) xs)
+shifted variables xs = set_of 32 (map (λ x. variables + x) xs)
 
 -- an edge that is added, where so many variables and nodes are there before
 abbrev pub new_edge : (variables nodes : ℕ) → Use → ℕ → Edge → Edge

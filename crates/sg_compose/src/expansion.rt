@@ -57,7 +57,7 @@ fn expand_part(alloc: Global, graphs: &[Graph], part: &Part) -> Result<Graph, Co
         return Err(ComposeFault::OutOfMemory);
     };
     for used in part.uses.as_slice() {
-        expand_use(alloc, part, &mut graph, &graphs[used.part as usize], used)?;
+        expand_use(alloc, part, &mut graph, &graphs[used.part], used)?;
     }
     Ok(graph)
 }

@@ -5,7 +5,7 @@ use Rattle.std.proofs.lemmas.List.{map-append}
 use Rattle.indexmap.specs.IndexMap.{set_value_at}
 use Rattle.sg_grown.specs.Events.{pair_of}
 use Rattle.sg_grown.specs.Examples.{AreShown, view_since}
-use Rattle.sg_grown.specs.declared.shown.Shown.{Shown}
+use Rattle.sg_grown.specs.declared.shown.ShownEvent.{ShownEvent}
 use Rattle.sg_protocol.specs.Calls.{Event}
 use Rattle.sg_protocol.specs.Evidence.{IsView, IsViewTable}
 use Rattle.sg_model.specs.Names.{Name}
@@ -93,7 +93,7 @@ edges_within walk n m less all k d h = (let l = all k d h in omega (arith, l, le
 
 -- ---- an event
 
-pub shown_more : (old : List (Event × List ℕ)) (was now : List Shown) (x : Shown) → map pair_of was ≡ old → now ≡ was ++ x ∷ [] → map pair_of now ≡ old ++ pair_of x ∷ []
+pub shown_more : (old : List (Event × List ℕ)) (was now : List ShownEvent) (x : ShownEvent) → map pair_of was ≡ old → now ≡ was ++ x ∷ [] → map pair_of now ≡ old ++ pair_of x ∷ []
 shown_more old was now x is more = ap (map pair_of) more ∙ map-append pair_of was (x ∷ []) ∙ ap (λ ps. ps ++ pair_of x ∷ []) is
 
 -- ---- the table

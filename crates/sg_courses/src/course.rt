@@ -12,7 +12,7 @@ use sg_base::{Label, OutOfMemory, Role, RoleSet};
 use sg_crypt::Cast;
 use sg_frame::Frame;
 use sg_graph::Graph;
-use sg_grown::{Origins, Shown, grow, view_example};
+use sg_grown::{Origins, ShownEvent, grow, view_example};
 use sg_premises::Honest;
 use sg_program::Programs;
 use sg_walk::{Event, StoredWalk};
@@ -26,7 +26,7 @@ pub struct Course<'r> {
     cast: Cast,
     graph: &'r Graph,
     honest: RoleSet,
-    shown: Vec<Shown<'r>>,
+    shown: Vec<ShownEvent<'r>>,
     origins: Origins,
 }
 
@@ -99,7 +99,7 @@ impl<'r> Course<'r> {
         ensures ok { OnOk result (Adds self.old self.new (event_of event.now) walk.now) }
         ensures err { OnErr result (self.new ≡ self.old) }
     {
-        self.shown.push(Shown { event, walk })?;
+        self.shown.push(ShownEvent { event, walk })?;
         self.origins.note(event);
         Ok(())
     }

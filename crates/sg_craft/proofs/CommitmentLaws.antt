@@ -14,7 +14,7 @@ use Rattle.sg_protocol.specs.Session.{commitments, committed}
 use Rattle.sg_protocol.proofs.Ends.{committed-append}
 use Rattle.sg_protocol.specs.Texts.{real}
 use Rattle.sg_protocol.proofs.KeptLaws.{not_equal}
-use Rattle.sg_craft.specs.Making.{overwritten}
+use Rattle.sg_craft.specs.Making.{with_first_pairs}
 use Rattle.sg_craft.specs.Means.{Means}
 
 is_other : (a b : ℕ) → a < b → (a == b) ≡ false
@@ -40,7 +40,7 @@ or_by true v o p = refl
 or_by false v o p = refl
 
 -- the commitments over those of a range
-over_range : (f : ℕ → Option (List ℕ)) (n : ℕ) (ds : Map (List ℕ)) → overwritten (map f (below n)) ds ≡ map (λ x. option_or (value_at ds x) (f x)) (below n)
+over_range : (f : ℕ → Option (List ℕ)) (n : ℕ) (ds : Map (List ℕ)) → with_first_pairs (map f (below n)) ds ≡ map (λ x. option_or (value_at ds x) (f x)) (below n)
 over_range f n [] = refl
 over_range f n (d ∷ ds) =
     ap (λ l. set l d.0 (Some d.1)) (over_range f n ds)
@@ -48,7 +48,7 @@ over_range f n (d ∷ ds) =
     ∙ (λ i. map (λ y. (ap (λ m. if m == y then Some d.1 else option_or (value_at ds y) (f y)) (let e : 0 + d.0 ≡ d.0 = omega arith in e) ∙ or_by (d.0 == y) d.1 (value_at ds y) (f y)) i) (below n))
 
 -- over those of items they are those of one item more
-pub over_items : (g : Graph) (before : List Item) (i : Item) → overwritten (commitments g before) i.delta ≡ commitments g (before ++ i ∷ [])
+pub over_items : (g : Graph) (before : List Item) (i : Item) → with_first_pairs (commitments g before) i.delta ≡ commitments g (before ++ i ∷ [])
 over_items g before i = over_range (λ x. committed x before) (length g.variables) i.delta ∙ (λ j. map (λ x. sym (committed-append x before (i ∷ [])) j) (below (length g.variables)))
 
 none_from : (k n : ℕ) → replicate n None ≡ map (λ x. committed x []) (range_from k n)
@@ -64,6 +64,6 @@ pub whole_back : {A : Type 0} (n : ℕ) (xs ys : List A) → length xs ≡ n →
 whole_back n xs ys e = subst (λ m. take m (xs ++ ys) ≡ xs) e (take-append_seam xs ys)
 
 -- the commitments of what is known
-pub known_now : (m : Means) (know : List Opening) (n : ℕ) (old new : List (Option (List ℕ))) (delta : Map (List ℕ)) → n ≡ length m.graph.variables → old ≡ replicate n None → delta ≡ committed_to real m.sid know → new ≡ overwritten old delta → new ≡ commitments m.graph (known_item real m.sid know ∷ [])
+pub known_now : (m : Means) (know : List Opening) (n : ℕ) (old new : List (Option (List ℕ))) (delta : Map (List ℕ)) → n ≡ length m.graph.variables → old ≡ replicate n None → delta ≡ committed_to real m.sid know → new ≡ with_first_pairs old delta → new ≡ commitments m.graph (known_item real m.sid know ∷ [])
 known_now m know n old new delta count o d e =
-    e ∙ (λ i. overwritten ((o ∙ ap (λ k. replicate k None) count ∙ none_before m.graph) i) (d i)) ∙ over_items m.graph [] (known_item real m.sid know)
+    e ∙ (λ i. with_first_pairs ((o ∙ ap (λ k. replicate k None) count ∙ none_before m.graph) i) (d i)) ∙ over_items m.graph [] (known_item real m.sid know)

@@ -12,7 +12,7 @@ use Rattle.sg_protocol.specs.Schedule.{Source, CraftItem}
 use Rattle.sg_protocol.specs.Session.{Session, new_session, commitments}
 use Rattle.sg_protocol.specs.Texts.{real}
 use Rattle.sg_craft.proofs.CommitmentLaws.{over_items}
-use Rattle.sg_craft.specs.Making.{overwritten, plain_item, tag_made, item_by, zero_item}
+use Rattle.sg_craft.specs.Making.{with_first_pairs, plain_item, tag_made, item_by, zero_item}
 use Rattle.sg_craft.specs.Means.{Means, with_keys, with_frames}
 
 -- the session of the means
@@ -128,12 +128,12 @@ each_at P (c ∷ cs) zero d l h = h.0
 each_at P (c ∷ cs) (suc i) d l h = each_at P cs i d (omega arith) h.1
 
 pub crafting_next : (m : Means) (know : List Opening) (wanted : List CraftItem) (i : ℕ) (items : List Item) (current current' : List (Option (List ℕ))) (d : CraftItem) (made : Item) → Crafting m know wanted i items current → i < length wanted
-    → current' ≡ overwritten current (committed_to real m.sid (get_or wanted i d).delta) → made ≡ item_by m current' (get_or wanted i d) → (IsItem m.cast.version (zero_item m (get_or wanted i d)) → IsItem m.cast.version made)
+    → current' ≡ with_first_pairs current (committed_to real m.sid (get_or wanted i d).delta) → made ≡ item_by m current' (get_or wanted i d) → (IsItem m.cast.version (zero_item m (get_or wanted i d)) → IsItem m.cast.version made)
     → Crafting m know wanted (i + 1) (items ++ made ∷ []) current'
 crafting_next m know wanted i items current current' d made t l over is range =
     let c : CraftItem = get_or wanted i d in
     let before : List Item = known_of m know ++ items in
-    let plain : current' ≡ commitments m.graph (before ++ plain_item m c ∷ []) = over ∙ ap (λ o. overwritten o (committed_to real m.sid c.delta)) t.current_so ∙ over_items m.graph before (plain_item m c) in
+    let plain : current' ≡ commitments m.graph (before ++ plain_item m c ∷ []) = over ∙ ap (λ o. with_first_pairs o (committed_to real m.sid c.delta)) t.current_so ∙ over_items m.graph before (plain_item m c) in
     let made_is : made ≡ item_after m before c = is ∙ ap (λ o. item_by m o c) plain ∙ item_same m before c in
     record {
       items_so =
@@ -142,8 +142,8 @@ crafting_next m know wanted i items current current' d made t l over is range =
           ∙ sym (items_more m (known_of m know) (take i wanted) c)
           ∙ ap (items_after m (known_of m know)) (sym (take_more wanted i d l));
       current_so =
-          over ∙ ap (λ o. overwritten o (committed_to real m.sid c.delta)) t.current_so
-          ∙ ap (λ (x : Item). overwritten (commitments m.graph before) x.delta) (sym is)
+          over ∙ ap (λ o. with_first_pairs o (committed_to real m.sid c.delta)) t.current_so
+          ∙ ap (λ (x : Item). with_first_pairs (commitments m.graph before) x.delta) (sym is)
           ∙ over_items m.graph before made
           ∙ ap (commitments m.graph) (append_assoc (known_of m know) items (made ∷ []));
       range_so = λ h. all-append (IsItem m.cast.version) items (made ∷ []) (t.range_so h) (range (each_at (λ (c : CraftItem). IsItem m.cast.version (zero_item m c)) wanted i d l h), tt);

@@ -11,9 +11,9 @@ use Rattle.sg_protocol.specs.Crafted.{committed_to, tag_by, no_tag}
 use Rattle.sg_craft.specs.Means.{Means, with_keys, with_frames}
 
 -- the current commitments, overwritten at each variable by its first pair
-abbrev pub overwritten : List (Option (List ℕ)) → Map (List ℕ) → List (Option (List ℕ))
-overwritten current [] = current
-overwritten current (d ∷ ds) = set (overwritten current ds) d.0 (Some d.1)
+abbrev pub with_first_pairs : List (Option (List ℕ)) → Map (List ℕ) → List (Option (List ℕ))
+with_first_pairs current [] = current
+with_first_pairs current (d ∷ ds) = set (with_first_pairs current ds) d.0 (Some d.1)
 
 -- the item before its tags
 abbrev pub plain_item : Means → CraftItem → Item

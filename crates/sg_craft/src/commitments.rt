@@ -2,7 +2,7 @@
 ghost use Rattle.std.specs.Prelude.{◌≡◌, None, length, replicate, IfOk};
 ghost use Rattle.sg_protocol.specs.Crafted.{committed_to};
 ghost use Rattle.sg_protocol.specs.Texts.{real};
-ghost use Rattle.sg_craft.specs.Making.{overwritten};
+ghost use Rattle.sg_craft.specs.Making.{with_first_pairs};
 
 use sg_base::{Opening, OutOfMemory, Seq, Sid, Var};
 use sg_crypt::commit;
@@ -36,7 +36,7 @@ pub fn committed_to(
 
 /// Puts the commitments in, of two of one variable the first. A variable that has no place is left out.
 pub fn overwrite(current: &mut [Option<[u8; 32]>], delta: &[(Var, [u8; 32])])
-    ensures { current.new ≡ overwritten current.old delta.now }
+    ensures { current.new ≡ with_first_pairs current.old delta.now }
 {
     for done in 0..delta.len() {
         let (var, commitment) = delta[delta.len() - 1 - done];

@@ -13,7 +13,7 @@ ghost use Rattle.sg_craft.specs.Means.{AreMeans, CanBeMade, frame_by, with_keys,
 use crate::Means;
 use crate::item::{craft_items, cut_tag};
 use crate::source::tag_by;
-use sg_base::{Opening, OutOfMemory, Seq, Tag};
+use sg_base::{OutOfMemory, Tag, copy_openings};
 use sg_crypt::{Cast, frame_text};
 use sg_frame::{Frame, body_len, encode};
 use sg_sched::cast::nonce_bytes;
@@ -123,15 +123,4 @@ fn joined(cast: &Cast, join: &Option<CraftJoin>) -> Option<Cast>
         Some(cast) => Some(cast),
         None => unreachable!(),
     }
-}
-
-// Equal openings.
-fn copy_openings(alloc: Global, openings: &[Opening]) -> Result<Seq<Opening>, OutOfMemory>
-    ensures { IfOk result (λ o. o ≡ openings.now) }
-{
-    let mut copies = Seq::new(alloc);
-    for opening in openings {
-        copies.push(opening.copy(alloc)?)?;
-    }
-    Ok(copies)
 }

@@ -10,7 +10,7 @@ ghost use Rattle.sg_protocol.specs.Session.{commitments, new_session};
 ghost use Rattle.sg_protocol.specs.TextLaws.{IsVersion};
 ghost use Rattle.sg_protocol.specs.Texts.{real, cut};
 ghost use Rattle.sg_sched.specs.Format.Crafts.{tag_of};
-ghost use Rattle.sg_craft.specs.Making.{overwritten, item_by, tag_made, zero_item};
+ghost use Rattle.sg_craft.specs.Making.{with_first_pairs, item_by, tag_made, zero_item};
 ghost use Rattle.sg_craft.specs.Means.{with_keys, with_frames};
 
 use crate::Means;
@@ -63,7 +63,7 @@ fn craft_item(
     current: &mut [Option<[u8; 32]>],
     wanted: &CraftItem,
 ) -> Result<Item, OutOfMemory>
-    ensures current { OnOk result (current.new ≡ overwritten current.old (committed_to real means.now.sid wanted.now.delta)) }
+    ensures current { OnOk result (current.new ≡ with_first_pairs current.old (committed_to real means.now.sid wanted.now.delta)) }
     ensures item { IfOk result (λ i. i ≡ item_by means.now current.new wanted.now) }
     ensures range { IsItem means.now.cast.version (zero_item means.now wanted.now) → IfOk result (IsItem means.now.cast.version) }
 {

@@ -3,7 +3,7 @@ ghost use Rattle.std.specs.Prelude.{◌≡◌, IfOk};
 ghost use Rattle.sg_sched.specs.Format.Crafts.{source_of};
 ghost use Rattle.sg_sched.specs.Format.StepsHeld.{step_of, what_of};
 
-use sg_base::{Name, Opening, OutOfMemory, Role, Seq, Value, Var};
+use sg_base::{Name, OutOfMemory, Role, Seq, Value, Var, copy_openings};
 use sg_sched::{Craft, CraftItem, CraftJoin, Source, Step, What};
 use std::alloc::Global;
 
@@ -111,16 +111,6 @@ fn copy_list(alloc: Global, names: &[Name]) -> Result<Seq<Name>, OutOfMemory>
     let mut copies = Seq::new(alloc);
     for name in names {
         copies.push(*name)?;
-    }
-    Ok(copies)
-}
-
-fn copy_openings(alloc: Global, openings: &[Opening]) -> Result<Seq<Opening>, OutOfMemory>
-    ensures { IfOk result (λ o. o ≡ openings.now) }
-{
-    let mut copies = Seq::new(alloc);
-    for opening in openings {
-        copies.push(opening.copy(alloc)?)?;
     }
     Ok(copies)
 }

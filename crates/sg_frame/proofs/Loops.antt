@@ -2,8 +2,8 @@
 use Rattle.std.proofs.Common.{◌≡◌, ℕ, suc, ◌-◌, ◌+◌, ◌≤◌, ◌<◌, List, [], ◌∷◌, ◌++◌, Result, Ok, Err, refl, sym, ap, ◌∙◌, append_assoc, arith}
 use Rattle.sg_base.specs.Reading.{Cursor}
 use Rattle.sg_protocol.specs.Reading.{Read, Reader, give, on, times, rising_times}
-use Rattle.sg_frame.specs.declared.fault.Stop.{Stop}
-use Rattle.sg_frame.specs.declared.fault.Stop.TheVariants.{Malformed, OutOfMemory}
+use Rattle.sg_frame.specs.declared.fault.FrameStop.{FrameStop}
+use Rattle.sg_frame.specs.declared.fault.FrameStop.TheVariants.{Malformed, OutOfMemory}
 use Rattle.sg_frame.specs.Reads.{left, StopsWith}
 
 -- what was read before, and what is still read
@@ -28,7 +28,7 @@ times_more reader front count i p q x total lt h so_far =
     sym one ∙ so_far
 
 -- a reading that stops
-pub times_stop : {A : Type 0} (e : Stop) (reader : Reader A) (front : List A) (count i : ℕ) (p : Cursor) (total : Result (Read (List A)) ℕ) → i < count → StopsWith e (reader p.at (left p)) →
+pub times_stop : {A : Type 0} (e : FrameStop) (reader : Reader A) (front : List A) (count i : ℕ) (p : Cursor) (total : Result (Read (List A)) ℕ) → i < count → StopsWith e (reader p.at (left p)) →
     with_front front (times (count - i) reader p.at (left p)) ≡ total → StopsWith e total
 times_stop OutOfMemory reader front count i p total lt h so_far = tt
 times_stop (Malformed at) reader front count i p total lt h so_far =
@@ -48,7 +48,7 @@ rising_more key reader front count i least p q x total lt h so_far =
     sym one ∙ so_far
 
 -- a reading that stops
-pub rising_stop : {A : Type 0} (e : Stop) (key : A → ℕ) (reader : ℕ → Reader A) (front : List A) (count i least : ℕ) (p : Cursor) (total : Result (Read (List A)) ℕ) → i < count →
+pub rising_stop : {A : Type 0} (e : FrameStop) (key : A → ℕ) (reader : ℕ → Reader A) (front : List A) (count i least : ℕ) (p : Cursor) (total : Result (Read (List A)) ℕ) → i < count →
     StopsWith e (reader least p.at (left p)) → with_front front (rising_times key (count - i) least reader p.at (left p)) ≡ total → StopsWith e total
 rising_stop OutOfMemory key reader front count i least p total lt h so_far = tt
 rising_stop (Malformed at) key reader front count i least p total lt h so_far =

@@ -5,7 +5,7 @@ ghost use Rattle.sg_protocol.specs.Spelling.{join_bytes};
 ghost use Rattle.sg_protocol.specs.TextLaws.{IsVersion};
 ghost use Rattle.sg_frame.specs.Reads.{Reads, ReadsSeen};
 
-use crate::fault::Stop;
+use crate::fault::FrameStop;
 use crate::field;
 use sg_base::{ByteIn, Name};
 use sg_crypt::Cast;
@@ -17,7 +17,7 @@ pub fn read_join(
     input: &mut ByteIn,
     version: u8,
     kind: u8,
-) -> Result<Option<Cast>, Stop>
+) -> Result<Option<Cast>, FrameStop>
     requires { IsVersion version }
     ensures { Reads (if kind == 0 then read_cast version else give None) input.old input.new result }
 {
@@ -28,7 +28,7 @@ pub fn read_join(
     }
 }
 
-fn read_cast(alloc: Global, input: &mut ByteIn, version: u8) -> Result<Option<Cast>, Stop>
+fn read_cast(alloc: Global, input: &mut ByteIn, version: u8) -> Result<Option<Cast>, FrameStop>
     requires { IsVersion version }
     ensures { Reads (read_cast version) input.old input.new result }
 {
@@ -39,7 +39,7 @@ fn read_cast(alloc: Global, input: &mut ByteIn, version: u8) -> Result<Option<Ca
     Ok(Cast::new(version, graph, nonce, names.as_slice()))
 }
 
-fn read_names(alloc: Global, input: &mut ByteIn, count: u8) -> Result<Vec<Name>, Stop>
+fn read_names(alloc: Global, input: &mut ByteIn, count: u8) -> Result<Vec<Name>, FrameStop>
     ensures reads { ReadsSeen (λ v. v.items) (times count read_name) input.old input.new result }
     ensures length { IfOk result (λ v. vec_len v ≡ count) }
 {

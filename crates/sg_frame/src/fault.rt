@@ -1,6 +1,6 @@
 //! Why bytes are no frame.
 ghost use Rattle.std.specs.Prelude.{◌≡◌};
-ghost use Rattle.sg_frame.specs.declared.fault.Stop.TheVariants.{Malformed, OutOfMemory as Memory};
+ghost use Rattle.sg_frame.specs.declared.fault.FrameStop.TheVariants.{Malformed, OutOfMemory as Memory};
 
 use sg_base::Short;
 use std::alloc::{AllocError, AllocFailed};
@@ -19,31 +19,31 @@ pub enum DecodeFault {
 
 // Why reading stopped within the bytes.
 #[derive(Debug, Clone, Copy)]
-pub enum Stop {
+pub enum FrameStop {
     Malformed { at: usize },
     OutOfMemory,
 }
 
-impl From<Short> for Stop {
+impl From<Short> for FrameStop {
     ghost from_gives = { λ short stop. stop ≡ Malformed short.at };
 
-    fn from(short: Short) -> Stop {
-        Stop::Malformed { at: short.at }
+    fn from(short: Short) -> FrameStop {
+        FrameStop::Malformed { at: short.at }
     }
 }
 
-impl From<AllocError> for Stop {
+impl From<AllocError> for FrameStop {
     ghost from_gives = { λ _ stop. stop ≡ Memory };
 
-    fn from(_: AllocError) -> Stop {
-        Stop::OutOfMemory
+    fn from(_: AllocError) -> FrameStop {
+        FrameStop::OutOfMemory
     }
 }
 
-impl<T: Drop> From<AllocFailed<T>> for Stop {
+impl<T: Drop> From<AllocFailed<T>> for FrameStop {
     ghost from_gives = { λ _ stop. stop ≡ Memory };
 
-    fn from(_: AllocFailed<T>) -> Stop {
-        Stop::OutOfMemory
+    fn from(_: AllocFailed<T>) -> FrameStop {
+        FrameStop::OutOfMemory
     }
 }

@@ -6,11 +6,11 @@ ghost use Rattle.sg_protocol.specs.Frame.{tag_len};
 ghost use Rattle.sg_protocol.specs.Reading.{any_bytes, field, number, read_tag, read_name};
 ghost use Rattle.sg_frame.specs.Reads.{Reads, ReadsSeen};
 
-use crate::fault::Stop;
+use crate::fault::FrameStop;
 use sg_base::{ByteIn, Name, Tag};
 
 // The next `n` bytes.
-pub fn bytes<'a>(input: &mut ByteIn<'a>, n: usize) -> Result<&'a [u8], Stop>
+pub fn bytes<'a>(input: &mut ByteIn<'a>, n: usize) -> Result<&'a [u8], FrameStop>
     requires { 1 ≤ n }
     ensures reads { ReadsSeen (λ x. x.now) (any_bytes n) input.old input.new result }
     ensures length { IfOk result (λ x. length x.now ≡ n) }
@@ -20,7 +20,7 @@ pub fn bytes<'a>(input: &mut ByteIn<'a>, n: usize) -> Result<&'a [u8], Stop>
 }
 
 // Sixteen bytes.
-pub fn sixteen(input: &mut ByteIn) -> Result<[u8; 16], Stop>
+pub fn sixteen(input: &mut ByteIn) -> Result<[u8; 16], FrameStop>
     ensures { Reads (any_bytes 16) input.old input.new result }
 {
     let mut kept = [0u8; 16];
@@ -29,7 +29,7 @@ pub fn sixteen(input: &mut ByteIn) -> Result<[u8; 16], Stop>
 }
 
 // Thirty-two bytes.
-pub fn thirty_two(input: &mut ByteIn) -> Result<[u8; 32], Stop>
+pub fn thirty_two(input: &mut ByteIn) -> Result<[u8; 32], FrameStop>
     ensures { Reads (any_bytes 32) input.old input.new result }
 {
     let mut kept = [0u8; 32];
@@ -38,33 +38,33 @@ pub fn thirty_two(input: &mut ByteIn) -> Result<[u8; 32], Stop>
 }
 
 // A number of one byte, from `low` to `high`.
-pub fn byte(input: &mut ByteIn, low: u8, high: u8) -> Result<u8, Stop>
+pub fn byte(input: &mut ByteIn, low: u8, high: u8) -> Result<u8, FrameStop>
     ensures reads { Reads (number w8 low high) input.old input.new result }
     ensures range { IfOk result (λ v. (low ≤ v) × (v ≤ high)) }
 {
     let at = input.at();
     let value = input.u8()?;
     if value < low || high < value {
-        return Err(Stop::Malformed { at });
+        return Err(FrameStop::Malformed { at });
     }
     Ok(value)
 }
 
 // A number of two bytes, from `low` to `high`.
-pub fn two_bytes(input: &mut ByteIn, low: u16, high: u16) -> Result<u16, Stop>
+pub fn two_bytes(input: &mut ByteIn, low: u16, high: u16) -> Result<u16, FrameStop>
     ensures reads { Reads (number w16 low high) input.old input.new result }
     ensures range { IfOk result (λ v. (low ≤ v) × (v ≤ high)) }
 {
     let at = input.at();
     let value = input.u16()?;
     if value < low || high < value {
-        return Err(Stop::Malformed { at });
+        return Err(FrameStop::Malformed { at });
     }
     Ok(value)
 }
 
 // A number of four bytes, from `low` to `high`. The place then stands within the bytes.
-pub fn four_bytes(input: &mut ByteIn, low: u32, high: u32) -> Result<u32, Stop>
+pub fn four_bytes(input: &mut ByteIn, low: u32, high: u32) -> Result<u32, FrameStop>
     ensures reads { Reads (number w32 low high) input.old input.new result }
     ensures range { IfOk result (λ v. (low ≤ v) × (v ≤ high)) }
     ensures within { OnOk result (input.new.at ≤ length input.new.bytes) }
@@ -72,7 +72,7 @@ pub fn four_bytes(input: &mut ByteIn, low: u32, high: u32) -> Result<u32, Stop>
     let at = input.at();
     let value = input.u32()?;
     if value < low || high < value {
-        return Err(Stop::Malformed { at });
+        return Err(FrameStop::Malformed { at });
     }
     Ok(value)
 }
@@ -86,7 +86,7 @@ pub fn tag_len(version: u8) -> usize
 }
 
 // A tag, filled up with zeros.
-pub fn read_tag(input: &mut ByteIn, version: u8) -> Result<Tag, Stop>
+pub fn read_tag(input: &mut ByteIn, version: u8) -> Result<Tag, FrameStop>
     ensures { Reads (read_tag version) input.old input.new result }
 {
     let mut kept = [0u8; 32];
@@ -102,14 +102,14 @@ fn put_front(block: &mut [u8; 32], front: &[u8])
 }
 
 // A name after its length.
-pub fn read_name(input: &mut ByteIn) -> Result<Name, Stop>
+pub fn read_name(input: &mut ByteIn) -> Result<Name, FrameStop>
     ensures { Reads read_name input.old input.new result }
 {
     let count = byte(input, 1, 32)?;
     read_name_of(input, count as usize)
 }
 
-fn read_name_of(input: &mut ByteIn, count: usize) -> Result<Name, Stop>
+fn read_name_of(input: &mut ByteIn, count: usize) -> Result<Name, FrameStop>
     requires { 1 ≤ count }
     ensures { Reads (field count is_name) input.old input.new result }
 {
@@ -117,6 +117,6 @@ fn read_name_of(input: &mut ByteIn, count: usize) -> Result<Name, Stop>
     let bytes = bytes(input, count)?;
     match Name::new(bytes) {
         Some(name) => Ok(name),
-        None => Err(Stop::Malformed { at }),
+        None => Err(FrameStop::Malformed { at }),
     }
 }

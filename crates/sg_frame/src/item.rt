@@ -3,7 +3,7 @@ ghost use Rattle.std.specs.Prelude.{◌≡◌, ◌≤◌, ℕ, List, IfOk};
 ghost use Rattle.sg_protocol.specs.Reading.{any_bytes, times, rising_times, read_tag, read_pair, read_map, read_item};
 ghost use Rattle.sg_frame.specs.Reads.{Reads};
 
-use crate::fault::Stop;
+use crate::fault::FrameStop;
 use crate::field;
 use sg_base::{ByteIn, Label, Role, Seq, Tag, Time, Var};
 use std::alloc::Global;
@@ -38,7 +38,7 @@ pub fn read_items(
     input: &mut ByteIn,
     version: u8,
     count: u16,
-) -> Result<Seq<Item>, Stop>
+) -> Result<Seq<Item>, FrameStop>
     ensures { Reads (times count (read_item version)) input.old input.new result }
 {
     let mut items = Seq::new(alloc);
@@ -49,7 +49,7 @@ pub fn read_items(
     Ok(items)
 }
 
-fn read_item(alloc: Global, input: &mut ByteIn, version: u8) -> Result<Item, Stop>
+fn read_item(alloc: Global, input: &mut ByteIn, version: u8) -> Result<Item, FrameStop>
     ensures { Reads (read_item version) input.old input.new result }
 {
     let role = field::byte(input, 0, 15)?;
@@ -66,7 +66,7 @@ fn read_item(alloc: Global, input: &mut ByteIn, version: u8) -> Result<Item, Sto
     })
 }
 
-fn read_delta(alloc: Global, input: &mut ByteIn) -> Result<Seq<(Var, [u8; 32])>, Stop>
+fn read_delta(alloc: Global, input: &mut ByteIn) -> Result<Seq<(Var, [u8; 32])>, FrameStop>
     ensures { Reads (read_map 32 31 (any_bytes 32)) input.old input.new result }
 {
     let count = field::byte(input, 0, 32)?;
@@ -77,7 +77,7 @@ fn read_commitments(
     alloc: Global,
     input: &mut ByteIn,
     count: u8,
-) -> Result<Seq<(Var, [u8; 32])>, Stop>
+) -> Result<Seq<(Var, [u8; 32])>, FrameStop>
     ensures { Reads (rising_times (λ (p : ℕ × List ℕ). p.0) count 0 (read_pair 31 (any_bytes 32))) input.old input.new result }
 {
     let mut delta = Seq::new(alloc);
@@ -90,7 +90,7 @@ fn read_commitments(
     Ok(delta)
 }
 
-fn read_commitment(input: &mut ByteIn, least: u8) -> Result<(Var, [u8; 32]), Stop>
+fn read_commitment(input: &mut ByteIn, least: u8) -> Result<(Var, [u8; 32]), FrameStop>
     ensures reads { Reads (read_pair 31 (any_bytes 32) least) input.old input.new result }
     ensures range { IfOk result (λ p. p.0 ≤ 31) }
 {
@@ -99,7 +99,7 @@ fn read_commitment(input: &mut ByteIn, least: u8) -> Result<(Var, [u8; 32]), Sto
     Ok((Var(var), commitment))
 }
 
-fn read_tags(alloc: Global, input: &mut ByteIn, version: u8) -> Result<Seq<(Role, Tag)>, Stop>
+fn read_tags(alloc: Global, input: &mut ByteIn, version: u8) -> Result<Seq<(Role, Tag)>, FrameStop>
     ensures { Reads (read_map 14 15 (read_tag version)) input.old input.new result }
 {
     let count = field::byte(input, 0, 14)?;
@@ -111,7 +111,7 @@ fn read_tags_of(
     input: &mut ByteIn,
     version: u8,
     count: u8,
-) -> Result<Seq<(Role, Tag)>, Stop>
+) -> Result<Seq<(Role, Tag)>, FrameStop>
     ensures { Reads (rising_times (λ (p : ℕ × List ℕ). p.0) count 0 (read_pair 15 (read_tag version))) input.old input.new result }
 {
     let mut tags = Seq::new(alloc);
@@ -124,7 +124,7 @@ fn read_tags_of(
     Ok(tags)
 }
 
-fn read_tag_for(input: &mut ByteIn, version: u8, least: u8) -> Result<(Role, Tag), Stop>
+fn read_tag_for(input: &mut ByteIn, version: u8, least: u8) -> Result<(Role, Tag), FrameStop>
     ensures reads { Reads (read_pair 15 (read_tag version) least) input.old input.new result }
     ensures range { IfOk result (λ p. p.0 ≤ 15) }
 {

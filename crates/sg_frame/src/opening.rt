@@ -5,12 +5,16 @@ ghost use Rattle.sg_base.specs.Model.{value_of};
 ghost use Rattle.sg_protocol.specs.Reading.{field, rising_times, read_int, read_text, read_opening};
 ghost use Rattle.sg_frame.specs.Reads.{Reads, ReadsSeen};
 
-use crate::fault::Stop;
+use crate::fault::FrameStop;
 use crate::field;
 use sg_base::{ByteIn, Chars, CharsFault, Opening, Seq, Value, Var};
 use std::alloc::Global;
 
-pub fn read_openings(alloc: Global, input: &mut ByteIn, count: u8) -> Result<Seq<Opening>, Stop>
+pub fn read_openings(
+    alloc: Global,
+    input: &mut ByteIn,
+    count: u8,
+) -> Result<Seq<Opening>, FrameStop>
     ensures { Reads (rising_times (λ o. o.variable) count 0 read_opening) input.old input.new result }
 {
     let mut openings = Seq::new(alloc);
@@ -29,7 +33,7 @@ fn var_of(opening: &Opening) -> u8
     opening.var.0
 }
 
-fn read_opening(alloc: Global, input: &mut ByteIn, least: u8) -> Result<Opening, Stop>
+fn read_opening(alloc: Global, input: &mut ByteIn, least: u8) -> Result<Opening, FrameStop>
     ensures reads { Reads (read_opening least) input.old input.new result }
     ensures range { IfOk result (λ o. o.variable ≤ 31) }
 {
@@ -45,7 +49,7 @@ fn read_opening(alloc: Global, input: &mut ByteIn, least: u8) -> Result<Opening,
 }
 
 // A value of the type: 0 for a number, otherwise a text.
-fn read_value(alloc: Global, input: &mut ByteIn, kind: u8) -> Result<Value, Stop>
+fn read_value(alloc: Global, input: &mut ByteIn, kind: u8) -> Result<Value, FrameStop>
     ensures { ReadsSeen value_of (if kind == 0 then read_int else read_text) input.old input.new result }
 {
     if kind == 0 {
@@ -55,7 +59,7 @@ fn read_value(alloc: Global, input: &mut ByteIn, kind: u8) -> Result<Value, Stop
     }
 }
 
-fn read_number(input: &mut ByteIn) -> Result<Value, Stop>
+fn read_number(input: &mut ByteIn) -> Result<Value, FrameStop>
     ensures { ReadsSeen value_of read_int input.old input.new result }
 {
     let _ = field::four_bytes(input, 8, 8)?;
@@ -66,7 +70,7 @@ fn read_number(input: &mut ByteIn) -> Result<Value, Stop>
     Ok(Value::Int(number))
 }
 
-fn read_text(alloc: Global, input: &mut ByteIn) -> Result<Value, Stop>
+fn read_text(alloc: Global, input: &mut ByteIn) -> Result<Value, FrameStop>
     ensures { ReadsSeen value_of read_text input.old input.new result }
 {
     let count = field::four_bytes(input, 0, 1024)?;
@@ -74,7 +78,7 @@ fn read_text(alloc: Global, input: &mut ByteIn) -> Result<Value, Stop>
     Ok(Value::Text(chars))
 }
 
-fn read_chars(alloc: Global, input: &mut ByteIn, count: usize) -> Result<Chars, Stop>
+fn read_chars(alloc: Global, input: &mut ByteIn, count: usize) -> Result<Chars, FrameStop>
     requires fits { count ≤ 1024 }
     requires within { input.old.at ≤ length input.old.bytes }
     ensures { Reads (field count is_utf8) input.old input.new result }
@@ -83,8 +87,8 @@ fn read_chars(alloc: Global, input: &mut ByteIn, count: usize) -> Result<Chars, 
     let bytes = input.bytes(count)?;
     match Chars::new(alloc, bytes) {
         Ok(chars) => Ok(chars),
-        Err(CharsFault::OutOfMemory) => Err(Stop::OutOfMemory),
-        Err(CharsFault::NotText) => Err(Stop::Malformed { at }),
-        Err(CharsFault::TooLong { .. }) => Err(Stop::Malformed { at }),
+        Err(CharsFault::OutOfMemory) => Err(FrameStop::OutOfMemory),
+        Err(CharsFault::NotText) => Err(FrameStop::Malformed { at }),
+        Err(CharsFault::TooLong { .. }) => Err(FrameStop::Malformed { at }),
     }
 }

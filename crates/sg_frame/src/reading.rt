@@ -7,7 +7,7 @@ ghost use Rattle.sg_protocol.specs.Spelling.{SpellsFrame};
 ghost use Rattle.sg_protocol.specs.TextLaws.{IsVersion};
 ghost use Rattle.sg_frame.specs.Reads.{Reads, ReadsSeen, Ends, Refuses};
 
-use crate::fault::{DecodeFault, Stop};
+use crate::fault::{DecodeFault, FrameStop};
 use crate::frame::Frame;
 use crate::{cast, field, item, opening};
 use sg_base::{ByteIn, Role, Sid};
@@ -27,25 +27,25 @@ pub fn decode(alloc: Global, bytes: &[u8]) -> Result<Frame, DecodeFault>
     }
     match read_whole(alloc, bytes) {
         Ok(frame) => Ok(frame),
-        Err(Stop::Malformed { at }) => Err(DecodeFault::Malformed { at: at as u32 }),
-        Err(Stop::OutOfMemory) => Err(DecodeFault::OutOfMemory),
+        Err(FrameStop::Malformed { at }) => Err(DecodeFault::Malformed { at: at as u32 }),
+        Err(FrameStop::OutOfMemory) => Err(DecodeFault::OutOfMemory),
     }
 }
 
 // A frame, and nothing behind it.
-fn read_whole(alloc: Global, bytes: &[u8]) -> Result<Frame, Stop>
+fn read_whole(alloc: Global, bytes: &[u8]) -> Result<Frame, FrameStop>
     ensures { Ends (whole (after read_version read_frame_of 0 bytes.now)) result }
 {
     let mut input = ByteIn::new(bytes);
     let frame = read_frame(alloc, &mut input)?;
     let at = input.at();
     if input.u8().is_ok() {
-        return Err(Stop::Malformed { at });
+        return Err(FrameStop::Malformed { at });
     }
     Ok(frame)
 }
 
-fn read_frame(alloc: Global, input: &mut ByteIn) -> Result<Frame, Stop>
+fn read_frame(alloc: Global, input: &mut ByteIn) -> Result<Frame, FrameStop>
     ensures { Reads (after read_version read_frame_of) input.old input.new result }
 {
     let version = read_version(input)?;
@@ -53,7 +53,7 @@ fn read_frame(alloc: Global, input: &mut ByteIn) -> Result<Frame, Stop>
 }
 
 // What the first four bytes say.
-fn read_version(input: &mut ByteIn) -> Result<u8, Stop>
+fn read_version(input: &mut ByteIn) -> Result<u8, FrameStop>
     ensures reads { Reads read_version input.old input.new result }
     ensures version { IfOk result IsVersion }
 {
@@ -64,11 +64,11 @@ fn read_version(input: &mut ByteIn) -> Result<u8, Stop>
     } else if magic == b"SGF2".as_slice() {
         Ok(2)
     } else {
-        Err(Stop::Malformed { at })
+        Err(FrameStop::Malformed { at })
     }
 }
 
-fn read_frame_of(alloc: Global, input: &mut ByteIn, version: u8) -> Result<Frame, Stop>
+fn read_frame_of(alloc: Global, input: &mut ByteIn, version: u8) -> Result<Frame, FrameStop>
     requires { IsVersion version }
     ensures { Reads (read_frame_of version) input.old input.new result }
 {
@@ -95,13 +95,13 @@ fn read_frame_of(alloc: Global, input: &mut ByteIn, version: u8) -> Result<Frame
 }
 
 // A role that is not the sender's.
-fn read_receiver(input: &mut ByteIn, sender: u8) -> Result<u8, Stop>
+fn read_receiver(input: &mut ByteIn, sender: u8) -> Result<u8, FrameStop>
     ensures { ReadsSeen (λ v. v ∷ []) (field 1 (λ bs. is_within 0 15 (from_be_bytes w8 bs) && not (from_be_bytes w8 bs == sender))) input.old input.new result }
 {
     let at = input.at();
     let role = field::byte(input, 0, 15)?;
     if role == sender {
-        return Err(Stop::Malformed { at });
+        return Err(FrameStop::Malformed { at });
     }
     Ok(role)
 }

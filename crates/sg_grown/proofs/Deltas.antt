@@ -1,15 +1,14 @@
 -- The variables of a delta, which rise, as a set that grows.
-use Rattle.std.proofs.Common.{◌≡◌, ℕ, zero, suc, ◌+◌, ◌<◌, ◌≤◌, ◌==◌, nat_le, nat_lt, Bool, true, false, ◌||◌, List, [], ◌∷◌, ◌++◌, take, length, get_or, refl, ap, sym, ◌∙◌, subst, arith}
+use Rattle.std.proofs.Common.{◌≡◌, ℕ, zero, suc, ◌+◌, ◌<◌, ◌≤◌, nat_lt, true, List, [], ◌∷◌, ◌++◌, take, length, get_or, refl, ap, sym, ◌∙◌, subst, arith}
 use Rattle.std.specs.Prelude.{All}
 use Rattle.std.specs.List.{list_all, AllByRecursion}
 use Rattle.std.proofs.lemmas.Bool.Decides.{nat_tests}
 use Rattle.std.proofs.lemmas.List.{map-append, take_more, take_all}
 use Rattle.std.proofs.lemmas.Bool.{and_parts}
-use Rattle.sg_base.specs.Sets.{with_member}
-use Rattle.sg_base.proofs.SetLaws.{is_in-filter}
+use Rattle.sg_base.specs.Sets.{with_member, set_of}
+use Rattle.sg_base.proofs.SetLaws.{with_member-set_of}
 use Rattle.sg_model.specs.Last.{Map}
-use Rattle.sg_model.specs.Lists.{is_in, keys_of, rises_from}
-use Rattle.sg_model.proofs.Numbers.{filter-range_from, is_in-append}
+use Rattle.sg_model.specs.Lists.{keys_of, rises_from}
 use Rattle.sg_protocol.specs.Evidence.{rising}
 use Rattle.sg_protocol.specs.Frame.{Item, Frame, IsItem}
 use Rattle.sg_protocol.specs.Graph.{AreNumbers}
@@ -18,46 +17,23 @@ use Rattle.sg_protocol.proofs.Gives.{in_order-all}
 use Rattle.sg_protocol.proofs.SeenItems.{keys_in_order}
 use Rattle.sg_vis.proofs.Unions.{rising-nothing}
 
--- the set of these numbers below 32
-unfoldable pub set_of : List ℕ → List ℕ
-set_of xs = rising 32 xs
-
-pub set_none : [] ≡ set_of []
+pub set_none : [] ≡ set_of 32 []
 unfolding set_of
 set_none = sym (rising-nothing 32)
 
-one_more : (n y : ℕ) (xs : List ℕ) → with_member n (rising n xs) y ≡ rising n (xs ++ y ∷ [])
-unfolding with_member
-one_more n y xs = filter-range_from (λ x. (x == y) || is_in x (rising n xs)) (λ x. is_in x (xs ++ y ∷ [])) 0 n each
-  where
-    turn : (a b : Bool) → (a || b) ≡ (b || (a || false))
-    turn true true = refl
-    turn true false = refl
-    turn false true = refl
-    turn false false = refl
-
-    each : (x : ℕ) → 0 ≤ x → x < 0 + n → ((x == y) || is_in x (rising n xs)) ≡ is_in x (xs ++ y ∷ [])
-    each x lo hi =
-        let a : nat_le 0 x ≡ true = grind (arith, nat_tests) in
-        let b : nat_lt x (0 + n) ≡ true = grind (arith, nat_tests) in
-        let there : is_in x (rising n xs) ≡ is_in x xs = is_in-filter (λ z. is_in z xs) 0 n x ∙ rw (a, b) refl in
-        let turned : (x == y) ≡ (y == x) = grind (arith, nat_tests) in
-        rw (there, is_in-append x xs (y ∷ []), turned) (turn (y == x) (is_in x xs))
-
 -- the set with one key more
-pub set_more : (delta : Map (List ℕ)) (at : ℕ) (w : ℕ × List ℕ) (vars new : List ℕ) → at < length delta → w ≡ get_or delta at w → vars ≡ set_of (keys_of (take at delta)) → new ≡ with_member 32 vars w.0 → new ≡ set_of (keys_of (take (at + 1) delta))
-unfolding set_of
+pub set_more : (delta : Map (List ℕ)) (at : ℕ) (w : ℕ × List ℕ) (vars new : List ℕ) → at < length delta → w ≡ get_or delta at w → vars ≡ set_of 32 (keys_of (take at delta)) → new ≡ with_member 32 vars w.0 → new ≡ set_of 32 (keys_of (take (at + 1) delta))
 set_more delta at w vars new l is before more =
     let keys : keys_of (take (at + 1) delta) ≡ keys_of (take at delta) ++ w.0 ∷ [] =
     ap keys_of (take_more delta at w l) ∙ map-append (λ (w : ℕ × List ℕ). w.0) (take at delta) (get_or delta at w ∷ []) ∙ ap (λ (v : ℕ × List ℕ). keys_of (take at delta) ++ v.0 ∷ []) (sym is) in
-    more ∙ ap (λ vs. with_member 32 vs w.0) before ∙ one_more 32 w.0 (keys_of (take at delta)) ∙ ap (rising 32) (sym keys)
+    more ∙ ap (λ vs. with_member 32 vs w.0) before ∙ with_member-set_of 32 w.0 (keys_of (take at delta)) ∙ ap (set_of 32) (sym keys)
 
 small_keys : (xs : List ℕ) → list_all (λ x. nat_lt x 32) xs ≡ true → AllByRecursion (λ x. x < 32) xs
 small_keys [] h = tt
 small_keys (x ∷ xs) h = (let parts = and_parts (nat_lt x 32) (list_all (λ x. nat_lt x 32) xs) h in let a = parts.0 in grind (arith, nat_tests, a), (let parts = and_parts (nat_lt x 32) (list_all (λ x. nat_lt x 32) xs) h in small_keys xs parts.1))
 
 -- the set of all keys is the keys
-pub set_whole : (delta : Map (List ℕ)) (at : ℕ) (vars : List ℕ) → AreNumbers 32 (keys_of delta) → length delta ≤ at → vars ≡ set_of (keys_of (take at delta)) → vars ≡ keys_of delta
+pub set_whole : (delta : Map (List ℕ)) (at : ℕ) (vars : List ℕ) → AreNumbers 32 (keys_of delta) → length delta ≤ at → vars ≡ set_of 32 (keys_of (take at delta)) → vars ≡ keys_of delta
 unfolding set_of
 set_whole delta at vars h l before =
     let parts = and_parts (rises_from 0 (keys_of delta)) (list_all (λ x. nat_lt x 32) (keys_of delta)) h in

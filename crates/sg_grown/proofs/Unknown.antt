@@ -17,7 +17,7 @@ use Rattle.sg_protocol.proofs.Moves.{writes_below}
 use Rattle.sg_walk.specs.Model.{event_of, values_of}
 use Rattle.sg_grown.specs.Events.{pair_of}
 use Rattle.sg_grown.specs.Filling.{filled_by, found_step, added, given, unless_written, added_by, given_by}
-use Rattle.sg_grown.specs.declared.shown.Shown.{Shown}
+use Rattle.sg_grown.specs.declared.shown.ShownEvent.{ShownEvent}
 use Rattle.sg_grown.proofs.Backwards.{one_back, push_back}
 use Rattle.sg_grown.proofs.Filled.{fill_one}
 use Rattle.sg_grown.proofs.Keeping.{with_found}
@@ -123,12 +123,12 @@ step_back g f k n front old new labels back e is l at before agree more kept =
     )
 
 -- one event more, from the end
-pub event_back : (g : Graph) (honest : ℕ → Bool) (k n : ℕ → Option Value) (old new : List StoredStep) (events : List Shown) (back : ℕ) (s : Shown) → IsGraph g → back < length events → s ≡ get_or events (length events - 1 - back) s
+pub event_back : (g : Graph) (honest : ℕ → Bool) (k n : ℕ → Option Value) (old new : List StoredStep) (events : List ShownEvent) (back : ℕ) (s : ShownEvent) → IsGraph g → back < length events → s ≡ get_or events (length events - 1 - back) s
     → old ≡ reverse (added_by g honest (map pair_of (drop (length events - back) events))) → Agree k (given_by g honest (map pair_of (drop (length events - back) events)))
     → new ≡ old ++ reverse (filled_by (given (event_of s.event.now) k) (added g honest (event_of s.event.now) s.walk.now)) → Agree n (unless_written (added g honest (event_of s.event.now) s.walk.now) (given (event_of s.event.now) k))
     → (new ≡ reverse (added_by g honest (map pair_of (drop (length events - (back + 1)) events)))) × Agree n (given_by g honest (map pair_of (drop (length events - (back + 1)) events)))
 event_back g honest k n old new events back s is l at before agree more kept =
-    let rest : List Shown = drop (length events - back) events in
+    let rest : List ShownEvent = drop (length events - back) events in
     let later : ℕ → Option Value = given_by g honest (map pair_of rest) in
     let cut : drop (length events - (back + 1)) events ≡ s ∷ rest = one_back events back s l at in
     let same = same_added g is honest k later agree (event_of s.event.now) s.walk.now in (

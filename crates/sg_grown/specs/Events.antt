@@ -5,10 +5,10 @@ use Rattle.sg_protocol.specs.Graph.{Graph}
 use Rattle.sg_protocol.specs.Grown.{grown_by}
 use Rattle.sg_protocol.specs.Walk.{StoredStep}
 use Rattle.sg_walk.specs.Model.{event_of}
-use Rattle.sg_grown.specs.declared.shown.Shown.{Shown}
+use Rattle.sg_grown.specs.declared.shown.ShownEvent.{ShownEvent}
 
 -- the event, and the walk beside it
-abbrev pub pair_of : Shown → Event × List ℕ
+abbrev pub pair_of : ShownEvent → Event × List ℕ
 pair_of s = (event_of s.event.now, s.walk.now)
 
 -- the walk after these events

@@ -11,10 +11,10 @@ use Rattle.sg_protocol.specs.Calls.{Event, Started, Sent, Received}
 use Rattle.sg_protocol.specs.Graph.{Graph, shape, writes}
 use Rattle.sg_protocol.specs.Grown.{hidden_steps, is_written}
 use Rattle.sg_protocol.specs.Walk.{StoredStep, shown}
-use Rattle.sg_grown.specs.declared.kept.Kept.{Kept}
+use Rattle.sg_grown.specs.declared.kept.KeptValues.{KeptValues}
 
 -- the value that is kept for a variable
-abbrev pub value_in : Kept → ℕ → Option Value
+abbrev pub value_in : KeptValues → ℕ → Option Value
 value_in k x = option_map (λ v. value_of v.now) (get_or k.values x None)
 
 -- what is hidden at the last write of its variable is filled in with what is found for it

@@ -8,8 +8,8 @@ ghost use Rattle.sg_walk.specs.Model.{event_of, step_of, steps_of, values_of, wr
 ghost use Rattle.sg_grown.specs.Events.{grown_along, pair_of};
 ghost use Rattle.sg_grown.specs.Filling.{added, filled_by, found_step, given, unless_written, value_in};
 
-use crate::Shown;
-use crate::kept::{Kept, forget, forget_all, learn, nothing};
+use crate::ShownEvent;
+use crate::kept::{KeptValues, forget, forget_all, learn, nothing};
 use crate::recent::new_labels;
 use sg_base::{Label, OutOfMemory, RoleSet, Seq, Value, Var, VarSet};
 use sg_graph::Graph;
@@ -21,7 +21,7 @@ pub fn grow(
     alloc: Global,
     graph: &Graph,
     honest: RoleSet,
-    events: &[Shown<'_>],
+    events: &[ShownEvent<'_>],
 ) -> Result<StoredWalk, OutOfMemory>
     requires { All (λ s. All (λ e. e < length graph.now.edges) s.walk.now) events.now }
     ensures { IfOk result (λ w. steps_of w ≡ grown_along graph.now (λ r. is_in r honest) [] (map pair_of events.now)) }
@@ -45,8 +45,8 @@ fn add_event<'e>(
     alloc: Global,
     graph: &Graph,
     honest: RoleSet,
-    shown: &Shown<'e>,
-    kept: &mut Kept<'e>,
+    shown: &ShownEvent<'e>,
+    kept: &mut KeptValues<'e>,
     steps: &mut Vec<StoredStep>,
 ) -> Result<(), OutOfMemory>
     requires graph { IsGraph graph.now }
@@ -75,7 +75,7 @@ fn add_sent(
     alloc: Global,
     label: Label,
     values: &[(Var, Value)],
-    kept: &mut Kept<'_>,
+    kept: &mut KeptValues<'_>,
     steps: &mut Vec<StoredStep>,
 ) -> Result<(), OutOfMemory>
     ensures step { OnOk result (map step_of steps.new.items ≡ map step_of steps.old.items ++ record { label = label; writes = shown (values_of values.now) } ∷ []) }
@@ -106,7 +106,7 @@ fn add_hidden(
     alloc: Global,
     graph: &Graph,
     labels: &[Label],
-    kept: &mut Kept<'_>,
+    kept: &mut KeptValues<'_>,
     steps: &mut Vec<StoredStep>,
 ) -> Result<(), OutOfMemory>
     requires graph { IsGraph graph.now }
@@ -125,7 +125,7 @@ fn add_step(
     alloc: Global,
     graph: &Graph,
     label: Label,
-    kept: &mut Kept<'_>,
+    kept: &mut KeptValues<'_>,
     steps: &mut Vec<StoredStep>,
 ) -> Result<(), OutOfMemory>
     requires { label < length graph.now.edges }
@@ -152,7 +152,7 @@ fn written_by(graph: &Graph, label: Label) -> VarSet
 // The variables of the set, in rising order, each with what is kept for it.
 fn all_kept(
     alloc: Global,
-    kept: &Kept<'_>,
+    kept: &KeptValues<'_>,
     vars: VarSet,
 ) -> Result<Seq<(Var, Option<Value>)>, OutOfMemory>
     requires { AreNumbers 32 vars }
@@ -168,7 +168,7 @@ fn all_kept(
 }
 
 // A copy of what is kept for a variable.
-fn copy_kept(alloc: Global, kept: &Kept<'_>, number: u8) -> Result<Option<Value>, OutOfMemory>
+fn copy_kept(alloc: Global, kept: &KeptValues<'_>, number: u8) -> Result<Option<Value>, OutOfMemory>
     requires { number < 32 }
     ensures { IfOk result (λ v. writes_of ((number, v) ∷ []) ≡ (number, value_in kept.now number) ∷ []) }
 {

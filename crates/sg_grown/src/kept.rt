@@ -10,19 +10,19 @@ use sg_base::{Value, Var, VarSet};
 
 /// For each variable below 32 the value that the earliest receipt since gives it, if no step since writes it.
 #[derive(Drop)]
-pub(crate) struct Kept<'e> {
+pub(crate) struct KeptValues<'e> {
     pub values: [Option<&'e Value>; 32],
 }
 
 /// Nothing is kept.
-pub(crate) fn nothing<'e>() -> Kept<'e>
+pub(crate) fn nothing<'e>() -> KeptValues<'e>
     ensures { (x : ℕ) → x < 32 → value_in result x ≡ None }
 {
-    Kept { values: [None; 32] }
+    KeptValues { values: [None; 32] }
 }
 
 /// Keeps this for a variable, if the variable is below 32.
-pub(crate) fn put<'e>(kept: &mut Kept<'e>, var: Var, value: Option<&'e Value>)
+pub(crate) fn put<'e>(kept: &mut KeptValues<'e>, var: Var, value: Option<&'e Value>)
     ensures { (x : ℕ) → x < 32 → value_in kept.new x ≡ (if var == x then option_map (λ v. value_of v.now) value.entry else value_in kept.old x) }
 {
     if var.0 < 32 {
@@ -32,7 +32,7 @@ pub(crate) fn put<'e>(kept: &mut Kept<'e>, var: Var, value: Option<&'e Value>)
 }
 
 /// Keeps what was received, in place of what was received later.
-pub(crate) fn learn<'e>(kept: &mut Kept<'e>, values: &'e [(Var, Value)])
+pub(crate) fn learn<'e>(kept: &mut KeptValues<'e>, values: &'e [(Var, Value)])
     ensures { (x : ℕ) → x < 32 → value_in kept.new x ≡ option_or (value_at (values_of values.now) x) (value_in kept.old x) }
 {
     for back in 0..values.len() {
@@ -42,7 +42,7 @@ pub(crate) fn learn<'e>(kept: &mut Kept<'e>, values: &'e [(Var, Value)])
 }
 
 /// Keeps nothing for the variables of these values.
-pub(crate) fn forget<'e>(kept: &mut Kept<'e>, values: &[(Var, Value)])
+pub(crate) fn forget<'e>(kept: &mut KeptValues<'e>, values: &[(Var, Value)])
     ensures { (x : ℕ) → x < 32 → value_in kept.new x ≡ (if is_in x (keys_of values.now) then None else value_in kept.old x) }
 {
     for pair in values {
@@ -51,7 +51,7 @@ pub(crate) fn forget<'e>(kept: &mut Kept<'e>, values: &[(Var, Value)])
 }
 
 /// Keeps nothing for the variables of the set.
-pub(crate) fn forget_all<'e>(kept: &mut Kept<'e>, vars: VarSet)
+pub(crate) fn forget_all<'e>(kept: &mut KeptValues<'e>, vars: VarSet)
     ensures { (x : ℕ) → x < 32 → value_in kept.new x ≡ (if is_in x vars then None else value_in kept.old x) }
 {
     for number in 0..32u8 {

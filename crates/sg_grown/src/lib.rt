@@ -25,4 +25,4 @@ pub use example::view_example;
 pub use growing::grow;
 pub use laws::{courses_are_grown, sessions_are_grown};
 pub use origins::Origins;
-pub use shown::Shown;
+pub use shown::ShownEvent;

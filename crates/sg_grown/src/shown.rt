@@ -5,7 +5,7 @@ use sg_walk::Event;
 /// An event of a session, and a walk from the start that shows its role what it received. Where the event is no receipt the walk is not
 /// looked at.
 #[derive(Debug, Clone, Copy)]
-pub struct Shown<'e> {
+pub struct ShownEvent<'e> {
     /// The event.
     pub event: &'e Event,
     /// The walk.

@@ -1,11 +1,9 @@
 -- What is read and written is there.
-use Rattle.std.proofs.Common.{◌≡◌, ℕ, suc, ◌<◌, ◌≤◌, ◌==◌, ◌+◌, ◌||◌, nat_le, nat_lt, true, false, not, List, [], ◌∷◌, length, get_or, refl, sym, ap, ◌∙◌, inl, inr, arith}
+use Rattle.std.proofs.Common.{◌≡◌, ℕ, suc, ◌<◌, ◌≤◌, ◌==◌, nat_lt, true, false, not, List, [], ◌∷◌, length, get_or, refl, sym, ap, ◌∙◌, inl, inr, arith}
 use Rattle.std.specs.List.{list_all}
-use Rattle.std.proofs.lemmas.Bool.{cases_Bool, cases_lt, and_parts, eqb-true, eq-eqb, ltb-true, not-true}
+use Rattle.std.proofs.lemmas.Bool.{cases_Bool, cases_lt, and_parts, eq-eqb, not-true}
 use Rattle.std.proofs.lemmas.Bool.Decides.{nat_tests}
 use Rattle.std.proofs.lemmas.List.{get_or_past, get_or-map, length-map}
-use Rattle.sg_base.specs.Sets.{with_member}
-use Rattle.sg_base.proofs.SetLaws.{is_in-filter}
 use Rattle.sg_model.specs.Lists.{is_in, rises_from}
 use Rattle.sg_model.specs.Shape.{Arrow, edge_at, source}
 use Rattle.sg_protocol.specs.Graph.{Graph, Edge, IsGraph, AreNumbers, shape, writes, reads}
@@ -29,16 +27,6 @@ read_there g e x h =
     elim (cases_lt e (length g.edges)) [
       | inl l ↦ l
       | inr le ↦ (let none : false ≡ true = sym (ap (λ (a : Arrow). is_in x a.reads) (no_edge g e le)) ∙ h in absurd (cc))
-    ]
-
--- each of numbers that are all below n is below n
-all_below : (n x : ℕ) (xs : List ℕ) → list_all (λ k. nat_lt k n) xs ≡ true → is_in x xs ≡ true → x < n
-all_below n x [] h i = absurd (cc)
-all_below n x (y ∷ ys) h i =
-    let parts = and_parts (nat_lt y n) (list_all (λ k. nat_lt k n) ys) h in
-    elim (cases_Bool (y == x)) [
-      | inl e ↦ (let same : y ≡ x = eqb-true y x e in rw same at (ltb-true y n parts.0))
-      | inr d ↦ all_below n x ys parts.1 (rw d at i)
     ]
 
 -- the first number is one of them
@@ -90,11 +78,3 @@ written_var_there g e x h i =
     let l = written_there g e x i in
     let same : writes g e ≡ (get_or g.edges e no_named_edge).writes = ap (λ (a : Arrow). a.writes) (edge_seen g e l) in
     number_below (length g.variables) x (get_or g.edges e no_named_edge).writes (h.variables e no_named_edge l).0 (rw same at i)
-
--- a number is in a set with one more exactly if it is that one or was in the set
-pub is_in-with_member : (width x y : ℕ) (xs : List ℕ) → y < width → is_in y (with_member width xs x) ≡ ((y == x) || is_in y xs)
-unfolding with_member
-is_in-with_member width x y xs l =
-    let low : nat_le 0 y ≡ true = grind (arith, nat_tests) in
-    let high : nat_lt y (0 + width) ≡ true = grind (arith, nat_tests) in
-    is_in-filter (λ z. (z == x) || is_in z xs) 0 width y ∙ rw (low, high) refl

@@ -9,7 +9,7 @@ use Rattle.sg_model.specs.Shape.{Walk, end_of, source, sender}
 use Rattle.sg_protocol.specs.Graph.{Graph, shape, reads}
 use Rattle.sg_protocol.specs.Knowledge.{knows}
 use Rattle.sg_know.specs.declared.bad.BadRead.{BadRead as Found}
-use Rattle.sg_know.specs.declared.states.State.{State}
+use Rattle.sg_know.specs.declared.states.WalkState.{WalkState}
 use Rattle.sg_know.specs.declared.states.Reached.{Reached}
 use Rattle.sg_know.specs.Reads.{HasBadRead, IsBadRead, IsUpTo}
 use Rattle.sg_know.specs.Parts.{IsBadOf, IsBadOfVar, IsFirstBad, earlier, is_up_to}
@@ -52,8 +52,8 @@ bad_unknown g r x states h e y b =
     let leaves = walk_next (shape g) 0 e before [] whole in
     let along : state_along g r x e (state_at states there.0) ≡ state_after g r x (before ++ e ∷ []) = ap (state_along g r x e) there.2 ∙ sym (state_after-more g r x e before) in
     let unknown : is_known (state_along g r x e (state_at states there.0)).mark ≡ false =
-    ap (λ (s : State). is_known s.mark) along ∙ sym (knows_as g r x (before ++ e ∷ [])) ∙ ap (knows g r x) (sym split.1) ∙ ap (λ q. knows g q x walk) (sym b.1) ∙ bad.unknown in
-    (there.0, (read_there g e x bad.is_read, b.1, bad.is_read, (there.1, ap (λ (s : State). s.node) there.2 ∙ sym leaves.1, unknown)))
+    ap (λ (s : WalkState). is_known s.mark) along ∙ sym (knows_as g r x (before ++ e ∷ [])) ∙ ap (knows g r x) (sym split.1) ∙ ap (λ q. knows g q x walk) (sym b.1) ∙ bad.unknown in
+    (there.0, (read_there g e x bad.is_read, b.1, bad.is_read, (there.1, ap (λ (s : WalkState). s.node) there.2 ∙ sym leaves.1, unknown)))
 
 -- a state of the closure after which a read isn't known gives a bad read, on the walk that leads there
 pub unknown_bad : (g : Graph) (r x : ℕ) (states : List Reached) → IsClosure g r x states → (e i : ℕ) → IsUnknownRead g r x states e i
@@ -61,13 +61,13 @@ pub unknown_bad : (g : Graph) (r x : ℕ) (states : List Reached) → IsClosure 
 unknown_bad g r x states h e i u before p =
     let after = u.3 in
     let walks = path_walks g r x states h.reached i before after.0 p in
-    let leaves : source (shape g) e ≡ end_of (shape g) 0 before = sym after.1 ∙ ap (λ (s : State). s.node) (sym walks.1) in
+    let leaves : source (shape g) e ≡ end_of (shape g) 0 before = sym after.1 ∙ ap (λ (s : WalkState). s.node) (sym walks.1) in
     let there : e < length (shape g).edges = rw length-map u.0 in
     record {
       from_start = walk_more (shape g) 0 e before walks.0 there leaves;
       last_edge = last-more before e;
       is_read = u.2;
-      unknown = ap (λ q. knows g q x (before ++ e ∷ [])) u.1 ∙ knows_as g r x (before ++ e ∷ []) ∙ ap (λ (s : State). is_known s.mark) (state_after-more g r x e before ∙ ap (state_along g r x e) walks.1) ∙ after.2;
+      unknown = ap (λ q. knows g q x (before ++ e ∷ [])) u.1 ∙ knows_as g r x (before ++ e ∷ []) ∙ ap (λ (s : WalkState). is_known s.mark) (state_after-more g r x e before ∙ ap (state_along g r x e) walks.1) ∙ after.2;
     }
 
 -- ---- the least place

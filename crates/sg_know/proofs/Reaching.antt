@@ -5,7 +5,7 @@ use Rattle.std.proofs.lemmas.Bool.{cases_lt}
 use Rattle.std.proofs.lemmas.List.{get_or_append_left, get_or_push, length_push, length-map}
 use Rattle.sg_model.specs.Shape.{Shape, Walk, end_of, source, target}
 use Rattle.sg_protocol.specs.Graph.{Graph, shape}
-use Rattle.sg_know.specs.declared.states.State.{State}
+use Rattle.sg_know.specs.declared.states.WalkState.{WalkState}
 use Rattle.sg_know.specs.declared.states.Arrival.{Arrival}
 use Rattle.sg_know.specs.declared.states.Reached.{Reached}
 use Rattle.sg_know.specs.States.{AreReached, AreThere, ComesBy, Enters, Extends, Has, IsPath, begin, state_after, state_along, state_at, step_at}
@@ -39,7 +39,7 @@ path_walks g r x states h i labels l (Goes {s = s} {labels = before} e p) =
     let at = h i l in
     let comes : ComesBy g r x states i s = rw e at at in
     let ih = path_walks g r x states h s.from before (omega (arith, comes.earlier)) p in
-    let leaves : source (shape g) s.label ≡ end_of (shape g) 0 before = comes.leaves ∙ ap (λ (t : State). t.node) (sym ih.1) in
+    let leaves : source (shape g) s.label ≡ end_of (shape g) 0 before = comes.leaves ∙ ap (λ (t : WalkState). t.node) (sym ih.1) in
     let there : s.label < length (shape g).edges = rw length-map comes.there in (
       walk_more (shape g) 0 s.label before ih.0 there leaves,
       state_after-more g r x s.label before ∙ ap (state_along g r x s.label) ih.1 ∙ sym comes.state,
@@ -64,7 +64,7 @@ pub Extends-length : (old new : List Reached) → Extends old new → length old
 Extends-length old new e = rw (e.1) (omega (arith, length-append old e.0))
 
 -- what the list had it has
-pub Has-extends : (old new : List Reached) (s : State) → Extends old new → Has old s → Has new s
+pub Has-extends : (old new : List Reached) (s : WalkState) → Extends old new → Has old s → Has new s
 Has-extends old new s e h = (h.0, omega (arith, h.1, Extends-length old new e), state_stays old new h.0 e h.1 ∙ h.2)
 
 -- a list with a state more goes on
@@ -91,7 +91,7 @@ reached_still g r x old new i e l m =
         record {
           earlier = b.earlier;
           there = b.there;
-          leaves = b.leaves ∙ ap (λ (t : State). t.node) (sym before);
+          leaves = b.leaves ∙ ap (λ (t : WalkState). t.node) (sym before);
           state = state_stays old new i e l ∙ b.state ∙ ap (state_along g r x s.label) (sym before);
         }
 
@@ -116,7 +116,7 @@ AreReached-enters g r x at e old new h l there leaves (inr k) = subst (AreReache
         (record {
           earlier = omega arith;
           there = there;
-          leaves = leaves ∙ ap (λ (t : State). t.node) (sym before);
+          leaves = leaves ∙ ap (λ (t : WalkState). t.node) (sym before);
           state = ap (λ (t : Reached). t.state) here ∙ ap (state_along g r x e) (sym before);
         })
 
@@ -126,7 +126,7 @@ AreThere-enters g old new t h l (inl k) = subst (AreThere g) (sym (k.1)) h
 AreThere-enters g old new t h l (inr k) =
     subst (AreThere g) (sym (k.1)) (λ i li.
     elim (cases_lt i (length old)) [
-      | inl w ↦ (let same : (state_at (old ++ t ∷ []) i).node ≡ (state_at old i).node = ap (λ (s : State). s.node) (state_stays old (old ++ t ∷ []) i (t ∷ [], refl) w) in rw same (h i w))
+      | inl w ↦ (let same : (state_at (old ++ t ∷ []) i).node ≡ (state_at old i).node = ap (λ (s : WalkState). s.node) (state_stays old (old ++ t ∷ []) i (t ∷ [], refl) w) in rw same (h i w))
       | inr w ↦
           (let end : length old ≡ i = omega (arith, length_push old t) in
           let same : (state_at (old ++ t ∷ []) i).node ≡ t.state.node = ap (λ (s : Reached). s.state.node) (get_or_push old t begin i end) in rw same l)
@@ -143,8 +143,8 @@ pub AreFollowed-more : (g : Graph) (r x n : ℕ) (old new : List Reached) → Ex
     → ((e : ℕ) → e < length g.edges → source (shape g) e ≡ (state_at old n).node → Has new (state_along g r x e (state_at old n))) → AreFollowed g r x (n + 1) new
 AreFollowed-more g r x n old new goes_on l before here i e li there leaves =
     let same : state_at new i ≡ state_at old i = state_stays old new i goes_on (omega arith) in
-    let leaves' : source (shape g) e ≡ (state_at old i).node = leaves ∙ ap (λ (s : State). s.node) same in
-    subst (λ (s : State). Has new (state_along g r x e s)) (sym same) (elim (cases_lt i n) [
+    let leaves' : source (shape g) e ≡ (state_at old i).node = leaves ∙ ap (λ (s : WalkState). s.node) same in
+    subst (λ (s : WalkState). Has new (state_along g r x e s)) (sym same) (elim (cases_lt i n) [
       | inl w ↦ Has-extends old new (state_along g r x e (state_at old i)) goes_on (before i e w there leaves')
       | inr w ↦ (let last : n ≡ i = omega arith in
           let at = subst (λ (k : ℕ). source (shape g) e ≡ (state_at old k).node) (sym last) leaves' in
@@ -160,7 +160,7 @@ followed_whole g r x states start f walk w = onwards [] walk w start
     onwards before [] w h = subst (λ (l : List ℕ). Has states (state_after g r x l)) (sym (append-nil before)) h
     onwards before (e ∷ rest) w h =
         let next = walk_next (shape g) 0 e before rest w in
-        let leaves : source (shape g) e ≡ (state_at states h.0).node = next.1 ∙ ap (λ (t : State). t.node) (sym h.2) in
+        let leaves : source (shape g) e ≡ (state_at states h.0).node = next.1 ∙ ap (λ (t : WalkState). t.node) (sym h.2) in
         let there : e < length g.edges = simp length-map at next.0 in
         let one = f h.0 e h.1 there leaves in
         let same : state_along g r x e (state_at states h.0) ≡ state_after g r x (before ++ e ∷ []) = ap (state_along g r x e) h.2 ∙ sym (state_after-more g r x e before) in

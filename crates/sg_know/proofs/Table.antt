@@ -7,7 +7,7 @@ use Rattle.std.proofs.lemmas.List.{get_or_append_left, get_or_push, length_push,
 use Rattle.std.proofs.lemmas.List.Sums.{sum_by-set}
 use Rattle.sg_know.specs.declared.states.Mark.{Mark}
 use Rattle.sg_know.specs.declared.states.Mark.TheVariants.{Unwritten, Unknown, Known}
-use Rattle.sg_know.specs.declared.states.State.{State}
+use Rattle.sg_know.specs.declared.states.WalkState.{WalkState}
 use Rattle.sg_know.specs.declared.states.Arrival.{Arrival}
 use Rattle.sg_know.specs.declared.states.Reached.{Reached}
 use Rattle.sg_know.specs.States.{AreInOrder, IsTable, begin, key_of, rank_of, state_at}
@@ -19,7 +19,7 @@ rank_below Unknown = omega arith
 rank_below Known = omega arith
 
 -- a state at one of 256 nodes has a number below 768
-key_below : (s : State) → s.node < 256 → key_of s < 768
+key_below : (s : WalkState) → s.node < 256 → key_of s < 768
 key_below s l = omega (arith, rank_below s.mark)
 
 -- what was at a place of the list is there still

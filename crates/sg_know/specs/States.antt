@@ -9,7 +9,7 @@ use Rattle.sg_protocol.specs.Knowledge.{learns, knows}
 use Rattle.sg_know.specs.declared.bad.UnknownRead.{UnknownRead}
 use Rattle.sg_know.specs.declared.states.Mark.{Mark}
 use Rattle.sg_know.specs.declared.states.Mark.TheVariants.{Unwritten, Unknown, Known}
-use Rattle.sg_know.specs.declared.states.State.{State}
+use Rattle.sg_know.specs.declared.states.WalkState.{WalkState}
 use Rattle.sg_know.specs.declared.states.Arrival.{Arrival}
 use Rattle.sg_know.specs.declared.states.Reached.{Reached}
 
@@ -32,14 +32,14 @@ mark_after false learns Unknown = known_if learns
 mark_after false learns Known = Known
 
 -- the node at which a walk from the start ends, and the mark of x for role r on it
-abbrev pub state_after : Graph → ℕ → ℕ → List ℕ → State
+abbrev pub state_after : Graph → ℕ → ℕ → List ℕ → WalkState
 state_after g r x walk = record {
   node = end_of (shape g) 0 walk;
   mark = mark_of (list_any (λ e. is_in x (writes g e)) walk) (knows g r x walk);
 }
 
 -- the state after one edge more
-abbrev pub state_along : Graph → ℕ → ℕ → ℕ → State → State
+abbrev pub state_along : Graph → ℕ → ℕ → ℕ → WalkState → WalkState
 state_along g r x e s = record {
   node = target (shape g) e;
   mark = mark_after (is_in x (writes g e)) (learns g r x e) s.mark;
@@ -52,7 +52,7 @@ abbrev pub begin : Reached
 begin = record { state = record { node = 0; mark = Unwritten }; by = None }
 
 -- the state at a place of the list
-abbrev pub state_at : List Reached → ℕ → State
+abbrev pub state_at : List Reached → ℕ → WalkState
 state_at states i = (get_or states i begin).state
 
 -- the edge by which the state at a place was come to, with the place that it came from
@@ -60,7 +60,7 @@ abbrev pub step_at : List Reached → ℕ → Option Arrival
 step_at states i = (get_or states i begin).by
 
 -- the list has the state
-abbrev pub Has : List Reached → State → Type 0
+abbrev pub Has : List Reached → WalkState → Type 0
 Has states s = (i : ℕ) × (i < length states) × (state_at states i ≡ s)
 
 -- a state comes in at the end, unless the list has it
@@ -125,7 +125,7 @@ rank_of Unknown = 1
 rank_of Known = 2
 
 -- a number for each state
-abbrev pub key_of : State → ℕ
+abbrev pub key_of : WalkState → ℕ
 key_of s = 3 * s.node + rank_of s.mark
 
 -- each state of the list has its place at its number in the table, and the table has no other places

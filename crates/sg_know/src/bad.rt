@@ -8,7 +8,7 @@ ghost use Rattle.sg_know.specs.Parts.{IsBadOf, IsBadOfVar, IsFirstBad, earlier, 
 ghost use Rattle.sg_know.specs.States.{IsClosure, IsFirstUnknown, IsUnknownAfter, IsUnknownRead, is_known, state_at};
 
 use crate::closure::{closure, mark_along};
-use crate::states::{Mark, State, States};
+use crate::states::{Mark, States, WalkState};
 use sg_base::{Label, OutOfMemory, Role, RoleSet, Seq, Var};
 use sg_graph::Graph;
 use std::alloc::Global;
@@ -178,7 +178,7 @@ fn unknown_after_mark(
     if is_known(mark_along(graph, role, var, label, mark)) {
         return None;
     }
-    states.find(&State {
+    states.find(&WalkState {
         node: graph.edge(label).source,
         mark,
     })

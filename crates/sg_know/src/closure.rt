@@ -6,7 +6,7 @@ ghost use Rattle.sg_protocol.specs.Graph.{shape, writes};
 ghost use Rattle.sg_protocol.specs.Knowledge.{learns};
 ghost use Rattle.sg_know.specs.States.{AreReached, AreThere, Extends, Has, IsClosure, known_if, mark_after, state_along, state_at};
 
-use crate::states::{Arrival, Mark, Reached, State, States};
+use crate::states::{Arrival, Mark, Reached, States, WalkState};
 use sg_base::{Label, NodeId, OutOfMemory, Role, Var};
 use sg_graph::Graph;
 use std::alloc::Global;
@@ -23,7 +23,7 @@ pub(crate) fn closure(
 {
     let mut states = States::new(alloc)?;
     states.enter(Reached {
-        state: State {
+        state: WalkState {
             node: NodeId(0),
             mark: Mark::Unwritten,
         },
@@ -67,7 +67,7 @@ fn follow(
 }
 
 /// The state after one edge more.
-fn along(graph: &Graph, role: Role, var: Var, label: Label, state: &State) -> State
+fn along(graph: &Graph, role: Role, var: Var, label: Label, state: &WalkState) -> WalkState
     requires { label < length graph.now.edges }
     ensures state { result ≡ state_along graph.now role var label state.now }
     ensures there { result.node < length graph.now.nodes }
@@ -75,7 +75,7 @@ fn along(graph: &Graph, role: Role, var: Var, label: Label, state: &State) -> St
 {
     // At most 256.
     let _nodes = graph.nodes();
-    State {
+    WalkState {
         node: graph.edge(label).target,
         mark: mark_along(graph, role, var, label, state.mark),
     }

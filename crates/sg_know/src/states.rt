@@ -19,7 +19,7 @@ pub(crate) enum Mark {
 
 /// Where a walk ends, and its mark.
 #[derive(Debug, Clone, Copy)]
-pub(crate) struct State {
+pub(crate) struct WalkState {
     pub node: NodeId,
     pub mark: Mark,
 }
@@ -34,7 +34,7 @@ pub(crate) struct Arrival {
 /// A state, and how it was come to: that of the empty walk by no step.
 #[derive(Debug, Clone, Copy)]
 pub(crate) struct Reached {
-    pub state: State,
+    pub state: WalkState,
     pub by: Option<Arrival>,
 }
 
@@ -79,7 +79,7 @@ impl States {
     }
 
     /// The state at a place.
-    pub(crate) fn state(&self, place: usize) -> State
+    pub(crate) fn state(&self, place: usize) -> WalkState
         requires { place < length self.now }
         ensures state { result ≡ state_at self.now place }
         ensures there { result.node < 256 }
@@ -114,7 +114,7 @@ impl States {
     }
 
     /// The place of a state.
-    pub(crate) fn find(&self, state: &State) -> Option<usize>
+    pub(crate) fn find(&self, state: &WalkState) -> Option<usize>
         requires { state.now.node < 256 }
         ensures { MatchOption result (Has self.now state.now → ⊥) (λ i. (i < length self.now) × (state_at self.now i ≡ state.now)) }
     {
@@ -138,7 +138,7 @@ impl States {
 }
 
 /// A number for each state.
-fn key_of_state(state: &State) -> usize
+fn key_of_state(state: &WalkState) -> usize
     requires { state.now.node < 256 }
     ensures key { result ≡ key_of state.now }
     ensures most { result < 768 }

@@ -3,7 +3,7 @@ use Rattle.std.proofs.Common.{◌≡◌, ◌⊎◌, inl, inr, ⊎_elim, ℕ, ◌
 use Rattle.std.proofs.lemmas.List.{take_all}
 use Rattle.sg_ledger.specs.Disk.{overlaid, Torn, Follows}
 use Rattle.sg_ledger.specs.Memory.{Platter, after_call, Leaves, IsImage}
-use Rattle.sg_ledger.specs.declared.medium.Call.TheVariants.{Kept, Wrote, Tore, Synced}
+use Rattle.sg_ledger.specs.declared.medium.DiskCall.TheVariants.{Kept, Wrote, Tore, Synced}
 use Rattle.sg_ledger.proofs.Tears.{torn_not, torn_whole}
 
 -- the last of the torn writes

@@ -10,8 +10,8 @@ use Rattle.sg_ledger.specs.Memory.{Platter, at_rest, taken, after_call, after_ca
 use Rattle.sg_ledger.proofs.Tears.{torn_not, torn_whole}
 use Rattle.sg_ledger.specs.Invariant.{all_taken, state_of, IsTied}
 use Rattle.sg_ledger.specs.declared.medium.Medium.TheInside.{Inside}
-use Rattle.sg_ledger.specs.declared.medium.Call.{Call}
-use Rattle.sg_ledger.specs.declared.medium.Call.TheVariants.{Kept, Wrote, Tore, Synced}
+use Rattle.sg_ledger.specs.declared.medium.DiskCall.{DiskCall}
+use Rattle.sg_ledger.specs.declared.medium.DiskCall.TheVariants.{Kept, Wrote, Tore, Synced}
 
 take_within : (n : ℕ) (xs ys : List ℕ) → n ≤ length xs → take n (xs ++ ys) ≡ take n xs
 take_within zero xs ys le = refl
@@ -24,7 +24,7 @@ drop_within (suc n) [] ys le = absurd (omega (arith, le))
 drop_within (suc n) (x ∷ xs) ys le = drop_within n xs ys (omega (arith, le))
 
 -- a call reads its own bytes alone
-one_same : (p : Platter) (call : Call) (written more : List ℕ) → taken call ≤ length written → after_call p call (written ++ more) ≡ after_call p call written
+one_same : (p : Platter) (call : DiskCall) (written more : List ℕ) → taken call ≤ length written → after_call p call (written ++ more) ≡ after_call p call written
 one_same p Kept written more le = refl
 one_same p (Wrote at count) written more le = λ i. record {
   seen = overlaid p.seen at (take_within count written more le i);
@@ -35,7 +35,7 @@ one_same p (Tore at count) written more le = refl
 one_same p Synced written more le = refl
 
 -- and so do calls
-pub all_same : (p : Platter) (calls : List Call) (written more : List ℕ) → all_taken calls ≤ length written → after_calls p calls (written ++ more) ≡ after_calls p calls written
+pub all_same : (p : Platter) (calls : List DiskCall) (written more : List ℕ) → all_taken calls ≤ length written → after_calls p calls (written ++ more) ≡ after_calls p calls written
 all_same p [] written more le = refl
 all_same p (call ∷ calls) written more le =
     let first : taken call ≤ length written = omega (arith, le) in
@@ -44,7 +44,7 @@ all_same p (call ∷ calls) written more le =
     ∙ all_same (after_call p call written) calls (drop (taken call) written) more rest
 
 -- one call more
-pub one_more_call : (p : Platter) (calls : List Call) (call : Call) (written bytes : List ℕ) → all_taken calls ≡ length written
+pub one_more_call : (p : Platter) (calls : List DiskCall) (call : DiskCall) (written bytes : List ℕ) → all_taken calls ≡ length written
     → after_calls p (calls ++ call ∷ []) (written ++ bytes) ≡ after_call (after_calls p calls written) call bytes
 one_more_call p [] call [] bytes total = refl
 one_more_call p [] call (b ∷ written) bytes total = absurd (omega (arith, total))
@@ -54,11 +54,11 @@ one_more_call p (first ∷ calls) call written bytes total =
     (λ i. after_calls (one_same p first written bytes le i) (calls ++ call ∷ []) (drop_within (taken first) written bytes le i))
     ∙ one_more_call (after_call p first written) calls call (drop (taken first) written) bytes rest
 
-pub taken_more : (calls : List Call) (call : Call) → all_taken (calls ++ call ∷ []) ≡ all_taken calls + taken call
+pub taken_more : (calls : List DiskCall) (call : DiskCall) → all_taken (calls ++ call ∷ []) ≡ all_taken calls + taken call
 taken_more [] call = omega arith
 taken_more (first ∷ calls) call = let rest = taken_more calls call in omega (arith, rest)
 
-taken_front : (k : ℕ) (calls : List Call) → all_taken (take k calls) ≤ all_taken calls
+taken_front : (k : ℕ) (calls : List DiskCall) → all_taken (take k calls) ≤ all_taken calls
 taken_front zero calls = omega arith
 taken_front (suc k) [] = omega arith
 taken_front (suc k) (call ∷ calls) = let rest = taken_front k calls in omega (arith, rest)
@@ -68,7 +68,7 @@ take_push zero xs x le = refl
 take_push (suc k) [] x le = absurd (omega (arith, le))
 take_push {A} (suc k) (y ∷ xs) x le = ap (λ (l : List A). y ∷ l) (take_push k xs x (omega (arith, le)))
 
-module _ (m : Medium) (call : Call) (bytes : List ℕ) (total : all_taken m.calls ≡ length m.written) where
+module _ (m : Medium) (call : DiskCall) (bytes : List ℕ) (total : all_taken m.calls ≡ length m.written) where
   longer : length (with_call m call bytes).calls ≡ length m.calls + 1
   longer = length-append m.calls (call ∷ [])
 
@@ -94,20 +94,20 @@ module _ (m : Medium) (call : Call) (bytes : List ℕ) (total : all_taken m.call
   }
 
 -- what stands beside the record after one call more
-pub state_after : (old : Inside) (calls : List Call) (written : List ℕ) (call : Call) (bytes : List ℕ) → IsTied old
+pub state_after : (old : Inside) (calls : List DiskCall) (written : List ℕ) (call : DiskCall) (bytes : List ℕ) → IsTied old
     → calls ≡ old.calls.items ++ call ∷ [] → written ≡ old.written.items ++ bytes
     → after_calls (at_rest old.start.items) calls written ≡ after_call (state_of old) call bytes
 state_after old calls written call bytes tied are were =
     (λ i. after_calls (at_rest old.start.items) (are i) (were i)) ∙ one_more_call (at_rest old.start.items) old.calls.items call old.written.items bytes tied.total
 
-pub total_after : (old : Inside) (calls : List Call) (written : List ℕ) (call : Call) (bytes : List ℕ) → IsTied old
+pub total_after : (old : Inside) (calls : List DiskCall) (written : List ℕ) (call : DiskCall) (bytes : List ℕ) → IsTied old
     → calls ≡ old.calls.items ++ call ∷ [] → written ≡ old.written.items ++ bytes → taken call ≡ length bytes → all_taken calls ≡ length written
 total_after old calls written call bytes tied are were took =
     let more : all_taken calls ≡ all_taken old.calls.items + taken call = ap all_taken are ∙ taken_more old.calls.items call in
     let longer : length written ≡ length old.written.items + length bytes = ap length were ∙ length-append old.written.items bytes in
     omega (arith, more, longer, took, tied.total)
 
-pub time_after : (m : Medium) (calls : List Call) (written : List ℕ) (call : Call) (bytes : List ℕ) → all_taken m.calls ≡ length m.written
+pub time_after : (m : Medium) (calls : List DiskCall) (written : List ℕ) (call : DiskCall) (bytes : List ℕ) → all_taken m.calls ≡ length m.written
     → calls ≡ m.calls ++ call ∷ [] → written ≡ m.written ++ bytes
     → Elapses (length m.calls) (length calls) (LeftSince m) (LeftSince (record { start = m.start; calls = calls; written = written; room = m.room; most = m.most }))
     (IsImage (platter (record { start = m.start; calls = calls; written = written; room = m.room; most = m.most })))

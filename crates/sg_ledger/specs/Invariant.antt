@@ -1,11 +1,11 @@
 -- What stands beside the record of a disk in memory.
 use Rattle.std.specs.Prelude.{◌≡◌, ℕ, ◌+◌, ◌<◌, ◌≤◌, ◌^◌, List, [], ◌∷◌, length, All, vec_capacity}
 use Rattle.sg_ledger.specs.declared.medium.Medium.TheInside.{Inside}
-use Rattle.sg_ledger.specs.declared.medium.Call.{Call}
+use Rattle.sg_ledger.specs.declared.medium.DiskCall.{DiskCall}
 use Rattle.sg_ledger.specs.Memory.{Platter, at_rest, taken, after_calls}
 
 -- how many bytes calls wrote
-abbrev pub all_taken : List Call → ℕ
+abbrev pub all_taken : List DiskCall → ℕ
 all_taken [] = 0
 all_taken (call ∷ calls) = taken call + all_taken calls
 

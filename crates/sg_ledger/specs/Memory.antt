@@ -1,8 +1,8 @@
 -- A disk in memory, as its record of calls has it.
 use Rattle.std.specs.Prelude.{◌≡◌, ◌⊎◌, ℕ, ◌+◌, ◌-◌, ◌≤◌, nat_le, if◌then◌else◌, List, [], ◌∷◌, ◌++◌, length, take, drop, replicate}
 use Rattle.sg_ledger.specs.Disk.{overlaid, Torn}
-use Rattle.sg_ledger.specs.declared.medium.Call.{Call}
-use Rattle.sg_ledger.specs.declared.medium.Call.TheVariants.{Kept, Wrote, Tore, Synced}
+use Rattle.sg_ledger.specs.declared.medium.DiskCall.{DiskCall}
+use Rattle.sg_ledger.specs.declared.medium.DiskCall.TheVariants.{Kept, Wrote, Tore, Synced}
 
 -- the bytes as read, those at the last sync, and the ranges of the writes since, in their order
 pub record Platter : Type 0 where
@@ -15,14 +15,14 @@ abbrev pub at_rest : List ℕ → Platter
 at_rest file = record { seen = file; synced = file; tears = [] }
 
 -- how many of the bytes that were written are a call's
-abbrev pub taken : Call → ℕ
+abbrev pub taken : DiskCall → ℕ
 taken Kept = 0
 taken (Wrote at count) = count
 taken (Tore at count) = 0
 taken Synced = 0
 
 -- after a call whose bytes come first
-abbrev pub after_call : Platter → Call → List ℕ → Platter
+abbrev pub after_call : Platter → DiskCall → List ℕ → Platter
 after_call p Kept written = p
 after_call p (Wrote at count) written = record {
   seen = overlaid p.seen at (take count written);
@@ -33,7 +33,7 @@ after_call p (Tore at count) written = record { seen = p.seen; synced = p.synced
 after_call p Synced written = at_rest p.seen
 
 -- after calls that wrote these bytes
-abbrev pub after_calls : Platter → List Call → List ℕ → Platter
+abbrev pub after_calls : Platter → List DiskCall → List ℕ → Platter
 after_calls p [] written = p
 after_calls p (call ∷ calls) written = after_calls (after_call p call written) calls (drop (taken call) written)
 
@@ -63,7 +63,7 @@ picked image (tear ∷ tears) picks = picked (torn_by image tear picks) tears (d
 -- written, and so many calls.
 pub record Medium : Type 0 where
   pub start : List ℕ
-  pub calls : List Call
+  pub calls : List DiskCall
   pub written : List ℕ
   pub room : ℕ
   pub most : ℕ
@@ -79,7 +79,7 @@ abbrev pub LeftSince : Medium → ℕ → List ℕ → Type 0
 LeftSince m t image = (k : ℕ) × (t ≤ k) × (k ≤ length m.calls) × IsImage (platter_at m k) image
 
 -- with one call more
-abbrev pub with_call : Medium → Call → List ℕ → Medium
+abbrev pub with_call : Medium → DiskCall → List ℕ → Medium
 with_call m call bytes = record {
   start = m.start;
   calls = m.calls ++ call ∷ [];

@@ -21,6 +21,6 @@ mod slots;
 pub use disk::{Disk, DiskFault};
 pub use file::FileDisk;
 pub use ledger::{AddJoinFault, CreateFault, Ledger, OpenFault};
-pub use medium::Call;
+pub use medium::DiskCall;
 pub use memory::MemDisk;
 pub use runs::joined_once_over_runs;

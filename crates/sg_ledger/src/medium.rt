@@ -2,7 +2,7 @@
 ghost use Rattle.std.specs.Prelude.{◌≡◌, ◌+◌, ◌++◌, ◌^◌, ◌<◌, ◌≤◌, [], ◌∷◌, ◌&&◌, nat_lt, nat_le, length, vec_capacity, All, IfOk};
 ghost use Rattle.sg_ledger.specs.Disk.{overlaid, Elapses};
 ghost use Rattle.sg_ledger.specs.Memory.{padded, torn_by, picked, platter, after_call, with_call, IsImage, LeftSince};
-ghost use Rattle.sg_ledger.specs.declared.medium.Call.TheVariants.{Kept, Wrote, Tore, Synced};
+ghost use Rattle.sg_ledger.specs.declared.medium.DiskCall.TheVariants.{Kept, Wrote, Tore, Synced};
 
 use sg_base::OutOfMemory;
 use std::alloc::Global;
@@ -10,7 +10,7 @@ use std::marker::Model;
 
 /// A call of a disk in memory, as its record has it.
 #[derive(Debug, Clone, Copy, PartialEq, Eq)]
-pub enum Call {
+pub enum DiskCall {
     /// One that changed nothing.
     Kept,
     /// A write of so many bytes from an offset on.
@@ -35,7 +35,7 @@ pub enum Call {
 #[derive(Debug, Drop)]
 pub(crate) struct Medium {
     start: Vec<u8>,
-    calls: Vec<Call>,
+    calls: Vec<DiskCall>,
     written: Vec<u8>,
     bytes: Vec<u8>,
     synced: Vec<u8>,
@@ -91,7 +91,7 @@ impl Medium {
             && count <= self.room - self.written.len()
     }
 
-    pub(crate) fn calls(&self) -> &[Call]
+    pub(crate) fn calls(&self) -> &[DiskCall]
         ensures { result.now ≡ self.now.calls }
     {
         self.calls.as_slice()
@@ -109,7 +109,7 @@ impl Medium {
         ensures state { platter self.new ≡ after_call (platter self.old) Kept [] }
         ensures time { Elapses (length self.old.calls) (length self.new.calls) (LeftSince self.old) (LeftSince self.new) (IsImage (platter self.new)) }
     {
-        push_within(&mut self.calls, Call::Kept);
+        push_within(&mut self.calls, DiskCall::Kept);
     }
 
     // Writes over what is there, and past the end.
@@ -127,7 +127,7 @@ impl Medium {
         write_over(&mut self.bytes, at as usize, bytes);
         append_within(&mut self.written, bytes);
         push_within(&mut self.tears, (at, count));
-        push_within(&mut self.calls, Call::Wrote { at, count });
+        push_within(&mut self.calls, DiskCall::Wrote { at, count });
     }
 
     // Notes a write that failed.
@@ -139,7 +139,7 @@ impl Medium {
         ensures time { Elapses (length self.old.calls) (length self.new.calls) (LeftSince self.old) (LeftSince self.new) (IsImage (platter self.new)) }
     {
         push_within(&mut self.tears, (at, count));
-        push_within(&mut self.calls, Call::Tore { at, count });
+        push_within(&mut self.calls, DiskCall::Tore { at, count });
     }
 
     // Brings the bytes to the disk.
@@ -151,7 +151,7 @@ impl Medium {
     {
         put_within(&mut self.synced, &self.bytes);
         self.tears.clear();
-        push_within(&mut self.calls, Call::Synced);
+        push_within(&mut self.calls, DiskCall::Synced);
     }
 
     // The disk after a crash that left an image: the bytes at the last sync, with the next of the picks in each range.

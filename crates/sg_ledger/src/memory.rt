@@ -7,8 +7,8 @@ ghost use Rattle.sg_ledger.specs.Plan.{fate_of, after_fate};
 ghost use Rattle.sg_ledger.specs.declared.plan.Fate.TheVariants.{Goes};
 
 use crate::medium::Medium;
-use crate::plan::{Fate, Plan};
-use crate::{Call, Disk, DiskFault};
+use crate::plan::{DiskPlan, Fate};
+use crate::{Disk, DiskCall, DiskFault};
 use sg_base::{Failed, OutOfMemory};
 use std::alloc::Global;
 use std::marker::Model;
@@ -22,7 +22,7 @@ use std::marker::Model;
 #[derive(Debug, Drop)]
 pub struct MemDisk {
     medium: Medium,
-    plan: Plan,
+    plan: DiskPlan,
 }
 
 impl Model for MemDisk {
@@ -50,7 +50,7 @@ impl MemDisk {
     {
         Ok(MemDisk {
             medium: Medium::new(alloc, room, calls)?,
-            plan: Plan::new(fails, stop),
+            plan: DiskPlan::new(fails, stop),
         })
     }
 
@@ -62,7 +62,7 @@ impl MemDisk {
     }
 
     /// The calls so far that reached the disk.
-    pub fn calls(&self) -> &[Call]
+    pub fn calls(&self) -> &[DiskCall]
         ensures { result.now ≡ self.now.medium.calls }
     {
         self.medium.calls()

@@ -16,26 +16,26 @@ pub(crate) enum Fate {
 }
 
 #[derive(Debug, Drop)]
-pub(crate) struct Plan {
+pub(crate) struct DiskPlan {
     fails: Vec<u32>,
     stop: Option<u32>,
     calls: u64,
     faults: u64,
 }
 
-impl Model for Plan {
-    ghost use Rattle.sg_ledger.specs.Plan.{Plan as Planned};
+impl Model for DiskPlan {
+    ghost use Rattle.sg_ledger.specs.Plan.{DiskPlan};
 
-    ghost Value = { Planned };
+    ghost Value = { DiskPlan };
 
     ghost view = { λ p. record { fails = p.fails.items; stop = p.stop; calls = p.calls; faults = p.faults } };
 }
 
-impl Plan {
-    pub(crate) fn new(fails: Vec<u32>, stop: Option<u32>) -> Plan
+impl DiskPlan {
+    pub(crate) fn new(fails: Vec<u32>, stop: Option<u32>) -> DiskPlan
         ensures { result ≡ record { fails = fails.items; stop = stop; calls = 0; faults = 0 } }
     {
-        Plan {
+        DiskPlan {
             fails,
             stop,
             calls: 0,
@@ -71,12 +71,12 @@ impl Plan {
     }
 
     // No calls so far, and none that are to fail. It takes no memory.
-    pub(crate) fn cleared(self) -> Plan
+    pub(crate) fn cleared(self) -> DiskPlan
         ensures { result ≡ record { fails = []; stop = None; calls = 0; faults = 0 } }
     {
         let mut fails = self.fails;
         fails.clear();
-        Plan::new(fails, None)
+        DiskPlan::new(fails, None)
     }
 }
 

@@ -33,7 +33,7 @@ use Rattle.sg_protocol.proofs.NodeStates.{node_states_stand}
 use Rattle.sg_protocol.proofs.RealHash.{real_hash}
 use Rattle.sg_walk.specs.declared.event.Event.{Event}
 use Rattle.sg_walk.specs.Model.{event_of}
-use Rattle.sg_role.specs.Model.{State}
+use Rattle.sg_role.specs.Model.{RoleState}
 use Rattle.sg_role.specs.Sending.{WaitsOrEnds, with_notes, step_of}
 use Rattle.sg_role.specs.declared.sent.Sent.{Sent}
 use Rattle.sg_role.specs.declared.sent.Sent.TheVariants as Done
@@ -135,17 +135,17 @@ module _ (p : Program) (h : Held) (s : Session) (keys : Keyring) (label : ℕ) (
       ∙ ap (λ o. not (option_map_or (may_return p) o true)) origin_now
 
   unless : (x : Sent) → WaitsOrEnds (may_return p label) (record { program = p; held = now }) x → unless_spent p now ≡ held_at (left_by x)
-  unless (Done.Waiting a e f) w = ap (λ b. if b then [] else now ∷ []) (spent ∙ ap not w.0) ∙ ap (λ (z : State). z.held ∷ []) (sym w.1)
+  unless (Done.Waiting a e f) w = ap (λ b. if b then [] else now ∷ []) (spent ∙ ap not w.0) ∙ ap (λ (z : RoleState). z.held ∷ []) (sym w.1)
   unless (Done.Ended d e f) w = ap (λ b. if b then [] else now ∷ []) (spent ∙ ap not w)
 
   left_live : (ps : List Program) (id : List ℕ) (r : ℕ) → IsLiveAt ps id r (AtTurn (record { program = p; held = h })) → (x : Sent) → WaitsOrEnds (may_return p label) (record { program = p; held = now }) x → IfLive ps id r (left_by x)
-  left_live ps id r l (Done.Waiting a e f) w = subst (λ (z : State). IsLiveAt ps id r (Waiting z)) (sym w.1) (record { sid = l.sid; role = l.role; program = l.program; backed = given.2 })
+  left_live ps id r l (Done.Waiting a e f) w = subst (λ (z : RoleState). IsLiveAt ps id r (Waiting z)) (sym w.1) (record { sid = l.sid; role = l.role; program = l.program; backed = given.2 })
   left_live ps id r l (Done.Ended d e f) w = tt
 
 -- ---- by the state of a node
 
 -- what a turn's sending says of each session for which it stands
-pub record SentBy (keys : Keyring) (t : State) (label : ℕ) (values : Map Value) (confs : List (List ℕ)) (x : Sent) : Type 0 where
+pub record SentBy (keys : Keyring) (t : RoleState) (label : ℕ) (values : Map Value) (confs : List (List ℕ)) (x : Sent) : Type 0 where
   pub accepted : (s : Session) → StandsAtTurn t.program.graph t.held s → first_some (rows_of_send t.program s label values) ≡ None
   pub state : (s : Session) → StandsAtTurn t.program.graph t.held s → WaitsOrEnds (may_return t.program label)
       (record { program = t.program; held = held_after t.program.graph t.held (Gave (own_item real keys t.program s label (openings_for values confs)) (openings_for values confs)) }) x
@@ -175,7 +175,7 @@ module _ (n : Inside) (h : HoldsNode n) (m : Node) (st : StandsForNode (node_sta
   pub not_there : first_place (is_of false sid) n.sessions.slots ≡ None → answer real m (Act sid label values confs) ≡ NotActed UnknownSession
   not_there e = no_such m sid label values confs (none_here n h (has_sid sid) (is_of false sid) (tests n h sid) e m.programs (session_with m.live sid) (stands_if n h sid m st))
 
-  module _ (i : ℕ) (e : first_place (is_of false sid) n.sessions.slots ≡ Some i) (t : State) where
+  module _ (i : ℕ) (e : first_place (is_of false sid) n.sessions.slots ≡ Some i) (t : RoleState) where
     -- it waits
     pub not_its_turn : live_at n.sessions.slots i ≡ Some (Waiting t) → answer real m (Act sid label values confs) ≡ NotActed NotYourTurn
     not_its_turn there =
@@ -256,7 +256,7 @@ module _ (n : Inside) (h : HoldsNode n) (m : Node) (st : StandsForNode (node_sta
             ∙ ap (λ k. notes_of_sent k t.program its_session.session (frame_sent real k t.program its_session.session label written) written) (sym st.keys)
 
 -- the table after it
-module _ (n : Inside) (h : HoldsNode n) (sid : List ℕ) (label : ℕ) (values : Map Value) (confs : List (List ℕ)) (i : ℕ) (e : first_place (is_of false sid) n.sessions.slots ≡ Some i) (t : State) (there : live_at n.sessions.slots i ≡ Some (AtTurn t))
+module _ (n : Inside) (h : HoldsNode n) (sid : List ℕ) (label : ℕ) (values : Map Value) (confs : List (List ℕ)) (i : ℕ) (e : first_place (is_of false sid) n.sessions.slots ≡ Some i) (t : RoleState) (there : live_at n.sessions.slots i ≡ Some (AtTurn t))
     (good : AreValues values confs) (x : Sent) (d : SentBy n.keys t label values confs x) where
   pub act_slots : AllByRecursion (IsSlot n.programs.now n.joins.pairs) (set_value_at n.sessions.slots i (left_by x))
   act_slots =
@@ -275,7 +275,7 @@ module _ (n : Inside) (h : HoldsNode n) (past : Past) (st : StandsForPast (node_
       (ap (λ z. record { keys = n.keys; programs = n.programs.now; joins = n.joins.pairs; live = held_in z }) e ∙ ap (state_after (node_state n) (Act sid label values confs)) (sym a))
 
   -- by a step
-  pub goes_by : (i : ℕ) (e : first_place (is_of false sid) n.sessions.slots ≡ Some i) (t : State) (there : live_at n.sessions.slots i ≡ Some (AtTurn t)) (x : Sent) (d : SentBy n.keys t label values confs x) → ss ≡ set_value_at n.sessions.slots i (left_by x) →
+  pub goes_by : (i : ℕ) (e : first_place (is_of false sid) n.sessions.slots ≡ Some i) (t : RoleState) (there : live_at n.sessions.slots i ≡ Some (AtTurn t)) (x : Sent) (d : SentBy n.keys t label values confs x) → ss ≡ set_value_at n.sessions.slots i (left_by x) →
       GoesOn (node_state n) (record { keys = n.keys; programs = n.programs.now; joins = n.joins.pairs; live = held_in ss }) (Act sid label values confs) past
   goes_by i e t there x d q = goes_on (node_state n) (record { keys = n.keys; programs = n.programs.now; joins = n.joins.pairs; live = held_in ss }) (Act sid label values confs) past h.programs good st
       (ap (λ z. record { keys = n.keys; programs = n.programs.now; joins = n.joins.pairs; live = held_in z }) q ∙ act_state n h (node_of past) st sid label values confs i e t there good x d)

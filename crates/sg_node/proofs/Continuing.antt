@@ -25,7 +25,7 @@ use Rattle.sg_protocol.proofs.RealHash.{real_hash}
 use Rattle.sg_role.specs.Accepting.{Acceptance, state_after}
 use Rattle.sg_role.specs.Faults.{Refuses}
 use Rattle.sg_role.specs.Sending.{with_notes}
-use Rattle.sg_role.specs.Model.{State}
+use Rattle.sg_role.specs.Model.{RoleState}
 use Rattle.sg_role.specs.declared.fault.Refusal.{Refusal as RoleRefusal}
 use Rattle.sg_node.specs.Answers.{IsAnswer}
 use Rattle.sg_node.specs.declared.node.Node.TheInside.{Inside}
@@ -56,14 +56,14 @@ module _ (f : Frame) (ps : List Program) (js : List (List ℕ × ℕ)) where
   tests_for (s ∷ ss) h = (test_for s h.0, tests_for ss h.1)
 
 -- an acceptance of a frame by a role that kept this
-pub record AcceptedBy (keys : Keyring) (t : State) (f : Frame) (a : Acceptance) : Type 0 where
+pub record AcceptedBy (keys : Keyring) (t : RoleState) (f : Frame) (a : Acceptance) : Type 0 where
   pub rows : (s : Session) → StandsBefore t.program.graph t.held s → first_some (rows_of_session real keys t.program s f) ≡ None
   pub program : a.program ≡ t.program
   pub before : a.before ≡ t.held
   pub after : a.after ≡ held_after t.program.graph t.held (Took f)
   pub event : a.event ≡ receipt f
 
-pub same_state : (keys : Keyring) (t : State) (f : Frame) (a : Acceptance) → AcceptedBy keys t f a → state_after a ≡ record { program = t.program; held = held_after t.program.graph t.held (Took f) }
+pub same_state : (keys : Keyring) (t : RoleState) (f : Frame) (a : Acceptance) → AcceptedBy keys t f a → state_after a ≡ record { program = t.program; held = held_after t.program.graph t.held (Took f) }
 same_state keys t f a d = λ i. record { program = d.program i; held = d.after i }
 
 module _ (n : Inside) (h : HoldsNode n) (f : Frame) where
@@ -84,7 +84,7 @@ module _ (n : Inside) (h : HoldsNode n) (f : Frame) where
   pub first_for : (i : ℕ) → first_place (is_for f) n.sessions.slots ≡ Some i → First (is_held_for f) (is_for f) n.sessions.slots i
   first_for i e = held_first (is_held_for f) (is_for f) n.sessions.slots i tests e
 
-  module _ (i : ℕ) (t : State) (e : first_place (is_for f) n.sessions.slots ≡ Some i) where
+  module _ (i : ℕ) (t : RoleState) (e : first_place (is_for f) n.sessions.slots ≡ Some i) where
     -- its session is at its turn
     pub at_its_turn : live_at n.sessions.slots i ≡ Some (AtTurn t) → f.join ≡ None → (m : Node) → StandsForNode (node_state n) m → (verdict_on real m (Ok f) ≡ NotDelivered NotWaiting) × (notes_of_read real m (Ok f) ≡ no_notes)
     at_its_turn there j m st =

@@ -16,7 +16,7 @@ use Rattle.sg_protocol.specs.Backed.{IsBackedAtTurn, IsBackedWaiting}
 use Rattle.sg_protocol.specs.IsSchedule.{IsProgram}
 use Rattle.sg_protocol.specs.NodeStates.{StandsLive, StandsIf, StandsForNode, replace_held}
 use Rattle.sg_role.specs.Accepting.{Acceptance, goes_on, state_after}
-use Rattle.sg_role.specs.Model.{State}
+use Rattle.sg_role.specs.Model.{RoleState}
 use Rattle.sg_node.specs.declared.node.Node.TheInside.{Inside}
 use Rattle.sg_node.specs.declared.sessions.Live.{Live}
 use Rattle.sg_node.specs.declared.sessions.Live.TheVariants.{AtTurn, Waiting}
@@ -155,5 +155,5 @@ length_set (s ∷ ss) (suc i) v = let e = length_set ss i v in omega (arith, e)
 
 -- ---- what is left
 
-pub left_turn : (a : Acceptance) (t : State) → (goes_on a.program.graph (a.after.kept).place ≡ true) × (t ≡ state_after a) → Some (AtTurn t) ≡ left_after a
+pub left_turn : (a : Acceptance) (t : RoleState) → (goes_on a.program.graph (a.after.kept).place ≡ true) × (t ≡ state_after a) → Some (AtTurn t) ≡ left_after a
 left_turn a t h = ap (λ z. Some (AtTurn z)) h.1 ∙ sym (ap (λ b. if b then Some (AtTurn (state_after a)) else None) h.0)

@@ -19,7 +19,7 @@ use Rattle.sg_protocol.specs.Texts.{real, session_id, session_text_of}
 use Rattle.sg_protocol.specs.Verdict.{row, rows, rows_of_session, rows_of_join, rows_of_next, join_rows, next_rows, decided}
 use Rattle.sg_role.specs.Accepting.{Acceptance, goes_on, state_after}
 use Rattle.sg_role.specs.Faults.{Refuses}
-use Rattle.sg_role.specs.Model.{State}
+use Rattle.sg_role.specs.Model.{RoleState}
 use Rattle.sg_role.specs.declared.fault.Refusal.{Refusal as RoleRefusal}
 use Rattle.sg_role.specs.declared.fault.Refusal.TheVariants as role
 use Rattle.sg_walk.specs.declared.event.Event.{Event as WalkEvent}
@@ -219,7 +219,7 @@ module _ (p : Program) (h : Held) (b : IsBackedAtTurn real p h) (a : Acceptance)
   by_turn false = refl
 
   left_is : left_after a ≡ (if goes_on p.graph (h.kept).place then Some (AtTurn (record { program = p; held = h })) else None)
-  left_is = ap (λ (s : State). if goes_on s.program.graph ((s.held).kept).place then Some (AtTurn s) else None) same
+  left_is = ap (λ (s : RoleState). if goes_on s.program.graph ((s.held).kept).place then Some (AtTurn s) else None) same
 
   pub unless_left : unless_spent p h ≡ held_at (left_after a)
   unless_left = ap (λ b. if b then [] else h ∷ []) spent ∙ by_turn (goes_on p.graph (h.kept).place) ∙ ap held_at (sym left_is)

@@ -23,7 +23,7 @@ use Rattle.sg_protocol.proofs.Backed.{states_are_backed}
 use Rattle.sg_protocol.proofs.RealHash.{real_hash}
 use Rattle.sg_role.specs.Accepting.{goes_on}
 use Rattle.sg_role.specs.Sending.{with_notes}
-use Rattle.sg_role.specs.Model.{State}
+use Rattle.sg_role.specs.Model.{RoleState}
 use Rattle.sg_node.specs.Answers.{IsAnswer}
 use Rattle.sg_node.specs.declared.join.Obstacle.{Obstacle}
 use Rattle.sg_node.specs.declared.join.Obstacle.TheVariants as Why
@@ -93,12 +93,12 @@ module _ (n : Inside) (m : Node) (st : StandsForNode (node_state n) m) (c : Cast
 -- ---- what begins
 
 -- the state of a session that begins
-abbrev pub first_state : Program → Cast → State
+abbrev pub first_state : Program → Cast → RoleState
 first_state p c = record { program = p; held = record { sid = session_id real c; cast = c; role = p.role; kept = nothing_kept p.graph } }
 
 pub begun_held : (ps : List Program) (c : Cast) (p : Program) → IsProgram real p → program_for ps c.graph p.role ≡ Some p → role_at (shape p.graph) 0 ≡ p.role → begun ps (session_id real c) c p.role ≡ (first_state p c).held ∷ []
 begun_held ps c p ip e r =
-    let s : State = first_state p c in
+    let s : RoleState = first_state p c in
     let spent : is_spent p s.held ≡ false = ap (λ b. if b then not (goes_on p.graph 0) else not (option_map_or (may_return p) ((s.held).kept).origin true)) (eq-eqb (role_at (shape p.graph) 0) p.role r) ∙ ap not (start_goes_on p.graph ip.accepted) in
     ap (λ (o : Option Program). option_map_or (λ p. unless_spent p (record { sid = session_id real c; cast = c; role = s.held.role; kept = nothing_kept p.graph })) o []) e
     ∙ ap (λ b. if b then [] else s.held ∷ []) spent

@@ -4,7 +4,7 @@ use Rattle.std.specs.List.{AllByRecursion}
 use Rattle.sg_protocol.specs.Standing.{Held}
 use Rattle.sg_protocol.specs.Frame.{Frame}
 use Rattle.sg_role.specs.Accepting.{Acceptance, goes_on, state_after}
-use Rattle.sg_role.specs.Model.{State}
+use Rattle.sg_role.specs.Model.{RoleState}
 use Rattle.sg_role.specs.declared.sent.Sent.{Sent}
 use Rattle.sg_role.specs.declared.sent.Sent.TheVariants as Sends
 use Rattle.sg_node.specs.declared.sessions.Live.{Live}
@@ -20,7 +20,7 @@ pub record Table : Type 0 where
   pub spare : ℕ
 
 -- the state of a live session
-abbrev pub state_in : Live → State
+abbrev pub state_in : Live → RoleState
 state_in (AtTurn s) = s
 state_in (Waiting s) = s
 

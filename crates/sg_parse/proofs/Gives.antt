@@ -7,7 +7,7 @@ use Rattle.sg_model.specs.Lists.{has_text, all_differ}
 use Rattle.sg_model.specs.Names.{Name, is_name, reserved}
 use Rattle.sg_protocol.specs.Graph.{VariableKind, Int, Text, kind_text, AreNames}
 use Rattle.sg_parse.specs.Tokens.{is_word}
-use Rattle.sg_parse.specs.Reading.{Reader, after, give, is_next, branch, token, skip, name, new_name, known_name, read_kind, fail}
+use Rattle.sg_parse.specs.Reading.{Parser, after, give, is_next, branch, token, skip, name, new_name, known_name, read_kind, fail}
 use Rattle.sg_parse.specs.declared.token.Placed.{Placed}
 use Rattle.sg_parse.specs.declared.token.Token.{Token}
 use Rattle.sg_parse.specs.declared.token.Token.TheVariants.{Word}
@@ -18,13 +18,13 @@ use Rattle.sg_parse.proofs.Middle.{name-at}
 use Rattle.sg_parse.proofs.Readings.{onward, known_read}
 
 -- from tokens ts before us the reader reads x
-pub record Gives {A : Type 0} (r : Reader A) (ts us : List Token) (x : A) : Type 0 where
+pub record Gives {A : Type 0} (r : Parser A) (ts us : List Token) (x : A) : Type 0 where
   pub go : (ps : List Placed) → bare ps ≡ ts ++ us → (rest : List Placed) × (bare rest ≡ us) × (r ps ≡ Ok (record { value = x; rest = rest }))
 
 pub gives-give : {A : Type 0} (x : A) (us : List Token) → Gives (give x) [] us x
 gives-give x us = record { go = λ ps e. (ps, e, refl) }
 
-pub gives-after : {A B : Type 0} (r : Reader A) (k : A → Reader B) (ts us vs : List Token) (x : A) (y : B) → Gives r ts (us ++ vs) x → Gives (k x) us vs y → Gives (after r k) (ts ++ us) vs y
+pub gives-after : {A B : Type 0} (r : Parser A) (k : A → Parser B) (ts us vs : List Token) (x : A) (y : B) → Gives r ts (us ++ vs) x → Gives (k x) us vs y → Gives (after r k) (ts ++ us) vs y
 gives-after r k ts us vs x y a b = record {
   go = λ ps e.
       let first = a.go ps (e ∙ append_assoc ts us vs) in
@@ -41,7 +41,7 @@ pub head-next : (test : Token → Bool) (ps : List Placed) → is_next test ps �
 head-next test [] = refl
 head-next test (p ∷ ps) = refl
 
-pub gives-first : {A : Type 0} (test : Token → Bool) (first second : Reader A) (ts us : List Token) (x : A) → head_is test (ts ++ us) ≡ true → Gives first ts us x → Gives (branch test first second) ts us x
+pub gives-first : {A : Type 0} (test : Token → Bool) (first second : Parser A) (ts us : List Token) (x : A) → head_is test (ts ++ us) ≡ true → Gives first ts us x → Gives (branch test first second) ts us x
 gives-first test first second ts us x h a = record {
   go = λ ps e.
       let is : is_next test ps ≡ true = head-next test ps ∙ ap (head_is test) e ∙ h in
@@ -49,7 +49,7 @@ gives-first test first second ts us x h a = record {
       (g.0, g.1, rw is g.2);
 }
 
-pub gives-second : {A : Type 0} (test : Token → Bool) (first second : Reader A) (ts us : List Token) (x : A) → head_is test (ts ++ us) ≡ false → Gives second ts us x → Gives (branch test first second) ts us x
+pub gives-second : {A : Type 0} (test : Token → Bool) (first second : Parser A) (ts us : List Token) (x : A) → head_is test (ts ++ us) ≡ false → Gives second ts us x → Gives (branch test first second) ts us x
 gives-second test first second ts us x h a = record {
   go = λ ps e.
       let is : is_next test ps ≡ false = head-next test ps ∙ ap (head_is test) e ∙ h in

@@ -6,7 +6,7 @@ use Rattle.sg_protocol.specs.Graph.{Graph, IsGraph, Variable, Node, Edge}
 use Rattle.sg_graph.specs.Adding.{no_parts, with_role, with_variable, with_node, with_edge}
 use Rattle.sg_parse.specs.Grammar.{head_tokens, role_tokens, node_tokens, SpellsVariable, SpellsEdge, InTurn, Done, Then, SpellsStatements, SpellsGraph}
 use Rattle.sg_parse.specs.Tokens.{tokens, is_word, is_semicolon, is_end}
-use Rattle.sg_parse.specs.Reading.{Reader, after, give, is_next, token, name, read_role, read_variable, read_node, read_edge, read_head, read_roles, read_variables, read_nodes, read_edges, read_end, read_statements, read_text, statement, up_to, whole, read}
+use Rattle.sg_parse.specs.Reading.{Parser, after, give, is_next, token, name, read_role, read_variable, read_node, read_edge, read_head, read_roles, read_variables, read_nodes, read_edges, read_end, read_statements, read_text, statement, up_to, whole, read}
 use Rattle.sg_parse.specs.declared.token.Placed.{Placed}
 use Rattle.sg_parse.specs.declared.token.Token.{Token}
 use Rattle.sg_parse.specs.declared.token.Token.TheVariants.{Word, Semicolon, End}
@@ -20,7 +20,7 @@ use Rattle.sg_parse.proofs.Middle.{name-middle}
 use Rattle.sg_parse.proofs.Gives.{Gives, gives-give, gives-after, gives-token, gives-word, gives-first, name-there, head_is, head-next}
 use Rattle.sg_parse.proofs.GivesStatements.{gives-role, gives-variable, gives-node, gives-edge}
 
-module _ {A : Type 0} (add : Graph → A → Graph) (Spells : Graph → A → List Token → Type 0) (first : List ℕ) (reader : Graph → Reader Graph)
+module _ {A : Type 0} (add : Graph → A → Graph) (Spells : Graph → A → List Token → Type 0) (first : List ℕ) (reader : Graph → Parser Graph)
     (begins : (g : Graph) (x : A) (ts us : List Token) → Spells g x ts → head_is (is_word first) (ts ++ us) ≡ true)
     (moves : (g : Graph) (x y : A) (ts : List Token) → Spells g y ts → Spells (add g x) y ts)
     (step : (g : Graph) (x : A) (xs : List A) (ts us : List Token) → IsGraph (adds add g (x ∷ xs)) → Spells g x ts → Gives (statement first reader g) ts us (add g x)) where

@@ -9,7 +9,7 @@ use Rattle.sg_protocol.specs.Graph.{Name}
 use Rattle.sg_graph.proofs.Found.{some_passes, none_passes}
 use Rattle.sg_parse.specs.Owed.{Refuses}
 use Rattle.sg_parse.specs.PartsReading.{one_place, with_place, repeat}
-use Rattle.sg_parse.specs.Reading.{Read, Reader, on, is_next, name, place_of, known}
+use Rattle.sg_parse.specs.Reading.{Parsed, Parser, on, is_next, name, place_of, known}
 use Rattle.sg_parse.specs.declared.token.Placed.{Placed}
 use Rattle.sg_parse.specs.declared.token.Token.{Token}
 use Rattle.sg_parse.specs.declared.fault.ParseFault.{ParseFault}
@@ -54,7 +54,7 @@ place_is_there m ns (Some i) h = (λ x. some_passes (bytes_eq m) ns i (sym h), �
 
 -- ---- repeated readings
 
-module _ {A : Type 0} (test : Token → Bool) (reader : A → Reader A) where
+module _ {A : Type 0} (test : Token → Bool) (reader : A → Parser A) where
   pub repeat-there : (n : ℕ) (x : A) (ps : List Placed) → is_next test ps ≡ true → repeat (suc n) test reader x ps ≡ on (reader x ps) (repeat n test reader)
   unfolding repeat
   repeat-there n x ps h = rw h refl
@@ -69,7 +69,7 @@ module _ {A : Type 0} (test : Token → Bool) (reader : A → Reader A) where
   repeat-none x ps = refl
 
   -- once more
-  pub repeat_more : (count i : ℕ) (x y : A) (ps qs : List Placed) (total : Result (Read A) ParseFault) → i < count → is_next test ps ≡ true
+  pub repeat_more : (count i : ℕ) (x y : A) (ps qs : List Placed) (total : Result (Parsed A) ParseFault) → i < count → is_next test ps ≡ true
       → reader x ps ≡ Ok (record { value = y; rest = qs }) → repeat (count - i) test reader x ps ≡ total → repeat (count - (i + 1)) test reader y qs ≡ total
   repeat_more count i x y ps qs total lt there read so_far =
       let k : count - i ≡ suc (count - (i + 1)) = omega arith in
@@ -78,7 +78,7 @@ module _ {A : Type 0} (test : Token → Bool) (reader : A → Reader A) where
       sym one ∙ so_far
 
   -- a reading that stops
-  pub repeat_stop : (e : ParseFault) (count i : ℕ) (x : A) (ps : List Placed) (total : Result (Read A) ParseFault) → i < count → is_next test ps ≡ true
+  pub repeat_stop : (e : ParseFault) (count i : ℕ) (x : A) (ps : List Placed) (total : Result (Parsed A) ParseFault) → i < count → is_next test ps ≡ true
       → Refuses (reader x ps) e → repeat (count - i) test reader x ps ≡ total → Refuses total e
   repeat_stop e count i x ps total lt there stop so_far =
       let k : count - i ≡ suc (count - (i + 1)) = omega arith in
@@ -86,12 +86,12 @@ module _ {A : Type 0} (test : Token → Bool) (reader : A → Reader A) where
       (λ h. sym so_far ∙ rw k (repeat-there (count - (i + 1)) x ps there ∙ ap (λ r. on r (repeat (count - (i + 1)) test reader)) h)) stop
 
   -- no more are there
-  pub repeat_done : (n : ℕ) (x : A) (ps : List Placed) (total : Result (Read A) ParseFault) → is_next test ps ≡ false
+  pub repeat_done : (n : ℕ) (x : A) (ps : List Placed) (total : Result (Parsed A) ParseFault) → is_next test ps ≡ false
       → repeat n test reader x ps ≡ total → total ≡ Ok (record { value = x; rest = ps })
   repeat_done n x ps total away so_far = sym so_far ∙ repeat-away n x ps away
 
   -- as many as may be were read
-  pub repeat_full : (count i : ℕ) (x : A) (ps : List Placed) (total : Result (Read A) ParseFault) → count ≤ i
+  pub repeat_full : (count i : ℕ) (x : A) (ps : List Placed) (total : Result (Parsed A) ParseFault) → count ≤ i
       → repeat (count - i) test reader x ps ≡ total → total ≡ Ok (record { value = x; rest = ps })
   repeat_full count i x ps total le so_far =
       let k : count - i ≡ 0 = omega arith in

@@ -3,12 +3,12 @@ use Rattle.std.proofs.Common.{◌≡◌, ℕ, true, false, List, Ok, Err, refl, 
 use Rattle.sg_model.specs.Lists.{has_text, is_in}
 use Rattle.sg_protocol.specs.Graph.{Name}
 use Rattle.sg_base.specs.Sets.{with_member}
-use Rattle.sg_parse.specs.Reading.{Read, Reader, on, after, give, fail, name, known_name, place_of, one_more, known, joined}
+use Rattle.sg_parse.specs.Reading.{Parsed, Parser, on, after, give, fail, name, known_name, place_of, one_more, known, joined}
 use Rattle.sg_parse.specs.declared.token.Placed.{Placed}
 use Rattle.sg_parse.specs.declared.fault.ParseFault.TheVariants.{Twice, UnknownName}
 
 -- what follows goes on where the first reading ended
-pub onward : {A B : Type 0} (r : Reader A) (k : A → Reader B) (ps : List Placed) (o : Read A) → r ps ≡ Ok o → after r k ps ≡ k o.value o.rest
+pub onward : {A B : Type 0} (r : Parser A) (k : A → Parser B) (ps : List Placed) (o : Parsed A) → r ps ≡ Ok o → after r k ps ≡ k o.value o.rest
 onward r k ps o h = ap (λ x. on x k) h
 
 -- a name that is known

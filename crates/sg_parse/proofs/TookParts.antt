@@ -21,7 +21,7 @@ use Rattle.sg_parse.specs.PartsGrammar.{use_tokens, SpellsPart, SpellsParts}
 use Rattle.sg_parse.specs.PartsReading.{with_place, more_places, some_places, repeat, read_use, read_uses, read_part_head, read_part, read_parts, read}
 use Rattle.sg_parse.specs.Tokens.{part_tokens, is_word, is_named, is_colon, is_semicolon, is_arrow, is_use, is_as, text_of}
 use Rattle.sg_parse.specs.Reading as Reading
-use Rattle.sg_parse.specs.Reading.{Read, Reader, on, after, give, known, is_next, branch, token, name, new_name, known_name, place_of, read_statements, read_end, whole}
+use Rattle.sg_parse.specs.Reading.{Parsed, Parser, on, after, give, known, is_next, branch, token, name, new_name, known_name, place_of, read_statements, read_end, whole}
 use Rattle.sg_parse.specs.declared.token.Placed.{Placed}
 use Rattle.sg_parse.specs.declared.token.Token.{Token}
 use Rattle.sg_parse.specs.declared.token.Token.TheVariants.{Word, Colon, Semicolon, Arrow, Use as UseWord, As, End}
@@ -50,7 +50,7 @@ all-in P [] h k d l = absurd (omega arith)
 all-in P (x ∷ xs) h zero d l = (let same : (x == x) ≡ true = eq-eqb x x refl in h x (rw same refl))
 all-in P (x ∷ xs) h (suc k) d l = all-in P xs (λ n i. h n (rw i (or_true (x == n)))) k d (omega (arith, l))
 
-record TookPlaces (names : List Name) (places : List ℕ) (ps : List Placed) (o : Read (List ℕ)) : Type 0 where
+record TookPlaces (names : List Name) (places : List ℕ) (ps : List Placed) (o : Parsed (List ℕ)) : Type 0 where
   order : List ℕ
   took : Took ps o (named names order)
   value : places ++ order ≡ o.value
@@ -59,7 +59,7 @@ record TookPlaces (names : List Name) (places : List ℕ) (ps : List Placed) (o 
   below : (n : ℕ) → is_in n order ≡ true → n < length names
   some : is_next is_named ps ≡ true → 1 ≤ length order
 
-no_more : (names : List Name) (places : List ℕ) (ps : List Placed) (o : Read (List ℕ)) → Sound ps → is_next is_named ps ≡ false → give places ps ≡ Ok o → TookPlaces names places ps o
+no_more : (names : List Name) (places : List ℕ) (ps : List Placed) (o : Parsed (List ℕ)) → Sound ps → is_next is_named ps ≡ false → give places ps ≡ Ok o → TookPlaces names places ps o
 no_more names places ps o s away h =
     let g = took-give places ps o s h in
     record {
@@ -73,7 +73,7 @@ no_more names places ps o s away h =
     }
 
 module _ (names : List Name) where
-  one_place-took : (places : List ℕ) (p : Placed) (ps : List Placed) (o : Read (List ℕ)) → p.token ≡ Word (text_of p.token)
+  one_place-took : (places : List ℕ) (p : Placed) (ps : List Placed) (o : Parsed (List ℕ)) → p.token ≡ Word (text_of p.token)
       → has_text (text_of p.token) names ≡ true → is_in (place_of (text_of p.token) names) places ≡ false
       → TookPlaces names (places ++ place_of (text_of p.token) names ∷ []) ps o → TookPlaces names places (p ∷ ps) o
   one_place-took places p ps o w has new t =
@@ -110,7 +110,7 @@ module _ (names : List Name) where
       ]
 
   -- one or more places
-  took-more-places : (places : List ℕ) (ps : List Placed) (o : Read (List ℕ)) → Sound ps → more_places names places ps ≡ Ok o → TookPlaces names places ps o
+  took-more-places : (places : List ℕ) (ps : List Placed) (o : Parsed (List ℕ)) → Sound ps → more_places names places ps ≡ Ok o → TookPlaces names places ps o
   took-more-places places [] o s h = no_more names places [] o s refl h
   took-more-places places (p ∷ ps) o s h = first (is_named p.token) refl h (λ next k. took-more-places next ps o s.2 k)
     where
@@ -128,7 +128,7 @@ module _ (names : List Name) where
       first false e k rest = no_more names places (p ∷ ps) o s e k
 
   -- the places of names
-  took-places : (ps : List Placed) (o : Read (List ℕ)) → Sound ps → some_places names ps ≡ Ok o
+  took-places : (ps : List Placed) (o : Parsed (List ℕ)) → Sound ps → some_places names ps ≡ Ok o
       → Took ps o (named names o.value) × (1 ≤ length o.value) × All (λ r. r < length names) o.value × (differ o.value ≡ true)
   took-places ps o s h = pick (branch-inv is_named (more_places names []) Reading.refused ps o h)
     where
@@ -142,7 +142,7 @@ module _ (names : List Name) where
 
 -- ---- uses
 
-took-use : (names : List Name) (g : Graph) (uses : List Use) (ps : List Placed) (o : Read (List Use)) → Sound ps → read_use names g uses ps ≡ Ok o
+took-use : (names : List Name) (g : Graph) (uses : List Use) (ps : List Placed) (o : Parsed (List Use)) → Sound ps → read_use names g uses ps ≡ Ok o
     → (u : Use) × (ts : List Token) × (uses ++ u ∷ [] ≡ o.value) × (IsUse (length names) g u × IsFresh (use_names uses) u.name × (ts ≡ use_tokens names g u)) × Took ps o ts
 took-use names g uses ps o s h =
     let a = on-inv (token is_use ps) _ o h in
@@ -194,12 +194,12 @@ data Grown {B : Type 0} (Fits : List B → B → List Token → Type 0) : List B
   NoMore : {xs : List B} → Grown Fits xs [] []
   OneMore : {xs ys : List B} {y : B} {ts us : List Token} → Fits xs y ts → Grown Fits (xs ++ y ∷ []) ys us → Grown Fits xs (y ∷ ys) (ts ++ us)
 
-module _ {B : Type 0} (Fits : List B → B → List Token → Type 0) (test : Token → Bool) (reader : List B → Reader (List B))
-    (step : (xs : List B) (ps : List Placed) (o : Read (List B)) → Sound ps → reader xs ps ≡ Ok o → (y : B) × (ts : List Token) × (xs ++ y ∷ [] ≡ o.value) × Fits xs y ts × Took ps o ts) where
-  none_grown : (xs : List B) (ps : List Placed) (o : Read (List B)) → Sound ps → give xs ps ≡ Ok o → (ys : List B) × (ts : List Token) × (xs ++ ys ≡ o.value) × Grown Fits xs ys ts × Took ps o ts
+module _ {B : Type 0} (Fits : List B → B → List Token → Type 0) (test : Token → Bool) (reader : List B → Parser (List B))
+    (step : (xs : List B) (ps : List Placed) (o : Parsed (List B)) → Sound ps → reader xs ps ≡ Ok o → (y : B) × (ts : List Token) × (xs ++ y ∷ [] ≡ o.value) × Fits xs y ts × Took ps o ts) where
+  none_grown : (xs : List B) (ps : List Placed) (o : Parsed (List B)) → Sound ps → give xs ps ≡ Ok o → (ys : List B) × (ts : List Token) × (xs ++ ys ≡ o.value) × Grown Fits xs ys ts × Took ps o ts
   none_grown xs ps o s h = (let g = took-give xs ps o s h in ([], [], append-nil xs ∙ g.0, NoMore, g.1))
 
-  took-repeat : (n : ℕ) (xs : List B) (ps : List Placed) (o : Read (List B)) → Sound ps → repeat n test reader xs ps ≡ Ok o
+  took-repeat : (n : ℕ) (xs : List B) (ps : List Placed) (o : Parsed (List B)) → Sound ps → repeat n test reader xs ps ≡ Ok o
       → (ys : List B) × (ts : List Token) × (xs ++ ys ≡ o.value) × Grown Fits xs ys ts × Took ps o ts
   took-repeat zero xs ps o s h = none_grown xs ps o s (sym (repeat-none test reader xs ps) ∙ h)
   took-repeat (suc n) xs ps o s h = pick (is_next test ps) refl (λ xs ps s h. took-repeat n xs ps o s h)
@@ -240,7 +240,7 @@ uses-grown names g xs (y ∷ ys) ts (OneMore {us = us} f rest) are =
 abbrev PartFits : List Part → Part → List Token → Type 0
 PartFits parts p ts = IsPart (length parts) p × SpellsPart (part_names parts) p ts × (has_text p.graph.name (part_names parts) ≡ false)
 
-took-part : (bytes : ℕ) (parts : List Part) (ps : List Placed) (o : Read (List Part)) → Sound ps → read_part bytes parts ps ≡ Ok o
+took-part : (bytes : ℕ) (parts : List Part) (ps : List Placed) (o : Parsed (List Part)) → Sound ps → read_part bytes parts ps ≡ Ok o
     → (p : Part) × (ts : List Token) × (parts ++ p ∷ [] ≡ o.value) × PartFits parts p ts × Took ps o ts
 took-part bytes parts ps o s h =
     let names : List Name = part_names parts in
@@ -338,7 +338,7 @@ read-spells bs ps h =
     let end = took-end (b.0).rest f.0 (more.4).sound f.1 in
     let grown : Grown PartFits [] (one.0 ∷ more.0) (one.1 ++ more.1) = OneMore one.3 more.3 in
     let g = parts-grown [] (one.0 ∷ more.0) (one.1 ++ more.1) grown refl in
-    let value : one.0 ∷ more.0 ≡ ps = more.2 ∙ ap (λ (r : Read (List Part)). r.value) (ok_same (record { value = (b.0).value; rest = (f.0).rest }) w.0 f.2) ∙ w.2 in
+    let value : one.0 ∷ more.0 ≡ ps = more.2 ∙ ap (λ (r : Parsed (List Part)). r.value) (ok_same (record { value = (b.0).value; rest = (f.0).rest }) w.0 f.2) ∙ w.2 in
     let begins : bare (part_tokens bs) ≡ (one.1 ++ more.1) ++ End ∷ [] =
     (one.4).begins ∙ ap (λ l. one.1 ++ l) ((more.4).begins ∙ ap (λ l. more.1 ++ l) end) ∙ sym (append_assoc one.1 more.1 (End ∷ [])) in
     subst (SpellsParts bs) value (record {

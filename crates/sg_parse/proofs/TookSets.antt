@@ -11,7 +11,7 @@ use Rattle.sg_graph.proofs.Sets.{AreNumbers-with_member, AreNumbers-none}
 use Rattle.sg_parse.specs.Grammar.{IsOrderOf, named, differ, SpellsClause, Without, With}
 use Rattle.sg_parse.specs.Tokens.{is_word, is_named, text_of}
 use Rattle.sg_parse.specs.Reading as Reading
-use Rattle.sg_parse.specs.Reading.{Read, Reader, on, after, give, is_next, branch, token, skip, known, joined, more_names, some_names, place_of, read_clause}
+use Rattle.sg_parse.specs.Reading.{Parsed, Parser, on, after, give, is_next, branch, token, skip, known, joined, more_names, some_names, place_of, read_clause}
 use Rattle.sg_parse.specs.declared.token.Placed.{Placed}
 use Rattle.sg_parse.specs.declared.token.Token.{Token}
 use Rattle.sg_parse.specs.declared.token.Token.TheVariants.{Word}
@@ -21,7 +21,7 @@ use Rattle.sg_parse.proofs.Sets.{is_in-with, some-in}
 use Rattle.sg_parse.proofs.Took.{Took, bare, err_ok, branch-inv, took-give, named-word, place_has, only-word}
 
 -- the names that joined a set
-pub record TookSet (names : List Name) (set : List ℕ) (ps : List Placed) (o : Read (List ℕ)) : Type 0 where
+pub record TookSet (names : List Name) (set : List ℕ) (ps : List Placed) (o : Parsed (List ℕ)) : Type 0 where
   pub order : List ℕ
   pub took : Took ps o (named names order)
   pub members : (n : ℕ) → is_in n o.value ≡ (is_in n set || is_in n order)
@@ -30,7 +30,7 @@ pub record TookSet (names : List Name) (set : List ℕ) (ps : List Placed) (o : 
   pub there : AreNumbers (length names) o.value
   pub some : is_next is_named ps ≡ true → 1 ≤ length order
 
-no_more_names : (names : List Name) (set : List ℕ) (ps : List Placed) (o : Read (List ℕ)) → Sound ps → AreNumbers (length names) set → is_next is_named ps ≡ false → give set ps ≡ Ok o → TookSet names set ps o
+no_more_names : (names : List Name) (set : List ℕ) (ps : List Placed) (o : Parsed (List ℕ)) → Sound ps → AreNumbers (length names) set → is_next is_named ps ≡ false → give set ps ≡ Ok o → TookSet names set ps o
 no_more_names names set ps o s a away h =
     let g = took-give set ps o s h in
     record {
@@ -48,7 +48,7 @@ no_more_names names set ps o s a away h =
     or_false false = refl
 
 -- a place that joins a set stands in none of the later ones
-module _ (names : List Name) (width : ℕ) (set : List ℕ) (place : ℕ) (ps : List Placed) (o : Read (List ℕ)) (new : is_in place set ≡ false)
+module _ (names : List Name) (width : ℕ) (set : List ℕ) (place : ℕ) (ps : List Placed) (o : Parsed (List ℕ)) (new : is_in place set ≡ false)
     (with' : (n : ℕ) → is_in n (with_member width set place) ≡ (is_in n set || (place == n))) (t : TookSet names (with_member width set place) ps o) where
   absent : is_in place t.order ≡ false
   absent = elim (cases_Bool (is_in place t.order)) [
@@ -70,7 +70,7 @@ module _ (names : List Name) (width : ℕ) (set : List ℕ) (place : ℕ) (ps : 
   ]
 
 module _ (width : ℕ) (names : List Name) (fits : length names ≤ width) where
-  one_name : (set : List ℕ) (p : Placed) (ps : List Placed) (o : Read (List ℕ)) → AreNumbers (length names) set → p.token ≡ Word (text_of p.token)
+  one_name : (set : List ℕ) (p : Placed) (ps : List Placed) (o : Parsed (List ℕ)) → AreNumbers (length names) set → p.token ≡ Word (text_of p.token)
       → has_text (text_of p.token) names ≡ true → is_in (place_of (text_of p.token) names) set ≡ false
       → TookSet names (with_member width set (place_of (text_of p.token) names)) ps o → TookSet names set (p ∷ ps) o
   one_name set p ps o a w has new t =
@@ -92,7 +92,7 @@ module _ (width : ℕ) (names : List Name) (fits : length names ≤ width) where
       or_assoc false b c = refl
 
   -- one or more names are joined
-  pub took-more : (set : List ℕ) (ps : List Placed) (o : Read (List ℕ)) → Sound ps → AreNumbers (length names) set → more_names width names set ps ≡ Ok o → TookSet names set ps o
+  pub took-more : (set : List ℕ) (ps : List Placed) (o : Parsed (List ℕ)) → Sound ps → AreNumbers (length names) set → more_names width names set ps ≡ Ok o → TookSet names set ps o
   took-more set [] o s a h = no_more_names names set [] o s a refl h
   took-more set (p ∷ ps) o s a h = first (is_named p.token) refl h (λ next b k. took-more next ps o s.2 b k)
     where
@@ -112,7 +112,7 @@ module _ (width : ℕ) (names : List Name) (fits : length names ≤ width) where
       first false e k rest = no_more_names names set (p ∷ ps) o s a e k
 
   -- the names of a list
-  pub took-some : (ps : List Placed) (o : Read (List ℕ)) → Sound ps → some_names width names ps ≡ Ok o
+  pub took-some : (ps : List Placed) (o : Parsed (List ℕ)) → Sound ps → some_names width names ps ≡ Ok o
       → (order : List ℕ) × Took ps o (named names order) × IsOrderOf o.value order × AreNumbers (length names) o.value × (1 ≤ length o.value)
   took-some ps o s h = pick (branch-inv is_named (more_names width names []) Reading.refused ps o h)
     where
@@ -128,7 +128,7 @@ module _ (width : ℕ) (names : List Name) (fits : length names ≤ width) where
       pick (inr (e, k)) = err_ok (Reading.refusal ps) o k
 
 -- the variables of an edge after a word
-pub took-clause : (first : List ℕ) (names : List Name) (ps : List Placed) (o : Read (List ℕ)) → length names ≤ 32 → Sound ps → read_clause first names ps ≡ Ok o
+pub took-clause : (first : List ℕ) (names : List Name) (ps : List Placed) (o : Parsed (List ℕ)) → length names ≤ 32 → Sound ps → read_clause first names ps ≡ Ok o
     → (ts : List Token) × Took ps o ts × SpellsClause first names o.value ts × AreNumbers (length names) o.value
 took-clause first names ps o fits s h = pick (branch-inv (is_word first) (after skip λ _. some_names 32 names) (give []) ps o h)
   where

@@ -5,7 +5,7 @@ use Rattle.sg_protocol.specs.Graph.{Graph, Name}
 use Rattle.sg_graph.specs.Adding.{no_parts}
 use Rattle.sg_graph.specs.Parts.{node_names}
 use Rattle.sg_parse.specs.Parts.{Part, Use, part_names, use_names}
-use Rattle.sg_parse.specs.Reading.{Reader, on, after, give, known, token, branch, refused, name, new_name, known_name, place_of, read_statements, read_end, whole}
+use Rattle.sg_parse.specs.Reading.{Parser, on, after, give, known, token, branch, refused, name, new_name, known_name, place_of, read_statements, read_end, whole}
 use Rattle.sg_parse.specs.Tokens.{part_tokens, is_word, is_named, is_colon, is_semicolon, is_arrow, is_use, is_as, text_of}
 use Rattle.sg_parse.specs.declared.token.Token.{Token}
 use Rattle.sg_parse.specs.declared.fault.ParseFault.{ParseFault}
@@ -18,27 +18,27 @@ with_place names places n =
     else Err (UnknownName n.1)
 
 -- one more name
-abbrev pub one_place : List Name → List ℕ → Reader (List ℕ)
+abbrev pub one_place : List Name → List ℕ → Parser (List ℕ)
 one_place names places = after name λ n. known (with_place names places n)
 
 -- the places, with those of all names that follow
-abbrev pub more_places : List Name → List ℕ → Reader (List ℕ)
+abbrev pub more_places : List Name → List ℕ → Parser (List ℕ)
 more_places names places [] = give places []
 more_places names places (p ∷ ps) =
     if is_named p.token then on (known (with_place names places (text_of p.token, p.at)) ps) (λ next _. more_places names next ps)
     else give places (p ∷ ps)
 
 -- one or more of these names, each once: their places in the order in which they stand
-abbrev pub some_places : List Name → Reader (List ℕ)
+abbrev pub some_places : List Name → Parser (List ℕ)
 some_places names = branch is_named (more_places names []) refused
 
 -- one reading after another as long as the next token passes the test, up to so many times
-unfoldable pub repeat : {A : Type 0} → ℕ → (Token → Bool) → (A → Reader A) → A → Reader A
+unfoldable pub repeat : {A : Type 0} → ℕ → (Token → Bool) → (A → Parser A) → A → Parser A
 repeat zero test reader x = give x
 repeat (suc n) test reader x = branch test (after (reader x) (repeat n test reader)) (give x)
 
 -- a use of one of the parts of these names
-abbrev pub read_use : List Name → Graph → List Use → Reader (List Use)
+abbrev pub read_use : List Name → Graph → List Use → Parser (List Use)
 read_use names g uses =
     after (token is_use) λ _.
     after (new_name (use_names uses)) λ n.
@@ -53,11 +53,11 @@ read_use names g uses =
     give (uses ++ record { name = n; part = part; from = from; to = to; roles = roles } ∷ [])
 
 -- all uses that follow: a text has no more of them than bytes
-abbrev pub read_uses : ℕ → List Name → Graph → Reader (List Use)
+abbrev pub read_uses : ℕ → List Name → Graph → Parser (List Use)
 read_uses bytes names g = repeat bytes is_use (read_use names g) []
 
 -- the name of a part, which no part before it has
-abbrev pub read_part_head : List Name → Reader Graph
+abbrev pub read_part_head : List Name → Parser Graph
 read_part_head names =
     after (token (is_word (codes "graph"))) λ _.
     after (new_name names) λ n.
@@ -65,7 +65,7 @@ read_part_head names =
     give (no_parts n)
 
 -- a part: the statements of its graph, then its uses
-abbrev pub read_part : ℕ → List Part → Reader (List Part)
+abbrev pub read_part : ℕ → List Part → Parser (List Part)
 read_part bytes parts =
     after (read_part_head (part_names parts)) λ g.
     after (read_statements g) λ g.
@@ -73,7 +73,7 @@ read_part bytes parts =
     give (parts ++ record { graph = g; uses = uses } ∷ [])
 
 -- a part and all that follow, and the end: a text has no more of them than bytes
-abbrev pub read_parts : ℕ → Reader (List Part)
+abbrev pub read_parts : ℕ → Parser (List Part)
 read_parts bytes =
     after (read_part bytes []) λ parts.
     after (repeat bytes (is_word (codes "graph")) (read_part bytes) parts) λ parts.

@@ -16,13 +16,13 @@ use Rattle.sg_parse.specs.declared.fault.ParseFault.TheVariants.{BadByte, Unexpe
 -- ---- readers
 
 -- what was read, and the tokens that are left
-pub record Read (A : Type 0) : Type 0 where
+pub record Parsed (A : Type 0) : Type 0 where
   pub value : A
   pub rest : List Placed
 
 -- reads tokens, or answers the fault at the first wrong one
-abbrev pub Reader : Type 0 → Type 0
-Reader A = List Placed → Result (Read A) ParseFault
+abbrev pub Parser : Type 0 → Type 0
+Parser A = List Placed → Result (Parsed A) ParseFault
 
 -- the fault at a token that the grammar doesn't have at its place
 abbrev pub refusal_of : Token → ℕ → ParseFault
@@ -31,25 +31,25 @@ refusal_of Long at = TooMany at
 refusal_of t at = Unexpected at
 
 -- nothing is read
-abbrev pub give : {A : Type 0} → A → Reader A
+abbrev pub give : {A : Type 0} → A → Parser A
 give x ps = Ok (record { value = x; rest = ps })
 
 -- the fault, whichever token is next
-abbrev pub fail : {A : Type 0} → ParseFault → Reader A
+abbrev pub fail : {A : Type 0} → ParseFault → Parser A
 fail e ps = Err e
 
 -- what is known already, or a fault
-abbrev pub known : {A : Type 0} → Result A ParseFault → Reader A
+abbrev pub known : {A : Type 0} → Result A ParseFault → Parser A
 known (Ok x) = give x
 known (Err e) = fail e
 
 -- what comes after depends on what was read
-abbrev pub on : {A B : Type 0} → Result (Read A) ParseFault → (A → Reader B) → Result (Read B) ParseFault
+abbrev pub on : {A B : Type 0} → Result (Parsed A) ParseFault → (A → Parser B) → Result (Parsed B) ParseFault
 on (Err e) next = Err e
 on (Ok r) next = next r.value r.rest
 
 -- one reading after another
-abbrev pub after : {A B : Type 0} → Reader A → (A → Reader B) → Reader B
+abbrev pub after : {A B : Type 0} → Parser A → (A → Parser B) → Parser B
 after first next ps = on (first ps) next
 
 -- the next token passes the test; a text has no token behind its end
@@ -68,39 +68,39 @@ refusal [] = Unexpected 0
 refusal (p ∷ ps) = refusal_of p.token p.at
 
 -- the grammar has no token for this place
-abbrev pub refused : {A : Type 0} → Reader A
+abbrev pub refused : {A : Type 0} → Parser A
 refused ps = Err (refusal ps)
 
 -- the next token begins a statement too many
-abbrev pub crowded : {A : Type 0} → Reader A
+abbrev pub crowded : {A : Type 0} → Parser A
 crowded ps = Err (TooMany (offset_of ps))
 
 -- one reading where the next token passes the test, otherwise the other
-abbrev pub branch : {A : Type 0} → (Token → Bool) → Reader A → Reader A → Reader A
+abbrev pub branch : {A : Type 0} → (Token → Bool) → Parser A → Parser A → Parser A
 branch test first second ps = if is_next test ps then first ps else second ps
 
 -- the next token, whichever it is
-abbrev pub skip : Reader (Unit {0})
+abbrev pub skip : Parser (Unit {0})
 skip [] = Err (Unexpected 0)
 skip (p ∷ ps) = Ok (record { value = tt; rest = ps })
 
 -- a token that passes the test
-abbrev pub token : (Token → Bool) → Reader (Unit {0})
+abbrev pub token : (Token → Bool) → Parser (Unit {0})
 token test = branch test skip refused
 
 -- ---- names
 
 -- the bytes and the offset of the next token
-abbrev pub word : Reader (Name × ℕ)
+abbrev pub word : Parser (Name × ℕ)
 word [] = Err (Unexpected 0)
 word (p ∷ ps) = Ok (record { value = (text_of p.token, p.at); rest = ps })
 
 -- a name and its offset
-abbrev pub name : Reader (Name × ℕ)
+abbrev pub name : Parser (Name × ℕ)
 name = branch is_named word refused
 
 -- a name that is none of these
-abbrev pub new_name : List Name → Reader Name
+abbrev pub new_name : List Name → Parser Name
 new_name names = after name λ n. if has_text n.0 names then fail (Twice n.1) else give n.0
 
 -- the place of a name among names
@@ -109,7 +109,7 @@ place_of n [] = 0
 place_of n (m ∷ ms) = if bytes_eq n m then 0 else suc (place_of n ms)
 
 -- a name that is one of these, by its place
-abbrev pub known_name : List Name → Reader ℕ
+abbrev pub known_name : List Name → Parser ℕ
 known_name names = after name λ n. if has_text n.0 names then give (place_of n.0 names) else fail (UnknownName n.1)
 
 -- the set with the place of a name, which is one of the names and not in the set yet, or the fault at its offset
@@ -119,35 +119,35 @@ joined width names set n =
     else Err (UnknownName n.1)
 
 -- a name that joins the set
-abbrev pub one_more : ℕ → List Name → List ℕ → Reader (List ℕ)
+abbrev pub one_more : ℕ → List Name → List ℕ → Parser (List ℕ)
 one_more width names set = after name λ n. known (joined width names set n)
 
 -- the set, with the places of all names that follow
-abbrev pub more_names : ℕ → List Name → List ℕ → Reader (List ℕ)
+abbrev pub more_names : ℕ → List Name → List ℕ → Parser (List ℕ)
 more_names width names set [] = give set []
 more_names width names set (p ∷ ps) =
     if is_named p.token then on (known (joined width names set (text_of p.token, p.at)) ps) (λ next _. more_names width names next ps)
     else give set (p ∷ ps)
 
 -- one or more of these names, each once: the set of their places
-abbrev pub some_names : ℕ → List Name → Reader (List ℕ)
+abbrev pub some_names : ℕ → List Name → Parser (List ℕ)
 some_names width names = branch is_named (more_names width names []) refused
 
 -- ---- statements, each from behind its first word
 
 -- a role
-abbrev pub read_role : Graph → Reader Graph
+abbrev pub read_role : Graph → Parser Graph
 read_role g =
     after (new_name g.roles) λ n.
     after (token is_semicolon) λ _.
     give (with_role g n)
 
 -- a type
-abbrev pub read_kind : Reader VariableKind
+abbrev pub read_kind : Parser VariableKind
 read_kind = branch (is_word (codes "int")) (after skip λ _. give Int) (after (token (is_word (codes "text"))) λ _. give Text)
 
 -- a variable
-abbrev pub read_variable : Graph → Reader Graph
+abbrev pub read_variable : Graph → Parser Graph
 read_variable g =
     after (new_name (variable_names g)) λ n.
     after (token is_colon) λ _.
@@ -158,7 +158,7 @@ read_variable g =
     give (with_variable g (record { name = n; kind = kind; writers = writers }))
 
 -- a node
-abbrev pub read_node : Graph → Reader Graph
+abbrev pub read_node : Graph → Parser Graph
 read_node g =
     after (new_name (node_names g)) λ n.
     after (token is_colon) λ _.
@@ -167,11 +167,11 @@ read_node g =
     give (with_node g (record { name = n; role = role }))
 
 -- the variables of an edge after this word, or none where the word isn't there
-abbrev pub read_clause : List ℕ → List Name → Reader (List ℕ)
+abbrev pub read_clause : List ℕ → List Name → Parser (List ℕ)
 read_clause first names = branch (is_word first) (after skip λ _. some_names most_variables names) (give [])
 
 -- an edge
-abbrev pub read_edge : Graph → Reader Graph
+abbrev pub read_edge : Graph → Parser Graph
 read_edge g =
     after (new_name (edge_names g)) λ n.
     after (token is_colon) λ _.
@@ -186,39 +186,39 @@ read_edge g =
 -- ---- the text
 
 -- a statement that begins with this word
-abbrev pub statement : List ℕ → (Graph → Reader Graph) → Graph → Reader Graph
+abbrev pub statement : List ℕ → (Graph → Parser Graph) → Graph → Parser Graph
 statement first reader g = after (token (is_word first)) λ _. reader g
 
 -- this word isn't next: it would begin a statement too many
-abbrev pub no_more : List ℕ → Reader (Unit {0})
+abbrev pub no_more : List ℕ → Parser (Unit {0})
 no_more first = branch (is_word first) crowded (give tt)
 
 -- statements that begin with this word, up to n of them, and then no such word
-unfoldable pub up_to : ℕ → List ℕ → (Graph → Reader Graph) → Graph → Reader Graph
+unfoldable pub up_to : ℕ → List ℕ → (Graph → Parser Graph) → Graph → Parser Graph
 up_to zero first reader g = after (no_more first) λ _. give g
 up_to (suc n) first reader g = branch (is_word first) (after (statement first reader g) (up_to n first reader)) (give g)
 
 -- two roles and up to sixteen
-abbrev pub read_roles : Graph → Reader Graph
+abbrev pub read_roles : Graph → Parser Graph
 read_roles g =
     after (statement (codes "role") read_role g) λ g.
     after (statement (codes "role") read_role g) λ g.
     up_to 14 (codes "role") read_role g
 
 -- up to 32 variables
-abbrev pub read_variables : Graph → Reader Graph
+abbrev pub read_variables : Graph → Parser Graph
 read_variables g = up_to most_variables (codes "var") read_variable g
 
 -- a node and up to 256
-abbrev pub read_nodes : Graph → Reader Graph
+abbrev pub read_nodes : Graph → Parser Graph
 read_nodes g = after (statement (codes "node") read_node g) λ g. up_to 255 (codes "node") read_node g
 
 -- up to 512 edges
-abbrev pub read_edges : Graph → Reader Graph
+abbrev pub read_edges : Graph → Parser Graph
 read_edges g = up_to most_edges (codes "edge") read_edge g
 
 -- the graph's name
-abbrev pub read_head : Reader Graph
+abbrev pub read_head : Parser Graph
 read_head =
     after (token (is_word (codes "graph"))) λ _.
     after name λ n.
@@ -226,11 +226,11 @@ read_head =
     give (no_parts n.0)
 
 -- the end of the text
-abbrev pub read_end : Reader (Unit {0})
+abbrev pub read_end : Parser (Unit {0})
 read_end = branch is_end (give tt) refused
 
 -- the statements behind the graph's name
-abbrev pub read_statements : Graph → Reader Graph
+abbrev pub read_statements : Graph → Parser Graph
 read_statements g =
     after (read_roles g) λ g.
     after (read_variables g) λ g.
@@ -238,7 +238,7 @@ read_statements g =
     read_edges g
 
 -- all statements, and the end
-abbrev pub read_text : Reader Graph
+abbrev pub read_text : Parser Graph
 read_text =
     after read_head λ g.
     after (read_statements g) λ g.
@@ -246,7 +246,7 @@ read_text =
     give g
 
 -- what was read of all the tokens
-abbrev pub whole : {A : Type 0} → Result (Read A) ParseFault → Result A ParseFault
+abbrev pub whole : {A : Type 0} → Result (Parsed A) ParseFault → Result A ParseFault
 whole (Err e) = Err e
 whole (Ok r) = Ok r.value
 

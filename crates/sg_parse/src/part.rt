@@ -9,7 +9,7 @@ pub struct Use {
     /// The name of the use, which no other use of its part has.
     pub name: Name,
     /// The number of the part that is used, counted from 0 in the order of the text.
-    pub part: u32,
+    pub part: usize,
     /// The node for the start of the part that is used.
     pub from: NodeId,
     /// The node for the end of the part that is used.

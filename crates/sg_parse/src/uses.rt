@@ -81,17 +81,14 @@ fn new_use(scanner: &mut Scanner, uses: &UseList) -> Result<Name, ParseFault>
     Ok(name)
 }
 
-// The number of a part by its name. There is no memory for so many parts that it doesn't fit.
-fn known_part(scanner: &mut Scanner, parts: &PartList) -> Result<u32, ParseFault>
+// The number of a part by its name.
+fn known_part(scanner: &mut Scanner, parts: &PartList) -> Result<usize, ParseFault>
     ensures { Reads (known_name (part_names parts.now)) scanner.old scanner.new result }
 {
     let (name, at) = scanner.name()?;
-    let Some(place) = parts.place(&name) else {
-        return Err(ParseFault::UnknownName { at });
-    };
-    match u32::try_from(place) {
-        Ok(part) => Ok(part),
-        Err(_) => Err(ParseFault::OutOfMemory),
+    match parts.place(&name) {
+        Some(part) => Ok(part),
+        None => Err(ParseFault::UnknownName { at }),
     }
 }
 

@@ -4,14 +4,16 @@ use Rattle.std.specs.Prelude.{◌↔◌, Option, Some, None, is_some, IsTrue}
 use Rattle.std.proofs.Math.ListN.{get_or-append}
 use Rattle.std.proofs.Math.Seq.{get_or-append_seam}
 use Rattle.std.proofs.lemmas.Bool.Decides.{nat_tests}
+use Rattle.std.proofs.lemmas.List.{get_or_past}
 use Rattle.sg_base.specs.Sets.{with_member}
 use Rattle.sg_base.proofs.SetLaws.{is_in-with_member}
 use Rattle.sg_model.specs.Lists.{is_in}
 use Rattle.sg_model.specs.Shape.{end_of, sender, receiver, target}
 use Rattle.sg_model.proofs.Small.{same_or_not}
 use Rattle.sg_protocol.specs.Graph.{Graph, AreNumbers, shape}
-use Rattle.sg_protocol.specs.Targets.{IsTarget}
+use Rattle.sg_protocol.specs.Targets.{IsTarget, IsTargetTable}
 use Rattle.sg_reach.specs.Reaches.{Closure, IsFirstOf}
+use Rattle.sg_reach.proofs.Cases.{less_or}
 use Rattle.sg_reach.proofs.Pair.{pair, leads_first, first_leads}
 
 -- a role other than sender and receiver is a target exactly where it has a node in the closure of the edge's end past the role and the sender
@@ -69,17 +71,14 @@ pub differ : (a b : ℕ) (test : Bool) → test ≡ eqb a b → test ≡ false �
 differ a b test is fails e = (let yes : eqb a b ≡ true = eq-eqb a b e in let wrong : false ≡ true = sym fails ∙ is ∙ yes in cc)
 
 -- what the code finds in the closure tells whether the role is a target
-pub told_target : (g h : Graph) (e t s to : ℕ) (set : List ℕ) (k : Closure) (o : Option ℕ) (r : Bool) → h ≡ g → s ≡ sender (shape h) e → to ≡ target (shape h) e → set ≡ pair t s
-    → k ≡ record { graph = g; from = to; past = set } → t < 16 → s < 16 → t ≢ s → t ≢ receiver (shape h) e → IsFirstOf k t o → r ≡ is_some o → IsTrue r ↔ IsTarget (shape g) e t
-told_target g h e t s to set k o r graphs sends leads sets closes ht hs not_sender not_receiver first tells =
-    let s' : s ≡ sender (shape g) e = sends ∙ ap (λ (x : Graph). sender (shape x) e) graphs in
-    let to' : to ≡ target (shape g) e = leads ∙ ap (λ (x : Graph). target (shape x) e) graphs in
-    let set' : set ≡ pair t (sender (shape g) e) = sets ∙ ap (pair t) s' in
-    let k' : k ≡ record { graph = g; from = target (shape g) e; past = pair t (sender (shape g) e) } = closes ∙ (λ i. record { graph = g; from = to' i; past = set' i }) in
-    let at_sender : t ≢ sender (shape g) e = λ q. not_sender (q ∙ sym s') in
-    let at_receiver : t ≢ receiver (shape g) e = λ q. not_receiver (q ∙ ap (λ (x : Graph). receiver (shape x) e) (sym graphs)) in
-    let small : sender (shape g) e < 16 = subst (λ x. x < 16) s' hs in
-    let found = found_target g e t o ht small at_sender at_receiver (subst (λ (x : Closure). IsFirstOf x t o) k' first) in
+pub told_target : (g : Graph) (e t s to : ℕ) (set : List ℕ) (k : Closure) (o : Option ℕ) (r : Bool) → s ≡ sender (shape g) e → to ≡ target (shape g) e → set ≡ pair t s
+    → k ≡ record { graph = g; from = to; past = set } → t < 16 → s < 16 → t ≢ s → t ≢ receiver (shape g) e → IsFirstOf k t o → r ≡ is_some o → IsTrue r ↔ IsTarget (shape g) e t
+told_target g e t s to set k o r sends leads sets closes ht hs not_sender not_receiver first tells =
+    let set' : set ≡ pair t (sender (shape g) e) = sets ∙ ap (pair t) sends in
+    let k' : k ≡ record { graph = g; from = target (shape g) e; past = pair t (sender (shape g) e) } = closes ∙ (λ i. record { graph = g; from = leads i; past = set' i }) in
+    let at_sender : t ≢ sender (shape g) e = λ q. not_sender (q ∙ sym sends) in
+    let small : sender (shape g) e < 16 = subst (λ x. x < 16) sends hs in
+    let found = found_target g e t o ht small at_sender not_receiver (subst (λ (x : Closure). IsFirstOf x t o) k' first) in
     ((λ h. found.0 (sym tells ∙ h)), (λ y. tells ∙ found.1 y))
 
 -- the sets of the edges below n are those of their targets
@@ -102,3 +101,11 @@ sets_with g n sets more set grown x numbers aims = record {
 
     there : (e : ℕ) → e < n → get_or more e [] ≡ get_or sets e []
     there e l = ap (λ xs. get_or xs e []) grown ∙ get_or-append sets (set ∷ []) [] e (omega (arith, x.size))
+
+-- the sets of all edges are the table
+pub whole_table : (g : Graph) (n : ℕ) (sets : List (List ℕ)) → n ≡ length g.edges → AreSetsBelow g n sets → IsTargetTable g sets
+whole_table g n sets all x = record {
+  size = x.size ∙ all;
+  rising = λ e. elim (less_or e n) [ inl l ↦ x.rising e l | inr past ↦ rw (get_or_past sets e [] (omega (arith, x.size, past))) refl ];
+  each = λ e t h l. x.each e t (omega (arith, h, all)) l;
+}

@@ -12,11 +12,9 @@ use Rattle.sg_model.specs.Values.{Value}
 use Rattle.sg_node.proofs.Life.{pasts_go_on}
 use Rattle.sg_protocol.specs.Calls.{Call, Answer, Act, Happened, Sends, Abandoned, NotStarted, NotActed, NotAbandoned, NotDelivered}
 use Rattle.sg_protocol.specs.Graph.{Graph}
-use Rattle.sg_protocol.specs.Keyring.{Keyring, Program}
+use Rattle.sg_protocol.specs.Keyring.{Keyring}
 use Rattle.sg_protocol.specs.NodeStates.{NodeState}
 use Rattle.sg_protocol.specs.Past.{node_of}
-use Rattle.sg_protocol.specs.Session.{Session}
-use Rattle.sg_protocol.specs.Told.{live_with}
 use Rattle.sg_protocol.specs.Turn.{turn_of}
 use Rattle.sg_report.specs.Told.{Told, told_answer}
 use Rattle.sg_script.specs.Script.{Choice}
@@ -96,14 +94,6 @@ acting_adds sid graph node p = by (find (is_ready graph node) p.choices)
     by : (o : Option Choice) → Extends p (option_map_or (acted_by sid graph node p) o (p, false)).0
     by None = nothing p
     by (Some c) = (step_in (chosen graph node c p) (act_by sid c p.words) ∷ [], refl)
-
--- so by the graph that the session has
-pub act_adds : (sid : List ℕ) (node : ℕ) (p : Play) → Extends p (acted sid node p).0
-act_adds sid node p = by (live_with (node_of p.past) sid)
-  where
-    by : (o : Option (Program × Session)) → Extends p (option_map_or (λ (x : Program × Session). acted_in sid x.0.graph.name node p) o (p, false)).0
-    by None = nothing p
-    by (Some x) = acting_adds sid x.0.graph.name node p
 
 module _ (start now : Outside) (pl : Player) (words : Option (List (List ℕ))) where
   -- an early end

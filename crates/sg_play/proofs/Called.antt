@@ -1,5 +1,5 @@
 -- What a node answers to a call, as what comes of it.
-use Rattle.std.proofs.Common.{◌≡◌, ◌≢◌, ℕ, List, Option, Some, None, option_map, Result, Err, refl, sym, ◌∙◌, ap, subst}
+use Rattle.std.proofs.Common.{◌≡◌, ℕ, List, Option, Some, None, refl, sym, ◌∙◌, ap}
 use Rattle.sg_model.specs.Last.{Map}
 use Rattle.sg_model.specs.Names.{Name}
 use Rattle.sg_model.specs.Values.{Value}
@@ -14,87 +14,21 @@ use Rattle.sg_protocol.specs.Ranges.{IsCallInRange, AreValues}
 use Rattle.sg_protocol.specs.Spelling.{spelling}
 use Rattle.sg_protocol.specs.Texts.{real}
 use Rattle.sg_protocol.specs.Told.{graph_of_call}
-use Rattle.sg_role.specs.declared.fault.SendFault.TheVariants as sending
-use Rattle.sg_node.specs.Answers.{IsAnswer, GoesOn}
-use Rattle.sg_node.specs.Faults.{start_fault, act_fault, refusal}
-use Rattle.sg_node.specs.declared.fault.StartFault.{StartFault}
-use Rattle.sg_node.specs.declared.fault.StartFault.TheVariants as starting
-use Rattle.sg_node.specs.declared.fault.ActFault.{ActFault}
-use Rattle.sg_node.specs.declared.fault.ActFault.TheVariants as acting
-use Rattle.sg_node.specs.declared.fault.Refusal.{Refusal}
-use Rattle.sg_node.specs.declared.fault.Refusal.TheVariants as refusals
-use Rattle.sg_report.specs.Told.{Told, Sends, NotStarted, NotActed, NotDelivered, told_answer}
+use Rattle.sg_node.specs.Answers.{GoesOn}
+use Rattle.sg_report.specs.Told.{Told, Sends, told_answer}
+use Rattle.sg_protocol.specs.Run.{frame_in}
+use Rattle.sg_report.proofs.Answered.{SendsNothing}
 use Rattle.sg_play.specs.Asking.{Comes, sealed_in}
 
--- the answer is one that sends nothing, and this is told of it
-abbrev pub SendsNothing : ℕ → Answer → Option Told → Type 0
-SendsNothing number a told = (told ≡ Some (told_answer number a)) × (None ≡ sealed_in a)
-
--- a fault that is not want of memory
-abbrev pub Given : {F : Type 0} → Option F → Type 0
-Given {F} o = (f : F) × (o ≡ Some f)
-
--- what is told of a fault
-refused : {F : Type 0} (number : ℕ) (a : Answer) (g : F → Answer) (t : F → Told) (o : Option F) → ((f : F) → told_answer number (g f) ≡ t f) → ((f : F) → sealed_in (g f) ≡ None) → Given o
-    → IsAnswer a (option_map g o) → SendsNothing number a (option_map t o)
-refused number a g t o told frame f h =
-    let is : a ≡ g f.0 = subst (λ z. IsAnswer a (option_map g z)) f.1 h in
-    (ap (option_map t) f.1 ∙ ap (λ (z : Told). Some z) (sym (told f.0) ∙ ap (told_answer number) (sym is)), sym (ap sealed_in is ∙ frame f.0))
-
--- no fault is want of memory, but that one
-start_given : (fault : StartFault) → fault ≢ starting.OutOfMemory → Given (start_fault fault)
-start_given starting.UnknownGraph ne = (_, refl)
-start_given starting.BadCast ne = (_, refl)
-start_given (starting.UnknownPeer name) ne = (_, refl)
-start_given starting.Joined ne = (_, refl)
-start_given starting.CacheFull ne = (_, refl)
-start_given starting.SessionsFull ne = (_, refl)
-start_given starting.OutOfMemory ne = absurd (ne refl)
-
-act_given : (fault : ActFault) → fault ≢ acting.OutOfMemory → fault ≢ acting.Send sending.OutOfMemory → Given (act_fault fault)
-act_given acting.UnknownSession ne other = (_, refl)
-act_given acting.NotYourTurn ne other = (_, refl)
-act_given (acting.Send sending.NoSuchLabel) ne other = (_, refl)
-act_given (acting.Send (sending.BadValues var)) ne other = (_, refl)
-act_given (acting.Send sending.TimeSpent) ne other = (_, refl)
-act_given (acting.Send sending.OutOfMemory) ne other = absurd (other refl)
-act_given acting.OutOfMemory ne other = absurd (ne refl)
-
-refusal_given : (fault : Refusal) → fault ≢ refusals.OutOfMemory → Given (refusal fault)
-refusal_given (refusals.Malformed at) ne = (_, refl)
-refusal_given refusals.UnknownGraph ne = (_, refl)
-refusal_given refusals.BadCast ne = (_, refl)
-refusal_given (refusals.UnknownPeer name) ne = (_, refl)
-refusal_given refusals.BadSession ne = (_, refl)
-refusal_given refusals.Joined ne = (_, refl)
-refusal_given refusals.CacheFull ne = (_, refl)
-refusal_given refusals.SessionsFull ne = (_, refl)
-refusal_given refusals.UnknownSession ne = (_, refl)
-refusal_given refusals.NotWaiting ne = (_, refl)
-refusal_given refusals.BadFrameTag ne = (_, refl)
-refusal_given refusals.NoSuchView ne = (_, refl)
-refusal_given (refusals.BadTime item got least) ne = (_, refl)
-refusal_given (refusals.BadEvidence item) ne = (_, refl)
-refusal_given (refusals.BadOpening var) ne = (_, refl)
-refusal_given refusals.OutOfMemory ne = absurd (ne refl)
-
-pub not_started : (number : ℕ) (a : Answer) (fault : StartFault) → fault ≢ starting.OutOfMemory → IsAnswer a (option_map Protocol.NotStarted (start_fault fault)) → SendsNothing number a (option_map NotStarted (start_fault fault))
-not_started number a fault ne h = refused number a Protocol.NotStarted NotStarted (start_fault fault) (λ f. refl) (λ f. refl) (start_given fault ne) h
-
-pub not_acted : (number : ℕ) (a : Answer) (fault : ActFault) → fault ≢ acting.OutOfMemory → fault ≢ acting.Send sending.OutOfMemory → IsAnswer a (option_map Protocol.NotActed (act_fault fault)) → SendsNothing number a (option_map NotActed (act_fault fault))
-not_acted number a fault ne other h = refused number a Protocol.NotActed NotActed (act_fault fault) (λ f. refl) (λ f. refl) (act_given fault ne other) h
-
-pub not_delivered : (number : ℕ) (a : Answer) (fault : Refusal) → fault ≢ refusals.OutOfMemory → IsAnswer a (option_map Protocol.NotDelivered (refusal fault)) → SendsNothing number a (option_map NotDelivered (refusal fault))
-not_delivered number a fault ne h = refused number a Protocol.NotDelivered NotDelivered (refusal fault) (λ f. refl) (λ f. refl) (refusal_given fault ne) h
-
--- an answer without a frame
-pub quiet : (number : ℕ) (a given : Answer) (t : Told) → told_answer number given ≡ t → sealed_in given ≡ None → a ≡ given → SendsNothing number a (Some t)
-quiet number a given t told frame is = (ap (λ (z : Told). Some z) (sym told ∙ ap (told_answer number) (sym is)), sym (ap sealed_in is ∙ frame))
+-- an answer that sends no frame has none that is sealed
+none_sealed : (a : Answer) → None ≡ frame_in a → None ≡ sealed_in a
+none_sealed (Protocol.Sends e to f) h = absurd (cc)
+none_sealed other h = refl
 
 -- what comes of a call that sends nothing
 pub comes_quiet : (number : ℕ) (old new : NodeState) (past : Past) (call : Call) (told : Option Told) (graph : Option Graph) → IsCallInRange call
     → SendsNothing number (answer real (node_of past) call) told → graph ≡ graph_of_call real (node_of past) call → GoesOn old new call past → Comes number old new past call told graph None
-comes_quiet number old new past call told graph range h graphed goes = record { range = range; is_told = h.0; is_graph = graphed; is_sealed = h.1; goes_on = goes }
+comes_quiet number old new past call told graph range h graphed goes = record { range = range; is_told = h.0; is_graph = graphed; is_sealed = none_sealed (answer real (node_of past) call) h.1; goes_on = goes }
 
 -- what comes of a step that was sent
 pub comes_sent : (number : ℕ) (old new : NodeState) (past : Past) (sid : List ℕ) (label : ℕ) (values : Map Value) (words : List (List ℕ)) (e : Protocol.Event) (to : Name) (sealed : Name × List ℕ) (graph : Option Graph) (f : Frame)
@@ -107,7 +41,3 @@ comes_sent number old new past sid label values words e to sealed graph f is_to 
   is_sealed = (λ i. Some (sealed.0, spelled i)) ∙ ap sealed_in (sym given);
   goes_on = goes;
 }
-
--- what failed so failed by one error
-pub err_same : {A E : Type 0} (r : Result A E) (d e : E) → r ≡ Err d → r ≡ Err e → d ≡ e
-err_same r d e a b = cc

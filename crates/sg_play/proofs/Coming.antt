@@ -8,7 +8,7 @@ use Rattle.sg_play.specs.declared.fault.PlayFault.TheVariants.{LinkFailed, Write
 use Rattle.sg_play.specs.declared.player.Player.{Player}
 use Rattle.sg_play.specs.Ends.{Outside, Whole, Ended}
 use Rattle.sg_play.specs.Played.{Play, called, step_in}
-use Rattle.sg_play.specs.Standing.{Came, CameTo, StandsForPlay, done}
+use Rattle.sg_play.specs.Standing.{Came, CameTo, StandsForPlay}
 use Rattle.sg_play.specs.Steps.{Step}
 use Rattle.sg_play.proofs.Endings.{begun, ended_more, stopped, whole_more}
 use Rattle.sg_play.proofs.Extends.{Extends}
@@ -44,29 +44,10 @@ came_after start old new pl p c line made (Err OutOfMemory) w stands l m memory 
 
 -- ---- one after another
 
-module _ {A : Type 0} where
-  -- what an answer says
-  pub came_ok : (start now : Outside) (pl : Player) (p : Play) (r : Result A PlayFault) (a : A) → r ≡ Ok a → Came start now pl p (done r) → StandsForPlay pl p × Whole start now p.steps
-  came_ok start now pl p r a e h = subst (λ (z : Result A PlayFault). Came start now pl p (done z)) e h
-
-  -- and an early end
-  pub came_err : (start now : Outside) (pl : Player) (p q : Play) (r : Result A PlayFault) (f : PlayFault) → r ≡ Err f → Extends p q → Came start now pl p (done r) → Ended start now q.steps (Err f)
-  came_err start now pl p q r f e x h = ended_on start now p q f x (subst (λ (z : Result A PlayFault). Came start now pl p (done z)) e h)
-
-pub to_ok : (start now : Outside) (pl : Player) (words : Option (List (List ℕ))) (p : Play) (r : Result (Unit {0}) PlayFault) (u : Unit {0}) → r ≡ Ok u → CameTo start now pl words p r → (StandsForPlay pl p × Whole start now p.steps) × (words ≡ Some p.words)
-to_ok start now pl words p r u e h = subst (CameTo start now pl words p) e h
-
-pub to_err : (start now : Outside) (pl : Player) (words : Option (List (List ℕ))) (p q : Play) (r : Result (Unit {0}) PlayFault) (f : PlayFault) → r ≡ Err f → Extends p q → CameTo start now pl words p r → Ended start now q.steps (Err f)
-to_err start now pl words p q r f e x h = ended_on start now p q f x (subst (CameTo start now pl words p) e h)
-
 -- the words were not touched
 pub with_words : (start now : Outside) (pl : Player) (words : Option (List (List ℕ))) (p : Play) (r : Result (Unit {0}) PlayFault) → words ≡ Some p.words → Came start now pl p r → CameTo start now pl words p r
 with_words start now pl words p (Ok u) w h = (h, w)
 with_words start now pl words p (Err f) w h = h
-
--- the play that is come to, by another name
-pub to_same : (start now : Outside) (pl : Player) (words : Option (List (List ℕ))) (p q : Play) (r : Result (Unit {0}) PlayFault) → p ≡ q → CameTo start now pl words p r → CameTo start now pl words q r
-to_same start now pl words p q r e h = subst (λ (z : Play). CameTo start now pl words z r) e h
 
 -- an early end, as what was answered says it
 pub failed : (start now : Outside) (pl : Player) (words : Option (List (List ℕ))) (p : Play) (r : Result (Unit {0}) PlayFault) (f : PlayFault) → r ≡ Err f → Ended start now p.steps (Err f) → CameTo start now pl words p r

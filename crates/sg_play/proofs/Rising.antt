@@ -1,13 +1,7 @@
--- A count of faults that rose in a part of a call rose in the call.
+-- A count of faults that rose in the last part of a call rose in the call.
 use Rattle.std.proofs.Common.{ℕ, ◌≤◌, inl, inr, eq-or-lt_of_le, le_trans, arith}
 use Rattle.sg_base.specs.Outside.{HasRisen}
 
--- in its first part
-pub risen_first : (old mid new : ℕ) → mid ≤ new → HasRisen old mid → HasRisen old new
-risen_first old mid new m (inl r) = inl (omega (arith, m, r))
-risen_first old mid new m (inr r) = inr r
-
--- in its last part
 pub risen_last : (old mid new : ℕ) → old ≤ mid → mid ≤ new → HasRisen mid new → HasRisen old new
 risen_last old mid new l m (inl r) = inl (omega (arith, l, r))
 risen_last old mid new l m (inr r) = elim (eq-or-lt_of_le (le_trans l m)) [

@@ -14,13 +14,13 @@ use Rattle.sg_protocol.specs.NodeStates.{NodeState}
 use Rattle.sg_protocol.specs.Past.{Called, past_after}
 use Rattle.sg_protocol.specs.Texts.{real}
 use Rattle.sg_report.specs.Lines.{graph_or_none, line_text}
-use Rattle.sg_report.specs.Told.{Told, told_answer}
+use Rattle.sg_report.specs.Told.{Told, told_answer, session_told, sid_left, sid_told}
 use Rattle.sg_play.specs.declared.player.Player.{Player}
 use Rattle.sg_play.specs.Asking.{Comes, sealed_in}
-use Rattle.sg_play.specs.Meeting.{met_more, sid_told}
+use Rattle.sg_play.specs.Meeting.{met_more}
 use Rattle.sg_play.specs.Played.{Play, answer_in, called, sid_given, step_in}
 use Rattle.sg_play.specs.Standing.{HasAsked, StandsForPlay}
-use Rattle.sg_play.specs.Steps.{frames_in, frames_of, met_in, session_told, sid_left}
+use Rattle.sg_play.specs.Steps.{frames_in, frames_of, met_in}
 use Rattle.sg_play.proofs.Endings.{frames_more}
 
 -- ---- names

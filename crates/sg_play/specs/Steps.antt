@@ -1,10 +1,10 @@
 -- The steps of one principal who plays: each is a call of its node, with the line that tells it and the frame that it sends.
-use Rattle.std.specs.Prelude.{ℕ, ◌+◌, List, [], ◌∷◌, map, flat_map, length, Option, Some, None}
+use Rattle.std.specs.Prelude.{ℕ, ◌+◌, List, [], ◌∷◌, map, flat_map, length}
 use Rattle.std.specs.Option.{option_map_or}
 use Rattle.sg_base.specs.declared.address.Addr.{Addr}
 use Rattle.sg_protocol.specs.Acting.{answer}
 use Rattle.sg_protocol.specs.Calls as Protocol
-use Rattle.sg_protocol.specs.Calls.{sid_of, Call, Answer, events_of_answer, Abandon}
+use Rattle.sg_protocol.specs.Calls.{sid_of, Call, Answer, events_of_answer}
 use Rattle.sg_protocol.specs.Keyring.{Keyring}
 use Rattle.sg_protocol.specs.Past.{Called, Past, node_of, past_after}
 use Rattle.sg_protocol.specs.Spelling.{spelling}
@@ -13,7 +13,7 @@ use Rattle.sg_protocol.specs.Told.{graph_of_call}
 use Rattle.sg_keys.specs.Names.{addr_of}
 use Rattle.sg_lines.specs.Sessions.{Met, session_name}
 use Rattle.sg_report.specs.Lines.{graph_or_none, line_text}
-use Rattle.sg_report.specs.Told.{Told, Happened, Sends, Abandoned, told_answer}
+use Rattle.sg_report.specs.Told.{told_answer, session_told, sid_left}
 
 -- a step: its line, and the frame that it sends, if it sends one, with the address of its receiver
 pub record Step : Type 0 where
@@ -33,18 +33,6 @@ frames_of steps = flat_map (λ s. s.frames) steps
 -- the sessions with an event are called s1, s2 and so on, in the order of their first events
 abbrev pub met_in : List Called → Met
 met_in calls = record { declared = []; events = map sid_of (flat_map (λ c. events_of_answer c.answer) calls) }
-
--- the session that a call gives up
-abbrev pub sid_left : Call → Option (List ℕ)
-sid_left (Abandon sid) = Some sid
-sid_left other = None
-
--- the session that a line names: that of its event, or the one that was left
-abbrev pub session_told : (left : Option (List ℕ)) → Told → Option (List ℕ)
-session_told left (Happened e) = Some (sid_of e)
-session_told left (Sends e to n) = Some (sid_of e)
-session_told left Abandoned = left
-session_told left other = None
 
 -- ---- a step
 

@@ -1,16 +1,14 @@
 //! One principal who plays a script.
-ghost use Rattle.std.specs.Prelude.{◌≡◌, ◌≤◌, ◌+◌, ℕ, List, [], Some, Err, IfOk, IfErr, IfSome, OnOk, option_and_then, unwrap_or};
+ghost use Rattle.std.specs.Prelude.{◌≡◌, ◌≤◌, ◌+◌, ℕ, List, [], Some, Err, IfOk, IfErr, IfSome, OnOk, unwrap_or};
 ghost use Rattle.std.specs.Option.{option_copied, option_map_or};
 ghost use Rattle.sg_base.specs.Outside.{HasRisen};
 ghost use Rattle.sg_lines.specs.Sessions.{Met, naming, session_name};
-ghost use Rattle.sg_protocol.specs.Calls.{Call, Start, Abandon, Deliver, sid_of};
+ghost use Rattle.sg_protocol.specs.Calls.{Call, Start, Deliver};
 ghost use Rattle.sg_report.specs.Lines.{graph_or_none, line_text};
 ghost use Rattle.sg_report.specs.Outcome.{outcome_of};
-ghost use Rattle.sg_report.specs.Told.{Told};
-ghost use Rattle.sg_walk.specs.Model.{event_of};
-ghost use Rattle.sg_play.specs.Meeting.{met_more, sid_told};
+ghost use Rattle.sg_report.specs.Told.{Told, session_told, sid_left};
+ghost use Rattle.sg_play.specs.Meeting.{met_more};
 ghost use Rattle.sg_play.specs.Posting.{frames_made};
-ghost use Rattle.sg_play.specs.Steps.{session_told, sid_left};
 
 use crate::PlayFault;
 use crate::ask::{ask_abandon, ask_deliver, ask_start};
@@ -24,9 +22,8 @@ use sg_keys::Keyring;
 use sg_lines::SessionNames;
 use sg_node::Node;
 use sg_program::Programs;
-use sg_report::Outcome;
+use sg_report::{Outcome, sid_told};
 use sg_script::ScriptChoice;
-use sg_walk::Event;
 use std::alloc::Global;
 
 /// One principal who plays a script: its node, the keys and programs that the node was made with, the choices with the uses that are
@@ -95,7 +92,7 @@ impl<'p> Player<'p> {
     {
         let (outcome, graph) = ask_start(self.alloc, &mut self.node, cast)?;
         self.give(None, graph, &outcome, None, link, out)?;
-        Ok(sid_in(&outcome))
+        Ok(sid_told(&outcome))
     }
 
     /// Takes a delivery: the session whose turn may have come.
@@ -116,7 +113,7 @@ impl<'p> Player<'p> {
     {
         let (outcome, graph) = ask_deliver(self.alloc, &mut self.node, bytes)?;
         self.give(None, graph, &outcome, None, link, out)?;
-        Ok(sid_in(&outcome))
+        Ok(sid_told(&outcome))
     }
 
     /// Leaves a session.
@@ -192,7 +189,7 @@ impl<'p> Player<'p> {
         ensures names { OnOk result ((m : Met) (t : Told) → outcome_of outcome.now ≡ Some t → self.old.names ≡ naming 115 m → self.new.names ≡ naming 115 (met_more m t)) }
         ensures memory { IfErr result (λ e. e ≡ PlayFault.OutOfMemory) }
     {
-        match sid_in(outcome) {
+        match sid_told(outcome) {
             Some(sid) => match self.names.meet(self.alloc, sid) {
                 Ok(()) => Ok(()),
                 Err(_) => Err(PlayFault::OutOfMemory),
@@ -256,35 +253,6 @@ fn session_of(left: Option<Sid>, outcome: &Outcome) -> Option<Sid>
 {
     match outcome {
         Outcome::Abandoned => left,
-        _ => sid_in(outcome),
-    }
-}
-
-// The session in which an outcome happened, if it did in one.
-fn sid_in(outcome: &Outcome) -> Option<Sid>
-    ensures { result ≡ option_and_then sid_told (outcome_of outcome.now) }
-{
-    match outcome {
-        Outcome::Started(event) => Some(sid_of(event)),
-        Outcome::Sent { event, .. } => Some(sid_of(event)),
-        Outcome::Received(event) => Some(sid_of(event)),
-        Outcome::Abandoned => None,
-        Outcome::Crafted { .. } => None,
-        Outcome::NotStarted(_) => None,
-        Outcome::NotActed(_) => None,
-        Outcome::NotAbandoned => None,
-        Outcome::NotDelivered(_) => None,
-        Outcome::NoFrame => None,
-    }
-}
-
-// The session of an event.
-fn sid_of(event: &Event) -> Sid
-    ensures { result ≡ sid_of (event_of event.now) }
-{
-    match event {
-        Event::Started { sid, .. } => *sid,
-        Event::Sent { sid, .. } => *sid,
-        Event::Received { sid, .. } => *sid,
+        _ => sid_told(outcome),
     }
 }

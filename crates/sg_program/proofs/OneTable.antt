@@ -1,10 +1,9 @@
 -- A role has one table of views, and a graph one table of targets.
-use Rattle.std.proofs.Common.{◌≡◌, ℕ, suc, zero, ◌<◌, ◌==◌, nat_lt, true, false, not, List, [], ◌∷◌, length, get_or, refl, sym, ap, ◌∙◌, subst, inl, inr, ◌⊎◌, arith, Contains, true≢false}
+use Rattle.std.proofs.Common.{◌≡◌, ℕ, suc, zero, ◌<◌, nat_lt, true, not, List, [], ◌∷◌, length, get_or, refl, sym, ap, ◌∙◌, subst, inl, inr, ◌⊎◌, arith, Contains, true≢false}
 use Rattle.std.specs.Ordering.{is_lt}
 use Rattle.std.specs.declared.cmp.Ordering.{Ordering}
 use Rattle.std.specs.declared.cmp.Ordering.TheVariants.{Less, Equal, Greater}
 use Rattle.std.proofs.lemmas.Bool.{cases_Bool, and_parts, not-true}
-use Rattle.std.proofs.lemmas.Bool.Decides.{nat_tests}
 use Rattle.std.proofs.lemmas.Cmp.{tied_itself}
 use Rattle.std.proofs.lemmas.List.{ext_get_or}
 use Rattle.std.specs.List.{list_all}
@@ -96,19 +95,6 @@ pub one_view_table : (g : Graph) (r : ℕ) (xs ys : List View) → IsViewTable g
 one_view_table g r xs ys a b = same_views xs ys a.ordered b.ordered (λ v c. (b.each v).1 ((a.each v).0 c)) (λ v c. (a.each v).1 ((b.each v).0 c))
 
 -- ---- targets
-
--- numbers that rise from more than x on lack x
-lacks : (x least : ℕ) (xs : List ℕ) → x < least → rises_from least xs ≡ true → is_in x xs ≡ false
-lacks x least [] l h = refl
-lacks x least (y ∷ ys) l h =
-    let parts = and_parts (not (nat_lt y least)) (rises_from (suc y) ys) h in
-    let up = not-true (nat_lt y least) parts.0 in
-    let apart : (y == x) ≡ false = grind (arith, nat_tests, up, l) in
-    rw apart (lacks x (suc y) ys (grind (arith, nat_tests, up, l)) parts.1)
-
--- a number's test in a list that begins with another
-past : (x y : ℕ) (ys : List ℕ) → (y == x) ≡ false → is_in x (y ∷ ys) ≡ is_in x ys
-past x y ys h = rw h refl
 
 -- two sets of numbers below n that have the same of them are the same
 same_numbers : (n : ℕ) (xs ys : List ℕ) → AreNumbers n xs → AreNumbers n ys → ((x : ℕ) → x < n → is_in x xs ≡ true → is_in x ys ≡ true) → ((x : ℕ) → x < n → is_in x ys ≡ true → is_in x xs ≡ true) → xs ≡ ys

@@ -8,7 +8,7 @@ use Rattle.std.proofs.lemmas.Bool.Decides.{Decides-eqb}
 use Rattle.std.proofs.lemmas.Bool.{and_parts}
 use Rattle.indexmap.specs.IndexSet.{insert_key}
 use Rattle.sg_model.proofs.Small.{bytes_eq-swap, eqb-swap}
-use Rattle.sg_program.specs.declared.programs.Key.{Key}
+use Rattle.sg_program.specs.declared.programs.ProgramKey.{ProgramKey}
 use Rattle.sg_program.specs.Together.{is_key, is_pair}
 use Rattle.sg_base.proofs.SameName.{same, same_is, same-bytes_eq}
 use Rattle.sg_program.proofs.Places.{first_put, first_kept}
@@ -46,17 +46,17 @@ name_kept name place old there n =
 
 -- ---- keys
 
-key_swap : (d : List ℕ) (r : ℕ) (key : Key) → is_key key.digest key.role (record { digest = d; role = r }) ≡ is_key d r key
+key_swap : (d : List ℕ) (r : ℕ) (key : ProgramKey) → is_key key.digest key.role (record { digest = d; role = r }) ≡ is_key d r key
 key_swap d r key = λ i. bytes_eq-swap key.digest d i && eqb-swap key.role r i
 
-key_same : (d : List ℕ) (r : ℕ) (key : Key) → is_key d r key ≡ true → is_key d r ≡ is_key key.digest key.role
+key_same : (d : List ℕ) (r : ℕ) (key : ProgramKey) → is_key d r key ≡ true → is_key d r ≡ is_key key.digest key.role
 key_same d r key e =
     let parts = and_parts _ _ e in
     λ i. is_key ((bytes_eq-Decides d key.digest).0 parts.0 i) ((Decides-eqb r key.role).0 parts.1 i)
 
 -- a place for a key that has none
-pub key_put : (key : Key) (place : ℕ) (old new : List (Key × ℕ)) → is_some (lookup (is_key key.digest key.role) old) ≡ false
-    → ((k : Key) → lookup (is_key k.digest k.role) new ≡ cond (is_key key.digest key.role k) (Some place) (lookup (is_key k.digest k.role) old))
+pub key_put : (key : ProgramKey) (place : ℕ) (old new : List (ProgramKey × ℕ)) → is_some (lookup (is_key key.digest key.role) old) ≡ false
+    → ((k : ProgramKey) → lookup (is_key k.digest k.role) new ≡ cond (is_key key.digest key.role k) (Some place) (lookup (is_key k.digest k.role) old))
     → (d : List ℕ) (r : ℕ) → lookup (is_key d r) new ≡ option_or (lookup (is_key d r) old) (if is_key d r key then Some place else None)
 key_put key place old new gone update d r =
     first_put (is_key key.digest key.role (record { digest = d; role = r })) (is_key d r key) (lookup (is_key d r) old) (lookup (is_key d r) new) place (key_swap d r key)

@@ -4,7 +4,7 @@ use Rattle.std.specs.List.{AllByRecursion}
 use Rattle.std.specs.Map.{lookup}
 use Rattle.sg_protocol.specs.Graph.{Name}
 use Rattle.sg_protocol.specs.Keyring.{Program}
-use Rattle.sg_program.specs.declared.programs.Key.{Key}
+use Rattle.sg_program.specs.declared.programs.ProgramKey.{ProgramKey}
 use Rattle.sg_program.specs.declared.programs.Programs.TheInside.{Inside}
 
 -- the program is of a graph of this name
@@ -16,7 +16,7 @@ abbrev pub is_for : List ℕ → ℕ → Program → Bool
 is_for d r p = bytes_eq d p.digest && (r == p.role)
 
 -- the key has this digest and this role
-abbrev pub is_key : List ℕ → ℕ → Key → Bool
+abbrev pub is_key : List ℕ → ℕ → ProgramKey → Bool
 is_key d r k = bytes_eq d k.digest && (r == k.role)
 
 -- the pair has this name and this role

@@ -22,12 +22,12 @@ pub struct Programs {
     list: Vec<Program>,
     names: IndexMap<Name, usize>,
     parts: IndexSet<(Name, Role)>,
-    digests: IndexMap<Key, usize>,
+    digests: IndexMap<ProgramKey, usize>,
 }
 
 // What a frame looks a program up by: its graph's digest, and its role.
 #[derive(Clone, Copy, PartialEq, Eq, Hash)]
-struct Key {
+struct ProgramKey {
     digest: [u8; 32],
     role: Role,
 }
@@ -105,7 +105,7 @@ impl Programs {
         let place = self.list.len();
         let name = program.graph().name();
         let role = program.role();
-        let key = Key {
+        let key = ProgramKey {
             digest: *program.digest(),
             role,
         };
@@ -140,7 +140,7 @@ impl Programs {
     pub fn find(&self, digest: &[u8; 32], role: Role) -> Option<&Program>
         ensures { option_copied result ≡ find (is_for digest.now role) self.now }
     {
-        let key = Key {
+        let key = ProgramKey {
             digest: *digest,
             role,
         };
@@ -166,7 +166,7 @@ fn reserve_one(
     list: &mut Vec<Program>,
     names: &mut IndexMap<Name, usize>,
     parts: &mut IndexSet<(Name, Role)>,
-    digests: &mut IndexMap<Key, usize>,
+    digests: &mut IndexMap<ProgramKey, usize>,
 ) -> Result<(), OutOfMemory>
     ensures list { list.new.items ≡ list.old.items }
     ensures names { names.new.entries ≡ names.old.entries }
@@ -191,7 +191,7 @@ fn put_name(names: &mut IndexMap<Name, usize>, name: Name, place: usize)
 }
 
 // Keeps the place of a key, where it has none.
-fn put_key(digests: &mut IndexMap<Key, usize>, key: Key, place: usize)
+fn put_key(digests: &mut IndexMap<ProgramKey, usize>, key: ProgramKey, place: usize)
     requires { 0 < spare digests.old }
     ensures { (d : List ℕ) (r : ℕ) → let test = is_key d r in
         lookup test digests.new.entries ≡ option_or (lookup test digests.old.entries) (if test key then Some place else None) }

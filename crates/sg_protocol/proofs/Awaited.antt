@@ -46,12 +46,12 @@ use Rattle.sg_protocol.proofs.Finding.{find_passes, find_all, one_place}
 use Rattle.sg_protocol.proofs.Whole.{FirstCast, found_in, find_some, program_graph, first_past}
 use Rattle.sg_protocol.proofs.Whole as W
 use Rattle.sg_protocol.proofs.First.{first_cast}
-use Rattle.sg_protocol.proofs.Fits.{Fit, fit_new, fit_next, fit_bytes, fit_sends, casts_fit, start_sends, abandon_sends, deliver_sends}
+use Rattle.sg_protocol.proofs.Fits.{Fit, fit_new, fit_next, start_sends, abandon_sends, deliver_sends, fit_steps}
 use Rattle.sg_protocol.proofs.Sendings.{no_entry, act_event, keys_after, receipts_have_sends}
 use Rattle.sg_protocol.proofs.Reduced.{by_role, has-both, reduced}
 use Rattle.sg_protocol.proofs.Relay.{StepsOk, RelayOk, OpensAt, relay_new, at_end}
 use Rattle.sg_protocol.proofs.Rows.{rows_none, viewed}
-use Rattle.sg_protocol.proofs.Flight.{HonestSession, Flight, FrameOk, Taken, Track, New, Here, Gone, SessOk, flight}
+use Rattle.sg_protocol.proofs.Flight.{HonestSession, Flight, FrameOk, Taken, Track, New, SessOk, flight}
 use Rattle.sg_protocol.proofs.Splits.{in_split, split_in, role_small}
 use Rattle.sg_protocol.proofs.Flight as L
 use Rattle.sg_protocol.proofs.Keys as Keys'
@@ -149,10 +149,10 @@ module _ (sha : Hash) (hash : IsHash sha) (programs : List Program) (s : Schedul
   g = first.program.graph
 
   abbrev tp : IsProgram sha first.program
-  tp = W.the_program sha hash programs s compiled sched premises sid first (Fit sha hash programs s compiled sched) (fit_new sha hash programs s compiled sched) (fit_next sha hash programs s compiled sched) (fit_bytes sha hash programs s compiled sched) (fit_sends sha hash programs s compiled sched) (casts_fit sha hash programs s compiled sched)
+  tp = W.the_program sha hash programs s compiled sched premises sid first (fit_steps sha hash programs s compiled sched) (fit_new sha hash programs s compiled sched)
 
   abbrev prog : (r : ℕ) (p : Program) → program_for programs first.cast.graph r ≡ Some p → (p.graph ≡ first.program.graph) × IsViewTable p.graph r p.views
-  prog = W.prog sha hash programs s compiled sched premises sid first (Fit sha hash programs s compiled sched) (fit_new sha hash programs s compiled sched) (fit_next sha hash programs s compiled sched) (fit_bytes sha hash programs s compiled sched) (fit_sends sha hash programs s compiled sched) (casts_fit sha hash programs s compiled sched)
+  prog = W.prog sha hash programs s compiled sched premises sid first (fit_steps sha hash programs s compiled sched) (fit_new sha hash programs s compiled sched)
 
   abbrev targets : ℕ → List ℕ
   targets e = targets_of first.program e
@@ -177,13 +177,13 @@ module _ (sha : Hash) (hash : IsHash sha) (programs : List Program) (s : Schedul
       let h = and_parts (bytes_eq p.digest first.cast.graph) (p.role == role_at (shape p.graph) 0) (find_passes (λ (p : Program). bytes_eq p.digest first.cast.graph && (p.role == role_at (shape p.graph) 0)) programs p e) in
       let there : In programs p = found_in (λ (p : Program). bytes_eq p.digest first.cast.graph && (p.role == role_at (shape p.graph) 0)) programs p e in
       let ip : IsProgram sha p = rec_in (IsProgram sha) programs p programs_ok there in
-      let q : p.graph ≡ first.program.graph = W.same_digest sha hash programs s compiled sched premises sid first (Fit sha hash programs s compiled sched) (fit_new sha hash programs s compiled sched) (fit_next sha hash programs s compiled sched) (fit_bytes sha hash programs s compiled sched) (fit_sends sha hash programs s compiled sched) (casts_fit sha hash programs s compiled sched) p.graph first.program.graph (program_graph sha s.graphs programs compiled p there) (W.g_there sha hash programs s compiled sched premises sid first (Fit sha hash programs s compiled sched) (fit_new sha hash programs s compiled sched) (fit_next sha hash programs s compiled sched) (fit_bytes sha hash programs s compiled sched) (fit_sends sha hash programs s compiled sched) (casts_fit sha hash programs s compiled sched)) (sym ip.digest ∙ same_bytes p.digest first.cast.graph h.0 ∙ sym first.digest ∙ tp.digest) in
+      let q : p.graph ≡ first.program.graph = W.same_digest sha hash programs s compiled sched premises sid first (fit_steps sha hash programs s compiled sched) (fit_new sha hash programs s compiled sched) p.graph first.program.graph (program_graph sha s.graphs programs compiled p there) (W.g_there sha hash programs s compiled sched premises sid first (fit_steps sha hash programs s compiled sched) (fit_new sha hash programs s compiled sched)) (sym ip.digest ∙ same_bytes p.digest first.cast.graph h.0 ∙ sym first.digest ∙ tp.digest) in
       ap (λ z. role_at (shape z) 0) (sym q) ∙ sym (eqb-true p.role (role_at (shape p.graph) 0) h.1)
 
   -- each role has a program
   has_program : (r : ℕ) → r < length g.roles → (p : Program) × (program_for programs first.cast.graph r ≡ Some p)
   has_program r l =
-      let i : In (parts s.graphs) (first.program.graph, r) = in_flat (λ (g : Graph). map (λ r. (g, r)) (below (length g.roles))) s.graphs first.program.graph (first.program.graph, r) (W.g_there sha hash programs s compiled sched premises sid first (Fit sha hash programs s compiled sched) (fit_new sha hash programs s compiled sched) (fit_next sha hash programs s compiled sched) (fit_bytes sha hash programs s compiled sched) (fit_sends sha hash programs s compiled sched) (casts_fit sha hash programs s compiled sched)) (in_map (λ r. (first.program.graph, r)) (below (length first.program.graph.roles)) r (in_below (length first.program.graph.roles) r l)) in
+      let i : In (parts s.graphs) (first.program.graph, r) = in_flat (λ (g : Graph). map (λ r. (g, r)) (below (length g.roles))) s.graphs first.program.graph (first.program.graph, r) (W.g_there sha hash programs s compiled sched premises sid first (fit_steps sha hash programs s compiled sched) (fit_new sha hash programs s compiled sched)) (in_map (λ r. (first.program.graph, r)) (below (length first.program.graph.roles)) r (in_below (length first.program.graph.roles) r l)) in
       let b = in_map_back (λ (p : Program). (p.graph, p.role)) programs (first.program.graph, r) (subst (λ z. In z (first.program.graph, r)) (sym compiled.all) i) in
       let ip : IsProgram sha b.0 = rec_in (IsProgram sha) programs b.0 programs_ok b.1 in
       let d : (b.0).digest ≡ first.cast.graph = ip.digest ∙ ap (λ (y : Graph × ℕ). graph_digest sha y.0) b.2 ∙ sym tp.digest ∙ first.digest in
@@ -203,21 +203,7 @@ module _ (sha : Hash) (hash : IsHash sha) (programs : List Program) (s : Schedul
 
   known_of_session : HonestSession sha s programs sid first.cast first.program.graph (run sha programs s) (Fit sha hash programs s compiled sched) targets
   known_of_session = record {
-    is_hash = hash;
-    is_graph = tp.is_graph;
-    accepted = tp.accepted;
-    is_version = first.fits.version;
-    long_sid = W.long sha hash programs s compiled sched premises sid first (Fit sha hash programs s compiled sched) (fit_new sha hash programs s compiled sched) (fit_next sha hash programs s compiled sched) (fit_bytes sha hash programs s compiled sched) (fit_sends sha hash programs s compiled sched) (casts_fit sha hash programs s compiled sched);
-    names_differ = first.differ;
-    programs_of = W.prog sha hash programs s compiled sched premises sid first (Fit sha hash programs s compiled sched) (fit_new sha hash programs s compiled sched) (fit_next sha hash programs s compiled sched) (fit_bytes sha hash programs s compiled sched) (fit_sends sha hash programs s compiled sched) (casts_fit sha hash programs s compiled sched);
-    unforged = premises.unforged;
-    one_cast = W.the_cast sha hash programs s compiled sched premises sid first (Fit sha hash programs s compiled sched) (fit_new sha hash programs s compiled sched) (fit_next sha hash programs s compiled sched) (fit_bytes sha hash programs s compiled sched) (fit_sends sha hash programs s compiled sched) (casts_fit sha hash programs s compiled sched);
-    fit_next = fit_next sha hash programs s compiled sched;
-    fit_bytes = fit_bytes sha hash programs s compiled sched;
-    fit_sends = fit_sends sha hash programs s compiled sched;
-    casts_fit = casts_fit sha hash programs s compiled sched;
-    binding = W.binding sha hash programs s compiled sched premises sid first (Fit sha hash programs s compiled sched) (fit_new sha hash programs s compiled sched) (fit_next sha hash programs s compiled sched) (fit_bytes sha hash programs s compiled sched) (fit_sends sha hash programs s compiled sched) (casts_fit sha hash programs s compiled sched);
-    inside = W.inside sha hash programs s compiled sched premises sid first (Fit sha hash programs s compiled sched) (fit_new sha hash programs s compiled sched) (fit_next sha hash programs s compiled sched) (fit_bytes sha hash programs s compiled sched) (fit_sends sha hash programs s compiled sched) (casts_fit sha hash programs s compiled sched);
+    of_run = W.of_run sha hash programs s compiled sched premises sid first (fit_steps sha hash programs s compiled sched) (fit_new sha hash programs s compiled sched);
     everyone = everyone;
     same_targets = same_targets;
     was_sent = was_sent_;
@@ -227,7 +213,7 @@ module _ (sha : Hash) (hash : IsHash sha) (programs : List Program) (s : Schedul
   }
 
   abbrev Flight_ : World → Type 0
-  Flight_ w = Flight sha s programs sid first.cast first.program.graph (run sha programs s) (Fit sha hash programs s compiled sched) targets known_of_session w
+  Flight_ w = Flight known_of_session w
 
   all_steps_ok : AllByRecursion (IsStep sha s) s.steps
   all_steps_ok = recursion_from_All (IsStep sha s) s.steps sched.steps
@@ -237,7 +223,7 @@ module _ (sha : Hash) (hash : IsHash sha) (programs : List Program) (s : Schedul
     sids = λ l e to f i h. absurd i;
     keys_are = λ who p e. let r = first_past s.keys programs s.honest who p e in subst (λ (z : Past). (node_of z).keys ≡ keyring_of s.keys who) (sym r.0) refl;
     steps = record { walk = tt; roles = tt; delta_keys = tt; tags = tt; times = tt };
-    tracks = λ who p e. let r = first_past s.keys programs s.honest who p e in subst (λ (z : Past). Track sha s programs sid first.cast first.program.graph (run sha programs s) (Fit sha hash programs s compiled sched) targets known_of_session [] who (node_of z)) (sym r.0) (inl record { alone = refl; none = λ r a b. refl; unjoined = λ r a b h. absurd (cc) });
+    tracks = λ who p e. let r = first_past s.keys programs s.honest who p e in subst (λ (z : Past). Track known_of_session [] who (node_of z)) (sym r.0) (inl record { alone = refl; none = λ r a b. refl; unjoined = λ r a b h. absurd (cc) });
     frames = λ before l after e to f h o i. absurd (no_split before l after h);
   }
     where
@@ -247,13 +233,13 @@ module _ (sha : Hash) (hash : IsHash sha) (programs : List Program) (s : Schedul
 
   flown : Flight_ (run sha programs s)
   unfolding known_of_session
-  flown = flight sha s programs sid first.cast first.program.graph (run sha programs s) (Fit sha hash programs s compiled sched) targets known_of_session (new_world programs s) 1 (W.begins sha hash programs s compiled sched premises sid first (Fit sha hash programs s compiled sched) (fit_new sha hash programs s compiled sched) (fit_next sha hash programs s compiled sched) (fit_bytes sha hash programs s compiled sched) (fit_sends sha hash programs s compiled sched) (casts_fit sha hash programs s compiled sched)) begins_flight s.steps all_steps_ok (fit_new sha hash programs s compiled sched) refl
+  flown = flight known_of_session (new_world programs s) 1 (W.begins sha hash programs s compiled sched premises sid first (fit_steps sha hash programs s compiled sched) (fit_new sha hash programs s compiled sched)) begins_flight s.steps all_steps_ok (fit_new sha hash programs s compiled sched) refl
 
   -- ---- who has the turn, or which frame is under way
 
-  coursed : L.Course_ sha s programs sid first.cast first.program.graph (run sha programs s) (Fit sha hash programs s compiled sched) targets known_of_session (run sha programs s)
+  coursed : L.Course_ known_of_session (run sha programs s)
   unfolding known_of_session
-  coursed = L.course sha s programs sid first.cast first.program.graph (run sha programs s) (Fit sha hash programs s compiled sched) targets known_of_session has_program (new_world programs s) 1 (W.begins sha hash programs s compiled sched premises sid first (Fit sha hash programs s compiled sched) (fit_new sha hash programs s compiled sched) (fit_next sha hash programs s compiled sched) (fit_bytes sha hash programs s compiled sched) (fit_sends sha hash programs s compiled sched) (casts_fit sha hash programs s compiled sched)) (record {
+  coursed = L.course known_of_session has_program (new_world programs s) 1 (W.begins sha hash programs s compiled sched premises sid first (fit_steps sha hash programs s compiled sched) (fit_new sha hash programs s compiled sched)) (record {
     flight_ = begins_flight;
     sourced = λ m f i. absurd i;
     baton = inl refl;
@@ -290,7 +276,7 @@ module _ (sha : Hash) (hash : IsHash sha) (programs : List Program) (s : Schedul
           rest_no false b h = h
 
   -- a session at its turn sends along each edge from its place
-  acts_at : (who : Name) (past : Past) → past_of (run sha programs s) who ≡ Some past → (x : Session) → filter (of_sid sid) (node_of past).live ≡ x ∷ [] → at_turn first.program.graph x ≡ true → L.SessOk sha s programs sid first.cast first.program.graph (run sha programs s) (Fit sha hash programs s compiled sched) targets known_of_session (run sha programs s).log who x → CanAct sha (run sha programs s) first.cast first.program.graph sid
+  acts_at : (who : Name) (past : Past) → past_of (run sha programs s) who ≡ Some past → (x : Session) → filter (of_sid sid) (node_of past).live ≡ x ∷ [] → at_turn first.program.graph x ≡ true → L.SessOk known_of_session (run sha programs s).log who x → CanAct sha (run sha programs s) first.cast first.program.graph sid
   acts_at who past its_past x alone turn ok = record {
     who = who;
     has_turn = ap (principal first.cast) (ap (role_at (shape first.program.graph)) (sym end_is) ∙ role_is) ∙ ok.is_who;
@@ -334,7 +320,7 @@ module _ (sha : Hash) (hash : IsHash sha) (programs : List Program) (s : Schedul
           (not_over (time x) 1000000 t)
           (subst (λ z. find (is_bad z label values) (below 256) ≡ None) (sym p_graph) right)
 
-  holds : L.Holder sha s programs sid first.cast first.program.graph (run sha programs s) (Fit sha hash programs s compiled sched) targets known_of_session (run sha programs s) → CanAct sha (run sha programs s) first.cast first.program.graph sid
+  holds : L.Holder known_of_session (run sha programs s) → CanAct sha (run sha programs s) first.cast first.program.graph sid
   holds h = elim (flown.tracks h.who h.past h.its_past) [
     | inl t ↦ absurd (let z : h.x ∷ [] ≡ [] = sym h.alone ∙ t.alone in cc)
     | inr r ↦ elim r [
@@ -347,13 +333,13 @@ module _ (sha : Hash) (hash : IsHash sha) (programs : List Program) (s : Schedul
   ]
 
   -- the last frame
-  flies : L.Flying sha s programs sid first.cast first.program.graph (run sha programs s) (Fit sha hash programs s compiled sched) targets known_of_session (run sha programs s).log → WasAbandoned first.cast sid (run sha programs s).log ⊎ IsUnderWay sha s (run sha programs s) first.cast sid
+  flies : L.Flying known_of_session (run sha programs s).log → WasAbandoned first.cast sid (run sha programs s).log ⊎ IsUnderWay sha s (run sha programs s) first.cast sid
   flies fy = elim (had_left fy.to sid (run sha programs s).log) [
     | inl had ↦ inl (abandoned_by fy.to had)
     | inr not_left_ ↦ inr (under_way not_left_)
   ]
     where
-      fo : L.FrameOk sha s programs sid first.cast first.program.graph (run sha programs s) (Fit sha hash programs s compiled sched) targets known_of_session (run sha programs s).log fy.before fy.after fy.l fy.to fy.f
+      fo : L.FrameOk known_of_session (run sha programs s).log fy.before fy.after fy.l fy.to fy.f
       fo = flown.frames fy.before fy.l fy.after fy.e fy.to fy.f fy.parts fy.outcome fy.of_session
 
       in_log : In (run sha programs s).log fy.l
@@ -372,7 +358,7 @@ module _ (sha : Hash) (hash : IsHash sha) (programs : List Program) (s : Schedul
       sent_to = (fy.l, fy.e, contains_from_in (run sha programs s).log fy.l in_log, fy.outcome, fo.framed)
 
       done_is : honest_items sid (run sha programs s).log ≡ honest_items sid fy.before ++ fo.item ∷ []
-      done_is = ap (honest_items sid) fy.parts ∙ L.split_items sha s programs sid first.cast first.program.graph (run sha programs s) (Fit sha hash programs s compiled sched) targets known_of_session fy.before fy.l fy.after fy.e fy.to fy.f fo.item fy.outcome fy.of_session fo.its_last ∙ ap (λ l. honest_items sid fy.before ++ fo.item ∷ l) fy.nothing_later
+      done_is = ap (honest_items sid) fy.parts ∙ L.split_items known_of_session fy.before fy.l fy.after fy.e fy.to fy.f fo.item fy.outcome fy.of_session fo.its_last ∙ ap (λ l. honest_items sid fy.before ++ fo.item ∷ l) fy.nothing_later
 
       untaken_ : (e : Event) → HadAnswer (run sha programs s).log fy.to (Deliver (spelling fy.f)) (Happened e) → ⊥
       untaken_ e had =
@@ -425,13 +411,13 @@ module _ (sha : Hash) (hash : IsHash sha) (programs : List Program) (s : Schedul
     sp : (before : List Logged) × (after : List Logged) × ((run sha programs s).log ≡ before ++ (aw.sent).0 ∷ after)
     sp = in_split (run sha programs s).log (aw.sent).0 (in_from_Contains (run sha programs s).log (aw.sent).0 (aw.sent).2)
 
-    fo : FrameOk sha s programs sid first.cast first.program.graph (run sha programs s) (Fit sha hash programs s compiled sched) targets known_of_session (run sha programs s).log sp.0 sp.1 (aw.sent).0 who f
+    fo : FrameOk known_of_session (run sha programs s).log sp.0 sp.1 (aw.sent).0 who f
     fo = flown.frames sp.0 (aw.sent).0 sp.1 (aw.sent).1 who f sp.2 (aw.sent).3 (flown.sids (aw.sent).0 (aw.sent).1 who f (in_from_Contains (run sha programs s).log (aw.sent).0 (aw.sent).2) (aw.sent).3 ∙ of_sid_)
 
     bytes_are : aw.bytes ≡ spelling f
     bytes_are = (let z : Some aw.bytes ≡ Some (spelling f) = sym (aw.sent).4 ∙ fo.framed in cc)
 
-    untaken : Taken sha s programs sid first.cast first.program.graph (run sha programs s) (Fit sha hash programs s compiled sched) targets known_of_session (run sha programs s).log who f → ⊥
+    untaken : Taken known_of_session (run sha programs s).log who f → ⊥
     untaken t = aw.not_taken (receipt f) (t.0, contains_from_in (run sha programs s).log t.0 t.1, t.2, t.3 ∙ ap (λ z. Some (Deliver z)) (sym bytes_are), t.4)
 
     nothing_after : honest_items sid sp.1 ≡ []
@@ -441,12 +427,9 @@ module _ (sha : Hash) (hash : IsHash sha) (programs : List Program) (s : Schedul
         go [] e = e
         go (i ∷ is') e = absurd (untaken (fo.taken (λ z. (let y : i ∷ is' ≡ [] = sym e ∙ z in absurd (cc)))))
 
-    abbrev done : List Item
-    done = honest_items sid (run sha programs s).log
-
     done_is : honest_items sid (run sha programs s).log ≡ honest_items sid sp.0 ++ fo.item ∷ []
     done_is = ap (honest_items sid) sp.2
-        ∙ L.split_items sha s programs sid first.cast first.program.graph (run sha programs s) (Fit sha hash programs s compiled sched) targets known_of_session sp.0 (aw.sent).0 sp.1 (aw.sent).1 who f fo.item (aw.sent).3 (flown.sids (aw.sent).0 (aw.sent).1 who f (in_from_Contains (run sha programs s).log (aw.sent).0 (aw.sent).2) (aw.sent).3 ∙ of_sid_) fo.its_last
+        ∙ L.split_items known_of_session sp.0 (aw.sent).0 sp.1 (aw.sent).1 who f fo.item (aw.sent).3 (flown.sids (aw.sent).0 (aw.sent).1 who f (in_from_Contains (run sha programs s).log (aw.sent).0 (aw.sent).2) (aw.sent).3 ∙ of_sid_) fo.its_last
         ∙ ap (λ l. honest_items sid sp.0 ++ fo.item ∷ l) nothing_after
 
     r_small : f.receiver < length first.program.graph.roles
@@ -511,13 +494,13 @@ module _ (sha : Hash) (hash : IsHash sha) (programs : List Program) (s : Schedul
           }
 
     -- the receiver waits
-    waits_ : (x : Session) → SessOk sha s programs sid first.cast first.program.graph (run sha programs s) (Fit sha hash programs s compiled sched) targets known_of_session (run sha programs s).log who x → at_turn first.program.graph x ≡ false
+    waits_ : (x : Session) → SessOk known_of_session (run sha programs s).log who x → at_turn first.program.graph x ≡ false
     waits_ x ok = elim (cases_Bool (at_turn first.program.graph x)) [
       | inl t ↦ absurd (untaken (ok.taken t (aw.sent).0 (aw.sent).1 who f (in_from_Contains (run sha programs s).log (aw.sent).0 (aw.sent).2) (aw.sent).3 (flown.sids (aw.sent).0 (aw.sent).1 who f (in_from_Contains (run sha programs s).log (aw.sent).0 (aw.sent).2) (aw.sent).3 ∙ of_sid_)))
       | inr b ↦ b
     ]
 
-    role_of_ : (x : Session) → SessOk sha s programs sid first.cast first.program.graph (run sha programs s) (Fit sha hash programs s compiled sched) targets known_of_session (run sha programs s).log who x → x.role ≡ f.receiver
+    role_of_ : (x : Session) → SessOk known_of_session (run sha programs s).log who x → x.role ≡ f.receiver
     role_of_ x ok = one_place first.cast.names x.role f.receiver first.differ ok.inside_ r_in (ok.is_who ∙ sym who_is)
 
     program_n : program_for n.programs first.cast.graph f.receiver ≡ Some the_p.0
@@ -532,7 +515,7 @@ module _ (sha : Hash) (hash : IsHash sha) (programs : List Program) (s : Schedul
         go true h = refl
         go false h = absurd (let z : false ≡ true = h in cc)
 
-    continues : (x : Session) → filter (of_sid sid) n.live ≡ x ∷ [] → SessOk sha s programs sid first.cast first.program.graph (run sha programs s) (Fit sha hash programs s compiled sched) targets known_of_session (run sha programs s).log who x → first_some (rows sha n f) ≡ None
+    continues : (x : Session) → filter (of_sid sid) n.live ≡ x ∷ [] → SessOk known_of_session (run sha programs s).log who x → first_some (rows sha n f) ≡ None
     continues x alone ok =
         let role : x.role ≡ f.receiver = role_of_ x ok in
         let wt : at_turn first.program.graph x ≡ false = waits_ x ok in
@@ -551,7 +534,7 @@ module _ (sha : Hash) (hash : IsHash sha) (programs : List Program) (s : Schedul
 
     -- ---- a session that is gone
 
-    is_over_not : (x : Session) → SessOk sha s programs sid first.cast first.program.graph (run sha programs s) (Fit sha hash programs s compiled sched) targets known_of_session (run sha programs s).log who x → is_over programs x ≡ true → ⊥
+    is_over_not : (x : Session) → SessOk known_of_session (run sha programs s).log who x → is_over programs x ≡ true → ⊥
     is_over_not x ok o =
         let role : x.role ≡ f.receiver = role_of_ x ok in
         let wt : at_turn first.program.graph x ≡ false = waits_ x ok in
@@ -589,7 +572,7 @@ module _ (sha : Hash) (hash : IsHash sha) (programs : List Program) (s : Schedul
     cast_aw : aw.cast ≡ first.cast
     cast_aw = (let z : Some aw.cast ≡ Some first.cast = sym aw.is_cast ∙ ap (λ z. cast_of_session z (run sha programs s).log) of_sid_ ∙ first.is_cast in cc)
 
-    joins : New sha s programs sid first.cast first.program.graph (run sha programs s) (Fit sha hash programs s compiled sched) targets known_of_session (run sha programs s).log who n → first_some (rows sha n f) ≡ None
+    joins : New known_of_session (run sha programs s).log who n → first_some (rows sha n f) ≡ None
     joins t =
         let none_r : has by_role f.receiver (honest_items sid (run sha programs s).log) ≡ false = t.none f.receiver who_is r_in in
         let none_before : has by_role f.receiver (honest_items sid sp.0) ≡ false = first_no (has by_role f.receiver (honest_items sid sp.0)) _ (sym (has-both f.receiver (honest_items sid sp.0) (fo.item ∷ [])) ∙ ap (has by_role f.receiver) (sym done_is) ∙ none_r) in
@@ -641,7 +624,7 @@ module _ (sha : Hash) (hash : IsHash sha) (programs : List Program) (s : Schedul
     no_row : first_some (rows sha n f) ≡ None
     no_row = go (flown.tracks who past its_past)
       where
-        go : Track sha s programs sid first.cast first.program.graph (run sha programs s) (Fit sha hash programs s compiled sched) targets known_of_session (run sha programs s).log who n → first_some (rows sha n f) ≡ None
+        go : Track known_of_session (run sha programs s).log who n → first_some (rows sha n f) ≡ None
         go (inl t) = joins t
         go (inr (inl t)) = continues t.x t.alone t.ok
         go (inr (inr t)) = elim t.why [
@@ -663,7 +646,7 @@ module _ (sha : Hash) (hash : IsHash sha) (programs : List Program) (s : Schedul
 pub delivery_is_complete : (sha : Hash) → IsHash sha → DeliveryIsComplete sha
 delivery_is_complete sha hash programs s compiled sched premises number who past f its_past aw =
     let steps : AllByRecursion (IsStep sha s) s.steps = recursion_from_All (IsStep sha s) s.steps sched.steps in
-    let first : FirstCast sha s programs f.sid (run sha programs s) = first_cast sha hash s programs f.sid (Fit sha hash programs s compiled sched) (fit_next sha hash programs s compiled sched) (fit_bytes sha hash programs s compiled sched) (casts_fit sha hash programs s compiled sched) steps (fit_new sha hash programs s compiled sched) (some f.sid (run sha programs s).log aw.cast aw.is_cast) in
+    let first : FirstCast sha s programs f.sid (run sha programs s) = first_cast sha hash s programs f.sid (fit_steps sha hash programs s compiled sched) steps (fit_new sha hash programs s compiled sched) (some f.sid (run sha programs s).log aw.cast aw.is_cast) in
     let two : Some first.cast ≡ Some aw.cast = sym first.is_cast ∙ aw.is_cast in
     let same : first.cast ≡ aw.cast = cc in
     accepted sha hash programs s compiled sched premises f.sid first (subst (λ (c : Cast). All (λ n. is_honest s n ≡ true) c.names) (sym same) aw.all_honest) number who past f its_past aw refl (length s.steps + 1)
@@ -675,10 +658,10 @@ pub sessions_go_on : (sha : Hash) → IsHash sha → SessionsGoOn sha
 sessions_go_on sha hash programs s compiled sched premises sid cast g its_cast its_graph honest =
     let steps : AllByRecursion (IsStep sha s) s.steps = recursion_from_All (IsStep sha s) s.steps sched.steps in
     let some : events_of sid (run sha programs s).log ≢ [] = some_event sid (run sha programs s).log cast its_cast in
-    let first : FirstCast sha s programs sid (run sha programs s) = first_cast sha hash s programs sid (Fit sha hash programs s compiled sched) (fit_next sha hash programs s compiled sched) (fit_bytes sha hash programs s compiled sched) (casts_fit sha hash programs s compiled sched) steps (fit_new sha hash programs s compiled sched) some in
+    let first : FirstCast sha s programs sid (run sha programs s) = first_cast sha hash s programs sid (fit_steps sha hash programs s compiled sched) steps (fit_new sha hash programs s compiled sched) some in
     let two : Some first.cast ≡ Some cast = sym first.is_cast ∙ its_cast in
     let same : first.cast ≡ cast = cc in
-    let three : Some first.program.graph ≡ Some g = sym (W.graph_is sha hash programs s compiled sched premises sid first (Fit sha hash programs s compiled sched) (fit_new sha hash programs s compiled sched) (fit_next sha hash programs s compiled sched) (fit_bytes sha hash programs s compiled sched) (fit_sends sha hash programs s compiled sched) (casts_fit sha hash programs s compiled sched)) ∙ ap (λ (c : Cast). graph_with sha s.graphs c.graph) same ∙ its_graph in
+    let three : Some first.program.graph ≡ Some g = sym (W.graph_is sha hash programs s compiled sched premises sid first (fit_steps sha hash programs s compiled sched) (fit_new sha hash programs s compiled sched)) ∙ ap (λ (c : Cast). graph_with sha s.graphs c.graph) same ∙ its_graph in
     let graph : first.program.graph ≡ g = cc in
     subst (λ z. IsAtEnd z sid (run sha programs s).log ⊎ (WasAbandoned cast sid (run sha programs s).log ⊎ (CanAct sha (run sha programs s) cast z sid ⊎ IsUnderWay sha s (run sha programs s) cast sid))) graph
     (subst (λ c. IsAtEnd first.program.graph sid (run sha programs s).log ⊎ (WasAbandoned c sid (run sha programs s).log ⊎ (CanAct sha (run sha programs s) c first.program.graph sid ⊎ IsUnderWay sha s (run sha programs s) c sid))) same

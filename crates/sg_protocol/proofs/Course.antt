@@ -1,46 +1,39 @@
 -- What a run is to the law.
-use Rattle.std.specs.Prelude.{filter_map, ◌≡◌, ℕ, ◌+◌, ◌<◌, ◌≤◌, if◌then◌else◌, ◌⊎◌, Bool, true, false, List, [], ◌∷◌, ◌++◌, map, filter, flat_map, length, find, bytes_eq, refl, Option, Some, None, option_map}
+use Rattle.std.specs.Prelude.{◌≡◌, ℕ, ◌+◌, ◌<◌, ◌≤◌, if◌then◌else◌, ◌⊎◌, Bool, true, false, List, [], ◌∷◌, ◌++◌, map, filter, flat_map, length, find, bytes_eq, refl, Option, Some, None, option_map}
 use Rattle.std.specs.List.{AllByRecursion, cons_option}
 use Rattle.std.specs.Option.{option_map_or}
 use Rattle.std.proofs.Common.{sym, ◌∙◌, ap, subst, inl, inr, arith, append_assoc, append-nil}
 use Rattle.std.proofs.lemmas.List.{map-append}
 use Rattle.std.proofs.lemmas.Slice.Eq.{bytes_eq-Decides}
 use Rattle.sg_model.specs.Last.{Map}
-use Rattle.sg_model.specs.Lists.{all_differ}
 use Rattle.sg_model.specs.Shape.{Shape}
 use Rattle.sg_model.specs.Values.{Value, Opening}
 use Rattle.sg_model.specs.Names.{Name}
-use Rattle.sg_protocol.specs.Graph.{Graph, IsGraph, shape}
-use Rattle.sg_protocol.specs.Evidence.{IsViewTable}
+use Rattle.sg_protocol.specs.Graph.{Graph, shape}
 use Rattle.sg_protocol.specs.Frame.{Cast, Frame, Item, IsValue}
 use Rattle.sg_protocol.specs.Session.{principal, items_of}
 use Rattle.sg_protocol.specs.LastSteps.{exchanges_in, exchanges_of, is_of, sent_item, honest_items}
 use Rattle.sg_protocol.specs.Completeness.{HadAnswer}
 use Rattle.sg_protocol.specs.Spelling.{HasSpelling, u64}
-use Rattle.sg_protocol.specs.Texts.{Hash, IsHash, commitment, commitment_text_of, session_id, session_text_of, graph_text_of}
-use Rattle.sg_protocol.specs.TextLaws.{IsVersion, CastFits, OpeningFits, ValueFits}
+use Rattle.sg_protocol.specs.Texts.{Hash, commitment, commitment_text_of, graph_text_of}
+use Rattle.sg_protocol.specs.TextLaws.{OpeningFits, ValueFits}
 use Rattle.sg_protocol.specs.Keyring.{Program}
 use Rattle.sg_protocol.specs.Notes.{Note, notes}
 use Rattle.sg_protocol.specs.Schedule.{Schedule, is_honest, honest_role, Step, StartStep, ActStep, AbandonStep, DeliverStep, CraftStep, What, cast_of, sid_at, confounder}
 use Rattle.sg_law.specs.Values as V
-use Rattle.sg_law.specs.Values.{State, Made, told_with_item, com_of, Move, Commit, moved, MayTake, Tagged, Framed, Opened, own_of, is_variable, put}
-use Rattle.sg_law.specs.Values.Move.{Writes, Takes}
-use Rattle.sg_law.specs.Values.Deed.{ReadAlong}
+use Rattle.sg_law.specs.Values.{State, Made, Move, Commit, moved}
 use Rattle.sg_law.proofs.Upto.{In}
 use Rattle.sg_law.proofs.Take.{contains_from_in}
 use Rattle.sg_protocol.proofs.Paths.{flat_map-append}
 use Rattle.sg_protocol.proofs.Moves.{step, NoteOk, roles-append}
 use Rattle.sg_protocol.proofs.Entries.{entry, entries, Roles}
 use Rattle.sg_model.specs.Lists.{keys_of}
-use Rattle.sg_law.specs.Values.{MayWrite}
 use Rattle.sg_protocol.specs.Acting.{openings_for, answer}
-use Rattle.sg_protocol.specs.Accepted.{Accepted}
-use Rattle.sg_model.specs.Bytes.{IsBytes}
-use Rattle.sg_protocol.specs.Node.{Node, program_for}
+use Rattle.sg_protocol.specs.Node.{Node}
 use Rattle.sg_protocol.specs.Calls.{Event, Call, Start, Act, Abandon, Deliver, Sends, Abandoned, events_of_answer, sid_of}
 use Rattle.sg_protocol.specs.NodeAfter.{node_after}
 use Rattle.sg_protocol.specs.Walk.{acts_of_event}
-use Rattle.sg_law.specs.Values.{AllMay, May, moved_all, Deed, deed_of, all_openings}
+use Rattle.sg_law.specs.Values.{AllMay, moved_all, deed_of, all_openings}
 use Rattle.sg_protocol.proofs.Paths.{acts_of, TypedDeed}
 use Rattle.sg_protocol.proofs.Acts as C
 use Rattle.std.proofs.lemmas.List.{length-append}
@@ -52,11 +45,17 @@ use Rattle.sg_law.proofs.Members.{in_left, in_right, in_flat, in_parts}
 use Rattle.sg_protocol.specs.Past.{Past, Called, node_of, new_node, node_after_all, past_after}
 use Rattle.sg_protocol.specs.World.{World, Logged, Outcome, Answered, Crafted, NoFrame, past_of, call_of, bytes_of}
 use Rattle.sg_protocol.specs.Run.{called, called_if, uncalled, world_after, world_after_all, frame_in, events_of, events_of_outcome}
-use Rattle.sg_protocol.specs.Premises.{hashed, Unforged}
+use Rattle.sg_protocol.specs.Premises.{hashed}
 use Rattle.sg_protocol.specs.IsSchedule.{IsStep}
 use Rattle.sg_law.proofs.Upto.{in_from_Contains}
 use Rattle.sg_protocol.proofs.Finding.{find_passes}
-use Rattle.sg_protocol.proofs.Calls.{Out, NodeOk, node_kept, start_out, abandon_out, act_out, deliver_out}
+use Rattle.sg_protocol.proofs.KnownSession.{SessionOfRun}
+use Rattle.sg_protocol.proofs.Calls.{Out, NodeOk}
+use Rattle.sg_protocol.proofs.AfterCalls.{node_kept}
+use Rattle.sg_protocol.proofs.StartCall.{start_out}
+use Rattle.sg_protocol.proofs.AbandonCall.{abandon_out}
+use Rattle.sg_protocol.proofs.ActCall.{act_out}
+use Rattle.sg_protocol.proofs.DeliverCall.{deliver_out}
 
 -- ---- pasts
 
@@ -181,14 +180,7 @@ pub small_values : (values : Map Value) → AllByRecursion (λ (w : ℕ × Value
 small_values [] h = tt
 small_values (v ∷ vs) h = (h.0.0, small_values vs h.1)
 
-module _ (sha : Hash) (hash : IsHash sha) (s : Schedule) (programs : List Program) (sid : List ℕ) (cast : Cast) (g : Graph) (is : IsGraph g) (acc : Accepted g) (version : IsVersion cast.version) (long : length sid ≡ 32) (differ : all_differ cast.names ≡ true)
-    (prog : (r : ℕ) (p : Program) → program_for programs cast.graph r ≡ Some p → (p.graph ≡ g) × IsViewTable p.graph r p.views)
-    (wf : World) (unforged : Unforged s wf)
-    (one_cast : (c : Cast) → CastFits c → In (hashed s wf) (session_text_of c) → session_id sha c ≡ sid → c ≡ cast)
-    (Fit : World → Type 0) (fit_next : (w : World) (k : ℕ) (x : Step) → Fit w → IsStep sha s x → Fit (world_after sha s w k x))
-    (fit_bytes : (w : World) → Fit w → (who : Name) (what : What) (bs : List ℕ) → IsStep sha s (DeliverStep who what) → bytes_of w what ≡ Some bs → IsBytes bs)
-    (fit_sends : (w : World) → Fit w → (k : ℕ) (x : Step) (who : Name) (past : Past) (c : Call) (e : Event) (to : Name) (f : Frame) → IsStep sha s x → past_of w who ≡ Some past → call_of sha s w k x ≡ Some c → answer sha (node_of past) c ≡ Sends e to f → HasSpelling f)
-    (casts_fit : (n : ℕ) (c : Cast) → cast_of s n ≡ Some c → CastFits c) where
+module _ {sha : Hash} {s : Schedule} {programs : List Program} {sid : List ℕ} {cast : Cast} {g : Graph} {wf : World} {Fit : World → Type 0} (known : SessionOfRun sha s programs sid cast g wf Fit) where
   abbrev pub commit : Commit
   commit o = commitment sha sid o
 
@@ -203,7 +195,7 @@ module _ (sha : Hash) (hash : IsHash sha) (s : Schedule) (programs : List Progra
   LeftBy who = HadAnswer wf.log who (Abandon sid) Abandoned
 
   abbrev pub Ok_ : State → Name → Node → Type 0
-  Ok_ st who n = NodeOk sha hash s programs sid cast g is acc version long differ prog Hashed one_cast LeftBy st who n
+  Ok_ st who n = NodeOk known.of_cast s LeftBy st who n
 
   -- the items of the session that role r took or gave
   abbrev pub told_by : ℕ → List Called → List Item
@@ -289,12 +281,12 @@ module _ (sha : Hash) (hash : IsHash sha) (s : Schedule) (programs : List Progra
     lefts c after q a = (entry_ c, contains_from_in wf.log (entry_ c) (in_after (k + 1) (called sha w k who c past).log wf.log after (entry_ c) (C.in_last w.log (entry_ c))), refl, ap (λ z. Some z) q, ap (λ z. Answered z) a)
 
     abbrev pub Outs : Call → Type 0
-    Outs c = Out sha hash s programs sid cast g is acc version long differ prog Hashed one_cast LeftBy st who n c (answer sha n c) (notes sha n c)
+    Outs c = Out known.of_cast s LeftBy st who n c (answer sha n c) (notes sha n c)
 
     founds : (c : Call) → Suffix (k + 1) (called sha w k who c past).log wf.log → Founds c
     founds c after nt i h1 h2 =
         let here : In wf.log (entry_ c) = in_after (k + 1) (called sha w k who c past).log wf.log after (entry_ c) (C.in_last w.log (entry_ c)) in
-        let m = unforged (entry_ c) nt (contains_from_in wf.log (entry_ c) here) (contains_from_in (notes sha n c).found nt i) h1 h2 in
+        let m = known.unforged (entry_ c) nt (contains_from_in wf.log (entry_ c) here) (contains_from_in (notes sha n c).found nt i) h1 h2 in
         let before : Suffix k w.log wf.log = suffix_trans k (k + 1) w.log (called sha w k who c past).log wf.log (omega arith) (suffix_one k w.log (entry_ c) refl) after in
         p.noted m.0 nt (in_before k w.log wf.log before m.0 (in_from_Contains wf.log m.0 m.1) m.2) (in_from_Contains (m.0).notes.made nt m.3)
 
@@ -304,23 +296,23 @@ module _ (sha : Hash) (hash : IsHash sha) (s : Schedule) (programs : List Progra
         in_right (map graph_text_of s.graphs) (flat_map (λ (l : Logged). l.notes.hashed) wf.log) t (in_flat (λ (l : Logged). l.notes.hashed) wf.log (entry_ c) t here i)
 
     out_of : (c : Call) → call_of sha s w k x ≡ Some c → Founds c → Hs c → Lefts c → Outs c
-    out_of c e = go x good c e (λ ev to f a. fit_sends w fit k x who past c ev to f good its_past e a)
+    out_of c e = go x good c e (λ ev to f a. known.fits.sends w fit k x who past c ev to f good its_past e a)
       where
         start_ : (o : Option Cast) → (n' : ℕ) → cast_of s n' ≡ o → (c : Call) → option_map Start o ≡ Some c → Hs c → Outs c
         start_ None n' q c e = absurd (cc)
-        start_ (Some d) n' q c e = let r : Start d ≡ c = cc in subst (λ z. Hs z → Outs z) r (λ hs. start_out sha hash s programs sid cast g is acc version long differ prog Hashed one_cast LeftBy st who n ok d (casts_fit n' d q) hs)
+        start_ (Some d) n' q c e = let r : Start d ≡ c = cc in subst (λ z. Hs z → Outs z) r (λ hs. start_out known.of_cast s LeftBy st who n ok d (known.fits.casts n' d q) hs)
 
         deliver_ : (who' : Name) (what : What) → IsStep sha s (DeliverStep who' what) → (o : Option (List ℕ)) → bytes_of w what ≡ o → (c : Call) → option_map Deliver o ≡ Some c → Founds c → Hs c → Outs c
         deliver_ who' what gd None q c e = absurd (cc)
-        deliver_ who' what gd (Some bs) q c e = let r : Deliver bs ≡ c = cc in subst (λ z. Founds z → Hs z → Outs z) r (λ fo hs. deliver_out sha hash s programs sid cast g is acc version long differ prog Hashed one_cast LeftBy st who n ok hon bs (fit_bytes w fit who' what bs gd q) fo hs)
+        deliver_ who' what gd (Some bs) q c e = let r : Deliver bs ≡ c = cc in subst (λ z. Founds z → Hs z → Outs z) r (λ fo hs. deliver_out known.of_cast s LeftBy st who n ok hon bs (known.fits.bytes w fit who' what bs gd q) fo hs)
 
         go : (y : Step) → IsStep sha s y → (c : Call) → call_of sha s w k y ≡ Some c → ((ev : Event) (to : Name) (f : Frame) → answer sha n c ≡ Sends ev to f → HasSpelling f) → Founds c → Hs c → Lefts c → Outs c
         go (StartStep who' n') gd c e sp fo hs ls = start_ (cast_of s n') n' refl c e hs
         go (ActStep who' n' label values) gd c e sp fo hs ls =
             let r : Act (sid_at sha s n') label values (map (λ (v : ℕ × Value). confounder k v.0) values) ≡ c = cc in
             subst (λ z. ((ev : Event) (to : Name) (f : Frame) → answer sha n z ≡ Sends ev to f → HasSpelling f) → Outs z) r
-            (λ sp'. act_out sha hash s programs sid cast g is acc version long differ prog Hashed one_cast LeftBy st who n ok hon (sid_at sha s n') label values (λ (v : ℕ × Value). confounder k v.0) (small_values values gd) (openings_fit k values gd) sp') sp
-        go (AbandonStep who' n') gd c e sp fo hs ls = let r : Abandon (sid_at sha s n') ≡ c = cc in subst (λ z. Lefts z → Outs z) r (λ left. abandon_out sha hash s programs sid cast g is acc version long differ prog Hashed one_cast LeftBy st who n ok (sid_at sha s n') (λ q a. left (ap Abandon q) a)) ls
+            (λ sp'. act_out known.of_cast s LeftBy st who n ok hon (sid_at sha s n') label values (λ (v : ℕ × Value). confounder k v.0) (small_values values gd) (openings_fit k values gd) sp') sp
+        go (AbandonStep who' n') gd c e sp fo hs ls = let r : Abandon (sid_at sha s n') ≡ c = cc in subst (λ z. Lefts z → Outs z) r (λ left. abandon_out known.of_cast s LeftBy st who n ok (sid_at sha s n') (λ q a. left (ap Abandon q) a)) ls
         go (DeliverStep who' what) gd c e sp fo hs ls = deliver_ who' what gd (bytes_of w what) refl c e fo hs
         go (CraftStep cr) gd c e sp fo hs ls = absurd (cc)
 
@@ -388,7 +380,7 @@ module _ (sha : Hash) (hash : IsHash sha) (s : Schedule) (programs : List Progra
                   let r' : y ≡ p' = rw h at r in
                   let both = p.nodes me y q in
                   let ne : me ≡ who → ⊥ = λ z. no_clash (bytes_eq y.keys.me who) ((bytes_eq-Decides y.keys.me who).1 (is_me ∙ z)) h in
-                  (subst (λ z. Ok_ (moved_all commit st out.moves) me (node_of z)) r' (node_kept sha hash s programs sid cast g is acc version long differ prog Hashed one_cast LeftBy st (moved_all commit st out.moves) who me (node_of y) ne out.kept both.0), both.1)
+                  (subst (λ z. Ok_ (moved_all commit st out.moves) me (node_of z)) r' (node_kept known.of_cast s LeftBy st (moved_all commit st out.moves) who me (node_of y) ne out.kept both.0), both.1)
             ]
           where
             no_clash : (b : Bool) → b ≡ true → b ≡ false → ⊥
@@ -430,7 +422,7 @@ module _ (sha : Hash) (hash : IsHash sha) (s : Schedule) (programs : List Progra
     keep_all w k p h [] good fit e = subst P e h
     keep_all w k p h (x ∷ xs) good fit e =
         let after : Suffix (k + 1) (world_after sha s w k x).log wf.log = subst (λ (z : World). Suffix (k + 1) (world_after sha s w k x).log z.log) e (suffix_all sha s (world_after sha s w k x) (k + 1) xs) in
-        keep_all (world_after sha s w k x) (k + 1) (one_step w k p x good.0 fit after) (keep_step w k p h x good.0 fit after) xs good.1 (fit_next w k x fit good.0) e
+        keep_all (world_after sha s w k x) (k + 1) (one_step w k p x good.0 fit after) (keep_step w k p h x good.0 fit after) xs good.1 (known.fits.next w k x fit good.0) e
 
   -- what each call keeps of a world and of what it is to the law, and each step without a call, holds in the end
   module _ (P : (w : World) → Progress w → Type 0) (P_idle : (w : World) (k : ℕ) (p : Progress w) → P w p → (who : Option Name) (o : Outcome) (fr : Option (List ℕ)) (e : events_of_outcome o ≡ []) → P (uncalled w k who o fr) (idle w k who o fr e p))
@@ -457,4 +449,4 @@ module _ (sha : Hash) (hash : IsHash sha) (s : Schedule) (programs : List Progra
     with_all w k p [] good fit e = subst With e p
     with_all w k p (x ∷ xs) good fit e =
         let after : Suffix (k + 1) (world_after sha s w k x).log wf.log = subst (λ (z : World). Suffix (k + 1) (world_after sha s w k x).log z.log) e (suffix_all sha s (world_after sha s w k x) (k + 1) xs) in
-        with_all (world_after sha s w k x) (k + 1) (with_step w k p x good.0 fit after) xs good.1 (fit_next w k x fit good.0) e
+        with_all (world_after sha s w k x) (k + 1) (with_step w k p x good.0 fit after) xs good.1 (known.fits.next w k x fit good.0) e

@@ -11,7 +11,7 @@ use Rattle.sg_model.specs.Shape.{role_at}
 use Rattle.sg_model.specs.Values.{Value}
 use Rattle.sg_model.specs.Names.{Name}
 use Rattle.sg_protocol.specs.Graph.{Graph, shape}
-use Rattle.sg_protocol.specs.Frame.{Cast, Item, Frame, IsItem, IsTag, IsValue, IsOpening}
+use Rattle.sg_protocol.specs.Frame.{Cast, Item, Frame}
 use Rattle.sg_protocol.specs.Spelling.{HasSpelling}
 use Rattle.sg_protocol.specs.Texts.{Hash, IsHash, session_id, session_text_of, graph_text_of}
 use Rattle.sg_protocol.specs.TextLaws.{IsVersion, CastFits}
@@ -42,6 +42,7 @@ use Rattle.sg_protocol.specs.World.{World, Logged, Answered, past_of, new_world,
 use Rattle.sg_protocol.specs.Run.{called, called_if, world_after, world_after_all, run, frame_in, events_of, events_of_outcome, cast_in}
 use Rattle.sg_protocol.specs.IsSchedule.{IsStep}
 use Rattle.sg_protocol.proofs.Finding.{find_passes}
+use Rattle.sg_protocol.proofs.KnownSession.{FitSteps}
 use Rattle.sg_protocol.proofs.Course.{past_called, next_past, node_more, Suffix, suffix_all}
 use Rattle.sg_protocol.proofs.Whole.{FirstCast, first_past, found_in}
 use Rattle.std.specs.Result.{result_ok}
@@ -267,9 +268,7 @@ module _ (sha : Hash) (hash : IsHash sha) (s : Schedule) (programs : List Progra
     is_outcome : l.outcome ≡ Answered answer_
     begun : BegunBy call answer_ l.notes
 
-  module _ (Fit : World → Type 0) (fit_next : (w : World) (k : ℕ) (x : Step) → Fit w → IsStep sha s x → Fit (world_after sha s w k x))
-      (fit_bytes : (w : World) → Fit w → (who : Name) (what : What) (bs : List ℕ) → IsStep sha s (DeliverStep who what) → bytes_of w what ≡ Some bs → IsBytes bs)
-      (casts_fit : (n : ℕ) (c : Cast) → cast_of s n ≡ Some c → CastFits c) where
+  module _ {Fit : World → Type 0} (fits : FitSteps sha s Fit) where
     module _ (w : World) (k : ℕ) (q : QuietIn w) (x : Step) (good : IsStep sha s x) (fit : Fit w) (who : Name) (past : Past) (its_past : past_of w who ≡ Some past) where
       abbrev n_ : Node
       n_ = node_of past
@@ -282,11 +281,11 @@ module _ (sha : Hash) (hash : IsHash sha) (s : Schedule) (programs : List Progra
 
           start_ : (o : Option Cast) (n' : ℕ) → cast_of s n' ≡ o → (c : Call) → option_map Start o ≡ Some c → Either n_ c (answer sha n_ c) (notes sha n_ c)
           start_ None n' q' c e = absurd (cc)
-          start_ (Some d) n' q' c e = let r : Start d ≡ c = cc in subst (λ z. Either n_ z (answer sha n_ z) (notes sha n_ z)) r (start_first n_ at.0 at.1 d (casts_fit n' d q'))
+          start_ (Some d) n' q' c e = let r : Start d ≡ c = cc in subst (λ z. Either n_ z (answer sha n_ z) (notes sha n_ z)) r (start_first n_ at.0 at.1 d (fits.casts n' d q'))
 
           deliver_ : (who' : Name) (what : What) → IsStep sha s (DeliverStep who' what) → (o : Option (List ℕ)) → bytes_of w what ≡ o → (c : Call) → option_map Deliver o ≡ Some c → Either n_ c (answer sha n_ c) (notes sha n_ c)
           deliver_ who' what gd None q' c e = absurd (cc)
-          deliver_ who' what gd (Some bs) q' c e = let r : Deliver bs ≡ c = cc in subst (λ z. Either n_ z (answer sha n_ z) (notes sha n_ z)) r (deliver_first n_ at.0 at.1 bs (fit_bytes w fit who' what bs gd q'))
+          deliver_ who' what gd (Some bs) q' c e = let r : Deliver bs ≡ c = cc in subst (λ z. Either n_ z (answer sha n_ z) (notes sha n_ z)) r (deliver_first n_ at.0 at.1 bs (fits.bytes w fit who' what bs gd q'))
 
           go : (y : Step) → IsStep sha s y → (c : Call) → call_of sha s w k y ≡ Some c → Either n_ c (answer sha n_ c) (notes sha n_ c)
           go (StartStep who' n') gd c e = start_ (cast_of s n') n' refl c e
@@ -338,7 +337,7 @@ module _ (sha : Hash) (hash : IsHash sha) (s : Schedule) (programs : List Progra
     all_first : (w : World) (k : ℕ) → QuietIn w → (xs : List Step) → AllByRecursion (IsStep sha s) xs → Fit w → QuietIn (world_after_all sha s w k xs) ⊎ BegunIn (world_after_all sha s w k xs)
     all_first w k q [] good fit = inl q
     all_first w k q (x ∷ xs) good fit = elim (step_first w k q x good.0 fit) [
-      | inl q' ↦ all_first (world_after sha s w k x) (k + 1) q' xs good.1 (fit_next w k x fit good.0)
+      | inl q' ↦ all_first (world_after sha s w k x) (k + 1) q' xs good.1 (fits.next w k x fit good.0)
       | inr b ↦ inr (begun_later (k + 1) (world_after sha s w k x) (world_after_all sha s (world_after sha s w k x) (k + 1) xs) (suffix_all sha s (world_after sha s w k x) (k + 1) xs) b)
     ]
 
@@ -370,7 +369,7 @@ module _ (sha : Hash) (hash : IsHash sha) (s : Schedule) (programs : List Progra
     begun_live : (w : World) (k : ℕ) → QuietIn w → (xs ys : List Step) → AllByRecursion (IsStep sha s) xs → Fit w → (who : Name) (p : Past) → past_of (world_after_all sha s w k xs) who ≡ Some p → (x : Session) → In (node_of p).live x → of_sid sid x ≡ true → BegunIn (world_after_all sha s w k (xs ++ ys))
     begun_live w k q [] ys good fit who p e x i h = absurd (none_there (of_sid sid) (node_of p).live x (q.nodes who p e).1 i h)
     begun_live w k q (y ∷ xs) ys good fit who p e x i h = elim (step_first w k q y good.0 fit) [
-      | inl q' ↦ begun_live (world_after sha s w k y) (k + 1) q' xs ys good.1 (fit_next w k y fit good.0) who p e x i h
+      | inl q' ↦ begun_live (world_after sha s w k y) (k + 1) q' xs ys good.1 (fits.next w k y fit good.0) who p e x i h
       | inr b ↦ begun_later (k + 1) (world_after sha s w k y) (world_after_all sha s (world_after sha s w k y) (k + 1) (xs ++ ys)) (suffix_all sha s (world_after sha s w k y) (k + 1) (xs ++ ys)) b
     ]
 

@@ -1,93 +1,35 @@
 -- The run of a schedule's first steps is the beginning of its run.
-use Rattle.std.specs.Prelude.{◌≡◌, ℕ, zero, suc, ◌+◌, ◌<◌, ◌≤◌, ◌⊎◌, List, [], ◌∷◌, ◌++◌, map, flat_map, length, take, refl, Option, Some, None, option_map, option_and_then, IsSomeAnd, Contains}
+use Rattle.std.specs.Prelude.{◌≡◌, ℕ, zero, suc, ◌+◌, ◌<◌, ◌≤◌, ◌⊎◌, List, [], ◌∷◌, ◌++◌, map, flat_map, length, take, refl, Option, Some, None, option_map, Contains}
 use Rattle.std.specs.List.{AllByRecursion}
 use Rattle.std.specs.Option.{option_map_or}
 use Rattle.std.proofs.Common.{sym, ◌∙◌, ap, subst, inl, inr, arith}
 use Rattle.std.proofs.lemmas.List.Elements.{All-take, All-from_recursion, recursion_from_All}
-use Rattle.sg_model.specs.Last.{Map, last}
+use Rattle.sg_model.specs.Last.{last}
 use Rattle.sg_model.specs.Names.{Name}
 use Rattle.sg_law.proofs.Members.{in_left, in_right, in_flat, in_parts}
 use Rattle.sg_law.proofs.Lists.{last-append}
 use Rattle.sg_law.proofs.Upto.{In, in_from_Contains}
 use Rattle.sg_law.proofs.Take.{contains_from_in}
-use Rattle.sg_protocol.specs.Graph.{Graph}
-use Rattle.sg_protocol.specs.Frame.{Cast, Item, Frame}
-use Rattle.sg_protocol.specs.Spelling.{HasSpelling, spelling}
-use Rattle.sg_protocol.specs.Texts.{Hash, cut, session_id, graph_text_of}
+use Rattle.sg_protocol.specs.Frame.{Frame}
+use Rattle.sg_protocol.specs.Spelling.{spelling}
+use Rattle.sg_protocol.specs.Texts.{Hash, graph_text_of}
 use Rattle.sg_protocol.specs.Keyring.{Program}
-use Rattle.sg_protocol.specs.Session.{Session, new_session}
-use Rattle.sg_protocol.specs.Sending.{text_to, text_of}
-use Rattle.sg_protocol.specs.Schedule.{Schedule, Source, CraftItem, Craft, Step, Key, CopyItem, CopySeal, Zero, StartStep, ActStep, AbandonStep, DeliverStep, CraftStep, graph_with, cast_of}
+use Rattle.sg_protocol.specs.Schedule.{Schedule, Step, StartStep, ActStep, AbandonStep, DeliverStep, CraftStep}
 use Rattle.sg_protocol.specs.Calls.{Call}
 use Rattle.sg_protocol.specs.Past.{Past}
 use Rattle.sg_protocol.specs.World.{World, Logged, Crafted, new_world, call_of, past_of}
-use Rattle.sg_protocol.specs.Crafted.{tag_by, crafted_item, crafted_items, known_item, crafted_cast, crafted_frame, crafted}
 use Rattle.sg_protocol.specs.Run.{called_if, uncalled, world_after, world_after_all, run}
 use Rattle.sg_protocol.specs.Premises.{MadeBefore, hashed, Premises}
 use Rattle.sg_protocol.specs.IsSchedule.{IsSchedule, IsStep}
 use Rattle.sg_protocol.specs.Beginnings.{first_steps, IsLogUpTo, RunsGoOn, PremisesHoldBefore}
+use Rattle.sg_protocol.proofs.OtherSteps.{crafted_same, all_on}
 use Rattle.sg_protocol.proofs.Course.{Suffix, suffix_refl, suffix_all, in_before, in_after}
 
 -- ---- the schedule's steps don't matter to one step
 
 module _ (sha : Hash) (s : Schedule) (n : ℕ) where
-  tag_same : (w : World) (text : List ℕ) (x : Source) → tag_by sha (first_steps n s) w text x ≡ tag_by sha s w text x
-  tag_same w text (Key a b) = refl
-  tag_same w text (CopyItem f i r) = refl
-  tag_same w text (CopySeal f) = refl
-  tag_same w text Zero = refl
-
-  tags_same : (w : World) (text : ℕ → List ℕ) (v : ℕ) (ts : Map Source) → map {B = ℕ × List ℕ} (λ (t : ℕ × Source). (t.0, cut v (tag_by sha (first_steps n s) w (text t.0) t.1))) ts ≡ map {B = ℕ × List ℕ} (λ (t : ℕ × Source). (t.0, cut v (tag_by sha s w (text t.0) t.1))) ts
-  tags_same w text v [] = refl
-  tags_same w text v (t ∷ ts) =
-      ap (λ (z : List ℕ). (t.0, cut v z) ∷ map {B = ℕ × List ℕ} (λ (t : ℕ × Source). (t.0, cut v (tag_by sha (first_steps n s) w (text t.0) t.1))) ts) (tag_same w (text t.0) t.1)
-      ∙ ap (λ l. (t.0, cut v (tag_by sha s w (text t.0) t.1)) ∷ l) (tags_same w text v ts)
-
-  item_same : (w : World) (g : Graph) (x : Session) (before : List Item) (c : CraftItem) → crafted_item sha (first_steps n s) w g x before c ≡ crafted_item sha s w g x before c
-  item_same w g x before c =
-      let i : Item = record (crafted_item sha s w g x before c) { tags = [] } in
-      ap (λ (ts : Map (List ℕ)). record i { tags = ts }) (tags_same w (text_to g x before i) x.cast.version c.tags)
-
-  items_same : (w : World) (g : Graph) (x : Session) (before : List Item) (cs : List CraftItem) → crafted_items sha (first_steps n s) w g x before cs ≡ crafted_items sha s w g x before cs
-  items_same w g x before [] = refl
-  items_same w g x before (c ∷ cs) =
-      ap (λ (i : Item). i ∷ crafted_items sha (first_steps n s) w g x (before ++ i ∷ []) cs) (item_same w g x before c)
-      ∙ ap (λ l. crafted_item sha s w g x before c ∷ l) (items_same w g x (before ++ crafted_item sha s w g x before c ∷ []) cs)
-
-  frame_same : (w : World) (c : Craft) (g : Graph) (x : Session) → crafted_frame sha (first_steps n s) w c g x ≡ crafted_frame sha s w c g x
-  frame_same w c g x =
-      ap finish (items_same w g x (known_item sha x.sid c.know ∷ []) c.items)
-      ∙ ap (λ (t : List ℕ). record (plain (crafted_items sha s w g x (known_item sha x.sid c.know ∷ []) c.items)) { tag = cut x.cast.version t }) (tag_same w (text_of (plain (crafted_items sha s w g x (known_item sha x.sid c.know ∷ []) c.items))) c.seal)
-    where
-      plain : List Item → Frame
-      plain is = record {
-        version = x.cast.version;
-        sid = x.sid;
-        sender = c.from;
-        receiver = c.to;
-        join = option_map (crafted_cast x.cast) c.join;
-        items = is;
-        openings = c.openings;
-        tag = [];
-      }
-
-      finish : List Item → Frame
-      finish is = record (plain is) { tag = cut x.cast.version (tag_by sha (first_steps n s) w (text_of (plain is)) c.seal) }
-
-  crafted_same : (w : World) (c : Craft) → crafted sha (first_steps n s) w c ≡ crafted sha s w c
-  crafted_same w c = by_cast (cast_of s c.session)
-    where
-      by_graph : (d : Cast) (o : Option Graph) → option_map (λ g. crafted_frame sha (first_steps n s) w c g (new_session (session_id sha d) d c.from)) o ≡ option_map (λ g. crafted_frame sha s w c g (new_session (session_id sha d) d c.from)) o
-      by_graph d None = refl
-      by_graph d (Some g) = ap (λ (f : Frame). Some f) (frame_same w c g (new_session (session_id sha d) d c.from))
-
-      by_cast : (o : Option Cast) → option_and_then (λ (d : Cast). option_map (λ g. crafted_frame sha (first_steps n s) w c g (new_session (session_id sha d) d c.from)) (graph_with sha s.graphs d.graph)) o
-          ≡ option_and_then (λ (d : Cast). option_map (λ g. crafted_frame sha s w c g (new_session (session_id sha d) d c.from)) (graph_with sha s.graphs d.graph)) o
-      by_cast None = refl
-      by_cast (Some d) = by_graph d (graph_with sha s.graphs d.graph)
-
   step_same : (w : World) (k : ℕ) (x : Step) → world_after sha (first_steps n s) w k x ≡ world_after sha s w k x
-  step_same w k (CraftStep c) = ap (λ (o : Option Frame). uncalled w k None Crafted (option_map spelling o)) (crafted_same w c)
+  step_same w k (CraftStep c) = ap (λ (o : Option Frame). uncalled w k None Crafted (option_map spelling o)) (sym (crafted_same sha s (take n s.steps) w c))
   step_same w k (StartStep who m) = refl
   step_same w k (ActStep who m label values) = refl
   step_same w k (AbandonStep who m) = refl
@@ -106,19 +48,8 @@ module _ (sha : Hash) (s : Schedule) (n : ℕ) where
     keys = h.keys;
     pairs = h.pairs;
     sessions = h.sessions;
-    steps = All-from_recursion (IsStep sha (first_steps n s)) (take n s.steps) (go (take n s.steps) (recursion_from_All (IsStep sha s) (take n s.steps) (All-take (IsStep sha s) n s.steps h.steps)));
+    steps = All-from_recursion (IsStep sha (first_steps n s)) (take n s.steps) (all_on sha s (take n s.steps) (take n s.steps) (recursion_from_All (IsStep sha s) (take n s.steps) (All-take (IsStep sha s) n s.steps h.steps)));
   }
-    where
-      one : (x : Step) → IsStep sha s x → IsStep sha (first_steps n s) x
-      one (CraftStep c) h = subst (λ o. IsSomeAnd o HasSpelling) (sym (crafted_same (new_world [] s) c)) h
-      one (ActStep who m label values) h = h
-      one (DeliverStep who what) h = h
-      one (StartStep who m) h = h
-      one (AbandonStep who m) h = h
-
-      go : (xs : List Step) → AllByRecursion (IsStep sha s) xs → AllByRecursion (IsStep sha (first_steps n s)) xs
-      go [] a = tt
-      go (x ∷ xs) a = (one x a.0, go xs a.1)
 
 pub run_first : (sha : Hash) (programs : List Program) (s : Schedule) (n : ℕ) → run sha programs (first_steps n s) ≡ world_after_all sha s (new_world programs s) 1 (take n s.steps)
 run_first sha programs s n = all_same sha s n (new_world programs s) 1 (take n s.steps)

@@ -20,7 +20,7 @@ use Rattle.sg_protocol.specs.TextLaws.{CastFits}
 use Rattle.sg_protocol.specs.Keyring.{Program}
 use Rattle.sg_protocol.specs.Session.{Session, principal, new_session}
 use Rattle.sg_protocol.specs.Calls.{Event, Call, Start, Act, Abandon, Deliver, Answer, Sends}
-use Rattle.sg_protocol.specs.Schedule.{Schedule, is_honest, honest_role, Step, StartStep, ActStep, AbandonStep, DeliverStep, CraftStep, What, Declared, PairKey, cast_of, sid_at, confounder, graph_with}
+use Rattle.sg_protocol.specs.Schedule.{Schedule, Step, StartStep, ActStep, AbandonStep, DeliverStep, CraftStep, What, Declared, cast_of, sid_at, confounder, graph_with}
 use Rattle.sg_protocol.specs.Acting.{answer}
 use Rattle.std.specs.Prelude.{Result, Ok, Err, option_and_then}
 use Rattle.sg_model.specs.Bytes.{IsBytes}
@@ -31,7 +31,7 @@ use Rattle.sg_protocol.proofs.ReadBack.{read-SpellsFrame}
 use Rattle.std.specs.Prelude.{slice_get, IsSomeAnd, IsTrue, take, replicate, ◌-◌}
 use Rattle.std.specs.Result.{result_ok}
 use Rattle.sg_protocol.specs.Past.{Past, node_of, new_node, past_after}
-use Rattle.sg_protocol.specs.World.{World, Logged, Outcome, Answered, Crafted, NoFrame, past_of, new_world, call_of, bytes_of, keyring_of}
+use Rattle.sg_protocol.specs.World.{World, Logged, Outcome, Crafted, NoFrame, past_of, new_world, call_of, bytes_of}
 use Rattle.sg_protocol.specs.Run.{called, called_if, uncalled, world_after, run, frame_in, events_of}
 use Rattle.sg_protocol.specs.Crafted.{crafted}
 use Rattle.sg_protocol.specs.Premises.{Premises}
@@ -43,6 +43,7 @@ use Rattle.sg_protocol.specs.Headline.{IsExplained, SessionsFollowWalks}
 use Rattle.sg_protocol.proofs.Finding.{find_passes, find_all}
 use Rattle.sg_model.specs.Names.{is_name}
 use Rattle.sg_model.proofs.Small.{same_bytes, all-append}
+use Rattle.sg_protocol.proofs.KnownSession.{FitSteps}
 use Rattle.sg_protocol.proofs.Course.{past_called, next_past, node_more}
 use Rattle.sg_protocol.proofs.Whole.{first_past}
 use Rattle.sg_protocol.proofs.First.{first_cast, programs_after}
@@ -353,10 +354,13 @@ module _ (sha : Hash) (hash : IsHash sha) (programs : List Program) (s : Schedul
   fit_next w k (AbandonStep who n') fit good = past_fit w k fit (AbandonStep who n') good who (past_of w who) refl (call_of sha s w k (AbandonStep who n')) refl
   fit_next w k (DeliverStep who what) fit good = past_fit w k fit (DeliverStep who what) good who (past_of w who) refl (call_of sha s w k (DeliverStep who what)) refl
 
+  pub fit_steps : FitSteps sha s Fit
+  fit_steps = record { next = fit_next; bytes = fit_bytes; sends = fit_sends; casts = casts_fit }
+
   pub follow_all : Premises sha s (run sha programs s) → (sid : List ℕ) → events_of sid (run sha programs s).log ≢ [] → IsExplained sha s (run sha programs s) sid
   follow_all premises sid some =
       let steps : AllByRecursion (IsStep sha s) s.steps = go s.steps sched.steps in
-      explained sha hash programs s compiled sched premises sid (first_cast sha hash s programs sid Fit fit_next fit_bytes casts_fit steps fit_new some) Fit fit_new fit_next fit_bytes fit_sends casts_fit
+      explained sha hash programs s compiled sched premises sid (first_cast sha hash s programs sid fit_steps steps fit_new some) fit_steps fit_new
     where
       go : (xs : List Step) → All (IsStep sha s) xs → AllByRecursion (IsStep sha s) xs
       go [] a = tt

@@ -6,20 +6,17 @@ use Rattle.std.proofs.lemmas.Bool.{cases_Bool, eqb-true, eq-eqb, ne_eqb, not-tru
 use Rattle.std.proofs.lemmas.List.{map-append}
 use Rattle.std.proofs.lemmas.Slice.Eq.{bytes_eq-Decides}
 use Rattle.sg_model.specs.Last.{has, last, last_or, last_of, after_last}
-use Rattle.sg_model.specs.Lists.{all_differ, first_some}
+use Rattle.sg_model.specs.Lists.{first_some}
 use Rattle.sg_model.specs.Shape.{end_of, role_at, source, receiver}
 use Rattle.sg_model.specs.Values.{Opening}
 use Rattle.sg_model.specs.Names.{Name}
-use Rattle.sg_model.specs.Bytes.{IsBytes}
 use Rattle.sg_model.proofs.Small.{clash, same_bytes, or_true}
 use Rattle.sg_law.proofs.Members.{in_left, in_parts}
 use Rattle.sg_protocol.specs.Graph.{Graph, IsGraph, shape, reads}
 use Rattle.sg_protocol.specs.Accepted.{Accepted}
-use Rattle.sg_protocol.specs.Evidence.{IsViewTable}
 use Rattle.sg_protocol.specs.Frame.{Cast, Frame, Item}
 use Rattle.sg_protocol.specs.Spelling.{HasSpelling, spelling}
-use Rattle.sg_protocol.specs.Texts.{Hash, IsHash, commitment, commitment_text_of, session_id, session_text_of}
-use Rattle.sg_protocol.specs.TextLaws.{IsVersion, CastFits, OpeningFits}
+use Rattle.sg_protocol.specs.Texts.{Hash}
 use Rattle.sg_protocol.specs.Keyring.{Keyring, Program, targets_of, may_return}
 use Rattle.sg_protocol.specs.Session.{Session, Took, Gave, principal, origin, place, time, at_turn, extended, new_session}
 use Rattle.sg_protocol.specs.Reading.{read}
@@ -31,16 +28,13 @@ use Rattle.sg_protocol.specs.Acting.{answer, openings_for}
 use Rattle.sg_protocol.specs.Verdict.{receipt, decided, rows, verdict_on}
 use Rattle.sg_protocol.specs.Notes.{no_notes, notes}
 use Rattle.sg_protocol.specs.Past.{Past, node_of, new_node, past_after}
-use Rattle.sg_protocol.specs.Schedule.{Schedule, honest_role, Step, DeliverStep, What, cast_of}
-use Rattle.sg_protocol.specs.World.{World, Logged, Outcome, Answered, past_of, call_of, bytes_of, keyring_of}
-use Rattle.sg_protocol.specs.Run.{called, uncalled, world_after, world_after_all, frame_in, events_of_outcome, events_of}
-use Rattle.sg_protocol.specs.Premises.{hashed, Unforged}
+use Rattle.sg_protocol.specs.Schedule.{Schedule, honest_role, Step}
+use Rattle.sg_protocol.specs.World.{World, Logged, Outcome, Answered, past_of, call_of, keyring_of}
+use Rattle.sg_protocol.specs.Run.{called, uncalled, world_after_all, frame_in, events_of_outcome, events_of}
 use Rattle.sg_protocol.specs.IsSchedule.{IsStep}
-use Rattle.sg_protocol.specs.Completeness.{HadAnswer}
 use Rattle.sg_protocol.specs.Receipts.{IsTaken, WasSent}
 use Rattle.sg_protocol.specs.LastSteps.{Bare, bare, sent_item, honest_items}
 use Rattle.sg_law.specs.Run as R
-use Rattle.sg_law.specs.Values.{Move, Binding, all_openings}
 use Rattle.sg_law.proofs.Upto.{In, in_from_Contains}
 use Rattle.sg_law.proofs.Upto as Upto'
 use Rattle.sg_law.proofs.Take.{contains_from_in}
@@ -62,27 +56,14 @@ use Rattle.std.specs.Option.{option_map_or}
 use Rattle.std.proofs.lemmas.List.Elements.{filter-append, filter_map-append}
 use Rattle.sg_protocol.proofs.Finding.{one_place, find_passes}
 use Rattle.sg_protocol.proofs.Calls.{Unmoved, WasLeft, HasStarted, HasTaken, HasGiven, TakesFrame}
-use Rattle.sg_protocol.proofs.Course.{Progress, keep_all, Suffix, Outs, past_called, next_past, node_more, in_after, in_before, suffix_trans, suffix_one}
+use Rattle.sg_protocol.proofs.KnownSession.{SessionOfRun}
+use Rattle.sg_protocol.proofs.Course.{Progress, LeftBy, keep_all, Suffix, Outs, past_called, next_past, node_more, in_after, in_before, suffix_trans, suffix_one}
 use Rattle.sg_protocol.proofs.Showing.{shows_called}
 use Rattle.sg_protocol.proofs.Splits.{split_at_end, in_split, split_in, two_splits, rises_mid, role_small}
 
 -- what is known of a session whose principals are all honest, in a run that ends in the world wf, where Fit holds of each world on the way
 pub record HonestSession (sha : Hash) (s : Schedule) (programs : List Program) (sid : List ℕ) (cast : Cast) (g : Graph) (wf : World) (Fit : World → Type 0) (targets : ℕ → List ℕ) : Type 0 where
-  pub is_hash : IsHash sha
-  pub is_graph : IsGraph g
-  pub accepted : Accepted g
-  pub is_version : IsVersion cast.version
-  pub long_sid : length sid ≡ 32
-  pub names_differ : all_differ cast.names ≡ true
-  pub programs_of : (r : ℕ) (p : Program) → program_for programs cast.graph r ≡ Some p → (p.graph ≡ g) × IsViewTable p.graph r p.views
-  pub unforged : Unforged s wf
-  pub one_cast : (c : Cast) → CastFits c → In (hashed s wf) (session_text_of c) → session_id sha c ≡ sid → c ≡ cast
-  pub fit_next : (w : World) (k : ℕ) (x : Step) → Fit w → IsStep sha s x → Fit (world_after sha s w k x)
-  pub fit_bytes : (w : World) → Fit w → (who : Name) (what : What) (bs : List ℕ) → IsStep sha s (DeliverStep who what) → bytes_of w what ≡ Some bs → IsBytes bs
-  pub fit_sends : (w : World) → Fit w → (k : ℕ) (x : Step) (who : Name) (past : Past) (c : Call) (e : Event) (to : Name) (f : Frame) → IsStep sha s x → past_of w who ≡ Some past → call_of sha s w k x ≡ Some c → answer sha (node_of past) c ≡ Sends e to f → HasSpelling f
-  pub casts_fit : (n : ℕ) (c : Cast) → cast_of s n ≡ Some c → CastFits c
-  pub binding : (ms : List Move) → AllByRecursion (λ (o : Opening). In (hashed s wf) (commitment_text_of sid o) × OpeningFits o) (all_openings ms) → Binding (λ o. commitment sha sid o) (all_openings ms)
-  pub inside : (k : ℕ) → honest_role s cast k ≡ true → k < length cast.names
+  pub of_run : SessionOfRun sha s programs sid cast g wf Fit
   pub everyone : (r : ℕ) → r < length g.roles → honest_role s cast r ≡ true
   pub same_targets : (r : ℕ) (p : Program) → program_for programs cast.graph r ≡ Some p → (e : ℕ) → targets_of p e ≡ targets e
   pub was_sent : (l : Logged) (who : Name) (bs : List ℕ) (f : Frame) → IsTaken wf l who bs f → f.sid ≡ sid → honest_role s cast f.sender ≡ true → WasSent wf l.number (principal cast f.sender) bs f
@@ -90,78 +71,21 @@ pub record HonestSession (sha : Hash) (s : Schedule) (programs : List Program) (
   pub starts : (p : Program) → starter programs cast.graph ≡ Some p → role_at (shape g) 0 ≡ p.role
   pub sends_sid : (n : Node) (c : Call) (e : Event) (to : Name) (f : Frame) → answer sha n c ≡ Sends e to f → sid_of e ≡ f.sid
 
-module _ (sha : Hash) (s : Schedule) (programs : List Program) (sid : List ℕ) (cast : Cast) (g : Graph) (wf : World) (Fit : World → Type 0) (targets : ℕ → List ℕ) (known : HonestSession sha s programs sid cast g wf Fit targets) where
-  abbrev hash : IsHash sha
-  hash = known.is_hash
-
+module _ {sha : Hash} {s : Schedule} {programs : List Program} {sid : List ℕ} {cast : Cast} {g : Graph} {wf : World} {Fit : World → Type 0} {targets : ℕ → List ℕ} (known : HonestSession sha s programs sid cast g wf Fit targets) where
   abbrev is : IsGraph g
-  is = known.is_graph
+  is = known.of_run.of_cast.is_graph
 
   abbrev acc : Accepted g
-  acc = known.accepted
-
-  abbrev version : IsVersion cast.version
-  version = known.is_version
-
-  abbrev long : length sid ≡ 32
-  long = known.long_sid
-
-  abbrev differ : all_differ cast.names ≡ true
-  differ = known.names_differ
-
-  abbrev prog : (r : ℕ) (p : Program) → program_for programs cast.graph r ≡ Some p → (p.graph ≡ g) × IsViewTable p.graph r p.views
-  prog = known.programs_of
-
-  abbrev unforged : Unforged s wf
-  unforged = known.unforged
-
-  abbrev one_cast : (c : Cast) → CastFits c → In (hashed s wf) (session_text_of c) → session_id sha c ≡ sid → c ≡ cast
-  one_cast = known.one_cast
-
-  abbrev fit_next : (w : World) (k : ℕ) (x : Step) → Fit w → IsStep sha s x → Fit (world_after sha s w k x)
-  fit_next = known.fit_next
-
-  abbrev fit_bytes : (w : World) → Fit w → (who : Name) (what : What) (bs : List ℕ) → IsStep sha s (DeliverStep who what) → bytes_of w what ≡ Some bs → IsBytes bs
-  fit_bytes = known.fit_bytes
-
-  abbrev fit_sends : (w : World) → Fit w → (k : ℕ) (x : Step) (who : Name) (past : Past) (c : Call) (e : Event) (to : Name) (f : Frame) → IsStep sha s x → past_of w who ≡ Some past → call_of sha s w k x ≡ Some c → answer sha (node_of past) c ≡ Sends e to f → HasSpelling f
-  fit_sends = known.fit_sends
-
-  abbrev casts_fit : (n : ℕ) (c : Cast) → cast_of s n ≡ Some c → CastFits c
-  casts_fit = known.casts_fit
-
-  abbrev binding : (ms : List Move) → AllByRecursion (λ (o : Opening). In (hashed s wf) (commitment_text_of sid o) × OpeningFits o) (all_openings ms) → Binding (λ o. commitment sha sid o) (all_openings ms)
-  binding = known.binding
-
-  abbrev inside : (k : ℕ) → honest_role s cast k ≡ true → k < length cast.names
-  inside = known.inside
-
-  abbrev everyone : (r : ℕ) → r < length g.roles → honest_role s cast r ≡ true
-  everyone = known.everyone
-
-  abbrev same_targets : (r : ℕ) (p : Program) → program_for programs cast.graph r ≡ Some p → (e : ℕ) → targets_of p e ≡ targets e
-  same_targets = known.same_targets
-
-  abbrev was_sent : (l : Logged) (who : Name) (bs : List ℕ) (f : Frame) → IsTaken wf l who bs f → f.sid ≡ sid → honest_role s cast f.sender ≡ true → WasSent wf l.number (principal cast f.sender) bs f
-  was_sent = known.was_sent
-
-  abbrev keys_kept : (n : Node) (c : Call) (a : Answer) → (node_after n c a).keys ≡ n.keys
-  keys_kept = known.keys_kept
-
-  abbrev starts : (p : Program) → starter programs cast.graph ≡ Some p → role_at (shape g) 0 ≡ p.role
-  starts = known.starts
-
-  abbrev sends_sid : (n : Node) (c : Call) (e : Event) (to : Name) (f : Frame) → answer sha n c ≡ Sends e to f → sid_of e ≡ f.sid
-  sends_sid = known.sends_sid
+  acc = known.of_run.of_cast.accepted
 
   abbrev pub honest : ℕ → Bool
   honest k = honest_role s cast k
 
   abbrev pub Prog : World → Type 0
-  Prog w = Progress sha hash s programs sid cast g is acc version long differ prog wf unforged one_cast Fit fit_next fit_bytes fit_sends casts_fit w
+  Prog w = Progress known.of_run w
 
-  abbrev pub LeftBy' : Name → Type 0
-  LeftBy' who = HadAnswer wf.log who (Abandon sid) Abandoned
+  abbrev pub LeftBy_ : Name → Type 0
+  LeftBy_ = LeftBy known.of_run
 
   abbrev pub Steps_ : List Item → Type 0
   Steps_ done = StepsOk sha s.keys sid cast targets g done
@@ -223,7 +147,7 @@ module _ (sha : Hash) (s : Schedule) (programs : List Program) (sid : List ℕ) 
     pub alone : filter (of_sid sid) n.live ≡ []
     pub ok : SessOk log who x
     pub was_joined : has_joined n.joins sid x.role ≡ true
-    pub why : (is_over programs x ≡ true) ⊎ LeftBy' who
+    pub why : (is_over programs x ≡ true) ⊎ LeftBy_ who
 
   abbrev pub Track : List Logged → Name → Node → Type 0
   Track log who n = New log who n ⊎ (Here log who n ⊎ Gone log who n)
@@ -270,7 +194,7 @@ module _ (sha : Hash) (s : Schedule) (programs : List Program) (sid : List ℕ) 
   NoEdge log = list_any (λ e. e.source == end_of (shape g) 0 (labels (honest_items sid log))) g.edges ≡ false
 
   abbrev pub BatonOf : List Logged → Type 0 → Type 0
-  BatonOf log H = (events_of sid log ≡ []) ⊎ (((who : Name) × LeftBy' who) ⊎ (NoEdge log ⊎ (H ⊎ Flying log)))
+  BatonOf log H = (events_of sid log ≡ []) ⊎ (((who : Name) × LeftBy_ who) ⊎ (NoEdge log ⊎ (H ⊎ Flying log)))
 
   -- the session has no event, or was left, or is at its end, or a role has the turn, or a frame is under way
   abbrev pub Baton : World → Type 0
@@ -507,7 +431,7 @@ module _ (sha : Hash) (s : Schedule) (programs : List Program) (sid : List ℕ) 
 
   all_honest : (xs : List Item) → Roles (shape g) xs → AllByRecursion (λ (i : Item). honest_role s cast i.role ≡ true) xs
   all_honest [] r = tt
-  all_honest (i ∷ xs) r = (everyone i.role (subst (λ z. z < length g.roles) (sym r.0) (role_small g is acc (source (shape g) i.label))), all_honest xs r.1)
+  all_honest (i ∷ xs) r = (known.everyone i.role (subst (λ z. z < length g.roles) (sym r.0) (role_small g is acc (source (shape g) i.label))), all_honest xs r.1)
 
   none_taken : (w : World) → Flight w → honest_items sid w.log ≡ [] → AllTaken w.log
   none_taken w fl none l e to f i o h =
@@ -517,22 +441,22 @@ module _ (sha : Hash) (s : Schedule) (programs : List Program) (sid : List ℕ) 
   -- ---- a call
 
   abbrev Unmoved_ : Node → Node → Answer → Type 0
-  Unmoved_ n n' a = Unmoved sha hash s programs sid cast g is acc version long differ prog (λ t. In (hashed s wf) t) one_cast (λ who. HadAnswer wf.log who (Abandon sid) Abandoned) n n' a
+  Unmoved_ n n' a = Unmoved sid n n' a
 
   abbrev WasLeft_ : Name → Node → Node → Answer → Type 0
-  WasLeft_ who n n' a = WasLeft sha hash s programs sid cast g is acc version long differ prog (λ t. In (hashed s wf) t) one_cast (λ who. HadAnswer wf.log who (Abandon sid) Abandoned) who n n' a
+  WasLeft_ who n n' a = WasLeft known.of_run.of_cast s LeftBy_ who n n' a
 
   abbrev HasStarted_ : Name → Node → Node → Answer → Type 0
-  HasStarted_ who n n' a = HasStarted sha hash s programs sid cast g is acc version long differ prog (λ t. In (hashed s wf) t) one_cast (λ who. HadAnswer wf.log who (Abandon sid) Abandoned) who n n' a
+  HasStarted_ who n n' a = HasStarted known.of_run.of_cast s LeftBy_ who n n' a
 
   abbrev HasTaken_ : Name → Node → Node → Call → Answer → Type 0
-  HasTaken_ who n n' c a = HasTaken sha hash s programs sid cast g is acc version long differ prog (λ t. In (hashed s wf) t) one_cast (λ who. HadAnswer wf.log who (Abandon sid) Abandoned) who n n' c a
+  HasTaken_ who n n' c a = HasTaken known.of_run.of_cast s LeftBy_ who n n' c a
 
   abbrev HasGiven_ : Name → Node → Node → Answer → Type 0
-  HasGiven_ who n n' a = HasGiven sha hash s programs sid cast g is acc version long differ prog (λ t. In (hashed s wf) t) one_cast (λ who. HadAnswer wf.log who (Abandon sid) Abandoned) who n n' a
+  HasGiven_ who n n' a = HasGiven known.of_run.of_cast s LeftBy_ who n n' a
 
   module _ (w : World) (k : ℕ) (p : Prog w) (fl : Flight w) (x : Step) (good : IsStep sha s x) (fit : Fit w) (who : Name) (past : Past) (its_past : past_of w who ≡ Some past) (c : Call) (call_is : call_of sha s w k x ≡ Some c) (after : Suffix (k + 1) (called sha w k who c past).log wf.log)
-      (out : Outs sha hash s programs sid cast g is acc version long differ prog wf unforged one_cast Fit fit_next fit_bytes fit_sends casts_fit w k p x good fit who past its_past c) where
+      (out : Outs known.of_run w k p x good fit who past its_past c) where
     abbrev n : Node
     n = node_of past
 
@@ -554,7 +478,7 @@ module _ (sha : Hash) (s : Schedule) (programs : List Program) (sid : List ℕ) 
     assemble so mine others frames_ = record {
       sids = λ l e to f i h. elim (in_parts w.log (l0 ∷ []) l i) [
         | inl j ↦ fl.sids l e to f j h
-        | inr j ↦ elim j [ inl q ↦ (let z : Answered (answer sha (node_of past) c) ≡ Answered (Sends e to f) = ap (λ (z : Logged). z.outcome) (sym q) ∙ h in sends_sid (node_of past) c e to f (cc)) | inr q ↦ absurd q ]
+        | inr j ↦ elim j [ inl q ↦ (let z : Answered (answer sha (node_of past) c) ≡ Answered (Sends e to f) = ap (λ (z : Logged). z.outcome) (sym q) ∙ h in known.sends_sid (node_of past) c e to f (cc)) | inr q ↦ absurd q ]
       ];
       keys_are = λ me p' e. (nodes_ me p' (past_of w me) refl (sym (past_called sha w k who c past me) ∙ e)).0;
       steps = so;
@@ -574,7 +498,7 @@ module _ (sha : Hash) (s : Schedule) (programs : List Program) (sid : List ℕ) 
                   let y_past : y ≡ past = cc in
                   let after_ : past_after sha past c ≡ p' = ap (λ z. past_after sha z c) (sym y_past) ∙ (rw h at r) in
                   let node_is : node_of p' ≡ n' = ap node_of (sym after_) ∙ node_more (new_node past.keys past.programs past.first) past.calls (record { call = c; answer = answer sha (node_of past) c }) in (
-                    ap (λ (m : Node). m.keys) node_is ∙ keys_kept (node_of past) c (answer sha (node_of past) c) ∙ fl.keys_are who past its_past ∙ ap (keyring_of s.keys) (sym same),
+                    ap (λ (m : Node). m.keys) node_is ∙ known.keys_kept (node_of past) c (answer sha (node_of past) c) ∙ fl.keys_are who past its_past ∙ ap (keyring_of s.keys) (sym same),
                     subst (λ z. Track log' z (node_of p')) (sym same) (subst (Track log' who) (sym node_is) mine),
                   )
               | inr h ↦
@@ -640,7 +564,7 @@ module _ (sha : Hash) (s : Schedule) (programs : List Program) (sid : List ℕ) 
 
         over : is_over programs y ≡ true → NoEdge log'
         over o =
-            let p_graph : (the_p.0).graph ≡ g = (prog y.role the_p.0 the_p.1).0 in
+            let p_graph : (the_p.0).graph ≡ g = (known.of_run.of_cast.programs_of y.role the_p.0 the_p.1).0 in
             let prog_y : program_for programs y.cast.graph y.role ≡ Some the_p.0 = ap (λ (c : Cast). program_for programs c.graph y.role) its_cast ∙ the_p.1 in
             let none : not (list_any (λ e. e.source == place (the_p.0).graph y) (the_p.0).graph.edges) ≡ true =
             sym (ap (λ q. option_map_or (λ (p : Program). if at_turn p.graph y then not (list_any (λ e. e.source == place p.graph y) p.graph.edges) else not (option_map_or (may_return p) (origin y) true)) q true) prog_y
@@ -727,13 +651,13 @@ module _ (sha : Hash) (s : Schedule) (programs : List Program) (sid : List ℕ) 
     unjoined_new : (r : ℕ) → principal cast r ≡ who → r < length cast.names → filter (of_sid sid) n.live ≡ [] → has_joined n.joins sid r ≡ false → Track w.log who n → Starting r
     unjoined_new r q l none j (inl t) = fresh_sess r q l (t.none r q l)
     unjoined_new r q l none j (inr (inl t)) = absurd (let z : [] ≡ t.x ∷ [] = sym none ∙ t.alone in cc)
-    unjoined_new r q l none j (inr (inr t)) = absurd (clash (has_joined n.joins sid r) (subst (λ z. has_joined n.joins sid z ≡ true) (one_place cast.names (t.x).role r differ t.ok.inside_ l (t.ok.is_who ∙ sym q)) t.was_joined) j)
+    unjoined_new r q l none j (inr (inr t)) = absurd (clash (has_joined n.joins sid r) (subst (λ z. has_joined n.joins sid z ≡ true) (one_place cast.names (t.x).role r known.of_run.of_cast.names_differ t.ok.inside_ l (t.ok.is_who ∙ sym q)) t.was_joined) j)
 
     on_started : HasStarted_ who n n' a → Flight (called sha w k who c past)
     on_started h =
         let q : Silent l0 = happened_silent (Started sid h.role) h.is_answer in
         let st : Starting h.role = unjoined_new h.role h.is_who h.inside h.none h.unjoined (fl.tracks who past its_past) in
-        let first : at_turn g (new_session sid cast h.role) ≡ true = eq-eqb (role_at (shape g) 0) h.role (starts h.program h.found_p ∙ h.its_role) in
+        let first : at_turn g (new_session sid cast h.role) ≡ true = eq-eqb (role_at (shape g) 0) h.role (known.starts h.program h.found_p ∙ h.its_role) in
         assemble_silent q (settled (new_session sid cast h.role) h.now (sess_more w.log l0 who (new_session sid cast h.role) q record {
           same_sid = refl;
           same_cast = refl;
@@ -748,7 +672,7 @@ module _ (sha : Hash) (s : Schedule) (programs : List Program) (sid : List ℕ) 
     started_baton has h =
         let q : Silent l0 = happened_silent (Started sid h.role) h.is_answer in
         let st : Starting h.role = unjoined_new h.role h.is_who h.inside h.none h.unjoined (fl.tracks who past its_past) in
-        let first : at_turn g (new_session sid cast h.role) ≡ true = eq-eqb (role_at (shape g) 0) h.role (starts h.program h.found_p ∙ h.its_role) in
+        let first : at_turn g (new_session sid cast h.role) ≡ true = eq-eqb (role_at (shape g) 0) h.role (known.starts h.program h.found_p ∙ h.its_role) in
         held has (new_session sid cast h.role) h.now refl (subst (λ l. Relay_ l (new_session sid cast h.role)) (sym (same_items w.log l0 q)) st.relay_) first
 
     started_take : HasStarted_ who n n' a → NoTake l0
@@ -772,7 +696,7 @@ module _ (sha : Hash) (s : Schedule) (programs : List Program) (sid : List ℕ) 
       taken_now : IsTaken (called sha w k who c past) l0 who h.took.bs h.f
       taken_now = (contains_from_in log' l0 (C.in_last w.log l0), refl, ap (λ z. Some z) h.took.is_call, h.took.is_read, ap (λ z. Answered z) h.took.is_answer)
 
-      tf : TakesFrame sha hash s programs sid cast g is acc version long differ prog (λ t. In (hashed s wf) t) one_cast (λ who. HadAnswer wf.log who (Abandon sid) Abandoned) who out.moves h.f
+      tf : TakesFrame known.of_run.of_cast s LeftBy_ who out.moves h.f
       tf = out.took h.f h.took
 
       last_item : (i : Item) × (last f.items ≡ Some i) × (i.role ≡ f.sender)
@@ -789,7 +713,7 @@ module _ (sha : Hash) (s : Schedule) (programs : List Program) (sid : List ℕ) 
           ap (honest_role s cast) (sym last_item.2) ∙ Keys'.all-mid (λ (i : Item). honest_role s cast i.role ≡ true) cut.0 last_item.0 [] (subst (AllByRecursion (λ (i : Item). honest_role s cast i.role ≡ true)) cut.1 all)
 
       ws : WasSent wf k (principal cast f.sender) h.took.bs h.f
-      ws = was_sent l0 who h.took.bs h.f taken_wf h.took.is_sid sender_honest
+      ws = known.was_sent l0 who h.took.bs h.f taken_wf h.took.is_sid sender_honest
 
       ws_in : In w.log ws.0
       ws_in = in_before k w.log wf.log (suffix_trans k (k + 1) w.log (called sha w k who c past).log wf.log (omega arith) (suffix_one k w.log l0 refl) after) ws.0 (in_from_Contains wf.log ws.0 ws.3) ws.4
@@ -807,7 +731,7 @@ module _ (sha : Hash) (s : Schedule) (programs : List Program) (sid : List ℕ) 
       items_are = ap (honest_items sid) sp.2 ∙ split_items sp.0 ws.0 sp.1 ws.1 ws.2 h.f fo.item ws.7 ws_sid fo.its_last
 
       shows_ : map bare (filter (λ (i : Item). honest_role s cast i.role) f.items) ≡ map bare (last_of by_role (after_last by_role f.receiver (honest_items f.sid log')))
-      shows_ = (shows_called sha hash s programs sid cast g is acc version long differ prog wf unforged one_cast Fit fit_next fit_bytes fit_sends casts_fit binding inside w k p x good fit who past its_past c after out
+      shows_ = (shows_called known.of_run w k p x good fit who past its_past c after out
           l0 who h.took.bs h.f (next_past sha who c past) (last-append w.log l0 []) taken_now h.took.is_sid past_now).items
 
       shown_are : map bare f.items ≡ map bare (last_of by_role (after_last by_role f.receiver (honest_items sid w.log)))
@@ -940,7 +864,7 @@ module _ (sha : Hash) (s : Schedule) (programs : List Program) (sid : List ℕ) 
           let so' : StepsOk sha s.keys sid cast targets (h.p).graph done = subst (λ z. StepsOk sha s.keys sid cast targets z done) (sym h.is_graph) fl.steps in
           let k' : RelayOk sha s.keys sid cast targets (h.p).graph done h.x = subst (λ z. RelayOk sha s.keys sid cast targets z done h.x) (sym h.is_graph) sess_.relay in
           let rows' : C.ActRows (h.p).graph h.x h.label h.values = subst (λ z. C.ActRows z h.x h.label h.values) (sym h.is_graph) h.rows in
-          let tg : targets_of h.p h.label ≡ targets h.label = same_targets (h.x).role h.p h.found_p h.label in
+          let tg : targets_of h.p h.label ≡ targets h.label = known.same_targets (h.x).role h.p h.found_p h.label in
           let last' : last (frame_sent sha (keyring_of s.keys (principal cast (h.x).role)) h.p h.x h.label os).items ≡ Some h.item = subst (λ (m : Keyring). last (frame_sent sha m h.p h.x h.label os).items ≡ Some h.item) keys_mine h.its_last in
           let entry' : Entries'.entry h.item ≡ Entries'.entry (own_item sha (keyring_of s.keys (principal cast (h.x).role)) h.p h.x h.label os) = subst (λ (m : Keyring). Entries'.entry h.item ≡ Entries'.entry (own_item sha m h.p h.x h.label os)) keys_mine h.is_entry in
           let wait' : at_turn (h.p).graph (extended h.x (Gave h.item os)) ≡ false = subst (λ z. at_turn z (extended h.x (Gave h.item os)) ≡ false) (sym h.is_graph) h.wait in
@@ -1151,9 +1075,9 @@ module _ (sha : Hash) (s : Schedule) (programs : List Program) (sid : List ℕ) 
         ]
 
   pub flight : (w : World) (k : ℕ) → Prog w → Flight w → (xs : List Step) → AllByRecursion (IsStep sha s) xs → Fit w → world_after_all sha s w k xs ≡ wf → Flight wf
-  flight w k p h xs good fit e = keep_all sha hash s programs sid cast g is acc version long differ prog wf unforged one_cast Fit fit_next fit_bytes fit_sends casts_fit Flight flight_idle
+  flight w k p h xs good fit e = keep_all known.of_run Flight flight_idle
       (λ w k p h x good fit who past its_past c call after out. flight_called w k p h x good fit who past its_past c call after out) w k p h xs good fit e
 
   pub course : HasPrograms → (w : World) (k : ℕ) → Prog w → Course_ w → (xs : List Step) → AllByRecursion (IsStep sha s) xs → Fit w → world_after_all sha s w k xs ≡ wf → Course_ wf
-  course has w k p h xs good fit e = keep_all sha hash s programs sid cast g is acc version long differ prog wf unforged one_cast Fit fit_next fit_bytes fit_sends casts_fit Course_ course_idle
+  course has w k p h xs good fit e = keep_all known.of_run Course_ course_idle
       (λ w k p h x good fit who past its_past c call after out. course_called w k p h.flight_ x good fit who past its_past c call after out has h.sourced h.baton h.left_from h.said) w k p h xs good fit e

@@ -1,6 +1,6 @@
 -- The walk that is made event by event is the law's walk that is made move by move.
-use Rattle.std.specs.Prelude.{◌≡◌, ◌≢◌, ℕ, ◌+◌, ◌==◌, if◌then◌else◌, ◌||◌, ◌⊎◌, Bool, true, false, List, [], ◌∷◌, ◌++◌, map, filter, filter_map, flat_map, length, bytes_eq, refl, Option, Some, None, option_map, Result, Ok}
-use Rattle.std.specs.List.{AllByRecursion, list_any, cons_option}
+use Rattle.std.specs.Prelude.{◌≡◌, ◌≢◌, ℕ, ◌+◌, ◌==◌, if◌then◌else◌, ◌||◌, ◌⊎◌, Bool, true, false, List, [], ◌∷◌, ◌++◌, map, filter, filter_map, flat_map, bytes_eq, refl, Option, Some, None, option_map, Result, Ok}
+use Rattle.std.specs.List.{list_any, cons_option}
 use Rattle.std.specs.Option.{option_or}
 use Rattle.std.proofs.Common.{sym, ◌∙◌, ap, subst, inl, inr, append_assoc, append-nil}
 use Rattle.std.proofs.lemmas.Bool.{cases_Bool, or_right}
@@ -8,47 +8,41 @@ use Rattle.std.proofs.lemmas.List.{map-append}
 use Rattle.std.proofs.lemmas.List.Elements.{filter-append}
 use Rattle.std.proofs.lemmas.Slice.Eq.{bytes_eq-Decides}
 use Rattle.sg_model.specs.Last.{Map, last, after_last}
-use Rattle.sg_model.specs.Lists.{is_in, value_at, keys_of, all_differ}
+use Rattle.sg_model.specs.Lists.{is_in, value_at, keys_of}
 use Rattle.sg_model.specs.Shape.{sender, target, end_of}
 use Rattle.sg_model.specs.Values.{Value, Opening, Code}
 use Rattle.sg_model.specs.Names.{Name}
-use Rattle.sg_model.specs.Bytes.{IsBytes}
 use Rattle.sg_model.proofs.Small.{no_last}
-use Rattle.sg_protocol.specs.Graph.{Graph, IsGraph, shape, writes}
-use Rattle.sg_protocol.specs.Accepted.{Accepted}
-use Rattle.sg_protocol.specs.Evidence.{View, IsView, IsViewTable}
+use Rattle.sg_protocol.specs.Graph.{Graph, shape, writes}
+use Rattle.sg_protocol.specs.Evidence.{View, IsView}
 use Rattle.sg_protocol.specs.Frame.{Cast, Frame, Item}
-use Rattle.sg_protocol.specs.Spelling.{HasSpelling}
-use Rattle.sg_protocol.specs.Texts.{Hash, IsHash, commitment, commitment_text_of, session_id, session_text_of}
-use Rattle.sg_protocol.specs.TextLaws.{IsVersion, CastFits, OpeningFits}
+use Rattle.sg_protocol.specs.Texts.{Hash, commitment}
 use Rattle.sg_protocol.specs.Keyring.{Program}
 use Rattle.sg_protocol.specs.Reading.{read}
-use Rattle.sg_protocol.specs.Calls.{Deliver, Event, Started, Sent, Received, Call, Answer, Happened, Sends, sid_of, events_of_answer}
-use Rattle.sg_protocol.specs.Node.{program_for}
+use Rattle.sg_protocol.specs.Calls.{Deliver, Event, Started, Sent, Received, Call, Answer, Happened, sid_of, events_of_answer}
 use Rattle.sg_protocol.specs.Acting.{answer}
 use Rattle.sg_protocol.specs.Verdict.{receipt, seen}
 use Rattle.sg_protocol.specs.Notes.{no_notes, notes}
 use Rattle.sg_protocol.specs.Past.{Past, node_of}
 use Rattle.sg_protocol.specs.Walk as W
 use Rattle.sg_protocol.specs.Walk.{StoredStep, Act, shown, acts_of_event}
-use Rattle.sg_protocol.specs.Schedule.{Schedule, honest_role, Step, DeliverStep, What, cast_of}
-use Rattle.sg_protocol.specs.World.{World, Logged, Outcome, Answered, past_of, call_of, bytes_of}
-use Rattle.sg_protocol.specs.Run.{called, uncalled, events_of, events_of_outcome, world_after, frame_in}
-use Rattle.sg_protocol.specs.Premises.{hashed, Unforged}
+use Rattle.sg_protocol.specs.Schedule.{Schedule, honest_role, Step}
+use Rattle.sg_protocol.specs.World.{World, Logged, Outcome, Answered, past_of, call_of}
+use Rattle.sg_protocol.specs.Run.{called, uncalled, events_of, events_of_outcome, frame_in}
 use Rattle.sg_protocol.specs.IsSchedule.{IsStep}
 use Rattle.sg_protocol.specs.Grown.{hidden_steps, is_written, filled, grown_by_all, walk_grown, label_sent, view_in, IsExample, IsShown, AllShown}
 use Rattle.sg_law.specs.Accept.{TimedLabel}
 use Rattle.sg_law.specs.Last as B
 use Rattle.sg_law.specs.Run as R
 use Rattle.sg_law.specs.Values as V
-use Rattle.sg_law.specs.Values.{State, Stored, Commit, Move, Sight, MayTake, AllMay, Binding, moved, moved_all, all_openings, deed_of, stored_in}
+use Rattle.sg_law.specs.Values.{State, Stored, Commit, Move, Sight, MayTake, AllMay, moved, moved_all, deed_of, stored_in}
 use Rattle.sg_law.specs.Values.Move.{Writes, Takes}
 use Rattle.sg_law.specs.Grown as G
 use Rattle.sg_law.specs.Grown.{unless_later, found, reveal, unknown, after_honest, moves_of}
 use Rattle.sg_law.proofs.Com.{option_or-none}
 use Rattle.sg_law.proofs.Lists.{nil_from_map, last-append_some}
 use Rattle.sg_law.proofs.Cut.{last-option_map, last-last_of}
-use Rattle.sg_law.proofs.Upto.{In, step_labels-evidence}
+use Rattle.sg_law.proofs.Upto.{step_labels-evidence}
 use Rattle.sg_law.proofs.Take.{alike-labels, step_labels-entries}
 use Rattle.sg_law.proofs.Walks.{end_of_same}
 use Rattle.sg_law.proofs.Follow.{own_is_sent}
@@ -56,6 +50,7 @@ use Rattle.sg_protocol.proofs.Paths.{acts_of, steps_of}
 use Rattle.sg_protocol.proofs.Entries.{entries, sight, sight-since, view_ends}
 use Rattle.sg_protocol.proofs.Moves.{writes_below}
 use Rattle.sg_protocol.proofs.Splits.{split_at_end}
+use Rattle.sg_protocol.proofs.KnownSession.{SessionOfRun}
 use Rattle.sg_protocol.proofs.Course.{Progress, progress_called, progress_moves, idle, idle_moves, Suffix, Outs}
 
 -- ---- values
@@ -214,15 +209,7 @@ module _ (g : Graph) (honest : ℕ → Bool) (commit : Commit) where
 
 -- ---- a run
 
-module _ (sha : Hash) (hash : IsHash sha) (s : Schedule) (programs : List Program) (sid : List ℕ) (cast : Cast) (g : Graph) (is : IsGraph g) (acc : Accepted g) (version : IsVersion cast.version) (long : length sid ≡ 32) (differ : all_differ cast.names ≡ true)
-    (prog : (r : ℕ) (p : Program) → program_for programs cast.graph r ≡ Some p → (p.graph ≡ g) × IsViewTable p.graph r p.views)
-    (wf : World) (unforged : Unforged s wf)
-    (one_cast : (c : Cast) → CastFits c → In (hashed s wf) (session_text_of c) → session_id sha c ≡ sid → c ≡ cast)
-    (Fit : World → Type 0) (fit_next : (w : World) (k : ℕ) (x : Step) → Fit w → IsStep sha s x → Fit (world_after sha s w k x))
-    (fit_bytes : (w : World) → Fit w → (who : Name) (what : What) (bs : List ℕ) → IsStep sha s (DeliverStep who what) → bytes_of w what ≡ Some bs → IsBytes bs)
-    (fit_sends : (w : World) → Fit w → (k : ℕ) (x : Step) (who : Name) (past : Past) (c : Call) (e : Event) (to : Name) (f : Frame) → IsStep sha s x → past_of w who ≡ Some past → call_of sha s w k x ≡ Some c → answer sha (node_of past) c ≡ Sends e to f → HasSpelling f)
-    (casts_fit : (n : ℕ) (c : Cast) → cast_of s n ≡ Some c → CastFits c)
-    (binding : (ms : List Move) → AllByRecursion (λ (o : Opening). In (hashed s wf) (commitment_text_of sid o) × OpeningFits o) (all_openings ms) → Binding (λ o. commitment sha sid o) (all_openings ms)) where
+module _ {sha : Hash} {s : Schedule} {programs : List Program} {sid : List ℕ} {cast : Cast} {g : Graph} {wf : World} {Fit : World → Type 0} (known : SessionOfRun sha s programs sid cast g wf Fit) where
   abbrev commit : Commit
   commit o = commitment sha sid o
 
@@ -230,14 +217,14 @@ module _ (sha : Hash) (hash : IsHash sha) (s : Schedule) (programs : List Progra
   honest k = honest_role s cast k
 
   abbrev Prog : World → Type 0
-  Prog w = Progress sha hash s programs sid cast g is acc version long differ prog wf unforged one_cast Fit fit_next fit_bytes fit_sends casts_fit w
+  Prog w = Progress known w
 
   -- an honest role's own last label is the last that it sent
   own_label : (w : World) (p : Prog w) (r : ℕ) → honest r ≡ true → last (filter_map (label_sent r) (events_of sid w.log)) ≡ option_map (λ (t : TimedLabel). t.label) ((moved_all commit (V.at_first (shape g)) p.moves).machine.at r).own
   own_label w p r hon =
       ap last (labels_sent g honest commit r (events_of sid w.log) ∙ ap (filter_map (label_of_act g honest commit r)) p.events ∙ sym (labels_of g honest commit r (V.at_first (shape g)) p.moves))
       ∙ last-option_map (λ (t : TimedLabel). t.label) (filter (by_role g honest commit r) (moved_all commit (V.at_first (shape g)) p.moves).machine.sent)
-      ∙ ap (option_map (λ (t : TimedLabel). t.label)) (sym (own_is_sent (shape g) honest commit p.moves acc.sighted (binding p.moves p.used) p.may r hon))
+      ∙ ap (option_map (λ (t : TimedLabel). t.label)) (sym (own_is_sent (shape g) honest commit p.moves known.of_cast.accepted.sighted (known.binding p.moves p.used) p.may r hon))
 
   -- the moves, each beside steps that show it, make the walk that the events make
   pub record Made (moves : List Move) (log : List (Logged × List ℕ)) : Type 0 where
@@ -282,16 +269,16 @@ module _ (sha : Hash) (hash : IsHash sha) (s : Schedule) (programs : List Progra
       }
 
   pub grows_idle : (w : World) (k : ℕ) (p : Prog w) → Grows w p → (who : Option Name) (o : Outcome) (fr : Option (List ℕ)) (e : events_of_outcome o ≡ [])
-      → Grows (uncalled w k who o fr) (idle sha hash s programs sid cast g is acc version long differ prog wf unforged one_cast Fit fit_next fit_bytes fit_sends casts_fit w k who o fr e p)
+      → Grows (uncalled w k who o fr) (idle known w k who o fr e p)
   grows_idle w k p h who o fr none log e a =
       let l : Logged = record { number = k; who = who; call = None; outcome = o; frame = fr; notes = no_notes } in
       let c = split_marked log w.log l e in
       let b = shown_split g sid [] c.0 (l, c.1) (subst (AllShown g sid []) c.2 a) in
-      subst (λ ms. Made ms log) (sym (idle_moves sha hash s programs sid cast g is acc version long differ prog wf unforged one_cast Fit fit_next fit_bytes fit_sends casts_fit w k who o fr none p))
+      subst (λ ms. Made ms log) (sym (idle_moves known w k who o fr none p))
       (subst (Made p.moves) (sym c.2) (add_none p.moves c.0 (l, c.1) (h c.0 c.3 b.0) (λ steps. ap (λ es. grown_by_all g honest steps (filter (λ e. bytes_eq (sid_of e) sid) (es ++ [])) c.1) none)))
 
   module _ (w : World) (k : ℕ) (p : Prog w) (x : Step) (good : IsStep sha s x) (fit : Fit w) (who : Name) (past : Past) (its_past : past_of w who ≡ Some past) (c : Call) (call_is : call_of sha s w k x ≡ Some c) (after : Suffix (k + 1) (called sha w k who c past).log wf.log)
-      (out : Outs sha hash s programs sid cast g is acc version long differ prog wf unforged one_cast Fit fit_next fit_bytes fit_sends casts_fit w k p x good fit who past its_past c) where
+      (out : Outs known w k p x good fit who past its_past c) where
     abbrev st : State
     st = moved_all commit (V.at_first (shape g)) p.moves
 
@@ -300,9 +287,6 @@ module _ (sha : Hash) (hash : IsHash sha) (s : Schedule) (programs : List Progra
 
     abbrev l : Logged
     l = record { number = k; who = Some who; call = Some c; outcome = Answered (answer sha (node_of past) c); frame = frame_in (answer sha (node_of past) c); notes = notes sha (node_of past) c }
-
-    abbrev here : List Event
-    here = filter (λ e. bytes_eq (sid_of e) sid) (events_of_answer (answer sha (node_of past) c))
 
     here_is : events_of sid (l ∷ []) ≡ filter (λ e. bytes_eq (sid_of e) sid) (events_of_answer (answer sha (node_of past) c))
     here_is = ap (filter (λ e. bytes_eq (sid_of e) sid)) (append-nil (events_of_answer (answer sha (node_of past) c)))
@@ -357,11 +341,11 @@ module _ (sha : Hash) (hash : IsHash sha) (s : Schedule) (programs : List Progra
         origin_is = ap (λ l. last (filter_map (label_sent f.receiver) (events_of sid l))) log_is ∙ own_label w p f.receiver al.is_honest
 
         seen_by : Sight (shape g) f.receiver (st.machine.at f.receiver).own (end_of (shape g) 0 (took.0).walk) (entries f.items)
-        seen_by = sight g (writes_below g is) f.receiver (view_in (events_of sid (map (λ (x : Logged × List ℕ). x.0) m)) f) took.0 (st.machine.at f.receiver).own f.items origin_is refl al.sight.rises
+        seen_by = sight g (writes_below g known.of_cast.is_graph) f.receiver (view_in (events_of sid (map (λ (x : Logged × List ℕ). x.0) m)) f) took.0 (st.machine.at f.receiver).own f.items origin_is refl al.sight.rises
 
         since_is : seen_by.since ≡ after_last (sender (shape g)) f.receiver walk
         unfolding seen_by
-        since_is = sight-since g (writes_below g is) f.receiver (view_in (events_of sid (map (λ (x : Logged × List ℕ). x.0) m)) f) took.0 (st.machine.at f.receiver).own f.items origin_is refl al.sight.rises ∙ ap (after_last (sender (shape g)) f.receiver) took.1
+        since_is = sight-since g (writes_below g known.of_cast.is_graph) f.receiver (view_in (events_of sid (map (λ (x : Logged × List ℕ). x.0) m)) f) took.0 (st.machine.at f.receiver).own f.items origin_is refl al.sight.rises ∙ ap (after_last (sender (shape g)) f.receiver) took.1
 
         last_one : (o : Option Item) → last f.items ≡ o → end_of (shape g) 0 (took.0).walk ≡ t.0
         last_one None e = absurd (al.some (ap entries (no_last f.items e)))
@@ -397,11 +381,11 @@ module _ (sha : Hash) (hash : IsHash sha) (s : Schedule) (programs : List Progra
         ]
       ]
 
-    pub grows_called : Grows w p → Grows (called sha w k who c past) (progress_called sha hash s programs sid cast g is acc version long differ prog wf unforged one_cast Fit fit_next fit_bytes fit_sends casts_fit w k p x good fit who past its_past c after out)
+    pub grows_called : Grows w p → Grows (called sha w k who c past) (progress_called known w k p x good fit who past its_past c after out)
     grows_called h log e b =
         let d = split_marked log w.log l e in
         let q = shown_split g sid [] d.0 (l, d.1) (subst (AllShown g sid []) d.2 b) in
-        subst (λ ms. Made ms log) (sym (progress_moves sha hash s programs sid cast g is acc version long differ prog wf unforged one_cast Fit fit_next fit_bytes fit_sends casts_fit w k p x good fit who past its_past c after out))
+        subst (λ ms. Made ms log) (sym (progress_moves known w k p x good fit who past its_past c after out))
         (subst (Made (p.moves ++ out.moves)) (sym d.2) (made_now d.0 d.1 d.3 (h d.0 d.3 q.0) q.1))
 
     -- what a step that took a frame shows
@@ -457,6 +441,6 @@ module _ (sha : Hash) (hash : IsHash sha) (s : Schedule) (programs : List Progra
     ]
 
   pub shown_called : (w : World) (k : ℕ) (p : Prog w) → Shown w → (x : Step) (good : IsStep sha s x) (fit : Fit w) (who : Name) (past : Past) (its_past : past_of w who ≡ Some past) (c : Call) → call_of sha s w k x ≡ Some c → Suffix (k + 1) (called sha w k who c past).log wf.log
-      → Outs sha hash s programs sid cast g is acc version long differ prog wf unforged one_cast Fit fit_next fit_bytes fit_sends casts_fit w k p x good fit who past its_past c → Shown (called sha w k who c past)
+      → Outs known w k p x good fit who past its_past c → Shown (called sha w k who c past)
   shown_called w k p old x good fit who past its_past c call_is after out before l after_ e =
       shown_more w (record { number = k; who = Some who; call = Some c; outcome = Answered (answer sha (node_of past) c); frame = frame_in (answer sha (node_of past) c); notes = notes sha (node_of past) c }) old (shown_now w k p x good fit who past its_past c call_is after out) before l after_ e

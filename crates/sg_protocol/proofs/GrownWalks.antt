@@ -16,7 +16,7 @@ use Rattle.sg_protocol.specs.IsSchedule.{IsStep, IsSchedule, AreCompiled}
 use Rattle.sg_protocol.specs.Grown.{IsShown, AllShown, walk_grown, WalksAreGrown, FramesShowViews}
 use Rattle.sg_protocol.proofs.First.{first_cast}
 use Rattle.sg_protocol.proofs.Whole.{FirstCast, grown_path, graph_is, all_shown}
-use Rattle.sg_protocol.proofs.Fits.{Fit, fit_new, fit_next, fit_bytes, fit_sends, casts_fit}
+use Rattle.sg_protocol.proofs.Fits.{fit_new, fit_steps}
 use Rattle.sg_protocol.proofs.Sendings.{no_entry}
 
 module _ (sha : Hash) (hash : IsHash sha) (programs : List Program) (s : Schedule) (sid : List ℕ) (cast : Cast) (y : Graph) (compiled : AreCompiled sha s.graphs programs) (sched : IsSchedule sha s) (premises : Premises sha s (run sha programs s))
@@ -29,26 +29,26 @@ module _ (sha : Hash) (hash : IsHash sha) (programs : List Program) (s : Schedul
   steps_ok (x ∷ xs) a = (All-head (IsStep sha s) x xs a, steps_ok xs (All-tail (IsStep sha s) x xs a))
 
   first : FirstCast sha s programs sid (run sha programs s)
-  first = first_cast sha hash s programs sid (Fit sha hash programs s compiled sched) (fit_next sha hash programs s compiled sched) (fit_bytes sha hash programs s compiled sched) (casts_fit sha hash programs s compiled sched) (steps_ok s.steps sched.steps) (fit_new sha hash programs s compiled sched) some
+  first = first_cast sha hash s programs sid (fit_steps sha hash programs s compiled sched) (steps_ok s.steps sched.steps) (fit_new sha hash programs s compiled sched) some
 
   same_cast : first.cast ≡ cast
   same_cast = (let two : Some first.cast ≡ Some cast = sym first.is_cast ∙ is in cc)
 
   same_graph : first.program.graph ≡ y
   same_graph =
-      let two : Some first.program.graph ≡ Some y = sym (graph_is sha hash programs s compiled sched premises sid first (Fit sha hash programs s compiled sched) (fit_new sha hash programs s compiled sched) (fit_next sha hash programs s compiled sched) (fit_bytes sha hash programs s compiled sched) (fit_sends sha hash programs s compiled sched) (casts_fit sha hash programs s compiled sched)) ∙ ap (λ (c : Cast). graph_with sha s.graphs c.graph) same_cast ∙ gr in
+      let two : Some first.program.graph ≡ Some y = sym (graph_is sha hash programs s compiled sched premises sid first (fit_steps sha hash programs s compiled sched) (fit_new sha hash programs s compiled sched)) ∙ ap (λ (c : Cast). graph_with sha s.graphs c.graph) same_cast ∙ gr in
       cc
 
   path_grown : (log : List (Logged × List ℕ)) → map (λ (l : Logged × List ℕ). l.0) log ≡ (run sha programs s).log → AllShown y sid [] log → OnePath y (honest_role s cast) (events_of sid (run sha programs s).log) (walk_grown y (honest_role s cast) sid [] log)
   path_grown log e a =
       subst (λ c. OnePath y (honest_role s c) (events_of sid (run sha programs s).log) (walk_grown y (honest_role s c) sid [] log)) same_cast
       (subst (λ z. AllShown z sid [] log → OnePath z (honest_role s first.cast) (events_of sid (run sha programs s).log) (walk_grown z (honest_role s first.cast) sid [] log)) same_graph
-      (grown_path sha hash programs s compiled sched premises sid first (Fit sha hash programs s compiled sched) (fit_new sha hash programs s compiled sched) (fit_next sha hash programs s compiled sched) (fit_bytes sha hash programs s compiled sched) (fit_sends sha hash programs s compiled sched) (casts_fit sha hash programs s compiled sched) log e) a)
+      (grown_path sha hash programs s compiled sched premises sid first (fit_steps sha hash programs s compiled sched) (fit_new sha hash programs s compiled sched) log e) a)
 
   frame_shown : (before : List Logged) (l : Logged) (after : List Logged) → (run sha programs s).log ≡ before ++ l ∷ after → (walk : List ℕ) × IsShown y sid before l walk
   frame_shown before l after e =
       subst (λ z. (walk : List ℕ) × IsShown z sid before l walk) same_graph
-      (all_shown sha hash programs s compiled sched premises sid first (Fit sha hash programs s compiled sched) (fit_new sha hash programs s compiled sched) (fit_next sha hash programs s compiled sched) (fit_bytes sha hash programs s compiled sched) (fit_sends sha hash programs s compiled sched) (casts_fit sha hash programs s compiled sched) before l after e)
+      (all_shown sha hash programs s compiled sched premises sid first (fit_steps sha hash programs s compiled sched) (fit_new sha hash programs s compiled sched) before l after e)
 
 pub walks_are_grown : (sha : Hash) → IsHash sha → WalksAreGrown sha
 walks_are_grown sha hash programs s sid cast g log compiled sched premises is gr e a = path_grown sha hash programs s sid cast g compiled sched premises is gr log e a

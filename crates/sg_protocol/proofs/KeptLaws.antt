@@ -8,7 +8,8 @@ use Rattle.std.proofs.lemmas.Bool.Decides.{nat_tests}
 use Rattle.std.proofs.lemmas.List.{map-append}
 use Rattle.sg_model.specs.Last.{Map, Entry, has, merge, carry, evidence, after_last}
 use Rattle.sg_model.specs.Lists.{range_from, value_at, in_order}
-use Rattle.sg_model.proofs.Small.{clash, cases_Option, heads, tails}
+use Rattle.sg_model.proofs.Small.{cases_Option, heads, tails}
+use Rattle.sg_law.proofs.Com.{value_at-merge}
 use Rattle.sg_protocol.specs.Graph.{Graph}
 use Rattle.sg_protocol.specs.Frame.{Item}
 use Rattle.sg_protocol.specs.Sending.{entry_of, item_of, shown_to, tags_left}
@@ -68,30 +69,6 @@ in_order-in_order n m = in_order-same n (in_order n m) m (λ x h. value_at-in_or
 pub or_none : {A : Type 0} (o : Option A) → o ≡ option_or o None
 or_none None = refl
 or_none (Some x) = refl
-
-there : {A : Type 0} (m : Map A) (x : ℕ) → has (λ (w : ℕ × A). w.0) x m ≡ true → (v : A) × (value_at m x ≡ Some v)
-there [] x h = cc
-there (w ∷ ws) x h = elim (cases_Bool (w.0 == x)) [ inl e ↦ rw e (w.1, refl) | inr e ↦ rw e (there ws x (subst (λ b. (b || has (λ w. w.0) x ws) ≡ true) e h)) ]
-
-not_there : {A : Type 0} (m : Map A) (x : ℕ) → has (λ (w : ℕ × A). w.0) x m ≡ false → value_at m x ≡ None
-not_there [] x h = refl
-not_there (w ∷ ws) x h = elim (cases_Bool (w.0 == x)) [ inl e ↦ clash ((w.0 == x) || has (λ w. w.0) x ws) (rw e refl) h | inr e ↦ rw e (not_there ws x (subst (λ b. (b || has (λ w. w.0) x ws) ≡ false) e h)) ]
-
-pub value_at-merge : {A : Type 0} (a b : Map A) (x : ℕ) → value_at (merge a b) x ≡ option_or (value_at b x) (value_at a x)
-value_at-merge [] b x = or_none (value_at b x)
-value_at-merge {A = A} (w ∷ ws) b x = elim (cases_Bool (has (λ (v : ℕ × A). v.0) w.0 b)) [
-  | inl e ↦ rw e (value_at-merge ws b x ∙ dropped e (cases_Bool (w.0 == x)))
-  | inr e ↦ rw e (elim (cases_Bool (w.0 == x)) [
-    | inl f ↦ rw (f, not_there b x (subst (λ y. has (λ (v : ℕ × A). v.0) y b ≡ false) (eqb-true w.0 x f) e)) refl
-    | inr f ↦ rw f (value_at-merge ws b x)
-  ])
-]
-  where
-    dropped : has (λ (v : ℕ × A). v.0) w.0 b ≡ true → ((w.0 == x) ≡ true) ⊎ ((w.0 == x) ≡ false) → option_or (value_at b x) (value_at ws x) ≡ option_or (value_at b x) (value_at (w ∷ ws) x)
-    dropped e (inl f) =
-        let found : (v : A) × (value_at b x ≡ Some v) = there b x (subst (λ y. has (λ (v : ℕ × A). v.0) y b ≡ true) (eqb-true w.0 x f) e) in
-        rw found.1 refl
-    dropped e (inr f) = rw f refl
 
 in_order-merge : {A : Type 0} (n : ℕ) (a a' b b' : Map A) → in_order n a ≡ in_order n a' → in_order n b ≡ in_order n b' → in_order n (merge a b) ≡ in_order n (merge a' b')
 in_order-merge n a a' b b' e f = in_order-same n (merge a b) (merge a' b') (λ x h.

@@ -14,7 +14,7 @@ use Rattle.sg_protocol.specs.IsSchedule.{IsStep}
 use Rattle.sg_protocol.specs.LastSteps.{FramesShowLastSteps, ShowsLastSteps, exchanges_of}
 use Rattle.sg_protocol.proofs.First.{first_cast}
 use Rattle.sg_protocol.proofs.Whole.{FirstCast, last_shown}
-use Rattle.sg_protocol.proofs.Fits.{Fit, fit_new, fit_next, fit_bytes, fit_sends, casts_fit}
+use Rattle.sg_protocol.proofs.Fits.{fit_new, fit_steps}
 use Rattle.sg_protocol.proofs.Sendings.{no_entry}
 use Rattle.std.proofs.Common.{inl, inr}
 use Rattle.sg_model.specs.Last.{last}
@@ -38,11 +38,11 @@ shows_at_end : (sha : Hash) → IsHash sha → (programs : List Program) (s : Sc
     → ShowsLastSteps s (run sha programs s) g cast f (up_to_last (λ (i : Item). i.role) f.receiver (flat_map items_of (exchanges_of f.sid f.receiver past.calls)))
 shows_at_end sha hash programs s who bs f l cast g past compiled sched premises e t is gr its =
     let steps : AllByRecursion (IsStep sha s) s.steps = go sha s s.steps sched.steps in
-    let first : FirstCast sha s programs f.sid (run sha programs s) = first_cast sha hash s programs f.sid (Fit sha hash programs s compiled sched) (fit_next sha hash programs s compiled sched) (fit_bytes sha hash programs s compiled sched) (casts_fit sha hash programs s compiled sched) steps (fit_new sha hash programs s compiled sched) (some f.sid (run sha programs s).log cast is) in
+    let first : FirstCast sha s programs f.sid (run sha programs s) = first_cast sha hash s programs f.sid (fit_steps sha hash programs s compiled sched) steps (fit_new sha hash programs s compiled sched) (some f.sid (run sha programs s).log cast is) in
     let two : Some first.cast ≡ Some cast = sym first.is_cast ∙ is in
     let same : first.cast ≡ cast = cc in
     subst (λ c. ShowsLastSteps s (run sha programs s) g c f (up_to_last (λ (i : Item). i.role) f.receiver (flat_map items_of (exchanges_of f.sid f.receiver past.calls)))) same
-    (last_shown sha hash programs s compiled sched premises f.sid first (Fit sha hash programs s compiled sched) (fit_new sha hash programs s compiled sched) (fit_next sha hash programs s compiled sched) (fit_bytes sha hash programs s compiled sched) (fit_sends sha hash programs s compiled sched) (casts_fit sha hash programs s compiled sched)
+    (last_shown sha hash programs s compiled sched premises f.sid first (fit_steps sha hash programs s compiled sched) (fit_new sha hash programs s compiled sched)
     l who bs f g past e t refl (subst (λ (c : Cast). graph_with sha s.graphs c.graph ≡ Some g) (sym same) gr) its)
   where
     go : (sha : Hash) (s : Schedule) (xs : List Step) → All (IsStep sha s) xs → AllByRecursion (IsStep sha s) xs

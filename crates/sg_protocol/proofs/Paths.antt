@@ -22,7 +22,7 @@ use Rattle.sg_law.specs.Values.{Stored, along, Deed, Move, Commit, Followed, aft
 use Rattle.sg_law.specs.Values.Deed.{WroteAlong, ReadAlong}
 use Rattle.sg_law.proofs.Com.{value_at-unnamed}
 use Rattle.sg_law.proofs.Carried.{named-in}
-use Rattle.sg_protocol.proofs.KeptLaws.{value_at-merge}
+use Rattle.sg_law.proofs.Com.{value_at-merge}
 
 -- ---- the same words
 

@@ -11,7 +11,8 @@ use Rattle.sg_protocol.specs.Graph.{Graph}
 use Rattle.sg_protocol.specs.Frame.{Item}
 use Rattle.sg_protocol.specs.Session.{committed}
 use Rattle.sg_protocol.specs.Sending.{entry_of, item_of, tags_left, shown_to}
-use Rattle.sg_protocol.proofs.KeptLaws.{value_at-in_order, in_order-in_order, in_order-same, value_at-merge}
+use Rattle.sg_protocol.proofs.KeptLaws.{value_at-in_order, in_order-in_order, in_order-same}
+use Rattle.sg_law.proofs.Com.{value_at-merge}
 
 -- the role of an item
 abbrev pub by_role : Item → ℕ

@@ -40,7 +40,7 @@ use Rattle.sg_protocol.proofs.Moves.{row_none}
 use Rattle.sg_protocol.proofs.Sent.{FitSession}
 use Rattle.sg_protocol.proofs.Finding.{one_place, find_all}
 use Rattle.sg_protocol.proofs.First.{first_cast}
-use Rattle.sg_protocol.proofs.Fits.{Fit, fit_new, fit_next, fit_bytes, casts_fit, ActSent, act_sends}
+use Rattle.sg_protocol.proofs.Fits.{fit_new, ActSent, act_sends, fit_steps}
 use Rattle.sg_protocol.proofs.Sendings.{Known, Origin, LogsOk, took, all_logs, new_logs, me_is, act_event}
 use Rattle.sg_protocol.proofs.Whole.{FirstCast, honest_inside, find_some, program_graph}
 
@@ -192,7 +192,7 @@ sessions_have_one_cast sha hash programs s compiled sched free l who e had =
     let q : LogsOk sha hash programs s compiled sched wf wf = all_logs sha hash programs s compiled sched wf (new_world programs s) 1 s.steps steps (new_logs sha hash programs s compiled sched wf) refl in
     let l_in : In wf.log l = in_from_Contains wf.log l had.0 in
     let e_in : In (events_of_outcome l.outcome) e = in_from_Contains (events_of_outcome l.outcome) e had.2 in
-    let first : FirstCast sha s programs (sid_of e) wf = first_cast sha hash s programs (sid_of e) (Fit sha hash programs s compiled sched) (fit_next sha hash programs s compiled sched) (fit_bytes sha hash programs s compiled sched) (casts_fit sha hash programs s compiled sched) steps (fit_new sha hash programs s compiled sched) (has_events (sid_of e) wf.log l e l_in e_in refl) in
+    let first : FirstCast sha s programs (sid_of e) wf = first_cast sha hash s programs (sid_of e) (fit_steps sha hash programs s compiled sched) steps (fit_new sha hash programs s compiled sched) (has_events (sid_of e) wf.log l e l_in e_in refl) in
     by_call q l_in e_in first l.call refl
   where
     done : (wf : World) (first : FirstCast sha s programs (sid_of e) wf) (c : Call) → l.call ≡ Some c → CollisionFree sha (hashed s wf) → is_honest s who ≡ true → EventCast sha hash programs s compiled sched wf who c e → IsOfCast sha s wf l who e

@@ -37,7 +37,8 @@ use Rattle.sg_law.proofs.Walks.{walk-append, end_of-append}
 use Rattle.sg_protocol.proofs.Entries.{Roles, edges_same}
 use Rattle.sg_protocol.proofs.Moves.{step}
 use Rattle.sg_protocol.proofs.Reduced.{by_role, tags_but, lead, left_by, reduced, has-reduced, lead-lead, committed_reduced}
-use Rattle.sg_protocol.proofs.KeptLaws.{value_at-in_order, value_at-merge}
+use Rattle.sg_protocol.proofs.KeptLaws.{value_at-in_order}
+use Rattle.sg_law.proofs.Com.{value_at-merge}
 use Rattle.sg_protocol.proofs.Ends.{below_same, committed-append, labels, last_bare, same_last, committed_same, after_all}
 use Rattle.sg_protocol.proofs.Relay.{tag_said, TagsOk, StepsOk, OpensAt, RelayOk}
 use Rattle.sg_protocol.proofs.SeenItems.{view_is, view_there}

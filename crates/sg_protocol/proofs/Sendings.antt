@@ -10,7 +10,7 @@ use Rattle.sg_model.specs.Lists.{first_some}
 use Rattle.sg_model.specs.Values.{Value}
 use Rattle.sg_model.specs.Names.{Name}
 use Rattle.sg_protocol.specs.Frame.{Cast, Item, Frame, IsCastOf}
-use Rattle.sg_protocol.specs.Spelling.{spelling, magic, join_code, HasSpelling, body, u64}
+use Rattle.sg_protocol.specs.Spelling.{spelling, HasSpelling, body}
 use Rattle.sg_protocol.specs.Texts.{Hash, IsHash, frame_text_of, session_id, session_text_of, cut, graph_text_of, hmac}
 use Rattle.sg_protocol.specs.TextLaws.{IsVersion, untagged, CastFits}
 use Rattle.sg_protocol.specs.Keyring.{Keyring, Program, targets_of, key_of}
@@ -25,7 +25,7 @@ use Rattle.sg_law.proofs.Upto.{In}
 use Rattle.sg_law.proofs.Take.{contains_from_in}
 use Rattle.sg_protocol.proofs.Moves.{row_none, note_text, note_both}
 use Rattle.sg_protocol.specs.Acting.{rows_of_act, openings_for, answer, answer_act, started, acted, sent, rows_of_start}
-use Rattle.sg_protocol.proofs.TextLaws.{one_item, one_body, one_frame, kinds_differ}
+use Rattle.sg_protocol.proofs.TextLaws.{kinds_differ}
 use Rattle.std.specs.Prelude.{Result, Ok, Err, option_and_then}
 use Rattle.sg_model.specs.Bytes.{IsBytes}
 use Rattle.sg_model.proofs.Small.{same_bytes, none_parts, both_nil, all-append}
@@ -34,7 +34,6 @@ use Rattle.sg_protocol.specs.Reading.{read}
 use Rattle.sg_protocol.specs.Node.{Node, is_for, is_cast, stranger, session_with, session_for, has_joined, program_for, starter}
 use Rattle.sg_protocol.specs.NodeAfter.{node_after, joined, goes_on, replace, still, is_over, takes_read}
 use Rattle.sg_protocol.specs.Spelling as Spelling'
-use Rattle.sg_protocol.proofs.TextLaws.{cast_fits, opening_fits}
 use Rattle.sg_protocol.proofs.ReadBack.{read-SpellsFrame}
 use Rattle.sg_protocol.proofs.Acts as C
 use Rattle.sg_protocol.specs.Past.{Past, node_of, new_node, past_after}
@@ -45,14 +44,13 @@ use Rattle.sg_protocol.specs.Premises.{hashed, MadeBefore, Premises}
 use Rattle.sg_protocol.specs.IsSchedule.{IsSchedule, IsStep, AreCompiled, IsPairKey}
 use Rattle.sg_law.proofs.Upto.{in_from_Contains}
 use Rattle.sg_protocol.proofs.Finding.{find_passes, find_all}
-use Rattle.sg_protocol.proofs.TextLaws.{one_opening, one_cast, one_canonical}
 use Rattle.sg_protocol.proofs.TextLaws as TL
 use Rattle.sg_protocol.proofs.Course.{past_called, next_past, node_more, Suffix, suffix_all, in_after}
 use Rattle.sg_protocol.proofs.Whole.{FirstCast, first_past, found_in}
 use Rattle.sg_protocol.proofs.First.{first_cast}
 use Rattle.sg_protocol.proofs.Sent.{FitSession}
 use Rattle.sg_protocol.specs.Receipts.{ReceiptsHaveSends, IsTaken, WasSent}
-use Rattle.sg_protocol.proofs.Fits.{Fit, fit_new, fit_next, fit_bytes, fit_sends, casts_fit, ActSent, act_sends}
+use Rattle.sg_protocol.proofs.Fits.{Fit, fit_new, fit_next, fit_bytes, fit_sends, casts_fit, ActSent, act_sends, fit_steps}
 use Rattle.sg_protocol.proofs.TextLaws as TL
 
 replace_all : {P : Session → Type 0} (which : Session → Bool) (now : Session → List Session) (xs : List Session) → ((z : Session) → which z ≡ true → P z → AllByRecursion P (now z)) → AllByRecursion P xs → AllByRecursion P (replace which now xs)
@@ -561,9 +559,6 @@ module _ (sha : Hash) (hash : IsHash sha) (programs : List Program) (s : Schedul
     cast_is : t.cast ≡ cast
     cast_is = with_sid t.cast t.fits t.is_hashed t.id
 
-    abbrev note_ : Note
-    note_ = note_of (o.n).keys.me (principal t.cast f.sender) (text_of f)
-
     made_before : MadeBefore l.number (note_of (o.n).keys.me (principal t.cast f.sender) (text_of f)) wf.log
     made_before =
         let both = note_both (λ z. is_honest s z ≡ true) (o.n).keys.me (principal t.cast f.sender) (text_of f) (ap (is_honest s) (me_is o.who o.n o.its_keys) ∙ o.hon) (ap (λ (c : Cast). is_honest s (principal c f.sender)) cast_is ∙ hon) in
@@ -628,7 +623,7 @@ receipts_have_sends sha hash programs s compiled sched premises l who bs f cast 
     let wf : World = run sha programs s in
     let steps : AllByRecursion (IsStep sha s) s.steps = go sha s s.steps sched.steps in
     let q = all_logs sha hash programs s compiled sched (run sha programs s) (new_world programs s) 1 s.steps steps (new_logs sha hash programs s compiled sched (run sha programs s)) refl in
-    let first : FirstCast sha s programs f.sid (run sha programs s) = first_cast sha hash s programs f.sid (Fit sha hash programs s compiled sched) (fit_next sha hash programs s compiled sched) (fit_bytes sha hash programs s compiled sched) (casts_fit sha hash programs s compiled sched) steps (fit_new sha hash programs s compiled sched) (some f.sid wf.log cast is) in
+    let first : FirstCast sha s programs f.sid (run sha programs s) = first_cast sha hash s programs f.sid (fit_steps sha hash programs s compiled sched) steps (fit_new sha hash programs s compiled sched) (some f.sid wf.log cast is) in
     was_sent sha hash programs s compiled sched (run sha programs s) q premises l who bs f cast taken first is hon
   where
     go : (sha : Hash) (s : Schedule) (xs : List Step) → All (IsStep sha s) xs → AllByRecursion (IsStep sha s) xs

@@ -5,42 +5,34 @@ use Rattle.std.proofs.Common.{sym, ◌∙◌, ap, subst, inl, inr, append_assoc}
 use Rattle.std.proofs.lemmas.Bool.{cases_Bool}
 use Rattle.std.proofs.lemmas.List.{map-append}
 use Rattle.sg_model.specs.Last.{has, last, last_of, after_last, up_to_last}
-use Rattle.sg_model.specs.Lists.{below, all_differ}
+use Rattle.sg_model.specs.Lists.{below}
 use Rattle.sg_model.specs.Shape.{sender}
-use Rattle.sg_model.specs.Values.{Opening}
 use Rattle.sg_model.specs.Names.{Name}
-use Rattle.sg_model.specs.Bytes.{IsBytes}
 use Rattle.sg_model.proofs.Small.{map_same}
-use Rattle.sg_protocol.specs.Graph.{Graph, IsGraph, shape}
-use Rattle.sg_protocol.specs.Accepted.{Accepted}
-use Rattle.sg_protocol.specs.Evidence.{IsViewTable}
+use Rattle.sg_protocol.specs.Graph.{Graph, shape}
 use Rattle.sg_protocol.specs.Frame.{Cast, Frame, Item}
-use Rattle.sg_protocol.specs.Spelling.{HasSpelling}
-use Rattle.sg_protocol.specs.Texts.{Hash, IsHash, commitment, commitment_text_of, session_id, session_text_of}
-use Rattle.sg_protocol.specs.TextLaws.{IsVersion, CastFits, OpeningFits}
+use Rattle.sg_protocol.specs.Texts.{Hash, commitment}
 use Rattle.sg_protocol.specs.Keyring.{Program}
 use Rattle.sg_protocol.specs.Session.{Session, principal, items_of, told, own, committed, commitments}
-use Rattle.sg_protocol.specs.Calls.{Event, Call, Abandon, Deliver, Happened, Sends, Abandoned}
-use Rattle.sg_protocol.specs.Node.{Node, program_for}
+use Rattle.sg_protocol.specs.Calls.{Call, Deliver, Happened}
+use Rattle.sg_protocol.specs.Node.{Node}
 use Rattle.sg_protocol.specs.Acting.{answer}
 use Rattle.sg_protocol.specs.Verdict.{receipt}
 use Rattle.sg_protocol.specs.Notes.{no_notes, notes}
 use Rattle.sg_protocol.specs.Past.{Past, node_of}
-use Rattle.sg_protocol.specs.Schedule.{Schedule, honest_role, Step, DeliverStep, What, cast_of}
-use Rattle.sg_protocol.specs.World.{World, Logged, Outcome, Answered, past_of, call_of, bytes_of}
-use Rattle.sg_protocol.specs.Run.{called, uncalled, events_of_outcome, world_after, world_after_all, frame_in}
-use Rattle.sg_protocol.specs.Premises.{hashed, Unforged}
+use Rattle.sg_protocol.specs.Schedule.{Schedule, honest_role, Step}
+use Rattle.sg_protocol.specs.World.{World, Logged, Outcome, Answered, past_of}
+use Rattle.sg_protocol.specs.Run.{called, uncalled, events_of_outcome, world_after_all, frame_in}
 use Rattle.sg_protocol.specs.IsSchedule.{IsStep}
-use Rattle.sg_protocol.specs.Completeness.{HadAnswer}
 use Rattle.sg_protocol.specs.Receipts.{IsTaken}
 use Rattle.sg_protocol.specs.LastSteps.{ShowsLastSteps, HeldBySender, Bare, bare, exchanges_of, honest_items}
 use Rattle.sg_law.specs.Accept.{honest_part}
 use Rattle.sg_law.specs.Accept as A
 use Rattle.sg_law.specs.Run as R
 use Rattle.sg_law.specs.Values as V
-use Rattle.sg_law.specs.Values.{State, Made, told_with_item, com_of, Move, Commit, moved, own_of, put, AllMay, moved_all, all_openings, Binding, Agreed}
-use Rattle.sg_law.specs.Values.Move.{Writes, Takes}
-use Rattle.sg_law.proofs.Upto.{In, upto-more}
+use Rattle.sg_law.specs.Values.{State, com_of, Move, Commit, moved, own_of, AllMay, moved_all, Agreed}
+use Rattle.sg_law.specs.Values.Move.{Takes}
+use Rattle.sg_law.proofs.Upto.{upto-more}
 use Rattle.sg_law.proofs.Cut.{last-option_map, split_end}
 use Rattle.sg_law.proofs.Lists.{last-append, eqb_same}
 use Rattle.sg_law.proofs.Follow.{all_agreed}
@@ -50,7 +42,8 @@ use Rattle.sg_protocol.proofs.Moves.{step, Matches}
 use Rattle.sg_protocol.proofs.Keys.{last_of-keys, after_last-keys, last_of-map, after_last-map, all-filter, all-last_of, all-after_last, all-up_to_last, all-mid, has-mid}
 use Rattle.sg_protocol.proofs.Finding.{one_place}
 use Rattle.sg_protocol.proofs.Calls.{Status, TakesFrame}
-use Rattle.sg_protocol.proofs.Course.{Progress, progress_called, progress_moves, keep_all, Suffix, may-append, moved-append, Outs, Ok_}
+use Rattle.sg_protocol.proofs.KnownSession.{SessionOfRun}
+use Rattle.sg_protocol.proofs.Course.{Progress, LeftBy, progress_called, progress_moves, keep_all, Suffix, may-append, moved-append, Outs, Ok_}
 
 -- ---- one state of the law, and the items of a frame
 
@@ -117,16 +110,7 @@ steps_entries is = last-option_map V.step_of (entries is) ∙ ap (option_map V.s
     go None = refl
     go (Some i) = refl
 
-module _ (sha : Hash) (hash : IsHash sha) (s : Schedule) (programs : List Program) (sid : List ℕ) (cast : Cast) (g : Graph) (is : IsGraph g) (acc : Accepted g) (version : IsVersion cast.version) (long : length sid ≡ 32) (differ : all_differ cast.names ≡ true)
-    (prog : (r : ℕ) (p : Program) → program_for programs cast.graph r ≡ Some p → (p.graph ≡ g) × IsViewTable p.graph r p.views)
-    (wf : World) (unforged : Unforged s wf)
-    (one_cast : (c : Cast) → CastFits c → In (hashed s wf) (session_text_of c) → session_id sha c ≡ sid → c ≡ cast)
-    (Fit : World → Type 0) (fit_next : (w : World) (k : ℕ) (x : Step) → Fit w → IsStep sha s x → Fit (world_after sha s w k x))
-    (fit_bytes : (w : World) → Fit w → (who : Name) (what : What) (bs : List ℕ) → IsStep sha s (DeliverStep who what) → bytes_of w what ≡ Some bs → IsBytes bs)
-    (fit_sends : (w : World) → Fit w → (k : ℕ) (x : Step) (who : Name) (past : Past) (c : Call) (e : Event) (to : Name) (f : Frame) → IsStep sha s x → past_of w who ≡ Some past → call_of sha s w k x ≡ Some c → answer sha (node_of past) c ≡ Sends e to f → HasSpelling f)
-    (casts_fit : (n : ℕ) (c : Cast) → cast_of s n ≡ Some c → CastFits c)
-    (binding : (ms : List Move) → AllByRecursion (λ (o : Opening). In (hashed s wf) (commitment_text_of sid o) × OpeningFits o) (all_openings ms) → Binding (λ o. commitment sha sid o) (all_openings ms))
-    (inside : (k : ℕ) → honest_role s cast k ≡ true → k < length cast.names) where
+module _ {sha : Hash} {s : Schedule} {programs : List Program} {sid : List ℕ} {cast : Cast} {g : Graph} {wf : World} {Fit : World → Type 0} (known : SessionOfRun sha s programs sid cast g wf Fit) where
   abbrev commit : Commit
   commit o = commitment sha sid o
 
@@ -134,10 +118,10 @@ module _ (sha : Hash) (hash : IsHash sha) (s : Schedule) (programs : List Progra
   honest k = honest_role s cast k
 
   abbrev Prog : World → Type 0
-  Prog w = Progress sha hash s programs sid cast g is acc version long differ prog wf unforged one_cast Fit fit_next fit_bytes fit_sends casts_fit w
+  Prog w = Progress known w
 
   abbrev Ok' : State → Name → Node → Type 0
-  Ok' st who n = Ok_ sha hash s programs sid cast g is acc version long differ prog wf unforged one_cast Fit fit_next fit_bytes fit_sends casts_fit st who n
+  Ok' st who n = Ok_ known st who n
 
   -- a role's own last step, in the law's words
   own_last : (st : State) (k : ℕ) (n : Node) → Ok' st (principal cast k) n → k < length cast.names → (st.machine.at k).own ≡ last (V.steps_of (own_of (shape g) st k))
@@ -148,9 +132,9 @@ module _ (sha : Hash) (hash : IsHash sha) (s : Schedule) (programs : List Progra
           (m.is_own ∙ sym (steps_entries (own x)) ∙ ap (λ l. last (V.steps_of l)) (sym (own_entries g honest st x.role (told x) m.is_told m.roles)))
 
       place_of : (x : Session) → Matches g sid cast st (principal cast k) x → x.role ≡ k
-      place_of x m = one_place cast.names x.role k differ m.inside l m.is_who
+      place_of x m = one_place cast.names x.role k known.of_cast.names_differ m.inside l m.is_who
 
-      go : Status sha hash s programs sid cast g is acc version long differ prog (λ t. In (hashed s wf) t) one_cast (λ who. HadAnswer wf.log who (Abandon sid) Abandoned) st (principal cast k) n → (st.machine.at k).own ≡ last (V.steps_of (own_of (shape g) st k))
+      go : Status known.of_cast s (LeftBy known) st (principal cast k) n → (st.machine.at k).own ≡ last (V.steps_of (own_of (shape g) st k))
       go (inl f) = (let u = f.all k refl l in ap (λ (z : R.Local). z.own) u.start ∙ sym (ap (λ l. last (V.steps_of (up_to_last (by (shape g)) k l))) u.none))
       go (inr (inl h)) = of_session h.x h.matches (place_of h.x h.matches)
       go (inr (inr h)) = of_session h.x h.matches (place_of h.x h.matches)
@@ -166,17 +150,14 @@ module _ (sha : Hash) (hash : IsHash sha) (s : Schedule) (programs : List Progra
       absurd (cc)
 
   module _ (w : World) (k : ℕ) (p : Prog w) (x : Step) (good : IsStep sha s x) (fit : Fit w) (who : Name) (past : Past) (its_past : past_of w who ≡ Some past) (c : Call) (after : Suffix (k + 1) (called sha w k who c past).log wf.log)
-      (out : Outs sha hash s programs sid cast g is acc version long differ prog wf unforged one_cast Fit fit_next fit_bytes fit_sends casts_fit w k p x good fit who past its_past c) where
-    w' : World
-    w' = called sha w k who c past
-
+      (out : Outs known w k p x good fit who past its_past c) where
     next : Prog (called sha w k who c past)
-    next = progress_called sha hash s programs sid cast g is acc version long differ prog wf unforged one_cast Fit fit_next fit_bytes fit_sends casts_fit w k p x good fit who past its_past c after out
+    next = progress_called known w k p x good fit who past its_past c after out
 
     abbrev st : State
     st = moved_all commit (V.at_first (shape g)) p.moves
 
-    module _ (f : Frame) (t : TakesFrame sha hash s programs sid cast g is acc version long differ prog (λ t. In (hashed s wf) t) one_cast (λ who. HadAnswer wf.log who (Abandon sid) Abandoned) who out.moves f) where
+    module _ (f : Frame) (t : TakesFrame known.of_cast s (LeftBy known) who out.moves f) where
       abbrev take : Move
       take = Takes f.receiver t.node (entries f.items) f.openings
 
@@ -185,14 +166,14 @@ module _ (sha : Hash) (hash : IsHash sha) (s : Schedule) (programs : List Progra
 
       st_is : moved_all commit (V.at_first (shape g)) next.moves ≡ st'
       unfolding next
-      st_is = ap (moved_all commit (V.at_first (shape g))) (progress_moves sha hash s programs sid cast g is acc version long differ prog wf unforged one_cast Fit fit_next fit_bytes fit_sends casts_fit w k p x good fit who past its_past c after out)
+      st_is = ap (moved_all commit (V.at_first (shape g))) (progress_moves known w k p x good fit who past its_past c after out)
           ∙ ap (λ ms. moved_all commit (V.at_first (shape g)) (p.moves ++ ms)) t.are ∙ moved-append commit (V.at_first (shape g)) p.moves (take ∷ [])
 
       all_may : AllMay (shape g) honest commit (V.at_first (shape g)) (p.moves ++ take ∷ [])
       all_may = may-append (shape g) honest commit (V.at_first (shape g)) p.moves (take ∷ []) p.may (subst (AllMay (shape g) honest commit st) t.are out.may)
 
       agreed : Agreed (shape g) honest st f.receiver (entries f.items)
-      agreed = all_agreed (shape g) honest commit p.moves f.receiver t.node (entries f.items) f.openings acc.sighted (binding p.moves p.used) all_may
+      agreed = all_agreed (shape g) honest commit p.moves f.receiver t.node (entries f.items) f.openings known.of_cast.accepted.sighted (known.binding p.moves p.used) all_may
 
       sent_is : st.machine.sent ≡ map step (honest_items sid (called sha w k who c past).log)
       sent_is = ap (λ (z : State). z.machine.sent) (sym st_is) ∙ next.sent.0
@@ -216,7 +197,7 @@ module _ (sha : Hash) (hash : IsHash sha) (s : Schedule) (programs : List Progra
           → HeldBySender (called sha w k who c past) g cast sid i (commitments g (up_to_last (λ (i : Item). i.role) f.receiver (flat_map items_of (exchanges_of sid f.receiver pr.calls)) ++ front ++ i ∷ []))
       held_by pr pr_is front i rest e h =
           let ne : (i.role == f.receiver) ≡ false = has-mid (λ (i : Item). i.role) f.receiver front i rest (subst (λ l. has (λ (i : Item). i.role) f.receiver l ≡ false) e t.no_own) in
-          let l : i.role < length cast.names = inside i.role h in
+          let l : i.role < length cast.names = known.inside i.role h in
           let pk = next.pasts (principal cast i.role) h in
           let pk0 = p.pasts (principal cast i.role) h in
           let role : i.role ≡ sender (shape g) i.label = all-mid (λ (i : Item). i.role ≡ sender (shape g) i.label) front i rest (subst (Roles (shape g)) e t.roles) in
@@ -262,5 +243,5 @@ module _ (sha : Hash) (hash : IsHash sha) (s : Schedule) (programs : List Progra
         entry_ c = record { number = k; who = Some who; call = Some c; outcome = Answered (answer sha (node_of past) c); frame = frame_in (answer sha (node_of past) c); notes = notes sha (node_of past) c }
 
   pub shows : (w : World) (k : ℕ) → Prog w → Shows w → (xs : List Step) → AllByRecursion (IsStep sha s) xs → Fit w → world_after_all sha s w k xs ≡ wf → Shows wf
-  shows w k p h xs good fit e = keep_all sha hash s programs sid cast g is acc version long differ prog wf unforged one_cast Fit fit_next fit_bytes fit_sends casts_fit Shows shows_idle
+  shows w k p h xs good fit e = keep_all known Shows shows_idle
       (λ w k p h x good fit who past its_past c call after out. shows_called w k p x good fit who past its_past c after out) w k p h xs good fit e

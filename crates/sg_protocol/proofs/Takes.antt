@@ -112,9 +112,6 @@ module _ (sha : Hash) (s : Schedule) (sid : List ℕ) (cast : Cast) (keys : Keyr
   abbrev pub commit : Commit
   commit o = commitment sha sid o
 
-  view : View
-  view = record { origin = origin x; items = map seen f.items }
-
   abbrev viewed : IsView g x.role (record { origin = origin x; items = map seen f.items })
   viewed = (views.each (record { origin = origin x; items = map seen f.items })).0 (has_view-Contains p.views (record { origin = origin x; items = map seen f.items }) rows.viewed)
 

@@ -38,7 +38,7 @@ use Rattle.sg_protocol.proofs.Course.{Suffix, suffix_all, small_values}
 use Rattle.sg_protocol.proofs.Finding.{find_passes}
 use Rattle.sg_protocol.proofs.First.{first_cast, first_of_live}
 use Rattle.sg_protocol.proofs.FirstSteps.{run_first}
-use Rattle.sg_protocol.proofs.Fits.{Fit, fit_new, fit_next, fit_bytes, casts_fit}
+use Rattle.sg_protocol.proofs.Fits.{fit_new, fit_next, fit_steps}
 use Rattle.sg_protocol.proofs.Ranges.{joined_in_range}
 use Rattle.sg_protocol.proofs.ReadBack.{read-SpellsFrame}
 use Rattle.sg_protocol.proofs.Roles.{sessions_have_one_cast}
@@ -260,7 +260,7 @@ module _ (sha : Hash) (hash : IsHash sha) (programs : List Program) (s : Schedul
 
   -- the cast of a sid is that of each such session of it
   first_is : (sid : List ℕ) (cast : Cast) → cast_of_session sid w.log ≡ Some cast → FirstCast sha s programs sid w
-  first_is sid cast q = first_cast sha hash s programs sid (Fit sha hash programs s compiled sched) (fit_next sha hash programs s compiled sched) (fit_bytes sha hash programs s compiled sched) (casts_fit sha hash programs s compiled sched) (steps_are sha hash programs s compiled sched) (fit_new sha hash programs s compiled sched)
+  first_is sid cast q = first_cast sha hash s programs sid (fit_steps sha hash programs s compiled sched) (steps_are sha hash programs s compiled sched) (fit_new sha hash programs s compiled sched)
       (λ none. let two : None ≡ Some cast = sym (ap (option_and_then (λ (z : Logged). option_and_then cast_in z.call)) (no_entry sid w.log none)) ∙ q in cc)
 
   same_cast : CollisionFree sha (hashed s w) → (x : Session) → IsNoted x → (cast : Cast) → cast_of_session x.sid w.log ≡ Some cast → x.cast ≡ cast
@@ -297,7 +297,7 @@ module _ (sha : Hash) (hash : IsHash sha) (programs : List Program) (s : Schedul
       is_live : ((cast : Cast) → cast_of_session u.session.sid w.log ≡ Some cast → u.session.cast ≡ cast) → In n'.live u.session → cast_of_session u.session.sid w.log ≡ Some u.session.cast
       is_live same j =
           let good = subst (AllByRecursion (IsStep sha s)) r.parts (steps_are sha hash programs s compiled sched) in
-          let f0 : FirstCast sha s programs u.session.sid (world_after_all sha s (new_world programs s) 1 (r.before ++ r.step ∷ r.after)) = first_of_live sha hash s programs u.session.sid (Fit sha hash programs s compiled sched) (fit_next sha hash programs s compiled sched) (fit_bytes sha hash programs s compiled sched) (casts_fit sha hash programs s compiled sched)
+          let f0 : FirstCast sha s programs u.session.sid (world_after_all sha s (new_world programs s) 1 (r.before ++ r.step ∷ r.after)) = first_of_live sha hash s programs u.session.sid (fit_steps sha hash programs s compiled sched)
           r.before (r.step ∷ r.after) (all_front (IsStep sha s) r.before (r.step ∷ r.after) good) (fit_new sha hash programs s compiled sched) r.one.who r.one.past r.one.is_past u.session j (bytes_same u.session.sid u.session.sid refl) in
           let f : FirstCast sha s programs u.session.sid w = subst (λ xs. FirstCast sha s programs u.session.sid (world_after_all sha s (new_world programs s) 1 xs)) (sym r.parts) f0 in
           f.is_cast ∙ ap (λ z. Some z) (sym (same f.cast f.is_cast))

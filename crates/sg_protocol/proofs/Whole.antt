@@ -16,34 +16,24 @@ use Rattle.sg_protocol.specs.LastSteps.{exchanges_of, ShowsLastSteps}
 use Rattle.sg_protocol.specs.Receipts.{IsTaken}
 use Rattle.sg_protocol.proofs.Showing.{shows}
 use Rattle.sg_model.specs.Last.{last, up_to_last}
-use Rattle.sg_protocol.specs.Completeness.{HadAnswer}
 use Rattle.sg_protocol.proofs.Entries.{entries, Roles}
-use Rattle.sg_protocol.specs.Spelling.{HasSpelling}
 use Rattle.std.specs.Prelude.{zero, suc, ◌<◌, get_or, None}
 use Rattle.std.proofs.Common.{arith}
 use Rattle.sg_protocol.specs.Texts.{Hash, IsHash, commitment, commitment_text_of, session_id, session_text_of, graph_text_of, graph_digest}
 use Rattle.sg_protocol.specs.Keyring.{Program}
-use Rattle.sg_protocol.specs.Schedule.{Schedule, honest_role, Step, DeliverStep, What, PairKey, cast_of, graph_with}
+use Rattle.sg_protocol.specs.Schedule.{Schedule, honest_role, PairKey, graph_with}
 use Rattle.sg_law.specs.Values as V
-use Rattle.sg_law.specs.Values.{State, Made, told_with_item, com_of, Move, Commit, moved, MayTake, Tagged, Framed, Opened, own_of, is_variable, put}
-use Rattle.sg_law.specs.Values.Move.{Writes, Takes}
-use Rattle.sg_law.specs.Values.Deed.{ReadAlong}
+use Rattle.sg_law.specs.Values.{Move, Commit}
 use Rattle.sg_law.proofs.Upto.{In}
 use Rattle.sg_law.proofs.Take.{contains_from_in}
-use Rattle.sg_law.specs.Values.{MayWrite}
-use Rattle.sg_protocol.proofs.TextLaws.{one_item, one_body, one_frame, kinds_differ}
 use Rattle.sg_model.specs.Lists.{has_text}
-use Rattle.sg_model.specs.Bytes.{IsBytes}
 use Rattle.sg_protocol.specs.TextLaws.{CastFits, OpeningFits}
-use Rattle.sg_protocol.specs.Calls.{Event, Call, Abandon, Sends, Abandoned}
-use Rattle.sg_protocol.specs.Acting.{answer}
 use Rattle.sg_protocol.specs.Node.{program_for}
-use Rattle.sg_law.specs.Values.{AllMay, May, moved_all, Deed, deed_of, all_openings}
-use Rattle.sg_protocol.proofs.TextLaws.{cast_fits, opening_fits}
+use Rattle.sg_law.specs.Values.{AllMay, deed_of, all_openings}
 use Rattle.sg_protocol.proofs.Acts as C
 use Rattle.sg_protocol.specs.Past.{Past, node_of}
-use Rattle.sg_protocol.specs.World.{World, Logged, past_of, new_world, call_of, bytes_of, keyring_of}
-use Rattle.sg_protocol.specs.Run.{world_after, run, events_of, cast_of_session}
+use Rattle.sg_protocol.specs.World.{World, Logged, past_of, new_world, keyring_of}
+use Rattle.sg_protocol.specs.Run.{run, events_of, cast_of_session}
 use Rattle.sg_protocol.specs.Premises.{hashed, Premises}
 use Rattle.sg_protocol.specs.IsSchedule.{IsSchedule, IsStep, AreCompiled, IsProgram, parts}
 use Rattle.sg_protocol.specs.Headline.{IsExplained}
@@ -53,7 +43,7 @@ use Rattle.sg_protocol.proofs.Calls.{NodeOk}
 use Rattle.sg_model.specs.Names.{is_name, is_name_byte, is_letter, reserved}
 use Rattle.sg_model.proofs.Small.{same_bytes, clash}
 use Rattle.sg_law.proofs.Members.{in_left, in_map, rec_in, all_in, in_parts}
-use Rattle.sg_law.specs.Values.{Binding, Followed}
+use Rattle.sg_law.specs.Values.{Binding}
 use Rattle.sg_law.proofs.Follow.{grown_follows}
 use Rattle.sg_law.proofs.Lists.{nil_from_map}
 use Rattle.sg_law.specs.Grown.{IsFollowedAsGrown, moves_of}
@@ -61,9 +51,10 @@ use Rattle.sg_protocol.specs.Grown.{AllShown, walk_grown}
 use Rattle.sg_protocol.specs.Walk.{OnePath}
 use Rattle.sg_protocol.proofs.Grown.{Grows, grows_idle, grows_called, Shown, shown_idle, shown_called}
 use Rattle.sg_protocol.proofs.Paths.{one_path, acts_of, steps_of, TypedDeed}
-use Rattle.sg_protocol.proofs.TextLaws.{one_opening, one_cast, one_canonical}
+use Rattle.sg_protocol.proofs.TextLaws.{one_opening, one_canonical}
 use Rattle.sg_protocol.proofs.TextLaws as TL
-use Rattle.sg_protocol.proofs.Course.{Progress, keep_all, with_all}
+use Rattle.sg_protocol.proofs.KnownSession.{FitSteps, SessionOfRun}
+use Rattle.sg_protocol.proofs.Course.{Progress, LeftBy, keep_all, with_all}
 
 -- ---- graphs with one text
 
@@ -222,10 +213,7 @@ honest_inside sha s sched c k h = elim (in_range c.names k) [
 
 module _ (sha : Hash) (hash : IsHash sha) (programs : List Program) (s : Schedule) (compiled : AreCompiled sha s.graphs programs) (sched : IsSchedule sha s) (premises : Premises sha s (run sha programs s)) (sid : List ℕ)
     (first : FirstCast sha s programs sid (run sha programs s))
-    (Fit : World → Type 0) (fit_new : Fit (new_world programs s)) (fit_next : (w : World) (k : ℕ) (x : Step) → Fit w → IsStep sha s x → Fit (world_after sha s w k x))
-    (fit_bytes : (w : World) → Fit w → (who : Name) (what : What) (bs : List ℕ) → IsStep sha s (DeliverStep who what) → bytes_of w what ≡ Some bs → IsBytes bs)
-    (fit_sends : (w : World) → Fit w → (k : ℕ) (x : Step) (who : Name) (past : Past) (c : Call) (e : Event) (to : Name) (f : Frame) → IsStep sha s x → past_of w who ≡ Some past → call_of sha s w k x ≡ Some c → answer sha (node_of past) c ≡ Sends e to f → HasSpelling f)
-    (casts_fit : (n : ℕ) (c : Cast) → cast_of s n ≡ Some c → CastFits c) where
+    {Fit : World → Type 0} (fits : FitSteps sha s Fit) (fit_new : Fit (new_world programs s)) where
   abbrev wf : World
   wf = run sha programs s
 
@@ -260,14 +248,45 @@ module _ (sha : Hash) (hash : IsHash sha) (programs : List Program) (s : Schedul
   pub long : length sid ≡ 32
   long = subst (λ z. length z ≡ 32) first.sid_is (hash (session_text_of first.cast)).0
 
+  abbrev commit : Commit
+  commit o = commitment sha sid o
+
+  pub binding : (ms : List Move) → AllByRecursion (λ (o : Opening). In (hashed s wf) (commitment_text_of sid o) × OpeningFits o) (all_openings ms) → Binding (λ o. commitment sha sid o) (all_openings ms)
+  binding ms used o p i j v e =
+      let a = rec_in _ (all_openings ms) o used (in_from_Contains (all_openings ms) o i) in
+      let b = rec_in _ (all_openings ms) p used (in_from_Contains (all_openings ms) p j) in
+      ap (λ (z : Opening). z.value) (one_opening sid sid o p long long a.1 b.1 (same_text_same (commitment_text_of sid o) (commitment_text_of sid p) a.0 b.0 e)).1
+
+  -- an honest role is one of the cast
+  pub inside : (k : ℕ) → honest_role s first.cast k ≡ true → k < length first.cast.names
+  inside = honest_inside sha s sched first.cast
+
+  pub of_run : SessionOfRun sha s programs sid first.cast g wf Fit
+  of_run = record {
+    of_cast = record {
+      is_hash = hash;
+      is_graph = the_program.is_graph;
+      accepted = the_program.accepted;
+      is_version = first.fits.version;
+      long_sid = long;
+      names_differ = first.differ;
+      programs_of = prog;
+      one_cast = the_cast;
+    };
+    unforged = premises.unforged;
+    fits = fits;
+    binding = binding;
+    inside = inside;
+  }
+
   abbrev Prog : World → Type 0
-  Prog w = Progress sha hash s programs sid first.cast g the_program.is_graph the_program.accepted first.fits.version long first.differ prog wf premises.unforged the_cast Fit fit_next fit_bytes fit_sends casts_fit w
+  Prog w = Progress of_run w
 
   pub begins : Prog (new_world programs s)
   begins = record {
     moves = [];
     may = tt;
-    nodes = λ who p e. let r = first_past s.keys programs s.honest who p e in (subst (λ (z : Past). NodeOk sha hash s programs sid first.cast g the_program.is_graph the_program.accepted first.fits.version long first.differ prog (λ t. In (hashed s wf) t) the_cast (λ who. HadAnswer wf.log who (Abandon sid) Abandoned) (V.at_first (shape g)) who (node_of z)) (sym r.0) (fresh_node who), r.1);
+    nodes = λ who p e. let r = first_past s.keys programs s.honest who p e in (subst (λ (z : Past). NodeOk of_run.of_cast s (LeftBy of_run) (V.at_first (shape g)) who (node_of z)) (sym r.0) (fresh_node who), r.1);
     noted = λ l nt i j. absurd i;
     events = refl;
     typed = tt;
@@ -291,17 +310,8 @@ module _ (sha : Hash) (hash : IsHash sha) (programs : List Program) (s : Schedul
           differs : (b : Bool) → b ≡ true → b ≡ false → ⊥
           differs b t f = absurd (cc)
 
-      fresh_node : (who : Name) → NodeOk sha hash s programs sid first.cast g the_program.is_graph the_program.accepted first.fits.version long first.differ prog (λ t. In (hashed s wf) t) the_cast (λ who. HadAnswer wf.log who (Abandon sid) Abandoned) (V.at_first (shape g)) who (node_of (new_past s.keys programs who))
+      fresh_node : (who : Name) → NodeOk of_run.of_cast s (LeftBy of_run) (V.at_first (shape g)) who (node_of (new_past s.keys programs who))
       fresh_node who = record { me = refl; has_programs = refl; lengths = tt; status = inl record { alone = refl; all = λ h p l. record { none = refl; start = refl } } }
-
-  abbrev commit : Commit
-  commit o = commitment sha sid o
-
-  pub binding : (ms : List Move) → AllByRecursion (λ (o : Opening). In (hashed s wf) (commitment_text_of sid o) × OpeningFits o) (all_openings ms) → Binding commit (all_openings ms)
-  binding ms used o p i j v e =
-      let a = rec_in _ (all_openings ms) o used (in_from_Contains (all_openings ms) o i) in
-      let b = rec_in _ (all_openings ms) p used (in_from_Contains (all_openings ms) p j) in
-      ap (λ (z : Opening). z.value) (one_opening sid sid o p long long a.1 b.1 (same_text_same (commitment_text_of sid o) (commitment_text_of sid p) a.0 b.0 e)).1
 
   found_graph : (y : Graph) × (graph_with sha s.graphs first.cast.graph ≡ Some y)
   found_graph = find_some (λ z. bytes_eq (graph_digest sha z) first.cast.graph) s.graphs g g_there ((bytes_eq-Decides (graph_digest sha g) first.cast.graph).1 (sym the_program.digest ∙ first.digest))
@@ -311,7 +321,7 @@ module _ (sha : Hash) (hash : IsHash sha) (programs : List Program) (s : Schedul
       (same_bytes (graph_digest sha found_graph.0) first.cast.graph (find_passes (λ z. bytes_eq (graph_digest sha z) first.cast.graph) s.graphs found_graph.0 found_graph.1) ∙ sym first.digest ∙ the_program.digest))
 
   -- nothing is made at first
-  nothing_made : Grows sha hash s programs sid first.cast g the_program.is_graph the_program.accepted first.fits.version long first.differ prog wf premises.unforged the_cast Fit fit_next fit_bytes fit_sends casts_fit binding (new_world programs s) begins
+  nothing_made : Grows of_run (new_world programs s) begins
   unfolding begins
   nothing_made log e a = record { ms = []; are = refl; shown = tt; same = ap (walk_grown g (honest_role s first.cast) sid []) (nil_from_map (λ (x : Logged × List ℕ). x.0) log e) }
 
@@ -319,10 +329,10 @@ module _ (sha : Hash) (hash : IsHash sha) (programs : List Program) (s : Schedul
   pub grown_path : (log : List (Logged × List ℕ)) → map (λ (x : Logged × List ℕ). x.0) log ≡ wf.log → AllShown g sid [] log → OnePath g (honest_role s first.cast) (events_of sid wf.log) (walk_grown g (honest_role s first.cast) sid [] log)
   grown_path log e a =
       let h = honest_role s first.cast in
-      let q = with_all sha hash s programs sid first.cast g the_program.is_graph the_program.accepted first.fits.version long first.differ prog wf premises.unforged the_cast Fit fit_next fit_bytes fit_sends casts_fit
-      (Grows sha hash s programs sid first.cast g the_program.is_graph the_program.accepted first.fits.version long first.differ prog wf premises.unforged the_cast Fit fit_next fit_bytes fit_sends casts_fit binding)
-      (grows_idle sha hash s programs sid first.cast g the_program.is_graph the_program.accepted first.fits.version long first.differ prog wf premises.unforged the_cast Fit fit_next fit_bytes fit_sends casts_fit binding)
-      (λ w k p h x good fit who past its_past c call_is after out. grows_called sha hash s programs sid first.cast g the_program.is_graph the_program.accepted first.fits.version long first.differ prog wf premises.unforged the_cast Fit fit_next fit_bytes fit_sends casts_fit binding w k p x good fit who past its_past c call_is after out h)
+      let q = with_all of_run
+      (Grows of_run)
+      (grows_idle of_run)
+      (λ w k p h x good fit who past its_past c call_is after out. grows_called of_run w k p x good fit who past its_past c call_is after out h)
       (new_world programs s) 1 (begins, nothing_made) s.steps (recursion_from_All (IsStep sha s) s.steps sched.steps) fit_new refl
       in
       let m = q.1 log e a in
@@ -331,12 +341,12 @@ module _ (sha : Hash) (hash : IsHash sha) (programs : List Program) (s : Schedul
       (one_path g h commit (moves_of m.ms) (events_of sid wf.log) the_program.is_graph f.0 (q.0.events ∙ ap (λ l. flat_map (acts_of g) (map deed_of l)) (sym m.are)) (subst (λ l. AllByRecursion (TypedDeed g h) (map deed_of l)) (sym m.are) q.0.typed))
 
   -- beside each step that took a frame there can stand a walk that shows it
-  pub all_shown : Shown sha hash s programs sid first.cast g the_program.is_graph the_program.accepted first.fits.version long first.differ prog wf premises.unforged the_cast Fit fit_next fit_bytes fit_sends casts_fit binding wf
+  pub all_shown : Shown of_run wf
   all_shown =
-      keep_all sha hash s programs sid first.cast g the_program.is_graph the_program.accepted first.fits.version long first.differ prog wf premises.unforged the_cast Fit fit_next fit_bytes fit_sends casts_fit
-      (Shown sha hash s programs sid first.cast g the_program.is_graph the_program.accepted first.fits.version long first.differ prog wf premises.unforged the_cast Fit fit_next fit_bytes fit_sends casts_fit binding)
-      (shown_idle sha hash s programs sid first.cast g the_program.is_graph the_program.accepted first.fits.version long first.differ prog wf premises.unforged the_cast Fit fit_next fit_bytes fit_sends casts_fit binding)
-      (shown_called sha hash s programs sid first.cast g the_program.is_graph the_program.accepted first.fits.version long first.differ prog wf premises.unforged the_cast Fit fit_next fit_bytes fit_sends casts_fit binding)
+      keep_all of_run
+      (Shown of_run)
+      (shown_idle of_run)
+      (shown_called of_run)
       (new_world programs s) 1 begins (λ before l after e. absurd (nothing_before before l after e)) s.steps (recursion_from_All (IsStep sha s) s.steps sched.steps) fit_new refl
     where
       nothing_before : (before : List Logged) (l : Logged) (after : List Logged) → [] ≡ before ++ l ∷ after → ⊥
@@ -362,10 +372,6 @@ module _ (sha : Hash) (hash : IsHash sha) (programs : List Program) (s : Schedul
         path = grown_path b.0 b.1 b.2;
       }
 
-  -- an honest role is one of the cast
-  pub inside : (k : ℕ) → honest_role s first.cast k ≡ true → k < length first.cast.names
-  inside = honest_inside sha s sched first.cast
-
   -- what a frame that was accepted last shows
   pub last_shown : (l : Logged) (who : Name) (bs : List ℕ) (f : Frame) (y : Graph) (past : Past) → last wf.log ≡ Some l → IsTaken wf l who bs f → f.sid ≡ sid → graph_with sha s.graphs first.cast.graph ≡ Some y → past_of wf who ≡ Some past
       → ShowsLastSteps s wf y first.cast f (up_to_last (λ (i : Item). i.role) f.receiver (flat_map items_of (exchanges_of f.sid f.receiver past.calls)))
@@ -373,5 +379,5 @@ module _ (sha : Hash) (hash : IsHash sha) (programs : List Program) (s : Schedul
       let two : Some g ≡ Some y = sym graph_is ∙ gr in
       let same : g ≡ y = cc in
       subst (λ z. ShowsLastSteps s wf z first.cast f (up_to_last (λ (i : Item). i.role) f.receiver (flat_map items_of (exchanges_of f.sid f.receiver past.calls)))) same
-      (shows sha hash s programs sid first.cast g the_program.is_graph the_program.accepted first.fits.version long first.differ prog wf premises.unforged the_cast Fit fit_next fit_bytes fit_sends casts_fit binding inside
+      (shows of_run
       (new_world programs s) 1 begins (λ l who bs f past e. absurd (let n : None ≡ Some l = e in cc)) s.steps (recursion_from_All (IsStep sha s) s.steps sched.steps) fit_new refl l who bs f past e t q its)

@@ -8,12 +8,10 @@ use Rattle.std.proofs.lemmas.List.{get_or-set_same, get_or-set_other, get_or-rep
 use Rattle.sg_model.specs.Lists.{is_in}
 use Rattle.sg_model.specs.Shape.{Shape, source, target, sender, role_at}
 use Rattle.sg_model.proofs.Small.{same_or_not}
-use Rattle.sg_reach.specs.Found.{found_at, IsFound, edges_to, IsFoundBy, Waits, IsSearch, IsLeft}
-use Rattle.sg_reach.specs.Invariant.{IsNextOf}
+use Rattle.sg_reach.specs.Found.{found_at, IsFound, edges_to, IsFoundBy, Waits, IsSearch}
 use Rattle.sg_reach.specs.declared.search.Found.{Found}
 use Rattle.sg_reach.specs.declared.search.Search.{Search}
 use Rattle.sg_reach.proofs.Cases.{less_or}
-use Rattle.sg_reach.proofs.Leaving.{left_on}
 
 -- what a place of a list counts
 abbrev one_if_there : {A : Type 0} → Option A → ℕ
@@ -230,26 +228,23 @@ begins g s at blank first begun size empty short found' queue count at' small ro
     from e None is h = absurd (cc)
 
 -- one more edge that leaves a node is followed
-pub followed : (g : Shape) (s s' : Search) (n l t k : ℕ) (w : Found) (o : Option ℕ) → IsSearch g (IsLeft g n (Some l)) s → l < length g.edges → source g l ≡ n → target g l ≡ t → t < length g.roles → t < 256
-    → is_in (role_at g n) s.past ≡ false → edges_to s.found n ≡ Some k → w.edges ≡ suc k → w.last ≡ l → IsNextOf g n (suc l) o
+pub followed : (g : Shape) (s s' : Search) (n l t k : ℕ) (w : Found) (left left' : ℕ → Type 0) → IsSearch g left s → l < length g.edges → source g l ≡ n → target g l ≡ t → t < length g.roles → t < 256
+    → is_in (role_at g n) s.past ≡ false → edges_to s.found n ≡ Some k → w.edges ≡ suc k → w.last ≡ l → ((e : ℕ) → left e → (e ≡ l) ⊎ left' e)
     → (IsFound s.found t → s' ≡ s) → (found_at s.found t ≡ None → s' ≡ record s { found = set s.found t (Some w); queue = set s.queue s.count t; count = s.count + 1 })
-    → IsSearch g (IsLeft g n o) s' × (edges_to s'.found n ≡ Some k) × (s'.from ≡ s.from) × (s'.past ≡ s.past) × (s'.at ≡ s.at)
-followed g s s' n l t k w o x there leaves to role small free before edges last next stays enters = by (found_at s.found t) refl
+    → IsSearch g left' s' × (edges_to s'.found n ≡ Some k) × (s'.from ≡ s.from) × (s'.past ≡ s.past) × (s'.at ≡ s.at)
+followed g s s' n l t k w left left' x there leaves to role small free before edges last rest stays enters = by (found_at s.found t) refl
   where
-    rest : (e : ℕ) → e < length g.edges → IsLeft g n (Some l) e → (e ≡ l) ⊎ IsLeft g n o e
-    rest e h left = left_on g n l o e next h left
-
     Good : Search → Type 0
-    Good v = IsSearch g (IsLeft g n o) v × (edges_to v.found n ≡ Some k) × (v.from ≡ s.from) × (v.past ≡ s.past) × (v.at ≡ s.at)
+    Good v = IsSearch g left' v × (edges_to v.found n ≡ Some k) × (v.from ≡ s.from) × (v.past ≡ s.past) × (v.at ≡ s.at)
 
     by : (p : Option Found) → found_at s.found t ≡ p → Good s'
     by (Some f) is =
         let f : IsFound s.found t = rw is refl in
-        let same : IsSearch g (IsLeft g n o) s = search_with g (IsLeft g n (Some l)) (IsLeft g n o) s x (λ e h p left. elim (rest e h left) [ inl same ↦ inl (rw (same, to) f) | inr y ↦ inr y ]) in
+        let same : IsSearch g left' s = search_with g left left' s x (λ e h p y. elim (rest e y) [ inl same ↦ inl (rw (same, to) f) | inr z ↦ inr z ]) in
         subst Good (sym (stays f)) (same, before, refl, refl, refl)
     by None is =
-        let now : IsSearch g (IsLeft g n o) (record s { found = set s.found t (Some w); queue = set s.queue s.count t; count = s.count + 1 }) =
-        entered g (IsLeft g n (Some l)) (IsLeft g n o) s t k w (s.count + 1) x is role small edges (rw last there) (rw last to) (rw (last, leaves) free) (rw (last, leaves) before) refl
-        (λ e h left. elim (rest e h left) [ inl same ↦ inl (same ∙ sym last) | inr y ↦ inr y ]) in
+        let now : IsSearch g left' (record s { found = set s.found t (Some w); queue = set s.queue s.count t; count = s.count + 1 }) =
+        entered g left left' s t k w (s.count + 1) x is role small edges (rw last there) (rw last to) (rw (last, leaves) free) (rw (last, leaves) before) refl
+        (λ e h y. elim (rest e y) [ inl same ↦ inl (same ∙ sym last) | inr z ↦ inr z ]) in
         let kept : edges_to (set s.found t (Some w)) n ≡ Some k = rw (found_other s.found t n w (found_differs s.found t n is (found_of_edges s.found n k before))) before in
         subst Good (sym (enters is)) (now, kept, refl, refl, refl)

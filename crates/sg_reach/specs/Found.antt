@@ -47,8 +47,3 @@ pub record IsSearch (g : Shape) (left : ℕ → Type 0) (s : Search) : Type 0 wh
   pub counted : s.count ≡ count_by is_some s.found
   pub passed : s.at ≤ s.count
   pub closed : IsClosedBut g s.past s.found (λ e. Waits s (source g e) ⊎ left e)
-
--- the edge leaves the node, and its label is this one or a later one
-abbrev pub IsLeft : Shape → ℕ → Option ℕ → ℕ → Type 0
-IsLeft g n None e = ⊥
-IsLeft g n (Some l) e = (source g e ≡ n) × (l ≤ e)

@@ -1,10 +1,13 @@
 //! The closure of a node and some roles.
-ghost use Rattle.std.specs.Prelude.{◌≡◌, ◌<◌, ◌≤◌, ◌↔◌, length, IsTrue, IfOk};
+ghost use Rattle.std.specs.Prelude.{◌≡◌, ◌<◌, ◌≤◌, ◌↔◌, false, length, IsTrue, IfOk};
+ghost use Rattle.sg_model.specs.Lists.{is_in};
+ghost use Rattle.sg_model.specs.Shape.{role_at, source};
 ghost use Rattle.sg_protocol.specs.Graph.{IsGraph, shape};
+ghost use Rattle.sg_reach.specs.Found.{IsFound, IsSearch};
 ghost use Rattle.sg_reach.specs.Reaches.{IsFirstOf, IsWithin, LeadsPast};
 
-use crate::search::Search;
-use sg_base::{Label, NodeId, OutOfMemory, Role};
+use crate::search::{Found, Search};
+use sg_base::{Label, NodeId, OutOfMemory, Role, RoleSet};
 use sg_graph::Graph;
 use std::alloc::Global;
 use std::marker::Model;
@@ -30,10 +33,26 @@ impl<'g> Model for Reach<'g> {
 }
 
 impl<'g> Reach<'g> {
-    ghost use Rattle.sg_reach.specs.Found.{IsSearch};
+    /// The nodes that walks from a node reach past no node of these roles. Where the node has one of the roles, it alone is reached.
+    pub fn new(graph: &'g Graph, from: NodeId, past: RoleSet) -> Reach<'g>
+        requires { from < length graph.now.nodes }
+        ensures { result ≡ record { graph = graph.entry.now; from = from; past = past } }
+    {
+        // At most 256.
+        let _nodes = graph.nodes();
+        let mut search = Search::new(from, past);
+        while search.at < search.count {
+            let node = search.queue[search.at];
+            search.at += 1;
+            if !past.has(graph.node_role(node)) {
+                follow(graph, node, &mut search);
+            }
+        }
+        Reach::found(graph, search)
+    }
 
     // The closure that a search has found once no node waits.
-    pub(crate) fn new(graph: &'g Graph, search: Search) -> Reach<'g>
+    fn found(graph: &'g Graph, search: Search) -> Reach<'g>
         requires search { IsSearch (shape graph.now) (λ _. ⊥) search }
         requires followed { search.count ≤ search.at }
         requires there { search.from < length graph.now.nodes }
@@ -93,5 +112,31 @@ impl<'g> Reach<'g> {
         }
         walk.reverse();
         Ok(walk)
+    }
+}
+
+// Follows the edges that leave a node which was found.
+fn follow(graph: &Graph, node: NodeId, search: &mut Search)
+    requires search { IsSearch (shape graph.now) (λ e. source (shape graph.now) e ≡ node) search.old }
+    requires found { IsFound search.old.found node }
+    requires there { node < length graph.now.nodes }
+    requires passed { is_in (role_at (shape graph.now) node) search.old.past ≡ false }
+    ensures search { IsSearch (shape graph.now) (λ _. ⊥) search.new }
+    ensures from { search.new.from ≡ search.old.from }
+    ensures past { search.new.past ≡ search.old.past }
+    ensures at { search.new.at ≡ search.old.at }
+{
+    // At most 256.
+    let _nodes = graph.nodes();
+    let Some(found) = search.found[node.0 as usize] else {
+        return;
+    };
+    let edges = found.edges + 1;
+    for label in graph.edges_from(node) {
+        let walk = Found {
+            edges,
+            last: *label,
+        };
+        search.enter(graph.edge(*label).target, walk);
     }
 }

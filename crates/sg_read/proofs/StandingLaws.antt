@@ -16,7 +16,7 @@ use Rattle.sg_sched.specs.Format.Items.{Item, GraphItem, EdgeItem, HonestItem, K
 use Rattle.sg_sched.specs.Format.Kinds.{Kind, Form}
 use Rattle.sg_sched.specs.Format.Made.{made}
 use Rattle.sg_sched.specs.Format.Spells.{Line, Declare, Nothing, Next, Skip, Say, Show, IsBlock, IsFirstFault, AtIt, AtEdge, IsPairAt, OfNoForm, OfAForm, NotClosed, NoGraph, SameGraph}
-use Rattle.sg_read.specs.declared.reader.Reader.{Reader}
+use Rattle.sg_read.specs.declared.reader.ScheduleReader.{ScheduleReader}
 use Rattle.sg_sched.specs.declared.fault.LineFault.{LineFault}
 use Rattle.sg_sched.specs.declared.fault.LineFault.TheVariants.{Line as AtLine, OutOfMemory as NoMemory}
 use Rattle.sg_read.specs.Adding.{after_line}
@@ -133,7 +133,7 @@ some_counted (x ∷ es) h = by (length (x ∷ es) == 0) refl
 
 -- ---- the beginning and the end
 
-pub begins : (bytes : List ℕ) (r : Reader) → r.past ≡ nothing → r.number ≡ 0 → Stands bytes r bytes
+pub begins : (bytes : List ℕ) (r : ScheduleReader) → r.past ≡ nothing → r.number ≡ 0 → Stands bytes r bytes
 begins bytes r p n = record {
   right = [];
   items = [];
@@ -144,12 +144,12 @@ begins bytes r p n = record {
 
 -- ---- lines
 
-module _ (bytes rest after : List ℕ) (line : Line) (r : Reader) (s : Stands bytes r rest) (e : lines rest ≡ line ∷ lines after) where
+module _ (bytes rest after : List ℕ) (line : Line) (r : ScheduleReader) (s : Stands bytes r rest) (e : lines rest ≡ line ∷ lines after) where
   count : suc (length s.right) ≡ length (s.right ++ line ∷ [])
   count = let a = length-append s.right (line ∷ []) in omega (arith, a)
 
   -- a line that is skipped
-  pub skips : (new : Reader) → is_skipped line ≡ true → new.past ≡ r.past → new.number ≡ r.number + 1 → new.first_edge ≡ r.first_edge → Stands bytes new after
+  pub skips : (new : ScheduleReader) → is_skipped line ≡ true → new.past ≡ r.past → new.number ≡ r.number + 1 → new.first_edge ≡ r.first_edge → Stands bytes new after
   skips new skip past number first_edge = record {
     right = s.right ++ line ∷ [];
     items = s.items;
@@ -163,7 +163,7 @@ module _ (bytes rest after : List ℕ) (line : Line) (r : Reader) (s : Stands by
   }
 
   -- a line of a form that is taken
-  pub says : (said : Said) (new : Reader) → SaysLine line said → (said ≡ SaidBlock → ⊥) → after_line r.past said ≡ Ok new.past → new.number ≡ r.number + 1
+  pub says : (said : Said) (new : ScheduleReader) → SaysLine line said → (said ≡ SaidBlock → ⊥) → after_line r.past said ≡ Ok new.past → new.number ≡ r.number + 1
       → new.first_edge ≡ (if length r.past.edges == 0 then r.number + 1 else r.first_edge) → Stands bytes new after
   says said new is other taken number first_edge =
       let t : Taken s.items said new.past = took s.items said new.past other (ap (λ p. after_line p said) (sym s.keeps.past) ∙ taken) in
@@ -192,7 +192,7 @@ module _ (bytes rest after : List ℕ) (line : Line) (r : Reader) (s : Stands by
           subst (EdgeOf (s.right ++ line ∷ []) (s.items ++ i ∷ [])) same (not_first s.right s.items line said is s.keeps.declared i r.first_edge some.0 some.1)
 
   -- a line with which a block begins
-  pub opens : (new : Reader) → SaysLine line SaidBlock → after_line r.past SaidBlock ≡ Ok new.past → new.number ≡ r.number + 1
+  pub opens : (new : ScheduleReader) → SaysLine line SaidBlock → after_line r.past SaidBlock ≡ Ok new.past → new.number ≡ r.number + 1
       → new.first_edge ≡ (if length r.past.edges == 0 then r.number + 1 else r.first_edge) → Opens bytes new after
   opens new is taken number first_edge =
       let b = begun s.items new.past (ap (λ p. after_line p SaidBlock) (sym s.keeps.past) ∙ taken) in
@@ -250,7 +250,7 @@ names_apart : (gs hs : List AGraph) → graph_names (gs ++ hs) ≡ graph_names g
 names_apart [] hs = refl
 names_apart (g ∷ gs) hs = ap (λ ns. g.name ∷ ns) (names_apart gs hs)
 
-module _ (bytes after : List ℕ) (r : Reader) (o : Opens bytes r after) where
+module _ (bytes after : List ℕ) (r : ScheduleReader) (o : Opens bytes r after) where
   -- no line closes the block
   pub not_closed : (n : ℕ) → n ≡ r.number + length (lines after) → IsOpen (lines after) → IsFirstFault bytes n Form
   not_closed n number open_yet = AtIt record {
@@ -289,7 +289,7 @@ module _ (bytes after : List ℕ) (r : Reader) (o : Opens bytes r after) where
     all_lines = o.all ∙ ap (λ ls. o.right ++ ls) behind
 
     -- the graph is added
-    pub shows : (new : Reader) → IsShown text r.past new.past → new.number ≡ r.number + count + 1 → new.first_edge ≡ r.first_edge → Stands bytes new rest
+    pub shows : (new : ScheduleReader) → IsShown text r.past new.past → new.number ≡ r.number + count + 1 → new.first_edge ≡ r.first_edge → Stands bytes new rest
     shows new sh number first_edge =
         let g = sh.graph in
         let names : graphs_of_past r.past ≡ graphs o.items = ap graphs_of_past o.keeps.past in
@@ -310,7 +310,7 @@ module _ (bytes after : List ℕ) (r : Reader) (o : Opens bytes r after) where
     at_end n number = let b = many in let d = o.number in omega (arith, b, d, number)
 
     -- the block is wrong
-    pub bad : (new : Reader) (n : ℕ) (kind : Kind) → new.past ≡ r.past → new.number ≡ r.number + count + 1 → new.first_edge ≡ r.first_edge → IsBad text new n kind → IsFirstFault bytes n kind
+    pub bad : (new : ScheduleReader) (n : ℕ) (kind : Kind) → new.past ≡ r.past → new.number ≡ r.number + count + 1 → new.first_edge ≡ r.first_edge → IsBad text new n kind → IsFirstFault bytes n kind
     bad new n _ past number first_edge (Refused refused at) = AtIt record {
       right = o.right;
       these = these;
@@ -365,7 +365,7 @@ module _ (bytes after : List ℕ) (r : Reader) (o : Opens bytes r after) where
 -- ---- what shows of a text
 
 -- a text that is refused
-pub refused_bad : (text : List ℕ) (r : Reader) (stop : Stop) → IsRefused text stop → IsBadAt text r (fault_at r.number stop)
+pub refused_bad : (text : List ℕ) (r : ScheduleReader) (stop : Stop) → IsRefused text stop → IsBadAt text r (fault_at r.number stop)
 refused_bad text r (Wrong (KindGraph e)) h = Refused h refl
 refused_bad text r (Wrong KindForm) h = absurd h
 refused_bad text r (Wrong KindUnknown) h = absurd h
@@ -399,7 +399,7 @@ pub skipped_is : (line text : List ℕ) (b : Bool) → text ≡ content line →
 skipped_is line text b e h = sym (h ∙ ap (λ (t : List ℕ). list_all (λ b. nat_lt b 128) t && (is_comment t || length (words t) == 0)) e)
 
 -- a block's fault
-pub bad_fault : (bytes after : List ℕ) (r : Reader) (o : Opens bytes r after) (text rest : List ℕ) (many : ℕ) (c : IsClosed (lines after) text many (lines rest)) (counted : Reader)
+pub bad_fault : (bytes after : List ℕ) (r : ScheduleReader) (o : Opens bytes r after) (text rest : List ℕ) (many : ℕ) (c : IsClosed (lines after) text many (lines rest)) (counted : ScheduleReader)
     → counted.past ≡ r.past → counted.number ≡ r.number + many + 1 → counted.first_edge ≡ r.first_edge → (fault : LineFault) → IsBadAt text counted fault → IsFault bytes fault
 bad_fault bytes after r o text rest n c counted past number first_edge (AtLine at kind) h = bad bytes after r o text rest n c counted at (kind_of kind) past number first_edge h
 bad_fault bytes after r o text rest n c counted past number first_edge NoMemory h = tt

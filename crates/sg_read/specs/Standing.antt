@@ -16,7 +16,7 @@ use Rattle.sg_sched.specs.Format.Faults.{fault}
 use Rattle.sg_sched.specs.Format.Spells.{Line, Declare, IsFirstFault}
 use Rattle.sg_sched.specs.declared.fault.LineFault.{LineFault}
 use Rattle.sg_sched.specs.declared.fault.LineFault.TheVariants.{Line as AtLine, OutOfMemory}
-use Rattle.sg_read.specs.declared.reader.Reader.{Reader}
+use Rattle.sg_read.specs.declared.reader.ScheduleReader.{ScheduleReader}
 use Rattle.sg_read.specs.Adding.{Added}
 use Rattle.sg_read.specs.Plus.{plus}
 use Rattle.sg_read.specs.Taken.{kind_of}
@@ -39,13 +39,13 @@ pub record IsFirstEdge (ls : List Line) (n : ℕ) : Type 0 where
   pub number : n ≡ suc (length right)
 
 -- these lines are right and declare these items, which the reader keeps, and it knows the number of the first edge line, if there is one
-pub record Keeps (r : Reader) (right : List Line) (items : List Item) : Type 0 where
+pub record Keeps (r : ScheduleReader) (right : List Line) (items : List Item) : Type 0 where
   pub declared : Declare right items
   pub past : r.past ≡ so_far items
   pub edge : (edges items ≡ []) ⊎ ((edges items ≡ [] → ⊥) × IsFirstEdge right r.first_edge)
 
 -- the reader keeps what the lines of the bytes declare up to the rest
-pub record Stands (bytes : List ℕ) (r : Reader) (rest : List ℕ) : Type 0 where
+pub record Stands (bytes : List ℕ) (r : ScheduleReader) (rest : List ℕ) : Type 0 where
   pub right : List Line
   pub items : List Item
   pub all : lines bytes ≡ right ++ lines rest
@@ -53,7 +53,7 @@ pub record Stands (bytes : List ℕ) (r : Reader) (rest : List ℕ) : Type 0 whe
   pub number : r.number ≡ length right
 
 -- behind the lines that it keeps stands one with which a block begins
-pub record Opens (bytes : List ℕ) (r : Reader) (after : List ℕ) : Type 0 where
+pub record Opens (bytes : List ℕ) (r : ScheduleReader) (after : List ℕ) : Type 0 where
   pub right : List Line
   pub items : List Item
   pub opening : Line
@@ -66,7 +66,7 @@ pub record Opens (bytes : List ℕ) (r : Reader) (after : List ℕ) : Type 0 whe
 -- ---- how it goes on
 
 -- the number of the first edge line, if there was none before the line of this number
-abbrev pub edge_after : Reader → ℕ
+abbrev pub edge_after : ScheduleReader → ℕ
 edge_after r = if length r.past.edges == 0 then r.number else r.first_edge
 
 -- the line of this number is wrong as the definition says, or there is no memory
@@ -75,7 +75,7 @@ IsAt added n (AtLine line kind) = (line ≡ n) × (added ≡ Err (kind_of kind))
 IsAt added n OutOfMemory = ⊤
 
 -- the line of the reader's number is taken as the definition says, or it is wrong
-pub record Says {A : Type 0} (added : Added) (old new : Reader) (result : Result A LineFault) : Type 0 where
+pub record Says {A : Type 0} (added : Added) (old new : ScheduleReader) (result : Result A LineFault) : Type 0 where
   pub taken : OnOk result (added ≡ Ok new.past)
   pub number : OnOk result (new.number ≡ old.number)
   pub edge : OnOk result (new.first_edge ≡ edge_after old)
@@ -89,17 +89,17 @@ pub record IsShown (text : List ℕ) (old new : SoFar) : Type 0 where
   pub added : new ≡ plus old (GraphItem graph)
 
 -- the text is no graph's, or its graph has the name of one before, or is named `pair` behind edge lines
-pub data IsBad (text : List ℕ) (r : Reader) (line : ℕ) : Format.Kind → Type 0 where
+pub data IsBad (text : List ℕ) (r : ScheduleReader) (line : ℕ) : Format.Kind → Type 0 where
   Refused : {e : ParseFault} → read text ≡ Err e → line ≡ r.number → IsBad text r line (Graph e)
   Again : (graph : AGraph) → SpellsGraph text graph → IsTrue (has_text graph.name (graph_names r.past.blocks)) → line ≡ r.number → IsBad text r line Twice
   AsPair : (graph : AGraph) → SpellsGraph text graph → graph.name ≡ codes "pair" → (r.past.edges ≡ [] → ⊥) → line ≡ r.first_edge → IsBad text r line Twice
 
 -- the block that ends at the line of the reader's number is taken, or not, as its text says
-abbrev pub IsBadAt : List ℕ → Reader → LineFault → Type 0
+abbrev pub IsBadAt : List ℕ → ScheduleReader → LineFault → Type 0
 IsBadAt text r (AtLine line kind) = IsBad text r line (kind_of kind)
 IsBadAt text r OutOfMemory = ⊤
 
-pub record Shows {A : Type 0} (text : List ℕ) (old new : Reader) (result : Result A LineFault) : Type 0 where
+pub record Shows {A : Type 0} (text : List ℕ) (old new : ScheduleReader) (result : Result A LineFault) : Type 0 where
   pub shown : OnOk result (IsShown text old.past new.past)
   pub number : OnOk result (new.number ≡ old.number)
   pub edge : OnOk result (new.first_edge ≡ old.first_edge)

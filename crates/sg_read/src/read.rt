@@ -6,7 +6,7 @@ ghost use Rattle.sg_sched.specs.Format.Spells.{SpellsSchedule};
 ghost use Rattle.sg_read.specs.Meant.{IsMeant};
 ghost use Rattle.sg_read.specs.Standing.{IsFault};
 
-use crate::reader::Reader;
+use crate::reader::ScheduleReader;
 use sg_sched::{LineFault, Schedule};
 use std::alloc::Global;
 
@@ -23,12 +23,12 @@ pub fn read_schedule(alloc: Global, bytes: &[u8]) -> Result<Schedule, LineFault>
     // The fault is that of the first wrong line.
     ensures wrong { IfErr result (IsFault bytes.now) }
 {
-    let mut reader = Reader::new(alloc);
+    let mut reader = ScheduleReader::new(alloc);
     let mut rest = bytes;
     'lines: while !rest.is_empty() {
         rest = reader.next(rest)?;
     }
-    let Reader {
+    let ScheduleReader {
         past,
         number: _,
         first_edge: _,

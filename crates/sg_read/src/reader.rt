@@ -20,7 +20,7 @@ use std::alloc::Global;
 
 /// What the lines so far declare, and how many they are.
 #[derive(Drop)]
-pub(crate) struct Reader {
+pub(crate) struct ScheduleReader {
     /// What they declare.
     pub past: Past,
     /// The number of the last line that was read.
@@ -29,13 +29,13 @@ pub(crate) struct Reader {
     pub first_edge: u32,
 }
 
-impl Reader {
+impl ScheduleReader {
     /// Before the first line. It takes no memory.
-    pub fn new(alloc: Global) -> Reader
+    pub fn new(alloc: Global) -> ScheduleReader
         ensures past { result.past ≡ nothing }
         ensures number { result.number ≡ 0 }
     {
-        Reader {
+        ScheduleReader {
             past: Past::new(alloc),
             number: 0,
             first_edge: 0,

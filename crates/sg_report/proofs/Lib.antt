@@ -1,2 +1,3 @@
 pub mod Words
 pub mod Tellable
+pub mod Answered

@@ -14,7 +14,7 @@ use Rattle.sg_report.specs.Told.{Told}
 -- ---- what is reported
 
 -- a step: the principal, or None for a craft; the sid of the session that its line names, if it names one; the graph by which it names numbers; and what came of it
-pub record Line : Type 0 where
+pub record StepLine : Type 0 where
   pub who : Option Name
   pub session : Option (List ℕ)
   pub graph : Option Graph
@@ -28,7 +28,7 @@ pub record Forgery : Type 0 where
 
 -- the steps; the declared sessions with their sids; the graph, the honest roles and the events of each session; and the premises
 pub record Account : Type 0 where
-  pub lines : List Line
+  pub lines : List StepLine
   pub declared : List (Name × List ℕ)
   pub graph_of : List ℕ → Graph
   pub honest_in : List ℕ → ℕ → Bool
@@ -47,11 +47,11 @@ name_in m sid = session_name 120 m sid
 -- ---- the steps
 
 -- the line of step k
-abbrev pub line : Met → ℕ → Line → List ℕ
+abbrev pub line : Met → ℕ → StepLine → List ℕ
 line m k l = line_text (option_map_or (name_in m) l.session []) (graph_or_none l.graph) k (unwrap_or l.who []) l.told
 
 -- the lines of these steps, the first of number k
-abbrev pub lines_from : Met → ℕ → List Line → List ℕ
+abbrev pub lines_from : Met → ℕ → List StepLine → List ℕ
 lines_from m k [] = []
 lines_from m k (l ∷ ls) = line m k l ++ lines_from m (k + 1) ls
 

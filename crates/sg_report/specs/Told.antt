@@ -1,8 +1,8 @@
 -- What is told of each step of a run: the core's answer, with the number of the frame that was recorded in place of the frame.
-use Rattle.std.specs.Prelude.{ℕ, ◌<◌, List, [], ◌∷◌, ◌++◌, length, Option, IsSomeAnd, ⊤}
+use Rattle.std.specs.Prelude.{ℕ, ◌<◌, List, [], ◌∷◌, ◌++◌, length, Option, Some, None, option_map, IsSomeAnd, ⊤}
 use Rattle.sg_model.specs.Names.{Name}
 use Rattle.sg_protocol.specs.Calls as Protocol
-use Rattle.sg_protocol.specs.Calls.{Event}
+use Rattle.sg_protocol.specs.Calls.{Event, Call, Abandon, sid_of}
 use Rattle.sg_protocol.specs.Graph.{Graph}
 use Rattle.sg_protocol.specs.Steps.{frame_number}
 use Rattle.sg_protocol.specs.Told.{HasEvent}
@@ -45,6 +45,26 @@ told_after before (l ∷ ls) = told_outcome (frame_number before) l.outcome ∷ 
 -- what is told of a log
 abbrev pub told_log : List Logged → List Told
 told_log log = told_after [] log
+
+-- the event that is told, if one is
+abbrev pub event_told : Told → Option Event
+event_told (Happened e) = Some e
+event_told (Sends e to frame) = Some e
+event_told other = None
+
+-- the session of the event that is told
+abbrev pub sid_told : Told → Option (List ℕ)
+sid_told told = option_map sid_of (event_told told)
+
+-- the session that a call gives up
+abbrev pub sid_left : Call → Option (List ℕ)
+sid_left (Abandon sid) = Some sid
+sid_left other = None
+
+-- the session that a line names: that of its event, or the one that was left
+abbrev pub session_told : (left : Option (List ℕ)) → Told → Option (List ℕ)
+session_told left Abandoned = left
+session_told left told = sid_told told
 
 -- where a role, a label or a variable is told by its number, a graph is given that has it
 abbrev pub CanBeTold : Option Graph → Told → Type 0

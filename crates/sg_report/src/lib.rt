@@ -15,5 +15,5 @@ mod premises;
 mod reason;
 
 pub use line::{put_line, report_line};
-pub use outcome::Outcome;
+pub use outcome::{Outcome, sid_told};
 pub use premises::{Forgery, put_premises};

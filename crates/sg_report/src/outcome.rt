@@ -1,7 +1,12 @@
 //! What came of a step.
-use sg_base::Name;
+ghost use Rattle.std.specs.Prelude.{◌≡◌, option_and_then, option_map};
+ghost use Rattle.sg_protocol.specs.Calls.{sid_of};
+ghost use Rattle.sg_report.specs.Outcome.{outcome_of};
+ghost use Rattle.sg_report.specs.Told.{event_told, sid_told};
+
+use sg_base::{Name, Sid};
 use sg_node::{ActFault, Refusal, StartFault};
-use sg_walk::Event;
+use sg_walk::{Event, sid_of};
 
 /// What came of a step. No fault in it is want of memory.
 #[derive(Debug, Drop)]
@@ -36,4 +41,23 @@ pub enum Outcome {
     NotDelivered(Refusal),
     /// No frame of this number was recorded so far.
     NoFrame,
+}
+
+/// The session of the event that an outcome tells, if it tells one.
+pub fn sid_told(outcome: &Outcome) -> Option<Sid>
+    ensures told { result ≡ option_and_then sid_told (outcome_of outcome.now) }
+    ensures event { result ≡ option_map sid_of (option_and_then event_told (outcome_of outcome.now)) }
+{
+    match outcome {
+        Outcome::Started(event) => Some(sid_of(event)),
+        Outcome::Sent { event, .. } => Some(sid_of(event)),
+        Outcome::Received(event) => Some(sid_of(event)),
+        Outcome::Abandoned => None,
+        Outcome::Crafted { .. } => None,
+        Outcome::NotStarted(_) => None,
+        Outcome::NotActed(_) => None,
+        Outcome::NotAbandoned => None,
+        Outcome::NotDelivered(_) => None,
+        Outcome::NoFrame => None,
+    }
 }

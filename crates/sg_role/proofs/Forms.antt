@@ -1,12 +1,12 @@
 -- The form of a frame's items, item by item.
-use Rattle.std.proofs.Common.{◌≡◌, ℕ, zero, suc, ◌+◌, ◌-◌, ◌<◌, ◌≤◌, ◌==◌, Bool, true, false, ◌&&◌, ◌||◌, not, nat_lt, bytes_eq, List, [], ◌∷◌, filter, take, drop, get_or, length, refl, sym, ap, ◌∙◌, arith, inl, inr}
+use Rattle.std.proofs.Common.{◌≡◌, ℕ, zero, suc, ◌+◌, ◌-◌, ◌<◌, ◌==◌, Bool, true, false, ◌&&◌, ◌||◌, not, nat_lt, bytes_eq, List, [], ◌∷◌, filter, take, drop, get_or, length, refl, sym, ap, ◌∙◌, arith}
 use Rattle.std.specs.List.{list_all}
-use Rattle.std.proofs.lemmas.Bool.{and_parts, cases_Bool}
+use Rattle.std.proofs.lemmas.Bool.{and_parts}
 use Rattle.std.proofs.lemmas.Bool.Decides.{nat_tests}
 use Rattle.sg_base.specs.Sets.{with_member}
 use Rattle.sg_base.proofs.SetLaws.{is_in-with_member}
 use Rattle.sg_model.specs.Last.{Map, has}
-use Rattle.sg_model.specs.Lists.{is_in, range_from, keys_of, rises_from}
+use Rattle.sg_model.specs.Lists.{is_in, keys_of, rises_from}
 use Rattle.sg_model.proofs.Small.{drop_at, eqb-swap, and_false}
 use Rattle.sg_protocol.specs.Frame.{Item}
 use Rattle.sg_protocol.specs.Graph.{AreNumbers}
@@ -15,16 +15,6 @@ use Rattle.sg_protocol.specs.Verdict.{has_right_tags}
 use Rattle.sg_role.proofs.Rising.{filter_numbers}
 
 -- ---- members
-
-in_range : (x k j : ℕ) → k ≤ x → x < k + j → is_in x (range_from k j) ≡ true
-in_range x k zero a b = absurd (omega (arith, a, b))
-in_range x k (suc j) a b = elim (cases_Bool (k == x)) [
-  | inl e ↦ rw e refl
-  | inr e ↦ rw e (in_range x (suc k) j (up k x a e) (omega (arith, b)))
-]
-  where
-    up : (k x : ℕ) → k ≤ x → (k == x) ≡ false → suc k ≤ x
-    up k x a e = grind (arith, nat_tests)
 
 pub key_less : {A : Type 0} (n : ℕ) (m : Map A) (at : ℕ) (d : ℕ × A) → AreNumbers n (keys_of m) → at < length m → (get_or m at d).0 < n
 key_less {A = A} n m at d a l = go m at (and_parts (rises_from 0 (keys_of m)) (list_all (λ k. nat_lt k n) (keys_of m)) a).1 l

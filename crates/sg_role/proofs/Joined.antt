@@ -10,7 +10,8 @@ use Rattle.sg_protocol.specs.Frame.{Item}
 use Rattle.sg_protocol.specs.Graph.{Graph}
 use Rattle.sg_protocol.specs.Kept.{kept_items}
 use Rattle.sg_protocol.specs.Sending.{entry_of, item_of}
-use Rattle.sg_protocol.proofs.KeptLaws.{value_at-in_order, in_order-same, value_at-merge}
+use Rattle.sg_protocol.proofs.KeptLaws.{value_at-in_order, in_order-same}
+use Rattle.sg_law.proofs.Com.{value_at-merge}
 use Rattle.sg_role.specs.Keeping.{kept_from}
 
 pub value_merged : {A : Type 0} (a b : Map A) (x : ℕ) → value_at (merge a b) x ≡ option_or (value_at b x) (value_at a x)

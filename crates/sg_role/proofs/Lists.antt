@@ -7,9 +7,6 @@ use Rattle.sg_model.specs.Lists.{below}
 use Rattle.sg_model.proofs.Small.{some_same, zero_less, heads, tails}
 use Rattle.sg_model.proofs.Numbers.{below-suc, map_below_more}
 
-later : (i : ℕ) → i + 1 ≡ suc i
-later i = omega arith
-
 -- one more of the same for one more number
 pub const_more : {A : Type 0} (a : A) (i : ℕ) → map (λ (x : ℕ). a) (below (i + 1)) ≡ map (λ (x : ℕ). a) (below i) ++ a ∷ []
 const_more a i = ap (map (λ (x : ℕ). a)) (below-suc i) ∙ go (below i)

@@ -105,17 +105,11 @@ module _ (keys : Keyring) (h : Held) where
     pub looked_right : at + 1 < length items → is_right i now ≡ true → looked n cs (drop at items) ≡ looked (n + 1) now (drop (at + 1) items)
     looked_right m r = let t = two m in ap (looked n cs) t.3 ∙ rw r (sym (ap (looked (n + 1) now) t.2))
 
-    pub looked_wrong : at + 1 < length items → is_right i now ≡ false → looked n cs (drop at items) ≡ Some (BadEvidence n)
-    looked_wrong m r = let t = two m in ap (looked n cs) t.3 ∙ rw r refl
-
     pub looked_last : length items ≤ at + 1 → looked n cs (drop at items) ≡ looked (n + 1) now (drop (at + 1) items)
     looked_last m = let t = one m in ap (looked n cs) t.1 ∙ sym (ap (looked (n + 1) now) t.0)
 
     pub founds_right : at + 1 < length items → is_right i now ≡ true → founds cs (drop at items) ≡ noted i now ∷ founds now (drop (at + 1) items)
     founds_right m r = let t = two m in ap (founds cs) t.3 ∙ rw r (ap (λ z. noted i now ∷ z) (sym (ap (founds now) t.2)))
-
-    pub founds_wrong : at + 1 < length items → is_right i now ≡ false → founds cs (drop at items) ≡ []
-    founds_wrong m r = let t = two m in ap (founds cs) t.3 ∙ rw r refl
 
     pub founds_last : length items ≤ at + 1 → founds cs (drop at items) ≡ founds now (drop (at + 1) items)
     founds_last m = let t = one m in ap (founds cs) t.1 ∙ sym (ap (founds now) t.0)

@@ -21,7 +21,7 @@ use Rattle.sg_protocol.specs.Session.{Session, Gave, opening_in, known}
 use Rattle.sg_protocol.specs.Standing.{Held, StandsAtTurn, held, kept_with, held_after}
 use Rattle.sg_protocol.specs.Texts.{real}
 use Rattle.sg_role.specs.Sending.{WaitsOrEnds}
-use Rattle.sg_role.specs.Model.{State}
+use Rattle.sg_role.specs.Model.{RoleState}
 use Rattle.sg_role.specs.Stepping.{send_rows, step_item, step_commitments, items_after, openings_after, held_next}
 use Rattle.sg_role.specs.declared.sent.Sent.{Sent}
 use Rattle.sg_role.proofs.SendLaws.{waits_after}

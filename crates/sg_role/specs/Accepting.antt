@@ -7,7 +7,7 @@ use Rattle.sg_protocol.specs.Calls.{Event}
 use Rattle.sg_protocol.specs.Standing.{Held}
 use Rattle.sg_walk.specs.Model.{event_of}
 use Rattle.sg_role.specs.declared.accepted.Accepted.TheInside.{Inside}
-use Rattle.sg_role.specs.Model.{State, state_of}
+use Rattle.sg_role.specs.Model.{RoleState, state_of}
 
 -- a frame that was accepted: the program, what the role held when the frame was looked at, what it holds with the frame, what it received, and the number of the view that it was shown
 pub record Acceptance : Type 0 where
@@ -28,7 +28,7 @@ acceptance_of a = record {
 }
 
 -- the state with the frame
-abbrev pub state_after : Acceptance → State
+abbrev pub state_after : Acceptance → RoleState
 state_after a = record { program = a.program; held = a.after }
 
 -- an edge leaves the node

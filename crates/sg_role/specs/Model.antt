@@ -5,12 +5,12 @@ use Rattle.sg_protocol.specs.Standing.{Held}
 use Rattle.sg_role.specs.declared.kept.Kept.{Kept}
 
 -- the program of a role, and what the role holds of a session
-pub record State : Type 0 where
+pub record RoleState : Type 0 where
   pub program : Program
   pub held : Held
 
 -- the state whose parts are kept
-abbrev pub state_of : Kept → State
+abbrev pub state_of : Kept → RoleState
 state_of k = record {
   program = k.program.now;
   held = record {

@@ -8,7 +8,7 @@ use Rattle.sg_protocol.specs.Calls.{Event}
 use Rattle.sg_protocol.specs.Standing.{Held}
 use Rattle.sg_protocol.specs.Notes.{Notes}
 use Rattle.sg_walk.specs.Model.{event_of}
-use Rattle.sg_role.specs.Model.{State}
+use Rattle.sg_role.specs.Model.{RoleState}
 use Rattle.sg_role.specs.declared.sent.Sent.{Sent}
 use Rattle.sg_role.specs.declared.sent.Sent.TheVariants.{Waiting, Ended}
 use Rattle.sg_role.specs.declared.taken.Taken.{Taken}
@@ -33,11 +33,11 @@ frame_made (Waiting a e f) = f
 frame_made (Ended d e f) = f
 
 -- the role waits for a turn with this state where it may return, and else has ended
-abbrev pub WaitsOrEnds : Bool → State → Sent → Type 0
+abbrev pub WaitsOrEnds : Bool → RoleState → Sent → Type 0
 WaitsOrEnds returns state (Waiting a e f) = (returns ≡ true) × (a ≡ state)
 WaitsOrEnds returns state (Ended d e f) = returns ≡ false
 
 -- the role is at its turn with this state where the place leads on, and else has ended
-abbrev pub TurnsOrEnds : Bool → State → Taken → Type 0
+abbrev pub TurnsOrEnds : Bool → RoleState → Taken → Type 0
 TurnsOrEnds leads_on state (Turn t) = (leads_on ≡ true) × (t ≡ state)
 TurnsOrEnds leads_on state (Done d) = leads_on ≡ false

@@ -25,9 +25,9 @@ pub struct Before<'p> {
 }
 
 impl<'p> Model for Before<'p> {
-    ghost use Rattle.sg_role.specs.Model.{State};
+    ghost use Rattle.sg_role.specs.Model.{RoleState};
 
-    ghost Value = { State };
+    ghost Value = { RoleState };
 
     ghost use Rattle.sg_role.specs.Model.{state_of};
     ghost use Rattle.sg_role.specs.Invariant.{HoldsBefore};

@@ -21,9 +21,9 @@ pub struct Turn<'p> {
 }
 
 impl<'p> Model for Turn<'p> {
-    ghost use Rattle.sg_role.specs.Model.{State};
+    ghost use Rattle.sg_role.specs.Model.{RoleState};
 
-    ghost Value = { State };
+    ghost Value = { RoleState };
 
     ghost use Rattle.sg_role.specs.Model.{state_of};
     ghost use Rattle.sg_role.specs.Invariant.{HoldsTurn};

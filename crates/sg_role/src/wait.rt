@@ -23,9 +23,9 @@ pub struct Await<'p> {
 }
 
 impl<'p> Model for Await<'p> {
-    ghost use Rattle.sg_role.specs.Model.{State};
+    ghost use Rattle.sg_role.specs.Model.{RoleState};
 
-    ghost Value = { State };
+    ghost Value = { RoleState };
 
     ghost use Rattle.sg_role.specs.Invariant.{HoldsWaiting};
 

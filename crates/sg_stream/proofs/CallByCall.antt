@@ -3,18 +3,18 @@ use Rattle.std.proofs.Common.{◌≡◌, ℕ, suc, List, [], ◌∷◌, ◌++◌
 use Rattle.std.proofs.lemmas.List.{append_assoc, append-nil, append_cancel_left}
 use Rattle.std.proofs.lemmas.List.Elements.{All-cons}
 use Rattle.sg_stream.specs.Framed.{IsFrame, message, messages, BeginsMessage, Framed}
-use Rattle.sg_stream.specs.Calls.{Call, Fed, Gave, MayHappen, fed, given}
+use Rattle.sg_stream.specs.Calls.{ReaderCall, Fed, Gave, MayHappen, fed, given}
 use Rattle.sg_stream.proofs.Messages.{one_message}
 
 -- each frame that was given has 1 to 60,000 bytes
-pub given_frames : (left : List ℕ) (calls : List Call) (last : List ℕ) → MayHappen left calls last → All IsFrame (given calls)
+pub given_frames : (left : List ℕ) (calls : List ReaderCall) (last : List ℕ) → MayHappen left calls last → All IsFrame (given calls)
 given_frames left [] last happens = λ k d within. absurd (omega arith)
 given_frames left (Fed piece ∷ calls) last happens = given_frames (left ++ piece) calls last happens
 given_frames left (Gave frame ∷ calls) last happens =
     All-cons IsFrame frame (given calls) happens.1 (given_frames happens.0 calls last happens.3)
 
 -- the bytes not taken before, and the pieces, are the messages of the frames and the bytes not taken after
-pub fed_is_given : (left : List ℕ) (calls : List Call) (last : List ℕ) → MayHappen left calls last → left ++ fed calls ≡ messages (given calls) ++ last
+pub fed_is_given : (left : List ℕ) (calls : List ReaderCall) (last : List ℕ) → MayHappen left calls last → left ++ fed calls ≡ messages (given calls) ++ last
 fed_is_given left [] last happens = append-nil left ∙ happens
 fed_is_given left (Fed piece ∷ calls) last happens =
     sym (append_assoc left piece (fed calls)) ∙ fed_is_given (left ++ piece) calls last happens

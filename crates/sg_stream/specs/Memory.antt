@@ -1,6 +1,6 @@
 -- What connections in memory hold.
 use Rattle.std.specs.Prelude.{ℕ, List, Option, Some, None, [], ◌∷◌, map, reverse}
-use Rattle.sg_base.specs.Memory.{Plan, SinkHeld}
+use Rattle.sg_base.specs.Memory.{FaultPlan, SinkHeld}
 use Rattle.sg_base.specs.declared.address.Addr.{Addr}
 use Rattle.sg_stream.specs.Traffic.{Writer, Traffic}
 
@@ -8,7 +8,7 @@ use Rattle.sg_stream.specs.Traffic.{Writer, Traffic}
 pub record ConnsHeld : Type 0 where
   pub traffic : Traffic
   pub room : ℕ
-  pub plan : Plan
+  pub plan : FaultPlan
 
 -- the one connection that may be open for writing, which has the number 255
 abbrev pub writer_of : Addr × SinkHeld → Writer

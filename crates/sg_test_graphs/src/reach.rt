@@ -2,7 +2,7 @@
 use crate::fixtures::graph_of;
 use sg_base::{Label, NodeId, Role, RoleSet};
 use sg_graph::Graph;
-use sg_reach::{Reach, Ways};
+use sg_reach::Reach;
 use std::alloc::Global;
 use std::process::Abort;
 use std::test::Fail;
@@ -40,23 +40,21 @@ fn reached(rt: &impl Abort, reach: &Reach) -> u8 {
 #[test]
 fn what_is_reached_past_which_roles(rt: HostRuntime) -> Result<(), Fail> {
     let graph = ring(rt.alloc(), &rt)?;
-    let ways = Ways::new(&graph);
-    assert!(rt; ways.graph().nodes() == 5);
     assert!(rt; graph.nodes() == 5);
     let none = RoleSet::empty();
     let a = RoleSet::empty().with(Role(1));
     let b = RoleSet::empty().with(Role(2));
-    assert_eq!(rt; reached(&rt, &ways.reach(NodeId(0), none)), 0b01111);
-    assert_eq!(rt; reached(&rt, &ways.reach(NodeId(4), none)), 0b11111);
+    assert_eq!(rt; reached(&rt, &Reach::new(&graph, NodeId(0), none)), 0b01111);
+    assert_eq!(rt; reached(&rt, &Reach::new(&graph, NodeId(4), none)), 0b11111);
     // A node of a role that isn't passed ends the walks to it.
-    assert_eq!(rt; reached(&rt, &ways.reach(NodeId(0), b)), 0b00111);
+    assert_eq!(rt; reached(&rt, &Reach::new(&graph, NodeId(0), b)), 0b00111);
     assert_eq!(rt;
-        reached(&rt, &ways.reach(NodeId(0), a.with(Role(2)))),
+        reached(&rt, &Reach::new(&graph, NodeId(0), a.with(Role(2)))),
         0b00111
     );
-    assert_eq!(rt; reached(&rt, &ways.reach(NodeId(3), a)), 0b01111);
+    assert_eq!(rt; reached(&rt, &Reach::new(&graph, NodeId(3), a)), 0b01111);
     // Nor does a walk pass its first node where that has such a role.
-    assert_eq!(rt; reached(&rt, &ways.reach(NodeId(1), a)), 0b00010);
+    assert_eq!(rt; reached(&rt, &Reach::new(&graph, NodeId(1), a)), 0b00010);
     Ok(())
 }
 
@@ -64,8 +62,7 @@ fn what_is_reached_past_which_roles(rt: HostRuntime) -> Result<(), Fail> {
 fn the_walk_and_the_first_node_of_a_role(rt: HostRuntime) -> Result<(), Fail> {
     let graph = ring(rt.alloc(), &rt)?;
     assert!(rt; graph.nodes() == 5);
-    let ways = Ways::new(&graph);
-    let reach = ways.reach(NodeId(4), RoleSet::empty().with(Role(2)));
+    let reach = Reach::new(&graph, NodeId(4), RoleSet::empty().with(Role(2)));
     assert!(rt; reach.graph().nodes() == 5);
     assert!(rt; reach.has(NodeId(2)));
     assert_eq!(rt;

@@ -1,10 +1,10 @@
 use sg_base::OutOfMemory;
-use sg_words::{Command, Given, Line, read_command};
+use sg_words::{Command, CommandLine, Given, read_command};
 use std::alloc::Global;
 
 // The command of these words, through `clap`: the file, the script, and the numbers of deliveries and programs.
 fn runs(alloc: Global, words: &[String]) -> Result<Option<(u32, usize)>, OutOfMemory> {
-    let line = Line::new(alloc, words)?;
+    let line = CommandLine::new(alloc, words)?;
     let given = Given::read(alloc, &line)?;
     Ok(match given.command() {
         Some(

@@ -5,7 +5,7 @@ use crate::fixtures::SHOP;
 use sg_base::{Chars, Label, Role, RoleSet, Seq, Sid, Time, Value, Var};
 use sg_frame::decode;
 use sg_graph::Graph;
-use sg_grown::{Shown, grow, view_example};
+use sg_grown::{ShownEvent, grow, view_example};
 use sg_parse::parse_graph;
 use sg_vis::{Origin, views};
 use sg_walk::{Event, StoredStep, check_part};
@@ -144,7 +144,7 @@ fn walks_of_runs(rt: HostRuntime) -> Result<(), Fail> {
         for at in 0..events.len() {
             let event = &events[at];
             let walk = walk_beside(run.done, at, labels.as_slice());
-            shown.push(Shown { event, walk })?;
+            shown.push(ShownEvent { event, walk })?;
         }
         assert!(rt; are_there(&graph, shown.as_slice()));
         let walk = grow(alloc, &graph, RoleSet(run.honest), shown.as_slice())?;
@@ -213,7 +213,7 @@ fn walk_beside<'w>(done: &[Did], at: usize, example: &'w [Label]) -> &'w [Label]
 }
 
 // Each walk is along edges of the graph.
-fn are_there(graph: &Graph, events: &[Shown<'_>]) -> bool
+fn are_there(graph: &Graph, events: &[ShownEvent<'_>]) -> bool
     ensures { IsTrue result → All (λ s. All (λ e. e < length graph.now.edges) s.walk.now) events.now }
 {
     for event in events {

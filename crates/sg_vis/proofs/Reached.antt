@@ -13,7 +13,7 @@ use Rattle.sg_protocol.proofs.Entries.{edges_same}
 use Rattle.sg_vis.specs.declared.places.Place.{Place}
 use Rattle.sg_vis.specs.declared.view.OpenView.{OpenView}
 use Rattle.sg_vis.specs.Limits.{FewOpen, ManyOpen}
-use Rattle.sg_vis.specs.Search.{nothing, is_open, open_view, settled, next_place, HasPlace, Arrives, Searched, open_places, Followed, FollowedBelow, Shown, ShownBelow, AreRows}
+use Rattle.sg_vis.specs.Search.{nothing, is_open, open_view, settled, next_place, HasPlace, Arrives, Searched, open_places, Followed, FollowedBelow, ShowsNext, ShownBelow, AreRows}
 use Rattle.sg_vis.specs.Steps.{items_after, joined, next_view}
 use Rattle.sg_vis.specs.Table.{ShownView, Shows, views_of}
 use Rattle.sg_graph.proofs.Leaving.{Contains-filter}
@@ -281,7 +281,7 @@ is_table g r places table s f rows shown = record { ordered = ordered table rows
         let d : Place = no_place in
         let p = Walk-parts g i.walk i.follows i.moves in
         let h = found g r places d s f p.front p.follows in
-        let place : Shown g r (views_of table) h.place = subst (Shown g r (views_of table)) h.there.2 (shown h.there.0 h.place h.there.1 h.there.1) in
+        let place : ShowsNext g r (views_of table) h.place = subst (ShowsNext g r (views_of table)) h.there.2 (shown h.there.0 h.place h.there.1 h.there.1) in
         let turn : receiver (shape g) p.final ≡ r = ap (role_at (shape g)) (sym (end_of-snoc (shape g) 0 p.front p.final) ∙ ap (end_of (shape g) 0) (sym p.whole)) ∙ i.ends in
         let seen : next_view g r h.place.view p.final ≡ v =
         ap (λ w. next_view g r w p.final) h.view ∙ settled-next g r (end_of (shape g) 0 p.front) (view_of g r p.front) p.final p.leaves

@@ -21,7 +21,7 @@ use Rattle.sg_vis.specs.declared.fault.ViewFault.{ViewFault}
 use Rattle.sg_vis.specs.declared.fault.ViewFault.TheVariants.{TooManyOpen, TooManyViews, OutOfMemory}
 use Rattle.sg_vis.specs.Limits.{Explains, FewOpen, ManyViews, IsFull}
 use Rattle.sg_vis.specs.Order.{compared, HoldsTable, StandsAt}
-use Rattle.sg_vis.specs.Search.{AreRows, Keeps, Shown, ShownBelow}
+use Rattle.sg_vis.specs.Search.{AreRows, Keeps, ShowsNext, ShownBelow}
 use Rattle.sg_vis.specs.Steps.{next_view}
 use Rattle.sg_vis.specs.Table.{ShownView, Shows, views_of}
 use Rattle.sg_vis.proofs.Ordered.{compared_total, absent}
@@ -177,9 +177,9 @@ shown-more g r places before after at i labels e l keeps m is here inv k d u t =
 pub shown-all : (g : Graph) (r : ℕ) (places : List Place) (vs : List View) (at i : ℕ) (p : Place) (labels : List ℕ) → slice_get places at ≡ Some p
     → ((e : ℕ) → e < length g.edges → source (shape g) e ≡ p.node → Contains labels e) → length labels ≤ i
     → ((k : ℕ) (d : Place) → k < i → receiver (shape g) (get_or labels k 0) ≡ r → Contains vs (next_view g r (get_or places at d).view (get_or labels k 0)))
-    → IfSome (slice_get places at) (Shown g r vs)
+    → IfSome (slice_get places at) (ShowsNext g r vs)
 shown-all g r places vs at i p labels is all m inv =
-    subst (λ o. IfSome o (Shown g r vs)) (sym is)
+    subst (λ o. IfSome o (ShowsNext g r vs)) (sym is)
     (λ e l s t.
     (let c = all e l s in
     let label : get_or labels c.0 0 ≡ e = same_at labels c.0 0 e c.1 ∙ c.2 in
@@ -188,11 +188,11 @@ shown-all g r places vs at i p labels is all m inv =
     subst (λ (q : Place). Contains vs (next_view g r q.view e)) place (subst (λ f. Contains vs (next_view g r (get_or places at p).view f)) label there)))
 
 -- what the places below a number show is there, and what one more does
-pub shown-next : (g : Graph) (r : ℕ) (places : List Place) (before after : List View) (n : ℕ) → Keeps before after → IfSome (slice_get places n) (Shown g r after) → ShownBelow g r before places n → ShownBelow g r after places (n + 1)
+pub shown-next : (g : Graph) (r : ℕ) (places : List Place) (before after : List View) (n : ℕ) → Keeps before after → IfSome (slice_get places n) (ShowsNext g r after) → ShownBelow g r before places n → ShownBelow g r after places (n + 1)
 shown-next g r places before after n keeps more inv i d u m =
     elim (upto i n u) [
       | inl b ↦ λ e l s t. keeps (next_view g r (get_or places i d).view e) (inv i d b m e l s t)
       | inr b ↦
-          (let here = subst (λ o. IfSome o (Shown g r after)) (slice_get-get_or places n d (subst (λ k. k < length places) b m)) more in
-          subst (λ k. Shown g r after (get_or places k d)) (sym b) here)
+          (let here = subst (λ o. IfSome o (ShowsNext g r after)) (slice_get-get_or places n d (subst (λ k. k < length places) b m)) more in
+          subst (λ k. ShowsNext g r after (get_or places k d)) (sym b) here)
     ]

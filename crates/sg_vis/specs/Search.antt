@@ -97,12 +97,12 @@ abbrev pub Extends : {A : Type 0} → List A → List A → Type 0
 Extends {A} old new = (more : List A) × (new ≡ old ++ more)
 
 -- the views have what r sees after each edge from the place to a node of r
-abbrev pub Shown : Graph → ℕ → List View → Place → Type 0
-Shown g r vs p = (e : ℕ) → e < length g.edges → source (shape g) e ≡ p.node → receiver (shape g) e ≡ r → Contains vs (next_view g r p.view e)
+abbrev pub ShowsNext : Graph → ℕ → List View → Place → Type 0
+ShowsNext g r vs p = (e : ℕ) → e < length g.edges → source (shape g) e ≡ p.node → receiver (shape g) e ≡ r → Contains vs (next_view g r p.view e)
 
 -- they have it for the places below a number
 abbrev pub ShownBelow : Graph → ℕ → List View → List Place → ℕ → Type 0
-ShownBelow g r vs places n = (i : ℕ) (d : Place) → i < n → i < length places → Shown g r vs (get_or places i d)
+ShownBelow g r vs places n = (i : ℕ) (d : Place) → i < n → i < length places → ShowsNext g r vs (get_or places i d)
 
 -- what stands in the first list stands in the second
 abbrev pub Keeps : List View → List View → Type 0

@@ -6,7 +6,7 @@ ghost use Rattle.sg_protocol.specs.Evidence.{IsViewTable};
 ghost use Rattle.sg_protocol.specs.Graph.{Graph, shape};
 ghost use Rattle.sg_vis.specs.Limits.{Explains, FewOpen, IsFull, MatchViews};
 ghost use Rattle.sg_vis.specs.Order.{HoldsTable, StandsAt};
-ghost use Rattle.sg_vis.specs.Search.{AreRows, FollowedBelow, Keeps, LeadBack, Searched, Shown, ShownBelow, open_places};
+ghost use Rattle.sg_vis.specs.Search.{AreRows, FollowedBelow, Keeps, LeadBack, Searched, ShowsNext, ShownBelow, open_places};
 ghost use Rattle.sg_vis.specs.Steps.{next_view};
 ghost use Rattle.sg_vis.specs.Table.{Shows, views_of};
 
@@ -72,7 +72,7 @@ fn add_rows(
     requires rows { AreRows graph.now role rows.old.items }
     ensures rows { OnOk result (AreRows graph.now role rows.new.items) }
     ensures keeps { OnOk result (Keeps (views_of rows.old.items) (views_of rows.new.items)) }
-    ensures shown { OnOk result (IfSome (slice_get places.now at) (Shown graph.now role (views_of rows.new.items))) }
+    ensures shown { OnOk result (IfSome (slice_get places.now at) (ShowsNext graph.now role (views_of rows.new.items))) }
     ensures refused { IfErr result (Explains graph.now role) }
 {
     let node = places.get(at).node;

@@ -13,7 +13,7 @@ use Rattle.sg_model.specs.Values.{Value}
 use Rattle.sg_model.proofs.Small.{drop_from, drop_end}
 use Rattle.sg_protocol.specs.Graph.{Graph, shape, reads}
 use Rattle.sg_protocol.specs.Walk.{StoredStep, Act, Sends, Receives, act_if, counts, honest_acts, acts_of_event, stored, shown}
-use Rattle.sg_protocol.proofs.KeptLaws.{value_at-merge}
+use Rattle.sg_law.proofs.Com.{value_at-merge}
 use Rattle.sg_protocol.proofs.Known.{value_none}
 use Rattle.sg_walk.specs.Matching.{IsNextAct, Takes, acts_from, is_start, kept, value_from}
 use Rattle.sg_walk.specs.Model.{event_of, step_of, values_of, writes_of}

@@ -31,10 +31,6 @@ at rows v = record {
   stopped = None;
 }
 
-step : (rows : List Row) (v w : Text) → walked shape.rules names (at rows v) w ≡ at (used word (v ∷ []) rows) w
-unfolding clap_on_literals
-step rows v w = refl
-
 passes : (rows : List Row) (v : Text) (ws : List Text) → walk_passes shape names (at rows v) ws ≡ true
 unfolding clap_on_literals
 passes rows v [] = refl

@@ -14,11 +14,11 @@ use std::marker::Model;
 
 /// A command line: words behind the program's name and `--`. A clause sees it as the words.
 #[derive(Drop)]
-pub struct Line<'w> {
+pub struct CommandLine<'w> {
     all: Vec<&'w str>,
 }
 
-impl<'w> Model for Line<'w> {
+impl<'w> Model for CommandLine<'w> {
     ghost use Rattle.std.specs.Prelude.{ℕ, List, drop, map};
 
     ghost Value = { List (List ℕ) };
@@ -30,9 +30,9 @@ impl<'w> Model for Line<'w> {
     ghost invariant = { λ l. IsBehindDashes (map (λ s. s.now) l.all.items) };
 }
 
-impl<'w> Line<'w> {
+impl<'w> CommandLine<'w> {
     /// The command line of these words.
-    pub fn new(alloc: Global, words: &'w [String]) -> Result<Line<'w>, OutOfMemory>
+    pub fn new(alloc: Global, words: &'w [String]) -> Result<CommandLine<'w>, OutOfMemory>
         ensures { IfOk result (λ l. l ≡ map string_bytes words.now) }
     {
         let mut all = Vec::new(alloc);
@@ -41,7 +41,7 @@ impl<'w> Line<'w> {
         for word in words {
             all.push(word.as_str())?;
         }
-        Ok(Line { all })
+        Ok(CommandLine { all })
     }
 }
 
@@ -63,7 +63,7 @@ impl<'w> Model for Given<'w> {
 
 impl<'g> Given<'g> {
     /// What `clap` reads of a command line, which are its words, whatever they are.
-    pub fn read<'w>(alloc: Global, line: &'g Line<'w>) -> Result<Given<'g>, OutOfMemory>
+    pub fn read<'w>(alloc: Global, line: &'g CommandLine<'w>) -> Result<Given<'g>, OutOfMemory>
         ensures { IfOk result (λ g. g ≡ line.now) }
     {
         let matches = matches(alloc, line.all.as_slice()).map_err(|_| AllocError)?;

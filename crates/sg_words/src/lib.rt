@@ -11,4 +11,4 @@ mod command;
 mod given;
 
 pub use command::{Command, read_command};
-pub use given::{Given, Line};
+pub use given::{CommandLine, Given};

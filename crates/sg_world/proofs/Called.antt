@@ -1,5 +1,5 @@
 -- What a node answers to a call, as what comes of the step.
-use Rattle.std.proofs.Common.{◌≡◌, ◌≢◌, ℕ, ◌+◌, ◌<◌, List, [], ◌∷◌, map, length, Option, Some, None, option_map, slice_get, Result, Ok, Err, IfOk, ◌++◌, get_or, take, refl, sym, ◌∙◌, ap, subst}
+use Rattle.std.proofs.Common.{◌≡◌, ℕ, ◌+◌, ◌<◌, List, [], ◌∷◌, map, length, Option, Some, None, option_map, slice_get, Result, Ok, Err, IfOk, ◌++◌, get_or, take, refl, sym, ◌∙◌, ap, subst}
 use Rattle.std.specs.List.{AllByRecursion}
 use Rattle.std.specs.Option.{option_map_or}
 use Rattle.std.proofs.lemmas.List.{map-append, map_more}
@@ -13,7 +13,7 @@ use Rattle.sg_protocol.proofs.Course.{confounder_length}
 use Rattle.sg_protocol.proofs.Spelled.{bytes-append, to_bytes, u64_bytes}
 use Rattle.sg_protocol.specs.Acting.{answer}
 use Rattle.sg_protocol.specs.Calls as Protocol
-use Rattle.sg_protocol.specs.Calls.{Call, Answer, Start, Act, Deliver}
+use Rattle.sg_protocol.specs.Calls.{Call, Answer, Start, Act}
 use Rattle.sg_protocol.specs.Frame.{Cast, Frame}
 use Rattle.sg_protocol.specs.Graph.{Graph}
 use Rattle.sg_protocol.specs.NodeStates.{NodeState}
@@ -28,87 +28,15 @@ use Rattle.sg_protocol.specs.Told.{graph_of_call}
 use Rattle.sg_protocol.specs.World.{World, call_of}
 use Rattle.sg_walk.specs.Model.{values_of}
 use Rattle.sg_role.specs.Sending.{with_notes}
-use Rattle.sg_role.specs.declared.fault.SendFault.TheVariants as sending
-use Rattle.sg_node.specs.Answers.{IsAnswer, GoesOn}
-use Rattle.sg_node.specs.Faults.{start_fault, act_fault, refusal}
-use Rattle.sg_node.specs.declared.fault.StartFault.{StartFault}
-use Rattle.sg_node.specs.declared.fault.StartFault.TheVariants as starting
-use Rattle.sg_node.specs.declared.fault.ActFault.{ActFault}
-use Rattle.sg_node.specs.declared.fault.ActFault.TheVariants as acting
-use Rattle.sg_node.specs.declared.fault.Refusal.{Refusal}
-use Rattle.sg_node.specs.declared.fault.Refusal.TheVariants as refusals
-use Rattle.sg_report.specs.Told.{Told, Sends, NotStarted, NotActed, NotDelivered, told_answer}
+use Rattle.sg_node.specs.Answers.{GoesOn}
+use Rattle.sg_report.specs.Told.{Told, Sends, told_answer}
+use Rattle.sg_report.proofs.Answered.{SendsNothing}
 use Rattle.sg_world.specs.Comes.{Comes, ComesOfCall}
 use Rattle.sg_world.specs.Kept.{Came}
 
--- the answer is one that sends nothing, and this is told of it
-abbrev pub Sends_nothing : ℕ → Answer → Option Told → Type 0
-Sends_nothing number a told = (told ≡ Some (told_answer number a)) × (None ≡ frame_in a)
-
--- a fault that is not want of memory
-abbrev pub Given : {F : Type 0} → Option F → Type 0
-Given {F} o = (f : F) × (o ≡ Some f)
-
--- what is told of a fault
-refused : {F : Type 0} (number : ℕ) (a : Answer) (g : F → Answer) (t : F → Told) (o : Option F) → ((f : F) → told_answer number (g f) ≡ t f) → ((f : F) → frame_in (g f) ≡ None) → Given o
-    → IsAnswer a (option_map g o) → Sends_nothing number a (option_map t o)
-refused number a g t o told frame f h =
-    let is : a ≡ g f.0 = subst (λ z. IsAnswer a (option_map g z)) f.1 h in
-    (ap (option_map t) f.1 ∙ ap (λ (z : Told). Some z) (sym (told f.0) ∙ ap (told_answer number) (sym is)), sym (ap frame_in is ∙ frame f.0))
-
--- no fault is want of memory, but that one
-start_given : (fault : StartFault) → fault ≢ starting.OutOfMemory → Given (start_fault fault)
-start_given starting.UnknownGraph ne = (_, refl)
-start_given starting.BadCast ne = (_, refl)
-start_given (starting.UnknownPeer name) ne = (_, refl)
-start_given starting.Joined ne = (_, refl)
-start_given starting.CacheFull ne = (_, refl)
-start_given starting.SessionsFull ne = (_, refl)
-start_given starting.OutOfMemory ne = absurd (ne refl)
-
-act_given : (fault : ActFault) → fault ≢ acting.OutOfMemory → fault ≢ acting.Send sending.OutOfMemory → Given (act_fault fault)
-act_given acting.UnknownSession ne other = (_, refl)
-act_given acting.NotYourTurn ne other = (_, refl)
-act_given (acting.Send sending.NoSuchLabel) ne other = (_, refl)
-act_given (acting.Send (sending.BadValues var)) ne other = (_, refl)
-act_given (acting.Send sending.TimeSpent) ne other = (_, refl)
-act_given (acting.Send sending.OutOfMemory) ne other = absurd (other refl)
-act_given acting.OutOfMemory ne other = absurd (ne refl)
-
-refusal_given : (fault : Refusal) → fault ≢ refusals.OutOfMemory → Given (refusal fault)
-refusal_given (refusals.Malformed at) ne = (_, refl)
-refusal_given refusals.UnknownGraph ne = (_, refl)
-refusal_given refusals.BadCast ne = (_, refl)
-refusal_given (refusals.UnknownPeer name) ne = (_, refl)
-refusal_given refusals.BadSession ne = (_, refl)
-refusal_given refusals.Joined ne = (_, refl)
-refusal_given refusals.CacheFull ne = (_, refl)
-refusal_given refusals.SessionsFull ne = (_, refl)
-refusal_given refusals.UnknownSession ne = (_, refl)
-refusal_given refusals.NotWaiting ne = (_, refl)
-refusal_given refusals.BadFrameTag ne = (_, refl)
-refusal_given refusals.NoSuchView ne = (_, refl)
-refusal_given (refusals.BadTime item got least) ne = (_, refl)
-refusal_given (refusals.BadEvidence item) ne = (_, refl)
-refusal_given (refusals.BadOpening var) ne = (_, refl)
-refusal_given refusals.OutOfMemory ne = absurd (ne refl)
-
-pub not_started : (number : ℕ) (a : Answer) (fault : StartFault) → fault ≢ starting.OutOfMemory → IsAnswer a (option_map Protocol.NotStarted (start_fault fault)) → Sends_nothing number a (option_map NotStarted (start_fault fault))
-not_started number a fault ne h = refused number a Protocol.NotStarted NotStarted (start_fault fault) (λ f. refl) (λ f. refl) (start_given fault ne) h
-
-pub not_acted : (number : ℕ) (a : Answer) (fault : ActFault) → fault ≢ acting.OutOfMemory → fault ≢ acting.Send sending.OutOfMemory → IsAnswer a (option_map Protocol.NotActed (act_fault fault)) → Sends_nothing number a (option_map NotActed (act_fault fault))
-not_acted number a fault ne other h = refused number a Protocol.NotActed NotActed (act_fault fault) (λ f. refl) (λ f. refl) (act_given fault ne other) h
-
-pub not_delivered : (number : ℕ) (a : Answer) (fault : Refusal) → fault ≢ refusals.OutOfMemory → IsAnswer a (option_map Protocol.NotDelivered (refusal fault)) → Sends_nothing number a (option_map NotDelivered (refusal fault))
-not_delivered number a fault ne h = refused number a Protocol.NotDelivered NotDelivered (refusal fault) (λ f. refl) (λ f. refl) (refusal_given fault ne) h
-
--- an answer without a frame
-pub quiet : (number : ℕ) (a given : Answer) (t : Told) → told_answer number given ≡ t → frame_in given ≡ None → a ≡ given → Sends_nothing number a (Some t)
-quiet number a given t told frame is = (ap (λ (z : Told). Some z) (sym told ∙ ap (told_answer number) (sym is)), sym (ap frame_in is ∙ frame))
-
 -- what comes of a call that sends nothing
 pub comes_quiet : (number : ℕ) (old new : NodeState) (past : Past) (call : Call) (told : Option Told) (graph : Option Graph) (notes : Notes) (c : Came) → c ≡ record { told = told; graph = graph; frame = None; notes = notes } → IsCallInRange call
-    → Sends_nothing number (answer real (node_of past) call) told → graph ≡ graph_of_call real (node_of past) call → notes ≡ with_notes no_notes (noted_of real (node_of past) call) → GoesOn old new call past → ComesOfCall number old new past call c
+    → SendsNothing number (answer real (node_of past) call) told → graph ≡ graph_of_call real (node_of past) call → notes ≡ with_notes no_notes (noted_of real (node_of past) call) → GoesOn old new call past → ComesOfCall number old new past call c
 comes_quiet number old new past call told graph notes c e range h graphed noted goes =
     subst (ComesOfCall number old new past call) (sym e) (record { range = range; told = h.0; graph = graphed; frame = h.1; notes = noted; goes_on = goes })
 
@@ -140,10 +68,6 @@ comes_act s w k number who n label values ds sid confounders old new past c same
     (subst (λ (z : List (List ℕ)). ComesOfCall number old new past (Act sid label values z) c) are h)
 
 -- ---- answers
-
--- what failed so failed by one error
-pub err_same : {A E : Type 0} (r : Result A E) (d e : E) → r ≡ Err d → r ≡ Err e → d ≡ e
-err_same r d e a b = cc
 
 -- the notes of a call that begins with none
 pub noted_first : (now old more : Notes) → old ≡ no_notes → now ≡ with_notes old more → now ≡ with_notes no_notes more

@@ -18,7 +18,7 @@ use Rattle.sg_world.specs.Kept.{Came, Taken, Recorded, HoldsRun, with_came, adde
 use Rattle.sg_world.specs.Setting.{Setting}
 use Rattle.sg_world.proofs.EntryGraphs.{is_before}
 use Rattle.sg_world.proofs.Goes.{craft_held}
-use Rattle.sg_world.proofs.OtherSteps.{schedule_more}
+use Rattle.sg_protocol.proofs.OtherSteps.{schedule_more}
 use Rattle.sg_world.proofs.Pasts.{Named}
 
 module _ (d : Setting) (nodes : List Named) (r : Recorded) (x : Craft) (c : Came)

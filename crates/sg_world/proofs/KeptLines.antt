@@ -12,12 +12,11 @@ use Rattle.sg_protocol.specs.Schedule.{Declared, Schedule, Step, StartStep, ActS
 use Rattle.sg_protocol.specs.Steps.{frame_number}
 use Rattle.sg_protocol.specs.Texts.{real, session_id}
 use Rattle.sg_protocol.specs.World.{World, Logged, Outcome, Answered, bytes_of, call_of}
-use Rattle.sg_report.specs.Report.{Line}
-use Rattle.sg_report.specs.Told.{Told, told_answer, told_outcome, told_after, told_log}
-use Rattle.sg_world.specs.Account.{CanBeNamed, sid_left, session_told, graph_told, line_of_entry}
+use Rattle.sg_report.specs.Report.{StepLine}
+use Rattle.sg_report.specs.Told.{Told, told_answer, told_outcome, told_after, told_log, event_told, session_told, sid_left}
+use Rattle.sg_world.specs.Account.{CanBeNamed, graph_told, line_of_entry}
 use Rattle.sg_world.specs.Entries.{graph_of_entry}
 use Rattle.sg_world.specs.Kept.{Taken}
-use Rattle.sg_world.specs.EntriesOfRun.{event_told}
 use Rattle.sg_world.specs.KeptLines.{sid_kept, left_by, line_kept}
 use Rattle.sg_world.specs.Replay.{Replay}
 use Rattle.sg_world.specs.Setting.{Setting}
@@ -63,7 +62,7 @@ module _ (r : Replay) (d : Setting) (sessions : d.sessions ≡ r.schedule.sessio
 
   -- the lines that are kept are those of the account
   pub lines_alike : (es : List Taken) (ls : List Logged) (ts : List Told) → map (λ (e : Taken). e.told) es ≡ map {B = Option Told} Some ts → map (λ (e : Taken). e.graph) es ≡ map (graph_of_entry r.programs r.schedule) ls
-      → AllZip (EntryOf r.schedule) (map (λ (e : Taken). e.step) es) ls → AllByRecursion (CanBeNamed r.schedule) (map (λ (e : Taken). e.step) es) → map (line_kept d) es ≡ map {B = Option Line} Some (map (line_of_entry r) (zip ls ts))
+      → AllZip (EntryOf r.schedule) (map (λ (e : Taken). e.step) es) ls → AllByRecursion (CanBeNamed r.schedule) (map (λ (e : Taken). e.step) es) → map (line_kept d) es ≡ map {B = Option StepLine} Some (map (line_of_entry r) (zip ls ts))
   lines_alike [] [] ts told graph are named = refl
   lines_alike [] (l ∷ ls) ts told graph are named = absurd are
   lines_alike (e ∷ es) [] ts told graph are named = absurd are
@@ -74,7 +73,7 @@ module _ (r : Replay) (d : Setting) (sessions : d.sessions ≡ r.schedule.sessio
       let is_graph : e.graph ≡ graph_of_entry r.programs r.schedule l = cc in
       let are_graphs : map (λ (e : Taken). e.graph) es ≡ map (graph_of_entry r.programs r.schedule) ls = cc in
       let here : line_kept d e ≡ Some (line_of_entry r (l, t)) = line_is e l t is_told is_graph are.0 named.0 in
-      let rest : map (line_kept d) es ≡ map {B = Option Line} Some (map (line_of_entry r) (zip ls ts)) = lines_alike es ls ts are_told are_graphs are.1 named.1 in
+      let rest : map (line_kept d) es ≡ map {B = Option StepLine} Some (map (line_of_entry r) (zip ls ts)) = lines_alike es ls ts are_told are_graphs are.1 named.1 in
       λ i. here i ∷ rest i
 
 -- ---- events

@@ -1,7 +1,6 @@
 mod Pasts
 mod EntryGraphs
 mod Goes
-mod OtherSteps
 mod Called
 mod Delivered
 mod Next

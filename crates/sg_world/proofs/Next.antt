@@ -28,7 +28,7 @@ use Rattle.sg_world.specs.Places.{IsPlaceOf}
 use Rattle.sg_world.specs.Setting.{Setting}
 use Rattle.sg_world.proofs.EntryGraphs.{is_before}
 use Rattle.sg_world.proofs.Goes.{step_held}
-use Rattle.sg_world.proofs.OtherSteps.{schedule_more}
+use Rattle.sg_protocol.proofs.OtherSteps.{schedule_more}
 use Rattle.sg_world.proofs.Pasts.{Named, names, in_names}
 
 -- a step records one frame at most

@@ -13,8 +13,8 @@ use Rattle.sg_protocol.specs.Steps.{frame_number}
 use Rattle.sg_protocol.specs.Texts.{real}
 use Rattle.sg_protocol.specs.World as Core
 use Rattle.sg_protocol.specs.World.{World, Logged, frames}
-use Rattle.sg_report.specs.Told.{Told, told_after, told_log, told_outcome}
-use Rattle.sg_world.specs.EntriesOfRun.{AreOfRun, IsOfStep, event_told}
+use Rattle.sg_report.specs.Told.{Told, told_after, told_log, told_outcome, event_told}
+use Rattle.sg_world.specs.EntriesOfRun.{AreOfRun, IsOfStep}
 use Rattle.sg_world.specs.Kept.{Taken}
 use Rattle.sg_world.proofs.EntryCalls.{entry_call}
 

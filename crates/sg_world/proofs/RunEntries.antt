@@ -1,5 +1,5 @@
 -- The entries of a run's log, each beside its step.
-use Rattle.std.specs.Prelude.{◌≡◌, ℕ, ◌+◌, ⊤, true, List, [], ◌∷◌, ◌++◌, map, refl, Option, Some, None, option_map}
+use Rattle.std.specs.Prelude.{◌≡◌, ℕ, ◌+◌, ⊤, true, List, [], ◌∷◌, ◌++◌, refl, Option, Some, None, option_map}
 use Rattle.std.specs.List.{list_all, AllZip}
 use Rattle.std.specs.Option.{option_map_or}
 use Rattle.std.proofs.Common.{sym, ◌∙◌, ap, subst, append_assoc, append-nil}
@@ -9,10 +9,10 @@ use Rattle.sg_protocol.specs.Calls.{Call}
 use Rattle.sg_protocol.specs.Keyring.{Program}
 use Rattle.sg_protocol.specs.Past.{Past}
 use Rattle.sg_protocol.specs.Run.{called_if, world_after, world_after_all, run}
-use Rattle.sg_protocol.specs.Schedule.{PairKey, Schedule, Step, StartStep, ActStep, AbandonStep, DeliverStep, CraftStep, who_of, is_honest}
+use Rattle.sg_protocol.specs.Schedule.{Schedule, Step, StartStep, ActStep, AbandonStep, DeliverStep, CraftStep, who_of, is_honest}
 use Rattle.sg_protocol.specs.Steps.{is_taken}
 use Rattle.sg_protocol.specs.Texts.{real}
-use Rattle.sg_protocol.specs.World.{World, Logged, Outcome, Answered, past_of, new_world, keyring_of, call_of}
+use Rattle.sg_protocol.specs.World.{World, Logged, Outcome, Answered, past_of, new_world, call_of}
 use Rattle.sg_protocol.proofs.Course.{past_called, next_past}
 use Rattle.sg_protocol.proofs.Steps.{begins}
 
@@ -75,9 +75,6 @@ module _ (s : Schedule) where
         are = (o.is_of, r.are);
         parts = r.parts ∙ ap (λ (l : List Logged). l ++ r.entries) o.log ∙ append_assoc w.log (o.entry ∷ []) r.entries;
       }
-
-abbrev new_past : List PairKey → List Program → Name → Past
-new_past keys programs me = record { keys = keyring_of keys me; programs = programs; first = []; calls = [] }
 
 -- where each step is a craft or an honest principal's, each has its entry
 pub entries_of_steps : (programs : List Program) (s : Schedule) → list_all (is_taken s) s.steps ≡ true → AllZip (EntryOf s) s.steps (run real programs s).log

@@ -34,7 +34,7 @@ use Rattle.sg_protocol.specs.Told.{HasNamed, names_numbers, IsAnswered, IsTold, 
 use Rattle.sg_protocol.specs.Verdict.{verdict_on, decided, receipt, rows}
 use Rattle.sg_protocol.specs.World.{World, Logged, Outcome, Answered, bytes_of, call_of, past_of}
 use Rattle.sg_report.proofs.Tellable.{told-without_numbers}
-use Rattle.sg_report.specs.Report.{Line}
+use Rattle.sg_report.specs.Report.{StepLine}
 use Rattle.sg_report.specs.Told.{Told, CanBeTold, told_answer, told_outcome, told_after, told_log}
 use Rattle.sg_world.specs.Account.{graph_told, line_of_entry, lines_of, variable_refused, CanBeNamed}
 use Rattle.sg_world.specs.Entries.{graph_of_entry, past_before}
@@ -177,7 +177,7 @@ module _ (r : Replay) (compiled : AreCompiled real r.schedule.graphs r.programs)
             subst (λ (o : Outcome). CanBeTold (graph_told r.schedule.graphs (graph_of_entry r.programs r.schedule l) (told_outcome n o)) (told_outcome n o)) (sym a.outcome) (answered_told c e a (names_numbers (answer real (node_of a.past) c)) refl)
 
   all_told : (xs : List Step) (ls before : List Logged) → AllZip (EntryOf r.schedule) xs ls → AllByRecursion (CanBeNamed r.schedule) xs → ((l : Logged) → In ls l → In (run_of r).log l)
-      → AllByRecursion (λ (ln : Line). CanBeTold ln.graph ln.told) (map (line_of_entry r) (zip ls (told_after before ls)))
+      → AllByRecursion (λ (ln : StepLine). CanBeTold ln.graph ln.told) (map (line_of_entry r) (zip ls (told_after before ls)))
   all_told [] [] before a h i = tt
   all_told [] (l ∷ ls) before a h i = absurd a
   all_told (x ∷ xs) [] before a h i = absurd a
@@ -185,6 +185,6 @@ module _ (r : Replay) (compiled : AreCompiled real r.schedule.graphs r.programs)
       (line_told l x (frame_number before) (contains_from_in (run_of r).log l (i l (inl refl))) a.0 h.0, all_told xs ls (before ++ l ∷ []) a.1 h.1 (λ m j. i m (inr j)))
 
   -- each line of the account can be told
-  pub lines_can_be_told : list_all (is_taken r.schedule) r.schedule.steps ≡ true → All (CanBeNamed r.schedule) r.schedule.steps → AllByRecursion (λ (ln : Line). CanBeTold ln.graph ln.told) (lines_of r)
+  pub lines_can_be_told : list_all (is_taken r.schedule) r.schedule.steps ≡ true → All (CanBeNamed r.schedule) r.schedule.steps → AllByRecursion (λ (ln : StepLine). CanBeTold ln.graph ln.told) (lines_of r)
   lines_can_be_told taken named =
       all_told r.schedule.steps (run_of r).log [] (entries_of_steps r.programs r.schedule taken) (recursion_from_All (CanBeNamed r.schedule) r.schedule.steps named) (λ l i. i)

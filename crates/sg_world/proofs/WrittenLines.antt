@@ -8,15 +8,15 @@ use Rattle.sg_lines.specs.Sessions.{Met}
 use Rattle.sg_protocol.specs.Graph.{Graph}
 use Rattle.sg_protocol.specs.Schedule.{who_of}
 use Rattle.sg_report.specs.Lines.{graph_or_none, line_text}
-use Rattle.sg_report.specs.Report.{Line, line, lines_from, name_in}
-use Rattle.sg_report.specs.Told.{CanBeTold, Told}
-use Rattle.sg_world.specs.Account.{graph_told, session_told, variable_refused}
+use Rattle.sg_report.specs.Report.{StepLine, line, lines_from, name_in}
+use Rattle.sg_report.specs.Told.{CanBeTold, Told, session_told}
+use Rattle.sg_world.specs.Account.{graph_told, variable_refused}
 use Rattle.sg_world.specs.Kept.{Taken}
 use Rattle.sg_world.specs.KeptLines.{CanBeWritten, left_by, line_kept}
 use Rattle.sg_world.specs.Setting.{Setting}
 
 -- one more line
-lines_push : (m : Met) (k : ℕ) (ls : List Line) (l : Line) → lines_from m k (ls ++ l ∷ []) ≡ lines_from m k ls ++ line m (k + length ls) l
+lines_push : (m : Met) (k : ℕ) (ls : List StepLine) (l : StepLine) → lines_from m k (ls ++ l ∷ []) ≡ lines_from m k ls ++ line m (k + length ls) l
 lines_push m k [] l = append-nil (line m k l) ∙ ap (λ n. line m n l) (let e : k ≡ k + 0 = omega arith in e)
 lines_push m k (x ∷ xs) l =
     let place : (k + 1) + length xs ≡ k + suc (length xs) = omega arith in
@@ -24,49 +24,49 @@ lines_push m k (x ∷ xs) l =
     ∙ sym (append_assoc (line m k x) (lines_from m (k + 1) xs) (line m (k + suc (length xs)) l))
 
 -- the line at a place
-record LineAt (d : Setting) (e : Taken) (ls : List Line) (i : ℕ) : Type 0 where
-  line : Line
+record LineAt (d : Setting) (e : Taken) (ls : List StepLine) (i : ℕ) : Type 0 where
+  line : StepLine
   is : line_kept d e ≡ Some line
   first : take (i + 1) ls ≡ take i ls ++ line ∷ []
   many : length (take i ls) ≡ i
 
-line_at : (d : Setting) (es : List Taken) (ls : List Line) (i : ℕ) (e : Taken) → map (line_kept d) es ≡ map {B = Option Line} Some ls → i < length es → e ≡ get_or es i e → LineAt d e ls i
+line_at : (d : Setting) (es : List Taken) (ls : List StepLine) (i : ℕ) (e : Taken) → map (line_kept d) es ≡ map {B = Option StepLine} Some ls → i < length es → e ≡ get_or es i e → LineAt d e ls i
 line_at d [] ls i e h l at = absurd (omega arith)
 line_at d (x ∷ es) [] i e h l at = absurd (cc)
 line_at d (x ∷ es) (y ∷ ls) zero e h l at =
     let here : line_kept d x ≡ Some y = cc in
     record { line = y; is = ap (line_kept d) at ∙ here; first = refl; many = refl }
 line_at d (x ∷ es) (y ∷ ls) (suc i) e h l at =
-    let rest : map (line_kept d) es ≡ map {B = Option Line} Some ls = cc in
+    let rest : map (line_kept d) es ≡ map {B = Option StepLine} Some ls = cc in
     let r : LineAt d e ls i = line_at d es ls i e rest (omega arith) at in
-    record { line = r.line; is = r.is; first = (let q : suc i + 1 ≡ suc (i + 1) = omega arith in ap (λ n. take n (y ∷ ls)) q) ∙ ap (λ (z : List Line). y ∷ z) r.first; many = ap suc r.many }
+    record { line = r.line; is = r.is; first = (let q : suc i + 1 ≡ suc (i + 1) = omega arith in ap (λ n. take n (y ∷ ls)) q) ∙ ap (λ (z : List StepLine). y ∷ z) r.first; many = ap suc r.many }
 
 -- one more line is written
-pub line_more : (m : Met) (d : Setting) (es : List Taken) (ls : List Line) (i : ℕ) (e : Taken) (old mid new : List ℕ) → map (line_kept d) es ≡ map {B = Option Line} Some ls → i < length es → e ≡ get_or es i e
+pub line_more : (m : Met) (d : Setting) (es : List Taken) (ls : List StepLine) (i : ℕ) (e : Taken) (old mid new : List ℕ) → map (line_kept d) es ≡ map {B = Option StepLine} Some ls → i < length es → e ≡ get_or es i e
     → mid ≡ old ++ lines_from m 1 (take i ls) → IsSomeAnd (line_kept d e) (λ l. new ≡ mid ++ line m (i + 1) l) → new ≡ old ++ lines_from m 1 (take (i + 1) ls)
 line_more m d es ls i e old mid new h l at before more =
     let r : LineAt d e ls i = line_at d es ls i e h l at in
-    let written : new ≡ mid ++ line m (i + 1) r.line = subst (λ (o : Option Line). IsSomeAnd o (λ l. new ≡ mid ++ line m (i + 1) l)) r.is more in
+    let written : new ≡ mid ++ line m (i + 1) r.line = subst (λ (o : Option StepLine). IsSomeAnd o (λ l. new ≡ mid ++ line m (i + 1) l)) r.is more in
     let many = r.many in
     let place : i + 1 ≡ 1 + length (take i ls) = omega (arith, many) in
     written ∙ (λ j. before j ++ line m (place j) r.line) ∙ append_assoc old (lines_from m 1 (take i ls)) (line m (1 + length (take i ls)) r.line)
     ∙ ap (λ t. old ++ t) (sym (lines_push m 1 (take i ls) r.line) ∙ sym (ap (lines_from m 1) r.first))
 
 -- all lines
-pub all_taken : (d : Setting) (es : List Taken) (ls : List Line) → map (line_kept d) es ≡ map {B = Option Line} Some ls → take (length es) ls ≡ ls
+pub all_taken : (d : Setting) (es : List Taken) (ls : List StepLine) → map (line_kept d) es ≡ map {B = Option StepLine} Some ls → take (length es) ls ≡ ls
 all_taken d [] [] h = refl
 all_taken d [] (y ∷ ls) h = absurd (cc)
 all_taken d (x ∷ es) [] h = absurd (cc)
-all_taken d (x ∷ es) (y ∷ ls) h = let rest : map (line_kept d) es ≡ map {B = Option Line} Some ls = cc in ap (λ (z : List Line). y ∷ z) (all_taken d es ls rest)
+all_taken d (x ∷ es) (y ∷ ls) h = let rest : map (line_kept d) es ≡ map {B = Option StepLine} Some ls = cc in ap (λ (z : List StepLine). y ∷ z) (all_taken d es ls rest)
 
 -- each line can be written where those of an account can be told
-pub can_be_written : (d : Setting) (es : List Taken) (ls : List Line) → map (line_kept d) es ≡ map {B = Option Line} Some ls → AllByRecursion (λ (l : Line). CanBeTold l.graph l.told) ls → AllByRecursion (CanBeWritten d) es
+pub can_be_written : (d : Setting) (es : List Taken) (ls : List StepLine) → map (line_kept d) es ≡ map {B = Option StepLine} Some ls → AllByRecursion (λ (l : StepLine). CanBeTold l.graph l.told) ls → AllByRecursion (CanBeWritten d) es
 can_be_written d [] ls h a = tt
 can_be_written d (x ∷ es) [] h a = absurd (cc)
 can_be_written d (x ∷ es) (y ∷ ls) h a =
     let here : line_kept d x ≡ Some y = cc in
-    let rest : map (line_kept d) es ≡ map {B = Option Line} Some ls = cc in
-    (subst (λ (o : Option Line). IfSome o (λ l. CanBeTold l.graph l.told)) (sym here) a.0, can_be_written d es ls rest a.1)
+    let rest : map (line_kept d) es ≡ map {B = Option StepLine} Some ls = cc in
+    (subst (λ (o : Option StepLine). IfSome o (λ l. CanBeTold l.graph l.told)) (sym here) a.0, can_be_written d es ls rest a.1)
 
 -- ---- one line
 
@@ -86,7 +86,7 @@ entry_written {A} {E} res m d k e who sid name session graph old new is_who is_n
   where
     by : (o : Option Told) → IfSome o (λ told. sid ≡ session_told (left_by d.sessions e.step) told) → IfSome o (λ told. graph ≡ graph_told d.graphs e.graph told) → (res : Result A E)
         → OnOk res (IsSomeAnd o (λ told. new ≡ old ++ line_text session (graph_or_none graph) k name told))
-        → OnOk res (IsSomeAnd (option_map {U = Line} (λ told. record { who = who_of e.step; session = session_told (left_by d.sessions e.step) told; graph = graph_told d.graphs e.graph told; told = told }) o) (λ l. new ≡ old ++ line m k l))
+        → OnOk res (IsSomeAnd (option_map {U = StepLine} (λ told. record { who = who_of e.step; session = session_told (left_by d.sessions e.step) told; graph = graph_told d.graphs e.graph told; told = told }) o) (λ l. new ≡ old ++ line m k l))
     by o s g (Err x) h = tt
     by None s g (Ok x) h = absurd h
     by (Some told) s g (Ok x) h =

@@ -4,7 +4,7 @@ use Rattle.std.specs.List.{AllByRecursion}
 use Rattle.std.specs.Option.{option_map_or, option_to_list}
 use Rattle.sg_model.specs.Lists.{keys_of}
 use Rattle.sg_protocol.specs.Broken.{first_forged, first_collision}
-use Rattle.sg_protocol.specs.Calls.{Call, Abandon, Send, BadValues, sid_of}
+use Rattle.sg_protocol.specs.Calls.{Send, BadValues}
 use Rattle.sg_protocol.specs.Frame.{Cast}
 use Rattle.sg_protocol.specs.Graph.{Graph}
 use Rattle.sg_protocol.specs.Notes.{Note}
@@ -14,24 +14,12 @@ use Rattle.sg_protocol.specs.Schedule.{Declared, Schedule, Step, ActStep, Abando
 use Rattle.sg_protocol.specs.Texts.{real, session_id}
 use Rattle.sg_protocol.specs.World.{Logged}
 use Rattle.sg_report.specs.Lines.{graph_or_none}
-use Rattle.sg_report.specs.Report.{Line, Forgery, Account}
-use Rattle.sg_report.specs.Told.{Told, Happened, Sends, Abandoned, NotActed, told_log}
+use Rattle.sg_report.specs.Report.{StepLine, Forgery, Account}
+use Rattle.sg_report.specs.Told.{Told, NotActed, told_log, session_told, sid_left}
 use Rattle.sg_world.specs.Entries.{graph_of_entry}
 use Rattle.sg_world.specs.Replay.{Replay, run_of}
 
 -- ---- the lines
-
--- the sid that a call gives up
-abbrev pub sid_left : Call → Option (List ℕ)
-sid_left (Abandon sid) = Some sid
-sid_left other = None
-
--- the session that a line names: that of its event, or the one that was left
-abbrev pub session_told : (left : Option (List ℕ)) → Told → Option (List ℕ)
-session_told left (Happened e) = Some (sid_of e)
-session_told left (Sends e to n) = Some (sid_of e)
-session_told left Abandoned = left
-session_told left other = None
 
 -- the variable for which an act was refused
 abbrev pub variable_refused : Told → Option ℕ
@@ -43,7 +31,7 @@ abbrev pub graph_told : List Graph → Option Graph → Told → Option Graph
 graph_told graphs g told = option_map_or (λ x. find (λ h. nat_lt x (length h.variables)) (option_to_list g ++ graphs)) (variable_refused told) g
 
 -- the line of an entry of which this is told
-abbrev pub line_of_entry : Replay → Logged × Told → Line
+abbrev pub line_of_entry : Replay → Logged × Told → StepLine
 line_of_entry r e = record {
   who = e.0.who;
   session = session_told (option_and_then sid_left e.0.call) e.1;
@@ -52,7 +40,7 @@ line_of_entry r e = record {
 }
 
 -- a line for each entry
-abbrev pub lines_of : Replay → List Line
+abbrev pub lines_of : Replay → List StepLine
 lines_of r = map (line_of_entry r) (zip (run_of r).log (told_log (run_of r).log))
 
 -- ---- the sessions

@@ -1,14 +1,13 @@
 -- The entries of a record, as those of a run's log.
-use Rattle.std.specs.Prelude.{◌≡◌, ℕ, suc, true, List, [], ◌++◌, length, map, Option, Some, None}
+use Rattle.std.specs.Prelude.{◌≡◌, ℕ, suc, true, List, [], ◌++◌, length, map, Some, None}
 use Rattle.std.specs.List.{list_all}
-use Rattle.sg_protocol.specs.Calls.{Event}
 use Rattle.sg_protocol.specs.Keyring.{Program}
 use Rattle.sg_protocol.specs.Run.{run, events_of_outcome}
 use Rattle.sg_protocol.specs.Schedule.{Schedule}
 use Rattle.sg_protocol.specs.Steps.{is_taken}
 use Rattle.sg_protocol.specs.Texts.{real}
 use Rattle.sg_protocol.specs.World.{World, Logged, call_of, frames}
-use Rattle.sg_report.specs.Told.{Told, Happened, Sends, told_log, told_outcome}
+use Rattle.sg_report.specs.Told.{told_log, told_outcome}
 use Rattle.sg_world.specs.Kept.{Taken}
 
 -- the entries are those of the run of the schedule, each step of which was a craft or an honest principal's, and these are its frames
@@ -29,9 +28,3 @@ pub record IsOfStep (s : Schedule) (before : List Logged) (l : Logged) (recorded
   pub whole : frames last ≡ recorded
   pub later : List (List ℕ)
   pub first : recorded ≡ frames world ++ later
-
--- the event of what is told, if it has one
-abbrev pub event_told : Told → Option Event
-event_told (Happened e) = Some e
-event_told (Sends e to frame) = Some e
-event_told other = None

@@ -4,10 +4,9 @@ use Rattle.sg_protocol.specs.Calls.{sid_of}
 use Rattle.sg_protocol.specs.Schedule.{Declared, Step, AbandonStep, who_of}
 use Rattle.sg_protocol.specs.Texts.{real, session_id}
 use Rattle.sg_lines.specs.Sessions.{Met}
-use Rattle.sg_report.specs.Report.{Line}
-use Rattle.sg_report.specs.Told.{CanBeTold}
-use Rattle.sg_world.specs.Account.{session_told, graph_told}
-use Rattle.sg_world.specs.EntriesOfRun.{event_told}
+use Rattle.sg_report.specs.Report.{StepLine}
+use Rattle.sg_report.specs.Told.{CanBeTold, event_told, session_told}
+use Rattle.sg_world.specs.Account.{graph_told}
 use Rattle.sg_world.specs.Kept.{Taken}
 use Rattle.sg_world.specs.Setting.{Setting}
 
@@ -29,7 +28,7 @@ left_by sessions (AbandonStep who n) = option_map (λ d. session_id real d.cast)
 left_by sessions other = None
 
 -- the line of a step that was taken
-abbrev pub line_kept : Setting → Taken → Option Line
+abbrev pub line_kept : Setting → Taken → Option StepLine
 line_kept d e = option_map (λ told. record { who = who_of e.step; session = session_told (left_by d.sessions e.step) told; graph = graph_told d.graphs e.graph told; told = told }) e.told
 
 -- the line can be written

@@ -3,20 +3,20 @@ ghost use Rattle.std.specs.Prelude.{◌≡◌, ◌<◌, ◌^◌, ◌++◌, [], A
 ghost use Rattle.std.specs.Option.{option_copied, option_map_or, option_to_list};
 ghost use Rattle.sg_lines.specs.Sessions.{Met, naming};
 ghost use Rattle.sg_report.specs.Outcome.{outcome_of};
-ghost use Rattle.sg_report.specs.Report.{Line, line, lines_from, name_in};
+ghost use Rattle.sg_report.specs.Report.{StepLine, line, lines_from, name_in};
+ghost use Rattle.sg_report.specs.Told.{session_told};
 ghost use Rattle.sg_sched.specs.Format.StepsHeld.{step_of};
-ghost use Rattle.sg_world.specs.Account.{graph_told, session_told, variable_refused};
+ghost use Rattle.sg_world.specs.Account.{graph_told, variable_refused};
 ghost use Rattle.sg_world.specs.KeptLines.{CanBeWritten, left_by, line_kept};
 
-use crate::names::sid_told;
-use crate::record::Entry;
+use crate::record::TakenStep;
 use crate::setting::Setting;
 use crate::take::who;
 use sg_base::{ByteOut, Name, OutOfMemory, Sid, Var};
 use sg_graph::Graph;
 use sg_lines::SessionNames;
 use sg_node::ActFault;
-use sg_report::{Outcome, put_line};
+use sg_report::{Outcome, put_line, sid_told};
 use sg_role::SendFault;
 use sg_sched::Step;
 use std::alloc::Global;
@@ -27,11 +27,11 @@ pub(crate) fn put_lines<'p>(
     out: &mut ByteOut,
     names: &SessionNames,
     setting: &Setting<'p>,
-    entries: &[Entry<'p>],
+    entries: &[TakenStep<'p>],
 ) -> Result<(), OutOfMemory>
     requires few { length entries.now < 2 ^ 32 }
     requires told { All (CanBeWritten setting.now) entries.now }
-    ensures { (m : Met) (ls : List Line) → names.now ≡ naming 120 m → map (line_kept setting.now) entries.now ≡ map {B = Option Line} Some ls → OnOk result (out.new ≡ out.old ++ lines_from m 1 ls) }
+    ensures { (m : Met) (ls : List StepLine) → names.now ≡ naming 120 m → map (line_kept setting.now) entries.now ≡ map {B = Option StepLine} Some ls → OnOk result (out.new ≡ out.old ++ lines_from m 1 ls) }
 {
     let mut number: u32 = 0;
     for entry in entries {
@@ -48,7 +48,7 @@ fn put_entry<'p>(
     names: &SessionNames,
     setting: &Setting<'p>,
     number: u32,
-    entry: &Entry<'p>,
+    entry: &TakenStep<'p>,
 ) -> Result<(), OutOfMemory>
     requires { CanBeWritten setting.now entry.now }
     ensures { (m : Met) → names.now ≡ naming 120 m → OnOk result (IsSomeAnd (line_kept setting.now entry.now) (λ l. out.new ≡ out.old ++ line m number l)) }

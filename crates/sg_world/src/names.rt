@@ -1,20 +1,16 @@
 //! What the sessions of a replay are called.
-ghost use Rattle.std.specs.Prelude.{◌≡◌, ◌++◌, [], filter_map, map, option_and_then, option_map, IfOk, OnOk};
+ghost use Rattle.std.specs.Prelude.{◌≡◌, ◌++◌, [], filter_map, map, IfOk, OnOk};
 ghost use Rattle.std.specs.Option.{option_to_list};
 ghost use Rattle.sg_lines.specs.Sessions.{Met, naming};
-ghost use Rattle.sg_protocol.specs.Calls.{sid_of};
 ghost use Rattle.sg_protocol.specs.Texts.{real, session_id};
-ghost use Rattle.sg_report.specs.Outcome.{outcome_of};
-ghost use Rattle.sg_world.specs.EntriesOfRun.{event_told};
 ghost use Rattle.sg_world.specs.KeptLines.{declared_in, met_in, sid_kept};
 
-use crate::record::Entry;
+use crate::record::TakenStep;
 use crate::setting::Setting;
 use sg_base::{OutOfMemory, Sid};
 use sg_lines::SessionNames;
-use sg_report::Outcome;
+use sg_report::sid_told;
 use sg_sched::Declared;
-use sg_walk::sid_of;
 use std::alloc::Global;
 
 /// What the sessions are called: the declared ones by their first names, and the others by `x` and a number in the order of their
@@ -22,7 +18,7 @@ use std::alloc::Global;
 pub(crate) fn session_names<'p>(
     alloc: Global,
     setting: &Setting<'p>,
-    entries: &[Entry<'p>],
+    entries: &[TakenStep<'p>],
 ) -> Result<SessionNames, OutOfMemory>
     ensures { IfOk result (λ names. names ≡ naming 120 (met_in setting.now.sessions entries.now)) }
 {
@@ -52,7 +48,7 @@ fn declare_all(
 fn meet_all<'p>(
     alloc: Global,
     names: &mut SessionNames,
-    entries: &[Entry<'p>],
+    entries: &[TakenStep<'p>],
 ) -> Result<(), OutOfMemory>
     ensures { (m : Met) → names.old ≡ naming 120 m → OnOk result (names.new ≡ naming 120 (record m { events = m.events ++ filter_map sid_kept entries.now })) }
 {
@@ -63,29 +59,15 @@ fn meet_all<'p>(
 }
 
 // Meets the event that came of a step, if one did.
-fn meet<'p>(alloc: Global, names: &mut SessionNames, entry: &Entry<'p>) -> Result<(), OutOfMemory>
+fn meet<'p>(
+    alloc: Global,
+    names: &mut SessionNames,
+    entry: &TakenStep<'p>,
+) -> Result<(), OutOfMemory>
     ensures { (m : Met) → names.old ≡ naming 120 m → OnOk result (names.new ≡ naming 120 (record m { events = m.events ++ option_to_list (sid_kept entry.now) })) }
 {
     match sid_told(&entry.outcome) {
         Some(sid) => names.meet(alloc, sid),
         None => Ok(()),
-    }
-}
-
-/// The session of the event that an outcome tells, if it tells one.
-pub(crate) fn sid_told(outcome: &Outcome) -> Option<Sid>
-    ensures { result ≡ option_map sid_of (option_and_then event_told (outcome_of outcome.now)) }
-{
-    match outcome {
-        Outcome::Started(event) => Some(sid_of(event)),
-        Outcome::Sent { event, .. } => Some(sid_of(event)),
-        Outcome::Received(event) => Some(sid_of(event)),
-        Outcome::Abandoned => None,
-        Outcome::Crafted { .. } => None,
-        Outcome::NotStarted(_) => None,
-        Outcome::NotActed(_) => None,
-        Outcome::NotAbandoned => None,
-        Outcome::NotDelivered(_) => None,
-        Outcome::NoFrame => None,
     }
 }

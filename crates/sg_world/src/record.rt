@@ -35,13 +35,13 @@ impl<'p> Model for Came<'p> {
 
 /// A step that was taken, what came of it, and the graph by which its numbers have names.
 #[derive(Drop)]
-pub(crate) struct Entry<'p> {
+pub(crate) struct TakenStep<'p> {
     pub step: Step,
     pub outcome: Outcome,
     pub graph: Option<&'p Graph>,
 }
 
-impl<'p> Model for Entry<'p> {
+impl<'p> Model for TakenStep<'p> {
     ghost use Rattle.std.specs.Option.{option_copied};
     ghost use Rattle.sg_sched.specs.Format.StepsHeld.{step_of};
     ghost use Rattle.sg_report.specs.Outcome.{outcome_of};
@@ -55,7 +55,7 @@ impl<'p> Model for Entry<'p> {
 /// The steps that were taken, what was noted at each, the recorded frames, f1 first, and the size of all in bytes.
 #[derive(Drop)]
 pub(crate) struct Record<'p> {
-    entries: Vec<Entry<'p>>,
+    entries: Vec<TakenStep<'p>>,
     notes: Vec<Notes>,
     frames: Vec<Seq<u8>>,
     size: u64,
@@ -94,7 +94,7 @@ impl<'p> Record<'p> {
     }
 
     /// The steps that were taken.
-    pub fn entries(&self) -> &[Entry<'p>]
+    pub fn entries(&self) -> &[TakenStep<'p>]
         ensures { result.now ≡ self.now.done.entries }
     {
         self.entries.as_slice()
@@ -159,7 +159,7 @@ impl<'p> Record<'p> {
         put_notes(&mut self.notes, notes);
         put_entry(
             &mut self.entries,
-            Entry {
+            TakenStep {
                 step,
                 outcome,
                 graph,
@@ -187,7 +187,7 @@ fn put_notes(all: &mut Vec<Notes>, notes: Notes)
 }
 
 // Puts an entry behind the others where room was made.
-fn put_entry<'p>(entries: &mut Vec<Entry<'p>>, entry: Entry<'p>)
+fn put_entry<'p>(entries: &mut Vec<TakenStep<'p>>, entry: TakenStep<'p>)
     requires { vec_len entries.old < vec_capacity entries.old }
     ensures { entries.new.items ≡ entries.old.items ++ entry.entry ∷ [] }
 {

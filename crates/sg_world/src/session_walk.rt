@@ -12,12 +12,12 @@ ghost use Rattle.sg_world.specs.Replay.{run_of};
 ghost use Rattle.sg_world.specs.Walked.{IsWalkFault, PremisesHold, WalksAreMade};
 
 use crate::World;
-use crate::names::sid_told;
 use crate::premises::Principals;
-use crate::record::Entry;
+use crate::record::TakenStep;
 use crate::walks::courses;
 use sg_base::{OutOfMemory, Sid};
 use sg_courses::Courses;
+use sg_report::sid_told;
 use sg_walk::StoredWalk;
 use std::alloc::Global;
 use thiserror::Error;
@@ -128,7 +128,7 @@ fn make_walks<'r>(alloc: Global, courses: &Courses<'r>) -> Result<usize, OutOfMe
 }
 
 // An event of these steps has the identifier.
-fn is_met<'p>(entries: &[Entry<'p>], sid: &Sid) -> bool
+fn is_met<'p>(entries: &[TakenStep<'p>], sid: &Sid) -> bool
     ensures { result ≡ has_text sid.now (filter_map sid_kept entries.now) }
 {
     for entry in entries {
@@ -140,7 +140,7 @@ fn is_met<'p>(entries: &[Entry<'p>], sid: &Sid) -> bool
 }
 
 // The event of a step has the identifier.
-fn is_of<'p>(entry: &Entry<'p>, sid: &Sid) -> bool
+fn is_of<'p>(entry: &TakenStep<'p>, sid: &Sid) -> bool
     ensures { result ≡ has_text sid.now (option_to_list (sid_kept entry.now)) }
 {
     match sid_told(&entry.outcome) {

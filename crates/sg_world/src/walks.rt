@@ -7,12 +7,13 @@ ghost use Rattle.sg_protocol.specs.Schedule.{Schedule, cast_of};
 ghost use Rattle.sg_protocol.specs.Texts.{real};
 ghost use Rattle.sg_protocol.specs.World.{World, Logged, bytes_of, frames};
 ghost use Rattle.sg_report.specs.Outcome.{outcome_of};
+ghost use Rattle.sg_report.specs.Told.{event_told};
 ghost use Rattle.sg_sched.specs.Format.StepsHeld.{what_of};
 ghost use Rattle.sg_walk.specs.Model.{event_of};
 ghost use Rattle.sg_world.specs.Comes.{changed_to};
-ghost use Rattle.sg_world.specs.EntriesOfRun.{AreOfRun, IsOfStep, event_told};
+ghost use Rattle.sg_world.specs.EntriesOfRun.{AreOfRun, IsOfStep};
 
-use crate::record::Entry;
+use crate::record::TakenStep;
 use crate::setting::Setting;
 use sg_base::{OutOfMemory, Seq};
 use sg_courses::Courses;
@@ -30,7 +31,7 @@ pub(crate) fn courses<'r, 'p, H: Honest>(
     programs: &'r Programs,
     honest: &H,
     setting: &Setting<'_>,
-    entries: &'r [Entry<'p>],
+    entries: &'r [TakenStep<'p>],
     frames: &[Seq<u8>],
 ) -> Result<Courses<'r>, OutOfMemory>
     ensures programs { IfOk result (λ c. c.programs ≡ programs.now) }
@@ -51,7 +52,7 @@ fn go_on<'r, 'p, H: Honest>(
     honest: &H,
     setting: &Setting<'_>,
     recorded: &[Seq<u8>],
-    entry: &'r Entry<'p>,
+    entry: &'r TakenStep<'p>,
 ) -> Result<(), OutOfMemory>
     ensures goes_on { (s : Schedule) (before : List Logged) (l : Logged) → s.honest ≡ H.names honest.now → s.sessions ≡ setting.now.sessions
         → IsOfStep s before l recorded.now entry.now → OnOk result (GoOn s before l courses.old courses.new) }

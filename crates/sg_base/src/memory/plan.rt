@@ -15,9 +15,9 @@ pub struct FaultPlan {
 }
 
 impl Model for FaultPlan {
-    ghost use Rattle.sg_base.specs.Memory.{Plan};
+    ghost use Rattle.sg_base.specs.Memory.{FaultPlan};
 
-    ghost Value = { Plan };
+    ghost Value = { FaultPlan };
 
     ghost view = { λ p. record { fails = p.fails.items; calls = p.calls; faults = p.faults } };
 }

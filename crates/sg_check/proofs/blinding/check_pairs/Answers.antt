@@ -1,16 +1,15 @@
-use Rattle.std.proofs.Common.{◌≡◌, length, ap, arith}
+use Rattle.std.proofs.Common.{arith}
 use Rattle.std.proofs.lemmas.Result.{err_from_is_err_and}
-use Rattle.sg_protocol.specs.Graph.{Graph, shape}
+use Rattle.sg_protocol.specs.Graph.{shape}
 use Rattle.sg_check.proofs.Blinded.{fault_of_pair, blind_there}
 use Rattle.sg_check.proofs.blinding.check_pairs.Goals as goal
 
 pub returns-in_err-check_place-clause-refused : goal.returns-in_err-check_place-clause-refused
 returns-in_err-check_place-clause-refused c =
     let p = err_from_is_err_and c.from_residual.result c.from_residual.ensures.1 in
-    rw (p.1, p.2) (fault_of_pair (shape c.args.ways.now) c.args.node c.args.a c.loop-number.number c.in_err-check_place.field-0.0 c.loop-number.invariant c.in_err-check_place.ensures.refused)
+    rw (p.1, p.2) (fault_of_pair (shape c.args.graph.now) c.args.node c.args.a c.loop-number.number c.in_err-check_place.field-0.0 c.loop-number.invariant c.in_err-check_place.ensures.refused)
 
 pub returns-clause-ok : goal.returns-clause-ok
 returns-clause-ok c = λ p at blind.
-    let there = blind_there c.args.ways.now c.graph.ensures.graph p.node p.a p.b blind.1 in
-    let many : length c.graph.result.now.roles ≡ length c.args.ways.now.roles = ap (λ (g : Graph). length g.roles) c.graph.ensures.same in
-    c.loop-number.invariant p at.0 at.1 (omega (arith, there.2, many)) blind
+    let there = blind_there c.args.graph.now c.roles-roles.ensures.graph p.node p.a p.b blind.1 in
+    c.loop-number.invariant p at.0 at.1 (omega (arith, there.2, c.roles-roles.ensures.count)) blind

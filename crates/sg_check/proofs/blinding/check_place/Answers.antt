@@ -18,55 +18,55 @@ same : (g : Graph) (m a b : ℕ) (none one two : List ℕ) (k : Closure) → non
 same g m a b none one two k e f h is = is ∙ ap (λ s. record { graph = g; from = m; past = s }) (h ∙ ap (λ s. with_member 16 s b) (f ∙ ap (λ s. with_member 16 s a) e))
 
 -- where the code's test of two roles fails, the node's role is another one
-differs : (g h : Graph) (m own a : ℕ) (test : Bool) → h ≡ g → own ≡ role_at (shape h) m → test ≡ eqb own a → test ≡ false → role_at (shape g) m ≢ a
-differs g h m own a test equal_graphs role is fails e =
-    let equal : own ≡ a = role ∙ ap (λ (k : Graph). role_at (shape k) m) equal_graphs ∙ e in
+differs : (g : Graph) (m own a : ℕ) (test : Bool) → own ≡ role_at (shape g) m → test ≡ eqb own a → test ≡ false → role_at (shape g) m ≢ a
+differs g m own a test role is fails e =
+    let equal : own ≡ a = role ∙ e in
     let yes : eqb own a ≡ true = eq-eqb own a equal in
     let wrong : false ≡ true = sym fails ∙ is ∙ yes in
     absurd (cc)
 
 pub returns-in_default-clause-ok : goal.returns-in_default-clause-ok
 returns-in_default-clause-ok c =
-    let is = same c.args.ways.now c.args.node c.args.a c.args.b c.empty.result c.with.result c.with-2.result c.reach-reach.result c.empty.ensures c.with.ensures c.with-2.ensures c.reach-reach.ensures in
-    clear_first c.args.ways.now c.args.node c.args.a c.args.b (subst (λ (k : Closure). IsFirstOf k c.args.a None) is c.in_default.ensures)
+    let is = same c.args.graph.now c.args.node c.args.a c.args.b c.empty.result c.with.result c.with-2.result c.new-reach.result c.empty.ensures c.with.ensures c.with-2.ensures c.new-reach.ensures in
+    clear_first c.args.graph.now c.args.node c.args.a c.args.b (subst (λ (k : Closure). IsFirstOf k c.args.a None) is c.in_default.ensures)
 
 pub returns-in_default-first_of-clause-ok : goal.returns-in_default-first_of-clause-ok
 returns-in_default-first_of-clause-ok c =
-    let is = same c.args.ways.now c.args.node c.args.a c.args.b c.empty.result c.with.result c.with-2.result c.reach-reach.result c.empty.ensures c.with.ensures c.with-2.ensures c.reach-reach.ensures in
-    clear_second c.args.ways.now c.args.node c.args.a c.args.b (subst (λ (k : Closure). IsFirstOf k c.args.b None) is c.in_default-first_of.ensures)
+    let is = same c.args.graph.now c.args.node c.args.a c.args.b c.empty.result c.with.result c.with-2.result c.new-reach.result c.empty.ensures c.with.ensures c.with-2.ensures c.new-reach.ensures in
+    clear_second c.args.graph.now c.args.node c.args.a c.args.b (subst (λ (k : Closure). IsFirstOf k c.args.b None) is c.in_default-first_of.ensures)
 
 pub returns-in_err-walk-clause-refused : goal.returns-in_err-walk-clause-refused
 returns-in_err-walk-clause-refused c =
-    let is = same c.args.ways.now c.args.node c.args.a c.args.b c.empty.result c.with.result c.with-2.result c.reach-reach.result c.empty.ensures c.with.ensures c.with-2.ensures c.reach-reach.ensures in
+    let is = same c.args.graph.now c.args.node c.args.a c.args.b c.empty.result c.with.result c.with-2.result c.new-reach.result c.empty.ensures c.with.ensures c.with-2.ensures c.new-reach.ensures in
     let p = err_from_is_err_and c.from_residual.result c.from_residual.ensures.1 in
     let to_a = subst (λ (k : Closure). IsFirstOf k c.args.a (Some c.in-Some.to_a)) is c.in-Some.ensures in
     let to_b = subst (λ (k : Closure). IsFirstOf k c.args.b (Some c.in-Some-first_of.to_b)) is c.in-Some-first_of.ensures in
-    let not_a = differs c.args.ways.now c.graph.result.now c.args.node c.node_role-own.result c.args.a c.eq.result c.graph.ensures.same c.node_role-own.ensures.role c.eq.ensures c.if-eq.false in
-    let not_b = differs c.args.ways.now c.graph.result.now c.args.node c.node_role-own.result c.args.b c.eq-else-eq.result c.graph.ensures.same c.node_role-own.ensures.role c.eq-else-eq.ensures c.if-eq-2.false in
-    let small : c.args.b < 16 = omega (arith, c.requires.role, c.graph.ensures.graph.sizes.0) in
+    let not_a = differs c.args.graph.now c.args.node c.node_role-own.result c.args.a c.eq.result c.node_role-own.ensures.role c.eq.ensures c.if-eq.false in
+    let not_b = differs c.args.graph.now c.args.node c.node_role-own.result c.args.b c.eq-else-eq.result c.node_role-own.ensures.role c.eq-else-eq.ensures c.if-eq-2.false in
+    let small : c.args.b < 16 = omega (arith, c.requires.role, c.roles-roles.ensures.graph.sizes.0) in
     rw (p.1, p.2, c.in_err-walk.ensures.refused)
-    (blind_at c.args.ways.now c.args.node c.args.a c.args.b c.in-Some.to_a c.in-Some-first_of.to_b c.requires.rising small not_a not_b to_a.1 to_b.1 to_a.2 to_b.2)
+    (blind_at c.args.graph.now c.args.node c.args.a c.args.b c.in-Some.to_a c.in-Some-first_of.to_b c.requires.rising small not_a not_b to_a.1 to_b.1 to_a.2 to_b.2)
 
 pub returns-in_err-walk-2-clause-refused : goal.returns-in_err-walk-2-clause-refused
 returns-in_err-walk-2-clause-refused c =
-    let is = same c.args.ways.now c.args.node c.args.a c.args.b c.empty.result c.with.result c.with-2.result c.reach-reach.result c.empty.ensures c.with.ensures c.with-2.ensures c.reach-reach.ensures in
+    let is = same c.args.graph.now c.args.node c.args.a c.args.b c.empty.result c.with.result c.with-2.result c.new-reach.result c.empty.ensures c.with.ensures c.with-2.ensures c.new-reach.ensures in
     let p = err_from_is_err_and c.from_residual-in_err-walk-2.result c.from_residual-in_err-walk-2.ensures.1 in
     let to_a = subst (λ (k : Closure). IsFirstOf k c.args.a (Some c.in-Some.to_a)) is c.in-Some.ensures in
     let to_b = subst (λ (k : Closure). IsFirstOf k c.args.b (Some c.in-Some-first_of.to_b)) is c.in-Some-first_of.ensures in
-    let not_a = differs c.args.ways.now c.graph.result.now c.args.node c.node_role-own.result c.args.a c.eq.result c.graph.ensures.same c.node_role-own.ensures.role c.eq.ensures c.if-eq.false in
-    let not_b = differs c.args.ways.now c.graph.result.now c.args.node c.node_role-own.result c.args.b c.eq-else-eq.result c.graph.ensures.same c.node_role-own.ensures.role c.eq-else-eq.ensures c.if-eq-2.false in
-    let small : c.args.b < 16 = omega (arith, c.requires.role, c.graph.ensures.graph.sizes.0) in
+    let not_a = differs c.args.graph.now c.args.node c.node_role-own.result c.args.a c.eq.result c.node_role-own.ensures.role c.eq.ensures c.if-eq.false in
+    let not_b = differs c.args.graph.now c.args.node c.node_role-own.result c.args.b c.eq-else-eq.result c.node_role-own.ensures.role c.eq-else-eq.ensures c.if-eq-2.false in
+    let small : c.args.b < 16 = omega (arith, c.requires.role, c.roles-roles.ensures.graph.sizes.0) in
     rw (p.1, p.2, c.in_err-walk-2.ensures.refused)
-    (blind_at c.args.ways.now c.args.node c.args.a c.args.b c.in-Some.to_a c.in-Some-first_of.to_b c.requires.rising small not_a not_b to_a.1 to_b.1 to_a.2 to_b.2)
+    (blind_at c.args.graph.now c.args.node c.args.a c.args.b c.in-Some.to_a c.in-Some-first_of.to_b c.requires.rising small not_a not_b to_a.1 to_b.1 to_a.2 to_b.2)
 
 pub returns-clause-refused : goal.returns-clause-refused
 returns-clause-refused c =
-    let is = same c.args.ways.now c.args.node c.args.a c.args.b c.empty.result c.with.result c.with-2.result c.reach-reach.result c.empty.ensures c.with.ensures c.with-2.ensures c.reach-reach.ensures in
+    let is = same c.args.graph.now c.args.node c.args.a c.args.b c.empty.result c.with.result c.with-2.result c.new-reach.result c.empty.ensures c.with.ensures c.with-2.ensures c.new-reach.ensures in
     let to_a = subst (λ (k : Closure). IsFirstOf k c.args.a (Some c.in-Some.to_a)) is c.in-Some.ensures in
     let to_b = subst (λ (k : Closure). IsFirstOf k c.args.b (Some c.in-Some-first_of.to_b)) is c.in-Some-first_of.ensures in
     let walk_a = subst (λ (k : Closure). LeadsPast (shape k.graph) k.from k.past c.in-Some.to_a c.in_ok-walk.field-0) is c.in_ok-walk.ensures.ok in
     let walk_b = subst (λ (k : Closure). LeadsPast (shape k.graph) k.from k.past c.in-Some-first_of.to_b c.in_ok-walk-2.field-0) is c.in_ok-walk-2.ensures.ok in
-    let not_a = differs c.args.ways.now c.graph.result.now c.args.node c.node_role-own.result c.args.a c.eq.result c.graph.ensures.same c.node_role-own.ensures.role c.eq.ensures c.if-eq.false in
-    let not_b = differs c.args.ways.now c.graph.result.now c.args.node c.node_role-own.result c.args.b c.eq-else-eq.result c.graph.ensures.same c.node_role-own.ensures.role c.eq-else-eq.ensures c.if-eq-2.false in
-    let small : c.args.b < 16 = omega (arith, c.requires.role, c.graph.ensures.graph.sizes.0) in
-    shown c.args.ways.now c.args.node c.args.a c.args.b c.in-Some.to_a c.in-Some-first_of.to_b c.in_ok-walk.field-0 c.in_ok-walk-2.field-0 c.requires.rising small not_a not_b to_a.1 to_b.1 walk_a walk_b
+    let not_a = differs c.args.graph.now c.args.node c.node_role-own.result c.args.a c.eq.result c.node_role-own.ensures.role c.eq.ensures c.if-eq.false in
+    let not_b = differs c.args.graph.now c.args.node c.node_role-own.result c.args.b c.eq-else-eq.result c.node_role-own.ensures.role c.eq-else-eq.ensures c.if-eq-2.false in
+    let small : c.args.b < 16 = omega (arith, c.requires.role, c.roles-roles.ensures.graph.sizes.0) in
+    shown c.args.graph.now c.args.node c.args.a c.args.b c.in-Some.to_a c.in-Some-first_of.to_b c.in_ok-walk.field-0 c.in_ok-walk-2.field-0 c.requires.rising small not_a not_b to_a.1 to_b.1 walk_a walk_b

@@ -3,7 +3,7 @@ use Rattle.sg_graph.proofs.Sets.{numbers_within}
 use Rattle.sg_compose.specs.Expansion.{inside}
 use Rattle.sg_compose.proofs.Ends.{inside_length}
 use Rattle.sg_compose.proofs.Joining.{stands-below}
-use Rattle.sg_compose.proofs.Renaming.{number-below, rising-numbers}
+use Rattle.sg_compose.proofs.Renaming.{number-below, set_of-numbers}
 use Rattle.sg_compose.proofs.add.add_edge.Goals as goal
 
 pub shifted-writes-requires : goal.shifted-writes-requires
@@ -38,10 +38,10 @@ add_edge-requires-clause-target c =
 
 pub add_edge-requires-clause-writes : goal.add_edge-requires-clause-writes
 add_edge-requires-clause-writes c =
-    rw c.shifted-writes.ensures (rising-numbers 32 _ (λ x. c.args.vars + x) c.edge-edge.result.now.writes
+    rw c.shifted-writes.ensures (set_of-numbers 32 _ (λ x. c.args.vars + x) c.edge-edge.result.now.writes
     (λ x i. (let low = number-below 32 (λ x. x) c.edge-edge.result.now.writes (length c.args.inner.now.variables) c.edge-edge.ensures.sets.0 x i in omega (arith, low, c.requires.vars))))
 
 pub add_edge-requires-clause-reads : goal.add_edge-requires-clause-reads
 add_edge-requires-clause-reads c =
-    rw c.shifted-reads.ensures (rising-numbers 32 _ (λ x. c.args.vars + x) c.edge-edge.result.now.reads
+    rw c.shifted-reads.ensures (set_of-numbers 32 _ (λ x. c.args.vars + x) c.edge-edge.result.now.reads
     (λ x i. (let low = number-below 32 (λ x. x) c.edge-edge.result.now.reads (length c.args.inner.now.variables) c.edge-edge.ensures.sets.1 x i in omega (arith, low, c.requires.vars))))

@@ -5,7 +5,7 @@ use Rattle.sg_model.specs.Lists.{is_in}
 use Rattle.sg_model.specs.Shape.{sender}
 use Rattle.sg_protocol.specs.Graph.{Graph, reads, shape}
 use Rattle.sg_graph.specs.declared.edge.Edge.{Edge}
-use Rattle.sg_know.proofs.Bounds.{is_in-with_member}
+use Rattle.sg_base.proofs.SetLaws.{is_in-with_member}
 use Rattle.sg_know.proofs.bad.senders_of.Goals as goal
 use Rattle.sg_know.proofs.bad.senders_of.Goals.{then-has, else-has}
 
@@ -20,12 +20,12 @@ with_sender g x n r old new few is there more before e l i =
     elim (cases_lt e n) [
       | inl w ↦
           (let h = before e w i in
-          (ap (is_in (sender (shape g) e)) more ∙ is_in-with_member 16 r (sender (shape g) e) old (omega (arith, h.1)) ∙ or_right (sender (shape g) e == r) (is_in (sender (shape g) e) old) h.0, h.1))
+          (ap (is_in (sender (shape g) e)) more ∙ is_in-with_member 16 (sender (shape g) e) r old (omega (arith, h.1)) ∙ or_right (sender (shape g) e == r) (is_in (sender (shape g) e) old) h.0, h.1))
       | inr w ↦
           (let last : n ≡ e = omega arith in
           let same : sender (shape g) e ≡ r = sym (is ∙ ap (sender (shape g)) last) in
           let within : sender (shape g) e < length g.roles = rw same there in
-          (ap (is_in (sender (shape g) e)) more ∙ is_in-with_member 16 r (sender (shape g) e) old (omega (arith, within)) ∙ or_left (sender (shape g) e == r) (is_in (sender (shape g) e) old) (eq-eqb (sender (shape g) e) r same), within))
+          (ap (is_in (sender (shape g) e)) more ∙ is_in-with_member 16 (sender (shape g) e) r old (omega (arith, within)) ∙ or_left (sender (shape g) e == r) (is_in (sender (shape g) e) old) (eq-eqb (sender (shape g) e) r same), within))
     ]
 
 without_sender : (g : Graph) (x n : ℕ) (set : List ℕ) → is_in x (reads g n) ≡ false

@@ -4,7 +4,7 @@ use Rattle.std.proofs.lemmas.List.{take_all}
 use Rattle.sg_model.specs.Lists.{is_in}
 use Rattle.sg_model.specs.Shape.{source}
 use Rattle.sg_protocol.specs.Graph.{shape}
-use Rattle.sg_know.specs.declared.states.State.{State}
+use Rattle.sg_know.specs.declared.states.WalkState.{WalkState}
 use Rattle.sg_know.specs.declared.states.Reached.{Reached}
 use Rattle.sg_graph.specs.Edges.{leaving_from}
 use Rattle.sg_know.specs.States.{Has, Enters, state_along, state_at}
@@ -36,10 +36,10 @@ loop-label-preserved c =
     let here : c.state-state.result ≡ state_at old at = c.state-state.ensures.state ∙ sym same in
     let t : Reached = record { state = c.along.result; by = Some (record { from = at; label = e }) } in
     let enters : Enters old t new = c.in_ok-enter.ensures.ok in
-    let enters' = subst (λ (s : State). Enters old (record { state = s; by = Some (record { from = at; label = e }) }) new) (c.along.ensures.state ∙ ap (state_along g r x e) here) enters in
+    let enters' = subst (λ (s : WalkState). Enters old (record { state = s; by = Some (record { from = at; label = e }) }) new) (c.along.ensures.state ∙ ap (state_along g r x e) here) enters in
     let goes_on = Extends-enters old new t enters in
     record {
-      reached = AreReached-enters g r x at e old new held.reached (omega (arith, c.requires.there, Extends-length first old held.grows)) edge.0 (edge.1 ∙ ap (λ (s : State). s.node) here) enters';
+      reached = AreReached-enters g r x at e old new held.reached (omega (arith, c.requires.there, Extends-length first old held.grows)) edge.0 (edge.1 ∙ ap (λ (s : WalkState). s.node) here) enters';
       nodes = AreThere-enters g old new t held.nodes c.along.ensures.there enters;
       grows = Extends-more first old new held.grows goes_on;
       followed = taken_more (λ (f : ℕ). Has new (state_along g r x f (state_at first at))) labels c.loop-label.label-index e c.loop-label-test.true
@@ -54,5 +54,5 @@ returns-clause-followed c e l leaves =
     let labels = c.edges_from-label-items.result.now in
     let is = c.edges_from-label-items.ensures.labels in
     let whole : take c.loop-label.label-index labels ≡ leaving_from g c.state-state.result.node = take_all c.loop-label.label-index labels c.loop-label-test.false ∙ is in
-    let leaves' : source (shape g) e ≡ c.state-state.result.node = leaves ∙ ap (λ (s : State). s.node) (sym c.state-state.ensures.state) in
+    let leaves' : source (shape g) e ≡ c.state-state.result.node = leaves ∙ ap (λ (s : WalkState). s.node) (sym c.state-state.ensures.state) in
     c.loop-label.invariant.followed e (ap (is_in e) whole ∙ leaves_in g c.state-state.result.node e l leaves')

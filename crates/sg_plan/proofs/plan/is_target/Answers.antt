@@ -1,29 +1,24 @@
-use Rattle.std.proofs.Common.{◌≡◌, length, ◌∙◌, sym, ap, arith}
+use Rattle.std.proofs.Common.{◌≡◌, ◌∙◌, sym, ap, arith}
 use Rattle.sg_base.specs.Sets.{with_member}
 use Rattle.sg_graph.specs.declared.edge.Edge.{Edge}
-use Rattle.sg_protocol.specs.Graph.{Graph}
 use Rattle.sg_reach.proofs.Pair.{pair}
 use Rattle.sg_plan.proofs.Aimed.{differ, told_target}
 use Rattle.sg_plan.proofs.plan.is_target.Goals as goal
 
 pub with-requires : goal.with-requires
-with-requires c = omega (arith, c.requires.role, c.graph-graph.ensures.graph.sizes.0)
+with-requires c = omega (arith, c.requires.role, c.roles-roles.ensures.graph.sizes.0)
 
 pub with-past-requires : goal.with-past-requires
-with-past-requires c =
-    let many : length c.graph-graph.result.now.roles ≡ length c.args.ways.now.roles = ap (λ (g : Graph). length g.roles) c.graph-graph.ensures.same in
-    omega (arith, c.sender-sender.ensures.there, many, c.graph-graph.ensures.graph.sizes.0)
+with-past-requires c = omega (arith, c.sender-sender.ensures.there, c.roles-roles.ensures.graph.sizes.0)
 
 pub returns : goal.returns
 returns c =
-    let g = c.args.ways.now in
-    let h = c.graph-graph.result.now in
+    let g = c.args.graph.now in
     let s = c.sender-sender.result in
-    let many : length h.roles ≡ length g.roles = ap (λ (g : Graph). length g.roles) c.graph-graph.ensures.same in
     let set : c.with-past.result ≡ pair c.args.role s = c.with-past.ensures ∙ ap (λ xs. with_member 16 xs s) (c.with.ensures ∙ ap (λ xs. with_member 16 xs c.args.role) c.empty.ensures) in
-    told_target g h c.args.label c.args.role s c.edge.result.now.target c.with-past.result c.reach.result c.first_of.result c.is_some.result c.graph-graph.ensures.same c.sender-sender.ensures.role
-    (ap (λ (e : Edge). e.target) c.edge.ensures.edge) set c.reach.ensures (omega (arith, c.requires.role, c.graph-graph.ensures.graph.sizes.0))
-    (omega (arith, c.sender-sender.ensures.there, many, c.graph-graph.ensures.graph.sizes.0))
+    told_target g c.args.label c.args.role s c.edge.result.now.target c.with-past.result c.new.result c.first_of.result c.is_some.result c.sender-sender.ensures.role
+    (ap (λ (e : Edge). e.target) c.edge.ensures.edge) set c.new.ensures (omega (arith, c.requires.role, c.roles-roles.ensures.graph.sizes.0))
+    (omega (arith, c.sender-sender.ensures.there, c.roles-roles.ensures.graph.sizes.0))
     (differ c.args.role s c.eq.result c.eq.ensures c.if-eq.false)
     (λ q. differ c.args.role c.receiver.result c.eq-else-eq.result c.eq-else-eq.ensures c.if-eq-2.false (q ∙ sym c.receiver.ensures.role))
     c.first_of.ensures c.is_some.ensures

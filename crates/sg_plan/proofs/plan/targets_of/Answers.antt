@@ -1,18 +1,16 @@
-use Rattle.std.proofs.Common.{◌≡◌, ◌<◌, true, false, ℕ, length, ap, sym, ◌∙◌, arith}
+use Rattle.std.proofs.Common.{◌≡◌, ◌<◌, true, false, ℕ, length, sym, ◌∙◌, arith}
 use Rattle.sg_graph.proofs.Sets.{AreNumbers-with_member}
-use Rattle.sg_protocol.specs.Graph.{Graph}
 use Rattle.sg_plan.proofs.Aimed.{set_with, set_without}
 use Rattle.sg_plan.proofs.plan.targets_of.Goals as goal
 use Rattle.sg_plan.proofs.plan.targets_of.Goals.{then-is_target, else-is_target}
 
 pub loop-number-preserved : goal.loop-number-preserved
 loop-number-preserved c =
-    let g = c.args.ways.now in
+    let g = c.args.graph.now in
     let e : ℕ = c.args.label in
     let n = c.loop-number.number in
-    let many : length c.graph.result.now.roles ≡ length g.roles = ap (λ (x : Graph). length x.roles) c.graph.ensures.same in
-    let there : n < length g.roles = omega (arith, many) in
-    let small : n < 16 = omega (arith, there, c.graph.ensures.graph.sizes.0) in
+    let there : n < length g.roles = omega (arith, c.loop-number-test.true, c.roles-number-end.ensures.count) in
+    let small : n < 16 = omega (arith, there, c.roles-number-end.ensures.graph.sizes.0) in
     elim c.if-is_target.branch [
       | then-is_target w ↦
           (let set = w.set-is ∙ w.with-set.ensures in

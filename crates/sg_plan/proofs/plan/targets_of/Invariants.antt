@@ -5,6 +5,6 @@ use Rattle.sg_plan.proofs.plan.targets_of.Given as goal
 
 abbrev pub invariant-loop-number : goal.invariant-loop-number
 invariant-loop-number l = record {
-  numbers : AreNumbers (length l.ways.roles) l.set;
-  below : IsSetBelow l.ways l.fn.label l.number l.set;
+  numbers : AreNumbers (length l.graph.roles) l.set;
+  below : IsSetBelow l.graph l.fn.label l.number l.set;
 }

@@ -10,7 +10,8 @@ use Rattle.sg_node.specs.Faults.{act_fault}
 use Rattle.sg_node.specs.declared.fault.ActFault.TheVariants as acting
 use Rattle.sg_walk.specs.Model.{event_of, values_of}
 use Rattle.sg_report.specs.Told.{NotActed}
-use Rattle.sg_play.proofs.Called.{comes_quiet, comes_sent, err_same, not_acted}
+use Rattle.sg_report.proofs.Answered.{err_same, not_acted}
+use Rattle.sg_play.proofs.Called.{comes_quiet, comes_sent}
 use Rattle.sg_play.proofs.ask.ask_act.Goals as goal
 
 pub returns-in-Ok-clause-comes : goal.returns-in-Ok-clause-comes

@@ -3,7 +3,7 @@ use Rattle.std.proofs.lemmas.Result.{err_from_is_err_and}
 use Rattle.sg_script.specs.Script.{Script, Start as ScriptStart}
 use Rattle.sg_play.specs.declared.fault.PlayFault.{PlayFault}
 use Rattle.sg_play.specs.declared.fault.PlayFault.TheVariants.{LinkFailed, WriteFailed}
-use Rattle.sg_play.proofs.Called.{err_same}
+use Rattle.sg_report.proofs.Answered.{err_same}
 use Rattle.sg_play.proofs.Results.{mapped}
 use Rattle.sg_play.proofs.Rising.{risen_last}
 use Rattle.sg_play.specs.Ends.{Ended, Outside}

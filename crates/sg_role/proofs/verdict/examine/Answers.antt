@@ -8,7 +8,7 @@ use Rattle.sg_protocol.specs.Verdict.{rows_of_session}
 use Rattle.sg_role.specs.Faults.{Refuses}
 use Rattle.sg_role.specs.Looking.{rows_from}
 use Rattle.sg_role.specs.Sending.{with_notes}
-use Rattle.sg_role.specs.Model.{State, state_of}
+use Rattle.sg_role.specs.Model.{RoleState, state_of}
 use Rattle.sg_role.proofs.NotedSame.{rows_held, notes_held}
 use Rattle.sg_role.proofs.verdict.examine.Goals as goal
 
@@ -16,31 +16,31 @@ pub returns-else-is_memory-clause-refused : goal.returns-else-is_memory-clause-r
 returns-else-is_memory-clause-refused c = λ s b.
     let keys = c.args.keys.now in
     let f = c.args.frame.now in
-    let st : State = state_of c.before-2.inside.kept in
+    let st : RoleState = state_of c.before-2.inside.kept in
     let e : st ≡ c.args.before.now = c.before-2.view_is in
-    let stands : StandsBefore st.program.graph st.held s = subst (λ (z : State). StandsBefore z.program.graph z.held s) (sym e) b in
+    let stands : StandsBefore st.program.graph st.held s = subst (λ (z : RoleState). StandsBefore z.program.graph z.held s) (sym e) b in
     let rows : first_some (rows_from keys st.program st.held f) ≡ first_some (rows_of_session real keys c.args.before.now.program s f) =
-    rows_held keys st.program c.look-result.ensures.is_program st.held refl s stands f c.requires.spelled.is_frame ∙ ap (λ (z : State). first_some (rows_of_session real keys z.program s f)) e in
+    rows_held keys st.program c.look-result.ensures.is_program st.held refl s stands f c.requires.spelled.is_frame ∙ ap (λ (z : RoleState). first_some (rows_of_session real keys z.program s f)) e in
     subst (λ (o : Option Refusal). IfErr c.look-result.result (Refuses o)) rows c.look-result.ensures.refused
 
 pub returns-else-is_memory-clause-accepted : goal.returns-else-is_memory-clause-accepted
 returns-else-is_memory-clause-accepted c = λ s b.
     let keys = c.args.keys.now in
     let f = c.args.frame.now in
-    let st : State = state_of c.before-2.inside.kept in
+    let st : RoleState = state_of c.before-2.inside.kept in
     let e : st ≡ c.args.before.now = c.before-2.view_is in
-    let stands : StandsBefore st.program.graph st.held s = subst (λ (z : State). StandsBefore z.program.graph z.held s) (sym e) b in
+    let stands : StandsBefore st.program.graph st.held s = subst (λ (z : RoleState). StandsBefore z.program.graph z.held s) (sym e) b in
     let rows : first_some (rows_from keys st.program st.held f) ≡ first_some (rows_of_session real keys c.args.before.now.program s f) =
-    rows_held keys st.program c.look-result.ensures.is_program st.held refl s stands f c.requires.spelled.is_frame ∙ ap (λ (z : State). first_some (rows_of_session real keys z.program s f)) e in
+    rows_held keys st.program c.look-result.ensures.is_program st.held refl s stands f c.requires.spelled.is_frame ∙ ap (λ (z : RoleState). first_some (rows_of_session real keys z.program s f)) e in
     subst (λ (o : Option Refusal). IfOk c.look-result.result (λ a. o ≡ None)) rows c.look-result.ensures.accepted
 
 pub returns-else-is_memory-clause-notes : goal.returns-else-is_memory-clause-notes
 returns-else-is_memory-clause-notes c = λ s b n.
     let keys = c.args.keys.now in
     let f = c.args.frame.now in
-    let st : State = state_of c.before-2.inside.kept in
+    let st : RoleState = state_of c.before-2.inside.kept in
     let e : st ≡ c.args.before.now = c.before-2.view_is in
-    let stands : StandsBefore st.program.graph st.held s = subst (λ (z : State). StandsBefore z.program.graph z.held s) (sym e) b in
+    let stands : StandsBefore st.program.graph st.held s = subst (λ (z : RoleState). StandsBefore z.program.graph z.held s) (sym e) b in
     c.look-result.ensures.noted n
     ∙ ap (with_notes c.args.notes.now) (notes_held keys st.program c.look-result.ensures.is_program st.held refl s stands f c.requires.spelled.is_frame
-    ∙ ap (λ (z : State). notes_in_session real keys z.program s f (row_number (first_some (rows_of_session real keys z.program s f)))) e)
+    ∙ ap (λ (z : RoleState). notes_in_session real keys z.program s f (row_number (first_some (rows_of_session real keys z.program s f)))) e)

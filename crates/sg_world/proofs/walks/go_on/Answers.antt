@@ -7,10 +7,10 @@ use Rattle.sg_protocol.specs.Run.{events_of_outcome}
 use Rattle.sg_protocol.specs.Schedule.{sid_at}
 use Rattle.sg_protocol.specs.Texts.{real}
 use Rattle.sg_protocol.specs.World.{call_of}
+use Rattle.sg_report.specs.Told.{event_told}
 use Rattle.sg_sched.specs.Format.StepsHeld.{step_of}
 use Rattle.sg_walk.specs.declared.event.Event.{Event as Told}
 use Rattle.sg_walk.specs.Model.{event_of}
-use Rattle.sg_world.specs.EntriesOfRun.{event_told}
 use Rattle.sg_world.specs.Kept.{Taken}
 use Rattle.sg_world.proofs.Passing.{events_told}
 use Rattle.sg_world.proofs.walks.go_on.Goals as goal

@@ -2,7 +2,7 @@ use Rattle.std.proofs.Common.{arith, [], ◌∷◌, ◌++◌, ◌+◌, ◌≡◌
 use Rattle.std.proofs.lemmas.List.{take_all}
 use Rattle.sg_ledger.specs.Disk.{overlaid}
 use Rattle.sg_ledger.specs.Memory.{Platter, Medium, platter}
-use Rattle.sg_ledger.specs.declared.medium.Call.TheVariants.{Kept, Wrote, Tore, Synced}
+use Rattle.sg_ledger.specs.declared.medium.DiskCall.TheVariants.{Kept, Wrote, Tore, Synced}
 use Rattle.sg_ledger.proofs.Replay.{state_after, total_after, time_after, one_longer, no_ranges, more_ranges}
 use Rattle.sg_ledger.proofs.medium.Medium.tear.Goals as goal
 

@@ -1,7 +1,7 @@
 use Rattle.std.proofs.Common.{◌≡◌, refl, sym, ◌∙◌, ap, subst, length, List, [], ℕ}
 use Rattle.sg_ledger.specs.Memory.{Platter, Medium, platter, after_call, IsImage}
 use Rattle.sg_ledger.specs.Model.{DiskHeld}
-use Rattle.sg_ledger.specs.declared.medium.Call.TheVariants.{Wrote, Tore}
+use Rattle.sg_ledger.specs.declared.medium.DiskCall.TheVariants.{Wrote, Tore}
 use Rattle.sg_ledger.proofs.Images.{wrote_follows, tore_follows}
 use Rattle.sg_ledger.proofs.memory.MemDiskDisk.write.Goals as goal
 

@@ -7,7 +7,7 @@ use Rattle.sg_protocol.specs.NodeStates.{NodeState, StandsForPast}
 use Rattle.sg_protocol.specs.Past.{node_of}
 use Rattle.sg_walk.specs.Model.{values_of}
 use Rattle.sg_role.specs.Sending.{with_notes}
-use Rattle.sg_role.specs.Model.{State}
+use Rattle.sg_role.specs.Model.{RoleState}
 use Rattle.sg_node.specs.Answers.{GoesOn}
 use Rattle.sg_node.specs.Slots.{held_in, left_by}
 use Rattle.sg_node.specs.Invariant.{IsSlot}
@@ -51,7 +51,7 @@ pub invariant_of-self : goal.invariant_of-self
 invariant_of-self c = record { programs = c.self.invariant.programs; slots = subst (AllByRecursion (IsSlot c.self.inside.programs.now c.self.inside.joins.pairs)) (sym (c.keep.ensures.slots ∙ ap (λ z. set_value_at z c.in-Some.index (left_by c.in-Ok.sent)) c.take.ensures.slots ∙ set_twice c.self.inside.sessions.slots c.in-Some.index None (left_by c.in-Ok.sent))) (act_slots c.self.inside c.self.invariant c.args.sid c.args.label (values_of c.args.values.now) c.args.confounders.now c.in-Some.index (sym c.in-Some.ensures) c.in-Some-AtTurn.turn (sym c.take.ensures.taken ∙ c.in-Some-AtTurn.is ∙ ap (λ z. Some z) c.in-Some-AtTurn.field-0-is) c.tell_values.ensures c.in-Ok.sent (record { accepted = c.in-Ok.ensures.accepted; state = c.in-Ok.ensures.state })) }
 
 pub invariant_of-self-in-Err : goal.invariant_of-self-in-Err
-invariant_of-self-in-Err c = record { programs = c.self.invariant.programs; slots = subst (AllByRecursion (IsSlot c.self.inside.programs.now c.self.inside.joins.pairs)) (sym (c.put.ensures.slots ∙ ap (λ z. set_value_at z c.in-Some.index (Some (AtTurn c.in-Err.turn))) c.take.ensures.slots ∙ set_twice c.self.inside.sessions.slots c.in-Some.index None (Some (AtTurn c.in-Err.turn)) ∙ ap (λ (t : State). set_value_at c.self.inside.sessions.slots c.in-Some.index (Some (AtTurn t))) c.in-Err.ensures.back.0 ∙ set_same c.self.inside.sessions.slots c.in-Some.index (Some (AtTurn c.in-Some-AtTurn.turn)) (sym c.take.ensures.taken ∙ c.in-Some-AtTurn.is ∙ ap (λ z. Some z) c.in-Some-AtTurn.field-0-is) (first_at c.self.inside c.self.invariant c.args.sid c.in-Some.index (sym c.in-Some.ensures)).within)) c.self.invariant.slots }
+invariant_of-self-in-Err c = record { programs = c.self.invariant.programs; slots = subst (AllByRecursion (IsSlot c.self.inside.programs.now c.self.inside.joins.pairs)) (sym (c.put.ensures.slots ∙ ap (λ z. set_value_at z c.in-Some.index (Some (AtTurn c.in-Err.turn))) c.take.ensures.slots ∙ set_twice c.self.inside.sessions.slots c.in-Some.index None (Some (AtTurn c.in-Err.turn)) ∙ ap (λ (t : RoleState). set_value_at c.self.inside.sessions.slots c.in-Some.index (Some (AtTurn t))) c.in-Err.ensures.back.0 ∙ set_same c.self.inside.sessions.slots c.in-Some.index (Some (AtTurn c.in-Some-AtTurn.turn)) (sym c.take.ensures.taken ∙ c.in-Some-AtTurn.is ∙ ap (λ z. Some z) c.in-Some-AtTurn.field-0-is) (first_at c.self.inside c.self.invariant c.args.sid c.in-Some.index (sym c.in-Some.ensures)).within)) c.self.invariant.slots }
 
 pub invariant_of-self-in-Some-Waiting : goal.invariant_of-self-in-Some-Waiting
 invariant_of-self-in-Some-Waiting c = record { programs = c.self.invariant.programs; slots = subst (AllByRecursion (IsSlot c.self.inside.programs.now c.self.inside.joins.pairs)) (sym (c.put-in-Some-Waiting.ensures.slots ∙ ap (λ z. set_value_at z c.in-Some.index (Some (Waiting c.in-Some-Waiting.wait))) c.take.ensures.slots ∙ set_twice c.self.inside.sessions.slots c.in-Some.index None (Some (Waiting c.in-Some-Waiting.wait)) ∙ set_same c.self.inside.sessions.slots c.in-Some.index (Some (Waiting c.in-Some-Waiting.wait)) (sym c.take.ensures.taken ∙ c.in-Some-Waiting.is ∙ ap (λ z. Some z) c.in-Some-Waiting.field-0-is) (first_at c.self.inside c.self.invariant c.args.sid c.in-Some.index (sym c.in-Some.ensures)).within)) c.self.invariant.slots }
@@ -72,13 +72,13 @@ pub returns-in-Err-clause-answer : goal.returns-in-Err-clause-answer
 returns-in-Err-clause-answer c = λ past st. (not_sent_by c.self.inside c.self.invariant (node_of past) (subst (λ (z : NodeState). StandsForPast z past) (sym c.self.view_is) st) c.args.sid c.args.label (values_of c.args.values.now) c.args.confounders.now c.in-Some.index (sym c.in-Some.ensures) c.in-Some-AtTurn.turn (sym c.take.ensures.taken ∙ c.in-Some-AtTurn.is ∙ ap (λ z. Some z) c.in-Some-AtTurn.field-0-is) c.in-Err.fault c.not_sent.result c.not_sent.ensures.fault c.in-Err.ensures.refused).0
 
 pub returns-in-Err-clause-state : goal.returns-in-Err-clause-state
-returns-in-Err-clause-state c = λ past st k. let f = (not_sent_by c.self.inside c.self.invariant (node_of past) (subst (λ (z : NodeState). StandsForPast z past) (sym c.self.view_is) st) c.args.sid c.args.label (values_of c.args.values.now) c.args.confounders.now c.in-Some.index (sym c.in-Some.ensures) c.in-Some-AtTurn.turn (sym c.take.ensures.taken ∙ c.in-Some-AtTurn.is ∙ ap (λ z. Some z) c.in-Some-AtTurn.field-0-is) c.in-Err.fault c.not_sent.result c.not_sent.ensures.fault c.in-Err.ensures.refused).1 (λ q. k (ap Err q)) in subst (λ (z : NodeState). GoesOn z (record { keys = c.self.inside.keys; programs = c.self.inside.programs.now; joins = c.self.inside.joins.pairs; live = held_in c.put.new.self.slots }) (Act c.args.sid c.args.label (values_of c.args.values.now) c.args.confounders.now) past) c.self.view_is (stays_by c.self.inside c.self.invariant past (subst (λ (z : NodeState). StandsForPast z past) (sym c.self.view_is) st) c.args.sid c.args.label (values_of c.args.values.now) c.args.confounders.now c.tell_values.ensures c.put.new.self.slots (c.put.ensures.slots ∙ ap (λ z. set_value_at z c.in-Some.index (Some (AtTurn c.in-Err.turn))) c.take.ensures.slots ∙ set_twice c.self.inside.sessions.slots c.in-Some.index None (Some (AtTurn c.in-Err.turn)) ∙ ap (λ (t : State). set_value_at c.self.inside.sessions.slots c.in-Some.index (Some (AtTurn t))) c.in-Err.ensures.back.0 ∙ set_same c.self.inside.sessions.slots c.in-Some.index (Some (AtTurn c.in-Some-AtTurn.turn)) (sym c.take.ensures.taken ∙ c.in-Some-AtTurn.is ∙ ap (λ z. Some z) c.in-Some-AtTurn.field-0-is) (first_at c.self.inside c.self.invariant c.args.sid c.in-Some.index (sym c.in-Some.ensures)).within) f.0 f.1)
+returns-in-Err-clause-state c = λ past st k. let f = (not_sent_by c.self.inside c.self.invariant (node_of past) (subst (λ (z : NodeState). StandsForPast z past) (sym c.self.view_is) st) c.args.sid c.args.label (values_of c.args.values.now) c.args.confounders.now c.in-Some.index (sym c.in-Some.ensures) c.in-Some-AtTurn.turn (sym c.take.ensures.taken ∙ c.in-Some-AtTurn.is ∙ ap (λ z. Some z) c.in-Some-AtTurn.field-0-is) c.in-Err.fault c.not_sent.result c.not_sent.ensures.fault c.in-Err.ensures.refused).1 (λ q. k (ap Err q)) in subst (λ (z : NodeState). GoesOn z (record { keys = c.self.inside.keys; programs = c.self.inside.programs.now; joins = c.self.inside.joins.pairs; live = held_in c.put.new.self.slots }) (Act c.args.sid c.args.label (values_of c.args.values.now) c.args.confounders.now) past) c.self.view_is (stays_by c.self.inside c.self.invariant past (subst (λ (z : NodeState). StandsForPast z past) (sym c.self.view_is) st) c.args.sid c.args.label (values_of c.args.values.now) c.args.confounders.now c.tell_values.ensures c.put.new.self.slots (c.put.ensures.slots ∙ ap (λ z. set_value_at z c.in-Some.index (Some (AtTurn c.in-Err.turn))) c.take.ensures.slots ∙ set_twice c.self.inside.sessions.slots c.in-Some.index None (Some (AtTurn c.in-Err.turn)) ∙ ap (λ (t : RoleState). set_value_at c.self.inside.sessions.slots c.in-Some.index (Some (AtTurn t))) c.in-Err.ensures.back.0 ∙ set_same c.self.inside.sessions.slots c.in-Some.index (Some (AtTurn c.in-Some-AtTurn.turn)) (sym c.take.ensures.taken ∙ c.in-Some-AtTurn.is ∙ ap (λ z. Some z) c.in-Some-AtTurn.field-0-is) (first_at c.self.inside c.self.invariant c.args.sid c.in-Some.index (sym c.in-Some.ensures)).within) f.0 f.1)
 
 pub returns-in-Err-clause-notes : goal.returns-in-Err-clause-notes
 returns-in-Err-clause-notes c = λ past st k. let f = (not_sent_by c.self.inside c.self.invariant (node_of past) (subst (λ (z : NodeState). StandsForPast z past) (sym c.self.view_is) st) c.args.sid c.args.label (values_of c.args.values.now) c.args.confounders.now c.in-Some.index (sym c.in-Some.ensures) c.in-Some-AtTurn.turn (sym c.take.ensures.taken ∙ c.in-Some-AtTurn.is ∙ ap (λ z. Some z) c.in-Some-AtTurn.field-0-is) c.in-Err.fault c.not_sent.result c.not_sent.ensures.fault c.in-Err.ensures.refused).1 (λ q. k (ap Err q)) in c.in-Err.ensures.back.1 ∙ with_none c.args.notes.now ∙ ap (with_notes c.args.notes.now) (sym (quiet (node_of past) c.args.sid c.args.label (values_of c.args.values.now) c.args.confounders.now f.0 f.1))
 
 pub returns-in-Err-clause-back : goal.returns-in-Err-clause-back
-returns-in-Err-clause-back c = (ap (λ z. record { keys = c.self.inside.keys; programs = c.self.inside.programs.now; joins = c.self.inside.joins.pairs; live = held_in z }) (c.put.ensures.slots ∙ ap (λ z. set_value_at z c.in-Some.index (Some (AtTurn c.in-Err.turn))) c.take.ensures.slots ∙ set_twice c.self.inside.sessions.slots c.in-Some.index None (Some (AtTurn c.in-Err.turn)) ∙ ap (λ (t : State). set_value_at c.self.inside.sessions.slots c.in-Some.index (Some (AtTurn t))) c.in-Err.ensures.back.0 ∙ set_same c.self.inside.sessions.slots c.in-Some.index (Some (AtTurn c.in-Some-AtTurn.turn)) (sym c.take.ensures.taken ∙ c.in-Some-AtTurn.is ∙ ap (λ z. Some z) c.in-Some-AtTurn.field-0-is) (first_at c.self.inside c.self.invariant c.args.sid c.in-Some.index (sym c.in-Some.ensures)).within) ∙ c.self.view_is, c.in-Err.ensures.back.1)
+returns-in-Err-clause-back c = (ap (λ z. record { keys = c.self.inside.keys; programs = c.self.inside.programs.now; joins = c.self.inside.joins.pairs; live = held_in z }) (c.put.ensures.slots ∙ ap (λ z. set_value_at z c.in-Some.index (Some (AtTurn c.in-Err.turn))) c.take.ensures.slots ∙ set_twice c.self.inside.sessions.slots c.in-Some.index None (Some (AtTurn c.in-Err.turn)) ∙ ap (λ (t : RoleState). set_value_at c.self.inside.sessions.slots c.in-Some.index (Some (AtTurn t))) c.in-Err.ensures.back.0 ∙ set_same c.self.inside.sessions.slots c.in-Some.index (Some (AtTurn c.in-Some-AtTurn.turn)) (sym c.take.ensures.taken ∙ c.in-Some-AtTurn.is ∙ ap (λ z. Some z) c.in-Some-AtTurn.field-0-is) (first_at c.self.inside c.self.invariant c.args.sid c.in-Some.index (sym c.in-Some.ensures)).within) ∙ c.self.view_is, c.in-Err.ensures.back.1)
 
 pub returns-in-Some-Waiting-clause-answer : goal.returns-in-Some-Waiting-clause-answer
 returns-in-Some-Waiting-clause-answer c = λ past st. (not_its_turn c.self.inside c.self.invariant (node_of past) (subst (λ (z : NodeState). StandsForPast z past) (sym c.self.view_is) st) c.args.sid c.args.label (values_of c.args.values.now) c.args.confounders.now c.in-Some.index (sym c.in-Some.ensures) c.in-Some-Waiting.wait (sym c.take.ensures.taken ∙ c.in-Some-Waiting.is ∙ ap (λ z. Some z) c.in-Some-Waiting.field-0-is))

@@ -3,13 +3,13 @@ use Rattle.std.specs.Option.{option_copied, option_and_then}
 use Rattle.sg_protocol.specs.Calls.{Start}
 use Rattle.sg_report.specs.Outcome.{outcome_of}
 use Rattle.sg_play.specs.declared.fault.PlayFault.TheVariants.{OutOfMemory, LinkFailed, WriteFailed}
-use Rattle.sg_play.specs.Meeting.{sid_told}
 use Rattle.sg_play.specs.Played.{answer_in, called}
-use Rattle.sg_play.proofs.Called.{err_same}
+use Rattle.sg_report.proofs.Answered.{err_same}
 use Rattle.sg_play.proofs.Coming.{no_memory_by}
 use Rattle.sg_play.proofs.Extends.{by_call}
 use Rattle.sg_play.proofs.Telling.{asked_quiet, told_given}
 use Rattle.sg_play.proofs.player.Player.start.Goals as goal
+use Rattle.sg_report.specs.Told.{sid_told}
 
 pub returns-in_err-outcome-clause-link_failed : goal.returns-in_err-outcome-clause-link_failed
 returns-in_err-outcome-clause-link_failed g c = let same : c.from_residual.result ≡ Err c.in_err-outcome.field-0.0 = search rules in λ e.
@@ -46,4 +46,4 @@ returns-clause-came g c = λ p start stands w.
 pub returns-clause-turn : goal.returns-clause-turn
 returns-clause-turn g c = λ p stands.
     let came = c.in_ok-outcome.ensures.comes 0 p.past stands.node in
-    c.sid_in.ensures ∙ ap (option_and_then sid_told) came.is_told ∙ told_given 0 (answer_in p (Start c.args.cast))
+    c.sid_told.ensures.told ∙ ap (option_and_then sid_told) came.is_told ∙ told_given 0 (answer_in p (Start c.args.cast))

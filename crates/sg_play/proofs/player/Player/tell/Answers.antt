@@ -2,10 +2,9 @@ use Rattle.std.proofs.Common.{◌≡◌, ◌∙◌, ◌+◌, [], IfSome, Option,
 use Rattle.std.specs.Option.{option_copied, option_map_or}
 use Rattle.sg_lines.specs.Sessions.{session_name}
 use Rattle.sg_report.specs.Lines.{graph_or_none, line_text}
-use Rattle.sg_report.specs.Told.{Told}
+use Rattle.sg_report.specs.Told.{Told, session_told}
 use Rattle.sg_play.specs.declared.player.Player.{Player}
 use Rattle.sg_play.specs.Meeting.{met_more}
-use Rattle.sg_play.specs.Steps.{session_told}
 use Rattle.sg_play.proofs.Telling.{told_rest}
 use Rattle.sg_play.proofs.player.Player.tell.Goals as goal
 

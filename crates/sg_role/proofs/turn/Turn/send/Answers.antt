@@ -12,7 +12,7 @@ use Rattle.sg_protocol.specs.Texts.{real}
 use Rattle.sg_walk.specs.Model.{values_of}
 use Rattle.sg_role.specs.Faults.{RefusesToSend}
 use Rattle.sg_role.specs.Sending.{with_notes}
-use Rattle.sg_role.specs.Model.{State}
+use Rattle.sg_role.specs.Model.{RoleState}
 use Rattle.sg_role.specs.Invariant.{HoldsTurn}
 use Rattle.sg_role.specs.Stepping.{send_rows, items_after, step_item, step_commitments, step_frame, step_notes}
 use Rattle.sg_role.proofs.NextLaws.{next_waits, next_stands}
@@ -24,7 +24,7 @@ pub returns-in-Err-clause-refused : goal.returns-in-Err-clause-refused
 returns-in-Err-clause-refused c = λ s stands.
     let vs = values_of c.args.values.now in
     subst (λ (rows : List (Option SendFault)). RefusesToSend (first_some rows) c.in-Err.fault) (rows_held c.args.keys.now c.args.self.program c.args.self.held s stands.holds c.args.label vs)
-    (subst (λ (z : State). RefusesToSend (first_some (send_rows z.program z.held c.args.label vs)) c.in-Err.fault) c.self.view_is c.in-Err.ensures.wrong)
+    (subst (λ (z : RoleState). RefusesToSend (first_some (send_rows z.program z.held c.args.label vs)) c.in-Err.fault) c.self.view_is c.in-Err.ensures.wrong)
 
 pub go_on-requires-clause-backed : goal.go_on-requires-clause-backed
 go_on-requires-clause-backed c =
@@ -36,12 +36,12 @@ go_on-requires-clause-backed c =
     let cs = c.args.confounders.now in
     let os = openings_for vs cs in
     let v = c.self.view_is in
-    let none : first_some (send_rows p h label vs) ≡ None = subst (λ (z : State). first_some (send_rows z.program z.held label vs) ≡ None) v c.in_default.ensures.right in
+    let none : first_some (send_rows p h label vs) ≡ None = subst (λ (z : RoleState). first_some (send_rows z.program z.held label vs) ≡ None) v c.in_default.ensures.right in
     let turn : IsBackedAtTurn real p h = (subst HoldsTurn v c.self.invariant).backed in
-    let ip : IsProgram real p = subst (λ (z : State). IsProgram real z.program) v c.tell.ensures.program in
+    let ip : IsProgram real p = subst (λ (z : RoleState). IsProgram real z.program) v c.tell.ensures.program in
     let are = c.tell.ensures.values in
-    let items = c.in-Ok.ensures.items ∙ ap (λ (z : State). items_after z.program.graph z.held (step_item keys z.program z.held label os)) v in
-    let commitments = c.in-Ok.ensures.commitments ∙ ap (λ (z : State). step_commitments z.program z.held os) v in
+    let items = c.in-Ok.ensures.items ∙ ap (λ (z : RoleState). items_after z.program.graph z.held (step_item keys z.program z.held label os)) v in
+    let commitments = c.in-Ok.ensures.commitments ∙ ap (λ (z : RoleState). step_commitments z.program z.held os) v in
     next_waits keys p h label vs cs ip turn c.in-Ok.step.items.items c.in-Ok.step.commitments.items c.in-Ok.step.written.items c.in-Ok.ensures.written items commitments none are
 
 pub returns-in-Ok-clause-accepted : goal.returns-in-Ok-clause-accepted
@@ -54,9 +54,9 @@ returns-in-Ok-clause-accepted c = λ s stands.
     let cs = c.args.confounders.now in
     let os = openings_for vs cs in
     let v = c.self.view_is in
-    let none : first_some (send_rows p h label vs) ≡ None = subst (λ (z : State). first_some (send_rows z.program z.held label vs) ≡ None) v c.in_default.ensures.right in
+    let none : first_some (send_rows p h label vs) ≡ None = subst (λ (z : RoleState). first_some (send_rows z.program z.held label vs) ≡ None) v c.in_default.ensures.right in
     let turn : IsBackedAtTurn real p h = (subst HoldsTurn v c.self.invariant).backed in
-    let ip : IsProgram real p = subst (λ (z : State). IsProgram real z.program) v c.tell.ensures.program in
+    let ip : IsProgram real p = subst (λ (z : RoleState). IsProgram real z.program) v c.tell.ensures.program in
     let are = c.tell.ensures.values in
     ap first_some (sym (rows_held keys p h s stands.holds label vs)) ∙ none
 
@@ -70,12 +70,12 @@ returns-in-Ok-clause-frame c = λ s stands.
     let cs = c.args.confounders.now in
     let os = openings_for vs cs in
     let v = c.self.view_is in
-    let none : first_some (send_rows p h label vs) ≡ None = subst (λ (z : State). first_some (send_rows z.program z.held label vs) ≡ None) v c.in_default.ensures.right in
+    let none : first_some (send_rows p h label vs) ≡ None = subst (λ (z : RoleState). first_some (send_rows z.program z.held label vs) ≡ None) v c.in_default.ensures.right in
     let turn : IsBackedAtTurn real p h = (subst HoldsTurn v c.self.invariant).backed in
-    let ip : IsProgram real p = subst (λ (z : State). IsProgram real z.program) v c.tell.ensures.program in
+    let ip : IsProgram real p = subst (λ (z : RoleState). IsProgram real z.program) v c.tell.ensures.program in
     let are = c.tell.ensures.values in
     c.go_on.ensures.frame ∙ c.in-Ok.ensures.frame
-    ∙ ap (λ (z : State). (principal z.held.cast (receiver (shape z.program.graph) label), spelling (step_frame keys z.program z.held label os))) v
+    ∙ ap (λ (z : RoleState). (principal z.held.cast (receiver (shape z.program.graph) label), spelling (step_frame keys z.program z.held label os))) v
     ∙ (λ j. (principal (stands.holds j).cast (receiver (shape p.graph) label), spelling (frame_held keys p h s stands.holds label os ip.is_graph j)))
 
 pub returns-in-Ok-clause-state : goal.returns-in-Ok-clause-state
@@ -88,12 +88,12 @@ returns-in-Ok-clause-state c = λ s stands.
     let cs = c.args.confounders.now in
     let os = openings_for vs cs in
     let v = c.self.view_is in
-    let none : first_some (send_rows p h label vs) ≡ None = subst (λ (z : State). first_some (send_rows z.program z.held label vs) ≡ None) v c.in_default.ensures.right in
+    let none : first_some (send_rows p h label vs) ≡ None = subst (λ (z : RoleState). first_some (send_rows z.program z.held label vs) ≡ None) v c.in_default.ensures.right in
     let turn : IsBackedAtTurn real p h = (subst HoldsTurn v c.self.invariant).backed in
-    let ip : IsProgram real p = subst (λ (z : State). IsProgram real z.program) v c.tell.ensures.program in
+    let ip : IsProgram real p = subst (λ (z : RoleState). IsProgram real z.program) v c.tell.ensures.program in
     let are = c.tell.ensures.values in
-    let items = c.in-Ok.ensures.items ∙ ap (λ (z : State). items_after z.program.graph z.held (step_item keys z.program z.held label os)) v in
-    let commitments = c.in-Ok.ensures.commitments ∙ ap (λ (z : State). step_commitments z.program z.held os) v in
+    let items = c.in-Ok.ensures.items ∙ ap (λ (z : RoleState). items_after z.program.graph z.held (step_item keys z.program z.held label os)) v in
+    let commitments = c.in-Ok.ensures.commitments ∙ ap (λ (z : RoleState). step_commitments z.program z.held os) v in
     next_stands keys p h label vs cs ip turn c.in-Ok.step.items.items c.in-Ok.step.commitments.items c.in-Ok.step.written.items c.in-Ok.ensures.written items commitments s stands c.go_on.result c.go_on.ensures.state
 
 pub returns-in-Ok-clause-notes : goal.returns-in-Ok-clause-notes
@@ -106,10 +106,10 @@ returns-in-Ok-clause-notes c = λ s stands.
     let cs = c.args.confounders.now in
     let os = openings_for vs cs in
     let v = c.self.view_is in
-    let none : first_some (send_rows p h label vs) ≡ None = subst (λ (z : State). first_some (send_rows z.program z.held label vs) ≡ None) v c.in_default.ensures.right in
+    let none : first_some (send_rows p h label vs) ≡ None = subst (λ (z : RoleState). first_some (send_rows z.program z.held label vs) ≡ None) v c.in_default.ensures.right in
     let turn : IsBackedAtTurn real p h = (subst HoldsTurn v c.self.invariant).backed in
-    let ip : IsProgram real p = subst (λ (z : State). IsProgram real z.program) v c.tell.ensures.program in
+    let ip : IsProgram real p = subst (λ (z : RoleState). IsProgram real z.program) v c.tell.ensures.program in
     let are = c.tell.ensures.values in
     let old = c.args.notes.now in
-    c.in-Ok.ensures.noted ∙ ap (λ (z : State). with_notes old (step_notes keys z.program z.held label os)) v
+    c.in-Ok.ensures.noted ∙ ap (λ (z : RoleState). with_notes old (step_notes keys z.program z.held label os)) v
     ∙ ap (with_notes old) (notes_held keys p h s stands.holds label os ip.is_graph (shows_own keys p h label vs cs ip turn none are s stands))

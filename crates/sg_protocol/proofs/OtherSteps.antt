@@ -1,4 +1,4 @@
--- A schedule stays one with one more step: what a craft makes doesn't depend on the other steps.
+-- What a craft makes doesn't depend on the steps beside it, so a step of a schedule is one of each schedule that differs in other steps alone.
 use Rattle.std.proofs.Common.{◌≡◌, ℕ, List, [], ◌∷◌, ◌++◌, map, Option, Some, None, option_map, option_and_then, IsSomeAnd, refl, ◌∙◌, ap, subst}
 use Rattle.std.specs.List.{AllByRecursion}
 use Rattle.std.proofs.lemmas.List.Elements.{All-push, All-from_recursion, recursion_from_All}
@@ -59,7 +59,8 @@ module _ (sha : Hash) (s : Schedule) (xs : List Step) where
       finish : List Item → Frame
       finish is = record (plain is) { tag = cut x.cast.version (tag_by sha s w (text_of (plain is)) c.seal) }
 
-  crafted_same : (w : World) (c : Craft) → crafted sha s w c ≡ crafted sha (record s { steps = xs }) w c
+  -- what a craft makes
+  pub crafted_same : (w : World) (c : Craft) → crafted sha s w c ≡ crafted sha (record s { steps = xs }) w c
   crafted_same w c = by_cast (cast_of s c.session)
     where
       by_graph : (d : Cast) (o : Option Graph) → option_map (λ g. crafted_frame sha s w c g (new_session (session_id sha d) d c.from)) o ≡ option_map (λ g. crafted_frame sha (record s { steps = xs }) w c g (new_session (session_id sha d) d c.from)) o

@@ -1,14 +1,14 @@
 -- A block, and what follows it.
 use Rattle.std.proofs.Common.{◌≡◌, ◌∙◌, ap, refl, rules, arith, Err, ◌+◌}
-use Rattle.sg_read.specs.declared.reader.Reader.{Reader}
+use Rattle.sg_read.specs.declared.reader.ScheduleReader.{ScheduleReader}
 use Rattle.sg_read.proofs.StandingLaws.{not_closed, shows, bad_fault}
-use Rattle.sg_read.proofs.reader.Reader.block.Goals as goal
+use Rattle.sg_read.proofs.reader.ScheduleReader.block.Goals as goal
 
 pub returns-in_err-show-in-Some-clause-stands : goal.returns-in_err-show-in-Some-clause-stands
 returns-in_err-show-in-Some-clause-stands c = λ bytes o.
     let r = c.args.self.now in
     let b = c.in-Some.block in
-    let counted : Reader = record r { number = r.number + (b.count + 1) } in
+    let counted : ScheduleReader = record r { number = r.number + (b.count + 1) } in
     let more : r.number + (b.count + 1) ≡ r.number + b.count + 1 = omega arith in
     let same : c.from_residual.result ≡ Err c.in_err-show-in-Some.field-0.0 = search rules in
     rw same (bad_fault bytes c.args.after.now r o b.text.now b.rest.now b.count c.in-Some.ensures.closed counted refl more refl c.in_err-show-in-Some.field-0.0 c.in_err-show-in-Some.ensures.bad)

@@ -5,14 +5,14 @@ use Rattle.sg_sched.specs.Pair.{graphs_of}
 use Rattle.sg_sched.specs.Format.Items.{graph_names}
 use Rattle.sg_read.specs.Standing.{IsBadAt, Again, AsPair}
 use Rattle.sg_read.specs.Taken.{fault_at}
-use Rattle.sg_read.specs.declared.reader.Reader.{Reader}
+use Rattle.sg_read.specs.declared.reader.ScheduleReader.{ScheduleReader}
 use Rattle.sg_read.proofs.StandingLaws.{refused_bad, pair_named, fresh_name}
-use Rattle.sg_read.proofs.reader.Reader.show.Goals as goal
+use Rattle.sg_read.proofs.reader.ScheduleReader.show.Goals as goal
 
 pub returns-in-Err : goal.returns-in-Err
 returns-in-Err c =
     let number : fault_at c.args.self.now.number c.in-Err.stop ≡ c.fault_at.result =
-    sym (c.fault_at.ensures ∙ ap (λ (r : Reader). fault_at r.number c.in-Err.stop) c.self.view_is) in
+    sym (c.fault_at.ensures ∙ ap (λ (r : ScheduleReader). fault_at r.number c.in-Err.stop) c.self.view_is) in
     record {
       shown = tt;
       number = tt;
