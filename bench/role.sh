@@ -12,9 +12,9 @@ cat >"$bench/src/main.rt" <<'RATTLE'
 //! Plays a role's part of a session again and again, and tells what each of its calls takes, and the hashes of the call alone.
 #![tactic(auto)]
 
-use sg_base::{Chars, Label, Name, Seq, Value, Var};
+use sg_base::{Chars, Label, Name, Value, Var};
 use sg_cache::{Cache, Ticket};
-use sg_crypt::{Cast, Counts, Key, Note, Notes, tag};
+use sg_crypt::{Cast, Counts, Hashed, Key, Note, Notes, tag};
 use sg_frame::decode;
 use sg_keys::Keyring;
 use sg_program::Program;
@@ -315,24 +315,24 @@ fn tell(rt: &HostRuntime, calls: &[Call]) -> Option<()> {
 
 // How long hashes took, and a byte of them.
 #[derive(Clone, Copy)]
-struct Hashed {
+struct Hashing {
     nanoseconds: u128,
     last: u8,
 }
 
-fn hashes(rt: &HostRuntime, notes: &Notes) -> Option<Hashed> {
+fn hashes(rt: &HostRuntime, notes: &Notes) -> Option<Hashing> {
     let key = Key::new([0x22; 32]);
     let start = Instant::now(rt).ok()?;
     let last = tags(&key, notes.made()) ^ tags(&key, notes.found()) ^ digests(notes.hashed());
     let nanoseconds = start.elapsed(rt).ok()?.as_nanos();
-    Some(Hashed { nanoseconds, last })
+    Some(Hashing { nanoseconds, last })
 }
 
-fn hashes_anew(rt: &HostRuntime, notes: &Notes) -> Option<Hashed> {
+fn hashes_anew(rt: &HostRuntime, notes: &Notes) -> Option<Hashing> {
     let start = Instant::now(rt).ok()?;
     let last = tags_anew(notes.made()) ^ tags_anew(notes.found()) ^ digests(notes.hashed());
     let nanoseconds = start.elapsed(rt).ok()?.as_nanos();
-    Some(Hashed { nanoseconds, last })
+    Some(Hashing { nanoseconds, last })
 }
 
 fn tags(key: &Key, notes: &[Note]) -> u8 {
@@ -351,7 +351,7 @@ fn tags_anew(notes: &[Note]) -> u8 {
     last
 }
 
-fn digests(texts: &[Seq<u8>]) -> u8 {
+fn digests(texts: &[Hashed]) -> u8 {
     let mut last = 0;
     for text in texts {
         last ^= Sha256::digest(text.as_slice())[0];

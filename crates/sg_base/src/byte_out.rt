@@ -1,9 +1,10 @@
 //! Fields written to a growing list of bytes: numbers with the high byte first or in digits, and bytes.
-ghost use Rattle.std.specs.Prelude.{◌≡◌, ◌++◌, [], ◌∷◌, length, take, OnOk, OnErr};
+ghost use Rattle.std.specs.Prelude.{◌≡◌, ◌++◌, [], ◌∷◌, length, take, IfOk, OnOk, OnErr};
 ghost use Rattle.std.specs.Fmt.{decimal};
 ghost use Rattle.std.specs.Int.{w16, w32, to_be_bytes};
 
 use crate::OutOfMemory;
+use itoa::Buffer;
 use std::alloc::Global;
 use std::marker::Model;
 
@@ -29,6 +30,15 @@ impl ByteOut {
         ByteOut {
             bytes: Vec::new(alloc),
         }
+    }
+
+    /// The empty list, with room for so many bytes.
+    pub fn with_room(alloc: Global, count: usize) -> Result<ByteOut, OutOfMemory>
+        ensures { IfOk result (λ o. o ≡ []) }
+    {
+        Ok(ByteOut {
+            bytes: Vec::with_capacity(alloc, count)?,
+        })
     }
 
     /// Appends a number of one byte.
@@ -65,12 +75,12 @@ impl ByteOut {
     }
 
     /// Appends a number in decimal digits.
-    pub fn decimal(&mut self, alloc: Global, value: u64) -> Result<(), OutOfMemory>
+    pub fn decimal(&mut self, value: u64) -> Result<(), OutOfMemory>
         ensures ok { OnOk result (self.new ≡ self.old ++ decimal value) }
         ensures err { OnErr result (self.new ≡ self.old) }
     {
-        let digits = format!(in alloc; "{value}")?;
-        self.bytes(digits.as_str().as_bytes())
+        let mut digits = Buffer::new();
+        self.bytes(digits.format(value).as_bytes())
     }
 
     /// How many bytes there are. It takes no memory.

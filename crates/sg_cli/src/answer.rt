@@ -42,13 +42,12 @@ fn put_session(
     ensures { OnOk result ((text : List ℕ) × Answered graph.now (session_of session.now) text × (out.new ≡ out.old ++ text)) }
 {
     let answer = audit(alloc, graph, session)?;
-    put_answer(alloc, out, graph, session, &answer)
+    put_answer(out, graph, session, &answer)
 }
 
 // Writes the right answer of a session.
 #[tactic(auto, using(crate::proofs::Answered::walk_of_yes))]
 fn put_answer(
-    alloc: Global,
     out: &mut ByteOut,
     graph: &Graph,
     session: &SessionLog,
@@ -59,15 +58,14 @@ fn put_answer(
     ensures { OnOk result (out.new ≡ out.old ++ answer_text graph.now (session_of session.now) answer.now) }
 {
     match answer {
-        Audit::Yes(walk) => put_yes(alloc, out, graph, session, walk),
-        Audit::Clash { time } => put_clash(alloc, out, &session.name, *time),
+        Audit::Yes(walk) => put_yes(out, graph, session, walk),
+        Audit::Clash { time } => put_clash(out, &session.name, *time),
         Audit::No => put_said(out, &session.name, b" no\n"),
     }
 }
 
 // Writes that the logs of a session agree, and the walk with which they do.
 fn put_yes(
-    alloc: Global,
     out: &mut ByteOut,
     graph: &Graph,
     session: &SessionLog,
@@ -81,7 +79,7 @@ fn put_yes(
     let _roles = graph.roles();
     let honest = roles_of(session.logs.as_slice());
     put_said(out, &session.name, b" yes\n")?;
-    put_walk(alloc, out, session.name.as_bytes(), graph, honest, walk)
+    put_walk(out, session.name.as_bytes(), graph, honest, walk)
 }
 
 // Writes what is said of the session of this name.
@@ -94,10 +92,10 @@ fn put_said(out: &mut ByteOut, name: &Name, said: &[u8]) -> Result<(), OutOfMemo
 }
 
 // Writes at which time the logs clash.
-fn put_clash(alloc: Global, out: &mut ByteOut, name: &Name, time: Time) -> Result<(), OutOfMemory>
+fn put_clash(out: &mut ByteOut, name: &Name, time: Time) -> Result<(), OutOfMemory>
     ensures { OnOk result (out.new ≡ out.old ++ clash_text name.now time) }
 {
     put_said(out, name, b" clash at time ")?;
-    out.decimal(alloc, time.0 as u64)?;
+    out.decimal(time.0 as u64)?;
     out.bytes(b"\n")
 }

@@ -83,7 +83,7 @@ fn accepted_text(alloc: Global, graph: &Graph, programs: &[Program]) -> Result<V
     let mut text = ByteOut::new(alloc);
     put_accepted(&mut text, graph)?;
     for program in programs {
-        put_views(alloc, &mut text, program)?;
+        put_views(&mut text, program)?;
     }
     Ok(text.done())
 }
@@ -98,12 +98,12 @@ fn put_accepted(out: &mut ByteOut, graph: &Graph) -> Result<(), OutOfMemory>
 }
 
 // Writes how many views a program has.
-fn put_views(alloc: Global, out: &mut ByteOut, program: &Program) -> Result<(), OutOfMemory>
+fn put_views(out: &mut ByteOut, program: &Program) -> Result<(), OutOfMemory>
     ensures { OnOk result (out.new ≡ out.old ++ views_line program.now) }
 {
     out.bytes(b"views ")?;
     out.bytes(program.graph().role_name(program.role()).as_bytes())?;
     out.u8(b' ')?;
-    out.decimal(alloc, program.views().len() as u64)?;
+    out.decimal(program.views().len() as u64)?;
     out.u8(b'\n')
 }

@@ -95,12 +95,12 @@ impl<'w> Ending<'w> {
         ensures memory { OnErr result (line_of (ending_held self.now) ≢ []) }
     {
         let mut out = ByteOut::new(alloc);
-        self.put_line(alloc, &mut out)?;
+        self.put_line(&mut out)?;
         Ok(out.done())
     }
 
     // Writes the line.
-    fn put_line(&self, alloc: Global, out: &mut ByteOut) -> Result<(), OutOfMemory>
+    fn put_line(&self, out: &mut ByteOut) -> Result<(), OutOfMemory>
         ensures value { OnOk result (out.new ≡ out.old ++ line_of (ending_held self.now)) }
         ensures memory { OnErr result (line_of (ending_held self.now) ≢ []) }
     {
@@ -109,19 +109,14 @@ impl<'w> Ending<'w> {
             Ending::NoCommand => out.bytes(
                 b"usage: sessiongraph check|compile|run|replay|audit|compose\n",
             ),
-            Ending::NoGraph { fault } => put_no_graph(alloc, out, fault),
+            Ending::NoGraph { fault } => put_no_graph(out, fault),
             Ending::NoExpansion { fault } => put_no_expansion(out, fault),
             Ending::GraphRefused { graph, fault } => put_refusal(out, graph, fault),
             Ending::NoRole { role } => put_word(out, b"input refused: role ", role),
-            Ending::WrongLine { line, wrong } => put_wrong_line(
-                alloc,
-                out,
-                *line,
-                wrong_word(*wrong),
-            ),
-            Ending::KeysRefused { fault } => put_no_keys(alloc, out, *fault),
-            Ending::ScriptRefused { fault } => put_no_script(alloc, out, *fault),
-            Ending::ProgramRefused { number, cause } => put_no_program(alloc, out, *number, *cause),
+            Ending::WrongLine { line, wrong } => put_wrong_line(out, *line, wrong_word(*wrong)),
+            Ending::KeysRefused { fault } => put_no_keys(out, *fault),
+            Ending::ScriptRefused { fault } => put_no_script(out, *fault),
+            Ending::ProgramRefused { number, cause } => put_no_program(out, *number, *cause),
             Ending::FileFailed { file } => put_word(out, b"file failed: ", file),
             Ending::LinkFailed => out.bytes(b"link failed\n"),
             Ending::NoMemory => out.bytes(b"out of memory\n"),
@@ -140,27 +135,17 @@ fn put_word(out: &mut ByteOut, text: &[u8], word: &str) -> Result<(), OutOfMemor
     out.u8(b'\n')
 }
 
-fn put_wrong_line(
-    alloc: Global,
-    out: &mut ByteOut,
-    line: u32,
-    word: &str,
-) -> Result<(), OutOfMemory>
+fn put_wrong_line(out: &mut ByteOut, line: u32, word: &str) -> Result<(), OutOfMemory>
     ensures { OnOk result (out.new ≡ out.old ++ (codes "input refused: line " ++ decimal line ++ 32 ∷ word.now ++ 10 ∷ [])) }
 {
     out.bytes(b"input refused: line ")?;
-    put_number_and_word(alloc, out, line, word)
+    put_number_and_word(out, line, word)
 }
 
-fn put_number_and_word(
-    alloc: Global,
-    out: &mut ByteOut,
-    number: u32,
-    word: &str,
-) -> Result<(), OutOfMemory>
+fn put_number_and_word(out: &mut ByteOut, number: u32, word: &str) -> Result<(), OutOfMemory>
     ensures { OnOk result (out.new ≡ out.old ++ (decimal number ++ 32 ∷ word.now ++ 10 ∷ [])) }
 {
-    out.decimal(alloc, number as u64)?;
+    out.decimal(number as u64)?;
     put_word(out, b" ", word)
 }
 

@@ -12,35 +12,34 @@ use sg_know::ReadFault;
 use sg_parse::ParseFault;
 use sg_program::CompileFault;
 use sg_vis::ViewFault;
-use std::alloc::Global;
 
 /// Writes the line that says where bytes are no graph.
-pub fn put_no_graph(alloc: Global, out: &mut ByteOut, fault: &ParseFault) -> Result<(), OutOfMemory>
+pub fn put_no_graph(out: &mut ByteOut, fault: &ParseFault) -> Result<(), OutOfMemory>
     ensures { OnOk result (out.new ≡ out.old ++ (codes "graph refused: " ++ parse_text fault.now ++ 10 ∷ [])) }
 {
     out.bytes(b"graph refused: ")?;
-    put_parse(alloc, out, fault)?;
+    put_parse(out, fault)?;
     out.u8(b'\n')
 }
 
-fn put_parse(alloc: Global, out: &mut ByteOut, fault: &ParseFault) -> Result<(), OutOfMemory>
+fn put_parse(out: &mut ByteOut, fault: &ParseFault) -> Result<(), OutOfMemory>
     ensures { OnOk result (out.new ≡ out.old ++ parse_text fault.now) }
 {
     match fault {
-        ParseFault::BadByte { at } => put_offset(alloc, out, b"bad byte at ", *at),
-        ParseFault::Unexpected { at } => put_offset(alloc, out, b"unexpected at ", *at),
-        ParseFault::UnknownName { at } => put_offset(alloc, out, b"unknown name at ", *at),
-        ParseFault::Twice { at } => put_offset(alloc, out, b"twice at ", *at),
-        ParseFault::TooMany { at } => put_offset(alloc, out, b"too many at ", *at),
+        ParseFault::BadByte { at } => put_offset(out, b"bad byte at ", *at),
+        ParseFault::Unexpected { at } => put_offset(out, b"unexpected at ", *at),
+        ParseFault::UnknownName { at } => put_offset(out, b"unknown name at ", *at),
+        ParseFault::Twice { at } => put_offset(out, b"twice at ", *at),
+        ParseFault::TooMany { at } => put_offset(out, b"too many at ", *at),
         ParseFault::OutOfMemory => Ok(()),
     }
 }
 
-fn put_offset(alloc: Global, out: &mut ByteOut, text: &[u8], at: usize) -> Result<(), OutOfMemory>
+fn put_offset(out: &mut ByteOut, text: &[u8], at: usize) -> Result<(), OutOfMemory>
     ensures { OnOk result (out.new ≡ out.old ++ (text.now ++ decimal at)) }
 {
     out.bytes(text)?;
-    out.decimal(alloc, at as u64)
+    out.decimal(at as u64)
 }
 
 /// Writes the line that says why parts are not expanded.

@@ -29,6 +29,7 @@ use sg_read::read_schedule;
 use sg_sched::{Kind, LineFault, Schedule, Step};
 use sg_world::{StepFault, World};
 use std::alloc::Global;
+use std::mem;
 
 // A schedule file has at most 16 MiB.
 const MOST_BYTES: u32 = 16_777_216;
@@ -169,7 +170,11 @@ fn report_of(
         take(&mut world, step)?;
     }
     match world.report() {
-        Ok(text) => Ok(text),
+        Ok(text) => {
+            // The program ends next, and to give back the record piece by piece takes as long as a twentieth of the replay.
+            mem::forget(world);
+            Ok(text)
+        }
         Err(_) => Err(Ending::NoMemory),
     }
 }

@@ -191,7 +191,7 @@ fn a_start_is_made_and_played(rt: HostRuntime) -> Result<(), OutOfMemory> {
     let bytes = first_frame(alloc, &link)?;
     let frame = decode(alloc, bytes.as_slice()).expect(&rt, "a frame");
     let words = words_of(alloc)?.next();
-    assert!(rt; frame.join.expect(&rt, "a join").nonce() == words);
+    assert!(rt; frame.join.expect(&rt, "a join").get().nonce() == words);
     Ok(())
 }
 

@@ -247,7 +247,7 @@ fn join<'r, H: Honest>(
     let Some(cast) = &frame.join else {
         return Ok(());
     };
-    let Some(mut course) = Course::new(alloc, programs, honest, cast, frame.receiver) else {
+    let Some(mut course) = Course::new(alloc, programs, honest, cast.get(), frame.receiver) else {
         return Ok(());
     };
     course.take(alloc, programs, frame, event)?;

@@ -14,7 +14,7 @@ use crate::Means;
 use crate::item::{craft_items, cut_tag};
 use crate::source::tag_by;
 use sg_base::{OutOfMemory, Tag, copy_openings};
-use sg_crypt::{Cast, frame_text};
+use sg_crypt::{Cast, SharedCast, frame_text};
 use sg_frame::{Frame, body_len, encode};
 use sg_sched::cast::nonce_bytes;
 use sg_sched::{Craft, CraftJoin, Source};
@@ -38,12 +38,13 @@ fn zero_frame(alloc: Global, means: &Means<'_>, craft: &Craft) -> Result<Frame, 
     ensures range { IfOk result HasSpelling }
 {
     let items = craft_items(alloc, means, craft.know.as_slice(), craft.items.as_slice())?;
+    let join = SharedCast::optional(alloc, joined(means.cast, &craft.join))?;
     Ok(Frame {
         version: means.cast.version(),
         sid: *means.sid,
         sender: craft.from,
         receiver: craft.to,
-        join: joined(means.cast, &craft.join),
+        join,
         items,
         openings: copy_openings(alloc, craft.openings.as_slice())?,
         tag: Tag([0; 32]),

@@ -8,16 +8,20 @@
 
 mod cast;
 mod digest;
+mod hashed;
 mod hmac;
 mod key;
 mod note;
 mod put;
+mod shared;
 mod text;
 
 pub use cast::Cast;
 pub use digest::{commit, graph_digest, session_id};
+pub use hashed::Hashed;
 pub use hmac::{cut, cut_matches, tag, tag_matches};
 pub use key::Key;
 pub use note::{Counts, Note, Notes};
 pub use put::{put_name, put_opening};
+pub use shared::SharedCast;
 pub use text::{commit_text, frame_text, graph_text, item_text, session_text};

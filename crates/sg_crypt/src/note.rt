@@ -2,6 +2,7 @@
 ghost use Rattle.std.specs.Prelude.{◌≡◌, ◌++◌, [], ◌∷◌, length, take, OnOk, OnErr};
 ghost use Rattle.sg_protocol.specs.Notes.{text_before, note_of, no_notes};
 
+use crate::hashed::Hashed;
 use sg_base::{Name, OutOfMemory, Seq};
 use std::alloc::Global;
 use std::marker::Model;
@@ -88,7 +89,7 @@ pub struct Counts {
 pub struct Notes {
     made: Seq<Note>,
     found: Seq<Note>,
-    hashed: Seq<Seq<u8>>,
+    hashed: Seq<Hashed>,
 }
 
 impl Model for Notes {
@@ -139,11 +140,11 @@ impl Notes {
     }
 
     /// Appends a text that was hashed. For want of memory the lists stay as they were.
-    pub fn note_hashed(&mut self, text: Vec<u8>) -> Result<(), OutOfMemory>
-        ensures ok { OnOk result (self.new ≡ record self.old { hashed = self.old.hashed ++ text.items ∷ [] }) }
+    pub fn note_hashed(&mut self, text: Hashed) -> Result<(), OutOfMemory>
+        ensures ok { OnOk result (self.new ≡ record self.old { hashed = self.old.hashed ++ text ∷ [] }) }
         ensures err { OnErr result (self.new ≡ self.old) }
     {
-        self.hashed.push(Seq::from_vec(text))?;
+        self.hashed.push(text)?;
         Ok(())
     }
 
@@ -162,7 +163,7 @@ impl Notes {
     }
 
     /// The texts that were hashed, in order.
-    pub fn hashed(&self) -> &[Seq<u8>]
+    pub fn hashed(&self) -> &[Hashed]
         ensures { result.now ≡ self.now.hashed }
     {
         self.hashed.as_slice()

@@ -9,6 +9,20 @@ use crate::put::{put_name, put_opening};
 use sg_base::{ByteOut, Label, Opening, OutOfMemory, Role, Sid, Time};
 use std::alloc::Global;
 
+// The room that each text begins with: enough for one of the usual length, and a longer one takes more.
+const SESSION_ROOM: usize = 128;
+
+const COMMIT_ROOM: usize = 96;
+
+const WORD_ROOM: usize = 12;
+
+const ITEM_ROOM: usize = 52;
+
+const COMMITMENT_ROOM: usize = 33;
+
+// How many variables a graph has at most.
+const MOST_VARS: usize = 32;
+
 /// What the digest of a graph is of, with this canonical text.
 pub fn graph_text(alloc: Global, text: &[u8]) -> Result<Vec<u8>, OutOfMemory>
     ensures value { IfOk result (λ t. t.items ≡ codes "sg-graph-1" ++ text.now) }
@@ -24,7 +38,7 @@ pub fn graph_text(alloc: Global, text: &[u8]) -> Result<Vec<u8>, OutOfMemory>
 pub fn session_text(alloc: Global, cast: &Cast) -> Result<Vec<u8>, OutOfMemory>
     ensures { IfOk result (λ t. t.items ≡ session_text_of cast.now) }
 {
-    let mut out = ByteOut::new(alloc);
+    let mut out = ByteOut::with_room(alloc, SESSION_ROOM)?;
     out.bytes(session_word(cast.version()))?;
     out.bytes(&cast.graph())?;
     out.bytes(&cast.nonce())?;
@@ -39,7 +53,7 @@ pub fn session_text(alloc: Global, cast: &Cast) -> Result<Vec<u8>, OutOfMemory>
 pub fn commit_text(alloc: Global, sid: &Sid, opening: &Opening) -> Result<Vec<u8>, OutOfMemory>
     ensures { IfOk result (λ t. t.items ≡ commitment_text_of sid.now opening.now) }
 {
-    let mut out = ByteOut::new(alloc);
+    let mut out = ByteOut::with_room(alloc, COMMIT_ROOM)?;
     out.bytes(COMMIT)?;
     out.bytes(&sid.0)?;
     put_opening(&mut out, opening)?;
@@ -60,7 +74,7 @@ pub fn item_text(
     requires { IsVersion version }
     ensures { IfOk result (λ t. t.items ≡ item_text_of version sid.now sender target label time commitments.now) }
 {
-    let mut out = ByteOut::new(alloc);
+    let mut out = ByteOut::with_room(alloc, item_room(commitments.len()))?;
     out.bytes(item_word(version))?;
     out.bytes(&sid.0)?;
     out.u8(sender.0)?;
@@ -71,12 +85,21 @@ pub fn item_text(
     Ok(out.done())
 }
 
+// The room for an item's text with so many commitments.
+fn item_room(count: usize) -> usize {
+    if count < MOST_VARS {
+        ITEM_ROOM + COMMITMENT_ROOM * count
+    } else {
+        ITEM_ROOM + COMMITMENT_ROOM * MOST_VARS
+    }
+}
+
 /// What the tag of a frame is of, with these bytes before the tag.
 pub fn frame_text(alloc: Global, version: u8, body: &[u8]) -> Result<Vec<u8>, OutOfMemory>
     requires { IsVersion version }
     ensures { IfOk result (λ t. t.items ≡ frame_text_of version body.now) }
 {
-    let mut out = ByteOut::new(alloc);
+    let mut out = ByteOut::with_room(alloc, WORD_ROOM + body.len())?;
     out.bytes(frame_word(version))?;
     out.bytes(body)?;
     Ok(out.done())

@@ -2,14 +2,14 @@
 ghost use Rattle.std.specs.Prelude.{◌≡◌, map, IfOk};
 ghost use Rattle.sg_protocol.specs.Texts.{graph_text_of, real, session_id as id_of};
 
-use sg_base::{OutOfMemory, Seq, Sid};
-use sg_crypt::{graph_text, session_id};
+use sg_base::{OutOfMemory, Sid};
+use sg_crypt::{Hashed, graph_text, session_id};
 use sg_graph::{Graph, canonical_text};
 use sg_sched::Declared;
 use std::alloc::Global;
 
 /// The texts under the digests of these graphs, in order.
-pub fn texts_of(alloc: Global, graphs: &[Graph]) -> Result<Vec<Seq<u8>>, OutOfMemory>
+pub fn texts_of(alloc: Global, graphs: &[Graph]) -> Result<Vec<Hashed>, OutOfMemory>
     ensures { IfOk result (λ t. t.items ≡ map graph_text_of graphs.now) }
 {
     let mut texts = Vec::new(alloc);
@@ -20,12 +20,12 @@ pub fn texts_of(alloc: Global, graphs: &[Graph]) -> Result<Vec<Seq<u8>>, OutOfMe
 }
 
 // The text under the digest of a graph.
-fn text_of(alloc: Global, graph: &Graph) -> Result<Seq<u8>, OutOfMemory>
+fn text_of(alloc: Global, graph: &Graph) -> Result<Hashed, OutOfMemory>
     ensures { IfOk result (λ t. t ≡ graph_text_of graph.now) }
 {
     let canonical = canonical_text(alloc, graph)?;
     let text = graph_text(alloc, canonical.as_slice())?;
-    Ok(Seq::from_vec(text))
+    Ok(Hashed::new(text))
 }
 
 /// The identifiers of these sessions, in order.

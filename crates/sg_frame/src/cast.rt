@@ -8,7 +8,7 @@ ghost use Rattle.sg_frame.specs.Reads.{Reads, ReadsSeen};
 use crate::fault::FrameStop;
 use crate::field;
 use sg_base::{ByteIn, Name};
-use sg_crypt::Cast;
+use sg_crypt::{Cast, SharedCast};
 use std::alloc::Global;
 
 // The cast of a frame that joins, where the kind is 0.
@@ -17,7 +17,7 @@ pub fn read_join(
     input: &mut ByteIn,
     version: u8,
     kind: u8,
-) -> Result<Option<Cast>, FrameStop>
+) -> Result<Option<SharedCast>, FrameStop>
     requires { IsVersion version }
     ensures { Reads (if kind == 0 then read_cast version else give None) input.old input.new result }
 {
@@ -28,7 +28,11 @@ pub fn read_join(
     }
 }
 
-fn read_cast(alloc: Global, input: &mut ByteIn, version: u8) -> Result<Option<Cast>, FrameStop>
+fn read_cast(
+    alloc: Global,
+    input: &mut ByteIn,
+    version: u8,
+) -> Result<Option<SharedCast>, FrameStop>
     requires { IsVersion version }
     ensures { Reads (read_cast version) input.old input.new result }
 {
@@ -36,7 +40,9 @@ fn read_cast(alloc: Global, input: &mut ByteIn, version: u8) -> Result<Option<Ca
     let nonce = field::sixteen(input)?;
     let count = field::byte(input, 2, 16)?;
     let names = read_names(alloc, input, count)?;
-    Ok(Cast::new(version, graph, nonce, names.as_slice()))
+    let cast = Cast::new(version, graph, nonce, names.as_slice());
+    let shared = SharedCast::optional(alloc, cast)?;
+    Ok(shared)
 }
 
 fn read_names(alloc: Global, input: &mut ByteIn, count: u8) -> Result<Vec<Name>, FrameStop>

@@ -1,7 +1,7 @@
 //! What one role sends to another.
 use crate::item::Item;
 use sg_base::{Opening, Role, Seq, Sid, Tag};
-use sg_crypt::Cast;
+use sg_crypt::SharedCast;
 use std::marker::Model;
 
 /// What one role of a session sends to another. With its cast it joins, without it continues.
@@ -16,7 +16,7 @@ pub struct Frame {
     /// The role that receives it.
     pub receiver: Role,
     /// The cast of the session, in a frame that joins.
-    pub join: Option<Cast>,
+    pub join: Option<SharedCast>,
     /// What the sender has seen of the session, at least one item; the last is its own step.
     pub items: Seq<Item>,
     /// Of variables that rise strictly.

@@ -9,15 +9,18 @@ use crate::field;
 use crate::frame::Frame;
 use crate::item::Item;
 use sg_base::{ByteOut, Opening, OutOfMemory, Role, Tag, Var};
-use sg_crypt::{Cast, put_name, put_opening};
+use sg_crypt::{Cast, SharedCast, put_name, put_opening};
 use std::alloc::Global;
+
+// Room that a frame has at once; a longer one takes more.
+const ROOM: usize = 256;
 
 /// The one spelling of a frame.
 pub fn encode(alloc: Global, frame: &Frame) -> Result<Vec<u8>, OutOfMemory>
     requires { HasSpelling frame.now }
     ensures { IfOk result (λ v. v.items ≡ spelling frame.now) }
 {
-    let mut out = ByteOut::new(alloc);
+    let mut out = ByteOut::with_room(alloc, ROOM)?;
     put_head(&mut out, frame)?;
     put_join(&mut out, &frame.join)?;
     out.u16(frame.items.len() as u16)?;
@@ -54,18 +57,18 @@ fn magic(version: u8) -> &'static [u8]
     if version == 2 { b"SGF2" } else { b"SGF1" }
 }
 
-fn join_code(join: &Option<Cast>) -> u8
+fn join_code(join: &Option<SharedCast>) -> u8
     ensures { result ≡ join_code join.now }
 {
     if join.is_some() { 0 } else { 1 }
 }
 
-fn put_join(out: &mut ByteOut, join: &Option<Cast>) -> Result<(), OutOfMemory>
+fn put_join(out: &mut ByteOut, join: &Option<SharedCast>) -> Result<(), OutOfMemory>
     ensures { OnOk result (out.new ≡ out.old ++ join_bytes join.now) }
 {
     match join {
         None => Ok(()),
-        Some(cast) => put_cast(out, cast),
+        Some(cast) => put_cast(out, cast.get()),
     }
 }
 

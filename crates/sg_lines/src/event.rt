@@ -9,11 +9,9 @@ use crate::value::put_values;
 use sg_base::{ByteOut, Label, Name, OutOfMemory, Time};
 use sg_graph::{Graph, put_label, put_role};
 use sg_walk::Event;
-use std::alloc::Global;
 
 /// Writes an event but for its values, in a session of this name.
 pub fn put_event(
-    alloc: Global,
     out: &mut ByteOut,
     session: &[u8],
     graph: &Graph,
@@ -29,17 +27,16 @@ pub fn put_event(
             put_role(out, graph, *role)
         }
         Event::Sent { label, time, .. } => {
-            put_moved(alloc, out, session, b" sent ", graph, *label, *time)
+            put_moved(out, session, b" sent ", graph, *label, *time)
         }
         Event::Received { label, time, .. } => {
-            put_moved(alloc, out, session, b" received ", graph, *label, *time)
+            put_moved(out, session, b" received ", graph, *label, *time)
         }
     }
 }
 
 // Writes a step along a label's edge.
 fn put_moved(
-    alloc: Global,
     out: &mut ByteOut,
     session: &[u8],
     word: &[u8],
@@ -54,37 +51,27 @@ fn put_moved(
     out.bytes(word)?;
     put_label(out, graph, label)?;
     out.bytes(b" time ")?;
-    out.decimal(alloc, time.0 as u64)
+    out.decimal(time.0 as u64)
 }
 
 /// Writes to whom a frame goes, and the frame's number.
-pub fn put_sent_to(
-    alloc: Global,
-    out: &mut ByteOut,
-    to: &Name,
-    frame: u32,
-) -> Result<(), OutOfMemory>
+pub fn put_sent_to(out: &mut ByteOut, to: &Name, frame: u32) -> Result<(), OutOfMemory>
     ensures { OnOk result (out.new ≡ out.old ++ sent_to to.now frame) }
 {
     out.bytes(b" to ")?;
     out.bytes(to.as_bytes())?;
     out.bytes(b" as f")?;
-    out.decimal(alloc, frame as u64)
+    out.decimal(frame as u64)
 }
 
 /// Writes the values of an event.
-pub fn put_event_values(
-    alloc: Global,
-    out: &mut ByteOut,
-    graph: &Graph,
-    event: &Event,
-) -> Result<(), OutOfMemory>
+pub fn put_event_values(out: &mut ByteOut, graph: &Graph, event: &Event) -> Result<(), OutOfMemory>
     requires { HasEvent graph.now (event_of event.now) }
     ensures { OnOk result (out.new ≡ out.old ++ event_values graph.now (event_of event.now)) }
 {
     match event {
         Event::Started { .. } => Ok(()),
-        Event::Sent { values, .. } => put_values(alloc, out, graph, values.as_slice()),
-        Event::Received { values, .. } => put_values(alloc, out, graph, values.as_slice()),
+        Event::Sent { values, .. } => put_values(out, graph, values.as_slice()),
+        Event::Received { values, .. } => put_values(out, graph, values.as_slice()),
     }
 }

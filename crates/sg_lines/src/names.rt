@@ -122,7 +122,7 @@ fn numbered(alloc: Global, letter: u8, number: u64) -> Result<Name, OutOfMemory>
 {
     let mut out = ByteOut::new(alloc);
     out.u8(letter)?;
-    out.decimal(alloc, number)?;
+    out.decimal(number)?;
     match Name::new(out.done().as_slice()) {
         Some(name) => Ok(name),
         None => unreachable!(),

@@ -6,25 +6,25 @@ ghost use Rattle.sg_base.specs.Model.{value_of};
 ghost use Rattle.sg_lines.specs.Values.{assigned, is_plain, quoted_byte, value_or_hidden, value_text, values_text};
 ghost use Rattle.sg_walk.specs.Model.{values_of};
 
+use itoa::Buffer;
 use sg_base::{ByteOut, Chars, OutOfMemory, Value, Var};
 use sg_graph::{Graph, put_var};
-use std::alloc::Global;
 
 /// Writes a value: a number in digits, a text between quotes.
-pub fn put_value(alloc: Global, out: &mut ByteOut, value: &Value) -> Result<(), OutOfMemory>
+pub fn put_value(out: &mut ByteOut, value: &Value) -> Result<(), OutOfMemory>
     ensures { OnOk result (out.new ≡ out.old ++ value_text (value_of value.now)) }
 {
     match value {
-        Value::Int(number) => put_int(alloc, out, *number),
+        Value::Int(number) => put_int(out, *number),
         Value::Text(text) => put_text(out, text),
     }
 }
 
-fn put_int(alloc: Global, out: &mut ByteOut, number: i64) -> Result<(), OutOfMemory>
+fn put_int(out: &mut ByteOut, number: i64) -> Result<(), OutOfMemory>
     ensures { OnOk result (out.new ≡ out.old ++ signed_decimal number) }
 {
-    let digits = format!(in alloc; "{number}")?;
-    out.bytes(digits.as_str().as_bytes())
+    let mut digits = Buffer::new();
+    out.bytes(digits.format(number).as_bytes())
 }
 
 fn put_text(out: &mut ByteOut, text: &Chars) -> Result<(), OutOfMemory>
@@ -80,7 +80,6 @@ fn hex_digit(digit: u8) -> u8
 
 /// Writes a space and a value, for each.
 pub fn put_values(
-    alloc: Global,
     out: &mut ByteOut,
     graph: &Graph,
     values: &[(Var, Value)],
@@ -90,14 +89,13 @@ pub fn put_values(
 {
     'values: for value in values {
         out.u8(b' ')?;
-        put_assigned(alloc, out, graph, value.0, Some(&value.1))?;
+        put_assigned(out, graph, value.0, Some(&value.1))?;
     }
     Ok(())
 }
 
 /// Writes a variable and its value, or `?` where it is hidden.
 pub fn put_assigned(
-    alloc: Global,
     out: &mut ByteOut,
     graph: &Graph,
     var: Var,
@@ -109,7 +107,7 @@ pub fn put_assigned(
     put_var(out, graph, var)?;
     out.u8(b'=')?;
     match value {
-        Some(value) => put_value(alloc, out, value),
+        Some(value) => put_value(out, value),
         None => out.bytes(b"?"),
     }
 }

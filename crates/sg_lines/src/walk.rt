@@ -9,11 +9,9 @@ use crate::value::put_assigned;
 use sg_base::{ByteOut, OutOfMemory, RoleSet, Value, Var};
 use sg_graph::{Graph, put_label};
 use sg_walk::{StoredStep, StoredWalk};
-use std::alloc::Global;
 
 /// Writes the line of a walk in a session of this name, with `*` before each step of a role that isn't honest.
 pub fn put_walk(
-    alloc: Global,
     out: &mut ByteOut,
     session: &[u8],
     graph: &Graph,
@@ -26,13 +24,12 @@ pub fn put_walk(
     out.bytes(b"walk ")?;
     out.bytes(session)?;
     out.u8(b':')?;
-    put_steps(alloc, out, graph, honest, walk.steps.as_slice())?;
+    put_steps(out, graph, honest, walk.steps.as_slice())?;
     out.u8(b'\n')
 }
 
 // Writes steps, each after a space.
 fn put_steps(
-    alloc: Global,
     out: &mut ByteOut,
     graph: &Graph,
     honest: RoleSet,
@@ -42,13 +39,12 @@ fn put_steps(
     ensures { OnOk result (out.new ≡ out.old ++ flat_map (step_text graph.now (λ r. is_in r honest)) (map step_of steps.now)) }
 {
     'steps: for step in steps {
-        put_step(alloc, out, graph, honest, step)?;
+        put_step(out, graph, honest, step)?;
     }
     Ok(())
 }
 
 fn put_step(
-    alloc: Global,
     out: &mut ByteOut,
     graph: &Graph,
     honest: RoleSet,
@@ -59,7 +55,7 @@ fn put_step(
 {
     out.bytes(mark(honest.has(graph.sender(step.label))))?;
     put_label(out, graph, step.label)?;
-    put_writes(alloc, out, graph, step.writes.as_slice())
+    put_writes(out, graph, step.writes.as_slice())
 }
 
 // What stands before the label of a step whose sender is honest, or isn't.
@@ -71,7 +67,6 @@ fn mark(honest: bool) -> &'static [u8]
 
 // Writes what a step writes.
 fn put_writes(
-    alloc: Global,
     out: &mut ByteOut,
     graph: &Graph,
     writes: &[(Var, Option<Value>)],
@@ -81,13 +76,12 @@ fn put_writes(
 {
     match writes {
         [] => Ok(()),
-        [first, rest @ ..] => put_bracketed(alloc, out, graph, first, rest),
+        [first, rest @ ..] => put_bracketed(out, graph, first, rest),
     }
 }
 
 // Writes the first variable and further ones, between brackets.
 fn put_bracketed(
-    alloc: Global,
     out: &mut ByteOut,
     graph: &Graph,
     first: &(Var, Option<Value>),
@@ -98,14 +92,13 @@ fn put_bracketed(
     ensures { OnOk result (out.new ≡ out.old ++ written graph.now (writes_of (first.now ∷ rest.now))) }
 {
     out.u8(b'(')?;
-    put_write(alloc, out, graph, first)?;
-    put_more(alloc, out, graph, rest)?;
+    put_write(out, graph, first)?;
+    put_more(out, graph, rest)?;
     out.u8(b')')
 }
 
 // Writes further variables, each behind a comma.
 fn put_more(
-    alloc: Global,
     out: &mut ByteOut,
     graph: &Graph,
     writes: &[(Var, Option<Value>)],
@@ -115,14 +108,13 @@ fn put_more(
 {
     'writes: for write in writes {
         out.u8(b',')?;
-        put_write(alloc, out, graph, write)?;
+        put_write(out, graph, write)?;
     }
     Ok(())
 }
 
 // Writes a variable and its value, a hidden one as `?`.
 fn put_write(
-    alloc: Global,
     out: &mut ByteOut,
     graph: &Graph,
     write: &(Var, Option<Value>),
@@ -130,5 +122,5 @@ fn put_write(
     requires { write.now.0 < length graph.now.variables }
     ensures { OnOk result (out.new ≡ out.old ++ write_text graph.now (write.now.0, option_map value_of write.now.1)) }
 {
-    put_assigned(alloc, out, graph, write.0, write.1.as_ref())
+    put_assigned(out, graph, write.0, write.1.as_ref())
 }

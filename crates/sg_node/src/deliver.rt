@@ -8,6 +8,7 @@ ghost use Rattle.sg_protocol.specs.Node.{Node as DefinedNode, program_for, is_ca
 ghost use Rattle.sg_protocol.specs.NodeStates.{StandsForNode, StandsForPast, state_taking};
 ghost use Rattle.sg_protocol.specs.Notes.{Notes, notes as noted_of, notes_of_read};
 ghost use Rattle.sg_protocol.specs.Past.{Past, node_of};
+ghost use Rattle.sg_protocol.specs.Reading.{read};
 ghost use Rattle.sg_protocol.specs.Spelling.{SpellsFrame};
 ghost use Rattle.sg_protocol.specs.Texts.{real, session_id, session_text_of};
 ghost use Rattle.sg_protocol.specs.Verdict.{verdict_on};
@@ -44,10 +45,31 @@ impl<'p> Node<'p> {
     {
         tell_bytes(bytes);
         match decode(self.alloc, bytes) {
-            Ok(frame) => self.receive(&frame, bytes, notes),
+            Ok(frame) => self.deliver_frame(&frame, bytes, notes),
             Err(DecodeFault::Malformed { at }) => Err(Refusal::Malformed { at }),
             Err(DecodeFault::OutOfMemory) => Err(Refusal::OutOfMemory),
         }
+    }
+
+    /// Takes bytes that were delivered, of which the frame that they spell was read before.
+    pub fn deliver_frame(
+        &mut self,
+        frame: &Frame,
+        bytes: &[u8],
+        notes: &mut Notes,
+    ) -> Result<Event, Refusal>
+        requires spelled { SpellsFrame bytes.now frame.now }
+        requires read { read bytes.now ≡ Ok frame.now }
+        ensures answer { (past : Past) → StandsForPast self.old past → IsAnswer (answer real (node_of past) (Deliver bytes.now)) (delivery_answer result) }
+        ensures state { (past : Past) → StandsForPast self.old past → result ≢ Err Refusal.OutOfMemory → GoesOn self.old self.new (Deliver bytes.now) past }
+        ensures notes { (past : Past) → StandsForPast self.old past → result ≢ Err Refusal.OutOfMemory
+            → notes.new ≡ with_notes notes.old (noted_of real (node_of past) (Deliver bytes.now)) }
+        ensures back { OnErr result (self.new ≡ self.old) }
+        ensures memory { result ≡ Err Refusal.OutOfMemory → notes.new ≡ notes.old }
+    {
+        tell_bytes(bytes);
+        let _programs = self.programs;
+        self.receive(frame, bytes, notes)
     }
 
     // Takes a frame.
@@ -60,8 +82,8 @@ impl<'p> Node<'p> {
             → notes.new ≡ with_notes notes.old (notes_of_read real n (Ok frame.now)) }
         ensures memory { result ≡ Err Refusal.OutOfMemory → notes.new ≡ notes.old }
     {
-        match frame.join {
-            Some(cast) => self.join(frame, cast, bytes, notes),
+        match &frame.join {
+            Some(cast) => self.join(frame, *cast.get(), bytes, notes),
             None => self.go_on(frame, bytes, notes),
         }
     }

@@ -46,8 +46,8 @@ impl<'p> Node<'p> {
     pub fn frame_graph(&self, frame: &Frame) -> Option<&'p Graph>
         ensures { (past : Past) → StandsForPast self.now past → option_copied result ≡ option_map (λ x. x.0.graph) (session_of_frame (node_of past) frame.now) }
     {
-        if let Some(cast) = frame.join {
-            return graph_for(self.programs, &cast.graph(), frame.receiver);
+        if let Some(cast) = &frame.join {
+            return graph_for(self.programs, &cast.get().graph(), frame.receiver);
         }
         match self.sessions.find_for(frame) {
             Some(index) => graph_at(self.programs, &self.sessions, index),

@@ -15,7 +15,7 @@ use crate::Refusal;
 use crate::sessions::{Live, Sessions};
 use sg_base::{OutOfMemory, Role, Sid};
 use sg_cache::{Cache, Ticket};
-use sg_crypt::{Cast, Notes, session_text};
+use sg_crypt::{Cast, Hashed, Notes, session_text};
 use sg_role::{Accepted, Await, Before, Taken, Turn};
 use sg_walk::Event;
 use std::alloc::Global;
@@ -80,7 +80,7 @@ pub(crate) fn note_session(alloc: Global, cast: &Cast, notes: &mut Notes) -> Res
     ensures ok { OnOk result (notes.new ≡ record notes.old { hashed = notes.old.hashed ++ session_text_of cast.now ∷ [] }) }
     ensures err { OnErr result (notes.new ≡ notes.old) }
 {
-    let text = session_text(alloc, cast)?;
+    let text = Hashed::new(session_text(alloc, cast)?);
     notes.note_hashed(text)
 }
 

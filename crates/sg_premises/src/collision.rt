@@ -8,8 +8,8 @@ ghost use Rattle.sg_protocol.specs.World.{World};
 ghost use Rattle.sg_premises.specs.Collisions.{Keeps};
 
 use crate::firsts::Firsts;
-use sg_base::{OutOfMemory, Seq};
-use sg_crypt::Notes;
+use sg_base::OutOfMemory;
+use sg_crypt::{Hashed, Notes};
 use std::alloc::Global;
 
 /// Two different texts with one digest.
@@ -25,7 +25,7 @@ pub struct Collision<'t> {
 /// which are the graphs', and then those that the steps noted.
 pub fn first_collision<'t>(
     alloc: Global,
-    texts: &'t [Seq<u8>],
+    texts: &'t [Hashed],
     notes: &'t [Notes],
 ) -> Result<Option<Collision<'t>>, OutOfMemory>
     ensures value { IfOk result (λ o. option_map (λ c. (c.one.now, c.other.now)) o ≡ first_collision real (texts.now ++ flat_map (λ n. n.hashed) notes.now)) }
@@ -39,7 +39,7 @@ pub fn first_collision<'t>(
 // The first collision of the texts and of what the steps hashed.
 fn find_collision<'t>(
     alloc: Global,
-    texts: &'t [Seq<u8>],
+    texts: &'t [Hashed],
     notes: &'t [Notes],
 ) -> Result<Option<Collision<'t>>, OutOfMemory>
     ensures { IfOk result (λ o. option_map (λ c. (c.one.now, c.other.now)) o ≡ first_collision real (texts.now ++ flat_map (λ n. n.hashed) notes.now)) }
@@ -59,13 +59,13 @@ fn find_collision<'t>(
 // Adds texts in order, up to the first that collides with one before it.
 fn add_all<'t>(
     firsts: &mut Firsts<'t>,
-    texts: &'t [Seq<u8>],
+    texts: &'t [Hashed],
 ) -> Result<Option<Collision<'t>>, OutOfMemory>
     ensures { (before : List (List ℕ)) → Keeps before firsts.old → IfOk result (λ o. MatchOption o (Keeps (before ++ texts.now) firsts.new)
         (λ c. (after : List (List ℕ)) → first_collision real ((before ++ texts.now) ++ after) ≡ Some (c.one.now, c.other.now))) }
 {
     for text in texts {
-        if let Some(one) = firsts.add(text.as_slice())? {
+        if let Some(one) = firsts.add(text.as_slice(), text.digest())? {
             return Ok(Some(Collision {
                 one,
                 other: text.as_slice(),

@@ -1,19 +1,45 @@
 //! The first text of each digest.
+ghost use Rattle.std.specs.Cmp.Rules.{hashing};
 ghost use Rattle.std.specs.Prelude.{◌≡◌, ◌++◌, ℕ, List, None, [], ◌∷◌, IfOk, OnOk};
 ghost use Rattle.std.specs.Option.{option_copied, option_or};
+ghost use Rattle.std.proofs.Common.{rules};
 ghost use Rattle.sg_protocol.specs.Texts.{real};
 ghost use Rattle.sg_premises.specs.Collisions.{text_under, other_text, text_if};
 
 use indexmap::IndexMap;
 use sg_base::OutOfMemory;
-use sha2::{Digest, Sha256};
 use std::alloc::{AllocError, Global};
+use std::hash::{Hash, Hasher};
 use std::marker::Model;
+
+// A digest, which is hashed in one piece. A clause sees its bytes.
+#[derive(Clone, Copy, PartialEq, Eq)]
+struct Under([u8; 32]);
+
+impl Model for Under {
+    ghost use Rattle.std.specs.Prelude.{ℕ, List};
+
+    ghost Value = { List ℕ };
+
+    ghost view = { λ d. d.0 };
+
+    ghost inverse = { λ bytes. record { 0 = bytes } };
+}
+
+impl Hash for Under {
+    ghost hash_input = { λ d. d ∷ [] };
+
+    ghost respects_eq = { Prim.search (hashing, rules) };
+
+    fn hash<H: Hasher>(&self, state: &mut H) {
+        state.write(&self.0);
+    }
+}
 
 /// The first text of each digest. A clause sees the digests in order, each with its text.
 #[derive(Drop)]
 pub struct Firsts<'t> {
-    table: IndexMap<[u8; 32], &'t [u8]>,
+    table: IndexMap<Under, &'t [u8]>,
 }
 
 impl<'t> Model for Firsts<'t> {
@@ -34,21 +60,26 @@ impl<'t> Firsts<'t> {
         }
     }
 
-    /// Adds a text where it is the first of its digest. If another one is there, this is told.
-    pub fn add(&mut self, text: &'t [u8]) -> Result<Option<&'t [u8]>, OutOfMemory>
+    /// Adds a text where it is the first of its digest, which is this. If another one is there, this is told.
+    pub fn add(
+        &mut self,
+        text: &'t [u8],
+        digest: &[u8; 32],
+    ) -> Result<Option<&'t [u8]>, OutOfMemory>
+        requires { digest.now ≡ real text.now }
         ensures told { IfOk result (λ o. option_copied o ≡ other_text (text_under (real text.now) self.old) text.now) }
         ensures kept { OnOk result ((h : List ℕ) → text_under h self.new ≡ option_or (text_under h self.old) (text_if h text.now)) }
     {
-        let digest = digest_of(text);
-        if let Some(first) = self.find(&digest) {
+        let under = Under(*digest);
+        if let Some(first) = self.find(&under) {
             return Ok(if first == text { None } else { Some(first) });
         }
-        self.put(digest, text)?;
+        self.put(under, text)?;
         Ok(None)
     }
 
     // The text under a digest.
-    fn find(&self, digest: &[u8; 32]) -> Option<&'t [u8]>
+    fn find(&self, digest: &Under) -> Option<&'t [u8]>
         ensures { option_copied result ≡ text_under digest.now self.now }
     {
         match self.table.get(digest) {
@@ -58,7 +89,7 @@ impl<'t> Firsts<'t> {
     }
 
     // Puts a text under a digest that has none.
-    fn put(&mut self, digest: [u8; 32], text: &'t [u8]) -> Result<(), OutOfMemory>
+    fn put(&mut self, digest: Under, text: &'t [u8]) -> Result<(), OutOfMemory>
         requires { text_under digest self.old ≡ None }
         ensures { OnOk result (self.new ≡ self.old ++ (digest, text.now) ∷ []) }
     {
@@ -67,11 +98,4 @@ impl<'t> Firsts<'t> {
             Err(_) => Err(AllocError),
         }
     }
-}
-
-// The SHA-256 of a text.
-fn digest_of(text: &[u8]) -> [u8; 32]
-    ensures { result ≡ real text.now }
-{
-    Sha256::digest(text)
 }

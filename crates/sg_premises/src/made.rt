@@ -1,14 +1,17 @@
 //! Texts that were tagged, found without a scan.
-ghost use Rattle.std.specs.Prelude.{◌≡◌, ◌||◌, [], OnOk};
+ghost use Rattle.std.specs.Cmp.Rules.{hashing};
+ghost use Rattle.std.specs.Prelude.{◌≡◌, ◌||◌, [], ◌∷◌, OnOk};
 ghost use Rattle.std.specs.List.{list_any};
 ghost use Rattle.sg_protocol.specs.Notes.{Note};
 ghost use Rattle.sg_protocol.specs.Broken.{same_note};
+ghost use Rattle.std.proofs.Common.{rules};
 ghost use Rattle.sg_premises.specs.Model.{note_kept};
 
 use indexmap::IndexSet;
 use sg_base::{Name, OutOfMemory};
 use sg_crypt::Note;
 use std::alloc::{AllocError, Global};
+use std::hash::{Hash, Hasher};
 use std::marker::Model;
 
 /// Notes of texts that were tagged.
@@ -18,11 +21,22 @@ pub struct Made<'n> {
 }
 
 // A text for two principals.
-#[derive(Clone, Copy, PartialEq, Eq, Hash)]
+#[derive(Clone, Copy, PartialEq, Eq)]
 struct Said<'n> {
     one: Name,
     two: Name,
     text: &'n [u8],
+}
+
+// The text alone, in one piece: it names the session and the role that tagged it.
+impl<'n> Hash for Said<'n> {
+    ghost hash_input = { λ s. s.text.now ∷ [] };
+
+    ghost respects_eq = { Prim.search (hashing, rules) };
+
+    fn hash<H: Hasher>(&self, state: &mut H) {
+        state.write(self.text);
+    }
 }
 
 impl<'n> Model for Made<'n> {

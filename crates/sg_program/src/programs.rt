@@ -1,10 +1,12 @@
 //! Programs together, found without a scan.
+ghost use Rattle.std.specs.Cmp.Rules.{hashing};
 ghost use Rattle.std.specs.Map.{lookup};
 ghost use Rattle.std.specs.Option.{option_or};
 ghost use Rattle.std.specs.Prelude.{◌≡◌, ◌<◌, ◌==◌, ◌↔◌, ◌&&◌, ◌++◌, [], ◌∷◌, ℕ, List, bytes_eq, false, find, if◌then◌else◌, length, option_copied, vec_len, vec_capacity, IfErr, IsOk, IsTrue, OnErr, OnOk};
 ghost use Rattle.std.specs.List.{list_any};
 ghost use Rattle.indexmap.specs.IndexMap.{spare};
 ghost use Rattle.indexmap.specs.IndexSet.{spare as set_spare};
+ghost use Rattle.std.proofs.Common.{rules};
 ghost use Rattle.sg_protocol.specs.Graph.{Name};
 ghost use Rattle.sg_program.specs.Together.{clashes, is_for, is_key, is_named, is_pair};
 
@@ -12,6 +14,7 @@ use crate::Program;
 use indexmap::{IndexMap, IndexSet};
 use sg_base::{Name, OutOfMemory, Role};
 use std::alloc::Global;
+use std::hash::{Hash, Hasher};
 use std::marker::Model;
 use thiserror::Error;
 
@@ -26,10 +29,22 @@ pub struct Programs {
 }
 
 // What a frame looks a program up by: its graph's digest, and its role.
-#[derive(Clone, Copy, PartialEq, Eq, Hash)]
+#[derive(Clone, Copy, PartialEq, Eq)]
 struct ProgramKey {
     digest: [u8; 32],
     role: Role,
+}
+
+// The digest is hashed in one piece.
+impl Hash for ProgramKey {
+    ghost hash_input = { λ k. k.digest ∷ (k.role ∷ []) ∷ [] };
+
+    ghost respects_eq = { Prim.search (hashing, rules) };
+
+    fn hash<H: Hasher>(&self, state: &mut H) {
+        state.write(&self.digest);
+        state.write_u8(self.role.0);
+    }
 }
 
 impl Model for Programs {

@@ -31,21 +31,12 @@ pub fn report_line(
     ensures { IfOk result (λ text. IsSomeAnd (outcome_of outcome.now) (λ told. text.items ≡ line_text session.now (graph_or_none (option_copied graph.entry)) step who told)) }
 {
     let mut out = ByteOut::new(alloc);
-    put_line(
-        alloc,
-        &mut out,
-        step,
-        who.as_bytes(),
-        session,
-        graph,
-        outcome,
-    )?;
+    put_line(&mut out, step, who.as_bytes(), session, graph, outcome)?;
     Ok(out.done())
 }
 
 /// Writes the line of a step behind what is written.
 pub fn put_line(
-    alloc: Global,
     out: &mut ByteOut,
     step: u32,
     who: &[u8],
@@ -56,10 +47,10 @@ pub fn put_line(
     requires { IfSome (outcome_of outcome.now) (CanBeTold (option_copied graph)) }
     ensures { OnOk result (IsSomeAnd (outcome_of outcome.now) (λ told. out.new ≡ out.old ++ line_text session.now (graph_or_none (option_copied graph.entry)) step who.now told)) }
 {
-    out.decimal(alloc, step as u64)?;
+    out.decimal(step as u64)?;
     out.u8(b' ')?;
     put_whom(out, who, outcome)?;
-    put_told(alloc, out, session, graph, outcome)?;
+    put_told(out, session, graph, outcome)?;
     out.u8(b'\n')
 }
 
@@ -78,7 +69,6 @@ fn put_whom(out: &mut ByteOut, who: &[u8], outcome: &Outcome) -> Result<(), OutO
 
 // Writes what came of a step.
 fn put_told(
-    alloc: Global,
     out: &mut ByteOut,
     session: &[u8],
     graph: Option<&Graph>,
@@ -88,13 +78,13 @@ fn put_told(
     ensures { OnOk result (IsSomeAnd (outcome_of outcome.now) (λ told. out.new ≡ out.old ++ told_text session.now (graph_or_none (option_copied graph.entry)) told)) }
 {
     match outcome {
-        Outcome::Started(event) => put_happened(alloc, out, session, graph, event),
+        Outcome::Started(event) => put_happened(out, session, graph, event),
         Outcome::Sent { event, to, frame } => {
-            put_sending(alloc, out, session, graph, event, to, *frame)
+            put_sending(out, session, graph, event, to, *frame)
         }
-        Outcome::Received(event) => put_happened(alloc, out, session, graph, event),
+        Outcome::Received(event) => put_happened(out, session, graph, event),
         Outcome::Abandoned => put_abandoned(out, session),
-        Outcome::Crafted { frame } => put_crafted(alloc, out, *frame),
+        Outcome::Crafted { frame } => put_crafted(out, *frame),
         Outcome::NotStarted(fault) => {
             out.bytes(b"refused ")?;
             put_start_fault(out, *fault)
@@ -106,14 +96,13 @@ fn put_told(
         Outcome::NotAbandoned => out.bytes(b"refused unknown-session"),
         Outcome::NotDelivered(why) => {
             out.bytes(b"refused ")?;
-            put_refusal(alloc, out, graph, *why)
+            put_refusal(out, graph, *why)
         }
         Outcome::NoFrame => out.bytes(b"refused no-frame"),
     }
 }
 
 fn put_happened(
-    alloc: Global,
     out: &mut ByteOut,
     session: &[u8],
     graph: Option<&Graph>,
@@ -123,13 +112,12 @@ fn put_happened(
     ensures { OnOk result (out.new ≡ out.old ++ told_text session.now (graph_or_none (option_copied graph.entry)) (Happened (event_of event.now))) }
 {
     match graph {
-        Some(graph) => put_of_graph(alloc, out, session, graph, event),
+        Some(graph) => put_of_graph(out, session, graph, event),
         None => unreachable!(),
     }
 }
 
 fn put_of_graph(
-    alloc: Global,
     out: &mut ByteOut,
     session: &[u8],
     graph: &Graph,
@@ -138,12 +126,11 @@ fn put_of_graph(
     requires { HasEvent graph.now (event_of event.now) }
     ensures { OnOk result (out.new ≡ out.old ++ told_text session.now graph.now (Happened (event_of event.now))) }
 {
-    put_event(alloc, out, session, graph, event)?;
-    put_event_values(alloc, out, graph, event)
+    put_event(out, session, graph, event)?;
+    put_event_values(out, graph, event)
 }
 
 fn put_sending(
-    alloc: Global,
     out: &mut ByteOut,
     session: &[u8],
     graph: Option<&Graph>,
@@ -155,13 +142,12 @@ fn put_sending(
     ensures { OnOk result (out.new ≡ out.old ++ told_text session.now (graph_or_none (option_copied graph.entry)) (Sends (event_of event.now) to.now frame)) }
 {
     match graph {
-        Some(graph) => put_sending_of(alloc, out, session, graph, event, to, frame),
+        Some(graph) => put_sending_of(out, session, graph, event, to, frame),
         None => unreachable!(),
     }
 }
 
 fn put_sending_of(
-    alloc: Global,
     out: &mut ByteOut,
     session: &[u8],
     graph: &Graph,
@@ -172,9 +158,9 @@ fn put_sending_of(
     requires { HasEvent graph.now (event_of event.now) }
     ensures { OnOk result (out.new ≡ out.old ++ told_text session.now graph.now (Sends (event_of event.now) to.now frame)) }
 {
-    put_event(alloc, out, session, graph, event)?;
-    put_sent_to(alloc, out, to, frame)?;
-    put_event_values(alloc, out, graph, event)
+    put_event(out, session, graph, event)?;
+    put_sent_to(out, to, frame)?;
+    put_event_values(out, graph, event)
 }
 
 fn put_abandoned(out: &mut ByteOut, session: &[u8]) -> Result<(), OutOfMemory>
@@ -186,9 +172,9 @@ fn put_abandoned(out: &mut ByteOut, session: &[u8]) -> Result<(), OutOfMemory>
 
 ghost use Rattle.std.specs.Fmt.{decimal};
 
-fn put_crafted(alloc: Global, out: &mut ByteOut, frame: u32) -> Result<(), OutOfMemory>
+fn put_crafted(out: &mut ByteOut, frame: u32) -> Result<(), OutOfMemory>
     ensures { OnOk result (out.new ≡ out.old ++ (codes "crafted f" ++ decimal frame)) }
 {
     out.bytes(b"crafted f")?;
-    out.decimal(alloc, frame as u64)
+    out.decimal(frame as u64)
 }

@@ -6,7 +6,6 @@ ghost use Rattle.sg_report.specs.Report.{collision_line, premise_lines, unforged
 
 use crate::reason::put_number;
 use sg_base::{ByteOut, Name, OutOfMemory};
-use std::alloc::Global;
 
 /// A tag of two honest principals that was found right in a step, and that neither of them had made.
 #[derive(Debug, Clone, Copy)]
@@ -21,7 +20,6 @@ pub struct Forgery {
 
 /// Writes the two lines that say whether the premises hold.
 pub fn put_premises(
-    alloc: Global,
     out: &mut ByteOut,
     forged: Option<&Forgery>,
     collision_free: bool,
@@ -30,7 +28,7 @@ pub fn put_premises(
 {
     match forged {
         None => out.bytes(b"premise unforged holds\n")?,
-        Some(forgery) => put_forged(alloc, out, forgery)?,
+        Some(forgery) => put_forged(out, forgery)?,
     }
     if collision_free {
         out.bytes(b"premise collision-free holds\n")
@@ -39,15 +37,10 @@ pub fn put_premises(
     }
 }
 
-fn put_forged(alloc: Global, out: &mut ByteOut, forgery: &Forgery) -> Result<(), OutOfMemory>
+fn put_forged(out: &mut ByteOut, forgery: &Forgery) -> Result<(), OutOfMemory>
     ensures { OnOk result (out.new ≡ out.old ++ unforged_line (Some (forgery_of forgery.now))) }
 {
-    put_number(
-        alloc,
-        out,
-        b"premise unforged broken at step ",
-        forgery.step,
-    )?;
+    put_number(out, b"premise unforged broken at step ", forgery.step)?;
     put_pair(out, &forgery.one, &forgery.two)
 }
 

@@ -13,7 +13,7 @@ use sg_base::{ByteOut, Name, OutOfMemory, Time, Var};
 use sg_graph::{Graph, put_var};
 use sg_node::{ActFault, Refusal, StartFault};
 use sg_role::SendFault;
-use std::alloc::{AllocError, Global};
+use std::alloc::AllocError;
 
 /// Writes why a start was refused. Want of memory is passed on.
 pub(crate) fn put_start_fault(out: &mut ByteOut, fault: StartFault) -> Result<(), OutOfMemory>
@@ -66,7 +66,6 @@ fn put_send_fault(
 
 /// Writes why a delivery was refused. Want of memory is passed on.
 pub(crate) fn put_refusal(
-    alloc: Global,
     out: &mut ByteOut,
     graph: Option<&Graph>,
     why: Refusal,
@@ -75,7 +74,7 @@ pub(crate) fn put_refusal(
     ensures { OnOk result (IsSomeAnd (refusal why) (λ w. out.new ≡ out.old ++ refusal_text (graph_or_none (option_copied graph.entry)) w)) }
 {
     match why {
-        Refusal::Malformed { at } => put_number(alloc, out, b"malformed at ", at),
+        Refusal::Malformed { at } => put_number(out, b"malformed at ", at),
         Refusal::UnknownGraph => out.bytes(b"unknown-graph"),
         Refusal::BadCast => out.bytes(b"bad-cast"),
         Refusal::UnknownPeer { name } => put_unknown_peer(out, &name),
@@ -87,8 +86,8 @@ pub(crate) fn put_refusal(
         Refusal::NotWaiting => out.bytes(b"not-waiting"),
         Refusal::BadFrameTag => out.bytes(b"bad-frame-tag"),
         Refusal::NoSuchView => out.bytes(b"no-such-view"),
-        Refusal::BadTime { item, got, least } => put_bad_time(alloc, out, item, got, least),
-        Refusal::BadEvidence { item } => put_number(alloc, out, b"bad-evidence item ", item),
+        Refusal::BadTime { item, got, least } => put_bad_time(out, item, got, least),
+        Refusal::BadEvidence { item } => put_number(out, b"bad-evidence item ", item),
         Refusal::BadOpening { var } => put_of_var(out, b"bad-opening ", graph, var),
         Refusal::OutOfMemory => Err(AllocError),
     }
@@ -102,30 +101,19 @@ fn put_unknown_peer(out: &mut ByteOut, name: &Name) -> Result<(), OutOfMemory>
 }
 
 /// Writes words and a number.
-pub(crate) fn put_number(
-    alloc: Global,
-    out: &mut ByteOut,
-    words: &[u8],
-    number: u32,
-) -> Result<(), OutOfMemory>
+pub(crate) fn put_number(out: &mut ByteOut, words: &[u8], number: u32) -> Result<(), OutOfMemory>
     ensures { OnOk result (out.new ≡ out.old ++ (words.now ++ decimal number)) }
 {
     out.bytes(words)?;
-    out.decimal(alloc, number as u64)
+    out.decimal(number as u64)
 }
 
-fn put_bad_time(
-    alloc: Global,
-    out: &mut ByteOut,
-    item: u32,
-    got: Time,
-    least: Time,
-) -> Result<(), OutOfMemory>
+fn put_bad_time(out: &mut ByteOut, item: u32, got: Time, least: Time) -> Result<(), OutOfMemory>
     ensures { OnOk result (out.new ≡ out.old ++ (codes "bad-time item " ++ decimal item ++ codes " got " ++ decimal got ++ codes " least " ++ decimal least)) }
 {
-    put_number(alloc, out, b"bad-time item ", item)?;
-    put_number(alloc, out, b" got ", got.0)?;
-    put_number(alloc, out, b" least ", least.0)
+    put_number(out, b"bad-time item ", item)?;
+    put_number(out, b" got ", got.0)?;
+    put_number(out, b" least ", least.0)
 }
 
 fn put_of_var(

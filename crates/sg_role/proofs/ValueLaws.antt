@@ -1,9 +1,9 @@
 -- Which values an edge takes, variable by variable, and the rows of a step.
 use Rattle.std.proofs.Common.{◌≡◌, ℕ, zero, suc, ◌+◌, ◌-◌, ◌<◌, ◌≤◌, ◌==◌, ◌&&◌, ◌||◌, nat_lt, Bool, true, false, not, List, [], ◌∷◌, map, find, length, take, get_or, subst, refl, sym, ◌∙◌, ap, Option, Some, None, option_map, IsTrue, arith, inl, inr, add-one}
 use Rattle.std.specs.List.{list_any, list_all, AllByRecursion}
-use Rattle.std.proofs.lemmas.Bool.{cases_Bool, and_parts}
+use Rattle.std.proofs.lemmas.Bool.{cases_Bool}
 use Rattle.std.proofs.lemmas.Bool.Decides.{nat_tests}
-use Rattle.std.proofs.lemmas.Bool.{eqb-true}
+use Rattle.std.proofs.lemmas.Bool.{and_parts, eqb-true, ne_eqb}
 use Rattle.sg_model.specs.Last.{Map}
 use Rattle.sg_model.specs.Lists.{below, range_from, is_in, keys_of, rises_from}
 use Rattle.sg_model.specs.Values.{Value}
@@ -26,8 +26,15 @@ first_later p i l h =
     let d : 255 - i ≡ 256 - (i + 1) = omega (arith, l) in
     ap (λ k. find p (range_from i k)) e ∙ rw h (ap (λ k. find p (range_from (suc i) k)) d ∙ ap (λ k. find p (range_from k (256 - (i + 1)))) (sym (add-one i)))
 
-pub first_end : (p : ℕ → Bool) (i : ℕ) → 256 ≤ i → find p (range_from i (256 - i)) ≡ None
-first_end p i l = let e : 256 - i ≡ 0 = omega (arith, l) in ap (λ k. find p (range_from i k)) e
+none_in : (p : ℕ → Bool) (i n : ℕ) → ((x : ℕ) → i ≤ x → x < i + n → p x ≡ false) → find p (range_from i n) ≡ None
+none_in p i zero h = refl
+none_in p i (suc n) h =
+    let rest : find p (range_from (suc i) n) ≡ None = none_in p (suc i) n (λ x a b. h x (omega (arith, a)) (omega (arith, b))) in
+    let here : p i ≡ false = h i (omega arith) (omega arith) in
+    rw here rest
+
+pub first_end : (p : ℕ → Bool) (i : ℕ) → ((x : ℕ) → i ≤ x → x < 256 → p x ≡ false) → find p (range_from i (256 - i)) ≡ None
+first_end p i h = none_in p i (256 - i) (λ x a b. h x a (omega (arith, a, b)))
 
 pub first_start : (g : Graph) (label : ℕ) (vs : Map Value) → find (is_bad g label vs) (range_from 0 (256 - 0)) ≡ first_bad g label vs
 unfolding first_bad
@@ -63,6 +70,20 @@ number_in n ws x a h = below_all n ws x (second (rises_from 0 ws) (list_all (λ 
       | inl q ↦ (let e = eqb-true w x q in let l = p.0 in grind (arith, nat_tests))
       | inr q ↦ below_all n ws x p.1 (ap (λ b. b || is_in x ws) (sym q) ∙ h)
     ]
+
+not_given : (n : ℕ) (vs : Map Value) (x : ℕ) → list_all (λ (w : ℕ × Value). nat_lt w.0 n) vs ≡ true → n ≤ x → is_in x (keys_of vs) ≡ false
+not_given n [] x a l = refl
+not_given n (v ∷ vs) x a l =
+    let p = and_parts (nat_lt v.0 n) (list_all (λ (w : ℕ × Value). nat_lt w.0 n) vs) a in
+    let m : v.0 < n = grind (arith, nat_tests, p.0) in
+    rw (ne_eqb v.0 x (λ q. absurd (omega (arith, l, m, q)))) (not_given n vs x p.1 l)
+
+-- a variable that is neither written nor given is not bad
+pub none_above : (g : Graph) (label n : ℕ) (vs : Map Value) (x : ℕ) → AreNumbers n (writes g label) → list_all (λ (w : ℕ × Value). nat_lt w.0 n) vs ≡ true → n ≤ x → is_bad g label vs x ≡ false
+none_above g label n vs x a v l = sym (bad_unwritten g label vs x unwritten) ∙ not_given n vs x v l
+  where
+    unwritten : is_in x (writes g label) ≡ false
+    unwritten = elim (cases_Bool (is_in x (writes g label))) [ inl e ↦ absurd (let m : x < n = number_in n (writes g label) x a e in omega (arith, l, m)) | inr e ↦ e ]
 
 -- ---- what is told of each
 

@@ -68,11 +68,11 @@ impl<'p> Before<'p> {
     }
 
     /// The cast. It takes no memory.
-    pub fn cast(&self) -> Cast
-        ensures cast { result ≡ self.now.held.cast }
+    pub fn cast(&self) -> &Cast
+        ensures cast { result.now ≡ self.now.held.cast }
         ensures counted { length self.now.held.cast.names ≡ length self.now.program.graph.roles }
     {
-        self.kept.cast
+        self.kept.cast.get()
     }
 
     /// The own last label, or the start. It takes no memory.

@@ -10,7 +10,7 @@ ghost use Rattle.sg_role.specs.Accepting.{goes_on};
 ghost use Rattle.sg_role.specs.Model.{state_of};
 
 use sg_base::{Label, Name, NodeId, Opening, OutOfMemory, Role, Sid, Time};
-use sg_crypt::{Cast, session_id};
+use sg_crypt::{Cast, SharedCast, session_id};
 use sg_frame::Item;
 use sg_program::Program;
 use sg_vis::Origin;
@@ -21,7 +21,7 @@ use std::alloc::Global;
 pub(crate) struct Kept<'p> {
     pub program: &'p Program,
     pub sid: Sid,
-    pub cast: Cast,
+    pub cast: SharedCast,
     /// The own last label.
     pub from: Origin,
     /// The time of the own last step.
@@ -50,7 +50,7 @@ impl<'p> Kept<'p> {
         Ok(Kept {
             program,
             sid: session_id(&cast),
-            cast,
+            cast: SharedCast::new(alloc, cast)?,
             from: Origin::Start,
             own_time: Time(0),
             time: Time(0),

@@ -31,10 +31,11 @@ pub(crate) fn copy_of<'p>(alloc: Global, kept: &Kept<'p>) -> Result<Kept<'p>, Ou
     let items = copied_items(alloc, kept.items.as_slice())?;
     let commitments = copied(alloc, kept.commitments.as_slice())?;
     let openings = copied_openings(alloc, kept.openings.as_slice())?;
+    let cast = kept.cast.share()?;
     Ok(Kept {
         program: kept.program,
         sid: kept.sid,
-        cast: kept.cast,
+        cast,
         from: kept.from,
         own_time: kept.own_time,
         time: kept.time,
@@ -66,11 +67,12 @@ pub(crate) fn after_frame<'p>(
     let opened = frame.openings.as_slice();
     let items = kept_with(alloc, count, kept.items.as_slice(), shown)?;
     let openings = openings_with(alloc, count, kept.openings.as_slice(), opened)?;
+    let cast = kept.cast.share()?;
     let (time, place) = ended(kept, shown);
     Ok(Kept {
         program: kept.program,
         sid: kept.sid,
-        cast: kept.cast,
+        cast,
         from: kept.from,
         own_time: kept.own_time,
         time,

@@ -1,14 +1,15 @@
 //! Whether the openings of a frame are right.
 ghost use Rattle.std.specs.Prelude.{◌≡◌, ◌≢◌, ◌<◌, ◌++◌, ◌&&◌, Err, None, map, get_or, length, All, IfOk, IfErr};
 ghost use Rattle.sg_model.specs.Lists.{same_text};
-ghost use Rattle.sg_protocol.specs.Texts.{real, commitment, commitment_text_of};
+ghost use Rattle.sg_protocol.specs.Texts.{commitment_text_of};
 ghost use Rattle.sg_protocol.specs.Verdict.{has_kind};
 ghost use Rattle.sg_role.specs.Faults.{Refuses};
 ghost use Rattle.sg_role.specs.Looking.{hashed_from, opening_row, opens, KeepsNotes};
 
 use crate::Refusal;
+use crate::own::note_commitment;
 use sg_base::{Opening, Sid};
-use sg_crypt::{Notes, commit, commit_text};
+use sg_crypt::Notes;
 use sg_graph::Graph;
 use std::alloc::Global;
 
@@ -34,8 +35,8 @@ pub(crate) fn check_openings(
         if !has_kind(graph, opening) {
             return Err(Refusal::BadOpening { var: opening.var });
         }
-        notes.note_hashed(commit_text(alloc, sid, opening)?)?;
-        if !is_committed(sid, commitments, opening) {
+        let commitment = note_commitment(alloc, sid, opening, notes)?;
+        if !is_current(commitments, opening, &commitment) {
             return Err(Refusal::BadOpening { var: opening.var });
         }
     }
@@ -50,12 +51,12 @@ fn has_kind(graph: &Graph, opening: &Opening) -> bool
     graph.var_type(opening.var) == opening.value.kind()
 }
 
-// The opening opens its variable's commitment.
-fn is_committed(sid: &Sid, commitments: &[Option<[u8; 32]>], opening: &Opening) -> bool
-    ensures { result ≡ same_text (get_or commitments.now opening.now.variable None) (commitment real sid.now opening.now) }
+// This is the current commitment of the opening's variable.
+fn is_current(commitments: &[Option<[u8; 32]>], opening: &Opening, commitment: &[u8; 32]) -> bool
+    ensures { result ≡ same_text (get_or commitments.now opening.now.variable None) commitment.now }
 {
     match commitments.get(opening.var.0 as usize) {
-        Some(Some(commitment)) => *commitment == commit(sid, opening),
+        Some(Some(current)) => *current == *commitment,
         _ => false,
     }
 }

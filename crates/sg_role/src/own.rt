@@ -17,7 +17,7 @@ ghost use Rattle.std.specs.Option.{option_or};
 
 use crate::kept::Kept;
 use sg_base::{Label, Name, Opening, OutOfMemory, Role, RoleSet, Seq, Sid, Tag, Time, Value, Var};
-use sg_crypt::{Cast, Note, Notes, commit, commit_text, cut, item_text, tag};
+use sg_crypt::{Hashed, Note, Notes, SharedCast, commit_text, cut, item_text, tag};
 use sg_keys::Keyring;
 use std::alloc::Global;
 
@@ -87,9 +87,24 @@ fn commit_one(
     ensures noted { OnOk result (notes.new ≡ record notes.old { hashed = notes.old.hashed ++ commitment_text_of sid.now opening.now ∷ [] }) }
     ensures same { OnErr result (notes.new ≡ notes.old) }
 {
-    let text = commit_text(alloc, sid, opening)?;
+    Ok((opening.var, note_commitment(alloc, sid, opening, notes)?))
+}
+
+/// The commitment of an opening. What is hashed is noted.
+pub(crate) fn note_commitment(
+    alloc: Global,
+    sid: &Sid,
+    opening: &Opening,
+    notes: &mut Notes,
+) -> Result<[u8; 32], OutOfMemory>
+    ensures value { IfOk result (λ c. c ≡ commitment real sid.now opening.now) }
+    ensures noted { OnOk result (notes.new ≡ record notes.old { hashed = notes.old.hashed ++ commitment_text_of sid.now opening.now ∷ [] }) }
+    ensures same { OnErr result (notes.new ≡ notes.old) }
+{
+    let text = Hashed::new(commit_text(alloc, sid, opening)?);
+    let commitment = *text.digest();
     notes.note_hashed(text)?;
-    Ok((opening.var, commit(sid, opening)))
+    Ok(commitment)
 }
 
 /// The current commitments after a delta.
@@ -219,11 +234,11 @@ fn tag_target(
 }
 
 /// The principal of a role.
-pub(crate) fn name_of(cast: &Cast, role: Role) -> Name
+pub(crate) fn name_of(cast: &SharedCast, role: Role) -> Name
     requires { role < length cast.now.names }
     ensures { result ≡ principal cast.now role }
 {
-    cast.names()[role.0 as usize]
+    cast.get().names()[role.0 as usize]
 }
 
 /// The tag of a text under the key shared with a principal, or under no bytes where none is shared, as the version sends it.

@@ -20,7 +20,7 @@ fn same_session(one: &Kept, other: &Kept) -> bool
     ensures { IsTrue result ↔ ((one.now.sid ≡ other.now.sid) × (one.now.cast ≡ other.now.cast) × ((state_of one.now).held.role ≡ (state_of other.now).held.role)) }
 {
     one.sid == other.sid
-        && same_cast(&one.cast, &other.cast)
+        && same_cast(one.cast.get(), other.cast.get())
         && one.program.role() == other.program.role()
 }
 

@@ -29,7 +29,7 @@ use crate::own::{
 };
 use crate::values::tell_values;
 use sg_base::{Label, Opening, OutOfMemory, Role, Sealed, Seq, Tag, Time, Value, Var};
-use sg_crypt::{Cast, Note, Notes, frame_text};
+use sg_crypt::{Note, Notes, SharedCast, frame_text};
 use sg_frame::{Frame, Item, body_len, encode};
 use sg_keys::Keyring;
 use sg_walk::Event;
@@ -188,12 +188,13 @@ fn untagged(
     let shown = shown_to(alloc, items, to)?;
     let reads = step_reads(alloc, kept, label)?;
     let openings = openings_of(alloc, reads.as_slice(), written, kept.openings.as_slice())?;
+    let join = join_for(kept, to)?;
     Ok(Frame {
         version: kept.cast.version(),
         sid: kept.sid,
         sender: kept.program.role(),
         receiver: to,
-        join: join_for(kept, to),
+        join,
         items: shown,
         openings,
         tag: Tag([0; 32]),
@@ -201,13 +202,13 @@ fn untagged(
 }
 
 // The cast, where the role has no item yet.
-fn join_for(kept: &Kept, to: Role) -> Option<Cast>
-    ensures { result ≡ (if has (λ j. j.role) to kept.now.items.items then None else Some kept.now.cast) }
+fn join_for(kept: &Kept, to: Role) -> Result<Option<SharedCast>, OutOfMemory>
+    ensures { IfOk result (λ join. join ≡ (if has (λ j. j.role) to kept.now.items.items then None else Some kept.now.cast)) }
 {
     if has_role(kept.items.as_slice(), to) {
-        None
+        Ok(None)
     } else {
-        Some(kept.cast)
+        Ok(Some(kept.cast.share()?))
     }
 }
 

@@ -59,10 +59,10 @@ impl<'p> Turn<'p> {
     }
 
     /// The cast. It takes no memory.
-    pub fn cast(&self) -> Cast
-        ensures { result ≡ self.now.held.cast }
+    pub fn cast(&self) -> &Cast
+        ensures { result.now ≡ self.now.held.cast }
     {
-        self.kept.cast
+        self.kept.cast.get()
     }
 
     /// The time of the last step, 0 before the first. It takes no memory.

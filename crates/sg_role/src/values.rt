@@ -1,8 +1,8 @@
 //! Whether a step can be sent with the values that it is given.
-ghost use Rattle.std.specs.Prelude.{◌≡◌, ◌<◌, ◌+◌, ◌==◌, ◌&&◌, ◌||◌, nat_lt, not, drop, IsTrue, None, Some, length, find, option_map, IfOk, IfErr};
+ghost use Rattle.std.specs.Prelude.{◌≡◌, ◌<◌, ◌≤◌, ◌+◌, ◌==◌, ℕ, false, ◌&&◌, ◌||◌, nat_lt, not, drop, IsTrue, None, Some, length, find, option_map, IfOk, IfErr};
 ghost use Rattle.sg_model.specs.Lists.{below, first_some, is_in, keys_of};
 ghost use Rattle.sg_protocol.specs.Acting.{is_bad, is_out_of_order, is_typed};
-ghost use Rattle.std.specs.List.{list_any, AllByRecursion};
+ghost use Rattle.std.specs.List.{list_all, list_any, AllByRecursion};
 ghost use Rattle.sg_base.specs.Model.{value_of};
 ghost use Rattle.sg_model.specs.Bytes.{AreBytes};
 ghost use Rattle.sg_protocol.specs.Frame.{IsValue};
@@ -56,13 +56,42 @@ fn bad_value(graph: &Graph, label: Label, values: &[(Var, Value)]) -> Option<Var
     requires { label < length graph.now.edges }
     ensures { result ≡ first_bad graph.now label (values_of values.now) }
 {
-    for number in 0..256u16 {
+    let most = bound(graph, label, values);
+    for number in 0..most {
         let var = numbered(number);
         if is_bad(graph, label, values, var) {
             return Some(var);
         }
     }
     None
+}
+
+// From here on no variable is written by the edge or given a value.
+fn bound(graph: &Graph, label: Label, values: &[(Var, Value)]) -> u16
+    requires { label < length graph.now.edges }
+    ensures most { result ≤ 256 }
+    ensures none { (x : ℕ) → result ≤ x → x < 256 → is_bad graph.now label (values_of values.now) x ≡ false }
+{
+    let count = graph.vars();
+    let _writes = graph.edge(label).writes;
+    if are_below(values, count) {
+        count as u16
+    } else {
+        256
+    }
+}
+
+// Each variable is below this number.
+fn are_below(values: &[(Var, Value)], count: u8) -> bool
+    ensures { result ≡ list_all (λ w. nat_lt w.0 count) (values_of values.now) }
+{
+    for at in 0..values.len() {
+        let given = &values[at];
+        if given.0.0 >= count {
+            return false;
+        }
+    }
+    true
 }
 
 // The variable of this number.

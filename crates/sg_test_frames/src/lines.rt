@@ -8,7 +8,7 @@ use std::test::Fail;
 // How a value is written.
 fn written(alloc: Global, value: &Value) -> Result<Vec<u8>, Fail> {
     let mut out = ByteOut::new(alloc);
-    put_value(alloc, &mut out, value)?;
+    put_value(&mut out, value)?;
     Ok(out.done())
 }
 

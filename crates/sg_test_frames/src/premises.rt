@@ -2,7 +2,7 @@
 ghost use Rattle.std.specs.Prelude.{[], ◌∷◌};
 
 use sg_base::{Name, OutOfMemory, Seq};
-use sg_crypt::{Note, Notes};
+use sg_crypt::{Hashed, Note, Notes};
 use sg_premises::{Honest, first_collision, first_forged};
 use std::alloc::Global;
 use std::test::Fail;
@@ -67,11 +67,11 @@ fn the_first_text_that_nobody_tagged_is_told(rt: HostRuntime) -> Result<(), Fail
 fn a_text_that_repeats_collides_with_none(rt: HostRuntime) -> Result<(), Fail> {
     let alloc = rt.alloc();
     let mut texts = Seq::new(alloc);
-    texts.push(Seq::from_vec(b"one".to_vec(alloc)?))?;
-    texts.push(Seq::from_vec(b"two".to_vec(alloc)?))?;
+    texts.push(Hashed::new(b"one".to_vec(alloc)?))?;
+    texts.push(Hashed::new(b"two".to_vec(alloc)?))?;
     let mut hashed = Notes::new(alloc);
-    hashed.note_hashed(b"one".to_vec(alloc)?)?;
-    hashed.note_hashed(b"three".to_vec(alloc)?)?;
+    hashed.note_hashed(Hashed::new(b"one".to_vec(alloc)?))?;
+    hashed.note_hashed(Hashed::new(b"three".to_vec(alloc)?))?;
     let mut notes = Seq::new(alloc);
     notes.push(hashed)?;
     let none = first_collision(alloc, texts.as_slice(), notes.as_slice())?;

@@ -1,9 +1,18 @@
 -- What comes of a delivery.
-use Rattle.std.proofs.Common.{◌≡◌, ℕ, List, Option, Some, None, option_map, Result, IfOk, sym, ◌∙◌, ap, subst}
+use Rattle.std.proofs.Common.{◌≡◌, ℕ, List, Option, Some, None, option_and_then, option_map, Result, Ok, Err, IfOk, IsErr, refl, sym, ◌∙◌, ap, subst}
+use Rattle.std.specs.Result.{result_ok}
 use Rattle.sg_protocol.specs.Calls.{Deliver}
+use Rattle.sg_protocol.specs.Frame.{Frame}
+use Rattle.sg_protocol.specs.Keyring.{Program}
+use Rattle.sg_protocol.specs.Node.{Node}
 use Rattle.sg_protocol.specs.NodeStates.{NodeState}
+use Rattle.sg_protocol.specs.Notes.{session_of_frame}
 use Rattle.sg_protocol.specs.Past.{Past}
+use Rattle.sg_protocol.specs.Reading.{read}
 use Rattle.sg_protocol.specs.Schedule as Core
+use Rattle.sg_protocol.specs.Session.{Session}
+use Rattle.sg_protocol.specs.Texts.{real}
+use Rattle.sg_protocol.specs.Told.{graph_of_call}
 use Rattle.sg_protocol.specs.World.{World, bytes_of, frame_at}
 use Rattle.sg_sched.specs.Format.StepsHeld.{changed}
 use Rattle.sg_sched.specs.declared.step.Change.{Change}
@@ -37,3 +46,11 @@ pub what_some : {E : Type 0} (number : ℕ) (old new : NodeState) (past : Past) 
     → IfOk r (ComesOfCall number old new past (Deliver (changed_to change bs))) → IfOk r (Comes number old new past (option_map Deliver (bytes_of w x)))
 what_some number old new past w x n change bs r e some h =
     subst (λ (o : Option (List ℕ)). IfOk r (Comes number old new past (option_map Deliver o))) (sym (ap (bytes_of w) e ∙ changed_some w n change bs some)) h
+
+-- bytes that are no frame are of no graph
+pub unread : (n : Node) (bs : List ℕ) → IsErr (read bs) → None ≡ graph_of_call real n (Deliver bs)
+unread n bs e = go (read bs) e
+  where
+    go : (r : Result Frame ℕ) → IsErr r → None ≡ option_map (λ (x : Program × Session). x.0.graph) (option_and_then (session_of_frame n) (result_ok r))
+    go (Ok f) h = absurd (cc)
+    go (Err e) h = refl

@@ -1,16 +1,16 @@
 //! A step that is a call at a principal's node.
-ghost use Rattle.std.specs.Prelude.{◌≡◌, ◌↔◌, ◌⊎◌, ℕ, ◌+◌, ◌<◌, ◌^◌, length, map, None, option_map, IfOk, IsTrue, OnErr};
+ghost use Rattle.std.specs.Prelude.{◌≡◌, ◌↔◌, ◌⊎◌, ℕ, ◌+◌, ◌<◌, ◌^◌, length, map, None, Ok, option_map, IfOk, IsErr, IsTrue, OnErr};
 ghost use Rattle.std.specs.List.{AllByRecursion};
 ghost use Rattle.std.specs.Option.{option_copied};
 ghost use Rattle.sg_model.specs.Bytes.{AreBytes};
 ghost use Rattle.sg_protocol.specs.Calls.{Start, Act, Abandon, Deliver};
 ghost use Rattle.sg_protocol.specs.Frame.{IsValue};
 ghost use Rattle.sg_protocol.specs.NodeStates.{NodeState, StandsForPast};
-ghost use Rattle.sg_protocol.specs.Past.{Past, node_of};
+ghost use Rattle.sg_protocol.specs.Past.{Past};
 ghost use Rattle.sg_protocol.specs.Ranges.{IsCast};
+ghost use Rattle.sg_protocol.specs.Reading.{read};
 ghost use Rattle.sg_protocol.specs.Schedule.{confounder};
-ghost use Rattle.sg_protocol.specs.Texts.{real};
-ghost use Rattle.sg_protocol.specs.Told.{graph_of_call};
+ghost use Rattle.sg_protocol.specs.Spelling.{SpellsFrame};
 ghost use Rattle.sg_protocol.specs.World.{World, frames, bytes_of};
 ghost use Rattle.sg_sched.specs.Format.StepsHeld.{step_of, what_of};
 ghost use Rattle.sg_walk.specs.Model.{values_of};
@@ -21,7 +21,7 @@ use crate::setting::Setting;
 use sg_base::{Label, OutOfMemory, Seq, Sid, Value, Var, tell_bytes};
 use sg_craft::{confounder, first_bytes, flipped, frame_at};
 use sg_crypt::{Cast, Notes};
-use sg_frame::{DecodeFault, decode};
+use sg_frame::{DecodeFault, Frame, decode};
 use sg_graph::Graph;
 use sg_node::{ActFault, Node, Refusal, StartFault};
 use sg_report::Outcome;
@@ -211,10 +211,29 @@ fn deliver<'p>(alloc: Global, node: &mut Node<'p>, bytes: &[u8]) -> Result<Came<
     ensures comes { (number : ℕ) (past : Past) → StandsForPast node.old past → IfOk result (ComesOfCall number node.old node.new past (Deliver bytes.now)) }
     ensures back { OnErr result (node.new ≡ node.old) }
 {
+    match decode(alloc, bytes) {
+        Ok(frame) => deliver_read(alloc, node, &frame, bytes),
+        Err(DecodeFault::Malformed { .. }) => deliver_malformed(alloc, node, bytes),
+        Err(DecodeFault::OutOfMemory) => Err(AllocError),
+    }
+}
+
+// Delivers bytes that spell this frame.
+fn deliver_read<'p>(
+    alloc: Global,
+    node: &mut Node<'p>,
+    frame: &Frame,
+    bytes: &[u8],
+) -> Result<Came<'p>, OutOfMemory>
+    requires spelled { SpellsFrame bytes.now frame.now }
+    requires read { read bytes.now ≡ Ok frame.now }
+    ensures comes { (number : ℕ) (past : Past) → StandsForPast node.old past → IfOk result (ComesOfCall number node.old node.new past (Deliver bytes.now)) }
+    ensures back { OnErr result (node.new ≡ node.old) }
+{
     tell_bytes(bytes);
-    let graph = delivered_graph(alloc, node, bytes)?;
+    let graph = node.frame_graph(frame);
     let mut notes = Notes::new(alloc);
-    match node.deliver(bytes, &mut notes) {
+    match node.deliver_frame(frame, bytes, &mut notes) {
         Ok(event) => Ok(came(Outcome::Received(event), graph, notes)),
         Err(why) => {
             let lacks = is_delivery_memory(&why);
@@ -226,18 +245,27 @@ fn deliver<'p>(alloc: Global, node: &mut Node<'p>, bytes: &[u8]) -> Result<Came<
     }
 }
 
-// The graph of a delivery, before it is made: none where the bytes are no frame.
-fn delivered_graph<'p>(
+// Delivers bytes that are no frame.
+fn deliver_malformed<'p>(
     alloc: Global,
-    node: &Node<'p>,
+    node: &mut Node<'p>,
     bytes: &[u8],
-) -> Result<Option<&'p Graph>, OutOfMemory>
-    ensures { (past : Past) → StandsForPast node.now past → IfOk result (λ g. option_copied g ≡ graph_of_call real (node_of past) (Deliver bytes.now)) }
+) -> Result<Came<'p>, OutOfMemory>
+    requires { IsErr (read bytes.now) }
+    ensures comes { (number : ℕ) (past : Past) → StandsForPast node.old past → IfOk result (ComesOfCall number node.old node.new past (Deliver bytes.now)) }
+    ensures back { OnErr result (node.new ≡ node.old) }
 {
-    match decode(alloc, bytes) {
-        Ok(frame) => Ok(node.frame_graph(&frame)),
-        Err(DecodeFault::Malformed { .. }) => Ok(None),
-        Err(DecodeFault::OutOfMemory) => Err(AllocError),
+    tell_bytes(bytes);
+    let mut notes = Notes::new(alloc);
+    match node.deliver(bytes, &mut notes) {
+        Ok(event) => Ok(came(Outcome::Received(event), None, notes)),
+        Err(why) => {
+            let lacks = is_delivery_memory(&why);
+            if lacks {
+                return Err(AllocError);
+            }
+            Ok(came(Outcome::NotDelivered(why), None, notes))
+        }
     }
 }
 

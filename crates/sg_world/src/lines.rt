@@ -19,11 +19,9 @@ use sg_node::ActFault;
 use sg_report::{Outcome, put_line, sid_told};
 use sg_role::SendFault;
 use sg_sched::Step;
-use std::alloc::Global;
 
 /// Writes a line for each step that was taken, the first of number 1.
 pub(crate) fn put_lines<'p>(
-    alloc: Global,
     out: &mut ByteOut,
     names: &SessionNames,
     setting: &Setting<'p>,
@@ -36,14 +34,13 @@ pub(crate) fn put_lines<'p>(
     let mut number: u32 = 0;
     for entry in entries {
         number += 1;
-        put_entry(alloc, out, names, setting, number, entry)?;
+        put_entry(out, names, setting, number, entry)?;
     }
     Ok(())
 }
 
 // Writes the line of a step of this number.
 fn put_entry<'p>(
-    alloc: Global,
     out: &mut ByteOut,
     names: &SessionNames,
     setting: &Setting<'p>,
@@ -57,7 +54,6 @@ fn put_entry<'p>(
     let sid = session_for(setting, &entry.step, &entry.outcome);
     let session = name_in(names, &sid);
     put_line(
-        alloc,
         out,
         number,
         bytes_of(&who),

@@ -7,7 +7,7 @@ ghost use Rattle.sg_report.specs.Outcome.{outcome_of};
 ghost use Rattle.sg_world.specs.Kept.{added_size, with_came};
 
 use sg_base::{OutOfMemory, Seq};
-use sg_crypt::{Note, Notes};
+use sg_crypt::{Hashed, Note, Notes};
 use sg_graph::Graph;
 use sg_report::Outcome;
 use sg_sched::Step;
@@ -224,7 +224,7 @@ fn notes_size(notes: &[Note]) -> u64
 }
 
 // The bytes of these texts.
-fn texts_size(texts: &[Seq<u8>]) -> u64
+fn texts_size(texts: &[Hashed]) -> u64
     requires { sum_by (λ t. length t) texts.now < 2 ^ 64 }
     ensures { result ≡ sum_by (λ t. length t) texts.now }
 {

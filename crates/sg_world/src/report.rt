@@ -30,7 +30,7 @@ impl<'p> World<'p> {
         let entries = self.history.entries();
         let names = session_names(self.alloc, &self.setting, entries)?;
         let mut out = ByteOut::new(self.alloc);
-        put_lines(self.alloc, &mut out, &names, &self.setting, entries)?;
+        put_lines(&mut out, &names, &self.setting, entries)?;
         self.put_rest(&mut out, &names)?;
         Ok(out.done())
     }
@@ -53,7 +53,7 @@ impl<'p> World<'p> {
     {
         let forged = self.forgery()?;
         let free = self.collision()?.is_none();
-        put_premises(self.alloc, out, forged.as_ref(), free)?;
+        put_premises(out, forged.as_ref(), free)?;
         Ok(forged.is_none() && free)
     }
 
@@ -151,12 +151,5 @@ fn put_course<'r>(
     ensures { OnOk result (out.new ≡ out.old ++ walk_line name.now course.now.graph (λ role. is_in role course.now.honest) (steps_grown course.now)) }
 {
     let walk = course.walk(alloc)?;
-    put_walk(
-        alloc,
-        out,
-        name.as_bytes(),
-        course.graph(),
-        course.honest(),
-        &walk,
-    )
+    put_walk(out, name.as_bytes(), course.graph(), course.honest(), &walk)
 }

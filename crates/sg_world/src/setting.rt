@@ -9,7 +9,7 @@ ghost use Rattle.sg_protocol.specs.Texts.{real, session_id, graph_text_of};
 
 use sg_base::{OutOfMemory, Role, Seq, Sid};
 use sg_craft::PairKeys;
-use sg_crypt::Cast;
+use sg_crypt::{Cast, Hashed};
 use sg_declared::{copy_graphs, copy_sessions, sids_of, texts_of};
 use sg_graph::Graph;
 use sg_program::{Program, Programs};
@@ -27,7 +27,7 @@ pub(crate) struct Setting<'p> {
     // of the sessions, in order
     sids: Vec<Sid>,
     // of the graphs, in order
-    texts: Vec<Seq<u8>>,
+    texts: Vec<Hashed>,
 }
 
 impl<'p> Model for Setting<'p> {
@@ -105,7 +105,7 @@ impl<'p> Setting<'p> {
     }
 
     /// The texts under the digests of the graphs, in order.
-    pub fn texts(&self) -> &[Seq<u8>]
+    pub fn texts(&self) -> &[Hashed]
         ensures { result.now ≡ map graph_text_of self.now.graphs }
     {
         self.texts.as_slice()
@@ -153,7 +153,7 @@ fn first_program<'p>(programs: &'p Programs, digest: &[u8; 32]) -> Option<&'p Pr
 }
 
 // The bytes of these texts together.
-fn total(texts: &[Seq<u8>]) -> Result<u64, OutOfMemory>
+fn total(texts: &[Hashed]) -> Result<u64, OutOfMemory>
     ensures { IfOk result (λ n. n ≡ sum_by (λ t. length t) texts.now) }
 {
     let mut size: u64 = 0;

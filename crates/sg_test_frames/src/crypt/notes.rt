@@ -1,5 +1,5 @@
 use sg_base::Name;
-use sg_crypt::{Counts, Note, Notes};
+use sg_crypt::{Counts, Hashed, Note, Notes};
 use std::test::Fail;
 
 #[test]
@@ -13,7 +13,7 @@ fn notes_come_and_go(rt: HostRuntime) -> Result<(), Fail> {
     notes.note_made(Note::new(long, short, b"one".to_vec(alloc)?))?;
     let counts = notes.counts();
     notes.note_found(Note::new(short, long, b"two".to_vec(alloc)?))?;
-    notes.note_hashed(b"three".to_vec(alloc)?)?;
+    notes.note_hashed(Hashed::new(b"three".to_vec(alloc)?))?;
     assert!(rt;
         notes.made().iter().all(|note| note.one() == short
             && note.two() == long

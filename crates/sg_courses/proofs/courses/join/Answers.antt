@@ -17,7 +17,8 @@ returns-clause-ok g c =
     on_ok (now ≡ es ++ (c.frame.inside.sid, c.take.new.self) ∷ []) ((cast : Cast) → f.join ≡ Some cast → Begun (λ old new. Takes programs old new e f) programs names cast f.receiver f.sid es now) c.put_last.result
     (λ more cast joins.
     let two : Some c.in-Some.cast ≡ Some cast = sym c.in-Some.is ∙ ap (λ (z : Frame). z.join) c.frame.view_is ∙ joins in
-    let same : c.in-Some.cast ≡ cast = cc in
-    begun_of (λ old new. Takes programs old new e f) programs names c.in-Some.cast cast c.frame.inside.receiver f.receiver c.frame.inside.sid f.sid es now c.in-Some-new.course c.take.new.self c.in-Some-new.ensures c.in_ok-take.ensures.ok more same
+    let first : c.in-Some.cast ≡ cast = cc in
+    let same : c.get.result.now ≡ cast = c.get.ensures ∙ first in
+    begun_of (λ old new. Takes programs old new e f) programs names c.get.result.now cast c.frame.inside.receiver f.receiver c.frame.inside.sid f.sid es now c.in-Some-new.course c.take.new.self c.in-Some-new.ensures c.in_ok-take.ensures.ok more same
     (ap (λ (z : Frame). z.receiver) c.frame.view_is) (ap (λ (z : Frame). z.sid) c.frame.view_is))
     c.put_last.ensures.ok

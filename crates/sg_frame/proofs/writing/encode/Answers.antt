@@ -16,6 +16,6 @@ returns c =
       c.len.ensures,
       c.in_ok-put_join.ensures,
       c.in_ok-put_head.ensures,
-      c.new-out.ensures,
+      c.in_ok-out.ensures,
       ← c.frame.view_is,
     ) (simp (append_assoc, append-nil))

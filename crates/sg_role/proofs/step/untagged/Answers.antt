@@ -17,7 +17,7 @@ returns-clause-frame c =
       sid = k.sid;
       sender = c.role.ensures.role j;
       receiver = to j;
-      join = (c.join_for.ensures ∙ ap (λ (t : ℕ). if has (λ (i : Item). i.role) t k.items.items then None else Some k.cast) to) j;
+      join = (c.in_ok-join.ensures ∙ ap (λ (t : ℕ). if has (λ (i : Item). i.role) t k.items.items then None else Some k.cast) to) j;
       items = (c.in_ok-shown.ensures ∙ ap (λ (t : ℕ). tags_left (after_last (λ (i : Item). i.role) t c.args.items.now)) to) j;
       openings = (c.in_ok-openings.ensures
           ∙ (λ i. filter_map (λ x. option_or (opening_in c.args.written.now x) (get_or (c.as_slice-2.ensures.value i) x None)) ((c.as_slice.ensures.value ∙ c.in_ok-reads.ensures) i))) j;

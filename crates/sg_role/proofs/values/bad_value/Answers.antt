@@ -11,15 +11,15 @@ pub returns-then-is_bad : goal.returns-then-is_bad
 returns-then-is_bad c =
     let p = is_bad c.args.graph.now c.args.label (values_of c.args.values.now) in
     let bad : p c.loop-number.number ≡ true = ap p (sym c.numbered-var.ensures) ∙ sym c.is_bad.ensures ∙ c.if-is_bad.true in
-    ap (λ (x : ℕ). Some x) c.numbered-var.ensures ∙ sym (first_here p c.loop-number.number (omega (arith, c.loop-number-test.true)) bad) ∙ c.loop-number.invariant
+    ap (λ (x : ℕ). Some x) c.numbered-var.ensures ∙ sym (first_here p c.loop-number.number (omega (arith, c.loop-number-test.true, c.bound-most.ensures.most)) bad) ∙ c.loop-number.invariant
 
 pub loop-number-preserved : goal.loop-number-preserved
 loop-number-preserved c =
     let p = is_bad c.args.graph.now c.args.label (values_of c.args.values.now) in
     let good : p c.loop-number.number ≡ false = ap p (sym c.numbered-var.ensures) ∙ sym c.is_bad.ensures ∙ c.if-is_bad.false in
-    sym (first_later p c.loop-number.number (omega (arith, c.loop-number-test.true)) good) ∙ c.loop-number.invariant
+    sym (first_later p c.loop-number.number (omega (arith, c.loop-number-test.true, c.bound-most.ensures.most)) good) ∙ c.loop-number.invariant
 
 pub returns : goal.returns
 returns c =
     let p = is_bad c.args.graph.now c.args.label (values_of c.args.values.now) in
-    sym (first_end p c.loop-number.number (omega (arith, c.loop-number-test.false))) ∙ c.loop-number.invariant
+    sym (first_end p c.loop-number.number (λ x a b. c.bound-most.ensures.none x (omega (arith, a, c.loop-number-test.false)) b)) ∙ c.loop-number.invariant

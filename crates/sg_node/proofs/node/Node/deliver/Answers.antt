@@ -10,19 +10,9 @@ use Rattle.sg_protocol.specs.Reading.{read}
 use Rattle.sg_protocol.specs.Texts.{real}
 use Rattle.sg_protocol.specs.Verdict.{verdict_on}
 use Rattle.sg_role.specs.Sending.{with_notes}
-use Rattle.sg_node.specs.Answers.{IsAnswer, delivery_answer}
 use Rattle.sg_node.proofs.Acts.{with_none}
-use Rattle.sg_node.proofs.Taking.{stays_by, goes_by}
+use Rattle.sg_node.proofs.Taking.{stays_by}
 use Rattle.sg_node.proofs.node.Node.deliver.Goals as goal
-
-pub returns-in-Ok-clause-answer : goal.returns-in-Ok-clause-answer
-returns-in-Ok-clause-answer c = λ past st. subst (λ r. IsAnswer (verdict_on real (node_of past) r) (delivery_answer c.receive.result)) (sym c.in-Ok.ensures.exact) (c.receive.ensures.answer (node_of past) st)
-
-pub returns-in-Ok-clause-state : goal.returns-in-Ok-clause-state
-returns-in-Ok-clause-state c = λ past st k. goes_by c.args.self.now c.receive.new.self past c.args.bytes.now (subst (λ (z : NodeState). AllByRecursion (IsProgram real) z.programs) c.self.view_is c.self.invariant.programs) c.tell_bytes.ensures st c.in-Ok.frame c.in-Ok.ensures.exact c.receive.result (c.receive.ensures.answer (node_of past) st) c.receive.ensures.taken c.receive.ensures.back k
-
-pub returns-in-Ok-clause-notes : goal.returns-in-Ok-clause-notes
-returns-in-Ok-clause-notes c = λ past st k. c.receive.ensures.notes (node_of past) st k ∙ ap (λ r. with_notes c.args.notes.now (notes_of_read real (node_of past) r)) (sym c.in-Ok.ensures.exact)
 
 pub returns-in-Err-Malformed-clause-answer : goal.returns-in-Err-Malformed-clause-answer
 returns-in-Err-Malformed-clause-answer c = λ past st. ap (verdict_on real (node_of past)) (subst (Refuses (read c.args.bytes.now)) c.in-Err-Malformed.field-0-is c.in-Err-Malformed.ensures.exact)

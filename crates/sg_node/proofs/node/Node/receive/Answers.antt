@@ -1,9 +1,9 @@
-use Rattle.std.proofs.Common.{sym, ◌∙◌, ap}
+use Rattle.std.proofs.Common.{Some, sym, ◌∙◌, ap}
 use Rattle.sg_protocol.specs.Frame.{Frame}
 use Rattle.sg_node.proofs.node.Node.receive.Goals as goal
 
 pub join-requires-clause-joins : goal.join-requires-clause-joins
-join-requires-clause-joins c = sym (ap (λ (f : Frame). f.join) c.frame.view_is) ∙ c.in-Some.is
+join-requires-clause-joins c = sym (ap (λ (f : Frame). f.join) c.frame.view_is) ∙ c.in-Some.is ∙ ap (λ z. Some z) (sym c.get.ensures)
 
 pub go_on-requires-clause-continues : goal.go_on-requires-clause-continues
 go_on-requires-clause-continues c = sym (ap (λ (f : Frame). f.join) c.frame.view_is) ∙ c.in-None.is

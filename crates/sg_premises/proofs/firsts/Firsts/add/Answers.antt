@@ -7,5 +7,5 @@ use Rattle.sg_premises.proofs.firsts.Firsts.add.Goals as goal
 pub returns-clause-kept : goal.returns-clause-kept
 returns-clause-kept c = λ h.
     ap (text_under h) c.in_ok-put.ensures
-    ∙ under_more h c.digest_of-digest.result c.args.text.now c.args.self.now
-    ∙ ap (λ d. option_or (text_under h c.args.self.now) (if bytes_eq d h then Some c.args.text.now else None)) c.digest_of-digest.ensures
+    ∙ under_more h c.args.digest.now c.args.text.now c.args.self.now
+    ∙ ap (λ d. option_or (text_under h c.args.self.now) (if bytes_eq d h then Some c.args.text.now else None)) c.requires
