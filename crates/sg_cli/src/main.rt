@@ -15,8 +15,6 @@ mod program;
 mod refusal;
 mod replay;
 mod run;
-#[cfg(test)]
-mod run_tests;
 mod setup;
 #[cfg(test)]
 mod tests;

@@ -143,3 +143,25 @@ fn a_peer_is_read_or_refused(rt: HostRuntime) -> Result<(), AllocError> {
     );
     Ok(())
 }
+
+// The entry that is bad, or of a name that was there, is told by its number, however many are before it.
+#[test]
+fn many_peers_are_read(rt: HostRuntime) -> Result<(), AllocError> {
+    let alloc = rt.alloc();
+    let mut text = String::from_str(alloc, HEAD)?;
+    for number in 0..65_535u32 {
+        let peer = format!(in alloc;
+            "[[peer]]\nname = \"p{number}\"\naddr = \"1.2.3.4:5\"\n{KEY_LINE}"
+        )?;
+        text.push_str(peer.as_str())?;
+    }
+    let again = format!(in alloc; "[[peer]]\nname = \"p0\"\naddr = \"1.2.3.4:5\"\n{KEY_LINE}")?;
+    for (last, answer) in [
+        ("", None),
+        ("[[peer]]\n", Some(KeyFault::BadEntry { entry: 65_536 })),
+        (again.as_str(), Some(KeyFault::Twice { entry: 65_536 })),
+    ] {
+        assert!(rt; fault(alloc, text.as_str(), last)? == answer);
+    }
+    Ok(())
+}
