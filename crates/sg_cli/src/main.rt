@@ -1,52 +1,34 @@
 //! `sessiongraph`: checks, composes and compiles session graphs, runs one principal, replays schedules, and audits logs of sessions.
+//!
+//! All of this is `top` of `sg_top`. Here are the objects of the system that it works on, and the end where the system doesn't give them.
 #![tactic(auto)]
 
-mod answer;
-mod audit;
-mod check;
-mod compile;
-mod compose;
-mod ending;
-mod file;
 mod fresh;
-mod graph;
-mod input;
-mod program;
-mod refusal;
-mod replay;
-mod run;
-mod setup;
-#[cfg(test)]
-mod tests;
 
-use ending::Ending;
 use fresh::OsFresh;
-use program::{put, say, top};
 use rand::make_rng;
 use rand_chacha::ChaCha20Rng;
 use sg_base::{StdFiles, StdSink};
 use sg_link::UdpLink;
+use sg_top::{end_without_memory, end_without_seed, end_without_words, top};
 use std::process::ExitCode;
 use std::{env, io};
 
-// Makes the real objects and ends with the program's status. A word that is no UTF-8 is in no command.
+// Makes the real objects and ends with the program's status.
 fn main(rt: HostRuntime) -> ExitCode {
     let status = match on_words(&rt) {
         Ok(status) => status,
-        Err(e) => say(
-            rt.alloc(),
-            &before_words(&e),
-            &mut StdSink::new(rt.stderr()),
-        ),
+        Err(e) => before_words(&rt, &e),
     };
     ExitCode::from(status)
 }
 
-// How the program ends where it has no words: one of them is no UTF-8, or memory was wanted.
-fn before_words(e: &io::Error) -> Ending<'static> {
+// How the program ends where it has no words: one of them is no UTF-8, so it is in no command, or memory was wanted.
+fn before_words(rt: &HostRuntime, e: &io::Error) -> u8 {
+    let mut err = StdSink::new(rt.stderr());
     match e.kind() {
-        io::ErrorKind::InvalidData => Ending::NoCommand,
-        _ => Ending::NoMemory,
+        io::ErrorKind::InvalidData => end_without_words(rt.alloc(), &mut err),
+        _ => end_without_memory(&mut err),
     }
 }
 
@@ -58,7 +40,7 @@ fn on_words(rt: &HostRuntime) -> io::Result<u8> {
     let mut err = StdSink::new(rt.stderr());
     let mut link = UdpLink::new(rt.clone()?);
     let Ok(rng) = make_rng::<ChaCha20Rng, _>(rt) else {
-        return Ok(put(&mut err, b"no random seed\n", 12));
+        return Ok(end_without_seed(&mut err));
     };
     let mut fresh = OsFresh::new(rng);
     Ok(top(

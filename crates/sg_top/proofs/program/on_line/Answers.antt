@@ -1,0 +1,20 @@
+use Rattle.std.proofs.Common.{List, ℕ, ◌≡◌, refl, sym, ap, ◌∙◌, subst, inl, inr}
+use Rattle.std.specs.Option.{option_map}
+use Rattle.sg_words.specs.Command.{command_of}
+use Rattle.sg_words.specs.Model.{command_held}
+use Rattle.sg_top.specs.Ending.{NoMemory}
+use Rattle.sg_top.specs.Model.{ending_held}
+use Rattle.sg_top.proofs.Statuses.{may_play}
+use Rattle.sg_top.proofs.program.on_line.Goals as goal
+
+pub returns-in-Ok-clause-ends : goal.returns-in-Ok-clause-ends
+returns-in-Ok-clause-ends g c =
+    let same : option_map command_held c.command.result ≡ command_of c.args.line.now = c.command.ensures ∙ ap command_of c.in-Ok.ensures in
+    record { work = ending_held c.work-ending.result; does = inl (rw same at c.work-ending.ensures.works); says = c.say.ensures }
+
+pub returns-in-Ok-clause-as_before : goal.returns-in-Ok-clause-as_before
+returns-in-Ok-clause-as_before g c =
+    may_play c.args.line.now (option_map command_held c.command.result) (ending_held c.work-ending.result) _ _ c.say.result (c.command.ensures ∙ ap command_of c.in-Ok.ensures) c.work-ending.ensures.as_before c.say.ensures
+
+pub returns-in-Err-clause-ends : goal.returns-in-Err-clause-ends
+returns-in-Err-clause-ends g c = record { work = NoMemory; does = inr ((refl, refl, refl), refl); says = c.say-in-Err.ensures }

@@ -1,0 +1,15 @@
+use Rattle.std.proofs.Common.{refl, inr}
+use Rattle.sg_top.specs.Ending.{NoMemory}
+use Rattle.sg_top.proofs.program.top.Goals as goal
+
+pub returns-in-Err-clause-ends : goal.returns-in-Err-clause-ends
+returns-in-Err-clause-ends g c = record { work = NoMemory; does = inr ((refl, refl, refl), refl); says = c.say.ensures }
+
+pub returns-in-Err-clause-as_before : goal.returns-in-Err-clause-as_before
+returns-in-Err-clause-as_before g c = inr (refl, refl)
+
+pub returns-in-Ok-clause-ends : goal.returns-in-Ok-clause-ends
+returns-in-Ok-clause-ends g c = rw c.in-Ok.ensures at c.on_line.ensures.ends
+
+pub returns-in-Ok-clause-as_before : goal.returns-in-Ok-clause-as_before
+returns-in-Ok-clause-as_before g c = rw c.in-Ok.ensures at c.on_line.ensures.as_before

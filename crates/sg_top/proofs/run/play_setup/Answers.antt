@@ -1,0 +1,36 @@
+use Rattle.std.proofs.Common.{Err, ap, refl, ◌∙◌}
+use Rattle.std.proofs.lemmas.Result.{on_ok_weaker}
+use Rattle.sg_play.specs.declared.fault.PlayFault.TheVariants as Play
+use Rattle.sg_top.specs.Runs.{Outside}
+use Rattle.sg_top.specs.Setup.{Setup}
+use Rattle.sg_top.proofs.InOrder.{rises}
+use Rattle.sg_top.proofs.Playing.{none_left, opened, unplayed}
+use Rattle.sg_top.proofs.run.play_setup.Goals as goal
+
+pub returns-in-Ok-clause-plays : goal.returns-in-Ok-clause-plays
+returns-in-Ok-clause-plays g c =
+    opened (record { keys = c.args.setup.keys; programs = c.args.setup.programs; script = c.args.setup.script }) c.args.most
+    (record { out = record { bytes = g.O.Sink.written c.args.out.now; faults = g.O.Sink.faults c.args.out.now }; link = record { deliveries = g.L.Link.deliveries c.args.link.now; sent = g.L.Link.sent c.args.link.now; faults = g.L.Link.faults c.args.link.now }; words = g.R.Fresh.words c.args.fresh.now })
+    (record { out = record { bytes = g.O.Sink.written c.args.out.now; faults = g.O.Sink.faults c.args.out.now }; link = record { deliveries = g.L.Link.deliveries c.open.new.self; sent = g.L.Link.sent c.open.new.self; faults = g.L.Link.faults c.open.new.self }; words = g.R.Fresh.words c.args.fresh.now })
+    (record { out = record { bytes = g.O.Sink.written c.play_on.new.out; faults = g.O.Sink.faults c.play_on.new.out }; link = record { deliveries = g.L.Link.deliveries c.play_on.new.link; sent = g.L.Link.sent c.play_on.new.link; faults = g.L.Link.faults c.play_on.new.link }; words = g.R.Fresh.words c.play_on.new.fresh })
+    c.play_on.result refl c.open.ensures.kept c.open.ensures.kept_sent refl c.play_on.ensures.plays
+
+pub returns-in-Ok-clause-left : goal.returns-in-Ok-clause-left
+returns-in-Ok-clause-left g c = on_ok_weaker c.play_on.result (λ t ds d. t ds (c.open.ensures.kept ∙ d)) c.play_on.ensures.left
+
+pub returns-in-Ok-clause-at_most : goal.returns-in-Ok-clause-at_most
+returns-in-Ok-clause-at_most g c = λ ds d. c.play_on.ensures.at_most ds (c.open.ensures.kept ∙ d)
+
+pub returns-in-Ok-clause-link_failed : goal.returns-in-Ok-clause-link_failed
+returns-in-Ok-clause-link_failed g c = λ e.
+    rises (g.L.Link.faults c.args.link.now) (g.L.Link.faults c.open.new.self) (g.L.Link.faults c.play_on.new.link) c.open.ensures.never_falls c.play_on.ensures.link_falls (c.play_on.ensures.link_failed e)
+
+pub returns-in-Err-clause-plays : goal.returns-in-Err-clause-plays
+returns-in-Err-clause-plays g c =
+    unplayed (record { keys = c.args.setup.keys; programs = c.args.setup.programs; script = c.args.setup.script }) c.args.most
+    (record { out = record { bytes = g.O.Sink.written c.args.out.now; faults = g.O.Sink.faults c.args.out.now }; link = record { deliveries = g.L.Link.deliveries c.args.link.now; sent = g.L.Link.sent c.args.link.now; faults = g.L.Link.faults c.args.link.now }; words = g.R.Fresh.words c.args.fresh.now })
+    (record { out = record { bytes = g.O.Sink.written c.args.out.now; faults = g.O.Sink.faults c.args.out.now }; link = record { deliveries = g.L.Link.deliveries c.open.new.self; sent = g.L.Link.sent c.open.new.self; faults = g.L.Link.faults c.open.new.self }; words = g.R.Fresh.words c.args.fresh.now })
+    (Err Play.LinkFailed) refl c.open.ensures.kept_sent (λ o n steps h. h)
+
+pub returns-in-Err-clause-at_most : goal.returns-in-Err-clause-at_most
+returns-in-Err-clause-at_most g c = none_left c.args.most (g.L.Link.deliveries c.args.link.now) (g.L.Link.deliveries c.open.new.self) c.open.ensures.kept

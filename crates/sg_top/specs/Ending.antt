@@ -1,0 +1,126 @@
+-- How the program ends, with which status, and what it says of it on standard error.
+use Rattle.std.specs.Prelude.{ℕ, List, [], ◌∷◌, ◌++◌, codes}
+use Rattle.std.specs.Fmt.{decimal}
+use Rattle.sg_protocol.specs.Graph.{Graph}
+use Rattle.sg_parse.specs.declared.fault.ParseFault.{ParseFault}
+use Rattle.sg_compose.specs.declared.fault.ComposeFault.{ComposeFault}
+use Rattle.sg_keys.specs.declared.key_file.KeyFault.{KeyFault}
+use Rattle.sg_program.specs.declared.check.CompileFault.{CompileFault}
+use Rattle.sg_script.specs.declared.fault.ScriptFault.{ScriptFault}
+use Rattle.sg_sched.specs.Format.Kinds as Format
+use Rattle.sg_sched.specs.declared.fault.LineFault.{LineFault}
+use Rattle.sg_sched.specs.declared.fault.LineFault.TheVariants.{Line, OutOfMemory}
+use Rattle.sg_read.specs.Taken.{kind_of}
+use Rattle.sg_audit.specs.declared.fault.LogFault.{LogFault}
+use Rattle.sg_audit.specs.declared.fault.LogFault.TheVariants.{Form as FormOfLogs, Unknown as UnknownInLogs, Twice as TwiceInLogs, Graph as GraphOfLogs, TooManyEvents, OutOfMemory as NoMemoryForLogs}
+use Rattle.sg_top.specs.Refusal.{parse_text, compose_text, refusal_text}
+use Rattle.sg_top.specs.Inputs.{keys_text, script_text, program_text}
+use Rattle.sg_top.specs.declared.input.BadProgram.{BadProgram}
+use Rattle.sg_top.specs.declared.ending.Wrong.{Wrong}
+use Rattle.sg_top.specs.declared.ending.Wrong.TheVariants.{Form, Unknown, Twice, NotHonest}
+
+-- how the program ends
+pub data Ending : Type 0 where
+  -- the output is written whole
+  Written : Ending
+  -- the words are not in the table of commands
+  NoCommand : Ending
+  -- the bytes are no graph, or a block of them isn't
+  NoGraph : ParseFault → Ending
+  -- the parts are not expanded
+  NoExpansion : ComposeFault → Ending
+  -- the graph isn't accepted
+  GraphRefused : Graph → CompileFault → Ending
+  -- the graph has no role of this name
+  NoRole : (role : List ℕ) → Ending
+  -- this line of the schedule or of the logs is the first that is wrong
+  WrongLine : (line : ℕ) → Wrong → Ending
+  -- the bytes are no key file
+  KeysRefused : KeyFault → Ending
+  -- the bytes are no script beside the programs
+  ScriptRefused : ScriptFault → Ending
+  -- the program of this number, counted from 1, isn't taken
+  ProgramRefused : (number : ℕ) → BadProgram → Ending
+  -- the file could not be read
+  FileFailed : (file : List ℕ) → Ending
+  -- what was to be written was not taken
+  WriteFailed : Ending
+  -- the link failed
+  LinkFailed : Ending
+  -- memory was wanted, and none was to be had
+  NoMemory : Ending
+  -- there is no such file
+  NoSuchFile : (file : List ℕ) → Ending
+  -- the file, or what it holds, passes a limit
+  TooLarge : (what : List ℕ) → Ending
+
+-- the status of an ending
+abbrev pub status_of : Ending → ℕ
+status_of Written = 0
+status_of NoCommand = 2
+status_of (NoGraph fault) = 3
+status_of (NoExpansion fault) = 3
+status_of (GraphRefused g fault) = 3
+status_of (NoRole role) = 4
+status_of (WrongLine line wrong) = 4
+status_of (KeysRefused fault) = 4
+status_of (ScriptRefused fault) = 4
+status_of (ProgramRefused number cause) = 4
+status_of (FileFailed file) = 5
+status_of WriteFailed = 6
+status_of LinkFailed = 7
+status_of NoMemory = 8
+status_of (NoSuchFile file) = 9
+status_of (TooLarge what) = 10
+
+-- what is wrong with a line
+abbrev pub wrong_text : Wrong → List ℕ
+wrong_text Form = codes "form"
+wrong_text Unknown = codes "unknown"
+wrong_text Twice = codes "twice"
+wrong_text NotHonest = codes "not-honest"
+
+-- the line on standard error
+abbrev pub line_of : Ending → List ℕ
+line_of Written = []
+line_of NoCommand = codes "usage: sessiongraph check|compile|run|replay|audit|compose\n"
+line_of (NoGraph fault) = codes "graph refused: " ++ parse_text fault ++ 10 ∷ []
+line_of (NoExpansion fault) = codes "graph refused: " ++ compose_text fault ++ 10 ∷ []
+line_of (GraphRefused g fault) = codes "graph refused: " ++ refusal_text g fault ++ 10 ∷ []
+line_of (NoRole role) = codes "input refused: role " ++ role ++ 10 ∷ []
+line_of (WrongLine line wrong) = codes "input refused: line " ++ decimal line ++ 32 ∷ wrong_text wrong ++ 10 ∷ []
+line_of (KeysRefused fault) = codes "input refused: keys " ++ keys_text fault ++ 10 ∷ []
+line_of (ScriptRefused fault) = codes "input refused: script " ++ script_text fault ++ 10 ∷ []
+line_of (ProgramRefused number cause) = codes "input refused: program " ++ decimal number ++ program_text cause ++ 10 ∷ []
+line_of (FileFailed file) = codes "file failed: " ++ file ++ 10 ∷ []
+line_of WriteFailed = []
+line_of LinkFailed = codes "link failed\n"
+line_of NoMemory = codes "out of memory\n"
+line_of (NoSuchFile file) = codes "no such file: " ++ file ++ 10 ∷ []
+line_of (TooLarge what) = codes "too large: " ++ what ++ 10 ∷ []
+
+-- ---- the ending that the input has, where nothing fails and memory is to be had
+
+-- what the first wrong line of a schedule ends with
+abbrev pub ending_of_line : ℕ → Format.Kind → Ending
+ending_of_line n Format.Form = WrongLine n Form
+ending_of_line n Format.Unknown = WrongLine n Unknown
+ending_of_line n Format.Twice = WrongLine n Twice
+ending_of_line n Format.NotHonest = WrongLine n NotHonest
+ending_of_line n (Format.Graph fault) = NoGraph fault
+ending_of_line n Format.TooManySteps = TooLarge (codes "steps")
+ending_of_line n Format.TooManySessions = TooLarge (codes "sessions")
+
+-- what the reading of a schedule that is refused ends with
+abbrev pub ending_of_fault : LineFault → Ending
+ending_of_fault (Line n kind) = ending_of_line n (kind_of kind)
+ending_of_fault OutOfMemory = NoMemory
+
+-- what a fault of logs ends with
+abbrev pub ending_of_logs : LogFault → Ending
+ending_of_logs (FormOfLogs n) = WrongLine n Form
+ending_of_logs (UnknownInLogs n) = WrongLine n Unknown
+ending_of_logs (TwiceInLogs n) = WrongLine n Twice
+ending_of_logs (GraphOfLogs fault) = NoGraph fault
+ending_of_logs TooManyEvents = TooLarge (codes "events")
+ending_of_logs NoMemoryForLogs = NoMemory

@@ -1,0 +1,67 @@
+-- How the run of one principal ends, and what it leaves.
+use Rattle.std.specs.Prelude.{◌≡◌, ℕ, ◌≤◌, ◌⊎◌, List, [], take, drop, Option, Some, Result, Ok, Err, ⊤}
+use Rattle.sg_base.specs.Outside.{HasRisen}
+use Rattle.sg_base.specs.declared.address.Addr.{Addr}
+use Rattle.sg_play.specs.Ends.{Ended}
+use Rattle.sg_play.specs.Played.{played}
+use Rattle.sg_play.specs.Steps.{Step}
+use Rattle.sg_play.specs.declared.fault.PlayFault.{PlayFault}
+use Rattle.sg_play.specs.declared.fault.PlayFault.TheVariants as Play
+use Rattle.sg_top.specs.Ending.{Ending, Written, LinkFailed, WriteFailed, NoMemory}
+use Rattle.sg_top.specs.Ends.{Told, Output}
+use Rattle.sg_top.specs.Setup.{Named, Setup, HasSetup, LacksSetup}
+
+-- a link: the deliveries to come and the frames sent, where they are told, and its count of faults
+pub record Linked : Type 0 where
+  pub deliveries : Option (List (List ℕ))
+  pub sent : Option (List (Addr × List ℕ))
+  pub faults : ℕ
+
+-- what the program acts on: standard output, the link, and the random words to come, where they are told
+pub record Outside : Type 0 where
+  pub out : Output
+  pub link : Linked
+  pub words : Option (List (List ℕ))
+
+-- the steps of the play of a setup over the first deliveries, at most so many, and with these random words
+abbrev pub steps_played : Setup → (most : ℕ) → (deliveries words : List (List ℕ)) → List Step
+steps_played s most deliveries words = (played s.keys s.programs [] s.script (take most deliveries) words).steps
+
+-- where the deliveries and the words are told: what was written and sent is what these steps write and send, up to where the play ended
+abbrev pub Plays : Setup → (most : ℕ) → (old new : Outside) → Result (Unit {0}) PlayFault → Type 0
+Plays s most old new result = (deliveries words : List (List ℕ)) → (old.link).deliveries ≡ Some deliveries → old.words ≡ Some words
+    → Ended (record { written = (old.out).bytes; sent = (old.link).sent }) (record { written = (new.out).bytes; sent = (new.link).sent }) (steps_played s most deliveries words) result
+
+-- so many deliveries were taken, or all where there were fewer, where they are told
+abbrev pub Takes : ℕ → (old new : Option (List (List ℕ))) → Type 0
+Takes n old new = (deliveries : List (List ℕ)) → old ≡ Some deliveries → new ≡ Some (drop n deliveries)
+
+-- no more deliveries were taken than this, where they are told
+abbrev pub TakesAtMost : ℕ → (old new : Option (List (List ℕ))) → Type 0
+TakesAtMost most old new = (deliveries : List (List ℕ)) → old ≡ Some deliveries → (n : ℕ) × (n ≤ most) × (new ≡ Some (drop n deliveries))
+
+-- the play of a setup ends so: all was played; or the link failed or a line was not written whole, which the counts of faults show; or memory was wanted
+abbrev pub PlayEnds : Setup → (most : ℕ) → (old new : Outside) → Ending → Type 0
+PlayEnds s most old new Written = Plays s most old new (Ok tt) × Takes most (old.link).deliveries (new.link).deliveries
+PlayEnds s most old new LinkFailed = Plays s most old new (Err Play.LinkFailed) × TakesAtMost most (old.link).deliveries (new.link).deliveries × HasRisen (old.link).faults (new.link).faults
+PlayEnds s most old new WriteFailed = Plays s most old new (Err Play.WriteFailed) × TakesAtMost most (old.link).deliveries (new.link).deliveries × HasRisen (old.out).faults (new.out).faults
+PlayEnds s most old new NoMemory = Plays s most old new (Err Play.OutOfMemory) × TakesAtMost most (old.link).deliveries (new.link).deliveries
+PlayEnds s most old new ending = ⊥
+
+-- nothing was written or sent, and no delivery and no word was taken
+abbrev pub IsUntouched : (old new : Outside) → Type 0
+IsUntouched old new = ((new.out).bytes ≡ (old.out).bytes) × (new.link ≡ old.link) × (new.words ≡ old.words)
+
+-- a run ends so: the files hold a setup, which is played; or they hold none, and nothing is touched
+abbrev pub Runs : Named → (most : ℕ) → Told → (faults faults' : ℕ) → (old new : Outside) → Ending → Type 0
+Runs named most told faults faults' old new ending =
+    ((s : Setup) × HasSetup told named s × PlayEnds s most old new ending)
+    ⊎ (IsUntouched old new × LacksSetup told faults faults' named ending)
+
+-- with these endings a run may have played
+abbrev pub CanHavePlayed : Ending → Type 0
+CanHavePlayed Written = ⊤
+CanHavePlayed LinkFailed = ⊤
+CanHavePlayed WriteFailed = ⊤
+CanHavePlayed NoMemory = ⊤
+CanHavePlayed ending = ⊥

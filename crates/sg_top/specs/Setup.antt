@@ -1,0 +1,109 @@
+-- What a run is given: the files that its words name, and the keys, the programs and the script that they hold.
+use Rattle.std.specs.Prelude.{◌≡◌, ◌≢◌, ℕ, ◌+◌, ◌≤◌, ◌⊎◌, true, false, List, [], ◌∷◌, ◌++◌, length, Some, Err, ⊤}
+use Rattle.std.specs.List.{list_any}
+use Rattle.sg_model.specs.Limits.{most_program_file, most_script_file}
+use Rattle.sg_protocol.specs.Keyring.{Keyring, Program}
+use Rattle.sg_keys.specs.KeyFile.{SpellsKeys, key_file}
+use Rattle.sg_keys.specs.declared.key_file.KeyFault.TheVariants.{OutOfMemory as NoMemoryForKeys}
+use Rattle.sg_program.specs.Compiled.{IsWhole}
+use Rattle.sg_program.specs.Loading.{IsLoadFault}
+use Rattle.sg_program.specs.Text.{program_text}
+use Rattle.sg_program.specs.Together.{clashes}
+use Rattle.sg_program.specs.declared.load.LoadFault.TheVariants as Load
+use Rattle.sg_script.specs.Format.{SpellsScript, script_file}
+use Rattle.sg_script.specs.Script.{Script}
+use Rattle.sg_script.specs.declared.fault.ScriptFault.TheVariants.{OutOfMemory as NoMemoryForScripts}
+use Rattle.sg_top.specs.Ending.{Ending, KeysRefused, ScriptRefused, ProgramRefused, GraphRefused, NoMemory}
+use Rattle.sg_top.specs.Ends.{Told, Has, IsUnread}
+use Rattle.sg_top.specs.declared.input.BadProgram.{BadProgram}
+use Rattle.sg_top.specs.declared.input.BadProgram.TheVariants.{Malformed, NotTheTable, Twice}
+
+-- the files that a run names
+pub record Named : Type 0 where
+  pub keys : List ℕ
+  pub programs : List (List ℕ)
+  pub script : List ℕ
+
+-- what a run plays by
+pub record Setup : Type 0 where
+  pub keys : Keyring
+  pub programs : List Program
+  pub script : Script
+
+-- ---- what the files hold
+
+-- the file has at most so many bytes, and they are such
+abbrev pub Holds : Told → (most : ℕ) → (file : List ℕ) → (List ℕ → Type 0) → Type 0
+Holds told most file Such = (bytes : List ℕ) × Has told file (Some bytes) × (length bytes ≤ most) × Such bytes
+
+-- the bytes are the text of the program
+abbrev pub IsTextOf : Program → List ℕ → Type 0
+IsTextOf p bytes = IsWhole p × (program_text p ≡ bytes)
+
+-- such a program was put behind these, none of which has its graph's name with its role, or with another graph
+pub record Adds (Such : Program → Type 0) (before after : List Program) : Type 0 where
+  pub program : Program
+  pub such : Such program
+  pub alone : list_any (clashes program) before ≡ false
+  pub is : after ≡ before ++ program ∷ []
+
+-- the files hold these programs, in order, none of which is of another graph with the name of one before it, or of the same graph and role
+pub data HoldPrograms (told : Told) : (files : List (List ℕ)) → List Program → Type 0 where
+  NoPrograms : HoldPrograms told [] []
+  OneMore : {files : List (List ℕ)} {programs : List Program} {file : List ℕ} {p : Program} → HoldPrograms told files programs
+      → Holds told most_program_file file (IsTextOf p) → list_any (clashes p) programs ≡ false → HoldPrograms told (files ++ file ∷ []) (programs ++ p ∷ [])
+
+-- the files hold the setup
+pub record HasSetup (told : Told) (named : Named) (s : Setup) : Type 0 where
+  pub keys : Holds told most_script_file named.keys (λ bytes. SpellsKeys bytes s.keys)
+  pub programs : HoldPrograms told named.programs s.programs
+  pub script : Holds told most_script_file named.script (λ bytes. SpellsScript s.programs bytes s.script)
+
+-- ---- what is refused
+
+-- the bytes are no key file, as its first fault says, or memory was wanted
+abbrev pub RefusesKeys : List ℕ → Ending → Type 0
+RefusesKeys bytes (KeysRefused fault) = (fault ≢ NoMemoryForKeys) × (key_file bytes ≡ Err fault)
+RefusesKeys bytes NoMemory = ⊤
+RefusesKeys bytes ending = ⊥
+
+-- why bytes are not taken as a program beside those before it
+abbrev pub IsBadProgram : List Program → List ℕ → BadProgram → Type 0
+IsBadProgram before bytes (Malformed at) = IsLoadFault bytes (Load.Malformed at)
+IsBadProgram before bytes (NotTheTable n) = IsLoadFault bytes (Load.NotTheTable n)
+IsBadProgram before bytes Twice = (p : Program) × IsTextOf p bytes × (list_any (clashes p) before ≡ true)
+
+-- the bytes are not taken as the program behind these, which is told by its number, counted from 1, or by the fault of its graph; or memory was wanted
+abbrev pub RefusesProgram : List Program → List ℕ → Ending → Type 0
+RefusesProgram before bytes (ProgramRefused n cause) = (n ≡ length before + 1) × IsBadProgram before bytes cause
+RefusesProgram before bytes (GraphRefused g fault) = IsLoadFault bytes (Load.Graph g fault)
+RefusesProgram before bytes NoMemory = ⊤
+RefusesProgram before bytes ending = ⊥
+
+-- the bytes are no script beside these programs, as its first fault says, or memory was wanted
+abbrev pub RefusesScript : List Program → List ℕ → Ending → Type 0
+RefusesScript programs bytes (ScriptRefused fault) = (fault ≢ NoMemoryForScripts) × (script_file programs bytes ≡ Err fault)
+RefusesScript programs bytes NoMemory = ⊤
+RefusesScript programs bytes ending = ⊥
+
+-- it ends at this file, of at most so many bytes: the file isn't read, or what it holds is refused
+abbrev pub EndsAt : Told → (faults faults' : ℕ) → (most : ℕ) → (file : List ℕ) → (List ℕ → Ending → Type 0) → Ending → Type 0
+EndsAt told faults faults' most file Refuses ending = IsUnread most file told faults faults' ending ⊎ Holds told most file (λ bytes. Refuses bytes ending)
+
+-- it ends at a program of these files, those before it being read and taken
+pub record StopsAtProgram (told : Told) (faults faults' : ℕ) (files : List (List ℕ)) (ending : Ending) : Type 0 where
+  pub before : List (List ℕ)
+  pub file : List ℕ
+  pub behind : List (List ℕ)
+  pub programs : List Program
+  pub are : files ≡ before ++ file ∷ behind
+  pub held : HoldPrograms told before programs
+  pub ends : EndsAt told faults faults' most_program_file file (RefusesProgram programs) ending
+
+-- there is no setup, by the first cause: the keys are looked at first, then the programs in order, then the script
+pub data LacksSetup (told : Told) (faults faults' : ℕ) (named : Named) (ending : Ending) : Type 0 where
+  AtKeys : EndsAt told faults faults' most_script_file named.keys RefusesKeys ending → LacksSetup told faults faults' named ending
+  AtProgram : {keys : Keyring} → Holds told most_script_file named.keys (λ bytes. SpellsKeys bytes keys) → StopsAtProgram told faults faults' named.programs ending
+      → LacksSetup told faults faults' named ending
+  AtScript : {keys : Keyring} {programs : List Program} → Holds told most_script_file named.keys (λ bytes. SpellsKeys bytes keys) → HoldPrograms told named.programs programs
+      → EndsAt told faults faults' most_script_file named.script (RefusesScript programs) ending → LacksSetup told faults faults' named ending

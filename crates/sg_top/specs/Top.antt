@@ -1,0 +1,51 @@
+-- What the program leaves, and how it says why it ends.
+use Rattle.std.specs.Prelude.{◌≡◌, ◌≢◌, ℕ, ◌⊎◌, List, [], Option, Some, None, ⊤}
+use Rattle.sg_base.specs.Outside.{HasRisen, Appends, AppendsFront}
+use Rattle.sg_model.specs.Limits.{most_graph_file, most_logs_file, most_schedule_file}
+use Rattle.sg_words.specs.Command.{Command, Check, Compile, Run, Replay, Audit, Compose, command_of}
+use Rattle.sg_top.specs.Ending.{Ending, NoCommand, NoMemory, status_of, line_of}
+use Rattle.sg_top.specs.Ends.{Told, Output, OnFile, Checks, Compiles, Replays, Audits, Composes}
+use Rattle.sg_top.specs.Runs.{Outside, IsUntouched, Runs}
+
+-- the command is a run
+abbrev pub IsRun : Option Command → Type 0
+IsRun (Some (Run keys script most programs)) = ⊤
+IsRun other = ⊥
+
+-- the work that a command asks for ends so
+abbrev pub Works : Option Command → Told → (faults faults' : ℕ) → (old new : Outside) → Ending → Type 0
+Works None told faults faults' old new ending = IsUntouched old new × (ending ≡ NoCommand)
+Works (Some (Check file)) told faults faults' old new ending = OnFile Checks most_graph_file file told faults faults' old.out new.out ending
+Works (Some (Compile file role)) told faults faults' old new ending = OnFile (Compiles role) most_graph_file file told faults faults' old.out new.out ending
+Works (Some (Run keys script most programs)) told faults faults' old new ending = Runs (record { keys = keys; programs = programs; script = script }) most told faults faults' old new ending
+Works (Some (Replay file)) told faults faults' old new ending = OnFile Replays most_schedule_file file told faults faults' old.out new.out ending
+Works (Some (Audit file)) told faults faults' old new ending = OnFile Audits most_logs_file file told faults faults' old.out new.out ending
+Works (Some (Compose file)) told faults faults' old new ending = OnFile Composes most_graph_file file told faults faults' old.out new.out ending
+
+-- the work that the words ask for ends so, or memory was wanted to read them
+abbrev pub Does : (words : List (List ℕ)) → Told → (faults faults' : ℕ) → (old new : Outside) → Ending → Type 0
+Does words told faults faults' old new ending =
+    Works (command_of words) told faults faults' old new ending
+    ⊎ (IsUntouched old new × (ending ≡ NoMemory))
+
+-- a line is written and its status given, or it is not taken whole, which the count of faults shows, and the status is that of a failed write
+abbrev pub Puts : (old new : Output) → (line : List ℕ) → (wanted status : ℕ) → Type 0
+Puts old new line wanted status =
+    ((status ≡ wanted) × Appends old.bytes new.bytes line)
+    ⊎ ((status ≡ 6) × HasRisen old.faults new.faults × AppendsFront old.bytes new.bytes line)
+
+-- how the program says how its work ended: by the ending's line and status, or, where memory was wanted for a line, by saying this
+abbrev pub Says : Ending → (old new : Output) → (status : ℕ) → Type 0
+Says work old new status =
+    Puts old new (line_of work) (status_of work) status
+    ⊎ ((line_of work ≢ []) × Puts old new (line_of NoMemory) (status_of NoMemory) status)
+
+-- the program ended with this status: its work ended in some way, and so it says
+pub record Ends (words : List (List ℕ)) (told : Told) (faults faults' : ℕ) (old new : Outside) (err err' : Output) (status : ℕ) : Type 0 where
+  pub work : Ending
+  pub does : Does words told faults faults' old new work
+  pub says : Says work err err' status
+
+-- a run may have begun to play: the words ask for one, and the status is 0, 6, 7 or 8
+abbrev pub MayPlay : (words : List (List ℕ)) → (status : ℕ) → Type 0
+MayPlay words status = IsRun (command_of words) × ((status ≡ 0) ⊎ (status ≡ 6) ⊎ (status ≡ 7) ⊎ (status ≡ 8))

@@ -1,0 +1,129 @@
+//! The program, but for the real objects.
+ghost use Rattle.std.specs.Prelude.{◌≡◌, ◌⊎◌, map, option_map, string_bytes};
+ghost use Rattle.sg_words.specs.Command.{command_of};
+ghost use Rattle.sg_words.specs.Model.{command_held};
+ghost use Rattle.sg_top.specs.Model.{ending_held};
+ghost use Rattle.sg_top.specs.Runs.{CanHavePlayed};
+ghost use Rattle.sg_top.specs.Top.{Ends, IsRun, MayPlay, Puts, Says, Works};
+
+use crate::audit::audit;
+use crate::check::check;
+use crate::compile::compile;
+use crate::compose::compose;
+use crate::ending::Ending;
+use crate::replay::replay;
+use crate::run::run;
+use sg_base::{Files, Fresh, Link, Sink, write_all};
+use sg_words::{Command, CommandLine, Given};
+use std::alloc::Global;
+
+/// Does what the words ask for, those after the program's name, and gives the exit status.
+///
+/// `check GRAPH` reads a graph from a file, compiles it for each of its roles, and writes to `out` that it is accepted, and how many views
+/// each role has. `compile GRAPH ROLE` compiles it for one role and writes the program. `run KEYS SCRIPT N PROGRAM..` plays a script as
+/// one principal over `link`, with random words from `fresh` and at most N deliveries, and writes a line for each step. `replay
+/// SCHEDULE` reads a schedule from a file, compiles its graphs, runs it, and writes the report of the run. `audit LOGS` reads logs from
+/// a file, makes the checks of `check` for their graph, and writes of each session whether its logs agree. `compose PARTS` reads parts
+/// from a file, expands them, checks the expansion, and writes its canonical text. Whatever comes, `err` gets one line that says why,
+/// but where the output was written.
+pub fn top<F: Files, O: Sink, E: Sink, L: Link, R: Fresh>(
+    alloc: Global,
+    words: &[String],
+    files: &mut F,
+    out: &mut O,
+    err: &mut E,
+    link: &mut L,
+    fresh: &mut R,
+) -> u8
+    ensures ends { Ends (map string_bytes words.now) (F.held files.old) (F.faults files.old) (F.faults files.new)
+        (record { out = record { bytes = O.written out.old; faults = O.faults out.old }; link = record { deliveries = L.deliveries link.old; sent = L.sent link.old; faults = L.faults link.old }; words = R.words fresh.old })
+        (record { out = record { bytes = O.written out.new; faults = O.faults out.new }; link = record { deliveries = L.deliveries link.new; sent = L.sent link.new; faults = L.faults link.new }; words = R.words fresh.new })
+        (record { bytes = E.written err.old; faults = E.faults err.old }) (record { bytes = E.written err.new; faults = E.faults err.new }) result }
+
+    // The link and the random words are as before where no run began.
+    ensures as_before { MayPlay (map string_bytes words.now) result ⊎ ((link.new ≡ link.old) × (fresh.new ≡ fresh.old)) }
+{
+    match CommandLine::new(alloc, words) {
+        Ok(line) => on_line(alloc, &line, files, out, err, link, fresh),
+        Err(_) => say(alloc, &Ending::NoMemory, err),
+    }
+}
+
+// Does what a command line asks for.
+fn on_line<F: Files, O: Sink, E: Sink, L: Link, R: Fresh>(
+    alloc: Global,
+    line: &CommandLine<'_>,
+    files: &mut F,
+    out: &mut O,
+    err: &mut E,
+    link: &mut L,
+    fresh: &mut R,
+) -> u8
+    ensures ends { Ends line.now (F.held files.old) (F.faults files.old) (F.faults files.new)
+        (record { out = record { bytes = O.written out.old; faults = O.faults out.old }; link = record { deliveries = L.deliveries link.old; sent = L.sent link.old; faults = L.faults link.old }; words = R.words fresh.old })
+        (record { out = record { bytes = O.written out.new; faults = O.faults out.new }; link = record { deliveries = L.deliveries link.new; sent = L.sent link.new; faults = L.faults link.new }; words = R.words fresh.new })
+        (record { bytes = E.written err.old; faults = E.faults err.old }) (record { bytes = E.written err.new; faults = E.faults err.new }) result }
+    ensures as_before { MayPlay line.now result ⊎ ((link.new ≡ link.old) × (fresh.new ≡ fresh.old)) }
+{
+    match Given::read(alloc, line) {
+        Ok(given) => {
+            let ending = work(alloc, given.command(), files, out, link, fresh);
+            say(alloc, &ending, err)
+        }
+        Err(_) => say(alloc, &Ending::NoMemory, err),
+    }
+}
+
+fn work<'w, F: Files, O: Sink, L: Link, R: Fresh>(
+    alloc: Global,
+    command: Option<Command<'w>>,
+    files: &mut F,
+    out: &mut O,
+    link: &mut L,
+    fresh: &mut R,
+) -> Ending<'w>
+    ensures works { Works (option_map command_held command.entry) (F.held files.old) (F.faults files.old) (F.faults files.new)
+        (record { out = record { bytes = O.written out.old; faults = O.faults out.old }; link = record { deliveries = L.deliveries link.old; sent = L.sent link.old; faults = L.faults link.old }; words = R.words fresh.old })
+        (record { out = record { bytes = O.written out.new; faults = O.faults out.new }; link = record { deliveries = L.deliveries link.new; sent = L.sent link.new; faults = L.faults link.new }; words = R.words fresh.new })
+        (ending_held result) }
+    ensures as_before { (IsRun (option_map command_held command.entry) × CanHavePlayed (ending_held result)) ⊎ ((link.new ≡ link.old) × (fresh.new ≡ fresh.old)) }
+{
+    match command {
+        None => Ending::NoCommand,
+        Some(Command::Check { file }) => check(alloc, file, files, out),
+        Some(Command::Compile { file, role }) => compile(alloc, file, role, files, out),
+        Some(
+            Command::Run {
+                keys,
+                script,
+                deliveries,
+                programs,
+            },
+        ) => run(
+            alloc, keys, script, deliveries, programs, files, out, link, fresh,
+        ),
+        Some(Command::Replay { file }) => replay(alloc, file, files, out),
+        Some(Command::Audit { file }) => audit(alloc, file, files, out),
+        Some(Command::Compose { file }) => compose(alloc, file, files, out),
+    }
+}
+
+/// Says on standard error how the work ended, and gives the status.
+pub fn say<E: Sink>(alloc: Global, work: &Ending<'_>, err: &mut E) -> u8
+    ensures { Says (ending_held work.now) (record { bytes = E.written err.old; faults = E.faults err.old }) (record { bytes = E.written err.new; faults = E.faults err.new }) result }
+{
+    match work.line(alloc) {
+        Ok(line) => put(err, line.as_slice(), work.status()),
+        Err(_) => put(err, b"out of memory\n", 8),
+    }
+}
+
+/// Writes a line and gives the status, or that of a failed write.
+pub fn put<E: Sink>(err: &mut E, line: &[u8], status: u8) -> u8
+    ensures { Puts (record { bytes = E.written err.old; faults = E.faults err.old }) (record { bytes = E.written err.new; faults = E.faults err.new }) line.now status result }
+{
+    match write_all(err, line) {
+        Ok(()) => status,
+        Err(_) => 6,
+    }
+}
