@@ -43,3 +43,64 @@ built() {
     (cd "$bench" && rt fmt && cd "$folder" && rt ci) >"$folder/log" 2>&1 </dev/null || { cat "$folder/log" >&2; return 1; }
     printf '%s\n' "$bench/out/$name"
 }
+
+# hashes: makes a program that makes as many tags and digests as the file `counts` where it runs says, by the product's own `Key::tag` and `graph_digest`: a
+# line for each kind and length, `t` or `d`, how many, and the length of each text. `built` proves and builds it.
+hashes() {
+    program hashes sg_base sg_crypt
+    cat >"$bench/src/main.rt" <<'RATTLE'
+//! Makes as many tags and digests as the file `counts` says, of texts of the lengths that it says.
+#![tactic(auto)]
+
+use sg_base::read_number;
+use sg_crypt::{Key, graph_digest};
+use std::{fs, io};
+
+fn main(rt: HostRuntime) -> Result<(), io::Error> {
+    let bytes = fs::read(&rt, "counts")?;
+    let key = Key::new([0x11; 32]);
+    let mut text = [0u8; 4096];
+    for line in bytes.as_slice().split(|byte| *byte == b'\n') {
+        hash(&key, line, &mut text);
+    }
+    Ok(())
+}
+
+// A line: `t` or `d`, a number of tags or digests, and the length of each text.
+fn hash(key: &Key, line: &[u8], text: &mut [u8; 4096]) {
+    let mut words = line.split(|byte| *byte == b' ');
+    let (Some(kind), Some(count), Some(length)) = (words.next(), words.next(), words.next()) else {
+        return;
+    };
+    let (Some(count), Some(length)) = (read_number(count, 100_000_000), read_number(length, 4096)) else {
+        return;
+    };
+    let text = &mut text[..length as usize];
+    if kind == b"t".as_slice() {
+        tags(key, count, text);
+    } else {
+        digests(count, text);
+    }
+}
+
+fn tags(key: &Key, count: u64, text: &mut [u8]) {
+    for _ in 0..count {
+        let tag = key.tag(b"", text);
+        if let Some(first) = text.first_mut() {
+            *first = tag.0[0];
+        }
+    }
+}
+
+fn digests(count: u64, text: &mut [u8]) {
+    for _ in 0..count {
+        let digest = graph_digest(text);
+        if let Some(first) = text.first_mut() {
+            *first = digest[0];
+        }
+    }
+}
+RATTLE
+    mkdir "$bench/data"
+    : >"$bench/data/counts"
+}

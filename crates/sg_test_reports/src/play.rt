@@ -235,7 +235,9 @@ fn is_request(alloc: Global, rt: &impl Abort, bytes: &[u8]) -> bool {
 
 fn begins(frame: &Frame, nonce: [u8; 16]) -> bool {
     match (&frame.join, frame.items.as_slice()) {
-        (Some(cast), [item]) => { cast.nonce() == nonce && item.label.0 == 0 && item.time.0 == 1 }
+        (Some(cast), [item]) => {
+            cast.get().nonce() == nonce && item.label.0 == 0 && item.time.0 == 1
+        }
         _ => false,
     }
 }

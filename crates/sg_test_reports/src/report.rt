@@ -151,7 +151,7 @@ fn tells_premises(
     lines: &str,
 ) {
     let mut out = ByteOut::new(alloc);
-    let told = put_premises(alloc, &mut out, forged, collision_free);
+    let told = put_premises(&mut out, forged, collision_free);
     assert!(rt; told.is_ok());
     assert!(rt; out.done().as_slice() == lines.as_bytes(), "{lines}");
 }

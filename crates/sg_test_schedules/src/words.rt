@@ -18,6 +18,30 @@ fn runs(alloc: Global, words: &[String]) -> Result<Option<(u32, usize)>, OutOfMe
     })
 }
 
+// The command of these words, through `clap`: the seed and the number of sessions.
+fn drives(alloc: Global, words: &[String]) -> Result<Option<(u32, u32)>, OutOfMemory> {
+    let line = Line::new(alloc, words)?;
+    let given = Given::read(alloc, &line)?;
+    Ok(match given.command() {
+        Some(Command::Drive { seed, sessions, .. }) => Some((seed, sessions)),
+        _ => None,
+    })
+}
+
+#[test]
+fn a_drive_has_its_seed_and_sessions(rt: HostRuntime) -> Result<(), OutOfMemory> {
+    let alloc = rt.alloc();
+    let mut words = Vec::new(alloc);
+    for word in ["drive", "4294967295", "2000", "f"] {
+        words.push(String::from_str(alloc, word)?)?;
+    }
+    assert!(rt; drives(alloc, words.as_slice())? == Some((4_294_967_295, 2_000)));
+    assert!(rt; read_command(&["drive", "4294967296", "1", "f"]).is_none());
+    assert!(rt; read_command(&["drive", "0", "2001", "f"]).is_none());
+    assert!(rt; read_command(&["drive", "0", "0", "f"]).is_none());
+    Ok(())
+}
+
 #[test]
 fn a_run_has_its_numbers_and_programs(rt: HostRuntime) -> Result<(), OutOfMemory> {
     let alloc = rt.alloc();

@@ -341,7 +341,7 @@ fn refuses_what_is_no_schedule(rt: HostRuntime) {
 
 // The words of a line are no command.
 fn is_no_command(alloc: Global, rt: &impl Abort, line: &str) {
-    let usage = "usage: sessiongraph check|compile|run|replay|audit|compose\n";
+    let usage = "usage: sessiongraph check|compile|run|replay|drive|audit|compose\n";
     refuses(alloc, rt, line, &[], 2, usage);
 }
 
@@ -350,6 +350,9 @@ fn refuses_words_that_are_no_command(rt: HostRuntime) {
     let alloc = rt.alloc();
     is_no_command(alloc, &rt, "");
     is_no_command(alloc, &rt, "check");
+    is_no_command(alloc, &rt, "drive 0 0 f");
+    is_no_command(alloc, &rt, "drive 0 2001 f");
+    is_no_command(alloc, &rt, "drive 01 1 f");
     is_no_command(alloc, &rt, "draw f");
     is_no_command(alloc, &rt, "compile f");
     is_no_command(alloc, &rt, "compile f -b");
@@ -464,6 +467,31 @@ fn refuses_what_is_no_graph(rt: HostRuntime) {
     refuses(alloc, &rt, "check f", &[SKIPPED], 3, line);
     let line = "graph refused: blinding at n0 for a and b: L1 DA / L2 DB\n";
     refuses(alloc, &rt, "check f", &[BLINDED], 3, line);
+}
+
+// A request and its reply.
+const ASKED: &str =
+    "graph pair;role a;role b;node n0:a;node n1:b;node n2:a;edge Request:n0->n1;edge Reply:n1->n2;";
+
+// What comes of one session of them, before and behind the number of deliveries that are refused.
+const SENT: &str = "sessions 1\nsent 2\nreceived 2\n";
+
+const ENDED: &str =
+    "lost 0\nabandoned 0\ncomplete 1\npremise unforged holds\npremise collision-free holds\nwalks 1\n";
+
+// By this seed the request is delivered twice.
+#[test]
+fn sums_a_generated_run_up(rt: HostRuntime) {
+    let alloc = rt.alloc();
+    writes(
+        alloc,
+        &rt,
+        "drive 7 1 f",
+        &[ASKED],
+        &[SENT, "refused 1\n", ENDED],
+    );
+    let line = "graph refused: blinding at n0 for a and b: L1 DA / L2 DB\n";
+    refuses(alloc, &rt, "drive 0 1 f", &[BLINDED], 3, line);
 }
 
 // A part of a payment.
@@ -689,6 +717,13 @@ fn each_failing_call_is_told(rt: HostRuntime) {
     );
     let accepted = "accepted shop\nviews c 4\nviews p 5\nviews w 2\n";
     tells_each_failure(alloc, &rt, "check f", &[WAREHOUSE], &[accepted]);
+    tells_each_failure(
+        alloc,
+        &rt,
+        "drive 0 1 f",
+        &[ASKED],
+        &[SENT, "refused 0\n", ENDED],
+    );
     let role = "sg-program 1\nrole w\n";
     let table = "table\n\
         turn n2: Offer Refuse\n\

@@ -83,7 +83,7 @@ wrong_text NotHonest = codes "not-honest"
 -- the line on standard error
 abbrev pub line_of : Ending → List ℕ
 line_of Written = []
-line_of NoCommand = codes "usage: sessiongraph check|compile|run|replay|audit|compose\n"
+line_of NoCommand = codes "usage: sessiongraph check|compile|run|replay|drive|audit|compose\n"
 line_of (NoGraph fault) = codes "graph refused: " ++ parse_text fault ++ 10 ∷ []
 line_of (NoExpansion fault) = codes "graph refused: " ++ compose_text fault ++ 10 ∷ []
 line_of (GraphRefused g fault) = codes "graph refused: " ++ refusal_text g fault ++ 10 ∷ []

@@ -30,6 +30,7 @@ use Rattle.sg_top.specs.Accepted.{check_text}
 use Rattle.sg_top.specs.Audited.{AllAnswered}
 use Rattle.sg_top.specs.Ending.{Ending, Written, NoGraph, NoExpansion, GraphRefused, NoRole, WrongLine, FileFailed, WriteFailed, NoMemory, NoSuchFile, TooLarge, ending_of_line, ending_of_logs}
 use Rattle.sg_top.specs.Replayed.{CanBeReplayed, Reports, IsOverfull}
+use Rattle.sg_top.specs.Driven.{IsOverfullDrive, Sums}
 
 -- files, each its name and its bytes, where they are told
 abbrev pub Told : Type 0
@@ -160,6 +161,33 @@ Replays bytes old new (WrongLine line wrong) = (new.bytes ≡ old.bytes) × IsNo
 Replays bytes old new (TooLarge what) = (new.bytes ≡ old.bytes) × AsksTooMuch bytes what
 Replays bytes old new (GraphRefused g fault) = (new.bytes ≡ old.bytes) × ((s : Schedule) × SpellsSchedule real bytes s × IsFirstRefused s.graphs g fault)
 Replays bytes old new ending = (text : List ℕ) × IsReplay bytes text × Writes old new text ending
+
+-- ---- drive
+
+-- the text is the summary of the run that is generated for so many sessions of the graph that the bytes spell
+pub record IsDriving (seed sessions : ℕ) (bytes text : List ℕ) : Type 0 where
+  pub graph : Graph
+  pub programs : List Program
+  pub spelled : SpellsGraph bytes graph
+  pub compiled : AreCompiled real (graph ∷ []) programs
+  pub few : All IsWhole programs
+  pub sums : Sums seed sessions graph programs text
+
+-- the record is full as a step begins of the run that is generated for the graph that the bytes spell
+pub record DrivesTooLong (seed sessions : ℕ) (bytes : List ℕ) : Type 0 where
+  pub graph : Graph
+  pub programs : List Program
+  pub spelled : SpellsGraph bytes graph
+  pub compiled : AreCompiled real (graph ∷ []) programs
+  pub overfull : IsOverfullDrive seed sessions graph programs
+
+-- a drive of these bytes ends so: the summary is written; else nothing is written, and the bytes are refused at their first wrong token, or their graph at its first fault, or the record grows too large, or memory was wanted
+abbrev pub Drives : (seed sessions : ℕ) → List ℕ → (old new : Output) → Ending → Type 0
+Drives seed sessions bytes old new NoMemory = new.bytes ≡ old.bytes
+Drives seed sessions bytes old new (NoGraph fault) = (new.bytes ≡ old.bytes) × (parsed bytes ≡ Err fault)
+Drives seed sessions bytes old new (GraphRefused g fault) = (new.bytes ≡ old.bytes) × SpellsGraph bytes g × IsFirstRefused (g ∷ []) g fault
+Drives seed sessions bytes old new (TooLarge what) = (new.bytes ≡ old.bytes) × (what ≡ codes "record") × DrivesTooLong seed sessions bytes
+Drives seed sessions bytes old new ending = (text : List ℕ) × IsDriving seed sessions bytes text × Writes old new text ending
 
 -- ---- audit
 

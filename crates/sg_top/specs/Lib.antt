@@ -4,6 +4,7 @@ pub mod Accepted
 pub mod Audited
 pub mod Ending
 pub mod Replayed
+pub mod Driven
 pub mod Ends
 pub mod Setup
 pub mod Runs

@@ -2,9 +2,9 @@
 use Rattle.std.specs.Prelude.{◌≡◌, ◌≢◌, ℕ, ◌⊎◌, List, [], Option, Some, None, ⊤}
 use Rattle.sg_base.specs.Outside.{HasRisen, Appends, AppendsFront}
 use Rattle.sg_model.specs.Limits.{most_graph_file, most_logs_file, most_schedule_file}
-use Rattle.sg_words.specs.Command.{Command, Check, Compile, Run, Replay, Audit, Compose, command_of}
+use Rattle.sg_words.specs.Command.{Command, Check, Compile, Run, Replay, Drive, Audit, Compose, command_of}
 use Rattle.sg_top.specs.Ending.{Ending, NoCommand, NoMemory, status_of, line_of}
-use Rattle.sg_top.specs.Ends.{Told, Output, OnFile, Checks, Compiles, Replays, Audits, Composes}
+use Rattle.sg_top.specs.Ends.{Told, Output, OnFile, Checks, Compiles, Replays, Drives, Audits, Composes}
 use Rattle.sg_top.specs.Runs.{Outside, IsUntouched, Runs}
 
 -- the command is a run
@@ -19,6 +19,7 @@ Works (Some (Check file)) told faults faults' old new ending = OnFile Checks mos
 Works (Some (Compile file role)) told faults faults' old new ending = OnFile (Compiles role) most_graph_file file told faults faults' old.out new.out ending
 Works (Some (Run keys script most programs)) told faults faults' old new ending = Runs (record { keys = keys; programs = programs; script = script }) most told faults faults' old new ending
 Works (Some (Replay file)) told faults faults' old new ending = OnFile Replays most_schedule_file file told faults faults' old.out new.out ending
+Works (Some (Drive seed sessions file)) told faults faults' old new ending = OnFile (Drives seed sessions) most_graph_file file told faults faults' old.out new.out ending
 Works (Some (Audit file)) told faults faults' old new ending = OnFile Audits most_logs_file file told faults faults' old.out new.out ending
 Works (Some (Compose file)) told faults faults' old new ending = OnFile Composes most_graph_file file told faults faults' old.out new.out ending
 

@@ -107,7 +107,7 @@ impl<'w> Ending<'w> {
         match self {
             Ending::Written | Ending::WriteFailed => Ok(()),
             Ending::NoCommand => out.bytes(
-                b"usage: sessiongraph check|compile|run|replay|audit|compose\n",
+                b"usage: sessiongraph check|compile|run|replay|drive|audit|compose\n",
             ),
             Ending::NoGraph { fault } => put_no_graph(out, fault),
             Ending::NoExpansion { fault } => put_no_expansion(out, fault),

@@ -4,7 +4,7 @@
 //! those of the system it is `sessiongraph` (`sg_cli`); with objects in memory another crate can call it.
 //!
 //! - The words are read first. Words that are in no command end with the usage line, and nothing else is touched.
-//! - `check`, `compile`, `replay`, `audit` and `compose` work on one file. It is read whole, has at most so many bytes, and its first fault ends
+//! - `check`, `compile`, `replay`, `drive`, `audit` and `compose` work on one file. It is read whole, has at most so many bytes, and its first fault ends
 //!   the work. Nothing is written before all is done, so what is refused leaves standard output as it was.
 //! - `run` reads its files in order, keys, programs and script, and opens the link when all are taken. It writes as it goes: a step's line when
 //!   the link has taken the step's frame.
@@ -27,6 +27,7 @@ mod before;
 mod check;
 mod compile;
 mod compose;
+mod drive;
 mod ending;
 mod file;
 mod graph;

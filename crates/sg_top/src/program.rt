@@ -1,6 +1,6 @@
 //! The program, but for the real objects.
 ghost use Rattle.std.specs.Prelude.{◌≡◌, ◌⊎◌, map, option_map, string_bytes};
-ghost use Rattle.sg_words.specs.Command.{command_of};
+ghost use Rattle.sg_words.specs.Command.{CanBeDriven, command_of};
 ghost use Rattle.sg_words.specs.Model.{command_held};
 ghost use Rattle.sg_top.specs.Model.{ending_held};
 ghost use Rattle.sg_top.specs.Runs.{CanHavePlayed};
@@ -10,6 +10,7 @@ use crate::audit::audit;
 use crate::check::check;
 use crate::compile::compile;
 use crate::compose::compose;
+use crate::drive::drive;
 use crate::ending::Ending;
 use crate::replay::replay;
 use crate::run::run;
@@ -22,10 +23,11 @@ use std::alloc::Global;
 /// `check GRAPH` reads a graph from a file, compiles it for each of its roles, and writes to `out` that it is accepted, and how many views
 /// each role has. `compile GRAPH ROLE` compiles it for one role and writes the program. `run KEYS SCRIPT N PROGRAM..` plays a script as
 /// one principal over `link`, with random words from `fresh` and at most N deliveries, and writes a line for each step. `replay
-/// SCHEDULE` reads a schedule from a file, compiles its graphs, runs it, and writes the report of the run. `audit LOGS` reads logs from
-/// a file, makes the checks of `check` for their graph, and writes of each session whether its logs agree. `compose PARTS` reads parts
-/// from a file, expands them, checks the expansion, and writes its canonical text. Whatever comes, `err` gets one line that says why,
-/// but where the output was written.
+/// SCHEDULE` reads a schedule from a file, compiles its graphs, runs it, and writes the report of the run. `drive SEED SESSIONS GRAPH`
+/// reads a graph, compiles it, generates a run of it in so many sessions, and writes the summary. `audit LOGS` reads logs from a file,
+/// makes the checks of `check` for their graph, and writes of each session whether its logs agree. `compose PARTS` reads parts from a
+/// file, expands them, checks the expansion, and writes its canonical text. Whatever comes, `err` gets one line that says why, but where
+/// the output was written.
 pub fn top<F: Files, O: Sink, E: Sink, L: Link, R: Fresh>(
     alloc: Global,
     words: &[String],
@@ -82,6 +84,7 @@ fn work<'w, F: Files, O: Sink, L: Link, R: Fresh>(
     link: &mut L,
     fresh: &mut R,
 ) -> Ending<'w>
+    requires { CanBeDriven (option_map command_held command) }
     ensures works { Works (option_map command_held command.entry) (F.held files.old) (F.faults files.old) (F.faults files.new)
         (record { out = record { bytes = O.written out.old; faults = O.faults out.old }; link = record { deliveries = L.deliveries link.old; sent = L.sent link.old; faults = L.faults link.old }; words = R.words fresh.old })
         (record { out = record { bytes = O.written out.new; faults = O.faults out.new }; link = record { deliveries = L.deliveries link.new; sent = L.sent link.new; faults = L.faults link.new }; words = R.words fresh.new })
@@ -103,6 +106,13 @@ fn work<'w, F: Files, O: Sink, L: Link, R: Fresh>(
             alloc, keys, script, deliveries, programs, files, out, link, fresh,
         ),
         Some(Command::Replay { file }) => replay(alloc, file, files, out),
+        Some(
+            Command::Drive {
+                seed,
+                sessions,
+                file,
+            },
+        ) => drive(alloc, seed, sessions, file, files, out),
         Some(Command::Audit { file }) => audit(alloc, file, files, out),
         Some(Command::Compose { file }) => compose(alloc, file, files, out),
     }

@@ -1,7 +1,7 @@
 -- What the words of the command line ask for.
-use Rattle.std.specs.Prelude.{ℕ, ◌==◌, Bool, if◌then◌else◌, List, [], ◌∷◌, codes, slice_index, Option, Some, None, option_map, bytes_eq}
+use Rattle.std.specs.Prelude.{ℕ, ◌==◌, ◌≤◌, Bool, if◌then◌else◌, List, [], ◌∷◌, codes, slice_index, Option, Some, None, option_map, option_and_then, bytes_eq, ⊤}
 use Rattle.std.specs.List.{list_any}
-use Rattle.sg_base.specs.Words.{number}
+use Rattle.sg_base.specs.Words.{number, from_one}
 use Rattle.sg_model.specs.Limits.{most_deliveries}
 
 -- a command of the table
@@ -10,6 +10,7 @@ pub data Command : Type 0 where
   Compile : (file role : List ℕ) → Command
   Run : (keys script : List ℕ) → (deliveries : ℕ) → (programs : List (List ℕ)) → Command
   Replay : (file : List ℕ) → Command
+  Drive : (seed sessions : ℕ) → (file : List ℕ) → Command
   Audit : (file : List ℕ) → Command
   Compose : (file : List ℕ) → Command
 
@@ -45,11 +46,39 @@ running (keys ∷ script ∷ []) = None
 running (keys ∷ script ∷ n ∷ []) = None
 running (keys ∷ script ∷ n ∷ program ∷ more) = option_map (λ d. Run keys script d (program ∷ more)) (number most_deliveries n)
 
+-- the greatest seed
+abbrev pub most_seed : ℕ
+most_seed = 4294967295
+
+-- the most sessions that are driven
+abbrev pub most_driven : ℕ
+most_driven = 2000
+
+-- how many sessions a word asks for, from 1 to 2,000
+abbrev pub sessions_of : List ℕ → Option ℕ
+sessions_of word = option_and_then from_one (number most_driven word)
+
+-- SEED SESSIONS FILE
+abbrev pub driving : List (List ℕ) → Option Command
+driving [] = None
+driving (seed ∷ []) = None
+driving (seed ∷ sessions ∷ []) = None
+driving (seed ∷ sessions ∷ file ∷ []) = option_and_then (λ s. option_map (λ n. Drive s n file) (sessions_of sessions)) (number most_seed seed)
+driving (seed ∷ sessions ∷ file ∷ other ∷ more) = None
+
 -- the command of this name, with these words behind it
 abbrev pub named : (name : List ℕ) → List (List ℕ) → Option Command
-named name words = if bytes_eq name (codes "run") then running words else few name words
+named name words =
+    if bytes_eq name (codes "run") then running words
+    else if bytes_eq name (codes "drive") then driving words
+    else few name words
 
 -- the command, where the words are in the table and none begins with -
 abbrev pub command_of : List (List ℕ) → Option Command
 command_of [] = None
 command_of (name ∷ words) = if list_any is_option (name ∷ words) then None else named name words
+
+-- where sessions are driven, there are 1 to 2,000 of them
+abbrev pub CanBeDriven : Option Command → Type 0
+CanBeDriven (Some (Drive seed sessions file)) = (1 ≤ sessions) × (sessions ≤ most_driven)
+CanBeDriven other = ⊤

@@ -2,7 +2,7 @@
 use Rattle.std.specs.Prelude.{map}
 use Rattle.sg_words.specs.Command as Asked
 use Rattle.sg_words.specs.declared.command.Command.{Command}
-use Rattle.sg_words.specs.declared.command.Command.TheVariants.{Check, Compile, Run, Replay, Audit, Compose}
+use Rattle.sg_words.specs.declared.command.Command.TheVariants.{Check, Compile, Run, Replay, Drive, Audit, Compose}
 
 -- the command that is held
 abbrev pub command_held : Command → Asked.Command
@@ -10,5 +10,6 @@ command_held (Check file) = Asked.Check file.now
 command_held (Compile file role) = Asked.Compile file.now role.now
 command_held (Run keys script deliveries programs) = Asked.Run keys.now script.now deliveries (map (λ s. s.now) programs.now)
 command_held (Replay file) = Asked.Replay file.now
+command_held (Drive seed sessions file) = Asked.Drive seed sessions file.now
 command_held (Audit file) = Asked.Audit file.now
 command_held (Compose file) = Asked.Compose file.now

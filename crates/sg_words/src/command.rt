@@ -1,7 +1,7 @@
 //! What the words of the command line ask for.
 ghost use Rattle.std.specs.Prelude.{◌≡◌, map, option_map};
 ghost use Rattle.std.specs.List.{list_any};
-ghost use Rattle.sg_words.specs.Command.{command_of, few, is_option, named, on_file, on_file_and_role, running};
+ghost use Rattle.sg_words.specs.Command.{command_of, driving, few, is_option, named, on_file, on_file_and_role, running, sessions_of};
 ghost use Rattle.sg_words.specs.Model.{command_held};
 
 use sg_base::read_number;
@@ -37,6 +37,15 @@ pub enum Command<'w> {
         /// The file of the schedule.
         file: &'w str,
     },
+    /// Generates a run of a graph, and sums it up.
+    Drive {
+        /// The seed that chooses the run.
+        seed: u32,
+        /// How many sessions the run has, from 1 to 2,000.
+        sessions: u32,
+        /// The file of the graph.
+        file: &'w str,
+    },
     /// Audits logs.
     Audit {
         /// The file of the logs.
@@ -68,6 +77,7 @@ fn named<'w>(name: &str, words: &'w [&'w str]) -> Option<Command<'w>>
 {
     match name {
         "run" => running(words),
+        "drive" => driving(words),
         name => few(name, words),
     }
 }
@@ -88,6 +98,32 @@ fn running<'w>(words: &'w [&'w str]) -> Option<Command<'w>>
         }
         _ => None,
     }
+}
+
+// The command that generates a run.
+fn driving<'w>(words: &'w [&'w str]) -> Option<Command<'w>>
+    ensures { option_map command_held result ≡ driving (map (λ s. s.now) words.now) }
+{
+    match words {
+        [seed, sessions, file] => {
+            let seed = read_number(seed.as_bytes(), 4_294_967_295)? as u32;
+            let sessions = sessions_of(sessions)?;
+            Some(Command::Drive {
+                seed,
+                sessions,
+                file,
+            })
+        }
+        _ => None,
+    }
+}
+
+// How many sessions a word asks for, from 1 to 2,000.
+fn sessions_of(word: &str) -> Option<u32>
+    ensures { result ≡ sessions_of word.now }
+{
+    let sessions = read_number(word.as_bytes(), 2_000)? as u32;
+    if sessions > 0 { Some(sessions) } else { None }
 }
 
 // The command of this name that takes one word or two.

@@ -1,11 +1,17 @@
 use Rattle.std.proofs.Common.{List, ℕ, ◌≡◌, refl, sym, ap, ◌∙◌, subst, inl, inr}
 use Rattle.std.specs.Option.{option_map}
-use Rattle.sg_words.specs.Command.{command_of}
+use Rattle.sg_words.specs.Command.{CanBeDriven, command_of}
 use Rattle.sg_words.specs.Model.{command_held}
+use Rattle.sg_words.proofs.Driven.{can_be_driven}
 use Rattle.sg_top.specs.Ending.{NoMemory}
 use Rattle.sg_top.specs.Model.{ending_held}
 use Rattle.sg_top.proofs.Statuses.{may_play}
 use Rattle.sg_top.proofs.program.on_line.Goals as goal
+
+pub work-ending-requires : goal.work-ending-requires
+work-ending-requires g c =
+    let same : option_map command_held c.command.result ≡ command_of c.args.line.now = c.command.ensures ∙ ap command_of c.in-Ok.ensures in
+    subst CanBeDriven (sym same) (can_be_driven c.args.line.now)
 
 pub returns-in-Ok-clause-ends : goal.returns-in-Ok-clause-ends
 returns-in-Ok-clause-ends g c =

@@ -1,0 +1,130 @@
+-- The counts of what is told, one step more.
+use Rattle.std.proofs.Common.{◌≡◌, ℕ, zero, suc, ◌+◌, ◌<◌, ◌≤◌, Bool, true, false, cond, ◌||◌, if◌then◌else◌, List, [], ◌∷◌, ◌++◌, length, take, filter, filter_map, slice_get, Option, Some, None, option_map, refl, sym, ap, ◌∙◌, subst, inl, inr, arith, append-nil, length-append}
+use Rattle.std.specs.List.{cons_option, list_any}
+use Rattle.std.specs.Option.{option_map_or}
+use Rattle.std.proofs.lemmas.Bool.{cases_Bool}
+use Rattle.std.proofs.lemmas.List.Elements.{filter-append, filter_map-append}
+use Rattle.indexmap.specs.IndexSet.{insert_key}
+use Rattle.sg_lines.proofs.Firsts.{firsts-again, firsts-new, has_text-firsts}
+use Rattle.sg_lines.proofs.SameSid.{same, same-bytes_eq}
+use Rattle.sg_lines.specs.Sessions.{firsts}
+use Rattle.sg_model.specs.Lists.{has_text}
+use Rattle.std.specs.Prelude.{OnOk, Result}
+use Rattle.sg_protocol.specs.Calls.{Event, Refusal}
+use Rattle.sg_protocol.specs.Graph.{Graph}
+use Rattle.sg_report.specs.Told.{Told, Happened, Sends, Abandoned, NotDelivered}
+use Rattle.sg_drive.specs.Counted.{CanRise, with_event, with_sent, with_session, with_told}
+use Rattle.sg_drive.specs.Summary.{Counts, completed, count, counts, is_abandoned, is_received, is_refused, is_sent}
+
+-- ---- one count
+
+count_more : (which : Told → Bool) (ts : List Told) (t : Told) → count which (ts ++ t ∷ []) ≡ (if which t then count which ts + 1 else count which ts)
+count_more which ts t =
+    let both = length-append (filter which ts) (filter which (t ∷ [])) in
+    ap (λ (z : List Told). length z) (filter-append which ts (t ∷ [])) ∙ both ∙ by (which t)
+  where
+    by : (b : Bool) → length (filter which ts) + length (cond b (t ∷ []) []) ≡ (if b then count which ts + 1 else count which ts)
+    by true = refl
+    by false = omega arith
+
+pub count_few : (which : Told → Bool) (ts : List Told) → count which ts ≤ length ts
+count_few which [] = omega arith
+count_few which (t ∷ ts) = by (which t) (count_few which ts)
+  where
+    by : (b : Bool) → length (filter which ts) ≤ length ts → length (cond b (t ∷ filter which ts) (filter which ts)) ≤ length (t ∷ ts)
+    by true h = omega (arith, h)
+    by false h = omega (arith, h)
+
+-- ---- sessions
+
+firsts_more : (xs : List (List ℕ)) (o : Option (List ℕ)) → firsts (xs ++ cons_option o []) ≡ option_map_or (λ sid. with_session sid (firsts xs)) o (firsts xs)
+firsts_more xs None = ap firsts (append-nil xs)
+firsts_more xs (Some sid) = elim (cases_Bool (has_text sid xs)) [
+  | inl e ↦ firsts-again sid xs e ∙ sym (ap (λ b. if b then firsts xs else firsts xs ++ sid ∷ []) (has_text-firsts sid xs ∙ e))
+  | inr e ↦ firsts-new sid xs e ∙ sym (ap (λ b. if b then firsts xs else firsts xs ++ sid ∷ []) (has_text-firsts sid xs ∙ e))
+]
+
+complete_more : (g : Graph) (ts : List Told) (t : Told) → firsts (filter_map (completed g) (ts ++ t ∷ [])) ≡ option_map_or (λ sid. with_session sid (firsts (filter_map (completed g) ts))) (completed g t) (firsts (filter_map (completed g) ts))
+complete_more g ts t = ap firsts (filter_map-append (completed g) ts (t ∷ [])) ∙ firsts_more (filter_map (completed g) ts) (completed g t)
+
+-- ---- all counts
+
+-- with what came of one step more
+pub counts_more : (g : Graph) (ts : List Told) (t : Told) → counts g (ts ++ t ∷ []) ≡ with_told g t (counts g ts)
+counts_more g ts t = λ i. record {
+  sent = count_more is_sent ts t i;
+  received = count_more is_received ts t i;
+  refused = count_more is_refused ts t i;
+  abandoned = count_more is_abandoned ts t i;
+  complete = complete_more g ts t i;
+}
+
+-- where few are told, each count can rise
+pub can_rise : (g : Graph) (ts : List Told) (c : Counts) → c ≡ counts g ts → length ts < 200000 → CanRise c
+can_rise g ts c e l = subst CanRise (sym e) (record {
+  sent = (let f = count_few is_sent ts in omega (arith, f, l));
+  received = (let f = count_few is_received ts in omega (arith, f, l));
+  refused = (let f = count_few is_refused ts in omega (arith, f, l));
+  abandoned = (let f = count_few is_abandoned ts in omega (arith, f, l));
+})
+
+-- ---- lists
+
+got : {A : Type 0} (xs : List A) (i : ℕ) → i < length xs → (x : A) × (slice_get xs i ≡ Some x) × (take (suc i) xs ≡ take i xs ++ x ∷ [])
+got [] i l = absurd (omega (arith, l))
+got (x ∷ xs) zero l = (x, refl, refl)
+got (x ∷ xs) (suc i) l = let r = got xs i (omega (arith, l)) in (r.0, r.1, ap (λ z. x ∷ z) r.2)
+
+pub length_taken : {A : Type 0} (n : ℕ) (xs : List A) → n ≤ length xs → length (take n xs) ≡ n
+length_taken zero xs l = refl
+length_taken (suc n) [] l = absurd (omega (arith, l))
+length_taken (suc n) (x ∷ xs) l = ap suc (length_taken n xs (omega (arith, l)))
+
+whole : {A : Type 0} (xs : List A) → take (length xs) xs ≡ xs
+whole [] = refl
+whole (x ∷ xs) = ap (λ z. x ∷ z) (whole xs)
+
+pub all_taken : {A : Type 0} (n : ℕ) (xs : List A) → n ≡ length xs → take n xs ≡ xs
+all_taken n xs e = ap (λ k. take k xs) e ∙ whole xs
+
+-- ---- the loop
+
+-- one step more was counted
+pub counted_more : (g : Graph) (log : List Told) (i : ℕ) (before after : Counts) (o : Option Told) → i < length log → before ≡ counts g (take i log) → o ≡ slice_get log i → ((t : Told) → o ≡ Some t → after ≡ with_told g t before) → after ≡ counts g (take (i + 1) log)
+counted_more g log i before after o l e told q =
+    let r = got log i l in
+    let one : i + 1 ≡ suc i = omega arith in
+    q r.0 (told ∙ r.1) ∙ ap (with_told g r.0) e ∙ sym (counts_more g (take i log) r.0) ∙ ap (counts g) (sym r.2) ∙ ap (λ k. counts g (take k log)) (sym one)
+
+-- ---- one outcome
+
+pub sends_told : {V E : Type 0} (g : Graph) (e : Event) (to : List ℕ) (n : ℕ) (c c2 : Counts) (r : Result V E) (told : Told) → Some (Sends e to n) ≡ Some told → OnOk r (c2 ≡ with_sent g e c) → OnOk r (c2 ≡ with_told g told c)
+sends_told g e to n c c2 r told q h = let same : Sends e to n ≡ told = cc in subst (λ (t : Told). OnOk r (c2 ≡ with_told g t c)) same h
+
+pub event_told : (g : Graph) (e : Event) (c c2 : Counts) (told : Told) → Some (Happened e) ≡ Some told → c2 ≡ with_event e c → c2 ≡ with_told g told c
+event_told g e c c2 told q h = let same : Happened e ≡ told = cc in subst (λ (t : Told). c2 ≡ with_told g t c) same h
+
+pub refused_told : (g : Graph) (o : Option Refusal) (c c2 : Counts) (told : Told) → option_map NotDelivered o ≡ Some told → c2 ≡ record c { refused = c.refused + 1 } → c2 ≡ with_told g told c
+refused_told g None c c2 told q h = absurd (cc)
+refused_told g (Some why) c c2 told q h = let same : NotDelivered why ≡ told = cc in subst (λ (t : Told). c2 ≡ with_told g t c) same h
+
+pub abandoned_told : (g : Graph) (c c2 : Counts) (told : Told) → Some Abandoned ≡ Some told → c2 ≡ record c { abandoned = c.abandoned + 1 } → c2 ≡ with_told g told c
+abandoned_told g c c2 told q h = let same : Abandoned ≡ told = cc in subst (λ (t : Told). c2 ≡ with_told g t c) same h
+
+-- what counts for nothing
+pub same_told : (g : Graph) (t : Told) (c : Counts) (told : Told) → Some t ≡ Some told → c ≡ with_told g t c → c ≡ with_told g told c
+same_told g t c told q h = let same : t ≡ told = cc in subst (λ (t : Told). c ≡ with_told g t c) same h
+
+pub fault_told : {F : Type 0} (g : Graph) (f : F → Told) (o : Option F) (c : Counts) (told : Told) → ((x : F) → c ≡ with_told g (f x) c) → option_map f o ≡ Some told → c ≡ with_told g told c
+fault_told g f None c told h q = absurd (cc)
+fault_told g f (Some x) c told h q = same_told g (f x) c told q (h x)
+
+-- ---- a set of sessions
+
+-- the set's insertion is that of a session
+pub inserted : (sid : List ℕ) (sids : List (List ℕ)) → insert_key same sids sid ≡ with_session sid sids
+inserted sid sids = ap (λ b. if b then sids else sids ++ sid ∷ []) (any sids)
+  where
+    any : (ks : List (List ℕ)) → list_any (same sid) ks ≡ has_text sid ks
+    any [] = refl
+    any (k ∷ ks) = (λ i. same-bytes_eq sid k i || any ks i)

@@ -1,0 +1,70 @@
+-- How many steps a run that is being generated may still take. Each turn takes fewer than it uses up.
+use Rattle.std.specs.Prelude.{◌≡◌, ℕ, ◌+◌, ◌-◌, ◌*◌, ◌≤◌, Bool, true, if◌then◌else◌, List, [], ◌∷◌, length, map, sum_by, Some, Ok}
+use Rattle.std.specs.List.{AllByRecursion}
+use Rattle.sg_model.specs.Shape.{receiver}
+use Rattle.sg_protocol.specs.Frame.{Frame}
+use Rattle.sg_protocol.specs.Graph.{Graph, shape}
+use Rattle.sg_protocol.specs.IsSchedule.{AreCompiled}
+use Rattle.sg_protocol.specs.Reading.{read}
+use Rattle.sg_protocol.specs.Schedule.{sid_at}
+use Rattle.sg_protocol.specs.Session.{last_time}
+use Rattle.sg_protocol.specs.Texts.{real}
+use Rattle.sg_protocol.specs.World.{frame_at}
+use Rattle.sg_world.specs.Replay.{Replay, run_of, without_steps}
+use Rattle.sg_drive.specs.Going.{Pending}
+use Rattle.sg_drive.specs.Machine.{Machine, IsThere}
+use Rattle.sg_drive.specs.Own.{IsOwnRun, IsSpentBy}
+use Rattle.sg_drive.specs.Setup.{setup}
+
+-- ---- frames on their way
+
+-- the steps that may follow where a frame of this time is accepted: an act and four deliveries for each later frame up to time 16, and an abandonment
+abbrev pub steps_after : ℕ → ℕ
+steps_after time = 5 * (16 - time) + 1
+
+-- a pending frame with its time, and whether its receiver has accepted it
+pub record OnItsWay : Type 0 where
+  pub pending : Pending
+  pub time : ℕ
+  pub taken : Bool
+
+-- the steps that a pending frame may bring: its deliveries, and where it was not accepted what follows
+abbrev pub steps_of : OnItsWay → ℕ
+steps_of o = (4 - o.pending.count) + (if o.taken then 0 else steps_after o.time)
+
+-- the frame is recorded with this time, for the session and the receiver of its label, and where it is said to be taken its receiver takes it no more
+pub record IsOnItsWay (g : Graph) (r : Replay) (o : OnItsWay) : Type 0 where
+  pub bytes : List ℕ
+  pub frame : Frame
+  pub recorded : frame_at (run_of r) o.pending.frame ≡ Some bytes
+  pub reads : read bytes ≡ Ok frame
+  pub time : last_time frame.items ≡ o.time
+  pub goes_to : frame.receiver ≡ receiver (shape g) o.pending.label
+  pub sid : frame.sid ≡ sid_at real r.schedule o.pending.session
+  pub taken : o.taken ≡ true → IsSpentBy (run_of r) (receiver (shape g) o.pending.label) frame
+
+-- ---- what is left
+
+-- The pending frames are as above and bring at most so many steps as are left, where so many sessions have begun.
+-- What was taken, drawn and lost leaves so much that there are at most 82 steps for each session
+pub record HasLeft (left begun : ℕ) (m : Machine) (ways : List OnItsWay) : Type 0 where
+  pub compiled : AreCompiled real (m.graph ∷ []) m.going.replay.programs
+  pub two : 2 ≤ length m.graph.roles
+  pub few : m.sessions ≤ 2000
+  pub declared : without_steps m.going.replay.schedule ≡ setup m.sessions m.graph
+  pub so_many : begun ≤ m.sessions
+  pub run : IsOwnRun real m.graph (run_of m.going.replay)
+  pub pending : map (λ o. o.pending) ways ≡ m.going.pending
+  pub each : AllByRecursion (IsOnItsWay m.graph m.going.replay) ways
+  pub there : AllByRecursion (IsThere m.graph m.sessions) m.going.pending
+  pub covers : sum_by steps_of ways ≤ left
+  pub steps : length m.going.replay.schedule.steps + (left + 82 * (m.sessions - begun)) ≤ 82 * m.sessions
+  pub draws : m.going.draws + 40 * (left + 82 * (m.sessions - begun)) ≤ 3280 * m.sessions
+  pub lost : m.going.lost + (left + 82 * (m.sessions - begun)) ≤ 82 * m.sessions
+
+-- at most so many steps are left for the frames that are pending
+pub record HasBudget (most begun : ℕ) (m : Machine) : Type 0 where
+  pub left : ℕ
+  pub ways : List OnItsWay
+  pub within : left ≤ most
+  pub has : HasLeft left begun m ways

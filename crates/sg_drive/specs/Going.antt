@@ -1,0 +1,47 @@
+-- A run that is being generated.
+use Rattle.std.specs.Prelude.{ℕ, ◌+◌, List, [], ◌++◌, remove, Option}
+use Rattle.sg_model.specs.Last.{last}
+use Rattle.sg_protocol.specs.Graph.{Graph}
+use Rattle.sg_protocol.specs.Keyring.{Program}
+use Rattle.sg_protocol.specs.Schedule.{Step}
+use Rattle.sg_report.specs.Told.{Told, told_log}
+use Rattle.sg_world.specs.Replay.{Replay, run_of, with_taken}
+use Rattle.sg_drive.specs.Setup.{setup}
+
+-- a frame that is on its way: its number, the place of its session, the label along which it was sent, and how often it went to the list's end again
+pub record Pending : Type 0 where
+  pub frame : ℕ
+  pub session : ℕ
+  pub label : ℕ
+  pub count : ℕ
+
+-- the steps so far, as a replay; how many numbers were drawn; the pending frames, in the order of their list; and how many were lost
+pub record Going : Type 0 where
+  pub replay : Replay
+  pub draws : ℕ
+  pub pending : List Pending
+  pub lost : ℕ
+
+-- no step was taken, and nothing drawn
+abbrev pub beginning : (sessions : ℕ) → Graph → List Program → Going
+beginning sessions g programs = record { replay = record { programs = programs; schedule = setup sessions g }; draws = 0; pending = []; lost = 0 }
+
+-- one step more
+abbrev pub taking : Step → Going → Going
+taking step x = record x { replay = with_taken x.replay step }
+
+-- so many draws more
+abbrev pub drawing : ℕ → Going → Going
+drawing n x = record x { draws = x.draws + n }
+
+-- these frames more, at the list's end
+abbrev pub adding : List Pending → Going → Going
+adding frames x = record x { pending = x.pending ++ frames }
+
+-- the list without the frame at a place
+abbrev pub without : (place : ℕ) → Going → Going
+without place x = record x { pending = remove x.pending place }
+
+-- what came of the last step, by the run of all
+abbrev pub came_last : Going → Option Told
+came_last x = last (told_log (run_of x.replay).log)

@@ -1,0 +1,15 @@
+pub mod Draws
+pub mod Setup
+pub mod Going
+pub mod Machine
+pub mod Generated
+pub mod Summary
+pub mod Counted
+pub mod Writing
+pub mod Faults
+pub mod Held
+pub mod Spent
+pub mod Own
+pub mod Budget
+pub mod Groups
+pub mod Laws

@@ -1,0 +1,116 @@
+//! The generator.
+ghost use Rattle.std.specs.Prelude.{◌≡◌, ◌<◌, ◌≤◌, ◌+◌, ◌-◌, ◌*◌, ◌∷◌, [], length, min, IfErr, IfOk, OnOk};
+ghost use Rattle.sg_protocol.specs.IsSchedule.{AreCompiled};
+ghost use Rattle.sg_protocol.specs.Texts.{real};
+ghost use Rattle.sg_drive.specs.Budget.{HasBudget};
+ghost use Rattle.sg_drive.specs.Faults.{IsGenerateFault, IsStopped};
+ghost use Rattle.sg_drive.specs.Generated.{begin_all};
+ghost use Rattle.sg_drive.specs.Groups.{AreTurns, IsGroupFault, IsOfGroup, IsTurnFault};
+ghost use Rattle.sg_drive.specs.Held.{IsDrive, drive_of};
+
+use crate::drive::Driven;
+use crate::fault::GenerateFault;
+use crate::generator::Generator;
+use sg_graph::Graph;
+use sg_program::Programs;
+use std::alloc::Global;
+
+// A group has so many sessions.
+const GROUP: u32 = 16;
+
+// A session that begins brings at most 80 steps more, and so a group at most so many turns. After the last no frame is pending.
+const MOST_TURNS: u32 = 1_281;
+
+/// The run that a seed chooses for so many sessions of a graph, from 1 to 2,000, over the graph's programs.
+pub fn generate<'p>(
+    alloc: Global,
+    seed: u32,
+    sessions: u32,
+    graph: &Graph,
+    programs: &'p Programs,
+) -> Result<Driven<'p>, GenerateFault>
+    requires sessions { (1 ≤ sessions) × (sessions ≤ 2000) }
+    requires compiled { AreCompiled real (graph.now ∷ []) programs.now }
+    requires two { 2 ≤ length graph.now.roles }
+    ensures generated { IfOk result (λ d. IsDrive seed sessions graph.now programs.entry.now (drive_of d)) }
+    ensures refused { IfErr result (IsGenerateFault seed sessions graph.now programs.entry.now) }
+{
+    let mut generator = match Generator::new(alloc, seed, sessions, graph, programs) {
+        Ok(generator) => generator,
+        Err(_) => return Err(GenerateFault::OutOfMemory),
+    };
+    let groups = groups_for(sessions);
+    for group in 0..groups {
+        generator.group_at(group)?;
+    }
+    Ok(generator.done())
+}
+
+// How many groups there are, the last one smaller than the others or not.
+fn groups_for(sessions: u32) -> u32
+    requires { sessions ≤ 2000 }
+    ensures all { sessions ≤ 16 * result }
+    ensures few { 16 * result < sessions + 16 }
+{
+    (sessions + GROUP - 1) / GROUP
+}
+
+// How many sessions the next group has, where so many are left.
+fn size_of_group(left: u32) -> u32
+    ensures { result ≡ min 16 left }
+{
+    if left < GROUP { left } else { GROUP }
+}
+
+impl<'g, 'p> Generator<'g, 'p> {
+    // The group of this number, counted from 0.
+    fn group_at(&mut self, group: u32) -> Result<(), GenerateFault>
+        requires budget { HasBudget 0 (16 * group) self.old }
+        requires some { 16 * group ≤ self.old.sessions }
+        ensures group { OnOk result (IsOfGroup (16 * group) (min 16 (self.old.sessions - 16 * group)) self.old self.new) }
+        ensures stopped { IfErr result (IsGroupFault (16 * group) (min 16 (self.old.sessions - 16 * group)) self.old) }
+    {
+        let first = GROUP * group;
+        let count = size_of_group(self.sessions - first);
+        self.group(first, count)
+    }
+
+    // A group of so many sessions, the first of this place: they begin, and turns are made until no frame is pending.
+    fn group(&mut self, first: u32, count: u32) -> Result<(), GenerateFault>
+        requires budget { HasBudget 0 first self.old }
+        requires few { (first + count ≤ self.old.sessions) × (count ≤ 16) }
+        ensures group { OnOk result (IsOfGroup first count self.old self.new) }
+        ensures stopped { IfErr result (IsGroupFault first count self.old) }
+    {
+        self.begin_all(first, count)?;
+        self.take_turns(first + count)
+    }
+
+    // So many sessions begin, the first of this place, one after another.
+    fn begin_all(&mut self, first: u32, count: u32) -> Result<(), GenerateFault>
+        requires budget { HasBudget 0 first self.old }
+        requires few { (first + count ≤ self.old.sessions) × (count ≤ 16) }
+        ensures going { OnOk result (self.new ≡ record self.old { going = begin_all self.old.seed self.old.graph first count self.old.going }) }
+        ensures stopped { IfErr result (IsStopped (begin_all self.old.seed self.old.graph first count self.old.going).replay) }
+    {
+        for place in 0..count {
+            self.begin(first + place)?;
+        }
+        Ok(())
+    }
+
+    // Turns are made until no frame is pending, where so many sessions have begun.
+    fn take_turns(&mut self, begun: u32) -> Result<(), GenerateFault>
+        requires budget { HasBudget 1_280 begun self.old }
+        ensures over { OnOk result (AreTurns self.old self.new) }
+        ensures stopped { IfErr result (IsTurnFault self.old) }
+    {
+        for _turn in 0..MOST_TURNS {
+            if self.is_over() {
+                return Ok(());
+            }
+            self.turn()?;
+        }
+        unreachable!();
+    }
+}

@@ -1,0 +1,92 @@
+-- A command that drives asks for 1 to 2,000 sessions.
+use Rattle.std.specs.Prelude.{◌≡◌, ℕ, ◌<◌, ◌≤◌, nat_lt, nat_le, Bool, true, false, not, ◌&&◌, if◌then◌else◌, List, [], ◌∷◌, codes, length, Option, Some, None, option_map, option_and_then, bytes_eq, refl, ⊤}
+use Rattle.std.specs.List.{list_all, list_any}
+use Rattle.std.proofs.Common.{arith}
+use Rattle.std.proofs.lemmas.Bool.{ltb-true, leb-true}
+use Rattle.sg_base.specs.Words.{number, from_one, up_to, value, is_digit, has_needless_zero}
+use Rattle.sg_model.specs.Limits.{most_deliveries}
+use Rattle.sg_words.specs.Command.{Command, Check, Compile, Run, Replay, Drive, Audit, Compose, CanBeDriven, command_of, driving, few, is_option, most_driven, most_seed, named, on_file, running, sessions_of}
+
+-- a number, if any, of at most so many
+abbrev AtMost : ℕ → Option ℕ → Type 0
+AtMost most None = ⊤
+AtMost most (Some n) = n ≤ most
+
+-- a number of sessions, if any
+abbrev AreSessions : Option ℕ → Type 0
+AreSessions None = ⊤
+AreSessions (Some n) = (1 ≤ n) × (n ≤ most_driven)
+
+number_at_most : (most : ℕ) (word : List ℕ) → AtMost most (number most word)
+unfolding number
+number_at_most most word = spelled (nat_lt 0 (length word) && not (has_needless_zero word) && list_all is_digit word)
+  where
+    within : (b : Bool) → nat_le (value word) most ≡ b → AtMost most (if b then Some (value word) else None)
+    within true e = leb-true (value word) most e
+    within false e = tt
+
+    spelled : (b : Bool) → AtMost most (if b then up_to most (value word) else None)
+    spelled true = within (nat_le (value word) most) refl
+    spelled false = tt
+
+sessions : (word : List ℕ) → AreSessions (sessions_of word)
+sessions word = found (number most_driven word) (number_at_most most_driven word)
+  where
+    positive : (n : ℕ) → n ≤ most_driven → (b : Bool) → nat_lt 0 n ≡ b → AreSessions (if b then Some n else None)
+    positive n h true e = let l : 0 < n = ltb-true 0 n e in (omega arith, h)
+    positive n h false e = tt
+
+    found : (o : Option ℕ) → AtMost most_driven o → AreSessions (option_and_then from_one o)
+    found None h = tt
+    found (Some n) h = positive n h (nat_lt 0 n) refl
+
+-- ---- commands
+
+-- one or the other
+either : (b : Bool) (x y : Option Command) → CanBeDriven x → CanBeDriven y → CanBeDriven (if b then x else y)
+either true x y h k = h
+either false x y h k = k
+
+driven : (file : List ℕ) (seed n : Option ℕ) → AreSessions n → CanBeDriven (option_and_then (λ s. option_map (λ k. Drive s k file) n) seed)
+driven file None n h = tt
+driven file (Some s) None h = tt
+driven file (Some s) (Some k) h = h
+
+drives : (words : List (List ℕ)) → CanBeDriven (driving words)
+drives [] = tt
+drives (seed ∷ []) = tt
+drives (seed ∷ count ∷ []) = tt
+drives (seed ∷ count ∷ file ∷ []) = driven file (number most_seed seed) (sessions_of count) (sessions count)
+drives (seed ∷ count ∷ file ∷ other ∷ more) = tt
+
+runs : (words : List (List ℕ)) → CanBeDriven (running words)
+runs [] = tt
+runs (keys ∷ []) = tt
+runs (keys ∷ script ∷ []) = tt
+runs (keys ∷ script ∷ n ∷ []) = tt
+runs (keys ∷ script ∷ n ∷ program ∷ more) = found (number most_deliveries n)
+  where
+    found : (o : Option ℕ) → CanBeDriven (option_map (λ d. Run keys script d (program ∷ more)) o)
+    found None = tt
+    found (Some d) = tt
+
+file_alone : (name file : List ℕ) → CanBeDriven (on_file name file)
+file_alone name file =
+    either (bytes_eq name (codes "check")) (Some (Check file)) _ tt
+    (either (bytes_eq name (codes "replay")) (Some (Replay file)) _ tt
+    (either (bytes_eq name (codes "audit")) (Some (Audit file)) _ tt
+    (either (bytes_eq name (codes "compose")) (Some (Compose file)) None tt tt)))
+
+others : (name : List ℕ) (words : List (List ℕ)) → CanBeDriven (few name words)
+others name [] = tt
+others name (file ∷ []) = file_alone name file
+others name (file ∷ role ∷ []) = either (bytes_eq name (codes "compile")) (Some (Compile file role)) None tt tt
+others name (file ∷ role ∷ other ∷ more) = tt
+
+-- whatever the words
+pub can_be_driven : (words : List (List ℕ)) → CanBeDriven (command_of words)
+can_be_driven [] = tt
+can_be_driven (name ∷ words) =
+    either (list_any is_option (name ∷ words)) None (named name words) tt
+    (either (bytes_eq name (codes "run")) (running words) _ (runs words)
+    (either (bytes_eq name (codes "drive")) (driving words) (few name words) (drives words) (others name words)))
