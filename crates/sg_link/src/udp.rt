@@ -1,9 +1,10 @@
 //! A link over a UDP socket.
 ghost use Rattle.std.specs.Prelude.{◌≡◌};
 
+use crate::address::socket_addr;
 use sg_base::{Addr, Failed, Link, LinkFault, Sealed};
 use std::alloc::Global;
-use std::net::{Ipv4Addr, Net, SocketAddr, SocketAddrV4, UdpSocket};
+use std::net::{Net, UdpSocket};
 
 /// A link over a UDP socket. It has no socket until it is opened. `recv` waits for a datagram, for as long as it takes, and never comes
 /// to an end.
@@ -25,12 +26,6 @@ impl<R: Net + Drop> UdpLink<R> {
             faults: 0,
         }
     }
-}
-
-// The address as the system's sockets take it.
-fn socket_addr(at: Addr) -> SocketAddr {
-    let [a, b, c, d] = at.ip;
-    SocketAddr::V4(SocketAddrV4::new(Ipv4Addr::new(a, b, c, d), at.port))
 }
 
 // Room for the longest datagram and one byte more, so that none is cut short unseen. `None` is want of memory.

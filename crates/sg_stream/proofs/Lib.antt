@@ -1,3 +1,10 @@
+pub mod Bringing
 pub mod CallByCall
+pub mod Cutting
+pub mod FramesOf
+pub mod Giving
 pub mod Messages
+pub mod Posting
 pub mod Removal
+pub mod Steps
+pub mod Taken

@@ -1,9 +1,9 @@
 -- Where a list of bytes begins with a message.
-use Rattle.std.proofs.Common.{◌≡◌, ℕ, ◌+◌, ◌<◌, ◌≤◌, ◌^◌, List, [], ◌∷◌, ◌++◌, length, take, drop, refl, sym, ap, ◌∙◌, lit<, arith}
+use Rattle.std.proofs.Common.{◌≡◌, ◌⊎◌, ℕ, ◌+◌, ◌<◌, ◌≤◌, ◌^◌, List, [], ◌∷◌, ◌++◌, length, take, drop, refl, sym, ap, ◌∙◌, inl, inr, lit<, arith}
 use Rattle.std.specs.Int.{w32, to_be_bytes, from_be_bytes}
 use Rattle.std.proofs.lemmas.Nat.{from_be_bytes-to_be_bytes_4}
-use Rattle.std.proofs.lemmas.List.{append_assoc, append_cancel_left, take-append-drop, length-take-le, length-drop, length-append, take_at, drop_at, drop-drop}
-use Rattle.sg_stream.specs.Framed.{IsFrame, message, BeginsMessage}
+use Rattle.std.proofs.lemmas.List.{append_assoc, append_cancel_left, take-append-drop, length-take-le, length-drop, length-append, take-append-le, take_at, drop_at, drop-drop}
+use Rattle.sg_stream.specs.Framed.{IsFrame, message, BeginsMessage, BeginsBad}
 
 -- the four bytes before a frame spell its length
 pub spelled-message : (frame rest : List ℕ) → IsFrame frame → from_be_bytes w32 (take 4 (message frame ++ rest)) ≡ length frame
@@ -39,3 +39,28 @@ one_message frame rest other more is is' same =
     let back : rest ≡ more =
     sym (drop_at frame rest (length frame) refl) ∙ (ap (λ b. drop (length frame) b) behind ∙ drop_at other more (length frame) (sym lengths)) in
     (front, back)
+
+-- bytes that begin with a message don't begin with a bad length
+pub not_bad : (bytes : List ℕ) (len : ℕ) → BeginsMessage bytes → ¬ BeginsBad bytes len
+not_bad bytes len (frame, rest, is, same) = λ bad.
+    let spelled : length frame ≡ len = sym (spelled-message frame rest is) ∙ (ap (λ b. from_be_bytes w32 (take 4 b)) (sym same) ∙ bad.spelled) in
+    elim bad.bad [
+      | inl none ↦ absurd (omega (arith, is.some, spelled, none))
+      | inr long ↦ absurd (omega (arith, is.fits, spelled, long))
+    ]
+
+-- no byte is no message
+pub no_message : ¬ BeginsMessage []
+no_message = λ (frame, rest, is, same). absurd (omega (arith, ap length same))
+
+-- no byte begins with no bad length
+pub no_bad : (len : ℕ) → ¬ BeginsBad [] len
+no_bad len = λ bad. absurd (omega (arith, bad.whole))
+
+-- a bad length stays whatever comes behind it
+pub bad_stays : (bytes more : List ℕ) (len : ℕ) → BeginsBad bytes len → BeginsBad (bytes ++ more) len
+bad_stays bytes more len bad = record {
+  whole = omega (arith, bad.whole, length-append bytes more);
+  spelled = rw (take-append-le 4 bytes more bad.whole) bad.spelled;
+  bad = bad.bad;
+}

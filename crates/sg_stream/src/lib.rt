@@ -7,15 +7,22 @@
 //! proportion to the bytes.
 //!
 //! [`Conns`] says what is asked of connections: pieces come in, each with its connection's number, and bytes are given to connections
-//! that were made for writing. [`MemConns`] has both in memory.
+//! that were made for writing. [`MemConns`] has both in memory. [`StreamLink`] is a link over any connections: frames come in the order in
+//! which their messages become whole, and each goes out over a connection of its own.
 #![tactic(auto)]
 
+mod arrivals;
 mod calls;
 mod conns;
+mod incoming;
+mod link;
 mod memory;
 mod reader;
+mod sending;
 
+pub use arrivals::{frames_are_framed, pieces_may_be_cut_anywhere};
 pub use calls::cutting_does_not_matter;
 pub use conns::Conns;
+pub use link::StreamLink;
 pub use memory::MemConns;
 pub use reader::{StreamFault, StreamReader};

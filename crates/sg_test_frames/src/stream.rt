@@ -1,7 +1,8 @@
-ghost use Rattle.std.specs.Prelude.{◌≡◌, IfOk};
+ghost use Rattle.std.specs.Prelude.{◌≡◌, ◌<◌, ◌≤◌, length, IfOk};
+ghost use Rattle.sg_model.specs.Limits.{most_frame_bytes};
 
-use sg_base::{Addr, Failed, LinkFault, OutOfMemory, Seq};
-use sg_stream::{Conns, MemConns, StreamFault, StreamReader};
+use sg_base::{Addr, Failed, Link, LinkFault, Name, OutOfMemory, Sealed, Seq};
+use sg_stream::{Conns, MemConns, StreamFault, StreamLink, StreamReader};
 use std::alloc::Global;
 
 // Two messages, of `abc` and of `z`.
@@ -128,5 +129,134 @@ fn connections_for_writing_have_room(rt: HostRuntime) -> Result<(), OutOfMemory>
         matches!(conns.closed(), [(to, sink), (other, none)]
             if *to == at(4) && sink.bytes() == b"abc".as_slice() && *other == at(5) && none.bytes().is_empty())
     );
+    Ok(())
+}
+
+// A link over connections.
+fn link_over<C: Conns + Drop>(alloc: Global, conns: C) -> Result<StreamLink<C>, OutOfMemory> {
+    match StreamLink::new(alloc, conns) {
+        Ok(link) => Ok(link),
+        Err((_, fault)) => Err(fault),
+    }
+}
+
+// Whether this frame is the next delivery.
+fn delivers<L: Link>(alloc: Global, link: &mut L, bytes: &[u8]) -> bool {
+    matches!(link.recv(alloc), Ok(Some(frame)) if frame.as_slice() == bytes)
+}
+
+#[test]
+fn frames_come_in_the_order_in_which_they_are_whole(rt: HostRuntime) -> Result<(), OutOfMemory> {
+    let alloc = rt.alloc();
+    let pieces = vec![in alloc;
+        piece(alloc, 1, b"\x00\x00\x00\x03a")?,
+        piece(
+            alloc,
+            2,
+            b"\x00\x00\x00\x01z\x00\x00\x00\x01y\x00\x00\x00\x02x"
+        )?,
+        piece(alloc, 1, b"bc\x00\x00\xea\x61")?,
+        piece(alloc, 2, b"")?,
+        piece(alloc, 1, b"\x00\x00\x00\x01v")?,
+        piece(alloc, 1, b"")?,
+        piece(alloc, 2, b"\x00\x00\x00\x01w")?,
+        piece(alloc, 1, b"\x00\x00\x00\x01u")?,
+    ]?;
+    let conns = MemConns::new(alloc, pieces, 0, 0, vec![in alloc; 3]?)?;
+    let mut link = link_over(alloc, conns)?;
+    assert!(rt; delivers(alloc, &mut link, b"z"));
+    assert!(rt; delivers(alloc, &mut link, b"y"));
+    assert!(rt; matches!(link.recv(alloc), Err(LinkFault::Failed)));
+    assert!(rt; delivers(alloc, &mut link, b"abc"));
+    assert!(rt; delivers(alloc, &mut link, b"w"));
+    assert!(rt; delivers(alloc, &mut link, b"u"));
+    assert!(rt; matches!(link.recv(alloc), Ok(None)));
+    Ok(())
+}
+
+// Sends a frame, and tells whether it went out. A frame that comes back must be this one.
+fn sends<L: Link>(link: &mut L, to: Addr, bytes: Vec<u8>, copy: &[u8]) -> Option<bool>
+    requires some { 0 < length bytes.items }
+    requires fits { length bytes.items ≤ most_frame_bytes }
+{
+    let name = Name::new(b"b")?;
+    match link.send(to, Sealed::seal(name, bytes)) {
+        Ok(()) => Some(true),
+        Err((frame, _)) => {
+            let (_, back) = frame.release();
+            if back.as_slice() == copy {
+                Some(false)
+            } else {
+                None
+            }
+        }
+    }
+}
+
+#[test]
+fn each_frame_goes_out_over_a_connection_of_its_own(rt: HostRuntime) -> Result<(), OutOfMemory> {
+    let alloc = rt.alloc();
+    let conns = MemConns::new(alloc, Vec::new(alloc), 3, 7, vec![in alloc; 6]?)?;
+    let mut link = link_over(alloc, conns)?;
+    assert!(rt; sends(&mut link, at(4), vec![in alloc; 97u8, 98, 99]?, b"abc") == Some(true));
+    assert!(rt; sends(&mut link, at(5), vec![in alloc; 120u8]?, b"x") == Some(false));
+    assert!(rt;
+        sends(
+            &mut link,
+            at(6),
+            vec![in alloc; 97u8, 98, 99, 100]?,
+            b"abcd"
+        ) == Some(false)
+    );
+    assert!(rt; sends(&mut link, at(7), vec![in alloc; 121u8]?, b"y") == Some(false));
+    assert!(rt;
+        matches!(link.conns().closed(), [(one, whole), (two, cut), (three, part)]
+            if *one == at(4) && whole.bytes() == b"\x00\x00\x00\x03abc".as_slice()
+            && *two == at(5) && cut.bytes() == b"\x00\x00\x00\x01".as_slice()
+            && *three == at(6) && part.bytes() == b"\x00\x00\x00\x04abc".as_slice())
+    );
+    Ok(())
+}
+
+// Connections that end without end.
+#[derive(Drop)]
+struct Endless;
+
+impl Conns for Endless {
+    ghost use Rattle.std.specs.Prelude.{None};
+
+    ghost faults = { λ _. 0 };
+
+    ghost held = { λ _. None };
+
+    fn open(&mut self, at: Addr) -> Result<(), Failed> {
+        let _ = at;
+        Ok(())
+    }
+
+    fn take(&mut self, alloc: Global) -> Result<Option<(u8, Vec<u8>)>, LinkFault> {
+        Ok(Some((7, Vec::new(alloc))))
+    }
+
+    fn close(&mut self, conn: u8) {
+        let _ = conn;
+    }
+
+    fn connect(&mut self, to: Addr) -> Result<u8, Failed> {
+        let _ = to;
+        Ok(8)
+    }
+
+    fn give(&mut self, conn: u8, piece: &[u8]) -> Result<usize, Failed> {
+        let _ = conn;
+        Ok(piece.len())
+    }
+}
+
+#[test]
+fn a_million_pieces_without_a_message_are_a_fault(rt: HostRuntime) -> Result<(), OutOfMemory> {
+    let alloc = rt.alloc();
+    let mut link = link_over(alloc, Endless)?;
+    assert!(rt; matches!(link.recv(alloc), Err(LinkFault::Failed)));
     Ok(())
 }

@@ -1,0 +1,33 @@
+-- Pieces that were taken, and connections that were closed.
+use Rattle.std.proofs.Common.{◌≡◌, ℕ, ◌+◌, ◌≤◌, ◌==◌, Bool, true, false, if◌then◌else◌, List, [], ◌∷◌, length, drop, Option, Some, None, refl, sym, ap, ◌∙◌, arith}
+use Rattle.std.specs.Option.{option_map}
+use Rattle.sg_stream.specs.Traffic.{Traffic, without, after_take, after_close, WhereTold}
+use Rattle.sg_stream.specs.Link.{TakenOff}
+
+pub taken_none : (held : Option Traffic) → TakenOff 0 held held
+taken_none held = λ t h. (t, h, omega arith)
+
+pub taken_more : (m n k : ℕ) (old between new : Option Traffic) → TakenOff m old between → TakenOff n between new → k ≡ m + n → TakenOff k old new
+taken_more m n k old between new first second sum = λ t h.
+    let a = first t h in
+    let b = second a.0 a.1 in
+    (b.0, b.1, omega (arith, a.2, b.2, sum))
+
+without-shorter : (conn : ℕ) (ps : List (ℕ × List ℕ)) → length (without conn ps) ≤ length ps
+without-shorter conn [] = omega arith
+without-shorter conn (p ∷ ps) =
+    let more = without-shorter conn ps in
+    elim (p.0 == conn) as (λ b. length (if b then (if length p.1 == 0 then ps else without conn ps) else p ∷ without conn ps) ≤ length (p ∷ ps)) [
+      | true ↦ elim (length p.1 == 0) as (λ b. length (if b then ps else without conn ps) ≤ length (p ∷ ps)) [ true ↦ omega arith | false ↦ omega (arith, more) ]
+      | false ↦ omega (arith, more)
+    ]
+
+pub taken_closed : (conn : ℕ) (held : Option Traffic) → TakenOff 0 held (option_map (after_close conn) held)
+taken_closed conn held = λ t h.
+    let shorter = without-shorter conn t.coming in
+    (after_close conn t, ap (option_map (after_close conn)) h, omega (arith, shorter))
+
+pub taken_one : (held : Option Traffic) (conn : ℕ) (piece : List ℕ) → WhereTold held (λ t. t.coming ≡ (conn, piece) ∷ drop 1 t.coming) → TakenOff 1 held (option_map after_take held)
+taken_one held conn piece first = λ t h.
+    let whole = ap length (first t h) in
+    (after_take t, ap (option_map after_take) h, omega (arith, whole))

@@ -1,0 +1,24 @@
+use Rattle.std.proofs.Common.{◌≡◌, ◌++◌, ◌+◌, ◌-◌, length, take, drop, List, ℕ, [], sym, ap, ◌∙◌, arith}
+use Rattle.std.specs.Option.{option_map}
+use Rattle.std.proofs.lemmas.List.{length-drop, length-take}
+use Rattle.sg_stream.specs.Traffic.{after_give}
+use Rattle.sg_stream.proofs.Giving.{traffic-none, traffic-more, pieces_joined}
+use Rattle.sg_stream.proofs.sending.give_all.Goals as goal
+
+pub loop-at-init : goal.loop-at-init
+loop-at-init g c = record {
+  within = omega arith;
+  never_falls = omega arith;
+  front = sym (traffic-none c.args.conn (g.C.Conns.held c.args.conns.now));
+}
+
+pub loop-at-preserved : goal.loop-at-preserved
+loop-at-preserved g c = record {
+  within = let fits = simp (length-take, length-drop) at c.in_ok-at.ensures.fits in omega arith;
+  never_falls = omega (arith, c.in_ok-at.ensures.never_falls, c.loop-at.invariant.never_falls);
+  front =
+      c.in_ok-at.ensures.given
+      ∙ (ap (option_map (after_give c.args.conn _)) c.loop-at.invariant.front
+      ∙ (traffic-more c.args.conn _ _ (g.C.Conns.held c.args.conns.now)
+      ∙ ap (λ b. option_map (after_give c.args.conn b) (g.C.Conns.held c.args.conns.now)) (pieces_joined c.args.bytes.now c.loop-at.at c.in_ok-at.field-0)));
+}
