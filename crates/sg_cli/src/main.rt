@@ -1,4 +1,5 @@
-//! `sessiongraph`: checks, composes and compiles session graphs, runs one principal, replays schedules, and audits logs of sessions.
+//! `sessiongraph`: checks, composes and compiles session graphs, runs one principal, also over a ledger of its joins, replays schedules,
+//! generates runs, and audits logs of sessions.
 //!
 //! All of this is `top` of `sg_top`. Here are the objects of the system that it works on, and the end where the system doesn't give them.
 #![tactic(auto)]
@@ -9,6 +10,7 @@ use fresh::OsFresh;
 use rand::make_rng;
 use rand_chacha::ChaCha20Rng;
 use sg_base::{StdFiles, StdSink};
+use sg_ledger::FileDisk;
 use sg_link::UdpLink;
 use sg_top::{end_without_memory, end_without_seed, end_without_words, top};
 use std::process::ExitCode;
@@ -43,6 +45,7 @@ fn on_words(rt: &HostRuntime) -> io::Result<u8> {
         return Ok(end_without_seed(&mut err));
     };
     let mut fresh = OsFresh::new(rng);
+    let mut disk = FileDisk::new(rt.clone()?);
     Ok(top(
         alloc,
         words.as_slice(),
@@ -51,5 +54,6 @@ fn on_words(rt: &HostRuntime) -> io::Result<u8> {
         &mut err,
         &mut link,
         &mut fresh,
+        &mut disk,
     ))
 }

@@ -12,3 +12,4 @@ pub mod Running
 pub mod Results
 pub mod Queues
 pub mod Rising
+pub mod Keeping

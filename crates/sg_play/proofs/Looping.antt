@@ -49,13 +49,13 @@ module _ {X : Type 0} where
   left_none (suc k) (suc m) (d ∷ ds) l e = left_none k m ds (omega (arith, l)) e
 
   -- fewer stand before more
-  taken_part : (k m : ℕ) (ds : List X) → k ≤ m → (rest : List X) × (take m ds ≡ take k ds ++ rest)
+  pub taken_part : (k m : ℕ) (ds : List X) → k ≤ m → (rest : List X) × (take m ds ≡ take k ds ++ rest)
   taken_part zero m ds l = (take m ds, refl)
   taken_part (suc k) zero ds l = absurd (omega (arith, l))
   taken_part (suc k) (suc m) [] l = ([], refl)
   taken_part (suc k) (suc m) (d ∷ ds) l = let r = taken_part k m ds (omega (arith, l)) in (r.0, ap (λ z. d ∷ z) r.1)
 
-  whole_part : (k : ℕ) (ds : List X) → (rest : List X) × (ds ≡ take k ds ++ rest)
+  pub whole_part : (k : ℕ) (ds : List X) → (rest : List X) × (ds ≡ take k ds ++ rest)
   whole_part zero ds = (ds, refl)
   whole_part (suc k) [] = ([], refl)
   whole_part (suc k) (d ∷ ds) = let r = whole_part k ds in (r.0, ap (λ z. d ∷ z) r.1)

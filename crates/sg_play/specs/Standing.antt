@@ -6,8 +6,8 @@ use Rattle.sg_model.specs.Names.{Name}
 use Rattle.sg_node.specs.Answers.{IsTold}
 use Rattle.sg_protocol.specs.Calls.{Call}
 use Rattle.sg_protocol.specs.Graph.{Graph}
-use Rattle.sg_protocol.specs.NodeStates.{StandsForPast}
-use Rattle.sg_protocol.specs.Past.{node_of, past_after}
+use Rattle.sg_protocol.specs.NodeStates.{NodeState, StandsForPast}
+use Rattle.sg_protocol.specs.Past.{Past, node_of, past_after}
 use Rattle.sg_protocol.specs.Texts.{real}
 use Rattle.sg_protocol.specs.Told.{graph_of_call}
 use Rattle.sg_report.specs.Told.{Told, told_answer}
@@ -71,3 +71,7 @@ pub record HasActed (pl : Player) (words : Option (List (List ℕ))) (sid : List
   pub is_first : find (is_ready graph node) p.choices ≡ Some choice
   pub asked : HasAsked pl (chosen graph node choice p) (act_by sid choice p.words) told by made
   pub words_left : words ≡ Some (drop (length choice.values) p.words)
+
+-- where the old state of a node stood for a past that was told, the new one stands for such a past too, and has the same joins
+abbrev pub KeepsJoins : (old new : NodeState) → Type 0
+KeepsJoins old new = (past : Past) → StandsForPast old past → IsTold past → (later : Past) × StandsForPast new later × IsTold later × (new.joins ≡ old.joins)

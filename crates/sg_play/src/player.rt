@@ -1,5 +1,5 @@
 //! One principal who plays a script.
-ghost use Rattle.std.specs.Prelude.{◌≡◌, ◌≤◌, ◌+◌, ℕ, List, [], Some, Err, IfOk, IfErr, IfSome, OnOk, unwrap_or};
+ghost use Rattle.std.specs.Prelude.{◌≡◌, ◌≤◌, ◌+◌, ℕ, List, [], Some, None, Err, IfOk, IfErr, IfSome, OnOk, unwrap_or};
 ghost use Rattle.std.specs.Option.{option_copied, option_map_or};
 ghost use Rattle.sg_base.specs.Outside.{HasRisen};
 ghost use Rattle.sg_lines.specs.Sessions.{Met, naming, session_name};
@@ -14,6 +14,7 @@ use crate::PlayFault;
 use crate::ask::{ask_abandon, ask_deliver, ask_start};
 use crate::choices::Choices;
 use crate::post::{Made, let_go, post};
+use crate::run::cast_of;
 use crate::told::told_line;
 use sg_base::{Addr, Link, Name, Sealed, Seq, Sid, Sink};
 use sg_crypt::Cast;
@@ -23,7 +24,7 @@ use sg_lines::SessionNames;
 use sg_node::Node;
 use sg_program::Programs;
 use sg_report::{Outcome, sid_told};
-use sg_script::ScriptChoice;
+use sg_script::{ScriptChoice, ScriptStart};
 use std::alloc::Global;
 
 /// One principal who plays a script: its node, the keys and programs that the node was made with, the choices with the uses that are
@@ -41,13 +42,15 @@ pub struct Player<'p> {
 }
 
 impl<'p> Player<'p> {
-    ghost use Rattle.sg_protocol.specs.NodeStates.{new_state};
+    ghost use Rattle.sg_protocol.specs.NodeStates.{StandsForPast, new_state};
+    ghost use Rattle.sg_protocol.specs.Past.{Past};
+    ghost use Rattle.sg_play.specs.Asking.{Comes};
     ghost use Rattle.sg_play.specs.Ends.{Outside, Whole};
-    ghost use Rattle.sg_play.specs.Played.{Play, abandons, answer_in, beginning, called, sid_given};
-    ghost use Rattle.sg_play.specs.Standing.{Came, HasAsked, StandsForPlay, done};
+    ghost use Rattle.sg_play.specs.Played.{Play, abandons, answer_in, beginning, called, cast_of_start, sid_given};
+    ghost use Rattle.sg_play.specs.Standing.{Came, HasAsked, KeepsJoins, StandsForPlay, done};
 
     /// A player with a node that was made with these keys and programs and was not asked anything yet.
-    pub(crate) fn new(
+    pub fn new(
         alloc: Global,
         node: Node<'p>,
         keys: &'p Keyring,
@@ -72,6 +75,32 @@ impl<'p> Player<'p> {
             }),
             Err(_) => Err(PlayFault::OutOfMemory),
         }
+    }
+
+    /// Asks the node for a start of a script, with this nonce: what came of it, and the graph by which its numbers have names. It is to be
+    /// given to the outside.
+    pub fn ask_start(
+        &mut self,
+        start_of: &ScriptStart,
+        nonce: [u8; 16],
+    ) -> Result<(Outcome, Option<&'p Graph>), PlayFault>
+        ensures rest { OnOk result (self.new ≡ record self.old { node = self.new.node }) }
+        ensures comes { (number : ℕ) (past : Past) → StandsForPast self.old.node past
+            → IfOk result (λ r. Comes number self.old.node self.new.node past (Start (cast_of_start self.old.programs.now start_of.now nonce)) (outcome_of r.0) (option_copied r.1) None) }
+        ensures memory { IfErr result (λ e. e ≡ PlayFault.OutOfMemory) }
+    {
+        let cast = cast_of(self.programs, start_of, nonce)?;
+        ask_start(self.alloc, &mut self.node, cast)
+    }
+
+    /// Asks the node to take a delivery: what came of it, and the graph by which its numbers have names. It is to be given to the outside.
+    pub fn ask_deliver(&mut self, bytes: &[u8]) -> Result<(Outcome, Option<&'p Graph>), PlayFault>
+        ensures rest { OnOk result (self.new ≡ record self.old { node = self.new.node }) }
+        ensures comes { (number : ℕ) (past : Past) → StandsForPast self.old.node past
+            → IfOk result (λ r. Comes number self.old.node self.new.node past (Deliver bytes.now) (outcome_of r.0) (option_copied r.1) None) }
+        ensures memory { IfErr result (λ e. e ≡ PlayFault.OutOfMemory) }
+    {
+        ask_deliver(self.alloc, &mut self.node, bytes)
     }
 
     /// Starts a session: the session whose turn may have come.
@@ -130,13 +159,14 @@ impl<'p> Player<'p> {
         ensures deliveries { L.deliveries link.new ≡ L.deliveries link.old }
         ensures came { (p : Play) (start : Outside) → StandsForPlay self.old p → Whole start (record { written = O.written out.old; sent = L.sent link.old }) p.steps
             → Came start (record { written = O.written out.new; sent = L.sent link.new }) self.new (abandons sid p) result }
+        ensures joins { OnOk result (KeepsJoins self.old.node self.new.node) }
     {
         let (outcome, graph) = ask_abandon(&mut self.node, sid);
         self.give(Some(sid), graph, &outcome, None, link, out)
     }
 
     /// Gives the outside what came of a call: the frame, if one was made, and when the link has taken it the line.
-    pub(crate) fn give<L: Link, O: Sink>(
+    pub fn give<L: Link, O: Sink>(
         &mut self,
         left: Option<Sid>,
         graph: Option<&Graph>,
@@ -153,6 +183,7 @@ impl<'p> Player<'p> {
         ensures came { (p : Play) (c : Call) (start : Outside) → HasAsked self.old p c (outcome_of outcome.now) (option_copied graph.entry) (frames_made frame) → left ≡ sid_left c
             → Whole start (record { written = O.written out.old; sent = L.sent link.old }) p.steps
             → Came start (record { written = O.written out.new; sent = L.sent link.new }) self.new (called p c) result }
+        ensures node { OnOk result (self.new.node ≡ self.old.node) }
     {
         match self.tell(left, graph, outcome) {
             Ok(line) => post(Made { line, frame }, link, out),

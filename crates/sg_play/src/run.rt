@@ -6,7 +6,7 @@ ghost use Rattle.sg_protocol.specs.Calls.{Deliver};
 ghost use Rattle.sg_protocol.specs.NodeStates.{new_state};
 ghost use Rattle.sg_play.specs.Ends.{Ended, Outside, Whole};
 ghost use Rattle.sg_play.specs.Played.{Play, all_deliveries, all_starts, cast_of_start, played, plays_on, starts, with_turn};
-ghost use Rattle.sg_play.specs.Standing.{CameTo, StandsForPlay};
+ghost use Rattle.sg_play.specs.Standing.{CameTo, KeepsJoins, StandsForPlay};
 
 use crate::{PlayFault, Player};
 use sg_base::{Fresh, Link, LinkFault, Sid, Sink};
@@ -112,8 +112,8 @@ impl<'p> Player<'p> {
         self.play_if(sid, link, fresh, out)
     }
 
-    // Plays the turn of a session, if there is one.
-    fn play_if<L: Link, R: Fresh, O: Sink>(
+    /// Plays the turn of a session, if there is one. The node joins nothing by it.
+    pub fn play_if<L: Link, R: Fresh, O: Sink>(
         &mut self,
         sid: Option<Sid>,
         link: &mut L,
@@ -127,6 +127,7 @@ impl<'p> Player<'p> {
         ensures deliveries { L.deliveries link.new ≡ L.deliveries link.old }
         ensures came { (p : Play) (start : Outside) → StandsForPlay self.old p → R.words fresh.old ≡ Some p.words → Whole start (record { written = O.written out.old; sent = L.sent link.old }) p.steps
             → CameTo start (record { written = O.written out.new; sent = L.sent link.new }) self.new (R.words fresh.new) (option_map_or (λ s. plays_on s p) sid p) result }
+        ensures joins { OnOk result (KeepsJoins self.old.node self.new.node) }
     {
         match sid {
             Some(sid) => self.play_turn(sid, link, fresh, out),
@@ -136,7 +137,11 @@ impl<'p> Player<'p> {
 }
 
 // The cast of a start: of the first program of its graph's name, with this nonce. A script that was read beside these programs has it.
-fn cast_of(programs: &Programs, start: &ScriptStart, nonce: [u8; 16]) -> Result<Cast, PlayFault>
+pub(crate) fn cast_of(
+    programs: &Programs,
+    start: &ScriptStart,
+    nonce: [u8; 16],
+) -> Result<Cast, PlayFault>
     ensures cast { IfOk result (λ c. c ≡ cast_of_start programs.now start.now nonce) }
     ensures memory { IfErr result (λ e. e ≡ PlayFault.OutOfMemory) }
 {

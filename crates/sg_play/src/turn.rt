@@ -1,5 +1,5 @@
 //! A turn of a session: the act by a choice of the script, or the leaving.
-ghost use Rattle.std.specs.Prelude.{◌≡◌, ◌≤◌, ◌+◌, ℕ, [], ◌∷◌, Err, Some, None, IfOk, IfErr, MatchOption, length, find};
+ghost use Rattle.std.specs.Prelude.{◌≡◌, ◌≤◌, ◌+◌, ℕ, [], ◌∷◌, Err, Some, None, IfOk, IfErr, OnOk, MatchOption, length, find};
 ghost use Rattle.std.specs.Option.{option_copied, option_map_or};
 ghost use Rattle.sg_base.specs.Outside.{HasRisen};
 ghost use Rattle.sg_keys.specs.Names.{addr_of};
@@ -10,7 +10,7 @@ ghost use Rattle.sg_play.specs.Choosing.{is_ready};
 ghost use Rattle.sg_play.specs.Ends.{Outside, Whole};
 ghost use Rattle.sg_play.specs.Played.{Play, plays_on};
 ghost use Rattle.sg_play.specs.Posting.{frames_made};
-ghost use Rattle.sg_play.specs.Standing.{CameActing, CameTo, HasActed, StandsForPlay};
+ghost use Rattle.sg_play.specs.Standing.{CameActing, CameTo, HasActed, KeepsJoins, StandsForPlay};
 ghost use Rattle.sg_play.specs.Turns.{acted, acted_in, is_sent};
 
 use crate::ask::ask_act;
@@ -38,6 +38,7 @@ impl<'p> Player<'p> {
         ensures deliveries { L.deliveries link.new ≡ L.deliveries link.old }
         ensures came { (p : Play) (start : Outside) → StandsForPlay self.old p → R.words fresh.old ≡ Some p.words → Whole start (record { written = O.written out.old; sent = L.sent link.old }) p.steps
             → CameTo start (record { written = O.written out.new; sent = L.sent link.new }) self.new (R.words fresh.new) (plays_on sid p) result }
+        ensures joins { OnOk result (KeepsJoins self.old.node self.new.node) }
     {
         let Some(node) = self.node.turn(sid) else {
             return Ok(());
@@ -65,6 +66,7 @@ impl<'p> Player<'p> {
         ensures deliveries { L.deliveries link.new ≡ L.deliveries link.old }
         ensures came { (p : Play) (start : Outside) → StandsForPlay self.old p → R.words fresh.old ≡ Some p.words → Whole start (record { written = O.written out.old; sent = L.sent link.old }) p.steps
             → CameActing start (record { written = O.written out.new; sent = L.sent link.new }) self.new (R.words fresh.new) (acted sid node p) result }
+        ensures joins { OnOk result (KeepsJoins self.old.node self.new.node) }
     {
         let Some(graph) = self.node.graph_of(&sid) else {
             return Ok(false);
@@ -90,6 +92,7 @@ impl<'p> Player<'p> {
         ensures deliveries { L.deliveries link.new ≡ L.deliveries link.old }
         ensures came { (p : Play) (start : Outside) → StandsForPlay self.old p → R.words fresh.old ≡ Some p.words → Whole start (record { written = O.written out.old; sent = L.sent link.old }) p.steps
             → CameActing start (record { written = O.written out.new; sent = L.sent link.new }) self.new (R.words fresh.new) (acted_in sid graph.now node p) result }
+        ensures joins { OnOk result (KeepsJoins self.old.node self.new.node) }
     {
         match self.try_act(sid, graph, node, fresh)? {
             Some((outcome, told_by, frame)) => {
@@ -113,6 +116,7 @@ impl<'p> Player<'p> {
         ensures acted { IfOk result (λ r. (p : Play) → StandsForPlay self.old p → R.words fresh.old ≡ Some p.words → MatchOption r
             ((find (is_ready graph.now node) p.choices ≡ None) × (self.new ≡ self.old) × (R.words fresh.new ≡ R.words fresh.old))
             (λ a. HasActed self.new (R.words fresh.new) sid graph.now node p (outcome_of a.0) (option_copied a.1) (frames_made a.2))) }
+        ensures joins { OnOk result (KeepsJoins self.old.node self.new.node) }
         ensures memory { IfErr result (λ e. e ≡ PlayFault.OutOfMemory) }
     {
         let Some(choice) = self.choices.first(graph, node) else {

@@ -3,10 +3,13 @@ ghost use Rattle.std.specs.Prelude.{◌≡◌, string_bytes};
 
 use sg_base::{Addr, Link, MemFiles, MemFresh, MemLink, MemSink};
 use sg_frame::{Frame, decode};
+use sg_ledger::MemDisk;
 use sg_link::UdpLink;
 use sg_top::top;
 use std::alloc::Global;
 use std::process::Abort;
+
+mod ledger;
 
 // Which call of each object fails, counted from 1, none for 0; and how many bytes standard output takes.
 #[derive(Clone, Copy)]
@@ -129,7 +132,7 @@ fn one_file(alloc: Global, rt: &impl Abort, bytes: Vec<u8>, fails: u32) -> MemFi
     MemFiles::new(files, only(alloc, rt, fails))
 }
 
-// Runs the program on the words of a line, over a link.
+// Runs the program on the words of a line, over a link and a disk that has no room.
 fn run_over<L: Link>(
     alloc: Global,
     rt: &impl Abort,
@@ -137,6 +140,21 @@ fn run_over<L: Link>(
     files: MemFiles,
     outside: Outside,
     link: &mut L,
+) -> Left {
+    let disk = MemDisk::new(alloc, 0, 0, Vec::new(alloc), None);
+    let mut disk = disk.expect(rt, "a disk");
+    run_on(alloc, rt, line, files, outside, link, &mut disk)
+}
+
+// Runs the program on the words of a line, over a link and a disk.
+fn run_on<L: Link>(
+    alloc: Global,
+    rt: &impl Abort,
+    line: &str,
+    files: MemFiles,
+    outside: Outside,
+    link: &mut L,
+    disk: &mut MemDisk,
 ) -> Left {
     let words = words(alloc, rt, line);
     let mut files = files;
@@ -151,6 +169,7 @@ fn run_over<L: Link>(
         &mut err,
         link,
         &mut fresh,
+        disk,
     );
     Left {
         status,
@@ -341,7 +360,7 @@ fn refuses_what_is_no_schedule(rt: HostRuntime) {
 
 // The words of a line are no command.
 fn is_no_command(alloc: Global, rt: &impl Abort, line: &str) {
-    let usage = "usage: sessiongraph check|compile|run|replay|drive|audit|compose\n";
+    let usage = "usage: sessiongraph check|compile|run|replay|drive|ledger|keep|audit|compose\n";
     refuses(alloc, rt, line, &[], 2, usage);
 }
 

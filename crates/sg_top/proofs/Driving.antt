@@ -19,7 +19,7 @@ use Rattle.sg_drive.specs.Summary.{IsSummary}
 use Rattle.sg_drive.specs.declared.fault.GenerateFault.{GenerateFault}
 use Rattle.sg_drive.specs.declared.fault.GenerateFault.TheVariants.{RecordFull}
 use Rattle.sg_top.specs.Driven.{StopsDrive, Sums}
-use Rattle.sg_top.specs.Ending.{Ending, Written, NoCommand, NoGraph, NoExpansion, GraphRefused, NoRole, WrongLine, KeysRefused, ScriptRefused, ProgramRefused, FileFailed, WriteFailed, LinkFailed, NoMemory, NoSuchFile, TooLarge}
+use Rattle.sg_top.specs.Ending.{Ending, Written, NoCommand, NoGraph, NoExpansion, GraphRefused, NoRole, WrongLine, KeysRefused, ScriptRefused, ProgramRefused, NoLedger, BadSlot, LedgerNotEmpty, FileFailed, WriteFailed, LinkFailed, DiskFailed, NoMemory, NoSuchFile, TooLarge}
 use Rattle.sg_top.specs.Ends.{Output, Drives, IsDriving}
 
 module _ (seed sessions : ℕ) (g : Graph) (programs : List Program) where
@@ -73,9 +73,13 @@ module _ (seed sessions : ℕ) (g : Graph) (programs : List Program) where
     stopped out (KeysRefused fault) h = absurd h
     stopped out (ScriptRefused fault) h = absurd h
     stopped out (ProgramRefused number cause) h = absurd h
+    stopped out NoLedger h = absurd h
+    stopped out (BadSlot slot) h = absurd h
+    stopped out LedgerNotEmpty h = absurd h
     stopped out (FileFailed file) h = absurd h
     stopped out WriteFailed h = absurd h
     stopped out LinkFailed h = absurd h
+    stopped out DiskFailed h = absurd h
     stopped out NoMemory h = refl
     stopped out (NoSuchFile file) h = absurd h
     stopped out (TooLarge what) h = (refl, h.0, record { graph = g; programs = programs; spelled = spelled; compiled = compiled; overfull = h.1 })

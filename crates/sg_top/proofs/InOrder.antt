@@ -10,7 +10,7 @@ use Rattle.sg_keys.specs.KeyFile.{SpellsKeys}
 use Rattle.sg_protocol.specs.Keyring.{Keyring, Program}
 use Rattle.sg_script.specs.Format.{SpellsScript}
 use Rattle.sg_script.specs.Script.{Script}
-use Rattle.sg_top.specs.Ending.{Ending, Written, NoCommand, NoGraph, NoExpansion, GraphRefused, NoRole, WrongLine, KeysRefused, ScriptRefused, ProgramRefused, FileFailed, WriteFailed, LinkFailed, NoMemory, NoSuchFile, TooLarge}
+use Rattle.sg_top.specs.Ending.{Ending, Written, NoCommand, NoGraph, NoExpansion, GraphRefused, NoRole, WrongLine, KeysRefused, ScriptRefused, ProgramRefused, NoLedger, BadSlot, LedgerNotEmpty, FileFailed, WriteFailed, LinkFailed, DiskFailed, NoMemory, NoSuchFile, TooLarge}
 use Rattle.sg_top.specs.Ends.{Told, Has, IsUnread}
 use Rattle.sg_top.specs.Setup.{Named, Adds, EndsAt, HasSetup, HoldPrograms, OneMore, Holds, IsTextOf, LacksSetup, AtProgram, AtScript, RefusesProgram, RefusesScript, StopsAtProgram}
 
@@ -42,8 +42,12 @@ unread most file told f0 f1 f2 (WrongLine line wrong) a b h = h
 unread most file told f0 f1 f2 (KeysRefused fault) a b h = h
 unread most file told f0 f1 f2 (ScriptRefused fault) a b h = h
 unread most file told f0 f1 f2 (ProgramRefused number cause) a b h = h
+unread most file told f0 f1 f2 NoLedger a b h = h
+unread most file told f0 f1 f2 (BadSlot slot) a b h = h
+unread most file told f0 f1 f2 LedgerNotEmpty a b h = h
 unread most file told f0 f1 f2 WriteFailed a b h = h
 unread most file told f0 f1 f2 LinkFailed a b h = h
+unread most file told f0 f1 f2 DiskFailed a b h = h
 
 -- it ends at a file after others
 later : (most : ℕ) (file : List ℕ) (R : List ℕ → Ending → Type 0) (told : Told) (f0 f1 f2 : ℕ) (e : Ending) → f0 ≤ f1 → f1 ≤ f2

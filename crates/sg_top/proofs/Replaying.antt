@@ -13,7 +13,7 @@ use Rattle.sg_sched.specs.Format.Spells.{SpellsSchedule}
 use Rattle.sg_world.specs.Account.{CanBeNamed, account}
 use Rattle.sg_world.specs.Faults.{IsFull}
 use Rattle.sg_world.specs.Replay.{Replay}
-use Rattle.sg_top.specs.Ending.{Ending, Written, NoCommand, NoGraph, NoExpansion, GraphRefused, NoRole, WrongLine, KeysRefused, ScriptRefused, ProgramRefused, FileFailed, WriteFailed, LinkFailed, NoMemory, NoSuchFile, TooLarge}
+use Rattle.sg_top.specs.Ending.{Ending, Written, NoCommand, NoGraph, NoExpansion, GraphRefused, NoRole, WrongLine, KeysRefused, ScriptRefused, ProgramRefused, NoLedger, BadSlot, LedgerNotEmpty, FileFailed, WriteFailed, LinkFailed, DiskFailed, NoMemory, NoSuchFile, TooLarge}
 use Rattle.sg_top.specs.Ends.{Output, IsReplay, Replays}
 use Rattle.sg_top.specs.Replayed.{CanBeReplayed, HasNoRoom, Reports, Stops, replay_of, replay_up_to}
 
@@ -43,9 +43,13 @@ module _ (programs : List Program) (s : Schedule) where
   stops n w (KeysRefused fault) e l h = absurd h
   stops n w (ScriptRefused fault) e l h = absurd h
   stops n w (ProgramRefused number cause) e l h = absurd h
+  stops n w NoLedger e l h = absurd h
+  stops n w (BadSlot slot) e l h = absurd h
+  stops n w LedgerNotEmpty e l h = absurd h
   stops n w (FileFailed file) e l h = absurd h
   stops n w WriteFailed e l h = absurd h
   stops n w LinkFailed e l h = absurd h
+  stops n w DiskFailed e l h = absurd h
   stops n w NoMemory e l h = tt
   stops n w (NoSuchFile file) e l h = absurd h
   stops n w (TooLarge what) e l h = (h.0, record { before = n; begins = l; full = subst IsFull e h.1 })
@@ -79,9 +83,13 @@ module _ (programs : List Program) (s : Schedule) where
     stopped out (KeysRefused fault) h = absurd h
     stopped out (ScriptRefused fault) h = absurd h
     stopped out (ProgramRefused number cause) h = absurd h
+    stopped out NoLedger h = absurd h
+    stopped out (BadSlot slot) h = absurd h
+    stopped out LedgerNotEmpty h = absurd h
     stopped out (FileFailed file) h = absurd h
     stopped out WriteFailed h = absurd h
     stopped out LinkFailed h = absurd h
+    stopped out DiskFailed h = absurd h
     stopped out NoMemory h = refl
     stopped out (NoSuchFile file) h = absurd h
     stopped out (TooLarge what) h = (refl, inr (h.0, record { schedule = s; programs = programs; spelled = spelled; compiled = compiled; overfull = h.1 }))

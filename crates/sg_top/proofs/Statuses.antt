@@ -1,52 +1,90 @@
 -- With which statuses the program ends after a play.
-use Rattle.std.proofs.Common.{◌≡◌, ℕ, ◌⊎◌, inl, inr, List, Option, refl, sym, subst}
-use Rattle.std.specs.Prelude.{⊤}
-use Rattle.sg_top.specs.Ending.{Ending, Written, NoCommand, NoGraph, NoExpansion, GraphRefused, NoRole, WrongLine, KeysRefused, ScriptRefused, ProgramRefused, FileFailed, WriteFailed, LinkFailed, NoMemory, NoSuchFile, TooLarge, status_of, line_of}
+use Rattle.std.proofs.Common.{◌≡◌, ℕ, ◌⊎◌, inl, inr, List, Option, Some, None, refl, sym, subst}
+use Rattle.sg_top.specs.Ending.{Ending, Written, NoCommand, NoGraph, NoExpansion, GraphRefused, NoRole, WrongLine, KeysRefused, ScriptRefused, ProgramRefused, NoLedger, BadSlot, LedgerNotEmpty, FileFailed, WriteFailed, LinkFailed, DiskFailed, NoMemory, NoSuchFile, TooLarge, status_of, line_of}
 use Rattle.sg_top.specs.Ends.{Output}
+use Rattle.sg_top.specs.Ledgers.{CanHaveKept}
 use Rattle.sg_top.specs.Runs.{CanHavePlayed}
-use Rattle.sg_words.specs.Command.{Command, command_of}
-use Rattle.sg_top.specs.Top.{IsRun, MayPlay, Puts, Says}
-
--- one of the statuses of a run that may have played
-abbrev pub IsOfPlay : ℕ → Type 0
-IsOfPlay status = (status ≡ 0) ⊎ (status ≡ 6) ⊎ (status ≡ 7) ⊎ (status ≡ 8)
+use Rattle.sg_words.specs.Command.{Command, Check, Compile, Run, Replay, Drive, Ledger, Keep, Audit, Compose, command_of}
+use Rattle.sg_top.specs.Top.{HasPlayed, IsOfKeep, IsOfPlay, MayPlay, PlaysWith, Puts, Says}
 
 -- the statuses of endings after a play
-of_ending : (e : Ending) → CanHavePlayed e → IsOfPlay (status_of e)
-of_ending Written h = inl refl
-of_ending WriteFailed h = inr (inl refl)
-of_ending LinkFailed h = inr (inr (inl refl))
-of_ending NoMemory h = inr (inr (inr refl))
-of_ending NoCommand h = absurd h
-of_ending (NoGraph fault) h = absurd h
-of_ending (NoExpansion fault) h = absurd h
-of_ending (GraphRefused g fault) h = absurd h
-of_ending (NoRole role) h = absurd h
-of_ending (WrongLine line wrong) h = absurd h
-of_ending (KeysRefused fault) h = absurd h
-of_ending (ScriptRefused fault) h = absurd h
-of_ending (ProgramRefused number cause) h = absurd h
-of_ending (FileFailed file) h = absurd h
-of_ending (NoSuchFile file) h = absurd h
-of_ending (TooLarge what) h = absurd h
+of_play : (e : Ending) → CanHavePlayed e → IsOfPlay (status_of e)
+of_play Written h = inl refl
+of_play WriteFailed h = inr (inl refl)
+of_play LinkFailed h = inr (inr (inl refl))
+of_play NoMemory h = inr (inr (inr refl))
+of_play NoCommand h = absurd h
+of_play (NoGraph fault) h = absurd h
+of_play (NoExpansion fault) h = absurd h
+of_play (GraphRefused g fault) h = absurd h
+of_play (NoRole role) h = absurd h
+of_play (WrongLine line wrong) h = absurd h
+of_play (KeysRefused fault) h = absurd h
+of_play (ScriptRefused fault) h = absurd h
+of_play (ProgramRefused number cause) h = absurd h
+of_play NoLedger h = absurd h
+of_play (BadSlot slot) h = absurd h
+of_play LedgerNotEmpty h = absurd h
+of_play (FileFailed file) h = absurd h
+of_play DiskFailed h = absurd h
+of_play (NoSuchFile file) h = absurd h
+of_play (TooLarge what) h = absurd h
 
--- a status that is put is the one that was wanted, or 6
-of_puts : (old new : Output) (line : List ℕ) (wanted status : ℕ) → IsOfPlay wanted → Puts old new line wanted status → IsOfPlay status
-of_puts old new line wanted status h (inl p) = subst IsOfPlay (sym p.0) h
-of_puts old new line wanted status h (inr p) = inr (inl p.0)
+-- and after one over a ledger
+of_keep : (e : Ending) → CanHaveKept e → IsOfKeep (status_of e)
+of_keep DiskFailed h = inr refl
+of_keep Written h = inl (of_play Written h)
+of_keep WriteFailed h = inl (of_play WriteFailed h)
+of_keep LinkFailed h = inl (of_play LinkFailed h)
+of_keep NoMemory h = inl (of_play NoMemory h)
+of_keep NoCommand h = absurd h
+of_keep (NoGraph fault) h = absurd h
+of_keep (NoExpansion fault) h = absurd h
+of_keep (GraphRefused g fault) h = absurd h
+of_keep (NoRole role) h = absurd h
+of_keep (WrongLine line wrong) h = absurd h
+of_keep (KeysRefused fault) h = absurd h
+of_keep (ScriptRefused fault) h = absurd h
+of_keep (ProgramRefused number cause) h = absurd h
+of_keep NoLedger h = absurd h
+of_keep (BadSlot slot) h = absurd h
+of_keep LedgerNotEmpty h = absurd h
+of_keep (FileFailed file) h = absurd h
+of_keep (NoSuchFile file) h = absurd h
+of_keep (TooLarge what) h = absurd h
 
--- the status that is said after a play
-pub of_says : (work : Ending) (old new : Output) (status : ℕ) → CanHavePlayed work → Says work old new status → IsOfPlay status
-of_says work old new status h (inl p) = of_puts old new (line_of work) (status_of work) status (of_ending work h) p
-of_says work old new status h (inr p) = of_puts old new (line_of NoMemory) 8 status (inr (inr (inr refl))) p.1
+-- a status that is said is that of the ending, or that of a failed write, or that of want of memory
+module _ (P : ℕ → Type 0) (six : P 6) (eight : P 8) where
+  of_puts : (old new : Output) (line : List ℕ) (wanted status : ℕ) → P wanted → Puts old new line wanted status → P status
+  of_puts old new line wanted status h (inl p) = subst P (sym p.0) h
+  of_puts old new line wanted status h (inr p) = subst P (sym p.0) six
 
--- a run may have played, or the rest holds
-pub of_run : {Rest : Type 0} (e : Ending) → CanHavePlayed e ⊎ Rest → (⊤ × CanHavePlayed e) ⊎ Rest
-of_run e (inl h) = inl (tt, h)
-of_run e (inr rest) = inr rest
+  of_says : (work : Ending) (old new : Output) (status : ℕ) → P (status_of work) → Says work old new status → P status
+  of_says work old new status h (inl p) = of_puts old new (line_of work) (status_of work) status h p
+  of_says work old new status h (inr p) = of_puts old new (line_of NoMemory) 8 status eight p.1
 
--- a command that may have played is a run, and its status is one of a run that may have played; or the rest holds
-pub may_play : {Rest : Type 0} (words : List (List ℕ)) (c : Option Command) (work : Ending) (old new : Output) (status : ℕ) → c ≡ command_of words → (IsRun c × CanHavePlayed work) ⊎ Rest
+-- a failed write, and want of memory, may come after a play
+six_of_play : IsOfPlay 6
+six_of_play = inr (inl refl)
+
+eight_of_play : IsOfPlay 8
+eight_of_play = inr (inr (inr refl))
+
+-- the status of a command that may have played
+status_said : (c : Option Command) (work : Ending) (old new : Output) (status : ℕ) → HasPlayed c work → Says work old new status → PlaysWith c status
+status_said (Some (Run keys script most programs)) work old new status h says = of_says IsOfPlay six_of_play eight_of_play work old new status (of_play work h) says
+status_said (Some (Keep file keys script most programs)) work old new status h says = of_says IsOfKeep (inl six_of_play) (inl eight_of_play) work old new status (of_keep work h) says
+status_said (Some (Check file)) work old new status h says = absurd h
+status_said (Some (Compile file role)) work old new status h says = absurd h
+status_said (Some (Replay file)) work old new status h says = absurd h
+status_said (Some (Drive seed sessions file)) work old new status h says = absurd h
+status_said (Some (Ledger file)) work old new status h says = absurd h
+status_said (Some (Audit file)) work old new status h says = absurd h
+status_said (Some (Compose file)) work old new status h says = absurd h
+status_said None work old new status h says = absurd h
+
+-- a command that may have played ends with one of its statuses; or the rest holds
+pub may_play : {Rest : Type 0} (words : List (List ℕ)) (c : Option Command) (work : Ending) (old new : Output) (status : ℕ) → c ≡ command_of words → HasPlayed c work ⊎ Rest
     → Says work old new status → MayPlay words status ⊎ Rest
-may_play words c work old new status same (inl h) says = inl (subst IsRun same h.0, of_says work old new status h.1 says)
+may_play words c work old new status same (inl h) says = inl (subst (λ (x : Option Command). PlaysWith x status) same (status_said c work old new status h says))
 may_play words c work old new status same (inr rest) says = inr rest

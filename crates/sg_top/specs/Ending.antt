@@ -41,12 +41,20 @@ pub data Ending : Type 0 where
   ScriptRefused : ScriptFault → Ending
   -- the program of this number, counted from 1, isn't taken
   ProgramRefused : (number : ℕ) → BadProgram → Ending
+  -- the file is no ledger
+  NoLedger : Ending
+  -- this slot of the ledger, counted from 0, is the first that no ledger has
+  BadSlot : (slot : ℕ) → Ending
+  -- the file of the ledger to be made has bytes already
+  LedgerNotEmpty : Ending
   -- the file could not be read
   FileFailed : (file : List ℕ) → Ending
   -- what was to be written was not taken
   WriteFailed : Ending
   -- the link failed
   LinkFailed : Ending
+  -- the disk failed
+  DiskFailed : Ending
   -- memory was wanted, and none was to be had
   NoMemory : Ending
   -- there is no such file
@@ -66,12 +74,16 @@ status_of (WrongLine line wrong) = 4
 status_of (KeysRefused fault) = 4
 status_of (ScriptRefused fault) = 4
 status_of (ProgramRefused number cause) = 4
+status_of NoLedger = 4
+status_of (BadSlot slot) = 4
+status_of LedgerNotEmpty = 4
 status_of (FileFailed file) = 5
 status_of WriteFailed = 6
 status_of LinkFailed = 7
 status_of NoMemory = 8
 status_of (NoSuchFile file) = 9
 status_of (TooLarge what) = 10
+status_of DiskFailed = 11
 
 -- what is wrong with a line
 abbrev pub wrong_text : Wrong → List ℕ
@@ -83,7 +95,7 @@ wrong_text NotHonest = codes "not-honest"
 -- the line on standard error
 abbrev pub line_of : Ending → List ℕ
 line_of Written = []
-line_of NoCommand = codes "usage: sessiongraph check|compile|run|replay|drive|audit|compose\n"
+line_of NoCommand = codes "usage: sessiongraph check|compile|run|replay|drive|ledger|keep|audit|compose\n"
 line_of (NoGraph fault) = codes "graph refused: " ++ parse_text fault ++ 10 ∷ []
 line_of (NoExpansion fault) = codes "graph refused: " ++ compose_text fault ++ 10 ∷ []
 line_of (GraphRefused g fault) = codes "graph refused: " ++ refusal_text g fault ++ 10 ∷ []
@@ -92,9 +104,13 @@ line_of (WrongLine line wrong) = codes "input refused: line " ++ decimal line ++
 line_of (KeysRefused fault) = codes "input refused: keys " ++ keys_text fault ++ 10 ∷ []
 line_of (ScriptRefused fault) = codes "input refused: script " ++ script_text fault ++ 10 ∷ []
 line_of (ProgramRefused number cause) = codes "input refused: program " ++ decimal number ++ program_text cause ++ 10 ∷ []
+line_of NoLedger = codes "input refused: ledger not made\n"
+line_of (BadSlot slot) = codes "input refused: ledger slot " ++ decimal slot ++ 10 ∷ []
+line_of LedgerNotEmpty = codes "input refused: ledger not empty\n"
 line_of (FileFailed file) = codes "file failed: " ++ file ++ 10 ∷ []
 line_of WriteFailed = []
 line_of LinkFailed = codes "link failed\n"
+line_of DiskFailed = codes "disk failed\n"
 line_of NoMemory = codes "out of memory\n"
 line_of (NoSuchFile file) = codes "no such file: " ++ file ++ 10 ∷ []
 line_of (TooLarge what) = codes "too large: " ++ what ++ 10 ∷ []

@@ -8,5 +8,6 @@ pub mod Driven
 pub mod Ends
 pub mod Setup
 pub mod Runs
+pub mod Ledgers
 pub mod Top
 pub mod Model

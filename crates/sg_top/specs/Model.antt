@@ -1,7 +1,7 @@
 -- What the program holds, as the values of the definitions.
 use Rattle.sg_top.specs.Ending as Ended
 use Rattle.sg_top.specs.declared.ending.Ending.{Ending}
-use Rattle.sg_top.specs.declared.ending.Ending.TheVariants.{Written, NoCommand, NoGraph, NoExpansion, GraphRefused, NoRole, WrongLine, KeysRefused, ScriptRefused, ProgramRefused, FileFailed, WriteFailed, LinkFailed, NoMemory, NoSuchFile, TooLarge}
+use Rattle.sg_top.specs.declared.ending.Ending.TheVariants.{Written, NoCommand, NoGraph, NoExpansion, GraphRefused, NoRole, WrongLine, KeysRefused, ScriptRefused, ProgramRefused, NoLedger, BadSlot, LedgerNotEmpty, FileFailed, WriteFailed, LinkFailed, DiskFailed, NoMemory, NoSuchFile, TooLarge}
 
 -- the ending that is held
 abbrev pub ending_held : Ending → Ended.Ending
@@ -15,9 +15,13 @@ ending_held (WrongLine line wrong) = Ended.WrongLine line wrong
 ending_held (KeysRefused fault) = Ended.KeysRefused fault
 ending_held (ScriptRefused fault) = Ended.ScriptRefused fault
 ending_held (ProgramRefused number cause) = Ended.ProgramRefused number cause
+ending_held NoLedger = Ended.NoLedger
+ending_held (BadSlot slot) = Ended.BadSlot slot
+ending_held LedgerNotEmpty = Ended.LedgerNotEmpty
 ending_held (FileFailed file) = Ended.FileFailed file.now
 ending_held WriteFailed = Ended.WriteFailed
 ending_held LinkFailed = Ended.LinkFailed
+ending_held DiskFailed = Ended.DiskFailed
 ending_held NoMemory = Ended.NoMemory
 ending_held (NoSuchFile file) = Ended.NoSuchFile file.now
 ending_held (TooLarge what) = Ended.TooLarge what.now

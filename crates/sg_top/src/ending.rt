@@ -50,12 +50,20 @@ pub enum Ending<'w> {
     ScriptRefused { fault: ScriptFault },
     /// The program of this number, counted from 1, isn't taken.
     ProgramRefused { number: usize, cause: BadProgram },
+    /// The file is no ledger.
+    NoLedger,
+    /// This slot of the ledger, counted from 0, is the first that no ledger has.
+    BadSlot { slot: u32 },
+    /// The file of the ledger to be made has bytes already.
+    LedgerNotEmpty,
     /// The file could not be read.
     FileFailed { file: &'w str },
     /// What was to be written was not taken.
     WriteFailed,
     /// The link failed.
     LinkFailed,
+    /// The disk failed.
+    DiskFailed,
     /// Memory was wanted, and none was to be had.
     NoMemory,
     /// There is no such file.
@@ -80,12 +88,16 @@ impl<'w> Ending<'w> {
             Ending::KeysRefused { .. } => 4,
             Ending::ScriptRefused { .. } => 4,
             Ending::ProgramRefused { .. } => 4,
+            Ending::NoLedger => 4,
+            Ending::BadSlot { .. } => 4,
+            Ending::LedgerNotEmpty => 4,
             Ending::FileFailed { .. } => 5,
             Ending::WriteFailed => 6,
             Ending::LinkFailed => 7,
             Ending::NoMemory => 8,
             Ending::NoSuchFile { .. } => 9,
             Ending::TooLarge { .. } => 10,
+            Ending::DiskFailed => 11,
         }
     }
 
@@ -107,7 +119,7 @@ impl<'w> Ending<'w> {
         match self {
             Ending::Written | Ending::WriteFailed => Ok(()),
             Ending::NoCommand => out.bytes(
-                b"usage: sessiongraph check|compile|run|replay|drive|audit|compose\n",
+                b"usage: sessiongraph check|compile|run|replay|drive|ledger|keep|audit|compose\n",
             ),
             Ending::NoGraph { fault } => put_no_graph(out, fault),
             Ending::NoExpansion { fault } => put_no_expansion(out, fault),
@@ -117,13 +129,26 @@ impl<'w> Ending<'w> {
             Ending::KeysRefused { fault } => put_no_keys(out, *fault),
             Ending::ScriptRefused { fault } => put_no_script(out, *fault),
             Ending::ProgramRefused { number, cause } => put_no_program(out, *number, *cause),
+            Ending::NoLedger => out.bytes(b"input refused: ledger not made\n"),
+            Ending::BadSlot { slot } => put_bad_slot(out, *slot),
+            Ending::LedgerNotEmpty => out.bytes(b"input refused: ledger not empty\n"),
             Ending::FileFailed { file } => put_word(out, b"file failed: ", file),
             Ending::LinkFailed => out.bytes(b"link failed\n"),
+            Ending::DiskFailed => out.bytes(b"disk failed\n"),
             Ending::NoMemory => out.bytes(b"out of memory\n"),
             Ending::NoSuchFile { file } => put_word(out, b"no such file: ", file),
             Ending::TooLarge { what } => put_word(out, b"too large: ", what),
         }
     }
+}
+
+// Writes the line that names a slot of a ledger.
+fn put_bad_slot(out: &mut ByteOut, slot: u32) -> Result<(), OutOfMemory>
+    ensures { OnOk result (out.new ≡ out.old ++ (codes "input refused: ledger slot " ++ decimal slot ++ 10 ∷ [])) }
+{
+    out.bytes(b"input refused: ledger slot ")?;
+    out.decimal(slot as u64)?;
+    out.u8(b'\n')
 }
 
 // Writes a line that ends with a word.

@@ -11,6 +11,8 @@ pub data Command : Type 0 where
   Run : (keys script : List ℕ) → (deliveries : ℕ) → (programs : List (List ℕ)) → Command
   Replay : (file : List ℕ) → Command
   Drive : (seed sessions : ℕ) → (file : List ℕ) → Command
+  Ledger : (file : List ℕ) → Command
+  Keep : (file keys script : List ℕ) → (deliveries : ℕ) → (programs : List (List ℕ)) → Command
   Audit : (file : List ℕ) → Command
   Compose : (file : List ℕ) → Command
 
@@ -18,11 +20,12 @@ pub data Command : Type 0 where
 abbrev pub is_option : List ℕ → Bool
 is_option word = slice_index word 0 == 45
 
--- check FILE, replay FILE, audit FILE, or compose FILE
+-- check FILE, replay FILE, ledger FILE, audit FILE, or compose FILE
 abbrev pub on_file : (name file : List ℕ) → Option Command
 on_file name file =
     if bytes_eq name (codes "check") then Some (Check file)
     else if bytes_eq name (codes "replay") then Some (Replay file)
+    else if bytes_eq name (codes "ledger") then Some (Ledger file)
     else if bytes_eq name (codes "audit") then Some (Audit file)
     else if bytes_eq name (codes "compose") then Some (Compose file)
     else None
@@ -66,11 +69,21 @@ driving (seed ∷ sessions ∷ []) = None
 driving (seed ∷ sessions ∷ file ∷ []) = option_and_then (λ s. option_map (λ n. Drive s n file) (sessions_of sessions)) (number most_seed seed)
 driving (seed ∷ sessions ∷ file ∷ other ∷ more) = None
 
+-- FILE KEYS SCRIPT N PROGRAM.., at least one program, and N at most 1,000,000
+abbrev pub keeping : List (List ℕ) → Option Command
+keeping [] = None
+keeping (file ∷ []) = None
+keeping (file ∷ keys ∷ []) = None
+keeping (file ∷ keys ∷ script ∷ []) = None
+keeping (file ∷ keys ∷ script ∷ n ∷ []) = None
+keeping (file ∷ keys ∷ script ∷ n ∷ program ∷ more) = option_map (λ d. Keep file keys script d (program ∷ more)) (number most_deliveries n)
+
 -- the command of this name, with these words behind it
 abbrev pub named : (name : List ℕ) → List (List ℕ) → Option Command
 named name words =
     if bytes_eq name (codes "run") then running words
     else if bytes_eq name (codes "drive") then driving words
+    else if bytes_eq name (codes "keep") then keeping words
     else few name words
 
 -- the command, where the words are in the table and none begins with -

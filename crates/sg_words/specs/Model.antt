@@ -2,7 +2,7 @@
 use Rattle.std.specs.Prelude.{map}
 use Rattle.sg_words.specs.Command as Asked
 use Rattle.sg_words.specs.declared.command.Command.{Command}
-use Rattle.sg_words.specs.declared.command.Command.TheVariants.{Check, Compile, Run, Replay, Drive, Audit, Compose}
+use Rattle.sg_words.specs.declared.command.Command.TheVariants.{Check, Compile, Run, Replay, Drive, Ledger, Keep, Audit, Compose}
 
 -- the command that is held
 abbrev pub command_held : Command → Asked.Command
@@ -11,5 +11,7 @@ command_held (Compile file role) = Asked.Compile file.now role.now
 command_held (Run keys script deliveries programs) = Asked.Run keys.now script.now deliveries (map (λ s. s.now) programs.now)
 command_held (Replay file) = Asked.Replay file.now
 command_held (Drive seed sessions file) = Asked.Drive seed sessions file.now
+command_held (Ledger file) = Asked.Ledger file.now
+command_held (Keep file keys script deliveries programs) = Asked.Keep file.now keys.now script.now deliveries (map (λ s. s.now) programs.now)
 command_held (Audit file) = Asked.Audit file.now
 command_held (Compose file) = Asked.Compose file.now

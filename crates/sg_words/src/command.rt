@@ -1,7 +1,9 @@
 //! What the words of the command line ask for.
 ghost use Rattle.std.specs.Prelude.{◌≡◌, map, option_map};
 ghost use Rattle.std.specs.List.{list_any};
-ghost use Rattle.sg_words.specs.Command.{command_of, driving, few, is_option, named, on_file, on_file_and_role, running, sessions_of};
+ghost use Rattle.sg_base.specs.Words.{number};
+ghost use Rattle.sg_model.specs.Limits.{most_deliveries};
+ghost use Rattle.sg_words.specs.Command.{command_of, driving, few, is_option, keeping, named, on_file, on_file_and_role, running, sessions_of};
 ghost use Rattle.sg_words.specs.Model.{command_held};
 
 use sg_base::read_number;
@@ -46,6 +48,24 @@ pub enum Command<'w> {
         /// The file of the graph.
         file: &'w str,
     },
+    /// Makes a ledger of joins.
+    Ledger {
+        /// The file of the ledger.
+        file: &'w str,
+    },
+    /// Runs one principal, and keeps its joins in a ledger.
+    Keep {
+        /// The file of the ledger.
+        file: &'w str,
+        /// The key file.
+        keys: &'w str,
+        /// The file of the script.
+        script: &'w str,
+        /// How many deliveries are taken at most, up to 1,000,000.
+        deliveries: u32,
+        /// The files of the programs, at least one.
+        programs: &'w [&'w str],
+    },
     /// Audits logs.
     Audit {
         /// The file of the logs.
@@ -78,6 +98,7 @@ fn named<'w>(name: &str, words: &'w [&'w str]) -> Option<Command<'w>>
     match name {
         "run" => running(words),
         "drive" => driving(words),
+        "keep" => keeping(words),
         name => few(name, words),
     }
 }
@@ -88,7 +109,7 @@ fn running<'w>(words: &'w [&'w str]) -> Option<Command<'w>>
 {
     match words {
         [keys, script, deliveries, programs @ ..] if programs.len() > 0 => {
-            let deliveries = read_number(deliveries.as_bytes(), 1_000_000)? as u32;
+            let deliveries = deliveries_of(deliveries)?;
             Some(Command::Run {
                 keys,
                 script,
@@ -118,12 +139,38 @@ fn driving<'w>(words: &'w [&'w str]) -> Option<Command<'w>>
     }
 }
 
+// The command that runs one principal and keeps its joins.
+fn keeping<'w>(words: &'w [&'w str]) -> Option<Command<'w>>
+    ensures { option_map command_held result ≡ keeping (map (λ s. s.now) words.now) }
+{
+    match words {
+        [file, keys, script, deliveries, programs @ ..] if programs.len() > 0 => {
+            let deliveries = deliveries_of(deliveries)?;
+            Some(Command::Keep {
+                file,
+                keys,
+                script,
+                deliveries,
+                programs,
+            })
+        }
+        _ => None,
+    }
+}
+
 // How many sessions a word asks for, from 1 to 2,000.
 fn sessions_of(word: &str) -> Option<u32>
     ensures { result ≡ sessions_of word.now }
 {
     let sessions = read_number(word.as_bytes(), 2_000)? as u32;
     if sessions > 0 { Some(sessions) } else { None }
+}
+
+// How many deliveries are taken at most.
+fn deliveries_of(word: &str) -> Option<u32>
+    ensures { result ≡ number most_deliveries word.now }
+{
+    Some(read_number(word.as_bytes(), 1_000_000)? as u32)
 }
 
 // The command of this name that takes one word or two.
@@ -144,6 +191,7 @@ fn on_file<'w>(name: &str, file: &'w str) -> Option<Command<'w>>
     match name {
         "check" => Some(Command::Check { file }),
         "replay" => Some(Command::Replay { file }),
+        "ledger" => Some(Command::Ledger { file }),
         "audit" => Some(Command::Audit { file }),
         "compose" => Some(Command::Compose { file }),
         _ => None,

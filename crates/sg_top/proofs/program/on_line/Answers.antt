@@ -24,3 +24,8 @@ returns-in-Ok-clause-as_before g c =
 
 pub returns-in-Err-clause-ends : goal.returns-in-Err-clause-ends
 returns-in-Err-clause-ends g c = record { work = NoMemory; does = inr ((refl, refl, refl), refl); says = c.say-in-Err.ensures }
+
+pub returns-in-Ok-clause-disk : goal.returns-in-Ok-clause-disk
+returns-in-Ok-clause-disk g c =
+    let same : option_map command_held c.command.result ≡ command_of c.args.line.now = c.command.ensures ∙ ap command_of c.in-Ok.ensures in
+    rw same at c.work-ending.ensures.disk

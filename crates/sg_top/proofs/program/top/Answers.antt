@@ -8,8 +8,14 @@ returns-in-Err-clause-ends g c = record { work = NoMemory; does = inr ((refl, re
 pub returns-in-Err-clause-as_before : goal.returns-in-Err-clause-as_before
 returns-in-Err-clause-as_before g c = inr (refl, refl)
 
+pub returns-in-Err-clause-disk : goal.returns-in-Err-clause-disk
+returns-in-Err-clause-disk g c = inr refl
+
 pub returns-in-Ok-clause-ends : goal.returns-in-Ok-clause-ends
 returns-in-Ok-clause-ends g c = rw c.in-Ok.ensures at c.on_line.ensures.ends
 
 pub returns-in-Ok-clause-as_before : goal.returns-in-Ok-clause-as_before
 returns-in-Ok-clause-as_before g c = rw c.in-Ok.ensures at c.on_line.ensures.as_before
+
+pub returns-in-Ok-clause-disk : goal.returns-in-Ok-clause-disk
+returns-in-Ok-clause-disk g c = rw c.in-Ok.ensures at c.on_line.ensures.disk

@@ -1,3 +1,4 @@
+use Rattle.sg_play.proofs.Keeping.{keeps_same}
 use Rattle.std.proofs.Common.{refl, sym, ap, ◌∙◌}
 use Rattle.std.specs.Option.{option_copied}
 use Rattle.sg_model.specs.Names.{Name}
@@ -17,3 +18,6 @@ returns-clause-came g c = λ p start s w h.
     (acted_in c.args.sid c.name-name.result c.args.node p) (acted c.args.sid c.args.node p) c.act_in.result
     (acted_with c.args.sid c.args.node p c.in-Some.graph.now (sym (ap option_copied c.in-Some.is) ∙ c.graph_of.ensures p.past s.node) ∙ ap (λ (n : Name). acted_in c.args.sid n c.args.node p) (sym c.name-name.ensures.name))
     (c.act_in.ensures.came p start s w h)
+
+pub returns-in_default-clause-joins : goal.returns-in_default-clause-joins
+returns-in_default-clause-joins g c = keeps_same c.args.self.now.node c.args.self.now.node refl

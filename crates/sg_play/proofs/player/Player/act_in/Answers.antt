@@ -1,3 +1,4 @@
+use Rattle.sg_play.proofs.Keeping.{keeps_same, keeps_then}
 use Rattle.std.proofs.Common.{rules, ◌≡◌, ◌+◌, length, Err, refl}
 use Rattle.std.specs.Option.{option_copied}
 use Rattle.sg_report.specs.Outcome.{outcome_of}
@@ -37,3 +38,10 @@ returns-in-None-clause-came g c = λ p start s w h.
     let none = rw c.in-None.is at (c.in_ok-outcome.ensures.acted p s w) in
     act_none start (record { written = g.O.Sink.written c.args.out.now; sent = g.L.Link.sent c.args.link.now }) c.try_act.new.self (g.R.Fresh.words c.try_act.new.fresh) c.args.self.now (g.R.Fresh.words c.args.fresh.now)
     (acted_in c.args.sid c.args.graph.now c.args.node p) p (acted_none c.args.sid c.args.node p c.args.graph.now none.0) none.1 none.2 s w h
+
+pub returns-in_ok-give-in-Some-clause-joins : goal.returns-in_ok-give-in-Some-clause-joins
+returns-in_ok-give-in-Some-clause-joins g c =
+    keeps_then c.args.self.now.node c.try_act.new.self.node c.give.new.self.node c.in_ok-outcome.ensures.joins (keeps_same c.try_act.new.self.node c.give.new.self.node c.in_ok-give-in-Some.ensures.node)
+
+pub returns-in-None-clause-joins : goal.returns-in-None-clause-joins
+returns-in-None-clause-joins g c = c.in_ok-outcome.ensures.joins

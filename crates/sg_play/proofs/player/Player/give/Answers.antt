@@ -1,12 +1,14 @@
-use Rattle.std.proofs.Common.{◌≡◌}
+use Rattle.std.proofs.Common.{◌≡◌, ap}
 use Rattle.std.specs.Option.{option_copied}
 use Rattle.sg_report.specs.Outcome.{outcome_of}
 use Rattle.sg_play.specs.declared.fault.PlayFault.TheVariants.{OutOfMemory}
+use Rattle.sg_play.specs.declared.player.Player.{Player}
 use Rattle.sg_play.specs.Played.{called}
 use Rattle.sg_play.specs.Posting.{frames_made}
 use Rattle.sg_play.specs.Steps.{met_in}
 use Rattle.sg_play.proofs.Coming.{came_after, no_memory_by}
 use Rattle.sg_play.proofs.Extends.{by_call}
+use Rattle.sg_play.proofs.Results.{anyway}
 use Rattle.sg_play.proofs.Telling.{line_is, stands_told, told_in}
 use Rattle.sg_play.proofs.player.Player.give.Goals as goal
 
@@ -32,3 +34,6 @@ returns-in-Err-clause-write_failed g c = λ e.
 
 pub returns-in-Err-clause-came : goal.returns-in-Err-clause-came
 returns-in-Err-clause-came g c = λ p k start asked left w. no_memory_by start (record { written = g.O.Sink.written c.args.out.now; sent = g.L.Link.sent c.args.link.now }) p (called p k) c.in-Err.fault c.in-Err.ensures.memory (by_call p k) w
+
+pub returns-in-Ok-clause-node : goal.returns-in-Ok-clause-node
+returns-in-Ok-clause-node g c = anyway c.post.result (c.tell.new.self.node ≡ c.args.self.now.node) (ap (λ (pl : Player). pl.node) c.in-Ok.ensures.rest)

@@ -1,4 +1,7 @@
-use Rattle.std.proofs.Common.{rules, ◌≡◌, Err, Some, sym, ◌∙◌}
+use Rattle.sg_play.specs.Standing.{KeepsJoins}
+use Rattle.sg_play.proofs.Results.{mapped}
+use Rattle.sg_play.proofs.Keeping.{keeps_same, keeps_then}
+use Rattle.std.proofs.Common.{rules, ◌≡◌, Err, Some, sym, ◌∙◌, refl}
 use Rattle.sg_protocol.specs.Past.{node_of}
 use Rattle.sg_protocol.specs.Turn.{turn_of}
 use Rattle.sg_play.specs.Ends.{Outside}
@@ -32,3 +35,13 @@ returns-clause-came g c = λ p start s w h.
     let came = c.in_ok-act.ensures.came p start s w h in
     turn_left start now c.leave.new.self (g.R.Fresh.words c.act.new.fresh) c.args.sid p c.in-Some.node c.leave.result turn (sym came.1 ∙ c.if-branch.false)
     (with_words start now c.leave.new.self (g.R.Fresh.words c.act.new.fresh) (abandons c.args.sid after) c.leave.result came.0.1 (c.leave.ensures.came after start came.0.0.0 came.0.0.1))
+
+pub returns-in_default-clause-joins : goal.returns-in_default-clause-joins
+returns-in_default-clause-joins g c = keeps_same c.args.self.now.node c.args.self.now.node refl
+
+pub returns-then-branch-clause-joins : goal.returns-then-branch-clause-joins
+returns-then-branch-clause-joins g c = c.in_ok-act.ensures.joins
+
+pub returns-clause-joins : goal.returns-clause-joins
+returns-clause-joins g c = mapped c.leave.result (KeepsJoins c.act.new.self.node c.leave.new.self.node) (KeepsJoins c.args.self.now.node c.leave.new.self.node)
+    (λ h. keeps_then c.args.self.now.node c.act.new.self.node c.leave.new.self.node c.in_ok-act.ensures.joins h) c.leave.ensures.joins

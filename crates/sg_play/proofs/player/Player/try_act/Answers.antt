@@ -1,3 +1,5 @@
+use Rattle.sg_play.specs.declared.player.Player.{Player}
+use Rattle.sg_play.proofs.Keeping.{keeps_by_act, keeps_same, keeps_then}
 use Rattle.std.proofs.Common.{◌≡◌, length, drop, Some, refl, sym, ap, ◌∙◌}
 use Rattle.std.specs.Option.{option_copied}
 use Rattle.sg_protocol.specs.Calls.{Act}
@@ -23,3 +25,14 @@ returns-clause-acted g c = λ p s w.
     (frames_made c.addressed-frame.result) (g.R.Fresh.words c.draw.new.fresh) s (sym (c.first.ensures p.choices s.choices) ∙ ap option_copied c.in-Some.is) call c.in_ok-number.ensures.next
     (c.in_ok-outcome.ensures.comes p.past s.node) (c.use_first.ensures p.choices s.choices) c.addressed-frame.ensures.rest c.addressed-frame.ensures.made (c.addressed-frame.ensures.count c.in_ok-number.ensures.next)
     (c.in-Ok.ensures.left p.words w ∙ ap (λ n. Some (drop n p.words)) count)
+
+pub returns-in_default-clause-joins : goal.returns-in_default-clause-joins
+returns-in_default-clause-joins g c = keeps_same c.args.self.now.node c.args.self.now.node refl
+
+pub returns-clause-joins : goal.returns-clause-joins
+returns-clause-joins g c =
+    let old = c.args.self.now.node in
+    let asked = c.ask_act.new.node in
+    keeps_then old asked c.addressed-frame.new.self.node
+    (keeps_by_act c.in_ok-number.number old asked c.args.sid c.choice.inside.label (values_of c.as_slice.result.now) c.as_slice-2.result.now (outcome_of c.in_ok-outcome.outcome) (option_copied c.in_ok-outcome.told_by) c.in_ok-outcome.sealed c.in_ok-outcome.ensures.comes)
+    (keeps_same asked c.addressed-frame.new.self.node (ap (λ (pl : Player). pl.node) c.addressed-frame.ensures.rest))

@@ -1,0 +1,229 @@
+-- What a keeper holds before a call, once its node was asked, once the join is kept, and once the turn was played.
+use Rattle.std.proofs.Common.{◌≡◌, ◌⊎◌, ℕ, List, [], ◌++◌, false, length, Option, Some, None, option_and_then, Result, Ok, Err, OnOk, refl, sym, ap, ◌∙◌, subst}
+use Rattle.std.proofs.lemmas.List.{append-nil}
+use Rattle.sg_ledger.specs.Format.{Join, Opened, StandsFor}
+use Rattle.sg_node.proofs.Life.{pasts_go_on}
+use Rattle.sg_protocol.specs.Acting.{answer}
+use Rattle.sg_protocol.specs.Calls as Protocol
+use Rattle.sg_protocol.specs.Calls.{Call, Answer}
+use Rattle.sg_protocol.specs.Graph.{Graph}
+use Rattle.sg_protocol.specs.Keyring.{Keyring, Program}
+use Rattle.sg_protocol.specs.Past.{node_of, past_after}
+use Rattle.sg_protocol.specs.Texts.{real}
+use Rattle.sg_report.specs.Told.{Told, told_answer, sid_left}
+use Rattle.sg_script.specs.Script.{Choice, Script}
+use Rattle.sg_play.specs.declared.fault.PlayFault.{PlayFault}
+use Rattle.sg_play.specs.declared.fault.PlayFault.TheVariants.{LinkFailed, WriteFailed, OutOfMemory}
+use Rattle.sg_play.specs.declared.player.Player.{Player}
+use Rattle.sg_play.specs.Asking.{Comes}
+use Rattle.sg_play.specs.Ends.{Outside, Whole, Ended}
+use Rattle.sg_play.specs.Played.{Play, all_deliveries, all_starts, beginning, called, played, with_turn}
+use Rattle.sg_play.specs.Standing.{HasAsked, KeepsJoins, StandsForPlay}
+use Rattle.sg_play.proofs.Endings.{whole_none}
+use Rattle.sg_play.proofs.Telling.{asked_quiet}
+use Rattle.sg_keep.specs.declared.fault.KeepFault.{KeepFault}
+use Rattle.sg_keep.specs.declared.fault.KeepFault.TheVariants.{Played, DiskFailed}
+use Rattle.sg_keep.specs.declared.keeper.Keeper.{Keeper}
+use Rattle.sg_keep.specs.Joins.{IsNew, join_in, join_told, joins_made, with_join}
+use Rattle.sg_keep.specs.Kept.{AllStandFor, Kept}
+use Rattle.sg_keep.specs.Standing.{CameTo, HasAskedNode, HoldsJoins, IsAsked, StandsForKept}
+use Rattle.sg_keep.proofs.Ending.{IsBetween, end_on, not_kept, played_end, stopped}
+use Rattle.sg_keep.proofs.Going.{Goes, after_call, by_call, by_deliveries, by_starts, in_step_on, joined, quiet_joins, with_call}
+use Rattle.sg_keep.proofs.NewJoins.{any_call, joins_of_node, joins_with}
+
+-- an opened ledger that works, with these joins
+abbrev pub working : List Join → Opened
+working joins = record { joins = joins; failed = false }
+
+-- ---- the node was asked
+
+pub asked_node : (k : Keeper) (pl : Player) (may_leave : List ℕ → Type 0) (c : Call) (told : Option Told) (graph : Option Graph) (h : HoldsJoins k may_leave) → Comes 0 k.player.node pl.node h.past c told graph None → HasAskedNode (record k { player = pl }) may_leave told
+asked_node k pl may_leave c told graph h came = record {
+  past = h.past;
+  call = c;
+  number = 0;
+  range = came.range;
+  told_before = h.told;
+  stands = came.goes_on.stands h.told;
+  is_told = came.is_told;
+  ledger = h.ledger ∙ ap working h.stands.joins;
+  images = subst (AllStandFor may_leave) h.stands.joins h.images;
+}
+
+pub is_asked : (k : Keeper) (pl : Player) (may_leave : List ℕ → Type 0) (p : Play) (c : Call) (told : Option Told) (graph : Option Graph) → HoldsJoins k may_leave → StandsForKept k p → pl ≡ record k.player { node = pl.node }
+    → ((number : ℕ) → Comes number k.player.node pl.node p.past c told graph None) → None ≡ sid_left c → IsAsked (record k { player = pl }) p c told graph
+is_asked k pl may_leave p c told graph h s is comes stays = record {
+  asked = subst (λ (x : Player). HasAsked x p c told graph []) (sym is) (asked_quiet k.player pl.node p c told graph s.player comes);
+  stays = stays;
+  told_before = s.player.told;
+  in_step = s.in_step;
+  ledger = ap (λ (o : Opened). o.joins) h.ledger ∙ s.player.node.joins;
+}
+
+-- ---- the join of what came of it
+
+told_join : (n : ℕ) (a : Answer) → join_told (told_answer n a) ≡ join_in a
+told_join n (Protocol.Happened e) = refl
+told_join n (Protocol.Sends e to f) = refl
+told_join n Protocol.Abandoned = refl
+told_join n (Protocol.NotStarted x) = refl
+told_join n (Protocol.NotActed x) = refl
+told_join n Protocol.NotAbandoned = refl
+told_join n (Protocol.NotDelivered x) = refl
+
+module _ (k : Keeper) (may_leave : List ℕ → Type 0) (told : Option Told) (h : HasAskedNode k may_leave told) where
+  -- the node's answer
+  abbrev given : Answer
+  given = answer real (node_of h.past) h.call
+
+  pub join_is : (r : Option Join) → r ≡ option_and_then join_told told → r ≡ join_in given
+  join_is r e = e ∙ ap (option_and_then join_told) h.is_told ∙ told_join h.number given
+
+  -- a pair that joins is new to the ledger
+  pub is_new : (j : Join) (r : Option Join) → r ≡ option_and_then join_told told → r ≡ Some j → IsNew k.ledger.joins j
+  is_new j r e is = subst (λ (o : Opened). IsNew o.joins j) (sym h.ledger) ((any_call real (node_of h.past) h.call h.range).1 j (sym (join_is r e) ∙ is))
+
+  pub not_failed : k.ledger.failed ≡ false
+  not_failed = ap (λ (o : Opened). o.failed) h.ledger
+
+  pub stand_now : AllStandFor may_leave k.ledger.joins
+  stand_now = subst (λ (o : Opened). AllStandFor may_leave o.joins) (sym h.ledger) h.images
+
+  -- the node's joins are the ledger's with it
+  pub node_joins : (r : Option Join) → r ≡ option_and_then join_told told → k.player.node.joins ≡ with_join k.ledger.joins r
+  node_joins r e =
+      h.stands.joins ∙ joins_with h.past h.call h.range
+      ∙ (λ i. with_join (sym (ap (λ (o : Opened). o.joins) h.ledger) i) (sym (join_is r e) i))
+
+  -- the ledger was left as it is, or has it
+  pub holds_after : (l : Opened) (now_leaves : List ℕ → Type 0) (r : Option Join) → r ≡ option_and_then join_told told → l ≡ working (with_join k.ledger.joins r) → AllStandFor now_leaves l.joins → HoldsJoins (record k { ledger = l }) now_leaves
+  holds_after l now_leaves r e is all = record {
+    past = past_after real h.past h.call;
+    stands = h.stands;
+    told = pasts_go_on h.past h.call h.told_before h.range;
+    ledger = is ∙ ap working (sym (node_joins r e));
+    images = subst (AllStandFor now_leaves) (ap (λ (o : Opened). o.joins) is ∙ sym (node_joins r e)) all;
+  }
+
+  pub holds_same : (r : Option Join) → r ≡ option_and_then join_told told → r ≡ None → HoldsJoins k may_leave
+  holds_same r e none = record {
+    past = past_after real h.past h.call;
+    stands = h.stands;
+    told = pasts_go_on h.past h.call h.told_before h.range;
+    ledger = h.ledger ∙ ap working (sym (ap (λ (o : Opened). o.joins) h.ledger)) ∙ ap working (sym (node_joins r e ∙ ap (with_join k.ledger.joins) none));
+    images = subst (AllStandFor may_leave) (sym (node_joins r e ∙ ap (with_join k.ledger.joins) none)) stand_now;
+  }
+
+-- ---- the call is told
+
+module _ (start now : Outside) (may_leave : List ℕ → Type 0) (k : Keeper) (p : Play) (c : Call) (told : Option Told) (graph : Option Graph) (a : IsAsked k p c told graph) where
+  -- the joins of the node with the call
+  node_has : k.player.node.joins ≡ (called p c).past.first ++ joins_made (called p c).past.calls
+  node_has = a.asked.node.joins ∙ joins_of_node (past_after real p.past c) a.asked.told_past
+
+  -- its join was not kept
+  pub unkept : (f : KeepFault) → IsBetween f → ((image : List ℕ) → may_leave image → StandsFor image k.ledger.joins ⊎ StandsFor image k.player.node.joins) → Whole start now p.steps → Kept start now may_leave (with_turn p c) (Err f)
+  unkept f causes images w =
+      end_on start now may_leave (called p c) (with_turn p c) f (after_call p c).0
+      (not_kept start now may_leave p c f k.ledger.joins k.player.node.joins causes a.in_step (a.ledger ∙ joins_of_node p.past a.told_before) node_has images w)
+
+  -- its join is kept
+  module _ (m : Keeper) (same : m.player ≡ k.player) (h : HoldsJoins m may_leave) where
+    all : AllStandFor may_leave ((called p c).past.first ++ joins_made (called p c).past.calls)
+    all = subst (AllStandFor may_leave) (ap (λ (pl : Player). pl.node.joins) same ∙ node_has) h.images
+
+    steps_so : length (called p c).steps ≡ length (called p c).past.calls
+    steps_so = in_step_on p (called p c) (by_call p c) a.in_step
+
+    pub asked_then : HasAsked m.player p c told graph []
+    asked_then = subst (λ (pl : Player). HasAsked pl p c told graph []) (sym same) a.asked
+
+    -- what came of it was not given
+    pub untold : (f : PlayFault) → Ended start now (called p c).steps (Err f) → Kept start now may_leave (with_turn p c) (Err (Played f))
+    untold f e = end_on start now may_leave (called p c) (with_turn p c) (Played f) (after_call p c).0 (played_end start now may_leave (called p c) steps_so all f e)
+
+    -- the turn ended early
+    pub unplayed : (f : PlayFault) → Ended start now (with_turn p c).steps (Err f) → Kept start now may_leave (with_turn p c) (Err (Played f))
+    unplayed f e =
+        played_end start now may_leave (with_turn p c) (in_step_on (called p c) (with_turn p c) (after_call p c).0 steps_so)
+        (subst (AllStandFor may_leave) (sym (quiet_joins (called p c) (with_turn p c) (after_call p c))) all) f e
+
+    -- it was played
+    pub stands_kept : (k' : Keeper) → StandsForPlay k'.player (with_turn p c) → StandsForKept k' (with_turn p c)
+    stands_kept k' s = record { player = s; in_step = in_step_on p (with_turn p c) (with_call p c) a.in_step }
+
+-- ---- the turn was played
+
+-- the node goes on without a join
+pub holds_on : (k m : Keeper) (may_leave : List ℕ → Type 0) → HoldsJoins k may_leave → m.ledger ≡ k.ledger → KeepsJoins k.player.node m.player.node → HoldsJoins m may_leave
+holds_on k m may_leave h same keeps =
+    let later = keeps h.past h.stands h.told in
+    record {
+      past = later.0;
+      stands = later.1;
+      told = later.2;
+      ledger = same ∙ h.ledger ∙ ap working (sym later.3);
+      images = subst (AllStandFor may_leave) (sym later.3) h.images;
+    }
+
+-- ---- a word less, or the outside by another name
+
+pub kept_without : (k : Keeper) (p q : Play) → q.past ≡ p.past → q.steps ≡ p.steps → StandsForPlay k.player q → StandsForKept k p → StandsForKept k q
+kept_without k p q past steps s h = record { player = s; in_step = (λ i. length (steps i)) ∙ h.in_step ∙ (λ i. length (sym past i).calls) }
+
+-- ---- before a call
+
+-- all joins of the play are kept
+pub holds_all : (k : Keeper) (may_leave : List ℕ → Type 0) (p : Play) → HoldsJoins k may_leave → StandsForKept k p → AllStandFor may_leave (p.past.first ++ joins_made p.past.calls)
+holds_all k may_leave p h s = subst (AllStandFor may_leave) (s.player.node.joins ∙ joins_of_node p.past s.player.told) h.images
+
+module _ (start now : Outside) (may_leave : List ℕ → Type 0) (k : Keeper) (p q : Play) (h : HoldsJoins k may_leave) (s : StandsForKept k p) (g : Goes p q) (w : Whole start now p.steps) where
+  -- memory was wanted between steps
+  pub memory_end : (f : PlayFault) → f ≡ OutOfMemory → Kept start now may_leave q (Err (Played f))
+  memory_end f e = subst (λ (z : PlayFault). Kept start now may_leave q (Err (Played z))) (sym e) (end_on start now may_leave p q (Played OutOfMemory) g (stopped start now may_leave p s.in_step (holds_all k may_leave p h s) w))
+
+  -- the link gave no delivery
+  pub link_end : Kept start now may_leave q (Err (Played LinkFailed))
+  link_end = end_on start now may_leave p q (Played LinkFailed) g (stopped start now may_leave p s.in_step (holds_all k may_leave p h s) w)
+
+-- ---- a play begins
+
+pub holds_first : (k : Keeper) (may_leave : List ℕ → Type 0) (keys : Keyring) (programs : List Program) (first : List Join) (choices : List Choice) → StandsForPlay k.player (beginning keys programs first choices []) → k.ledger ≡ working first → AllStandFor may_leave first → HoldsJoins k may_leave
+holds_first k may_leave keys programs first choices s is all = record {
+  past = record { keys = keys; programs = programs; first = first; calls = [] };
+  stands = s.node;
+  told = s.told;
+  ledger = is ∙ ap working (sym s.node.joins);
+  images = subst (AllStandFor may_leave) (sym s.node.joins) all;
+}
+
+pub stands_first : (k : Keeper) (keys : Keyring) (programs : List Program) (first : List Join) (choices : List Choice) (words : List (List ℕ)) → StandsForPlay k.player (beginning keys programs first choices words) → StandsForKept k (beginning keys programs first choices words)
+stands_first k keys programs first choices words s = record { player = s; in_step = refl }
+
+-- memory ran out before its first step
+pub not_begun : (start : Outside) (may_leave : List ℕ → Type 0) (keys : Keyring) (programs : List Program) (first : List Join) (script : Script) (deliveries words : List (List ℕ)) → AllStandFor may_leave first
+    → (f : PlayFault) → f ≡ OutOfMemory → Kept start start may_leave (played keys programs first script deliveries words) (Err (Played f))
+not_begun start may_leave keys programs first script deliveries words all f e =
+    let begun = beginning keys programs first script.choices words in
+    let started = all_starts begun script.starts in
+    let whole = all_deliveries started deliveries in
+    subst (λ (z : PlayFault). Kept start start may_leave whole (Err (Played z))) (sym e)
+    (end_on start start may_leave begun whole (Played OutOfMemory) (joined begun started whole (by_starts begun script.starts) (by_deliveries started deliveries))
+    (stopped start start may_leave begun refl (subst (AllStandFor may_leave) (sym (append-nil first)) all) (whole_none start)))
+
+-- ---- a play ends
+
+-- it ended early in its starts
+pub starts_ended : (start now : Outside) (may_leave : List ℕ → Type 0) (keys : Keyring) (programs : List Program) (first : List Join) (script : Script) (deliveries words : List (List ℕ)) (f : KeepFault)
+    → Kept start now may_leave (all_starts (beginning keys programs first script.choices words) script.starts) (Err f) → Kept start now may_leave (played keys programs first script deliveries words) (Err f)
+starts_ended start now may_leave keys programs first script deliveries words f h =
+    let started = all_starts (beginning keys programs first script.choices words) script.starts in
+    end_on start now may_leave started (all_deliveries started deliveries) f (by_deliveries started deliveries) h
+
+-- what was given and kept at its end
+pub came_kept : (start now : Outside) (may_leave : List ℕ → Type 0) (k : Keeper) (words : Option (List (List ℕ))) (p : Play) (r : Result (Unit {0}) KeepFault) → OnOk r (HoldsJoins k may_leave) → CameTo start now may_leave k words p r → Kept start now may_leave p r
+came_kept start now may_leave k words p (Ok u) holds h = (h.1, holds_all k may_leave p holds h.0)
+came_kept start now may_leave k words p (Err (Played LinkFailed)) holds h = h
+came_kept start now may_leave k words p (Err (Played WriteFailed)) holds h = h
+came_kept start now may_leave k words p (Err (Played OutOfMemory)) holds h = h
+came_kept start now may_leave k words p (Err DiskFailed) holds h = h

@@ -1,0 +1,159 @@
+-- A play goes on: it adds steps and as many calls. A turn joins nothing.
+use Rattle.std.proofs.Common.{◌≡◌, ℕ, ◌+◌, List, [], ◌∷◌, ◌++◌, find, length, Option, Some, None, refl, sym, ap, ◌∙◌, subst, append_assoc, arith}
+use Rattle.std.specs.Option.{option_map_or}
+use Rattle.std.proofs.lemmas.List.{append-nil, length-append}
+use Rattle.std.proofs.lemmas.List.Concat.{flat_map-append}
+use Rattle.sg_ledger.specs.Format.{Join}
+use Rattle.sg_model.specs.Names.{Name}
+use Rattle.sg_protocol.specs.Calls.{Call, Answer, Start, Abandon, Deliver, Happened, Sends, Abandoned, NotStarted, NotActed, NotAbandoned, NotDelivered}
+use Rattle.sg_protocol.specs.Keyring.{Program}
+use Rattle.sg_protocol.specs.Past.{Called, node_of}
+use Rattle.sg_protocol.specs.Session.{Session}
+use Rattle.sg_protocol.specs.Texts.{real}
+use Rattle.sg_protocol.specs.Told.{live_with}
+use Rattle.sg_protocol.specs.Turn.{turn_of}
+use Rattle.sg_script.specs.Script.{Start as ScriptStart, Choice}
+use Rattle.sg_play.specs.Choosing.{is_ready}
+use Rattle.sg_play.specs.Played.{Play, abandons, act_by, acts, all_deliveries, all_starts, answer_in, called, cast_of_start, chosen, or_abandons, plays, plays_on, sid_given, starts, step_in, with_turn, without, word}
+use Rattle.sg_play.specs.Steps.{Step}
+use Rattle.sg_play.proofs.Extends.{deliveries_both, starts_both}
+use Rattle.sg_play.proofs.Looping.{taken_part, whole_part}
+use Rattle.sg_keep.specs.Joins.{join_in, joins_made}
+use Rattle.sg_keep.proofs.NewJoins.{turns_join_none}
+use Rattle.std.specs.Prelude.{take, ◌≤◌}
+
+-- the second has further steps, and as many further calls
+pub record Goes (p q : Play) : Type 0 where
+  pub steps : List Step
+  pub calls : List Called
+  pub is_steps : q.steps ≡ p.steps ++ steps
+  pub is_calls : q.past.calls ≡ p.past.calls ++ calls
+  pub as_many : length steps ≡ length calls
+  pub first : q.past.first ≡ p.past.first
+
+-- and these calls join nothing
+abbrev pub Quiet : Play → Play → Type 0
+Quiet p q = (g : Goes p q) × (joins_made g.calls ≡ [])
+
+pub nothing : (p : Play) → Goes p p
+nothing p = record { steps = []; calls = []; is_steps = sym (append-nil p.steps); is_calls = sym (append-nil p.past.calls); as_many = refl; first = refl }
+
+pub joined : (p q r : Play) → Goes p q → Goes q r → Goes p r
+joined p q r f g = record {
+  steps = f.steps ++ g.steps;
+  calls = f.calls ++ g.calls;
+  is_steps = g.is_steps ∙ ap (λ l. l ++ g.steps) f.is_steps ∙ append_assoc p.steps f.steps g.steps;
+  is_calls = g.is_calls ∙ ap (λ l. l ++ g.calls) f.is_calls ∙ append_assoc p.past.calls f.calls g.calls;
+  as_many = let a = length-append f.steps g.steps in let b = length-append f.calls g.calls in let c = f.as_many in let d = g.as_many in omega (arith, a, b, c, d);
+  first = g.first ∙ f.first;
+}
+
+pub by_call : (p : Play) (c : Call) → Goes p (called p c)
+by_call p c = record { steps = step_in p c ∷ []; calls = record { call = c; answer = answer_in p c } ∷ []; is_steps = refl; is_calls = refl; as_many = refl; first = refl }
+
+-- ---- a turn
+
+quiet_nothing : (p : Play) → Quiet p p
+unfolding nothing
+quiet_nothing p = (nothing p, refl)
+
+quiet_both : (a b : List Called) → joins_made a ≡ [] → joins_made b ≡ [] → joins_made (a ++ b) ≡ []
+quiet_both a b e f = flat_map-append (λ (c : Called). option_map_or (λ (j : Join). j ∷ []) (join_in c.answer) []) a b ∙ (λ i. e i ++ f i)
+
+quiet_joined : (p q r : Play) → Quiet p q → Quiet q r → Quiet p r
+unfolding joined
+quiet_joined p q r f g = (joined p q r f.0 g.0, quiet_both f.0.calls g.0.calls f.1 g.1)
+
+-- an answer that joins nothing
+joins_none : (c : Call) (a : Answer) → join_in a ≡ None → joins_made (record { call = c; answer = a } ∷ []) ≡ []
+joins_none c a e = ap (λ (o : Option Join). option_map_or (λ j. j ∷ []) o [] ++ []) e
+
+quiet_leaving : (p : Play) (sid : List ℕ) → Quiet p (abandons sid p)
+unfolding by_call
+quiet_leaving p sid = (by_call p (Abandon sid), joins_none (Abandon sid) (answer_in p (Abandon sid)) (turns_join_none real (node_of p.past) (Abandon sid) tt))
+
+by_leaving : (sid : List ℕ) (p : Play) (a : Answer) → Quiet p (or_abandons sid p a)
+by_leaving sid p (Happened e) = quiet_leaving p sid
+by_leaving sid p (Sends e to f) = quiet_nothing p
+by_leaving sid p Abandoned = quiet_leaving p sid
+by_leaving sid p (NotStarted x) = quiet_leaving p sid
+by_leaving sid p (NotActed x) = quiet_leaving p sid
+by_leaving sid p NotAbandoned = quiet_leaving p sid
+by_leaving sid p (NotDelivered x) = quiet_leaving p sid
+
+by_act : (sid : List ℕ) (graph : Name) (node : ℕ) (c : Choice) (p : Play) → Quiet p (acts sid graph node c p)
+by_act sid graph node c p =
+    let call = act_by sid c p.words in
+    let q = called (chosen graph node c p) call in
+    let goes : Goes p q = record { steps = step_in (chosen graph node c p) call ∷ []; calls = record { call = call; answer = answer_in p call } ∷ []; is_steps = refl; is_calls = refl; as_many = refl; first = refl } in
+    quiet_joined p q (acts sid graph node c p) (goes, joins_none call (answer_in p call) (turns_join_none real (node_of p.past) call tt)) (by_leaving sid q (answer_in p call))
+
+by_plays : (sid : List ℕ) (graph : Name) (node : ℕ) (p : Play) → Quiet p (plays sid graph node p)
+by_plays sid graph node p = by (find (is_ready graph node) p.choices)
+  where
+    by : (o : Option Choice) → Quiet p (option_map_or (λ c. acts sid graph node c p) o (abandons sid p))
+    by None = quiet_leaving p sid
+    by (Some c) = by_act sid graph node c p
+
+by_session : (sid : List ℕ) (node : ℕ) (p : Play) (o : Option (Program × Session)) → Quiet p (option_map_or (λ (x : Program × Session). plays sid x.0.graph.name node p) o (abandons sid p))
+by_session sid node p None = quiet_leaving p sid
+by_session sid node p (Some x) = by_plays sid x.0.graph.name node p
+
+pub by_turn : (sid : List ℕ) (p : Play) → Quiet p (plays_on sid p)
+by_turn sid p = by (turn_of (node_of p.past) sid)
+  where
+    by : (o : Option ℕ) → Quiet p (option_map_or (λ node. option_map_or (λ (x : Program × Session). plays sid x.0.graph.name node p) (live_with (node_of p.past) sid) (abandons sid p)) o p)
+    by None = quiet_nothing p
+    by (Some node) = by_session sid node p (live_with (node_of p.past) sid)
+
+-- the turn that a call gives
+pub by_given : (p : Play) (o : Option (List ℕ)) → Quiet p (option_map_or (λ sid. plays_on sid p) o p)
+by_given p None = quiet_nothing p
+by_given p (Some sid) = by_turn sid p
+
+pub after_call : (p : Play) (c : Call) → Quiet (called p c) (with_turn p c)
+after_call p c = by_given (called p c) (sid_given (answer_in p c))
+
+-- ---- a play
+
+pub with_call : (p : Play) (c : Call) → Goes p (with_turn p c)
+with_call p c = joined p (called p c) (with_turn p c) (by_call p c) (after_call p c).0
+
+-- a word less
+pub by_start : (p : Play) (s : ScriptStart) → Goes p (starts p s)
+by_start p s = let g = with_call (without 1 p) (Start (cast_of_start p.past.programs s (word p.words))) in
+    record { steps = g.steps; calls = g.calls; is_steps = g.is_steps; is_calls = g.is_calls; as_many = g.as_many; first = g.first }
+
+pub by_starts : (p : Play) (ss : List ScriptStart) → Goes p (all_starts p ss)
+by_starts p [] = nothing p
+by_starts p (s ∷ ss) = joined p (starts p s) (all_starts (starts p s) ss) (by_start p s) (by_starts (starts p s) ss)
+
+pub by_deliveries : (p : Play) (ds : List (List ℕ)) → Goes p (all_deliveries p ds)
+by_deliveries p [] = nothing p
+by_deliveries p (d ∷ ds) = joined p (with_turn p (Deliver d)) (all_deliveries (with_turn p (Deliver d)) ds) (with_call p (Deliver d)) (by_deliveries (with_turn p (Deliver d)) ds)
+
+-- the first of starts or deliveries before all
+pub starts_on : (p : Play) (k : ℕ) (ss : List ScriptStart) → Goes (all_starts p (take k ss)) (all_starts p ss)
+starts_on p k ss =
+    let r = whole_part k ss in
+    subst (Goes (all_starts p (take k ss))) (sym (ap (all_starts p) r.1 ∙ starts_both p (take k ss) r.0)) (by_starts (all_starts p (take k ss)) r.0)
+
+pub deliveries_on : (p : Play) (k m : ℕ) (ds : List (List ℕ)) → k ≤ m → Goes (all_deliveries p (take k ds)) (all_deliveries p (take m ds))
+deliveries_on p k m ds l =
+    let r = taken_part k m ds l in
+    subst (Goes (all_deliveries p (take k ds))) (sym (ap (all_deliveries p) r.1 ∙ deliveries_both p (take k ds) r.0)) (by_deliveries (all_deliveries p (take k ds)) r.0)
+
+-- ---- what goes on with it
+
+pub in_step_on : (p q : Play) → Goes p q → length p.steps ≡ length p.past.calls → length q.steps ≡ length q.past.calls
+in_step_on p q g e =
+    let a = ap (λ (l : List Step). length l) g.is_steps ∙ length-append p.steps g.steps in
+    let b = ap (λ (l : List Called). length l) g.is_calls ∙ length-append p.past.calls g.calls in
+    let c = g.as_many in
+    omega (arith, a, b, c, e)
+
+-- the joins that are made stay the same
+pub quiet_joins : (p q : Play) → Quiet p q → q.past.first ++ joins_made q.past.calls ≡ p.past.first ++ joins_made p.past.calls
+quiet_joins p q h =
+    (λ i. h.0.first i ++ joins_made (h.0.is_calls i))
+    ∙ ap (λ (l : List Join). p.past.first ++ l) (flat_map-append (λ (c : Called). option_map_or (λ (j : Join). j ∷ []) (join_in c.answer) []) p.past.calls h.0.calls ∙ ap (λ (l : List Join). joins_made p.past.calls ++ l) h.1 ∙ append-nil (joins_made p.past.calls))

@@ -1,0 +1,6 @@
+pub mod NewJoins
+pub mod Going
+pub mod Ending
+pub mod Counting
+pub mod Asking
+pub mod Owning

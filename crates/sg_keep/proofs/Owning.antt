@@ -1,0 +1,243 @@
+-- A frame that a call sends is of a session that an earlier call joined.
+use Rattle.std.specs.Prelude.{◌≡◌, ℕ, ◌+◌, Bool, true, cond, drop, List, [], ◌∷◌, ◌++◌, find, refl, Option, Some, None, bytes_eq, Result, Ok, Err}
+use Rattle.std.specs.List.{AllByRecursion, list_all}
+use Rattle.std.specs.Option.{option_map_or}
+use Rattle.std.proofs.Common.{ap, sym, ◌∙◌, subst, inl, inr, append_assoc}
+use Rattle.std.proofs.lemmas.Bool.{cases_Bool}
+use Rattle.std.proofs.lemmas.List.{append-nil}
+use Rattle.std.proofs.lemmas.List.Elements.{recursion_from_All}
+use Rattle.sg_cache.proofs.SameJoin.{any_of_parts}
+use Rattle.sg_ledger.specs.Format.{Join}
+use Rattle.sg_model.specs.Last.{Map}
+use Rattle.sg_model.specs.Lists.{first_some}
+use Rattle.sg_model.specs.Names.{Name}
+use Rattle.sg_model.specs.Values.{Value}
+use Rattle.sg_model.proofs.Small.{and_left, and_right}
+use Rattle.sg_protocol.proofs.Joins.{Owns, owns_after}
+use Rattle.sg_protocol.specs.Acting.{acted, answer, openings_for, rows_of_act, rows_of_start, sent, started}
+use Rattle.sg_protocol.specs.Calls as Protocol
+use Rattle.sg_protocol.specs.Calls.{Event, Started, Sent, Received, Call, Answer, Start, Act, Abandon, Deliver, Happened, Sends, NotActed, ActFault, Refusal, StartFault}
+use Rattle.sg_protocol.specs.Frame.{Cast, Frame}
+use Rattle.sg_model.specs.Shape.{receiver}
+use Rattle.sg_protocol.specs.Graph.{shape}
+use Rattle.sg_protocol.specs.Keyring.{Program}
+use Rattle.sg_protocol.specs.Node.{Node, has_joined, is_for, program_for, session_with, starter}
+use Rattle.sg_protocol.specs.NodeAfter.{goes_on, joined, node_after, still, takes_read}
+use Rattle.sg_protocol.specs.Past.{AreAnswers, Called, new_node}
+use Rattle.sg_protocol.specs.Ranges.{IsCallInRange}
+use Rattle.sg_protocol.specs.Reading.{read}
+use Rattle.sg_protocol.specs.Session.{Session, Took, extended, new_session, principal, time}
+use Rattle.sg_protocol.specs.Sending.{frame_sent}
+use Rattle.sg_protocol.specs.Texts.{Hash, real, session_id}
+use Rattle.sg_protocol.specs.Verdict.{decided, receipt, rows, verdict_on}
+use Rattle.sg_keep.specs.Joins.{join_in, joins_made, with_join}
+use Rattle.sg_keep.specs.Laws.{FramesAreOfJoins}
+use Rattle.sg_keep.proofs.NewJoins.{any_call}
+
+-- ---- what a call adds to the joins, whatever these are
+
+abbrev added_by : Frame → Option Cast → List Join
+added_by f None = []
+added_by f (Some c) = (f.sid, f.receiver) ∷ []
+
+abbrev added_read : Result Frame ℕ → List Join
+added_read (Err at) = []
+added_read (Ok f) = added_by f f.join
+
+abbrev added : Call → Answer → List Join
+added (Start c) (Happened (Started sid r)) = (sid, r) ∷ []
+added (Deliver bytes) (Happened (Received sid r label time values joins)) = added_read (read bytes)
+added call other = []
+
+adds_by : (n : Node) (f : Frame) (o : Option Cast) → (option_map_or (λ c. joined n (extended (new_session f.sid c f.receiver) (Took f))) o (goes_on n (is_for f) (λ s. still n.programs (extended s (Took f))))).joins ≡ n.joins ++ added_by f o
+adds_by n f None = sym (append-nil n.joins)
+adds_by n f (Some c) = refl
+
+adds_read : (n : Node) (r : Result Frame ℕ) → (takes_read n r).joins ≡ n.joins ++ added_read r
+adds_read n (Err at) = sym (append-nil n.joins)
+adds_read n (Ok f) = adds_by n f f.join
+
+adds : (n : Node) (c : Call) (a : Answer) → (node_after n c a).joins ≡ n.joins ++ added c a
+adds n (Start c) (Happened (Started sid r)) = refl
+adds n (Start c) (Happened (Sent sid r label time values)) = sym (append-nil n.joins)
+adds n (Start c) (Happened (Received sid r label time values joins)) = sym (append-nil n.joins)
+adds n (Start c) (Sends e to f) = sym (append-nil n.joins)
+adds n (Start c) Protocol.Abandoned = sym (append-nil n.joins)
+adds n (Start c) (Protocol.NotStarted x) = sym (append-nil n.joins)
+adds n (Start c) (Protocol.NotActed x) = sym (append-nil n.joins)
+adds n (Start c) Protocol.NotAbandoned = sym (append-nil n.joins)
+adds n (Start c) (Protocol.NotDelivered x) = sym (append-nil n.joins)
+adds n (Act sid label values confounders) (Happened e) = sym (append-nil n.joins)
+adds n (Act sid label values confounders) (Sends e to f) = sym (append-nil n.joins)
+adds n (Act sid label values confounders) Protocol.Abandoned = sym (append-nil n.joins)
+adds n (Act sid label values confounders) (Protocol.NotStarted x) = sym (append-nil n.joins)
+adds n (Act sid label values confounders) (Protocol.NotActed x) = sym (append-nil n.joins)
+adds n (Act sid label values confounders) Protocol.NotAbandoned = sym (append-nil n.joins)
+adds n (Act sid label values confounders) (Protocol.NotDelivered x) = sym (append-nil n.joins)
+adds n (Abandon sid) (Happened e) = sym (append-nil n.joins)
+adds n (Abandon sid) (Sends e to f) = sym (append-nil n.joins)
+adds n (Abandon sid) Protocol.Abandoned = sym (append-nil n.joins)
+adds n (Abandon sid) (Protocol.NotStarted x) = sym (append-nil n.joins)
+adds n (Abandon sid) (Protocol.NotActed x) = sym (append-nil n.joins)
+adds n (Abandon sid) Protocol.NotAbandoned = sym (append-nil n.joins)
+adds n (Abandon sid) (Protocol.NotDelivered x) = sym (append-nil n.joins)
+adds n (Deliver bytes) (Happened (Started sid r)) = sym (append-nil n.joins)
+adds n (Deliver bytes) (Happened (Sent sid r label time values)) = sym (append-nil n.joins)
+adds n (Deliver bytes) (Happened (Received sid r label time values joins)) = adds_read n (read bytes)
+adds n (Deliver bytes) (Sends e to f) = sym (append-nil n.joins)
+adds n (Deliver bytes) Protocol.Abandoned = sym (append-nil n.joins)
+adds n (Deliver bytes) (Protocol.NotStarted x) = sym (append-nil n.joins)
+adds n (Deliver bytes) (Protocol.NotActed x) = sym (append-nil n.joins)
+adds n (Deliver bytes) Protocol.NotAbandoned = sym (append-nil n.joins)
+adds n (Deliver bytes) (Protocol.NotDelivered x) = sym (append-nil n.joins)
+
+-- a list behind others is the same
+same_behind : (xs ys zs : List Join) → xs ++ ys ≡ xs ++ zs → ys ≡ zs
+same_behind [] ys zs e = e
+same_behind (x ∷ xs) ys zs e = same_behind xs ys zs (ap (λ (l : List Join). drop 1 l) e)
+
+abbrev one : Option Join → List Join
+one o = option_map_or (λ (j : Join). j ∷ []) o []
+
+with_one : (joins : List Join) (o : Option Join) → with_join joins o ≡ joins ++ one o
+with_one joins None = sym (append-nil joins)
+with_one joins (Some j) = refl
+
+-- an answer adds what it says
+added_is : (sha : Hash) (n : Node) (c : Call) → IsCallInRange c → added c (answer sha n c) ≡ one (join_in (answer sha n c))
+added_is sha n c range = same_behind n.joins (added c (answer sha n c)) (one (join_in (answer sha n c))) (sym (adds n c (answer sha n c)) ∙ (any_call sha n c range).0 ∙ with_one n.joins (join_in (answer sha n c)))
+
+-- ---- a node that forgets what it was made with
+
+abbrev with_joins_only : Node → List Join → Node
+with_joins_only n joins = record n { joins = joins }
+
+same_live : (n : Node) (joins : List Join) (c : Call) (a : Answer) → (node_after (with_joins_only n joins) c a).live ≡ (node_after n c a).live
+same_live n joins (Start c) (Happened (Started sid r)) = refl
+same_live n joins (Start c) (Happened (Sent sid r label time values)) = refl
+same_live n joins (Start c) (Happened (Received sid r label time values j)) = refl
+same_live n joins (Start c) (Sends e to f) = refl
+same_live n joins (Start c) Protocol.Abandoned = refl
+same_live n joins (Start c) (Protocol.NotStarted x) = refl
+same_live n joins (Start c) (Protocol.NotActed x) = refl
+same_live n joins (Start c) Protocol.NotAbandoned = refl
+same_live n joins (Start c) (Protocol.NotDelivered x) = refl
+same_live n joins (Act sid label values confounders) (Happened e) = refl
+same_live n joins (Act sid label values confounders) (Sends e to f) = refl
+same_live n joins (Act sid label values confounders) Protocol.Abandoned = refl
+same_live n joins (Act sid label values confounders) (Protocol.NotStarted x) = refl
+same_live n joins (Act sid label values confounders) (Protocol.NotActed x) = refl
+same_live n joins (Act sid label values confounders) Protocol.NotAbandoned = refl
+same_live n joins (Act sid label values confounders) (Protocol.NotDelivered x) = refl
+same_live n joins (Abandon sid) (Happened e) = refl
+same_live n joins (Abandon sid) (Sends e to f) = refl
+same_live n joins (Abandon sid) Protocol.Abandoned = refl
+same_live n joins (Abandon sid) (Protocol.NotStarted x) = refl
+same_live n joins (Abandon sid) (Protocol.NotActed x) = refl
+same_live n joins (Abandon sid) Protocol.NotAbandoned = refl
+same_live n joins (Abandon sid) (Protocol.NotDelivered x) = refl
+same_live n joins (Deliver bytes) (Happened (Started sid r)) = refl
+same_live n joins (Deliver bytes) (Happened (Sent sid r label time values)) = refl
+same_live n joins (Deliver bytes) (Happened (Received sid r label time values j)) = by_read (read bytes)
+  where
+    by_cast : (f : Frame) (o : Option Cast) → (option_map_or (λ c. joined (with_joins_only n joins) (extended (new_session f.sid c f.receiver) (Took f))) o (goes_on (with_joins_only n joins) (is_for f) (λ s. still n.programs (extended s (Took f))))).live
+        ≡ (option_map_or (λ c. joined n (extended (new_session f.sid c f.receiver) (Took f))) o (goes_on n (is_for f) (λ s. still n.programs (extended s (Took f))))).live
+    by_cast f None = refl
+    by_cast f (Some c) = refl
+
+    by_read : (r : Result Frame ℕ) → (takes_read (with_joins_only n joins) r).live ≡ (takes_read n r).live
+    by_read (Err at) = refl
+    by_read (Ok f) = by_cast f f.join
+same_live n joins (Deliver bytes) (Sends e to f) = refl
+same_live n joins (Deliver bytes) Protocol.Abandoned = refl
+same_live n joins (Deliver bytes) (Protocol.NotStarted x) = refl
+same_live n joins (Deliver bytes) (Protocol.NotActed x) = refl
+same_live n joins (Deliver bytes) Protocol.NotAbandoned = refl
+same_live n joins (Deliver bytes) (Protocol.NotDelivered x) = refl
+
+-- the pairs of the live sessions are among the joins that were made
+owned_on : (sha : Hash) (n : Node) (made : List Join) (c : Call) → IsCallInRange c → Owns made n.live → Owns (made ++ one (join_in (answer sha n c))) (node_after n c (answer sha n c)).live
+owned_on sha n made c range h =
+    let a = answer sha n c in
+    let m = with_joins_only n made in
+    subst (λ (js : List Join). Owns js (node_after n c a).live) (adds m c a ∙ ap (λ l. made ++ l) (added_is sha n c range))
+    (subst (λ (ss : List Session). Owns (node_after m c a).joins ss) (same_live n made c a) (owns_after m c a h))
+
+-- ---- a frame
+
+found : {A : Type 0} (p q : A → Bool) (xs : List A) (x : A) → find p xs ≡ Some x → list_all q xs ≡ true → q x ≡ true
+found p q [] x e h = cc
+found p q (y ∷ ys) x e h = elim (cases_Bool (p y)) [
+  | inl f ↦ subst (λ z. q z ≡ true) (some_same y x (subst (λ b. cond b (Some y) (find p ys) ≡ Some x) f e)) (and_left (q y) (list_all q ys) h)
+  | inr f ↦ found p q ys x (subst (λ b. cond b (Some y) (find p ys) ≡ Some x) f e) (and_right (q y) (list_all q ys) h)
+]
+  where
+    some_same : {A : Type 0} (a b : A) → Some a ≡ Some b → a ≡ b
+    some_same a b h = cc
+
+frame_same : (a e : Event) (b to : Name) (g f : Frame) → Sends a b g ≡ Sends e to f → g ≡ f
+frame_same a e b to g f h = cc
+
+module _ (sha : Hash) (n : Node) (made : List Join) (h : Owns made n.live) (e : Event) (to : Name) (f : Frame) where
+  not_by_start : (c : Cast) (p : Program) (o : Option StartFault) → started (session_id sha c) p.role o ≡ Sends e to f → ⊥
+  not_by_start c p None is = cc
+  not_by_start c p (Some fault) is = cc
+
+  not_by_starter : (c : Cast) (o : Option Program) → option_map_or (λ p. started (session_id sha c) p.role (first_some (rows_of_start n p (session_id sha c) c))) o (Protocol.NotStarted StartFault.UnknownGraph) ≡ Sends e to f → ⊥
+  not_by_starter c None is = cc
+  not_by_starter c (Some p) is = not_by_start c p (first_some (rows_of_start n p (session_id sha c) c)) is
+
+  not_by_abandon : (o : Option Session) → option_map_or (λ s. Protocol.Abandoned) o Protocol.NotAbandoned ≡ Sends e to f → ⊥
+  not_by_abandon None is = cc
+  not_by_abandon (Some s) is = cc
+
+  not_by_rows : (g : Frame) (o : Option Refusal) → decided (receipt g) o ≡ Sends e to f → ⊥
+  not_by_rows g None is = cc
+  not_by_rows g (Some why) is = cc
+
+  not_by_read : (r : Result Frame ℕ) → verdict_on sha n r ≡ Sends e to f → ⊥
+  not_by_read (Err at) is = cc
+  not_by_read (Ok g) is = not_by_rows g (first_some (rows sha n g)) is
+
+  module _ (sid : List ℕ) (label : ℕ) (values : Map Value) (confounders : List (List ℕ)) where
+    by_rows : (p : Program) (s : Session) → has_joined made s.sid s.role ≡ true → (o : Option ActFault) → acted (sent sha n.keys p s label values confounders) o ≡ Sends e to f → has_joined made f.sid f.sender ≡ true
+    by_rows p s j None is = subst (λ (g : Frame). has_joined made g.sid g.sender ≡ true)
+        (frame_same (Sent s.sid s.role label (time s + 1) values) e (principal s.cast (receiver (shape p.graph) label)) to (frame_sent sha n.keys p s label (openings_for values confounders)) f is) j
+    by_rows p s j (Some fault) is = absurd (cc)
+
+    by_program : (s : Session) → has_joined made s.sid s.role ≡ true → (o : Option Program) → option_map_or (λ p. acted (sent sha n.keys p s label values confounders) (first_some (rows_of_act p s label values))) o (NotActed ActFault.UnknownSession) ≡ Sends e to f → has_joined made f.sid f.sender ≡ true
+    by_program s j None is = absurd (cc)
+    by_program s j (Some p) is = by_rows p s j (first_some (rows_of_act p s label values)) is
+
+    by_session : (o : Option Session) → session_with n.live sid ≡ o →
+        option_map_or (λ s. option_map_or (λ p. acted (sent sha n.keys p s label values confounders) (first_some (rows_of_act p s label values))) (program_for n.programs s.cast.graph s.role) (NotActed ActFault.UnknownSession)) o (NotActed ActFault.UnknownSession) ≡ Sends e to f →
+        has_joined made f.sid f.sender ≡ true
+    by_session None there is = absurd (cc)
+    by_session (Some s) there is = by_program s (found (λ x. bytes_eq x.sid sid) (λ s. has_joined made s.sid s.role) n.live s there h) (program_for n.programs s.cast.graph s.role) is
+
+  -- the session of a frame that is sent is live, and so its pair was joined
+  sent_is_owned : (c : Call) → answer sha n c ≡ Sends e to f → has_joined made f.sid f.sender ≡ true
+  sent_is_owned (Start c) is = absurd (not_by_starter c (starter n.programs c.graph) is)
+  sent_is_owned (Act sid label values confounders) is = by_session sid label values confounders (session_with n.live sid) refl is
+  sent_is_owned (Abandon sid) is = absurd (not_by_abandon (session_with n.live sid) is)
+  sent_is_owned (Deliver bytes) is = absurd (not_by_read (read bytes) is)
+
+-- ---- a past
+
+abbrev InRange : List Called → Type 0
+InRange cs = AllByRecursion (λ (c : Called). IsCallInRange c.call) cs
+
+frames_owned : (sha : Hash) (n : Node) (made : List Join) (before after : List Called) (c : Called) (e : Event) (to : Name) (f : Frame) → Owns made n.live → InRange (before ++ c ∷ after) → AreAnswers sha n (before ++ c ∷ after) → c.answer ≡ Sends e to f
+    → has_joined (made ++ joins_made before) f.sid f.sender ≡ true
+frames_owned sha n made [] after c e to f h r a is = subst (λ (js : List Join). has_joined js f.sid f.sender ≡ true) (sym (append-nil made)) (sent_is_owned sha n made h e to f c.call (sym a.0 ∙ is))
+frames_owned sha n made (b ∷ bs) after c e to f h r a is =
+    let next = subst (λ (x : Answer). Owns (made ++ one (join_in x)) (node_after n b.call x).live) (sym a.0) (owned_on sha n made b.call r.0 h) in
+    subst (λ (js : List Join). has_joined js f.sid f.sender ≡ true) (append_assoc made (one (join_in b.answer)) (joins_made bs))
+    (frames_owned sha (node_after n b.call b.answer) (made ++ one (join_in b.answer)) bs after c e to f next r.1 a.1 is)
+
+pub frames_are_of_joins : FramesAreOfJoins
+frames_are_of_joins past before after c e to f told is sends =
+    (any_of_parts (joins_made before) f.sid f.sender).0
+    (frames_owned real (new_node past.keys past.programs past.first) [] before after c e to f refl
+    (subst InRange is (recursion_from_All (λ (x : Called). IsCallInRange x.call) past.calls told.calls))
+    (subst (AreAnswers real (new_node past.keys past.programs past.first)) is told.answers) sends)

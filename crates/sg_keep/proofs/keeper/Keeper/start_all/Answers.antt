@@ -1,0 +1,61 @@
+use Rattle.std.proofs.Common.{◌+◌, List, take, Ok, Err, refl, ◌∙◌, subst}
+use Rattle.std.proofs.lemmas.List.{take_all}
+use Rattle.sg_script.specs.Script.{Start as ScriptStart}
+use Rattle.sg_play.specs.Ends.{Outside}
+use Rattle.sg_play.specs.Played.{Play, all_starts, starts}
+use Rattle.sg_play.proofs.Looping.{start_next}
+use Rattle.sg_keep.specs.Faults.{Counts}
+use Rattle.sg_keep.specs.Kept.{Kept}
+use Rattle.sg_keep.specs.Standing.{CameTo}
+use Rattle.sg_keep.proofs.Counting.{falls_of, falls_on, later_tells, no_fall, went}
+use Rattle.sg_keep.proofs.Ending.{end_on, to_same}
+use Rattle.sg_keep.proofs.Going.{starts_on}
+use Rattle.sg_keep.proofs.keeper.Keeper.start_all.Goals as goal
+
+pub loop-start-init : goal.loop-start-init
+loop-start-init g c = record { falls = no_fall (record { link = g.L.Link.faults c.args.link.now; out = g.O.Sink.faults c.args.out.now; disk = g.D.Disk.faults c.args.disk.now }); deliveries = refl; holds = c.requires.holds; came = λ p start s w h. (s, h, w) }
+
+pub loop-start-preserved : goal.loop-start-preserved
+loop-start-preserved g c =
+    let inv = c.loop-start.invariant in
+    let one = c.in-Ok.ensures in
+    let old : Counts = record { link = g.L.Link.faults c.args.link.now; out = g.O.Sink.faults c.args.out.now; disk = g.D.Disk.faults c.args.disk.now } in
+    let mid : Counts = record { link = g.L.Link.faults c.loop-start.link; out = g.O.Sink.faults c.loop-start.out; disk = g.D.Disk.faults c.loop-start.disk } in
+    let new : Counts = record { link = g.L.Link.faults c.start_one.new.link; out = g.O.Sink.faults c.start_one.new.out; disk = g.D.Disk.faults c.start_one.new.disk } in
+    record {
+      falls = falls_on old mid new inv.falls (falls_of mid new c.start_one.result c.start_one.ensures.faults);
+      deliveries = one.deliveries ∙ inv.deliveries;
+      holds = one.holds;
+      came = λ p start s w h.
+          let now : Outside = record { written = g.O.Sink.written c.start_one.new.out; sent = g.L.Link.sent c.start_one.new.link } in
+          let at = c.loop-start.start-index in
+          let so_far : Play = all_starts p (take at c.args.starts.now) in
+          let before = inv.came p start s w h in
+          to_same start now (g.D.Disk.may_leave c.start_one.new.disk) c.start_one.new.self (g.R.Fresh.words c.start_one.new.fresh) (starts so_far c.start-item.result) (all_starts p (take (at + 1) c.args.starts.now)) (Ok tt)
+          (start_next p at c.args.starts.now c.start-item.result c.loop-start-test.true c.start-item.is) (one.came so_far start before.0 before.2 before.1);
+    }
+
+pub returns-in-Err-clause-faults : goal.returns-in-Err-clause-faults
+returns-in-Err-clause-faults g c =
+    let old : Counts = record { link = g.L.Link.faults c.args.link.now; out = g.O.Sink.faults c.args.out.now; disk = g.D.Disk.faults c.args.disk.now } in
+    let mid : Counts = record { link = g.L.Link.faults c.loop-start.link; out = g.O.Sink.faults c.loop-start.out; disk = g.D.Disk.faults c.loop-start.disk } in
+    let new : Counts = record { link = g.L.Link.faults c.start_one.new.link; out = g.O.Sink.faults c.start_one.new.out; disk = g.D.Disk.faults c.start_one.new.disk } in
+    later_tells old mid new (Err c.in-Err.fault) c.loop-start.invariant.falls c.in-Err.ensures.faults
+
+pub returns-in-Err-clause-came : goal.returns-in-Err-clause-came
+returns-in-Err-clause-came g c = λ p start s w h.
+    let now : Outside = record { written = g.O.Sink.written c.start_one.new.out; sent = g.L.Link.sent c.start_one.new.link } in
+    let leaves = g.D.Disk.may_leave c.start_one.new.disk in
+    let at = c.loop-start.start-index in
+    let so_far : Play = all_starts p (take at c.args.starts.now) in
+    let before = c.loop-start.invariant.came p start s w h in
+    end_on start now leaves (all_starts p (take (at + 1) c.args.starts.now)) (all_starts p c.args.starts.now) c.in-Err.fault (starts_on p (at + 1) c.args.starts.now)
+    (subst (λ (z : Play). Kept start now leaves z (Err c.in-Err.fault)) (start_next p at c.args.starts.now c.start-item.result c.loop-start-test.true c.start-item.is) (c.in-Err.ensures.came so_far start before.0 before.2 before.1))
+
+pub returns-clause-faults : goal.returns-clause-faults
+returns-clause-faults g c = went (record { link = g.L.Link.faults c.args.link.now; out = g.O.Sink.faults c.args.out.now; disk = g.D.Disk.faults c.args.disk.now }) (record { link = g.L.Link.faults c.loop-start.link; out = g.O.Sink.faults c.loop-start.out; disk = g.D.Disk.faults c.loop-start.disk }) tt c.loop-start.invariant.falls
+
+pub returns-clause-came : goal.returns-clause-came
+returns-clause-came g c = λ p start s w h.
+    let now : Outside = record { written = g.O.Sink.written c.loop-start.out; sent = g.L.Link.sent c.loop-start.link } in
+    subst (λ (z : List ScriptStart). CameTo start now (g.D.Disk.may_leave c.loop-start.disk) c.loop-start.self (g.R.Fresh.words c.loop-start.fresh) (all_starts p z) (Ok tt)) (take_all c.loop-start.start-index c.args.starts.now c.loop-start-test.false) (c.loop-start.invariant.came p start s w h)

@@ -1,0 +1,160 @@
+use Rattle.std.proofs.Common.{◌≡◌, ◌≤◌, ◌+◌, ℕ, List, [], ◌∷◌, take, drop, Some, Err, Ok, refl, sym, ap, ◌∙◌, subst, arith}
+use Rattle.sg_protocol.specs.Calls.{Deliver}
+use Rattle.sg_play.specs.Ends.{Outside}
+use Rattle.sg_play.specs.Played.{Play, all_deliveries, with_turn}
+use Rattle.sg_play.proofs.Looping.{delivery_next, left_next, left_none, taken_all}
+use Rattle.sg_play.proofs.Running.{nothing_sent}
+use Rattle.sg_keep.specs.Faults.{Counts}
+use Rattle.sg_keep.specs.Kept.{Kept}
+use Rattle.sg_keep.specs.Standing.{CameTo}
+use Rattle.sg_keep.proofs.Asking.{link_end, memory_end}
+use Rattle.sg_keep.proofs.Counting.{falls_of, falls_on, later_tells, link_full, link_tells, link_took, no_fall, went}
+use Rattle.sg_keep.proofs.Ending.{end_on, to_same}
+use Rattle.sg_keep.proofs.Going.{deliveries_on}
+use Rattle.sg_keep.proofs.keeper.Keeper.take_all.Goals as goal
+
+pub loop-taken-init : goal.loop-taken-init
+loop-taken-init g c = record {
+  falls = no_fall (record { link = g.L.Link.faults c.args.link.now; out = g.O.Sink.faults c.args.out.now; disk = g.D.Disk.faults c.args.disk.now });
+  holds = c.requires.holds;
+  left = λ deliveries told. told;
+  came = λ p start deliveries told s w h. (s, h, w);
+}
+
+pub loop-taken-preserved : goal.loop-taken-preserved
+loop-taken-preserved g c =
+    let inv = c.loop-taken.invariant in
+    let k = c.loop-taken._taken in
+    let first = rw c.in-Ok-Some.field-0-is at c.in-Ok-Some.ensures.first in
+    let one = c.in-Ok.ensures in
+    let old : Counts = record { link = g.L.Link.faults c.args.link.now; out = g.O.Sink.faults c.args.out.now; disk = g.D.Disk.faults c.args.disk.now } in
+    let mid : Counts = record { link = g.L.Link.faults c.loop-taken.link; out = g.O.Sink.faults c.loop-taken.out; disk = g.D.Disk.faults c.loop-taken.disk } in
+    let took : Counts = record { link = g.L.Link.faults c.recv.new.self; out = g.O.Sink.faults c.loop-taken.out; disk = g.D.Disk.faults c.loop-taken.disk } in
+    let new : Counts = record { link = g.L.Link.faults c.deliver.new.link; out = g.O.Sink.faults c.deliver.new.out; disk = g.D.Disk.faults c.deliver.new.disk } in
+    record {
+      falls = falls_on old mid new inv.falls (falls_on mid took new (link_took _ _ _ _ c.recv.ensures.never_falls) (falls_of took new c.deliver.result c.deliver.ensures.faults));
+      holds = one.holds;
+      left = λ deliveries told. one.deliveries ∙ (first (drop k deliveries) (inv.left deliveries told)).1 ∙ ap (λ l. Some l) (left_next k deliveries);
+      came = λ p start deliveries told s w h.
+          let now : Outside = record { written = g.O.Sink.written c.deliver.new.out; sent = g.L.Link.sent c.deliver.new.link } in
+          let so_far : Play = all_deliveries p (take k deliveries) in
+          let before = inv.came p start deliveries told s w h in
+          let whole = nothing_sent start so_far (g.O.Sink.written c.loop-taken.out) (g.L.Link.sent c.loop-taken.link) (g.L.Link.sent c.recv.new.self) c.recv.ensures.kept_sent before.1 in
+          let next : drop k deliveries ≡ c.as_slice.result.now ∷ drop 1 (drop k deliveries) = (first (drop k deliveries) (inv.left deliveries told)).0 ∙ ap (λ (b : List ℕ). b ∷ drop 1 (drop k deliveries)) (sym c.as_slice.ensures.value) in
+          to_same start now (g.D.Disk.may_leave c.deliver.new.disk) c.deliver.new.self (g.R.Fresh.words c.deliver.new.fresh) (with_turn so_far (Deliver c.as_slice.result.now)) (all_deliveries p (take (k + 1) deliveries)) (Ok tt)
+          (delivery_next p k deliveries c.as_slice.result.now next) (one.came so_far start before.0 before.2 whole);
+    }
+
+pub returns-in-Err-clause-faults : goal.returns-in-Err-clause-faults
+returns-in-Err-clause-faults g c =
+    let old : Counts = record { link = g.L.Link.faults c.args.link.now; out = g.O.Sink.faults c.args.out.now; disk = g.D.Disk.faults c.args.disk.now } in
+    let mid : Counts = record { link = g.L.Link.faults c.loop-taken.link; out = g.O.Sink.faults c.loop-taken.out; disk = g.D.Disk.faults c.loop-taken.disk } in
+    let took : Counts = record { link = g.L.Link.faults c.recv.new.self; out = g.O.Sink.faults c.loop-taken.out; disk = g.D.Disk.faults c.loop-taken.disk } in
+    let new : Counts = record { link = g.L.Link.faults c.deliver.new.link; out = g.O.Sink.faults c.deliver.new.out; disk = g.D.Disk.faults c.deliver.new.disk } in
+    later_tells old took new (Err c.in-Err.fault) (falls_on old mid took c.loop-taken.invariant.falls (link_took _ _ _ _ c.recv.ensures.never_falls)) c.in-Err.ensures.faults
+
+pub returns-in-Err-clause-came : goal.returns-in-Err-clause-came
+returns-in-Err-clause-came g c = let within : c.loop-taken._taken + 1 ≤ c.args.most = omega arith in λ p start deliveries told s w h.
+    let inv = c.loop-taken.invariant in
+    let k = c.loop-taken._taken in
+    let first = rw c.in-Ok-Some.field-0-is at c.in-Ok-Some.ensures.first in
+    let now : Outside = record { written = g.O.Sink.written c.deliver.new.out; sent = g.L.Link.sent c.deliver.new.link } in
+    let leaves = g.D.Disk.may_leave c.deliver.new.disk in
+    let so_far : Play = all_deliveries p (take k deliveries) in
+    let before = inv.came p start deliveries told s w h in
+    let whole = nothing_sent start so_far (g.O.Sink.written c.loop-taken.out) (g.L.Link.sent c.loop-taken.link) (g.L.Link.sent c.recv.new.self) c.recv.ensures.kept_sent before.1 in
+    let next : drop k deliveries ≡ c.as_slice.result.now ∷ drop 1 (drop k deliveries) = (first (drop k deliveries) (inv.left deliveries told)).0 ∙ ap (λ (b : List ℕ). b ∷ drop 1 (drop k deliveries)) (sym c.as_slice.ensures.value) in
+    end_on start now leaves (all_deliveries p (take (k + 1) deliveries)) (all_deliveries p (take c.args.most deliveries)) c.in-Err.fault (deliveries_on p (k + 1) c.args.most deliveries within)
+    (subst (λ (z : Play). Kept start now leaves z (Err c.in-Err.fault)) (delivery_next p k deliveries c.as_slice.result.now next) (c.in-Err.ensures.came so_far start before.0 before.2 whole))
+
+pub returns-in-Err-clause-at_most : goal.returns-in-Err-clause-at_most
+returns-in-Err-clause-at_most g c = let within : c.loop-taken._taken + 1 ≤ c.args.most = omega arith in λ deliveries told.
+    let k = c.loop-taken._taken in
+    let first = rw c.in-Ok-Some.field-0-is at c.in-Ok-Some.ensures.first in
+    (k + 1, within, c.in-Err.ensures.deliveries ∙ (first (drop k deliveries) (c.loop-taken.invariant.left deliveries told)).1 ∙ ap (λ l. Some l) (left_next k deliveries))
+
+pub returns-in-Ok-None-clause-faults : goal.returns-in-Ok-None-clause-faults
+returns-in-Ok-None-clause-faults g c =
+    let old : Counts = record { link = g.L.Link.faults c.args.link.now; out = g.O.Sink.faults c.args.out.now; disk = g.D.Disk.faults c.args.disk.now } in
+    let mid : Counts = record { link = g.L.Link.faults c.loop-taken.link; out = g.O.Sink.faults c.loop-taken.out; disk = g.D.Disk.faults c.loop-taken.disk } in
+    let took : Counts = record { link = g.L.Link.faults c.recv.new.self; out = g.O.Sink.faults c.loop-taken.out; disk = g.D.Disk.faults c.loop-taken.disk } in
+    went old took tt (falls_on old mid took c.loop-taken.invariant.falls (link_took _ _ _ _ c.recv.ensures.never_falls))
+
+pub returns-in-Ok-None-clause-came : goal.returns-in-Ok-None-clause-came
+returns-in-Ok-None-clause-came g c = let within : c.loop-taken._taken ≤ c.args.most = omega arith in λ p start deliveries told s w h.
+    let inv = c.loop-taken.invariant in
+    let k = c.loop-taken._taken in
+    let end = rw c.in-Ok-None.field-0-is at c.in-Ok-None.ensures.at_end in
+    let now : Outside = record { written = g.O.Sink.written c.loop-taken.out; sent = g.L.Link.sent c.recv.new.self } in
+    let so_far : Play = all_deliveries p (take k deliveries) in
+    let before = inv.came p start deliveries told s w h in
+    let whole = nothing_sent start so_far (g.O.Sink.written c.loop-taken.out) (g.L.Link.sent c.loop-taken.link) (g.L.Link.sent c.recv.new.self) c.recv.ensures.kept_sent before.1 in
+    subst (λ (z : List (List ℕ)). CameTo start now (g.D.Disk.may_leave c.loop-taken.disk) c.loop-taken.self (g.R.Fresh.words c.loop-taken.fresh) (all_deliveries p z) (Ok tt))
+    (sym (taken_all k c.args.most deliveries within (end (drop k deliveries) (inv.left deliveries told)))) (before.0, whole, before.2)
+
+pub returns-in-Ok-None-clause-left : goal.returns-in-Ok-None-clause-left
+returns-in-Ok-None-clause-left g c = let within : c.loop-taken._taken ≤ c.args.most = omega arith in λ deliveries told.
+    let inv = c.loop-taken.invariant in
+    let k = c.loop-taken._taken in
+    let end = rw c.in-Ok-None.field-0-is at c.in-Ok-None.ensures.at_end in
+    let kept = rw c.in-Ok-None.field-0-is at c.in-Ok-None.ensures.kept_at_end in
+    let none : drop k deliveries ≡ [] = end (drop k deliveries) (inv.left deliveries told) in
+    kept ∙ inv.left deliveries told ∙ ap (λ l. Some l) (none ∙ sym (left_none k c.args.most deliveries within none))
+
+pub returns-in-Ok-None-clause-at_most : goal.returns-in-Ok-None-clause-at_most
+returns-in-Ok-None-clause-at_most g c = let within : c.loop-taken._taken ≤ c.args.most = omega arith in λ deliveries told.
+    let kept = rw c.in-Ok-None.field-0-is at c.in-Ok-None.ensures.kept_at_end in
+    (c.loop-taken._taken, within, kept ∙ c.loop-taken.invariant.left deliveries told)
+
+pub returns-in-Err-Failed-clause-faults : goal.returns-in-Err-Failed-clause-faults
+returns-in-Err-Failed-clause-faults g c =
+    let old : Counts = record { link = g.L.Link.faults c.args.link.now; out = g.O.Sink.faults c.args.out.now; disk = g.D.Disk.faults c.args.disk.now } in
+    let mid : Counts = record { link = g.L.Link.faults c.loop-taken.link; out = g.O.Sink.faults c.loop-taken.out; disk = g.D.Disk.faults c.loop-taken.disk } in
+    let took : Counts = record { link = g.L.Link.faults c.recv.new.self; out = g.O.Sink.faults c.loop-taken.out; disk = g.D.Disk.faults c.loop-taken.disk } in
+    later_tells old mid took _ c.loop-taken.invariant.falls (link_tells _ _ _ _ c.recv.ensures.never_falls (c.recv.ensures.failed (c.in-Err-Failed.is ∙ ap Err c.in-Err-Failed.field-0-is)))
+
+pub returns-in-Err-Failed-clause-came : goal.returns-in-Err-Failed-clause-came
+returns-in-Err-Failed-clause-came g c = let within : c.loop-taken._taken ≤ c.args.most = omega arith in λ p start deliveries told s w h.
+    let k = c.loop-taken._taken in
+    let now : Outside = record { written = g.O.Sink.written c.loop-taken.out; sent = g.L.Link.sent c.recv.new.self } in
+    let so_far : Play = all_deliveries p (take k deliveries) in
+    let before = c.loop-taken.invariant.came p start deliveries told s w h in
+    link_end start now (g.D.Disk.may_leave c.loop-taken.disk) c.loop-taken.self so_far (all_deliveries p (take c.args.most deliveries)) c.loop-taken.invariant.holds before.0 (deliveries_on p k c.args.most deliveries within)
+    (nothing_sent start so_far (g.O.Sink.written c.loop-taken.out) (g.L.Link.sent c.loop-taken.link) (g.L.Link.sent c.recv.new.self) c.recv.ensures.kept_sent before.1)
+
+pub returns-in-Err-Failed-clause-at_most : goal.returns-in-Err-Failed-clause-at_most
+returns-in-Err-Failed-clause-at_most g c = let within : c.loop-taken._taken ≤ c.args.most = omega arith in λ deliveries told. (c.loop-taken._taken, within, c.in-Err-Failed.ensures.kept ∙ c.loop-taken.invariant.left deliveries told)
+
+pub returns-in-Err-OutOfMemory-clause-faults : goal.returns-in-Err-OutOfMemory-clause-faults
+returns-in-Err-OutOfMemory-clause-faults g c =
+    let old : Counts = record { link = g.L.Link.faults c.args.link.now; out = g.O.Sink.faults c.args.out.now; disk = g.D.Disk.faults c.args.disk.now } in
+    let mid : Counts = record { link = g.L.Link.faults c.loop-taken.link; out = g.O.Sink.faults c.loop-taken.out; disk = g.D.Disk.faults c.loop-taken.disk } in
+    let took : Counts = record { link = g.L.Link.faults c.recv.new.self; out = g.O.Sink.faults c.loop-taken.out; disk = g.D.Disk.faults c.loop-taken.disk } in
+    later_tells old mid took _ c.loop-taken.invariant.falls (link_full _ _ _ _ c.recv.ensures.never_falls)
+
+pub returns-in-Err-OutOfMemory-clause-came : goal.returns-in-Err-OutOfMemory-clause-came
+returns-in-Err-OutOfMemory-clause-came g c = let within : c.loop-taken._taken ≤ c.args.most = omega arith in λ p start deliveries told s w h.
+    let k = c.loop-taken._taken in
+    let now : Outside = record { written = g.O.Sink.written c.loop-taken.out; sent = g.L.Link.sent c.recv.new.self } in
+    let so_far : Play = all_deliveries p (take k deliveries) in
+    let before = c.loop-taken.invariant.came p start deliveries told s w h in
+    memory_end start now (g.D.Disk.may_leave c.loop-taken.disk) c.loop-taken.self so_far (all_deliveries p (take c.args.most deliveries)) c.loop-taken.invariant.holds before.0 (deliveries_on p k c.args.most deliveries within)
+    (nothing_sent start so_far (g.O.Sink.written c.loop-taken.out) (g.L.Link.sent c.loop-taken.link) (g.L.Link.sent c.recv.new.self) c.recv.ensures.kept_sent before.1) _ refl
+
+pub returns-in-Err-OutOfMemory-clause-at_most : goal.returns-in-Err-OutOfMemory-clause-at_most
+returns-in-Err-OutOfMemory-clause-at_most g c = let within : c.loop-taken._taken ≤ c.args.most = omega arith in λ deliveries told. (c.loop-taken._taken, within, c.in-Err-OutOfMemory.ensures.kept ∙ c.loop-taken.invariant.left deliveries told)
+
+pub returns-clause-faults : goal.returns-clause-faults
+returns-clause-faults g c = went (record { link = g.L.Link.faults c.args.link.now; out = g.O.Sink.faults c.args.out.now; disk = g.D.Disk.faults c.args.disk.now }) (record { link = g.L.Link.faults c.loop-taken.link; out = g.O.Sink.faults c.loop-taken.out; disk = g.D.Disk.faults c.loop-taken.disk }) tt c.loop-taken.invariant.falls
+
+pub returns-clause-came : goal.returns-clause-came
+returns-clause-came g c = let all : c.loop-taken._taken ≡ c.args.most = omega arith in λ p start deliveries told s w h.
+    let now : Outside = record { written = g.O.Sink.written c.loop-taken.out; sent = g.L.Link.sent c.loop-taken.link } in
+    subst (λ (k : ℕ). CameTo start now (g.D.Disk.may_leave c.loop-taken.disk) c.loop-taken.self (g.R.Fresh.words c.loop-taken.fresh) (all_deliveries p (take k deliveries)) (Ok tt)) all (c.loop-taken.invariant.came p start deliveries told s w h)
+
+pub returns-clause-left : goal.returns-clause-left
+returns-clause-left g c = let all : c.loop-taken._taken ≡ c.args.most = omega arith in λ deliveries told.
+    c.loop-taken.invariant.left deliveries told ∙ ap (λ k. Some (drop k deliveries)) all
+
+pub returns-clause-at_most : goal.returns-clause-at_most
+returns-clause-at_most g c = let within : c.loop-taken._taken ≤ c.args.most = omega arith in λ deliveries told. (c.loop-taken._taken, within, c.loop-taken.invariant.left deliveries told)

@@ -1,0 +1,36 @@
+-- The pairs of session and role that calls of a node join.
+use Rattle.std.specs.Prelude.{◌<◌, List, [], ◌∷◌, ◌++◌, if◌then◌else◌, flat_map, length, Contains, Option, Some, None}
+use Rattle.std.specs.Option.{option_map_or}
+use Rattle.sg_ledger.specs.Format.{Join}
+use Rattle.sg_protocol.specs.Calls.{Event, Answer, Happened, sid_of, role_of, does_join}
+use Rattle.sg_protocol.specs.Past.{Called}
+use Rattle.sg_report.specs.Told as Report
+use Rattle.sg_report.specs.Told.{Told}
+
+-- the pair that an event joins, if it joins one
+abbrev pub join_of : Event → Option Join
+join_of e = if does_join e then Some (sid_of e, role_of e) else None
+
+-- the pair that is joined by an answer
+abbrev pub join_in : Answer → Option Join
+join_in (Happened e) = join_of e
+join_in other = None
+
+-- so by what is told of it
+abbrev pub join_told : Told → Option Join
+join_told (Report.Happened e) = join_of e
+join_told other = None
+
+-- joins, with one more if there is one
+abbrev pub with_join : List Join → Option Join → List Join
+with_join joins join = option_map_or (λ j. joins ++ j ∷ []) join joins
+
+-- the joins that calls made, in order
+abbrev pub joins_made : List Called → List Join
+joins_made calls = flat_map (λ c. option_map_or (λ j. j ∷ []) (join_in c.answer) []) calls
+
+-- the pair can join these: it is none of them, there are fewer than 65,536, and its role is below 16
+pub record IsNew (joins : List Join) (j : Join) : Type 0 where
+  pub absent : ¬ Contains joins j
+  pub room : length joins < 65536
+  pub role : j.1 < 16

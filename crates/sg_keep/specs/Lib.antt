@@ -1,0 +1,5 @@
+pub mod Joins
+pub mod Kept
+pub mod Faults
+pub mod Laws
+pub mod Standing

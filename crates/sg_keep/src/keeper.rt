@@ -1,0 +1,87 @@
+//! One principal who plays a script and keeps its joins.
+ghost use Rattle.std.specs.Prelude.{◌≡◌, ◌≤◌, ◌⊎◌, List, ℕ, Err, Some, IfErr, OnErr, OnOk};
+ghost use Rattle.std.specs.Option.{option_copied};
+ghost use Rattle.sg_base.specs.Outside.{HasRisen};
+ghost use Rattle.sg_ledger.specs.Format.{StandsFor};
+ghost use Rattle.sg_play.specs.Ends.{Outside, Whole};
+ghost use Rattle.sg_play.specs.Played.{Play, with_turn};
+ghost use Rattle.sg_protocol.specs.Calls.{Call};
+ghost use Rattle.sg_report.specs.Outcome.{outcome_of};
+
+use crate::KeepFault;
+use crate::join::join_in;
+use sg_base::{Fresh, Link, Sink};
+use sg_graph::Graph;
+use sg_ledger::{AddJoinFault, Disk, Ledger};
+use sg_play::{PlayFault, Player};
+use sg_report::{Outcome, sid_told};
+
+/// One principal who plays a script, and the ledger of its joins.
+#[derive(Drop)]
+pub struct Keeper<'p> {
+    pub(crate) player: Player<'p>,
+    pub(crate) ledger: Ledger,
+}
+
+impl<'p> Keeper<'p> {
+    ghost use Rattle.sg_keep.specs.Faults.{TellsFaults};
+    ghost use Rattle.sg_keep.specs.Standing.{CameTo, HasAskedNode, HoldsJoins, IsAsked};
+
+    /// Keeps the join of what came of a call, if it is one; gives the outside what came of it when the join is kept; and plays the turn that
+    /// it gives.
+    pub(crate) fn tell<L: Link, R: Fresh, O: Sink, D: Disk>(
+        &mut self,
+        outcome: &Outcome,
+        graph: Option<&Graph>,
+        link: &mut L,
+        fresh: &mut R,
+        out: &mut O,
+        disk: &mut D,
+    ) -> Result<(), KeepFault>
+        requires asked { HasAskedNode self.old (D.may_leave disk.old) (outcome_of outcome.now) }
+        ensures faults { TellsFaults (record { link = L.faults link.old; out = O.faults out.old; disk = D.faults disk.old })
+            (record { link = L.faults link.new; out = O.faults out.new; disk = D.faults disk.new }) result }
+        ensures deliveries { L.deliveries link.new ≡ L.deliveries link.old }
+        ensures holds { OnOk result (HoldsJoins self.new (D.may_leave disk.new)) }
+        ensures came { (p : Play) (c : Call) (start : Outside) → IsAsked self.old p c (outcome_of outcome.now) (option_copied graph.entry) → R.words fresh.old ≡ Some p.words
+            → Whole start (record { written = O.written out.old; sent = L.sent link.old }) p.steps
+            → CameTo start (record { written = O.written out.new; sent = L.sent link.new }) (D.may_leave disk.new) self.new (R.words fresh.new) (with_turn p c) result }
+    {
+        match self.keep_join(outcome, disk) {
+            Ok(()) => {}
+            Err(fault) => return Err(fault),
+        }
+        match self.player.give(None, graph, outcome, None, link, out) {
+            Ok(()) => {}
+            Err(fault) => return Err(KeepFault::Played(fault)),
+        }
+        match self.player.play_if(sid_told(outcome), link, fresh, out) {
+            Ok(()) => Ok(()),
+            Err(fault) => Err(KeepFault::Played(fault)),
+        }
+    }
+
+    // Adds the join of what came of a call to the ledger, if it is one. The ledger has all joins of the node from before the call, so it
+    // doesn't have this one, and it isn't full.
+    fn keep_join<D: Disk>(&mut self, outcome: &Outcome, disk: &mut D) -> Result<(), KeepFault>
+        requires asked { HasAskedNode self.old (D.may_leave disk.old) (outcome_of outcome.now) }
+        ensures falls { D.faults disk.old ≤ D.faults disk.new }
+        ensures failed { result ≡ Err KeepFault.DiskFailed → HasRisen (D.faults disk.old) (D.faults disk.new) }
+        ensures causes { IfErr result (λ e. (e ≡ KeepFault.DiskFailed) ⊎ (e ≡ KeepFault.Played PlayFault.OutOfMemory)) }
+        ensures player { self.new.player ≡ self.old.player }
+        ensures holds { OnOk result (HoldsJoins self.new (D.may_leave disk.new)) }
+        ensures images { OnErr result ((image : List ℕ) → D.may_leave disk.new image
+            → StandsFor image self.old.ledger.joins ⊎ StandsFor image self.old.player.node.joins) }
+    {
+        let Some(join) = join_in(outcome) else {
+            return Ok(());
+        };
+        match self.ledger.add(disk, join.0, join.1) {
+            Ok(()) => Ok(()),
+            Err(AddJoinFault::Failed) => Err(KeepFault::DiskFailed),
+            Err(AddJoinFault::OutOfMemory) => Err(KeepFault::Played(PlayFault::OutOfMemory)),
+            Err(AddJoinFault::Twice) => unreachable!(),
+            Err(AddJoinFault::Full) => unreachable!(),
+        }
+    }
+}

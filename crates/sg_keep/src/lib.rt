@@ -1,0 +1,21 @@
+//! One principal plays a script over a link, and keeps its joins in a ledger.
+//!
+//! It plays as `sg_play` says, by a node that joined before what the ledger has. For each call that joins, the pair of session and role
+//! stands in the ledger before the line of the call is written, and before any turn of the session: so before any frame of the session
+//! is given to the link. Where a ledger can't take a pair, the play ends there. That the pair is in the ledger already, or that the ledger
+//! is full, never happens, since the ledger has the joins of the node before each call.
+//!
+//! After a crash at any moment the ledger opens with the joins that it had, and then those of the first calls of the play
+//! (`specs/Kept.antt`): with those of each call whose line was begun, and so with the pair of each frame that the link took.
+#![tactic(auto)]
+
+mod fault;
+mod join;
+mod keeper;
+mod laws;
+mod run;
+
+pub use fault::KeepFault;
+pub use keeper::Keeper;
+pub use laws::frames_are_of_kept_joins;
+pub use run::keep;

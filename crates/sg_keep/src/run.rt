@@ -1,0 +1,179 @@
+//! A play over a ledger: the starts of a script, and then deliveries.
+ghost use Rattle.std.specs.Prelude.{◌≡◌, ◌≤◌, ℕ, List, Some, take, drop, OnOk, false};
+ghost use Rattle.sg_play.specs.Ends.{Outside, Whole};
+ghost use Rattle.sg_play.specs.Played.{Play, all_deliveries, all_starts, played, starts, with_turn};
+ghost use Rattle.sg_protocol.specs.Calls.{Deliver};
+ghost use Rattle.sg_keep.specs.Faults.{TellsFaults};
+ghost use Rattle.sg_keep.specs.Kept.{AllStandFor, Kept};
+ghost use Rattle.sg_keep.specs.Standing.{CameTo, HoldsJoins, StandsForKept};
+
+use crate::{KeepFault, Keeper};
+use sg_base::{Fresh, Link, LinkFault, Sink};
+use sg_keys::Keyring;
+use sg_ledger::{Disk, Ledger};
+use sg_node::Node;
+use sg_play::{PlayFault, Player};
+use sg_program::Programs;
+use sg_script::{Script, ScriptStart};
+use std::alloc::Global;
+
+impl<'p> Keeper<'p> {
+    /// Makes each start of a script in order, and plays the turn that it gives.
+    pub(crate) fn start_all<L: Link, R: Fresh, O: Sink, D: Disk>(
+        &mut self,
+        starts: &[ScriptStart],
+        link: &mut L,
+        fresh: &mut R,
+        out: &mut O,
+        disk: &mut D,
+    ) -> Result<(), KeepFault>
+        requires holds { HoldsJoins self.old (D.may_leave disk.old) }
+        ensures faults { TellsFaults (record { link = L.faults link.old; out = O.faults out.old; disk = D.faults disk.old })
+            (record { link = L.faults link.new; out = O.faults out.new; disk = D.faults disk.new }) result }
+        ensures deliveries { L.deliveries link.new ≡ L.deliveries link.old }
+        ensures holds { OnOk result (HoldsJoins self.new (D.may_leave disk.new)) }
+        ensures came { (p : Play) (start : Outside) → StandsForKept self.old p → R.words fresh.old ≡ Some p.words
+            → Whole start (record { written = O.written out.old; sent = L.sent link.old }) p.steps
+            → CameTo start (record { written = O.written out.new; sent = L.sent link.new }) (D.may_leave disk.new) self.new (R.words fresh.new) (all_starts p starts.now) result }
+    {
+        for start in starts {
+            match self.start_one(start, link, fresh, out, disk) {
+                Ok(()) => {}
+                Err(fault) => return Err(fault),
+            }
+        }
+        Ok(())
+    }
+
+    // Makes a start of a script, with the next word as its nonce, and plays the turn that it gives.
+    fn start_one<L: Link, R: Fresh, O: Sink, D: Disk>(
+        &mut self,
+        start_of: &ScriptStart,
+        link: &mut L,
+        fresh: &mut R,
+        out: &mut O,
+        disk: &mut D,
+    ) -> Result<(), KeepFault>
+        requires holds { HoldsJoins self.old (D.may_leave disk.old) }
+        ensures faults { TellsFaults (record { link = L.faults link.old; out = O.faults out.old; disk = D.faults disk.old })
+            (record { link = L.faults link.new; out = O.faults out.new; disk = D.faults disk.new }) result }
+        ensures deliveries { L.deliveries link.new ≡ L.deliveries link.old }
+        ensures holds { OnOk result (HoldsJoins self.new (D.may_leave disk.new)) }
+        ensures came { (p : Play) (start : Outside) → StandsForKept self.old p → R.words fresh.old ≡ Some p.words
+            → Whole start (record { written = O.written out.old; sent = L.sent link.old }) p.steps
+            → CameTo start (record { written = O.written out.new; sent = L.sent link.new }) (D.may_leave disk.new) self.new (R.words fresh.new) (starts p start_of.now) result }
+    {
+        let nonce = fresh.next();
+        match self.player.ask_start(start_of, nonce) {
+            Ok((outcome, graph)) => self.tell(&outcome, graph, link, fresh, out, disk),
+            Err(fault) => Err(KeepFault::Played(fault)),
+        }
+    }
+
+    /// Takes at most so many deliveries, up to the link's end, and plays the turn that each gives.
+    pub(crate) fn take_all<L: Link, R: Fresh, O: Sink, D: Disk>(
+        &mut self,
+        alloc: Global,
+        most: u32,
+        link: &mut L,
+        fresh: &mut R,
+        out: &mut O,
+        disk: &mut D,
+    ) -> Result<(), KeepFault>
+        requires holds { HoldsJoins self.old (D.may_leave disk.old) }
+        ensures faults { TellsFaults (record { link = L.faults link.old; out = O.faults out.old; disk = D.faults disk.old })
+            (record { link = L.faults link.new; out = O.faults out.new; disk = D.faults disk.new }) result }
+        ensures came { (p : Play) (start : Outside) (deliveries : List (List ℕ)) → L.deliveries link.old ≡ Some deliveries → StandsForKept self.old p → R.words fresh.old ≡ Some p.words
+            → Whole start (record { written = O.written out.old; sent = L.sent link.old }) p.steps
+            → CameTo start (record { written = O.written out.new; sent = L.sent link.new }) (D.may_leave disk.new) self.new (R.words fresh.new) (all_deliveries p (take most deliveries)) result }
+        ensures left { OnOk result ((deliveries : List (List ℕ)) → L.deliveries link.old ≡ Some deliveries → L.deliveries link.new ≡ Some (drop most deliveries)) }
+        ensures at_most { (deliveries : List (List ℕ)) → L.deliveries link.old ≡ Some deliveries → (n : ℕ) × (n ≤ most) × (L.deliveries link.new ≡ Some (drop n deliveries)) }
+        ensures holds { OnOk result (HoldsJoins self.new (D.may_leave disk.new)) }
+    {
+        for _taken in 0..most {
+            match link.recv(alloc) {
+                Ok(Some(bytes)) => match self.deliver(bytes.as_slice(), link, fresh, out, disk) {
+                    Ok(()) => {}
+                    Err(fault) => return Err(fault),
+                },
+                Ok(None) => return Ok(()),
+                Err(LinkFault::Failed) => return Err(KeepFault::Played(PlayFault::LinkFailed)),
+                Err(LinkFault::OutOfMemory) => {
+                    return Err(KeepFault::Played(PlayFault::OutOfMemory));
+                }
+            }
+        }
+        Ok(())
+    }
+
+    // Takes a delivery, and plays the turn that it gives.
+    fn deliver<L: Link, R: Fresh, O: Sink, D: Disk>(
+        &mut self,
+        bytes: &[u8],
+        link: &mut L,
+        fresh: &mut R,
+        out: &mut O,
+        disk: &mut D,
+    ) -> Result<(), KeepFault>
+        requires holds { HoldsJoins self.old (D.may_leave disk.old) }
+        ensures faults { TellsFaults (record { link = L.faults link.old; out = O.faults out.old; disk = D.faults disk.old })
+            (record { link = L.faults link.new; out = O.faults out.new; disk = D.faults disk.new }) result }
+        ensures deliveries { L.deliveries link.new ≡ L.deliveries link.old }
+        ensures holds { OnOk result (HoldsJoins self.new (D.may_leave disk.new)) }
+        ensures came { (p : Play) (start : Outside) → StandsForKept self.old p → R.words fresh.old ≡ Some p.words
+            → Whole start (record { written = O.written out.old; sent = L.sent link.old }) p.steps
+            → CameTo start (record { written = O.written out.new; sent = L.sent link.new }) (D.may_leave disk.new) self.new (R.words fresh.new) (with_turn p (Deliver bytes.now)) result }
+    {
+        match self.player.ask_deliver(bytes) {
+            Ok((outcome, graph)) => self.tell(&outcome, graph, link, fresh, out, disk),
+            Err(fault) => Err(KeepFault::Played(fault)),
+        }
+    }
+}
+
+/// Plays a script over a ledger that was opened from this disk: makes its starts in order and plays the turn that each gives; then takes at
+/// most so many deliveries, up to the link's end, gives each to the node and plays the turn, if one came. The node joined before what
+/// the ledger has. Each pair that it joins is added to the ledger before anything of it is told. The keys are given twice, since the
+/// node takes one keyring, and the other has the addresses that frames go to; the script was read beside these programs.
+pub fn keep<'p, L: Link, R: Fresh, O: Sink, D: Disk>(
+    alloc: Global,
+    keys_of_node: Keyring,
+    keys: &'p Keyring,
+    programs: &'p Programs,
+    script: Script,
+    ledger: Ledger,
+    most: u32,
+    link: &mut L,
+    fresh: &mut R,
+    out: &mut O,
+    disk: &mut D,
+) -> Result<(), KeepFault>
+    requires keys { keys_of_node ≡ keys.now }
+    requires working { ledger.failed ≡ false }
+    requires stands { AllStandFor (D.may_leave disk.old) ledger.joins }
+    ensures faults { TellsFaults (record { link = L.faults link.old; out = O.faults out.old; disk = D.faults disk.old })
+        (record { link = L.faults link.new; out = O.faults out.new; disk = D.faults disk.new }) result }
+
+    // Where the link tells its deliveries and the source its words: what was written and sent is what the play says, up to where it ended,
+    // and what a crash leaves of the disk is the ledger with the joins of the play up to there.
+    ensures kept { (deliveries words : List (List ℕ)) → L.deliveries link.old ≡ Some deliveries → R.words fresh.old ≡ Some words
+        → Kept (record { written = O.written out.old; sent = L.sent link.old }) (record { written = O.written out.new; sent = L.sent link.new }) (D.may_leave disk.new)
+        (played keys.now programs.now ledger.joins script (take most deliveries) words) result }
+    ensures left { OnOk result ((deliveries : List (List ℕ)) → L.deliveries link.old ≡ Some deliveries → L.deliveries link.new ≡ Some (drop most deliveries)) }
+    ensures at_most { (deliveries : List (List ℕ)) → L.deliveries link.old ≡ Some deliveries → (n : ℕ) × (n ≤ most) × (L.deliveries link.new ≡ Some (drop n deliveries)) }
+{
+    let Script { starts, choices } = script;
+    let Ok(node) = Node::with_joins(alloc, keys_of_node, programs, ledger.joins()) else {
+        return Err(KeepFault::Played(PlayFault::OutOfMemory));
+    };
+    let player = match Player::new(alloc, node, keys, programs, choices) {
+        Ok(player) => player,
+        Err(fault) => return Err(KeepFault::Played(fault)),
+    };
+    let mut keeper = Keeper { player, ledger };
+    match keeper.start_all(starts.as_slice(), link, fresh, out, disk) {
+        Ok(()) => {}
+        Err(fault) => return Err(fault),
+    }
+    keeper.take_all(alloc, most, link, fresh, out, disk)
+}

@@ -1,0 +1,63 @@
+-- Acts and leavings join nothing.
+use Rattle.std.proofs.Common.{◌≡◌, ℕ, List, Option, Some, None, refl, sym, ap, ◌∙◌, subst}
+use Rattle.sg_model.specs.Last.{Map}
+use Rattle.sg_model.specs.Names.{Name}
+use Rattle.sg_model.specs.Values.{Value}
+use Rattle.sg_node.proofs.Life.{pasts_go_on}
+use Rattle.sg_node.specs.Answers.{IsTold}
+use Rattle.sg_protocol.specs.Acting.{answer}
+use Rattle.sg_protocol.specs.Calls as Protocol
+use Rattle.sg_protocol.specs.Calls.{Call, Answer, Act, Abandon}
+use Rattle.sg_protocol.specs.Graph.{Graph}
+use Rattle.sg_protocol.specs.NodeStates.{NodeState, StandsForPast, state_after}
+use Rattle.sg_protocol.specs.Past.{Past, node_of, past_after}
+use Rattle.sg_protocol.specs.Texts.{real}
+use Rattle.sg_report.specs.Told.{Told}
+use Rattle.sg_play.specs.Asking.{Comes}
+use Rattle.sg_play.specs.Standing.{KeepsJoins}
+
+-- nothing was asked
+pub keeps_same : (old new : NodeState) → new ≡ old → KeepsJoins old new
+keeps_same old new e past s told = (past, subst (λ (n : NodeState). StandsForPast n past) (sym e) s, told, ap (λ (n : NodeState). n.joins) e)
+
+-- one after another
+pub keeps_then : (a b c : NodeState) → KeepsJoins a b → KeepsJoins b c → KeepsJoins a c
+keeps_then a b c f g past s told =
+    let mid = f past s told in
+    let end = g mid.0 mid.1 mid.2 in
+    (end.0, end.1, end.2, end.3 ∙ mid.3)
+
+acts_join_none : (st : NodeState) (sid : List ℕ) (label : ℕ) (values : Map Value) (confounders : List (List ℕ)) (a : Answer) → (state_after st (Act sid label values confounders) a).joins ≡ st.joins
+acts_join_none st sid label values confounders (Protocol.Happened e) = refl
+acts_join_none st sid label values confounders (Protocol.Sends e to f) = refl
+acts_join_none st sid label values confounders Protocol.Abandoned = refl
+acts_join_none st sid label values confounders (Protocol.NotStarted x) = refl
+acts_join_none st sid label values confounders (Protocol.NotActed x) = refl
+acts_join_none st sid label values confounders Protocol.NotAbandoned = refl
+acts_join_none st sid label values confounders (Protocol.NotDelivered x) = refl
+
+leavings_join_none : (st : NodeState) (sid : List ℕ) (a : Answer) → (state_after st (Abandon sid) a).joins ≡ st.joins
+leavings_join_none st sid (Protocol.Happened e) = refl
+leavings_join_none st sid (Protocol.Sends e to f) = refl
+leavings_join_none st sid Protocol.Abandoned = refl
+leavings_join_none st sid (Protocol.NotStarted x) = refl
+leavings_join_none st sid (Protocol.NotActed x) = refl
+leavings_join_none st sid Protocol.NotAbandoned = refl
+leavings_join_none st sid (Protocol.NotDelivered x) = refl
+
+-- a call that joins nothing
+keeps_by : (number : ℕ) (old new : NodeState) (c : Call) (past : Past) (told : Option Told) (graph : Option Graph) (sealed : Option (Name × List ℕ)) → IsTold past → Comes number old new past c told graph sealed
+    → ((a : Answer) → (state_after old c a).joins ≡ old.joins) → (later : Past) × StandsForPast new later × IsTold later × (new.joins ≡ old.joins)
+keeps_by number old new c past told graph sealed its h none =
+    (past_after real past c, h.goes_on.stands its, pasts_go_on past c its h.range, ap (λ (n : NodeState). n.joins) h.goes_on.state ∙ none (answer real (node_of past) c))
+
+-- an act
+pub keeps_by_act : (number : ℕ) (old new : NodeState) (sid : List ℕ) (label : ℕ) (values : Map Value) (confounders : List (List ℕ)) (told : Option Told) (graph : Option Graph) (sealed : Option (Name × List ℕ))
+    → ((past : Past) → StandsForPast old past → Comes number old new past (Act sid label values confounders) told graph sealed) → KeepsJoins old new
+keeps_by_act number old new sid label values confounders told graph sealed h past s its =
+    keeps_by number old new (Act sid label values confounders) past told graph sealed its (h past s) (acts_join_none old sid label values confounders)
+
+-- a leaving
+pub keeps_by_leaving : (number : ℕ) (old new : NodeState) (sid : List ℕ) (told : Option Told) (graph : Option Graph) (sealed : Option (Name × List ℕ))
+    → ((past : Past) → StandsForPast old past → Comes number old new past (Abandon sid) told graph sealed) → KeepsJoins old new
+keeps_by_leaving number old new sid told graph sealed h past s its = keeps_by number old new (Abandon sid) past told graph sealed its (h past s) (leavings_join_none old sid)

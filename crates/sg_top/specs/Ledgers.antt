@@ -1,0 +1,101 @@
+-- How the making of a ledger ends, and a run over one, and what they leave of the disk.
+use Rattle.std.specs.Prelude.{◌≡◌, ◌≢◌, ℕ, ◌⊎◌, List, [], take, codes, Option, Some, Result, Ok, Err, OnOk, ⊤}
+use Rattle.sg_base.specs.Outside.{HasRisen}
+use Rattle.sg_keep.specs.Faults.{Counts, TellsFaults}
+use Rattle.sg_keep.specs.Kept.{AllStandFor, Kept}
+use Rattle.sg_keep.specs.declared.fault.KeepFault.{KeepFault}
+use Rattle.sg_keep.specs.declared.fault.KeepFault.TheVariants as KeepFaults
+use Rattle.sg_ledger.specs.Disk.{Keeps, WhereTold}
+use Rattle.sg_ledger.specs.Format.{Join, IsLedger, IsFirstBadSlot, StandsFor}
+use Rattle.sg_play.specs.Played.{Play, played}
+use Rattle.sg_play.specs.declared.fault.PlayFault.TheVariants as PlayFaults
+use Rattle.sg_top.specs.Ending.{Ending, Written, NoLedger, BadSlot, LedgerNotEmpty, WriteFailed, LinkFailed, DiskFailed, NoMemory}
+use Rattle.sg_top.specs.Ends.{Told, Output, Writes}
+use Rattle.sg_top.specs.Runs.{Outside, IsUntouched, Takes, TakesAtMost, CanHavePlayed}
+use Rattle.sg_top.specs.Setup.{Named, Setup, HasSetup, LacksSetup}
+
+-- a disk: the bytes of its file, where they are told, the images, which are what a crash may leave of it, and its count of faults
+pub record Disked : Type 1 where
+  pub seen : Option (List ℕ)
+  pub may_leave : List ℕ → Type 0
+  pub faults : ℕ
+
+-- ---- a ledger is made
+
+-- the file had no bytes, and each image stands for no joins
+abbrev pub IsMade : (disk disk' : Disked) → Type 0
+IsMade disk disk' = WhereTold disk.seen (λ file. file ≡ []) × AllStandFor disk'.may_leave []
+
+-- none is made: the file has bytes already, or the disk failed, which its count shows, or memory was wanted
+abbrev pub LacksRoom : (disk disk' : Disked) → Ending → Type 0
+LacksRoom disk disk' LedgerNotEmpty = WhereTold disk.seen (λ file. file ≢ [])
+LacksRoom disk disk' DiskFailed = HasRisen disk.faults disk'.faults
+LacksRoom disk disk' NoMemory = ⊤
+LacksRoom disk disk' ending = ⊥
+
+-- the making of a ledger ends so: it is made, and then this is written; or it isn't, and nothing is written
+abbrev pub Makes : (old new : Output) → (disk disk' : Disked) → Ending → Type 0
+Makes old new disk disk' ending =
+    (IsMade disk disk' × Writes old new (codes "ledger made\n") ending)
+    ⊎ ((new.bytes ≡ old.bytes) × LacksRoom disk disk' ending)
+
+-- ---- a ledger is opened
+
+-- the file is as it was, and a crash leaves nothing else than before
+abbrev pub IsLeft : (disk disk' : Disked) → Type 0
+IsLeft disk disk' = (disk'.seen ≡ disk.seen) × Keeps disk.may_leave disk'.may_leave
+
+-- no ledger is opened: the file is none, or this is its first bad slot, or the disk failed, which its count shows, or memory was wanted
+abbrev pub LacksLedger : (disk disk' : Disked) → Ending → Type 0
+LacksLedger disk disk' NoLedger = WhereTold disk.seen (λ file. ¬ IsLedger file)
+LacksLedger disk disk' (BadSlot slot) = WhereTold disk.seen (λ file. IsLedger file × IsFirstBadSlot file slot)
+LacksLedger disk disk' DiskFailed = HasRisen disk.faults disk'.faults
+LacksLedger disk disk' NoMemory = ⊤
+LacksLedger disk disk' ending = ⊥
+
+-- ---- a run over a ledger
+
+-- the play of a setup over these joins, over the first deliveries, at most so many, and with these random words
+abbrev pub play_over : (opened : List Join) → Setup → (most : ℕ) → (deliveries words : List (List ℕ)) → Play
+play_over opened s most deliveries words = played s.keys s.programs opened s.script (take most deliveries) words
+
+-- where the deliveries and the words are told: what was written and sent is what this play writes and sends, up to where it ended, and what a crash leaves of the disk is the ledger with the joins of the play up to there
+abbrev pub PlaysOver : (opened : List Join) → Setup → (most : ℕ) → (old new : Outside) → (disk' : Disked) → Result (Unit {0}) KeepFault → Type 0
+PlaysOver opened s most old new disk' result = (deliveries words : List (List ℕ)) → (old.link).deliveries ≡ Some deliveries → old.words ≡ Some words
+    → Kept (record { written = (old.out).bytes; sent = (old.link).sent }) (record { written = (new.out).bytes; sent = (new.link).sent }) disk'.may_leave (play_over opened s most deliveries words) result
+
+-- how the program ends after a play over a ledger
+abbrev pub ending_of_play : Result (Unit {0}) KeepFault → Ending
+ending_of_play (Ok u) = Written
+ending_of_play (Err (KeepFaults.Played PlayFaults.LinkFailed)) = LinkFailed
+ending_of_play (Err (KeepFaults.Played PlayFaults.WriteFailed)) = WriteFailed
+ending_of_play (Err (KeepFaults.Played PlayFaults.OutOfMemory)) = NoMemory
+ending_of_play (Err KeepFaults.DiskFailed) = DiskFailed
+
+-- how often the link, standard output and the disk failed
+abbrev pub counts : Outside → Disked → Counts
+counts o disk = record { link = (o.link).faults; out = (o.out).faults; disk = disk.faults }
+
+-- the play of a setup over the joins of an opened ledger ended so, of which a fault is told only where its count rose
+pub record EndsOver (opened : List Join) (s : Setup) (most : ℕ) (old new : Outside) (disk disk' : Disked) (result : Result (Unit {0}) KeepFault) : Type 0 where
+  pub plays : PlaysOver opened s most old new disk' result
+  pub faults : TellsFaults (counts old disk) (counts new disk') result
+  pub left : OnOk result (Takes most (old.link).deliveries (new.link).deliveries)
+  pub at_most : TakesAtMost most (old.link).deliveries (new.link).deliveries
+
+-- a setup is played over the ledger that the file is; or the file is none, and nothing is touched
+abbrev pub KeepsSetup : Setup → (most : ℕ) → (old new : Outside) → (disk disk' : Disked) → Ending → Type 0
+KeepsSetup s most old new disk disk' ending =
+    ((opened : List Join) × (result : Result (Unit {0}) KeepFault) × WhereTold disk.seen (λ file. StandsFor file opened) × EndsOver opened s most old new disk disk' result × (ending ≡ ending_of_play result))
+    ⊎ (IsUntouched old new × IsLeft disk disk' × LacksLedger disk disk' ending)
+
+-- a run over a ledger ends so: the files hold a setup, which is played over the ledger, if there is one; or they hold none, and nothing is touched
+abbrev pub KeepsRun : Named → (most : ℕ) → Told → (faults faults' : ℕ) → (old new : Outside) → (disk disk' : Disked) → Ending → Type 0
+KeepsRun named most told faults faults' old new disk disk' ending =
+    ((s : Setup) × HasSetup told named s × KeepsSetup s most old new disk disk' ending)
+    ⊎ (IsUntouched old new × IsLeft disk disk' × LacksSetup told faults faults' named ending)
+
+-- with these endings a run over a ledger may have played
+abbrev pub CanHaveKept : Ending → Type 0
+CanHaveKept DiskFailed = ⊤
+CanHaveKept ending = CanHavePlayed ending

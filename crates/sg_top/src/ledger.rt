@@ -1,0 +1,46 @@
+//! The command `ledger`: makes a ledger of a file that is missing or empty.
+ghost use Rattle.std.specs.Prelude.{IfErr, OnOk};
+ghost use Rattle.sg_top.specs.Ledgers.{IsMade, LacksRoom, Makes};
+ghost use Rattle.sg_top.specs.Model.{ending_held};
+
+use crate::ending::Ending;
+use sg_base::{Sink, write_all};
+use sg_ledger::{CreateFault, Disk, Ledger};
+use std::alloc::Global;
+
+/// Makes a ledger of a file, and writes that it is made when it is on the disk; or says why not.
+pub fn ledger<O: Sink, D: Disk>(
+    alloc: Global,
+    file: &str,
+    out: &mut O,
+    disk: &mut D,
+) -> Ending<'static>
+    ensures { Makes (record { bytes = O.written out.old; faults = O.faults out.old }) (record { bytes = O.written out.new; faults = O.faults out.new })
+        (record { seen = D.seen disk.old; may_leave = D.may_leave disk.old; faults = D.faults disk.old }) (record { seen = D.seen disk.new; may_leave = D.may_leave disk.new; faults = D.faults disk.new })
+        (ending_held result) }
+{
+    match create(alloc, file, disk) {
+        Ok(()) => match write_all(out, b"ledger made\n") {
+            Ok(()) => Ending::Written,
+            Err(_) => Ending::WriteFailed,
+        },
+        Err(ending) => ending,
+    }
+}
+
+// Makes a ledger of a file.
+fn create<D: Disk>(alloc: Global, file: &str, disk: &mut D) -> Result<(), Ending<'static>>
+    ensures made { OnOk result (IsMade (record { seen = D.seen disk.old; may_leave = D.may_leave disk.old; faults = D.faults disk.old }) (record { seen = D.seen disk.new; may_leave = D.may_leave disk.new; faults = D.faults disk.new })) }
+    ensures not_made { IfErr result (λ ending. LacksRoom (record { seen = D.seen disk.old; may_leave = D.may_leave disk.old; faults = D.faults disk.old }) (record { seen = D.seen disk.new; may_leave = D.may_leave disk.new; faults = D.faults disk.new }) (ending_held ending)) }
+{
+    match disk.open(file) {
+        Ok(()) => {}
+        Err(_) => return Err(Ending::DiskFailed),
+    }
+    match Ledger::create(alloc, disk) {
+        Ok(()) => Ok(()),
+        Err(CreateFault::NotEmpty { .. }) => Err(Ending::LedgerNotEmpty),
+        Err(CreateFault::Failed) => Err(Ending::DiskFailed),
+        Err(CreateFault::OutOfMemory) => Err(Ending::NoMemory),
+    }
+}
