@@ -20,7 +20,7 @@ fn runs(alloc: Global, words: &[String]) -> Result<Option<(u32, usize)>, OutOfMe
 
 // The command of these words, through `clap`: the seed and the number of sessions.
 fn drives(alloc: Global, words: &[String]) -> Result<Option<(u32, u32)>, OutOfMemory> {
-    let line = Line::new(alloc, words)?;
+    let line = CommandLine::new(alloc, words)?;
     let given = Given::read(alloc, &line)?;
     Ok(match given.command() {
         Some(Command::Drive { seed, sessions, .. }) => Some((seed, sessions)),
