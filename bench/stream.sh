@@ -30,7 +30,7 @@ fn main(rt: HostRuntime) -> Result<(), io::Error> {
     let count = match mode.as_slice().get(1) {
         Some(b'r') => frames_of_a_reader(alloc, message.as_slice(), size),
         Some(b'w') => frames_of_a_link(alloc, message, size, 255),
-        _ => frames_of_a_link(alloc, message, size, 1),
+        _ => frames_of_a_link(alloc, message, size, 0),
     };
     println!(rt; "{count}")
 }
@@ -54,9 +54,9 @@ fn frames_of_a_reader(alloc: Global, message: &[u8], size: usize) -> u32
     count
 }
 
-// How many frames a link gives, over so many connections that have the message again and again.
-fn frames_of_a_link(alloc: Global, message: Vec<u8>, size: usize, connections: u8) -> u32 {
-    let Ok(mut link) = StreamLink::new(alloc, Turns::new(message, size, connections)) else {
+// How many frames a link gives, over connections with the numbers up to this one that have the message again and again.
+fn frames_of_a_link(alloc: Global, message: Vec<u8>, size: usize, last: u8) -> u32 {
+    let Ok(mut link) = StreamLink::new(alloc, Turns::new(message, size, last)) else {
         return 0;
     };
     let mut count = 0u32;
@@ -81,23 +81,23 @@ use sg_base::{Addr, Failed, LinkFault};
 use sg_stream::Conns;
 use std::alloc::Global;
 
-/// So many connections, each with the message again and again, in pieces of one size. Each gives a piece in its turn.
+/// Connections with the numbers up to the last one, each with the message again and again, in pieces of one size. Each gives a piece in its turn.
 #[derive(Drop)]
 pub struct Turns {
     message: Vec<u8>,
     size: usize,
-    connections: u8,
+    last: u8,
     conn: u8,
     at: usize,
 }
 
 impl Turns {
     /// No piece was given.
-    pub fn new(message: Vec<u8>, size: usize, connections: u8) -> Turns {
+    pub fn new(message: Vec<u8>, size: usize, last: u8) -> Turns {
         Turns {
             message,
             size,
-            connections,
+            last,
             conn: 0,
             at: 0,
         }
@@ -105,8 +105,9 @@ impl Turns {
 
     // Goes on to the next connection, and, past the last one, to the place behind the piece.
     fn go_on(&mut self, behind: usize) {
-        self.conn = self.conn.wrapping_add(1);
-        if self.conn >= self.connections {
+        if self.conn < self.last {
+            self.conn += 1;
+        } else {
             self.conn = 0;
             self.at = if behind < self.message.len() { behind } else { 0 };
         }
@@ -179,7 +180,7 @@ with open(folder + '/message', 'rb') as it:
     message = it.read()
 size = 1000 * len(message) / 1e6
 copy = 1000 * limits.copied(message)
-for way, what in (('r', 'a reader'), ('l', 'a link over one connection'), ('w', 'a link over 255 connections')):
+for way, what in (('r', 'a reader'), ('l', 'a link over one connection'), ('w', 'a link over 256 connections')):
     for pieces, mode in (('one byte', '1'), ('64 KiB', 'k')):
         with open(folder + '/mode', 'w') as it:
             it.write(mode + way)

@@ -1,6 +1,7 @@
 -- What each step of a link does to the frames to come.
 use Rattle.std.proofs.Common.{◌≡◌, ◌≢◌, ℕ, zero, suc, ◌<◌, ◌==◌, Bool, true, false, replicate, List, [], ◌∷◌, ◌++◌, length, get_or, set, Option, Some, None, refl, sym, ap, ◌∙◌, inl, inr, arith, eq-eqb}
 use Rattle.std.specs.List.{flat_map}
+use Rattle.std.specs.Option.{IfNone}
 use Rattle.std.proofs.lemmas.Bool.Decides.{eqb_tells}
 use Rattle.std.proofs.lemmas.List.{append-nil, append_assoc, get_or-set_same, get_or-set_other, set-get_or}
 use Rattle.sg_stream.specs.Framed.{IsFrame, message, BeginsMessage, BeginsBad}
@@ -133,6 +134,16 @@ nothing_left : (u : Unread) → IsIdle u → arrivals (pieces_of u ++ []) ≡ []
 nothing_left u idle =
     ap (λ k. arrivals ((numbered 0 u.lefts ++ k) ++ [])) idle.none_kept
     ∙ (shape u.lefts [] [] ∙ ap (λ l. l ++ []) (flat_none u.lefts (λ conn. (idle.parts conn).no_message)))
+
+-- a link that gives no frame of what it took had none
+pub none_ready : (old new : Unread) → IsIdle new → arrivals (pieces_of new ++ []) ≡ arrivals (pieces_of old ++ []) → arrivals (pieces_of old) ≡ []
+none_ready old new idle same =
+    ap arrivals (sym (append-nil (pieces_of old))) ∙ (sym same ∙ nothing_left new idle)
+
+pub none_given : {A : Type 0} (found : Option A) (old new : Unread) → IfNone found (IsIdle new) → IfNone found ((ps : List (ℕ × List ℕ)) → arrivals (pieces_of new ++ ps) ≡ arrivals (pieces_of old ++ ps))
+    → IfNone found (arrivals (pieces_of old) ≡ [])
+none_given None old new idle same = none_ready old new idle (same [])
+none_given (Some f) old new idle same = tt
 
 pub none_to_come : (u : Unread) (held : Option Traffic) → IsIdle u → WhereTold held (λ t. t.coming ≡ []) → (all : List (List ℕ)) → to_come u held ≡ Some all → all ≡ []
 none_to_come u None idle done all told = absurd (cc)

@@ -1,9 +1,10 @@
 //! A link over connections.
-ghost use Rattle.std.specs.Prelude.{◌≡◌, ◌⊎◌, ◌≤◌, [], ◌∷◌, List, replicate, IfOk, IfErr, IfSome, IfNone, OnErr, OnOk, Err, ℕ};
+ghost use Rattle.std.specs.Prelude.{◌≡◌, ◌≢◌, ◌⊎◌, ◌≤◌, [], ◌∷◌, List, replicate, IfOk, IfErr, IfSome, IfNone, OnErr, OnOk, Err, ℕ};
+ghost use Rattle.sg_stream.specs.Arrivals.{arrivals};
 ghost use Rattle.sg_base.specs.Memory.{one_more};
 ghost use Rattle.sg_base.specs.Outside.{HasRisen, Appends, TakesFirst};
 ghost use Rattle.sg_stream.specs.Framed.{IsFrame, message};
-ghost use Rattle.sg_stream.specs.Link.{Unread, IsIdle, to_come, sent_of, TakenOff, WroteTold, WroteFront};
+ghost use Rattle.sg_stream.specs.Link.{Unread, IsIdle, pieces_of, to_come, sent_of, TakenOff, WroteTold, WroteFront};
 ghost use Rattle.sg_stream.specs.Traffic.{WhereTold};
 
 use crate::Conns;
@@ -91,12 +92,12 @@ impl<C: Conns> Link for StreamLink<C> {
         self.conns.open(at)
     }
 
-    /// The next frame. It takes pieces until a message is whole, and gives `None` at the end of all. It fails where the connections fail,
-    /// and where 1,000,000 pieces were taken without a whole message.
+    /// The next frame. It takes pieces until a message is whole, none where one is whole already, and gives `None` at the end of all. It
+    /// fails where the connections fail, and where 1,000,000 pieces were taken and no message became whole.
     fn recv(&mut self, alloc: Global) -> Result<Option<Vec<u8>>, LinkFault>
         ensures never_falls { C.faults self.old.conns ≤ C.faults self.new.conns }
-        ensures own { (self.new.faults ≡ self.old.faults) ⊎ ((result ≡ Err LinkFault.Failed) × (self.new.faults ≡ one_more self.old.faults) × TakenOff 1000000 (C.held self.old.conns) (C.held self.new.conns)) }
-        ensures failed { result ≡ Err LinkFault.Failed → HasRisen (C.faults self.old.conns) (C.faults self.new.conns) ⊎ ((self.new.faults ≡ one_more self.old.faults) × TakenOff 1000000 (C.held self.old.conns) (C.held self.new.conns)) }
+        ensures own { (self.new.faults ≡ self.old.faults) ⊎ ((result ≡ Err LinkFault.Failed) × (self.new.faults ≡ one_more self.old.faults) × TakenOff 1000000 (C.held self.old.conns) (C.held self.new.conns) × IsIdle self.new.unread) }
+        ensures failed { result ≡ Err LinkFault.Failed → HasRisen (C.faults self.old.conns) (C.faults self.new.conns) ⊎ ((self.new.faults ≡ one_more self.old.faults) × TakenOff 1000000 (C.held self.old.conns) (C.held self.new.conns) × IsIdle self.new.unread) }
         ensures frame { IfOk result (λ found. IfSome found (λ f. IsFrame f.items)) }
         ensures first { IfOk result (λ found. IfSome found (λ f. TakesFirst (to_come self.old.unread (C.held self.old.conns)) (to_come self.new.unread (C.held self.new.conns)) f.items)) }
         ensures at_end { IfOk result (λ found. IfNone found (WhereTold (C.held self.new.conns) (λ t. t.coming ≡ []))) }
@@ -104,6 +105,7 @@ impl<C: Conns> Link for StreamLink<C> {
         ensures none { IfOk result (λ found. IfNone found ((all : List (List ℕ)) → to_come self.old.unread (C.held self.old.conns) ≡ Some all → all ≡ [])) }
         ensures kept_at_end { IfOk result (λ found. IfNone found (to_come self.new.unread (C.held self.new.conns) ≡ to_come self.old.unread (C.held self.old.conns))) }
         ensures kept { OnErr result (to_come self.new.unread (C.held self.new.conns) ≡ to_come self.old.unread (C.held self.old.conns)) }
+        ensures ready { arrivals (pieces_of self.old.unread) ≢ [] → C.held self.new.conns ≡ C.held self.old.conns }
         ensures kept_sent { sent_of (C.held self.new.conns) ≡ sent_of (C.held self.old.conns) }
     {
         match next_frame(alloc, &mut self.conns, &mut self.incoming) {
@@ -149,13 +151,14 @@ fn next_frame<C: Conns>(
 ) -> Result<Option<Vec<u8>>, NoFrame>
     ensures never_falls { C.faults conns.old ≤ C.faults conns.new }
     ensures failed { result ≡ Err NoFrame.Failed → HasRisen (C.faults conns.old) (C.faults conns.new) }
-    ensures too_many { result ≡ Err NoFrame.TooManyPieces → TakenOff 1000000 (C.held conns.old) (C.held conns.new) }
+    ensures too_many { result ≡ Err NoFrame.TooManyPieces → TakenOff 1000000 (C.held conns.old) (C.held conns.new) × IsIdle incoming.new }
     ensures frame { IfOk result (λ found. IfSome found (λ f. IsFrame f.items)) }
     ensures first { IfOk result (λ found. IfSome found (λ f. TakesFirst (to_come incoming.old (C.held conns.old)) (to_come incoming.new (C.held conns.new)) f.items)) }
     ensures at_end { IfOk result (λ found. IfNone found (WhereTold (C.held conns.new) (λ t. t.coming ≡ []))) }
     ensures idle_at_end { IfOk result (λ found. IfNone found (IsIdle incoming.new)) }
     ensures kept_at_end { IfOk result (λ found. IfNone found (to_come incoming.new (C.held conns.new) ≡ to_come incoming.old (C.held conns.old))) }
     ensures kept { OnErr result (to_come incoming.new (C.held conns.new) ≡ to_come incoming.old (C.held conns.old)) }
+    ensures ready { arrivals (pieces_of incoming.old) ≢ [] → C.held conns.new ≡ C.held conns.old }
     ensures kept_sent { sent_of (C.held conns.new) ≡ sent_of (C.held conns.old) }
 {
     match whole_frame(alloc, conns, incoming) {
@@ -187,6 +190,8 @@ fn whole_frame<C: Conns>(
     ensures idle { IfOk result (λ found. IfNone found (IsIdle incoming.new)) }
     ensures same { IfOk result (λ found. IfNone found (to_come incoming.new (C.held conns.new) ≡ to_come incoming.old (C.held conns.old))) }
     ensures memory { OnErr result (to_come incoming.new (C.held conns.new) ≡ to_come incoming.old (C.held conns.old)) }
+    ensures none { IfOk result (λ found. IfNone found (arrivals (pieces_of incoming.old) ≡ [])) }
+    ensures ready { arrivals (pieces_of incoming.old) ≢ [] → C.held conns.new ≡ C.held conns.old }
     ensures kept_sent { sent_of (C.held conns.new) ≡ sent_of (C.held conns.old) }
     ensures pieces { TakenOff 0 (C.held conns.old) (C.held conns.new) }
 {
