@@ -33,6 +33,12 @@ pub record LeavesOnly {D : Type 0} (moment : D → ℕ) (left_since : D → ℕ 
   -- for what began earlier
   pub before : (t : ℕ) (image : List ℕ) → t ≤ moment old → left_since new t image → left_since old t image ⊎ P image
 
+-- From old to new the file was left alone: a read gives the same bytes, and a crash at any moment leaves what it might have left before.
+pub record IsLeftAlone {D : Type 0} (seen : D → Option (List ℕ)) (may_leave : D → List ℕ → Type 0) (moment : D → ℕ) (left_since : D → ℕ → List ℕ → Type 0) (old new : D) : Type 0 where
+  pub kept : seen new ≡ seen old
+  pub keeps : Keeps (may_leave old) (may_leave new)
+  pub any_moment : LeavesOnly moment left_since old new (may_leave old)
+
 -- where the file is told, it has this
 abbrev pub WhereTold : Option (List ℕ) → (List ℕ → Type 0) → Type 0
 WhereTold seen P = (file : List ℕ) → seen ≡ Some file → P file

@@ -140,8 +140,9 @@ impl<R: rt::Files + Drop> Disk for FileDisk<R> {
     }
 
     fn sync(&mut self) -> Result<(), Failed> {
+        // The bytes, and the length where it changed: all that a read needs.
         if let Some(file) = &self.file
-            && file.sync_all().is_ok()
+            && file.sync_data().is_ok()
         {
             return Ok(());
         }

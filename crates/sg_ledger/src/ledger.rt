@@ -2,7 +2,7 @@
 ghost use Rattle.std.specs.Prelude.{◌≡◌, ◌≢◌, ◌⊎◌, ◌↔◌, ◌++◌, ◌+◌, ◌^◌, ◌<◌, ◌≤◌, [], ◌∷◌, List, ℕ, Some, true, false, length, take, drop, All, AllPairs, Contains, IfOk, IfErr, IsTrue, OnErr, OnOk};
 ghost use Rattle.sg_model.specs.Limits.{most_joins};
 ghost use Rattle.sg_base.specs.Outside.{HasRisen};
-ghost use Rattle.sg_ledger.specs.Disk.{overlaid, Torn, Keeps, LeavesOnly, WhereTold};
+ghost use Rattle.sg_ledger.specs.Disk.{overlaid, Torn, Keeps, LeavesOnly, IsLeftAlone, WhereTold};
 ghost use Rattle.sg_ledger.specs.Format.{magic, Join, IsBlank, StandsFor, StandsForOneOf};
 ghost use Rattle.sg_ledger.specs.Opening.{Refuses, Opens};
 
@@ -96,7 +96,12 @@ impl Ledger {
         ensures failed { result ≡ Err CreateFault.Failed → HasRisen (D.faults disk.old) (D.faults disk.new) }
         ensures empty { OnOk result (WhereTold (D.seen disk.old) (λ file. file ≡ [])) }
         ensures not_empty { IfErr result (λ e. (size : ℕ) → e ≡ CreateFault.NotEmpty size → (0 < size) × WhereTold (D.seen disk.old) (λ file. length file ≡ size)) }
+        ensures blank { OnOk result ((image : List ℕ) → D.may_leave disk.new image → IsBlank image) }
         ensures made { OnOk result ((image : List ℕ) → D.may_leave disk.new image → StandsFor image []) }
+
+        // A file that has bytes is left alone whatever the answer is, and any file where memory was wanted.
+        ensures refused { IfErr result (λ e. e ≢ CreateFault.Failed → IsLeftAlone D.seen D.may_leave D.moment D.left_since disk.old disk.new) }
+        ensures used { (file : List ℕ) → D.seen disk.old ≡ Some file → file ≢ [] → IsLeftAlone D.seen D.may_leave D.moment D.left_since disk.old disk.new }
     {
         let size = match disk.size() {
             Ok(size) => size,
