@@ -8,7 +8,7 @@ use Rattle.sg_protocol.specs.Calls as Protocol
 use Rattle.sg_protocol.specs.Calls.{Call, Answer}
 use Rattle.sg_protocol.specs.Graph.{Graph}
 use Rattle.sg_protocol.specs.Keyring.{Keyring, Program}
-use Rattle.sg_protocol.specs.Past.{node_of, past_after}
+use Rattle.sg_protocol.specs.Past.{Past, node_of, past_after}
 use Rattle.sg_protocol.specs.Texts.{real}
 use Rattle.sg_report.specs.Told.{Told, told_answer, sid_left}
 use Rattle.sg_script.specs.Script.{Choice, Script}
@@ -19,17 +19,19 @@ use Rattle.sg_play.specs.Asking.{Comes}
 use Rattle.sg_play.specs.Ends.{Outside, Whole, Ended}
 use Rattle.sg_play.specs.Played.{Play, all_deliveries, all_starts, beginning, called, played, with_turn}
 use Rattle.sg_play.specs.Standing.{HasAsked, KeepsJoins, StandsForPlay}
+use Rattle.sg_play.specs.Steps.{Step, frames_of}
 use Rattle.sg_play.proofs.Endings.{whole_none}
 use Rattle.sg_play.proofs.Telling.{asked_quiet}
 use Rattle.sg_keep.specs.declared.fault.KeepFault.{KeepFault}
 use Rattle.sg_keep.specs.declared.fault.KeepFault.TheVariants.{Played, DiskFailed}
 use Rattle.sg_keep.specs.declared.keeper.Keeper.{Keeper}
 use Rattle.sg_keep.specs.Joins.{IsNew, join_in, join_told, joins_made, with_join}
-use Rattle.sg_keep.specs.Kept.{AllStandFor, Kept}
+use Rattle.sg_keep.specs.Kept.{AllStandFor, AreOfJoins, Kept}
 use Rattle.sg_keep.specs.Standing.{CameTo, HasAskedNode, HoldsJoins, IsAsked, StandsForKept}
 use Rattle.sg_keep.proofs.Ending.{IsBetween, end_on, not_kept, played_end, stopped}
 use Rattle.sg_keep.proofs.Going.{Goes, after_call, by_call, by_deliveries, by_starts, in_step_on, joined, quiet_joins, with_call}
 use Rattle.sg_keep.proofs.NewJoins.{any_call, joins_of_node, joins_with}
+use Rattle.sg_keep.proofs.Owning.{OwnsAll, none_sent, owned_past, sent_more}
 
 -- an opened ledger that works, with these joins
 abbrev pub working : List Join → Opened
@@ -57,6 +59,7 @@ is_asked k pl may_leave p c told graph h s is comes stays = record {
   stays = stays;
   told_before = s.player.told;
   in_step = s.in_step;
+  sent = s.sent;
   ledger = ap (λ (o : Opened). o.joins) h.ledger ∙ s.player.node.joins;
 }
 
@@ -125,12 +128,18 @@ module _ (start now : Outside) (may_leave : List ℕ → Type 0) (k : Keeper) (p
   pub unkept : (f : KeepFault) → IsBetween f → ((image : List ℕ) → may_leave image → StandsFor image k.ledger.joins ⊎ StandsFor image k.player.node.joins) → Whole start now p.steps → Kept start now may_leave (with_turn p c) (Err f)
   unkept f causes images w =
       end_on start now may_leave (called p c) (with_turn p c) f (after_call p c).0
-      (not_kept start now may_leave p c f k.ledger.joins k.player.node.joins causes a.in_step (a.ledger ∙ joins_of_node p.past a.told_before) node_has images w)
+      (not_kept start now may_leave p c f k.ledger.joins k.player.node.joins causes a.in_step a.sent (a.ledger ∙ joins_of_node p.past a.told_before) node_has images w)
 
   -- its join is kept
   module _ (m : Keeper) (same : m.player ≡ k.player) (h : HoldsJoins m may_leave) where
     all : AllStandFor may_leave ((called p c).past.first ++ joins_made (called p c).past.calls)
     all = subst (AllStandFor may_leave) (ap (λ (pl : Player). pl.node.joins) same ∙ node_has) h.images
+
+    owns : OwnsAll (called p c)
+    owns = record { live = owned_past (past_after real p.past c) a.asked.told_past; sent = sent_more p c (record { live = owned_past p.past a.told_before; sent = a.sent }) }
+
+    owns_then : OwnsAll (with_turn p c)
+    owns_then = (after_call p c).2 owns
 
     steps_so : length (called p c).steps ≡ length (called p c).past.calls
     steps_so = in_step_on p (called p c) (by_call p c) a.in_step
@@ -140,17 +149,17 @@ module _ (start now : Outside) (may_leave : List ℕ → Type 0) (k : Keeper) (p
 
     -- what came of it was not given
     pub untold : (f : PlayFault) → Ended start now (called p c).steps (Err f) → Kept start now may_leave (with_turn p c) (Err (Played f))
-    untold f e = end_on start now may_leave (called p c) (with_turn p c) (Played f) (after_call p c).0 (played_end start now may_leave (called p c) steps_so all f e)
+    untold f e = end_on start now may_leave (called p c) (with_turn p c) (Played f) (after_call p c).0 (played_end start now may_leave (called p c) steps_so owns.sent all f e)
 
     -- the turn ended early
     pub unplayed : (f : PlayFault) → Ended start now (with_turn p c).steps (Err f) → Kept start now may_leave (with_turn p c) (Err (Played f))
     unplayed f e =
-        played_end start now may_leave (with_turn p c) (in_step_on (called p c) (with_turn p c) (after_call p c).0 steps_so)
+        played_end start now may_leave (with_turn p c) (in_step_on (called p c) (with_turn p c) (after_call p c).0 steps_so) owns_then.sent
         (subst (AllStandFor may_leave) (sym (quiet_joins (called p c) (with_turn p c) (after_call p c))) all) f e
 
     -- it was played
     pub stands_kept : (k' : Keeper) → StandsForPlay k'.player (with_turn p c) → StandsForKept k' (with_turn p c)
-    stands_kept k' s = record { player = s; in_step = in_step_on p (with_turn p c) (with_call p c) a.in_step }
+    stands_kept k' s = record { player = s; in_step = in_step_on p (with_turn p c) (with_call p c) a.in_step; sent = owns_then.sent }
 
 -- ---- the turn was played
 
@@ -169,7 +178,11 @@ holds_on k m may_leave h same keeps =
 -- ---- a word less, or the outside by another name
 
 pub kept_without : (k : Keeper) (p q : Play) → q.past ≡ p.past → q.steps ≡ p.steps → StandsForPlay k.player q → StandsForKept k p → StandsForKept k q
-kept_without k p q past steps s h = record { player = s; in_step = (λ i. length (steps i)) ∙ h.in_step ∙ (λ i. length (sym past i).calls) }
+kept_without k p q past steps s h = record {
+  player = s;
+  in_step = (λ i. length (steps i)) ∙ h.in_step ∙ (λ i. length (sym past i).calls);
+  sent = subst (λ (z : Past). AreOfJoins (joins_made z.calls) (frames_of q.steps)) (sym past) (subst (λ (ss : List Step). AreOfJoins (joins_made p.past.calls) (frames_of ss)) (sym steps) h.sent);
+}
 
 -- ---- before a call
 
@@ -178,13 +191,13 @@ pub holds_all : (k : Keeper) (may_leave : List ℕ → Type 0) (p : Play) → Ho
 holds_all k may_leave p h s = subst (AllStandFor may_leave) (s.player.node.joins ∙ joins_of_node p.past s.player.told) h.images
 
 module _ (start now : Outside) (may_leave : List ℕ → Type 0) (k : Keeper) (p q : Play) (h : HoldsJoins k may_leave) (s : StandsForKept k p) (g : Goes p q) (w : Whole start now p.steps) where
-  -- memory was wanted between steps
+  -- memory ran out between steps
   pub memory_end : (f : PlayFault) → f ≡ OutOfMemory → Kept start now may_leave q (Err (Played f))
-  memory_end f e = subst (λ (z : PlayFault). Kept start now may_leave q (Err (Played z))) (sym e) (end_on start now may_leave p q (Played OutOfMemory) g (stopped start now may_leave p s.in_step (holds_all k may_leave p h s) w))
+  memory_end f e = subst (λ (z : PlayFault). Kept start now may_leave q (Err (Played z))) (sym e) (end_on start now may_leave p q (Played OutOfMemory) g (stopped start now may_leave p s.in_step s.sent (holds_all k may_leave p h s) w))
 
   -- the link gave no delivery
   pub link_end : Kept start now may_leave q (Err (Played LinkFailed))
-  link_end = end_on start now may_leave p q (Played LinkFailed) g (stopped start now may_leave p s.in_step (holds_all k may_leave p h s) w)
+  link_end = end_on start now may_leave p q (Played LinkFailed) g (stopped start now may_leave p s.in_step s.sent (holds_all k may_leave p h s) w)
 
 -- ---- a play begins
 
@@ -198,7 +211,7 @@ holds_first k may_leave keys programs first choices s is all = record {
 }
 
 pub stands_first : (k : Keeper) (keys : Keyring) (programs : List Program) (first : List Join) (choices : List Choice) (words : List (List ℕ)) → StandsForPlay k.player (beginning keys programs first choices words) → StandsForKept k (beginning keys programs first choices words)
-stands_first k keys programs first choices words s = record { player = s; in_step = refl }
+stands_first k keys programs first choices words s = record { player = s; in_step = refl; sent = none_sent [] }
 
 -- memory ran out before its first step
 pub not_begun : (start : Outside) (may_leave : List ℕ → Type 0) (keys : Keyring) (programs : List Program) (first : List Join) (script : Script) (deliveries words : List (List ℕ)) → AllStandFor may_leave first
@@ -209,7 +222,7 @@ not_begun start may_leave keys programs first script deliveries words all f e =
     let whole = all_deliveries started deliveries in
     subst (λ (z : PlayFault). Kept start start may_leave whole (Err (Played z))) (sym e)
     (end_on start start may_leave begun whole (Played OutOfMemory) (joined begun started whole (by_starts begun script.starts) (by_deliveries started deliveries))
-    (stopped start start may_leave begun refl (subst (AllStandFor may_leave) (sym (append-nil first)) all) (whole_none start)))
+    (stopped start start may_leave begun refl (none_sent []) (subst (AllStandFor may_leave) (sym (append-nil first)) all) (whole_none start)))
 
 -- ---- a play ends
 
@@ -222,7 +235,7 @@ starts_ended start now may_leave keys programs first script deliveries words f h
 
 -- what was given and kept at its end
 pub came_kept : (start now : Outside) (may_leave : List ℕ → Type 0) (k : Keeper) (words : Option (List (List ℕ))) (p : Play) (r : Result (Unit {0}) KeepFault) → OnOk r (HoldsJoins k may_leave) → CameTo start now may_leave k words p r → Kept start now may_leave p r
-came_kept start now may_leave k words p (Ok u) holds h = (h.1, holds_all k may_leave p holds h.0)
+came_kept start now may_leave k words p (Ok u) holds h = (h.1, holds_all k may_leave p holds h.0, h.0.sent)
 came_kept start now may_leave k words p (Err (Played LinkFailed)) holds h = h
 came_kept start now may_leave k words p (Err (Played WriteFailed)) holds h = h
 came_kept start now may_leave k words p (Err (Played OutOfMemory)) holds h = h

@@ -14,7 +14,7 @@ module _ {A : Type 0} where
   pub none_rose : (c : Counts) (a : A) → TellsFaults c c (Ok a)
   none_rose c a = record { link_falls = omega arith; out_falls = omega arith; disk_falls = omega arith; link_failed = λ e. absurd (cc); write_failed = λ e. absurd (cc); disk_failed = λ e. absurd (cc) }
 
-  -- memory was wanted
+  -- memory ran out
   pub none_for_memory : (c : Counts) → TellsFaults {A = A} c c (Err (Played OutOfMemory))
   none_for_memory c = record { link_falls = omega arith; out_falls = omega arith; disk_falls = omega arith; link_failed = λ e. absurd (cc); write_failed = λ e. absurd (cc); disk_failed = λ e. absurd (cc) }
 
@@ -36,17 +36,6 @@ later_tells old mid new r f h = record {
   link_failed = λ e. risen_last old.link mid.link new.link f.link h.link_falls (h.link_failed e);
   write_failed = λ e. risen_last old.out mid.out new.out f.out h.out_falls (h.write_failed e);
   disk_failed = λ e. risen_last old.disk mid.disk new.disk f.disk h.disk_falls (h.disk_failed e);
-}
-
--- the fault of a part is that of the call
-pub passed_up : {A B : Type 0} (old new : Counts) (r : Result A KeepFault) (s : Result B KeepFault) (f : KeepFault) → r ≡ Err f → s ≡ Err f → TellsFaults old new r → TellsFaults old new s
-passed_up old new r s f e d h = record {
-  link_falls = h.link_falls;
-  out_falls = h.out_falls;
-  disk_falls = h.disk_falls;
-  link_failed = λ x. h.link_failed (e ∙ ap Err (err_same s f (Played LinkFailed) d x));
-  write_failed = λ x. h.write_failed (e ∙ ap Err (err_same s f (Played WriteFailed) d x));
-  disk_failed = λ x. h.disk_failed (e ∙ ap Err (err_same s f DiskFailed d x));
 }
 
 same_played : (f g : PlayFault) → Played f ≡ Played g → f ≡ g
@@ -83,7 +72,7 @@ unkept_tells link out disk disk' f falls causes rose = record {
 pub disk_falls_only : (link out disk disk' : ℕ) → disk ≤ disk' → NoFall (record { link = link; out = out; disk = disk }) (record { link = link; out = out; disk = disk' })
 disk_falls_only link out disk disk' l = record { link = omega arith; out = omega arith; disk = l }
 
--- memory was wanted
+-- memory ran out
 pub memory_tells : {A : Type 0} (c : Counts) (f : PlayFault) → f ≡ OutOfMemory → TellsFaults {A = A} c c (Err (Played f))
 memory_tells {A} c f e = subst (λ (z : PlayFault). TellsFaults {A = A} c c (Err (Played z))) (sym e) (none_for_memory c)
 

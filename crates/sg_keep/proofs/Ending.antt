@@ -1,6 +1,7 @@
 -- How a play over a ledger ends early, and that its end is one of each play that goes on.
 use Rattle.std.proofs.Common.{◌≡◌, ℕ, ◌+◌, ◌≤◌, List, [], ◌∷◌, ◌++◌, length, Option, Result, Err, refl, sym, ap, ◌∙◌, subst, append_assoc, arith, inl, inr, ◌⊎◌, ⊎_elim}
 use Rattle.std.proofs.lemmas.List.{append-nil, length-append}
+use Rattle.sg_base.specs.declared.address.Addr.{Addr}
 use Rattle.sg_ledger.specs.Format.{Join, StandsFor}
 use Rattle.sg_protocol.specs.Calls.{Call}
 use Rattle.sg_protocol.specs.Past.{Called}
@@ -8,23 +9,25 @@ use Rattle.sg_play.specs.declared.fault.PlayFault.{PlayFault}
 use Rattle.sg_play.specs.declared.fault.PlayFault.TheVariants.{LinkFailed, WriteFailed, OutOfMemory}
 use Rattle.sg_play.specs.Ends.{Outside, Whole, WholeFront, Ended}
 use Rattle.sg_play.specs.Played.{Play, answer_in, called, step_in}
-use Rattle.sg_play.specs.Steps.{Step}
+use Rattle.sg_play.specs.Steps.{Step, frames_of}
 use Rattle.sg_keep.specs.declared.fault.KeepFault.{KeepFault}
 use Rattle.sg_keep.specs.declared.fault.KeepFault.TheVariants.{Played, DiskFailed}
 use Rattle.sg_keep.specs.declared.keeper.Keeper.{Keeper}
 use Rattle.sg_keep.specs.Joins.{joins_made}
-use Rattle.sg_keep.specs.Kept.{AllStandFor, KeepsFirst, Kept, KeptBegun, KeptFront, StandsForFirst}
+use Rattle.sg_keep.specs.Kept.{AllStandFor, AreOfJoins, KeepsFirst, Kept, KeptBegun, KeptFront, StandsForFirst}
 use Rattle.sg_keep.specs.Standing.{CameTo}
 use Rattle.sg_keep.proofs.Going.{Goes, by_call}
+use Rattle.sg_keep.proofs.Owning.{made_by, of_first_steps, of_more, of_step_more}
 
 -- ---- it goes on
 
-kept_on : (p q : Play) (g : Goes p q) (image : List ℕ) (n : ℕ) → StandsForFirst image p.past.first p.past.calls n → StandsForFirst image q.past.first q.past.calls n
-kept_on p q g image n s = record {
+kept_on : (p q : Play) (g : Goes p q) (image : List ℕ) (n : ℕ) (frames : List (Addr × List ℕ)) → StandsForFirst image p.past.first p.past.calls n frames → StandsForFirst image q.past.first q.past.calls n frames
+kept_on p q g image n frames s = record {
   front = s.front;
   rest = s.rest ++ g.calls;
   is = g.is_calls ∙ ap (λ (l : List Called). l ++ g.calls) s.is ∙ append_assoc s.front s.rest g.calls;
   enough = s.enough;
+  sent = s.sent;
   stands = subst (λ (o : List Join). StandsFor image (o ++ joins_made s.front)) (sym g.first) s.stands;
 }
 
@@ -32,7 +35,7 @@ module _ (start now : Outside) (may_leave : List ℕ → Type 0) where
   front_on : (p q : Play) → Goes p q → KeptFront start now may_leave p → KeptFront start now may_leave q
   front_on p q g h = record {
     given = record { front = h.given.front; rest = h.given.rest ++ g.steps; is = g.is_steps ∙ ap (λ (l : List Step). l ++ g.steps) h.given.is ∙ append_assoc h.given.front h.given.rest g.steps; whole = h.given.whole };
-    kept = λ image left. kept_on p q g image (length h.given.front) (h.kept image left);
+    kept = λ image left. kept_on p q g image (length h.given.front) (frames_of h.given.front) (h.kept image left);
   }
 
   begun_on : (p q : Play) → Goes p q → KeptBegun start now may_leave p → KeptBegun start now may_leave q
@@ -46,7 +49,7 @@ module _ (start now : Outside) (may_leave : List ℕ → Type 0) where
       lines = h.given.lines;
       frames = h.given.frames;
     };
-    kept = λ image left. kept_on p q g image (length h.given.front + 1) (h.kept image left);
+    kept = λ image left. kept_on p q g image (length h.given.front + 1) (frames_of h.given.front ++ h.given.step.frames) (h.kept image left);
   }
 
   pub end_on : (p q : Play) (f : KeepFault) → Goes p q → Kept start now may_leave p (Err f) → Kept start now may_leave q (Err f)
@@ -58,8 +61,9 @@ module _ (start now : Outside) (may_leave : List ℕ → Type 0) where
 -- ---- it begins
 
 -- all joins of the play are kept
-all_kept : (p : Play) (may_leave : List ℕ → Type 0) (n : ℕ) → n ≤ length p.past.calls → AllStandFor may_leave (p.past.first ++ joins_made p.past.calls) → KeepsFirst may_leave p n
-all_kept p may_leave n l all image left = record { front = p.past.calls; rest = []; is = sym (append-nil p.past.calls); enough = l; stands = all image left }
+all_kept : (p : Play) (may_leave : List ℕ → Type 0) (n : ℕ) (frames : List (Addr × List ℕ)) → n ≤ length p.past.calls → AreOfJoins (joins_made p.past.calls) frames → AllStandFor may_leave (p.past.first ++ joins_made p.past.calls)
+    → KeepsFirst may_leave p n frames
+all_kept p may_leave n frames l sent all image left = record { front = p.past.calls; rest = []; is = sym (append-nil p.past.calls); enough = l; sent = sent; stands = all image left }
 
 few_in_front : (ss front rest : List Step) → ss ≡ front ++ rest → length front ≤ length ss
 few_in_front ss front rest e = let a = ap (λ (l : List Step). length l) e ∙ length-append front rest in omega (arith, a)
@@ -67,14 +71,22 @@ few_in_front ss front rest e = let a = ap (λ (l : List Step). length l) e ∙ l
 few_with_one : (ss front rest : List Step) (s : Step) → ss ≡ front ++ s ∷ rest → length front + 1 ≤ length ss
 few_with_one ss front rest s e = let a = ap (λ (l : List Step). length l) e ∙ length-append front (s ∷ rest) in omega (arith, a)
 
-module _ (start now : Outside) (may_leave : List ℕ → Type 0) (p : Play) (in_step : length p.steps ≡ length p.past.calls) (all : AllStandFor may_leave (p.past.first ++ joins_made p.past.calls)) where
+module _ (start now : Outside) (may_leave : List ℕ → Type 0) (p : Play) (in_step : length p.steps ≡ length p.past.calls) (sent : AreOfJoins (joins_made p.past.calls) (frames_of p.steps))
+    (all : AllStandFor may_leave (p.past.first ++ joins_made p.past.calls)) where
   front_of : WholeFront start now p.steps → KeptFront start now may_leave p
-  front_of w = record { given = w; kept = all_kept p may_leave (length w.front) (let a = few_in_front p.steps w.front w.rest w.is in omega (arith, a, in_step)) all }
+  front_of w = record {
+    given = w;
+    kept = all_kept p may_leave (length w.front) (frames_of w.front) (let a = few_in_front p.steps w.front w.rest w.is in omega (arith, a, in_step)) (of_first_steps (joins_made p.past.calls) p.steps w.front w.rest w.is sent) all;
+  }
 
   -- a play that ended early, where all its joins are kept
   pub played_end : (f : PlayFault) → Ended start now p.steps (Err f) → Kept start now may_leave p (Err (Played f))
   played_end LinkFailed h = front_of h
-  played_end WriteFailed h = record { given = h; kept = all_kept p may_leave (length h.front + 1) (let a = few_with_one p.steps h.front h.rest h.step h.is in omega (arith, a, in_step)) all }
+  played_end WriteFailed h = record {
+    given = h;
+    kept = all_kept p may_leave (length h.front + 1) (frames_of h.front ++ h.step.frames) (let a = few_with_one p.steps h.front h.rest h.step h.is in omega (arith, a, in_step))
+        (of_step_more (joins_made p.past.calls) p.steps h.front h.rest h.step h.is sent) all;
+  }
   played_end OutOfMemory h = front_of h
 
   -- one that ended between steps
@@ -94,14 +106,25 @@ between start now may_leave p f (inr e) h = subst (λ (z : KeepFault). Kept star
 
 -- where the join of a call was not kept: the images have it or not, and nothing of the call was told
 pub not_kept : (start now : Outside) (may_leave : List ℕ → Type 0) (p : Play) (c : Call) (f : KeepFault) (bare full : List Join) → IsBetween f → length p.steps ≡ length p.past.calls
-    → bare ≡ p.past.first ++ joins_made p.past.calls → full ≡ p.past.first ++ joins_made (called p c).past.calls
+    → AreOfJoins (joins_made p.past.calls) (frames_of p.steps) → bare ≡ p.past.first ++ joins_made p.past.calls → full ≡ p.past.first ++ joins_made (called p c).past.calls
     → ((image : List ℕ) → may_leave image → StandsFor image bare ⊎ StandsFor image full) → Whole start now p.steps → Kept start now may_leave (called p c) (Err f)
-not_kept start now may_leave p c f bare full causes in_step old new images w =
+not_kept start now may_leave p c f bare full causes in_step sent old new images w =
+    let call : Called = record { call = c; answer = answer_in p c } in
+    let more : AreOfJoins (joins_made (called p c).past.calls) (frames_of p.steps) = subst (λ (js : List Join). AreOfJoins js (frames_of p.steps)) (sym (made_by p.past.calls (call ∷ []))) (of_more (joins_made p.past.calls) (joins_made (call ∷ [])) (frames_of p.steps) sent) in
     between start now may_leave (called p c) f causes (record {
       given = record { front = p.steps; rest = step_in p c ∷ []; is = refl; whole = w };
       kept = λ image left. ⊎_elim
-          (λ (s : StandsFor image bare). kept_on p (called p c) (by_call p c) image (length p.steps) (record { front = p.past.calls; rest = []; is = sym (append-nil p.past.calls); enough = omega (arith, in_step); stands = subst (StandsFor image) old s }))
-          (λ (s : StandsFor image full). record { front = (called p c).past.calls; rest = []; is = sym (append-nil (called p c).past.calls); enough = let a = length-append p.past.calls (record { call = c; answer = answer_in p c } ∷ []) in omega (arith, a, in_step); stands = subst (StandsFor image) new s })
+          (λ (s : StandsFor image bare).
+          kept_on p (called p c) (by_call p c) image (length p.steps) (frames_of p.steps) (record { front = p.past.calls; rest = []; is = sym (append-nil p.past.calls); enough = omega (arith, in_step); sent = sent; stands = subst (StandsFor image) old s }))
+          (λ (s : StandsFor image full).
+          record {
+            front = (called p c).past.calls;
+            rest = [];
+            is = sym (append-nil (called p c).past.calls);
+            enough = let a = length-append p.past.calls (call ∷ []) in omega (arith, a, in_step);
+            sent = more;
+            stands = subst (StandsFor image) new s;
+          })
           (images image left);
     })
 

@@ -1,4 +1,4 @@
--- A play goes on: it adds steps and as many calls. A turn joins nothing.
+-- A play goes on: it adds steps and as many calls. A turn joins nothing, and sends only frames of joined sessions.
 use Rattle.std.proofs.Common.{◌≡◌, ℕ, ◌+◌, List, [], ◌∷◌, ◌++◌, find, length, Option, Some, None, refl, sym, ap, ◌∙◌, subst, append_assoc, arith}
 use Rattle.std.specs.Option.{option_map_or}
 use Rattle.std.proofs.lemmas.List.{append-nil, length-append}
@@ -20,6 +20,7 @@ use Rattle.sg_play.proofs.Extends.{deliveries_both, starts_both}
 use Rattle.sg_play.proofs.Looping.{taken_part, whole_part}
 use Rattle.sg_keep.specs.Joins.{join_in, joins_made}
 use Rattle.sg_keep.proofs.NewJoins.{turns_join_none}
+use Rattle.sg_keep.proofs.Owning.{OwnsAll, owns_on}
 use Rattle.std.specs.Prelude.{take, ◌≤◌}
 
 -- the second has further steps, and as many further calls
@@ -31,9 +32,9 @@ pub record Goes (p q : Play) : Type 0 where
   pub as_many : length steps ≡ length calls
   pub first : q.past.first ≡ p.past.first
 
--- and these calls join nothing
+-- and these calls join nothing, and send only frames of joined sessions
 abbrev pub Quiet : Play → Play → Type 0
-Quiet p q = (g : Goes p q) × (joins_made g.calls ≡ [])
+Quiet p q = (g : Goes p q) × (joins_made g.calls ≡ []) × (OwnsAll p → OwnsAll q)
 
 pub nothing : (p : Play) → Goes p p
 nothing p = record { steps = []; calls = []; is_steps = sym (append-nil p.steps); is_calls = sym (append-nil p.past.calls); as_many = refl; first = refl }
@@ -55,14 +56,14 @@ by_call p c = record { steps = step_in p c ∷ []; calls = record { call = c; an
 
 quiet_nothing : (p : Play) → Quiet p p
 unfolding nothing
-quiet_nothing p = (nothing p, refl)
+quiet_nothing p = (nothing p, refl, λ h. h)
 
 quiet_both : (a b : List Called) → joins_made a ≡ [] → joins_made b ≡ [] → joins_made (a ++ b) ≡ []
 quiet_both a b e f = flat_map-append (λ (c : Called). option_map_or (λ (j : Join). j ∷ []) (join_in c.answer) []) a b ∙ (λ i. e i ++ f i)
 
 quiet_joined : (p q r : Play) → Quiet p q → Quiet q r → Quiet p r
 unfolding joined
-quiet_joined p q r f g = (joined p q r f.0 g.0, quiet_both f.0.calls g.0.calls f.1 g.1)
+quiet_joined p q r f g = (joined p q r f.0 g.0, quiet_both f.0.calls g.0.calls f.1 g.1, λ h. g.2 (f.2 h))
 
 -- an answer that joins nothing
 joins_none : (c : Call) (a : Answer) → join_in a ≡ None → joins_made (record { call = c; answer = a } ∷ []) ≡ []
@@ -70,7 +71,7 @@ joins_none c a e = ap (λ (o : Option Join). option_map_or (λ j. j ∷ []) o []
 
 quiet_leaving : (p : Play) (sid : List ℕ) → Quiet p (abandons sid p)
 unfolding by_call
-quiet_leaving p sid = (by_call p (Abandon sid), joins_none (Abandon sid) (answer_in p (Abandon sid)) (turns_join_none real (node_of p.past) (Abandon sid) tt))
+quiet_leaving p sid = (by_call p (Abandon sid), joins_none (Abandon sid) (answer_in p (Abandon sid)) (turns_join_none real (node_of p.past) (Abandon sid) tt), λ h. owns_on p (Abandon sid) h tt)
 
 by_leaving : (sid : List ℕ) (p : Play) (a : Answer) → Quiet p (or_abandons sid p a)
 by_leaving sid p (Happened e) = quiet_leaving p sid
@@ -86,7 +87,8 @@ by_act sid graph node c p =
     let call = act_by sid c p.words in
     let q = called (chosen graph node c p) call in
     let goes : Goes p q = record { steps = step_in (chosen graph node c p) call ∷ []; calls = record { call = call; answer = answer_in p call } ∷ []; is_steps = refl; is_calls = refl; as_many = refl; first = refl } in
-    quiet_joined p q (acts sid graph node c p) (goes, joins_none call (answer_in p call) (turns_join_none real (node_of p.past) call tt)) (by_leaving sid q (answer_in p call))
+    let owns : OwnsAll p → OwnsAll q = λ h. owns_on (chosen graph node c p) call (record { live = h.live; sent = h.sent }) tt in
+    quiet_joined p q (acts sid graph node c p) (goes, joins_none call (answer_in p call) (turns_join_none real (node_of p.past) call tt), owns) (by_leaving sid q (answer_in p call))
 
 by_plays : (sid : List ℕ) (graph : Name) (node : ℕ) (p : Play) → Quiet p (plays sid graph node p)
 by_plays sid graph node p = by (find (is_ready graph node) p.choices)

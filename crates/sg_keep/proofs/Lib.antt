@@ -4,3 +4,4 @@ pub mod Ending
 pub mod Counting
 pub mod Asking
 pub mod Owning
+pub mod Reading

@@ -1,18 +1,25 @@
--- A frame that a call sends is of a session that an earlier call joined.
-use Rattle.std.specs.Prelude.{◌≡◌, ℕ, ◌+◌, Bool, true, cond, drop, List, [], ◌∷◌, ◌++◌, find, refl, Option, Some, None, bytes_eq, Result, Ok, Err}
+-- The frames that a play sends are of the joins that its calls made.
+use Rattle.std.specs.Prelude.{◌≡◌, ℕ, ◌+◌, Bool, true, cond, drop, List, [], ◌∷◌, ◌++◌, find, refl, Option, Some, None, bytes_eq, Result, Ok, Err, All, Contains}
 use Rattle.std.specs.List.{AllByRecursion, list_all}
 use Rattle.std.specs.Option.{option_map_or}
 use Rattle.std.proofs.Common.{ap, sym, ◌∙◌, subst, inl, inr, append_assoc}
 use Rattle.std.proofs.lemmas.Bool.{cases_Bool}
 use Rattle.std.proofs.lemmas.List.{append-nil}
-use Rattle.std.proofs.lemmas.List.Elements.{recursion_from_All}
+use Rattle.std.proofs.lemmas.List.Concat.{flat_map-append}
+use Rattle.std.proofs.lemmas.List.Elements.{All-append, All-cons, All-head, All-nil, All-tail, All-weaker, Contains-append_left, recursion_from_All}
+use Rattle.sg_base.specs.declared.address.Addr.{Addr}
 use Rattle.sg_cache.proofs.SameJoin.{any_of_parts}
+use Rattle.sg_keys.specs.Names.{addr_of}
 use Rattle.sg_ledger.specs.Format.{Join}
 use Rattle.sg_model.specs.Last.{Map}
 use Rattle.sg_model.specs.Lists.{first_some}
 use Rattle.sg_model.specs.Names.{Name}
 use Rattle.sg_model.specs.Values.{Value}
 use Rattle.sg_model.proofs.Small.{and_left, and_right}
+use Rattle.sg_node.specs.Answers.{IsTold}
+use Rattle.sg_play.specs.Played.{Play, answer_in, called, step_in}
+use Rattle.sg_play.specs.Steps.{Step, frames_in, frames_of}
+use Rattle.sg_protocol.proofs.Course.{node_more}
 use Rattle.sg_protocol.proofs.Joins.{Owns, owns_after}
 use Rattle.sg_protocol.specs.Acting.{acted, answer, openings_for, rows_of_act, rows_of_start, sent, started}
 use Rattle.sg_protocol.specs.Calls as Protocol
@@ -23,16 +30,17 @@ use Rattle.sg_protocol.specs.Graph.{shape}
 use Rattle.sg_protocol.specs.Keyring.{Program}
 use Rattle.sg_protocol.specs.Node.{Node, has_joined, is_for, program_for, session_with, starter}
 use Rattle.sg_protocol.specs.NodeAfter.{goes_on, joined, node_after, still, takes_read}
-use Rattle.sg_protocol.specs.Past.{AreAnswers, Called, new_node}
+use Rattle.sg_protocol.specs.Past.{AreAnswers, Called, Past, new_node, node_after_all, node_of}
 use Rattle.sg_protocol.specs.Ranges.{IsCallInRange}
 use Rattle.sg_protocol.specs.Reading.{read}
 use Rattle.sg_protocol.specs.Session.{Session, Took, extended, new_session, principal, time}
 use Rattle.sg_protocol.specs.Sending.{frame_sent}
+use Rattle.sg_protocol.specs.Spelling.{spelling}
 use Rattle.sg_protocol.specs.Texts.{Hash, real, session_id}
 use Rattle.sg_protocol.specs.Verdict.{decided, receipt, rows, verdict_on}
 use Rattle.sg_keep.specs.Joins.{join_in, joins_made, with_join}
-use Rattle.sg_keep.specs.Laws.{FramesAreOfJoins}
-use Rattle.sg_keep.proofs.NewJoins.{any_call}
+use Rattle.sg_keep.specs.Kept.{AreOfJoins, IsOfJoin}
+use Rattle.sg_keep.proofs.NewJoins.{IsOfTurn, any_call, turns_join_none}
 
 -- ---- what a call adds to the joins, whatever these are
 
@@ -156,12 +164,20 @@ same_live n joins (Deliver bytes) Protocol.NotAbandoned = refl
 same_live n joins (Deliver bytes) (Protocol.NotDelivered x) = refl
 
 -- the pairs of the live sessions are among the joins that were made
-owned_on : (sha : Hash) (n : Node) (made : List Join) (c : Call) → IsCallInRange c → Owns made n.live → Owns (made ++ one (join_in (answer sha n c))) (node_after n c (answer sha n c)).live
-owned_on sha n made c range h =
-    let a = answer sha n c in
+owned_by : (n : Node) (made : List Join) (c : Call) (a : Answer) → added c a ≡ one (join_in a) → Owns made n.live → Owns (made ++ one (join_in a)) (node_after n c a).live
+owned_by n made c a is h =
     let m = with_joins_only n made in
-    subst (λ (js : List Join). Owns js (node_after n c a).live) (adds m c a ∙ ap (λ l. made ++ l) (added_is sha n c range))
+    subst (λ (js : List Join). Owns js (node_after n c a).live) (adds m c a ∙ ap (λ l. made ++ l) is)
     (subst (λ (ss : List Session). Owns (node_after m c a).joins ss) (same_live n made c a) (owns_after m c a h))
+
+owned_on : (sha : Hash) (n : Node) (made : List Join) (c : Call) → IsCallInRange c → Owns made n.live → Owns (made ++ one (join_in (answer sha n c))) (node_after n c (answer sha n c)).live
+owned_on sha n made c range h = owned_by n made c (answer sha n c) (added_is sha n c range) h
+
+added_none : (c : Call) (a : Answer) → IsOfTurn c → added c a ≡ []
+added_none (Start c) a h = absurd h
+added_none (Act sid label values confounders) a h = refl
+added_none (Abandon sid) a h = refl
+added_none (Deliver bytes) a h = absurd h
 
 -- ---- a frame
 
@@ -227,17 +243,93 @@ module _ (sha : Hash) (n : Node) (made : List Join) (h : Owns made n.live) (e : 
 abbrev InRange : List Called → Type 0
 InRange cs = AllByRecursion (λ (c : Called). IsCallInRange c.call) cs
 
-frames_owned : (sha : Hash) (n : Node) (made : List Join) (before after : List Called) (c : Called) (e : Event) (to : Name) (f : Frame) → Owns made n.live → InRange (before ++ c ∷ after) → AreAnswers sha n (before ++ c ∷ after) → c.answer ≡ Sends e to f
-    → has_joined (made ++ joins_made before) f.sid f.sender ≡ true
-frames_owned sha n made [] after c e to f h r a is = subst (λ (js : List Join). has_joined js f.sid f.sender ≡ true) (sym (append-nil made)) (sent_is_owned sha n made h e to f c.call (sym a.0 ∙ is))
-frames_owned sha n made (b ∷ bs) after c e to f h r a is =
-    let next = subst (λ (x : Answer). Owns (made ++ one (join_in x)) (node_after n b.call x).live) (sym a.0) (owned_on sha n made b.call r.0 h) in
-    subst (λ (js : List Join). has_joined js f.sid f.sender ≡ true) (append_assoc made (one (join_in b.answer)) (joins_made bs))
-    (frames_owned sha (node_after n b.call b.answer) (made ++ one (join_in b.answer)) bs after c e to f next r.1 a.1 is)
+-- the joins that more calls made
+pub made_by : (cs ds : List Called) → joins_made (cs ++ ds) ≡ joins_made cs ++ joins_made ds
+made_by cs ds = flat_map-append (λ (x : Called). one (join_in x.answer)) cs ds
 
-pub frames_are_of_joins : FramesAreOfJoins
-frames_are_of_joins past before after c e to f told is sends =
-    (any_of_parts (joins_made before) f.sid f.sender).0
-    (frames_owned real (new_node past.keys past.programs past.first) [] before after c e to f refl
-    (subst InRange is (recursion_from_All (λ (x : Called). IsCallInRange x.call) past.calls told.calls))
-    (subst (AreAnswers real (new_node past.keys past.programs past.first)) is told.answers) sends)
+made_with : (cs : List Called) (c : Called) → joins_made (cs ++ c ∷ []) ≡ joins_made cs ++ one (join_in c.answer)
+made_with cs c = made_by cs (c ∷ []) ∙ ap (λ (js : List Join). joins_made cs ++ js) (append-nil (one (join_in c.answer)))
+
+owned_after_all : (sha : Hash) (n : Node) (made : List Join) (cs : List Called) → Owns made n.live → InRange cs → AreAnswers sha n cs → Owns (made ++ joins_made cs) (node_after_all n cs).live
+owned_after_all sha n made [] h r a = subst (λ (js : List Join). Owns js n.live) (sym (append-nil made)) h
+owned_after_all sha n made (c ∷ cs) h r a =
+    let next = subst (λ (x : Answer). Owns (made ++ one (join_in x)) (node_after n c.call x).live) (sym a.0) (owned_on sha n made c.call r.0 h) in
+    subst (λ (js : List Join). Owns js (node_after_all (node_after n c.call c.answer) cs).live) (append_assoc made (one (join_in c.answer)) (joins_made cs))
+    (owned_after_all sha (node_after n c.call c.answer) (made ++ one (join_in c.answer)) cs next r.1 a.1)
+
+-- each live session of a node was joined by its calls
+pub owned_past : (past : Past) → IsTold past → Owns (joins_made past.calls) (node_of past).live
+owned_past past told =
+    owned_after_all real (new_node past.keys past.programs past.first) [] past.calls refl (recursion_from_All (λ (c : Called). IsCallInRange c.call) past.calls told.calls) told.answers
+
+-- ---- the frames of a play
+
+-- each live session was joined by the calls of the play, and so was that of each frame that was sent
+pub record OwnsAll (p : Play) : Type 0 where
+  pub live : Owns (joins_made p.past.calls) (node_of p.past).live
+  pub sent : AreOfJoins (joins_made p.past.calls) (frames_of p.steps)
+
+-- the front of a list for which it holds of each
+all_front : {X : Type 0} (P : X → Type 0) (xs ys : List X) → All P (xs ++ ys) → All P xs
+all_front P [] ys h = All-nil P
+all_front P (x ∷ xs) ys h = All-cons P x xs (All-head P x (xs ++ ys) h) (all_front P xs ys (All-tail P x (xs ++ ys) h))
+
+-- a frame beside an address is so
+abbrev IsOf : List Join → (Addr × List ℕ) → Type 0
+IsOf js x = IsOfJoin js x.1
+
+-- none is not
+pub none_sent : (js : List Join) → AreOfJoins js []
+none_sent js = All-nil (IsOf js)
+
+-- with more joins
+pub of_more : (js ks : List Join) (frames : List (Addr × List ℕ)) → AreOfJoins js frames → AreOfJoins (js ++ ks) frames
+of_more js ks frames h = All-weaker (IsOf js) (IsOf (js ++ ks)) (λ x k. (k.0, k.1, Contains-append_left js ks (k.0.sid, k.0.sender) k.2)) frames h
+
+-- of the first frames
+pub of_front : (js : List Join) (frames others : List (Addr × List ℕ)) → AreOfJoins js (frames ++ others) → AreOfJoins js frames
+of_front js frames others h = all_front (IsOf js) frames others h
+
+pub of_first_steps : (js : List Join) (ss front rest : List Step) → ss ≡ front ++ rest → AreOfJoins js (frames_of ss) → AreOfJoins js (frames_of front)
+of_first_steps js ss front rest e h = of_front js (frames_of front) (frames_of rest) (subst (AreOfJoins js) (ap frames_of e ∙ flat_map-append (λ (s : Step). s.frames) front rest) h)
+
+pub of_step_more : (js : List Join) (ss front rest : List Step) (s : Step) → ss ≡ front ++ s ∷ rest → AreOfJoins js (frames_of ss) → AreOfJoins js (frames_of front ++ s.frames)
+of_step_more js ss front rest s e h =
+    of_front js (frames_of front ++ s.frames) (frames_of rest)
+    (subst (AreOfJoins js) (ap frames_of e ∙ flat_map-append (λ (x : Step). x.frames) front (s ∷ rest) ∙ sym (append_assoc (frames_of front) s.frames (frames_of rest))) h)
+
+-- a call more
+module _ (p : Play) (c : Call) (h : OwnsAll p) where
+  frames_at : (f : Frame) (o : Option Addr) → Contains (joins_made p.past.calls) (f.sid, f.sender) → AreOfJoins (joins_made p.past.calls) (option_map_or (λ at. (at, spelling f) ∷ []) o [])
+  frames_at f None j = none_sent (joins_made p.past.calls)
+  frames_at f (Some at) j = All-cons (IsOf (joins_made p.past.calls)) (at, spelling f) [] (f, refl, j) (none_sent (joins_made p.past.calls))
+
+  frames_by : (a : Answer) → answer_in p c ≡ a → AreOfJoins (joins_made p.past.calls) (frames_in p.past.keys a)
+  frames_by (Sends e to f) is = frames_at f (addr_of p.past.keys to) ((any_of_parts (joins_made p.past.calls) f.sid f.sender).0 (sent_is_owned real (node_of p.past) (joins_made p.past.calls) h.live e to f c is))
+  frames_by (Happened e) is = none_sent (joins_made p.past.calls)
+  frames_by Protocol.Abandoned is = none_sent (joins_made p.past.calls)
+  frames_by (Protocol.NotStarted x) is = none_sent (joins_made p.past.calls)
+  frames_by (NotActed x) is = none_sent (joins_made p.past.calls)
+  frames_by Protocol.NotAbandoned is = none_sent (joins_made p.past.calls)
+  frames_by (Protocol.NotDelivered x) is = none_sent (joins_made p.past.calls)
+
+  -- all frames with those of the call
+  pub sent_more : AreOfJoins (joins_made (called p c).past.calls) (frames_of (called p c).steps)
+  sent_more =
+      subst (λ (js : List Join). AreOfJoins js (frames_of (called p c).steps)) (sym (made_with p.past.calls (record { call = c; answer = answer_in p c })))
+      (of_more (joins_made p.past.calls) (one (join_in (answer_in p c))) (frames_of (called p c).steps)
+      (subst (AreOfJoins (joins_made p.past.calls)) (sym (flat_map-append (λ (s : Step). s.frames) p.steps (step_in p c ∷ [])))
+      (All-append (IsOf (joins_made p.past.calls)) (frames_of p.steps) (frames_of (step_in p c ∷ [])) h.sent
+      (subst (AreOfJoins (joins_made p.past.calls)) (sym (append-nil (frames_in p.past.keys (answer_in p c)))) (frames_by (answer_in p c) refl)))))
+
+  -- after a call that joins nothing, as an act or an abandonment
+  pub owns_on : IsOfTurn c → OwnsAll (called p c)
+  owns_on turn =
+      let made = joins_made p.past.calls in
+      let a = answer_in p c in
+      record {
+        live = subst (λ (m : Node). Owns (joins_made (called p c).past.calls) m.live) (sym (node_more (new_node p.past.keys p.past.programs p.past.first) p.past.calls (record { call = c; answer = a })))
+            (subst (λ (js : List Join). Owns js (node_after (node_of p.past) c a).live) (sym (made_with p.past.calls (record { call = c; answer = a })))
+            (owned_by (node_of p.past) made c a (added_none c a turn ∙ sym (ap one (turns_join_none real (node_of p.past) c turn))) h.live));
+        sent = sent_more;
+      }

@@ -1,10 +1,14 @@
 -- What a play over a ledger has given the outside and what it has kept, where it ended.
-use Rattle.std.specs.Prelude.{◌≡◌, ◌≤◌, ◌+◌, ℕ, List, ◌++◌, length, Result, Ok, Err}
+use Rattle.std.specs.Prelude.{◌≡◌, ◌≤◌, ◌+◌, ℕ, List, ◌++◌, length, Result, Ok, Err, All, Contains}
+use Rattle.sg_base.specs.declared.address.Addr.{Addr}
 use Rattle.sg_ledger.specs.Format.{Join, StandsFor}
 use Rattle.sg_play.specs.Ends.{Begun, Outside, Whole, WholeFront}
 use Rattle.sg_play.specs.Played.{Play}
+use Rattle.sg_play.specs.Steps.{frames_of}
 use Rattle.sg_play.specs.declared.fault.PlayFault.TheVariants.{LinkFailed, WriteFailed, OutOfMemory}
+use Rattle.sg_protocol.specs.Frame.{Frame}
 use Rattle.sg_protocol.specs.Past.{Called}
+use Rattle.sg_protocol.specs.Spelling.{spelling}
 use Rattle.sg_keep.specs.Joins.{joins_made}
 use Rattle.sg_keep.specs.declared.fault.KeepFault.{KeepFault}
 use Rattle.sg_keep.specs.declared.fault.KeepFault.TheVariants.{Played, DiskFailed}
@@ -13,31 +17,40 @@ use Rattle.sg_keep.specs.declared.fault.KeepFault.TheVariants.{Played, DiskFaile
 abbrev pub AllStandFor : (may_leave : List ℕ → Type 0) → List Join → Type 0
 AllStandFor may_leave joins = (image : List ℕ) → may_leave image → StandsFor image joins
 
--- a file stands for the joins that the ledger was opened with, and then those of the first of these calls, at least so many calls
-pub record StandsForFirst (image : List ℕ) (opened : List Join) (calls : List Called) (count : ℕ) : Type 0 where
+-- these bytes are a frame whose session and sender are one of these joins
+abbrev pub IsOfJoin : List Join → (bytes : List ℕ) → Type 0
+IsOfJoin joins bytes = (f : Frame) × (bytes ≡ spelling f) × Contains joins (f.sid, f.sender)
+
+-- so is each of these frames, which stand beside the addresses that they go to
+abbrev pub AreOfJoins : List Join → (frames : List (Addr × List ℕ)) → Type 0
+AreOfJoins joins frames = All (λ x. IsOfJoin joins x.1) frames
+
+-- a file stands for the joins that the ledger was opened with, and then those of the first of these calls: of at least so many calls, and among their joins are the session and the sender of each of these frames
+pub record StandsForFirst (image : List ℕ) (opened : List Join) (calls : List Called) (count : ℕ) (frames : List (Addr × List ℕ)) : Type 0 where
   pub front : List Called
   pub rest : List Called
   pub is : calls ≡ front ++ rest
   pub enough : count ≤ length front
+  pub sent : AreOfJoins (joins_made front) frames
   pub stands : StandsFor image (opened ++ joins_made front)
 
--- each image stands for the joins that the node of the play was made with, and then those of its first calls, at least so many
-abbrev pub KeepsFirst : (may_leave : List ℕ → Type 0) → Play → ℕ → Type 0
-KeepsFirst may_leave p count = (image : List ℕ) → may_leave image → StandsForFirst image p.past.first p.past.calls count
+-- each image stands for the joins that the node of the play was made with, and then those of its first calls: at least so many, and with those of these frames
+abbrev pub KeepsFirst : (may_leave : List ℕ → Type 0) → Play → ℕ → (frames : List (Addr × List ℕ)) → Type 0
+KeepsFirst may_leave p count frames = (image : List ℕ) → may_leave image → StandsForFirst image p.past.first p.past.calls count frames
 
--- the lines of the first steps were written and their frames taken; and the joins of the calls of these steps are kept
+-- the lines of the first steps were written and their frames taken; and the joins of the calls of these steps are kept, and those of these frames
 pub record KeptFront (start now : Outside) (may_leave : List ℕ → Type 0) (p : Play) : Type 0 where
   pub given : WholeFront start now p.steps
-  pub kept : KeepsFirst may_leave p (length given.front)
+  pub kept : KeepsFirst may_leave p (length given.front) (frames_of given.front)
 
--- then the frame of one step more was taken and so many bytes of its line were written; and the joins of the calls of all these steps are kept
+-- then the frame of one step more was taken and so many bytes of its line were written; and the joins of the calls of all these steps are kept, and those of all these frames
 pub record KeptBegun (start now : Outside) (may_leave : List ℕ → Type 0) (p : Play) : Type 0 where
   pub given : Begun start now p.steps
-  pub kept : KeepsFirst may_leave p (length given.front + 1)
+  pub kept : KeepsFirst may_leave p (length given.front + 1) (frames_of given.front ++ (given.step).frames)
 
--- a play ended so. Where the link or the disk failed or memory was wanted, whole steps were given; where a line was not written whole, one step more was begun
+-- a play ended so. Where the link or the disk failed or memory ran out, whole steps were given; where a line was not written whole, one step more was begun
 abbrev pub Kept : (start now : Outside) → (may_leave : List ℕ → Type 0) → Play → Result (Unit {0}) KeepFault → Type 0
-Kept start now may_leave p (Ok u) = Whole start now p.steps × AllStandFor may_leave (p.past.first ++ joins_made p.past.calls)
+Kept start now may_leave p (Ok u) = Whole start now p.steps × AllStandFor may_leave (p.past.first ++ joins_made p.past.calls) × AreOfJoins (joins_made p.past.calls) (frames_of p.steps)
 Kept start now may_leave p (Err (Played LinkFailed)) = KeptFront start now may_leave p
 Kept start now may_leave p (Err (Played WriteFailed)) = KeptBegun start now may_leave p
 Kept start now may_leave p (Err (Played OutOfMemory)) = KeptFront start now may_leave p

@@ -1,17 +1,18 @@
 -- What holds of the joins that are kept, in the subject's words.
-use Rattle.std.specs.Prelude.{◌≡◌, List, ◌∷◌, ◌++◌, Contains}
-use Rattle.sg_model.specs.Names.{Name}
+use Rattle.std.specs.Prelude.{◌≡◌, ℕ, List, ◌++◌, Contains, Ok}
+use Rattle.sg_ledger.specs.Format.{Join, StandsFor}
+use Rattle.sg_model.specs.Bytes.{IsBytes}
 use Rattle.sg_node.specs.Answers.{IsTold}
-use Rattle.sg_protocol.specs.Calls.{Event, Sends}
 use Rattle.sg_protocol.specs.Frame.{Frame}
-use Rattle.sg_protocol.specs.Past.{Called, Past, node_of}
+use Rattle.sg_protocol.specs.Past.{Past, node_of}
+use Rattle.sg_protocol.specs.Reading.{read}
 use Rattle.sg_keep.specs.Joins.{joins_made}
+use Rattle.sg_keep.specs.Kept.{IsOfJoin}
 
 -- The joins of a node are those that it was made with, and then those that its calls made
 abbrev pub JoinsOfNode : Type 0
 JoinsOfNode = (past : Past) → IsTold past → (node_of past).joins ≡ past.first ++ joins_made past.calls
 
--- The session and the sender of each frame that a call sent were joined by the calls before it
-abbrev pub FramesAreOfJoins : Type 0
-FramesAreOfJoins = (past : Past) (before after : List Called) (c : Called) (e : Event) (to : Name) (f : Frame) → IsTold past → past.calls ≡ before ++ c ∷ after → c.answer ≡ Sends e to f
-    → Contains (joins_made before) (f.sid, f.sender)
+-- Where a file stands for joins, and bytes are a frame of one of the later of these, what is read of the bytes has its session and its sender among them
+abbrev pub FramesTellTheirJoins : Type 0
+FramesTellTheirJoins = (file bytes : List ℕ) (opened made : List Join) (f : Frame) → StandsFor file (opened ++ made) → IsOfJoin made bytes → IsBytes bytes → read bytes ≡ Ok f → Contains made (f.sid, f.sender)

@@ -4,6 +4,7 @@ use Rattle.sg_node.specs.Answers.{IsTold}
 use Rattle.sg_play.specs.Ends.{Outside, Whole}
 use Rattle.sg_play.specs.Played.{Play}
 use Rattle.sg_play.specs.Standing.{HasAsked, StandsForPlay}
+use Rattle.sg_play.specs.Steps.{frames_of}
 use Rattle.sg_protocol.specs.Acting.{answer}
 use Rattle.sg_protocol.specs.Calls.{Call}
 use Rattle.sg_protocol.specs.Graph.{Graph}
@@ -12,7 +13,8 @@ use Rattle.sg_protocol.specs.Past.{Past, node_of, past_after}
 use Rattle.sg_protocol.specs.Ranges.{IsCallInRange}
 use Rattle.sg_protocol.specs.Texts.{real}
 use Rattle.sg_report.specs.Told.{Told, told_answer, sid_left}
-use Rattle.sg_keep.specs.Kept.{AllStandFor, Kept}
+use Rattle.sg_keep.specs.Joins.{joins_made}
+use Rattle.sg_keep.specs.Kept.{AllStandFor, AreOfJoins, Kept}
 use Rattle.sg_keep.specs.declared.fault.KeepFault.{KeepFault}
 use Rattle.sg_keep.specs.declared.keeper.Keeper.{Keeper}
 
@@ -36,10 +38,11 @@ pub record HasAskedNode (k : Keeper) (may_leave : List ℕ → Type 0) (told : O
   pub ledger : k.ledger ≡ record { joins = (node_of past).joins; failed = false }
   pub images : AllStandFor may_leave (node_of past).joins
 
--- the player stands for the play, which has as many steps as calls
+-- the player stands for the play, which has as many steps as calls, and whose frames are of the joins that the calls made
 pub record StandsForKept (k : Keeper) (p : Play) : Type 0 where
   pub player : StandsForPlay k.player p
   pub in_step : length p.steps ≡ length p.past.calls
+  pub sent : AreOfJoins (joins_made p.past.calls) (frames_of p.steps)
 
 -- the player has asked a call that leaves no session, and this came of it, which is not told yet
 pub record IsAsked (k : Keeper) (p : Play) (c : Call) (told : Option Told) (graph : Option Graph) : Type 0 where
@@ -47,6 +50,7 @@ pub record IsAsked (k : Keeper) (p : Play) (c : Call) (told : Option Told) (grap
   pub stays : None ≡ sid_left c
   pub told_before : IsTold p.past
   pub in_step : length p.steps ≡ length p.past.calls
+  pub sent : AreOfJoins (joins_made p.past.calls) (frames_of p.steps)
   pub ledger : k.ledger.joins ≡ (node_of p.past).joins
 
 -- a play came to this one, all that it gave the outside since the start being whole, and the words that are left are the source's; or it ended early on the way

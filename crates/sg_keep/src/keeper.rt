@@ -18,7 +18,7 @@ use sg_report::{Outcome, sid_told};
 
 /// One principal who plays a script, and the ledger of its joins.
 #[derive(Drop)]
-pub struct Keeper<'p> {
+pub(crate) struct Keeper<'p> {
     pub(crate) player: Player<'p>,
     pub(crate) ledger: Ledger,
 }

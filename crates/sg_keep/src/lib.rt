@@ -5,8 +5,10 @@
 //! is given to the link. Where a ledger can't take a pair, the play ends there. That the pair is in the ledger already, or that the ledger
 //! is full, never happens, since the ledger has the joins of the node before each call.
 //!
-//! After a crash at any moment the ledger opens with the joins that it had, and then those of the first calls of the play
-//! (`specs/Kept.antt`): with those of each call whose line was begun, and so with the pair of each frame that the link took.
+//! On each return each image of the disk, which is what a crash may leave of it, stands for the joins that the ledger was opened with, and
+//! then those of the first calls of the play (`specs/Kept.antt`): with those of each call whose line was begun, and with the session and
+//! the sender of each frame that the link took. Within the play only `Ledger::add` changes the disk, and says of each moment what the
+//! images stand for: the joins from before, or these with the new one (`sg_ledger`).
 #![tactic(auto)]
 
 mod fault;
@@ -16,6 +18,5 @@ mod laws;
 mod run;
 
 pub use fault::KeepFault;
-pub use keeper::Keeper;
-pub use laws::frames_are_of_kept_joins;
+pub use laws::{frames_tell_their_joins, joins_of_a_node};
 pub use run::keep;

@@ -7,7 +7,8 @@ ghost use Rattle.sg_keep.specs.Faults.{TellsFaults};
 ghost use Rattle.sg_keep.specs.Kept.{AllStandFor, Kept};
 ghost use Rattle.sg_keep.specs.Standing.{CameTo, HoldsJoins, StandsForKept};
 
-use crate::{KeepFault, Keeper};
+use crate::KeepFault;
+use crate::keeper::Keeper;
 use sg_base::{Fresh, Link, LinkFault, Sink};
 use sg_keys::Keyring;
 use sg_ledger::{Disk, Ledger};
@@ -155,7 +156,8 @@ pub fn keep<'p, L: Link, R: Fresh, O: Sink, D: Disk>(
         (record { link = L.faults link.new; out = O.faults out.new; disk = D.faults disk.new }) result }
 
     // Where the link tells its deliveries and the source its words: what was written and sent is what the play says, up to where it ended,
-    // and what a crash leaves of the disk is the ledger with the joins of the play up to there.
+    // and what a crash leaves of the disk is the ledger with the joins of the play up to there, and so with the session and the sender of
+    // each frame that was sent.
     ensures kept { (deliveries words : List (List ℕ)) → L.deliveries link.old ≡ Some deliveries → R.words fresh.old ≡ Some words
         → Kept (record { written = O.written out.old; sent = L.sent link.old }) (record { written = O.written out.new; sent = L.sent link.new }) (D.may_leave disk.new)
         (played keys.now programs.now ledger.joins script (take most deliveries) words) result }
