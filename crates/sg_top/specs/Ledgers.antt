@@ -20,17 +20,25 @@ pub record Disked : Type 1 where
   pub may_leave : List ℕ → Type 0
   pub faults : ℕ
 
+-- the file is as it was, and a crash leaves nothing else than before
+abbrev pub IsLeft : (disk disk' : Disked) → Type 0
+IsLeft disk disk' = (disk'.seen ≡ disk.seen) × Keeps disk.may_leave disk'.may_leave
+
+-- nothing was asked of the disk: a crash leaves all that it left before too, and the count is the same
+abbrev pub IsNotAsked : (disk disk' : Disked) → Type 0
+IsNotAsked disk disk' = IsLeft disk disk' × Keeps disk'.may_leave disk.may_leave × (disk'.faults ≡ disk.faults)
+
 -- ---- a ledger is made
 
 -- the file had no bytes, and each image stands for no joins
 abbrev pub IsMade : (disk disk' : Disked) → Type 0
 IsMade disk disk' = WhereTold disk.seen (λ file. file ≡ []) × AllStandFor disk'.may_leave []
 
--- none is made: the file has bytes already, or the disk failed, which its count shows, or memory was wanted
+-- none is made: the file has bytes already, or the disk failed, which its count shows, or memory was wanted; a file that has bytes is left
 abbrev pub LacksRoom : (disk disk' : Disked) → Ending → Type 0
-LacksRoom disk disk' LedgerNotEmpty = WhereTold disk.seen (λ file. file ≢ [])
-LacksRoom disk disk' DiskFailed = HasRisen disk.faults disk'.faults
-LacksRoom disk disk' NoMemory = ⊤
+LacksRoom disk disk' LedgerNotEmpty = WhereTold disk.seen (λ file. file ≢ []) × IsLeft disk disk'
+LacksRoom disk disk' DiskFailed = HasRisen disk.faults disk'.faults × WhereTold disk.seen (λ file. file ≢ [] → IsLeft disk disk')
+LacksRoom disk disk' NoMemory = IsLeft disk disk'
 LacksRoom disk disk' ending = ⊥
 
 -- the making of a ledger ends so: it is made, and then this is written; or it isn't, and nothing is written
@@ -40,10 +48,6 @@ Makes old new disk disk' ending =
     ⊎ ((new.bytes ≡ old.bytes) × LacksRoom disk disk' ending)
 
 -- ---- a ledger is opened
-
--- the file is as it was, and a crash leaves nothing else than before
-abbrev pub IsLeft : (disk disk' : Disked) → Type 0
-IsLeft disk disk' = (disk'.seen ≡ disk.seen) × Keeps disk.may_leave disk'.may_leave
 
 -- no ledger is opened: the file is none, or this is its first bad slot, or the disk failed, which its count shows, or memory was wanted
 abbrev pub LacksLedger : (disk disk' : Disked) → Ending → Type 0
@@ -89,11 +93,11 @@ KeepsSetup s most old new disk disk' ending =
     ((opened : List Join) × (result : Result (Unit {0}) KeepFault) × WhereTold disk.seen (λ file. StandsFor file opened) × EndsOver opened s most old new disk disk' result × (ending ≡ ending_of_play result))
     ⊎ (IsUntouched old new × IsLeft disk disk' × LacksLedger disk disk' ending)
 
--- a run over a ledger ends so: the files hold a setup, which is played over the ledger, if there is one; or they hold none, and nothing is touched
+-- a run over a ledger ends so: the files hold a setup, which is played over the ledger, if there is one; or they hold none, and nothing is touched, nor the disk asked
 abbrev pub KeepsRun : Named → (most : ℕ) → Told → (faults faults' : ℕ) → (old new : Outside) → (disk disk' : Disked) → Ending → Type 0
 KeepsRun named most told faults faults' old new disk disk' ending =
     ((s : Setup) × HasSetup told named s × KeepsSetup s most old new disk disk' ending)
-    ⊎ (IsUntouched old new × IsLeft disk disk' × LacksSetup told faults faults' named ending)
+    ⊎ (IsUntouched old new × IsNotAsked disk disk' × LacksSetup told faults faults' named ending)
 
 -- with these endings a run over a ledger may have played
 abbrev pub CanHaveKept : Ending → Type 0
