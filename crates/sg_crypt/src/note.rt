@@ -87,9 +87,9 @@ pub struct Counts {
 /// Three lists: the texts that were tagged, those whose tag was found right, and those that were hashed.
 #[derive(Debug, Drop)]
 pub struct Notes {
-    made: Seq<Note>,
-    found: Seq<Note>,
-    hashed: Seq<Hashed>,
+    made: Vec<Note>,
+    found: Vec<Note>,
+    hashed: Vec<Hashed>,
 }
 
 impl Model for Notes {
@@ -97,7 +97,7 @@ impl Model for Notes {
 
     ghost Value = { Notes };
 
-    ghost view = { λ n. record { made = n.made; found = n.found; hashed = n.hashed } };
+    ghost view = { λ n. record { made = n.made.items; found = n.found.items; hashed = n.hashed.items } };
 }
 
 impl Notes {
@@ -106,9 +106,9 @@ impl Notes {
         ensures { result ≡ no_notes }
     {
         Notes {
-            made: Seq::new(alloc),
-            found: Seq::new(alloc),
-            hashed: Seq::new(alloc),
+            made: Vec::new(alloc),
+            found: Vec::new(alloc),
+            hashed: Vec::new(alloc),
         }
     }
 
@@ -126,8 +126,7 @@ impl Notes {
         ensures ok { OnOk result (self.new ≡ record self.old { made = self.old.made ++ note ∷ [] }) }
         ensures err { OnErr result (self.new ≡ self.old) }
     {
-        self.made.push(note)?;
-        Ok(())
+        put(&mut self.made, note)
     }
 
     /// Appends a text whose tag was found right. For want of memory the lists stay as they were.
@@ -135,8 +134,7 @@ impl Notes {
         ensures ok { OnOk result (self.new ≡ record self.old { found = self.old.found ++ note ∷ [] }) }
         ensures err { OnErr result (self.new ≡ self.old) }
     {
-        self.found.push(note)?;
-        Ok(())
+        put(&mut self.found, note)
     }
 
     /// Appends a text that was hashed. For want of memory the lists stay as they were.
@@ -144,8 +142,7 @@ impl Notes {
         ensures ok { OnOk result (self.new ≡ record self.old { hashed = self.old.hashed ++ text ∷ [] }) }
         ensures err { OnErr result (self.new ≡ self.old) }
     {
-        self.hashed.push(text)?;
-        Ok(())
+        put(&mut self.hashed, text)
     }
 
     /// The texts that were tagged, in order.
@@ -192,4 +189,16 @@ impl Notes {
         self.found.truncate(counts.found);
         self.hashed.truncate(counts.hashed);
     }
+}
+
+// Appends an element. The first takes room for itself alone: most lists of a step have one, and a run keeps the lists of each of its steps.
+fn put<T: Drop>(list: &mut Vec<T>, value: T) -> Result<(), OutOfMemory>
+    ensures ok { OnOk result (list.new.items ≡ list.old.items ++ value ∷ []) }
+    ensures err { OnErr result (list.new.items ≡ list.old.items) }
+{
+    if list.is_empty() {
+        list.reserve_exact(1)?;
+    }
+    list.push(value)?;
+    Ok(())
 }

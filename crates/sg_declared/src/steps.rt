@@ -4,7 +4,7 @@ ghost use Rattle.sg_sched.specs.Format.Crafts.{source_of};
 ghost use Rattle.sg_sched.specs.Format.StepsHeld.{step_of, what_of};
 
 use sg_base::{Name, OutOfMemory, Role, Seq, Value, Var, copy_openings};
-use sg_sched::{Craft, CraftItem, CraftJoin, Source, Step, What};
+use sg_sched::{Craft, CraftItem, CraftJoin, HeldCraft, Source, Step, What};
 use std::alloc::Global;
 
 /// An equal step.
@@ -35,7 +35,7 @@ pub fn copy_step(alloc: Global, step: &Step) -> Result<Step, OutOfMemory>
             who: *who,
             what: copy_what(alloc, what)?,
         }),
-        Step::Craft(craft) => Ok(Step::Craft(copy_craft(alloc, craft)?)),
+        Step::Craft(craft) => Ok(Step::Craft(copy_held(alloc, craft)?)),
     }
 }
 
@@ -67,6 +67,12 @@ fn copy_bytes(alloc: Global, bytes: &[u8]) -> Result<Vec<u8>, OutOfMemory>
     let mut copy = Vec::new(alloc);
     copy.extend_from_slice(bytes)?;
     Ok(copy)
+}
+
+fn copy_held(alloc: Global, craft: &HeldCraft) -> Result<HeldCraft, OutOfMemory>
+    ensures { IfOk result (λ c. c ≡ craft.now) }
+{
+    HeldCraft::new(alloc, copy_craft(alloc, craft.get())?)
 }
 
 fn copy_craft(alloc: Global, craft: &Craft) -> Result<Craft, OutOfMemory>

@@ -17,7 +17,7 @@ use crate::stop::Stop;
 use sg_base::{Opening, OutOfMemory, Role, Seq};
 use sg_graph::Graph;
 use sg_sched::line::CraftLine;
-use sg_sched::{Craft, CraftItem, Kind, Step};
+use sg_sched::{Craft, CraftItem, HeldCraft, Kind, Step};
 use std::marker::Model;
 
 // The lists of a craft.
@@ -79,16 +79,20 @@ impl Past {
         let Some(seal) = source(self, graph, &craft.seal) else {
             return Ok(None);
         };
-        Ok(Some(Step::Craft(Craft {
-            session: ends.0,
-            from: ends.1,
-            to: ends.2,
-            join: craft.join,
-            know: lists.know,
-            items: lists.items,
-            openings: lists.openings,
-            seal,
-        })))
+        let held = HeldCraft::new(
+            self.alloc,
+            Craft {
+                session: ends.0,
+                from: ends.1,
+                to: ends.2,
+                join: craft.join,
+                know: lists.know,
+                items: lists.items,
+                openings: lists.openings,
+                seal,
+            },
+        )?;
+        Ok(Some(Step::Craft(held)))
     }
 
     // The session and the roles, if they are declared.

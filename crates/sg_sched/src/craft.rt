@@ -1,5 +1,8 @@
 //! Frames that a compromised principal makes.
-use sg_base::{Label, Name, Opening, Role, Seq, Time};
+ghost use Rattle.std.specs.Prelude.{◌≡◌, IfOk};
+
+use sg_base::{Label, Name, Opening, OutOfMemory, Role, Seq, Time};
+use std::alloc::Global;
 use std::marker::Model;
 
 /// A frame to be made, in the words of its line. Commitments are held as the openings that they are made of.
@@ -40,6 +43,38 @@ impl Model for Craft {
       openings = c.openings;
       seal = source_of c.seal;
     } };
+}
+
+/// A craft on the heap: it is by far the largest of the steps, and there are few. A clause sees it as the craft.
+#[derive(Debug, Drop)]
+pub struct HeldCraft {
+    craft: Box<Craft>,
+}
+
+impl Model for HeldCraft {
+    ghost use Rattle.sg_protocol.specs.Schedule.{Craft};
+
+    ghost Value = { Craft };
+
+    ghost view = { λ h. h.craft.value };
+}
+
+impl HeldCraft {
+    /// The craft, on the heap.
+    pub fn new(alloc: Global, craft: Craft) -> Result<HeldCraft, OutOfMemory>
+        ensures { IfOk result (λ h. h ≡ craft) }
+    {
+        Ok(HeldCraft {
+            craft: Box::new(alloc, craft)?,
+        })
+    }
+
+    /// The craft. It takes no memory.
+    pub fn get(&self) -> &Craft
+        ensures { result.now ≡ self.now }
+    {
+        self.craft.as_ref()
+    }
 }
 
 /// Another nonce or other names for the cast of a crafted frame that joins.

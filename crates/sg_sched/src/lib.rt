@@ -42,7 +42,7 @@ pub mod value;
 pub mod word;
 
 pub use act::{read_given, split_at};
-pub use craft::{Craft, CraftItem, CraftJoin, Source};
+pub use craft::{Craft, CraftItem, CraftJoin, HeldCraft, Source};
 pub use fault::{Kind, LineFault};
 pub use key::PairKey;
 pub use line::Given;

@@ -1,5 +1,5 @@
 //! Steps of a schedule.
-use crate::craft::Craft;
+use crate::craft::HeldCraft;
 use sg_base::{Label, Name, Seq, Value, Var};
 
 /// A step. A session is its place in the list of those declared, from 0.
@@ -38,7 +38,7 @@ pub enum Step {
         what: What,
     },
     /// A frame is made and recorded.
-    Craft(Craft),
+    Craft(HeldCraft),
 }
 
 /// What is delivered.

@@ -128,7 +128,7 @@ fn act<'p>(
             Ok(Came {
                 outcome: Outcome::Sent { event, to, frame },
                 graph,
-                frame: Some(Seq::from_vec(bytes)),
+                frame: Some(Seq::from_vec(tight(bytes))),
                 notes,
             })
         }
@@ -140,6 +140,14 @@ fn act<'p>(
             Ok(came(Outcome::NotActed(fault), graph, notes))
         }
     }
+}
+
+// The bytes without the room behind them, since the record keeps them.
+fn tight(mut bytes: Vec<u8>) -> Vec<u8>
+    ensures { result.items ≡ bytes.items }
+{
+    bytes.shrink_to_fit();
+    bytes
 }
 
 // Memory ran out.

@@ -30,7 +30,7 @@ pub(crate) fn craft<'p>(
     let Step::Craft(wanted) = step else {
         unreachable!();
     };
-    craft_frame(alloc, setting, recorded, wanted)
+    craft_frame(alloc, setting, recorded, wanted.get())
 }
 
 // Makes the frame of a craft.

@@ -132,8 +132,8 @@ fn is_step(number: usize, step: &Step) -> bool {
                 ..
             },
         ) => bytes.as_slice() == [0, 255].as_slice(),
-        (8, Step::Craft(craft)) => is_first_craft(craft),
-        (9, Step::Craft(craft)) => is_second_craft(craft),
+        (8, Step::Craft(craft)) => is_first_craft(craft.get()),
+        (9, Step::Craft(craft)) => is_second_craft(craft.get()),
         _ => false,
     }
 }

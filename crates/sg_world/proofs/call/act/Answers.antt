@@ -23,7 +23,7 @@ pub returns-in-Ok-clause-comes : goal.returns-in-Ok-clause-comes
 returns-in-Ok-clause-comes c = λ past stands.
     let h = c.in-Ok.ensures.answer past stands in
     comes_sent c.args.frame c.args.node.now c.act.new.self past c.args.sid c.args.label (values_of c.args.values.now) c.args.confounders.now (event_of c.in-Ok.event) c.release-to.result.0 c.from_vec.result (option_copied c.graph_of-graph.result) c.act.new.notes _ refl
-    h.0 (h.1 ∙ ap (λ t. Protocol.Sends (event_of c.in-Ok.event) t h.0) (sym c.release-to.ensures.to)) (c.from_vec.ensures ∙ c.release-to.ensures.bytes ∙ h.2)
+    h.0 (h.1 ∙ ap (λ t. Protocol.Sends (event_of c.in-Ok.event) t h.0) (sym c.release-to.ensures.to)) (c.from_vec.ensures ∙ c.tight.ensures ∙ c.release-to.ensures.bytes ∙ h.2)
     (record { each = c.requires.values; count = c.requires.count ∙ sym (length-map c.args.values.now (λ (w : ℕ × Held). (w.0, value_of w.1))); bytes = c.requires.bytes })
     (c.graph_of-graph.ensures past stands)
     (noted_first c.act.new.notes c.new-notes.result (noted_of real (node_of past) (Act c.args.sid c.args.label (values_of c.args.values.now) c.args.confounders.now)) c.new-notes.ensures (c.in-Ok.ensures.notes past stands (λ e. cc)))

@@ -44,7 +44,8 @@ returns c =
     let ends : ℕ × (ℕ × ℕ) = (c.in-Some.ends.0, (c.in-Some.ends.1, c.in-Some.ends.2)) in
     let lists : Lists = c.in-Some-2.lists in
     let seal = source_of c.in-Some-source.seal in
-    (λ i. Some (CraftStep (record {
+    ap (λ k. Some (CraftStep k)) c.in_ok-held.ensures
+    ∙ (λ i. Some (CraftStep (record {
       session = c.in-Some.ends.0;
       from = c.in-Some.ends.1;
       to = c.in-Some.ends.2;
