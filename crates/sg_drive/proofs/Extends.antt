@@ -57,10 +57,6 @@ pub stopped_more : (r r2 : Replay) (e : GenerateFault) → Extends r r2 → IsSt
 stopped_more r r2 (RecordFull bytes) x f = full_more r r2 bytes x f
 stopped_more r r2 OutOfMemory x f = tt
 
--- memory stops any run
-pub stopped_memory : (r : Replay) (e : GenerateFault) → e ≡ GenerateFault.OutOfMemory → IsStopped r e
-stopped_memory r e q = subst (IsStopped r) (sym q) tt
-
 -- an answer that is this fault
 pub err_is : {V E : Type 0} (r : Result V E) (e : E) (P : E → Type 0) → r ≡ Err e → P e → IfErr r P
 err_is r e P q h = subst (λ z. IfErr z P) (sym q) h

@@ -1,5 +1,5 @@
 -- What a generated run declares is a schedule, and its steps can be taken.
-use Rattle.std.proofs.Common.{◌≡◌, ℕ, zero, suc, ◌+◌, ◌-◌, ◌<◌, ◌≤◌, true, inl, List, [], ◌∷◌, ◌++◌, map, flat_map, length, replicate, add-one, append_assoc, append-nil, refl, sym, ap, ◌∙◌, arith}
+use Rattle.std.proofs.Common.{◌≡◌, ℕ, zero, suc, ◌+◌, ◌-◌, ◌<◌, ◌≤◌, inl, List, [], ◌∷◌, ◌++◌, map, flat_map, length, replicate, add-one, append_assoc, append-nil, refl, sym, ap, ◌∙◌, arith}
 use Rattle.std.specs.List.{AllByRecursion, list_all}
 use Rattle.std.proofs.lemmas.Bool.{and_from}
 use Rattle.std.proofs.lemmas.List.{length-map, map-append}
@@ -7,7 +7,7 @@ use Rattle.std.proofs.lemmas.List.Elements.{All-from_recursion, Contains-get_or}
 use Rattle.std.proofs.lemmas.Grind.{flat_map-append}
 use Rattle.sg_model.proofs.Numbers.{length-range_from, range_from-suc}
 use Rattle.sg_model.specs.Bytes.{AreBytes}
-use Rattle.sg_model.specs.Lists.{all_differ, below, has_text, range_from}
+use Rattle.sg_model.specs.Lists.{all_differ, below, range_from}
 use Rattle.sg_model.specs.Names.{is_name}
 use Rattle.sg_protocol.proofs.Spelled.{bytes-append, bytes-zeros, to_bytes, u64_bytes}
 use Rattle.sg_protocol.specs.Crafted.{nonce_of}
@@ -18,7 +18,7 @@ use Rattle.sg_protocol.specs.Spelling.{u64}
 use Rattle.sg_protocol.specs.Texts.{real}
 use Rattle.sg_world.specs.Replay.{without_steps}
 use Rattle.sg_drive.specs.Setup.{key_of, keys_with_later, numbered_session, player, players, setup}
-use Rattle.sg_drive.proofs.Players.{keys_apart, keys_are_keys, length-players, player_there, players_differ, players_named}
+use Rattle.sg_drive.proofs.Players.{keys_apart, keys_are_keys, length-players, players_differ, players_named}
 
 nonce_has : (n : ℕ) → AreBytes 16 (nonce_of n)
 nonce_has n = (refl, to_bytes (nonce_of n) (bytes-append (replicate 8 0) (u64 n) (bytes-zeros 8) (u64_bytes n)))
@@ -61,10 +61,6 @@ pub session_there : (s : Schedule) (sessions n : ℕ) (g : Graph) → without_st
 session_there s sessions n g e h =
     let many : length s.sessions ≡ sessions = ap (λ (z : Schedule). length z.sessions) e ∙ length-sessions sessions g in
     omega (arith, many, h)
-
--- the principal of a role is honest
-pub player_honest : (s : Schedule) (sessions r : ℕ) (g : Graph) → without_steps s ≡ setup sessions g → length g.roles ≤ 16 → r < length g.roles → has_text (player r) s.honest ≡ true
-player_honest s sessions r g e few h = ap (λ (z : Schedule). has_text (player r) z.honest) e ∙ player_there r (length g.roles) h (omega arith)
 
 -- ---- one more of each
 

@@ -1,8 +1,8 @@
 -- What the calls of a reader add up to.
-use Rattle.std.proofs.Common.{◌≡◌, ℕ, suc, List, [], ◌∷◌, ◌++◌, All, arith, refl, sym, ap, ◌∙◌}
-use Rattle.std.proofs.lemmas.List.{append_assoc, append-nil, append_cancel_left}
+use Rattle.std.proofs.Common.{◌≡◌, ℕ, suc, List, [], ◌∷◌, ◌++◌, All, arith, refl, sym, ◌∙◌}
+use Rattle.std.proofs.lemmas.List.{append_assoc, append-nil}
 use Rattle.std.proofs.lemmas.List.Elements.{All-cons}
-use Rattle.sg_stream.specs.Framed.{IsFrame, message, messages, BeginsMessage, Framed}
+use Rattle.sg_stream.specs.Framed.{IsFrame, message, messages, BeginsMessage}
 use Rattle.sg_stream.specs.Calls.{ReaderCall, Fed, Gave, MayHappen, fed, given}
 use Rattle.sg_stream.proofs.Messages.{one_message}
 

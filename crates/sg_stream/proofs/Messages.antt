@@ -1,8 +1,8 @@
 -- Where a list of bytes begins with a message.
-use Rattle.std.proofs.Common.{◌≡◌, ◌⊎◌, ℕ, ◌+◌, ◌<◌, ◌≤◌, ◌^◌, List, [], ◌∷◌, ◌++◌, length, take, drop, refl, sym, ap, ◌∙◌, inl, inr, lit<, arith}
+use Rattle.std.proofs.Common.{◌≡◌, ℕ, ◌+◌, ◌<◌, ◌≤◌, ◌^◌, List, [], ◌++◌, length, take, drop, refl, sym, ap, ◌∙◌, inl, inr, arith}
 use Rattle.std.specs.Int.{w32, to_be_bytes, from_be_bytes}
 use Rattle.std.proofs.lemmas.Nat.{from_be_bytes-to_be_bytes_4}
-use Rattle.std.proofs.lemmas.List.{append_assoc, append_cancel_left, take-append-drop, length-take-le, length-drop, length-append, take-append-le, take_at, drop_at, drop-drop}
+use Rattle.std.proofs.lemmas.List.{take-append-drop, length-take-le, length-drop, length-append, take-append-le, take_at, drop_at, drop-drop}
 use Rattle.sg_stream.specs.Framed.{IsFrame, message, BeginsMessage, BeginsBad}
 
 -- the four bytes before a frame spell its length

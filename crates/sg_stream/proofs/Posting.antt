@@ -1,5 +1,5 @@
 -- A connection that was made, was given bytes and was closed.
-use Rattle.std.proofs.Common.{◌≡◌, ◌⊎◌, ℕ, suc, ◌+◌, ◌<◌, ◌≤◌, ◌==◌, Bool, true, false, not, List, [], ◌∷◌, ◌++◌, length, map, take, drop, filter, reverse, Option, Some, None, Result, Ok, Err, OnOk, OnErr, refl, sym, ap, ◌∙◌, inl, inr, arith, eq-eqb}
+use Rattle.std.proofs.Common.{◌≡◌, ℕ, ◌+◌, ◌<◌, ◌==◌, true, false, not, List, [], ◌∷◌, ◌++◌, length, map, take, drop, filter, reverse, Option, Some, None, Result, Ok, Err, OnOk, OnErr, refl, sym, ap, ◌∙◌, arith, eq-eqb}
 use Rattle.std.specs.Option.{option_map}
 use Rattle.std.specs.List.{flat_map, list_any}
 use Rattle.std.proofs.lemmas.Grind.{flat_map-append}
@@ -11,7 +11,7 @@ use Rattle.sg_base.specs.declared.address.Addr.{Addr}
 use Rattle.sg_stream.specs.Framed.{IsFrame, message}
 use Rattle.sg_stream.specs.Traffic.{Writer, Traffic, given_to, after_connect, after_give, after_close, WhereTold}
 use Rattle.sg_stream.specs.Frames.{frames_of}
-use Rattle.sg_stream.specs.Link.{Unread, to_come, gone_out, sent_of, GivenFront, WroteTold, WroteFront}
+use Rattle.sg_stream.specs.Link.{Unread, to_come, gone_out, sent_of, GivenFront, WroteTold}
 use Rattle.sg_stream.proofs.FramesOf.{frames-message, frames-none, frames-nil}
 use Rattle.sg_stream.proofs.Messages.{one_message}
 use Rattle.sg_stream.proofs.Giving.{traffic-more}

@@ -1,5 +1,5 @@
 -- Pieces that were taken, and connections that were closed.
-use Rattle.std.proofs.Common.{◌≡◌, ℕ, ◌+◌, ◌≤◌, ◌==◌, Bool, true, false, if◌then◌else◌, List, [], ◌∷◌, length, drop, Option, Some, None, refl, sym, ap, ◌∙◌, arith}
+use Rattle.std.proofs.Common.{◌≡◌, ℕ, ◌+◌, ◌≤◌, ◌==◌, true, false, if◌then◌else◌, List, [], ◌∷◌, length, drop, Option, ap, arith}
 use Rattle.std.specs.Option.{option_map}
 use Rattle.sg_stream.specs.Traffic.{Traffic, without, after_take, after_close, WhereTold}
 use Rattle.sg_stream.specs.Link.{TakenOff}

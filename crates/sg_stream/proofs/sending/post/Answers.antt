@@ -1,10 +1,9 @@
 use Rattle.std.proofs.Common.{◌≡◌, take, ap, ◌∙◌, inr}
 use Rattle.std.specs.Option.{option_map}
 use Rattle.std.proofs.lemmas.Result.{on_ok_weaker, on_err_weaker}
-use Rattle.sg_base.specs.Outside.{Appends}
 use Rattle.sg_stream.specs.Framed.{message}
 use Rattle.sg_stream.specs.Traffic.{after_give, after_close}
-use Rattle.sg_stream.specs.Link.{to_come, sent_of, WroteTold, WroteFront}
+use Rattle.sg_stream.specs.Link.{to_come, sent_of}
 use Rattle.sg_stream.proofs.Posting.{ended, ended-wrote, ended-come, ended-sent, ended-kept, some_bytes}
 use Rattle.sg_stream.proofs.sending.post.Goals as goal
 

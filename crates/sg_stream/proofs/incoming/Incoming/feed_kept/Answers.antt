@@ -1,7 +1,7 @@
-use Rattle.std.proofs.Common.{◌≡◌, ◌≢◌, ℕ, ◌<◌, ◌^◌, ◌==◌, false, [], List, ◌∷◌, ◌++◌, length, get_or, set, refl, sym, ap, ◌∙◌, arith, inl, inr}
+use Rattle.std.proofs.Common.{◌≡◌, ◌≢◌, ℕ, ◌<◌, ◌==◌, false, [], ◌++◌, length, get_or, set, sym, ap, ◌∙◌, arith, inl, inr}
 use Rattle.std.proofs.lemmas.Bool.Decides.{eqb_tells}
 use Rattle.std.proofs.lemmas.List.{length-set, get_or_default, get_or-set_same}
-use Rattle.sg_stream.specs.Link.{IsPart, kept_piece}
+use Rattle.sg_stream.specs.Link.{IsPart}
 use Rattle.sg_stream.proofs.Steps.{others_same, piece_fed, kept_some}
 use Rattle.sg_stream.proofs.incoming.Incoming.feed_kept.Goals as goal
 

@@ -1,4 +1,4 @@
-use Rattle.std.proofs.Common.{◌≡◌, ℕ, List, [], length, refl, arith}
+use Rattle.std.proofs.Common.{ℕ, List, [], arith}
 use Rattle.std.proofs.lemmas.List.{length-replicate}
 use Rattle.sg_stream.proofs.Steps.{none_part, empty_there}
 use Rattle.sg_stream.proofs.incoming.Incoming.new.Goals as goal

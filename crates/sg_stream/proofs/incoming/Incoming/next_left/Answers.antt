@@ -1,7 +1,7 @@
-use Rattle.std.proofs.Common.{◌≡◌, ℕ, ◌<◌, ◌^◌, [], List, ◌++◌, length, get_or, set, Ok, Err, refl, sym, ap, ◌∙◌, arith}
+use Rattle.std.proofs.Common.{◌≡◌, ◌<◌, [], length, Ok, Err, sym, ap, ◌∙◌, arith}
 use Rattle.std.proofs.lemmas.List.{length-set, set-set, get_or_default}
 use Rattle.sg_stream.specs.Framed.{BeginsBad}
-use Rattle.sg_stream.specs.Link.{IsPart, IsIdle, kept_piece}
+use Rattle.sg_stream.specs.Link.{IsPart, kept_piece}
 use Rattle.sg_stream.proofs.Steps.{none_part, others_same, all_parts, frame_taken, bad_closed, no_kept}
 use Rattle.sg_stream.proofs.incoming.Incoming.next_left.Goals as goal
 

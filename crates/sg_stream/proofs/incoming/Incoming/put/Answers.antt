@@ -1,6 +1,5 @@
-use Rattle.std.proofs.Common.{◌≡◌, ℕ, ◌<◌, ◌^◌, ◌==◌, true, [], List, length, sym, ap, ◌∙◌, arith}
+use Rattle.std.proofs.Common.{◌≡◌, ◌<◌, true, [], length, sym, ◌∙◌, arith}
 use Rattle.std.proofs.lemmas.List.{length-set}
-use Rattle.sg_stream.specs.Link.{IsPart, kept_piece}
 use Rattle.sg_stream.proofs.Bringing.{nil_there}
 use Rattle.sg_stream.proofs.Steps.{none_part, all_parts, end_taken}
 use Rattle.sg_stream.proofs.incoming.Incoming.put.Goals as goal

@@ -1,4 +1,4 @@
-use Rattle.std.proofs.Common.{◌≡◌, refl, sym, ◌∙◌}
+use Rattle.std.proofs.Common.{◌∙◌}
 use Rattle.sg_stream.proofs.Steps.{none_to_come}
 use Rattle.sg_stream.proofs.link.StreamLinkLink.recv.Goals as goal
 
