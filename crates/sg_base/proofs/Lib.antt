@@ -1,5 +1,6 @@
 mod Lookup
-mod Pieces
+mod NameText
+pub mod Pieces
 pub mod SameName
 mod Seeded
 pub mod SetLaws

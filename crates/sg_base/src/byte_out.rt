@@ -1,11 +1,12 @@
-//! Fields written to a growing list of bytes: numbers with the high byte first or in digits, and bytes.
+//! Fields written to a growing list of bytes: numbers with the high byte first or in digits, bytes, and formatted texts.
 ghost use Rattle.std.specs.Prelude.{◌≡◌, ◌++◌, [], ◌∷◌, length, take, IfOk, OnOk, OnErr};
-ghost use Rattle.std.specs.Fmt.{decimal};
+ghost use Rattle.std.specs.Fmt.{AppendsText, decimal};
 ghost use Rattle.std.specs.Int.{w16, w32, to_be_bytes};
 
 use crate::OutOfMemory;
 use itoa::Buffer;
 use std::alloc::Global;
+use std::fmt;
 use std::marker::Model;
 
 /// A growing list of bytes. Each writing call appends its field; for want of memory the list is as before.
@@ -81,6 +82,15 @@ impl ByteOut {
     {
         let mut digits = Buffer::new();
         self.bytes(digits.format(value).as_bytes())
+    }
+
+    /// Appends a formatted text: `write!` and `writeln!` call it.
+    pub fn write_fmt<D: fmt::Display + Drop>(&mut self, text: D) -> Result<(), OutOfMemory>
+        ensures ok { OnOk result (AppendsText self.old self.new (D.output text)) }
+        ensures err { OnErr result (self.new ≡ self.old) }
+    {
+        let text = String::format(*self.bytes.allocator(), text)?;
+        self.bytes(text.as_bytes())
     }
 
     /// How many bytes there are. It takes no memory.

@@ -8,6 +8,7 @@ ghost use Rattle.std.proofs.Common.{rules};
 
 use std::hash::{Hash, Hasher};
 use std::marker::Model;
+use std::{fmt, str};
 
 /// An ASCII letter, and after it at most 31 ASCII letters, digits and underscores. A clause sees it as its bytes.
 #[derive(Debug, Clone, Copy, PartialEq, Eq)]
@@ -46,6 +47,16 @@ impl Hash for Name {
     }
 }
 
+impl fmt::Display for Name {
+    ghost use Rattle.std.specs.Prelude.{Some};
+
+    ghost output = { λ name. Some name };
+
+    fn fmt<W: fmt::Write>(&self, f: &mut fmt::Formatter<W>) -> fmt::Result {
+        f.write_str(self.as_str())
+    }
+}
+
 impl Name {
     /// The name of these bytes, or `None` where they are no name. It takes no memory.
     pub fn new(bytes: &[u8]) -> Option<Name>
@@ -69,6 +80,16 @@ impl Name {
         ensures name { IsTrue (is_name self.now) }
     {
         &self.bytes[..self.count as usize]
+    }
+
+    /// The bytes as a text: a name is ASCII. It takes no memory.
+    pub fn as_str(&self) -> &str
+        ensures { result.now ≡ self.now }
+    {
+        match str::from_utf8(self.as_bytes()) {
+            Ok(text) => text,
+            Err(_) => unreachable!(),
+        }
     }
 
     /// The name is a word that the graph text keeps for itself.

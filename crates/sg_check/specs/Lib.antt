@@ -1,3 +1,4 @@
 pub mod Blind
+pub mod FaultText
 pub mod Least
 pub mod Shaped

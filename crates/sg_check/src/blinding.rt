@@ -1,12 +1,13 @@
 //! The check for blinding.
-ghost use Rattle.std.specs.Prelude.{◌≡◌, ◌<◌, ◌↔◌, length, IfErr, IfOk, IsOk, OnOk};
+ghost use Rattle.std.specs.Prelude.{◌≡◌, ◌<◌, ◌↔◌, ◌++◌, length, IfErr, IfOk, IsOk, OnOk};
 ghost use Rattle.sg_model.specs.Shape.{Sighted};
 ghost use Rattle.sg_protocol.specs.Graph.{shape};
 ghost use Rattle.sg_reach.specs.Reaches.{IsWithin, LeadsPast};
+ghost use Rattle.sg_check.specs.FaultText.{blinded_text, blinding_text, roles_text, walks_text};
 ghost use Rattle.sg_check.specs.Blind.{IsBlindFault, IsFaultAmong, IsClear, AtNode, AtPair, AtPlace};
 
-use sg_base::{Label, NodeId, Role, RoleSet, Seq};
-use sg_graph::Graph;
+use sg_base::{ByteOut, Label, NodeId, OutOfMemory, Role, RoleSet, Seq};
+use sg_graph::{Graph, put_node, put_role, put_walk};
 use sg_reach::Reach;
 use std::alloc::Global;
 
@@ -15,7 +16,7 @@ use std::alloc::Global;
 pub enum BlindFault {
     /// The least node that blinds two roles, and the least such roles, the first below the second; with a walk to a node of the first
     /// and one to a node of the second, neither past another node of the two.
-    #[error("a node blinds two roles")]
+    #[error("blinding")]
     Blinding {
         /// The node.
         node: NodeId,
@@ -31,6 +32,67 @@ pub enum BlindFault {
     /// Memory was wanted, and none was to be had.
     #[error("out of memory")]
     OutOfMemory,
+}
+
+impl BlindFault {
+    /// Writes the fault by the names of the graph that has it.
+    pub fn put(&self, out: &mut ByteOut, graph: &Graph) -> Result<(), OutOfMemory>
+        ensures { OnOk result (out.new ≡ out.old ++ blinding_text graph.now self.now) }
+    {
+        match self {
+            BlindFault::Blinding {
+                node,
+                a,
+                b,
+                walk_a,
+                walk_b,
+            } => {
+                put_blinded(out, graph, *node, *a, *b)?;
+                put_walks(out, graph, walk_a.as_slice(), walk_b.as_slice())
+            }
+            BlindFault::OutOfMemory => out.bytes(b"out of memory"),
+        }
+    }
+}
+
+// Writes where two roles are blinded.
+fn put_blinded(
+    out: &mut ByteOut,
+    graph: &Graph,
+    node: NodeId,
+    a: Role,
+    b: Role,
+) -> Result<(), OutOfMemory>
+    ensures { OnOk result (out.new ≡ out.old ++ blinded_text graph.now node a b) }
+{
+    out.bytes(b"blinding at ")?;
+    put_node(out, graph, node)?;
+    put_roles(out, graph, a, b)
+}
+
+// Writes two roles.
+fn put_roles(out: &mut ByteOut, graph: &Graph, a: Role, b: Role) -> Result<(), OutOfMemory>
+    ensures { OnOk result (out.new ≡ out.old ++ roles_text graph.now a b) }
+{
+    out.bytes(b" for ")?;
+    put_role(out, graph, a)?;
+    out.bytes(b" and ")?;
+    put_role(out, graph, b)
+}
+
+// Writes a walk to each of two roles.
+fn put_walks(
+    out: &mut ByteOut,
+    graph: &Graph,
+    walk_a: &[Label],
+    walk_b: &[Label],
+) -> Result<(), OutOfMemory>
+    ensures { OnOk result (out.new ≡ out.old ++ walks_text graph.now walk_a.now walk_b.now) }
+{
+    out.bytes(b":")?;
+    put_walk(out, graph, walk_a)?;
+    out.bytes(b" /")?;
+    put_walk(out, graph, walk_b)
 }
 
 /// Whether no node blinds two roles. Which two walks a refusal has is free. It takes memory for them alone.

@@ -1,26 +1,54 @@
 //! The check of a graph's shape.
-ghost use Rattle.std.specs.Prelude.{◌≡◌, ◌<◌, ◌↔◌, ℕ, length, Err, IsOk, IsTrue, MatchOption};
+ghost use Rattle.std.specs.Prelude.{◌≡◌, ◌<◌, ◌↔◌, ◌++◌, ℕ, codes, length, Err, IsOk, IsTrue, MatchOption, OnOk};
 ghost use Rattle.sg_protocol.specs.Accepted.{Reached};
+ghost use Rattle.sg_protocol.specs.Graph.{node_name};
+ghost use Rattle.sg_check.specs.FaultText.{shape_text};
 ghost use Rattle.sg_check.specs.Least.{IsLeast, IsNowhere};
 ghost use Rattle.sg_check.specs.Shaped.{HasShape, HasNode, IsSelfEdge, IsUnreachable, IsIdle, IsShapeFault};
 ghost use Rattle.sg_check.specs.declared.shape.ShapeFault.{ShapeFault};
 
-use sg_base::{Label, NodeId, Role, RoleSet};
-use sg_graph::Graph;
+use sg_base::{ByteOut, Label, NodeId, OutOfMemory, Role, RoleSet};
+use sg_graph::{Graph, put_label, put_node, put_role};
 use sg_reach::Reach;
 
 /// What is wrong with a graph's shape.
 #[derive(Debug, Clone, Copy, PartialEq, thiserror::Error)]
 pub enum ShapeFault {
     /// The least label whose sender is its receiver.
-    #[error("a self edge")]
+    #[error("self edge")]
     SelfEdge { label: Label },
     /// The least node that no walk from the start reaches.
-    #[error("a node that no walk reaches")]
+    #[error("unreachable")]
     Unreachable { node: NodeId },
     /// The least role without a node.
-    #[error("a role without a node")]
+    #[error("idle role")]
     IdleRole { role: Role },
+}
+
+impl ShapeFault {
+    /// Writes the fault by the names of the graph that has it.
+    pub fn put(&self, out: &mut ByteOut, graph: &Graph) -> Result<(), OutOfMemory>
+        ensures { OnOk result (out.new ≡ out.old ++ shape_text graph.now self.now) }
+    {
+        match self {
+            ShapeFault::SelfEdge { label } => {
+                out.bytes(b"self edge ")?;
+                put_label(out, graph, *label)
+            }
+            ShapeFault::Unreachable { node } => put_unreachable(out, graph, *node),
+            ShapeFault::IdleRole { role } => {
+                out.bytes(b"idle role ")?;
+                put_role(out, graph, *role)
+            }
+        }
+    }
+}
+
+fn put_unreachable(out: &mut ByteOut, graph: &Graph, node: NodeId) -> Result<(), OutOfMemory>
+    ensures { OnOk result (out.new ≡ out.old ++ (codes "unreachable " ++ node_name graph.now node)) }
+{
+    out.bytes(b"unreachable ")?;
+    put_node(out, graph, node)
 }
 
 /// Whether the graph's shape is right. A fault is of the first kind that the graph has, in the order of the variants. It takes no memory.

@@ -1,4 +1,5 @@
 pub mod Expansion
+pub mod FaultText
 pub mod Laws
 pub mod Owed
 pub mod Walks

@@ -1,6 +1,7 @@
 //! Names of what a graph has by number, written behind what is there.
-ghost use Rattle.std.specs.Prelude.{◌≡◌, ◌++◌, OnOk};
+ghost use Rattle.std.specs.Prelude.{◌≡◌, ◌++◌, ◌∷◌, OnOk};
 ghost use Rattle.sg_protocol.specs.Graph.{role_name, variable_name, node_name};
+ghost use Rattle.sg_graph.specs.Named.{place_text, walk_text};
 ghost use Rattle.sg_graph.specs.Parts.{edge_name};
 
 use crate::Graph;
@@ -44,4 +45,36 @@ pub fn put_var(out: &mut ByteOut, graph: &Graph, var: Var) -> Result<(), OutOfMe
         return Ok(());
     }
     out.bytes(graph.var_name(var).as_bytes())
+}
+
+/// Writes the names of a label's edge and of a variable, with a space between them.
+pub fn put_place(
+    out: &mut ByteOut,
+    graph: &Graph,
+    label: Label,
+    var: Var,
+) -> Result<(), OutOfMemory>
+    ensures { OnOk result (out.new ≡ out.old ++ place_text graph.now label var) }
+{
+    put_label(out, graph, label)?;
+    out.u8(b' ')?;
+    put_var(out, graph, var)
+}
+
+/// Writes the names of the edges of a walk, each after a space.
+pub fn put_walk(out: &mut ByteOut, graph: &Graph, walk: &[Label]) -> Result<(), OutOfMemory>
+    ensures { OnOk result (out.new ≡ out.old ++ walk_text graph.now walk.now) }
+{
+    for label in walk {
+        put_next(out, graph, *label)?;
+    }
+    Ok(())
+}
+
+// Writes the name of the next edge of a walk.
+fn put_next(out: &mut ByteOut, graph: &Graph, label: Label) -> Result<(), OutOfMemory>
+    ensures { OnOk result (out.new ≡ out.old ++ 32 ∷ edge_name graph.now label) }
+{
+    out.u8(b' ')?;
+    put_label(out, graph, label)
 }

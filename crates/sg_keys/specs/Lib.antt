@@ -1,3 +1,4 @@
+pub mod FaultText
 pub mod Model
 pub mod KeyFile
 pub mod Names

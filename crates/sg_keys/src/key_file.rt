@@ -10,31 +10,46 @@ use crate::table::{
 use crate::{Keyring, PeerFault};
 use sg_base::{Addr, Name};
 use std::alloc::Global;
-use thiserror::Error;
+use std::error::Error;
+use std::fmt;
 use toml::{Table, Value};
 
 /// Why a key file can't be read: the fault of the first entry that has one. The head is entry 0, and peers are counted from 1.
-#[derive(Debug, Clone, Copy, PartialEq, Eq, Error)]
+#[derive(Debug, Clone, Copy, PartialEq, Eq)]
 pub enum KeyFault {
     /// The bytes are no TOML.
-    #[error("not TOML")]
     NotToml,
     /// The entry lacks a key, has one that it may not have, or has a value there that is no such thing. A `peer` that is no list of
     /// tables is a fault of the head.
-    #[error("entry {entry} is bad")]
     BadEntry {
         /// The entry's number: 0 for the head, and from 1 on for the peers in order.
         entry: usize,
     },
     /// The peer's name is the principal's own, or an earlier peer's.
-    #[error("entry {entry} is there twice")]
     Twice {
         /// The later peer's entry, from 1 on.
         entry: usize,
     },
     /// Memory was wanted, and none was to be had.
-    #[error("out of memory")]
     OutOfMemory,
+}
+
+impl Error for KeyFault {}
+
+impl fmt::Display for KeyFault {
+    ghost use Rattle.std.specs.Prelude.{Some};
+    ghost use Rattle.sg_keys.specs.FaultText.{keys_text};
+
+    ghost output = { λ fault. Some (keys_text fault) };
+
+    fn fmt<W: fmt::Write>(&self, f: &mut fmt::Formatter<W>) -> fmt::Result {
+        match self {
+            KeyFault::NotToml => f.write_str("not toml"),
+            KeyFault::BadEntry { entry } => write!(f, "entry {entry}"),
+            KeyFault::Twice { entry } => write!(f, "twice {entry}"),
+            KeyFault::OutOfMemory => f.write_str("out of memory"),
+        }
+    }
 }
 
 // The head of a key file: a keyring without peers, and the entries of its peers.

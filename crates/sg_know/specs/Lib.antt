@@ -1,3 +1,4 @@
+pub mod FaultText
 pub mod Parts
 pub mod Reads
 pub mod States

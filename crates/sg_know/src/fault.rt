@@ -1,12 +1,16 @@
 //! Why a graph's writes and reads are refused.
-use sg_base::{Label, Seq, Var};
+ghost use Rattle.std.specs.Prelude.{◌≡◌, ◌++◌, OnOk};
+ghost use Rattle.sg_know.specs.FaultText.{reads_text};
+
+use sg_base::{ByteOut, Label, OutOfMemory, Seq, Var};
+use sg_graph::{Graph, put_place, put_walk};
 use thiserror::Error;
 
 /// A write or a read that a graph may not have, by its label and its variable.
 #[derive(Debug, Drop, Error)]
 pub enum ReadFault {
     /// The edge writes a variable whose writing roles don't have its sender.
-    #[error("a role writes that is no writer")]
+    #[error("not writer")]
     NotWriter {
         /// The edge's label.
         label: Label,
@@ -14,7 +18,7 @@ pub enum ReadFault {
         var: Var,
     },
     /// The edge reads a variable whose only writing role is its receiver.
-    #[error("a variable's only writer reads it")]
+    #[error("reads own")]
     ReadsOwn {
         /// The edge's label.
         label: Label,
@@ -22,7 +26,7 @@ pub enum ReadFault {
         var: Var,
     },
     /// The edge reads a variable that its sender doesn't know on this walk from the start, which ends with the edge.
-    #[error("a read variable isn't known")]
+    #[error("bad read")]
     BadRead {
         /// The edge's label.
         label: Label,
@@ -34,4 +38,29 @@ pub enum ReadFault {
     /// There was no memory for the states that walks lead to.
     #[error("out of memory")]
     OutOfMemory,
+}
+
+impl ReadFault {
+    /// Writes the fault by the names of the graph that has it.
+    pub fn put(&self, out: &mut ByteOut, graph: &Graph) -> Result<(), OutOfMemory>
+        ensures { OnOk result (out.new ≡ out.old ++ reads_text graph.now self.now) }
+    {
+        match self {
+            ReadFault::NotWriter { label, var } => {
+                out.bytes(b"not writer ")?;
+                put_place(out, graph, *label, *var)
+            }
+            ReadFault::ReadsOwn { label, var } => {
+                out.bytes(b"reads own ")?;
+                put_place(out, graph, *label, *var)
+            }
+            ReadFault::BadRead { label, var, walk } => {
+                out.bytes(b"bad read ")?;
+                put_place(out, graph, *label, *var)?;
+                out.bytes(b" on")?;
+                put_walk(out, graph, walk.as_slice())
+            }
+            ReadFault::OutOfMemory => out.bytes(b"out of memory"),
+        }
+    }
 }

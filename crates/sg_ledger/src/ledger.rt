@@ -18,7 +18,7 @@ use thiserror::Error;
 #[derive(Debug, Clone, Copy, PartialEq, Eq, Error)]
 pub enum CreateFault {
     /// The file has bytes already.
-    #[error("the file has {size} bytes already")]
+    #[error("not empty")]
     NotEmpty {
         /// How many.
         size: u32,
@@ -35,10 +35,10 @@ pub enum CreateFault {
 #[derive(Debug, Clone, Copy, PartialEq, Eq, Error)]
 pub enum OpenFault {
     /// The length or the head is no ledger's.
-    #[error("the file is no ledger")]
+    #[error("not made")]
     NotALedger,
     /// A slot with an open gate has a role above 15, repeats a pair, or follows a gate that isn't open.
-    #[error("slot {slot} is bad")]
+    #[error("slot {slot}")]
     BadSlot {
         /// The first such slot, counted from 0.
         slot: u32,

@@ -1,3 +1,4 @@
+pub mod FaultText
 pub mod Grammar
 pub mod Owed
 pub mod Parts

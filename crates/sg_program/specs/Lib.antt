@@ -1,5 +1,6 @@
 pub mod All
 pub mod Compiled
+pub mod FaultText
 pub mod Model
 pub mod Invariant
 pub mod Loading

@@ -1,9 +1,10 @@
 //! The check of a graph.
-ghost use Rattle.std.specs.Prelude.{◌≡◌, ◌≤◌, length, IfErr, OnOk};
+ghost use Rattle.std.specs.Prelude.{◌≡◌, ◌≤◌, ◌++◌, length, IfErr, OnOk};
 ghost use Rattle.sg_protocol.specs.Accepted.{Accepted};
+ghost use Rattle.sg_program.specs.FaultText.{refusal_text};
 ghost use Rattle.sg_program.specs.Refused.{IsRefusal, reads_fault, blind_fault};
 
-use sg_base::Role;
+use sg_base::{ByteOut, OutOfMemory, Role};
 use sg_check::{BlindFault, ShapeFault, check_blinding, check_shape};
 use sg_graph::Graph;
 use sg_know::{ReadFault, check_reads};
@@ -29,6 +30,21 @@ pub enum CompileFault {
     /// Memory was wanted, and none was to be had.
     #[error("out of memory")]
     OutOfMemory,
+}
+
+impl CompileFault {
+    /// Writes the fault by the names of the graph that has it.
+    pub fn put(&self, out: &mut ByteOut, graph: &Graph) -> Result<(), OutOfMemory>
+        ensures { OnOk result (out.new ≡ out.old ++ refusal_text graph.now self.now) }
+    {
+        match self {
+            CompileFault::Shape(fault) => fault.put(out, graph),
+            CompileFault::Reads(fault) => fault.put(out, graph),
+            CompileFault::Blinding(fault) => fault.put(out, graph),
+            CompileFault::Views { role, fault } => fault.put(out, graph, *role),
+            CompileFault::OutOfMemory => out.bytes(b"out of memory"),
+        }
+    }
 }
 
 /// Whether a graph is accepted: its shape is right, only writers write and what is read is known, and no node blinds two roles. The checks

@@ -29,7 +29,7 @@ pub enum LoadFault {
     Graph { graph: Graph, fault: CompileFault },
     /// The lines after `table` aren't those of the program: the number of the first line that differs, is missing or follows the end,
     /// counted from 1.
-    #[error("line {entry} of the table differs")]
+    #[error("entry {entry}")]
     NotTheTable { entry: usize },
     /// Memory was wanted, and none was to be had.
     #[error("out of memory")]

@@ -64,7 +64,7 @@ impl Model for Programs {
 #[derive(Debug, Clone, Copy, PartialEq, Eq, Error)]
 pub enum AddProgramFault {
     /// A program of the same graph name is there, with the same role or with another digest.
-    #[error("a program twice")]
+    #[error("twice")]
     Twice,
     /// Memory was wanted, and none was to be had.
     #[error("out of memory")]

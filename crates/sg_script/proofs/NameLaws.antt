@@ -1,43 +1,13 @@
--- Names: they are ASCII, and their places in a graph.
-use Rattle.std.proofs.Common.{◌≡◌, ℕ, zero, suc, ◌<◌, true, ◌&&◌, List, [], ◌∷◌, length, get_or, bytes_eq, position, refl, arith, nat_le}
+-- Names in their places in a graph.
+use Rattle.std.proofs.Common.{◌≡◌, ℕ, ◌<◌, List, length, bytes_eq, position, refl}
 use Rattle.std.specs.Prelude.{Option, Some, None, IsSome, IsTrue, IfSome, ◌↔◌}
-use Rattle.std.specs.List.{list_all}
-use Rattle.std.specs.Str.{IsAscii, IsUtf8}
-use Rattle.std.proofs.lemmas.Bool.Decides.{nat_tests}
-use Rattle.std.proofs.lemmas.Str.{IsUtf8-from_ascii}
-use Rattle.std.proofs.lemmas.Bool.{and_parts}
 use Rattle.sg_graph.specs.Parts.{variable_names, node_names, edge_names, edge_name}
 use Rattle.sg_model.specs.Lists.{has_text}
-use Rattle.sg_model.specs.Names.{Name, is_letter, is_name_byte, is_name}
+use Rattle.sg_model.specs.Names.{Name}
 use Rattle.sg_parse.specs.Reading.{place_of}
 use Rattle.sg_parse.proofs.Names.{variable_place, node_place, label_place}
 use Rattle.sg_parse.proofs.Places.{first_place, place_is_there}
 use Rattle.sg_protocol.specs.Graph.{Graph, IsGraph, node_name, variable_name}
-
--- ---- ASCII
-
-letter_low : (c : ℕ) → is_letter c ≡ true → c < 128
-letter_low c h = grind (arith, nat_tests)
-
-byte_low : (c : ℕ) → is_name_byte c ≡ true → c < 128
-byte_low c h = grind (arith, nat_tests)
-
-bytes_low : (cs : List ℕ) → list_all is_name_byte cs ≡ true → (i : ℕ) → get_or cs i 0 < 128
-bytes_low [] h i = omega arith
-bytes_low (c ∷ cs) h zero = byte_low c (and_parts (is_name_byte c) (list_all is_name_byte cs) h).0
-bytes_low (c ∷ cs) h (suc i) = bytes_low cs (and_parts (is_name_byte c) (list_all is_name_byte cs) h).1 i
-
-name_low : (n : Name) → is_name n ≡ true → IsAscii n
-name_low [] h i = omega arith
-name_low (c ∷ cs) h zero = letter_low c (and_parts (is_letter c) (list_all is_name_byte cs) (and_parts (is_letter c && list_all is_name_byte cs) (nat_le (length cs) 31) h).0).0
-name_low (c ∷ cs) h (suc i) =
-    bytes_low cs (and_parts (is_letter c) (list_all is_name_byte cs) (and_parts (is_letter c && list_all is_name_byte cs) (nat_le (length cs) 31) h).0).1 i
-
--- a name is UTF-8
-pub name_text : (n : Name) → is_name n ≡ true → IsUtf8 n
-name_text n h = IsUtf8-from_ascii n (name_low n h)
-
--- ---- places
 
 number_is : (names : List Name) (n : Name) (o : Option ℕ) → (IsSome o ↔ IsTrue (has_text n names)) → IfSome o (λ r. place_of n names ≡ r) → o ≡ position (bytes_eq n) names
 number_is names n o f p = by o (position (bytes_eq n) names) f p (place_is_there n names (position (bytes_eq n) names) refl) (first_place n names (position (bytes_eq n) names) refl)

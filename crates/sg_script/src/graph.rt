@@ -13,7 +13,6 @@ use sg_base::{Label, Name, NodeId, Var};
 use sg_graph::Graph;
 use sg_keys::text_at;
 use sg_program::Programs;
-use std::str;
 use toml::Table;
 
 /// The graph of this name, as the first program of such a graph has it.
@@ -92,14 +91,4 @@ fn are_variables(graph: &Graph, table: &Table) -> bool
     ensures { result ≡ list_all (λ k. is_some (number_of (variable_names graph.now) (string_bytes k))) (keys table.now) }
 {
     table.keys().all(|key| is_variable(graph, key.as_str()))
-}
-
-/// The name of a variable as a text. A name is ASCII.
-pub(crate) fn variable_text(name: &Name) -> &str
-    ensures { result.now ≡ name.now }
-{
-    match str::from_utf8(name.as_bytes()) {
-        Ok(text) => text,
-        Err(_) => unreachable!(),
-    }
 }

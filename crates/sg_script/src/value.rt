@@ -10,7 +10,7 @@ ghost use Rattle.sg_model.specs.Values.{TextValue};
 ghost use Rattle.sg_walk.specs.Model.{values_of};
 ghost use Rattle.sg_script.specs.Format.{all_there, given, spelled_value, values_in, values_or_none};
 
-use crate::graph::{has_variables_alone, variable_text};
+use crate::graph::has_variables_alone;
 use crate::table::value_at;
 use sg_base::{Chars, CharsFault, OutOfMemory, Seq, Value, Var};
 use sg_graph::Graph;
@@ -79,7 +79,7 @@ fn given(
     requires { var < length graph.now.variables }
     ensures { IfOk result (λ o. option_map (option_map (λ v. (var, value_of v))) o ≡ given (variable_names graph.now) (table_view table.now) var) }
 {
-    match value_at(table, variable_text(&graph.var_name(var))) {
+    match value_at(table, graph.var_name(var).as_str()) {
         Some(value) => Ok(Some(read_value(alloc, value)?)),
         None => Ok(None),
     }

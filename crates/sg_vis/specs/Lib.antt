@@ -1,3 +1,4 @@
+pub mod FaultText
 pub mod Keys
 pub mod Limits
 pub mod Order

@@ -1,0 +1,12 @@
+-- What is told of a graph by its names.
+use Rattle.std.specs.Prelude.{ℕ, List, ◌∷◌, ◌++◌, flat_map}
+use Rattle.sg_protocol.specs.Graph.{Graph, variable_name}
+use Rattle.sg_graph.specs.Parts.{edge_name}
+
+-- a label and a variable
+abbrev pub place_text : Graph → ℕ → ℕ → List ℕ
+place_text g e x = edge_name g e ++ 32 ∷ variable_name g x
+
+-- the labels of a walk, each after a space
+abbrev pub walk_text : Graph → List ℕ → List ℕ
+walk_text g walk = flat_map (λ e. 32 ∷ edge_name g e) walk
