@@ -1,5 +1,5 @@
-//! `sessiongraph`: checks, composes and compiles session graphs, runs one principal, also over a ledger of its joins, replays schedules,
-//! generates runs, and audits logs of sessions.
+//! `sessiongraph`: checks, composes and compiles session graphs, runs one principal, also over a ledger of its joins or over TCP, replays
+//! schedules, generates runs, and audits logs of sessions.
 //!
 //! All of this is `top` of `sg_top`. Here are the objects of the system that it works on, and the end where the system doesn't give them.
 #![tactic(auto)]
@@ -11,7 +11,8 @@ use rand::make_rng;
 use rand_chacha::ChaCha20Rng;
 use sg_base::{StdFiles, StdSink};
 use sg_ledger::FileDisk;
-use sg_link::UdpLink;
+use sg_link::{TcpConns, UdpLink};
+use sg_stream::StreamLink;
 use sg_top::{end_without_memory, end_without_seed, end_without_words, top};
 use std::process::ExitCode;
 use std::{env, io};
@@ -46,6 +47,9 @@ fn on_words(rt: &HostRuntime) -> io::Result<u8> {
     };
     let mut fresh = OsFresh::new(rng);
     let mut disk = FileDisk::new(rt.clone()?);
+    let Ok(mut stream) = StreamLink::new(alloc, TcpConns::new(rt.clone()?)) else {
+        return Ok(end_without_memory(&mut err));
+    };
     Ok(top(
         alloc,
         words.as_slice(),
@@ -55,5 +59,6 @@ fn on_words(rt: &HostRuntime) -> io::Result<u8> {
         &mut link,
         &mut fresh,
         &mut disk,
+        &mut stream,
     ))
 }

@@ -5,11 +5,13 @@ use sg_base::{Addr, Link, MemFiles, MemFresh, MemLink, MemSink};
 use sg_frame::{Frame, decode};
 use sg_ledger::MemDisk;
 use sg_link::UdpLink;
+use sg_stream::{Conns, MemConns, StreamLink};
 use sg_top::top;
 use std::alloc::Global;
 use std::process::Abort;
 
 mod ledger;
+mod stream;
 
 // Which call of each object fails, counted from 1, none for 0; and how many bytes standard output takes.
 #[derive(Clone, Copy)]
@@ -132,7 +134,25 @@ fn one_file(alloc: Global, rt: &impl Abort, bytes: Vec<u8>, fails: u32) -> MemFi
     MemFiles::new(files, only(alloc, rt, fails))
 }
 
-// Runs the program on the words of a line, over a link and a disk that has no room.
+// A disk that has no room.
+fn no_disk(alloc: Global, rt: &impl Abort) -> MemDisk {
+    let disk = MemDisk::new(alloc, 0, 0, Vec::new(alloc), None);
+    disk.expect(rt, "a disk")
+}
+
+// A link over some connections.
+fn link_over(alloc: Global, rt: &impl Abort, conns: MemConns) -> StreamLink<MemConns> {
+    let link = StreamLink::new(alloc, conns);
+    link.ok().expect(rt, "a link")
+}
+
+// A link over connections that has no room.
+fn no_stream(alloc: Global, rt: &impl Abort) -> StreamLink<MemConns> {
+    let conns = MemConns::new(alloc, Vec::new(alloc), 0, 0, Vec::new(alloc));
+    link_over(alloc, rt, conns.expect(rt, "connections"))
+}
+
+// Runs the program on the words of a line, over a link.
 fn run_over<L: Link>(
     alloc: Global,
     rt: &impl Abort,
@@ -141,13 +161,22 @@ fn run_over<L: Link>(
     outside: Outside,
     link: &mut L,
 ) -> Left {
-    let disk = MemDisk::new(alloc, 0, 0, Vec::new(alloc), None);
-    let mut disk = disk.expect(rt, "a disk");
-    run_on(alloc, rt, line, files, outside, link, &mut disk)
+    let mut disk = no_disk(alloc, rt);
+    let mut stream = no_stream(alloc, rt);
+    run_on(
+        alloc,
+        rt,
+        line,
+        files,
+        outside,
+        link,
+        &mut disk,
+        &mut stream,
+    )
 }
 
-// Runs the program on the words of a line, over a link and a disk.
-fn run_on<L: Link>(
+// Runs the program on the words of a line, over a link, a disk, and a link over connections.
+fn run_on<L: Link, C: Conns>(
     alloc: Global,
     rt: &impl Abort,
     line: &str,
@@ -155,6 +184,7 @@ fn run_on<L: Link>(
     outside: Outside,
     link: &mut L,
     disk: &mut MemDisk,
+    stream: &mut StreamLink<C>,
 ) -> Left {
     let words = words(alloc, rt, line);
     let mut files = files;
@@ -170,6 +200,7 @@ fn run_on<L: Link>(
         link,
         &mut fresh,
         disk,
+        stream,
     );
     Left {
         status,
@@ -360,7 +391,8 @@ fn refuses_what_is_no_schedule(rt: HostRuntime) {
 
 // The words of a line are no command.
 fn is_no_command(alloc: Global, rt: &impl Abort, line: &str) {
-    let usage = "usage: sessiongraph check|compile|run|replay|drive|ledger|keep|audit|compose\n";
+    let usage =
+        "usage: sessiongraph check|compile|run|replay|drive|ledger|keep|stream|audit|compose\n";
     refuses(alloc, rt, line, &[], 2, usage);
 }
 

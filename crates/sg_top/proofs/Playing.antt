@@ -1,5 +1,5 @@
 -- Runs that play nothing, and plays over a link that was opened.
-use Rattle.std.proofs.Common.{◌≡◌, ℕ, ◌≤◌, List, [], ◌++◌, take, drop, Option, Some, Result, refl, sym, ap, ◌∙◌, subst, arith}
+use Rattle.std.proofs.Common.{◌≡◌, ℕ, List, [], Option, Some, Result, refl, sym, ap, ◌∙◌, subst, arith}
 use Rattle.std.proofs.lemmas.List.{append-nil}
 use Rattle.sg_base.specs.Outside.{Appends}
 use Rattle.sg_play.specs.Ends.{Outside as Given, WholeFront, Ended}

@@ -4,7 +4,7 @@ use Rattle.sg_top.specs.Ending.{Ending, Written, NoCommand, NoGraph, NoExpansion
 use Rattle.sg_top.specs.Ends.{Output}
 use Rattle.sg_top.specs.Ledgers.{CanHaveKept}
 use Rattle.sg_top.specs.Runs.{CanHavePlayed}
-use Rattle.sg_words.specs.Command.{Command, Check, Compile, Run, Replay, Drive, Ledger, Keep, Audit, Compose, command_of}
+use Rattle.sg_words.specs.Command.{Command, Check, Compile, Run, Replay, Drive, Ledger, Keep, Stream, Audit, Compose, command_of}
 use Rattle.sg_top.specs.Top.{HasPlayed, IsOfKeep, IsOfPlay, MayPlay, PlaysWith, Puts, Says}
 
 -- the statuses of endings after a play
@@ -74,6 +74,7 @@ eight_of_play = inr (inr (inr refl))
 status_said : (c : Option Command) (work : Ending) (old new : Output) (status : ℕ) → HasPlayed c work → Says work old new status → PlaysWith c status
 status_said (Some (Run keys script most programs)) work old new status h says = of_says IsOfPlay six_of_play eight_of_play work old new status (of_play work h) says
 status_said (Some (Keep file keys script most programs)) work old new status h says = of_says IsOfKeep (inl six_of_play) (inl eight_of_play) work old new status (of_keep work h) says
+status_said (Some (Stream keys script most programs)) work old new status h says = of_says IsOfPlay six_of_play eight_of_play work old new status (of_play work h) says
 status_said (Some (Check file)) work old new status h says = absurd h
 status_said (Some (Compile file role)) work old new status h says = absurd h
 status_said (Some (Replay file)) work old new status h says = absurd h
@@ -82,6 +83,15 @@ status_said (Some (Ledger file)) work old new status h says = absurd h
 status_said (Some (Audit file)) work old new status h says = absurd h
 status_said (Some (Compose file)) work old new status h says = absurd h
 status_said None work old new status h says = absurd h
+
+-- a run over the link leaves the one over connections as it is, and the other way round
+pub over_link : {Played LinkStays StreamStays WordsStay : Type 0} → StreamStays → Played ⊎ (LinkStays × WordsStay) → Played ⊎ (LinkStays × StreamStays × WordsStay)
+over_link stream (inl played) = inl played
+over_link stream (inr rest) = inr (rest.0, stream, rest.1)
+
+pub over_stream : {Played LinkStays StreamStays WordsStay : Type 0} → LinkStays → Played ⊎ (StreamStays × WordsStay) → Played ⊎ (LinkStays × StreamStays × WordsStay)
+over_stream link (inl played) = inl played
+over_stream link (inr rest) = inr (link, rest.0, rest.1)
 
 -- a command that may have played ends with one of its statuses; or the rest holds
 pub may_play : {Rest : Type 0} (words : List (List ℕ)) (c : Option Command) (work : Ending) (old new : Output) (status : ℕ) → c ≡ command_of words → HasPlayed c work ⊎ Rest

@@ -13,9 +13,13 @@ use Rattle.sg_sched.specs.declared.fault.LineFault.TheVariants.{Line, OutOfMemor
 use Rattle.sg_read.specs.Taken.{kind_of}
 use Rattle.sg_audit.specs.declared.fault.LogFault.{LogFault}
 use Rattle.sg_audit.specs.declared.fault.LogFault.TheVariants.{Form as FormOfLogs, Unknown as UnknownInLogs, Twice as TwiceInLogs, Graph as GraphOfLogs, TooManyEvents, OutOfMemory as NoMemoryForLogs}
-use Rattle.sg_top.specs.Refusal.{parse_text, compose_text, refusal_text}
-use Rattle.sg_top.specs.Inputs.{keys_text, script_text, program_text}
-use Rattle.sg_top.specs.declared.input.BadProgram.{BadProgram}
+use Rattle.sg_parse.specs.FaultText.{parse_text}
+use Rattle.sg_compose.specs.FaultText.{compose_text}
+use Rattle.sg_program.specs.FaultText.{refusal_text}
+use Rattle.sg_keys.specs.FaultText.{keys_text}
+use Rattle.sg_script.specs.FaultText.{script_text}
+use Rattle.sg_top.specs.declared.ending.BadProgram.{BadProgram}
+use Rattle.sg_top.specs.declared.ending.BadProgram.TheVariants.{Malformed, NotTheTable, Twice as TwiceTaken}
 use Rattle.sg_top.specs.declared.ending.Wrong.{Wrong}
 use Rattle.sg_top.specs.declared.ending.Wrong.TheVariants.{Form, Unknown, Twice, NotHonest}
 
@@ -92,10 +96,16 @@ wrong_text Unknown = codes "unknown"
 wrong_text Twice = codes "twice"
 wrong_text NotHonest = codes "not-honest"
 
+-- why a program isn't taken
+abbrev pub program_text : BadProgram → List ℕ
+program_text (Malformed at) = codes "malformed at " ++ decimal at
+program_text (NotTheTable n) = codes "entry " ++ decimal n
+program_text TwiceTaken = codes "twice"
+
 -- the line on standard error
 abbrev pub line_of : Ending → List ℕ
 line_of Written = []
-line_of NoCommand = codes "usage: sessiongraph check|compile|run|replay|drive|ledger|keep|audit|compose\n"
+line_of NoCommand = codes "usage: sessiongraph check|compile|run|replay|drive|ledger|keep|stream|audit|compose\n"
 line_of (NoGraph fault) = codes "graph refused: " ++ parse_text fault ++ 10 ∷ []
 line_of (NoExpansion fault) = codes "graph refused: " ++ compose_text fault ++ 10 ∷ []
 line_of (GraphRefused g fault) = codes "graph refused: " ++ refusal_text g fault ++ 10 ∷ []
@@ -103,7 +113,7 @@ line_of (NoRole role) = codes "input refused: role " ++ role ++ 10 ∷ []
 line_of (WrongLine line wrong) = codes "input refused: line " ++ decimal line ++ 32 ∷ wrong_text wrong ++ 10 ∷ []
 line_of (KeysRefused fault) = codes "input refused: keys " ++ keys_text fault ++ 10 ∷ []
 line_of (ScriptRefused fault) = codes "input refused: script " ++ script_text fault ++ 10 ∷ []
-line_of (ProgramRefused number cause) = codes "input refused: program " ++ decimal number ++ program_text cause ++ 10 ∷ []
+line_of (ProgramRefused number cause) = codes "input refused: program " ++ decimal number ++ 32 ∷ program_text cause ++ 10 ∷ []
 line_of NoLedger = codes "input refused: ledger not made\n"
 line_of (BadSlot slot) = codes "input refused: ledger slot " ++ decimal slot ++ 10 ∷ []
 line_of LedgerNotEmpty = codes "input refused: ledger not empty\n"

@@ -1,5 +1,3 @@
-pub mod Refusal
-pub mod Inputs
 pub mod Accepted
 pub mod Audited
 pub mod Ending

@@ -15,8 +15,8 @@ use Rattle.sg_script.specs.Script.{Script}
 use Rattle.sg_script.specs.declared.fault.ScriptFault.TheVariants.{OutOfMemory as NoMemoryForScripts}
 use Rattle.sg_top.specs.Ending.{Ending, KeysRefused, ScriptRefused, ProgramRefused, GraphRefused, NoMemory}
 use Rattle.sg_top.specs.Ends.{Told, Has, IsUnread}
-use Rattle.sg_top.specs.declared.input.BadProgram.{BadProgram}
-use Rattle.sg_top.specs.declared.input.BadProgram.TheVariants.{Malformed, NotTheTable, Twice}
+use Rattle.sg_top.specs.declared.ending.BadProgram.{BadProgram}
+use Rattle.sg_top.specs.declared.ending.BadProgram.TheVariants.{Malformed, NotTheTable, Twice}
 
 -- the files that a run names
 pub record Named : Type 0 where

@@ -1,31 +1,38 @@
 -- What the program leaves, and how it says why it ends.
-use Rattle.std.specs.Prelude.{◌≡◌, ◌≢◌, ℕ, ◌⊎◌, List, [], Option, Some, None, ⊤}
+use Rattle.std.specs.Prelude.{◌≡◌, ◌≢◌, ℕ, ◌+◌, ◌⊎◌, List, [], Option, Some, None, ⊤}
 use Rattle.sg_base.specs.Outside.{HasRisen, Appends, AppendsFront}
 use Rattle.sg_model.specs.Limits.{most_graph_file, most_logs_file, most_schedule_file}
-use Rattle.sg_words.specs.Command.{Command, Check, Compile, Run, Replay, Drive, Ledger, Keep, Audit, Compose, command_of}
+use Rattle.sg_stream.specs.Link.{StreamHeld, sent_of, to_come}
+use Rattle.sg_stream.specs.Traffic.{Traffic}
+use Rattle.sg_words.specs.Command.{Command, Check, Compile, Run, Replay, Drive, Ledger, Keep, Stream, Audit, Compose, command_of}
 use Rattle.sg_top.specs.Ending.{Ending, NoCommand, NoMemory, status_of, line_of}
 use Rattle.sg_top.specs.Ends.{Told, Output, OnFile, Checks, Compiles, Replays, Drives, Audits, Composes}
-use Rattle.sg_top.specs.Ledgers.{CanHaveKept, Disked, KeepsRun, Makes}
-use Rattle.sg_top.specs.Runs.{CanHavePlayed, Outside, IsUntouched, Runs}
+use Rattle.sg_top.specs.Ledgers.{CanHaveKept, Disked, IsNotAsked, KeepsRun, Makes}
+use Rattle.sg_top.specs.Runs.{CanHavePlayed, Linked, Outside, IsUntouched, Runs}
 
--- the work that a command asks for ends so
-abbrev pub Works : Option Command → Told → (faults faults' : ℕ) → (old new : Outside) → (disk disk' : Disked) → Ending → Type 0
-Works None told faults faults' old new disk disk' ending = IsUntouched old new × (ending ≡ NoCommand)
-Works (Some (Check file)) told faults faults' old new disk disk' ending = OnFile Checks most_graph_file file told faults faults' old.out new.out ending
-Works (Some (Compile file role)) told faults faults' old new disk disk' ending = OnFile (Compiles role) most_graph_file file told faults faults' old.out new.out ending
-Works (Some (Run keys script most programs)) told faults faults' old new disk disk' ending = Runs (record { keys = keys; programs = programs; script = script }) most told faults faults' old new ending
-Works (Some (Replay file)) told faults faults' old new disk disk' ending = OnFile Replays most_schedule_file file told faults faults' old.out new.out ending
-Works (Some (Drive seed sessions file)) told faults faults' old new disk disk' ending = OnFile (Drives seed sessions) most_graph_file file told faults faults' old.out new.out ending
-Works (Some (Ledger file)) told faults faults' old new disk disk' ending = Makes old.out new.out disk disk' ending
-Works (Some (Keep file keys script most programs)) told faults faults' old new disk disk' ending = KeepsRun (record { keys = keys; programs = programs; script = script }) most told faults faults' old new disk disk' ending
-Works (Some (Audit file)) told faults faults' old new disk disk' ending = OnFile Audits most_logs_file file told faults faults' old.out new.out ending
-Works (Some (Compose file)) told faults faults' old new disk disk' ending = OnFile Composes most_graph_file file told faults faults' old.out new.out ending
+-- a link over connections, as a link: the frames of the messages to come, in the order in which these become whole, the frames that went out, and its count of faults, which is that of its connections and its own
+abbrev pub streamed : {C : Type 0} → (held : C → Option Traffic) → (faults : C → ℕ) → StreamHeld C → Linked
+streamed {C} held faults l = record { deliveries = to_come l.unread (held l.conns); sent = sent_of (held l.conns); faults = faults l.conns + l.faults }
+
+-- the work that a command asks for ends so; a run over connections is a run over that link
+abbrev pub Works : Option Command → Told → (faults faults' : ℕ) → (old new : Outside) → (stream stream' : Linked) → (disk disk' : Disked) → Ending → Type 0
+Works None told faults faults' old new stream stream' disk disk' ending = IsUntouched old new × (ending ≡ NoCommand)
+Works (Some (Check file)) told faults faults' old new stream stream' disk disk' ending = OnFile Checks most_graph_file file told faults faults' old.out new.out ending
+Works (Some (Compile file role)) told faults faults' old new stream stream' disk disk' ending = OnFile (Compiles role) most_graph_file file told faults faults' old.out new.out ending
+Works (Some (Run keys script most programs)) told faults faults' old new stream stream' disk disk' ending = Runs (record { keys = keys; programs = programs; script = script }) most told faults faults' old new ending
+Works (Some (Replay file)) told faults faults' old new stream stream' disk disk' ending = OnFile Replays most_schedule_file file told faults faults' old.out new.out ending
+Works (Some (Drive seed sessions file)) told faults faults' old new stream stream' disk disk' ending = OnFile (Drives seed sessions) most_graph_file file told faults faults' old.out new.out ending
+Works (Some (Ledger file)) told faults faults' old new stream stream' disk disk' ending = Makes old.out new.out disk disk' ending
+Works (Some (Keep file keys script most programs)) told faults faults' old new stream stream' disk disk' ending = KeepsRun (record { keys = keys; programs = programs; script = script }) most told faults faults' old new disk disk' ending
+Works (Some (Stream keys script most programs)) told faults faults' old new stream stream' disk disk' ending = Runs (record { keys = keys; programs = programs; script = script }) most told faults faults' (record old { link = stream }) (record new { link = stream' }) ending
+Works (Some (Audit file)) told faults faults' old new stream stream' disk disk' ending = OnFile Audits most_logs_file file told faults faults' old.out new.out ending
+Works (Some (Compose file)) told faults faults' old new stream stream' disk disk' ending = OnFile Composes most_graph_file file told faults faults' old.out new.out ending
 
 -- the work that the words ask for ends so, or memory was wanted to read them
-abbrev pub Does : (words : List (List ℕ)) → Told → (faults faults' : ℕ) → (old new : Outside) → (disk disk' : Disked) → Ending → Type 0
-Does words told faults faults' old new disk disk' ending =
-    Works (command_of words) told faults faults' old new disk disk' ending
-    ⊎ (IsUntouched old new × (ending ≡ NoMemory))
+abbrev pub Does : (words : List (List ℕ)) → Told → (faults faults' : ℕ) → (old new : Outside) → (stream stream' : Linked) → (disk disk' : Disked) → Ending → Type 0
+Does words told faults faults' old new stream stream' disk disk' ending =
+    Works (command_of words) told faults faults' old new stream stream' disk disk' ending
+    ⊎ (IsUntouched old new × IsNotAsked disk disk' × (ending ≡ NoMemory))
 
 -- a line is written and its status given, or it is not taken whole, which the count of faults shows, and the status is that of a failed write
 abbrev pub Puts : (old new : Output) → (line : List ℕ) → (wanted status : ℕ) → Type 0
@@ -40,9 +47,9 @@ Says work old new status =
     ⊎ ((line_of work ≢ []) × Puts old new (line_of NoMemory) (status_of NoMemory) status)
 
 -- the program ended with this status: its work ended in some way, and so it says
-pub record Ends (words : List (List ℕ)) (told : Told) (faults faults' : ℕ) (old new : Outside) (disk disk' : Disked) (err err' : Output) (status : ℕ) : Type 0 where
+pub record Ends (words : List (List ℕ)) (told : Told) (faults faults' : ℕ) (old new : Outside) (stream stream' : Linked) (disk disk' : Disked) (err err' : Output) (status : ℕ) : Type 0 where
   pub work : Ending
-  pub does : Does words told faults faults' old new disk disk' work
+  pub does : Does words told faults faults' old new stream stream' disk disk' work
   pub says : Says work err err' status
 
 -- one of the statuses of a run that may have played
@@ -57,17 +64,30 @@ IsOfKeep status = IsOfPlay status ⊎ (status ≡ 11)
 abbrev pub HasPlayed : Option Command → Ending → Type 0
 HasPlayed (Some (Run keys script most programs)) ending = CanHavePlayed ending
 HasPlayed (Some (Keep file keys script most programs)) ending = CanHaveKept ending
+HasPlayed (Some (Stream keys script most programs)) ending = CanHavePlayed ending
 HasPlayed other ending = ⊥
 
 -- a command that ends with this status may have played
 abbrev pub PlaysWith : Option Command → (status : ℕ) → Type 0
 PlaysWith (Some (Run keys script most programs)) status = IsOfPlay status
 PlaysWith (Some (Keep file keys script most programs)) status = IsOfKeep status
+PlaysWith (Some (Stream keys script most programs)) status = IsOfPlay status
 PlaysWith other status = ⊥
 
 -- a run may have begun to play: the words ask for one, and the status is 0, 6, 7 or 8, or, over a ledger, 11
 abbrev pub MayPlay : (words : List (List ℕ)) → (status : ℕ) → Type 0
 MayPlay words status = PlaysWith (command_of words) status
+
+-- the command is a run over the link, also over a ledger
+abbrev pub IsOverLink : Option Command → Type 0
+IsOverLink (Some (Run keys script most programs)) = ⊤
+IsOverLink (Some (Keep file keys script most programs)) = ⊤
+IsOverLink other = ⊥
+
+-- the command is a run over connections
+abbrev pub IsOverStream : Option Command → Type 0
+IsOverStream (Some (Stream keys script most programs)) = ⊤
+IsOverStream other = ⊥
 
 -- the command is on a ledger
 abbrev pub IsOnDisk : Option Command → Type 0

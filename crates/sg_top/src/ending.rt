@@ -1,10 +1,9 @@
 //! How the program ends, and what it says of it.
-ghost use Rattle.std.specs.Prelude.{◌≡◌, ◌≢◌, ◌++◌, ◌∷◌, [], IfOk, OnErr, OnOk, codes, decimal};
-ghost use Rattle.sg_top.specs.Ending.{status_of, line_of, wrong_text};
+ghost use Rattle.std.specs.Prelude.{◌≡◌, ◌≢◌, ◌++◌, ◌∷◌, [], IfOk, OnErr, OnOk, codes};
+ghost use Rattle.sg_program.specs.FaultText.{refusal_text};
+ghost use Rattle.sg_top.specs.Ending.{status_of, line_of};
 ghost use Rattle.sg_top.specs.Model.{ending_held};
 
-use crate::input::{BadProgram, put_no_keys, put_no_program, put_no_script};
-use crate::refusal::{put_no_expansion, put_no_graph, put_refusal};
 use sg_base::{ByteOut, OutOfMemory};
 use sg_compose::ComposeFault;
 use sg_graph::Graph;
@@ -13,6 +12,7 @@ use sg_parse::ParseFault;
 use sg_program::CompileFault;
 use sg_script::ScriptFault;
 use std::alloc::Global;
+use std::fmt;
 
 /// What is wrong with a line of a schedule or of logs.
 #[derive(Debug, Clone, Copy)]
@@ -25,6 +25,48 @@ pub enum Wrong {
     Twice,
     /// It is a step of a principal that isn't honest.
     NotHonest,
+}
+
+impl fmt::Display for Wrong {
+    ghost use Rattle.std.specs.Prelude.{Some};
+    ghost use Rattle.sg_top.specs.Ending.{wrong_text};
+
+    ghost output = { λ wrong. Some (wrong_text wrong) };
+
+    fn fmt<W: fmt::Write>(&self, f: &mut fmt::Formatter<W>) -> fmt::Result {
+        match self {
+            Wrong::Form => f.write_str("form"),
+            Wrong::Unknown => f.write_str("unknown"),
+            Wrong::Twice => f.write_str("twice"),
+            Wrong::NotHonest => f.write_str("not-honest"),
+        }
+    }
+}
+
+/// Why a program isn't taken.
+#[derive(Debug, Clone, Copy)]
+pub enum BadProgram {
+    /// Its text is malformed at this offset.
+    Malformed { at: u32 },
+    /// This line of its table, counted from 1, is the first that isn't the program's.
+    NotTheTable { entry: usize },
+    /// A program before it is of the same graph and role, or of another graph with the same name.
+    Twice,
+}
+
+impl fmt::Display for BadProgram {
+    ghost use Rattle.std.specs.Prelude.{Some};
+    ghost use Rattle.sg_top.specs.Ending.{program_text};
+
+    ghost output = { λ cause. Some (program_text cause) };
+
+    fn fmt<W: fmt::Write>(&self, f: &mut fmt::Formatter<W>) -> fmt::Result {
+        match self {
+            BadProgram::Malformed { at } => write!(f, "malformed at {at}"),
+            BadProgram::NotTheTable { entry } => write!(f, "entry {entry}"),
+            BadProgram::Twice => f.write_str("twice"),
+        }
+    }
 }
 
 /// How the program ends.
@@ -118,69 +160,40 @@ impl<'w> Ending<'w> {
     {
         match self {
             Ending::Written | Ending::WriteFailed => Ok(()),
-            Ending::NoCommand => out.bytes(
-                b"usage: sessiongraph check|compile|run|replay|drive|ledger|keep|audit|compose\n",
+            Ending::NoCommand => writeln!(
+                out,
+                "usage: sessiongraph check|compile|run|replay|drive|ledger|keep|stream|audit|compose"
             ),
-            Ending::NoGraph { fault } => put_no_graph(out, fault),
-            Ending::NoExpansion { fault } => put_no_expansion(out, fault),
+            Ending::NoGraph { fault } => writeln!(out, "graph refused: {fault}"),
+            Ending::NoExpansion { fault } => writeln!(out, "graph refused: {fault}"),
             Ending::GraphRefused { graph, fault } => put_refusal(out, graph, fault),
-            Ending::NoRole { role } => put_word(out, b"input refused: role ", role),
-            Ending::WrongLine { line, wrong } => put_wrong_line(out, *line, wrong_word(*wrong)),
-            Ending::KeysRefused { fault } => put_no_keys(out, *fault),
-            Ending::ScriptRefused { fault } => put_no_script(out, *fault),
-            Ending::ProgramRefused { number, cause } => put_no_program(out, *number, *cause),
-            Ending::NoLedger => out.bytes(b"input refused: ledger not made\n"),
-            Ending::BadSlot { slot } => put_bad_slot(out, *slot),
-            Ending::LedgerNotEmpty => out.bytes(b"input refused: ledger not empty\n"),
-            Ending::FileFailed { file } => put_word(out, b"file failed: ", file),
-            Ending::LinkFailed => out.bytes(b"link failed\n"),
-            Ending::DiskFailed => out.bytes(b"disk failed\n"),
-            Ending::NoMemory => out.bytes(b"out of memory\n"),
-            Ending::NoSuchFile { file } => put_word(out, b"no such file: ", file),
-            Ending::TooLarge { what } => put_word(out, b"too large: ", what),
+            Ending::NoRole { role } => writeln!(out, "input refused: role {role}"),
+            Ending::WrongLine { line, wrong } => {
+                writeln!(out, "input refused: line {line} {wrong}")
+            }
+            Ending::KeysRefused { fault } => writeln!(out, "input refused: keys {fault}"),
+            Ending::ScriptRefused { fault } => writeln!(out, "input refused: script {fault}"),
+            Ending::ProgramRefused { number, cause } => {
+                writeln!(out, "input refused: program {number} {cause}")
+            }
+            Ending::NoLedger => writeln!(out, "input refused: ledger not made"),
+            Ending::BadSlot { slot } => writeln!(out, "input refused: ledger slot {slot}"),
+            Ending::LedgerNotEmpty => writeln!(out, "input refused: ledger not empty"),
+            Ending::FileFailed { file } => writeln!(out, "file failed: {file}"),
+            Ending::LinkFailed => writeln!(out, "link failed"),
+            Ending::DiskFailed => writeln!(out, "disk failed"),
+            Ending::NoMemory => writeln!(out, "out of memory"),
+            Ending::NoSuchFile { file } => writeln!(out, "no such file: {file}"),
+            Ending::TooLarge { what } => writeln!(out, "too large: {what}"),
         }
     }
 }
 
-// Writes the line that names a slot of a ledger.
-fn put_bad_slot(out: &mut ByteOut, slot: u32) -> Result<(), OutOfMemory>
-    ensures { OnOk result (out.new ≡ out.old ++ (codes "input refused: ledger slot " ++ decimal slot ++ 10 ∷ [])) }
+// Writes the line that says why a graph isn't accepted.
+fn put_refusal(out: &mut ByteOut, graph: &Graph, fault: &CompileFault) -> Result<(), OutOfMemory>
+    ensures { OnOk result (out.new ≡ out.old ++ (codes "graph refused: " ++ refusal_text graph.now fault.now ++ 10 ∷ [])) }
 {
-    out.bytes(b"input refused: ledger slot ")?;
-    out.decimal(slot as u64)?;
+    out.bytes(b"graph refused: ")?;
+    fault.put(out, graph)?;
     out.u8(b'\n')
-}
-
-// Writes a line that ends with a word.
-fn put_word(out: &mut ByteOut, text: &[u8], word: &str) -> Result<(), OutOfMemory>
-    ensures { OnOk result (out.new ≡ out.old ++ (text.now ++ word.now ++ 10 ∷ [])) }
-{
-    out.bytes(text)?;
-    out.bytes(word.as_bytes())?;
-    out.u8(b'\n')
-}
-
-fn put_wrong_line(out: &mut ByteOut, line: u32, word: &str) -> Result<(), OutOfMemory>
-    ensures { OnOk result (out.new ≡ out.old ++ (codes "input refused: line " ++ decimal line ++ 32 ∷ word.now ++ 10 ∷ [])) }
-{
-    out.bytes(b"input refused: line ")?;
-    put_number_and_word(out, line, word)
-}
-
-fn put_number_and_word(out: &mut ByteOut, number: u32, word: &str) -> Result<(), OutOfMemory>
-    ensures { OnOk result (out.new ≡ out.old ++ (decimal number ++ 32 ∷ word.now ++ 10 ∷ [])) }
-{
-    out.decimal(number as u64)?;
-    put_word(out, b" ", word)
-}
-
-fn wrong_word(wrong: Wrong) -> &'static str
-    ensures { result.now ≡ wrong_text wrong }
-{
-    match wrong {
-        Wrong::Form => "form",
-        Wrong::Unknown => "unknown",
-        Wrong::Twice => "twice",
-        Wrong::NotHonest => "not-honest",
-    }
 }

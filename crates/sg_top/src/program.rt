@@ -3,7 +3,7 @@ ghost use Rattle.std.specs.Prelude.{◌≡◌, ◌⊎◌, map, option_map, strin
 ghost use Rattle.sg_words.specs.Command.{CanBeDriven, command_of};
 ghost use Rattle.sg_words.specs.Model.{command_held};
 ghost use Rattle.sg_top.specs.Model.{ending_held};
-ghost use Rattle.sg_top.specs.Top.{Ends, HasPlayed, IsOnDisk, MayPlay, Puts, Says, Works};
+ghost use Rattle.sg_top.specs.Top.{Ends, HasPlayed, IsOnDisk, IsOverLink, IsOverStream, MayPlay, Puts, Says, Works, streamed};
 
 use crate::audit::audit;
 use crate::check::check;
@@ -17,6 +17,7 @@ use crate::replay::replay;
 use crate::run::run;
 use sg_base::{Files, Fresh, Link, Sink, write_all};
 use sg_ledger::Disk;
+use sg_stream::{Conns, StreamLink};
 use sg_words::{Command, CommandLine, Given};
 use std::alloc::Global;
 
@@ -26,12 +27,12 @@ use std::alloc::Global;
 /// each role has. `compile GRAPH ROLE` compiles it for one role and writes the program. `run KEYS SCRIPT N PROGRAM..` plays a script as
 /// one principal over `link`, with random words from `fresh` and at most N deliveries, and writes a line for each step. `ledger FILE` makes
 /// a ledger of a file of `disk`; `keep FILE KEYS SCRIPT N PROGRAM..` is `run` over the ledger of a file, to which each join is added before
-/// anything of it is told. `replay SCHEDULE` reads a schedule from a file, compiles its graphs, runs it, and writes the report of the run.
-/// `drive SEED SESSIONS GRAPH` reads a graph, compiles it, generates a run of it in so many sessions, and writes the summary. `audit LOGS`
-/// reads logs from a file, makes the checks of `check` for their graph, and writes of each session whether its logs agree. `compose PARTS`
-/// reads parts from a file, expands them, checks the expansion, and writes its canonical text. Whatever comes, `err` gets one line that
-/// says why, but where the output was written.
-pub fn top<F: Files, O: Sink, E: Sink, L: Link, R: Fresh, D: Disk>(
+/// anything of it is told. `stream KEYS SCRIPT N PROGRAM..` is `run` over the connections of `stream`. `replay SCHEDULE` reads a schedule from
+/// a file, compiles its graphs, runs it, and writes the report of the run. `drive SEED SESSIONS GRAPH` reads a graph, compiles it, generates
+/// a run of it in so many sessions, and writes the summary. `audit LOGS` reads logs from a file, makes the checks of `check` for their graph,
+/// and writes of each session whether its logs agree. `compose PARTS` reads parts from a file, expands them, checks the expansion, and
+/// writes its canonical text. Whatever comes, `err` gets one line that says why, but where the output was written.
+pub fn top<F: Files, O: Sink, E: Sink, L: Link, R: Fresh, D: Disk, C: Conns>(
     alloc: Global,
     words: &[String],
     files: &mut F,
@@ -40,27 +41,31 @@ pub fn top<F: Files, O: Sink, E: Sink, L: Link, R: Fresh, D: Disk>(
     link: &mut L,
     fresh: &mut R,
     disk: &mut D,
+    stream: &mut StreamLink<C>,
 ) -> u8
     ensures ends { Ends (map string_bytes words.now) (F.held files.old) (F.faults files.old) (F.faults files.new)
         (record { out = record { bytes = O.written out.old; faults = O.faults out.old }; link = record { deliveries = L.deliveries link.old; sent = L.sent link.old; faults = L.faults link.old }; words = R.words fresh.old })
         (record { out = record { bytes = O.written out.new; faults = O.faults out.new }; link = record { deliveries = L.deliveries link.new; sent = L.sent link.new; faults = L.faults link.new }; words = R.words fresh.new })
+        (streamed C.held C.faults stream.old) (streamed C.held C.faults stream.new)
         (record { seen = D.seen disk.old; may_leave = D.may_leave disk.old; faults = D.faults disk.old }) (record { seen = D.seen disk.new; may_leave = D.may_leave disk.new; faults = D.faults disk.new })
         (record { bytes = E.written err.old; faults = E.faults err.old }) (record { bytes = E.written err.new; faults = E.faults err.new }) result }
 
-    // The link and the random words are as before where no run began.
-    ensures as_before { MayPlay (map string_bytes words.now) result ⊎ ((link.new ≡ link.old) × (fresh.new ≡ fresh.old)) }
+    // Both links and the random words are as before where no run began.
+    ensures as_before { MayPlay (map string_bytes words.now) result ⊎ ((link.new ≡ link.old) × (stream.new ≡ stream.old) × (fresh.new ≡ fresh.old)) }
 
-    // So is the disk where the words are not on a ledger.
+    // So is each link where the words ask for no run over it, and the disk where they are not on a ledger.
+    ensures link { IsOverLink (command_of (map string_bytes words.now)) ⊎ (link.new ≡ link.old) }
+    ensures stream { IsOverStream (command_of (map string_bytes words.now)) ⊎ (stream.new ≡ stream.old) }
     ensures disk { IsOnDisk (command_of (map string_bytes words.now)) ⊎ (disk.new ≡ disk.old) }
 {
     match CommandLine::new(alloc, words) {
-        Ok(line) => on_line(alloc, &line, files, out, err, link, fresh, disk),
+        Ok(line) => on_line(alloc, &line, files, out, err, link, fresh, disk, stream),
         Err(_) => say(alloc, &Ending::NoMemory, err),
     }
 }
 
 // Does what a command line asks for.
-fn on_line<F: Files, O: Sink, E: Sink, L: Link, R: Fresh, D: Disk>(
+fn on_line<F: Files, O: Sink, E: Sink, L: Link, R: Fresh, D: Disk, S: Link>(
     alloc: Global,
     line: &CommandLine<'_>,
     files: &mut F,
@@ -69,25 +74,38 @@ fn on_line<F: Files, O: Sink, E: Sink, L: Link, R: Fresh, D: Disk>(
     link: &mut L,
     fresh: &mut R,
     disk: &mut D,
+    stream: &mut S,
 ) -> u8
     ensures ends { Ends line.now (F.held files.old) (F.faults files.old) (F.faults files.new)
         (record { out = record { bytes = O.written out.old; faults = O.faults out.old }; link = record { deliveries = L.deliveries link.old; sent = L.sent link.old; faults = L.faults link.old }; words = R.words fresh.old })
         (record { out = record { bytes = O.written out.new; faults = O.faults out.new }; link = record { deliveries = L.deliveries link.new; sent = L.sent link.new; faults = L.faults link.new }; words = R.words fresh.new })
+        (record { deliveries = S.deliveries stream.old; sent = S.sent stream.old; faults = S.faults stream.old }) (record { deliveries = S.deliveries stream.new; sent = S.sent stream.new; faults = S.faults stream.new })
         (record { seen = D.seen disk.old; may_leave = D.may_leave disk.old; faults = D.faults disk.old }) (record { seen = D.seen disk.new; may_leave = D.may_leave disk.new; faults = D.faults disk.new })
         (record { bytes = E.written err.old; faults = E.faults err.old }) (record { bytes = E.written err.new; faults = E.faults err.new }) result }
-    ensures as_before { MayPlay line.now result ⊎ ((link.new ≡ link.old) × (fresh.new ≡ fresh.old)) }
+    ensures as_before { MayPlay line.now result ⊎ ((link.new ≡ link.old) × (stream.new ≡ stream.old) × (fresh.new ≡ fresh.old)) }
+    ensures link { IsOverLink (command_of line.now) ⊎ (link.new ≡ link.old) }
+    ensures stream { IsOverStream (command_of line.now) ⊎ (stream.new ≡ stream.old) }
     ensures disk { IsOnDisk (command_of line.now) ⊎ (disk.new ≡ disk.old) }
 {
     match Given::read(alloc, line) {
         Ok(given) => {
-            let ending = work(alloc, given.command(), files, out, link, fresh, disk);
+            let ending = work(
+                alloc,
+                given.command(),
+                files,
+                out,
+                link,
+                fresh,
+                disk,
+                stream,
+            );
             say(alloc, &ending, err)
         }
         Err(_) => say(alloc, &Ending::NoMemory, err),
     }
 }
 
-fn work<'w, F: Files, O: Sink, L: Link, R: Fresh, D: Disk>(
+fn work<'w, F: Files, O: Sink, L: Link, R: Fresh, D: Disk, S: Link>(
     alloc: Global,
     command: Option<Command<'w>>,
     files: &mut F,
@@ -95,14 +113,18 @@ fn work<'w, F: Files, O: Sink, L: Link, R: Fresh, D: Disk>(
     link: &mut L,
     fresh: &mut R,
     disk: &mut D,
+    stream: &mut S,
 ) -> Ending<'w>
     requires { CanBeDriven (option_map command_held command) }
     ensures works { Works (option_map command_held command.entry) (F.held files.old) (F.faults files.old) (F.faults files.new)
         (record { out = record { bytes = O.written out.old; faults = O.faults out.old }; link = record { deliveries = L.deliveries link.old; sent = L.sent link.old; faults = L.faults link.old }; words = R.words fresh.old })
         (record { out = record { bytes = O.written out.new; faults = O.faults out.new }; link = record { deliveries = L.deliveries link.new; sent = L.sent link.new; faults = L.faults link.new }; words = R.words fresh.new })
+        (record { deliveries = S.deliveries stream.old; sent = S.sent stream.old; faults = S.faults stream.old }) (record { deliveries = S.deliveries stream.new; sent = S.sent stream.new; faults = S.faults stream.new })
         (record { seen = D.seen disk.old; may_leave = D.may_leave disk.old; faults = D.faults disk.old }) (record { seen = D.seen disk.new; may_leave = D.may_leave disk.new; faults = D.faults disk.new })
         (ending_held result) }
-    ensures as_before { HasPlayed (option_map command_held command.entry) (ending_held result) ⊎ ((link.new ≡ link.old) × (fresh.new ≡ fresh.old)) }
+    ensures as_before { HasPlayed (option_map command_held command.entry) (ending_held result) ⊎ ((link.new ≡ link.old) × (stream.new ≡ stream.old) × (fresh.new ≡ fresh.old)) }
+    ensures link { IsOverLink (option_map command_held command.entry) ⊎ (link.new ≡ link.old) }
+    ensures stream { IsOverStream (option_map command_held command.entry) ⊎ (stream.new ≡ stream.old) }
     ensures disk { IsOnDisk (option_map command_held command.entry) ⊎ (disk.new ≡ disk.old) }
 {
     match command {
@@ -138,6 +160,16 @@ fn work<'w, F: Files, O: Sink, L: Link, R: Fresh, D: Disk>(
             },
         ) => keep(
             alloc, file, keys, script, deliveries, programs, files, out, link, fresh, disk,
+        ),
+        Some(
+            Command::Stream {
+                keys,
+                script,
+                deliveries,
+                programs,
+            },
+        ) => run(
+            alloc, keys, script, deliveries, programs, files, out, stream, fresh,
         ),
         Some(Command::Audit { file }) => audit(alloc, file, files, out),
         Some(Command::Compose { file }) => compose(alloc, file, files, out),

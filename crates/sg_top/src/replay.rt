@@ -55,7 +55,12 @@ fn replay_bytes<O: Sink>(alloc: Global, bytes: &[u8], out: &mut O) -> Ending<'st
     ensures { Replays bytes.now (record { bytes = O.written out.old; faults = O.faults out.old }) (record { bytes = O.written out.new; faults = O.faults out.new }) (ending_held result) }
 {
     match read_schedule(alloc, bytes) {
-        Ok(schedule) => replay_schedule(alloc, bytes, &schedule, out),
+        Ok(schedule) => {
+            let ending = replay_schedule(alloc, bytes, &schedule, out);
+            // The program ends next, as for the record below.
+            mem::forget(schedule);
+            ending
+        }
         Err(fault) => refused(fault),
     }
 }

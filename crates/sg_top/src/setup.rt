@@ -7,9 +7,8 @@ ghost use Rattle.sg_script.specs.Format.{SpellsScript};
 ghost use Rattle.sg_top.specs.Model.{ending_held};
 ghost use Rattle.sg_top.specs.Setup.{Adds, EndsAt, HasSetup, HoldPrograms, Holds, IsTextOf, LacksSetup, RefusesKeys, RefusesProgram, RefusesScript, StopsAtProgram};
 
-use crate::ending::Ending;
+use crate::ending::{BadProgram, Ending};
 use crate::file::read_file;
-use crate::input::BadProgram;
 use sg_base::Files;
 use sg_keys::{KeyFault, Keyring};
 use sg_program::{AddProgramFault, LoadFault, Program, Programs};

@@ -5,7 +5,7 @@ use Rattle.std.proofs.Common.{arith}
 use Rattle.std.proofs.lemmas.Bool.{ltb-true, leb-true}
 use Rattle.sg_base.specs.Words.{number, from_one, up_to, value, is_digit, has_needless_zero}
 use Rattle.sg_model.specs.Limits.{most_deliveries}
-use Rattle.sg_words.specs.Command.{Command, Check, Compile, Run, Replay, Drive, Ledger, Keep, Audit, Compose, CanBeDriven, command_of, driving, few, is_option, keeping, most_driven, most_seed, named, on_file, running, sessions_of}
+use Rattle.sg_words.specs.Command.{Command, Check, Compile, Run, Replay, Drive, Ledger, Keep, Stream, Audit, Compose, CanBeDriven, command_of, driving, few, is_option, keeping, most_driven, most_seed, named, on_file, running, sessions_of, streaming}
 
 -- a number, if any, of at most so many
 abbrev AtMost : ℕ → Option ℕ → Type 0
@@ -82,6 +82,17 @@ keeps (file ∷ keys ∷ script ∷ n ∷ program ∷ more) = found (number most
     found None = tt
     found (Some d) = tt
 
+streams : (words : List (List ℕ)) → CanBeDriven (streaming words)
+streams [] = tt
+streams (keys ∷ []) = tt
+streams (keys ∷ script ∷ []) = tt
+streams (keys ∷ script ∷ n ∷ []) = tt
+streams (keys ∷ script ∷ n ∷ program ∷ more) = found (number most_deliveries n)
+  where
+    found : (o : Option ℕ) → CanBeDriven (option_map (λ d. Stream keys script d (program ∷ more)) o)
+    found None = tt
+    found (Some d) = tt
+
 file_alone : (name file : List ℕ) → CanBeDriven (on_file name file)
 file_alone name file =
     either (bytes_eq name (codes "check")) (Some (Check file)) _ tt
@@ -103,4 +114,5 @@ can_be_driven (name ∷ words) =
     either (list_any is_option (name ∷ words)) None (named name words) tt
     (either (bytes_eq name (codes "run")) (running words) _ (runs words)
     (either (bytes_eq name (codes "drive")) (driving words) _ (drives words)
-    (either (bytes_eq name (codes "keep")) (keeping words) (few name words) (keeps words) (others name words))))
+    (either (bytes_eq name (codes "keep")) (keeping words) _ (keeps words)
+    (either (bytes_eq name (codes "stream")) (streaming words) (few name words) (streams words) (others name words)))))

@@ -13,6 +13,7 @@ pub data Command : Type 0 where
   Drive : (seed sessions : ℕ) → (file : List ℕ) → Command
   Ledger : (file : List ℕ) → Command
   Keep : (file keys script : List ℕ) → (deliveries : ℕ) → (programs : List (List ℕ)) → Command
+  Stream : (keys script : List ℕ) → (deliveries : ℕ) → (programs : List (List ℕ)) → Command
   Audit : (file : List ℕ) → Command
   Compose : (file : List ℕ) → Command
 
@@ -78,12 +79,21 @@ keeping (file ∷ keys ∷ script ∷ []) = None
 keeping (file ∷ keys ∷ script ∷ n ∷ []) = None
 keeping (file ∷ keys ∷ script ∷ n ∷ program ∷ more) = option_map (λ d. Keep file keys script d (program ∷ more)) (number most_deliveries n)
 
+-- KEYS SCRIPT N PROGRAM.. again, over connections
+abbrev pub streaming : List (List ℕ) → Option Command
+streaming [] = None
+streaming (keys ∷ []) = None
+streaming (keys ∷ script ∷ []) = None
+streaming (keys ∷ script ∷ n ∷ []) = None
+streaming (keys ∷ script ∷ n ∷ program ∷ more) = option_map (λ d. Stream keys script d (program ∷ more)) (number most_deliveries n)
+
 -- the command of this name, with these words behind it
 abbrev pub named : (name : List ℕ) → List (List ℕ) → Option Command
 named name words =
     if bytes_eq name (codes "run") then running words
     else if bytes_eq name (codes "drive") then driving words
     else if bytes_eq name (codes "keep") then keeping words
+    else if bytes_eq name (codes "stream") then streaming words
     else few name words
 
 -- the command, where the words are in the table and none begins with -

@@ -2,7 +2,7 @@
 use Rattle.std.specs.Prelude.{map}
 use Rattle.sg_words.specs.Command as Asked
 use Rattle.sg_words.specs.declared.command.Command.{Command}
-use Rattle.sg_words.specs.declared.command.Command.TheVariants.{Check, Compile, Run, Replay, Drive, Ledger, Keep, Audit, Compose}
+use Rattle.sg_words.specs.declared.command.Command.TheVariants.{Check, Compile, Run, Replay, Drive, Ledger, Keep, Stream, Audit, Compose}
 
 -- the command that is held
 abbrev pub command_held : Command → Asked.Command
@@ -13,5 +13,6 @@ command_held (Replay file) = Asked.Replay file.now
 command_held (Drive seed sessions file) = Asked.Drive seed sessions file.now
 command_held (Ledger file) = Asked.Ledger file.now
 command_held (Keep file keys script deliveries programs) = Asked.Keep file.now keys.now script.now deliveries (map (λ s. s.now) programs.now)
+command_held (Stream keys script deliveries programs) = Asked.Stream keys.now script.now deliveries (map (λ s. s.now) programs.now)
 command_held (Audit file) = Asked.Audit file.now
 command_held (Compose file) = Asked.Compose file.now

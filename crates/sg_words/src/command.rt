@@ -3,7 +3,7 @@ ghost use Rattle.std.specs.Prelude.{◌≡◌, map, option_map};
 ghost use Rattle.std.specs.List.{list_any};
 ghost use Rattle.sg_base.specs.Words.{number};
 ghost use Rattle.sg_model.specs.Limits.{most_deliveries};
-ghost use Rattle.sg_words.specs.Command.{command_of, driving, few, is_option, keeping, named, on_file, on_file_and_role, running, sessions_of};
+ghost use Rattle.sg_words.specs.Command.{command_of, driving, few, is_option, keeping, named, on_file, on_file_and_role, running, sessions_of, streaming};
 ghost use Rattle.sg_words.specs.Model.{command_held};
 
 use sg_base::read_number;
@@ -66,6 +66,17 @@ pub enum Command<'w> {
         /// The files of the programs, at least one.
         programs: &'w [&'w str],
     },
+    /// Runs one principal over connections.
+    Stream {
+        /// The key file.
+        keys: &'w str,
+        /// The file of the script.
+        script: &'w str,
+        /// How many deliveries are taken at most, up to 1,000,000.
+        deliveries: u32,
+        /// The files of the programs, at least one.
+        programs: &'w [&'w str],
+    },
     /// Audits logs.
     Audit {
         /// The file of the logs.
@@ -99,6 +110,7 @@ fn named<'w>(name: &str, words: &'w [&'w str]) -> Option<Command<'w>>
         "run" => running(words),
         "drive" => driving(words),
         "keep" => keeping(words),
+        "stream" => streaming(words),
         name => few(name, words),
     }
 }
@@ -148,6 +160,24 @@ fn keeping<'w>(words: &'w [&'w str]) -> Option<Command<'w>>
             let deliveries = deliveries_of(deliveries)?;
             Some(Command::Keep {
                 file,
+                keys,
+                script,
+                deliveries,
+                programs,
+            })
+        }
+        _ => None,
+    }
+}
+
+// The command that runs one principal over connections.
+fn streaming<'w>(words: &'w [&'w str]) -> Option<Command<'w>>
+    ensures { option_map command_held result ≡ streaming (map (λ s. s.now) words.now) }
+{
+    match words {
+        [keys, script, most, programs @ ..] if programs.len() > 0 => {
+            let deliveries = deliveries_of(most)?;
+            Some(Command::Stream {
                 keys,
                 script,
                 deliveries,

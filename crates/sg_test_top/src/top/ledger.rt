@@ -1,7 +1,7 @@
 //! Ledgers, and runs over them, on disks in memory.
 use super::{
-    LINES, Outside, REQUEST, REQUESTER, START, WHOLE, and_err, file, link, out, quiet_link, run_on,
-    text, three_files,
+    LINES, Outside, REQUEST, REQUESTER, START, WHOLE, and_err, file, link, no_stream, out,
+    quiet_link, run_on, text, three_files,
 };
 use sg_ledger::MemDisk;
 use std::alloc::Global;
@@ -36,7 +36,17 @@ fn ends_on(
     let program = text(alloc, rt, &[REQUESTER]);
     let files = three_files(alloc, rt, script, program, outside.file);
     let mut link = quiet_link(alloc, rt, outside.link);
-    let left = run_on(alloc, rt, line, files, outside, &mut link, disk);
+    let mut stream = no_stream(alloc, rt);
+    let left = run_on(
+        alloc,
+        rt,
+        line,
+        files,
+        outside,
+        &mut link,
+        disk,
+        &mut stream,
+    );
     assert!(rt;
         left.is(status, out.as_bytes(), err) && link.frames().len() == sent,
         "{line}: {status} {out}{err}"

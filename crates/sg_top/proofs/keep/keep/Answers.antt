@@ -1,5 +1,4 @@
 use Rattle.std.proofs.Common.{inl, inr, refl}
-use Rattle.sg_top.specs.Setup.{Setup}
 use Rattle.sg_top.proofs.keep.keep.Goals as goal
 
 pub returns-in-Ok-clause-keeps : goal.returns-in-Ok-clause-keeps

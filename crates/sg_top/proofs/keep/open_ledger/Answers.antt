@@ -1,4 +1,4 @@
-use Rattle.std.proofs.Common.{◌≡◌, ◌∙◌, Err, ap}
+use Rattle.std.proofs.Common.{◌∙◌, Err, ap}
 use Rattle.sg_ledger.specs.declared.ledger.OpenFault.{OpenFault}
 use Rattle.sg_top.proofs.InOrder.{rises}
 use Rattle.sg_top.proofs.keep.open_ledger.Goals as goal

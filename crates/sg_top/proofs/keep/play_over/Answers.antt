@@ -1,4 +1,3 @@
-use Rattle.std.proofs.Common.{refl}
 use Rattle.sg_top.specs.Ends.{Output}
 use Rattle.sg_top.specs.Ledgers.{Disked}
 use Rattle.sg_top.specs.Runs.{Linked, Outside}

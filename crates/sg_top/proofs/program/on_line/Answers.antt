@@ -1,4 +1,4 @@
-use Rattle.std.proofs.Common.{List, ℕ, ◌≡◌, refl, sym, ap, ◌∙◌, subst, inl, inr}
+use Rattle.std.proofs.Common.{◌≡◌, refl, sym, ap, ◌∙◌, subst, inl, inr}
 use Rattle.std.specs.Option.{option_map}
 use Rattle.sg_words.specs.Command.{CanBeDriven, command_of}
 use Rattle.sg_words.specs.Model.{command_held}
@@ -23,9 +23,19 @@ returns-in-Ok-clause-as_before g c =
     may_play c.args.line.now (option_map command_held c.command.result) (ending_held c.work-ending.result) _ _ c.say.result (c.command.ensures ∙ ap command_of c.in-Ok.ensures) c.work-ending.ensures.as_before c.say.ensures
 
 pub returns-in-Err-clause-ends : goal.returns-in-Err-clause-ends
-returns-in-Err-clause-ends g c = record { work = NoMemory; does = inr ((refl, refl, refl), refl); says = c.say-in-Err.ensures }
+returns-in-Err-clause-ends g c = record { work = NoMemory; does = inr ((refl, refl, refl), ((refl, λ image left. left), λ image left. left, refl), refl); says = c.say-in-Err.ensures }
 
 pub returns-in-Ok-clause-disk : goal.returns-in-Ok-clause-disk
 returns-in-Ok-clause-disk g c =
     let same : option_map command_held c.command.result ≡ command_of c.args.line.now = c.command.ensures ∙ ap command_of c.in-Ok.ensures in
     rw same at c.work-ending.ensures.disk
+
+pub returns-in-Ok-clause-link : goal.returns-in-Ok-clause-link
+returns-in-Ok-clause-link g c =
+    let same : option_map command_held c.command.result ≡ command_of c.args.line.now = c.command.ensures ∙ ap command_of c.in-Ok.ensures in
+    rw same at c.work-ending.ensures.link
+
+pub returns-in-Ok-clause-stream : goal.returns-in-Ok-clause-stream
+returns-in-Ok-clause-stream g c =
+    let same : option_map command_held c.command.result ≡ command_of c.args.line.now = c.command.ensures ∙ ap command_of c.in-Ok.ensures in
+    rw same at c.work-ending.ensures.stream

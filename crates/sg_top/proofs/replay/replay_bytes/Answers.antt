@@ -4,8 +4,8 @@ use Rattle.sg_top.proofs.Refused.{no_schedule}
 use Rattle.sg_top.proofs.Spelled.{spelled_named, spelled_taken}
 use Rattle.sg_top.proofs.replay.replay_bytes.Goals as goal
 
-pub replay_schedule-requires-clause-can : goal.replay_schedule-requires-clause-can
-replay_schedule-requires-clause-can g c = record {
+pub replay_schedule-ending-requires-clause-can : goal.replay_schedule-ending-requires-clause-can
+replay_schedule-ending-requires-clause-can g c = record {
   meant = c.in-Ok.ensures.meant;
   honest = spelled_taken real c.args.bytes.now c.in-Ok.schedule c.in-Ok.ensures.found;
   named = spelled_named real c.args.bytes.now c.in-Ok.schedule c.in-Ok.ensures.found;

@@ -2,8 +2,6 @@ use Rattle.std.proofs.Common.{[], Err, ap, refl, ◌∙◌}
 use Rattle.sg_protocol.specs.Keyring.{Keyring}
 use Rattle.sg_protocol.specs.NodeStates.{new_state}
 use Rattle.sg_play.specs.declared.fault.PlayFault.TheVariants as Play
-use Rattle.sg_top.specs.Runs.{Outside}
-use Rattle.sg_top.specs.Setup.{Setup}
 use Rattle.sg_top.proofs.Playing.{none_left, unplayed}
 use Rattle.sg_top.proofs.run.play_on.Goals as goal
 

@@ -1,8 +1,6 @@
-use Rattle.std.proofs.Common.{Err, ap, refl, ◌∙◌}
+use Rattle.std.proofs.Common.{Err, refl, ◌∙◌}
 use Rattle.std.proofs.lemmas.Result.{on_ok_weaker}
 use Rattle.sg_play.specs.declared.fault.PlayFault.TheVariants as Play
-use Rattle.sg_top.specs.Runs.{Outside}
-use Rattle.sg_top.specs.Setup.{Setup}
 use Rattle.sg_top.proofs.InOrder.{rises}
 use Rattle.sg_top.proofs.Playing.{none_left, opened, unplayed}
 use Rattle.sg_top.proofs.run.play_setup.Goals as goal

@@ -1,7 +1,6 @@
 use Rattle.std.proofs.Common.{Err, inl, inr, refl, ap, ◌∙◌}
 use Rattle.sg_play.specs.declared.fault.PlayFault.{PlayFault}
 use Rattle.sg_play.specs.declared.fault.PlayFault.TheVariants as Play
-use Rattle.sg_top.specs.Runs.{Outside}
 use Rattle.sg_top.specs.Setup.{Setup}
 use Rattle.sg_top.specs.declared.setup.Setup as Held
 use Rattle.sg_top.proofs.Playing.{ended_as}

@@ -1,4 +1,4 @@
-use Rattle.std.proofs.Common.{map, ◌∙◌, Bor, List, ℕ, arith}
+use Rattle.std.proofs.Common.{map, Bor, List, ℕ, arith}
 use Rattle.std.proofs.lemmas.Result.{err_from_is_err_and}
 use Rattle.sg_top.specs.Model.{ending_held}
 use Rattle.sg_top.specs.Setup.{Named, AtKeys}

@@ -2,9 +2,7 @@ use Rattle.std.proofs.Common.{inl}
 use Rattle.std.proofs.lemmas.Result.{err_from_is_err_and}
 use Rattle.sg_model.specs.Limits.{most_script_file}
 use Rattle.sg_script.specs.Format.{SpellsScript}
-use Rattle.sg_top.specs.Ending.{ScriptRefused}
-use Rattle.sg_top.specs.Setup.{RefusesScript}
-use Rattle.sg_top.proofs.InOrder.{holds, refuses}
+use Rattle.sg_top.proofs.InOrder.{holds}
 use Rattle.sg_top.proofs.setup.script_of.Goals as goal
 
 pub returns-in_err-bytes-clause-ends : goal.returns-in_err-bytes-clause-ends
