@@ -4,9 +4,9 @@
 # byte alone. Without memory a run must end with status 8, say `out of memory` and write nothing, or end as it does with ample memory, where a growth that
 # is refused only saves time. Where a call on a file fails, it must end with status 5, say so and write nothing; where one on what it writes fails, with
 # status 6, and what is written is a front part of what it writes else; where one of a socket fails, with 7, and where there is no seed, with 12. What
-# `run` writes before memory is wanted or the link fails stays, in whole lines. Where a call takes one byte, it must end as ever. Prints for each run how
-# many allocations and calls it makes, each of which was tried, and with what statuses these runs ended. Needs python3 and a C compiler; no part of the
-# gate.
+# `run`, `keep` and `stream` write before memory is wanted or a call fails stays, in whole lines; where one on a ledger fails, with 11. Where a call takes
+# one byte, it must end as ever. Of `stream` the allocations alone are tried, with a peer that takes what is sent. Prints for each run how many allocations
+# and calls it makes, each of which was tried, and with what statuses these runs ended. Needs python3 and a C compiler; no part of the gate.
 #
 #     bench/allocations.sh [PROGRAM]
 #
@@ -28,6 +28,7 @@ cat >"$folder/failing.c" <<'C'
 #include <stdlib.h>
 #include <string.h>
 #include <sys/socket.h>
+#include <sys/stat.h>
 #include <sys/types.h>
 #include <unistd.h>
 
@@ -67,7 +68,7 @@ int posix_memalign(void **block, size_t wide, size_t size) {
     return *block ? 0 : ENOMEM;
 }
 
-// What was called: O, R, W, S for a seed or L for a socket, and for R and W the file's number.
+// What was called: O, R, W, D where a file is synced, measured or its place is set, S for a seed or L for a socket, and for R and W the file's number.
 static char told[65536];
 static size_t told_length;
 
@@ -125,6 +126,19 @@ ssize_t write(int file, const void *bytes, size_t size) {
     return ((ssize_t (*)(int, const void *, size_t))next("write"))(file, bytes, taken(size));
 }
 
+#define OF_FILE(name, result, head, words)                                   \
+    result name head {                                                       \
+        tell('D', 0);                                                        \
+        if (fails()) return failed();                                        \
+        return ((result (*) head)next(#name)) words;                         \
+    }
+OF_FILE(lseek, off_t, (int file, off_t at, int from), (file, at, from))
+OF_FILE(lseek64, off64_t, (int file, off64_t at, int from), (file, at, from))
+OF_FILE(fsync, int, (int file), (file))
+OF_FILE(fdatasync, int, (int file), (file))
+OF_FILE(fstat, int, (int file, struct stat *found), (file, found))
+OF_FILE(fstat64, int, (int file, struct stat64 *found), (file, found))
+
 int getentropy(void *bytes, size_t size) {
     tell('S', 0);
     if (fails()) return failed();
@@ -171,8 +185,10 @@ python3 - "$program" "$folder" "$here" <<'PYTHON'
 import collections
 import os
 import pathlib
+import socket
 import subprocess
 import sys
+import threading
 
 program, folder, here = sys.argv[1], pathlib.Path(sys.argv[2]), pathlib.Path(sys.argv[3])
 PAIR = 'graph pair;role a;role b;node n0:a;node n1:b;node n2:a;edge Request:n0->n1;edge Reply:n1->n2;\n'
@@ -181,7 +197,8 @@ SCRIPT = ('[[start]]\ngraph = "pair"\ncast = ["a", "b"]\n' * 2
           + '[[choice]]\ngraph = "pair"\nnode = "n0"\nlabel = "Request"\nvalues = {}\ntimes = 2\n')
 REQUESTER = ('sg-program 1\nrole a\ngraph pair;\nrole a;\nrole b;\nnode n0: a;\nnode n1: b;\nnode n2: a;\nedge Request: n0 -> n1;\nedge Reply: n1 -> n2;\n'
              'table\nturn n0: Request\nturn n2:\nview Request: Reply/00000000\nend\n')
-# What is run, over which file, which stands as `f`. Besides there are `k`, `s` and `p`, the keys, the script and the program of a principal.
+# What is run, over which file, which stands as `f`. Besides there are `k`, `s` and `p`, the keys, the script and the program of a principal, and `l`, a
+# ledger without joins. Both `f` and `l` are there anew before each run.
 RUNS = [
     ('check of two roles', ['check', 'f'], PAIR),
     ('check of the shop', ['check', 'f'], here / 'examples/shop.graph'),
@@ -201,6 +218,10 @@ RUNS = [
     ('compose', ['compose', 'f'], here / 'examples/marketplace.parts'),
     ('run of two starts', ['run', 'k', 's', '0', 'p'], ''),
     ('run of what is no script', ['run', 'k', 'f', '0', 'p'], 'start'),
+    ('ledger', ['ledger', 'f'], ''),
+    ('keep of two starts', ['keep', 'l', 'k', 's', '0', 'p'], ''),
+    ('keep where there is no ledger', ['keep', 'f', 'k', 's', '0', 'p'], 'SGLEDG01'),
+    ('stream of two starts', ['stream', 'k', 's', '0', 'p'], ''),
     ('no command', ['draw', 'f'], PAIR),
 ]
 # An answer: the status, and what is on standard output and on standard error.
@@ -208,24 +229,35 @@ Answer = collections.namedtuple('Answer', 'status out err')
 failed = 0
 
 
-def run(words, **how):
+def run(words, text, **how):
     """What the program answers where calls fail so."""
+    if words[0] in ('ledger', 'keep'):
+        (folder / 'room/f').write_bytes(text)
+        (folder / 'room/l').write_bytes(ledger)
     added = {'LD_PRELOAD': str(folder / 'failing.so'), 'COUNTS': str(folder / 'counts'), **{name: str(number) for name, number in how.items()}}
     ended = subprocess.run([program, *words], env={**os.environ, **added}, cwd=folder / 'room', capture_output=True, stdin=subprocess.DEVNULL, check=False)
     return Answer(ended.returncode, ended.stdout, ended.stderr)
 
 
-def try_all(name, what, words, count, kind, may):
+def try_all(name, what, words, text, count, kind, may):
     """Runs with each number up to the count, and gives in words how these runs ended."""
     global failed
     ends = collections.Counter()
     for number in range(1, count + 1):
-        answer = run(words, **{kind: number})
+        answer = run(words, text, **{kind: number})
         ends[answer.status] += 1
         if not may(number, answer):
             failed += 1
             print(f'{name}: {what} {number}: status {answer.status}, {answer.out[:80]!r}, {answer.err[:80]!r}')
     return f'{what}: ' + (', '.join(f'{many} ended with {status}' for status, many in sorted(ends.items())) or 'none')
+
+
+def take(server):
+    """Takes what comes over the connections to a peer."""
+    while True:
+        with server.accept()[0] as connection:
+            while connection.recv(65536):
+                pass
 
 
 def is_front(part, whole):
@@ -234,16 +266,22 @@ def is_front(part, whole):
 
 def ends_early(answer, status, line, words, whole):
     """Whether the program ended so, and wrote nothing but what a run writes before."""
-    lines = answer.out == b'' or words[0] == 'run' and is_front(answer.out, whole) and answer.out.endswith(b'\n')
+    lines = answer.out == b'' or words[0] in ('run', 'keep', 'stream') and is_front(answer.out, whole) and answer.out.endswith(b'\n')
     return answer.status == status and answer.err == line and lines
 
 
 (folder / 'room').mkdir()
 for name, text in (('k', KEYS), ('s', SCRIPT), ('p', REQUESTER)):
     (folder / 'room' / name).write_text(text)
+(folder / 'room/l').touch()
+if subprocess.run([program, 'ledger', 'l'], cwd=folder / 'room', stdout=subprocess.DEVNULL, check=False).returncode != 0:
+    sys.exit('no ledger is made')
+ledger = (folder / 'room/l').read_bytes()
+threading.Thread(target=take, args=(socket.create_server(('127.0.0.1', 47332)),), daemon=True).start()
 for name, words, text in RUNS:
-    (folder / 'room/f').write_bytes(text.encode() if isinstance(text, str) else text.read_bytes())
-    wanted = run(words)
+    text = text.encode() if isinstance(text, str) else text.read_bytes()
+    (folder / 'room/f').write_bytes(text)
+    wanted = run(words, text)
     allocations, calls, told = (folder / 'counts').read_text().split(' ')
     kinds = [told[place:place + 2] for place in range(0, len(told), 2)]
     if int(calls) != len(kinds):
@@ -259,14 +297,17 @@ for name, words, text in RUNS:
             return ends_early(answer, 7, b'link failed\n', words, wanted.out)
         if kinds[number - 1] == 'S0':
             return answer == Answer(12, b'', b'no random seed\n')
+        if words[0] in ('ledger', 'keep') and ends_early(answer, 11, b'disk failed\n', words, wanted.out):
+            return True
         return answer in [Answer(5, b'', f'file failed: {word}\n'.encode()) for word in words[1:]]
 
     def as_ever(_, answer):
         return answer == wanted
 
-    without = [try_all(name, what, words, int(allocations), kind, without_memory)
+    without = [try_all(name, what, words, text, int(allocations), kind, without_memory)
                for what, kind in (('each refused', 'REFUSED'), ('all refused from each on', 'REFUSED_FROM'))]
-    failing = [try_all(name, 'each failing', words, int(calls), 'FAILING', with_failing_call), try_all(name, 'each taking a byte', words, int(calls), 'SHORT', as_ever)]
+    calls = 0 if words[0] == 'stream' else int(calls)
+    failing = [try_all(name, 'each failing', words, text, calls, 'FAILING', with_failing_call), try_all(name, 'each taking a byte', words, text, calls, 'SHORT', as_ever)]
     print(f'{name}: {allocations} allocations, ' + '; '.join(without) + f'; {calls} calls, ' + '; '.join(failing), flush=True)
 sys.exit(1 if failed else 0)
 PYTHON

@@ -44,8 +44,9 @@ built() {
     printf '%s\n' "$bench/out/$name"
 }
 
-# hashes: makes a program that makes as many tags and digests as the file `counts` where it runs says, by the product's own `Key::tag` and `graph_digest`: a
-# line for each kind and length, `t` or `d`, how many, and the length of each text. `built` proves and builds it.
+# hashes: makes a program that makes as many tags and digests as the file `counts` where it runs says, by the product's own `tag` and `graph_digest`: a
+# line for each kind and length, `t` or `d`, how many, and the length of each text. `tag` hashes the key with each text; where a line begins with `k`,
+# `Key::tag` makes the tags, which has hashed it before. `built` proves and builds it.
 hashes() {
     program hashes sg_base sg_crypt
     cat >"$bench/src/main.rt" <<'RATTLE'
@@ -53,7 +54,7 @@ hashes() {
 #![tactic(auto)]
 
 use sg_base::read_number;
-use sg_crypt::{Key, graph_digest};
+use sg_crypt::{Key, graph_digest, tag};
 use std::{fs, io};
 
 fn main(rt: HostRuntime) -> Result<(), io::Error> {
@@ -66,7 +67,7 @@ fn main(rt: HostRuntime) -> Result<(), io::Error> {
     Ok(())
 }
 
-// A line: `t` or `d`, a number of tags or digests, and the length of each text.
+// A line: `t`, `k` or `d`, a number of tags or digests, and the length of each text.
 fn hash(key: &Key, line: &[u8], text: &mut [u8; 4096]) {
     let mut words = line.split(|byte| *byte == b' ');
     let (Some(kind), Some(count), Some(length)) = (words.next(), words.next(), words.next()) else {
@@ -78,6 +79,8 @@ fn hash(key: &Key, line: &[u8], text: &mut [u8; 4096]) {
     let text = &mut text[..length as usize];
     if kind == b"t".as_slice() {
         tags(key, count, text);
+    } else if kind == b"k".as_slice() {
+        ready_tags(key, count, text);
     } else {
         digests(count, text);
     }
@@ -85,9 +88,18 @@ fn hash(key: &Key, line: &[u8], text: &mut [u8; 4096]) {
 
 fn tags(key: &Key, count: u64, text: &mut [u8]) {
     for _ in 0..count {
-        let tag = key.tag(b"", text);
+        let made = tag(key.bytes(), b"", text);
         if let Some(first) = text.first_mut() {
-            *first = tag.0[0];
+            *first = made.0[0];
+        }
+    }
+}
+
+fn ready_tags(key: &Key, count: u64, text: &mut [u8]) {
+    for _ in 0..count {
+        let made = key.tag(b"", text);
+        if let Some(first) = text.first_mut() {
+            *first = made.0[0];
         }
     }
 }

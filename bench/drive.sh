@@ -1,9 +1,10 @@
 #!/usr/bin/env bash
 # Generates runs of two graphs with 250, 500, 1,000 and 2,000 sessions, and prints for each the frames that were sent, the seconds of a processor and
 # the peak memory: of the shop of the examples, and of a chain of five roles with eight labels at each node and no variables. Beside each stand the
-# seconds of its hashes alone, made right after it by the product's own `Key::tag` and `graph_digest`, and the ratio of the two: which texts a run notes
-# tells tools/model.py of the schedule that tools/drive_model.py makes. Then how the time of 2,000 sessions compares with eight times that of 250.
-# Needs python3; no part of the gate.
+# seconds of its hashes alone, made right after it by the product's own `tag` and `graph_digest`, and the ratio of the two; behind it the same with
+# `Key::tag`, for which the key is hashed once for all. Each is the least of five runs, one after the other in turn. Which texts a run notes tells
+# tools/model.py of the schedule that tools/drive_model.py makes. Then how the time of 2,000 sessions compares with eight times that of 250. Needs
+# python3; no part of the gate.
 set -eu
 source "$(dirname "${BASH_SOURCE[0]}")/common.sh"
 hashes
@@ -53,11 +54,18 @@ def timed(words):
 for name, graph in (('shop', shop), ('chain', chain)):
     took = {}
     for sessions in (250, 500, 1_000, 2_000):
-        with open(folder + '/counts', 'w') as out:
-            out.writelines(f'{kind} {count} {length}\n' for (kind, length), count in noted(11, sessions, graph).items())
-        summary, took[sessions], peak = timed([program, 'drive', '11', str(sessions), graph])
-        _, alone, _ = timed([hashes])
+        counts = noted(11, sessions, graph)
+        spent = {'r': [], 't': [], 'k': []}
+        for _ in range(5):
+            summary, seconds, peak = timed([program, 'drive', '11', str(sessions), graph])
+            spent['r'].append(seconds)
+            for how in 'tk':
+                with open(folder + '/counts', 'w') as out:
+                    out.writelines(f'{how if kind == "t" else kind} {count} {length}\n' for (kind, length), count in counts.items())
+                spent[how].append(timed([hashes])[1])
+        took[sessions], anew, ready = (min(spent[how]) for how in 'rtk')
         sent = dict(line.split() for line in summary.splitlines() if len(line.split()) == 2)['sent']
-        print(f'{name}, {sessions} sessions: {sent} frames, {took[sessions]:.2f} s of processor, {peak:.1f} MiB, hashes {alone:.2f} s, ratio {took[sessions] / alone:.2f}')
+        print(f'{name}, {sessions} sessions: {sent} frames, {took[sessions]:.2f} s of processor, {peak:.1f} MiB, hashes {anew:.2f} s, '
+              f'ratio {took[sessions] / anew:.2f}; by ready keys {ready:.2f} s, {took[sessions] / ready:.2f}')
     print(f'{name}, 2,000 sessions: {took[2_000] / took[250] / 8:.2f} times eight times what 250 take')
 PYTHON

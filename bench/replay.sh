@@ -3,15 +3,17 @@
 # shop with retries, many sessions of a shop side by side, and a frame that comes again and again and is refused. A schedule twice as long that
 # takes twice the time shows that a step costs the same however many came before.
 # Beside each stand the seconds of its hashes alone: as many tags and digests of texts as long as those that the run notes, made by the product's own
-# `Key::tag` and `graph_digest` in a program of its own, right after the replay; and the ratio of the two. Which texts a run notes tells tools/model.py
-# of a short schedule of the same kind: each round after the first notes the same. Needs python3; no part of the gate.
+# `tag` and `graph_digest` in a program of its own, right after the replay; and the ratio of the two. Behind it the same with `Key::tag`, as the program
+# makes its tags: the key is then hashed once for all. Each is the least of five runs, one after the other in turn. Which texts a run notes tells
+# tools/model.py of a short schedule of the same kind: each round after the first notes the same. PROGRAM may name another program. Needs python3; no
+# part of the gate.
 set -eu
 source "$(dirname "${BASH_SOURCE[0]}")/common.sh"
 hashes
 hashes=$(built)
 "$here/sessiongraph" replay "$here/examples/shop-honest.schedule" >/dev/null || exit 1
 # (the program itself, since ./sessiongraph first looks whether it is built)
-python3 - "$here/crates/sg_cli/out/sg_cli" "$folder" "$here/examples/shop.graph" "$hashes" "$here/tools" <<'PYTHON'
+python3 - "${PROGRAM:-$here/crates/sg_cli/out/sg_cli}" "$folder" "$here/examples/shop.graph" "$hashes" "$here/tools" <<'PYTHON'
 import collections
 import os
 import subprocess
@@ -91,11 +93,17 @@ for name, made, sizes in (('asked again', asked, (24_500, 49_000)), ('shop, retr
     for size in sizes:
         with open(folder + '/text', 'w') as out:
             out.write('\n'.join(made(size)) + '\n')
-        with open(folder + '/counts', 'w') as out:
-            out.writelines(f'{kind} {count} {length}\n' for (kind, length), count in grown(made, size).items())
-        took, used, lines = timed([program, 'replay', folder + '/text'])
-        _, alone, _ = timed([hashes])
-        spent, hashing = used.ru_utime + used.ru_stime, alone.ru_utime + alone.ru_stime
-        print(f'{name}, {size}: {lines} lines, {took:.2f} s, {spent:.2f} s of processor, {used.ru_maxrss / 1024:.1f} MiB, hashes {hashing:.2f} s, '
-              f'ratio {spent / hashing:.2f}')
+        counts = grown(made, size)
+        spent = {'r': [], 't': [], 'k': []}
+        for _ in range(5):
+            took, used, lines = timed([program, 'replay', folder + '/text'])
+            spent['r'].append(used.ru_utime + used.ru_stime)
+            for how in 'tk':
+                with open(folder + '/counts', 'w') as out:
+                    out.writelines(f'{how if kind == "t" else kind} {count} {length}\n' for (kind, length), count in counts.items())
+                alone = timed([hashes])[1]
+                spent[how].append(alone.ru_utime + alone.ru_stime)
+        replayed, anew, ready = (min(spent[how]) for how in 'rtk')
+        print(f'{name}, {size}: {lines} lines, {took:.2f} s, {replayed:.2f} s of processor, {used.ru_maxrss / 1024:.1f} MiB, hashes {anew:.2f} s, '
+              f'ratio {replayed / anew:.2f}; by ready keys {ready:.2f} s, {replayed / ready:.2f}')
 PYTHON
