@@ -46,6 +46,5 @@ for roles in (2, 4, 16):
             sys.exit(f'{roles} roles, {events} events: {answer[:40]!r}')
         with open(path, 'rb') as logs:
             look = limits.looked(logs.read())
-        print(f'{roles:2} roles, {events:6} events: {took:6.2f} s, {events / took:9.0f} events/s, {took / look:5.1f} times a look at each byte, '
-              f'{peak:7.1f} MiB')
+        print(f'{roles} roles, {events} events: {took:.2f} s, {events / took:.0f} events/s, {took / look:.1f} times a look at each byte, {peak:.1f} MiB')
 PYTHON

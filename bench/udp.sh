@@ -2,23 +2,17 @@
 # Plays sessions of `pair` between two processes over the loopback, 200 at once and 50 times over, and prints how many ended in a second and what
 # processor time a session takes in both processes; then times the hashes of a session alone, two identifiers and four tags, and prints their share.
 # 200 frames of 136 bytes fit the buffer that a socket has; where one is lost nevertheless, it is said. The second program is made in a folder of its
-# own, over this repository's crates. PROGRAM is the program, where it is not `./sessiongraph`. Needs python3; no part of the gate.
+# own, over this repository's crates. PROGRAM may name another program. Needs python3; no part of the gate.
 set -eu
-here=$(cd "$(dirname "${BASH_SOURCE[0]}")/.." && pwd)
-program=${PROGRAM:-$here/sessiongraph}
-folder=$(mktemp -d)
-trap 'rm -rf "$folder"' EXIT
+source "$(dirname "${BASH_SOURCE[0]}")/common.sh"
+"$here/sessiongraph" check "$here/examples/pair.graph" >/dev/null || exit 1
+# (the program itself, since ./sessiongraph first looks whether it is built)
+program=${PROGRAM:-$here/crates/sg_cli/out/sg_cli}
 for role in a b; do
     "$program" compile "$here/examples/pair.graph" "$role" >"$folder/$role.program"
 done
-mkdir -p "$folder/crates/session_hashes/src"
-for crate in sg_model sg_law sg_protocol sg_base sg_crypt; do
-    (cd "$here/crates" && tar cf - --exclude=out "$crate") | (cd "$folder/crates" && tar xf -)
-    grep "^$crate:" "$here/crates.txt" >>"$folder/crates.txt"
-done
-echo 'session_hashes: sg_base sg_crypt' >>"$folder/crates.txt"
-cp "$here/HANDLES" "$folder/HANDLES"
-cat >"$folder/crates/session_hashes/src/main.rt" <<'RATTLE'
+program session_hashes sg_base sg_crypt
+cat >"$bench/src/main.rt" <<'RATTLE'
 //! The hashes of 200,000 sessions of two roles: an identifier at each, and the tag of each of two frames, made and compared.
 #![tactic(auto)]
 
@@ -115,16 +109,17 @@ print(f'{sessions} sessions of pair, {AT_ONCE} at once, {lost} of them lost fram
 with open(folder + '/per_session', 'w') as out:
     out.write(str(used / sessions))
 PYTHON
-(cd "$folder/crates/session_hashes" && rt run) >"$folder/log" 2>&1 || { cat "$folder/log"; exit 1; }
-python3 - "$folder" <<'PYTHON'
+echo 1 >"$bench/stdout"
+hashes=$(built)
+python3 - "$folder" "$hashes" <<'PYTHON'
 import resource
 import subprocess
 import sys
 
-folder = sys.argv[1]
-subprocess.run([folder + '/crates/session_hashes/out/session_hashes'], stdout=subprocess.DEVNULL, check=True)
+folder, hashes = sys.argv[1:]
+subprocess.run([hashes], stdout=subprocess.DEVNULL, check=True)
 used = resource.getrusage(resource.RUSAGE_CHILDREN)
-hashes = (used.ru_utime + used.ru_stime) / 200_000
+alone = (used.ru_utime + used.ru_stime) / 200_000
 whole = float(open(folder + '/per_session').read())
-print(f'the hashes of a session: {hashes * 1e6:.1f} us of processor time, {100 * hashes / whole:.0f} % of it')
+print(f'the hashes of a session: {alone * 1e6:.1f} us of processor time, {100 * alone / whole:.0f} % of it')
 PYTHON
