@@ -10,6 +10,7 @@ use Rattle.sg_lines.proofs.SameSid.{same, same-bytes_eq}
 use Rattle.sg_lines.specs.Sessions.{firsts}
 use Rattle.sg_model.specs.Lists.{has_text}
 use Rattle.std.specs.Prelude.{OnOk, Result}
+use Rattle.sg_model.specs.Limits.{most_steps}
 use Rattle.sg_protocol.specs.Calls.{Event, Refusal}
 use Rattle.sg_protocol.specs.Graph.{Graph}
 use Rattle.sg_report.specs.Told.{Told, Happened, Sends, Abandoned, NotDelivered}
@@ -60,7 +61,7 @@ counts_more g ts t = λ i. record {
 }
 
 -- where few are told, each count can rise
-pub can_rise : (g : Graph) (ts : List Told) (c : Counts) → c ≡ counts g ts → length ts < 200000 → CanRise c
+pub can_rise : (g : Graph) (ts : List Told) (c : Counts) → c ≡ counts g ts → length ts < most_steps → CanRise c
 can_rise g ts c e l = subst CanRise (sym e) (record {
   sent = (let f = count_few is_sent ts in omega (arith, f, l));
   received = (let f = count_few is_received ts in omega (arith, f, l));

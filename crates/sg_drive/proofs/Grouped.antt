@@ -3,6 +3,7 @@ use Rattle.std.proofs.Common.{◌≡◌, ℕ, zero, suc, ◌+◌, ◌-◌, ◌*�
 use Rattle.std.specs.Prelude.{Result, Ok, Err, IfErr, OnOk}
 use Rattle.std.proofs.lemmas.Bool.{cases_Bool, eqb-true}
 use Rattle.std.proofs.lemmas.Bool.Decides.{nat_tests}
+use Rattle.sg_model.specs.Limits.{most_driven}
 use Rattle.sg_protocol.specs.Graph.{Graph}
 use Rattle.sg_protocol.specs.IsSchedule.{AreCompiled}
 use Rattle.sg_protocol.specs.Keyring.{Program}
@@ -203,7 +204,7 @@ groups_follow m (suc k) n x y b a l =
 abbrev pub machine_before : (seed sessions : ℕ) (g : Graph) (programs : List Program) → Machine
 machine_before seed sessions g programs = record { seed = seed; sessions = sessions; graph = g; going = beginning sessions g programs }
 
-pub budget_before : (seed sessions : ℕ) (g : Graph) (programs : List Program) → AreCompiled real (g ∷ []) programs → 2 ≤ length g.roles → sessions ≤ 2000 → HasBudget 0 0 (machine_before seed sessions g programs)
+pub budget_before : (seed sessions : ℕ) (g : Graph) (programs : List Program) → AreCompiled real (g ∷ []) programs → 2 ≤ length g.roles → sessions ≤ most_driven → HasBudget 0 0 (machine_before seed sessions g programs)
 budget_before seed sessions g programs compiled two few = record {
   left = 0;
   ways = [];

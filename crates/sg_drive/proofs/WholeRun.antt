@@ -1,6 +1,7 @@
 -- The groups of the whole run, as the code makes them.
 use Rattle.std.proofs.Common.{◌≡◌, ℕ, suc, ◌+◌, ◌-◌, ◌*◌, ◌/◌, ◌<◌, ◌≤◌, min, List, [], ◌∷◌, length, refl, sym, ap, ◌∙◌, subst, arith, add-one}
 use Rattle.std.specs.Prelude.{Result, Ok, Err, IfErr, OnOk}
+use Rattle.sg_model.specs.Limits.{most_driven}
 use Rattle.sg_protocol.specs.Graph.{Graph}
 use Rattle.sg_protocol.specs.IsSchedule.{AreCompiled}
 use Rattle.sg_protocol.specs.Keyring.{Program}
@@ -32,7 +33,7 @@ stops_size m first count (Err x) e h = subst (λ k. IsGroupFault first k m x) e 
 
 module _ (seed sessions : ℕ) (g : Graph) (programs : List Program) where
   -- before the first
-  pub grouped_first : (m : Machine) → m ≡ machine_before seed sessions g programs → AreCompiled real (g ∷ []) programs → 2 ≤ length g.roles → sessions ≤ 2000 → AreGrouped 0 seed sessions g programs m
+  pub grouped_first : (m : Machine) → m ≡ machine_before seed sessions g programs → AreCompiled real (g ∷ []) programs → 2 ≤ length g.roles → sessions ≤ most_driven → AreGrouped 0 seed sessions g programs m
   grouped_first m e compiled two few =
       let going : m.going ≡ beginning sessions g programs = ap (λ (z : Machine). z.going) e in
       let none : min sessions (16 * 0) ≡ 0 = omega arith in
@@ -103,7 +104,7 @@ module _ (seed sessions : ℕ) (g : Graph) (programs : List Program) where
 -- ---- every run
 
 -- there is a generated run, after which nothing need be left
-an_end : (seed sessions : ℕ) (g : Graph) (programs : List Program) → AreCompiled real (g ∷ []) programs → 2 ≤ length g.roles → sessions ≤ 2000
+an_end : (seed sessions : ℕ) (g : Graph) (programs : List Program) → AreCompiled real (g ∷ []) programs → 2 ≤ length g.roles → sessions ≤ most_driven
     → (x : Going) × Generated seed sessions g programs x × HasBudget 0 (begun_after sessions (0 + (sessions + 15) / 16)) (at (machine_before seed sessions g programs) x)
 an_end seed sessions g programs compiled two few =
     let m : Machine = machine_before seed sessions g programs in

@@ -1,6 +1,7 @@
 -- How many steps a run that is being generated may still take. Each turn takes fewer than it uses up.
 use Rattle.std.specs.Prelude.{◌≡◌, ℕ, ◌+◌, ◌-◌, ◌*◌, ◌≤◌, Bool, true, if◌then◌else◌, List, [], ◌∷◌, length, map, sum_by, Some, Ok}
 use Rattle.std.specs.List.{AllByRecursion}
+use Rattle.sg_model.specs.Limits.{most_driven}
 use Rattle.sg_model.specs.Shape.{receiver}
 use Rattle.sg_protocol.specs.Frame.{Frame}
 use Rattle.sg_protocol.specs.Graph.{Graph, shape}
@@ -50,7 +51,7 @@ pub record IsOnItsWay (g : Graph) (r : Replay) (o : OnItsWay) : Type 0 where
 pub record HasLeft (left begun : ℕ) (m : Machine) (ways : List OnItsWay) : Type 0 where
   pub compiled : AreCompiled real (m.graph ∷ []) m.going.replay.programs
   pub two : 2 ≤ length m.graph.roles
-  pub few : m.sessions ≤ 2000
+  pub few : m.sessions ≤ most_driven
   pub declared : without_steps m.going.replay.schedule ≡ setup m.sessions m.graph
   pub so_many : begun ≤ m.sessions
   pub run : IsOwnRun real m.graph (run_of m.going.replay)

@@ -1,6 +1,7 @@
 -- How the counts grow with what came of one more step.
 use Rattle.std.specs.Prelude.{ℕ, ◌+◌, ◌<◌, if◌then◌else◌, List, [], ◌∷◌, ◌++◌}
 use Rattle.std.specs.Option.{option_map_or}
+use Rattle.sg_model.specs.Limits.{most_steps}
 use Rattle.sg_model.specs.Lists.{has_text}
 use Rattle.sg_protocol.specs.Calls.{Event}
 use Rattle.sg_protocol.specs.Graph.{Graph}
@@ -31,7 +32,7 @@ with_event e c = record c { received = if is_receipt e then c.received + 1 else 
 
 -- each count can rise by one
 pub record CanRise (c : Counts) : Type 0 where
-  pub sent : c.sent < 200000
-  pub received : c.received < 200000
-  pub refused : c.refused < 200000
-  pub abandoned : c.abandoned < 200000
+  pub sent : c.sent < most_steps
+  pub received : c.received < most_steps
+  pub refused : c.refused < most_steps
+  pub abandoned : c.abandoned < most_steps

@@ -1,5 +1,6 @@
 -- What the generator holds, as the values of the definitions.
 use Rattle.std.specs.Prelude.{◌≡◌, ℕ, ◌*◌, ◌≤◌, List, length, map}
+use Rattle.sg_model.specs.Limits.{most_driven}
 use Rattle.sg_protocol.specs.Graph.{Graph}
 use Rattle.sg_protocol.specs.Keyring.{Program}
 use Rattle.sg_protocol.specs.Schedule.{Schedule}
@@ -30,7 +31,7 @@ machine_of m = record {
 -- what is declared is the setup, the steps that are held are those that were taken, and no step began with a full record
 pub record HoldsMachine (m : Inside) : Type 0 where
   pub two : 2 ≤ length m.graph.now.roles
-  pub few : m.sessions ≤ 2000
+  pub few : m.sessions ≤ most_driven
   pub declared : m.declared ≡ setup m.sessions m.graph.now
   pub taken : m.world.schedule ≡ record (setup m.sessions m.graph.now) { steps = map step_of m.steps.items }
   pub room : NeverFull m.world

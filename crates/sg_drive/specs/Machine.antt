@@ -1,5 +1,6 @@
 -- What clauses see of the generator.
 use Rattle.std.specs.Prelude.{ℕ, ◌+◌, ◌<◌, ◌≤◌, length}
+use Rattle.sg_model.specs.Limits.{most_steps}
 use Rattle.sg_protocol.specs.Graph.{Graph}
 use Rattle.sg_drive.specs.Going.{Pending, Going}
 
@@ -13,7 +14,7 @@ pub record Machine : Type 0 where
 -- the graph has a start node, so many more steps can be taken, and at most so many numbers were drawn
 pub record HasRoom (more drawn : ℕ) (m : Machine) : Type 0 where
   pub start : 0 < length m.graph.nodes
-  pub steps : length m.going.replay.schedule.steps + more ≤ 200000
+  pub steps : length m.going.replay.schedule.steps + more ≤ most_steps
   pub draws : m.going.draws ≤ drawn
   pub lost : m.going.lost ≤ 500000000
 

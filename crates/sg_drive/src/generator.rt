@@ -1,5 +1,6 @@
 //! A run that is being generated.
 ghost use Rattle.std.specs.Prelude.{◌≡◌, ◌<◌, ◌≤◌, ◌+◌, ◌++◌, ◌∷◌, [], true, length, vec_len, vec_capacity, IfErr, IfOk, OnErr, OnOk};
+ghost use Rattle.sg_model.specs.Limits.{most_driven};
 ghost use Rattle.sg_protocol.specs.IsSchedule.{AreCompiled};
 ghost use Rattle.sg_protocol.specs.Steps.{is_taken};
 ghost use Rattle.sg_protocol.specs.Texts.{real};
@@ -62,7 +63,7 @@ impl<'g, 'p> Generator<'g, 'p> {
     ) -> Result<Generator<'g, 'p>, OutOfMemory>
         requires compiled { AreCompiled real (graph.now ∷ []) programs.now }
         requires two { 2 ≤ length graph.now.roles }
-        requires few { sessions ≤ 2000 }
+        requires few { sessions ≤ most_driven }
         ensures { IfOk result (λ m. m ≡ record { seed = seed; sessions = sessions; graph = graph.entry.now; going = beginning sessions graph.entry.now programs.entry.now }) }
     {
         let declared = setup(alloc, sessions, graph)?;

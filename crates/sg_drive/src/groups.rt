@@ -1,5 +1,6 @@
 //! The generator.
 ghost use Rattle.std.specs.Prelude.{◌≡◌, ◌<◌, ◌≤◌, ◌+◌, ◌-◌, ◌*◌, ◌∷◌, [], length, min, IfErr, IfOk, OnOk};
+ghost use Rattle.sg_model.specs.Limits.{most_driven};
 ghost use Rattle.sg_protocol.specs.IsSchedule.{AreCompiled};
 ghost use Rattle.sg_protocol.specs.Texts.{real};
 ghost use Rattle.sg_drive.specs.Budget.{HasBudget};
@@ -29,7 +30,7 @@ pub fn generate<'p>(
     graph: &Graph,
     programs: &'p Programs,
 ) -> Result<Driven<'p>, GenerateFault>
-    requires sessions { (1 ≤ sessions) × (sessions ≤ 2000) }
+    requires sessions { (1 ≤ sessions) × (sessions ≤ most_driven) }
     requires compiled { AreCompiled real (graph.now ∷ []) programs.now }
     requires two { 2 ≤ length graph.now.roles }
     ensures generated { IfOk result (λ d. IsDrive seed sessions graph.now programs.entry.now (drive_of d)) }
@@ -48,7 +49,7 @@ pub fn generate<'p>(
 
 // How many groups there are, the last one smaller than the others or not.
 fn groups_for(sessions: u32) -> u32
-    requires { sessions ≤ 2000 }
+    requires { sessions ≤ most_driven }
     ensures all { sessions ≤ 16 * result }
     ensures few { 16 * result < sessions + 16 }
 {

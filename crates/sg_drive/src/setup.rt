@@ -1,6 +1,7 @@
 //! What a generated run declares.
 ghost use Rattle.std.specs.Prelude.{◌≡◌, ◌<◌, ◌≤◌, ◌++◌, ◌∷◌, length, map, IfOk, OnOk};
 ghost use Rattle.std.specs.Fmt.{decimal};
+ghost use Rattle.sg_model.specs.Limits.{most_driven};
 ghost use Rattle.sg_protocol.specs.Crafted.{nonce_of};
 ghost use Rattle.sg_protocol.specs.IsSchedule.{IsSchedule};
 ghost use Rattle.sg_protocol.specs.Texts.{real};
@@ -18,7 +19,7 @@ use std::alloc::Global;
 /// So many sessions of a graph, counted from 1, with a principal for each role, all of them honest; no step.
 pub(crate) fn setup(alloc: Global, sessions: u32, graph: &Graph) -> Result<Schedule, OutOfMemory>
     requires two { 2 ≤ length graph.now.roles }
-    requires few { sessions ≤ 2000 }
+    requires few { sessions ≤ most_driven }
     ensures setup { IfOk result (λ s. s ≡ setup sessions graph.now) }
     ensures schedule { OnOk result (IsSchedule real (setup sessions graph.now)) }
 {
@@ -109,7 +110,7 @@ fn sessions_of(
     requires names { names.now ≡ players (length graph.now.roles) }
     requires two { 2 ≤ length graph.now.roles }
     requires many { length graph.now.roles ≤ 16 }
-    requires few { sessions ≤ 2000 }
+    requires few { sessions ≤ most_driven }
     ensures { IfOk result (λ list. list ≡ map (numbered_session graph.now) (range_from 1 sessions)) }
 {
     let digest = digest_of(alloc, graph)?;
@@ -127,7 +128,7 @@ fn session(
     digest: [u8; 32],
     names: &[Name],
 ) -> Result<Declared, OutOfMemory>
-    requires number { number ≤ 2000 }
+    requires number { number ≤ most_driven }
     requires names { (2 ≤ length names.now) × (length names.now ≤ 16) }
     ensures { IfOk result (λ d. d ≡ record { name = 115 ∷ decimal number; cast = record { version = 1; graph = digest; nonce = nonce_of number; names = names.now } }) }
 {
@@ -140,7 +141,7 @@ fn session(
 
 // The name of the session of a number.
 fn session_name(alloc: Global, number: u32) -> Result<Name, OutOfMemory>
-    requires { number ≤ 2000 }
+    requires { number ≤ most_driven }
     ensures { IfOk result (λ n. n ≡ 115 ∷ decimal number) }
 {
     let mut out = ByteOut::new(alloc);

@@ -93,6 +93,16 @@ most_record_before = 264241152
 abbrev pub most_deliveries : ℕ
 most_deliveries = 1000000
 
+-- ---- generated runs
+
+-- the greatest seed
+abbrev pub most_seed : ℕ
+most_seed = 4294967295
+
+-- sessions that are driven
+abbrev pub most_driven : ℕ
+most_driven = 2000
+
 -- ---- files
 
 -- bytes of a graph's text, and of a text of parts

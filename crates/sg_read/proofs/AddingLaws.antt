@@ -4,6 +4,7 @@ use Rattle.std.specs.Prelude.{◌==◌, slice_get, Option, Some, None, Ok, Err, 
 use Rattle.std.specs.List.{list_any, list_all}
 use Rattle.std.specs.Option.{option_map_or}
 use Rattle.std.proofs.lemmas.Bool.{ltb-true}
+use Rattle.sg_model.specs.Limits.{most_steps}
 use Rattle.sg_model.specs.Names.{Name}
 use Rattle.sg_model.specs.Lists.{has_text, first_some}
 use Rattle.sg_protocol.specs.Graph.{Graph}
@@ -101,11 +102,11 @@ not_late n h = by (nat_lt 4 n) refl
 module _ (past : SoFar) (h : past.group ≤ 4) where
   after_step : (repeated honest known : Bool) (made : Step) (step : Option Step) → step ≡ (if known then Some made else None)
       → add_step past repeated honest step
-      ≡ added past (first_some (where' (nat_lt 4 past.group) Form ∷ (if nat_le 200000 (length past.steps) then Some TooManySteps else None) ∷ where' (not known) Unknown ∷ where' repeated Twice ∷ where' (not honest) NotHonest ∷ []))
+      ≡ added past (first_some (where' (nat_lt 4 past.group) Form ∷ (if nat_le most_steps (length past.steps) then Some TooManySteps else None) ∷ where' (not known) Unknown ∷ where' repeated Twice ∷ where' (not honest) NotHonest ∷ []))
       (Some (StepItem made))
   unfolding add_step
   after_step repeated honest known made step e =
-      ap (add_step past repeated honest) e ∙ sym (step_tests past (nat_lt 4 past.group) (nat_le 200000 (length past.steps)) known repeated honest made (not_late past.group h))
+      ap (add_step past repeated honest) e ∙ sym (step_tests past (nat_lt 4 past.group) (nat_le most_steps (length past.steps)) known repeated honest made (not_late past.group h))
 
   pub start_added : (who session : Name) → add_step past false (has_text who past.honest) (start_step past who session) ≡ after_line past (SaidStart who session)
   unfolding after_line

@@ -4,6 +4,7 @@ use Rattle.std.specs.Prelude.{Option, Some, None, Ok, Err, option_map, option_an
 use Rattle.std.specs.List.{list_all}
 use Rattle.std.specs.Option.{option_map_or}
 use Rattle.std.proofs.lemmas.List.Folds.{list_all-map}
+use Rattle.sg_model.specs.Limits.{most_steps}
 use Rattle.sg_model.specs.Names.{Name}
 use Rattle.sg_model.specs.Lists.{has_text, first_some}
 use Rattle.sg_model.specs.Values.{Opening}
@@ -157,7 +158,7 @@ module _ (past : SoFar) (c : SaidCraft) where
       let known = has_text c.session (session_names past) && has_text c.from (roles_of g) && has_text c.to (roles_of g) && list_all (knows_variable g) (variables c.know)
       && list_all (knows_item past g) c.items && list_all (knows_variable g) (variables c.openings) && knows_source past g c.seal in
       ap (add_step past false true) (craft_is past g c)
-      ∙ sym (craft_tests past is_fine (nat_le 200000 (length past.steps)) known (CraftStep (craft past g c)) h)
+      ∙ sym (craft_tests past is_fine (nat_le most_steps (length past.steps)) known (CraftStep (craft past g c)) h)
 
 -- ---- part by part
 

@@ -7,6 +7,7 @@ use Rattle.std.proofs.lemmas.Bool.{leb-false, and_parts, cases_Bool, or_parts}
 use Rattle.std.proofs.lemmas.List.{length-map}
 use Rattle.std.proofs.lemmas.List.Elements.{All-from_recursion}
 use Rattle.std.proofs.lemmas.Option.{slice_get-map, slice_get_within, get_or_from_slice_get}
+use Rattle.sg_model.specs.Limits.{most_steps}
 use Rattle.sg_model.specs.Bytes.{AreBytes}
 use Rattle.sg_model.specs.Lists.{has_text}
 use Rattle.sg_model.specs.Names.{Name, is_name}
@@ -45,12 +46,12 @@ use Rattle.sg_read.proofs.MeantSteps.{values_fit, delivered_fits, session_in, al
 -- ---- all lines
 
 -- there is room for a step
-room : (n : ℕ) → (if nat_le 200000 n then Some TooManySteps else None) ≡ None → n < 200000
-room n h = by (nat_le 200000 n) refl h
+room : (n : ℕ) → (if nat_le most_steps n then Some TooManySteps else None) ≡ None → n < most_steps
+room n h = by (nat_le most_steps n) refl h
   where
-    by : (b : Bool) → nat_le 200000 n ≡ b → (if b then Some TooManySteps else None) ≡ None → n < 200000
+    by : (b : Bool) → nat_le most_steps n ≡ b → (if b then Some TooManySteps else None) ≡ None → n < most_steps
     by true e h = absurd (cc)
-    by false e h = leb-false 200000 n e
+    by false e h = leb-false most_steps n e
 
 said_meant : (p : SoFar) (m : Meant p) (said : Said) (i : Item) → is_form said ≡ true → IsRight p said → made_after p said ≡ Some i → Meant (plus p i)
 said_meant p m said i form r e = by said form r e (said_more p m.sound said i form r e)
@@ -58,7 +59,7 @@ said_meant p m said i form r e = by said form r e (said_more p m.sound said i fo
     act_form : (who session label : Name) (vs : List Given) → is_form (SaidAct who session label vs) ≡ true → list_all is_given vs ≡ true
     act_form who session label vs h = (and_parts (are_names (who ∷ session ∷ label ∷ [])) (list_all is_given vs) h).1
 
-    step : (s : Step) → StepItem s ≡ i → (if nat_le 200000 (length p.steps) then Some TooManySteps else None) ≡ None → FitsStep p.sessions s → Sound (plus p i) → Meant (plus p i)
+    step : (s : Step) → StepItem s ≡ i → (if nat_le most_steps (length p.steps) then Some TooManySteps else None) ≡ None → FitsStep p.sessions s → Sound (plus p i) → Meant (plus p i)
     step s same few fits sound = subst (λ i. Meant (plus p i)) same (step_meant p m s (room (length p.steps) few) fits (subst (λ i. Sound (plus p i)) (sym same) sound))
 
     -- the place of a session that is declared

@@ -6,6 +6,7 @@ use Rattle.std.proofs.lemmas.Bool.{leb-true, leb-false, and_parts, cases_Bool, o
 use Rattle.std.proofs.lemmas.List.{length-append, map_push}
 use Rattle.std.proofs.lemmas.List.Folds.{list_all-append}
 use Rattle.std.proofs.lemmas.List.Quantifiers.{all_pairs_push}
+use Rattle.sg_model.specs.Limits.{most_steps}
 use Rattle.sg_model.specs.Bytes.{IsBytes, AreBytes}
 use Rattle.sg_model.specs.Lists.{has_text, all_differ}
 use Rattle.sg_model.specs.Names.{Name, is_name, reserved}
@@ -68,7 +69,7 @@ pub record Meant (p : SoFar) : Type 0 where
   pub keys : AllByRecursion IsPairKey p.keys
   pub pairs : AllPairs Apart p.keys
   pub steps : AllByRecursion (FitsStep p.sessions) p.steps
-  pub few : length p.steps ≤ 200000
+  pub few : length p.steps ≤ most_steps
   pub none_yet : p.group ≤ 3 → p.steps ≡ []
 
 -- ---- lists
@@ -248,7 +249,7 @@ module _ (p : SoFar) (m : Meant p) where
         none_yet = λ h. none;
       }
 
-  pub step_meant : (s : Step) → length p.steps < 200000 → FitsStep p.sessions s → Sound (plus p (StepItem s)) → Meant (plus p (StepItem s))
+  pub step_meant : (s : Step) → length p.steps < most_steps → FitsStep p.sessions s → Sound (plus p (StepItem s)) → Meant (plus p (StepItem s))
   step_meant s room fits sound = record {
     sound = sound;
     blocks = m.blocks;

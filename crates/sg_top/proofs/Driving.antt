@@ -1,6 +1,7 @@
 -- How a generated run is summed up, and how a drive ends without a summary.
 use Rattle.std.proofs.Common.{◌≡◌, ℕ, ◌*◌, ◌≤◌, List, [], ◌∷◌, All, codes, length, refl, ap, ◌∙◌, subst, arith}
 use Rattle.std.proofs.lemmas.List.{length-map}
+use Rattle.sg_model.specs.Limits.{most_driven, most_steps}
 use Rattle.sg_model.specs.Lists.{range_from}
 use Rattle.sg_model.proofs.Numbers.{length-range_from}
 use Rattle.sg_parse.specs.Grammar.{SpellsGraph}
@@ -32,7 +33,7 @@ module _ (seed sessions : ℕ) (g : Graph) (programs : List Program) where
 
   module _ (d : Drive) (is : IsDrive seed sessions g programs d) where
     -- there are fewer steps than a replay may have
-    pub few_steps : sessions ≤ 2000 → length d.replay.schedule.steps ≤ 200000
+    pub few_steps : sessions ≤ most_driven → length d.replay.schedule.steps ≤ most_steps
     few_steps few =
         let replay : length d.replay.schedule.steps ≡ length is.going.replay.schedule.steps = ap (λ (r : Replay). length r.schedule.steps) is.replay in
         let schedule : length d.schedule.steps ≡ length is.going.replay.schedule.steps = ap (λ (s : Schedule). length s.steps) is.schedule in

@@ -5,6 +5,7 @@ use Rattle.std.proofs.Math.ListN.{get_or-map}
 use Rattle.std.proofs.lemmas.Bool.{cases_Bool}
 use Rattle.std.proofs.lemmas.List.{take_more, take_all, length-map, length-take-le}
 use Rattle.std.proofs.lemmas.List.Folds.{list_all_at}
+use Rattle.sg_model.specs.Limits.{most_steps}
 use Rattle.sg_protocol.specs.Beginnings.{first_steps}
 use Rattle.sg_protocol.specs.Keyring.{Program}
 use Rattle.sg_protocol.specs.Schedule as Protocol
@@ -27,7 +28,7 @@ module _ (s : Schedule) (items : List Step) (i : ℕ) (x : Step) (all : map step
   pub begins : i < length s.steps
   begins = omega (arith, h, count)
 
-  pub room : CanBeReplayed s → length (first_steps i s).steps < 200000
+  pub room : CanBeReplayed s → length (first_steps i s).steps < most_steps
   room can =
       let few = can.meant.few in
       let first : length (take i s.steps) ≡ i = length-take-le i s.steps (omega (arith, h, count)) in

@@ -3,12 +3,11 @@
 //!
 //! The run is that of a schedule, which the generator's rules choose, so what holds of every replay holds of it (`sg_drive`).
 ghost use Rattle.std.specs.Prelude.{◌≡◌, ◌≤◌, ◌∷◌, [], All, IfErr, IfOk, length};
-ghost use Rattle.sg_model.specs.Limits.{most_graph_file};
+ghost use Rattle.sg_model.specs.Limits.{most_driven, most_graph_file};
 ghost use Rattle.sg_protocol.specs.IsSchedule.{AreCompiled};
 ghost use Rattle.sg_protocol.specs.Texts.{real};
 ghost use Rattle.sg_parse.specs.Grammar.{SpellsGraph};
 ghost use Rattle.sg_program.specs.Compiled.{IsWhole};
-ghost use Rattle.sg_words.specs.Command.{most_driven};
 ghost use Rattle.sg_top.specs.Driven.{StopsDrive, Sums};
 ghost use Rattle.sg_top.specs.Ends.{Drives, OnFile};
 ghost use Rattle.sg_top.specs.Model.{ending_held};

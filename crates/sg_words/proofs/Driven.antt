@@ -4,8 +4,8 @@ use Rattle.std.specs.List.{list_all, list_any}
 use Rattle.std.proofs.Common.{arith}
 use Rattle.std.proofs.lemmas.Bool.{ltb-true, leb-true}
 use Rattle.sg_base.specs.Words.{number, from_one, up_to, value, is_digit, has_needless_zero}
-use Rattle.sg_model.specs.Limits.{most_deliveries}
-use Rattle.sg_words.specs.Command.{Command, Check, Compile, Run, Replay, Drive, Ledger, Keep, Stream, Audit, Compose, CanBeDriven, command_of, driving, few, is_option, keeping, most_driven, most_seed, named, on_file, running, sessions_of, streaming}
+use Rattle.sg_model.specs.Limits.{most_deliveries, most_driven, most_seed}
+use Rattle.sg_words.specs.Command.{Command, Check, Compile, Run, Replay, Drive, Ledger, Keep, Stream, Audit, Compose, CanBeDriven, command_of, driving, few, is_option, keeping, named, on_file, running, sessions_of, streaming}
 
 -- a number, if any, of at most so many
 abbrev AtMost : ℕ → Option ℕ → Type 0

@@ -2,7 +2,7 @@
 use Rattle.std.specs.Prelude.{ℕ, ◌==◌, ◌≤◌, Bool, if◌then◌else◌, List, [], ◌∷◌, codes, slice_index, Option, Some, None, option_map, option_and_then, bytes_eq, ⊤}
 use Rattle.std.specs.List.{list_any}
 use Rattle.sg_base.specs.Words.{number, from_one}
-use Rattle.sg_model.specs.Limits.{most_deliveries}
+use Rattle.sg_model.specs.Limits.{most_deliveries, most_driven, most_seed}
 
 -- a command of the table
 pub data Command : Type 0 where
@@ -49,14 +49,6 @@ running (keys ∷ []) = None
 running (keys ∷ script ∷ []) = None
 running (keys ∷ script ∷ n ∷ []) = None
 running (keys ∷ script ∷ n ∷ program ∷ more) = option_map (λ d. Run keys script d (program ∷ more)) (number most_deliveries n)
-
--- the greatest seed
-abbrev pub most_seed : ℕ
-most_seed = 4294967295
-
--- the most sessions that are driven
-abbrev pub most_driven : ℕ
-most_driven = 2000
 
 -- how many sessions a word asks for, from 1 to 2,000
 abbrev pub sessions_of : List ℕ → Option ℕ

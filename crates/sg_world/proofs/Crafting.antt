@@ -3,6 +3,7 @@ use Rattle.std.proofs.Common.{◌≡◌, ◌+◌, ◌<◌, ◌≤◌, ◌^◌, t
 use Rattle.std.specs.List.{list_all}
 use Rattle.std.proofs.lemmas.List.{map-append}
 use Rattle.std.proofs.lemmas.List.Folds.{list_all-append}
+use Rattle.sg_model.specs.Limits.{most_steps}
 use Rattle.sg_protocol.proofs.RealHash.{real_hash}
 use Rattle.sg_protocol.proofs.Sizes.{steps_add_little}
 use Rattle.sg_protocol.proofs.Steps.{runs_go_by_step}
@@ -22,7 +23,7 @@ use Rattle.sg_protocol.proofs.OtherSteps.{schedule_more}
 use Rattle.sg_world.proofs.Pasts.{Named}
 
 module _ (d : Setting) (nodes : List Named) (r : Recorded) (x : Craft) (c : Came)
-    (h : Holds d nodes r) (room : length r.entries < 200000) (step : IsStep real (schedule_of d nodes r) (CraftStep x))
+    (h : Holds d nodes r) (room : length r.entries < most_steps) (step : IsStep real (schedule_of d nodes r) (CraftStep x))
     (came : ComesOfCraft (length r.frames + 1) (schedule_of d nodes r) (run real d.programs (schedule_of d nodes r)) x c) where
   abbrev S : Schedule
   S = schedule_of d nodes r

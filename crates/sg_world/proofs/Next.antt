@@ -6,6 +6,7 @@ use Rattle.indexmap.specs.IndexMap.{set_value_at}
 use Rattle.std.proofs.lemmas.Bool.{and_parts}
 use Rattle.std.proofs.lemmas.List.{length-map, map-append}
 use Rattle.std.proofs.lemmas.List.Folds.{list_all-append}
+use Rattle.sg_model.specs.Limits.{most_steps}
 use Rattle.sg_model.specs.Lists.{all_differ, has_text}
 use Rattle.sg_model.specs.Names.{Name, is_name}
 use Rattle.sg_protocol.proofs.RealHash.{real_hash}
@@ -56,7 +57,7 @@ names_same (n ∷ ns) zero new = refl
 names_same (n ∷ ns) (suc i) new = ap (λ (z : List Name). n.0 ∷ z) (names_same ns i new)
 
 module _ (d : Setting) (nodes now : List Named) (r : Recorded) (x : Step) (c : Came) (place k : ℕ)
-    (h : Holds d nodes r) (at : IsPlaceOf nodes x (Some place)) (room : length r.entries < 200000) (step : IsStep real (schedule_of d nodes r) x) (number : k ≡ length r.entries + 1)
+    (h : Holds d nodes r) (at : IsPlaceOf nodes x (Some place)) (room : length r.entries < most_steps) (step : IsStep real (schedule_of d nodes r) x) (number : k ≡ length r.entries + 1)
     (came : ComesAt d.sessions r.frames k x place nodes now c) where
   abbrev S : Schedule
   S = schedule_of d nodes r

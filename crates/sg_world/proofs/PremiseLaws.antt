@@ -2,6 +2,7 @@
 use Rattle.std.proofs.Common.{◌≡◌, ℕ, suc, ◌+◌, ◌<◌, ◌≤◌, List, [], ◌∷◌, ◌++◌, map, length, find, Option, Some, None, option_map, IfOk, IfSome, MatchOption, Result, Ok, Err, false, is_some, slice_get, refl, sym, ◌∙◌, ap, subst, arith}
 use Rattle.std.specs.Option.{option_or}
 use Rattle.std.proofs.lemmas.List.{length-map}
+use Rattle.sg_model.specs.Limits.{most_steps}
 use Rattle.sg_model.specs.Lists.{has_text, range_from}
 use Rattle.sg_model.specs.Names.{Name}
 use Rattle.sg_premises.specs.Forged.{IsRecord, is_unmade, forged_from}
@@ -62,8 +63,8 @@ forged_below honest k made (n ∷ ns) = by (find (is_unmade honest made) n.found
     by (Some x) rest h = omega arith
 
 -- so its step is one of those that a replay takes
-pub steps_few : {X E : Type 0} (pair : X → ℕ × Note) (res : Result (Option X) E) (found : Option (ℕ × Note)) (n : ℕ) → IfOk res (λ o. option_map pair o ≡ found) → IfSome found (λ (f : ℕ × Note). f.0 < 1 + n) → n ≤ 200000
-    → IfOk res (λ o. IfSome o (λ x. (pair x).0 ≤ 200000))
+pub steps_few : {X E : Type 0} (pair : X → ℕ × Note) (res : Result (Option X) E) (found : Option (ℕ × Note)) (n : ℕ) → IfOk res (λ o. option_map pair o ≡ found) → IfSome found (λ (f : ℕ × Note). f.0 < 1 + n) → n ≤ most_steps
+    → IfOk res (λ o. IfSome o (λ x. (pair x).0 ≤ most_steps))
 steps_few pair (Err e) found n q h l = tt
 steps_few pair (Ok None) found n q h l = tt
 steps_few pair (Ok (Some x)) found n q h l =

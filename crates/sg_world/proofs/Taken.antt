@@ -1,5 +1,6 @@
 -- The next step of a replay, where the record was given room first and the step is a copy.
 use Rattle.std.proofs.Common.{◌≡◌, ℕ, ◌+◌, ◌<◌, ◌≤◌, ◌^◌, List, length, Option, Some, None, refl, sym, ◌∙◌, ap, subst}
+use Rattle.sg_model.specs.Limits.{most_steps}
 use Rattle.sg_protocol.specs.IsSchedule.{IsStep}
 use Rattle.sg_protocol.specs.Run.{run}
 use Rattle.sg_protocol.specs.Schedule.{Step}
@@ -19,7 +20,7 @@ abbrev pub Goes : Setting → List Named → List Named → Recorded → Recorde
 Goes d nodes now r r2 x = Holds d now r2 × (schedule_of d now r2 ≡ with_step (schedule_of d nodes r) x)
 
 module _ (d : Setting) (nodes now : List Named) (r : Recorded) (x : Step) (c : Came) (k : ℕ)
-    (h : Holds d nodes r) (room : length r.entries < 200000) (step : IsStep real (schedule_of d nodes r) x) (number : k ≡ length r.entries + 1) where
+    (h : Holds d nodes r) (room : length r.entries < most_steps) (step : IsStep real (schedule_of d nodes r) x) (number : k ≡ length r.entries + 1) where
   -- what comes of a craft, in the run so far
   crafted_here : (comes : ComesOfCrafting d r.frames x c) → ComesOfCraft (length r.frames + 1) (schedule_of d nodes r) (run real d.programs (schedule_of d nodes r)) comes.craft c
   crafted_here comes = comes.comes (schedule_of d nodes r) (run real d.programs (schedule_of d nodes r)) (refl, refl, refl) (sym h.run.frames)
@@ -37,14 +38,14 @@ module _ (d : Setting) (nodes now : List Named) (r : Recorded) (x : Step) (c : C
       craft_fits d nodes r comes.1.craft c h room (subst (λ (z : Step). IsStep real (schedule_of d nodes r) z) comes.1.is_craft step) (crafted_here comes.1) full
   goes_in (Some place) at comes full = fits d nodes now r x c place k h at room step number comes full
 
-pub step_taken : (d : Setting) (nodes now : List Named) (r r1 r2 : Recorded) (x x1 : Step) (c : Came) (place : Option ℕ) (k : ℕ) → Holds d nodes r → IsPlaceOf nodes x place → length r.entries < 200000 → IsStep real (schedule_of d nodes r) x
+pub step_taken : (d : Setting) (nodes now : List Named) (r r1 r2 : Recorded) (x x1 : Step) (c : Came) (place : Option ℕ) (k : ℕ) → Holds d nodes r → IsPlaceOf nodes x place → length r.entries < most_steps → IsStep real (schedule_of d nodes r) x
     → r1 ≡ r → k ≡ length r1.entries + 1 → ComesOfPlace d r1.frames k x place nodes now c → x1 ≡ x → r2 ≡ with_came r1 x1 c → Goes d nodes now r r2 x
 step_taken d nodes now r r1 r2 x x1 c place k h at room step same number came copied put =
     let there : r2 ≡ with_came r x c = put ∙ (λ i. with_came (same i) (copied i) c) in
     subst (λ (z : Recorded). Goes d nodes now r z x) (sym there)
     (goes d nodes now r x c k h room step (number ∙ ap (λ (z : Recorded). length z.entries + 1) same) place at (subst (λ (z : Recorded). ComesOfPlace d z.frames k x place nodes now c) same came))
 
-pub step_fits : (d : Setting) (nodes now : List Named) (r r1 : Recorded) (x : Step) (c : Came) (place : Option ℕ) (k : ℕ) → Holds d nodes r → IsPlaceOf nodes x place → length r.entries < 200000 → IsStep real (schedule_of d nodes r) x
+pub step_fits : (d : Setting) (nodes now : List Named) (r r1 : Recorded) (x : Step) (c : Came) (place : Option ℕ) (k : ℕ) → Holds d nodes r → IsPlaceOf nodes x place → length r.entries < most_steps → IsStep real (schedule_of d nodes r) x
     → r1 ≡ r → k ≡ length r1.entries + 1 → ComesOfPlace d r1.frames k x place nodes now c → r.size ≤ 264241152 → r1.size + added_size c < 2 ^ 64
 step_fits d nodes now r r1 x c place k h at room step same number came full =
     subst (λ (z : Recorded). z.size + added_size c < 2 ^ 64) (sym same)

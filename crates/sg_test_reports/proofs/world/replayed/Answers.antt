@@ -1,6 +1,7 @@
 use Rattle.std.proofs.Common.{◌≤◌, ◌≡◌, ◌<◌, ◌+◌, ℕ, List, [], ◌∷◌, map, length, get_or, refl, ap, sym, subst, ◌∙◌, arith}
 use Rattle.std.proofs.Math.ListN.{get_or-map}
 use Rattle.std.proofs.lemmas.List.{length-append, length-map}
+use Rattle.sg_model.specs.Limits.{most_steps}
 use Rattle.sg_protocol.specs.Schedule as Protocol
 use Rattle.sg_protocol.specs.Schedule.{Schedule}
 use Rattle.sg_read.specs.Meant.{IsMeant, SameDeclared}
@@ -18,8 +19,8 @@ module _ (s t : Schedule) (items : List Step) (i : ℕ) (x : Step) (meant : IsMe
   here : get_or s.steps i (step_of x) ≡ step_of x
   here = ap (λ l. get_or l i (step_of x)) (sym all) ∙ get_or-map step_of items i x ∙ ap step_of (sym at)
 
-  room : length t.steps < 200000
-  room = let few : length s.steps ≤ 200000 = meant.few in omega (arith, few, h, count, taken)
+  room : length t.steps < most_steps
+  room = let few : length s.steps ≤ most_steps = meant.few in omega (arith, few, h, count, taken)
 
   can : CanBeTaken t (step_of x)
   can = subst (λ y. CanBeTaken t y) here (meant.steps i (step_of x) (omega (arith, h, count)) t same)

@@ -1,5 +1,6 @@
 use Rattle.std.proofs.Common.{◌≡◌, ◌<◌, true, map, length, ap, sym, subst, ◌∙◌, arith}
 use Rattle.std.proofs.lemmas.Result.{err_from_is_err_and}
+use Rattle.sg_model.specs.Limits.{most_steps}
 use Rattle.sg_protocol.specs.Schedule.{Schedule}
 use Rattle.sg_protocol.specs.Steps.{is_taken}
 use Rattle.sg_sched.specs.Format.StepsHeld.{step_of}
@@ -20,7 +21,7 @@ steps-init c = (
 pub take-requires-clause-few : goal.take-requires-clause-few
 take-requires-clause-few c =
     let i = c.steps.invariant in
-    subst (λ (r : Replay). length r.schedule.steps < 200000) (sym i.0) (room c.args.schedule.now c.as_slice-step-items.result.now c.steps.step-index c.step-item.result i.1 c.steps-test.true c.step-item.is c.requires.can)
+    subst (λ (r : Replay). length r.schedule.steps < most_steps) (sym i.0) (room c.args.schedule.now c.as_slice-step-items.result.now c.steps.step-index c.step-item.result i.1 c.steps-test.true c.step-item.is c.requires.can)
 
 pub take-requires-clause-step : goal.take-requires-clause-step
 take-requires-clause-step c =
