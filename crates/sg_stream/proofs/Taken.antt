@@ -1,11 +1,8 @@
 -- Pieces that were taken, and connections that were closed.
-use Rattle.std.proofs.Common.{◌≡◌, ℕ, ◌+◌, ◌≤◌, ◌==◌, true, false, if◌then◌else◌, List, [], ◌∷◌, length, drop, Option, ap, arith}
+use Rattle.std.proofs.Common.{◌≡◌, ℕ, ◌+◌, ◌≤◌, ◌==◌, true, false, if◌then◌else◌, List, [], ◌∷◌, length, Option, ap, arith}
 use Rattle.std.specs.Option.{option_map}
-use Rattle.sg_stream.specs.Traffic.{Traffic, without, after_take, after_close, WhereTold}
+use Rattle.sg_stream.specs.Traffic.{Traffic, without, after_close}
 use Rattle.sg_stream.specs.Link.{TakenOff}
-
-pub taken_none : (held : Option Traffic) → TakenOff 0 held held
-taken_none held = λ t h. (t, h, omega arith)
 
 pub taken_more : (m n k : ℕ) (old between new : Option Traffic) → TakenOff m old between → TakenOff n between new → k ≡ m + n → TakenOff k old new
 taken_more m n k old between new first second sum = λ t h.
@@ -26,8 +23,3 @@ pub taken_closed : (conn : ℕ) (held : Option Traffic) → TakenOff 0 held (opt
 taken_closed conn held = λ t h.
     let shorter = without-shorter conn t.coming in
     (after_close conn t, ap (option_map (after_close conn)) h, omega (arith, shorter))
-
-pub taken_one : (held : Option Traffic) (conn : ℕ) (piece : List ℕ) → WhereTold held (λ t. t.coming ≡ (conn, piece) ∷ drop 1 t.coming) → TakenOff 1 held (option_map after_take held)
-taken_one held conn piece first = λ t h.
-    let whole = ap length (first t h) in
-    (after_take t, ap (option_map after_take) h, omega (arith, whole))
