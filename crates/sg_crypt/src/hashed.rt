@@ -32,6 +32,14 @@ impl Hashed {
         Hashed { text, digest }
     }
 
+    /// The text, whose digest is known. It takes no memory.
+    pub fn with_digest(text: Vec<u8>, digest: [u8; 32]) -> Hashed
+        requires { digest ≡ real text.items }
+        ensures { result ≡ text.items }
+    {
+        Hashed { text, digest }
+    }
+
     /// The text. It takes no memory.
     pub fn as_slice(&self) -> &[u8]
         ensures { result.now ≡ self.now }

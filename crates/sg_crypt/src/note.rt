@@ -191,12 +191,12 @@ impl Notes {
     }
 }
 
-// Appends an element. The first takes room for itself alone: most lists of a step have one, and a run keeps the lists of each of its steps.
+// Appends an element. Each of the first four takes room for itself alone: a run keeps the lists of each of its steps, and most have one or two.
 fn put<T: Drop>(list: &mut Vec<T>, value: T) -> Result<(), OutOfMemory>
     ensures ok { OnOk result (list.new.items ≡ list.old.items ++ value ∷ []) }
     ensures err { OnErr result (list.new.items ≡ list.old.items) }
 {
-    if list.is_empty() {
+    if list.len() < 4 {
         list.reserve_exact(1)?;
     }
     list.push(value)?;

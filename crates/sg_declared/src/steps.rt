@@ -42,7 +42,7 @@ pub fn copy_step(alloc: Global, step: &Step) -> Result<Step, OutOfMemory>
 fn copy_values(alloc: Global, values: &[(Var, Value)]) -> Result<Seq<(Var, Value)>, OutOfMemory>
     ensures { IfOk result (λ v. v ≡ values.now) }
 {
-    let mut copies = Seq::new(alloc);
+    let mut copies = Seq::from_vec(Vec::with_capacity(alloc, values.len())?);
     for value in values {
         copies.push((value.0, value.1.copy(alloc)?))?;
     }

@@ -1,5 +1,5 @@
 -- The session of a node for which what is live at a place stands.
-use Rattle.std.specs.Prelude.{◌≡◌, ℕ, zero, suc, ◌<◌, ◌==◌, ◌⊎◌, Bool, true, if◌then◌else◌, List, [], ◌∷◌, length, find, refl, Option, Some, None, unwrap_or, IsSomeAnd}
+use Rattle.std.specs.Prelude.{◌≡◌, ℕ, zero, suc, ◌<◌, ◌==◌, ◌⊎◌, Bool, true, if◌then◌else◌, List, [], ◌∷◌, length, map, slice_get, find, refl, Option, Some, None, unwrap_or, IsSomeAnd}
 use Rattle.std.specs.List.{AllByRecursion}
 use Rattle.std.proofs.Common.{sym, ◌∙◌, ap, subst, inl, inr, arith}
 use Rattle.indexmap.specs.IndexMap.{set_value_at}
@@ -132,6 +132,12 @@ module _ (n : Inside) (h : HoldsNode n) (which : Held → Bool) (test : Slot →
         go (Some x) s = its m.programs (place.key).0 (place.key).1 l (subst (λ ps. IsLiveAt ps (place.key).0 (place.key).1 l) st.programs place.live) (Some x) x refl s
 
 -- ---- writing at a place
+
+-- what stands at a place, of the values alone
+pub live_of : (ss : List Slot) (i : ℕ) (v : Option Live) → slice_get (map (λ (s : Slot). s.1) ss) i ≡ Some v → v ≡ live_at ss i
+live_of [] i v e = absurd (cc)
+live_of (s ∷ ss) zero v e = let same : s.1 ≡ v = cc in sym same
+live_of (s ∷ ss) (suc i) v e = live_of ss i v e
 
 pub set_twice : (ss : List Slot) (i : ℕ) (v w : Option Live) → set_value_at (set_value_at ss i v) i w ≡ set_value_at ss i w
 set_twice [] i v w = refl

@@ -166,10 +166,11 @@ impl<'p> Node<'p> {
         ensures memory { result ≡ Err Refusal.OutOfMemory → notes.new ≡ notes.old }
     {
         let counts = notes.counts();
-        if note_session(self.alloc, &cast, notes).is_err() {
+        let sid = session_id(&cast);
+        if note_session(self.alloc, &cast, &sid, notes).is_err() {
             return Err(Refusal::OutOfMemory);
         }
-        let result = self.join_in(program, frame, cast, bytes, notes);
+        let result = self.join_in(program, frame, cast, sid, bytes, notes);
         if is_memory(&result) {
             notes.keep(counts);
         }
@@ -182,6 +183,7 @@ impl<'p> Node<'p> {
         program: &'p Program,
         frame: &Frame,
         cast: Cast,
+        sid: Sid,
         bytes: &[u8],
         notes: &mut Notes,
     ) -> Result<Event, Refusal>
@@ -190,6 +192,7 @@ impl<'p> Node<'p> {
         requires program { program_for self.old.programs cast.graph frame.now.receiver ≡ Some program.now }
         requires cast { (is_cast self.old.keys program.now.graph cast frame.now.receiver && nat_lt frame.now.sender (length cast.names)) ≡ true }
         requires covered { stranger self.old.keys cast ≡ None }
+        requires session { sid ≡ session_id real cast }
         ensures answer { (n : DefinedNode) → StandsForNode self.old n → IsAnswer (verdict_on real n (Ok frame.now)) (delivery_answer result) }
         ensures taken { OnOk result (self.new ≡ state_taking self.old (Ok frame.now)) }
         ensures back { OnErr result (self.new ≡ self.old) }
@@ -198,7 +201,7 @@ impl<'p> Node<'p> {
             → notes.new ≡ with_notes first (notes_of_read real n (Ok frame.now)) }
         ensures memory { result ≡ Err Refusal.OutOfMemory → notes.new ≡ notes.old }
     {
-        if !is_session(&cast, &frame.sid) {
+        if !is_session(&frame.sid, &sid) {
             return Err(Refusal::BadSession);
         }
         if let Some(obstacle) = first_obstacle(
@@ -212,7 +215,7 @@ impl<'p> Node<'p> {
         if make_room(&mut self.joins, &mut self.sessions).is_err() {
             return Err(Refusal::OutOfMemory);
         }
-        let Ok(before) = Before::start(self.alloc, program, cast) else {
+        let Ok(before) = Before::with_sid(self.alloc, program, cast, sid) else {
             return Err(Refusal::OutOfMemory);
         };
         match examine(self.alloc, &before, &self.keys, frame, bytes, notes) {
@@ -243,12 +246,11 @@ fn fits(keys: &Keyring, program: &Program, cast: &Cast, frame: &Frame) -> bool
     is_cast(keys, program.graph(), cast, frame.receiver) && frame.sender.0 < cast.count()
 }
 
-// The identifier is that of the cast's session.
-fn is_session(cast: &Cast, sid: &Sid) -> bool
-    ensures { IsTrue result ↔ (sid.now ≡ session_id real cast.now) }
+// The identifier is that of the session.
+fn is_session(sid: &Sid, session: &Sid) -> bool
+    ensures { IsTrue result ↔ (sid.now ≡ session.now) }
 {
-    let its_id = session_id(cast);
-    sid.0 == its_id.0
+    sid.0 == session.0
 }
 
 // Takes a frame that was accepted, in the session that waits for it.

@@ -3,7 +3,7 @@ ghost use Rattle.std.specs.Prelude.{◌≡◌, ◌≢◌, ◌<◌, ◌++◌, [],
 ghost use Rattle.sg_model.specs.Limits.{most_joins};
 ghost use Rattle.sg_model.specs.Shape.{role_at};
 ghost use Rattle.sg_protocol.specs.Graph.{shape};
-ghost use Rattle.sg_protocol.specs.Texts.{session_text_of};
+ghost use Rattle.sg_protocol.specs.Texts.{real, session_id, session_text_of};
 ghost use Rattle.sg_walk.specs.Model.{event_of};
 ghost use Rattle.sg_role.specs.Accepting.{goes_on, state_after};
 ghost use Rattle.sg_role.specs.Sending.{TurnsOrEnds};
@@ -76,11 +76,17 @@ pub(crate) fn claim(joins: &mut Cache, sid: Sid, role: Role) -> Ticket
 }
 
 /// Notes the text that the identifier of a session is of. For want of memory nothing is noted.
-pub(crate) fn note_session(alloc: Global, cast: &Cast, notes: &mut Notes) -> Result<(), OutOfMemory>
+pub(crate) fn note_session(
+    alloc: Global,
+    cast: &Cast,
+    sid: &Sid,
+    notes: &mut Notes,
+) -> Result<(), OutOfMemory>
+    requires { sid.now ≡ session_id real cast.now }
     ensures ok { OnOk result (notes.new ≡ record notes.old { hashed = notes.old.hashed ++ session_text_of cast.now ∷ [] }) }
     ensures err { OnErr result (notes.new ≡ notes.old) }
 {
-    let text = Hashed::new(session_text(alloc, cast)?);
+    let text = Hashed::with_digest(session_text(alloc, cast)?, sid.0);
     notes.note_hashed(text)
 }
 

@@ -73,16 +73,16 @@ impl<'p> Node<'p> {
         let sid = session_id(&cast);
         let role = program.role();
         if let Some(obstacle) = first_obstacle(&self.joins, &self.sessions, &sid, role) {
-            return match note_session(self.alloc, &cast, notes) {
+            return match note_session(self.alloc, &cast, &sid, notes) {
                 Ok(()) => Err(fault_of(obstacle)),
                 Err(_) => Err(StartFault::OutOfMemory),
             };
         }
-        let Ok(before) = Before::start(self.alloc, program, cast) else {
+        let Ok(before) = Before::with_sid(self.alloc, program, cast, sid) else {
             return Err(StartFault::OutOfMemory);
         };
         if make_room(&mut self.joins, &mut self.sessions).is_err()
-            || note_session(self.alloc, &cast, notes).is_err()
+            || note_session(self.alloc, &cast, &sid, notes).is_err()
         {
             return Err(StartFault::OutOfMemory);
         }

@@ -62,7 +62,7 @@ fn in_order(
     requires given { IsTrue (list_all is_given values.now) }
     ensures { IfOk result (λ ws. map (λ (w : ℕ × Value). (w.0, value_of w.1)) ws ≡ from_number 0 (numbered numbers.now values.now)) }
 {
-    let mut found = Seq::new(alloc);
+    let mut found = Seq::from_vec(Vec::with_capacity(alloc, numbers.len())?);
     for number in 0..32u8 {
         put_value(alloc, numbers, values, number, &mut found)?;
     }

@@ -1,15 +1,18 @@
 -- What is held after a step is what the state goes on with.
-use Rattle.std.proofs.Common.{◌≡◌, ℕ, suc, zero, ◌+◌, ◌<◌, ◌==◌, Bool, true, false, List, [], ◌∷◌, ◌++◌, map, length, get_or, refl, sym, ◌∙◌, ap, subst, Option, Some, None, option_map, unwrap_or, arith}
+use Rattle.std.proofs.Common.{◌≡◌, ℕ, suc, zero, ◌+◌, ◌<◌, ◌==◌, ◌&&◌, not, nat_lt, nat_le, Bool, true, false, List, [], ◌∷◌, ◌++◌, map, length, get_or, refl, sym, ◌∙◌, ap, subst, Option, Some, None, option_map, unwrap_or, arith}
 use Rattle.std.specs.Option.{option_or}
+use Rattle.std.proofs.lemmas.Bool.{leb-false}
 use Rattle.sg_model.proofs.LastOf.{eqb_same}
+use Rattle.sg_model.specs.Limits.{most_time}
 use Rattle.sg_model.specs.Lists.{below, range_from, first_some}
 use Rattle.sg_model.specs.Last.{Map, last, up_to_last}
-use Rattle.sg_model.specs.Shape.{target}
+use Rattle.sg_model.specs.Shape.{source, target}
 use Rattle.sg_model.specs.Values.{Value, Opening}
 use Rattle.sg_model.proofs.Small.{length_map}
 use Rattle.sg_model.proofs.Numbers.{length-range_from}
 use Rattle.sg_protocol.specs.Acting.{openings_for}
 use Rattle.sg_protocol.specs.Backed.{IsBackedAtTurn, IsBackedWaiting}
+use Rattle.sg_protocol.specs.Calls.{SendFault, NoSuchLabel, BadValues, TimeSpent}
 use Rattle.sg_protocol.specs.Frame.{Item}
 use Rattle.sg_protocol.specs.Graph.{Graph, shape}
 use Rattle.sg_protocol.specs.IsSchedule.{IsProgram}
@@ -20,9 +23,10 @@ use Rattle.sg_protocol.specs.Sending.{own_item}
 use Rattle.sg_protocol.specs.Session.{Session, Gave, opening_in, known}
 use Rattle.sg_protocol.specs.Standing.{Held, StandsAtTurn, held, kept_with, held_after}
 use Rattle.sg_protocol.specs.Texts.{real}
+use Rattle.sg_protocol.specs.Verdict.{row}
 use Rattle.sg_role.specs.Sending.{WaitsOrEnds}
 use Rattle.sg_role.specs.Model.{RoleState}
-use Rattle.sg_role.specs.Stepping.{send_rows, step_item, step_commitments, items_after, openings_after, held_next}
+use Rattle.sg_role.specs.Stepping.{first_bad, send_rows, step_item, step_commitments, step_held, items_after, openings_after}
 use Rattle.sg_role.specs.declared.sent.Sent.{Sent}
 use Rattle.sg_role.proofs.SendLaws.{waits_after}
 use Rattle.sg_role.proofs.StepLaws.{item_held}
@@ -34,6 +38,16 @@ openings_counted p h b =
     ∙ length_map (known b.session) (below (length p.graph.variables))
     ∙ length-range_from 0 (length p.graph.variables)
 
+-- a step on which no row holds has time left
+pub time_left : (p : Program) (h : Held) (label : ℕ) (values : Map Value) → first_some (send_rows p h label values) ≡ None → h.kept.time < most_time
+time_left p h label values none = leb-false most_time h.kept.time (not_spent (not (nat_lt label (length p.graph.edges) && (source (shape p.graph) label == h.kept.place))) (option_map BadValues (first_bad p.graph label values)) (nat_le most_time h.kept.time) none)
+  where
+    not_spent : (a : Bool) (o : Option SendFault) (b : Bool) → first_some (row a NoSuchLabel ∷ o ∷ row b TimeSpent ∷ []) ≡ None → b ≡ false
+    not_spent true o b e = cc
+    not_spent false (Some f) b e = cc
+    not_spent false None true e = cc
+    not_spent false None false e = refl
+
 module _ (keys : Keyring) (p : Program) (h : Held) (label : ℕ) (written : List Opening) where
   abbrev own : Item
   own = step_item keys p h label written
@@ -42,7 +56,7 @@ module _ (keys : Keyring) (p : Program) (h : Held) (label : ℕ) (written : List
   mine = rw (eqb_same h.role) refl
 
   -- what is held after the step is what the state goes on with
-  next_held : length h.kept.openings ≡ length p.graph.variables → held_next p h label (items_after p.graph h own) (step_commitments p h written) written ≡ held_after p.graph h (Gave own written)
+  next_held : length h.kept.openings ≡ length p.graph.variables → step_held keys p h label written ≡ held_after p.graph h (Gave own written)
   next_held e = λ j. record h {
     kept = record {
       origin = sym (ap (λ (l : List Item). option_or (option_map (λ (i : Item). i.label) (last l)) h.kept.origin) mine) j;
@@ -55,18 +69,16 @@ module _ (keys : Keyring) (p : Program) (h : Held) (label : ℕ) (written : List
     };
   }
 
-module _ (keys : Keyring) (p : Program) (h : Held) (label : ℕ) (values : Map Value) (confounders : List (List ℕ)) (ip : IsProgram real p) (turn : IsBackedAtTurn real p h)
-    (items : List Item) (commitments : List (Option (List ℕ))) (written : List Opening)
-    (w : written ≡ openings_for values confounders) (a : items ≡ items_after p.graph h (step_item keys p h label (openings_for values confounders))) (b : commitments ≡ step_commitments p h (openings_for values confounders)) where
-  next_made : held_next p h label items commitments written ≡ held_after p.graph h (Gave (step_item keys p h label (openings_for values confounders)) (openings_for values confounders))
-  next_made = (λ j. held_next p h label (a j) (b j) (w j)) ∙ next_held keys p h label (openings_for values confounders) (openings_counted p h turn)
+module _ (keys : Keyring) (p : Program) (h : Held) (label : ℕ) (values : Map Value) (confounders : List (List ℕ)) (ip : IsProgram real p) (turn : IsBackedAtTurn real p h) where
+  abbrev written : List Opening
+  written = openings_for values confounders
 
   -- the state goes on, waiting
-  pub next_waits : first_some (send_rows p h label values) ≡ None → AreValues values confounders → IsBackedWaiting real p (held_next p h label items commitments written)
-  next_waits none are = subst (IsBackedWaiting real p) (sym next_made) (waits_after keys p h label values confounders ip turn none are)
+  pub next_waits : first_some (send_rows p h label values) ≡ None → AreValues values confounders → IsBackedWaiting real p (step_held keys p h label written)
+  next_waits none are = subst (IsBackedWaiting real p) (sym (next_held keys p h label written (openings_counted p h turn))) (waits_after keys p h label values confounders ip turn none are)
 
   -- it is what is held after the step, in each session for which the turn stands
-  pub next_stands : (s : Session) → StandsAtTurn p.graph h s → (sent : Sent) → WaitsOrEnds (may_return p label) (record { program = p; held = held_next p h label items commitments written }) sent →
-      WaitsOrEnds (may_return p label) (record { program = p; held = held_after p.graph h (Gave (own_item real keys p s label (openings_for values confounders)) (openings_for values confounders)) }) sent
+  pub next_stands : (s : Session) → StandsAtTurn p.graph h s → (sent : Sent) → WaitsOrEnds (may_return p label) (record { program = p; held = step_held keys p h label written }) sent →
+      WaitsOrEnds (may_return p label) (record { program = p; held = held_after p.graph h (Gave (own_item real keys p s label written) written) }) sent
   next_stands s stands sent = subst (λ (z : Held). WaitsOrEnds (may_return p label) (record { program = p; held = z }) sent)
-      (next_made ∙ ap (λ (i : Item). held_after p.graph h (Gave i (openings_for values confounders))) (item_held keys p h s stands.holds label (openings_for values confounders)))
+      (next_held keys p h label written (openings_counted p h turn) ∙ ap (λ (i : Item). held_after p.graph h (Gave i written)) (item_held keys p h s stands.holds label written))

@@ -20,9 +20,9 @@ pub record Acceptance : Type 0 where
 -- the acceptance that is kept
 abbrev pub acceptance_of : Inside → Acceptance
 acceptance_of a = record {
-  program = (state_of a.after).program;
-  before = (state_of a.before).held;
-  after = (state_of a.after).held;
+  program = (state_of a.after.value).program;
+  before = (state_of a.before.value).held;
+  after = (state_of a.after.value).held;
   event = event_of a.event;
   view = a.view;
 }

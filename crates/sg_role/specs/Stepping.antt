@@ -104,6 +104,10 @@ held_next p h label items commitments written = record h {
   };
 }
 
+-- what is held after the step, which writes these
+abbrev pub step_held : Keyring → Program → Held → ℕ → List Opening → Held
+step_held keys p h label written = held_next p h label (items_after p.graph h (step_item keys p h label written)) (step_commitments p h written) written
+
 -- what is noted: the text of each tag, and the commitment texts
 abbrev pub step_notes : Keyring → Program → Held → ℕ → List Opening → Notes
 step_notes keys p h label written = record {

@@ -6,13 +6,14 @@ use crate::kept::Kept;
 use sg_vis::ViewId;
 use sg_walk::Event;
 use std::marker::Model;
+use std::rc::Rc;
 
 /// A frame that was accepted by a role that waits: what the role kept when it looked at the frame, what it keeps with it, and what it
 /// received.
 #[derive(Drop)]
 pub struct Accepted<'p> {
-    pub(crate) before: Kept<'p>,
-    pub(crate) after: Kept<'p>,
+    pub(crate) before: Rc<Kept<'p>>,
+    pub(crate) after: Rc<Kept<'p>>,
     pub(crate) event: Event,
     pub(crate) view: ViewId,
 }

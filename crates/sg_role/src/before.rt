@@ -9,19 +9,20 @@ ghost use Rattle.sg_protocol.specs.Standing.{nothing_kept};
 ghost use Rattle.sg_protocol.specs.TextLaws.{IsVersion};
 ghost use Rattle.sg_protocol.specs.Texts.{real, session_id};
 
-use crate::kept::Kept;
+use crate::kept::{Kept, shared};
 use sg_base::{OutOfMemory, Role, Sid, Time, Var};
 use sg_cache::Ticket;
-use sg_crypt::Cast;
+use sg_crypt::{Cast, session_id};
 use sg_program::Program;
 use sg_vis::Origin;
 use std::alloc::Global;
 use std::marker::Model;
+use std::rc::Rc;
 
 /// What a role keeps of a session that is new, or that ends with its own step. A clause sees its program and what it holds.
 #[derive(Drop)]
 pub struct Before<'p> {
-    pub(crate) kept: Kept<'p>,
+    pub(crate) kept: Rc<Kept<'p>>,
 }
 
 impl<'p> Model for Before<'p> {
@@ -32,9 +33,9 @@ impl<'p> Model for Before<'p> {
     ghost use Rattle.sg_role.specs.Model.{state_of};
     ghost use Rattle.sg_role.specs.Invariant.{HoldsBefore};
 
-    ghost view = { λ b. state_of b.kept };
+    ghost view = { λ b. state_of b.kept.value };
 
-    ghost invariant = { λ b. HoldsBefore (state_of b.kept) };
+    ghost invariant = { λ b. HoldsBefore (state_of b.kept.value) };
 }
 
 impl<'p> Before<'p> {
@@ -47,8 +48,28 @@ impl<'p> Before<'p> {
           held = record { sid = session_id real cast; cast = cast; role = program.entry.now.role; kept = nothing_kept program.entry.now.graph };
         }) }
     {
+        let sid = session_id(&cast);
+        Before::with_sid(alloc, program, cast, sid)
+    }
+
+    /// The same of a cast whose session's identifier is known.
+    pub fn with_sid(
+        alloc: Global,
+        program: &'p Program,
+        cast: Cast,
+        sid: Sid,
+    ) -> Result<Before<'p>, OutOfMemory>
+        requires graph { cast.graph ≡ program.now.digest }
+        requires count { length cast.names ≡ length program.now.graph.roles }
+        requires sid { sid ≡ session_id real cast }
+        ensures { IfOk result (λ b. b ≡ record {
+          program = program.entry.now;
+          held = record { sid = session_id real cast; cast = cast; role = program.entry.now.role; kept = nothing_kept program.entry.now.graph };
+        }) }
+    {
         tell(program, &cast);
-        let kept = Kept::new(alloc, program, cast)?;
+        let new = Kept::new(alloc, program, cast, sid)?;
+        let kept = shared(alloc, new)?;
         Ok(Before { kept })
     }
 

@@ -10,11 +10,12 @@ ghost use Rattle.sg_role.specs.Accepting.{goes_on};
 ghost use Rattle.sg_role.specs.Model.{state_of};
 
 use sg_base::{Label, Name, NodeId, Opening, OutOfMemory, Role, Sid, Time};
-use sg_crypt::{Cast, SharedCast, session_id};
+use sg_crypt::{Cast, SharedCast};
 use sg_frame::Item;
 use sg_program::Program;
 use sg_vis::Origin;
 use std::alloc::Global;
+use std::rc::Rc;
 
 /// What a role keeps of a session: no history, so its size is bounded by the graph's.
 #[derive(Drop)]
@@ -38,9 +39,22 @@ pub(crate) struct Kept<'p> {
     pub openings: Vec<Option<Opening>>,
 }
 
+/// The same on the heap, for several to hold: neither moving nor sharing it copies it.
+pub(crate) fn shared<'p>(alloc: Global, kept: Kept<'p>) -> Result<Rc<Kept<'p>>, OutOfMemory>
+    ensures { IfOk result (λ k. k.value ≡ kept.entry) }
+{
+    Ok(Rc::new(alloc, kept)?)
+}
+
 impl<'p> Kept<'p> {
-    /// What the program's role keeps of a new session of the cast.
-    pub fn new(alloc: Global, program: &'p Program, cast: Cast) -> Result<Kept<'p>, OutOfMemory>
+    /// What the program's role keeps of a new session of the cast, which has this identifier.
+    pub fn new(
+        alloc: Global,
+        program: &'p Program,
+        cast: Cast,
+        sid: Sid,
+    ) -> Result<Kept<'p>, OutOfMemory>
+        requires { sid ≡ session_id real cast }
         ensures { IfOk result (λ k. state_of k ≡ record {
           program = program.entry.now;
           held = record { sid = session_id real cast; cast = cast; role = program.entry.now.role; kept = nothing_kept program.entry.now.graph };
@@ -49,7 +63,7 @@ impl<'p> Kept<'p> {
         let count = program.graph().vars();
         Ok(Kept {
             program,
-            sid: session_id(&cast),
+            sid,
             cast: SharedCast::new(alloc, cast)?,
             from: Origin::Start,
             own_time: Time(0),

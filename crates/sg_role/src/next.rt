@@ -16,35 +16,14 @@ ghost use Rattle.sg_role.specs.Model.{state_of};
 ghost use Rattle.sg_role.specs.Invariant.{HoldsBefore};
 ghost use Rattle.sg_role.specs.Keeping.{kept_from};
 
-use crate::kept::{Kept, copied};
+use crate::kept::{Kept, shared};
 use crate::own::commitment_in;
 use crate::view::last_of;
 use sg_base::{Label, NodeId, Opening, OutOfMemory, Role, Seq, Time, Value, Var};
 use sg_frame::{Frame, Item};
 use sg_walk::Event;
 use std::alloc::Global;
-
-/// The same as is kept.
-pub(crate) fn copy_of<'p>(alloc: Global, kept: &Kept<'p>) -> Result<Kept<'p>, OutOfMemory>
-    ensures { IfOk result (λ k. state_of k ≡ state_of kept.now) }
-{
-    let items = copied_items(alloc, kept.items.as_slice())?;
-    let commitments = copied(alloc, kept.commitments.as_slice())?;
-    let openings = copied_openings(alloc, kept.openings.as_slice())?;
-    let cast = kept.cast.share()?;
-    Ok(Kept {
-        program: kept.program,
-        sid: kept.sid,
-        cast,
-        from: kept.from,
-        own_time: kept.own_time,
-        time: kept.time,
-        place: kept.place,
-        items,
-        commitments,
-        openings,
-    })
-}
+use std::rc::Rc;
 
 /// What is kept after a frame that shows what the role can be shown, where these are the commitments with its items.
 pub(crate) fn after_frame<'p>(
@@ -52,12 +31,12 @@ pub(crate) fn after_frame<'p>(
     kept: &Kept<'p>,
     frame: &Frame,
     commitments: Vec<Option<[u8; 32]>>,
-) -> Result<Kept<'p>, OutOfMemory>
+) -> Result<Rc<Kept<'p>>, OutOfMemory>
     requires holds { HoldsBefore (state_of kept.now) }
     requires spelled { HasSpelling frame.now }
     requires commitments { commitments.items ≡ overwritten_by kept.now.commitments.items frame.now.items }
     requires seen { is_seen (state_of kept.now).program (state_of kept.now).held.kept.origin frame.now ≡ true }
-    ensures { IfOk result (λ k. state_of k ≡ record {
+    ensures { IfOk result (λ k. state_of k.value ≡ record {
       program = (state_of kept.now).program;
       held = held_after (state_of kept.now).program.graph (state_of kept.now).held (Took frame.now);
     }) }
@@ -69,7 +48,7 @@ pub(crate) fn after_frame<'p>(
     let openings = openings_with(alloc, count, kept.openings.as_slice(), opened)?;
     let cast = kept.cast.share()?;
     let (time, place) = ended(kept, shown);
-    Ok(Kept {
+    let next = Kept {
         program: kept.program,
         sid: kept.sid,
         cast,
@@ -80,7 +59,9 @@ pub(crate) fn after_frame<'p>(
         items,
         commitments,
         openings,
-    })
+    };
+    let held = shared(alloc, next)?;
+    Ok(held)
 }
 
 // The time and the place after these items.
@@ -118,7 +99,7 @@ pub(crate) fn receipt_of(alloc: Global, frame: &Frame) -> Result<Event, OutOfMem
 fn values_shown(alloc: Global, openings: &[Opening]) -> Result<Seq<(Var, Value)>, OutOfMemory>
     ensures { IfOk result (λ l. values_of l ≡ map (λ o. (o.variable, o.value)) openings.now) }
 {
-    let mut list = Seq::new(alloc);
+    let mut list = Seq::from_vec(Vec::with_capacity(alloc, openings.len())?);
     for at in 0..openings.len() {
         let opening = &openings[at];
         let value = opening.value.copy(alloc)?;
@@ -234,23 +215,6 @@ pub(crate) fn has_role(items: &[Item], role: Role) -> bool
     false
 }
 
-fn copied_items(alloc: Global, items: &[Item]) -> Result<Vec<Item>, OutOfMemory>
-    ensures { IfOk result (λ v. v.items ≡ items.now) }
-{
-    let mut list = Vec::new(alloc);
-    for at in 0..items.len() {
-        list.push(copied_item(alloc, &items[at])?)?;
-    }
-    Ok(list)
-}
-
-fn copied_item(alloc: Global, item: &Item) -> Result<Item, OutOfMemory>
-    ensures { IfOk result (λ i. i ≡ item.now) }
-{
-    let delta = Seq::from_vec(item.delta.as_slice().to_vec(alloc)?);
-    with_delta(alloc, item, delta)
-}
-
 // ---- openings
 
 // The openings of so many variables, those that are shown first.
@@ -304,7 +268,8 @@ pub(crate) fn opening_of<'a>(
     }
 }
 
-fn copied_openings(
+/// The same openings.
+pub(crate) fn copied_openings(
     alloc: Global,
     openings: &[Option<Opening>],
 ) -> Result<Vec<Option<Opening>>, OutOfMemory>

@@ -48,7 +48,7 @@ pub(crate) fn copy_values(
 ) -> Result<Seq<(Var, Value)>, OutOfMemory>
     ensures { IfOk result (λ l. l ≡ values.now) }
 {
-    let mut list = Seq::new(alloc);
+    let mut list = Seq::from_vec(Vec::with_capacity(alloc, values.len())?);
     for at in 0..values.len() {
         let value = values[at].1.copy(alloc)?;
         list.push((values[at].0, value))?;

@@ -1,11 +1,9 @@
 //! What a role sends at its turn.
 ghost use Rattle.std.specs.Prelude.{◌≡◌, ◌+◌, ◌<◌, map, length, Some, None, IfOk, IfErr};
 ghost use Rattle.std.specs.List.{list_any};
-ghost use Rattle.sg_model.specs.Limits.{most_time};
-ghost use Rattle.sg_protocol.specs.Backed.{IsBackedWaiting};
 ghost use Rattle.sg_protocol.specs.Evidence.{same_origin};
 ghost use Rattle.sg_role.specs.Model.{state_of};
-ghost use Rattle.sg_role.specs.Stepping.{held_next};
+ghost use Rattle.sg_role.specs.Invariant.{HoldsWaiting};
 ghost use Rattle.sg_vis.specs.Table.{views_of};
 ghost use Rattle.sg_model.specs.Lists.{first_some};
 ghost use Rattle.sg_model.specs.Shape.{receiver};
@@ -24,14 +22,12 @@ ghost use Rattle.sg_walk.specs.Model.{event_of, values_of};
 ghost use Rattle.sg_role.specs.Faults.{RefusesToSend};
 ghost use Rattle.sg_role.specs.Sending.{event_sent, frame_made, with_notes, WaitsOrEnds, step_of};
 
-use crate::evidence::take_over;
 use crate::kept::Kept;
-use crate::step::{MadeStep, make_step, next_time};
+use crate::step::{MadeStep, make_step};
 use crate::values::{check_step, tell_values};
 use crate::{Await, Before, Done, SendFault, Sent, Turn};
-use sg_base::{Label, Opening, Value, Var};
+use sg_base::{Label, Value, Var};
 use sg_crypt::Notes;
-use sg_frame::Item;
 use sg_keys::Keyring;
 use sg_vis::{Origin, View, ViewId, ViewTable};
 use std::alloc::Global;
@@ -70,13 +66,14 @@ impl<'p> Turn<'p> {
             → IfOk result (λ sent. notes.new ≡ with_notes notes.old (notes_of_sent keys.now self.entry.program s
             (frame_sent real keys.now self.entry.program s label (openings_for (values_of values.now) confounders.now)) (openings_for (values_of values.now) confounders.now))) }
     {
-        if let Err(fault) = check_step(&self.kept, label, values) {
+        let kept = self.kept.as_ref();
+        if let Err(fault) = check_step(kept, label, values) {
             return Err((self, fault));
         }
-        tell(&self.kept, values, confounders);
+        tell(kept, values, confounders);
         let counts = notes.counts();
-        match make_step(alloc, &self.kept, keys, label, values, confounders, notes) {
-            Ok(step) => Ok(go_on(self, label, step)),
+        match make_step(alloc, kept, keys, label, values, confounders, notes) {
+            Ok(step) => Ok(go_on(label, step)),
             Err(_) => {
                 notes.keep(counts);
                 Err((self, SendFault::OutOfMemory))
@@ -95,75 +92,28 @@ fn tell(kept: &Kept, values: &[(Var, Value)], confounders: &[[u8; 16]])
     tell_values(values, confounders);
 }
 
-// The role after a step, which takes its state's place. It takes no memory.
-fn go_on<'p>(turn: Turn<'p>, label: Label, step: MadeStep) -> Sent<'p>
-    requires label { label < length turn.program.graph.edges }
-    requires time { turn.held.kept.time < most_time }
-    requires backed { IsBackedWaiting real turn.program (held_next turn.program turn.held label step.items.items step.commitments.items step.written.items) }
-    ensures event { event_sent result ≡ event_of step.event }
-    ensures frame { frame_made result ≡ step.sealed }
-    ensures state { WaitsOrEnds (may_return turn.entry.program label) (record {
-      program = turn.entry.program;
-      held = held_next turn.entry.program turn.entry.held label step.items.items step.commitments.items step.written.items;
-    }) result }
+// The role after a step. It takes no memory.
+fn go_on<'p>(label: Label, step: MadeStep<'p>) -> Sent<'p>
+    requires { HoldsWaiting (state_of step.kept.value) }
+    ensures event { event_sent result ≡ event_of step.entry.event }
+    ensures frame { frame_made result ≡ step.entry.sealed }
+    ensures state { WaitsOrEnds (may_return (state_of step.entry.kept.value).program label) (state_of step.entry.kept.value) result }
 {
-    let Turn { kept } = turn;
     let MadeStep {
         event,
         sealed,
-        written,
-        items,
-        commitments,
+        kept,
     } = step;
-    if !begins(kept.program.views(), label) {
-        return Sent::Ended(Done(()), event, sealed);
-    }
-    let kept = next_kept(kept, label, items, commitments, written);
-    Sent::Waiting(
-        Await {
-            before: Before { kept },
-        },
-        event,
-        sealed,
-    )
-}
-
-// What is kept after a step. It takes no memory.
-fn next_kept<'p>(
-    kept: Kept<'p>,
-    label: Label,
-    items: Vec<Item>,
-    commitments: Vec<Option<[u8; 32]>>,
-    written: Vec<Opening>,
-) -> Kept<'p>
-    requires label { label < length (state_of kept).program.graph.edges }
-    requires time { (state_of kept).held.kept.time < most_time }
-    ensures { state_of result ≡ record {
-      program = (state_of kept.entry).program;
-      held = held_next (state_of kept.entry).program (state_of kept.entry).held label items.items commitments.items written.items;
-    } }
-{
-    let place = kept.program.graph().edge(label).target;
-    let time = next_time(&kept);
-    let Kept {
-        program,
-        sid,
-        cast,
-        mut openings,
-        ..
-    } = kept;
-    take_over(&mut openings, written);
-    Kept {
-        program,
-        sid,
-        cast,
-        from: Origin::After(label),
-        own_time: time,
-        time,
-        place,
-        items,
-        commitments,
-        openings,
+    if begins(kept.program.views(), label) {
+        Sent::Waiting(
+            Await {
+                before: Before { kept },
+            },
+            event,
+            sealed,
+        )
+    } else {
+        Sent::Ended(Done(()), event, sealed)
     }
 }
 

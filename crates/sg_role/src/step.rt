@@ -18,11 +18,11 @@ ghost use Rattle.sg_walk.specs.Model.{event_of, values_of};
 ghost use Rattle.sg_role.specs.Sending.{with_notes, step_of};
 ghost use Rattle.sg_role.specs.Model.{state_of};
 ghost use Rattle.sg_role.specs.Invariant.{HoldsTurn};
-ghost use Rattle.sg_role.specs.Stepping.{send_rows, own_text, step_commitments, step_item, items_after, step_frame, step_notes, frame_with, Extends};
+ghost use Rattle.sg_role.specs.Stepping.{send_rows, own_text, step_commitments, step_item, step_frame, step_held, step_notes, frame_with, held_next, Extends};
 
-use crate::evidence::{items_with, openings_of, shown_to, vars_of};
-use crate::kept::Kept;
-use crate::next::has_role;
+use crate::evidence::{items_with, openings_of, shown_to, take_over, vars_of};
+use crate::kept::{Kept, shared};
+use crate::next::{copied_openings, has_role};
 use crate::own::{
     commit_each, commitments_with, copy_values, name_of, roles_of, tag_to, tags_for,
     written_openings,
@@ -32,36 +32,36 @@ use sg_base::{Label, Opening, OutOfMemory, Role, Sealed, Seq, Tag, Time, Value, 
 use sg_crypt::{Note, Notes, SharedCast, frame_text};
 use sg_frame::{Frame, Item, body_len, encode};
 use sg_keys::Keyring;
+use sg_vis::Origin;
 use sg_walk::Event;
 use std::alloc::Global;
+use std::rc::Rc;
 
-/// What a step makes: what it did and the frame, what is written, and the items and commitments that are kept afterwards.
-pub(crate) struct MadeStep {
+/// What a step makes: what it did, the frame, and what is kept afterwards.
+pub(crate) struct MadeStep<'p> {
     pub event: Event,
     pub sealed: Sealed,
-    pub written: Vec<Opening>,
-    pub items: Vec<Item>,
-    pub commitments: Vec<Option<[u8; 32]>>,
+    pub kept: Rc<Kept<'p>>,
 }
 
 /// Makes a step along the label, on which no refusal holds. What is tagged and hashed is noted.
-pub(crate) fn make_step(
+pub(crate) fn make_step<'p>(
     alloc: Global,
-    kept: &Kept,
+    kept: &Kept<'p>,
     keys: &Keyring,
     label: Label,
     values: &[(Var, Value)],
     confounders: &[[u8; 16]],
     notes: &mut Notes,
-) -> Result<MadeStep, OutOfMemory>
+) -> Result<MadeStep<'p>, OutOfMemory>
     requires turn { HoldsTurn (state_of kept.now) }
     requires count { length confounders.now ≡ length values.now }
     requires none { first_some (send_rows (state_of kept.now).program (state_of kept.now).held label (values_of values.now)) ≡ None }
     ensures event { IfOk result (λ st. event_of st.event ≡ step_of (state_of kept.now).held label (values_of values.now)) }
-    ensures written { IfOk result (λ st. st.written.items ≡ openings_for (values_of values.now) confounders.now) }
-    ensures items { IfOk result (λ st. st.items.items ≡ items_after (state_of kept.now).program.graph (state_of kept.now).held
-        (step_item keys.now (state_of kept.now).program (state_of kept.now).held label (openings_for (values_of values.now) confounders.now))) }
-    ensures commitments { IfOk result (λ st. st.commitments.items ≡ step_commitments (state_of kept.now).program (state_of kept.now).held (openings_for (values_of values.now) confounders.now)) }
+    ensures state { IfOk result (λ st. state_of st.kept.value ≡ record {
+      program = (state_of kept.now).program;
+      held = step_held keys.now (state_of kept.now).program (state_of kept.now).held label (openings_for (values_of values.now) confounders.now);
+    }) }
     ensures frame { IfOk result (λ st. st.sealed ≡ (
       principal kept.now.cast (receiver (shape (state_of kept.now).program.graph) label),
       spelling (step_frame keys.now (state_of kept.now).program (state_of kept.now).held label (openings_for (values_of values.now) confounders.now)),
@@ -76,14 +76,49 @@ pub(crate) fn make_step(
     let count = kept.program.graph().vars();
     let items = items_with(alloc, count, kept.items.as_slice(), &own)?;
     let frame = untagged(alloc, kept, label, items.as_slice(), written.as_slice())?;
+    let next = next_kept(alloc, kept, label, items, commitments, written)?;
     let sealed = seal(alloc, kept, keys, &frame, notes)?;
     Ok(MadeStep {
         event,
         sealed,
-        written,
+        kept: next,
+    })
+}
+
+// What is kept after a step.
+fn next_kept<'p>(
+    alloc: Global,
+    kept: &Kept<'p>,
+    label: Label,
+    items: Vec<Item>,
+    commitments: Vec<Option<[u8; 32]>>,
+    written: Vec<Opening>,
+) -> Result<Rc<Kept<'p>>, OutOfMemory>
+    requires label { label < length (state_of kept.now).program.graph.edges }
+    requires time { kept.now.time < most_time }
+    ensures { IfOk result (λ k. state_of k.value ≡ record {
+      program = (state_of kept.now).program;
+      held = held_next (state_of kept.now).program (state_of kept.now).held label items.items commitments.items written.items;
+    }) }
+{
+    let mut openings = copied_openings(alloc, kept.openings.as_slice())?;
+    take_over(&mut openings, written);
+    let cast = kept.cast.share()?;
+    let time = next_time(kept);
+    let next = Kept {
+        program: kept.program,
+        sid: kept.sid,
+        cast,
+        from: Origin::After(label),
+        own_time: time,
+        time,
+        place: kept.program.graph().edge(label).target,
         items,
         commitments,
-    })
+        openings,
+    };
+    let held = shared(alloc, next)?;
+    Ok(held)
 }
 
 // What the role does.
@@ -105,8 +140,8 @@ fn step_event(
     })
 }
 
-/// The time of the step.
-pub(crate) fn next_time(kept: &Kept) -> Time
+// The time of the step.
+fn next_time(kept: &Kept) -> Time
     requires { kept.now.time < most_time }
     ensures { result ≡ kept.now.time + 1 }
 {

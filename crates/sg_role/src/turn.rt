@@ -12,12 +12,13 @@ use sg_base::{Label, NodeId, Time};
 use sg_cache::Ticket;
 use sg_crypt::Cast;
 use std::marker::Model;
+use std::rc::Rc;
 
 /// A role at its turn: its session is new, or ends with a frame that it accepted. It is made by `begin`, and by `Await::accept`. A
 /// clause sees its program and what it holds.
 #[derive(Drop)]
 pub struct Turn<'p> {
-    pub(crate) kept: Kept<'p>,
+    pub(crate) kept: Rc<Kept<'p>>,
 }
 
 impl<'p> Model for Turn<'p> {
@@ -28,9 +29,9 @@ impl<'p> Model for Turn<'p> {
     ghost use Rattle.sg_role.specs.Model.{state_of};
     ghost use Rattle.sg_role.specs.Invariant.{HoldsTurn};
 
-    ghost view = { λ t. state_of t.kept };
+    ghost view = { λ t. state_of t.kept.value };
 
-    ghost invariant = { λ t. HoldsTurn (state_of t.kept) };
+    ghost invariant = { λ t. HoldsTurn (state_of t.kept.value) };
 }
 
 impl<'p> Turn<'p> {

@@ -15,7 +15,7 @@ ghost use Rattle.sg_role.specs.Model.{state_of};
 ghost use Rattle.sg_role.specs.Invariant.{HoldsBefore, HoldsTurn};
 
 use crate::kept::Kept;
-use crate::next::{after_frame, copy_of, receipt_of};
+use crate::next::{after_frame, receipt_of};
 use crate::openings::check_openings;
 use crate::tags::{check_frame_tag, check_items};
 use crate::times::check_times;
@@ -26,6 +26,7 @@ use sg_frame::Frame;
 use sg_keys::Keyring;
 use sg_vis::ViewId;
 use std::alloc::Global;
+use std::rc::Rc;
 
 /// Looks at a frame that is for a role and its session, and was read from these bytes: accepts it or says why not. Row by row as the
 /// definition has them: the frame's tag, what it shows, the times, the tags of the items, the openings. What was found right and what
@@ -55,8 +56,11 @@ pub fn examine<'p>(
         (row_number (first_some (rows_of_session real keys.now before.now.program s frame.now)))) }
     ensures memory { result ≡ Err Refusal.OutOfMemory → notes.new ≡ notes.old }
 {
+    let Ok(same) = before.kept.clone() else {
+        return Err(Refusal::OutOfMemory);
+    };
     let counts = notes.counts();
-    let result = look(alloc, &before.kept, keys, frame, bytes, notes);
+    let result = look(alloc, before.kept.as_ref(), same, keys, frame, bytes, notes);
     if is_memory(&result) {
         notes.keep(counts);
     }
@@ -70,16 +74,18 @@ fn is_memory(looked: &Result<Accepted, Refusal>) -> bool
     matches!(looked, Err(Refusal::OutOfMemory))
 }
 
-// Looks at the rows in order.
+// Looks at the rows in order. What is kept comes twice: to look at, and to go with what is accepted.
 fn look<'p>(
     alloc: Global,
     kept: &Kept<'p>,
+    same: Rc<Kept<'p>>,
     keys: &Keyring,
     frame: &Frame,
     bytes: &[u8],
     notes: &mut Notes,
 ) -> Result<Accepted<'p>, Refusal>
     requires holds { HoldsBefore (state_of kept.now) }
+    requires same { state_of same.value ≡ state_of kept.now }
     requires spelled { SpellsFrame bytes.now frame.now }
     requires version { frame.now.version ≡ kept.now.cast.version }
     ensures is_program { IsProgram real (state_of kept.now).program }
@@ -110,18 +116,20 @@ fn look<'p>(
         openings,
         notes,
     )?;
-    accept(alloc, kept, frame, commitments, view)
+    accept(alloc, kept, same, frame, commitments, view)
 }
 
 // What is accepted.
 fn accept<'p>(
     alloc: Global,
     kept: &Kept<'p>,
+    same: Rc<Kept<'p>>,
     frame: &Frame,
     commitments: Vec<Option<[u8; 32]>>,
     view: ViewId,
 ) -> Result<Accepted<'p>, Refusal>
     requires holds { HoldsBefore (state_of kept.now) }
+    requires same { state_of same.value ≡ state_of kept.now }
     requires spelled { HasSpelling frame.now }
     requires commitments { commitments.items ≡ overwritten_by kept.now.commitments.items frame.now.items }
     requires seen { is_seen (state_of kept.now).program (state_of kept.now).held.kept.origin frame.now ≡ true }
@@ -136,11 +144,10 @@ fn accept<'p>(
     ensures event { IfOk result (λ a. a.event ≡ receipt frame.now) }
     ensures view { IfOk result (λ a. a.view ≡ view) }
 {
-    let before = copy_of(alloc, kept)?;
     let after = after_frame(alloc, kept, frame, commitments)?;
     let event = receipt_of(alloc, frame)?;
     Ok(Accepted {
-        before,
+        before: same,
         after,
         event,
         view,

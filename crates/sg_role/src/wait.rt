@@ -69,7 +69,7 @@ impl<'p> Await<'p> {
         ensures taken { IfOk result (λ r. TurnsOrEnds (goes_on accepted.entry.program.graph accepted.entry.after.kept.place) (state_after accepted.entry) r.1) }
         ensures back { IfErr result (λ e. (e.0 ≡ self.entry) × (e.1 ≡ accepted.entry)) }
     {
-        if !same(&self.before.kept, &accepted.before) {
+        if !same(self.before.kept.as_ref(), accepted.before.as_ref()) {
             return Err((self, accepted));
         }
         let Accepted { after, event, .. } = accepted;

@@ -27,7 +27,8 @@ returns c =
     let shown : c.as_slice-shown.result.now ≡ f.items = c.as_slice-shown.ensures ∙ ap (λ (f : Frame). f.items) c.frame.view_is in
     let opened : c.as_slice-opened.result.now ≡ f.openings = c.as_slice-opened.ensures ∙ ap (λ (f : Frame). f.openings) c.frame.view_is in
     let count : length p.graph.variables ≡ c.vars-count.result = sym (c.vars-count.ensures.count ∙ ap (λ (g : Graph). length g.variables) c.graph.ensures.graph) in
-    (λ j. record {
+    ap state_of c.in_ok-held.ensures
+    ∙ (λ j. record {
       program = p;
       held = record {
         sid = h.sid;

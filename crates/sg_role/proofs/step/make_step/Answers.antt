@@ -13,7 +13,8 @@ use Rattle.sg_protocol.specs.Session.{principal}
 use Rattle.sg_protocol.specs.Texts.{commitment_text_of}
 use Rattle.sg_walk.specs.Model.{values_of}
 use Rattle.sg_role.specs.Model.{state_of}
-use Rattle.sg_role.specs.Stepping.{own_text, step_commitments, step_item, items_after, step_frame, frame_with}
+use Rattle.sg_role.specs.Stepping.{own_text, step_commitments, step_item, items_after, step_frame, frame_with, held_next}
+use Rattle.sg_role.proofs.NextLaws.{time_left}
 use Rattle.sg_role.proofs.Sealing.{untagged_short}
 use Rattle.sg_role.proofs.SendLaws.{sends_short}
 use Rattle.sg_role.proofs.Walked.{extends_same}
@@ -60,8 +61,11 @@ seal-requires-clause-short c =
     ∙ (λ j. record (frame_with p h label ((c.as_slice-3.ensures.value ∙ items) j) ((c.as_slice-4.ensures.value ∙ written) j)) { tag = replicate 32 0 }) in
     subst IsShortFrame (sym frame) (untagged_short (step_frame keys p h label os) (sends_short keys p h label vs c.args.confounders.now c.graph.ensures.program c.requires.turn.backed c.requires.none c.tell_values.ensures))
 
-pub returns-clause-commitments : goal.returns-clause-commitments
-returns-clause-commitments c =
+pub next_kept-requires-clause-time : goal.next_kept-requires-clause-time
+next_kept-requires-clause-time c = time_left c.args.kept.now.program.now (state_of c.args.kept.now).held c.args.label (values_of c.args.values.now) c.requires.none
+
+pub returns-clause-state : goal.returns-clause-state
+returns-clause-state c =
     let p = c.args.kept.now.program.now in
     let h = (state_of c.args.kept.now).held in
     let keys = c.args.keys.now in
@@ -70,7 +74,11 @@ returns-clause-commitments c =
     let os = openings_for vs c.args.confounders.now in
     let written : c.in_ok-written.written.items ≡ os = c.in_ok-written.ensures in
     let given : c.as_slice.result.now ≡ os = c.as_slice.ensures.value ∙ written in
-    c.in_ok-own.ensures.commitments ∙ ap (step_commitments p h) given
+    let own : c.in_ok-own.own ≡ step_item keys p h label os = c.in_ok-own.ensures.item ∙ ap (step_item keys p h label) given in
+    let count : length p.graph.variables ≡ c.vars-count.result = sym (c.vars-count.ensures.count ∙ ap (λ (g : Graph). length g.variables) c.graph.ensures.graph) in
+    let items : c.in_ok-items.items.items ≡ items_after p.graph h (step_item keys p h label os) = c.in_ok-items.ensures p.graph count ∙ (λ j. kept_items p.graph (c.as_slice-2.ensures.value j ++ own j ∷ [])) in
+    let commitments = c.in_ok-own.ensures.commitments ∙ ap (step_commitments p h) given in
+    c.in_ok-next.ensures ∙ (λ j. record { program = p; held = held_next p h label (items j) (commitments j) (written j) })
 
 pub returns-clause-noted : goal.returns-clause-noted
 returns-clause-noted c =

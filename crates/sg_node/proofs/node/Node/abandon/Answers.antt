@@ -25,3 +25,9 @@ returns-clause-state c = λ past st. subst (λ (z : NodeState). GoesOn z (record
     (goes_on (node_state c.self.inside) (record { keys = c.self.inside.keys; programs = c.self.inside.programs.now; joins = c.self.inside.joins.pairs; live = held_in c.take-live.new.self.slots }) (Abandon c.args.sid) past c.self.invariant.programs tt (subst (λ (z : NodeState). StandsForPast z past) (sym c.self.view_is) st)
     (ap (λ z. record { keys = c.self.inside.keys; programs = c.self.inside.programs.now; joins = c.self.inside.joins.pairs; live = held_in z }) c.take-live.ensures.slots ∙ ap (λ hs. record { keys = c.self.inside.keys; programs = c.self.inside.programs.now; joins = c.self.inside.joins.pairs; live = hs }) (left c.self.inside c.self.invariant c.args.sid c.in-Some.index (sym c.in-Some.ensures))
     ∙ ap (state_after (node_state c.self.inside) (Abandon c.args.sid)) (sym (abandoned c.self.inside c.self.invariant (node_of past) (subst (λ (z : NodeState). StandsForPast z past) (sym c.self.view_is) st) c.args.sid c.in-Some.index (sym c.in-Some.ensures)))))
+
+pub returns-in_default-clause-answer : goal.returns-in_default-clause-answer
+returns-in_default-clause-answer c = λ past st. not_abandoned c.self.inside c.self.invariant (node_of past) (subst (λ (z : NodeState). StandsForPast z past) (sym c.self.view_is) st) c.args.sid (sym c.first.ensures ∙ c.in_default.is)
+
+pub returns-clause-answer : goal.returns-clause-answer
+returns-clause-answer c = λ past st. abandoned c.self.inside c.self.invariant (node_of past) (subst (λ (z : NodeState). StandsForPast z past) (sym c.self.view_is) st) c.args.sid c.in-Some.index (sym c.in-Some.ensures)

@@ -1,5 +1,5 @@
-use Rattle.std.proofs.Common.{◌≡◌, ◌+◌, sym, subst, arith}
-use Rattle.sg_node.specs.Slots.{HoldsTable}
+use Rattle.std.proofs.Common.{◌≡◌, ◌+◌, map, sym, subst, Contains, arith}
+use Rattle.sg_node.specs.Slots.{HoldsTable, Slot, Table}
 use Rattle.sg_node.proofs.Counts.{few_held, holds_last}
 use Rattle.sg_node.proofs.sessions.Sessions.push.Goals as goal
 
@@ -19,3 +19,6 @@ invariant_of-self-else-self-role c =
     subst (λ e. HoldsTable e (c.self.inside.live + 1) c.self.inside.bound) (sym c.put_last.ensures)
     (holds_last c.self.inside.slots.entries c.self.inside.live c.self.inside.bound c.self.invariant (c.args.sid, c.args.role) c.args.live c.self.inside.bound
     (omega arith) (grind (arith, c.if-self-role.false, same)))
+
+pub put_last-requires-clause-absent : goal.put_last-requires-clause-absent
+put_last-requires-clause-absent c = subst (λ (t : Table). ¬ Contains (map (λ (s : Slot). s.0) t.slots) (c.args.sid, c.args.role)) (sym c.self.view_is) c.requires.absent

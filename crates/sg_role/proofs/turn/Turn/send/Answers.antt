@@ -5,16 +5,17 @@ use Rattle.sg_protocol.specs.Acting.{openings_for}
 use Rattle.sg_protocol.specs.Backed.{IsBackedAtTurn}
 use Rattle.sg_protocol.specs.Calls.{SendFault}
 use Rattle.sg_protocol.specs.Graph.{shape}
+use Rattle.sg_protocol.specs.Keyring.{may_return}
 use Rattle.sg_protocol.specs.IsSchedule.{IsProgram}
 use Rattle.sg_protocol.specs.Session.{principal}
 use Rattle.sg_protocol.specs.Spelling.{spelling}
 use Rattle.sg_protocol.specs.Texts.{real}
 use Rattle.sg_walk.specs.Model.{values_of}
 use Rattle.sg_role.specs.Faults.{RefusesToSend}
-use Rattle.sg_role.specs.Sending.{with_notes}
-use Rattle.sg_role.specs.Model.{RoleState}
-use Rattle.sg_role.specs.Invariant.{HoldsTurn}
-use Rattle.sg_role.specs.Stepping.{send_rows, items_after, step_item, step_commitments, step_frame, step_notes}
+use Rattle.sg_role.specs.Sending.{WaitsOrEnds, with_notes}
+use Rattle.sg_role.specs.Model.{RoleState, state_of}
+use Rattle.sg_role.specs.Invariant.{HoldsTurn, HoldsWaiting}
+use Rattle.sg_role.specs.Stepping.{send_rows, step_frame, step_held, step_notes}
 use Rattle.sg_role.proofs.NextLaws.{next_waits, next_stands}
 use Rattle.sg_role.proofs.SendLaws.{shows_own}
 use Rattle.sg_role.proofs.StepLaws.{rows_held, frame_held, notes_held}
@@ -24,10 +25,10 @@ pub returns-in-Err-clause-refused : goal.returns-in-Err-clause-refused
 returns-in-Err-clause-refused c = λ s stands.
     let vs = values_of c.args.values.now in
     subst (λ (rows : List (Option SendFault)). RefusesToSend (first_some rows) c.in-Err.fault) (rows_held c.args.keys.now c.args.self.program c.args.self.held s stands.holds c.args.label vs)
-    (subst (λ (z : RoleState). RefusesToSend (first_some (send_rows z.program z.held c.args.label vs)) c.in-Err.fault) c.self.view_is c.in-Err.ensures.wrong)
+    (subst (λ (z : RoleState). RefusesToSend (first_some (send_rows z.program z.held c.args.label vs)) c.in-Err.fault) (ap state_of c.as_ref-kept.ensures ∙ c.self.view_is) c.in-Err.ensures.wrong)
 
-pub go_on-requires-clause-backed : goal.go_on-requires-clause-backed
-go_on-requires-clause-backed c =
+pub go_on-requires : goal.go_on-requires
+go_on-requires c =
     let p = c.args.self.program in
     let h = c.args.self.held in
     let keys = c.args.keys.now in
@@ -35,14 +36,17 @@ go_on-requires-clause-backed c =
     let vs = values_of c.args.values.now in
     let cs = c.args.confounders.now in
     let os = openings_for vs cs in
-    let v = c.self.view_is in
+    let v = ap state_of c.as_ref-kept.ensures ∙ c.self.view_is in
     let none : first_some (send_rows p h label vs) ≡ None = subst (λ (z : RoleState). first_some (send_rows z.program z.held label vs) ≡ None) v c.in_default.ensures.right in
-    let turn : IsBackedAtTurn real p h = (subst HoldsTurn v c.self.invariant).backed in
+    let turn : IsBackedAtTurn real p h = (subst HoldsTurn c.self.view_is c.self.invariant).backed in
     let ip : IsProgram real p = subst (λ (z : RoleState). IsProgram real z.program) v c.tell.ensures.program in
     let are = c.tell.ensures.values in
-    let items = c.in-Ok.ensures.items ∙ ap (λ (z : RoleState). items_after z.program.graph z.held (step_item keys z.program z.held label os)) v in
-    let commitments = c.in-Ok.ensures.commitments ∙ ap (λ (z : RoleState). step_commitments z.program z.held os) v in
-    next_waits keys p h label vs cs ip turn c.in-Ok.step.items.items c.in-Ok.step.commitments.items c.in-Ok.step.written.items c.in-Ok.ensures.written items commitments none are
+    let made : state_of c.in-Ok.step.kept.value ≡ record { program = p; held = step_held keys p h label os } =
+    c.in-Ok.ensures.state ∙ ap (λ (z : RoleState). record { program = z.program; held = step_held keys z.program z.held label os }) v in
+    subst HoldsWaiting (sym made) (record {
+      counted = (subst HoldsTurn c.self.view_is c.self.invariant).counted;
+      backed = next_waits keys p h label vs cs ip turn none are;
+    })
 
 pub returns-in-Ok-clause-accepted : goal.returns-in-Ok-clause-accepted
 returns-in-Ok-clause-accepted c = λ s stands.
@@ -53,9 +57,9 @@ returns-in-Ok-clause-accepted c = λ s stands.
     let vs = values_of c.args.values.now in
     let cs = c.args.confounders.now in
     let os = openings_for vs cs in
-    let v = c.self.view_is in
+    let v = ap state_of c.as_ref-kept.ensures ∙ c.self.view_is in
     let none : first_some (send_rows p h label vs) ≡ None = subst (λ (z : RoleState). first_some (send_rows z.program z.held label vs) ≡ None) v c.in_default.ensures.right in
-    let turn : IsBackedAtTurn real p h = (subst HoldsTurn v c.self.invariant).backed in
+    let turn : IsBackedAtTurn real p h = (subst HoldsTurn c.self.view_is c.self.invariant).backed in
     let ip : IsProgram real p = subst (λ (z : RoleState). IsProgram real z.program) v c.tell.ensures.program in
     let are = c.tell.ensures.values in
     ap first_some (sym (rows_held keys p h s stands.holds label vs)) ∙ none
@@ -69,9 +73,9 @@ returns-in-Ok-clause-frame c = λ s stands.
     let vs = values_of c.args.values.now in
     let cs = c.args.confounders.now in
     let os = openings_for vs cs in
-    let v = c.self.view_is in
+    let v = ap state_of c.as_ref-kept.ensures ∙ c.self.view_is in
     let none : first_some (send_rows p h label vs) ≡ None = subst (λ (z : RoleState). first_some (send_rows z.program z.held label vs) ≡ None) v c.in_default.ensures.right in
-    let turn : IsBackedAtTurn real p h = (subst HoldsTurn v c.self.invariant).backed in
+    let turn : IsBackedAtTurn real p h = (subst HoldsTurn c.self.view_is c.self.invariant).backed in
     let ip : IsProgram real p = subst (λ (z : RoleState). IsProgram real z.program) v c.tell.ensures.program in
     let are = c.tell.ensures.values in
     c.go_on.ensures.frame ∙ c.in-Ok.ensures.frame
@@ -87,14 +91,15 @@ returns-in-Ok-clause-state c = λ s stands.
     let vs = values_of c.args.values.now in
     let cs = c.args.confounders.now in
     let os = openings_for vs cs in
-    let v = c.self.view_is in
+    let v = ap state_of c.as_ref-kept.ensures ∙ c.self.view_is in
     let none : first_some (send_rows p h label vs) ≡ None = subst (λ (z : RoleState). first_some (send_rows z.program z.held label vs) ≡ None) v c.in_default.ensures.right in
-    let turn : IsBackedAtTurn real p h = (subst HoldsTurn v c.self.invariant).backed in
+    let turn : IsBackedAtTurn real p h = (subst HoldsTurn c.self.view_is c.self.invariant).backed in
     let ip : IsProgram real p = subst (λ (z : RoleState). IsProgram real z.program) v c.tell.ensures.program in
     let are = c.tell.ensures.values in
-    let items = c.in-Ok.ensures.items ∙ ap (λ (z : RoleState). items_after z.program.graph z.held (step_item keys z.program z.held label os)) v in
-    let commitments = c.in-Ok.ensures.commitments ∙ ap (λ (z : RoleState). step_commitments z.program z.held os) v in
-    next_stands keys p h label vs cs ip turn c.in-Ok.step.items.items c.in-Ok.step.commitments.items c.in-Ok.step.written.items c.in-Ok.ensures.written items commitments s stands c.go_on.result c.go_on.ensures.state
+    let made : state_of c.in-Ok.step.kept.value ≡ record { program = p; held = step_held keys p h label os } =
+    c.in-Ok.ensures.state ∙ ap (λ (z : RoleState). record { program = z.program; held = step_held keys z.program z.held label os }) v in
+    next_stands keys p h label vs cs ip turn s stands c.go_on.result
+    (subst (λ (z : RoleState). WaitsOrEnds (may_return z.program label) z c.go_on.result) made c.go_on.ensures.state)
 
 pub returns-in-Ok-clause-notes : goal.returns-in-Ok-clause-notes
 returns-in-Ok-clause-notes c = λ s stands.
@@ -105,9 +110,9 @@ returns-in-Ok-clause-notes c = λ s stands.
     let vs = values_of c.args.values.now in
     let cs = c.args.confounders.now in
     let os = openings_for vs cs in
-    let v = c.self.view_is in
+    let v = ap state_of c.as_ref-kept.ensures ∙ c.self.view_is in
     let none : first_some (send_rows p h label vs) ≡ None = subst (λ (z : RoleState). first_some (send_rows z.program z.held label vs) ≡ None) v c.in_default.ensures.right in
-    let turn : IsBackedAtTurn real p h = (subst HoldsTurn v c.self.invariant).backed in
+    let turn : IsBackedAtTurn real p h = (subst HoldsTurn c.self.view_is c.self.invariant).backed in
     let ip : IsProgram real p = subst (λ (z : RoleState). IsProgram real z.program) v c.tell.ensures.program in
     let are = c.tell.ensures.values in
     let old = c.args.notes.now in

@@ -1,12 +1,13 @@
-use Rattle.std.proofs.Common.{sym, subst}
+use Rattle.std.proofs.Common.{sym, ap, ◌∙◌, subst}
 use Rattle.sg_protocol.specs.Texts.{real, session_id, session_text_of}
 use Rattle.sg_protocol.proofs.Backed.{states_are_backed}
 use Rattle.sg_protocol.proofs.RealHash.{real_hash}
 use Rattle.sg_role.specs.Invariant.{HoldsBefore}
-use Rattle.sg_role.proofs.before.Before.start.Goals as goal
+use Rattle.sg_role.specs.Model.{state_of}
+use Rattle.sg_role.proofs.before.Before.with_sid.Goals as goal
 
 pub invariant_of-result : goal.invariant_of-result
-invariant_of-result c = subst HoldsBefore (sym c.in_ok-kept.ensures) (record {
+invariant_of-result c = subst HoldsBefore (sym (ap state_of c.in_ok-kept.ensures ∙ c.in_ok-new.ensures)) (record {
   counted = c.requires.count;
   backed = (states_are_backed real real_hash).is_new c.args.program.now (session_id real c.args.cast) c.args.cast c.tell.ensures.program (real_hash (session_text_of c.args.cast))
       (record { version = c.tell.ensures.version; fields = c.tell.ensures.cast }) c.requires.graph;
