@@ -1,6 +1,7 @@
 # What the benches share. A bench sources this file, after `set -eu`, and then has `here`, the top of the repository, and `folder`, which goes when
 # the bench ends. Its program is a crate of its own in that folder, beside copies of the crates that it stands on.
 here=$(cd "$(dirname "${BASH_SOURCE[0]}")/.." && pwd)
+source "$here/tools/allocator"
 folder=$(mktemp -d)
 trap 'rm -rf "$folder"' EXIT
 
