@@ -4,7 +4,7 @@
 # byte alone. Without memory a run must end with status 8, say `out of memory` and write nothing, or end as it does with ample memory, where a growth that
 # is refused only saves time. Where a call on a file fails, it must end with status 5, say so and write nothing; where one on what it writes fails, with
 # status 6, and what is written is a front part of what it writes else; where one of a socket fails, with 7, and where there is no seed, with 12. What
-# `run`, `keep` and `stream` write before memory is wanted or a call fails stays, in whole lines; where one on a ledger fails, with 11. Where a call takes
+# `run`, `keep` and `stream` write before memory runs out or a call fails stays, in whole lines; where one on a ledger fails, with 11. Where a call takes
 # one byte, it must end as ever. Of `stream` the allocations alone are tried, with a peer that takes what is sent. Prints for each run how many allocations
 # and calls it makes, each of which was tried, and with what statuses these runs ended. Needs python3 and a C compiler; no part of the gate.
 #

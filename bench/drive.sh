@@ -4,20 +4,18 @@
 # seconds of its hashes alone, made right after it by the product's own `tag` and `graph_digest`, and the ratio of the two; behind it the same with
 # `Key::tag`, for which the key is hashed once for all. Each is the least of five runs, one after the other in turn. Which texts a run notes tells
 # tools/model.py of the schedule that tools/drive_model.py makes. Then how the time of 2,000 sessions compares with eight times that of 250. Needs
-# python3; no part of the gate.
+# python3, in two runs: the peak memory of a child counts what it was before it became the program, so what runs the program has to be small. No part
+# of the gate.
 set -eu
 source "$(dirname "${BASH_SOURCE[0]}")/common.sh"
 hashes
 hashes=$(built)
 "$here/sessiongraph" check "$here/examples/shop.graph" >/dev/null || exit 1
-# (the program itself, since ./sessiongraph first looks whether it is built)
-python3 - "${PROGRAM:-$here/crates/sg_cli/out/sg_cli}" "$folder" "$here/examples/shop.graph" "$hashes" "$here/tools" <<'PYTHON'
+python3 - "$folder" "$here/examples/shop.graph" "$here/tools" <<'PYTHON'
 import collections
-import os
-import subprocess
 import sys
 
-program, folder, shop, hashes, tools = sys.argv[1:]
+folder, shop, tools = sys.argv[1:]
 sys.dont_write_bytecode = True
 sys.path.insert(0, tools)
 import drive_model
@@ -41,6 +39,20 @@ def noted(seed, sessions, graph):
     return counts
 
 
+for name, graph in (('shop', shop), ('chain', chain)):
+    for sessions in (250, 500, 1_000, 2_000):
+        with open(f'{folder}/{name}-{sessions}', 'w') as out:
+            out.writelines(f'{kind} {count} {length}\n' for (kind, length), count in noted(11, sessions, graph).items())
+PYTHON
+# (the program itself, since ./sessiongraph first looks whether it is built)
+python3 - "${PROGRAM:-$here/crates/sg_cli/out/sg_cli}" "$folder" "$here/examples/shop.graph" "$hashes" <<'PYTHON'
+import os
+import subprocess
+import sys
+
+program, folder, shop, hashes = sys.argv[1:]
+
+
 def timed(words):
     """What a program wrote, the seconds of a processor that it took, and its peak memory in MiB."""
     child = subprocess.Popen(words, stdout=subprocess.PIPE, text=True, cwd=folder)
@@ -51,17 +63,18 @@ def timed(words):
     return written, used.ru_utime + used.ru_stime, used.ru_maxrss / 1024
 
 
-for name, graph in (('shop', shop), ('chain', chain)):
+for name, graph in (('shop', shop), ('chain', folder + '/chain.graph')):
     took = {}
     for sessions in (250, 500, 1_000, 2_000):
-        counts = noted(11, sessions, graph)
+        with open(f'{folder}/{name}-{sessions}') as counts:
+            counts = counts.read()
         spent = {'r': [], 't': [], 'k': []}
         for _ in range(5):
             summary, seconds, peak = timed([program, 'drive', '11', str(sessions), graph])
             spent['r'].append(seconds)
             for how in 'tk':
                 with open(folder + '/counts', 'w') as out:
-                    out.writelines(f'{how if kind == "t" else kind} {count} {length}\n' for (kind, length), count in counts.items())
+                    out.write(counts.replace('t', how))
                 spent[how].append(timed([hashes])[1])
         took[sessions], anew, ready = (min(spent[how]) for how in 'rtk')
         sent = dict(line.split() for line in summary.splitlines() if len(line.split()) == 2)['sent']

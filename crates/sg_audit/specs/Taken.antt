@@ -52,7 +52,7 @@ session_of s = record { name = s.name; logs = map log_of s.logs; walk = option_m
 abbrev pub logs_held : Held' → Logs
 logs_held l = record { graph = l.graph; sessions = map session_of l.sessions }
 
--- the line is wrong as the definition says, or memory was wanted
+-- the line is wrong as the definition says, or memory ran out
 abbrev pub IsStop : Added → Stop → Type 0
 IsStop added (Wrong kind) = added ≡ Err kind
 IsStop added NoMemory = ⊤
@@ -62,7 +62,7 @@ pub record Takes {A : Type 0} (added : Added) (new : SoFar) (result : Result A S
   pub taken : OnOk result (added ≡ Ok new)
   pub stopped : IfErr result (IsStop added)
 
--- the definition has this fault, or memory was wanted
+-- the definition has this fault, or memory ran out
 abbrev pub Refuses : Result Logs Fault → LogFault → Type 0
 Refuses read (Form n) = read ≡ Err (WrongLine n FormKind)
 Refuses read (Unknown n) = read ≡ Err (WrongLine n UnknownKind)

@@ -9,7 +9,7 @@ use std::alloc::Global;
 use std::fmt;
 use std::marker::Model;
 
-/// A growing list of bytes. Each writing call appends its field; for want of memory the list is as before.
+/// A growing list of bytes. Each writing call appends its field; if memory runs out, the list is as before.
 #[derive(Debug, Drop)]
 pub struct ByteOut {
     bytes: Vec<u8>,

@@ -36,7 +36,7 @@ pub enum CharsFault {
     /// The bytes are not UTF-8.
     #[error("not UTF-8")]
     NotText,
-    /// Memory was wanted, and none was to be had.
+    /// Out of memory.
     #[error("out of memory")]
     OutOfMemory,
 }

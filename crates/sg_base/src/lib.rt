@@ -33,7 +33,7 @@ pub use told::tell_bytes;
 pub use value::{Opening, Value, VarType, copy_openings};
 pub use word::{read_hex, read_number};
 
-/// The answer where memory was wanted and none was to be had.
+/// The answer where memory ran out.
 pub type OutOfMemory = std::alloc::AllocError;
 
 #[cfg(test)]

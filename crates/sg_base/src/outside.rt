@@ -19,7 +19,7 @@ pub enum FileFault {
     /// The file has more bytes than were asked for.
     #[error("the file is too long")]
     TooLong,
-    /// Memory was wanted, and none was to be had.
+    /// Out of memory.
     #[error("out of memory")]
     OutOfMemory,
 }
@@ -78,7 +78,7 @@ pub enum LinkFault {
     /// The system failed.
     #[error("the link failed")]
     Failed,
-    /// Memory was wanted, and none was to be had.
+    /// Out of memory.
     #[error("out of memory")]
     OutOfMemory,
 }

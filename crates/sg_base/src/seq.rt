@@ -44,7 +44,7 @@ impl<T> Seq<T> {
         items
     }
 
-    /// Puts a value at the end. For want of memory the value comes back and the list is as before.
+    /// Puts a value at the end. If memory runs out, the value comes back and the list is as before.
     pub fn push(&mut self, value: T) -> Result<(), AllocFailed<T>>
         ensures ok { OnOk result (self.new ≡ self.old ++ value ∷ []) }
         ensures err { OnErr result (self.new ≡ self.old) }

@@ -42,7 +42,7 @@ pub enum ClaimFault {
     /// 65,536 pairs are there.
     #[error("the cache is full")]
     CacheFull,
-    /// Memory was wanted, and none was to be had.
+    /// Out of memory.
     #[error("out of memory")]
     OutOfMemory,
 }
@@ -67,7 +67,7 @@ impl Cache {
     }
 
     /// Puts a pair at the end, and gives the ticket for it. Where room was made it takes no memory. After a refusal the pairs are
-    /// as before, and so is the room but where memory was wanted.
+    /// as before, and so is the room but where memory ran out.
     pub fn claim(&mut self, sid: Sid, role: Role) -> Result<Ticket, ClaimFault>
         ensures joined { (result ≡ Err ClaimFault.Joined) ↔ Contains self.old.pairs (sid, role) }
         ensures full { (result ≡ Err ClaimFault.CacheFull) ↔ ((¬ Contains self.old.pairs (sid, role)) × (length self.old.pairs ≡ most_joins)) }

@@ -29,7 +29,7 @@ pub enum BlindFault {
         /// A walk to a node of the second role.
         walk_b: Seq<Label>,
     },
-    /// Memory was wanted, and none was to be had.
+    /// Out of memory.
     #[error("out of memory")]
     OutOfMemory,
 }

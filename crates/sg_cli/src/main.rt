@@ -26,7 +26,7 @@ fn main(rt: HostRuntime) -> ExitCode {
     ExitCode::from(status)
 }
 
-// How the program ends where it has no words: one of them is no UTF-8, so it is in no command, or memory was wanted.
+// How the program ends where it has no words: one of them is no UTF-8, so it is in no command, or memory ran out.
 fn before_words(rt: &HostRuntime, e: &io::Error) -> u8 {
     let mut err = StdSink::new(rt.stderr());
     match e.kind() {

@@ -19,7 +19,7 @@ pub enum ComposeFault {
     Clash { part: Name, use_name: Name },
     /// There would be more than 256 nodes, 512 edges or 32 variables.
     TooLarge { part: Name, use_name: Name },
-    /// Memory was wanted, and none was to be had.
+    /// Out of memory.
     OutOfMemory,
 }
 

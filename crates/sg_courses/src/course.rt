@@ -93,7 +93,7 @@ impl<'r> Course<'r> {
         grow(alloc, self.graph, self.honest, self.shown.as_slice())
     }
 
-    /// Goes on by an event, beside a walk. For want of memory the course is as before.
+    /// Goes on by an event, beside a walk. If memory runs out, the course is as before.
     pub(crate) fn add(&mut self, event: &'r Event, walk: &'r [Label]) -> Result<(), OutOfMemory>
         requires { All (λ e. e < length self.old.graph.edges) walk.now }
         ensures ok { OnOk result (Adds self.old self.new (event_of event.now) walk.now) }
@@ -104,7 +104,7 @@ impl<'r> Course<'r> {
         Ok(())
     }
 
-    /// Goes on by the receipt of a frame, beside an example of what the frame shows. For want of memory the course is as before, and also
+    /// Goes on by the receipt of a frame, beside an example of what the frame shows. If memory runs out, the course is as before, and also
     /// where the frame shows no view of the receiver, which can't be where the premises hold.
     pub(crate) fn take(
         &mut self,

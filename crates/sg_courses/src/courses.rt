@@ -59,7 +59,7 @@ impl<'r> Courses<'r> {
         }
     }
 
-    /// Goes on by a start: the cast that was started, and the event. For want of memory the courses are as before.
+    /// Goes on by a start: the cast that was started, and the event. If memory runs out, the courses are as before.
     pub fn started<H: Honest>(
         &mut self,
         alloc: Global,
@@ -78,7 +78,7 @@ impl<'r> Courses<'r> {
         }
     }
 
-    /// Goes on by what was sent. The session is there, if it is one of a run. For want of memory the courses are as before.
+    /// Goes on by what was sent. The session is there, if it is one of a run. If memory runs out, the courses are as before.
     pub fn sent(&mut self, event: &'r Event) -> Result<(), OutOfMemory>
         ensures goes_on { (s : Schedule) (before : List Logged) (l : Logged) (sid : List ℕ) (label : ℕ) (values : Map Value) (confounders : List (List ℕ))
             → l.call ≡ Some (Act sid label values confounders) → events_of_outcome l.outcome ≡ event_of event.now ∷ [] → OnOk result (GoOn s before l self.old self.new) }
@@ -91,7 +91,7 @@ impl<'r> Courses<'r> {
         }
     }
 
-    /// Goes on by a receipt: the frame that was taken, and the event. For want of memory the courses are as before.
+    /// Goes on by a receipt: the frame that was taken, and the event. If memory runs out, the courses are as before.
     pub fn received<H: Honest>(
         &mut self,
         alloc: Global,
@@ -111,7 +111,7 @@ impl<'r> Courses<'r> {
         }
     }
 
-    /// Goes on by a delivery: the bytes that were delivered, and the event. For want of memory the courses are as before.
+    /// Goes on by a delivery: the bytes that were delivered, and the event. If memory runs out, the courses are as before.
     pub fn delivered<H: Honest>(
         &mut self,
         alloc: Global,
@@ -207,7 +207,7 @@ fn take_at<'r>(
     table[place].take(alloc, programs, frame, event)
 }
 
-// Begins the course of a session that has none, with its start. For want of memory the table is as before.
+// Begins the course of a session that has none, with its start. If memory runs out, the table is as before.
 fn begin<'r, H: Honest>(
     alloc: Global,
     table: &mut IndexMap<Sid, Course<'r>>,
@@ -228,7 +228,7 @@ fn begin<'r, H: Honest>(
     put_last(table, sid_of(event), course)
 }
 
-// Begins the course of a session that has none, with a frame that joins it. For want of memory the table is as before.
+// Begins the course of a session that has none, with a frame that joins it. If memory runs out, the table is as before.
 fn join<'r, H: Honest>(
     alloc: Global,
     table: &mut IndexMap<Sid, Course<'r>>,

@@ -121,7 +121,7 @@ impl Notes {
         self.hashed.truncate(0);
     }
 
-    /// Appends a text that was tagged. For want of memory the lists stay as they were.
+    /// Appends a text that was tagged. If memory runs out, the lists stay as they were.
     pub fn note_made(&mut self, note: Note) -> Result<(), OutOfMemory>
         ensures ok { OnOk result (self.new ≡ record self.old { made = self.old.made ++ note ∷ [] }) }
         ensures err { OnErr result (self.new ≡ self.old) }
@@ -129,7 +129,7 @@ impl Notes {
         put(&mut self.made, note)
     }
 
-    /// Appends a text whose tag was found right. For want of memory the lists stay as they were.
+    /// Appends a text whose tag was found right. If memory runs out, the lists stay as they were.
     pub fn note_found(&mut self, note: Note) -> Result<(), OutOfMemory>
         ensures ok { OnOk result (self.new ≡ record self.old { found = self.old.found ++ note ∷ [] }) }
         ensures err { OnErr result (self.new ≡ self.old) }
@@ -137,7 +137,7 @@ impl Notes {
         put(&mut self.found, note)
     }
 
-    /// Appends a text that was hashed. For want of memory the lists stay as they were.
+    /// Appends a text that was hashed. If memory runs out, the lists stay as they were.
     pub fn note_hashed(&mut self, text: Hashed) -> Result<(), OutOfMemory>
         ensures ok { OnOk result (self.new ≡ record self.old { hashed = self.old.hashed ++ text ∷ [] }) }
         ensures err { OnErr result (self.new ≡ self.old) }

@@ -5,7 +5,7 @@ ghost use Rattle.sg_protocol.specs.Spelling.{u8, short_text, kind_code, sized, o
 
 use sg_base::{ByteOut, Name, Opening, OutOfMemory, Value};
 
-/// Appends a name after its length. For want of memory the list is as before.
+/// Appends a name after its length. If memory runs out, the list is as before.
 pub fn put_name(out: &mut ByteOut, name: &Name) -> Result<(), OutOfMemory>
     ensures ok { OnOk result (out.new ≡ out.old ++ short_text name.now) }
     ensures err { OnErr result (out.new ≡ out.old) }
@@ -18,7 +18,7 @@ pub fn put_name(out: &mut ByteOut, name: &Name) -> Result<(), OutOfMemory>
     put
 }
 
-/// Appends an opening: its variable, its confounder, its type, and its value after its length. For want of memory the list is as
+/// Appends an opening: its variable, its confounder, its type, and its value after its length. If memory runs out, the list is as
 /// before.
 pub fn put_opening(out: &mut ByteOut, opening: &Opening) -> Result<(), OutOfMemory>
     ensures ok { OnOk result (out.new ≡ out.old ++ opening_bytes opening.now) }

@@ -11,7 +11,7 @@ use Rattle.sg_frame.specs.declared.fault.FrameStop.TheVariants.{Malformed, OutOf
 abbrev pub left : Cursor → List ℕ
 left p = drop p.at p.bytes
 
--- reading stopped where the definition says, or for want of memory
+-- reading stopped where the definition says, or memory ran out
 abbrev pub StopsWith : {A : Type 0} → FrameStop → Result (Read A) ℕ → Type 0
 StopsWith OutOfMemory read = Unit {0}
 StopsWith (Malformed at) read = read ≡ Err at
@@ -25,13 +25,13 @@ ReadsSeen view reader old new (Err e) = StopsWith e (reader old.at (left old))
 abbrev pub Reads : {A : Type 0} → Reader A → Cursor → Cursor → Result A FrameStop → Type 0
 Reads reader old new result = ReadsSeen (λ x. x) reader old new result
 
--- what was read is all of the bytes, or reading stopped where the definition says, or for want of memory
+-- what was read is all of the bytes, or reading stopped where the definition says, or memory ran out
 abbrev pub Ends : {A : Type 0} → Result A ℕ → Result A FrameStop → Type 0
 Ends read (Ok x) = read ≡ Ok x
 Ends read (Err OutOfMemory) = Unit {0}
 Ends read (Err (Malformed at)) = read ≡ Err at
 
--- the definition refuses at this offset, or memory was wanted
+-- the definition refuses at this offset, or memory ran out
 abbrev pub Refuses : {A : Type 0} → Result A ℕ → DecodeFault → Type 0
 Refuses read faults.OutOfMemory = Unit {0}
 Refuses read (faults.Malformed at) = read ≡ Err at

@@ -12,7 +12,7 @@ pub enum DecodeFault {
     /// The first field that is not there whole, or is out of its range, begins at this offset.
     #[error("malformed at {at}")]
     Malformed { at: u32 },
-    /// Memory was wanted, and none was to be had.
+    /// Out of memory.
     #[error("out of memory")]
     OutOfMemory,
 }

@@ -30,7 +30,7 @@ pub enum KeyFault {
         /// The later peer's entry, from 1 on.
         entry: usize,
     },
-    /// Memory was wanted, and none was to be had.
+    /// Out of memory.
     OutOfMemory,
 }
 

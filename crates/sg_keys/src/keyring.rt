@@ -49,7 +49,7 @@ pub enum PeerFault {
     /// The peer is the principal itself, or is there.
     #[error("a peer twice")]
     Twice,
-    /// Memory was wanted, and none was to be had.
+    /// Out of memory.
     #[error("out of memory")]
     OutOfMemory,
 }

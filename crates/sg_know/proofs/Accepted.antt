@@ -20,7 +20,7 @@ accepted_reads g one two three = record {
       (λ f. three e x (walk ++ e ∷ [], record { from_start = w; last_edge = last-more walk e; is_read = r; unknown = f }));
 }
 
--- of a graph that has it no fault is told but want of memory
+-- of a graph that has it no fault is told but that memory ran out
 pub no_fault : (g : Graph) → AcceptedReads g → (fault : ReadFault) → IsFirstFault g fault → fault ≡ OutOfMemory
 no_fault g h (NotWriter e x) f = (let z : true ≡ false = sym (h.writers_write e x f.0.0) ∙ f.0.1 in absurd (cc))
 no_fault g h (ReadsOwn e x) f = absurd (h.others_read e x f.1.0.0 f.1.0.1)
@@ -32,7 +32,7 @@ no_fault g h (BadRead e x walk) f =
     absurd (cc)
 no_fault g h OutOfMemory f = refl
 
--- of such a graph the answer tells no fault but want of memory
+-- of such a graph the answer tells no fault but that memory ran out
 pub accepts : (g : Graph) (answer : Result (Unit {0}) ReadFault) → IfErr answer (IsFirstFault g) → AcceptedReads g → IfErr answer (λ fault. fault ≡ OutOfMemory)
 accepts g (Ok u) h a = tt
 accepts g (Err fault) h a = no_fault g a fault h

@@ -96,7 +96,7 @@ impl States {
         self.list[place].by
     }
 
-    /// Puts a state at the end, unless it is there. For want of memory the list is as before.
+    /// Puts a state at the end, unless it is there. If memory runs out, the list is as before.
     pub(crate) fn enter(&mut self, reached: Reached) -> Result<(), OutOfMemory>
         requires node { reached.state.node < 256 }
         requires order { IfSome reached.by (λ s. s.from < length self.old) }

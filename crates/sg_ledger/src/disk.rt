@@ -18,7 +18,7 @@ pub enum DiskFault {
     /// The system failed.
     #[error("the disk failed")]
     Failed,
-    /// Memory was wanted, and none was to be had.
+    /// Out of memory.
     #[error("out of memory")]
     OutOfMemory,
 }

@@ -26,7 +26,7 @@ pub enum CreateFault {
     /// The disk failed.
     #[error("the disk failed")]
     Failed,
-    /// Memory was wanted, and none was to be had.
+    /// Out of memory.
     #[error("out of memory")]
     OutOfMemory,
 }
@@ -46,7 +46,7 @@ pub enum OpenFault {
     /// The disk failed.
     #[error("the disk failed")]
     Failed,
-    /// Memory was wanted, and none was to be had.
+    /// Out of memory.
     #[error("out of memory")]
     OutOfMemory,
 }
@@ -63,7 +63,7 @@ pub enum AddJoinFault {
     /// The disk failed, and so has the ledger: it is to be opened again.
     #[error("the disk failed")]
     Failed,
-    /// Memory was wanted, and none was to be had.
+    /// Out of memory.
     #[error("out of memory")]
     OutOfMemory,
 }
@@ -99,7 +99,7 @@ impl Ledger {
         ensures blank { OnOk result ((image : List ℕ) → D.may_leave disk.new image → IsBlank image) }
         ensures made { OnOk result ((image : List ℕ) → D.may_leave disk.new image → StandsFor image []) }
 
-        // A file that has bytes is left alone whatever the answer is, and any file where memory was wanted.
+        // A file that has bytes is left alone whatever the answer is, and any file where memory ran out.
         ensures refused { IfErr result (λ e. e ≢ CreateFault.Failed → IsLeftAlone D.seen D.may_leave D.moment D.left_since disk.old disk.new) }
         ensures used { (file : List ℕ) → D.seen disk.old ≡ Some file → file ≢ [] → IsLeftAlone D.seen D.may_leave D.moment D.left_since disk.old disk.new }
     {

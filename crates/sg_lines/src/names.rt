@@ -44,7 +44,7 @@ impl SessionNames {
         }
     }
 
-    /// Declares a session, before any event. For want of memory the names are as before.
+    /// Declares a session, before any event. If memory runs out, the names are as before.
     pub fn declare(&mut self, name: Name, sid: Sid) -> Result<(), OutOfMemory>
         ensures ok { (letter : ℕ) (m : Met) → m.events ≡ [] → self.old ≡ naming letter m → OnOk result (self.new ≡ naming letter (with_declared m name sid)) }
         ensures err { OnErr result (self.new ≡ self.old) }
@@ -57,7 +57,7 @@ impl SessionNames {
         Ok(())
     }
 
-    /// Meets an event of a session. For want of memory the names are as before.
+    /// Meets an event of a session. If memory runs out, the names are as before.
     pub fn meet(&mut self, alloc: Global, sid: Sid) -> Result<(), OutOfMemory>
         ensures ok { (letter : ℕ) (m : Met) → self.old ≡ naming letter m → OnOk result (self.new ≡ naming letter (with_event m sid)) }
         ensures err { OnErr result (self.new ≡ self.old) }

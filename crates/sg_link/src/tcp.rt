@@ -69,7 +69,7 @@ fn is_passing(kind: ErrorKind) -> bool {
     matches!(kind, ErrorKind::Interrupted | ErrorKind::ConnectionAborted)
 }
 
-// Room for a piece. `None` is want of memory.
+// Room for a piece. `None` means out of memory.
 fn room_for_a_piece(alloc: Global) -> Option<Vec<u8>> {
     match vec![in alloc; 0u8; 16_384] {
         Ok(bytes) => Some(bytes),

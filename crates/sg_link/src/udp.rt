@@ -28,7 +28,7 @@ impl<R: Net + Drop> UdpLink<R> {
     }
 }
 
-// Room for the longest datagram and one byte more, so that none is cut short unseen. `None` is want of memory.
+// Room for the longest datagram and one byte more, so that none is cut short unseen. `None` means out of memory.
 fn longest_datagram(alloc: Global) -> Option<Vec<u8>> {
     match vec![in alloc; 0u8; 65_508] {
         Ok(bytes) => Some(bytes),

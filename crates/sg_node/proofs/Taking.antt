@@ -22,7 +22,7 @@ use Rattle.sg_node.specs.Answers.{IsAnswer, delivery_answer, GoesOn}
 use Rattle.sg_node.specs.Faults.{refusal}
 use Rattle.sg_node.proofs.Going.{goes_on}
 
--- only want of memory is no refusal of the definition
+-- only `OutOfMemory` is no refusal of the definition
 no_refusal : (r : Refusal) → refusal r ≡ None → r ≡ refusals.OutOfMemory
 no_refusal refusals.OutOfMemory e = refl
 no_refusal other e = absurd (cc)

@@ -1,4 +1,4 @@
--- The refusals of the program as those of the definitions. None is want of memory.
+-- The refusals of the program as those of the definitions. None is `OutOfMemory`.
 use Rattle.std.specs.Prelude.{Option, Some, None, option_map}
 use Rattle.sg_protocol.specs.Calls as Protocol
 use Rattle.sg_role.specs.declared.fault.Refusal.{Refusal as RoleRefusal}

@@ -39,7 +39,7 @@ impl<'p> Node<'p> {
         ensures notes { (past : Past) → StandsForPast self.old past → result ≢ Err ActFault.OutOfMemory
             → notes.new ≡ with_notes notes.old (noted_of real (node_of past) (Act sid label (values_of values.now) confounders.now)) }
         ensures back { OnErr result ((self.new ≡ self.old) × (notes.new ≡ notes.old)) }
-        // Want of memory is told as itself, and never in the place of a refusal for which no turn is there.
+        // Out of memory is told as itself, and never in the place of a refusal for which no turn is there.
         ensures told { result ≢ Err (ActFault.Send SendFault.OutOfMemory) }
         ensures memory { (past : Past) → StandsForPast self.old past → result ≡ Err ActFault.OutOfMemory
             → comes_to_a_turn (answer real (node_of past) (Act sid label (values_of values.now) confounders.now)) ≡ true }

@@ -266,19 +266,13 @@ fn take<'p>(
     ensures slots { sessions.new.slots ≡ set_value_at sessions.old.slots index (left_after accepted.entry) }
 {
     match sessions.take(index) {
-        Some(Live::Waiting(wait)) => match wait.accept(accepted) {
-            Ok((event, taken)) => match taken {
-                Taken::Turn(turn) => {
-                    sessions.put(index, Live::AtTurn(turn));
-                    Ok(event)
-                }
-                Taken::Done(_done) => Ok(event),
-            },
-            Err((wait, _)) => {
-                sessions.put(index, Live::Waiting(wait));
-                Err(Refusal::NotWaiting)
+        Some(Live::Waiting(wait)) => {
+            let (event, taken) = wait.go_on(accepted);
+            if let Taken::Turn(turn) = taken {
+                sessions.put(index, Live::AtTurn(turn));
             }
-        },
+            Ok(event)
+        }
         _ => Err(Refusal::NotWaiting),
     }
 }

@@ -27,7 +27,7 @@ pub enum StartFault {
     /// 4,096 sessions are live.
     #[error("too many live sessions")]
     SessionsFull,
-    /// Memory was wanted, and none was to be had.
+    /// Out of memory.
     #[error("out of memory")]
     OutOfMemory,
 }
@@ -44,7 +44,7 @@ pub enum ActFault {
     /// The role does not send the step.
     #[error("not sent: {0}")]
     Send(SendFault),
-    /// Memory was wanted, and none was to be had.
+    /// Out of memory.
     #[error("out of memory")]
     OutOfMemory,
 }
@@ -125,7 +125,7 @@ pub enum Refusal {
         /// The opened variable.
         var: Var,
     },
-    /// Memory was wanted, and none was to be had.
+    /// Out of memory.
     #[error("out of memory")]
     OutOfMemory,
 }

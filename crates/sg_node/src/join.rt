@@ -75,7 +75,7 @@ pub(crate) fn claim(joins: &mut Cache, sid: Sid, role: Role) -> Ticket
     joins.claim(sid, role).unwrap()
 }
 
-/// Notes the text that the identifier of a session is of. For want of memory nothing is noted.
+/// Notes the text that the identifier of a session is of. If memory runs out, nothing is noted.
 pub(crate) fn note_session(
     alloc: Global,
     cast: &Cast,
@@ -177,7 +177,7 @@ fn first_receipt<'p>(
     ensures taken { IfSome result (λ r. TurnsOrEnds (goes_on accepted.entry.program.graph accepted.entry.after.kept.place) (state_after accepted.entry) r.1) }
 {
     match Await::join(ticket, before) {
-        Ok(wait) => wait.accept(accepted).ok(),
+        Ok(wait) => Some(wait.go_on(accepted)),
         Err((ticket, _before)) => {
             ticket.give_up();
             None

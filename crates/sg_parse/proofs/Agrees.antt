@@ -18,7 +18,7 @@ found bs (Err e) h = tt
 clash : (bs : List ℕ) (g : Graph) (e : ParseFault) → SpellsGraph bs g → read bs ≡ Err e → ⊥
 clash bs g e s h = let ok : read bs ≡ Ok g = spells-read bs g s in cc
 
--- what is spelled is read, or memory was wanted
+-- what is spelled is read, or memory ran out
 pub only : (bs : List ℕ) (result : Result Graph ParseFault) → MatchResult result (λ g. read bs ≡ Ok g) (Refuses (read bs)) → (g : Graph) → SpellsGraph bs g
     → MatchResult result (λ h. h ≡ g) (λ e. e ≡ OutOfMemory)
 only bs (Ok h) r g s = ok_same h g (sym r ∙ spells-read bs g s)

@@ -19,7 +19,7 @@ module _ {V : Type 0} (items : V → List Part) (bs : List ℕ) where
   clash : (ps : List Part) (e : ParseFault) → SpellsParts bs ps → read bs ≡ Err e → ⊥
   clash ps e s h = let ok : read bs ≡ Ok ps = spells-read bs ps s in cc
 
-  -- what is spelled is read, or memory was wanted
+  -- what is spelled is read, or memory ran out
   pub only : (result : Result V ParseFault) → MatchResult result (λ v. read bs ≡ Ok (items v)) (Refuses (read bs)) → (ps : List Part) → SpellsParts bs ps
       → MatchResult result (λ v. items v ≡ ps) (λ e. e ≡ OutOfMemory)
   only (Ok v) r ps s = ok_same (items v) ps (sym r ∙ spells-read bs ps s)

@@ -5,7 +5,7 @@ use Rattle.sg_parse.specs.declared.token.Placed.{Placed}
 use Rattle.sg_parse.specs.declared.fault.ParseFault.{ParseFault}
 use Rattle.sg_parse.specs.declared.fault.ParseFault.TheVariants.{OutOfMemory}
 
--- the definition has this fault, or memory was wanted
+-- the definition has this fault, or memory ran out
 abbrev pub Refuses : {A : Type 0} → Result A ParseFault → ParseFault → Type 0
 Refuses read OutOfMemory = Unit {0}
 Refuses read e = read ≡ Err e

@@ -18,7 +18,7 @@ pub enum ParseFault {
     Twice { at: usize },
     /// The 33rd byte of a name, or the first word of a statement of which the graph has as many as it may have.
     TooMany { at: usize },
-    /// Memory was wanted, and none was to be had.
+    /// Out of memory.
     OutOfMemory,
 }
 
@@ -42,7 +42,7 @@ impl fmt::Display for ParseFault {
     }
 }
 
-// The fault where a part isn't added for want of memory.
+// The fault where a part isn't added because memory ran out.
 pub fn want(fault: AddFault) -> ParseFault
     requires { fault ≡ AddFault.OutOfMemory }
     ensures { result ≡ ParseFault.OutOfMemory }

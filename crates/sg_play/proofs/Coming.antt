@@ -24,7 +24,7 @@ no_memory start now p q e w = record { front = p.steps; rest = e.0; is = e.1; wh
 pub no_link : (start now : Outside) (p q : Play) → Extends p q → Whole start now p.steps → Ended start now q.steps (Err LinkFailed)
 no_link start now p q e w = record { front = p.steps; rest = e.0; is = e.1; whole = w }
 
--- a fault that is want of memory
+-- a fault that is `OutOfMemory`
 pub no_memory_by : (start now : Outside) (p q : Play) (f : PlayFault) → f ≡ OutOfMemory → Extends p q → Whole start now p.steps → Ended start now q.steps (Err f)
 no_memory_by start now p q f is e w = subst (λ (x : PlayFault). Ended start now q.steps (Err x)) (sym is) (no_memory start now p q e w)
 

@@ -33,7 +33,7 @@ pub record Begun (old new : Outside) (steps : List Step) : Type 0 where
   pub lines : Appends old.written new.written (lines_of front ++ take bytes step.line)
   pub frames : Appends old.sent new.sent (frames_of front ++ step.frames)
 
--- a play of these steps ended so. Where the link failed or memory was wanted, whole steps were taken; where a line was not written whole, its frame was taken
+-- a play of these steps ended so. Where the link failed or memory ran out, whole steps were taken; where a line was not written whole, its frame was taken
 abbrev pub Ended : (old new : Outside) → List Step → Result (Unit {0}) PlayFault → Type 0
 Ended old new steps (Ok u) = Whole old new steps
 Ended old new steps (Err LinkFailed) = WholeFront old new steps

@@ -144,7 +144,7 @@ well_formed bs table h s f _ (OtherStart {v} {r} {n} {g} {rest} {more} {ls} star
     let graphs = one_graph more ls table n (role_name h s) g h r s graph (subst (λ t. HasGraph t (role_name h s) h s table) (sym roles.1) f.graph) in
     other (starts.0 ∙ ap version (sym graphs.0))
 
--- so what is loaded from the text of a program is this program, or memory was wanted
+-- so what is loaded from the text of a program is this program, or memory ran out
 pub loaded_or_memory : (bs : List ℕ) (p : Program) → IsWhole p → program_text p ≡ bs → (result : Result Program LoadFault) → IfOk result IsWhole → IfOk result (λ q. program_text q ≡ bs) → IfErr result (IsLoadFault bs)
     → IfOk result (λ q. q ≡ p) × IfErr result (λ f. f ≡ Faults.OutOfMemory)
 loaded_or_memory bs p w e result whole text fault = by result whole text fault

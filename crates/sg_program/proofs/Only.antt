@@ -86,7 +86,7 @@ no_longer {X} (x ∷ xs) ys differ each = pigeonhole (length (x ∷ xs)) (length
 of_each : {X : Type 0} (P : X → Type 0) (xs : List X) (v : X) → All P xs → Contains xs v → P v
 of_each P xs v all (k, l, e) = subst P e (all k v l)
 
--- where a program is compiled, only memory was wanted for the views
+-- where a program is compiled, the views fail only where memory runs out
 pub few_views : (g : Graph) (r : ℕ) (p : Program) → IsCompiled g r p → (f : ViewFault) → Explains g r f → f ≡ ViewMemory
 few_views g r p c ViewMemory e = refl
 few_views g r p c (TooManyOpen list) e =
@@ -129,7 +129,7 @@ accepted_blinding g a (Blinds node one two walk_a walk_b) h = a.sighted node one
       leads_b = h.leads_b;
     }
 
--- where a program is compiled, only memory was wanted
+-- where a program is compiled, nothing fails unless memory runs out
 pub not_refused : (g : Graph) (r : ℕ) (p : Program) → IsCompiled g r p → (f : CompileFault) → IsRefused g r f → f ≡ OutOfMemory
 not_refused g r p c f h = by f h
   where
@@ -143,7 +143,7 @@ not_refused g r p c f h = by f h
     by (Blinded f) (s, k, h, other) = absurd (accepted_blinding g accepted f h)
     by (Views q f) (a, q', h, other) = absurd (other (few_views g r p c f h))
 
--- so the compiler's answer is this program, or that memory was wanted
+-- so the compiler's answer is this program, or that memory ran out
 pub compiled_or_memory : (g : Graph) (r : ℕ) (p : Program) → IsCompiled g r p → (result : Result Program CompileFault) → IfOk result (IsCompiled g r) → IfErr result (IsRefused g r)
     → IfOk result (λ q. q ≡ p) × IfErr result (λ f. f ≡ OutOfMemory)
 compiled_or_memory g r p c (Ok q) ok err = (only_compiled g r p q c ok, tt)

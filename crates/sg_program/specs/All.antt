@@ -38,7 +38,7 @@ abbrev pub IsGraphFault : List Program → ℕ → Graph → AllFault → Type 0
 IsGraphFault before place g (Refused at fault) = (at ≡ place) × IsStopped (pairs_of before) g fault
 IsGraphFault before place g OutOfMemory = ⊤
 
--- the fault of the graph at this place, with want of memory outside
+-- the fault of the graph at this place, with `OutOfMemory` outside
 abbrev pub all_fault : ℕ → CompileFault → AllFault
 all_fault place CompileMemory = OutOfMemory
 all_fault place f = Refused place f

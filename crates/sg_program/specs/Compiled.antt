@@ -30,7 +30,7 @@ abbrev pub IsRefused : Graph → ℕ → CompileFault → Type 0
 IsRefused g r (Views q f) = Accepted g × (q ≡ r) × Explains g r f × (f ≢ ViewMemory)
 IsRefused g r f = IsRefusal g f
 
--- the fault of the views of a role, with want of memory outside
+-- the fault of the views of a role, with `OutOfMemory` outside
 abbrev pub view_fault : ℕ → ViewFault → CompileFault
 view_fault r ViewMemory = OutOfMemory
 view_fault r f = Views r f

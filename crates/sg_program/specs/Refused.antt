@@ -11,7 +11,7 @@ use Rattle.sg_protocol.specs.Graph.{Graph, shape}
 use Rattle.sg_program.specs.declared.check.CompileFault.{CompileFault}
 use Rattle.sg_program.specs.declared.check.CompileFault.TheVariants.{Shape, Reads, Blinding, Views, OutOfMemory}
 
--- the graph's first refusal. Want of memory is never within another fault
+-- the graph's first refusal. `OutOfMemory` is never within another fault
 abbrev pub IsRefusal : Graph → CompileFault → Type 0
 IsRefusal g (Shape f) = IsShapeFault g f
 IsRefusal g (Reads f) = HasShape g × IsFirstFault g f × (f ≢ ReadMemory)
@@ -19,12 +19,12 @@ IsRefusal g (Blinding f) = HasShape g × AcceptedReads g × IsBlindFault (shape 
 IsRefusal g (Views r f) = ⊥
 IsRefusal g OutOfMemory = ⊤
 
--- a fault of the second kind, with want of memory outside
+-- a fault of the second kind, with `OutOfMemory` outside
 abbrev pub reads_fault : ReadFault → CompileFault
 reads_fault ReadMemory = OutOfMemory
 reads_fault f = Reads f
 
--- a fault of the third kind, with want of memory outside
+-- a fault of the third kind, with `OutOfMemory` outside
 abbrev pub blind_fault : BlindFault → CompileFault
 blind_fault BlindMemory = OutOfMemory
 blind_fault f = Blinding f

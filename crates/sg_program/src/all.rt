@@ -19,10 +19,10 @@ use thiserror::Error;
 #[derive(Debug, Drop, Error)]
 pub enum AllFault {
     /// The first graph that isn't compiled for one of its roles, by its place from 0, and the fault of its first such role. The fault
-    /// isn't want of memory.
+    /// isn't `OutOfMemory`.
     #[error("graph {place}: {fault}")]
     Refused { place: u32, fault: CompileFault },
-    /// Memory was wanted, and none was to be had.
+    /// Out of memory.
     #[error("out of memory")]
     OutOfMemory,
 }

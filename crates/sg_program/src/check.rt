@@ -18,16 +18,16 @@ pub enum CompileFault {
     /// Its shape is wrong.
     #[error("{0}")]
     Shape(ShapeFault),
-    /// A write or a read is wrong. The fault isn't want of memory.
+    /// A write or a read is wrong. The fault isn't `OutOfMemory`.
     #[error("{0}")]
     Reads(ReadFault),
-    /// A node blinds two roles. The fault isn't want of memory.
+    /// A node blinds two roles. The fault isn't `OutOfMemory`.
     #[error("{0}")]
     Blinding(BlindFault),
-    /// Too many views can reach the role. The fault isn't want of memory.
+    /// Too many views can reach the role. The fault isn't `OutOfMemory`.
     #[error("{fault}")]
     Views { role: Role, fault: ViewFault },
-    /// Memory was wanted, and none was to be had.
+    /// Out of memory.
     #[error("out of memory")]
     OutOfMemory,
 }

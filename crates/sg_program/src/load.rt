@@ -24,14 +24,14 @@ pub enum LoadFault {
     /// text of a graph with this role and a line `table` (its offset), or the version is another than the graph's (offset 11).
     #[error("malformed at {at}")]
     Malformed { at: u32 },
-    /// The graph that was read can't be compiled for the role. The fault isn't want of memory.
+    /// The graph that was read can't be compiled for the role. The fault isn't `OutOfMemory`.
     #[error("{fault}")]
     Graph { graph: Graph, fault: CompileFault },
     /// The lines after `table` aren't those of the program: the number of the first line that differs, is missing or follows the end,
     /// counted from 1.
     #[error("entry {entry}")]
     NotTheTable { entry: usize },
-    /// Memory was wanted, and none was to be had.
+    /// Out of memory.
     #[error("out of memory")]
     OutOfMemory,
 }

@@ -66,7 +66,7 @@ pub enum AddProgramFault {
     /// A program of the same graph name is there, with the same role or with another digest.
     #[error("twice")]
     Twice,
-    /// Memory was wanted, and none was to be had.
+    /// Out of memory.
     #[error("out of memory")]
     OutOfMemory,
 }
@@ -100,7 +100,7 @@ impl Programs {
         }
     }
 
-    /// Adds a program that clashes with none. Where memory is wanted the programs are as before, and the program comes back.
+    /// Adds a program that clashes with none. If memory runs out, the programs are as before, and the program comes back.
     pub(crate) fn push(&mut self, program: Program) -> Result<(), Program>
         requires { list_any (clashes program) self.old ≡ false }
         ensures added { OnOk result (self.new ≡ self.old ++ program ∷ []) }

@@ -3,7 +3,7 @@ ghost use Rattle.sg_read.specs.Laws.{FaultsAreOne, SchedulesAreOne, WrongIsNoSch
 ghost use Rattle.sg_read.specs.Meant.{SpelledIsMeant};
 
 /// Bytes spell one schedule at most, have one first wrong line at most and one kind of fault there, and have none where they spell a
-/// schedule. So an answer of `read_schedule` that isn't want of memory is the only one that its contract allows.
+/// schedule. So an answer of `read_schedule` that isn't `OutOfMemory` is the only one that its contract allows.
 pub fn answers_are_one()
     ensures schedule { SchedulesAreOne }
     ensures fault { FaultsAreOne }

@@ -1,6 +1,6 @@
 //! Schedules, read from a text in one pass.
 //!
-//! `read_schedule` answers the schedule that the bytes spell, or the first wrong line from the top and what is wrong with it; want of memory is
+//! `read_schedule` answers the schedule that the bytes spell, or the first wrong line from the top and what is wrong with it; `OutOfMemory` is
 //! told apart. What bytes spell stands in `sg_sched`, in `specs/Format`: the forms of the lines, what each of them adds, and which line is the
 //! first wrong one.
 //!
@@ -13,7 +13,7 @@
 //! line than that at which it shows: a block of a graph named `pair` behind edge lines is the fault of the first edge line.
 //!
 //! `laws` says what holds of all bytes: they spell one schedule at most, have one first wrong line at most, and none where they spell a
-//! schedule. So an answer that isn't want of memory is the only one that the bytes allow. What bytes spell is a schedule as the protocol has
+//! schedule. So an answer that isn't `OutOfMemory` is the only one that the bytes allow. What bytes spell is a schedule as the protocol has
 //! them, so each law about runs holds of what is read.
 #![tactic(auto)]
 

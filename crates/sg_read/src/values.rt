@@ -123,6 +123,9 @@ pub(crate) fn spelled_value(alloc: Global, word: &[u8]) -> Result<Value, OutOfMe
 pub(crate) fn differ(alloc: Global, values: &[Given<'_>]) -> Result<bool, OutOfMemory>
     ensures { IfOk result (λ b. b ≡ all_differ (map (λ v. v.variable) values.now)) }
 {
+    if values.len() < 2 {
+        return Ok(true);
+    }
     let mut names = NameSet::new(alloc);
     for given in values {
         if names.has(&given.variable) {

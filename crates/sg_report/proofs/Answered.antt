@@ -18,7 +18,7 @@ use Rattle.sg_protocol.specs.Run.{frame_in}
 abbrev pub SendsNothing : ℕ → Answer → Option Told → Type 0
 SendsNothing number a told = (told ≡ Some (told_answer number a)) × (None ≡ frame_in a)
 
--- a fault that is not want of memory
+-- a fault that is not `OutOfMemory`
 abbrev pub Given : {F : Type 0} → Option F → Type 0
 Given {F} o = (f : F) × (o ≡ Some f)
 
@@ -29,7 +29,7 @@ refused number a g t o told frame f h =
     let is : a ≡ g f.0 = subst (λ z. IsAnswer a (option_map g z)) f.1 h in
     (ap (option_map t) f.1 ∙ ap (λ (z : Told). Some z) (sym (told f.0) ∙ ap (told_answer number) (sym is)), sym (ap frame_in is ∙ frame f.0))
 
--- no fault is want of memory, but that one
+-- no fault is `OutOfMemory`, but that one
 start_given : (fault : StartFault) → fault ≢ starting.OutOfMemory → Given (start_fault fault)
 start_given starting.UnknownGraph ne = (_, refl)
 start_given starting.BadCast ne = (_, refl)

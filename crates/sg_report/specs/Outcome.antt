@@ -6,7 +6,7 @@ use Rattle.sg_report.specs.declared.outcome.Outcome.{Outcome}
 use Rattle.sg_report.specs.declared.outcome.Outcome.TheVariants as held
 use Rattle.sg_walk.specs.Model.{event_of}
 
--- what is told of an outcome. None for want of memory, which is the fault of no outcome
+-- what is told of an outcome. None for `OutOfMemory`, which is the fault of no outcome
 abbrev pub outcome_of : Outcome → Option Told
 outcome_of (held.Started e) = Some (Happened (event_of e))
 outcome_of (held.Sent e to frame) = Some (Sends (event_of e) to frame)

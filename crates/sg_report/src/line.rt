@@ -17,7 +17,7 @@ use sg_walk::Event;
 use std::alloc::Global;
 
 /// The line of a step: its number, counted from 1, the principal, and what came of it, in a session of this name. Where a role, a
-/// label or a variable is told by its number, the graph has to be given that has it. A craft is nobody's. A node's want of memory is
+/// label or a variable is told by its number, the graph has to be given that has it. A craft is nobody's. A node's `OutOfMemory` is
 /// the call's.
 pub fn report_line(
     alloc: Global,

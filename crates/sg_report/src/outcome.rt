@@ -8,7 +8,7 @@ use sg_base::{Name, Sid};
 use sg_node::{ActFault, Refusal, StartFault};
 use sg_walk::{Event, sid_of};
 
-/// What came of a step. No fault in it is want of memory.
+/// What came of a step. No fault in it is `OutOfMemory`.
 #[derive(Debug, Drop)]
 pub enum Outcome {
     /// The principal started a session.

@@ -15,7 +15,7 @@ use sg_node::{ActFault, Refusal, StartFault};
 use sg_role::SendFault;
 use std::alloc::AllocError;
 
-/// Writes why a start was refused. Want of memory is passed on.
+/// Writes why a start was refused. `OutOfMemory` is passed on.
 pub(crate) fn put_start_fault(out: &mut ByteOut, fault: StartFault) -> Result<(), OutOfMemory>
     ensures { OnOk result (IsSomeAnd (start_fault fault) (λ f. out.new ≡ out.old ++ start_text f)) }
 {
@@ -30,7 +30,7 @@ pub(crate) fn put_start_fault(out: &mut ByteOut, fault: StartFault) -> Result<()
     }
 }
 
-/// Writes why an act was refused. Want of memory is passed on.
+/// Writes why an act was refused. `OutOfMemory` is passed on.
 pub(crate) fn put_act_fault(
     out: &mut ByteOut,
     graph: Option<&Graph>,
@@ -64,7 +64,7 @@ fn put_send_fault(
     }
 }
 
-/// Writes why a delivery was refused. Want of memory is passed on.
+/// Writes why a delivery was refused. `OutOfMemory` is passed on.
 pub(crate) fn put_refusal(
     out: &mut ByteOut,
     graph: Option<&Graph>,

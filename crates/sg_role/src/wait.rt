@@ -69,14 +69,24 @@ impl<'p> Await<'p> {
         ensures taken { IfOk result (λ r. TurnsOrEnds (goes_on accepted.entry.program.graph accepted.entry.after.kept.place) (state_after accepted.entry) r.1) }
         ensures back { IfErr result (λ e. (e.0 ≡ self.entry) × (e.1 ≡ accepted.entry)) }
     {
-        if !same(self.before.kept.as_ref(), accepted.before.as_ref()) {
-            return Err((self, accepted));
+        if same(self.before.kept.as_ref(), accepted.before.as_ref()) {
+            Ok(self.go_on(accepted))
+        } else {
+            Err((self, accepted))
         }
+    }
+
+    /// Takes a frame that was accepted where the role held what it holds. It takes no memory.
+    pub fn go_on(self, accepted: Accepted<'p>) -> (Event, Taken<'p>)
+        requires fits { accepted.before ≡ self.held }
+        ensures event { event_of result.0 ≡ accepted.entry.event }
+        ensures taken { TurnsOrEnds (goes_on accepted.entry.program.graph accepted.entry.after.kept.place) (state_after accepted.entry) result.1 }
+    {
         let Accepted { after, event, .. } = accepted;
         if after.goes_on() {
-            Ok((event, Taken::Turn(Turn { kept: after })))
+            (event, Taken::Turn(Turn { kept: after }))
         } else {
-            Ok((event, Taken::Done(Done(()))))
+            (event, Taken::Done(Done(())))
         }
     }
 

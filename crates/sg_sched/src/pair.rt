@@ -165,7 +165,7 @@ fn add_node(graph: &mut Graph, number: u8) -> Result<(), OutOfMemory>
     }
 }
 
-// The fault where a part isn't added for want of memory.
+// The fault where a part isn't added because memory ran out.
 fn want(fault: AddFault) -> OutOfMemory
     requires { fault ≡ AddFault.OutOfMemory }
 {

@@ -90,7 +90,7 @@ spells_from_read programs bytes s h = spells_document programs bytes s (document
 pub read_from_spells : (programs : List Program) (bytes : List ℕ) (s : Script) → SpellsScript programs bytes s → script_file programs bytes ≡ Ok s
 read_from_spells programs bytes s (table, e, t) = ap (answer_to programs) e ∙ table_answers programs table s t
 
--- an answer that is right up to want of memory is the script where one is spelled
+-- an answer that is right unless memory ran out is the script where one is spelled
 pub answered : (r f : Result Script ScriptFault) (s : Script) → IfOk r (λ s. f ≡ Ok s) → IfErr r (λ e. e ≢ OutOfMemory → f ≡ Err e) → f ≡ Ok s → (r ≡ Ok s) ⊎ (r ≡ Err OutOfMemory)
 answered (Ok t) f s ok fault h = inl (sym ok ∙ h)
 answered (Err NotToml) f s ok fault h = absurd (let e : f ≡ Err NotToml = fault (λ s. cc) in cc)

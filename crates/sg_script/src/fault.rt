@@ -19,7 +19,7 @@ pub enum ScriptFault {
         /// The number of the choice, from 1 on, or 0.
         number: usize,
     },
-    /// Memory was wanted, and none was to be had.
+    /// Out of memory.
     OutOfMemory,
 }
 

@@ -56,7 +56,7 @@ impl Incoming {
     }
 
     /// Takes the next frame that is whole, or gives `None` where none is. A connection with a bad length is told, and what it has left is
-    /// dropped. For want of memory what was kept stays.
+    /// dropped. If memory runs out, what was kept stays.
     pub(crate) fn next(&mut self, alloc: Global) -> Result<Option<Vec<u8>>, Unwhole>
         ensures frame { IfOk result (λ found. IfSome found (λ f. IsFrame f.items)) }
         ensures first { IfOk result (λ found. IfSome found (λ f. (ps : List (ℕ × List ℕ)) → arrivals (pieces_of self.old ++ ps) ≡ f.items ∷ arrivals (pieces_of self.new ++ ps))) }

@@ -49,7 +49,7 @@ impl<C> Model for StreamLink<C> {
 }
 
 impl<C: Conns> StreamLink<C> {
-    /// A link over connections, with places for 256 of them and a count of its own of 0. For want of memory the connections come back.
+    /// A link over connections, with places for 256 of them and a count of its own of 0. If memory runs out, the connections come back.
     pub fn new(alloc: Global, conns: C) -> Result<StreamLink<C>, (C, OutOfMemory)>
         ensures link { IfOk result (λ l. l ≡ record { conns = conns; unread = record { lefts = replicate 256 []; kept = [] }; faults = 0 }) }
         ensures back { IfErr result (λ e. e.0 ≡ conns) }

@@ -58,7 +58,7 @@ impl StreamReader {
         }
     }
 
-    /// Puts a piece at the end. It is refused for want of memory alone, and then the bytes are as before. A bad length stays where it
+    /// Puts a piece at the end. It is refused only if memory runs out, and then the bytes are as before. A bad length stays where it
     /// is.
     pub fn feed(&mut self, piece: &[u8]) -> Result<(), StreamFault>
         ensures ok { OnOk result (self.new ≡ self.old ++ piece.now) }

@@ -53,7 +53,7 @@ of_keep (FileFailed file) h = absurd h
 of_keep (NoSuchFile file) h = absurd h
 of_keep (TooLarge what) h = absurd h
 
--- a status that is said is that of the ending, or that of a failed write, or that of want of memory
+-- a status that is said is that of the ending, or that of a failed write, or that of 'out of memory'
 module _ (P : ℕ → Type 0) (six : P 6) (eight : P 8) where
   of_puts : (old new : Output) (line : List ℕ) (wanted status : ℕ) → P wanted → Puts old new line wanted status → P status
   of_puts old new line wanted status h (inl p) = subst P (sym p.0) h
@@ -63,7 +63,7 @@ module _ (P : ℕ → Type 0) (six : P 6) (eight : P 8) where
   of_says work old new status h (inl p) = of_puts old new (line_of work) (status_of work) status h p
   of_says work old new status h (inr p) = of_puts old new (line_of NoMemory) 8 status eight p.1
 
--- a failed write, and want of memory, may come after a play
+-- a failed write, and 'out of memory', may come after a play
 six_of_play : IsOfPlay 6
 six_of_play = inr (inl refl)
 

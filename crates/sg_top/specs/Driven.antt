@@ -22,7 +22,7 @@ pub record Sums (seed sessions : ℕ) (g : Graph) (programs : List Program) (tex
 abbrev pub IsOverfullDrive : (seed sessions : ℕ) → Graph → List Program → Type 0
 IsOverfullDrive seed sessions g programs = (size : ℕ) × IsTooMuch seed sessions g programs size
 
--- the run is not generated to its end: its record is full as a step begins, or memory was wanted
+-- the run is not generated to its end: its record is full as a step begins, or memory ran out
 abbrev pub StopsDrive : (seed sessions : ℕ) → Graph → List Program → Ending → Type 0
 StopsDrive seed sessions g programs (TooLarge what) = (what ≡ codes "record") × IsOverfullDrive seed sessions g programs
 StopsDrive seed sessions g programs NoMemory = ⊤

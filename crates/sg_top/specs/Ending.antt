@@ -59,7 +59,7 @@ pub data Ending : Type 0 where
   LinkFailed : Ending
   -- the disk failed
   DiskFailed : Ending
-  -- memory was wanted, and none was to be had
+  -- out of memory
   NoMemory : Ending
   -- there is no such file
   NoSuchFile : (file : List ℕ) → Ending
@@ -125,7 +125,7 @@ line_of NoMemory = codes "out of memory\n"
 line_of (NoSuchFile file) = codes "no such file: " ++ file ++ 10 ∷ []
 line_of (TooLarge what) = codes "too large: " ++ what ++ 10 ∷ []
 
--- ---- the ending that the input has, where nothing fails and memory is to be had
+-- ---- the ending that the input has, where nothing fails and memory doesn't run out
 
 -- what the first wrong line of a schedule ends with
 abbrev pub ending_of_line : ℕ → Format.Kind → Ending

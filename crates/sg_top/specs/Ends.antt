@@ -53,7 +53,7 @@ Writes old new text ending = ⊥
 
 -- ---- graphs
 
--- the bytes are no graph, as their reading says, or memory was wanted
+-- the bytes are no graph, as their reading says, or memory ran out
 abbrev pub IsNoGraph : List ℕ → Ending → Type 0
 IsNoGraph bytes (NoGraph fault) = parsed bytes ≡ Err fault
 IsNoGraph bytes NoMemory = ⊤
@@ -63,7 +63,7 @@ IsNoGraph bytes ending = ⊥
 abbrev pub IsFirstRefused : List Graph → Graph → CompileFault → Type 0
 IsFirstRefused graphs g fault = (place : ℕ) × (slice_get graphs place ≡ Some g) × IsAllFault graphs (Refused place fault)
 
--- a graph was refused, or memory was wanted
+-- a graph was refused, or memory ran out
 abbrev pub Refuses : List Graph → Ending → Type 0
 Refuses graphs (GraphRefused g fault) = IsFirstRefused graphs g fault
 Refuses graphs NoMemory = ⊤
@@ -80,7 +80,7 @@ pub record IsCheck (bytes text : List ℕ) : Type 0 where
   pub few : All IsWhole programs
   pub says : text ≡ check_text graph programs
 
--- a check of these bytes ends so: the graph that they spell is accepted and its text written; else nothing is written, and the bytes are refused at their first wrong token, or their graph at its first fault, or memory was wanted
+-- a check of these bytes ends so: the graph that they spell is accepted and its text written; else nothing is written, and the bytes are refused at their first wrong token, or their graph at its first fault, or memory ran out
 abbrev pub Checks : List ℕ → (old new : Output) → Ending → Type 0
 Checks bytes old new NoMemory = new.bytes ≡ old.bytes
 Checks bytes old new (NoGraph fault) = (new.bytes ≡ old.bytes) × (parsed bytes ≡ Err fault)
@@ -103,7 +103,7 @@ pub record IsCompilation (bytes name text : List ℕ) : Type 0 where
 abbrev pub IsRefusedFor : Graph → (name : List ℕ) → CompileFault → Type 0
 IsRefusedFor g name fault = (fault ≢ OutOfMemory) × (IsRefusal g fault ⊎ ((r : ℕ) × (r < length g.roles) × (role_name g r ≡ name) × IsRefused g r fault))
 
--- a graph without a role of this name is refused: as a graph, or for the role where it is accepted; or memory was wanted
+-- a graph without a role of this name is refused: as a graph, or for the role where it is accepted; or memory ran out
 abbrev pub RefusesRole : Graph → (name : List ℕ) → Ending → Type 0
 RefusesRole g name (GraphRefused h fault) = (h ≡ g) × (fault ≢ OutOfMemory) × IsRefusal g fault
 RefusesRole g name (NoRole role) = (role ≡ name) × Accepted g
@@ -117,7 +117,7 @@ pub record LacksRole (bytes name : List ℕ) : Type 0 where
   pub accepted : Accepted graph
   pub lacks : IsTrue (has_text name graph.roles) → ⊥
 
--- a compilation of these bytes for this name ends so: the program's text is written; else nothing is written, and the bytes are refused at their first wrong token, or their graph at its first fault, or it has no such role, or memory was wanted
+-- a compilation of these bytes for this name ends so: the program's text is written; else nothing is written, and the bytes are refused at their first wrong token, or their graph at its first fault, or it has no such role, or memory ran out
 abbrev pub Compiles : (name bytes : List ℕ) → (old new : Output) → Ending → Type 0
 Compiles name bytes old new NoMemory = new.bytes ≡ old.bytes
 Compiles name bytes old new (NoGraph fault) = (new.bytes ≡ old.bytes) × (parsed bytes ≡ Err fault)
@@ -153,7 +153,7 @@ pub record IsTooLong (bytes : List ℕ) : Type 0 where
 abbrev pub AsksTooMuch : List ℕ → (what : List ℕ) → Type 0
 AsksTooMuch bytes what = IsNoSchedule bytes (TooLarge what) ⊎ ((what ≡ codes "record") × IsTooLong bytes)
 
--- a replay of these bytes ends so: the report is written; else nothing is written, and the bytes are refused at their first wrong line, or a graph at its first fault, or too much is asked for, or memory was wanted
+-- a replay of these bytes ends so: the report is written; else nothing is written, and the bytes are refused at their first wrong line, or a graph at its first fault, or too much is asked for, or memory ran out
 abbrev pub Replays : List ℕ → (old new : Output) → Ending → Type 0
 Replays bytes old new NoMemory = new.bytes ≡ old.bytes
 Replays bytes old new (NoGraph fault) = (new.bytes ≡ old.bytes) × IsNoSchedule bytes (NoGraph fault)
@@ -181,7 +181,7 @@ pub record DrivesTooLong (seed sessions : ℕ) (bytes : List ℕ) : Type 0 where
   pub compiled : AreCompiled real (graph ∷ []) programs
   pub overfull : IsOverfullDrive seed sessions graph programs
 
--- a drive of these bytes ends so: the summary is written; else nothing is written, and the bytes are refused at their first wrong token, or their graph at its first fault, or the record grows too large, or memory was wanted
+-- a drive of these bytes ends so: the summary is written; else nothing is written, and the bytes are refused at their first wrong token, or their graph at its first fault, or the record grows too large, or memory ran out
 abbrev pub Drives : (seed sessions : ℕ) → List ℕ → (old new : Output) → Ending → Type 0
 Drives seed sessions bytes old new NoMemory = new.bytes ≡ old.bytes
 Drives seed sessions bytes old new (NoGraph fault) = (new.bytes ≡ old.bytes) × (parsed bytes ≡ Err fault)
@@ -204,7 +204,7 @@ pub record IsAudit (bytes text : List ℕ) : Type 0 where
 abbrev pub IsNoLogs : List ℕ → Ending → Type 0
 IsNoLogs bytes ending = (fault : LogFault) × IsFault bytes fault × (ending ≡ ending_of_logs fault)
 
--- an audit of these bytes ends so: the answers are written; else nothing is written, and the bytes are refused by their first fault, or the graph of the logs at its first fault, or memory was wanted
+-- an audit of these bytes ends so: the answers are written; else nothing is written, and the bytes are refused by their first fault, or the graph of the logs at its first fault, or memory ran out
 abbrev pub Audits : List ℕ → (old new : Output) → Ending → Type 0
 Audits bytes old new NoMemory = new.bytes ≡ old.bytes
 Audits bytes old new (NoGraph fault) = (new.bytes ≡ old.bytes) × IsNoLogs bytes (NoGraph fault)
@@ -226,7 +226,7 @@ pub record IsComposition (bytes text : List ℕ) : Type 0 where
   pub few : All IsWhole programs
   pub says : text ≡ canonical graph
 
--- a composition of these bytes ends so: the text of the expansion is written; else nothing is written, and the bytes are refused at their first wrong token, or the parts at the first use that can't be expanded, or the expansion at its first fault, or memory was wanted
+-- a composition of these bytes ends so: the text of the expansion is written; else nothing is written, and the bytes are refused at their first wrong token, or the parts at the first use that can't be expanded, or the expansion at its first fault, or memory ran out
 abbrev pub Composes : List ℕ → (old new : Output) → Ending → Type 0
 Composes bytes old new NoMemory = new.bytes ≡ old.bytes
 Composes bytes old new (NoGraph fault) = (new.bytes ≡ old.bytes) × (parts_read bytes ≡ Err fault)
@@ -236,7 +236,7 @@ Composes bytes old new ending = (text : List ℕ) × IsComposition bytes text ×
 
 -- ---- files
 
--- a file is not read: the files failed, which their count shows, there is no such file, it has more bytes than it may have, or memory was wanted
+-- a file is not read: the files failed, which their count shows, there is no such file, it has more bytes than it may have, or memory ran out
 abbrev pub IsUnread : ℕ → List ℕ → Told → (faults faults' : ℕ) → Ending → Type 0
 IsUnread most file told faults faults' (FileFailed word) = (word ≡ file) × HasRisen faults faults'
 IsUnread most file told faults faults' (NoSuchFile word) = (word ≡ file) × Has told file None

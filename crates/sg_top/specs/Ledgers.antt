@@ -34,7 +34,7 @@ IsNotAsked disk disk' = IsLeft disk disk' × Keeps disk'.may_leave disk.may_leav
 abbrev pub IsMade : (disk disk' : Disked) → Type 0
 IsMade disk disk' = WhereTold disk.seen (λ file. file ≡ []) × AllStandFor disk'.may_leave []
 
--- none is made: the file has bytes already, or the disk failed, which its count shows, or memory was wanted; a file that has bytes is left
+-- none is made: the file has bytes already, or the disk failed, which its count shows, or memory ran out; a file that has bytes is left
 abbrev pub LacksRoom : (disk disk' : Disked) → Ending → Type 0
 LacksRoom disk disk' LedgerNotEmpty = WhereTold disk.seen (λ file. file ≢ []) × IsLeft disk disk'
 LacksRoom disk disk' DiskFailed = HasRisen disk.faults disk'.faults × WhereTold disk.seen (λ file. file ≢ [] → IsLeft disk disk')
@@ -49,7 +49,7 @@ Makes old new disk disk' ending =
 
 -- ---- a ledger is opened
 
--- no ledger is opened: the file is none, or this is its first bad slot, or the disk failed, which its count shows, or memory was wanted
+-- no ledger is opened: the file is none, or this is its first bad slot, or the disk failed, which its count shows, or memory ran out
 abbrev pub LacksLedger : (disk disk' : Disked) → Ending → Type 0
 LacksLedger disk disk' NoLedger = WhereTold disk.seen (λ file. ¬ IsLedger file)
 LacksLedger disk disk' (BadSlot slot) = WhereTold disk.seen (λ file. IsLedger file × IsFirstBadSlot file slot)

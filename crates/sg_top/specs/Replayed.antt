@@ -39,13 +39,13 @@ pub record Reports (programs : List Program) (s : Schedule) (text : List ℕ) : 
   pub report : IsReport (account (replay_of programs s)) text
   pub once : All JoinedOnce (run_of (replay_of programs s)).pasts
 
--- a step is not taken: the record is full, or memory was wanted
+-- a step is not taken: the record is full, or memory ran out
 abbrev pub HasNoRoom : Replay → Ending → Type 0
 HasNoRoom r (TooLarge what) = (what ≡ codes "record") × IsFull r
 HasNoRoom r NoMemory = ⊤
 HasNoRoom r ending = ⊥
 
--- the replay goes no further: its record is full as a step begins, or memory was wanted
+-- the replay goes no further: its record is full as a step begins, or memory ran out
 abbrev pub Stops : List Program → Schedule → Ending → Type 0
 Stops programs s (TooLarge what) = (what ≡ codes "record") × IsOverfull programs s
 Stops programs s NoMemory = ⊤

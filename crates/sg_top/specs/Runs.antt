@@ -40,7 +40,7 @@ Takes n old new = (deliveries : List (List ℕ)) → old ≡ Some deliveries →
 abbrev pub TakesAtMost : ℕ → (old new : Option (List (List ℕ))) → Type 0
 TakesAtMost most old new = (deliveries : List (List ℕ)) → old ≡ Some deliveries → (n : ℕ) × (n ≤ most) × (new ≡ Some (drop n deliveries))
 
--- the play of a setup ends so: all was played; or the link failed or a line was not written whole, which the counts of faults show; or memory was wanted
+-- the play of a setup ends so: all was played; or the link failed or a line was not written whole, which the counts of faults show; or memory ran out
 abbrev pub PlayEnds : Setup → (most : ℕ) → (old new : Outside) → Ending → Type 0
 PlayEnds s most old new Written = Plays s most old new (Ok tt) × Takes most (old.link).deliveries (new.link).deliveries
 PlayEnds s most old new LinkFailed = Plays s most old new (Err Play.LinkFailed) × TakesAtMost most (old.link).deliveries (new.link).deliveries × HasRisen (old.link).faults (new.link).faults

@@ -61,7 +61,7 @@ pub record HasSetup (told : Told) (named : Named) (s : Setup) : Type 0 where
 
 -- ---- what is refused
 
--- the bytes are no key file, as its first fault says, or memory was wanted
+-- the bytes are no key file, as its first fault says, or memory ran out
 abbrev pub RefusesKeys : List ℕ → Ending → Type 0
 RefusesKeys bytes (KeysRefused fault) = (fault ≢ NoMemoryForKeys) × (key_file bytes ≡ Err fault)
 RefusesKeys bytes NoMemory = ⊤
@@ -73,14 +73,14 @@ IsBadProgram before bytes (Malformed at) = IsLoadFault bytes (Load.Malformed at)
 IsBadProgram before bytes (NotTheTable n) = IsLoadFault bytes (Load.NotTheTable n)
 IsBadProgram before bytes Twice = (p : Program) × IsTextOf p bytes × (list_any (clashes p) before ≡ true)
 
--- the bytes are not taken as the program behind these, which is told by its number, counted from 1, or by the fault of its graph; or memory was wanted
+-- the bytes are not taken as the program behind these, which is told by its number, counted from 1, or by the fault of its graph; or memory ran out
 abbrev pub RefusesProgram : List Program → List ℕ → Ending → Type 0
 RefusesProgram before bytes (ProgramRefused n cause) = (n ≡ length before + 1) × IsBadProgram before bytes cause
 RefusesProgram before bytes (GraphRefused g fault) = IsLoadFault bytes (Load.Graph g fault)
 RefusesProgram before bytes NoMemory = ⊤
 RefusesProgram before bytes ending = ⊥
 
--- the bytes are no script beside these programs, as its first fault says, or memory was wanted
+-- the bytes are no script beside these programs, as its first fault says, or memory ran out
 abbrev pub RefusesScript : List Program → List ℕ → Ending → Type 0
 RefusesScript programs bytes (ScriptRefused fault) = (fault ≢ NoMemoryForScripts) × (script_file programs bytes ≡ Err fault)
 RefusesScript programs bytes NoMemory = ⊤

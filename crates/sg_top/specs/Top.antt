@@ -28,7 +28,7 @@ Works (Some (Stream keys script most programs)) told faults faults' old new stre
 Works (Some (Audit file)) told faults faults' old new stream stream' disk disk' ending = OnFile Audits most_logs_file file told faults faults' old.out new.out ending
 Works (Some (Compose file)) told faults faults' old new stream stream' disk disk' ending = OnFile Composes most_graph_file file told faults faults' old.out new.out ending
 
--- the work that the words ask for ends so, or memory was wanted to read them
+-- the work that the words ask for ends so, or memory ran out before they were read
 abbrev pub Does : (words : List (List ℕ)) → Told → (faults faults' : ℕ) → (old new : Outside) → (stream stream' : Linked) → (disk disk' : Disked) → Ending → Type 0
 Does words told faults faults' old new stream stream' disk disk' ending =
     Works (command_of words) told faults faults' old new stream stream' disk disk' ending
@@ -40,7 +40,7 @@ Puts old new line wanted status =
     ((status ≡ wanted) × Appends old.bytes new.bytes line)
     ⊎ ((status ≡ 6) × HasRisen old.faults new.faults × AppendsFront old.bytes new.bytes line)
 
--- how the program says how its work ended: by the ending's line and status, or, where memory was wanted for a line, by saying this
+-- how the program says how its work ended: by the ending's line and status, or, where memory ran out for a line, by saying this
 abbrev pub Says : Ending → (old new : Output) → (status : ℕ) → Type 0
 Says work old new status =
     Puts old new (line_of work) (status_of work) status

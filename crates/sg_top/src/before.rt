@@ -15,7 +15,7 @@ pub fn end_without_words<E: Sink>(alloc: Global, err: &mut E) -> u8
     say(alloc, &Ending::NoCommand, err)
 }
 
-/// Says that memory was wanted before the words were known, and gives the status.
+/// Says that memory ran out before the words were known, and gives the status.
 pub fn end_without_memory<E: Sink>(err: &mut E) -> u8
     ensures { Puts (record { bytes = E.written err.old; faults = E.faults err.old }) (record { bytes = E.written err.new; faults = E.faults err.new }) (line_of NoMemory) (status_of NoMemory) result }
 {

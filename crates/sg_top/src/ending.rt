@@ -106,7 +106,7 @@ pub enum Ending<'w> {
     LinkFailed,
     /// The disk failed.
     DiskFailed,
-    /// Memory was wanted, and none was to be had.
+    /// Out of memory.
     NoMemory,
     /// There is no such file.
     NoSuchFile { file: &'w str },

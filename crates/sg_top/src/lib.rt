@@ -12,7 +12,7 @@
 //!   over the joins that the ledger has. What a crash leaves of the disk has the joins of each step whose line was begun.
 //! - `stream` is `run` over the link over connections: its deliveries are the frames whose messages become whole, in that order.
 //! - Each status has its cause: a refusal comes where the words or the bytes ask for it, and a fault of a file, of an output, of the link or
-//!   of the disk only where its count of faults rose. Want of memory alone may come in place of anything.
+//!   of the disk only where its count of faults rose. Out of memory alone may come in place of anything.
 //! - With each status but 0 and 6 one line on standard error says why. Where that line isn't taken, the status is that of a failed write.
 //!
 //! Each command has a module of its name. `ending` has the ways to end, with their statuses and lines: what a fault of a library is told as

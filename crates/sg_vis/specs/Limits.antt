@@ -32,12 +32,12 @@ Explains g r (TooManyOpen list) = ManyOpen g r list
 Explains g r (TooManyViews list) = FewOpen g r × ManyViews g r list
 Explains g r OutOfMemory = ⊤
 
--- of too many views, the list is as told; of other faults nothing is told but that memory was wanted
+-- of too many views, the list is as told; of other faults nothing is told but that memory ran out
 abbrev pub MatchViews : ViewFault → (List View → Type 0) → Type 0
 MatchViews (TooManyOpen list) P = ⊥
 MatchViews (TooManyViews list) P = P list
 MatchViews OutOfMemory P = ⊤
 
--- the table is full, and these are its views and one more; or memory was wanted
+-- the table is full, and these are its views and one more; or memory ran out
 abbrev pub IsFull : List ShownView → View → ViewFault → Type 0
 IsFull table v fault = MatchViews fault (λ list. (length table ≡ most_views) × (list ≡ views_of table ++ v ∷ []))

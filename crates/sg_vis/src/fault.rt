@@ -17,7 +17,7 @@ pub enum ViewFault {
     /// More than 4,096 views exist, and at most 65,536 open ones: these are 4,097 different views.
     #[error("too many views")]
     TooManyViews { list: Seq<View> },
-    /// Memory was wanted, and none was to be had.
+    /// Out of memory.
     #[error("out of memory")]
     OutOfMemory,
 }

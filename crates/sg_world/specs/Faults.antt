@@ -15,7 +15,7 @@ IsFull r = most_record_before < size_of r
 abbrev pub IsAdmitted : Replay → Step → Type 0
 IsAdmitted r x = (is_taken r.schedule x ≡ true) × (IsFull r → ⊥)
 
--- why the step is not taken, in order. Memory is wanted for a step that is admitted alone
+-- why the step is not taken, in order. Memory runs out only for a step that is admitted
 abbrev pub IsStepFault : Replay → Step → StepFault → Type 0
 IsStepFault r x (NotHonest name) = (who_of x ≡ Some name) × (is_taken r.schedule x ≡ false)
 IsStepFault r x (RecordFull bytes) = (is_taken r.schedule x ≡ true) × IsFull r × (bytes ≡ size_of r)

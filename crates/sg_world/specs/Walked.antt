@@ -25,7 +25,7 @@ PremisesHold r = Premises real r.schedule (run_of r)
 
 -- ---- no walk
 
--- why there is no walk, in order. Memory is wanted for a session with an event alone
+-- why there is no walk, in order. Memory runs out only for a session with an event
 abbrev pub IsWalkFault : Replay → List ℕ → WalkFault → Type 0
 IsWalkFault r sid NoSuchSession = events_of sid (run_of r).log ≡ []
 IsWalkFault r sid PremiseBroken = (events_of sid (run_of r).log ≢ []) × (PremisesHold r → ⊥)

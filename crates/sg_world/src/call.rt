@@ -29,7 +29,7 @@ use sg_role::SendFault;
 use sg_sched::{Change, Step, What};
 use std::alloc::{AllocError, Global};
 
-/// Makes the call of a step of this number at the principal's node. For want of memory the node is as before.
+/// Makes the call of a step of this number at the principal's node. If memory runs out, the node is as before.
 pub(crate) fn call<'p>(
     alloc: Global,
     node: &mut Node<'p>,

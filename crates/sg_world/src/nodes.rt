@@ -60,7 +60,7 @@ pub(crate) fn place_of<'p>(nodes: &IndexMap<Name, Node<'p>>, who: &Name) -> Opti
     nodes.get_index_of(who)
 }
 
-/// Makes the call of a step of this number at the node at a place. For want of memory the nodes are as before.
+/// Makes the call of a step of this number at the node at a place. If memory runs out, the nodes are as before.
 pub(crate) fn call_at<'p>(
     alloc: Global,
     nodes: &mut IndexMap<Name, Node<'p>>,

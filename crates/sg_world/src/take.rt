@@ -57,7 +57,7 @@ fn place_for<'p>(nodes: &IndexMap<Name, Node<'p>>, step: &Step) -> Result<Option
     Ok(Some(place))
 }
 
-/// Takes a step at the node at its place, and records it. For want of memory the nodes and the record are as before.
+/// Takes a step at the node at its place, and records it. If memory runs out, the nodes and the record are as before.
 pub(crate) fn take_step<'p>(
     alloc: Global,
     setting: &Setting<'p>,

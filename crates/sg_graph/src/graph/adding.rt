@@ -20,7 +20,7 @@ pub enum AddFault {
     /// The graph has as many parts of this kind as a graph may have.
     #[error("no room for one more of this kind")]
     TooMany,
-    /// Memory was wanted, and none was to be had.
+    /// Out of memory.
     #[error("out of memory")]
     OutOfMemory,
 }
