@@ -62,7 +62,7 @@ begin_stopped m m1 first i n q l e stopped =
 
 -- ---- turns
 
--- after so many turns
+-- after n turns
 abbrev pub turned : Machine → (n : ℕ) → Machine
 turned m n = at m (turns n m.seed m.graph m.going)
 
@@ -158,7 +158,7 @@ a_group m first n b l =
 abbrev pub size_at : (sessions n : ℕ) → ℕ
 size_at sessions n = min 16 (sessions - 16 * n)
 
--- how many sessions have begun after so many groups
+-- how many sessions have begun after n groups
 abbrev pub begun_after : (sessions n : ℕ) → ℕ
 begun_after sessions n = min sessions (16 * n)
 

@@ -272,7 +272,7 @@ module _ (m : Machine) where
       subst (λ z. HasBudget (most + 80 * suc n) z (at m y)) same
       (more_budget (most + 80 * n + 80) (most + 80 * suc n) (first + n + 1) (at m y) (omega arith) (begin_keeps (first + n) (most + 80 * n) (begin_all m.seed m.graph first n x) before (first + n) (omega (arith, l)) (omega (arith, l))))
 
-  -- and after a group nothing need be left but for the sessions that have not begun
+  -- and after a group steps need be left only for the sessions that have not begun
   pub group_keeps : (first n : ℕ) (x y : Going) → HasBudget 0 first (at m x) → first + n ≤ m.sessions → IsGroup m.seed m.graph first n x y → HasBudget 0 (first + n) (at m y)
   group_keeps first n x y b l a =
       let begun = begin_all_keeps first n 0 x b l in

@@ -46,7 +46,7 @@ pub record IsOnItsWay (g : Graph) (r : Replay) (o : OnItsWay) : Type 0 where
 
 -- ---- what is left
 
--- The pending frames are as above and bring at most so many steps as are left, where so many sessions have begun.
+-- The pending frames are as above and bring at most `left` steps, where `begun` sessions have begun.
 -- What was taken, drawn and lost leaves so much that there are at most 82 steps for each session
 pub record HasLeft (left begun : ℕ) (m : Machine) (ways : List OnItsWay) : Type 0 where
   pub compiled : AreCompiled real (m.graph ∷ []) m.going.replay.programs
@@ -63,7 +63,7 @@ pub record HasLeft (left begun : ℕ) (m : Machine) (ways : List OnItsWay) : Typ
   pub draws : m.going.draws + 40 * (left + 82 * (m.sessions - begun)) ≤ 3280 * m.sessions
   pub lost : m.going.lost + (left + 82 * (m.sessions - begun)) ≤ 82 * m.sessions
 
--- at most so many steps are left for the frames that are pending
+-- at most `most` steps are left for the frames that are pending
 pub record HasBudget (most begun : ℕ) (m : Machine) : Type 0 where
   pub left : ℕ
   pub ways : List OnItsWay

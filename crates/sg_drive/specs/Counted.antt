@@ -8,11 +8,11 @@ use Rattle.sg_protocol.specs.Graph.{Graph}
 use Rattle.sg_report.specs.Told.{Told}
 use Rattle.sg_drive.specs.Summary.{Counts, completed, completed_by, is_abandoned, is_receipt, is_received, is_refused, is_sent}
 
--- a session more, unless it is there
+-- one more session, unless it is there
 abbrev pub with_session : List ℕ → List (List ℕ) → List (List ℕ)
 with_session sid sids = if has_text sid sids then sids else sids ++ sid ∷ []
 
--- the counts with what came of one step more
+-- the counts with what came of one more step
 abbrev pub with_told : Graph → Told → Counts → Counts
 with_told g t c = record {
   sent = if is_sent t then c.sent + 1 else c.sent;

@@ -18,7 +18,7 @@ replay_before n r = record r { schedule = first_steps n r.schedule }
 abbrev pub NeverFull : Replay → Type 0
 NeverFull r = (n : ℕ) → n < length r.schedule.steps → IsFull (replay_before n r) → ⊥
 
--- the first step that begins with a full record begins with so many bytes
+-- the first step that begins with a full record begins with `bytes` bytes
 pub record IsFullAt (r : Replay) (bytes : ℕ) : Type 0 where
   pub before : ℕ
   pub begins : before < length r.schedule.steps

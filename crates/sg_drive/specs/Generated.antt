@@ -123,7 +123,7 @@ take_out seed g place (Some p) x = meet seed g p (fate_of p.count (draw seed (x.
 abbrev pub turn : (seed : ℕ) → Graph → Going → Going
 turn seed g x = let place = draw seed x.draws % length x.pending in take_out seed g place (slice_get x.pending place) x
 
--- so many turns
+-- n turns
 abbrev pub turns : ℕ → (seed : ℕ) → Graph → Going → Going
 turns zero seed g x = x
 turns (suc n) seed g x = turn seed g (turns n seed g x)
@@ -134,23 +134,23 @@ turns (suc n) seed g x = turn seed g (turns n seed g x)
 abbrev pub begin : (seed : ℕ) → Graph → (session : ℕ) → Going → Going
 begin seed g session x = play seed g session 0 (taking (StartStep (player_at g 0) session) x)
 
--- so many sessions do, the first of this place, one after another
+-- `count` sessions do, one after another, the first of place `first`
 abbrev pub begin_all : (seed : ℕ) → Graph → (first count : ℕ) → Going → Going
 begin_all seed g first zero x = x
 begin_all seed g first (suc n) x = begin seed g (first + n) (begin_all seed g first n x)
 
--- a group of so many sessions: they begin, and after some turns no frame is pending
+-- a group of `count` sessions: they begin, and after some turns no frame is pending
 pub record IsGroup (seed : ℕ) (g : Graph) (first count : ℕ) (x y : Going) : Type 0 where
   pub count_of_turns : ℕ
   pub is : y ≡ turns count_of_turns seed g (begin_all seed g first count x)
   pub over : y.pending ≡ []
 
--- so many groups of sixteen sessions, the last one smaller, one after another
+-- `groups` groups of sixteen sessions, the last one smaller, one after another
 abbrev pub AreGroups : (groups : ℕ) → (seed sessions : ℕ) → Graph → (x y : Going) → Type 0
 AreGroups zero seed sessions g x y = y ≡ x
 AreGroups (suc n) seed sessions g x z = (y : Going) × AreGroups n seed sessions g x y × IsGroup seed g (16 * n) (min 16 (sessions - 16 * n)) y z
 
--- the run after the groups of all sessions
+-- the run after the groups of all sessions. A group after the last session has none
 pub record Generated (seed sessions : ℕ) (g : Graph) (programs : List Program) (x : Going) : Type 0 where
   pub groups : ℕ
   pub all : sessions ≤ 16 * groups

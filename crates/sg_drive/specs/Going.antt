@@ -26,11 +26,11 @@ pub record Going : Type 0 where
 abbrev pub beginning : (sessions : ℕ) → Graph → List Program → Going
 beginning sessions g programs = record { replay = record { programs = programs; schedule = setup sessions g }; draws = 0; pending = []; lost = 0 }
 
--- one step more
+-- one more step
 abbrev pub taking : Step → Going → Going
 taking step x = record x { replay = with_taken x.replay step }
 
--- so many draws more
+-- n more draws
 abbrev pub drawing : ℕ → Going → Going
 drawing n x = record x { draws = x.draws + n }
 

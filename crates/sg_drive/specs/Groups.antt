@@ -29,7 +29,7 @@ pub record AreTurns (old new : Machine) : Type 0 where
 abbrev pub IsTurnFault : Machine → GenerateFault → Type 0
 IsTurnFault old e = (count : ℕ) → (turns count old.seed old.graph old.going).pending ≡ [] → IsStopped (turns count old.seed old.graph old.going).replay e
 
--- the machine after so many groups, and nothing is left but for the sessions that have not begun
+-- the machine after n groups, and steps are left only for the sessions that have not begun
 pub record AreGrouped (n seed sessions : ℕ) (g : Graph) (programs : List Program) (m : Machine) : Type 0 where
   pub is : m ≡ record { seed = seed; sessions = sessions; graph = g; going = m.going }
   pub groups : AreGroups n seed sessions g (beginning sessions g programs) m.going

@@ -11,7 +11,7 @@ pub record Machine : Type 0 where
   pub graph : Graph
   pub going : Going
 
--- the graph has a start node, so many more steps can be taken, and at most so many numbers were drawn
+-- the graph has a start node, `more` more steps can be taken, and at most `drawn` numbers were drawn
 pub record HasRoom (more drawn : ℕ) (m : Machine) : Type 0 where
   pub start : 0 < length m.graph.nodes
   pub steps : length m.going.replay.schedule.steps + more ≤ most_steps

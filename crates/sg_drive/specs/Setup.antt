@@ -12,7 +12,7 @@ use Rattle.sg_protocol.specs.Texts.{real, graph_digest}
 abbrev pub player : ℕ → Name
 player role = 112 ∷ decimal role
 
--- the principals of so many roles, in order
+-- the principals of `roles` roles, in order
 abbrev pub players : ℕ → List Name
 players roles = map player (below roles)
 
@@ -35,7 +35,7 @@ numbered_session g s = record {
   cast = record { version = 1; graph = graph_digest real g; nonce = nonce_of s; names = players (length g.roles) };
 }
 
--- so many sessions of a graph, counted from 1, with a principal for each role, all of them honest; no step
+-- `sessions` sessions of a graph, counted from 1, with a principal for each role, all of them honest; no step
 abbrev pub setup : (sessions : ℕ) → Graph → Schedule
 setup sessions g = record {
   graphs = g ∷ [];

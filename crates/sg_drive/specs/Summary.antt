@@ -94,7 +94,7 @@ count_lines sessions lost c =
     ++ number_line (codes "abandoned") c.abandoned
     ++ number_line (codes "complete") (length c.complete)
 
--- the text with so many walks, which stand there where both premises hold
+-- the text with the number of walks, which stands there where both premises hold
 abbrev pub summary_text : (sessions lost : ℕ) → Counts → Account → (walks : ℕ) → List ℕ
 summary_text sessions lost c a walks = count_lines sessions lost c ++ premise_lines a.forged a.collision_free ++ (if premises_hold a then number_line (codes "walks") walks else [])
 

@@ -6,7 +6,7 @@ use Rattle.sg_world.specs.Replay.{Replay}
 use Rattle.sg_world.specs.Walked.{WalksAreMade}
 use Rattle.sg_drive.specs.Summary.{number_line}
 
--- the line of the walks is written, and so many were made
+-- the line of the walks is written, and as many were made
 pub record HasWalks (r : Replay) (old new : List ℕ) : Type 0 where
   pub walks : ℕ
   pub made : WalksAreMade r walks

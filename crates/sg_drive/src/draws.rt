@@ -20,7 +20,7 @@ impl Model for Draws {
 }
 
 impl Draws {
-    /// Nothing drawn.
+    /// The draws of a seed of which none was drawn yet.
     pub fn new(seed: u32) -> Draws
         ensures { result ≡ record { seed = seed; count = 0 } }
     {

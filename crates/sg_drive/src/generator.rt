@@ -53,7 +53,7 @@ impl<'g, 'p> Model for Generator<'g, 'p> {
 }
 
 impl<'g, 'p> Generator<'g, 'p> {
-    /// No step taken and nothing drawn.
+    /// A run of which no step was taken and nothing was drawn.
     pub fn new(
         alloc: Global,
         seed: u32,
@@ -156,7 +156,7 @@ impl<'g, 'p> Generator<'g, 'p> {
     }
 }
 
-// Puts a step behind the others where room was made.
+// Puts a step after the others where room was made.
 fn put_step(steps: &mut Vec<Step>, step: Step)
     requires { vec_len steps.old < vec_capacity steps.old }
     ensures { steps.new.items ≡ steps.old.items ++ step ∷ [] }

@@ -16,13 +16,14 @@ use sg_graph::Graph;
 use sg_program::Programs;
 use std::alloc::Global;
 
-// A group has so many sessions.
+// How many sessions a group has at most.
 const GROUP: u32 = 16;
 
-// A session that begins brings at most 80 steps more, and so a group at most so many turns. After the last no frame is pending.
+// A session that begins brings at most 80 more steps, so a group has at most 1,280 turns. After these no frame is pending.
 const MOST_TURNS: u32 = 1_281;
 
-/// The run that a seed chooses for so many sessions of a graph, from 1 to 2,000, over the graph's programs.
+/// The run that a seed chooses for `sessions` sessions of a graph, from 1 to 2,000, over the graph's programs. Refused where a step
+/// would begin with a full record, or where memory runs out.
 pub fn generate<'p>(
     alloc: Global,
     seed: u32,
@@ -56,7 +57,7 @@ fn groups_for(sessions: u32) -> u32
     (sessions + GROUP - 1) / GROUP
 }
 
-// How many sessions the next group has, where so many are left.
+// How many sessions the next group has, where `left` are left.
 fn size_of_group(left: u32) -> u32
     ensures { result ≡ min 16 left }
 {
@@ -76,7 +77,7 @@ impl<'g, 'p> Generator<'g, 'p> {
         self.group(first, count)
     }
 
-    // A group of so many sessions, the first of this place: they begin, and turns are made until no frame is pending.
+    // A group of `count` sessions, the first of place `first`: they begin, and turns are made until no frame is pending.
     fn group(&mut self, first: u32, count: u32) -> Result<(), GenerateFault>
         requires budget { HasBudget 0 first self.old }
         requires few { (first + count ≤ self.old.sessions) × (count ≤ 16) }
@@ -87,7 +88,7 @@ impl<'g, 'p> Generator<'g, 'p> {
         self.take_turns(first + count)
     }
 
-    // So many sessions begin, the first of this place, one after another.
+    // `count` sessions begin one after another, the first of place `first`.
     fn begin_all(&mut self, first: u32, count: u32) -> Result<(), GenerateFault>
         requires budget { HasBudget 0 first self.old }
         requires few { (first + count ≤ self.old.sessions) × (count ≤ 16) }
@@ -100,7 +101,7 @@ impl<'g, 'p> Generator<'g, 'p> {
         Ok(())
     }
 
-    // Turns are made until no frame is pending, where so many sessions have begun.
+    // Turns are made until no frame is pending, where `begun` sessions have begun.
     fn take_turns(&mut self, begun: u32) -> Result<(), GenerateFault>
         requires budget { HasBudget 1_280 begun self.old }
         ensures over { OnOk result (AreTurns self.old self.new) }

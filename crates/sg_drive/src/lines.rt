@@ -29,7 +29,7 @@ pub fn summary(alloc: Global, graph: &Graph, driven: &Driven<'_>) -> Result<Vec<
     Ok(out.done())
 }
 
-// Writes what stands behind the counts: whether the premises hold, and where they do how many walks there are.
+// Writes what stands after the counts: whether the premises hold, and where they do how many walks there are.
 fn put_rest(out: &mut ByteOut, world: &World<'_>) -> Result<(), OutOfMemory>
     ensures { OnOk result (IsRest world.now out.old out.new) }
 {

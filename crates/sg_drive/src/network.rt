@@ -52,7 +52,7 @@ impl<'g, 'p> Generator<'g, 'p> {
         drawn as usize % many
     }
 
-    /// No frame is pending.
+    /// Whether no frame is pending.
     pub fn is_over(&self) -> bool
         ensures { result ≡ (length self.now.going.pending == 0) }
     {
@@ -86,7 +86,7 @@ impl<'g, 'p> Generator<'g, 'p> {
         }
     }
 
-    // A frame goes to the list's end and is delivered. A frame that the delivery brings about stands behind it.
+    // A frame goes to the list's end and is delivered. A frame that the delivery brings about stands after it.
     fn repeat(&mut self, frame: &Pending) -> Result<(), GenerateFault>
         requires room { HasRoom 2 500000002 self.old }
         requires there { IsThere self.old.graph self.old.sessions frame.now }

@@ -96,7 +96,7 @@ impl<'g, 'p> Generator<'g, 'p> {
         Ok(values)
     }
 
-    // A value for a variable more, by the next draw, where it is one of these.
+    // A value for one more variable, by the next draw, where it is one of these.
     fn draw_value(
         &mut self,
         values: &mut Seq<(Var, Value)>,

@@ -16,7 +16,7 @@ use sg_sched::node_name::name_of;
 use sg_sched::{Declared, PairKey, Schedule};
 use std::alloc::Global;
 
-/// So many sessions of a graph, counted from 1, with a principal for each role, all of them honest; no step.
+/// `sessions` sessions of a graph, counted from 1, with a principal for each role, all of them honest; no step.
 pub(crate) fn setup(alloc: Global, sessions: u32, graph: &Graph) -> Result<Schedule, OutOfMemory>
     requires two { 2 ≤ length graph.now.roles }
     requires few { sessions ≤ most_driven }
@@ -50,7 +50,7 @@ pub(crate) fn player(role: u8) -> Name
     }
 }
 
-// The principals of so many roles, in order.
+// The principals of `roles` roles, in order.
 fn players(alloc: Global, roles: u8) -> Result<Seq<Name>, OutOfMemory>
     requires { roles ≤ 16 }
     ensures { IfOk result (λ names. names ≡ players roles) }
@@ -74,7 +74,7 @@ fn keys_for(alloc: Global, roles: u8) -> Result<Seq<PairKey>, OutOfMemory>
     Ok(keys)
 }
 
-// Puts the keys of a role's principal and those of later roles behind the others.
+// Puts the keys of a role's principal and those of later roles after the others.
 fn put_keys(keys: &mut Seq<PairKey>, roles: u8, role: u8) -> Result<(), OutOfMemory>
     requires { (role < roles) × (roles ≤ 16) }
     ensures { OnOk result (keys.new ≡ keys.old ++ keys_with_later roles role) }
@@ -100,7 +100,7 @@ fn key_of(one: u8, two: u8) -> PairKey
     }
 }
 
-// So many sessions of a graph, counted from 1.
+// `sessions` sessions of a graph, counted from 1.
 fn sessions_of(
     alloc: Global,
     sessions: u32,

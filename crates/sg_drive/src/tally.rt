@@ -18,7 +18,7 @@ use sg_world::World;
 use std::alloc::Global;
 use std::marker::Model;
 
-/// How often what came of the steps so far, and the sessions of which the last frame was sent.
+/// How often each outcome came of the steps so far, and the sessions of which the last frame was sent.
 #[derive(Drop)]
 pub(crate) struct Tally {
     pub sent: u64,
@@ -156,7 +156,7 @@ fn is_last(graph: &Graph, label: Label) -> bool
     graph.edges_from(target(graph, label)).is_empty()
 }
 
-// The node to which a label leads, and the start node where the graph hasn't this label.
+// The node to which a label leads, and the start node where the graph doesn't have this label.
 fn target(graph: &Graph, label: Label) -> NodeId
     ensures { result ≡ target (shape graph.now) label }
 {

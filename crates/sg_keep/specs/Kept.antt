@@ -25,7 +25,8 @@ IsOfJoin joins bytes = (f : Frame) × (bytes ≡ spelling f) × Contains joins (
 abbrev pub AreOfJoins : List Join → (frames : List (Addr × List ℕ)) → Type 0
 AreOfJoins joins frames = All (λ x. IsOfJoin joins x.1) frames
 
--- a file stands for the joins that the ledger was opened with, and then those of the first of these calls: of at least so many calls, and among their joins are the session and the sender of each of these frames
+-- a file stands for the joins that the ledger was opened with, and then those of the first of these calls: of at least `count` calls, and among
+-- their joins are the session and the sender of each of these frames
 pub record StandsForFirst (image : List ℕ) (opened : List Join) (calls : List Called) (count : ℕ) (frames : List (Addr × List ℕ)) : Type 0 where
   pub front : List Called
   pub rest : List Called
@@ -34,7 +35,8 @@ pub record StandsForFirst (image : List ℕ) (opened : List Join) (calls : List 
   pub sent : AreOfJoins (joins_made front) frames
   pub stands : StandsFor image (opened ++ joins_made front)
 
--- each image stands for the joins that the node of the play was made with, and then those of its first calls: at least so many, and with those of these frames
+-- each image stands for the joins that the node of the play was made with, and then those of its first calls: at least `count` of them, and with
+-- those of these frames
 abbrev pub KeepsFirst : (may_leave : List ℕ → Type 0) → Play → ℕ → (frames : List (Addr × List ℕ)) → Type 0
 KeepsFirst may_leave p count frames = (image : List ℕ) → may_leave image → StandsForFirst image p.past.first p.past.calls count frames
 
@@ -43,12 +45,14 @@ pub record KeptFront (start now : Outside) (may_leave : List ℕ → Type 0) (p 
   pub given : WholeFront start now p.steps
   pub kept : KeepsFirst may_leave p (length given.front) (frames_of given.front)
 
--- then the frame of one step more was taken and so many bytes of its line were written; and the joins of the calls of all these steps are kept, and those of all these frames
+-- then the frame of one more step was taken and a front part of its line was written; and the joins of the calls of all these steps are kept, and
+-- those of all these frames
 pub record KeptBegun (start now : Outside) (may_leave : List ℕ → Type 0) (p : Play) : Type 0 where
   pub given : Begun start now p.steps
   pub kept : KeepsFirst may_leave p (length given.front + 1) (frames_of given.front ++ (given.step).frames)
 
--- a play ended so. Where the link or the disk failed or memory ran out, whole steps were given; where a line was not written whole, one step more was begun
+-- a play ended so. Where the link or the disk failed or memory ran out, whole steps were given; where a line was not written whole,
+-- one more step was begun
 abbrev pub Kept : (start now : Outside) → (may_leave : List ℕ → Type 0) → Play → Result (Unit {0}) KeepFault → Type 0
 Kept start now may_leave p (Ok u) = Whole start now p.steps × AllStandFor may_leave (p.past.first ++ joins_made p.past.calls) × AreOfJoins (joins_made p.past.calls) (frames_of p.steps)
 Kept start now may_leave p (Err (Played LinkFailed)) = KeptFront start now may_leave p

@@ -26,7 +26,7 @@ pub record HoldsJoins (k : Keeper) (may_leave : List ℕ → Type 0) : Type 0 wh
   pub ledger : k.ledger ≡ record { joins = k.player.node.joins; failed = false }
   pub images : AllStandFor may_leave k.player.node.joins
 
--- the node has been asked one call more, and this came of it; the ledger has the joins from before
+-- the node has been asked one more call, and this came of it; the ledger has the joins from before
 pub record HasAskedNode (k : Keeper) (may_leave : List ℕ → Type 0) (told : Option Told) : Type 0 where
   pub past : Past
   pub call : Call

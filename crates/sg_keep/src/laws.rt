@@ -1,4 +1,4 @@
-//! What a reader wants of the joins that are kept. Each function is a law: it does nothing, and its contract is the statement.
+//! What a reader relies on of the joins that are kept. Each function is a law: it does nothing, and its contract is the statement.
 ghost use Rattle.sg_keep.specs.Laws.{FramesTellTheirJoins, JoinsOfNode};
 
 /// The joins of a node are those that it was made with, and then those that its calls made.

@@ -71,7 +71,7 @@ impl<'p> Keeper<'p> {
         }
     }
 
-    /// Takes at most so many deliveries, up to the link's end, and plays the turn that each gives.
+    /// Takes at most `most` deliveries, up to the link's end, and plays the turn that each gives.
     pub(crate) fn take_all<L: Link, R: Fresh, O: Sink, D: Disk>(
         &mut self,
         alloc: Global,
@@ -133,9 +133,10 @@ impl<'p> Keeper<'p> {
 }
 
 /// Plays a script over a ledger that was opened from this disk: makes its starts in order and plays the turn that each gives; then takes at
-/// most so many deliveries, up to the link's end, gives each to the node and plays the turn, if one came. The node joined before what
-/// the ledger has. Each pair that it joins is added to the ledger before anything of it is told. The keys are given twice, since the
-/// node takes one keyring, and the other has the addresses that frames go to; the script was read beside these programs.
+/// most `most` deliveries, up to the link's end, gives each to the node and plays the turn, if one came. The node joined before what the
+/// ledger has. Each pair that it joins is added to the ledger before anything of it is told. The keys are given twice, since the node takes
+/// one keyring, and the other has the addresses that frames go to; the script was read beside these programs. It ends early where a play
+/// does, or where the disk fails.
 pub fn keep<'p, L: Link, R: Fresh, O: Sink, D: Disk>(
     alloc: Global,
     keys_of_node: Keyring,

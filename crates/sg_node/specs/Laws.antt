@@ -23,13 +23,13 @@ NewNodesStand = (keys : Keyring) (programs : List Program) (first : List (List �
 abbrev pub PastsGoOn : Type 0
 PastsGoOn = (past : Past) (c : Call) → IsTold past → IsCallInRange c → IsTold (past_after real past c)
 
--- Where no call was refused for want of room, a node answered the calls of a session as a node would that gets no others
+-- Where no call was refused because there was no room, a node answered the calls of a session as a node that gets no other calls would
 abbrev pub SessionsAreAlone : Type 0
 SessionsAreAlone = (past : Past) (sid : List ℕ) → IsTold past → All (λ c. is_for_room c.answer ≡ false) past.calls →
     map (λ c. c.answer) (calls_of_session real sid past.calls)
     ≡ answers real (new_node past.keys past.programs past.first) (map (λ c. c.call) (calls_of_session real sid past.calls))
 
--- Nodes that have alike what they have of a sid answer its calls alike, and have it alike afterwards
+-- Nodes that have the same of a sid answer its calls alike, and have the same of it afterwards
 abbrev pub SameForSessions : Type 0
 SameForSessions = (past past' : Past) (sid : List ℕ) (c : Call) → is_call_of real sid c ≡ true → AreAlike sid (node_of past) (node_of past') →
     (answer real (node_of past) c ≡ answer real (node_of past') c) × AreAlike sid (node_of (past_after real past c)) (node_of (past_after real past' c))

@@ -22,7 +22,7 @@ use sg_walk::Event;
 
 impl<'p> Node<'p> {
     /// Sends a step along a label in the first live session with an identifier, with the values that it writes and sixteen bytes for
-    /// each to hide it. After a refusal the node is as before.
+    /// each to hide it, or gives the first cause for which it is refused. After a refusal the node and the notes are as before.
     pub fn act(
         &mut self,
         sid: Sid,
@@ -39,7 +39,7 @@ impl<'p> Node<'p> {
         ensures notes { (past : Past) → StandsForPast self.old past → result ≢ Err ActFault.OutOfMemory
             → notes.new ≡ with_notes notes.old (noted_of real (node_of past) (Act sid label (values_of values.now) confounders.now)) }
         ensures back { OnErr result ((self.new ≡ self.old) × (notes.new ≡ notes.old)) }
-        // Out of memory is told as itself, and never in the place of a refusal for which no turn is there.
+        // `OutOfMemory` is never inside another fault, and never takes the place of a refusal for which no turn is there.
         ensures told { result ≢ Err (ActFault.Send SendFault.OutOfMemory) }
         ensures memory { (past : Past) → StandsForPast self.old past → result ≡ Err ActFault.OutOfMemory
             → comes_to_a_turn (answer real (node_of past) (Act sid label (values_of values.now) confounders.now)) ≡ true }

@@ -13,7 +13,7 @@ use sg_graph::Graph;
 use sg_keys::Keyring;
 use sg_program::{Program, Programs};
 
-/// It has as many principals as the graph has roles, all different, and the role's is the keyring's own. It takes no memory.
+/// Whether the cast has as many principals as the graph has roles, all different, and the role's is the keyring's own. It takes no memory.
 pub(crate) fn is_cast(keys: &Keyring, graph: &Graph, cast: &Cast, role: Role) -> bool
     ensures { result ≡ is_cast keys.now graph.now cast.now role }
 {

@@ -51,7 +51,8 @@ impl<'p> Node<'p> {
         }
     }
 
-    /// Takes bytes that were delivered, of which the frame that they spell was read before.
+    /// Takes bytes that were delivered, of which the frame that they spell was read before. The result is that of `deliver`; after
+    /// a refusal the node is as before.
     pub fn deliver_frame(
         &mut self,
         frame: &Frame,
@@ -268,10 +269,13 @@ fn take<'p>(
     match sessions.take(index) {
         Some(Live::Waiting(wait)) => {
             let (event, taken) = wait.go_on(accepted);
-            if let Taken::Turn(turn) = taken {
-                sessions.put(index, Live::AtTurn(turn));
+            match taken {
+                Taken::Turn(turn) => {
+                    sessions.put(index, Live::AtTurn(turn));
+                    Ok(event)
+                }
+                Taken::Done(_done) => Ok(event),
             }
-            Ok(event)
         }
         _ => Err(Refusal::NotWaiting),
     }

@@ -6,10 +6,11 @@ use thiserror::Error;
 /// Why a session is not started, the first cause that holds.
 #[derive(Debug, Clone, Copy, PartialEq, Eq, Error)]
 pub enum StartFault {
-    /// No program is of the cast's graph and the role that starts it.
+    /// There is no program for the cast's graph and the role that starts it.
     #[error("unknown graph")]
     UnknownGraph,
-    /// The cast has not as many principals as the graph has roles, two of them are the same, or the starting role's is another one.
+    /// The cast doesn't have as many principals as the graph has roles, two of them are the same, or the starting role's principal
+    /// isn't the node's own.
     #[error("bad cast")]
     BadCast,
     /// No key is shared with this principal, the first in role order.
@@ -63,11 +64,11 @@ pub enum Refusal {
         /// The offset in bytes.
         at: u32,
     },
-    /// The frame joins, and no program is of its graph and its receiver.
+    /// The frame joins, and there is no program for its graph and its receiver.
     #[error("unknown graph")]
     UnknownGraph,
-    /// The frame joins, and its cast has not as many principals as the graph has roles, two of them are the same, the sender or the
-    /// receiver is not among its roles, or the receiver's principal is another one.
+    /// The frame joins, and its cast doesn't have as many principals as the graph has roles, two of them are the same, the sender
+    /// or the receiver is not among its roles, or the receiver's principal isn't the node's own.
     #[error("bad cast")]
     BadCast,
     /// The frame joins, and no key is shared with this principal of its cast, the first in role order.
@@ -94,7 +95,7 @@ pub enum Refusal {
     /// The frame continues, and its session is at its turn.
     #[error("not waiting")]
     NotWaiting,
-    /// The sender is no role of the cast, or the frame's tag is not right under the key shared with its principal.
+    /// The sender is not a role of the cast, or the frame's tag is not right under the key shared with its principal.
     #[error("bad frame tag")]
     BadFrameTag,
     /// What the frame shows is no view of the role from its own last step; or an item's role isn't its label's sender, the last item's

@@ -75,7 +75,7 @@ pub(crate) fn claim(joins: &mut Cache, sid: Sid, role: Role) -> Ticket
     joins.claim(sid, role).unwrap()
 }
 
-/// Notes the text that the identifier of a session is of. If memory runs out, nothing is noted.
+/// Notes the text under the identifier of a session. If memory runs out, nothing is noted.
 pub(crate) fn note_session(
     alloc: Global,
     cast: &Cast,

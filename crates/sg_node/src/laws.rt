@@ -8,9 +8,9 @@ pub fn stands_for_its_past()
     ensures goes_on { PastsGoOn }
 {}
 
-/// Sessions do not disturb each other. Where no call was refused for want of room, a node answered the calls of a session as a node
-/// would that gets no others. Nodes that have alike what they have of a session, and as many joins and live sessions, answer its
-/// calls alike, and have it alike afterwards. What a node has of a session stays as it was in each call that is not of it.
+/// Sessions do not disturb each other. Where no call was refused because there was no room, a node answered the calls of a session
+/// as a node that gets no other calls would. Nodes that have the same of a session, and as many joins and live sessions, answer its
+/// calls alike, and have the same of it afterwards. What a node has of a session stays as it was in each call that is not of it.
 pub fn isolated()
     ensures alone { SessionsAreAlone }
     ensures same { SameForSessions }

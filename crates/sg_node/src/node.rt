@@ -90,7 +90,8 @@ impl<'p> Node<'p> {
         })
     }
 
-    /// Leaves the first live session with an identifier: it is no longer live, and its pair stays joined. It takes no memory.
+    /// Leaves the first live session with an identifier: it is no longer live, and its pair stays joined. Refused where there is
+    /// none. It takes no memory.
     #[tactic(auto, using(crate::proofs::Leaving::not_abandoned, crate::proofs::Leaving::abandoned, crate::proofs::Leaving::left, crate::proofs::Leaving::emptied, crate::proofs::Going::goes_on))]
     pub fn abandon(&mut self, sid: Sid) -> Result<(), UnknownSession>
         ensures answer { (past : Past) → StandsForPast self.old past → answer real (node_of past) (Abandon sid) ≡ abandon_answer result }

@@ -177,7 +177,7 @@ impl<'p> Sessions<'p> {
         self.live += 1;
     }
 
-    /// Puts a place with a session behind the others. It takes no memory.
+    /// Puts a place with a session after the others. It takes no memory.
     pub fn push(&mut self, sid: Sid, role: Role, live: Live<'p>)
         requires room { 0 < self.old.spare }
         requires absent { ¬ Contains (map (λ s. s.0) self.old.slots) (sid, role) }

@@ -24,7 +24,8 @@ use sg_role::Before;
 use sg_walk::Event;
 
 impl<'p> Node<'p> {
-    /// Starts a session of a cast, at the start node of its graph. After a refusal the node is as before.
+    /// Starts a session of a cast, at the start node of its graph, or gives the first cause for which it is refused. After a
+    /// refusal the node is as before.
     pub fn start(&mut self, cast: Cast, notes: &mut Notes) -> Result<Event, StartFault>
         ensures answer { (past : Past) → StandsForPast self.old past → IsAnswer (answer real (node_of past) (Start cast)) (start_answer result) }
         ensures state { (past : Past) → StandsForPast self.old past → result ≢ Err StartFault.OutOfMemory → GoesOn self.old self.new (Start cast) past }

@@ -23,7 +23,7 @@ pub record WholeFront (old new : Outside) (steps : List Step) : Type 0 where
   pub is : steps ≡ front ++ rest
   pub whole : Whole old new front
 
--- those of the first of these steps, then the frame of one more, and so many bytes of its line
+-- those of the first of these steps, then the frame of one more, and a front part of its line
 pub record Begun (old new : Outside) (steps : List Step) : Type 0 where
   pub front : List Step
   pub step : Step

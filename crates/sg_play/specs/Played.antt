@@ -46,7 +46,7 @@ called p c = record p { past = past_after real p.past c; steps = p.steps ++ step
 abbrev pub word : List (List ℕ) → List ℕ
 word words = slice_index_or words 0 (replicate 16 0)
 
--- the next words, so many
+-- the next n words
 abbrev pub next_words : ℕ → List (List ℕ) → List (List ℕ)
 next_words zero words = []
 next_words (suc n) words = word words ∷ next_words n (drop 1 words)

@@ -45,7 +45,7 @@ pub record HasAsked (pl : Player) (p : Play) (c : Call) (told : Option Told) (gr
   pub is_graph : graph ≡ graph_of_call real (node_of p.past) c
   pub is_made : made ≡ frames_in p.past.keys (answer_in p c)
 
--- whether a call answered
+-- whether a call succeeded
 abbrev pub done : {A : Type 0} → Result A PlayFault → Result (Unit {0}) PlayFault
 done (Ok a) = Ok tt
 done (Err fault) = Err fault

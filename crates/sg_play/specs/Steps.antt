@@ -41,7 +41,7 @@ abbrev pub frames_in : Keyring → Answer → List (Addr × List ℕ)
 frames_in keys (Protocol.Sends e to f) = option_map_or (λ at. (at, spelling f) ∷ []) (addr_of keys to) []
 frames_in keys other = []
 
--- the line of a call, the frames sent before being so many: by the graph of the session that the call is of
+-- the line of a call before which `sent` frames were sent, by the graph of the session that the call is of
 abbrev pub line_of : Past → (sent : ℕ) → Call → List ℕ
 line_of past sent c =
     let told = told_answer (sent + 1) (answer real (node_of past) c) in

@@ -102,7 +102,7 @@ impl Choices {
         Ok(choices)
     }
 
-    // Puts a choice behind the others.
+    // Puts a choice after the others.
     fn put(&mut self, alloc: Global, choice: ScriptChoice) -> Result<(), OutOfMemory>
         ensures { OnOk result ((cs : List Choice) → HoldsChoices self.old cs → HoldsChoices self.new (cs ++ choice ∷ [])) }
     {

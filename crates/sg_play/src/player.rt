@@ -165,7 +165,8 @@ impl<'p> Player<'p> {
         self.give(Some(sid), graph, &outcome, None, link, out)
     }
 
-    /// Gives the outside what came of a call: the frame, if one was made, and when the link has taken it the line.
+    /// Gives the outside what came of a call: the frame, if one was made, and when the link has taken it the line. It fails where
+    /// the link fails, where the line is not written whole, or where memory runs out.
     pub fn give<L: Link, O: Sink>(
         &mut self,
         left: Option<Sid>,
@@ -267,7 +268,7 @@ fn bytes_of(name: &Option<Name>) -> &[u8]
     }
 }
 
-/// One more. So many are never reached.
+/// One more, or `OutOfMemory` where a `u32` holds no more; such numbers are never reached.
 pub(crate) fn next(number: u32) -> Result<u32, PlayFault>
     ensures next { IfOk result (λ n. n ≡ number + 1) }
     ensures memory { IfErr result (λ e. e ≡ PlayFault.OutOfMemory) }

@@ -62,7 +62,7 @@ impl<'p> Player<'p> {
         self.play_if(sid, link, fresh, out)
     }
 
-    /// Takes at most so many deliveries, up to the link's end, and plays the turn that each gives.
+    /// Takes at most `most` deliveries, up to the link's end, and plays the turn that each gives.
     pub(crate) fn take_all<L: Link, R: Fresh, O: Sink>(
         &mut self,
         alloc: Global,
@@ -112,7 +112,8 @@ impl<'p> Player<'p> {
         self.play_if(sid, link, fresh, out)
     }
 
-    /// Plays the turn of a session, if there is one. The node joins nothing by it.
+    /// Plays the turn of a session, if there is one. The node joins nothing by it. It fails where the link fails, where a line is
+    /// not written whole, or where memory runs out.
     pub fn play_if<L: Link, R: Fresh, O: Sink>(
         &mut self,
         sid: Option<Sid>,
@@ -159,9 +160,10 @@ pub(crate) fn cast_of(
     }
 }
 
-/// Plays a script: makes its starts in order and plays the turn that each gives; then takes at most so many deliveries, up to the
+/// Plays a script: makes its starts in order and plays the turn that each gives; then takes at most `most` deliveries, up to the
 /// link's end, gives each to the node and plays the turn, if one came. The node was made with these keys and programs, and with any
-/// joins, and was not asked anything yet; the script was read beside these programs.
+/// joins, and was not asked anything yet; the script was read beside these programs. It ends early where the link fails, where a
+/// line is not written whole, or where memory runs out.
 pub fn play<'p, L: Link, R: Fresh, O: Sink>(
     alloc: Global,
     node: Node<'p>,

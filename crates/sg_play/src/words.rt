@@ -5,7 +5,7 @@ ghost use Rattle.sg_play.specs.Played.{next_words};
 use sg_base::{Fresh, OutOfMemory};
 use std::alloc::Global;
 
-/// The next words, so many.
+/// The next `count` words.
 pub(crate) fn draw<R: Fresh>(
     alloc: Global,
     fresh: &mut R,

@@ -147,7 +147,7 @@ module _ (p : SoFar) (s : Sound p) where
         none_yet = λ h. absurd (omega (arith, h));
       }
 
-  -- an item that is or_parts a graph nor a session
+  -- an item that is neither a graph nor a session
   other_more : (q : SoFar) → graphs_of_past q ≡ graphs_of_past p → q.sessions ≡ p.sessions → p.group ≤ q.group → Sound q
   other_more q gs ss later = record {
     graphs = subst (AllByRecursion HasFewRoles) (sym gs) s.graphs;

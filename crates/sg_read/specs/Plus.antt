@@ -1,4 +1,4 @@
--- What is declared with one item more.
+-- What is declared with one more item.
 use Rattle.std.specs.Prelude.{[], ◌∷◌, ◌++◌, max}
 use Rattle.sg_sched.specs.Format.Items.{Item, GraphItem, EdgeItem, HonestItem, KeyItem, SessionItem, StepItem, SoFar}
 
@@ -6,7 +6,7 @@ use Rattle.sg_sched.specs.Format.Items.{Item, GraphItem, EdgeItem, HonestItem, K
 abbrev pub nothing : SoFar
 nothing = record { group = 0; blocks = []; edges = []; honest = []; keys = []; sessions = []; steps = [] }
 
--- the item stands behind those of its kind, and its group has begun
+-- the item stands after those of its kind, and its group has begun
 abbrev pub plus : SoFar → Item → SoFar
 plus past (GraphItem g) = record past { group = max past.group 0; blocks = past.blocks ++ g ∷ [] }
 plus past (EdgeItem e) = record past { group = max past.group 0; edges = past.edges ++ e ∷ [] }

@@ -52,7 +52,7 @@ pub record Stands (bytes : List ℕ) (r : ScheduleReader) (rest : List ℕ) : Ty
   pub keeps : Keeps r right items
   pub number : r.number ≡ length right
 
--- behind the lines that it keeps stands one with which a block begins
+-- after the lines that it keeps stands one with which a block begins
 pub record Opens (bytes : List ℕ) (r : ScheduleReader) (after : List ℕ) : Type 0 where
   pub right : List Line
   pub items : List Item
@@ -88,7 +88,7 @@ pub record IsShown (text : List ℕ) (old new : SoFar) : Type 0 where
   pub fresh : IsFalse (has_text graph.name (graph_names (graphs_of_past old)))
   pub added : new ≡ plus old (GraphItem graph)
 
--- the text is no graph's, or its graph has the name of one before, or is named `pair` behind edge lines
+-- the text is no graph's, or its graph has the name of one before, or is named `pair` after edge lines
 pub data IsBad (text : List ℕ) (r : ScheduleReader) (line : ℕ) : Format.Kind → Type 0 where
   Refused : {e : ParseFault} → read text ≡ Err e → line ≡ r.number → IsBad text r line (Graph e)
   Again : (graph : AGraph) → SpellsGraph text graph → IsTrue (has_text graph.name (graph_names r.past.blocks)) → line ≡ r.number → IsBad text r line Twice

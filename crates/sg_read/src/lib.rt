@@ -1,8 +1,8 @@
 //! Schedules, read from a text in one pass.
 //!
-//! `read_schedule` answers the schedule that the bytes spell, or the first wrong line from the top and what is wrong with it; `OutOfMemory` is
-//! told apart. What bytes spell stands in `sg_sched`, in `specs/Format`: the forms of the lines, what each of them adds, and which line is the
-//! first wrong one.
+//! `read_schedule` gives the schedule that the bytes spell, or the first wrong line from the top and what is wrong with it; `OutOfMemory` is
+//! an error of its own. What bytes spell stands in `sg_sched`, in `specs/Format`: the forms of the lines, what each of them adds, and which
+//! line is the first wrong one.
 //!
 //! A text is read line by line, and block by block. A line is tested in the order of the format: its form, whether there are too many, names
 //! that aren't declared, what is declared twice, and whether the principal is honest. What the lines declare is kept in tables, so a line costs
@@ -10,7 +10,7 @@
 //! pairs of principals in both orders.
 //!
 //! A block ends at its first line `}`. Its text is read by `sg_parse`, and its fault is told at that line. One fault is told at an earlier
-//! line than that at which it shows: a block of a graph named `pair` behind edge lines is the fault of the first edge line.
+//! line than that at which it shows: a block of a graph named `pair` after edge lines is the fault of the first edge line.
 //!
 //! `laws` says what holds of all bytes: they spell one schedule at most, have one first wrong line at most, and none where they spell a
 //! schedule. So an answer that isn't `OutOfMemory` is the only one that the bytes allow. What bytes spell is a schedule as the protocol has

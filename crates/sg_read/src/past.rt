@@ -68,7 +68,7 @@ impl Past {
         }
     }
 
-    /// The place of the graph of this name, if it is declared. The graph of the edge lines stands behind those of the blocks.
+    /// The place of the graph of this name, if it is declared. The graph of the edge lines stands after those of the blocks.
     pub fn graph_place(&self, name: &Name) -> Option<usize>
         ensures place { result ≡ position (bytes_eq name.now) (graph_names (graphs_of_past self.now)) }
         ensures within { IfSome result (λ i. i < length (graphs_of_past self.now)) }

@@ -10,8 +10,8 @@ use crate::reader::ScheduleReader;
 use sg_sched::{LineFault, Schedule};
 use std::alloc::Global;
 
-/// Reads a schedule, in one pass. It answers the schedule that the bytes spell, or the first wrong line from the top and what is wrong
-/// with it, the first kind in the format's order; unless memory runs out.
+/// Reads a schedule, in one pass. It gives the schedule that the bytes spell, or the first wrong line from the top and what is wrong
+/// with it, the first kind in the format's order; unless memory runs out. There are fewer than 4,294,967,296 bytes.
 pub fn read_schedule(alloc: Global, bytes: &[u8]) -> Result<Schedule, LineFault>
     requires { length bytes.now < 2 ^ 32 }
     // What is read is spelled so.

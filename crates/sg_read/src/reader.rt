@@ -42,7 +42,7 @@ impl ScheduleReader {
         }
     }
 
-    /// Takes the next line, or the next block, and answers what follows it.
+    /// Takes the next line, or the next block, and gives what follows it.
     pub fn next<'a>(&mut self, rest: &'a [u8]) -> Result<&'a [u8], LineFault>
         requires some { 0 < length rest.now }
         requires room { self.old.number + length rest.now < 2 ^ 32 }
@@ -85,7 +85,7 @@ impl ScheduleReader {
         Ok(())
     }
 
-    // Takes a block, from behind the line with which it begins, and answers what follows it.
+    // Takes a block, from after the line with which it begins, and gives what follows it.
     fn block<'a>(&mut self, after: &'a [u8]) -> Result<&'a [u8], LineFault>
         requires room { self.old.number + length after.now < 2 ^ 32 }
         ensures stands { (bytes : List ℕ) → Opens bytes self.old after.now → MatchResult result (λ rest. Stands bytes self.new rest.now) (IsFault bytes) }

@@ -69,7 +69,7 @@ fn in_order(
     Ok(found)
 }
 
-// Puts the value that stands in the place of a number behind those of lesser numbers, if there is one.
+// Puts the value that stands in the place of a number after those of lesser numbers, if there is one.
 #[tactic(auto, using(crate::proofs::FormParts::each, crate::proofs::FormParts::given_value, crate::proofs::ValueLaws::next_none, crate::proofs::ValueLaws::next_some))]
 fn put_value(
     alloc: Global,
@@ -123,9 +123,6 @@ pub(crate) fn spelled_value(alloc: Global, word: &[u8]) -> Result<Value, OutOfMe
 pub(crate) fn differ(alloc: Global, values: &[Given<'_>]) -> Result<bool, OutOfMemory>
     ensures { IfOk result (λ b. b ≡ all_differ (map (λ v. v.variable) values.now)) }
 {
-    if values.len() < 2 {
-        return Ok(true);
-    }
     let mut names = NameSet::new(alloc);
     for given in values {
         if names.has(&given.variable) {

@@ -83,7 +83,7 @@ fn together(
     }
 }
 
-// The graphs of the blocks, and behind them that of the edge lines, if there is one.
+// The graphs of the blocks, and after them that of the edge lines, if there is one.
 fn with_pair(alloc: Global, blocks: Seq<Graph>, pair: Pair) -> Result<Seq<Graph>, OutOfMemory>
     ensures { IfOk result (λ graphs. graphs ≡ blocks ++ graphs_of pair) }
 {

@@ -35,7 +35,7 @@ pub fn report_line(
     Ok(out.done())
 }
 
-/// Writes the line of a step behind what is written.
+/// Appends the line of a step to what is written.
 pub fn put_line(
     out: &mut ByteOut,
     step: u32,

@@ -36,8 +36,8 @@ const ROUND: &[u8] =
     edge Ask:n0->n1 writes n t reads n t;edge More:n1->n0;edge Less:n1->n0;edge Take:n1->n2;";
 
 // What comes of forty sessions by seed 14,558, by a second generator, which knows the places and times of the roles and no frames. Of other
-// rules it counts otherwise: groups of 15 or 17, the two draws of a turn the other way round, a label drawn behind its values or one value in
-// the place of two, a frame before or behind another, other bounds for a frame's fate or its count, and time 15 or 17 as the last.
+// rules it counts otherwise: groups of 15 or 17, the two draws of a turn the other way round, a label drawn after its values or one value in
+// the place of two, a frame before or after another, other bounds for a frame's fate or its count, and time 15 or 17 as the last.
 const SUMMARY: &[u8] = b"sessions 40\n\
     sent 150\n\
     received 130\n\
@@ -85,7 +85,7 @@ const WIDE: &[u8] = b"graph g;role w;role x;role y;role z;\
     reads A B C D E F G H I J K L M N O P Q R S T U V W X Y Z a b c d e f;";
 
 // A step begins with a record of at most 264,241,152 bytes. Of the steps of a second generator step 29,577, a start, is the first that doesn't: the
-// frames before it, and the texts that a second implementation of the protocol notes at those steps, have so many bytes.
+// frames before it, and the texts that a second implementation of the protocol notes at those steps, have as many bytes as the fault says.
 #[test]
 fn a_full_record_ends_a_run(rt: HostRuntime) {
     let alloc = rt.alloc();

@@ -1,4 +1,4 @@
-//! Tests of the whole program, but for its real objects.
+//! Tests of the whole program without its real objects.
 #![tactic(auto)]
 
 #[cfg(test)]

@@ -58,7 +58,7 @@ fn and_err(outside: Outside) -> Outside {
     Outside { err: 1, ..outside }
 }
 
-// Standard output takes so many bytes.
+// Standard output takes `bytes` bytes.
 fn room(bytes: u32) -> Outside {
     Outside {
         room: bytes,
@@ -82,7 +82,7 @@ impl Left {
     }
 }
 
-// The bytes of some texts, one behind the other.
+// The bytes of some texts, one after the other.
 fn text(alloc: Global, rt: &impl Abort, pieces: &[&str]) -> Vec<u8> {
     let mut bytes = Vec::new(alloc);
     for piece in pieces {
@@ -412,7 +412,7 @@ fn refuses_words_that_are_no_command(rt: HostRuntime) {
     is_no_command(alloc, &rt, "replay f f");
 }
 
-// A file of so many bytes is too large for the words.
+// A file of `count` bytes is too large for the words.
 fn is_too_large(alloc: Global, rt: &impl Abort, line: &str, count: usize) {
     let bytes = vec![in alloc; 10; count].expect(rt, "bytes");
     let left = run(alloc, rt, line, one_file(alloc, rt, bytes, 0), WHOLE);
@@ -524,7 +524,7 @@ fn refuses_what_is_no_graph(rt: HostRuntime) {
 const ASKED: &str =
     "graph pair;role a;role b;node n0:a;node n1:b;node n2:a;edge Request:n0->n1;edge Reply:n1->n2;";
 
-// What comes of one session of them, before and behind the number of deliveries that are refused.
+// What comes of one session of them, before and after the number of deliveries that are refused.
 const SENT: &str = "sessions 1\nsent 2\nreceived 2\n";
 
 const ENDED: &str =
@@ -931,7 +931,7 @@ fn ends_play(
     );
 }
 
-// A program whose table lacks a line is refused before the script is read.
+// A program whose table is missing a line is refused before the script is read.
 #[test]
 fn each_failing_call_ends_a_refused_run(rt: HostRuntime) {
     let alloc = rt.alloc();

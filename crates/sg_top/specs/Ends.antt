@@ -164,7 +164,7 @@ Replays bytes old new ending = (text : List ℕ) × IsReplay bytes text × Write
 
 -- ---- drive
 
--- the text is the summary of the run that is generated for so many sessions of the graph that the bytes spell
+-- the text is the summary of the run that is generated for `sessions` sessions of the graph that the bytes spell
 pub record IsDriving (seed sessions : ℕ) (bytes text : List ℕ) : Type 0 where
   pub graph : Graph
   pub programs : List Program
@@ -244,7 +244,7 @@ IsUnread most file told faults faults' (TooLarge word) = (word ≡ file) × ((fi
 IsUnread most file told faults faults' NoMemory = ⊤
 IsUnread most file told faults faults' ending = ⊥
 
--- what is done with a file of at most so many bytes ends so: it is read and done with its bytes, or it is not read and nothing is written
+-- what is done with a file of at most `most` bytes ends so: it is read and done with its bytes, or it is not read and nothing is written
 abbrev pub OnFile : (List ℕ → (old new : Output) → Ending → Type 0) → ℕ → List ℕ → Told → (faults faults' : ℕ) → (old new : Output) → Ending → Type 0
 OnFile Does most file told faults faults' old new ending =
     ((bytes : List ℕ) × Has told file (Some bytes) × (length bytes ≤ most) × Does bytes old new ending)

@@ -20,7 +20,7 @@ pub record Disked : Type 1 where
   pub may_leave : List ℕ → Type 0
   pub faults : ℕ
 
--- the file is as it was, and a crash leaves nothing else than before
+-- the file is as it was, and a crash leaves nothing other than before
 abbrev pub IsLeft : (disk disk' : Disked) → Type 0
 IsLeft disk disk' = (disk'.seen ≡ disk.seen) × Keeps disk.may_leave disk'.may_leave
 
@@ -59,7 +59,7 @@ LacksLedger disk disk' ending = ⊥
 
 -- ---- a run over a ledger
 
--- the play of a setup over these joins, over the first deliveries, at most so many, and with these random words
+-- the play of a setup over these joins, over the first deliveries, at most `most`, and with these random words
 abbrev pub play_over : (opened : List Join) → Setup → (most : ℕ) → (deliveries words : List (List ℕ)) → Play
 play_over opened s most deliveries words = played s.keys s.programs opened s.script (take most deliveries) words
 

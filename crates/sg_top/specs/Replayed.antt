@@ -10,6 +10,7 @@ use Rattle.sg_read.specs.Meant.{IsMeant}
 use Rattle.sg_report.specs.Report.{IsReport}
 use Rattle.sg_world.specs.Account.{CanBeNamed, account}
 use Rattle.sg_world.specs.Faults.{IsFull}
+use Rattle.sg_world.specs.Laws.{RunLaws}
 use Rattle.sg_world.specs.Replay.{Replay, run_of}
 use Rattle.sg_top.specs.Ending.{Ending, NoMemory, TooLarge}
 
@@ -33,11 +34,13 @@ pub record IsOverfull (programs : List Program) (s : Schedule) : Type 0 where
   pub begins : before < length s.steps
   pub full : IsFull (replay_up_to before programs s)
 
--- the text is a report of the replay, whose record is full as no step begins, and no honest principal joins a session twice as the same role
+-- the text is a report of the replay, whose record is full as no step begins; no honest principal joins a session twice as the same role; and
+-- what holds of runs holds of this one: who sent what was received, what frames show, and what awaited frames come to
 pub record Reports (programs : List Program) (s : Schedule) (text : List ℕ) : Type 0 where
   pub room : IsOverfull programs s → ⊥
   pub report : IsReport (account (replay_of programs s)) text
   pub once : All JoinedOnce (run_of (replay_of programs s)).pasts
+  pub laws : RunLaws (replay_of programs s)
 
 -- a step is not taken: the record is full, or memory ran out
 abbrev pub HasNoRoom : Replay → Ending → Type 0

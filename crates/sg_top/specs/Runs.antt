@@ -23,7 +23,7 @@ pub record Outside : Type 0 where
   pub link : Linked
   pub words : Option (List (List ℕ))
 
--- the steps of the play of a setup over the first deliveries, at most so many, and with these random words
+-- the steps of the play of a setup over the first deliveries, at most `most`, and with these random words
 abbrev pub steps_played : Setup → (most : ℕ) → (deliveries words : List (List ℕ)) → List Step
 steps_played s most deliveries words = (played s.keys s.programs [] s.script (take most deliveries) words).steps
 
@@ -32,7 +32,7 @@ abbrev pub Plays : Setup → (most : ℕ) → (old new : Outside) → Result (Un
 Plays s most old new result = (deliveries words : List (List ℕ)) → (old.link).deliveries ≡ Some deliveries → old.words ≡ Some words
     → Ended (record { written = (old.out).bytes; sent = (old.link).sent }) (record { written = (new.out).bytes; sent = (new.link).sent }) (steps_played s most deliveries words) result
 
--- so many deliveries were taken, or all where there were fewer, where they are told
+-- n deliveries were taken, or all where there were fewer, where they are told
 abbrev pub Takes : ℕ → (old new : Option (List (List ℕ))) → Type 0
 Takes n old new = (deliveries : List (List ℕ)) → old ≡ Some deliveries → new ≡ Some (drop n deliveries)
 

@@ -32,7 +32,7 @@ pub record Setup : Type 0 where
 
 -- ---- what the files hold
 
--- the file has at most so many bytes, and they are such
+-- the file has at most `most` bytes, and `Such` holds of them
 abbrev pub Holds : Told → (most : ℕ) → (file : List ℕ) → (List ℕ → Type 0) → Type 0
 Holds told most file Such = (bytes : List ℕ) × Has told file (Some bytes) × (length bytes ≤ most) × Such bytes
 
@@ -40,7 +40,7 @@ Holds told most file Such = (bytes : List ℕ) × Has told file (Some bytes) × 
 abbrev pub IsTextOf : Program → List ℕ → Type 0
 IsTextOf p bytes = IsWhole p × (program_text p ≡ bytes)
 
--- such a program was put behind these, none of which has its graph's name with its role, or with another graph
+-- such a program was put after these, none of which has its graph's name with its role, or with another graph
 pub record Adds (Such : Program → Type 0) (before after : List Program) : Type 0 where
   pub program : Program
   pub such : Such program
@@ -73,7 +73,7 @@ IsBadProgram before bytes (Malformed at) = IsLoadFault bytes (Load.Malformed at)
 IsBadProgram before bytes (NotTheTable n) = IsLoadFault bytes (Load.NotTheTable n)
 IsBadProgram before bytes Twice = (p : Program) × IsTextOf p bytes × (list_any (clashes p) before ≡ true)
 
--- the bytes are not taken as the program behind these, which is told by its number, counted from 1, or by the fault of its graph; or memory ran out
+-- the bytes are not taken as the program after these, which is told by its number, counted from 1, or by the fault of its graph; or memory ran out
 abbrev pub RefusesProgram : List Program → List ℕ → Ending → Type 0
 RefusesProgram before bytes (ProgramRefused n cause) = (n ≡ length before + 1) × IsBadProgram before bytes cause
 RefusesProgram before bytes (GraphRefused g fault) = IsLoadFault bytes (Load.Graph g fault)
@@ -86,7 +86,7 @@ RefusesScript programs bytes (ScriptRefused fault) = (fault ≢ NoMemoryForScrip
 RefusesScript programs bytes NoMemory = ⊤
 RefusesScript programs bytes ending = ⊥
 
--- it ends at this file, of at most so many bytes: the file isn't read, or what it holds is refused
+-- it ends at this file, of at most `most` bytes: the file isn't read, or what it holds is refused
 abbrev pub EndsAt : Told → (faults faults' : ℕ) → (most : ℕ) → (file : List ℕ) → (List ℕ → Ending → Type 0) → Ending → Type 0
 EndsAt told faults faults' most file Refuses ending = IsUnread most file told faults faults' ending ⊎ Holds told most file (λ bytes. Refuses bytes ending)
 

@@ -22,8 +22,8 @@ use sg_program::{AllFault, Programs, compile_all};
 use std::alloc::Global;
 use std::{mem, slice};
 
-/// Generates the run that a seed chooses for so many sessions of the graph of a file, from 1 to 2,000, and writes its summary, or says why
-/// not.
+/// Generates the run that a seed chooses for `sessions` sessions of the graph of a file, from 1 to 2,000, and writes its summary, or says
+/// why not.
 pub fn drive<'w, F: Files, O: Sink>(
     alloc: Global,
     seed: u32,

@@ -143,7 +143,7 @@ impl<'w> Ending<'w> {
         }
     }
 
-    /// The line on standard error, with its line end; nothing, which takes no memory, where output was to be written.
+    /// The line on standard error, with its line end; nothing, which takes no memory, where the output was written or was not taken.
     pub fn line(&self, alloc: Global) -> Result<Vec<u8>, OutOfMemory>
         ensures value { IfOk result (λ text. text.items ≡ line_of (ending_held self.now)) }
         ensures memory { OnErr result (line_of (ending_held self.now) ≢ []) }

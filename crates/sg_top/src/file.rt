@@ -7,7 +7,7 @@ use crate::ending::Ending;
 use sg_base::{FileFault, Files};
 use std::alloc::Global;
 
-/// The bytes of a file, which has at most so many, or how the program ends without them.
+/// The bytes of a file, which has at most `most`, or how the program ends without them.
 pub fn read_file<'w, F: Files>(
     alloc: Global,
     file: &'w str,

@@ -1,11 +1,11 @@
-//! The program, but for the real objects: what each command does, with which status it ends, and what it says of it.
+//! The program without the real objects: what each command does, with which status it ends, and what it says of it.
 //!
 //! `top` takes the words of a command line, and the outside as objects: files, standard output, standard error, a link, random words, a disk,
 //! and a link over connections. With those of the system it is `sessiongraph` (`sg_cli`); with objects in memory another crate can call it.
 //!
 //! - The words are read first. Words that are in no command end with the usage line, and nothing else is touched.
-//! - `check`, `compile`, `replay`, `drive`, `audit` and `compose` work on one file. It is read whole, has at most so many bytes, and its first
-//!   fault ends the work. Nothing is written before all is done, so what is refused leaves standard output as it was.
+//! - `check`, `compile`, `replay`, `drive`, `audit` and `compose` work on one file. It is read whole, has at most a given number of bytes, and
+//!   its first fault ends the work. Nothing is written before all is done, so what is refused leaves standard output as it was.
 //! - `run` reads its files in order, keys, programs and script, and opens the link when all are taken. It writes as it goes: a step's line when
 //!   the link has taken the step's frame.
 //! - `ledger` makes a ledger of a file of the disk and then says so. `keep` reads as `run` does, opens the ledger and then the link, and plays

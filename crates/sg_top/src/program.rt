@@ -1,4 +1,4 @@
-//! The program, but for the real objects.
+//! The program without the real objects.
 ghost use Rattle.std.specs.Prelude.{◌≡◌, ◌⊎◌, map, option_map, string_bytes};
 ghost use Rattle.sg_words.specs.Command.{CanBeDriven, command_of};
 ghost use Rattle.sg_words.specs.Model.{command_held};
@@ -28,10 +28,10 @@ use std::alloc::Global;
 /// one principal over `link`, with random words from `fresh` and at most N deliveries, and writes a line for each step. `ledger FILE` makes
 /// a ledger of a file of `disk`; `keep FILE KEYS SCRIPT N PROGRAM..` is `run` over the ledger of a file, to which each join is added before
 /// anything of it is told. `stream KEYS SCRIPT N PROGRAM..` is `run` over the connections of `stream`. `replay SCHEDULE` reads a schedule from
-/// a file, compiles its graphs, runs it, and writes the report of the run. `drive SEED SESSIONS GRAPH` reads a graph, compiles it, generates
-/// a run of it in so many sessions, and writes the summary. `audit LOGS` reads logs from a file, makes the checks of `check` for their graph,
-/// and writes of each session whether its logs agree. `compose PARTS` reads parts from a file, expands them, checks the expansion, and
-/// writes its canonical text. Whatever comes, `err` gets one line that says why, but where the output was written.
+/// a file, compiles its graphs, runs it, and writes the report of the run. `drive SEED SESSIONS GRAPH` reads a graph, compiles it, generates a
+/// run of it in SESSIONS sessions, and writes the summary. `audit LOGS` reads logs from a file, makes the checks of `check` for their graph,
+/// and writes of each session whether its logs agree. `compose PARTS` reads parts from a file, expands them, checks the expansion, and writes
+/// its canonical text. `err` gets one line that says why the work ended so, unless the output was written or failed.
 pub fn top<F: Files, O: Sink, E: Sink, L: Link, R: Fresh, D: Disk, C: Conns>(
     alloc: Global,
     words: &[String],

@@ -130,7 +130,7 @@ fn add_program<'w, F: Files>(
     put_program(alloc, bytes.as_slice(), programs)
 }
 
-// Adds the program that the bytes are the text of.
+// Adds the program whose text the bytes are.
 fn put_program(alloc: Global, bytes: &[u8], programs: &mut Programs) -> Result<(), Ending<'static>>
     ensures added { OnOk result (Adds (λ p. IsTextOf p bytes.now) programs.old programs.new) }
     ensures refused { IfErr result (λ ending. RefusesProgram programs.old bytes.now (ending_held ending)) }
@@ -141,7 +141,7 @@ fn put_program(alloc: Global, bytes: &[u8], programs: &mut Programs) -> Result<(
     }
 }
 
-// Adds the program that the bytes are the text of.
+// Adds the program whose text the bytes are.
 fn add(bytes: &[u8], program: Program, programs: &mut Programs) -> Result<(), Ending<'static>>
     requires { IsTextOf program bytes.now }
     ensures added { OnOk result (Adds (λ p. IsTextOf p bytes.now) programs.old programs.new) }

@@ -44,6 +44,12 @@ hold_is r h =
     let both = and_parts (is_none (account r).forged) (account r).collision_free h in
     record { unforged = unforged_is r (none_of forgery (first_forged r.schedule (run_of r)) both.0); collision_free = collision_free_is r (none_is (first_collision real (hashed r.schedule (run_of r))) both.1) }
 
+-- and the account says so where they do
+pub says_hold : (r : Replay) → PremisesHold r → premises_hold (account r) ≡ true
+says_hold r p =
+    let texts = hashed r.schedule (run_of r) in
+    ap (λ o. is_none (option_map forgery o) && is_none (first_collision real texts)) ((forged_is_first r.schedule (run_of r)).0.1 p.unforged) ∙ ap (λ o. is_none o) ((collision_is_first real texts).0.1 p.collision_free)
+
 -- a forged note breaks them
 pub forged_breaks : {X : Type 0} (r : Replay) (f : X → ℕ × Note) (o : Option X) → option_map f o ≡ first_forged r.schedule (run_of r) → is_some o ≡ true → PremisesHold r → ⊥
 forged_breaks r f None e h p = absurd (let z : false ≡ true = h in cc)

@@ -26,7 +26,7 @@ abbrev pub variable_refused : Told → Option ℕ
 variable_refused (NotActed (Send (BadValues x))) = Some x
 variable_refused other = None
 
--- the graph by which a line names its numbers: that of its call. A variable for which an act was refused is named by the first graph that has it, if that one doesn't
+-- the graph by which a line names its numbers: that of its call. Where this one doesn't have the variable for which an act was refused, it is the first graph that has it
 abbrev pub graph_told : List Graph → Option Graph → Told → Option Graph
 graph_told graphs g told = option_map_or (λ x. find (λ h. nat_lt x (length h.variables)) (option_to_list g ++ graphs)) (variable_refused told) g
 

@@ -46,7 +46,7 @@ Comes number old new past (Some call) c = ComesOfCall number old new past call c
 
 -- ---- the call of a step
 
--- the principal's step names declared sessions, so many, and its values are values of variables below 256
+-- the principal's step names one of `sessions` declared sessions, and its values are values of variables below 256
 abbrev pub IsNamed : ℕ → Step → Type 0
 IsNamed sessions (StartStep who n) = n < sessions
 IsNamed sessions (ActStep who n label values) = (n < sessions) × AllByRecursion (λ (w : ℕ × Value). (w.0 < 256) × IsValue w.1) values

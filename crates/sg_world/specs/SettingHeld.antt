@@ -9,7 +9,7 @@ use Rattle.sg_world.specs.declared.setting.Setting.TheInside.{Inside}
 abbrev pub setting_of : Inside → Setting
 setting_of s = record { programs = s.programs.now; graphs = s.graphs; keys = s.keys; sessions = s.sessions }
 
--- the programs are compiled from the graphs, each of which has two roles; the identifiers and the texts stand in order
+-- the programs are compiled from the graphs, each of which has two roles or more; the identifiers and the texts stand in order
 pub record HoldsSetting (s : Inside) : Type 0 where
   pub compiled : AreCompiled real s.graphs s.programs.now
   pub two : All (λ g. 2 ≤ length g.roles) s.graphs

@@ -57,7 +57,7 @@ pub record WalksAreWritten (r : Replay) (old new : List ℕ) : Type 0 where
   pub sids : map (λ p. p.sid) paths ≡ sids_met (met (account r))
   pub text : new ≡ old ++ flat_map (path_line (met (account r))) paths
 
--- so many sessions have an event, and the walk of each was made, which explains the session, in the order of their first events
+-- `count` sessions have an event, and each of them has a walk that explains it, in the order of their first events
 pub record WalksAreMade (r : Replay) (count : ℕ) : Type 0 where
   pub paths : List Path
   pub each : AllByRecursion (IsPath r) paths

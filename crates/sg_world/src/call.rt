@@ -142,7 +142,7 @@ fn act<'p>(
     }
 }
 
-// The bytes without the room behind them, since the record keeps them.
+// The bytes without spare room after them, since the record keeps them.
 fn tight(mut bytes: Vec<u8>) -> Vec<u8>
     ensures { result.items ≡ bytes.items }
 {

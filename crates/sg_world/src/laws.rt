@@ -1,9 +1,5 @@
 //! What holds of every replay. Each function is a law: it does nothing, and its contract is the statement.
-ghost use Rattle.sg_world.specs.Laws.{StepsAreTheRuns, NoneJoinsTwice};
-ghost use Rattle.sg_protocol.specs.Completeness.{DeliveryIsComplete};
-ghost use Rattle.sg_protocol.specs.LastSteps.{FramesShowLastSteps};
-ghost use Rattle.sg_protocol.specs.Receipts.{ReceiptsHaveSends};
-ghost use Rattle.sg_protocol.specs.Texts.{real};
+ghost use Rattle.sg_world.specs.Laws.{LawsHold, NoneJoinsTwice, StepsAreTheRuns};
 
 /// A step of a replay is the definition's step of its run.
 pub fn steps_are_the_runs()
@@ -18,7 +14,5 @@ pub fn none_joins_twice()
 /// Where the premises hold of a replay's run, an honest sender's receipt was given by bytes that this sender sent before, what an
 /// accepted frame shows of honest senders is the last step of each, and a frame that is awaited and delivered is received.
 pub fn runs_of_replays()
-    ensures receipts { ReceiptsHaveSends real }
-    ensures last_steps { FramesShowLastSteps real }
-    ensures delivery { DeliveryIsComplete real }
+    ensures { LawsHold }
 {}

@@ -19,7 +19,7 @@
 //! `specs/Comes.antt` says of a call and `specs/Crafts.antt` of a craft; `proofs/Next.antt` and `proofs/Crafting.antt` have all that holds
 //! with one more step, `proofs/Begins.antt` that of no step; `proofs/EntryGraphs.antt`, that the graphs of steps stay as they are.
 //!
-//! A graph is found by its digest among the programs, by the program of its first role: the graphs of a schedule have two roles each.
+//! A graph is found by its digest among the programs, by the program of its first role: the graphs of a schedule have two roles or more.
 //!
 //! `unforged` and `collision_free` try the two premises on what was noted, and tell the first break. `report` goes over the record once
 //! for what sessions are called, once for the lines, and once for each premise; where both hold it goes through the sessions in one pass

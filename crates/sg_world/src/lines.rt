@@ -106,7 +106,7 @@ fn left<'p>(setting: &Setting<'p>, step: &Step) -> Option<Sid>
     }
 }
 
-// The graph by which the line names its numbers: this one, or one of the graphs for a variable that it lacks.
+// The graph by which the line names its numbers: this one, or one of the graphs for a variable that it doesn't have.
 fn graph_for<'a>(
     of_call: Option<&'a Graph>,
     graphs: &'a [Graph],

@@ -38,7 +38,7 @@ pub(crate) fn nodes_of<'p>(
     Ok(nodes)
 }
 
-// Puts a principal that has no node behind the others.
+// Puts a principal that has no node after the others.
 fn put_last<'p>(
     nodes: &mut IndexMap<Name, Node<'p>>,
     me: Name,

@@ -40,7 +40,8 @@ pub enum ForgedFault {
 /// Why the second premise doesn't hold.
 #[derive(Debug, Drop, Error)]
 pub enum CollisionFault {
-    /// Two different texts have one digest. Of all such pairs the later text stands first, and of these the earlier one.
+    /// Two different texts have one digest. Of all such pairs it is the one whose later text comes first, and of these the one
+    /// whose earlier text comes first.
     #[error("two texts with one digest")]
     Collision {
         /// The text that was hashed first.
@@ -71,7 +72,7 @@ impl<'n, 'p> Honest for Principals<'n, 'p> {
 
 impl<'p> World<'p> {
     /// Whether no tag of two honest principals was forged so far: each text that was found right under a key of theirs had been tagged
-    /// in an earlier step.
+    /// in an earlier step. The fault tells the first that had not.
     pub fn unforged(&self) -> Result<(), ForgedFault>
         ensures holds { OnOk result (Unforged self.now.schedule (run_of self.now)) }
         ensures forged { IfErr result (IsForgedFault self.now) }
@@ -85,7 +86,7 @@ impl<'p> World<'p> {
         }
     }
 
-    /// Whether no two different texts that were hashed so far have one digest.
+    /// Whether no two different texts that were hashed so far have one digest. The fault tells the first two that have.
     pub fn collision_free(&self) -> Result<(), CollisionFault>
         ensures holds { OnOk result (CollisionFree real (hashed self.now.schedule (run_of self.now))) }
         ensures collision { IfErr result (IsCollisionFault self.now) }

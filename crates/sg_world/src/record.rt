@@ -168,7 +168,7 @@ impl<'p> Record<'p> {
     }
 }
 
-// Puts a frame behind the others, if there is one, where room was made.
+// Puts a frame after the others, if there is one, where room was made.
 fn put_frame(frames: &mut Vec<Seq<u8>>, frame: Option<Seq<u8>>)
     requires { vec_len frames.old < vec_capacity frames.old }
     ensures { frames.new.items ≡ frames.old.items ++ option_to_list frame }
@@ -178,7 +178,7 @@ fn put_frame(frames: &mut Vec<Seq<u8>>, frame: Option<Seq<u8>>)
     }
 }
 
-// Puts what was noted behind the rest where room was made.
+// Puts what was noted after the rest where room was made.
 fn put_notes(all: &mut Vec<Notes>, notes: Notes)
     requires { vec_len all.old < vec_capacity all.old }
     ensures { all.new.items ≡ all.old.items ++ notes ∷ [] }
@@ -186,7 +186,7 @@ fn put_notes(all: &mut Vec<Notes>, notes: Notes)
     let _ = all.push(notes);
 }
 
-// Puts an entry behind the others where room was made.
+// Puts an entry after the others where room was made.
 fn put_entry<'p>(entries: &mut Vec<TakenStep<'p>>, entry: TakenStep<'p>)
     requires { vec_len entries.old < vec_capacity entries.old }
     ensures { entries.new.items ≡ entries.old.items ++ entry.entry ∷ [] }

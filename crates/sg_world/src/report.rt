@@ -35,7 +35,7 @@ impl<'p> World<'p> {
         Ok(out.done())
     }
 
-    // Writes what stands behind the lines: whether the premises hold, and the walks where they do.
+    // Writes what stands after the lines: whether the premises hold, and the walks where they do.
     fn put_rest(&self, out: &mut ByteOut, names: &SessionNames) -> Result<(), OutOfMemory>
         ensures { names.now ≡ naming 120 (met (account self.now)) → out.old ≡ lines_from (met (account self.now)) 1 (account self.now).lines → OnOk result (IsReport (account self.now) out.new) }
     {
@@ -46,7 +46,7 @@ impl<'p> World<'p> {
         }
     }
 
-    /// Writes the two lines that say whether the premises hold, and answers whether both do.
+    /// Writes the two lines that say whether the premises hold, and tells whether both do.
     pub fn put_premises(&self, out: &mut ByteOut) -> Result<bool, OutOfMemory>
         ensures hold { IfOk result (λ b. b ≡ premises_hold (account self.now)) }
         ensures text { OnOk result (out.new ≡ out.old ++ premise_lines (account self.now).forged (account self.now).collision_free) }

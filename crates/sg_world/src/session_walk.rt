@@ -38,7 +38,7 @@ pub enum WalkFault {
 
 impl<'p> World<'p> {
     /// The walk that explains what the honest principals did in a session so far: one path of the graph of its cast, with the values
-    /// that they wrote and received.
+    /// that they wrote and received; or the first cause for which there is none.
     pub fn walk_of(&self, sid: Sid) -> Result<StoredWalk, WalkFault>
         ensures walk { IfOk result (λ walk. OnePath (graph_of self.now sid) (honest_in self.now sid) (events_of sid (run_of self.now).log) (steps_of walk)) }
         ensures right { OnOk result ((events_of sid (run_of self.now).log ≢ []) × PremisesHold self.now) }
@@ -59,7 +59,7 @@ impl<'p> World<'p> {
         }
     }
 
-    /// Makes the walk of each session with an event, one after another, and answers how many there are.
+    /// Makes the walk of each session with an event, one after another, and gives their number. The contract says that each has one.
     pub fn walks(&self) -> Result<usize, OutOfMemory>
         requires { PremisesHold self.now }
         ensures { IfOk result (WalksAreMade self.now) }
@@ -115,7 +115,7 @@ impl<'p> World<'p> {
     }
 }
 
-// Makes the walk of each course, and answers how many there are.
+// Makes the walk of each course, and gives their number.
 fn make_walks<'r>(alloc: Global, courses: &Courses<'r>) -> Result<usize, OutOfMemory>
     ensures { IfOk result (λ count. count ≡ length courses.now.courses) }
 {

@@ -22,7 +22,7 @@ use sg_node::Node;
 use sg_sched::Step;
 use std::alloc::Global;
 
-// The record holds at most so many bytes as a step begins.
+// The most bytes that the record may hold as a step begins.
 const MOST_BYTES: u64 = 264_241_152;
 
 /// The place of the node whose step it is, or `None` for a craft. The principal has a node, and the record has room.

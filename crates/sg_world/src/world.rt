@@ -8,6 +8,7 @@ ghost use Rattle.sg_sched.specs.Format.StepsHeld.{step_of};
 ghost use Rattle.sg_report.specs.Outcome.{outcome_of};
 ghost use Rattle.sg_report.specs.Told.{told_log};
 ghost use Rattle.sg_world.specs.Faults.{IsStepFault, IsAdmitted};
+ghost use Rattle.sg_world.specs.Laws.{HasPrograms, RunLaws};
 ghost use Rattle.sg_sched.specs.Steps.{CanBeTaken};
 ghost use Rattle.sg_world.specs.Replay.{without_steps, with_taken, run_of, stepped};
 
@@ -81,6 +82,8 @@ impl<'p> World<'p> {
     pub fn len(&self) -> usize
         ensures steps { result ≡ length self.now.schedule.steps }
         ensures told { result ≡ length (told_log (run_of self.now).log) }
+        ensures programs { HasPrograms self.now }
+        ensures laws { RunLaws self.now }
     {
         self.history.count()
     }
@@ -108,7 +111,8 @@ impl<'p> World<'p> {
         self.history.notes()
     }
 
-    /// Takes a step. After a refusal the world is as before.
+    /// Takes a step. Refused where its principal isn't honest, where the record is full, or where memory runs out. After a refusal
+    /// the world is as before.
     pub fn step(&mut self, step: &Step) -> Result<(), StepFault>
         requires room { length self.old.schedule.steps < most_steps }
         requires step { CanBeTaken self.old.schedule (step_of step.now) }

@@ -13,7 +13,7 @@ const JOINED: &str = "1 a refused joined\n";
 
 const FAILED: &str = "disk failed\n";
 
-// An empty disk with room for a ledger, of which each call fails after so many, if some are to.
+// An empty disk with room for a ledger, of which each call after the first `stop` fails, if that is given.
 fn disk(alloc: Global, rt: &impl Abort, stop: Option<u32>) -> MemDisk {
     let disk = MemDisk::new(alloc, 2_300_000, 60, Vec::new(alloc), stop);
     disk.expect(rt, "a disk")
@@ -113,7 +113,7 @@ fn each_failing_call_of_the_disk_is_told(rt: HostRuntime) {
     }
 }
 
-// A crash behind the write of the gate may leave it open, and then the join stands; one before that write leaves it closed.
+// A crash after the write of the gate may leave it open, and then the join stands; one before that write leaves it closed.
 #[test]
 fn a_join_that_was_not_told_may_be_kept(rt: HostRuntime) {
     let alloc = rt.alloc();
@@ -144,7 +144,7 @@ fn a_join_is_kept_before_it_is_told(rt: HostRuntime) {
     refuses_to_join(alloc, &rt, &mut book);
 }
 
-// Files are read before the ledger is opened, and the link is opened behind it.
+// Files are read before the ledger is opened, and the link is opened after it.
 #[test]
 fn each_refusal_of_a_ledger_is_told_in_order(rt: HostRuntime) {
     let alloc = rt.alloc();

@@ -67,7 +67,7 @@ fn a_run_over_connections_gives_its_frame_as_a_message(rt: HostRuntime) -> Resul
     Ok(())
 }
 
-// Of three messages two are taken: one that comes in four pieces, and the first of two in one piece. What comes behind a bad length is no
+// Of three messages two are taken: one that comes in four pieces, and the first of two in one piece. What comes after a bad length is no
 // delivery, and neither is what a connection leaves that ends.
 #[test]
 fn deliveries_are_the_messages_that_become_whole(rt: HostRuntime) -> Result<(), OutOfMemory> {
