@@ -12,9 +12,8 @@ use Rattle.sg_report.specs.Report.{IsReport}
 use Rattle.sg_sched.specs.Format.Spells.{SpellsSchedule}
 use Rattle.sg_world.specs.Account.{CanBeNamed, account}
 use Rattle.sg_world.specs.Faults.{IsFull}
-use Rattle.sg_world.specs.Laws.{HasPrograms}
+use Rattle.sg_world.specs.Laws.{HasPrograms, LawsHold}
 use Rattle.sg_world.specs.Replay.{Replay}
-use Rattle.sg_world.proofs.RunsOfReplays.{laws_hold}
 use Rattle.sg_top.specs.Ending.{Ending, Written, NoCommand, NoGraph, NoExpansion, GraphRefused, NoRole, WrongLine, KeysRefused, ScriptRefused, ProgramRefused, NoLedger, BadSlot, LedgerNotEmpty, FileFailed, WriteFailed, LinkFailed, DiskFailed, NoMemory, NoSuchFile, TooLarge}
 use Rattle.sg_top.specs.Ends.{Output, IsReplay, Replays}
 use Rattle.sg_top.specs.Replayed.{CanBeReplayed, HasNoRoom, Reports, Stops, replay_of, replay_up_to}
@@ -61,12 +60,12 @@ module _ (programs : List Program) (s : Schedule) where
   named w e can = subst (λ (r : Replay). All (CanBeNamed r.schedule) r.schedule.steps) (sym e) can.named
 
   -- all steps were taken, and this is the report
-  pub reports : (n : ℕ) (w : Replay) (text : List ℕ) → w ≡ replay_of programs s → length s.steps ≤ n → NoneFull n → IsReport (account w) text → HasPrograms (replay_of programs s) → Reports programs s text
-  reports n w text e all none report has = record {
+  pub reports : (n : ℕ) (w : Replay) (text : List ℕ) → w ≡ replay_of programs s → length s.steps ≤ n → NoneFull n → IsReport (account w) text → LawsHold → HasPrograms (replay_of programs s) → Reports programs s text
+  reports n w text e all none report laws has = record {
     room = λ o. none o.before (let b = o.begins in omega (arith, b, all)) o.full;
     report = subst (λ (r : Replay). IsReport (account r) text) e report;
     once = none_joins_twice real programs s;
-    laws = laws_hold (replay_of programs s) has;
+    laws = laws (replay_of programs s) has;
   }
 
   module _ (bytes : List ℕ) (spelled : SpellsSchedule real bytes s) (can : CanBeReplayed s) (compiled : AreCompiled real s.graphs programs) (few : All IsWhole programs) where

@@ -27,6 +27,7 @@ use sg_graph::Graph;
 use sg_program::{AllFault, Programs, compile_all};
 use sg_read::read_schedule;
 use sg_sched::{Kind, LineFault, Schedule, Step};
+use sg_world::laws::runs_of_replays;
 use sg_world::{StepFault, World};
 use std::alloc::Global;
 use std::mem;
@@ -174,6 +175,7 @@ fn report_of(
     'steps: for step in schedule.steps.as_slice() {
         take(&mut world, step)?;
     }
+    runs_of_replays();
     match world.report() {
         Ok(text) => {
             // The program ends next, and to give back the record piece by piece takes as long as a twentieth of the replay.

@@ -11,6 +11,7 @@ mod Worlds
 mod Graphs
 mod Crafting
 mod RunEntries
+mod RunsOfReplays
 mod Tellable
 mod KeptLines
 mod PremiseLaws

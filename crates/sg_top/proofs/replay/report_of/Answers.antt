@@ -61,5 +61,5 @@ pub returns-in-Ok-report-clause-reports : goal.returns-in-Ok-report-clause-repor
 returns-in-Ok-report-clause-reports c =
     let i = c.steps.invariant in
     let all = all_taken c.args.schedule.now c.as_slice-step-items.result.now c.steps.step-index i.1 c.steps-test.false in
-    reports c.args.programs.now c.args.schedule.now c.steps.step-index c.steps.world c.in-Ok-report.text.items (i.0 ∙ whole c.args.programs.now c.args.schedule.now c.steps.step-index all) all i.2 c.in-Ok-report.ensures
+    reports c.args.programs.now c.args.schedule.now c.steps.step-index c.steps.world c.in-Ok-report.text.items (i.0 ∙ whole c.args.programs.now c.args.schedule.now c.steps.step-index all) all i.2 c.in-Ok-report.ensures c.runs_of_replays.ensures
     (record { compiled = c.requires.compiled; schedule = c.requires.can.meant.schedule })
