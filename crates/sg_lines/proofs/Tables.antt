@@ -13,7 +13,7 @@ pub asked : (letter : ℕ) (m : Met) (sid : List ℕ) (es : List Entry) (r b : B
 asked letter m sid es r b same is at =
     ap (has_text sid) (sym (keys_of-map (session_name letter m) (all_sids m)) ∙ sym (ap keys_of same)) ∙ sym is ∙ at
 
--- a session that is declared anew
+-- a new session that is declared
 pub declared_more : (letter : ℕ) (m : Met) (name : Name) (sid : List ℕ) (l count : ℕ) (old new : List Entry) → m.events ≡ [] → l ≡ letter → old ≡ (naming letter m).names → has_text sid (all_sids m) ≡ false
     → new ≡ old ++ (sid, name) ∷ [] → count ≡ length new → (let t : Naming = record { letter = l; declared = count; names = new } in t ≡ naming letter (with_declared m name sid))
 declared_more letter m name sid l count old new none is same miss more counted =
@@ -22,7 +22,7 @@ declared_more letter m name sid l count old new none is same miss more counted =
     let number : count ≡ (naming letter m).declared + 1 = counted ∙ ap length names ∙ length-append (naming letter m).names ((sid, name) ∷ []) ∙ ap (λ n. n + 1) (length-undeclared letter m ∙ ap (λ n. (naming letter m).declared + n) others) ∙ omega arith in
     (λ i. record { letter = is i; declared = number i; names = names i }) ∙ sym (naming-declared_new letter m name sid none miss)
 
--- a session that is met anew
+-- a new session that is met
 pub met_more : (letter : ℕ) (m : Met) (sid : List ℕ) (name : Name) (l d n : ℕ) (old new : List Entry) → l ≡ letter → d ≡ (naming letter m).declared → old ≡ (naming letter m).names → has_text sid (all_sids m) ≡ false
     → name ≡ numbered l n → n ≡ length old - d + 1 → new ≡ old ++ (sid, name) ∷ [] → (let t : Naming = record { letter = l; declared = d; names = new } in t ≡ naming letter (with_event m sid))
 met_more letter m sid name l d n old new is counted same miss named number more =

@@ -87,7 +87,8 @@ pub fn put_values(
     requires { All (λ w. w.0 < length graph.now.variables) values.now }
     ensures { OnOk result (out.new ≡ out.old ++ values_text graph.now (values_of values.now)) }
 {
-    'values: for value in values {
+    for at in 0..values.len() {
+        let value = &values[at];
         out.u8(b' ')?;
         put_assigned(out, graph, value.0, Some(&value.1))?;
     }

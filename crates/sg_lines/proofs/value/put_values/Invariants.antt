@@ -3,5 +3,5 @@ use Rattle.sg_lines.specs.Values.{values_text}
 use Rattle.sg_walk.specs.Model.{values_of}
 use Rattle.sg_lines.proofs.value.put_values.Given as goal
 
-abbrev pub invariant-values : goal.invariant-values
-invariant-values l = l.out ≡ l.initial.out ++ values_text l.graph (values_of (take l.value-index l.values))
+abbrev pub invariant-loop-at : goal.invariant-loop-at
+invariant-loop-at l = l.out ≡ l.initial.out ++ values_text l.graph (values_of (take l.at l.values))
