@@ -138,7 +138,7 @@ kinds true t true true false x h = refl
 kinds true t true false true x h = (let bad : false ≡ true = h refl in absurd (cc))
 kinds true t true false false x h = refl
 
--- the same where the graph hasn't the label
+-- the same where the graph doesn't have the label
 kinds_unknown : {A : Type 0} (begun t wrong known e : Bool) (x : A)
     → (if not begun then Err Form else if wrong then Err Form else if t then Err TooManyEvents else Err Unknown)
     ≡ (if not begun || false || wrong then Err Form else if t then Err TooManyEvents else if true || known then Err Unknown else if e then Err Twice else Ok x)

@@ -14,7 +14,7 @@ use Rattle.sg_audit.specs.Said.{Given, SaidStep, Said, SaidSession, SaidLog, Sai
 
 -- ---- variables with values
 
--- a name, and what stands behind it
+-- a name, and what stands after it
 abbrev pub as_named : {A : Type 0} → List Name → (Word → Option A) → Word × Word → Option (Given A)
 as_named names read p = if is_name p.0 then option_map (one_given names p.0) (read p.1) else None
 
@@ -55,7 +55,7 @@ part_end quoted (c ∷ cs) =
 abbrev pub unclosed : Word → Option Word
 unclosed w = if slice_index w (length w - 1) == 41 then Some (take (length w - 1) w) else None
 
--- what a step writes, from behind its (
+-- what a step writes, after its (
 abbrev pub written : List Name → Word → Option (Given (Option Value))
 written names w = option_and_then (λ inner. all_assigned names shown_or_hidden (parts false inner)) (unclosed w)
 
@@ -78,7 +78,7 @@ abbrev pub steps : Graph → List Word → Option (List SaidStep)
 steps g [] = Some []
 steps g (w ∷ ws) = option_and_then (λ s. option_map (λ ss. s ∷ ss) (steps g ws)) (step g w)
 
--- ---- forms, each from behind its first word
+-- ---- forms, each after its first word
 
 -- session NAME
 unfoldable pub session_form : Left → Option Said

@@ -44,7 +44,7 @@ pub record IsBlock (ls : List Line) (text : List ℕ) : Type 0 where
 abbrev pub SaysLine : AGraph → Line → Said → Type 0
 SaysLine g line said = Says g (words (content line)) said
 
--- the lines behind the block, from the first one on, tell this, and none of them is wrong
+-- the lines after the block, from the first one on, tell this, and none of them is wrong
 pub data Tell (g : AGraph) : List Line → Told → Type 0 where
   Nothing : Tell g [] (record { over = []; last = None })
   Skip : {ls : List Line} {t : Told} (line : Line) → Tell g ls t → IsTrue (is_skipped line) → Tell g (ls ++ line ∷ []) t

@@ -12,7 +12,7 @@ pub enum LogFault {
     /// stand here is missing.
     #[error("line {line} form")]
     Form { line: u32 },
-    /// The line names a role, a label or a variable that the graph hasn't.
+    /// The line names a role, a label or a variable that the graph doesn't have.
     #[error("line {line} unknown")]
     Unknown { line: u32 },
     /// The line declares a session or the log of a role again, or names a variable twice.

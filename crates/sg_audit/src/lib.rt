@@ -6,8 +6,8 @@
 //!
 //! The events of all logs are put in one order, by time, and what was sent before what was received at equal times. The logs agree with a
 //! walk where no time clashes, the order keeps each log's own, and the events are what the roles with a log send and receive along the
-//! walk, save perhaps a last receipt. Roles with a log count as honest, also with an empty one. Where each role has a log any walk will
-//! do, and the sends make the only one that can; where a role has none, the walk is told in the text, with its steps filled in.
+//! walk, except perhaps for a last receipt. Roles with a log count as honest, also with an empty one. Where each role has a log any walk
+//! will do, and the sends make the only one that can; where a role has none, the walk is told in the text, with its steps filled in.
 //!
 //! A text is a block `graph {` .. `}`, and then for each session these lines; blank ones and comments are skipped:
 //!
@@ -15,7 +15,7 @@
 //! |---|---|
 //! | `session NAME` | a session begins |
 //! | `log ROLE` | the log of a role begins |
-//! | `sent LABEL TIME VAR=VALUE ..` | the role sent; `received` likewise |
+//! | `sent LABEL TIME VAR=VALUE ..` | the role sent; with `received`, it received |
 //! | `walk STEP ..` | the walk that is told, exactly where a role has no log |
 //!
 //! `specs/Spells.antt` says which logs bytes spell, and which line of others is wrong first. What is read is spelled, what is spelled is

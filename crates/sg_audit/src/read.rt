@@ -20,8 +20,8 @@ use sg_parse::{ParseFault, parse_graph};
 use sg_sched::{Words, is_skipped, line_content};
 use std::alloc::Global;
 
-/// The logs that the bytes spell, or the first wrong line from the top, lines counted from 1, and what is wrong with it. It reads each
-/// byte once and takes time in proportion to their number.
+/// The logs that the bytes spell, or the first wrong line from the top, lines counted from 1, and what is wrong with it; or out of
+/// memory. There are fewer than 4,294,967,295 bytes. It reads each byte once and takes time in proportion to their number.
 pub fn read_logs(alloc: Global, bytes: &[u8]) -> Result<Logs, LogFault>
     requires { length bytes.now + 1 < 2 ^ 32 }
     // What is read is spelled so.

@@ -21,7 +21,7 @@ use std::alloc::Global;
 use std::marker::Model;
 use std::mem;
 
-// There are at most so many events.
+// The greatest number of events.
 const MOST_EVENTS: u32 = 100_000;
 
 /// What the lines so far have said.
@@ -136,7 +136,7 @@ impl LogsReader {
         Ok(())
     }
 
-    /// Puts the last session, if there is one, behind those before it.
+    /// Puts the last session, if there is one, after those before it.
     pub fn close_session(&mut self) -> Result<(), OutOfMemory>
         ensures { OnOk result (self.new ≡ record { names = self.old.names; count = self.old.count; done = all_sessions self.old; name = None; logs = []; roles = []; role = None; events = []; walk = None }) }
     {
@@ -151,7 +151,7 @@ impl LogsReader {
         Ok(())
     }
 
-    // Puts the last log of the session, if there is one, behind those before it.
+    // Puts the last log of the session, if there is one, after those before it.
     fn close_log(&mut self) -> Result<(), OutOfMemory>
         ensures { OnOk result (self.new ≡ record { names = self.old.names; count = self.old.count; done = self.old.done; name = self.old.name; logs = all_logs self.old; roles = self.old.roles; role = None; events = []; walk = self.old.walk }) }
     {
@@ -255,7 +255,7 @@ impl LogsReader {
     }
 }
 
-// Whether the set has each of so many roles.
+// Whether the set has each role below `count`.
 fn have_all(roles: RoleSet, count: u8) -> bool
     ensures { result ≡ list_all (λ r. is_in r roles) (below count) }
 {

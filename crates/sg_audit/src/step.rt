@@ -70,7 +70,7 @@ fn bare_step(alloc: Global, graph: &Graph, word: &[u8]) -> Option<GivenStep>
     })
 }
 
-// A label, and what stands behind its `(`.
+// A label, and what stands after its `(`.
 fn written_step(
     alloc: Global,
     graph: &Graph,
@@ -91,7 +91,7 @@ fn written_step(
     }
 }
 
-// What a step writes, from behind its `(`.
+// What a step writes, after its `(`.
 fn read_written(
     alloc: Global,
     graph: &Graph,
@@ -139,7 +139,7 @@ fn read_writes(
     }
 }
 
-// The first part, and what stands behind its comma, if one ends it.
+// The first part, and what stands after its comma, if one ends it.
 fn split_part(bytes: &[u8]) -> (&[u8], Option<&[u8]>)
     ensures split { MatchOption result.1 (parts false bytes.now ≡ result.0.now ∷ []) (λ rest. parts false bytes.now ≡ result.0.now ∷ parts false rest.now) }
     ensures shorter { IfSome result.1 (λ rest. length rest.now < length bytes.now) }

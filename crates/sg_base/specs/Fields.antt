@@ -1,4 +1,4 @@
--- How a name is kept: its bytes, and zeros behind them.
+-- How a name is kept: its bytes, and zeros after them.
 use Rattle.std.specs.Prelude.{◌≡◌, ℕ, ◌-◌, ◌≤◌, List, ◌++◌, length, take, drop, replicate, IsTrue}
 use Rattle.sg_model.specs.Names.{is_name}
 use Rattle.sg_base.specs.declared.name.Name.TheInside.{Inside}

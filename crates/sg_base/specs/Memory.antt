@@ -28,7 +28,7 @@ counted p = record p { calls = one_more p.calls }
 abbrev pub failed : FaultPlan → FaultPlan
 failed p = record (counted p) { faults = one_more p.faults }
 
--- files in memory, each its name's bytes and its own
+-- files in memory, each as the bytes of its name and its own bytes
 pub record FilesHeld : Type 0 where
   pub files : List (List ℕ × List ℕ)
   pub plan : FaultPlan

@@ -11,11 +11,11 @@ pub record Cursor : Type 0 where
 abbrev pub field : Cursor → ℕ → List ℕ
 field p n = take n (drop p.at p.bytes)
 
--- the place behind the next n bytes
+-- the place after the next n bytes
 abbrev pub past : Cursor → ℕ → Cursor
 past p n = record { bytes = p.bytes; at = p.at + n }
 
--- n bytes are there and the place moves past them, or it stays and is answered
+-- n bytes are there and the place moves past them, or it stays and is the error
 pub record Moves {A : Type 0} (n : ℕ) (old new : Cursor) (result : Result A Short) : Type 0 where
   pub found : IsOk result ↔ (old.at + n ≤ length old.bytes)
   pub moved : OnOk result (new ≡ past old n)

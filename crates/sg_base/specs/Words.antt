@@ -29,7 +29,7 @@ number most word = if nat_lt 0 (length word) && not (has_needless_zero word) && 
 abbrev pub from_one : ℕ → Option ℕ
 from_one n = if nat_lt 0 n then Some n else None
 
--- so many bytes: two hexadecimal digits of either case for each, and nothing else
+-- `count` bytes: two hexadecimal digits of either case for each, and nothing else
 unfoldable pub hex_bytes : ℕ → List ℕ → Option (List ℕ)
 hex_bytes count word = result_ok (decode_sized word count)
 

@@ -14,7 +14,7 @@ pub struct Short {
     pub at: usize,
 }
 
-/// Reads the fields of a slice one after the other. A field that isn't there whole isn't passed, and its offset is answered. Nothing
+/// Reads the fields of a slice one after the other. A field that isn't there whole isn't passed, and its offset is the error. Nothing
 /// takes memory.
 #[derive(Debug, Drop)]
 pub struct ByteIn<'a> {

@@ -33,7 +33,7 @@ impl ByteOut {
         }
     }
 
-    /// The empty list, with room for so many bytes.
+    /// The empty list, with room for `count` bytes.
     pub fn with_room(alloc: Global, count: usize) -> Result<ByteOut, OutOfMemory>
         ensures { IfOk result (λ o. o ≡ []) }
     {

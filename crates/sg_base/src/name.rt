@@ -92,7 +92,7 @@ impl Name {
         }
     }
 
-    /// The name is a word that the graph text keeps for itself.
+    /// Whether the name is a word that the graph text reserves.
     pub fn reserved(&self) -> bool
         ensures { result ≡ has_text self.now reserved }
     {

@@ -34,7 +34,7 @@ pub trait Files {
     /// How often a call failed.
     ghost faults: { Self → ℕ };
 
-    /// The files, each its name's bytes and its own, where they are told.
+    /// The files, each as the bytes of its name and its own bytes, where they are told.
     ghost held: { Self → Option (List (List ℕ × List ℕ)) };
 
     /// The whole file of a name, of at most `max` bytes, or `None` where there is no such file. No call changes the files.
@@ -61,7 +61,7 @@ pub trait Sink {
     /// The bytes so far, where they are told.
     ghost written: { Self → Option (List ℕ) };
 
-    /// Takes the first bytes of a piece, and gives their number. To take none is a fault.
+    /// Takes the first bytes of a piece, and gives their number. Taking none is a fault.
     fn write(&mut self, piece: &[u8]) -> Result<usize, Failed>
         requires { 0 < length piece.now }
         ensures never_falls { faults self.old ≤ faults self.new }

@@ -28,21 +28,21 @@ impl Model for RoleSet {
 }
 
 impl RoleSet {
-    /// No role.
+    /// The empty set.
     pub fn empty() -> RoleSet
         ensures { result ≡ [] }
     {
         RoleSet(0)
     }
 
-    /// No role is in the set.
+    /// Whether no role is in the set.
     pub fn is_empty(&self) -> bool
         ensures { IsTrue result ↔ (self.now ≡ []) }
     {
         self.0 == 0
     }
 
-    /// The role is in the set. There are sixteen roles at most, so no other is.
+    /// Whether the role is in the set. A role that is not below 16 is in none.
     pub fn has(&self, role: Role) -> bool
         ensures { result ≡ is_in role self.now }
     {
@@ -80,21 +80,21 @@ impl Model for VarSet {
 }
 
 impl VarSet {
-    /// No variable.
+    /// The empty set.
     pub fn empty() -> VarSet
         ensures { result ≡ [] }
     {
         VarSet(0)
     }
 
-    /// No variable is in the set.
+    /// Whether no variable is in the set.
     pub fn is_empty(&self) -> bool
         ensures { IsTrue result ↔ (self.now ≡ []) }
     {
         self.0 == 0
     }
 
-    /// The variable is in the set. There are 32 variables at most, so no other is.
+    /// Whether the variable is in the set. A variable that is not below 32 is in none.
     pub fn has(&self, var: Var) -> bool
         ensures { result ≡ is_in var self.now }
     {

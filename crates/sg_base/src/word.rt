@@ -39,7 +39,7 @@ fn read_digits(word: &[u8], most: u64) -> Option<u64>
     Some(value)
 }
 
-// The number `value` with one digit more, if that is at most `most`.
+// The number `value` with one more digit, if that is at most `most`.
 fn next_value(value: u64, digit: u8, most: u64) -> Option<u64>
     requires { 48 ≤ digit }
     ensures { result ≡ up_to most (value * 10 + (digit - 48)) }

@@ -13,8 +13,8 @@ use thiserror::Error;
 /// The greatest number of pairs.
 const MOST_JOINS: usize = 65_536;
 
-/// The pairs of session and role that a principal has joined, in the order of joining, all different, at most 65,536. A clause
-/// sees them as a list, and besides how many further pairs need no memory.
+/// The pairs of session and role that a principal has joined, in the order of joining, all different, at most 65,536. A clause sees
+/// them as a list, with how many further pairs need no memory.
 #[derive(Debug, Drop)]
 pub struct Cache {
     joins: IndexSet<(Sid, Role)>,
@@ -48,7 +48,7 @@ pub enum ClaimFault {
 }
 
 impl Cache {
-    /// No pairs. It takes no memory.
+    /// A cache without pairs. It takes no memory.
     pub fn new(alloc: Global) -> Cache
         ensures { result.pairs ≡ [] }
     {
@@ -66,8 +66,9 @@ impl Cache {
         self.joins.reserve(1)
     }
 
-    /// Puts a pair at the end, and gives the ticket for it. Where room was made it takes no memory. After a refusal the pairs are
-    /// as before, and so is the room but where memory ran out.
+    /// Puts a pair at the end, and gives the ticket for it. Where room was made it takes no memory. Refused where the pair is
+    /// there, where 65,536 pairs are there, or where memory runs out. After a refusal the pairs are as before, and so is the room,
+    /// except where memory ran out.
     pub fn claim(&mut self, sid: Sid, role: Role) -> Result<Ticket, ClaimFault>
         ensures joined { (result ≡ Err ClaimFault.Joined) ↔ Contains self.old.pairs (sid, role) }
         ensures full { (result ≡ Err ClaimFault.CacheFull) ↔ ((¬ Contains self.old.pairs (sid, role)) × (length self.old.pairs ≡ most_joins)) }
@@ -89,7 +90,7 @@ impl Cache {
         }
     }
 
-    /// The pair is there. It takes no memory.
+    /// Whether the pair is there. It takes no memory.
     pub fn has(&self, sid: &Sid, role: Role) -> bool
         ensures { IsTrue result ↔ Contains self.now.pairs (sid.now, role) }
     {

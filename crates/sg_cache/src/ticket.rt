@@ -42,7 +42,7 @@ impl Ticket {
         self.role
     }
 
-    /// Spends the ticket, and gives its pair to what begins with it. It takes no memory.
+    /// Spends the ticket, and gives its pair to whatever begins with it. It takes no memory.
     pub fn spend(self) -> (Sid, Role)
         ensures { result ≡ self }
     {

@@ -95,7 +95,7 @@ fn put_walks(
     put_walk(out, graph, walk_b)
 }
 
-/// Whether no node blinds two roles. Which two walks a refusal has is free. It takes memory for them alone.
+/// Whether no node blinds two roles. Which two walks a refusal has is not specified. It takes memory for them alone.
 pub fn check_blinding(alloc: Global, graph: &Graph) -> Result<(), BlindFault>
     ensures ok { IsOk result ↔ Sighted (shape graph.now) }
     ensures refused { IfErr result (IsBlindFault (shape graph.now)) }

@@ -69,11 +69,11 @@ new_variable u v = record { name = inner_name u v.name; kind = v.kind; writers =
 abbrev pub new_node : Graph → Use → ℕ → Node
 new_node inner u x = record { name = inner_name u (node_name inner x); role = player u (role_at (shape inner) x) }
 
--- variables, where so many are there before
+-- variables, where this many are there before
 abbrev pub shifted : (variables : ℕ) → List ℕ → List ℕ
 shifted variables xs = set_of 32 (map (λ x. variables + x) xs)
 
--- an edge that is added, where so many variables and nodes are there before
+-- an edge that is added, where this many variables and nodes are there before
 abbrev pub new_edge : (variables nodes : ℕ) → Use → ℕ → Edge → Edge
 new_edge variables nodes u m e = record {
   name = inner_name u e.name;
@@ -95,7 +95,7 @@ new_nodes inner u m = map (new_node inner u) (inside inner m)
 abbrev pub new_edges : Graph → Graph → Use → ℕ → List Edge
 new_edges g inner u m = map (new_edge (length g.variables) (length g.nodes) u m) inner.edges
 
--- the graph with what the use adds, behind all that is there
+-- the graph with what the use adds, after all that is there
 abbrev pub with_use : Graph → Graph → Use → ℕ → Graph
 with_use g inner u m = record g {
   variables = g.variables ++ new_variables inner u;
@@ -162,7 +162,7 @@ all_used part graphs g (u ∷ us) = followed (extended part g (graph_at graphs u
 abbrev pub expanded : List Graph → Part → Result Graph ComposeFault
 expanded graphs p = all_used p.graph.name graphs p.graph p.uses
 
--- the expansions of parts behind those that expand to these graphs, or the first refusal
+-- the expansions of parts after those that expand to these graphs, or the first refusal
 abbrev pub expansions : List Graph → List Part → Result (List Graph) ComposeFault
 expansions graphs [] = Ok graphs
 expansions graphs (p ∷ ps) = followed (expanded graphs p) (λ g. expansions (graphs ++ g ∷ []) ps)

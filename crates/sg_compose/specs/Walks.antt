@@ -14,11 +14,11 @@ pub record Inset : Type 0 where
   pub nodes : ℕ
   pub edges : ℕ
 
--- the graph that is put in for a use, where so many nodes and edges are there before it
+-- the graph that is put in for a use, where this many nodes and edges are there before it
 abbrev pub inset : List Graph → (nodes edges : ℕ) → Use → Inset
 inset graphs nodes edges u = record { inner = graph_at graphs u.part; from = u.from; to = u.to; nodes = nodes; edges = edges }
 
--- the uses, where so many nodes and edges are there before; start and end of a graph that is put in are no nodes of their own
+-- the uses, where this many nodes and edges are there before; start and end of a graph that is put in are no nodes of their own
 abbrev pub insets : List Graph → (nodes edges : ℕ) → List Use → List Inset
 insets graphs nodes edges [] = []
 insets graphs nodes edges (u ∷ us) =

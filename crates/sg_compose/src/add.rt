@@ -11,7 +11,7 @@ use sg_graph::Graph;
 use sg_parse::Use;
 use std::alloc::Global;
 
-// Adds what the use puts in, which fits. Its names are new and there is room, so nothing but memory can be wanting.
+// Adds what the use puts in, which fits. Its names are new and there is room, so it fails only if memory runs out.
 pub fn add_use(
     alloc: Global,
     graph: &mut Graph,

@@ -16,8 +16,8 @@ use sg_parse::{Part, Use};
 use std::alloc::Global;
 
 /// The expansion of the last part, or the first refusal: parts in the order of the text, the uses of a part in their order, and the
-/// first cause that holds. Parts that the last one doesn't use are expanded and refused too. In proportion to the parts and their
-/// expansions; it takes memory for the expansions, which it keeps while it works.
+/// first cause that holds. Parts that the last one doesn't use are expanded and refused too. The time is in proportion to the parts
+/// and their expansions; it takes memory for the expansions, which it keeps while it works.
 pub fn expand(alloc: Global, parts: &[Part]) -> Result<Graph, ComposeFault>
     requires { AreParts parts.now }
     // The expansion, or the first refusal.
@@ -62,7 +62,7 @@ fn expand_part(alloc: Global, graphs: &[Graph], part: &Part) -> Result<Graph, Co
     Ok(graph)
 }
 
-// Adds a use of a part, or answers why it can't be.
+// Adds a use of a part, or gives the cause for which it can't be added.
 fn expand_use(
     alloc: Global,
     part: &Part,

@@ -1,7 +1,7 @@
 //! Graphs within graphs: uses of parts expanded to one graph.
 //!
 //! A part is put into a graph between two nodes: its start is one of them, and its end, the one node that no edge leaves, is the other.
-//! A role of the graph plays each of its roles. Its other nodes, its variables and its edges are added behind all that is there, with
+//! A role of the graph plays each of its roles. Its other nodes, its variables and its edges are added after all that is there, with
 //! the use's name and `_` in front of their own names. Parts are put in as they are expanded, so a part that is used may use parts.
 //!
 //! The walks of the expansion are those of the graph, with walks of the parts in the places of their uses.

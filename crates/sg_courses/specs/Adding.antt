@@ -27,7 +27,7 @@ pub record Begins (programs : List Program) (names : List Name) (cast : Cast) (r
   pub shown : c.shown ≡ []
   pub origins : AreOrigins [] c.origins
 
--- the course with one event more, beside a walk
+-- the course with one more event, beside a walk
 pub record Adds (old new : Course) (e : Event) (walk : List ℕ) : Type 0 where
   pub cast : new.cast ≡ old.cast
   pub graph : new.graph ≡ old.graph

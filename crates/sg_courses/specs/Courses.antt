@@ -13,7 +13,7 @@ pub record Course : Type 0 where
   pub shown : List (Event × List ℕ)
   pub origins : List (Option ℕ)
 
--- the programs, and the courses, each behind the sid of its session
+-- the programs, and the courses, each under the sid of its session
 pub record Courses : Type 0 where
   pub programs : List Program
   pub courses : List (List ℕ × Course)

@@ -25,6 +25,6 @@ pub record IsLast (Comes : Course → Course → Type 0) (programs : List Progra
   pub comes : Comes old new
   pub is_new : now ≡ before ++ (sid, new) ∷ []
 
--- where the role has a program, a course is put behind the others
+-- where the role has a program, a course is put after the others
 abbrev pub Begun : (Comes : Course → Course → Type 0) (programs : List Program) (names : List Name) (cast : Cast) (role : ℕ) (sid : List ℕ) (before now : List (List ℕ × Course)) → Type 0
 Begun Comes programs names cast role sid before now = (p : Program) → program_for programs cast.graph role ≡ Some p → IsLast Comes programs names cast role sid before now

@@ -29,7 +29,7 @@ use sg_walk::{Event, StoredWalk, role_of, sid_of};
 use std::alloc::{AllocError, Global};
 use std::marker::Model;
 
-/// The courses of the sessions that were met, in the order of their first events. A clause sees the programs, and each course behind
+/// The courses of the sessions that were met, in the order of their first events. A clause sees the programs, and each course under
 /// its sid.
 #[derive(Drop)]
 pub struct Courses<'r> {
@@ -48,7 +48,7 @@ impl<'r> Model for Courses<'r> {
 }
 
 impl<'r> Courses<'r> {
-    /// No sessions. It takes no memory.
+    /// Courses of no sessions. It takes no memory.
     pub fn new(alloc: Global, programs: &'r Programs) -> Courses<'r>
         ensures programs { result.programs ≡ programs.now }
         ensures begins { (s : Schedule) → AreCourses s [] result }
@@ -254,7 +254,7 @@ fn join<'r, H: Honest>(
     put_last(table, frame.sid, course)
 }
 
-// Puts the course of a session that has none behind the others.
+// Puts the course of a session that has none after the others.
 fn put_last<'r>(
     table: &mut IndexMap<Sid, Course<'r>>,
     sid: Sid,

@@ -104,7 +104,7 @@ pub zeros_in_range : (m : Means) (v : ℕ) (before : List Item) (cs : List Craft
 zeros_in_range m v before [] h = tt
 zeros_in_range m v before (c ∷ cs) h = (zero_in_range m v (λ t. (tag_made m c (commitments m.graph (before ++ plain_item m c ∷ [])) t).1) c h.0, zeros_in_range m v (before ++ item_after m before c ∷ []) cs h.1)
 
--- there are as many as are wanted
+-- there are as many as are asked for
 pub items_count : (m : Means) (before : List Item) (cs : List CraftItem) → length (items_after m before cs) ≡ length cs
 items_count m before [] = refl
 items_count m before (c ∷ cs) = ap suc (items_count m (before ++ item_after m before c ∷ []) cs)

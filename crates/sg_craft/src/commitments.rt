@@ -8,7 +8,7 @@ use sg_base::{Opening, OutOfMemory, Seq, Sid, Var};
 use sg_crypt::commit;
 use std::alloc::Global;
 
-/// No commitment for each of so many variables.
+/// No commitment, for each of `count` variables.
 pub fn none_yet(alloc: Global, count: u8) -> Result<Vec<Option<[u8; 32]>>, OutOfMemory>
     ensures { IfOk result (λ c. c.items ≡ replicate count None) }
 {
@@ -34,7 +34,7 @@ pub fn committed_to(
     Ok(delta)
 }
 
-/// Puts the commitments in, of two of one variable the first. A variable that has no place is left out.
+/// Puts the commitments in. Of two commitments of one variable, the first counts. A variable that has no place is left out.
 pub fn overwrite(current: &mut [Option<[u8; 32]>], delta: &[(Var, [u8; 32])])
     ensures { current.new ≡ with_first_pairs current.old delta.now }
 {

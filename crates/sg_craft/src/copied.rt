@@ -10,7 +10,7 @@ use sg_base::{OutOfMemory, Role, Seq, Tag};
 use sg_frame::{DecodeFault, Frame, decode};
 use std::alloc::{AllocError, Global};
 
-/// The recorded frame of a number, read, or `None` where there is none of it or its bytes are no frame.
+/// The recorded frame of a number, read, or `None` where there is no such frame or its bytes are no frame.
 pub fn frame_read(
     alloc: Global,
     frames: &[Seq<u8>],

@@ -8,7 +8,7 @@ use Rattle.sha2.specs.Hashers.{Holds256}
 use Rattle.sg_protocol.specs.Texts.{real, key_block, padded}
 use Rattle.sg_crypt.specs.declared.key.Key.TheInside.{Inside as KeyInside}
 
--- a cast of version 1 or 2, and behind its names the first again
+-- a cast of version 1 or 2, and after its names the first again
 pub record HoldsCast (c : Inside) : Type 0 where
   pub version : IsVersion c.version
   pub cast : IsCastOf c.version (cast_of c)

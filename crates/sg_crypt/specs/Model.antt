@@ -1,4 +1,4 @@
--- How a cast is kept: its names in sixteen places, the first again behind the last.
+-- How a cast is kept: its names in sixteen places, the first again after the last.
 use Rattle.std.specs.Prelude.{◌-◌, List, [], ◌++◌, length, take, replicate, slice_index_or}
 use Rattle.sg_model.specs.Names.{Name}
 use Rattle.sg_protocol.specs.Frame.{Cast}

@@ -106,7 +106,7 @@ impl Cast {
     }
 }
 
-// The names in sixteen places, the first again behind the last.
+// The names in sixteen places, the first again after the last.
 fn filled(names: &[Name]) -> [Name; 16]
     requires some { 2 ≤ length names.now }
     requires fits { length names.now ≤ 16 }

@@ -9,7 +9,7 @@ use sha2::{Digest, Sha256};
 use std::marker::Model;
 
 /// A key of 32 bytes, ready to tag: HMAC begins both of its hashes with a block that depends on the key alone, and these two blocks are
-/// hashed once, when the key is made (RFC 2104 section 4). It is seen as its bytes. It has no `Debug`, which would print them.
+/// hashed once, when the key is made (RFC 2104 section 4). A clause sees it as its bytes. It has no `Debug`, which would print them.
 #[derive(Drop)]
 pub struct Key {
     bytes: [u8; 32],

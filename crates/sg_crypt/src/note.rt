@@ -177,7 +177,8 @@ impl Notes {
         }
     }
 
-    /// Keeps the first so many of each list: what was noted after `counts` was asked for is gone. It takes no memory.
+    /// Cuts each list to at most the length that `counts` has for it: what was noted after these lengths were read is gone. It takes no
+    /// memory.
     pub fn keep(&mut self, counts: Counts)
         ensures { self.new ≡ record {
           made = take counts.made self.old.made;

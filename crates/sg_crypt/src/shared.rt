@@ -9,7 +9,7 @@ use std::alloc::Global;
 use std::marker::Model;
 use std::rc::Rc;
 
-/// A cast on the heap, which whoever holds it shares with others: neither moving nor sharing it copies its names. A clause sees it as the
+/// A cast on the heap, which several holders share: neither moving nor sharing it copies its names. A clause sees it as the
 /// cast.
 #[derive(Debug, Drop)]
 pub struct SharedCast {

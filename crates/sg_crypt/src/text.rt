@@ -23,7 +23,7 @@ const COMMITMENT_ROOM: usize = 33;
 // How many variables a graph has at most.
 const MOST_VARS: usize = 32;
 
-/// What the digest of a graph is of, with this canonical text.
+/// The text under the digest of a graph with this canonical text.
 pub fn graph_text(alloc: Global, text: &[u8]) -> Result<Vec<u8>, OutOfMemory>
     ensures value { IfOk result (λ t. t.items ≡ codes "sg-graph-1" ++ text.now) }
     ensures graph { IfOk result (λ t. (g : Graph) → text.now ≡ canonical g → t.items ≡ graph_text_of g) }
@@ -34,7 +34,7 @@ pub fn graph_text(alloc: Global, text: &[u8]) -> Result<Vec<u8>, OutOfMemory>
     Ok(out.done())
 }
 
-/// What the identifier of a session is of: the digest of its graph, its nonce, and its principals in the order of their roles.
+/// The text under the identifier of a session: the digest of its graph, its nonce, and its principals in the order of their roles.
 pub fn session_text(alloc: Global, cast: &Cast) -> Result<Vec<u8>, OutOfMemory>
     ensures { IfOk result (λ t. t.items ≡ session_text_of cast.now) }
 {
@@ -49,7 +49,7 @@ pub fn session_text(alloc: Global, cast: &Cast) -> Result<Vec<u8>, OutOfMemory>
     Ok(out.done())
 }
 
-/// What the commitment to a value in a session is of: the session, the variable, the confounder and the value.
+/// The text under the commitment to a value in a session: the session, the variable, the confounder and the value.
 pub fn commit_text(alloc: Global, sid: &Sid, opening: &Opening) -> Result<Vec<u8>, OutOfMemory>
     ensures { IfOk result (λ t. t.items ≡ commitment_text_of sid.now opening.now) }
 {
@@ -85,7 +85,7 @@ pub fn item_text(
     Ok(out.done())
 }
 
-// The room for an item's text with so many commitments.
+// The room for an item's text with `count` commitments.
 fn item_room(count: usize) -> usize {
     if count < MOST_VARS {
         ITEM_ROOM + COMMITMENT_ROOM * count
@@ -94,7 +94,7 @@ fn item_room(count: usize) -> usize {
     }
 }
 
-/// What the tag of a frame is of, with these bytes before the tag.
+/// The text under the tag of a frame with these bytes before the tag.
 pub fn frame_text(alloc: Global, version: u8, body: &[u8]) -> Result<Vec<u8>, OutOfMemory>
     requires { IsVersion version }
     ensures { IfOk result (λ t. t.items ≡ frame_text_of version body.now) }

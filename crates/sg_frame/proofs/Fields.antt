@@ -11,7 +11,7 @@ use Rattle.sg_base.specs.Reading as here
 use Rattle.sg_protocol.specs.Reading.{field, number, is_within, if_none_left}
 use Rattle.sg_frame.specs.Reads.{left}
 
--- so many bytes are left at the place
+-- n bytes are left at the place
 pub there : (n : ℕ) (p : Cursor) → p.at + n ≤ length p.bytes → nat_le n (length (left p)) ≡ true
 there n p h = le-leb n (length (left p)) (simp length-drop (omega arith))
 

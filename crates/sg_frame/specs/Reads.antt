@@ -16,12 +16,12 @@ abbrev pub StopsWith : {A : Type 0} → FrameStop → Result (Read A) ℕ → Ty
 StopsWith OutOfMemory read = Unit {0}
 StopsWith (Malformed at) read = read ≡ Err at
 
--- what was read is, seen so, what the definition reads, and the place stands behind it
+-- what was read is, seen so, what the definition reads, and the place stands after it
 abbrev pub ReadsSeen : {X A : Type 0} → (X → A) → Reader A → Cursor → Cursor → Result X FrameStop → Type 0
 ReadsSeen view reader old new (Ok x) = reader old.at (left old) ≡ Ok (record { value = view x; at = new.at; rest = left new })
 ReadsSeen view reader old new (Err e) = StopsWith e (reader old.at (left old))
 
--- what was read is what the definition reads, and the place stands behind it
+-- what was read is what the definition reads, and the place stands after it
 abbrev pub Reads : {A : Type 0} → Reader A → Cursor → Cursor → Result A FrameStop → Type 0
 Reads reader old new result = ReadsSeen (λ x. x) reader old new result
 

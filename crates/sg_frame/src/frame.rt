@@ -4,7 +4,7 @@ use sg_base::{Opening, Role, Seq, Sid, Tag};
 use sg_crypt::SharedCast;
 use std::marker::Model;
 
-/// What one role of a session sends to another. With its cast it joins, without it continues.
+/// What one role of a session sends to another. With its cast it joins; without it, it continues.
 #[derive(Debug, Drop)]
 pub struct Frame {
     /// The version of the texts under its tags, 1 or 2.
@@ -19,7 +19,7 @@ pub struct Frame {
     pub join: Option<SharedCast>,
     /// What the sender has seen of the session, at least one item; the last is its own step.
     pub items: Seq<Item>,
-    /// Of variables that rise strictly.
+    /// The openings, of variables that rise strictly.
     pub openings: Seq<Opening>,
     /// The tag of the whole frame. In version 2 its last sixteen bytes are zero, and are not sent.
     pub tag: Tag,

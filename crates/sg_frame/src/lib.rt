@@ -1,8 +1,8 @@
 //! The frame codec, in both versions.
 //!
 //! One spelling for each frame, and for any bytes at all either the frame that they spell or the offset of the first field that is
-//! wrong. Numbers stand with the high byte first. Reading is one pass, takes memory in proportion to the bytes, and makes nothing of
-//! more than 60,000 bytes.
+//! wrong. Numbers stand with the high byte first. Reading is one pass, takes memory in proportion to the bytes, and refuses more
+//! than 60,000 bytes.
 #![tactic(auto)]
 
 mod cast;

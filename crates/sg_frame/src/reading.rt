@@ -13,7 +13,7 @@ use crate::{cast, field, item, opening};
 use sg_base::{ByteIn, Role, Sid};
 use std::alloc::Global;
 
-/// The frame that the bytes spell, all of them.
+/// The frame that the bytes spell, all of them, or the offset of the first field that is wrong. More than 60,000 bytes are refused.
 pub fn decode(alloc: Global, bytes: &[u8]) -> Result<Frame, DecodeFault>
     // The frame, or the offset of the first field that is wrong.
     ensures exact { MatchResult result (λ f. read bytes.now ≡ Ok f) (Refuses (read bytes.now)) }
@@ -32,7 +32,7 @@ pub fn decode(alloc: Global, bytes: &[u8]) -> Result<Frame, DecodeFault>
     }
 }
 
-// A frame, and nothing behind it.
+// A frame, and nothing after it.
 fn read_whole(alloc: Global, bytes: &[u8]) -> Result<Frame, FrameStop>
     ensures { Ends (whole (after read_version read_frame_of 0 bytes.now)) result }
 {

@@ -12,7 +12,7 @@ use sg_base::{ByteOut, Opening, OutOfMemory, Role, Tag, Var};
 use sg_crypt::{Cast, SharedCast, put_name, put_opening};
 use std::alloc::Global;
 
-// Room that a frame has at once; a longer one takes more.
+// The room that a frame gets at first; a longer one takes more.
 const ROOM: usize = 256;
 
 /// The one spelling of a frame.

@@ -1,4 +1,4 @@
--- Sets whose numbers are there, as a variable and an edge want them.
+-- Sets whose numbers are there, as a variable and an edge need them.
 use Rattle.std.proofs.Common.{◌≡◌, ℕ, zero, suc, ◌+◌, ◌<◌, ◌≤◌, ◌==◌, nat_le, nat_lt, Bool, true, false, ◌||◌, List, [], ◌∷◌, filter, length, refl, ◌∙◌, inl, inr, arith}
 use Rattle.std.specs.List.{list_all}
 use Rattle.std.proofs.lemmas.Bool.{eq-eqb, cases_Bool, and_parts}

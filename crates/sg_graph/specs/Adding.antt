@@ -1,4 +1,4 @@
--- Graphs with one part more.
+-- Graphs with one more part.
 use Rattle.std.specs.Prelude.{◌≡◌, ℕ, ◌↔◌, false, List, [], ◌∷◌, ◌++◌, length, IsTrue, Result, Err, IfOk, OnOk, OnErr}
 use Rattle.sg_model.specs.Lists.{has_text}
 use Rattle.sg_protocol.specs.Graph.{Graph, Name, Variable, Node, Edge}
@@ -9,23 +9,24 @@ use Rattle.sg_graph.specs.declared.graph.adding.AddFault.TheVariants.{Twice, Too
 abbrev pub no_parts : Name → Graph
 no_parts name = record { name = name; roles = []; variables = []; nodes = []; edges = [] }
 
--- the graph with one role more
+-- the graph with one more role
 abbrev pub with_role : Graph → Name → Graph
 with_role g name = record g { roles = g.roles ++ name ∷ [] }
 
--- the graph with one variable more
+-- the graph with one more variable
 abbrev pub with_variable : Graph → Variable → Graph
 with_variable g v = record g { variables = g.variables ++ v ∷ [] }
 
--- the graph with one node more
+-- the graph with one more node
 abbrev pub with_node : Graph → Node → Graph
 with_node g n = record g { nodes = g.nodes ++ n ∷ [] }
 
--- the graph with one edge more
+-- the graph with one more edge
 abbrev pub with_edge : Graph → Edge → Graph
 with_edge g e = record g { edges = g.edges ++ e ∷ [] }
 
--- a part is added behind the others of its kind and its number answered; or one of them has its name, or they are as many as the limit, and the graph stays
+-- a part is added after the others of its kind, and its number is the result; or one of them has its name, or there are as many as the limit, and
+-- the graph stays as it was
 pub record Adds (names : List Name) (limit : ℕ) (name : Name) (old new with_part : Graph) (result : Result ℕ AddFault) : Type 0 where
   pub number : IfOk result (λ n. n ≡ length names)
   pub added : OnOk result (new ≡ with_part)

@@ -4,8 +4,8 @@
 //! along an edge, whose number is its label, to the role of the node that the edge leads to. With an edge goes what is written before
 //! it is sent and what is read when it is received; with a variable, which roles may write it.
 //!
-//! What a graph must be to be compiled, as that each node can be reached, isn't asked here: a graph is only ever whole, with names that
-//! differ within each kind and with numbers that are there.
+//! What a graph must be to be compiled, such as that each node can be reached, isn't asked here: a graph is only ever whole, with names
+//! that differ within each kind and with numbers that are there.
 #![tactic(auto)]
 
 mod edge;

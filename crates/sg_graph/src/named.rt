@@ -1,4 +1,4 @@
-//! Names of what a graph has by number, written behind what is there.
+//! Names of what a graph has by number, appended to what is there.
 ghost use Rattle.std.specs.Prelude.{◌≡◌, ◌++◌, ◌∷◌, OnOk};
 ghost use Rattle.sg_protocol.specs.Graph.{role_name, variable_name, node_name};
 ghost use Rattle.sg_graph.specs.Named.{place_text, walk_text};

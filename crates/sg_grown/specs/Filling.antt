@@ -38,7 +38,7 @@ given (Started sid r) later x = later x
 given (Sent sid r label time values) later x = later x
 given (Received sid r label time values joins) later x = option_or (value_at values x) (later x)
 
--- what is found, but for the variables that the steps write
+-- what is found, except for the variables that the steps write
 abbrev pub unless_written : List StoredStep → (ℕ → Option Value) → ℕ → Option Value
 unless_written steps found x = if is_written x steps then None else found x
 

@@ -4,9 +4,10 @@
 //! walk's steps since the receiver's own last one, those after the last one of an honest sender are added, and what they write is hidden.
 //! Each value that was received is filled in at the last step that writes its variable, where it is hidden there.
 //!
-//! Such walks are in the role's table of views: `view_example` finds the one beside the view that a frame shows, which begins with the own
-//! last label that `Origins` has. Whichever walks are given, in a run in which the premises hold the walk that is made is one path of the
-//! session's events: `sessions_are_grown` says it of all its steps, and `courses_are_grown` of a session that is gone through step by step.
+//! Such walks are in the role's table of views: `view_example` finds the one beside the view that a frame shows, which begins with the
+//! receiver's own last label, which `Origins` has. Whichever walks are given, in a run in which the premises hold the walk that is made is
+//! one path of the session's events: `sessions_are_grown` says it of all its steps, and `courses_are_grown` of a session that is gone
+//! through step by step.
 //!
 //! The pass goes from the last event to the first, and keeps for each variable the value of the earliest receipt since. A step that
 //! writes the variable takes what is kept, if its own value is hidden, and then nothing is kept for it. So each step is made once, and

@@ -38,7 +38,7 @@ impl Origins {
         }
     }
 
-    /// The own last label of a role, or the start, also for a role that isn't one of the sixteen.
+    /// The last label that a role sent, or the start, also for a role that isn't one of the sixteen.
     pub fn of(&self, role: Role) -> Origin
         ensures { origin_of result ≡ get_or self.now role None }
     {

@@ -80,7 +80,7 @@ head_from _ _ _ = None
 abbrev pub is_head_key : List ℕ → Bool
 is_head_key k = (bytes_eq k (codes "me") || bytes_eq k (codes "listen")) || bytes_eq k (codes "peer")
 
--- a table with exactly the own name, an address, and maybe a list of tables
+-- a table with exactly the principal's own name, an address, and maybe a list of tables
 unfoldable pub head_of : Members → Option Head
 head_of table =
     if has_keys_alone is_head_key table

@@ -17,9 +17,9 @@ use toml::{Table, Value};
 /// Why a key file can't be read: the fault of the first entry that has one. The head is entry 0, and peers are counted from 1.
 #[derive(Debug, Clone, Copy, PartialEq, Eq)]
 pub enum KeyFault {
-    /// The bytes are no TOML.
+    /// The bytes are not TOML.
     NotToml,
-    /// The entry lacks a key, has one that it may not have, or has a value there that is no such thing. A `peer` that is no list of
+    /// A key of the entry is missing, is not allowed, or has a value that isn't what it must be. A `peer` that isn't a list of
     /// tables is a fault of the head.
     BadEntry {
         /// The entry's number: 0 for the head, and from 1 on for the peers in order.
@@ -71,8 +71,8 @@ struct PeerEntry {
 impl Keyring {
     ghost use Rattle.sg_protocol.specs.Keyring.{Keyring};
 
-    /// The keyring that the bytes of a key file spell. The head is looked at first, then each peer in order, for a bad entry and then
-    /// for a name that is there.
+    /// The keyring that the bytes of a key file spell, or the first fault. The head is looked at first, then each peer in order, for
+    /// a bad entry and then for a name that is there.
     pub fn from_toml(alloc: Global, bytes: &[u8]) -> Result<Keyring, KeyFault>
         ensures spelled { IfOk result (SpellsKeys bytes.now) }
         ensures each { (keys : Keyring) → SpellsKeys bytes.now keys → (result ≡ Ok keys) ⊎ (result ≡ Err KeyFault.OutOfMemory) }

@@ -68,7 +68,8 @@ impl Keyring {
         }
     }
 
-    /// Adds a peer as the last one. After a refusal the keyring is as before.
+    /// Adds a peer as the last one. Refused where the name is the principal's own or a peer's, or where memory runs out; then the
+    /// keyring is as before.
     pub fn add(&mut self, peer: Name, addr: Addr, key: [u8; 32]) -> Result<(), PeerFault>
         ensures twice { (result ≡ Err PeerFault.Twice) ↔ IsTrue (has_text peer (names_of self.old)) }
         ensures added { OnOk result (self.new ≡ with_peer self.old peer addr key) }
@@ -106,7 +107,7 @@ impl Keyring {
         self.listen
     }
 
-    /// The key shared with a peer. It takes no memory.
+    /// The key shared with a peer, or `None` where no peer has the name. It takes no memory.
     pub fn key(&self, peer: &Name) -> Option<&[u8; 32]>
         ensures { option_copied result ≡ key_of self.now peer.now }
     {
@@ -116,7 +117,7 @@ impl Keyring {
         }
     }
 
-    /// The key shared with a peer, ready to tag. It takes no memory.
+    /// The key shared with a peer, ready to tag, or `None` where no peer has the name. It takes no memory.
     pub fn ready_key(&self, peer: &Name) -> Option<&Key>
         ensures { option_copied result ≡ key_of self.now peer.now }
     {
@@ -126,7 +127,7 @@ impl Keyring {
         }
     }
 
-    /// Where a peer is. It takes no memory.
+    /// Where a peer is, or `None` where no peer has the name. It takes no memory.
     pub fn addr(&self, peer: &Name) -> Option<Addr>
         ensures { result ≡ addr_of self.now peer.now }
     {
@@ -136,7 +137,7 @@ impl Keyring {
         }
     }
 
-    /// The first principal of a cast in role order, other than this one, with whom no key is shared. It takes no memory.
+    /// The first principal of a cast in role order, other than this one, with whom no key is shared, if there is one. It takes no memory.
     pub fn covers(&self, cast: &Cast) -> Option<Name>
         ensures { result ≡ stranger self.now cast.now }
     {

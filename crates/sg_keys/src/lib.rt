@@ -15,7 +15,7 @@
 //! key = "1111111111111111111111111111111111111111111111111111111111111111"
 //! ```
 //!
-//! with exactly these keys. There may be no `peer` at all. What stands at a key of a table, `text_at`, `name_at` and `tables_at` read for
+//! with exactly these keys. There may be no `peer` at all. `text_at`, `name_at` and `tables_at` read what stands at a key of a table, for
 //! scripts too.
 #![tactic(auto)]
 

@@ -12,7 +12,7 @@ use crate::word::read_address;
 use sg_base::{Addr, Name, read_hex};
 use toml::{Table, Value};
 
-/// The text at a key.
+/// The text at a key, or `None` where there is none.
 pub fn text_at<'a>(table: &'a Table, key: &str) -> Option<&'a str>
     ensures { option_map (λ s. s.now) result ≡ text_at key.now (table_view table.now) }
 {
@@ -22,7 +22,7 @@ pub fn text_at<'a>(table: &'a Table, key: &str) -> Option<&'a str>
     }
 }
 
-/// The name that the text at a key spells.
+/// The name that the text at a key spells, or `None` where it spells none.
 #[tactic(auto, unfolding(sg_base::specs::Words::name))]
 pub fn name_at(table: &Table, key: &str) -> Option<Name>
     ensures { result ≡ at name key.now (table_view table.now) }
@@ -56,7 +56,7 @@ fn is_peer_key(key: &str) -> bool
     key == "name" || key == "addr" || key == "key"
 }
 
-/// Each key of the table is one of the head.
+/// Whether each key of the table is one of the head.
 pub(crate) fn has_head_keys_alone(table: &Table) -> bool
     ensures { result ≡ has_keys_alone is_head_key (table_view table.now) }
 {
@@ -69,7 +69,7 @@ fn are_head_keys(table: &Table) -> bool
     table.keys().all(|key| is_head_key(key.as_str()))
 }
 
-/// Each key of the table is one of a peer.
+/// Whether each key of the table is one of a peer.
 pub(crate) fn has_peer_keys_alone(table: &Table) -> bool
     ensures { result ≡ has_keys_alone is_peer_key (table_view table.now) }
 {

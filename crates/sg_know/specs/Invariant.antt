@@ -2,7 +2,7 @@
 use Rattle.sg_know.specs.States.{IsTable, AreInOrder}
 use Rattle.sg_know.specs.declared.states.States.TheInside.{Inside}
 
--- the table is right, and each state was come to from an earlier one
+-- the table is right, and each state was reached from an earlier one
 pub record HoldsStates (s : Inside) : Type 0 where
   pub table : IsTable s.list.items s.places.items
   pub order : AreInOrder s.list.items

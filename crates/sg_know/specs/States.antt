@@ -24,7 +24,7 @@ known_if false = Unknown
 abbrev pub mark_of : Bool → Bool → Mark
 mark_of written known = if written then known_if known else Unwritten
 
--- the mark after one edge more: a write makes earlier knowledge void
+-- the mark after one more edge: a write makes earlier knowledge void
 abbrev pub mark_after : Bool → Bool → Mark → Mark
 mark_after true learns m = known_if learns
 mark_after false learns Unwritten = Unwritten
@@ -38,7 +38,7 @@ state_after g r x walk = record {
   mark = mark_of (list_any (λ e. is_in x (writes g e)) walk) (knows g r x walk);
 }
 
--- the state after one edge more
+-- the state after one more edge
 abbrev pub state_along : Graph → ℕ → ℕ → ℕ → WalkState → WalkState
 state_along g r x e s = record {
   node = target (shape g) e;
@@ -55,7 +55,7 @@ begin = record { state = record { node = 0; mark = Unwritten }; by = None }
 abbrev pub state_at : List Reached → ℕ → WalkState
 state_at states i = (get_or states i begin).state
 
--- the edge by which the state at a place was come to, with the place that it came from
+-- the edge by which the state at a place was reached, with the place that it came from
 abbrev pub step_at : List Reached → ℕ → Option Arrival
 step_at states i = (get_or states i begin).by
 
@@ -91,7 +91,7 @@ pub record IsClosure (g : Graph) (r x : ℕ) (states : List Reached) : Type 0 wh
   pub reached : AreReached g r x states
   pub whole : (walk : List ℕ) → Walk (shape g) 0 walk → Has states (state_after g r x walk)
 
--- the labels by which the state at a place was come to
+-- the labels by which the state at a place was reached
 pub data IsPath (states : List Reached) : ℕ → List ℕ → Type 0 where
   Begins : {i : ℕ} → step_at states i ≡ None → IsPath states i []
   Goes : {i : ℕ} {s : Arrival} {labels : List ℕ} → step_at states i ≡ Some s → IsPath states s.from labels → IsPath states i (labels ++ s.label ∷ [])
@@ -136,6 +136,6 @@ pub record IsTable (states : List Reached) (places : List (Option ℕ)) : Type 0
   pub right : (k : ℕ) → IfSome (get_or places k None) (λ i. (i < length states) × (key_of (state_at states i) ≡ k))
   pub count : count_by is_some places ≡ length states
 
--- each state but those of the start was come to from an earlier one
+-- each state but those of the start was reached from an earlier one
 abbrev pub AreInOrder : List Reached → Type 0
 AreInOrder states = (i : ℕ) → i < length states → IfSome (step_at states i) (λ s. s.from < i)

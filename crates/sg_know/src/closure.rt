@@ -66,7 +66,7 @@ fn follow(
     Ok(())
 }
 
-/// The state after one edge more.
+/// The state after one more edge.
 fn along(graph: &Graph, role: Role, var: Var, label: Label, state: &WalkState) -> WalkState
     requires { label < length graph.now.edges }
     ensures state { result ≡ state_along graph.now role var label state.now }
@@ -81,7 +81,7 @@ fn along(graph: &Graph, role: Role, var: Var, label: Label, state: &WalkState) -
     }
 }
 
-/// The mark after one edge more.
+/// The mark after one more edge.
 pub(crate) fn mark_along(graph: &Graph, role: Role, var: Var, label: Label, mark: Mark) -> Mark
     requires { label < length graph.now.edges }
     ensures { result ≡ mark_after (is_in var (writes graph.now label)) (learns graph.now role var label) mark }

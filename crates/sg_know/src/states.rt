@@ -24,21 +24,21 @@ pub(crate) struct WalkState {
     pub mark: Mark,
 }
 
-/// The edge by which a state was come to, and the place of the state that it came from.
+/// The edge by which a state was reached, and the place of the state before it.
 #[derive(Debug, Clone, Copy)]
 pub(crate) struct Arrival {
     pub from: usize,
     pub label: Label,
 }
 
-/// A state, and how it was come to: that of the empty walk by no step.
+/// A state, and how it was reached: that of the empty walk by no step.
 #[derive(Debug, Clone, Copy)]
 pub(crate) struct Reached {
     pub state: WalkState,
     pub by: Option<Arrival>,
 }
 
-/// States, each once, in the order in which they were come to. There are 256 nodes and three marks at most.
+/// States, each once, in the order in which they were reached. There are 256 nodes and three marks at most.
 #[derive(Drop)]
 pub(crate) struct States {
     list: Vec<Reached>,
@@ -87,7 +87,7 @@ impl States {
         self.list[place].state
     }
 
-    /// The edge by which the state at a place was come to, from an earlier one.
+    /// The edge by which the state at a place was reached, from an earlier one.
     fn step(&self, place: usize) -> Option<Arrival>
         requires { place < length self.now }
         ensures step { result ≡ step_at self.now place }
@@ -121,7 +121,7 @@ impl States {
         self.places[key_of_state(state)]
     }
 
-    /// The labels of the walk by which the state at a place was come to.
+    /// The labels of the walk by which the state at a place was reached.
     pub(crate) fn path(&self, alloc: Global, place: usize) -> Result<Vec<Label>, OutOfMemory>
         requires { place < length self.now }
         ensures { IfOk result (λ labels. IsPath self.now place labels.items) }

@@ -6,7 +6,7 @@ use Rattle.sg_ledger.specs.declared.ledger.OpenFault.{OpenFault}
 use Rattle.sg_ledger.specs.declared.ledger.OpenFault.TheVariants.{NotALedger, BadSlot, Failed, OutOfMemory}
 use Rattle.sg_ledger.proofs.SlotBySlot.{stands_not_bad}
 
--- none but for the disk and memory
+-- none except for the disk and memory
 pub no_refusal : (file : List ℕ) (joins : List Join) (e : OpenFault) → StandsFor file joins → Refuses file e → (e ≡ Failed) ⊎ (e ≡ OutOfMemory)
 no_refusal file joins NotALedger stands refused = absurd (refused stands.ledger)
 no_refusal file joins (BadSlot slot) stands refused = absurd (stands_not_bad file joins slot stands refused.1)

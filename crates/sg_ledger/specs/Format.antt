@@ -31,12 +31,12 @@ pairs_of file (suc n) = pairs_of file n ++ pair_of (slot_of file n) ∷ []
 abbrev pub IsLedger : List ℕ → Type 0
 IsLedger file = (length file ≡ 2228232) × (take 8 file ≡ magic)
 
--- a ledger with nothing but zeros behind its head
+-- a ledger with nothing but zeros after its head
 abbrev pub IsBlank : List ℕ → Type 0
 IsBlank file = IsLedger file × All (λ b. b ≡ 0) (drop 8 file)
 
--- The first slots of a file stand for joins: so many gates are open, all before those that are not, and behind them stand the
--- pairs in order, which all differ and whose roles are below 16.
+-- The first `count` slots of a file stand for joins: as many gates are open as there are joins, all before those that are not, and
+-- behind them stand the pairs in order, which all differ and whose roles are below 16.
 pub record SlotsStandFor (file : List ℕ) (count : ℕ) (joins : List Join) : Type 0 where
   pub fits : length joins ≤ count
   pub gates : (n : ℕ) → n < length joins → IsOpen (slot_of file n)

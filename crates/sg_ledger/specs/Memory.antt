@@ -46,7 +46,7 @@ Leaves from (tear ∷ tears) image = (next : List ℕ) × Torn tear.0 tear.1 fro
 abbrev pub IsImage : Platter → List ℕ → Type 0
 IsImage p image = (image ≡ p.seen) ⊎ Leaves p.synced p.tears image
 
--- so many bytes of a list, and zeros where it ends
+-- `count` bytes of a list, and zeros where it ends
 abbrev pub padded : ℕ → List ℕ → List ℕ
 padded count picks = take count picks ++ replicate (count - length picks) 0
 
@@ -59,8 +59,8 @@ abbrev pub picked : List ℕ → List (ℕ × ℕ) → List ℕ → List ℕ
 picked image [] picks = image
 picked image (tear ∷ tears) picks = picked (torn_by image tear picks) tears (drop tear.1 picks)
 
--- The bytes that it was made with, its calls so far, all bytes that these wrote, and its room: so many bytes in the file and so many
--- written, and so many calls.
+-- The bytes that it was made with, its calls so far, all bytes that these wrote, and its room: for `room` bytes in the file and as
+-- many written, and for `most` calls.
 pub record Medium : Type 0 where
   pub start : List ℕ
   pub calls : List DiskCall
@@ -78,7 +78,7 @@ platter m = after_calls (at_rest m.start) m.calls m.written
 abbrev pub LeftSince : Medium → ℕ → List ℕ → Type 0
 LeftSince m t image = (k : ℕ) × (t ≤ k) × (k ≤ length m.calls) × IsImage (platter_at m k) image
 
--- with one call more
+-- with one more call
 abbrev pub with_call : Medium → DiskCall → List ℕ → Medium
 with_call m call bytes = record {
   start = m.start;

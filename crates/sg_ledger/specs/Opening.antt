@@ -18,7 +18,7 @@ Refuses file (BadSlot slot) = IsLedger file × IsFirstBadSlot file slot
 Refuses file Failed = ⊤
 Refuses file OutOfMemory = ⊤
 
--- Opened are these joins, and there is no refusal but for a disk that failed or for lack of memory.
+-- These joins are opened, and the only refusals are that the disk failed or that memory ran out.
 abbrev pub Opens : Result Opened OpenFault → List Join → Type 0
 Opens result joins =
     (IfOk result (λ ledger. ledger.joins ≡ joins)) × (IfErr result (λ e. (e ≡ Failed) ⊎ (e ≡ OutOfMemory)))

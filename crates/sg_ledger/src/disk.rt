@@ -31,7 +31,7 @@ pub trait Disk {
     /// The bytes of the file as a read gives them, where they are told.
     ghost seen: { Self → Option (List ℕ) };
 
-    /// The images: what a crash at this moment may leave of the file. Where none is told there is none.
+    /// The images: what a crash at this moment may leave of the file. Where nothing is told, there is no image.
     ghost may_leave: { Self → List ℕ → Type 0 };
 
     /// The moment, a number that doesn't fall.
@@ -57,7 +57,7 @@ pub trait Disk {
         ensures images { Keeps (may_leave self.old) (may_leave self.new) }
         ensures time { Elapses (moment self.old) (moment self.new) (left_since self.old) (left_since self.new) (may_leave self.new) };
 
-    /// So many bytes from an offset on.
+    /// The `count` bytes from the offset `at` on.
     fn read(&mut self, alloc: Global, at: u32, count: u32) -> Result<Vec<u8>, DiskFault>
         requires { WhereTold (seen self.old) (λ file. at + count ≤ length file) }
         ensures never_falls { faults self.old ≤ faults self.new }

@@ -90,7 +90,8 @@ impl Model for Ledger {
 
 impl Ledger {
     /// Makes a ledger of an empty file: the head and closed gates. It is made once this has answered Ok; after a crash before that
-    /// the file is to be removed.
+    /// the file is to be removed. Refused where the file has bytes, where the disk fails, or where memory runs out; unless the disk
+    /// failed, the file is then as before.
     pub fn create<D: Disk>(alloc: Global, disk: &mut D) -> Result<(), CreateFault>
         ensures never_falls { D.faults disk.old ≤ D.faults disk.new }
         ensures failed { result ≡ Err CreateFault.Failed → HasRisen (D.faults disk.old) (D.faults disk.new) }
@@ -119,8 +120,9 @@ impl Ledger {
         }
     }
 
-    /// Opens a ledger: brings to the disk what a read gives, and reads the joins. It writes nothing. Whatever image a crash has left,
-    /// it gives the joins that the image stands for.
+    /// Opens a ledger: brings to the disk what a read gives, and reads the joins. It writes nothing. Refused where the bytes are no
+    /// ledger, where a slot is bad, where the disk fails, or where memory runs out. Whatever image a crash has left, it gives the
+    /// joins that the image stands for.
     pub fn open<D: Disk>(alloc: Global, disk: &mut D) -> Result<Ledger, OpenFault>
         ensures never_falls { D.faults disk.old ≤ D.faults disk.new }
         ensures failed { result ≡ Err OpenFault.Failed → HasRisen (D.faults disk.old) (D.faults disk.new) }
@@ -160,16 +162,17 @@ impl Ledger {
         self.joins.as_slice()
     }
 
-    /// A call of `add` has answered `Failed`. It takes no memory.
+    /// Whether a call of `add` has answered `Failed`. It takes no memory.
     pub fn failed(&self) -> bool
         ensures { result ≡ self.now.failed }
     {
         self.failed
     }
 
-    /// Adds a join, as the last one: room in memory, the pair behind a closed gate, a sync, the gate, a sync. From its Ok on every
-    /// image has the pair. After `Failed` the ledger has failed, and the disk is to be opened again; after another refusal ledger
-    /// and disk are as before.
+    /// Adds a join, as the last one: room in memory, the pair behind a closed gate, a sync, the gate, a sync. Once it has answered
+    /// Ok, every image has the pair. Refused where the pair is there, where 65,536 pairs are there, where the disk fails, or where
+    /// memory runs out. After `Failed` the ledger has failed, and is to be opened again; after another refusal ledger and disk are
+    /// as before.
     pub fn add<D: Disk>(&mut self, disk: &mut D, sid: Sid, role: Role) -> Result<(), AddJoinFault>
         requires role { role < 16 }
         requires working { self.old.failed ≡ false }
@@ -261,7 +264,7 @@ fn read_file<D: Disk>(alloc: Global, disk: &mut D) -> Result<Vec<u8>, OpenFault>
     }
 }
 
-// Writes a pair behind the joins of a file, and then opens its gate.
+// Writes a pair after the joins of a file, and then opens its gate.
 fn write_join<D: Disk>(
     disk: &mut D,
     joins: &IndexSet<(Sid, Role)>,

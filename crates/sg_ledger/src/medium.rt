@@ -13,7 +13,7 @@ use std::marker::Model;
 pub enum DiskCall {
     /// One that changed nothing.
     Kept,
-    /// A write of so many bytes from an offset on.
+    /// A write of `count` bytes from the offset `at` on.
     Wrote {
         /// The offset.
         at: u32,
@@ -80,7 +80,7 @@ impl Medium {
         self.bytes.as_slice()
     }
 
-    // So many bytes from an offset on fit, and so many more may be written.
+    // `count` bytes from the offset `at` on fit, and `count` more may be written.
     pub(crate) fn has_room_for(&self, at: u32, count: usize) -> bool
         ensures { result ≡ (nat_le (at + count) self.now.room && nat_le (length self.now.written + count) self.now.room) }
     {

@@ -15,10 +15,10 @@ use std::marker::Model;
 
 /// A disk in memory with one file, which is empty at first. It tells its file and its images at each moment, by a record of its calls.
 ///
-/// It has room for so many bytes in the file and as many written in all, and for so many calls, and doesn't grow. Its calls are
-/// counted from 1. Those of a given list fail; a write among them leaves its range to chance. After a given number of calls it stops,
-/// as where the power is gone: every later call fails, and none reaches the disk. So does a call for which the record has no room; a
-/// write past the room of bytes fails and leaves the file as it was.
+/// It has room for a given number of bytes in the file and as many written in all, and for a given number of calls, and doesn't grow.
+/// Its calls are counted from 1. Those of a given list fail; a write among them leaves its range to chance. After a given number of
+/// calls it stops, as when the power fails: every later call fails, and none reaches the disk. So does a call for which the record
+/// has no room; a write past the room of bytes fails and leaves the file as it was.
 #[derive(Debug, Drop)]
 pub struct MemDisk {
     medium: Medium,
@@ -34,8 +34,8 @@ impl Model for MemDisk {
 }
 
 impl MemDisk {
-    /// An empty disk with room for so many bytes and calls, the numbers of the calls that are to fail, and the number of calls after
-    /// which every call fails.
+    /// An empty disk with room for `room` bytes and `calls` calls, the numbers of the calls that are to fail, and the number of calls after
+    /// which every call fails, if there is one.
     pub fn new(
         alloc: Global,
         room: u32,

@@ -23,7 +23,7 @@ pub(crate) const FILE: usize = HEAD + SLOT * MOST_JOINS;
 /// How many joins a ledger has at most.
 pub(crate) const MOST_JOINS: usize = 65_536;
 
-// Reads a slot. False: no ledger has it, behind these joins.
+// Reads a slot. It gives false where no ledger has this slot after these joins.
 fn read_slot(
     joins: &mut IndexSet<(Sid, Role)>,
     slot: &[u8],
@@ -86,7 +86,7 @@ pub(crate) fn read_slots(alloc: Global, file: &[u8]) -> Result<IndexSet<(Sid, Ro
     Ok(joins)
 }
 
-/// The pair is there.
+/// Whether the pair is there.
 pub(crate) fn has(joins: &IndexSet<(Sid, Role)>, join: &(Sid, Role)) -> bool
     ensures { IsTrue result ↔ Contains joins.now.keys join.now }
 {

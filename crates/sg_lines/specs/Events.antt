@@ -11,7 +11,7 @@ use Rattle.sg_lines.specs.Values.{values_text}
 abbrev pub moved_text : (session word : List ℕ) → Graph → (label time : ℕ) → List ℕ
 moved_text session word g label time = session ++ word ++ edge_name g label ++ codes " time " ++ decimal time
 
--- an event but for its values, in a session of this name
+-- an event without its values, in a session of this name
 abbrev pub event_text : (session : List ℕ) → Graph → Event → List ℕ
 event_text session g (Started sid r) = session ++ codes " started as " ++ role_name g r
 event_text session g (Sent sid r label time values) = moved_text session (codes " sent ") g label time

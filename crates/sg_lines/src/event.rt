@@ -10,7 +10,7 @@ use sg_base::{ByteOut, Label, Name, OutOfMemory, Time};
 use sg_graph::{Graph, put_label, put_role};
 use sg_walk::Event;
 
-/// Writes an event but for its values, in a session of this name.
+/// Writes an event without its values, in a session of this name.
 pub fn put_event(
     out: &mut ByteOut,
     session: &[u8],

@@ -1,9 +1,9 @@
 //! How values, events and walks are written, and what sessions are called.
 //!
-//! A value is a number in digits or a text between double quotes, in which each byte but the printable ones of ASCII is `\x` and two
+//! A value is a number in digits or a text between double quotes, in which each byte that is not printable ASCII is `\x` and two
 //! digits, and so are the space, the quote and the backslash. Roles, labels and variables are numbers and have their names by a graph,
-//! which has to have them. A walk is written step by step, with `*` before what a role did that isn't honest and `?` for a value that
-//! nobody honest wrote or received. Everything is written behind what is there, and copied nowhere.
+//! which has to have them. A walk is written step by step, with `*` before what a role that isn't honest did and `?` for a value that
+//! nobody honest wrote or received. Everything is appended to what is there, and copied nowhere.
 //!
 //! `SessionNames` keeps what sessions are called: the first declared name of each identifier, and for the others a letter and a number
 //! in the order of their first events. It grows as sessions are declared and then met, and finds each name by a hash table.

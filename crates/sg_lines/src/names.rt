@@ -32,7 +32,7 @@ impl Model for SessionNames {
 }
 
 impl SessionNames {
-    /// No sessions. It takes no memory.
+    /// The names of no sessions, with the letter for those that are not declared. It takes no memory.
     pub fn new(alloc: Global, letter: u8) -> SessionNames
         requires { is_letter letter ≡ true }
         ensures { result ≡ naming letter (record { declared = []; events = [] }) }
@@ -71,7 +71,7 @@ impl SessionNames {
         Ok(())
     }
 
-    /// The name of a session that is declared or has an event. It takes no memory.
+    /// The name of a session that is declared or has an event, or `None` for another one. It takes no memory.
     pub fn name_of(&self, sid: &Sid) -> Option<Name>
         ensures { (letter : ℕ) (m : Met) → self.now ≡ naming letter m → MatchOption result
             ((has_text sid.now (all_sids m) ≡ false) × (session_name letter m sid.now ≡ []))

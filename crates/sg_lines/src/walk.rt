@@ -97,7 +97,7 @@ fn put_bracketed(
     out.u8(b')')
 }
 
-// Writes further variables, each behind a comma.
+// Writes further variables, each after a comma.
 fn put_more(
     out: &mut ByteOut,
     graph: &Graph,

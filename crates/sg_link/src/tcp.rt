@@ -18,7 +18,7 @@ const WRITTEN: u8 = 1;
 /// taken when the present one has ended or was closed, so a peer that writes nothing holds up those behind it. One connection at a time
 /// is open for writing.
 ///
-/// `take` waits for a connection and for its bytes, for as long as it takes, and never comes to an end of all. A connection that its peer
+/// `take` waits for a connection and for its bytes, for as long as that takes, and never gives `None`. A connection that its peer
 /// breaks off has ended. `connect` and `give` wait for the peer's system: `give` while that takes no more bytes.
 #[derive(Drop)]
 pub struct TcpConns<R: Net> {
@@ -184,7 +184,7 @@ mod tests {
         }
     }
 
-    // Gives bytes over a connection of their own, so many at a time.
+    // Gives bytes over a connection of their own, `size` at a time.
     fn give<C: Conns>(conns: &mut C, bytes: &[u8], size: usize) -> bool {
         let Ok(conn) = conns.connect(at(47_302)) else {
             return false;

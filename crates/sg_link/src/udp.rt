@@ -6,8 +6,8 @@ use sg_base::{Addr, Failed, Link, LinkFault, Sealed};
 use std::alloc::Global;
 use std::net::{Net, UdpSocket};
 
-/// A link over a UDP socket. It has no socket until it is opened. `recv` waits for a datagram, for as long as it takes, and never comes
-/// to an end.
+/// A link over a UDP socket. It has no socket until it is opened. `recv` waits for a datagram, for as long as that takes, and never
+/// gives `None`.
 #[derive(Drop)]
 pub struct UdpLink<R: Net> {
     rt: R,
@@ -28,7 +28,7 @@ impl<R: Net + Drop> UdpLink<R> {
     }
 }
 
-// Room for the longest datagram and one byte more, so that none is cut short unseen. `None` means out of memory.
+// Room for the longest datagram and one more byte, so that none is cut short unnoticed. `None` means out of memory.
 fn longest_datagram(alloc: Global) -> Option<Vec<u8>> {
     match vec![in alloc; 0u8; 65_508] {
         Ok(bytes) => Some(bytes),

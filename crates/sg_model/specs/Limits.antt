@@ -73,7 +73,7 @@ most_steps = 200000
 abbrev pub most_declared : ℕ
 most_declared = 100000
 
--- events that the logs of one session tell
+-- events that the logs of an audit tell
 abbrev pub most_events : ℕ
 most_events = 100000
 
@@ -81,7 +81,7 @@ most_events = 100000
 abbrev pub most_record_bytes : ℕ
 most_record_bytes = 268435456
 
--- what a step adds to the record is less than so many bytes
+-- what a step adds to the record is less than this many bytes
 abbrev pub most_added_bytes : ℕ
 most_added_bytes = 4194304
 

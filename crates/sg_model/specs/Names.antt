@@ -1,4 +1,4 @@
--- Names, and the words that the graph text keeps for itself.
+-- Names, and the words that the graph text reserves.
 use Rattle.std.specs.Prelude.{ℕ, Bool, true, false, ◌&&◌, nat_le, nat_lt, if◌then◌else◌, List, [], ◌∷◌, length, codes}
 use Rattle.std.specs.List.{list_all}
 
@@ -19,6 +19,6 @@ abbrev pub is_name : List ℕ → Bool
 is_name [] = false
 is_name (c ∷ cs) = is_letter c && list_all is_name_byte cs && nat_le (length cs) 31
 
--- the words that the graph text keeps for itself
+-- the words that the graph text reserves
 abbrev pub reserved : List Name
 reserved = codes "graph" ∷ codes "role" ∷ codes "var" ∷ codes "node" ∷ codes "edge" ∷ codes "int" ∷ codes "text" ∷ codes "by" ∷ codes "writes" ∷ codes "reads" ∷ []

@@ -32,7 +32,7 @@ more_places names places (p ∷ ps) =
 abbrev pub some_places : List Name → Parser (List ℕ)
 some_places names = branch is_named (more_places names []) refused
 
--- one reading after another as long as the next token passes the test, up to so many times
+-- one reading after another as long as the next token passes the test, up to n times
 unfoldable pub repeat : {A : Type 0} → ℕ → (Token → Bool) → (A → Parser A) → A → Parser A
 repeat zero test reader x = give x
 repeat (suc n) test reader x = branch test (after (reader x) (repeat n test reader)) (give x)

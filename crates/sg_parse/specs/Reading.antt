@@ -20,7 +20,7 @@ pub record Parsed (A : Type 0) : Type 0 where
   pub value : A
   pub rest : List Placed
 
--- reads tokens, or answers the fault at the first wrong one
+-- reads tokens, or gives the fault at the first wrong one
 abbrev pub Parser : Type 0 → Type 0
 Parser A = List Placed → Result (Parsed A) ParseFault
 
@@ -52,7 +52,7 @@ on (Ok r) next = next r.value r.rest
 abbrev pub after : {A B : Type 0} → Parser A → (A → Parser B) → Parser B
 after first next ps = on (first ps) next
 
--- the next token passes the test; a text has no token behind its end
+-- the next token passes the test; a text has no token after its end
 abbrev pub is_next : (Token → Bool) → List Placed → Bool
 is_next test [] = false
 is_next test (p ∷ ps) = test p.token
@@ -133,7 +133,7 @@ more_names width names set (p ∷ ps) =
 abbrev pub some_names : ℕ → List Name → Parser (List ℕ)
 some_names width names = branch is_named (more_names width names []) refused
 
--- ---- statements, each from behind its first word
+-- ---- statements, each after its first word
 
 -- a role
 abbrev pub read_role : Graph → Parser Graph
@@ -229,7 +229,7 @@ read_head =
 abbrev pub read_end : Parser (Unit {0})
 read_end = branch is_end (give tt) refused
 
--- the statements behind the graph's name
+-- the statements after the graph's name
 abbrev pub read_statements : Graph → Parser Graph
 read_statements g =
     after (read_roles g) λ g.

@@ -40,7 +40,7 @@ abbrev pub has_head : List ℕ → Bool
 has_head [] = false
 has_head (b ∷ bs) = b == 62
 
--- the token that a byte begins that is no letter, before `>` or not
+-- the token that begins with a byte that is no letter, before `>` or not
 abbrev pub mark : ℕ → Bool → Token
 mark b head = if b == 58 then Colon else if b == 59 then Semicolon else if (b == 45) && head then Arrow else Bad
 
@@ -48,14 +48,14 @@ mark b head = if b == 58 then Colon else if b == 59 then Semicolon else if (b ==
 abbrev pub begun : ℕ → ℕ → List ℕ → Placed
 begun at b bs = if is_letter b then word_at at (take_while is_name_byte (b ∷ bs)) else record { token = mark b (has_head bs); at = at }
 
--- the end of the text, or a fault: no tokens are asked for behind it
+-- the end of the text, or a fault: no tokens are asked for after it
 abbrev pub is_last : Token → Bool
 is_last End = true
 is_last Long = true
 is_last Bad = true
 is_last t = false
 
--- a token, and those behind it unless it is the last
+-- a token, and those after it unless it is the last
 abbrev pub leading : Placed → List Placed → List Placed
 leading p ps = p ∷ (if is_last p.token then [] else ps)
 
@@ -70,7 +70,7 @@ tokens_from before at (b ∷ bs) =
 abbrev pub tokens : List ℕ → List Placed
 tokens bs = tokens_from Apart 0 bs
 
--- ---- the words that a text of parts keeps besides
+-- ---- the further words that a text of parts reserves
 
 -- `use` and `as` are no names where parts are spelled
 abbrev pub kept : Token → Token
@@ -98,7 +98,7 @@ abbrev pub is_word : List ℕ → Token → Bool
 is_word w (Word v) = bytes_eq v w
 is_word w t = false
 
--- a word that the language doesn't keep for itself
+-- a word that the language doesn't reserve
 abbrev pub is_named : Token → Bool
 is_named (Word v) = not (has_text v reserved)
 is_named t = false

@@ -33,7 +33,7 @@ fn read_statement(scanner: &mut Scanner, graph: &mut Graph) -> Result<(), ParseF
     read_edge(scanner, graph)
 }
 
-// An edge, behind its first word.
+// An edge, after its first word.
 fn read_edge(scanner: &mut Scanner, graph: &mut Graph) -> Result<(), ParseFault>
     requires { length graph.old.edges < 512 }
     ensures { ReadsInto (read_edge graph.old) scanner.old scanner.new graph.new result }

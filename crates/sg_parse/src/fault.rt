@@ -8,9 +8,9 @@ use std::fmt;
 /// Why a text was not read as a graph: the first wrong token from the left, by an offset in bytes.
 #[derive(Debug, Clone, Copy, PartialEq, Eq)]
 pub enum ParseFault {
-    /// A byte outside comments that begins no token, as a digit, a `_`, or a `-` before anything but `>`.
+    /// A byte outside comments that begins no token, such as a digit, a `_`, or a `-` before anything but `>`.
     BadByte { at: usize },
-    /// A token that the grammar doesn't have at its place, or the end of the text, at its length.
+    /// A token that the grammar doesn't have at its place, or the end of the text, whose offset is the text's length.
     Unexpected { at: usize },
     /// A name that is used and isn't declared.
     UnknownName { at: usize },

@@ -2,7 +2,7 @@
 //!
 //! A text is a list of tokens: words, `:`, `;` and `->`. Spaces, tabs, carriage returns and line ends stand between tokens, and `#`
 //! begins a comment up to the line end. A name is a letter, then letters, digits or `_`, at most 32 bytes, and none of the words
-//! `graph role var node edge int text by writes reads`, which the language keeps for itself.
+//! `graph role var node edge int text by writes reads`, which the language reserves.
 //!
 //! ```text
 //! text = "graph" name ";" role role {role} {var} node {node} {edge}
@@ -17,7 +17,7 @@
 //! edges, numbered from 0 in the order of their statements. The fault is that of the first wrong token from the left.
 //!
 //! A text of parts is one or more graph texts, one after the other. In each of them uses may follow the edges: a part that stands before
-//! is put between two nodes, and the roles after `as` play the roles of this part. The words `use` and `as` are no names there.
+//! is put between two nodes, and the roles after `as` play the roles of this part. The words `use` and `as` are not names there.
 //!
 //! ```text
 //! use = "use" name ":" name name "->" name "as" name {name} ";"

@@ -22,7 +22,7 @@ impl Model for NameSet {
 }
 
 impl NameSet {
-    /// No names. It takes no memory.
+    /// The empty set. It takes no memory.
     pub fn new(alloc: Global) -> NameSet
         ensures { result ≡ [] }
     {
@@ -38,7 +38,7 @@ impl NameSet {
         self.names.contains(name)
     }
 
-    /// The place of the name, where it is there.
+    /// The place of the name, counted from 0, or `None` where it is not there.
     pub fn place(&self, name: &Name) -> Option<usize>
         ensures place { result ≡ position (bytes_eq name.now) self.now }
         ensures within { IfSome result (λ i. i < length self.now) }
@@ -46,7 +46,7 @@ impl NameSet {
         self.names.get_index_of(name)
     }
 
-    /// Adds a name that isn't there at the end.
+    /// Adds a name that isn't there, at the end. If memory runs out, the names are as before.
     pub fn add(&mut self, name: Name) -> Result<(), OutOfMemory>
         requires { has_text name self.old ≡ false }
         ensures ok { OnOk result (self.new ≡ self.old ++ name ∷ []) }

@@ -39,7 +39,7 @@ fn read_statement(scanner: &mut Scanner, graph: &mut Graph) -> Result<(), ParseF
     read_node(scanner, graph)
 }
 
-// A node, behind its first word.
+// A node, after its first word.
 fn read_node(scanner: &mut Scanner, graph: &mut Graph) -> Result<(), ParseFault>
     requires { length graph.old.nodes < 256 }
     ensures { ReadsInto (read_node graph.old) scanner.old scanner.new graph.new result }

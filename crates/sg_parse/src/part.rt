@@ -3,7 +3,7 @@ use sg_base::{Name, NodeId, Role, Seq};
 use sg_graph::Graph;
 use std::marker::Model;
 
-/// Where a part that stands before is put into a graph: between two of its nodes, with roles of it for the roles of the part.
+/// Where a part that stands before is put into a graph: between two nodes of the graph, with roles of the graph for the roles of the part.
 #[derive(Debug, Drop)]
 pub struct Use {
     /// The name of the use, which no other use of its part has.

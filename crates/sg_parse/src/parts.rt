@@ -18,8 +18,8 @@ use crate::uses::read_uses;
 use sg_graph::Graph;
 use std::alloc::Global;
 
-/// The parts that the bytes spell, all of them, or the fault at the first wrong token from the left. One pass; the last part is what
-/// the text is of.
+/// The parts that the bytes spell, all of them, or the fault at the first wrong token from the left. It takes one pass; the last
+/// part is the one that the text describes.
 pub fn parse_parts(alloc: Global, bytes: &[u8]) -> Result<Vec<Part>, ParseFault>
     // The parts, or the first fault and its offset.
     ensures exact { MatchResult result (λ ps. read bytes.now ≡ Ok ps.items) (Refuses (read bytes.now)) }
@@ -40,7 +40,7 @@ fn read_whole(alloc: Global, bytes: &[u8]) -> Result<Vec<Part>, ParseFault>
     Ok(parts.into_parts().into_vec())
 }
 
-// All parts, and the end, of a text of so many bytes.
+// All parts, and the end, of a text of `bytes` bytes.
 fn read_parts(alloc: Global, scanner: &mut Scanner, bytes: usize) -> Result<PartList, ParseFault>
     ensures { Reads (read_parts bytes) scanner.old scanner.new result }
 {
@@ -51,7 +51,7 @@ fn read_parts(alloc: Global, scanner: &mut Scanner, bytes: usize) -> Result<Part
     Ok(parts)
 }
 
-// The parts behind the first one.
+// The parts after the first one.
 fn read_more(
     alloc: Global,
     scanner: &mut Scanner,

@@ -40,7 +40,7 @@ fn read_statement(scanner: &mut Scanner, graph: &mut Graph) -> Result<(), ParseF
     read_role(scanner, graph)
 }
 
-// A role, behind its first word.
+// A role, after its first word.
 fn read_role(scanner: &mut Scanner, graph: &mut Graph) -> Result<(), ParseFault>
     requires { length graph.old.roles < 16 }
     ensures { ReadsInto (read_role graph.old) scanner.old scanner.new graph.new result }

@@ -26,7 +26,7 @@ pub fn scan(bytes: &[u8], from: usize) -> (Placed, usize)
     token_at(bytes, at)
 }
 
-// The offset behind separators and comments.
+// The offset after separators and comments.
 fn gap_end(bytes: &[u8], from: usize) -> usize
     requires { from ≤ length bytes.now }
     ensures tokens { tokens_from Part.Apart from (drop from bytes.now) ≡ tokens_from Part.Apart result (drop result bytes.now) }
@@ -136,7 +136,7 @@ fn word_token(word: &[u8], at: usize) -> Placed
     Placed { token, at }
 }
 
-// The token that a byte begins that is no letter, and where it ends.
+// The token that begins with a byte that is no letter, and where it ends.
 fn mark_at(bytes: &[u8], at: usize) -> (Placed, usize)
     requires there { at < length bytes.now }
     requires begins { (is_separator (get_or bytes.now at 0) || (get_or bytes.now at 0 == 35)) ≡ false }

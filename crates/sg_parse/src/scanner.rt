@@ -63,7 +63,7 @@ impl<'a> Scanner<'a> {
         token::is_named(&self.next.token)
     }
 
-    // The next token, behind which there are more.
+    // Takes off the next token, after which there are more.
     pub fn skip(&mut self)
         requires { is_next is_last self.old ≡ false }
         ensures { skip self.old ≡ Ok (record { value = tt; rest = self.new }) }

@@ -15,8 +15,8 @@ use crate::variable::read_vars;
 use sg_graph::Graph;
 use std::alloc::Global;
 
-/// The graph that the bytes spell, all of them, or the fault at the first wrong token from the left. One pass; the memory is the
-/// graph's own.
+/// The graph that the bytes spell, all of them, or the fault at the first wrong token from the left. It takes one pass, and memory
+/// for the graph alone.
 pub fn parse_graph(alloc: Global, bytes: &[u8]) -> Result<Graph, ParseFault>
     // The graph, or the first fault and its offset.
     ensures exact { MatchResult result (λ g. read bytes.now ≡ Ok g) (Refuses (read bytes.now)) }
@@ -46,7 +46,7 @@ fn read_text(alloc: Global, scanner: &mut Scanner) -> Result<Graph, ParseFault>
     Ok(graph)
 }
 
-/// The statements behind a graph's name, where the graph has no parts yet.
+/// The statements after a graph's name, where the graph has no parts yet.
 pub fn read_statements(scanner: &mut Scanner, graph: &mut Graph) -> Result<(), ParseFault>
     requires roles { length graph.old.roles ≡ 0 }
     requires variables { length graph.old.variables ≡ 0 }

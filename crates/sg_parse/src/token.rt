@@ -16,7 +16,7 @@ pub enum Token {
     Colon,
     Semicolon,
     Arrow,
-    // The words that a text of parts keeps besides.
+    // The further words that a text of parts reserves.
     Use,
     As,
     End,
@@ -26,7 +26,7 @@ pub enum Token {
     Bad,
 }
 
-// Which texts have the token: a text of parts keeps the words `use` and `as` besides.
+// Which texts have the token: a text of parts also reserves the words `use` and `as`.
 #[derive(Debug, Clone, Copy)]
 pub enum Language {
     OfGraph,

@@ -16,7 +16,7 @@ use sg_base::{Name, Role, Seq};
 use sg_graph::Graph;
 use std::alloc::Global;
 
-// The uses that follow, in a text of so many bytes.
+// The uses that follow, in a text of `bytes` bytes.
 pub fn read_uses(
     alloc: Global,
     scanner: &mut Scanner,

@@ -32,7 +32,7 @@ fn read_statement(scanner: &mut Scanner, graph: &mut Graph) -> Result<(), ParseF
     read_var(scanner, graph)
 }
 
-// A variable, behind its first word.
+// A variable, after its first word.
 fn read_var(scanner: &mut Scanner, graph: &mut Graph) -> Result<(), ParseFault>
     requires { length graph.old.variables < 32 }
     ensures { ReadsInto (read_variable graph.old) scanner.old scanner.new graph.new result }

@@ -21,8 +21,9 @@ pub struct Collision<'t> {
     pub other: &'t [u8],
 }
 
-/// The first two texts of a run that have one digest, of which the later stands first, and then the earlier one: those before its steps,
-/// which are the graphs', and then those that the steps noted.
+/// The first two texts of a run that have one digest, if there are such: the two whose later text comes first, and of these the two
+/// whose earlier text comes first. The texts are those before the run's steps, which are the graphs', and then those that the steps
+/// noted.
 pub fn first_collision<'t>(
     alloc: Global,
     texts: &'t [Hashed],

@@ -3,7 +3,8 @@
 //! A run is explained where no tag of two honest principals was forged and no two hashed texts have one digest. Each step notes the texts
 //! that it tagged, those whose tag it found right, and those that it hashed. `first_forged` gives the first text that was found right
 //! under the key of two honest principals and had not been tagged in an earlier step; `first_collision` the first two different texts
-//! with one digest, of which the later stands first. Both go over the notes once, in order, with a hash table of what came before.
+//! with one digest, which are those whose later text comes first. Both go over the notes once, in order, with a hash table of what came
+//! before.
 #![tactic(auto)]
 
 mod collision;

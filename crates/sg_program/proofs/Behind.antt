@@ -42,7 +42,7 @@ none_canonical text place n e none g r rest h =
 pub role_there : (n : Name) (names : List Name) (r : ℕ) → r < length names → get_or names r [] ≡ n → has_text n names ≡ true
 role_there n names r l e = list_any_at (bytes_eq n) names r [] l ((bytes_eq-Decides n (get_or names r [])).1 (sym e))
 
--- where the graph lacks the role there is no such graph
+-- where the graph doesn't have the role there is no such graph
 pub none_role : (text : List ℕ) (place : ℕ) (n : Name) (h : Graph) → Some (take place text, drop (place + 6) text) ≡ at_table true text → IsCanonical (take place text) h
     → (IsTrue (has_text n h.roles) → ⊥) → (g : Graph) (r : ℕ) (rest : List ℕ) → HasGraph text n g r rest → ⊥
 none_role text place n h e is none g r rest has =

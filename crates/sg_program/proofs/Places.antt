@@ -59,7 +59,7 @@ place_more p xs x =
     let size : length (xs ++ x ∷ []) ≡ length xs + 1 = length-append xs (x ∷ []) in
     (λ i. place_in (position_or_len_push p xs x i) (size i)) ∙ one_more (p x) (position_or_len p xs) (length xs) le
 
--- a table gets a place for a key that it lacks
+-- a table gets a place for a key that it doesn't have
 pub first_put : (b c : Bool) (old new : Option ℕ) (place : ℕ) → b ≡ c → new ≡ cond b (Some place) old → (c ≡ true → old ≡ None) → new ≡ option_or old (if c then Some place else None)
 first_put b true old new place e h absent = h ∙ rw (e, absent refl) refl
 first_put b false old new place e h absent = h ∙ rw e (or_none old)

@@ -33,7 +33,7 @@ abbrev pub IsAllFault : List Graph → AllFault → Type 0
 IsAllFault graphs (Refused place fault) = (g : Graph) × (slice_get graphs place ≡ Some g) × IsStopped (parts (take place graphs)) g fault
 IsAllFault graphs OutOfMemory = ⊤
 
--- the fault of a graph at its place, behind earlier programs
+-- the fault of a graph at its place, after earlier programs
 abbrev pub IsGraphFault : List Program → ℕ → Graph → AllFault → Type 0
 IsGraphFault before place g (Refused at fault) = (at ≡ place) × IsStopped (pairs_of before) g fault
 IsGraphFault before place g OutOfMemory = ⊤

@@ -64,21 +64,21 @@ IsTableFault p rest (Faults.Malformed at) = ⊥
 IsTableFault p rest (Faults.Graph g f) = ⊥
 IsTableFault p rest Faults.OutOfMemory = ⊤
 
--- what is wrong behind the text of a graph with a role: the version, or the graph, or the lines of the table
+-- what is wrong after the text of a graph with a role: the version, or the graph, or the lines of the table
 abbrev pub IsFaultAfter : ℕ → Graph → ℕ → List ℕ → LoadFault → Type 0
 IsFaultAfter v g r rest (Faults.Malformed at) = (at ≡ 11) × (v ≢ version g)
 IsFaultAfter v g r rest (Faults.Graph h f) = (h ≡ g) × (v ≡ version g) × IsRefused g r f × (f ≢ CompileMemory)
 IsFaultAfter v g r rest (Faults.NotTheTable n) = (p : Program) × IsCompiled g r p × (v ≡ version g) × IsTableFault p rest (Faults.NotTheTable n)
 IsFaultAfter v g r rest Faults.OutOfMemory = ⊤
 
--- behind the lines of the version and the role's name stands the rest of the program's text
+-- after the lines of the version and the role's name stands the rest of the program's text
 pub record IsLoaded (v : ℕ) (n : Name) (text : List ℕ) (p : Program) : Type 0 where
   pub whole : IsWhole p
   pub version : v ≡ version p.graph
   pub name : role_name p.graph p.role ≡ n
   pub spelled : text ≡ canonical p.graph ++ line (codes "table") ++ table_text p
 
--- what is wrong behind the lines of the version and the role's name
+-- what is wrong after the lines of the version and the role's name
 abbrev pub IsFaultBehind : ℕ → Name → List ℕ → LoadFault → Type 0
 IsFaultBehind v n text (Faults.Malformed at) = ((at ≡ 19 + length n) × ((g : Graph) (r : ℕ) (rest : List ℕ) → HasGraph text n g r rest → ⊥))
     ⊎ ((at ≡ 11) × ((g : Graph) × (r : ℕ) × (rest : List ℕ) × HasGraph text n g r rest × (v ≢ version g)))

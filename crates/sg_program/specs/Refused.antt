@@ -1,4 +1,4 @@
--- Why a graph is refused: by its shape, else by what it writes and reads, else for blinding.
+-- Why a graph is refused: by its shape, otherwise by what it writes and reads, otherwise for blinding.
 use Rattle.std.specs.Prelude.{◌≢◌, ⊤}
 use Rattle.sg_check.specs.Blind.{IsBlindFault}
 use Rattle.sg_check.specs.Shaped.{HasShape, IsShapeFault}

@@ -27,8 +27,9 @@ pub enum AllFault {
     OutOfMemory,
 }
 
-/// The programs of all roles of all graphs, in order: each graph is checked once, and then compiled for its roles. It takes memory as
-/// compiling each does, and for the programs.
+/// The programs of all roles of all graphs, in order: each graph is checked once, and then compiled for its roles; or the fault of
+/// the first that is refused. The names of the graphs differ, and each has two roles or more. It takes memory as compiling each does,
+/// and for the programs.
 pub fn compile_all(alloc: Global, graphs: &[Graph]) -> Result<Programs, AllFault>
     requires names { IsTrue (all_differ (map (λ g. g.name) graphs.now)) }
     requires two { All (λ g. 2 ≤ length g.roles) graphs.now }

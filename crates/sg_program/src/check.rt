@@ -48,7 +48,7 @@ impl CompileFault {
 }
 
 /// Whether a graph is accepted: its shape is right, only writers write and what is read is known, and no node blinds two roles. The checks
-/// are made in this order, and the first that refuses answers. It takes memory for the walks that they follow.
+/// are made in this order, and the first that refuses gives the fault. It takes memory for the walks that they follow.
 pub fn check_graph(alloc: Global, graph: &Graph) -> Result<(), CompileFault>
     requires { 2 ≤ length graph.now.roles }
     ensures accepted { OnOk result (Accepted graph.now) }

@@ -19,8 +19,8 @@ use sg_plan::{TargetTable, targets};
 use sg_vis::{ViewFault, ViewTable, views};
 use std::alloc::Global;
 
-/// The program of a graph for one of its roles: the graph is checked, and then the role's views are listed. It takes memory for the walks
-/// of the checks, for the open views, and for the program, which has a graph of its own.
+/// The program of a graph for one of its roles, or the first fault: the graph is checked, and then the role's views are listed. It takes
+/// memory for the walks of the checks, for the open views, and for the program, which has a graph of its own.
 pub fn compile(alloc: Global, graph: &Graph, role: Role) -> Result<Program, CompileFault>
     requires two { 2 ≤ length graph.now.roles }
     requires there { role < length graph.now.roles }

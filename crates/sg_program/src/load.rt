@@ -20,8 +20,8 @@ use thiserror::Error;
 /// Why bytes are no program's text: the first of these causes that holds.
 #[derive(Debug, Drop, Error)]
 pub enum LoadFault {
-    /// The first line is that of no version (offset 0), the second isn't `role` and a name (offset 13), what follows isn't the canonical
-    /// text of a graph with this role and a line `table` (its offset), or the version is another than the graph's (offset 11).
+    /// The first line is not that of a version (offset 0), the second isn't `role` and a name (offset 13), what follows isn't the canonical
+    /// text of a graph with this role and a line `table` (its offset), or the version is not the graph's (offset 11).
     #[error("malformed at {at}")]
     Malformed { at: u32 },
     /// The graph that was read can't be compiled for the role. The fault isn't `OutOfMemory`.
@@ -37,8 +37,8 @@ pub enum LoadFault {
 }
 
 impl Program {
-    /// The program that the bytes are the text of. The graph is compiled again, and the lines of the table are compared with those of the
-    /// program that comes out. It takes memory as compiling and encoding do.
+    /// The program whose text the bytes are, or the first cause that holds. The graph is compiled again, and the lines of the table are
+    /// compared with those of the program that comes out. It takes memory as compiling and encoding do.
     pub fn load(alloc: Global, bytes: &[u8]) -> Result<Program, LoadFault>
         ensures whole { IfOk result IsWhole }
         ensures text { IfOk result (λ p. program_text p ≡ bytes.now) }
@@ -223,7 +223,7 @@ fn first_wrong(wanted: &[u8], found: &[u8]) -> usize
     1 + wanted[..same].iter().filter(|byte| **byte == b'\n').count()
 }
 
-// With how many bytes both begin.
+// How many bytes both have in common at the front.
 fn common_length(one: &[u8], other: &[u8]) -> usize
     ensures same { result ≡ common_prefix_len (λ a b. a == b) one.now other.now }
     ensures within { result ≤ length one.now }

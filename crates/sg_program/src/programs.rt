@@ -18,7 +18,7 @@ use std::hash::{Hash, Hasher};
 use std::marker::Model;
 use thiserror::Error;
 
-/// Programs in the order in which they were added. Those of one graph name are of one digest, each for another role. A clause sees their
+/// Programs in the order in which they were added. Those of one graph name have one digest, each for a different role. A clause sees their
 /// list.
 #[derive(Drop)]
 pub struct Programs {
@@ -72,7 +72,7 @@ pub enum AddProgramFault {
 }
 
 impl Programs {
-    /// No programs. It takes no memory.
+    /// The empty list. It takes no memory.
     pub fn new(alloc: Global) -> Programs
         ensures { result ≡ [] }
     {
@@ -84,7 +84,8 @@ impl Programs {
         }
     }
 
-    /// Adds a program as the last one. After a refusal the programs are as before, and the program comes back.
+    /// Adds a program as the last one. Refused where a program of its graph name is there with the same role or with another
+    /// digest, or where memory runs out. After a refusal the programs are as before, and the program comes back.
     pub fn add(&mut self, program: Program) -> Result<(), (Program, AddProgramFault)>
         ensures twice { (result ≡ Err (program, AddProgramFault.Twice)) ↔ IsTrue (list_any (clashes program) self.old) }
         ensures added { OnOk result (self.new ≡ self.old ++ program ∷ []) }

@@ -36,7 +36,7 @@ steps-walked : (g : Graph) (es : List ℕ) → map (λ (y : Entry ℕ (Unit {0})
 steps-walked g [] = refl
 steps-walked g (e ∷ es) = ap (λ l. e ∷ l) (steps-walked g es)
 
--- the labels that are seen are the last ones of each sender since the own last step
+-- the labels that are seen are the last ones of each sender since the role's own last step
 pub labels-view_of : (g : Graph) (r : ℕ) (es : List ℕ) → map (λ s. s.label) (view_of g r es).items ≡ last_of (sender (shape g)) (after_last (sender (shape g)) r es)
 labels-view_of g r es =
     map-map _ _ (evidence_for (sender (shape g)) r (walked g es))

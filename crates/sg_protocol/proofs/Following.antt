@@ -92,7 +92,7 @@ of_kept sha g s x l o = record {
 pub new_follows : (sha : Hash) (g : Graph) (sid : List ℕ) (c : Cast) (r : ℕ) (turn : Bool) → FollowsWalk sha g sid r turn (kept g (new_session sid c r))
 new_follows sha g sid c r turn = record { walk = []; follows = tt; own_last = refl; at_place = λ e. refl; at_own = λ e. refl; opened = λ x h. absurd (cc) }
 
--- ---- an own step
+-- ---- a step of its own
 
 module _ (sha : Hash) (g : Graph) (acc : Accepted g) (s : Session) (label : ℕ) (turn : at_turn g s ≡ true) (leave : leaves g s label ≡ true) where
   edge : label < length g.edges
@@ -332,7 +332,7 @@ module _ (sha : Hash) (keys : Keyring) (p : Program) (ip : IsProgram sha p) (s :
       (subst (λ es. AllByRecursion (Unwritten x) (evidence (sender (shape g')) es)) (sym (walked_after g' s.role viewed.walk)) (evidence_unwritten x (sender (shape g')) (walked g' since) (walked_unwritten g' x since h)))
 
   module _ (waits : own s ≡ told s) (fo : FollowsWalk sha p.graph s.sid s.role false (kept p.graph s)) where
-    -- the view's walk and the role's own come to one node by the own last step
+    -- the view's walk and the role's own come to one node by the role's own last step
     same_end : end_of (shape g') 0 front ≡ end_of (shape g') 0 fo.walk
     same_end = end_of_same (shape g') 0 front fo.walk (ap (λ (z : View). z.origin) viewed.seen ∙ sym (fo.at_own refl))
 

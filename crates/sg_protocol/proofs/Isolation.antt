@@ -52,7 +52,7 @@ replace-own {q = q} which now h k (s ∷ ss) = elim (cases_Bool (which s)) [
   | inr e ↦ elim (cases_Bool (q s)) [ inl f ↦ rw (f, e) (rw f (ap (λ l. s ∷ l) (replace-own which now h k ss))) | inr f ↦ rw (f, e) (rw f (replace-own which now h k ss)) ]
 ]
 
--- ---- the first row that holds, with and without rows for want of room
+-- ---- the first row that holds, with and without the rows of refusals because there was no room
 
 abbrev Same : {F : Type 0} → (F → Bool) → Option F → Option F → Type 0
 Same room x y = (x ≡ y) ⊎ ((y ≡ None) × IfSome x (λ r. room r ≡ true))

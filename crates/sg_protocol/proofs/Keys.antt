@@ -1,4 +1,4 @@
--- Lists of which the last element of each key counts, under another key and under a map.
+-- Lists in which the last element of each key counts, under another key and under a map.
 use Rattle.std.specs.Prelude.{◌≡◌, ℕ, ◌==◌, ◌||◌, Bool, true, false, List, [], ◌∷◌, ◌++◌, map, filter, refl}
 use Rattle.std.specs.List.{AllByRecursion}
 use Rattle.std.proofs.Common.{◌∙◌, ap, inl, inr}

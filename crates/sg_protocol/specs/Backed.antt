@@ -21,7 +21,8 @@ use Rattle.sg_protocol.specs.Ranges.{IsCast, AreValues}
 use Rattle.sg_protocol.specs.Standing.{Held, StandsBefore, StandsWaiting, StandsAtTurn, nothing_kept, held_after}
 use Rattle.sg_protocol.specs.Live.{IsSound}
 
--- the state stands for some sound session that is new or ends with an own item, and what it keeps follows a walk to the own last step
+-- the state stands for some sound session that is new or ends with an own item, and what it keeps follows a walk to the role's own
+-- last step
 pub record IsBackedBefore (sha : Hash) (p : Program) (h : Held) : Type 0 where
   pub session : Session
   pub stands : StandsBefore p.graph h session

@@ -42,7 +42,7 @@ pub record IsFirstForged (s : Schedule) (w : World) (step : ℕ) (note : Note) :
   pub forged : IsForged s w step note
   pub first : All (λ (x : ℕ × Note). IsForged s w x.0 x.1 → ⊥) before
 
--- There is none exactly where no tag was forged, and else it is the first in the order in which they were found
+-- There is none exactly where no tag was forged, and otherwise it is the first in the order in which they were found
 abbrev pub ForgedIsFirst : Type 0
 ForgedIsFirst = (s : Schedule) (w : World) → ((first_forged s w ≡ None) ↔ Unforged s w) × ((step : ℕ) (note : Note) → first_forged s w ≡ Some (step, note) → IsFirstForged s w step note)
 
@@ -72,6 +72,6 @@ pub record IsFirstCollision (sha : Hash) (texts : List (List ℕ)) (one other : 
   pub later_first : CollisionFree sha (before ++ one ∷ between)
   pub earlier_first : All (λ a. sha a ≡ sha other → a ≡ other) before
 
--- There is none exactly where no two texts have the same hash, and else it is the first in the stated order
+-- There is none exactly where no two texts have the same hash, and otherwise it is the first in the stated order
 abbrev pub CollisionIsFirst : Hash → Type 0
 CollisionIsFirst sha = (texts : List (List ℕ)) → ((first_collision sha texts ≡ None) ↔ CollisionFree sha texts) × ((one other : List ℕ) → first_collision sha texts ≡ Some (one, other) → IsFirstCollision sha texts one other)

@@ -34,7 +34,7 @@ frame_read w n = option_and_then (λ bs. result_ok (read bs)) (frame_at w n)
 -- the tag of a source on a text
 abbrev pub tag_by : Hash → Schedule → World → List ℕ → Source → List ℕ
 tag_by sha s w text (Key a b) = hmac sha (pair_key s.keys a b) text
-tag_by sha s w text (CopyItem n i r) = unwrap_or (option_and_then (λ f. option_and_then (λ i. value_at i.tags r) (if i == 0 then None else slice_get f.items (i - 1))) (frame_read w n)) no_tag
+tag_by sha s w text (CopyItem n i r) = unwrap_or (option_and_then (λ f. option_and_then (λ item. value_at item.tags r) (if i == 0 then None else slice_get f.items (i - 1))) (frame_read w n)) no_tag
 tag_by sha s w text (CopySeal n) = option_map_or (λ f. f.tag) (frame_read w n) no_tag
 tag_by sha s w text Zero = no_tag
 

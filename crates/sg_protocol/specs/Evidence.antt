@@ -19,7 +19,7 @@ pub record Seen : Type 0 where
   pub label : ℕ
   pub delta : List ℕ
 
--- the own last label, or None at the start, and what is seen since
+-- the role's own last label, or None at the start, and what is seen since
 pub record View : Type 0 where
   pub origin : Option ℕ
   pub items : List Seen

@@ -31,11 +31,11 @@ pub record FollowsWalk (sha : Hash) (g : Graph) (sid : List ℕ) (r : ℕ) (turn
   pub own_last : last (up_to_last (sender (shape g)) r walk) ≡ k.origin
   -- at its turn, the walk ends at the kept place
   pub at_place : turn ≡ true → end_of (shape g) 0 walk ≡ k.place
-  -- else it ends with the own last label, or is empty at the start
+  -- otherwise it ends with the role's own last label, or is empty at the start
   pub at_own : turn ≡ false → last walk ≡ k.origin
   pub opened : (x : ℕ) → IsTrue (knows g r x walk) → IsOpened sha sid k x
 
--- what is kept of a session follows a walk to its place, where it is at its turn, and else to its own last step
+-- what is kept of a session follows a walk to its place, where it is at its turn, and otherwise to its own last step
 abbrev pub IsFollowed : Hash → Graph → Session → Type 0
 IsFollowed sha g s = FollowsWalk sha g s.sid s.role (at_turn g s) (kept g s)
 
@@ -50,7 +50,7 @@ pub record IsOpenedIn (sha : Hash) (s : Session) (written : List Opening) (items
 pub record KeptFollowsWalks (sha : Hash) : Type 0 where
   -- a new session, whose walk is empty
   pub begins : (g : Graph) (sid : List ℕ) (c : Cast) (r : ℕ) (turn : Bool) → FollowsWalk sha g sid r turn (kept g (new_session sid c r))
-  -- after an own step along an edge of an accepted graph from the role's place, which writes what the edge writes, the role waits
+  -- after a step of the role along an edge of an accepted graph from its place, which writes what the edge writes, the role waits
   pub gives : (keys : Keyring) (p : Program) (s : Session) (label : ℕ) (written : List Opening) → IsGraph p.graph → Accepted p.graph →
       at_turn p.graph s ≡ true → leaves p.graph s label ≡ true → map (λ o. o.variable) written ≡ writes p.graph label → IsFollowed sha p.graph s →
       let now = extended s (Gave (own_item sha keys p s label written) written) in

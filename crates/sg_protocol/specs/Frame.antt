@@ -26,7 +26,7 @@ pub record Item : Type 0 where
   pub delta : Map (List ℕ)
   pub tags : Map (List ℕ)
 
--- what one role sends to another. With its cast it joins, without it continues
+-- what one role sends to another. With its cast it joins; without it, it continues
 pub record Frame : Type 0 where
   pub version : ℕ
   pub sid : List ℕ

@@ -8,7 +8,7 @@ use Rattle.sg_protocol.specs.Acting.{answer}
 use Rattle.sg_protocol.specs.NodeAfter.{node_after}
 use Rattle.sg_protocol.specs.Past.{Past, new_node, AreAnswers, answers, is_call_of, calls_of_session}
 
--- the call was refused for want of room
+-- the call was refused because there was no room
 abbrev pub is_for_room : Answer → Bool
 is_for_room (NotDelivered CacheFull) = true
 is_for_room (NotDelivered SessionsFull) = true
@@ -16,7 +16,7 @@ is_for_room (NotStarted CacheFull) = true
 is_for_room (NotStarted SessionsFull) = true
 is_for_room other = false
 
--- Where no call was refused for want of room, a node answers the calls of a session as a node would that gets no others
+-- Where no call was refused because there was no room, a node answers the calls of a session as a node that gets no other calls would
 abbrev pub SessionsAreIsolated : Hash → Type 0
 SessionsAreIsolated sha = (past : Past) (sid : List ℕ) →
     AreAnswers sha (new_node past.keys past.programs past.first) past.calls →

@@ -12,7 +12,8 @@ use Rattle.sg_protocol.specs.Sending.{entry_of, item_of}
 abbrev pub kept_items : Graph → List Item → List Item
 kept_items g items = map (item_of g) (evidence (λ i. i.role) (map entry_of items))
 
--- the own last label and time, the time and the place, the last item of each sender with its tags, the current commitments and the openings that are known
+-- the role's own last label and its time, the time and the place, the last item of each sender with its tags, the current commitments and the
+-- openings that are known
 pub record Kept : Type 0 where
   pub origin : Option ℕ
   pub own_time : ℕ

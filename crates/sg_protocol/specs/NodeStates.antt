@@ -70,7 +70,7 @@ has_sid sid h = bytes_eq h.sid sid
 abbrev pub is_held_for : Frame → Held → Bool
 is_held_for f h = bytes_eq h.sid f.sid && (h.role == f.receiver) && ((h.cast).version == f.version)
 
--- at its turn what is held is over where no edge leaves the place, and else where its role has no node to come to
+-- at its turn what is held is over where no edge leaves the place, and otherwise where its role has no node to come to
 abbrev pub is_spent : Program → Held → Bool
 is_spent p h =
     if role_at (shape p.graph) (h.kept).place == h.role

@@ -83,7 +83,7 @@ read_cast version =
 abbrev pub read_pair : ℕ → Reader (List ℕ) → ℕ → Reader (ℕ × List ℕ)
 read_pair high reader least = after (number w8 least high) λ k. after reader λ v. give (k, v)
 
--- at most so many pairs, whose keys rise
+-- at most `most` pairs, whose keys rise
 abbrev pub read_map : ℕ → ℕ → Reader (List ℕ) → Reader (Map (List ℕ))
 read_map most high reader = after (number w8 0 most) λ count. rising_times (λ (p : ℕ × List ℕ). p.0) count 0 (read_pair high reader)
 

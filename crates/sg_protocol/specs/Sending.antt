@@ -59,7 +59,7 @@ own_item sha keys p s label written =
 
 -- ---- the frame
 
--- the opening of x, the written ones first
+-- the opening of x, where the written ones take precedence
 abbrev pub opening_of : Session → List Opening → ℕ → Option Opening
 opening_of s written x = option_or (opening_in written x) (known s x)
 

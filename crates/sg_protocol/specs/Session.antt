@@ -61,11 +61,11 @@ last_label items = option_map (λ i. i.label) (last items)
 abbrev pub last_time : List Item → ℕ
 last_time items = unwrap_or (option_map (λ i. i.time) (last items)) 0
 
--- the own last label, or None at the start
+-- the role's own last label, or None at the start
 abbrev pub origin : Session → Option ℕ
 origin s = last_label (own s)
 
--- the time of the own last item
+-- the time of the role's own last item
 abbrev pub own_time : Session → ℕ
 own_time s = last_time (own s)
 

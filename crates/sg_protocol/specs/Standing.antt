@@ -93,7 +93,7 @@ held_after g h e = record h { kept = kept_with g h.role h.kept (items_of e) (ope
 pub record StatesStand (sha : Hash) : Type 0 where
   -- of the sessions for which one state stands the role keeps the same
   pub keeps_same : (g : Graph) (h : Held) (s t : Session) → h ≡ held g s → h ≡ held g t → KeepsSame g s t
-  -- while all that was told ends with an own item, there is one time, and the place is the end of the own last step
+  -- while all that was told ends with an own item, there is one time, and the place is the end of the role's own last step
   pub one_time : (s : Session) → EndsWithOwn s → time s ≡ own_time s
   pub own_place : (g : Graph) (s : Session) → EndsWithOwn s → place g s ≡ unwrap_or (option_map (target (shape g)) (origin s)) 0
   pub is_new : (g : Graph) (sid : List ℕ) (c : Cast) (r : ℕ) → StandsBefore g (record { sid = sid; cast = c; role = r; kept = nothing_kept g }) (new_session sid c r)
@@ -101,7 +101,7 @@ pub record StatesStand (sha : Hash) : Type 0 where
   -- the start node's role begins, and each other waits to join
   pub begins : (g : Graph) (h : Held) (s : Session) → StandsBefore g h s → (h.kept).origin ≡ None → role_at (shape g) 0 ≡ h.role → StandsAtTurn g h s
   pub joins : (g : Graph) (h : Held) (s : Session) → StandsBefore g h s → (h.kept).origin ≡ None → role_at (shape g) 0 ≢ h.role → StandsWaiting g h s
-  -- an own step along an edge of an accepted graph from the place
+  -- a step of the role along an edge of an accepted graph from the place
   pub gives : (keys : Keyring) (p : Program) (h : Held) (s : Session) (label : ℕ) (written : List Opening) → Accepted p.graph → StandsAtTurn p.graph h s → leaves p.graph s label ≡ true →
       let e = Gave (own_item sha keys p s label written) written in
       StandsWaiting p.graph (held_after p.graph h e) (extended s e)

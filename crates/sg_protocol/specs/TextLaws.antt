@@ -95,7 +95,7 @@ OneTextTo = (g h : Graph) (s t : Session) (before before' : List Item) (i j : It
 abbrev pub OneBody : Type 0
 OneBody = (v w : ℕ) (b c : List ℕ) → IsVersion v → IsVersion w → frame_text_of v b ≡ frame_text_of w c → (v ≡ w) × (b ≡ c)
 
--- a frame text is of one frame, but for its tag
+-- a frame text is of one frame, except for its tag
 abbrev pub OneFrame : Type 0
 OneFrame = (v w : ℕ) (f g : Frame) → HasSpelling f → HasSpelling g → frame_text_of v (body f) ≡ frame_text_of w (body g) → untagged f ≡ untagged g
 

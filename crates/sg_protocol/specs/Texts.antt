@@ -26,7 +26,7 @@ real = sha256
 abbrev pub key_block : Hash → List ℕ → List ℕ
 key_block sha key = let short = if nat_lt 64 (length key) then sha key else key in short ++ replicate (64 - length short) 0
 
--- each byte, with the pad's bits turned
+-- each byte, XORed with the pad
 abbrev pub padded : ℕ → List ℕ → List ℕ
 padded pad block = map (λ b. bit_xor pad b) block
 
@@ -40,15 +40,15 @@ cut version tag = if version == 2 then take 16 tag ++ replicate 16 0 else tag
 
 -- ---- the texts
 
--- what a graph's digest is of
+-- the text under a graph's digest
 abbrev pub graph_text_of : Graph → List ℕ
 graph_text_of g = codes "sg-graph-1" ++ canonical g
 
--- what a session's identifier is of
+-- the text under a session's identifier
 abbrev pub session_text_of : Cast → List ℕ
 session_text_of c = concat ((if c.version == 2 then codes "sg-session-2" else codes "sg-session-1") ∷ c.graph ∷ c.nonce ∷ u8 (length c.names) ∷ flat_map short_text c.names ∷ [])
 
--- what a commitment is of
+-- the text under a commitment
 abbrev pub commitment_text_of : List ℕ → Opening → List ℕ
 commitment_text_of sid o = concat (codes "sg-commit-1" ∷ sid ∷ opening_bytes o ∷ [])
 
@@ -62,7 +62,7 @@ abbrev pub item_text_of : ℕ → List ℕ → ℕ → ℕ → ℕ → ℕ → L
 item_text_of version sid sender target label time commitments =
     concat ((if version == 2 then codes "sg-item-2" else codes "sg-item-1") ∷ sid ∷ u8 sender ∷ u8 target ∷ u16 label ∷ u32 time ∷ flat_map maybe_commitment commitments ∷ [])
 
--- what a frame's tag is of
+-- the text under a frame's tag
 abbrev pub frame_text_of : ℕ → List ℕ → List ℕ
 frame_text_of version body = (if version == 2 then codes "sg-frame-2" else codes "sg-frame-1") ++ body
 

@@ -89,7 +89,7 @@ are_hidden g honest taken (s ∷ ss) =
     list_all (λ (w : ℕ × Option Value). beq (is_none w.1) (not (honest (sender (shape g) s.label)) && not (is_carried g honest taken w.0 (s ∷ ss)))) s.writes
     && are_hidden g honest taken ss
 
--- the honest roles' events, in order and with their values, are their part of one walk, save perhaps a last receipt
+-- the honest roles' events, in order and with their values, are their part of one walk, except perhaps for a last receipt
 pub record OnePath (g : Graph) (honest : ℕ → Bool) (events : List Event) (steps : List StoredStep) : Type 0 where
   -- whether the last receipt was taken
   pub taken : Bool

@@ -65,7 +65,7 @@ new_world programs s = record {
 
 -- ---- the call of a step
 
--- the lowest bit of the byte at the offset is turned
+-- the lowest bit of the byte at the offset is flipped
 abbrev pub flipped : ℕ → List ℕ → List ℕ
 flipped at bs = option_map_or (λ b. set bs at (bit_xor b 1)) (slice_get bs at) bs
 

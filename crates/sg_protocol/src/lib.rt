@@ -4,8 +4,9 @@
 //! and its contracts cite them. Each function here is a law about the definitions: it does nothing, and its contract
 //! is the law.
 //!
-//! Reading order, shortest way first. What the headline says: `Graph`, `Evidence`, `Accepted`, `Frame`, `Session`, `Sending`,
-//! `Verdict`, `Acting`, `Calls`, `Past`, `Schedule`, `World`, `Run`, `Premises`, `Walk`, `Headline`. What code keeps and may
+//! Reading order, shortest way first. What the headline says: `Graph`, `Targets`, `Knowledge`, `Evidence`, `Accepted`, `Frame`,
+//! `Spelling`, `Reading`, `Texts`, `Keyring`, `Session`, `Sending`, `Checks`, `Calls`, `Node`, `Verdict`, `Acting`, `NodeAfter`,
+//! `Past`, `Notes`, `Schedule`, `World`, `Crafted`, `Run`, `Premises`, `Walk`, `IsSchedule`, `Headline`. What code keeps and may
 //! rely on: `Kept`, `Standing`, `Following`, `Live`, `Backed`, `NodeStates`, `Ranges`. What a replay tells: `Grown`, `Steps`,
 //! `Broken`, `Turn`, `Told`. What else holds: `Isolation`, `Receipts`, `LastSteps`, `Completeness`, `GoesOn`. Examples are computed in
 //! `proofs/Example*.antt`; of the proofs read `proofs/Whole.antt` first, which puts the headline together.
@@ -77,20 +78,20 @@ pub fn kept_is_enough()
 {}
 
 /// What a role keeps of a session follows a walk from the start, whoever sent what it accepted. A new session follows the
-/// empty walk. At its turn in an accepted graph it still does after an own step along an edge from its place that writes
+/// empty walk. At its turn in an accepted graph it still does after a step of its own along an edge from its place that writes
 /// what the edge writes, and then the role waits. Where all that it was told is up to its own last item, it still does under
 /// the program of its role after a frame on which no row holds, and then the role is at its turn. At its turn the walk ends
-/// at its place, and else with its own last label. So at its turn in an accepted graph what an edge from its place reads is
+/// at its place, and otherwise with its own last label. So at its turn in an accepted graph what an edge from its place reads is
 /// written by the edge or has a kept opening, whose commitment is the current one, also after the step.
 pub fn kept_follows()
     ensures { (sha : List ℕ → List ℕ) → KeptFollowsWalks sha }
 {}
 
 /// What a role holds stands for each session of which it keeps the same. A new state stands for a new session, which begins
-/// where its role starts the graph, and else waits. At its turn in an accepted graph it stands, after an own step along an
-/// edge from its place, for each such session with the step, and waits. Where all that was told is up to the own last item,
-/// it stands, under the program of its role and after a frame on which no row holds, for each such session with the frame,
-/// at its turn. The kept items afterwards are what is kept of the kept and the new ones.
+/// where its role starts the graph, and otherwise waits. At its turn in an accepted graph it stands, after a step of its own along an
+/// edge from its place, for each such session with the step, and waits. Where all that was told is up to its own last item, it
+/// stands, under the program of its role and after a frame on which no row holds, for each such session with the frame, at its
+/// turn. The kept items afterwards are what is kept of the kept and the new ones.
 pub fn states_stand()
     ensures { (sha : List ℕ → List ℕ) → StatesStand sha }
 {}
@@ -113,8 +114,9 @@ pub fn frames_are_short()
     ensures { FramesAreShort }
 {}
 
-/// What a step sends has a spelling, at most fifteen items, and so few bytes: of a session in range at its turn, along an
-/// edge from its place, before the last time, with openings in range of what the edge writes; and so in each run.
+/// What a step sends has a spelling, at most fifteen items, and at most 57,028 bytes, or 53,652 in version 2: of a session in range
+/// at its turn, along an edge from its place, before the last time, with openings in range of what the edge writes; and so in each
+/// run.
 pub fn sent_are_short()
     ensures by_sessions { (sha : List ℕ → List ℕ) → IsHash sha → SentAreShort sha }
     ensures in_runs { (sha : List ℕ → List ℕ) → IsHash sha → RunsSendShort sha }
@@ -123,7 +125,8 @@ pub fn sent_are_short()
 /// A session of any node stays in range: a new one of a sid and a cast in range and a role below 16, one that a frame with a
 /// spelling joins, one after a step under a program on which no row holds, with values in range, and one after a frame of
 /// its version with a spelling. So after each call in range the live sessions of a node are in range, where they were before
-/// and its programs are programs, and each frame that it sends has a spelling, at most fifteen items, and so few bytes.
+/// and its programs are programs, and each frame that it sends has a spelling, at most fifteen items, and at most 57,028 bytes, or
+/// 53,652 in version 2.
 pub fn stay_in_range()
     ensures by_sessions { (sha : List ℕ → List ℕ) → IsHash sha → SessionsStayInRange sha }
     ensures at_nodes { (sha : List ℕ → List ℕ) → IsHash sha → NodesStayInRange sha }
@@ -155,14 +158,14 @@ pub fn node_states_stand()
     ensures { (sha : List ℕ → List ℕ) → IsHash sha → NodeStatesStand sha }
 {}
 
-/// A program's table has a view from an own label of its role, which keeps a waiting session live, exactly where some
+/// A program's table has a view from a label that its role sends, which keeps a waiting session live, exactly where some
 /// walk from the end of that edge leads to a node of the role.
 pub fn tables_show_returns()
     ensures { (sha : List ℕ → List ℕ) → TablesShowReturns sha }
 {}
 
-/// Where no call was refused for want of room, a node answers the calls of a session as a node would that gets no
-/// others, whatever hashes.
+/// Where no call was refused because there was no room, a node answers the calls of a session as a node that gets no other calls
+/// would, for any hash function.
 pub fn sessions_isolated()
     ensures { (sha : List ℕ → List ℕ) → SessionsAreIsolated sha }
 {}
@@ -251,18 +254,19 @@ pub fn single_steps()
 
 /// An answer that is an event, or that refuses a variable by number, is told by the graph of the call's session: that of the
 /// starter of a start's cast, of the live session with an act's sid, or of the joining frame's cast, else of the live session
-/// that the frame is for. This graph is there, and has each role, label and variable that the answer names, but for a refused
+/// that the frame is for. This graph is there, and has each role, label and variable that the answer names, except for a refused
 /// variable for which the call gave a value; an event has the session's sid and role. So it is at any node whose programs are
 /// programs. Each entry of a run with a call is what the node of its principal's past, before the step, answers to the call, so
-/// each such entry is told so. Where no two hashed texts of the run have one digest, the graph is the one that the schedule has
-/// for the session's cast, and this is the cast of the sid's first event, where there is one, as for an event and a live session.
+/// each such entry is told so. Where no two hashed texts of the run have one digest, the graph is the one that the schedule has for
+/// the session's cast, and this is the cast of the sid's first event, where there is one, as for an event and a live session.
 pub fn steps_are_told()
     ensures { (sha : List ℕ → List ℕ) → IsHash sha → StepsAreTold sha }
 {}
 
 /// What breaks a premise first is computed: there is no first forged note exactly where no tag of two honest principals was
 /// forged, and no first collision exactly where no two texts have the same hash. Otherwise the note is the first that was
-/// found so, step by step. Of the pairs that collide the later text stands first, and then the earlier one.
+/// found so, step by step. Of the pairs that collide, it is the one whose later text comes first, and of these the one whose
+/// earlier text comes first.
 pub fn first_breaks()
     ensures forged { ForgedIsFirst }
     ensures collision { (sha : List ℕ → List ℕ) → CollisionIsFirst sha }

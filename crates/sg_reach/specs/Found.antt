@@ -28,7 +28,7 @@ IsFoundBy g m past found n (suc k) last =
 abbrev pub AreWalks : Shape → ℕ → List ℕ → List (Option Found) → Type 0
 AreWalks g m past found = (n : ℕ) (f : Found) → found_at found n ≡ Some f → IsFoundBy g m past found n f.edges f.last
 
--- where an edge leaves a node that was found and has none of the roles, its target was found too, but for edges of which the last fact is true
+-- where an edge leaves a node that was found and has none of the roles, its target was found too, except for edges of which `but` holds
 abbrev pub IsClosedBut : Shape → List ℕ → List (Option Found) → (ℕ → Type 0) → Type 0
 IsClosedBut g past found but = (e : ℕ) → e < length g.edges → IsFound found (source g e) → is_in (sender g e) past ≡ false → IsFound found (target g e) ⊎ but e
 
@@ -36,7 +36,7 @@ IsClosedBut g past found but = (e : ℕ) → e < length g.edges → IsFound foun
 abbrev pub Waits : Search → ℕ → Type 0
 Waits s n = (i : ℕ) × (s.at ≤ i) × (i < s.count) × (get_or s.queue i 0 ≡ n)
 
--- each node that was found has its walk and stands in the queue once; those before `at` were followed, but for the edges that are left
+-- each node that was found has its walk and stands in the queue once; those before `at` were followed, except for the edges that are left
 pub record IsSearch (g : Shape) (left : ℕ → Type 0) (s : Search) : Type 0 where
   pub sizes : (length s.found ≡ most_nodes) × (length s.queue ≡ most_nodes)
   pub begun : IsFound s.found s.from

@@ -1,4 +1,4 @@
--- Which nodes walks reach past no node of some roles.
+-- Which nodes can be reached by walks that pass no node of some roles.
 use Rattle.std.specs.Prelude.{◌≡◌, ℕ, ◌<◌, false, List, length, Option, Some, None, IsTrue}
 use Rattle.sg_model.specs.Last.{has}
 use Rattle.sg_model.specs.Lists.{is_in}

@@ -12,7 +12,8 @@ use sg_graph::Graph;
 use std::alloc::Global;
 use std::marker::Model;
 
-/// The nodes that walks from a node reach past no node of some roles. A clause sees it as the graph, the node and the roles.
+/// The nodes that can be reached from a node by walks that pass no node of some roles. A clause sees it as the graph, the node and
+/// the roles.
 #[derive(Debug, Drop)]
 pub struct Reach<'g> {
     graph: &'g Graph,
@@ -33,7 +34,8 @@ impl<'g> Model for Reach<'g> {
 }
 
 impl<'g> Reach<'g> {
-    /// The nodes that walks from a node reach past no node of these roles. Where the node has one of the roles, it alone is reached.
+    /// The nodes that can be reached from the node by walks that pass no node of these roles. Where the node has one of the roles,
+    /// it alone is reached.
     pub fn new(graph: &'g Graph, from: NodeId, past: RoleSet) -> Reach<'g>
         requires { from < length graph.now.nodes }
         ensures { result ≡ record { graph = graph.entry.now; from = from; past = past } }
@@ -80,7 +82,7 @@ impl<'g> Reach<'g> {
         found[node.0 as usize].is_some()
     }
 
-    /// The least node of the role that is reached.
+    /// The least reached node of the role, or `None` where none is reached.
     pub fn first_of(&self, role: Role) -> Option<NodeId>
         ensures { IsFirstOf self.now role result }
     {
@@ -94,7 +96,7 @@ impl<'g> Reach<'g> {
         None
     }
 
-    /// A walk to a node that is reached. Which of them is free. It takes memory for the walk.
+    /// A walk to a node that is reached; which of several is not specified. It takes memory for the walk.
     pub fn walk_to(&self, alloc: Global, node: NodeId) -> Result<Vec<Label>, OutOfMemory>
         requires there { node < length self.now.graph.nodes }
         requires within { IsWithin self.now node }

@@ -26,7 +26,7 @@ use Rattle.sg_role.proofs.Shown.{seen_frame}
 use Rattle.sg_role.proofs.Spelled.{all_at}
 use Rattle.sg_role.proofs.Translated.{all_more, rising_items, rows_same}
 
--- ---- the own last time
+-- ---- the role's own last time
 
 times_small : (v : ℕ) (i : Item) (is : List Item) → AllByRecursion (IsItem v) (i ∷ is) → (last_or i is).time ≤ 1000000
 times_small v i [] a = a.0.time.1
@@ -57,7 +57,7 @@ module _ (p : Program) (ip : IsProgram real p) (h : Held) (mine : h.role ≡ p.r
       let s = b.backed.session in
       subst (λ (z : Held). overwritten_by z.kept.commitments f.items ≡ map (λ x. option_or (committed x f.items) (get_or z.kept.commitments x None)) (below (length p.graph.variables))) (sym b.backed.stands.holds) (commitments_held s sp)
 
-  -- ---- the own last step stays as it is
+  -- ---- the role's own last step stays as it is
 
   none_own : is_seen p h.kept.origin f ≡ true → up_to_last (λ (i : Item). i.role) h.role f.items ≡ []
   none_own e = up_free (λ (i : Item). i.role) h.role f.items (ap (λ r. has (λ (i : Item). i.role) r f.items) mine ∙ (seen_frame p ip h.kept.origin f e).others)

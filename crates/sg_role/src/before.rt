@@ -96,14 +96,14 @@ impl<'p> Before<'p> {
         self.kept.cast.get()
     }
 
-    /// The own last label, or the start. It takes no memory.
+    /// The role's own last label, or the start. It takes no memory.
     pub fn from(&self) -> Origin
         ensures { origin_of result ≡ self.now.held.kept.origin }
     {
         self.kept.from
     }
 
-    /// The time of the own last step, 0 before the first. It takes no memory.
+    /// The time of the role's own last step, 0 before the first. It takes no memory.
     pub fn time(&self) -> Time
         ensures { result ≡ self.now.held.kept.own_time }
     {
@@ -131,7 +131,7 @@ fn tell(program: &Program, cast: &Cast)
     let _ = cast.version();
 }
 
-/// The ticket is of this session and role, and the role has sent nothing.
+/// Whether the ticket is of this session and role, and the role has sent nothing.
 pub(crate) fn fits(ticket: &Ticket, before: &Before) -> bool
     ensures { IsTrue result ↔ ((ticket.now ≡ (before.now.held.sid, before.now.held.role)) × (before.now.held.kept.origin ≡ None)) }
 {

@@ -15,7 +15,7 @@ use sg_frame::Item;
 use std::alloc::Global;
 use std::slice::from_ref;
 
-/// The kept items with the own one, where the graph has so many variables.
+/// The kept items with the role's own one, where the graph has `count` variables.
 pub(crate) fn items_with(
     alloc: Global,
     count: u8,
@@ -98,7 +98,7 @@ pub(crate) fn vars_of(alloc: Global, set: VarSet) -> Result<Vec<Var>, OutOfMemor
     Ok(list)
 }
 
-/// The openings of these variables, the written ones first.
+/// The openings of these variables, where the written ones take precedence.
 pub(crate) fn openings_of(
     alloc: Global,
     vars: &[Var],

@@ -9,7 +9,7 @@ use thiserror::Error;
 /// Why a frame that is for a role and its session is not accepted, the first cause that holds.
 #[derive(Debug, Clone, Copy, PartialEq, Eq, Error)]
 pub enum Refusal {
-    /// The sender is no role of the cast, or the frame's tag is not right under the key shared with its principal.
+    /// The sender is not a role of the cast, or the frame's tag is not right under the key shared with its principal.
     #[error("bad frame tag")]
     BadFrameTag,
     /// What the frame shows is no view of the role from its own last step; or an item's role isn't its label's sender, the last item's

@@ -23,9 +23,9 @@ pub(crate) struct Kept<'p> {
     pub program: &'p Program,
     pub sid: Sid,
     pub cast: SharedCast,
-    /// The own last label.
+    /// The role's own last label.
     pub from: Origin,
-    /// The time of the own last step.
+    /// The time of the role's own last step.
     pub own_time: Time,
     /// The time of the last step.
     pub time: Time,
@@ -85,7 +85,7 @@ impl<'p> Kept<'p> {
         self.cast.of(role)
     }
 
-    /// The role is that of the start node. It takes no memory.
+    /// Whether the role is that of the start node. It takes no memory.
     pub fn starts(&self) -> bool
         ensures { IsTrue result ↔ (role_at (shape (state_of self.now).program.graph) 0 ≡ (state_of self.now).held.role) }
     {
@@ -93,7 +93,7 @@ impl<'p> Kept<'p> {
         self.program.role() == graph.node_role(NodeId(0))
     }
 
-    /// An edge leaves the place. It takes no memory.
+    /// Whether an edge leaves the place. It takes no memory.
     #[tactic(auto, using(crate::proofs::Edges::goes_on_by, crate::proofs::Edges::none_goes_on))]
     pub fn goes_on(&self) -> bool
         ensures { result ≡ goes_on (state_of self.now).program.graph (state_of self.now).held.kept.place }

@@ -110,7 +110,7 @@ fn values_shown(alloc: Global, openings: &[Opening]) -> Result<Seq<(Var, Value)>
 
 // ---- items
 
-/// The items that are kept of these and, after them, of more, where the graph has so many variables.
+/// The items that are kept of these and, after them, of more, where the graph has `count` variables.
 pub(crate) fn kept_with(
     alloc: Global,
     count: u8,
@@ -202,7 +202,7 @@ fn in_either(earlier: &[(Var, [u8; 32])], later: &[(Var, [u8; 32])], var: Var) -
     }
 }
 
-/// An item is of the role.
+/// Whether an item is of the role.
 pub(crate) fn has_role(items: &[Item], role: Role) -> bool
     ensures { result ≡ has (λ i. i.role) role items.now }
 {
@@ -217,7 +217,7 @@ pub(crate) fn has_role(items: &[Item], role: Role) -> bool
 
 // ---- openings
 
-// The openings of so many variables, those that are shown first.
+// The openings of `count` variables, where those that are shown take precedence.
 #[tactic(auto, using(crate::proofs::Lists::map_below))]
 fn openings_with(
     alloc: Global,
@@ -248,7 +248,7 @@ fn opening_with(
     }
 }
 
-/// The opening of a variable, those that are shown first.
+/// The opening of a variable, where those that are shown take precedence.
 pub(crate) fn opening_of<'a>(
     openings: &'a [Option<Opening>],
     shown: &'a [Opening],

@@ -51,7 +51,7 @@ pub(crate) fn check_frame_tag(
     Ok(())
 }
 
-// What a frame's tag is of, by its bytes.
+// The text under a frame's tag, by the frame's bytes.
 fn text_of_frame(alloc: Global, frame: &Frame, bytes: &[u8]) -> Result<Vec<u8>, OutOfMemory>
     requires { SpellsFrame bytes.now frame.now }
     ensures { IfOk result (λ t. t.items ≡ text_of frame.now) }
@@ -72,7 +72,7 @@ fn is_tag(keys: &Keyring, peer: &Name, version: u8, text: &[u8], tag: &Tag) -> b
     }
 }
 
-/// Whether each item but the last has a right tag for the role, and which are found right before the first that has not is noted. It gives
+/// Whether each item except the last has a right tag for the role. Those found right, up to the first that is not, are noted. It gives
 /// the commitments after all items.
 pub(crate) fn check_items(
     alloc: Global,

@@ -73,7 +73,7 @@ impl<'p> Turn<'p> {
         self.kept.time
     }
 
-    /// The label leaves the node. It takes no memory.
+    /// Whether the label leaves the node. It takes no memory.
     pub fn choices(&self, label: Label) -> bool
         ensures { result ≡ (nat_lt label (length self.now.program.graph.edges) && source (shape self.now.program.graph) label == self.now.held.kept.place) }
     {

@@ -28,9 +28,9 @@ use sg_vis::ViewId;
 use std::alloc::Global;
 use std::rc::Rc;
 
-/// Looks at a frame that is for a role and its session, and was read from these bytes: accepts it or says why not. Row by row as the
-/// definition has them: the frame's tag, what it shows, the times, the tags of the items, the openings. What was found right and what
-/// was hashed is noted. When memory runs out nothing is noted.
+/// Looks at a frame that is for a role and its session, and was read from these bytes: accepts it or says why not. It goes row by
+/// row, as the definition has them: the frame's tag, what it shows, the times, the tags of the items, the openings. What was found
+/// right and what was hashed is noted. If memory runs out, nothing is noted.
 pub fn examine<'p>(
     alloc: Global,
     before: &Before<'p>,

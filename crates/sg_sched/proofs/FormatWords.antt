@@ -32,7 +32,7 @@ pub number_decimal : (n : ℕ) → n < 2 ^ 64 → number_word (decimal n) ≡ So
 number_decimal n small = let same : digits_value 10 (decimal n) ≡ n = (decimal_is_IsNumeral n small).1 in
     rw (same, same_self (decimal n))
 
--- ---- bytes that names and numbers lack
+-- ---- bytes that names and numbers don't have
 
 -- no byte is x
 abbrev pub lacks : ℕ → Word → Bool

@@ -1,4 +1,4 @@
--- Which steps can be taken: what a step names, but for the principal, is declared, and what it says is in range.
+-- Which steps can be taken: what a step names, except for the principal, is declared, and what it says is in range.
 use Rattle.std.specs.Prelude.{◌<◌, ⊤, length}
 use Rattle.sg_protocol.specs.IsSchedule.{IsStep}
 use Rattle.sg_protocol.specs.Schedule.{Step, Schedule, StartStep, ActStep, AbandonStep, DeliverStep, CraftStep}

@@ -2,7 +2,7 @@
 use Rattle.std.specs.Prelude.{ℕ, ◌-◌, ◌==◌, nat_lt, if◌then◌else◌, List, [], ◌∷◌, length, take, filter, slice_index}
 use Rattle.std.specs.List.{slice_split, onto_first}
 
--- the lines, each with its line end, which the last may lack
+-- the lines, each with its line end, which the last need not have
 abbrev pub lines : List ℕ → List (List ℕ)
 lines [] = []
 lines (c ∷ cs) = if c == 10 then (c ∷ []) ∷ lines cs else onto_first c (lines cs)

@@ -1,4 +1,4 @@
--- What single words of a line spell, beside numbers and bytes: recorded frames and lists of names.
+-- What single words of a line spell, besides numbers and bytes: recorded frames and lists of names.
 use Rattle.std.specs.Prelude.{ℕ, ◌==◌, ◌&&◌, if◌then◌else◌, List, [], ◌∷◌, Option, Some, None, option_and_then}
 use Rattle.std.specs.List.{list_all, slice_split}
 use Rattle.sg_model.specs.Names.{Name, is_name}

@@ -11,7 +11,7 @@ use crate::word::read_name;
 use sg_base::{OutOfMemory, Seq};
 use std::alloc::Global;
 
-/// What stands before the first byte `mark` and behind it.
+/// What stands before the first byte `mark` and after it.
 pub fn split_at(mark: u8, word: &[u8]) -> Option<(&[u8], &[u8])>
     ensures { MatchOption result (split_at mark word.now ≡ None) (λ p. split_at mark word.now ≡ Some (p.0.now, p.1.now)) }
 {

@@ -18,7 +18,7 @@ use crate::word::{read_frame, read_name};
 use sg_base::{Name, OutOfMemory, Seq, read_number};
 use std::alloc::Global;
 
-/// What stands before the last byte `mark` and behind it.
+/// What stands before the last byte `mark` and after it.
 fn split_last(mark: u8, word: &[u8]) -> Option<(&[u8], &[u8])>
     ensures { MatchOption result (split_last mark word.now ≡ None) (λ p. split_last mark word.now ≡ Some (p.0.now, p.1.now)) }
 {
@@ -93,7 +93,7 @@ fn take_run<'a>(alloc: Global, words: &mut Words<'a>) -> Result<Seq<Committed<'a
     }
 }
 
-/// The word and one commitment or more behind it, or nothing.
+/// The word and one commitment or more after it, or nothing.
 #[tactic(auto, using(crate::proofs::RunLaws::listed_first, crate::proofs::RunLaws::listed_other))]
 fn take_listed<'a>(
     alloc: Global,
@@ -112,7 +112,7 @@ fn take_listed<'a>(
     Ok(Some(found))
 }
 
-/// At most 32 openings behind the word `open`, or nothing.
+/// At most 32 openings after the word `open`, or nothing.
 fn take_opened<'a>(
     alloc: Global,
     words: &mut Words<'a>,
@@ -169,7 +169,7 @@ fn take_source(words: &mut Words) -> Option<From>
     }
 }
 
-/// A tag, from behind its first word.
+/// A tag, after its first word.
 #[tactic(auto, unfolding(crate::specs::Format::CraftReading::tag))]
 fn take_tag(words: &mut Words) -> Option<TagLine>
     ensures { tag words.old ≡ taken result words.new }
@@ -179,7 +179,7 @@ fn take_tag(words: &mut Words) -> Option<TagLine>
     Some(TagLine { role, from })
 }
 
-/// Tags, up to 14, each behind the word `tag`.
+/// Tags, up to 14, each after the word `tag`.
 fn take_tags(alloc: Global, words: &mut Words) -> Result<Option<Seq<TagLine>>, OutOfMemory>
     ensures { IfOk result (λ o. repeated (codes "tag") tag 14 words.old ≡ taken o words.new) }
 {
@@ -230,7 +230,7 @@ fn take_delta<'a>(
     Ok(Some(delta))
 }
 
-/// An item, from behind its first word.
+/// An item, after its first word.
 #[tactic(auto, unfolding(crate::specs::Format::CraftReading::item))]
 fn take_item<'a>(alloc: Global, words: &mut Words<'a>) -> Result<Option<ItemLine<'a>>, OutOfMemory>
     ensures { IfOk result (λ o. item words.old ≡ taken o words.new) }
@@ -255,7 +255,7 @@ fn take_item<'a>(alloc: Global, words: &mut Words<'a>) -> Result<Option<ItemLine
     }))
 }
 
-/// Items, up to 65,535, each behind the word `item`.
+/// Items, up to 65,535, each after the word `item`.
 fn take_items<'a>(
     alloc: Global,
     words: &mut Words<'a>,
@@ -277,7 +277,7 @@ fn take_items<'a>(
     Ok(Some(items))
 }
 
-/// The nonce behind the word `nonce`, or nothing.
+/// The nonce after the word `nonce`, or nothing.
 #[tactic(auto, using(crate::proofs::RunLaws::optional_first, crate::proofs::RunLaws::optional_other))]
 fn take_nonce(words: &mut Words) -> Option<Option<u64>>
     ensures { optional (codes "nonce") (number 18446744073709551615) words.old ≡ taken result words.new }
@@ -322,7 +322,7 @@ fn read_list(alloc: Global, word: &[u8]) -> Result<Option<Seq<Name>>, OutOfMemor
     }
 }
 
-/// The names behind the word `cast`, or nothing.
+/// The names after the word `cast`, or nothing.
 #[tactic(auto, using(crate::proofs::RunLaws::optional_first, crate::proofs::RunLaws::optional_other), unfolding(crate::specs::Format::Reading::word))]
 fn take_cast(alloc: Global, words: &mut Words) -> Result<Option<Option<Seq<Name>>>, OutOfMemory>
     ensures { IfOk result (λ o. optional (codes "cast") cast words.old ≡ taken o words.new) }
@@ -353,7 +353,7 @@ fn take_parts(alloc: Global, words: &mut Words) -> Result<Option<CraftJoin>, Out
     Ok(Some(CraftJoin { nonce, names }))
 }
 
-/// The word `join` and what is behind it, or nothing.
+/// The word `join` and what is after it, or nothing.
 #[tactic(auto, using(crate::proofs::RunLaws::join_first, crate::proofs::RunLaws::join_other))]
 fn take_join(alloc: Global, words: &mut Words) -> Result<Option<Option<CraftJoin>>, OutOfMemory>
     ensures { IfOk result (λ o. join words.old ≡ taken o words.new) }
@@ -407,7 +407,7 @@ fn take_ends(words: &mut Words) -> Option<(Name, Name, Name)>
     Some((session, from, to))
 }
 
-/// A craft, from behind its first word.
+/// A craft, after its first word.
 #[tactic(auto, unfolding(crate::specs::Format::CraftReading::craft_form))]
 pub(crate) fn craft<'a>(
     alloc: Global,

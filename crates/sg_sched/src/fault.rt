@@ -20,10 +20,10 @@ pub enum Kind {
     /// The block's text is refused, at its closing line.
     #[error("graph {0}")]
     Graph(ParseFault),
-    /// It is the step 200,001.
+    /// It is step 200,001.
     #[error("too many steps")]
     TooManySteps,
-    /// It is the session 100,001.
+    /// It is session 100,001.
     #[error("too many sessions")]
     TooManySessions,
 }

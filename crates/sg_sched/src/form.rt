@@ -1,4 +1,4 @@
-//! The forms of a line, each read from behind its first word.
+//! The forms of a line, each read after its first word.
 ghost use Rattle.std.specs.Prelude.{◌≡◌, ◌≤◌, IfOk, IfSome, option_map, option_copied, length};
 ghost use Rattle.sg_base.specs.Words.{name, number};
 ghost use Rattle.sg_sched.specs.Words.{names, frame};
@@ -184,7 +184,7 @@ pub(crate) fn abandon<'a>(words: &mut Words<'a>) -> Option<Line<'a>>
     Some(Line::Abandon { who, session })
 }
 
-/// `fN` and `flip I` or `cut I` behind it.
+/// `fN` and `flip I` or `cut I` after it.
 #[tactic(auto, unfolding(crate::specs::Format::Reading::frame_form))]
 fn frame<'a>(who: Name, number: u32, words: &mut Words<'a>) -> Option<Line<'a>>
     ensures { option_map said result ≡ frame_form who number words.old }

@@ -9,11 +9,11 @@
 //! | `edge LABEL FROM TO` | an edge of the graph `pair`, from node to node, each a number from 0 to 255, one even and one odd; role a acts at even nodes, role b at odd ones |
 //! | `honest NAME` | the principal is honest |
 //! | `key NAME NAME HEX` | the 32-byte key of two different principals, as 64 hexadecimal digits |
-//! | `session NAME GRAPH NONCE NAME,NAME,..` | a session of the graph, with a principal for each role; `v2` behind it for version 2 |
+//! | `session NAME GRAPH NONCE NAME,NAME,..` | a session of the graph, with a principal for each role; `v2` after it for version 2 |
 //! | `start NAME SESSION` | the principal starts the session |
 //! | `act NAME SESSION LABEL VAR=VALUE ..` | the principal sends along the label and writes the values |
 //! | `abandon NAME SESSION` | the principal leaves the session |
-//! | `deliver NAME fN` | the principal is given recorded frame N, counted from 1; with `flip I` or `cut I` behind it a changed one, and with `hex HEX` in its place any bytes |
+//! | `deliver NAME fN` | the principal is given recorded frame N, counted from 1; with `flip I` or `cut I` after it a changed one, and with `hex HEX` in its place any bytes |
 //! | `craft SESSION from ROLE to ROLE ..` | a compromised principal makes a frame, which is recorded |
 //!
 //! What bytes spell, and their first wrong line, stands in `specs/Format`. Here are the types of a schedule and the reading of each single

@@ -117,7 +117,7 @@ fn add_role(graph: &mut Graph, name: Name) -> Result<(), OutOfMemory>
     }
 }
 
-// The graph with one edge more, and the nodes that it needs.
+// The graph with one more edge, and the nodes that it needs.
 fn add_edge(graph: &mut Graph, label: Name, from: u8, to: u8) -> Result<(), OutOfMemory>
     requires pair { graph.old ≡ pair_graph graph.old.edges }
     requires plain { has_text label reserved ≡ false }

@@ -48,7 +48,7 @@ fn read_int(word: &[u8]) -> Option<Value>
     }
 }
 
-/// A text from behind its first double quote.
+/// A text after its first double quote.
 fn read_text(alloc: Global, text: &[u8]) -> Result<Option<Value>, OutOfMemory>
     ensures { IfOk result (λ o. option_map value_of o ≡ option_and_then as_text (text_bytes text.now)) }
 {
@@ -105,7 +105,7 @@ fn next_byte(text: &[u8]) -> Option<(u8, &[u8])>
     }
 }
 
-/// The byte of an escape, from behind its backslash, and what follows it.
+/// The byte of an escape, after its backslash, and what follows it.
 #[tactic(auto, using(crate::proofs::ValueLaws::escape_other, crate::proofs::ValueLaws::escape_step))]
 fn escaped(text: &[u8]) -> Option<(u8, &[u8])>
     ensures next { MatchOption result (text_bytes (92 ∷ text.now) ≡ None) (λ p. text_bytes (92 ∷ text.now) ≡ put_before (Some p.0) (text_bytes p.1.now)) }

@@ -1,4 +1,4 @@
-//! What single words of a line spell, beside numbers and bytes.
+//! What single words of a line spell, besides numbers and bytes.
 ghost use Rattle.std.specs.Prelude.{◌≡◌};
 ghost use Rattle.sg_base.specs.Words.{name};
 ghost use Rattle.sg_sched.specs.Words.{frame};

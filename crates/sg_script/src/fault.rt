@@ -5,16 +5,16 @@ use std::fmt;
 /// Why a script can't be read: its first fault. Starts and choices are counted from 1.
 #[derive(Debug, Clone, Copy, PartialEq, Eq)]
 pub enum ScriptFault {
-    /// The bytes are no TOML.
+    /// The bytes are not TOML.
     NotToml,
-    /// The start lacks a key, has one that it may not have, or has a value there that is no such thing; or no program of its graph is
-    /// there. It has number 0 where a key stands beside `start` and `choice`, or where `start` is no list of tables.
+    /// A key of the start is missing, is not allowed, or has a value that isn't what it must be; or there is no program of its
+    /// graph. It has number 0 where a key stands beside `start` and `choice`, or where `start` isn't a list of tables.
     BadStart {
         /// The number of the start, from 1 on, or 0.
         number: usize,
     },
-    /// The choice lacks a key, has one that it may not have, or has a value there that is no such thing; or no program of its graph is
-    /// there, or that graph lacks the node, the label or a variable. It has number 0 where `choice` is no list of tables.
+    /// A key of the choice is missing, is not allowed, or has a value that isn't what it must be; or there is no program of its
+    /// graph, or that graph doesn't have the node, the label or a variable. It has number 0 where `choice` isn't a list of tables.
     BadChoice {
         /// The number of the choice, from 1 on, or 0.
         number: usize,

@@ -25,7 +25,7 @@ pub(crate) fn graph_named<'a>(programs: &'a Programs, name: &Name) -> Option<&'a
     }
 }
 
-/// A program of a graph of this name is there.
+/// Whether a program of a graph of this name is there.
 pub(crate) fn has_graph(programs: &Programs, name: &Name) -> bool
     ensures { result ≡ is_some (graph_named programs.now name.now) }
 {
@@ -80,7 +80,7 @@ fn is_variable(graph: &Graph, text: &str) -> bool
     variable_of(graph, text).is_some()
 }
 
-/// Each key of the table is the name of a variable.
+/// Whether each key of the table is the name of a variable.
 pub(crate) fn has_variables_alone(graph: &Graph, table: &Table) -> bool
     ensures { result ≡ has_keys_alone (λ k. is_some (number_of (variable_names graph.now) k)) (table_view table.now) }
 {

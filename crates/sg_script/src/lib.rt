@@ -15,8 +15,9 @@
 //! ```
 //!
 //! A start is a session that the principal begins. Its cast has 2 to 16 names; its `version` is 1 or 2, and 1 where it is missing. A
-//! choice says which step is taken at a node, what is written, and how often it may be taken: its `values` may be missing, which is to
-//! write nothing, and so may `times`, which is once. There are no other keys, and `start` and `choice` may be missing altogether.
+//! choice says which step is taken at a node, what is written, and how often it may be taken: its `values` may be missing, and then
+//! nothing is written, and so may `times`, and then it is taken once. There are no other keys, and `start` and `choice` may be missing
+//! altogether.
 //!
 //! A script is read beside the programs that the principal has: a graph is known by its name there, and nodes, labels and variables by
 //! their names in that graph. What is read has numbers in their place. Of all faults that a script has, the first is told: what stands

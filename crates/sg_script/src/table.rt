@@ -85,7 +85,7 @@ fn is_script_key(key: &str) -> bool
     key == "start" || key == "choice"
 }
 
-/// Each key of the table is one of a start.
+/// Whether each key of the table is one of a start.
 pub(crate) fn has_start_keys_alone(table: &Table) -> bool
     ensures { result ≡ has_keys_alone is_start_key (table_view table.now) }
 {
@@ -98,7 +98,7 @@ fn are_start_keys(table: &Table) -> bool
     table.keys().all(|key| is_start_key(key.as_str()))
 }
 
-/// Each key of the table is one of a choice.
+/// Whether each key of the table is one of a choice.
 pub(crate) fn has_choice_keys_alone(table: &Table) -> bool
     ensures { result ≡ has_keys_alone is_choice_key (table_view table.now) }
 {
@@ -111,7 +111,7 @@ fn are_choice_keys(table: &Table) -> bool
     table.keys().all(|key| is_choice_key(key.as_str()))
 }
 
-/// Each key of the table is one of a script.
+/// Whether each key of the table is one of a script.
 pub(crate) fn has_script_keys_alone(table: &Table) -> bool
     ensures { result ≡ has_keys_alone is_script_key (table_view table.now) }
 {

@@ -13,11 +13,11 @@ unfoldable pub begins_message : List ℕ → Bool
 begins_message bytes =
     bytes_eq (to_be_bytes w32 (first_length bytes)) (take 4 bytes) && (nat_lt 0 (first_length bytes) && (nat_le (first_length bytes) most_frame_bytes && nat_le (4 + first_length bytes) (length bytes)))
 
--- the bytes behind the first message
+-- the bytes after the first message
 abbrev pub behind_first : List ℕ → List ℕ
 behind_first bytes = drop (4 + first_length bytes) bytes
 
--- the frames of the first messages, at most so many, and the bytes behind these
+-- the frames of the first messages, at most n of them, and the bytes after these
 abbrev pub frames_within : ℕ → List ℕ → List (List ℕ)
 frames_within zero bytes = []
 frames_within (suc most) bytes =

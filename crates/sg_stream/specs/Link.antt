@@ -55,7 +55,7 @@ gone_out given = flat_map (λ w. map (λ f. (w.to, f)) (frames_of w.bytes)) (rev
 abbrev pub sent_of : Option Traffic → Option (List (Addr × List ℕ))
 sent_of held = option_map (λ t. gone_out t.given) held
 
--- at least so many pieces were taken, where the traffic is told
+-- at least `count` pieces were taken, where the traffic is told
 abbrev pub TakenOff : ℕ → Option Traffic → Option Traffic → Type 0
 TakenOff count old new = (t : Traffic) → old ≡ Some t → (after : Traffic) × (new ≡ Some after) × (count + length after.coming ≤ length t.coming)
 

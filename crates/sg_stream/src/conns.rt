@@ -26,7 +26,7 @@ pub trait Conns {
         ensures kept { held self.new ≡ held self.old };
 
     /// The next piece, with its connection's number, or `None` at the end of all. An empty piece is the end of its connection, whose
-    /// number may be given anew.
+    /// number may be given again.
     fn take(&mut self, alloc: Global) -> Result<Option<(u8, Vec<u8>)>, LinkFault>
         ensures never_falls { faults self.old ≤ faults self.new }
         ensures failed { result ≡ Err LinkFault.Failed → HasRisen (faults self.old) (faults self.new) }
@@ -36,7 +36,7 @@ pub trait Conns {
         ensures kept_at_end { IfOk result (λ found. IfNone found (held self.new ≡ held self.old)) }
         ensures kept { OnErr result (held self.new ≡ held self.old) };
 
-    /// Closes a connection. No more of its pieces come, and its number may be given anew.
+    /// Closes a connection. No more of its pieces come, and its number may be given again.
     fn close(&mut self, conn: u8)
         ensures never_falls { faults self.old ≤ faults self.new }
         ensures closed { held self.new ≡ option_map (after_close conn) (held self.old) };
@@ -49,7 +49,7 @@ pub trait Conns {
         ensures made { IfOk result (λ conn. held self.new ≡ option_map (after_connect conn to) (held self.old)) }
         ensures kept { OnErr result (held self.new ≡ held self.old) };
 
-    /// Gives the first bytes of a piece to a connection, and tells their number.
+    /// Gives the first bytes of a piece to a connection, and returns their number.
     fn give(&mut self, conn: u8, piece: &[u8]) -> Result<usize, Failed>
         requires { 0 < length piece.now }
         ensures never_falls { faults self.old ≤ faults self.new }

@@ -14,7 +14,7 @@ use sg_base::{Addr, Failed, Link, LinkFault, OutOfMemory, Sealed};
 use std::alloc::{AllocError, Global};
 use std::marker::Model;
 
-/// After so many pieces without a whole message no more are taken in one call.
+/// After this many pieces without a whole message no more are taken in one call.
 const MOST_PIECES: u32 = 1_000_000;
 
 // Why there is no frame.
@@ -22,7 +22,7 @@ const MOST_PIECES: u32 = 1_000_000;
 enum NoFrame {
     // The connections failed.
     Failed,
-    // So many pieces were taken, and no message became whole.
+    // 1,000,000 pieces were taken, and no message became whole.
     TooManyPieces,
     OutOfMemory,
 }

@@ -14,8 +14,9 @@ use std::marker::Model;
 /// The number of the connection for writing.
 const WRITER: u8 = 255;
 
-/// Connections in memory, with the pieces to come. One connection at a time is open for writing, with the number 255; there is room for
-/// so many of them, each with so many bytes, and nothing grows. The calls but `close` are counted from 1, and those of a given list fail.
+/// Connections in memory, with the pieces to come. One connection at a time is open for writing, with the number 255; there is room for a
+/// given number of them, each with a given number of bytes, and nothing grows. All calls except `close` are counted from 1, and those of
+/// a given list fail.
 #[derive(Debug, Drop)]
 pub struct MemConns {
     coming: VecDeque<(u8, Seq<u8>)>,
@@ -43,7 +44,8 @@ impl Model for MemConns {
 
 impl MemConns {
     /// Connections with these pieces to come, each with its connection's number, which is below 255, an empty one where the connection
-    /// ends; room for so many connections for writing, each with room for so many bytes; and the numbers of the calls that are to fail.
+    /// ends; room for `connections` connections for writing, each with room for `room` bytes; and the numbers of the calls that are to
+    /// fail.
     pub fn new(
         alloc: Global,
         pieces: Vec<(u8, Seq<u8>)>,

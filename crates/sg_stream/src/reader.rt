@@ -48,7 +48,7 @@ impl Model for StreamReader {
 }
 
 impl StreamReader {
-    /// No bytes. It takes no memory.
+    /// A reader without bytes. It takes no memory.
     pub fn new(alloc: Global) -> StreamReader
         ensures { result ≡ [] }
     {
@@ -76,8 +76,9 @@ impl StreamReader {
         }
     }
 
-    /// Takes the next frame off the front, with its length, or gives `None` where no message is there whole. From a bad length on every
-    /// call is refused. It takes no memory but for a frame that it gives; where that is not to be had the bytes are as before.
+    /// Takes the next frame off the front, with its length, or gives `None` where no message is there whole. Once the bytes begin with
+    /// a bad length, every call is refused. It takes memory only for a frame that it gives; if memory runs out, the bytes are as
+    /// before.
     pub fn next(&mut self, alloc: Global) -> Result<Option<Vec<u8>>, StreamFault>
         ensures frame { IfOk result (λ found. IfSome found (λ f. IsFrame f.items)) }
         ensures taken { IfOk result (λ found. IfSome found (λ f. self.old ≡ message f.items ++ self.new)) }

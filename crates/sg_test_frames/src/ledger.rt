@@ -33,7 +33,7 @@ fn opened<D: Disk>(alloc: Global, disk: &mut D) -> Result<Option<usize>, Fail> {
     })
 }
 
-// The same after a crash that comes after so many calls of `add`.
+// The same after a crash that comes after `calls` disk calls of `add`.
 fn joins_after(alloc: Global, calls: u32, picks: &[u8]) -> Result<Option<usize>, Fail> {
     let stop = calls.saturating_add(6);
     let mut disk = MemDisk::new(alloc, 2_300_000, 20, Vec::new(alloc), Some(stop))?;

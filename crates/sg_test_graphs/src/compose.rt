@@ -42,7 +42,7 @@ edge u_w_Bill: n0 -> u_w_p1;
 edge u_w_Paid: u_w_p1 -> n1 writes u_w_sum reads u_w_sum;
 ";
 
-// The texts before and behind the uses of a part in another.
+// The texts before and after the uses of a part in another.
 const PAY: &[u8] =
     b"graph pay;role x;role y;node p0:x;node p1:y;node p2:x;edge Bill:p0->p1;edge Paid:p1->p2;";
 

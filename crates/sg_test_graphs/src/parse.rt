@@ -185,7 +185,7 @@ fn the_first_wrong_token(rt: HostRuntime) -> Result<(), Fail> {
     Ok(())
 }
 
-// A text with so many of each kind, each with three digits in its name.
+// A text with `counts` of each kind, each with three digits in its name.
 fn counted(alloc: Global, counts: [u16; 4]) -> Result<Vec<u8>, OutOfMemory> {
     let [roles, vars, nodes, edges] = counts;
     let mut text = Vec::new(alloc);
@@ -229,7 +229,7 @@ fn at_most_sixteen_roles_and_so_on(rt: HostRuntime) -> Result<(), Fail> {
 // A part, of 31 bytes.
 const PART: &[u8] = b"graph p;role x;role y;node a:x;";
 
-// Another, behind it, up to byte 62.
+// Another, after it, up to byte 62.
 const TWO: &[u8] = b"graph p;role x;role y;node a:x;graph q;role x;role y;node b:y;";
 
 fn parts_fail(alloc: Global, text: &[u8], fault: ParseFault) -> bool {

@@ -1,4 +1,4 @@
--- How the places of a search are kept: each behind its node and view as a list of numbers.
+-- How the places of a search are kept: each under its node and view as a list of numbers.
 use Rattle.std.specs.Prelude.{◌≡◌, ℕ, List, [], ◌∷◌, map, length, flat_map, All, Vec}
 use Rattle.std.specs.declared.alloc.Global.{Global}
 use Rattle.sg_base.specs.Sets.{members}
@@ -20,7 +20,7 @@ AreSets items = All (λ s. members 32 (mask s.delta) ≡ s.delta) items
 abbrev pub places_of : Inside → List Place
 places_of p = map (λ e. e.1) p.found.entries
 
--- each place stands behind its key, and its deltas are sets
+-- each place stands under its key, and its deltas are sets
 abbrev pub AreKeyed : List (Vec ℕ Global × Place) → Type 0
 AreKeyed entries = All (λ (e : Vec ℕ Global × Place). (e.0.items ≡ key_of e.1.node e.1.view) × AreSets e.1.view.items) entries
 

@@ -3,7 +3,7 @@ use Rattle.std.specs.Prelude.{ℕ, Option, Some, None}
 use Rattle.sg_vis.specs.declared.view.Origin.{Origin}
 use Rattle.sg_vis.specs.declared.view.Origin.TheVariants.{Start, After}
 
--- the own last label, or None at the start
+-- the role's own last label, or None at the start
 abbrev pub origin_of : Origin → Option ℕ
 origin_of Start = None
 origin_of (After label) = Some label

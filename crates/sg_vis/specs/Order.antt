@@ -8,7 +8,7 @@ use Rattle.sg_model.specs.Limits.{most_views}
 use Rattle.sg_protocol.specs.Evidence.{Seen, View, mask}
 use Rattle.sg_vis.specs.Table.{ShownView}
 
--- 0 for the start, and else one more than the label
+-- 0 for the start, and otherwise one more than the label
 abbrev pub origin_number : Option ℕ → ℕ
 origin_number None = 0
 origin_number (Some label) = label + 1

@@ -40,7 +40,7 @@ impl ViewFault {
     }
 }
 
-// Writes of which role there is too much.
+// Writes of which role there are too many.
 fn put_many(out: &mut ByteOut, graph: &Graph, text: &[u8], role: Role) -> Result<(), OutOfMemory>
     ensures { OnOk result (out.new ≡ out.old ++ (text.now ++ role_name graph.now role)) }
 {

@@ -10,7 +10,7 @@ use crate::{Origin, Seen, View};
 use sg_base::VarSet;
 use std::cmp::Ordering;
 
-/// How a view stands to the view of an origin and items: first by the origin, the start before each label; then by the first items that
+/// How a view compares to the view of an origin and items: first by the origin, the start before each label; then by the first items that
 /// differ in label or mask, the beginning of a list before it. It takes no memory.
 pub(crate) fn compare(view: &View, from: Origin, items: &[Seen]) -> Ordering
     ensures order { result ≡ compared view.now (view_from (origin_of from) items.now) }
@@ -22,7 +22,7 @@ pub(crate) fn compare(view: &View, from: Origin, items: &[Seen]) -> Ordering
     }
 }
 
-/// 0 for the start, and else one more than the label.
+/// 0 for the start, and otherwise one more than the label.
 pub(crate) fn number_of(from: Origin) -> u32
     ensures { result ≡ origin_number (origin_of from) }
 {

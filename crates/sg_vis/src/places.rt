@@ -14,7 +14,7 @@ use std::alloc::Global;
 use std::marker::Model;
 
 /// A node, what a role sees of a walk to it, the place before it on that walk, and the label that leads on from there. At the role's own
-/// nodes nothing is kept of what it sees, since it begins anew with its next step.
+/// nodes nothing is kept of what it sees, since its view begins again with its next step.
 #[derive(Drop)]
 pub(crate) struct Place {
     pub node: NodeId,
@@ -121,7 +121,7 @@ fn copied(alloc: Global, place: &Place) -> Result<OpenView, OutOfMemory>
     })
 }
 
-// Puts a place behind its key at the end, if the key is not there, and says whether it did.
+// Puts a place under its key at the end, if the key is not there, and says whether it did.
 fn put(
     found: &mut IndexMap<Vec<u32>, Place>,
     key: Vec<u32>,
@@ -141,7 +141,7 @@ fn put(
     Ok(true)
 }
 
-// 1 where both hold, and else 0.
+// 1 where both hold, and otherwise 0.
 fn one_if(new: bool, opens: bool) -> usize
     ensures { result ≡ (if new && opens then 1 else 0) }
 {

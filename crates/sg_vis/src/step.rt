@@ -7,7 +7,7 @@ use sg_base::{Label, OutOfMemory, Role, Seq, VarSet};
 use sg_graph::Graph;
 use std::alloc::Global;
 
-/// What a role sees after one edge more. A step of its own leaves nothing but its label.
+/// What a role sees after one more edge. A step of its own leaves nothing but its label.
 pub(crate) fn next_view(
     alloc: Global,
     graph: &Graph,
@@ -32,7 +32,7 @@ pub(crate) fn next_view(
     })
 }
 
-// The items after one edge more: the item of the edge's sender goes, and what it brought is joined to the item behind it.
+// The items after one more edge: the item of the edge's sender goes, and what it brought is joined to the item after it.
 fn items_after(
     alloc: Global,
     graph: &Graph,

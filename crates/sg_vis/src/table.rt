@@ -117,7 +117,7 @@ pub(crate) fn place_of(rows: &[Row], from: Origin, items: &[Seen]) -> Result<usi
     Err(low)
 }
 
-// How a row's view stands to the view of an origin and items.
+// How a row's view compares to the view of an origin and items.
 fn compare_row(row: &Row, from: &Origin, items: &[Seen]) -> Ordering
     ensures order { result ≡ compared row.now.view (view_from (origin_of from.now) items.now) }
     ensures same { result ≡ Ordering.Equal → row.now.view ≡ view_from (origin_of from.now) items.now }

@@ -37,7 +37,7 @@ acts_from events at = flat_map acts_of_event (map event_of (drop at events))
 abbrev pub IsNextAct : List Told → ℕ → ℕ → Type 0
 IsNextAct events from at = (at < length events) × (acts_from events from ≡ acts_from events at) × IfSome (slice_get events at) (λ e. is_start e ≡ false)
 
--- the acts come next, and the answer is the place behind them; or they don't come next
+-- the acts come next, and the answer is the place after them; or they don't come next
 abbrev pub Takes : List Told → ℕ → List Act → Option ℕ → Type 0
 Takes events at acts result = MatchOption result ((rest : List Act) → acts_from events at ≡ acts ++ rest → ⊥) (λ next. acts_from events at ≡ acts ++ acts_from events next)
 

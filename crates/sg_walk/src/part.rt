@@ -22,10 +22,10 @@ use sg_base::RoleSet;
 use sg_graph::Graph;
 use walked::is_stored_walk;
 
-/// Whether the stored walk explains the events: the events of one session, in order, are what the honest roles do along the walk, save
-/// perhaps a last receipt by an honest role from an honest role; an honest role has sent or received the last step; and exactly the
-/// values that no honest role wrote or received are hidden. Starts are passed over. Identifiers, times and joins are not compared. It
-/// takes no memory, and time in proportion to the walk and the events.
+/// Whether the stored walk explains the events: the events of one session, in order, are what the honest roles do along the walk,
+/// except perhaps for a last receipt by an honest role from an honest role; an honest role has sent or received the last step; and
+/// exactly the values that no honest role wrote or received are hidden. Starts are passed over. Identifiers, times and joins are not
+/// compared. It takes no memory, and time in proportion to the walk and the events.
 pub fn check_part(graph: &Graph, honest: RoleSet, walk: &StoredWalk, events: &[Event]) -> bool
     ensures { IsTrue result ↔ OnePath graph.now (λ r. is_in r honest) (map event_of events.now) (steps_of walk.now) }
 {

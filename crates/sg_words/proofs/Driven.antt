@@ -7,7 +7,7 @@ use Rattle.sg_base.specs.Words.{number, from_one, up_to, value, is_digit, has_ne
 use Rattle.sg_model.specs.Limits.{most_deliveries, most_driven, most_seed}
 use Rattle.sg_words.specs.Command.{Command, Check, Compile, Run, Replay, Drive, Ledger, Keep, Stream, Audit, Compose, CanBeDriven, command_of, driving, few, is_option, keeping, named, on_file, running, sessions_of, streaming}
 
--- a number, if any, of at most so many
+-- a number, if any, of at most `most`
 abbrev AtMost : ℕ → Option ℕ → Type 0
 AtMost most None = ⊤
 AtMost most (Some n) = n ≤ most

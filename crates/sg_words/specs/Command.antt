@@ -79,7 +79,7 @@ streaming (keys ∷ script ∷ []) = None
 streaming (keys ∷ script ∷ n ∷ []) = None
 streaming (keys ∷ script ∷ n ∷ program ∷ more) = option_map (λ d. Stream keys script d (program ∷ more)) (number most_deliveries n)
 
--- the command of this name, with these words behind it
+-- the command of this name, with these words after it
 abbrev pub named : (name : List ℕ) → List (List ℕ) → Option Command
 named name words =
     if bytes_eq name (codes "run") then running words

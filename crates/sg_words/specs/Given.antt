@@ -1,4 +1,4 @@
--- The words of a command line, behind the program's name and `--`.
+-- The words of a command line, after the program's name and `--`.
 use Rattle.std.specs.Prelude.{◌≡◌, ℕ, List, [], ◌∷◌, codes, drop, unwrap_or}
 use Rattle.clap.specs.Words.{all_of, found_of, rows_of}
 use Rattle.clap.specs.declared.parser.matches.ArgMatches.{ArgMatches}

@@ -102,7 +102,7 @@ pub fn read_command<'w>(words: &'w [&'w str]) -> Option<Command<'w>>
     }
 }
 
-// The command of this name, with these words behind it.
+// The command of this name, with these words after it.
 fn named<'w>(name: &str, words: &'w [&'w str]) -> Option<Command<'w>>
     ensures { option_map command_held result ≡ named name.now (map (λ s. s.now) words.now) }
 {

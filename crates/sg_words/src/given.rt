@@ -12,7 +12,7 @@ use sg_base::OutOfMemory;
 use std::alloc::{AllocError, Global};
 use std::marker::Model;
 
-/// A command line: words behind the program's name and `--`. A clause sees it as the words.
+/// A command line: words after the program's name and `--`. A clause sees it as the words.
 #[derive(Drop)]
 pub struct CommandLine<'w> {
     all: Vec<&'w str>,
@@ -81,7 +81,7 @@ impl<'g> Given<'g> {
     }
 }
 
-// What `clap` makes of words behind `--`: it refuses none.
+// What `clap` makes of words after `--`: it refuses none.
 fn matches<'w>(alloc: Global, words: &'w [&'w str]) -> Result<ArgMatches<'w>, Error>
     requires { IsBehindDashes (map (λ s. s.now) words.now) }
     ensures err { IfErr result (λ e. kind_of e ≡ ErrorKind.OutOfMemory) }

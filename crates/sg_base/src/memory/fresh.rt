@@ -25,7 +25,7 @@ impl Model for MemFresh {
 }
 
 impl MemFresh {
-    /// The first words, so many, of `ChaCha20Rng` from a seed.
+    /// The first `words` words of `ChaCha20Rng` from a seed.
     pub fn new(alloc: Global, seed: [u8; 32], words: u32) -> Result<MemFresh, OutOfMemory>
         ensures { IfOk result (λ f. f ≡ seeded_words seed words) }
     {

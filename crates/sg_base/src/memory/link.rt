@@ -35,7 +35,7 @@ impl Model for MemLink {
 }
 
 impl MemLink {
-    /// A link with these deliveries to come and room for so many frames, with the numbers of the calls that are to fail.
+    /// A link with these deliveries to come and room for `room` frames, with the numbers of the calls that are to fail.
     pub fn new(
         alloc: Global,
         deliveries: Vec<Vec<u8>>,

@@ -23,7 +23,7 @@ impl Model for FaultPlan {
 }
 
 impl FaultPlan {
-    /// No call was made. Those of these numbers are to fail.
+    /// A plan before the first call. The calls of these numbers are to fail.
     pub fn new(fails: Vec<u32>) -> FaultPlan
         ensures { result ≡ new_plan fails.items }
     {

@@ -28,7 +28,7 @@ impl Model for MemSink {
 }
 
 impl MemSink {
-    /// An empty sink with room for so many bytes, with the numbers of the calls that are to fail.
+    /// An empty sink with room for `room` bytes, with the numbers of the calls that are to fail.
     pub fn new(alloc: Global, room: u32, fails: Vec<u32>) -> Result<MemSink, OutOfMemory>
         ensures { IfOk result (λ s. s ≡ record { bytes = []; room = room; plan = new_plan fails.items }) }
     {

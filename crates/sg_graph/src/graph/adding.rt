@@ -26,7 +26,7 @@ pub enum AddFault {
 }
 
 impl Graph {
-    /// Adds a role, the 16th at the latest.
+    /// Adds a role. Refused where a role has this name, where there are 16, or where memory runs out; then the graph is as before.
     pub fn add_role(&mut self, name: Name) -> Result<Role, AddFault>
         requires { has_text name reserved ≡ false }
         ensures { Adds self.old.roles 16 name self.old self.new (with_role self.old name) result }
@@ -44,7 +44,8 @@ impl Graph {
         Ok(Role(number as u8))
     }
 
-    /// Adds a variable, the 32nd at the latest, with the roles that may write it.
+    /// Adds a variable, with the roles that may write it. Refused where a variable has this name, where there are 32, or where
+    /// memory runs out; then the graph is as before.
     pub fn add_var(&mut self, name: Name, kind: VarType, writers: RoleSet) -> Result<Var, AddFault>
         requires name { has_text name reserved ≡ false }
         requires writers { AreNumbers (length self.old.roles) writers }
@@ -71,7 +72,8 @@ impl Graph {
         Ok(Var(number as u8))
     }
 
-    /// Adds a node of a role, the 256th at the latest.
+    /// Adds a node of a role. Refused where a node has this name, where there are 256, or where memory runs out; then the graph is
+    /// as before.
     pub fn add_node(&mut self, name: Name, role: Role) -> Result<NodeId, AddFault>
         requires name { has_text name reserved ≡ false }
         requires role { role < length self.old.roles }
@@ -95,7 +97,8 @@ impl Graph {
         Ok(NodeId(number as u16))
     }
 
-    /// Adds an edge, the 512th at the latest. What it `writes` is its sender's, what it `reads` its receiver's.
+    /// Adds an edge: its sender writes `writes`, and its receiver reads `reads`. Refused where an edge has this name, where there
+    /// are 512, or where memory runs out; then the graph is as before.
     pub fn add_edge(
         &mut self,
         name: Name,

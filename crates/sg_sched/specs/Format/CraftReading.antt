@@ -17,7 +17,7 @@ abbrev pub last_step : ℕ → ℕ → Word → Option (Word × Word) → Option
 last_step mark c cs (Some p) = Some (c ∷ p.0, p.1)
 last_step mark c cs None = if c == mark then Some ([], cs) else None
 
--- what stands before the last byte `mark` and behind it
+-- what stands before the last byte `mark` and after it
 abbrev pub split_last : ℕ → Word → Option (Word × Word)
 split_last mark [] = None
 split_last mark (c ∷ cs) = last_step mark c cs (split_last mark cs)
@@ -66,7 +66,7 @@ abbrev pub run_step : Word → Left → Option Committed → List Committed × L
 run_step w ws None r = ([], w ∷ ws)
 run_step w ws (Some c) r = (c ∷ r.0, r.1)
 
--- the commitments that stand first, and the words behind them
+-- the commitments that stand first, and the words after them
 abbrev pub run : Left → List Committed × Left
 run [] = ([], [])
 run (w ∷ ws) = run_step w ws (committed w) (run ws)
@@ -79,7 +79,7 @@ few r = if nat_le (length r.0) most_variables then Some r else None
 abbrev pub some_of : List Committed × Left → Option (List Committed × Left)
 some_of r = if length r.0 == 0 then None else Some r
 
--- the word and one commitment or more behind it, or nothing
+-- the word and one commitment or more after it, or nothing
 unfoldable pub listed : List ℕ → Taker (List Committed)
 listed first [] = Some ([], [])
 listed first (w ∷ ws) = if bytes_eq w first then some_of (run ws) else Some ([], w ∷ ws)
@@ -107,20 +107,20 @@ source (w ∷ ws) =
 abbrev pub more_after : {A : Type 0} → A → Option (List A × Left) → Option (List A × Left)
 more_after {A} x o = option_map (λ (p : List A × Left). (x ∷ p.0, p.1)) o
 
--- the word and what is behind it, up to n times
+-- the word and what is after it, up to n times
 abbrev pub repeated : {A : Type 0} → List ℕ → Taker A → ℕ → Taker (List A)
 repeated first take zero ws = Some ([], ws)
 repeated first take (suc n) [] = Some ([], [])
 repeated first take (suc n) (w ∷ ws) = if bytes_eq w first then after take (λ x rest. more_after x (repeated first take n rest)) ws else Some ([], w ∷ ws)
 
--- a tag, from behind its first word
+-- a tag, after its first word
 unfoldable pub tag : Taker (Name × From)
 tag =
     after (word name) λ role.
     after source λ s rest.
     Some ((role, s), rest)
 
--- an item, from behind its first word
+-- an item, after its first word
 unfoldable pub item : Taker SaidItem
 item =
     after (word name) λ label.
@@ -148,7 +148,7 @@ unfoldable pub join : Taker (Option CraftJoin)
 join [] = Some (None, [])
 join (w ∷ ws) = if bytes_eq w (codes "join") then join_parts ws else Some (None, w ∷ ws)
 
--- ---- the craft, from behind its first word
+-- ---- the craft, after its first word
 
 -- openings, at most 32
 abbrev pub opened : Taker (List Committed)

@@ -88,7 +88,7 @@ is_short g s c = option_map_or (λ s. nat_le (length (spelling (blank_frame g s 
 
 -- ---- form
 
--- the line is out of its group, one edge too many, or of a number, an order or a length that its form hasn't
+-- the line is out of its group, one edge too many, or of a number, an order or a length that its form doesn't allow
 abbrev pub is_wrong : SoFar → Said → Bool
 is_wrong past (SaidEdge label from to) = is_late past (SaidEdge label from to) || nat_le most_edges (length past.edges)
 is_wrong past (SaidSession name graph nonce names version) = is_late past (SaidSession name graph nonce names version) || not (fits_graph past graph names)

@@ -32,7 +32,7 @@ ended said ws = if length ws == 0 then said else None
 
 -- ---- words
 
--- the digits of so many bytes
+-- the digits of n bytes
 unfoldable pub hex_of : ℕ → Word → Option Word
 hex_of n w = if is_hex_of n w then Some w else None
 
@@ -44,7 +44,7 @@ hex w = if is_hex w then Some w else None
 abbrev pub split_step : ℕ → ℕ → Word → Option (Word × Word) → Option (Word × Word)
 split_step mark c cs later = if c == mark then Some ([], cs) else option_map (λ (p : Word × Word). (c ∷ p.0, p.1)) later
 
--- what stands before the first byte `mark` and behind it
+-- what stands before the first byte `mark` and after it
 abbrev pub split_at : ℕ → Word → Option (Word × Word)
 split_at mark [] = None
 split_at mark (c ∷ cs) = split_step mark c cs (split_at mark cs)
@@ -62,7 +62,7 @@ abbrev pub givens : Left → Option (List Given)
 givens [] = Some []
 givens (w ∷ ws) = option_and_then (λ v. option_map (λ vs. v ∷ vs) (givens ws)) (given w)
 
--- ---- forms, each from behind its first word
+-- ---- forms, each after its first word
 
 -- {
 unfoldable pub block_form : Left → Option Said
@@ -104,7 +104,7 @@ unfoldable pub version : Taker ℕ
 version [] = Some (1, [])
 version (w ∷ ws) = if bytes_eq w (codes "v2") then Some (2, ws) else None
 
--- NAME GRAPH NONCE NAME,NAME,.. and v2 behind it for version 2
+-- NAME GRAPH NONCE NAME,NAME,.. and v2 after it for version 2
 unfoldable pub session_form : Left → Option Said
 session_form =
     after (word name) λ session.

@@ -16,7 +16,7 @@ use Rattle.sg_sched.specs.Format.Made.{made}
 use Rattle.sg_sched.specs.Format.Kinds.{Kind, Form, Twice, Graph}
 use Rattle.sg_sched.specs.Format.Faults.{fault}
 
--- a line with its line end, which the last line may lack
+-- a line with its line end, which the last line need not have
 abbrev pub Line : Type 0
 Line = List ℕ
 

@@ -69,7 +69,7 @@ fn the_digest_of_no_bytes(rt: HostRuntime) {
     assert_eq!(rt; Sha256::digest(b""), digest);
 }
 
-// Test case 3 of RFC 4231 has a key of twenty bytes; zeros behind it change nothing (RFC 2104 section 2).
+// Test case 3 of RFC 4231 has a key of twenty bytes; zeros after it change nothing (RFC 2104 section 2).
 #[test]
 fn tags_of_a_ready_key(rt: HostRuntime) {
     let mut bytes = [0u8; 32];

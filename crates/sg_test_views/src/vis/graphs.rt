@@ -30,7 +30,7 @@ pub fn shop(alloc: Global, rt: &impl Abort) -> Result<Graph, Fail> {
     Ok(graph)
 }
 
-// A chain of nodes, each of a role of its own, with so many edges from each to the next.
+// A chain of nodes, each of a role of its own, with `edges` edges from each to the next.
 pub fn chain(alloc: Global, rt: &impl Abort, roles: &[u8], edges: u16) -> Result<Graph, Fail> {
     assert!(rt; roles.len() <= 16);
     let mut graph = nodes_alone(alloc, rt, roles.len() as u16, 0, roles)?;
@@ -40,7 +40,7 @@ pub fn chain(alloc: Global, rt: &impl Abort, roles: &[u8], edges: u16) -> Result
     Ok(graph)
 }
 
-// Roles 0 and 1 with a node each, so many edges from the first to the second, and so many back.
+// Roles 0 and 1 with a node each, `there` edges from the first to the second, and `back` edges back.
 pub fn pair(alloc: Global, rt: &impl Abort, there: u16, back: u16) -> Result<Graph, Fail> {
     let mut graph = nodes_alone(alloc, rt, 2, 0, &[0, 1])?;
     add_edges(rt, &mut graph, 0, 1, there)?;
@@ -48,7 +48,7 @@ pub fn pair(alloc: Global, rt: &impl Abort, there: u16, back: u16) -> Result<Gra
     Ok(graph)
 }
 
-// So many roles and variables, and a node of each role of the list.
+// `roles` roles and `vars` variables, and a node of each role of the list.
 pub fn nodes_alone(
     alloc: Global,
     rt: &impl Abort,
