@@ -1,7 +1,8 @@
--- How a cast is kept: its names in sixteen places, the first again after the last.
-use Rattle.std.specs.Prelude.{◌-◌, List, [], ◌++◌, length, take, replicate, slice_index_or}
+-- How a cast is kept: its names in sixteen places, the first again after the last; and two principals in order.
+use Rattle.std.specs.Prelude.{◌-◌, if◌then◌else◌, List, [], ◌++◌, length, take, replicate, slice_index_or}
 use Rattle.sg_model.specs.Names.{Name}
 use Rattle.sg_protocol.specs.Frame.{Cast}
+use Rattle.sg_protocol.specs.Notes.{text_before}
 use Rattle.sg_crypt.specs.declared.cast.Cast.TheInside.{Inside}
 
 -- the first name
@@ -19,3 +20,7 @@ cast_of c = record { version = c.version; graph = c.graph; nonce = c.nonce; name
 -- the fields of a cast
 abbrev pub fields_of : Cast → Inside
 fields_of c = record { version = c.version; graph = c.graph; nonce = c.nonce; count = length c.names; names = filled c.names }
+
+-- two principals, the lesser name first
+abbrev pub pair_of : Name → Name → Name × Name
+pair_of a b = if text_before b a then (b, a) else (a, b)

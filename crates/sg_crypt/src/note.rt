@@ -1,8 +1,10 @@
 //! What a run's calls leave on record: texts that were tagged, texts whose tag was found right, and texts that were hashed.
-ghost use Rattle.std.specs.Prelude.{◌≡◌, ◌++◌, [], ◌∷◌, length, take, OnOk, OnErr};
-ghost use Rattle.sg_protocol.specs.Notes.{text_before, note_of, no_notes};
+ghost use Rattle.std.specs.Prelude.{◌≡◌, ◌++◌, ℕ, List, [], ◌∷◌, length, take, OnOk, OnErr};
+ghost use Rattle.sg_protocol.specs.Notes.{note_of, no_notes};
+ghost use Rattle.sg_crypt.specs.Model.{pair_of};
 
 use crate::hashed::Hashed;
+use crate::pair::Pair;
 use sg_base::{Name, OutOfMemory, Seq};
 use std::alloc::Global;
 use std::marker::Model;
@@ -10,8 +12,7 @@ use std::marker::Model;
 /// A text for two principals, the lesser name first by its bytes.
 #[derive(Debug, Drop)]
 pub struct Note {
-    one: Name,
-    two: Name,
+    pair: Pair,
     text: Seq<u8>,
 }
 
@@ -20,42 +21,33 @@ impl Model for Note {
 
     ghost Value = { Note };
 
-    ghost view = { λ n. record { one = n.one; two = n.two; text = n.text } };
+    ghost view = { λ n. record { one = n.pair.0; two = n.pair.1; text = n.text } };
 }
 
 impl Note {
-    /// The note of a text for two principals, in either order. It takes no memory.
-    pub fn new(a: Name, b: Name, text: Vec<u8>) -> Note
-        ensures { result ≡ note_of a b text.items }
+    /// The note of a text for two principals. It takes no memory.
+    pub fn new(pair: Pair, text: Vec<u8>) -> Note
+        ensures value { result ≡ record { one = pair.0; two = pair.1; text = text.items } }
+        ensures of { (a b : List ℕ) → pair ≡ pair_of a b → result ≡ note_of a b text.items }
     {
-        let text = Seq::from_vec(text);
-        if before(b.as_bytes(), a.as_bytes()) {
-            Note {
-                one: b,
-                two: a,
-                text,
-            }
-        } else {
-            Note {
-                one: a,
-                two: b,
-                text,
-            }
+        Note {
+            pair,
+            text: Seq::from_vec(text),
         }
     }
 
     /// The lesser name by its bytes.
-    pub fn one(&self) -> Name
-        ensures { result ≡ self.now.one }
+    pub fn one(&self) -> &Name
+        ensures { result.now ≡ self.now.one }
     {
-        self.one
+        self.pair.one()
     }
 
     /// The greater name by its bytes.
-    pub fn two(&self) -> Name
-        ensures { result ≡ self.now.two }
+    pub fn two(&self) -> &Name
+        ensures { result.now ≡ self.now.two }
     {
-        self.two
+        self.pair.two()
     }
 
     /// The text.
@@ -64,13 +56,6 @@ impl Note {
     {
         self.text.as_slice()
     }
-}
-
-// The bytes of `a` stand before those of `b`.
-fn before(a: &[u8], b: &[u8]) -> bool
-    ensures { result ≡ text_before a.now b.now }
-{
-    a < b
 }
 
 /// How long each of the three lists is.

@@ -23,20 +23,25 @@ pub fn keyring(alloc: Global, me: Name, keys: &[PairKey]) -> Result<Keyring, Out
 {
     let mut ring = Keyring::new(alloc, me, NOWHERE);
     for pair in keys {
-        add_shared(&mut ring, &me, pair)?;
+        add_shared(alloc, &mut ring, &me, pair)?;
     }
     Ok(ring)
 }
 
 // Adds the pair's key, where the principal is one of it.
-fn add_shared(ring: &mut Keyring, me: &Name, pair: &PairKey) -> Result<(), OutOfMemory>
+fn add_shared(
+    alloc: Global,
+    ring: &mut Keyring,
+    me: &Name,
+    pair: &PairKey,
+) -> Result<(), OutOfMemory>
     requires { IfSome (shared me.now pair.now) (λ p. has_text p.name (names_of ring.old) ≡ false) }
     ensures { OnOk result (ring.new ≡ record ring.old { peers = ring.old.peers ++ filter_map (shared me.now) (pair.now ∷ []) }) }
 {
     let Some(other) = other_of(me, pair) else {
         return Ok(());
     };
-    match ring.add(other, NOWHERE, pair.key) {
+    match ring.add(alloc, other, NOWHERE, pair.key) {
         Ok(()) => Ok(()),
         Err(PeerFault::OutOfMemory) => Err(AllocError),
         Err(PeerFault::Twice) => unreachable!(),

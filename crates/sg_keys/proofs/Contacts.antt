@@ -1,12 +1,13 @@
 -- What the table of peers finds, in the words of the keyring.
-use Rattle.std.proofs.Common.{◌≡◌, ℕ, Bool, true, false, ◌||◌, sym, ap, ◌∙◌, refl, List, [], ◌∷◌, ◌++◌, map, cond, if◌then◌else◌, Option, Some, None, is_some, option_map, bytes_eq, true≢false}
-use Rattle.std.specs.List.{find}
+use Rattle.std.proofs.Common.{◌≡◌, ℕ, Bool, true, false, ◌||◌, sym, ap, ◌∙◌, refl, List, [], ◌∷◌, ◌++◌, map, cond, if◌then◌else◌, Option, Some, None, IfSome, is_some, option_map, bytes_eq, true≢false}
+use Rattle.std.specs.List.{AllByRecursion, find}
 use Rattle.std.specs.Map.{lookup}
+use Rattle.sg_crypt.specs.Model.{pair_of}
 use Rattle.sg_protocol.specs.Keyring.{Peer}
 use Rattle.sg_model.specs.Lists.{has_text}
 use Rattle.sg_keys.specs.declared.keyring.Contact.{Contact}
 use Rattle.sg_keys.specs.Model.{peer_of, names_in}
-use Rattle.sg_base.proofs.SameName.{same, same-bytes_eq, same-bytes_eq_back}
+use Rattle.sg_base.proofs.SameName.{same, same-Decides, same-bytes_eq, same-bytes_eq_back}
 
 -- an entry of the table
 abbrev pub Entry : Type 0
@@ -43,3 +44,22 @@ lookup-absent n es h = none_from _ (is_some-lookup n es ∙ h)
 pub names_in-append : (es : List Entry) (n : List ℕ) (c : Contact) → names_in (es ++ (n, c) ∷ []) ≡ names_in es ++ n ∷ []
 names_in-append [] n c = refl
 names_in-append (e ∷ es) n c = ap (λ ns. e.0 ∷ ns) (names_in-append es n c)
+
+-- ---- each peer stands with the two that share its key
+
+module _ (me : List ℕ) where
+  abbrev pub Paired : Entry → Type 0
+  Paired e = (e.1).pair ≡ pair_of me e.0
+
+  found_by : (n : List ℕ) (b : Bool) (e : Entry) (found : Option Contact) → same n e.0 ≡ b → Paired e → IfSome found (λ c. c.pair ≡ pair_of me n) → IfSome (cond b (Some e.1) found) (λ c. c.pair ≡ pair_of me n)
+  found_by n true e found s p h = p ∙ ap (pair_of me) (sym ((same-Decides n e.0).0 s))
+  found_by n false e found s p h = h
+
+  -- what is found for a name stands with this name
+  pub lookup-paired : (n : List ℕ) (es : List Entry) → AllByRecursion Paired es → IfSome (lookup (same n) es) (λ c. c.pair ≡ pair_of me n)
+  lookup-paired n [] h = tt
+  lookup-paired n (e ∷ es) h = found_by n (same n e.0) e _ refl h.0 (lookup-paired n es h.1)
+
+  pub paired-append : (es : List Entry) (e : Entry) → AllByRecursion Paired es → Paired e → AllByRecursion Paired (es ++ e ∷ [])
+  paired-append [] e h p = (p, tt)
+  paired-append (f ∷ es) e h p = (h.0, paired-append es e h.1 p)

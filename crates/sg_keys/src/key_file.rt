@@ -93,7 +93,11 @@ fn read_keys(alloc: Global, bytes: &[u8]) -> Result<Keyring, KeyFault>
     let Some(head) = read_head(&table) else {
         return Err(KeyFault::BadEntry { entry: 0 });
     };
-    add_entries(Keyring::new(alloc, head.me, head.listen), head.entries)
+    add_entries(
+        alloc,
+        Keyring::new(alloc, head.me, head.listen),
+        head.entries,
+    )
 }
 
 // The data of a TOML text.
@@ -148,14 +152,19 @@ fn read_peer(value: &Value) -> Option<PeerEntry>
 }
 
 // Adds the peer of the entry of this number. After a refusal the keyring is as before.
-fn add_entry(keys: &mut Keyring, number: usize, value: &Value) -> Result<(), KeyFault>
+fn add_entry(
+    alloc: Global,
+    keys: &mut Keyring,
+    number: usize,
+    value: &Value,
+) -> Result<(), KeyFault>
     ensures ok { OnOk result (with_entry keys.old number (peer_of (view value.now)) ≡ Ok keys.new) }
     ensures fault { IfErr result (λ e. e ≢ KeyFault.OutOfMemory → with_entry keys.old number (peer_of (view value.now)) ≡ Err e) }
 {
     let Some(peer) = read_peer(value) else {
         return Err(KeyFault::BadEntry { entry: number });
     };
-    match keys.add(peer.name, peer.addr, peer.key) {
+    match keys.add(alloc, peer.name, peer.addr, peer.key) {
         Ok(()) => Ok(()),
         Err(PeerFault::Twice) => Err(KeyFault::Twice { entry: number }),
         Err(PeerFault::OutOfMemory) => Err(KeyFault::OutOfMemory),
@@ -163,12 +172,12 @@ fn add_entry(keys: &mut Keyring, number: usize, value: &Value) -> Result<(), Key
 }
 
 // Adds the peers of the entries, from entry 1 on.
-fn add_entries(mut keys: Keyring, values: &[Value]) -> Result<Keyring, KeyFault>
+fn add_entries(alloc: Global, mut keys: Keyring, values: &[Value]) -> Result<Keyring, KeyFault>
     ensures ok { IfOk result (λ k. with_entries keys 1 (map peer_of (map view values.now)) ≡ Ok k) }
     ensures fault { IfErr result (λ e. e ≢ KeyFault.OutOfMemory → with_entries keys 1 (map peer_of (map view values.now)) ≡ Err e) }
 {
     for (at, value) in values.iter().enumerate() {
-        add_entry(&mut keys, at + 1, value)?;
+        add_entry(alloc, &mut keys, at + 1, value)?;
     }
     Ok(keys)
 }

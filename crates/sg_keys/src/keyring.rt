@@ -1,22 +1,24 @@
 //! A principal's name and address, and its peers.
-ghost use Rattle.std.specs.Prelude.{◌≡◌, ◌↔◌, ◌++◌, [], ◌∷◌, ◌&&◌, false, not, bytes_eq, is_none, IsTrue, OnErr, OnOk};
+ghost use Rattle.std.specs.Prelude.{◌≡◌, ◌↔◌, ◌++◌, [], ◌∷◌, ◌&&◌, false, not, bytes_eq, is_none, option_map, IfSome, IsTrue, OnErr, OnOk};
 ghost use Rattle.std.specs.Option.{option_copied};
 ghost use Rattle.sg_model.specs.Lists.{all_differ, has_text};
 ghost use Rattle.sg_protocol.specs.Keyring.{key_of};
 ghost use Rattle.sg_protocol.specs.Node.{stranger};
+ghost use Rattle.sg_crypt.specs.Model.{pair_of};
 
 use indexmap::IndexMap;
 use sg_base::{Addr, Name, OutOfMemory};
-use sg_crypt::{Cast, Key};
+use sg_crypt::{Cast, Key, Pair};
 use std::alloc::Global;
 use std::marker::Model;
 use thiserror::Error;
 
-/// Where a peer is, and the key shared with it.
+/// Where a peer is, and the key that two principals share: this one and the peer.
 #[derive(Drop)]
 struct Contact {
     addr: Addr,
     key: Key,
+    pair: Pair,
 }
 
 /// One principal's name and address, and its peers in the order in which they were added. All names differ. It has no `Debug`, which
@@ -29,18 +31,15 @@ pub struct Keyring {
 }
 
 impl Model for Keyring {
-    ghost use Rattle.std.specs.Prelude.{IsTrue};
-    ghost use Rattle.sg_model.specs.Lists.{all_differ};
     ghost use Rattle.sg_protocol.specs.Keyring.{Keyring};
 
     ghost Value = { Keyring };
 
-    ghost use Rattle.sg_keys.specs.Names.{names_of};
-    ghost use Rattle.sg_keys.specs.Model.{keyring_of};
+    ghost use Rattle.sg_keys.specs.Model.{keyring_of, HoldsKeyring};
 
     ghost view = { keyring_of };
 
-    ghost invariant = { λ k. IsTrue (all_differ (names_of (keyring_of k))) };
+    ghost invariant = { HoldsKeyring };
 }
 
 /// Why a peer can't be added.
@@ -70,7 +69,13 @@ impl Keyring {
 
     /// Adds a peer as the last one. Refused where the name is the principal's own or a peer's, or where memory runs out; then the
     /// keyring is as before.
-    pub fn add(&mut self, peer: Name, addr: Addr, key: [u8; 32]) -> Result<(), PeerFault>
+    pub fn add(
+        &mut self,
+        alloc: Global,
+        peer: Name,
+        addr: Addr,
+        key: [u8; 32],
+    ) -> Result<(), PeerFault>
         ensures twice { (result ≡ Err PeerFault.Twice) ↔ IsTrue (has_text peer (names_of self.old)) }
         ensures added { OnOk result (self.new ≡ with_peer self.old peer addr key) }
         ensures err { OnErr result (self.new ≡ self.old) }
@@ -78,12 +83,16 @@ impl Keyring {
         if self.has_name(&peer) {
             return Err(PeerFault::Twice);
         }
+        let Ok(pair) = Pair::new(alloc, self.me, peer) else {
+            return Err(PeerFault::OutOfMemory);
+        };
         match put_last(
             &mut self.peers,
             peer,
             Contact {
                 addr,
                 key: Key::new(key),
+                pair,
             },
         ) {
             Ok(()) => Ok(()),
@@ -111,18 +120,19 @@ impl Keyring {
     pub fn key(&self, peer: &Name) -> Option<&[u8; 32]>
         ensures { option_copied result ≡ key_of self.now peer.now }
     {
-        match self.ready_key(peer) {
-            Some(key) => Some(key.bytes()),
+        match self.key_with(peer) {
+            Some((key, _)) => Some(key.bytes()),
             None => None,
         }
     }
 
-    /// The key shared with a peer, ready to tag, or `None` where no peer has the name. It takes no memory.
-    pub fn ready_key(&self, peer: &Name) -> Option<&Key>
-        ensures { option_copied result ≡ key_of self.now peer.now }
+    /// The key shared with a peer, ready to tag, and the two that share it, or `None` where no peer has the name. It takes no memory.
+    pub fn key_with(&self, peer: &Name) -> Option<(&Key, &Pair)>
+        ensures key { option_map (λ k. k.0.now) result ≡ key_of self.now peer.now }
+        ensures pair { IfSome result (λ k. k.1.now ≡ pair_of self.now.me peer.now) }
     {
         match self.peers.get(peer) {
-            Some(contact) => Some(&contact.key),
+            Some(contact) => Some((&contact.key, &contact.pair)),
             None => None,
         }
     }

@@ -20,7 +20,7 @@ same_kept a b = eq-value.it a b
 
 -- it is that of the notes
 same_said : (a b : Said) → same_kept a b ≡ same_note (note_kept a) (note_kept b)
-same_said a b = (λ i. same-bytes_eq a.one b.one i && (same-bytes_eq a.two b.two i && bytes_eq a.text.now b.text.now)) ∙ and_assoc (bytes_eq a.one b.one) (bytes_eq a.two b.two) (bytes_eq a.text.now b.text.now)
+same_said a b = (λ i. same-bytes_eq a.one.now b.one.now i && (same-bytes_eq a.two.now b.two.now i && bytes_eq a.text.now b.text.now)) ∙ and_assoc (bytes_eq a.one.now b.one.now) (bytes_eq a.two.now b.two.now) (bytes_eq a.text.now b.text.now)
   where
     and_assoc : (x y z : Bool) → (x && (y && z)) ≡ (x && y && z)
     and_assoc true y z = refl

@@ -6,7 +6,7 @@ use Rattle.sg_premises.specs.declared.made.Made.TheInside.{Inside}
 
 -- the note that is kept
 abbrev pub note_kept : Said → Note
-note_kept s = record { one = s.one; two = s.two; text = s.text.now }
+note_kept s = record { one = s.one.now; two = s.two.now; text = s.text.now }
 
 -- the notes that are kept
 abbrev pub notes_kept : Inside → List Note

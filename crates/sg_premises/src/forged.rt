@@ -73,7 +73,7 @@ fn first_unmade<'n, H: Honest>(honest: &H, made: &Made<'_>, found: &'n [Note]) -
 fn is_unmade<H: Honest>(honest: &H, made: &Made<'_>, note: &Note) -> bool
     ensures { result ≡ is_unmade (H.names honest.now) made.now note.now }
 {
-    honest.is_honest(&note.one()) && honest.is_honest(&note.two()) && !made.has(note)
+    honest.is_honest(note.one()) && honest.is_honest(note.two()) && !made.has(note)
 }
 
 fn add_all<'n>(made: &mut Made<'n>, notes: &'n [Note]) -> Result<(), OutOfMemory>

@@ -23,8 +23,8 @@ pub struct Made<'n> {
 // A text for two principals.
 #[derive(Clone, Copy, PartialEq, Eq)]
 struct Said<'n> {
-    one: Name,
-    two: Name,
+    one: &'n Name,
+    two: &'n Name,
     text: &'n [u8],
 }
 

@@ -1,6 +1,7 @@
 //! The own item of a step.
-ghost use Rattle.std.specs.Prelude.{◌≡◌, ◌<◌, ◌++◌, [], ◌∷◌, None, map, filter, get_or, length, unwrap_or, IfOk, OnOk, OnErr};
+ghost use Rattle.std.specs.Prelude.{◌≡◌, ◌<◌, ◌++◌, [], ◌∷◌, None, map, filter, get_or, length, unwrap_or, IfOk, IfSome, OnOk, OnErr};
 ghost use Rattle.std.specs.List.{AllByRecursion};
+ghost use Rattle.sg_crypt.specs.Model.{pair_of};
 ghost use Rattle.sg_model.specs.Limits.{most_time};
 ghost use Rattle.sg_protocol.specs.Acting.{openings_for};
 ghost use Rattle.sg_protocol.specs.Keyring.{key_of};
@@ -16,8 +17,9 @@ ghost use Rattle.sg_model.specs.Lists.{value_at, is_in, below};
 ghost use Rattle.std.specs.Option.{option_or};
 
 use crate::kept::Kept;
+use crate::tags::note_for;
 use sg_base::{Label, Name, Opening, OutOfMemory, Role, RoleSet, Seq, Sid, Tag, Time, Value, Var};
-use sg_crypt::{Hashed, Note, Notes, SharedCast, commit_text, cut, item_text, tag};
+use sg_crypt::{Hashed, Notes, Pair, SharedCast, commit_text, cut, item_text, tag};
 use sg_keys::Keyring;
 use std::alloc::Global;
 
@@ -228,8 +230,8 @@ fn tag_target(
         Time(kept.time.0 + 1),
         commitments,
     )?;
-    let made = tag_to(keys, &peer, version, text.as_slice());
-    notes.note_made(Note::new(keys.me(), peer, text))?;
+    let (made, pair) = tag_to(keys, &peer, version, text.as_slice());
+    notes.note_made(note_for(alloc, keys, pair, peer, text)?)?;
     Ok(made)
 }
 
@@ -241,13 +243,20 @@ pub(crate) fn name_of(cast: &SharedCast, role: Role) -> Name
     cast.get().names()[role.0 as usize]
 }
 
-/// The tag of a text under the key shared with a principal, or under no bytes where none is shared, as the version sends it.
-pub(crate) fn tag_to(keys: &Keyring, peer: &Name, version: u8, text: &[u8]) -> Tag
+/// The tag of a text under the key shared with a principal, or under no bytes where none is shared, as the version sends it; and the two
+/// that share a key.
+pub(crate) fn tag_to<'k>(
+    keys: &'k Keyring,
+    peer: &Name,
+    version: u8,
+    text: &[u8],
+) -> (Tag, Option<&'k Pair>)
     requires { IsVersion version }
-    ensures { result ≡ cut version (hmac real (unwrap_or (key_of keys.now peer.now) []) text.now) }
+    ensures tag { result.0 ≡ cut version (hmac real (unwrap_or (key_of keys.now peer.now) []) text.now) }
+    ensures pair { IfSome result.1 (λ p. p.now ≡ pair_of keys.now.me peer.now) }
 {
-    match keys.ready_key(peer) {
-        Some(key) => cut(version, key.tag(&[], text)),
-        None => cut(version, tag(&[], &[], text)),
+    match keys.key_with(peer) {
+        Some((key, pair)) => (cut(version, key.tag(&[], text)), Some(pair)),
+        None => (cut(version, tag(&[], &[], text)), None),
     }
 }

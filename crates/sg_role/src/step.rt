@@ -27,9 +27,10 @@ use crate::own::{
     commit_each, commitments_with, copy_values, name_of, roles_of, tag_to, tags_for,
     written_openings,
 };
+use crate::tags::note_for;
 use crate::values::tell_values;
 use sg_base::{Label, Opening, OutOfMemory, Role, Sealed, Seq, Tag, Time, Value, Var};
-use sg_crypt::{Note, Notes, SharedCast, frame_text};
+use sg_crypt::{Notes, SharedCast, frame_text};
 use sg_frame::{Frame, Item, body_len, encode};
 use sg_keys::Keyring;
 use sg_vis::Origin;
@@ -282,8 +283,8 @@ fn seal(
     let bytes = encode(alloc, frame)?;
     let len = body_len(version, bytes.as_slice());
     let text = frame_text(alloc, version, &bytes.as_slice()[..len])?;
-    let made = tag_to(keys, &peer, version, text.as_slice());
-    notes.note_made(Note::new(keys.me(), peer, text))?;
+    let (made, pair) = tag_to(keys, &peer, version, text.as_slice());
+    notes.note_made(note_for(alloc, keys, pair, peer, text)?)?;
     Ok(Sealed::seal(peer, with_tag(bytes, len, &made)))
 }
 

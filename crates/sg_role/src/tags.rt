@@ -1,5 +1,6 @@
 //! Whether the tags of a frame and of its items are right.
-ghost use Rattle.std.specs.Prelude.{◌≡◌, ◌≢◌, ◌<◌, ◌≤◌, ◌++◌, [], ◌∷◌, Err, None, true, false, not, length, unwrap_or, All, IfOk, IfErr, bytes_eq};
+ghost use Rattle.std.specs.Prelude.{◌≡◌, ◌≢◌, ◌<◌, ◌≤◌, ◌++◌, [], ◌∷◌, Err, None, true, false, not, length, unwrap_or, All, IfOk, IfErr, IfSome, bytes_eq};
+ghost use Rattle.sg_crypt.specs.Model.{pair_of};
 ghost use Rattle.sg_model.specs.Lists.{value_at};
 ghost use Rattle.sg_protocol.specs.Calls.{BadFrameTag};
 ghost use Rattle.sg_protocol.specs.Keyring.{key_of};
@@ -17,7 +18,7 @@ ghost use Rattle.sg_role.specs.Model.{state_of};
 use crate::Refusal;
 use crate::kept::{Kept, copied};
 use sg_base::{Name, OutOfMemory, Role, Tag, Var};
-use sg_crypt::{Note, Notes, cut_matches, frame_text, item_text};
+use sg_crypt::{Note, Notes, Pair, cut_matches, frame_text, item_text};
 use sg_frame::{Frame, Item, body_len};
 use sg_keys::Keyring;
 use std::alloc::Global;
@@ -44,10 +45,11 @@ pub(crate) fn check_frame_tag(
         return Err(Refusal::BadFrameTag);
     };
     let text = text_of_frame(alloc, frame, bytes)?;
-    if !is_tag(keys, &peer, frame.version, text.as_slice(), &frame.tag) {
+    let (right, pair) = is_tag(keys, &peer, frame.version, text.as_slice(), &frame.tag);
+    if !right {
         return Err(Refusal::BadFrameTag);
     }
-    notes.note_found(Note::new(keys.me(), peer, text))?;
+    notes.note_found(note_for(alloc, keys, pair, peer, text)?)?;
     Ok(())
 }
 
@@ -60,16 +62,42 @@ fn text_of_frame(alloc: Global, frame: &Frame, bytes: &[u8]) -> Result<Vec<u8>, 
     frame_text(alloc, frame.version, body)
 }
 
-// Whether this is the tag of a text under the key shared with a principal, or under no bytes where none is shared.
-fn is_tag(keys: &Keyring, peer: &Name, version: u8, text: &[u8], tag: &Tag) -> bool
+// Whether this is the tag of a text under the key shared with a principal, or under no bytes where none is shared; and the two that share
+// a key.
+fn is_tag<'k>(
+    keys: &'k Keyring,
+    peer: &Name,
+    version: u8,
+    text: &[u8],
+    tag: &Tag,
+) -> (bool, Option<&'k Pair>)
     requires { IsVersion version }
-    ensures same { result ≡ bytes_eq (cut version (hmac real (unwrap_or (key_of keys.now peer.now) []) text.now)) tag.now }
-    ensures turned { result ≡ bytes_eq tag.now (cut version (hmac real (unwrap_or (key_of keys.now peer.now) []) text.now)) }
+    ensures same { result.0 ≡ bytes_eq (cut version (hmac real (unwrap_or (key_of keys.now peer.now) []) text.now)) tag.now }
+    ensures turned { result.0 ≡ bytes_eq tag.now (cut version (hmac real (unwrap_or (key_of keys.now peer.now) []) text.now)) }
+    ensures pair { IfSome result.1 (λ p. p.now ≡ pair_of keys.now.me peer.now) }
 {
-    match keys.ready_key(peer) {
-        Some(key) => key.cut_matches(version, &[], text, tag),
-        None => cut_matches(version, &[], &[], text, tag),
+    match keys.key_with(peer) {
+        Some((key, pair)) => (key.cut_matches(version, &[], text, tag), Some(pair)),
+        None => (cut_matches(version, &[], &[], text, tag), None),
     }
+}
+
+/// The note of a text for the principal of a keyring and a peer, where the two may have been found as a pair.
+pub(crate) fn note_for(
+    alloc: Global,
+    keys: &Keyring,
+    found: Option<&Pair>,
+    peer: Name,
+    text: Vec<u8>,
+) -> Result<Note, OutOfMemory>
+    requires { IfSome found (λ p. p.now ≡ pair_of keys.now.me peer) }
+    ensures { IfOk result (λ n. n ≡ note_of keys.now.me peer text.items) }
+{
+    let pair = match found {
+        Some(pair) => pair.share()?,
+        None => Pair::new(alloc, keys.me(), peer)?,
+    };
+    Ok(Note::new(pair, text))
 }
 
 /// Whether each item except the last has a right tag for the role. Those found right, up to the first that is not, are noted. It gives
@@ -147,10 +175,11 @@ fn check_item(
         item.time,
         commitments,
     )?;
-    if !is_tag(keys, &peer, version, text.as_slice(), &tag) {
+    let (right, pair) = is_tag(keys, &peer, version, text.as_slice(), &tag);
+    if !right {
         return Err(Refusal::BadEvidence { item: number });
     }
-    notes.note_found(Note::new(keys.me(), peer, text))?;
+    notes.note_found(note_for(alloc, keys, pair, peer, text)?)?;
     Ok(())
 }
 

@@ -66,9 +66,9 @@ fn a_peer_is_added_once(rt: HostRuntime) {
     let a = name("a").expect(&rt, "a name");
     let b = name("b").expect(&rt, "a name");
     let mut keys = Keyring::new(rt.alloc(), a, addr);
-    assert!(rt; keys.add(b, addr, [7; 32]) == Ok(()));
-    assert!(rt; keys.add(b, addr, [8; 32]) == Err(PeerFault::Twice));
-    assert!(rt; keys.add(a, addr, [8; 32]) == Err(PeerFault::Twice));
+    assert!(rt; keys.add(rt.alloc(), b, addr, [7; 32]) == Ok(()));
+    assert!(rt; keys.add(rt.alloc(), b, addr, [8; 32]) == Err(PeerFault::Twice));
+    assert!(rt; keys.add(rt.alloc(), a, addr, [8; 32]) == Err(PeerFault::Twice));
     assert!(rt; matches!(keys.key(&b), Some(key) if *key == [7; 32]));
 }
 

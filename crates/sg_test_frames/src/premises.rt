@@ -2,7 +2,7 @@
 ghost use Rattle.std.specs.Prelude.{[], ◌∷◌};
 
 use sg_base::{Name, OutOfMemory, Seq};
-use sg_crypt::{Hashed, Note, Notes};
+use sg_crypt::{Hashed, Note, Notes, Pair};
 use sg_premises::{Honest, first_collision, first_forged};
 use std::alloc::Global;
 use std::test::Fail;
@@ -30,7 +30,7 @@ fn step(
     text: &[u8],
     made: bool,
 ) -> Result<Notes, OutOfMemory> {
-    let note = Note::new(one, two, text.to_vec(alloc)?);
+    let note = Note::new(Pair::new(alloc, one, two)?, text.to_vec(alloc)?);
     let mut notes = Notes::new(alloc);
     if made {
         notes.note_made(note)?;
@@ -58,7 +58,7 @@ fn the_first_text_that_nobody_tagged_is_told(rt: HostRuntime) -> Result<(), Fail
     notes.push(step(alloc, a, b, b"three", false)?)?;
     let forged = first_forged(alloc, &honest, notes.as_slice())?.ok_or("a forged text")?;
     assert!(rt; forged.step == 4);
-    assert!(rt; forged.note.one() == a && forged.note.two() == b);
+    assert!(rt; *forged.note.one() == a && *forged.note.two() == b);
     assert!(rt; forged.note.text() == b"two".as_slice());
     Ok(())
 }

@@ -131,13 +131,19 @@ fn programs(alloc: Global, rt: &impl Abort, text: &str) -> Programs {
 
 fn keys_of_a(alloc: Global, rt: &impl Abort) -> Keyring {
     let mut keys = Keyring::new(alloc, name(rt, "a"), ADDR_OF_A);
-    assert!(rt; keys.add(name(rt, "b"), ADDR_OF_B, [0x11; 32]).is_ok());
+    assert!(rt;
+        keys.add(alloc, name(rt, "b"), ADDR_OF_B, [0x11; 32])
+            .is_ok()
+    );
     keys
 }
 
 fn keys_of_b(alloc: Global, rt: &impl Abort) -> Keyring {
     let mut keys = Keyring::new(alloc, name(rt, "b"), ADDR_OF_B);
-    assert!(rt; keys.add(name(rt, "a"), ADDR_OF_A, [0x11; 32]).is_ok());
+    assert!(rt;
+        keys.add(alloc, name(rt, "a"), ADDR_OF_A, [0x11; 32])
+            .is_ok()
+    );
     keys
 }
 

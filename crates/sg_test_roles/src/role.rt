@@ -43,7 +43,7 @@ fn keyring(alloc: Global, me: &[u8], peers: &[(&'static [u8], u8)]) -> Option<Ke
     };
     let mut keys = Keyring::new(alloc, Name::new(me)?, addr);
     for (peer, byte) in peers {
-        keys.add(Name::new(peer)?, addr, [*byte; 32]).ok()?;
+        keys.add(alloc, Name::new(peer)?, addr, [*byte; 32]).ok()?;
     }
     Some(keys)
 }

@@ -125,8 +125,8 @@ fn forged_fault(alloc: Global, forged: &Forged<'_>) -> ForgedFault
     match forged.note.text().to_vec(alloc) {
         Ok(text) => ForgedFault::Forged {
             step: forged.step as u32,
-            one: forged.note.one(),
-            two: forged.note.two(),
+            one: *forged.note.one(),
+            two: *forged.note.two(),
             text: Seq::from_vec(text),
         },
         Err(_) => ForgedFault::OutOfMemory,

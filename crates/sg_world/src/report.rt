@@ -85,8 +85,8 @@ fn reported(forged: &Forged<'_>) -> Forgery
 {
     Forgery {
         step: forged.step as u32,
-        one: forged.note.one(),
-        two: forged.note.two(),
+        one: *forged.note.one(),
+        two: *forged.note.two(),
     }
 }
 

@@ -1,5 +1,5 @@
 use sg_base::Name;
-use sg_crypt::{Counts, Hashed, Note, Notes};
+use sg_crypt::{Counts, Hashed, Note, Notes, Pair};
 use std::test::Fail;
 
 #[test]
@@ -10,17 +10,17 @@ fn notes_come_and_go(rt: HostRuntime) -> Result<(), Fail> {
         Name::new(b"a").ok_or("a name")?,
     );
     let mut notes = Notes::new(alloc);
-    notes.note_made(Note::new(long, short, b"one".to_vec(alloc)?))?;
+    notes.note_made(Note::new(Pair::new(alloc, long, short)?, b"one".to_vec(alloc)?))?;
     let counts = notes.counts();
-    notes.note_found(Note::new(short, long, b"two".to_vec(alloc)?))?;
+    notes.note_found(Note::new(Pair::new(alloc, short, long)?, b"two".to_vec(alloc)?))?;
     notes.note_hashed(Hashed::new(b"three".to_vec(alloc)?))?;
     assert!(rt;
-        notes.made().iter().all(|note| note.one() == short
-            && note.two() == long
+        notes.made().iter().all(|note| *note.one() == short
+            && *note.two() == long
             && note.text() == b"one".as_slice())
     );
     assert!(rt;
-        notes.found().iter().all(|note| note.one() == short && note.text() == b"two".as_slice())
+        notes.found().iter().all(|note| *note.one() == short && note.text() == b"two".as_slice())
     );
     assert!(rt;
         notes

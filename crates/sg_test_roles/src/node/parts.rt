@@ -40,7 +40,7 @@ pub fn keyring(alloc: Global, rt: &impl Abort, me: &str, peers: &[(&str, u8)]) -
     };
     let mut keys = Keyring::new(alloc, name(rt, me), addr);
     for (peer, byte) in peers {
-        assert!(rt; keys.add(name(rt, peer), addr, [*byte; 32]).is_ok());
+        assert!(rt; keys.add(alloc, name(rt, peer), addr, [*byte; 32]).is_ok());
     }
     keys
 }
