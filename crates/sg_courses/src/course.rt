@@ -104,8 +104,8 @@ impl<'r> Course<'r> {
         Ok(())
     }
 
-    /// Goes on by the receipt of a frame, beside an example of what the frame shows. If memory runs out, the course is as before, and also
-    /// where the frame shows no view of the receiver, which can't be where the premises hold.
+    /// Goes on by the receipt of a frame, beside an example of what the frame shows. If memory runs out, the course is as before. Where
+    /// the premises hold, the frame shows a view of the receiver.
     pub(crate) fn take(
         &mut self,
         alloc: Global,

@@ -1,16 +1,11 @@
 -- The text of a summary, line after line.
-use Rattle.std.proofs.Common.{◌≡◌, ℕ, Bool, true, false, if◌then◌else◌, List, [], ◌++◌, codes, Option, Some, None, is_none, option_map, refl, sym, ap, ◌∙◌, append_assoc, append-nil}
+use Rattle.std.proofs.Common.{◌≡◌, ℕ, Bool, true, false, if◌then◌else◌, List, [], ◌++◌, codes, sym, ap, ◌∙◌, append_assoc, append-nil}
 use Rattle.std.specs.Prelude.{OnOk, Result, Ok, Err}
-use Rattle.std.proofs.lemmas.Bool.{and_parts}
-use Rattle.sg_protocol.proofs.Broken.{collision_is_first, forged_is_first}
-use Rattle.sg_protocol.specs.Broken.{first_collision, first_forged}
 use Rattle.sg_protocol.specs.Graph.{Graph}
-use Rattle.sg_protocol.specs.Premises.{hashed}
-use Rattle.sg_protocol.specs.Texts.{real}
 use Rattle.sg_report.specs.Report.{premise_lines, premises_hold}
-use Rattle.sg_world.specs.Account.{account, forgery}
-use Rattle.sg_world.specs.Replay.{Replay, run_of}
-use Rattle.sg_world.specs.Walked.{PremisesHold, WalksAreMade}
+use Rattle.sg_world.specs.Account.{account}
+use Rattle.sg_world.specs.Replay.{Replay}
+use Rattle.sg_world.specs.Walked.{WalksAreMade}
 use Rattle.sg_drive.specs.Summary.{Counts, IsSummary, count_lines, counts_of, number_line}
 use Rattle.sg_drive.specs.Writing.{HasWalks, IsRest}
 
@@ -28,25 +23,6 @@ seven (Ok v) o0 o1 o2 o3 o4 o5 o6 o7 a b c d e f g lines is p q s t u v6 w =
     let six = join o0 o5 o6 (a ++ b ++ c ++ d ++ e) f five v6 in
     join o0 o6 o7 (a ++ b ++ c ++ d ++ e ++ f) g six w ∙ ap (λ (z : List ℕ). o0 ++ z) is
 seven (Err x) o0 o1 o2 o3 o4 o5 o6 o7 a b c d e f g lines is p q s t u v6 w = tt
-
--- ---- the premises
-
-none_of : {A B : Type 0} (f : A → B) (o : Option A) → is_none (option_map f o) ≡ true → o ≡ None
-none_of f None h = refl
-none_of f (Some x) h = absurd (let z : false ≡ true = h in cc)
-
-none_is : {A : Type 0} (o : Option A) → is_none o ≡ true → o ≡ None
-none_is None h = refl
-none_is (Some x) h = absurd (let z : false ≡ true = h in cc)
-
--- both hold where the account says so
-pub hold_is : (r : Replay) → premises_hold (account r) ≡ true → PremisesHold r
-hold_is r h =
-    let both = and_parts (is_none (account r).forged) (account r).collision_free h in
-    record {
-      unforged = (forged_is_first r.schedule (run_of r)).0.0 (none_of forgery (first_forged r.schedule (run_of r)) both.0);
-      collision_free = (collision_is_first real (hashed r.schedule (run_of r))).0.0 (none_is (first_collision real (hashed r.schedule (run_of r))) both.1);
-    }
 
 -- ---- the parts
 

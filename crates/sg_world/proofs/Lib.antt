@@ -18,7 +18,7 @@ mod PremiseLaws
 mod NamesMore
 mod WrittenLines
 mod WalkLaws
-mod Reported
+pub mod Reported
 mod Accounts
 mod Gathered
 mod Taken

@@ -12,7 +12,8 @@ use Rattle.sg_model.specs.Lists.{has_text}
 use Rattle.sg_protocol.specs.Schedule.{Declared}
 use Rattle.sg_protocol.specs.Texts.{real, session_id}
 use Rattle.sg_world.specs.Kept.{Taken}
-use Rattle.sg_world.specs.KeptLines.{declared_in, met_in, sid_kept}
+use Rattle.sg_world.specs.Account.{declared_in}
+use Rattle.sg_world.specs.KeptLines.{met_in, sid_kept}
 
 -- one more session is declared
 pub declared_next : (ss : List Declared) (i : ℕ) (d : Declared) → i < length ss → d ≡ get_or ss i d → with_declared (met_in (take i ss) []) d.name (session_id real d.cast) ≡ met_in (take (i + 1) ss) []

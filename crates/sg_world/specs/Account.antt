@@ -58,8 +58,8 @@ abbrev pub honest_in : Replay → List ℕ → ℕ → Bool
 honest_in r sid role = option_map_or (λ c. honest_role r.schedule c role) (cast_met r sid) false
 
 -- the declared sessions with their sids
-abbrev pub declared_of : Schedule → List (List ℕ × List ℕ)
-declared_of s = map (λ (d : Declared). (d.name, session_id real d.cast)) s.sessions
+abbrev pub declared_in : List Declared → List (List ℕ × List ℕ)
+declared_in sessions = map (λ d. (d.name, session_id real d.cast)) sessions
 
 -- ---- the whole
 
@@ -71,7 +71,7 @@ forgery n = record { step = n.0; one = n.1.one; two = n.1.two }
 abbrev pub account : Replay → Account
 account r = record {
   lines = lines_of r;
-  declared = declared_of r.schedule;
+  declared = declared_in r.schedule.sessions;
   graph_of = graph_of r;
   honest_in = honest_in r;
   events = flat_map (λ l. events_of_outcome l.outcome) (run_of r).log;

@@ -1,22 +1,18 @@
 -- What the lines and the names of a report are made of, by what is kept.
-use Rattle.std.specs.Prelude.{ℕ, List, map, filter_map, Option, Some, None, option_map, option_and_then, slice_get, IfSome}
+use Rattle.std.specs.Prelude.{ℕ, List, filter_map, Option, None, option_map, option_and_then, slice_get, IfSome}
 use Rattle.sg_protocol.specs.Calls.{sid_of}
 use Rattle.sg_protocol.specs.Schedule.{Declared, Step, AbandonStep, who_of}
 use Rattle.sg_protocol.specs.Texts.{real, session_id}
 use Rattle.sg_lines.specs.Sessions.{Met}
 use Rattle.sg_report.specs.Report.{StepLine}
 use Rattle.sg_report.specs.Told.{CanBeTold, event_told, session_told}
-use Rattle.sg_world.specs.Account.{graph_told}
+use Rattle.sg_world.specs.Account.{declared_in, graph_told}
 use Rattle.sg_world.specs.Kept.{Taken}
 use Rattle.sg_world.specs.Setting.{Setting}
 
 -- the sid of the event that came of a step, if one did
 abbrev pub sid_kept : Taken → Option (List ℕ)
 sid_kept e = option_map sid_of (option_and_then event_told e.told)
-
--- the declared sessions with their sids
-abbrev pub declared_in : List Declared → List (List ℕ × List ℕ)
-declared_in sessions = map (λ (d : Declared). (d.name, session_id real d.cast)) sessions
 
 -- the sessions that are declared, and those of the events of these steps
 abbrev pub met_in : List Declared → List Taken → Met

@@ -3,7 +3,8 @@ ghost use Rattle.std.specs.Prelude.{◌≡◌, ◌++◌, [], filter_map, map, If
 ghost use Rattle.std.specs.Option.{option_to_list};
 ghost use Rattle.sg_lines.specs.Sessions.{Met, naming};
 ghost use Rattle.sg_protocol.specs.Texts.{real, session_id};
-ghost use Rattle.sg_world.specs.KeptLines.{declared_in, met_in, sid_kept};
+ghost use Rattle.sg_world.specs.Account.{declared_in};
+ghost use Rattle.sg_world.specs.KeptLines.{met_in, sid_kept};
 
 use crate::record::TakenStep;
 use crate::setting::Setting;
