@@ -33,6 +33,7 @@ pub fn first_bytes(bytes: &[u8], count: u32) -> &[u8]
 }
 
 /// The bytes with the lowest bit of the one at an offset flipped, or as they are where there is no such byte.
+#[cold]
 pub fn flipped(alloc: Global, bytes: &[u8], at: u32) -> Result<Vec<u8>, OutOfMemory>
     ensures { IfOk result (λ v. v.items ≡ flipped at bytes.now) }
 {

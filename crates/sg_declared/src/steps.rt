@@ -75,6 +75,7 @@ fn copy_held(alloc: Global, craft: &HeldCraft) -> Result<HeldCraft, OutOfMemory>
     HeldCraft::new(alloc, copy_craft(alloc, craft.get())?)
 }
 
+#[cold]
 fn copy_craft(alloc: Global, craft: &Craft) -> Result<Craft, OutOfMemory>
     ensures { IfOk result (λ c. c ≡ craft.now) }
 {

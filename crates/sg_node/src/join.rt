@@ -113,6 +113,7 @@ pub(crate) fn begin_session<'p>(joins: &mut Cache, sessions: &mut Sessions<'p>, 
 
 /// Joins a session by a frame that was accepted, in a role that does not start its graph and has done nothing. Room was made, so it
 /// takes no memory.
+#[inline(never)]
 pub(crate) fn join_session<'p>(
     joins: &mut Cache,
     sessions: &mut Sessions<'p>,

@@ -1,4 +1,6 @@
 //! A step that is a call at a principal's node.
+//!
+//! What few steps do is `cold`: it stands apart, so that the code of the others, the acts and the receipts, is short.
 ghost use Rattle.std.specs.Prelude.{◌≡◌, ◌↔◌, ◌⊎◌, ℕ, ◌+◌, ◌<◌, ◌^◌, length, map, None, Ok, option_map, IfOk, IsErr, IsTrue, OnErr};
 ghost use Rattle.std.specs.List.{AllByRecursion};
 ghost use Rattle.std.specs.Option.{option_copied};
@@ -77,6 +79,7 @@ pub(crate) fn next_frame(recorded: &[Seq<u8>]) -> u32
 }
 
 // Starts a session.
+#[cold]
 fn start<'p>(alloc: Global, node: &mut Node<'p>, cast: Cast) -> Result<Came<'p>, OutOfMemory>
     ensures comes { (number : ℕ) (past : Past) → StandsForPast node.old past → IfOk result (ComesOfCall number node.old node.new past (Start cast)) }
     ensures back { OnErr result (node.new ≡ node.old) }
@@ -162,6 +165,7 @@ fn is_act_memory(fault: &ActFault) -> bool
 }
 
 // Leaves a session.
+#[cold]
 fn abandon<'p>(alloc: Global, node: &mut Node<'p>, sid: Sid) -> Came<'p>
     ensures { (number : ℕ) (past : Past) → StandsForPast node.old past → ComesOfCall number node.old node.new past (Abandon sid) result }
 {
@@ -254,6 +258,7 @@ fn deliver_read<'p>(
 }
 
 // Delivers bytes that are no frame.
+#[cold]
 fn deliver_malformed<'p>(
     alloc: Global,
     node: &mut Node<'p>,
@@ -297,6 +302,7 @@ fn came<'p>(outcome: Outcome, graph: Option<&'p Graph>, notes: Notes) -> Came<'p
 }
 
 // What comes of a delivery of a frame that isn't there.
+#[cold]
 fn no_frame<'p>(alloc: Global) -> Came<'p>
     ensures { (state : NodeState) → ComesOfNone state state result }
 {

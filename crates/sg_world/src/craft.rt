@@ -16,6 +16,7 @@ use sg_sched::{Craft, Step};
 use std::alloc::Global;
 
 /// Makes the frame of a step that is a craft.
+#[cold]
 pub(crate) fn craft<'p>(
     alloc: Global,
     setting: &Setting<'p>,
