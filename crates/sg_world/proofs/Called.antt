@@ -1,5 +1,5 @@
 -- What a node answers to a call, as what comes of the step.
-use Rattle.std.proofs.Common.{◌≡◌, ℕ, ◌+◌, ◌<◌, List, [], ◌∷◌, map, length, Option, Some, None, option_map, slice_get, Result, Ok, Err, IfOk, ◌++◌, get_or, take, refl, sym, ◌∙◌, ap, subst}
+use Rattle.std.proofs.Common.{◌≡◌, ℕ, ◌+◌, ◌<◌, List, [], ◌∷◌, map, length, Option, Some, None, option_map, slice_get, Result, Ok, Err, OnOk, ◌++◌, get_or, take, refl, sym, ◌∙◌, ap, subst}
 use Rattle.std.specs.List.{AllByRecursion}
 use Rattle.std.specs.Option.{option_map_or}
 use Rattle.std.proofs.lemmas.List.{map-append, map_more}
@@ -32,16 +32,27 @@ use Rattle.sg_node.specs.Answers.{GoesOn}
 use Rattle.sg_report.specs.Told.{Told, Sends, told_answer}
 use Rattle.sg_report.proofs.Answered.{SendsNothing}
 use Rattle.sg_world.specs.Comes.{Comes, ComesOfCall}
-use Rattle.sg_world.specs.Kept.{Came}
+use Rattle.sg_world.specs.Kept.{Came, no_frame}
+
+-- the notes of a call that begins with none
+noted_first : (blank : Came) (notes more : Notes) → blank ≡ no_frame → notes ≡ with_notes blank.notes more → notes ≡ with_notes no_notes more
+noted_first blank notes more none h = h ∙ ap (λ (z : Came). with_notes z.notes more) none
 
 -- what comes of a call that sends nothing
-pub comes_quiet : (number : ℕ) (old new : NodeState) (past : Past) (call : Call) (told : Option Told) (graph : Option Graph) (notes : Notes) (c : Came) → c ≡ record { told = told; graph = graph; frame = None; notes = notes } → IsCallInRange call
-    → SendsNothing number (answer real (node_of past) call) told → graph ≡ graph_of_call real (node_of past) call → notes ≡ with_notes no_notes (noted_of real (node_of past) call) → GoesOn old new call past → ComesOfCall number old new past call c
-comes_quiet number old new past call told graph notes c e range h graphed noted goes =
-    subst (ComesOfCall number old new past call) (sym e) (record { range = range; told = h.0; graph = graphed; frame = h.1; notes = noted; goes_on = goes })
+pub comes_quiet : (number : ℕ) (old new : NodeState) (past : Past) (call : Call) (told : Option Told) (graph : Option Graph) (notes : Notes) (blank c : Came) → blank ≡ no_frame → c ≡ record blank { told = told; graph = graph; notes = notes } → IsCallInRange call
+    → SendsNothing number (answer real (node_of past) call) told → graph ≡ graph_of_call real (node_of past) call → notes ≡ with_notes blank.notes (noted_of real (node_of past) call) → GoesOn old new call past → ComesOfCall number old new past call c
+comes_quiet number old new past call told graph notes blank c none e range h graphed noted goes =
+    subst (ComesOfCall number old new past call) (sym e) (record {
+      range = range;
+      told = h.0;
+      graph = graphed;
+      frame = ap (λ (z : Came). z.frame) none ∙ h.1;
+      notes = noted_first blank notes (noted_of real (node_of past) call) none noted;
+      goes_on = goes;
+    })
 
--- what holds of each answer that is there
-pub if_is_ok : {A E : Type 0} (Q : A → Type 0) (r : Result A E) → ((x : A) → r ≡ Ok x → Q x) → IfOk r Q
+-- what holds where there is an answer
+pub if_is_ok : {A E : Type 0} (Q : Type 0) (r : Result A E) → ((x : A) → r ≡ Ok x → Q) → OnOk r Q
 if_is_ok Q (Ok x) f = f x refl
 if_is_ok Q (Err e) f = tt
 
@@ -69,22 +80,18 @@ comes_act s w k number who n label values ds sid confounders old new past c same
 
 -- ---- answers
 
--- the notes of a call that begins with none
-pub noted_first : (now old more : Notes) → old ≡ no_notes → now ≡ with_notes old more → now ≡ with_notes no_notes more
-noted_first now old more e h = h ∙ ap (λ (z : Notes). with_notes z more) e
-
 -- what comes of a step that was sent
-pub comes_sent : (number : ℕ) (old new : NodeState) (past : Past) (sid : List ℕ) (label : ℕ) (values : Map Value) (confounders : List (List ℕ)) (e : Protocol.Event) (to bytes : List ℕ) (graph : Option Graph) (notes : Notes) (c : Came)
-    → c ≡ record { told = Some (Sends e to number); graph = graph; frame = Some bytes; notes = notes } → (f : Frame) → answer real (node_of past) (Act sid label values confounders) ≡ Protocol.Sends e to f → bytes ≡ spelling f
-    → AreValues values confounders → graph ≡ graph_of_call real (node_of past) (Act sid label values confounders) → notes ≡ with_notes no_notes (noted_of real (node_of past) (Act sid label values confounders)) → GoesOn old new (Act sid label values confounders) past
+pub comes_sent : (number : ℕ) (old new : NodeState) (past : Past) (sid : List ℕ) (label : ℕ) (values : Map Value) (confounders : List (List ℕ)) (e : Protocol.Event) (to bytes : List ℕ) (graph : Option Graph) (notes : Notes) (blank c : Came)
+    → blank ≡ no_frame → c ≡ record { told = Some (Sends e to number); graph = graph; frame = Some bytes; notes = notes } → (f : Frame) → answer real (node_of past) (Act sid label values confounders) ≡ Protocol.Sends e to f → bytes ≡ spelling f
+    → AreValues values confounders → graph ≡ graph_of_call real (node_of past) (Act sid label values confounders) → notes ≡ with_notes blank.notes (noted_of real (node_of past) (Act sid label values confounders)) → GoesOn old new (Act sid label values confounders) past
     → ComesOfCall number old new past (Act sid label values confounders) c
-comes_sent number old new past sid label values confounders e to bytes graph notes c is f given spelled range graphed noted goes =
+comes_sent number old new past sid label values confounders e to bytes graph notes blank c none is f given spelled range graphed noted goes =
     subst (ComesOfCall number old new past (Act sid label values confounders)) (sym is) (record {
       range = range;
       told = ap (λ (a : Answer). Some (told_answer number a)) (sym given);
       graph = graphed;
       frame = ap (λ (z : List ℕ). Some z) spelled ∙ ap frame_in (sym given);
-      notes = noted;
+      notes = noted_first blank notes (noted_of real (node_of past) (Act sid label values confounders)) none noted;
       goes_on = goes;
     })
 

@@ -104,8 +104,8 @@ call_held : (programs : List Program) (s : Schedule) (w : World) (nodes : List N
 call_held programs s w nodes r k x c who i old new None f b h d at come =
     let came = come f.past f.stands in
     held programs s w.pasts w (set_value_at nodes i new) _ r x c
-    (subst (λ (z : List Named). StandForPasts z w.pasts) (sym (ap (λ z. set_value_at nodes i z) came.same ∙ same_value nodes i who old at)) h.stand)
-    (entered programs s w.pasts w nodes _ r k x c b h came.told came.graph came.frame came.notes)
+    (subst (λ (z : List Named). StandForPasts z w.pasts) (sym (ap (λ z. set_value_at nodes i z) came.1 ∙ same_value nodes i who old at)) h.stand)
+    (entered programs s w.pasts w nodes _ r k x c b h (ap (λ (z : Came). z.told) came.0) (ap (λ (z : Came). z.graph) came.0) (ap (λ (z : Came). z.frame) came.0) (ap (λ (z : Came). z.notes) came.0))
 call_held programs s w nodes r k x c who i old new (Some call) f b h d at come =
     let came = come f.past f.stands in
     held programs s _ w (set_value_at nodes i new) _ r x c

@@ -8,7 +8,7 @@ use Rattle.sg_protocol.specs.Acting.{answer}
 use Rattle.sg_protocol.specs.Calls.{Call}
 use Rattle.sg_protocol.specs.Frame.{IsValue}
 use Rattle.sg_protocol.specs.NodeStates.{NodeState, StandsForPast}
-use Rattle.sg_protocol.specs.Notes.{no_notes, notes as noted_of}
+use Rattle.sg_protocol.specs.Notes.{notes as noted_of}
 use Rattle.sg_protocol.specs.Past.{Past, node_of}
 use Rattle.sg_protocol.specs.Ranges.{IsCallInRange}
 use Rattle.sg_protocol.specs.Run.{frame_in}
@@ -19,8 +19,8 @@ use Rattle.sg_protocol.specs.World.{World, frames, call_of, flipped}
 use Rattle.sg_sched.specs.declared.step.Change.{Change}
 use Rattle.sg_sched.specs.declared.step.Change.TheVariants.{Whole, Flip, Cut}
 use Rattle.sg_node.specs.Answers.{GoesOn}
-use Rattle.sg_report.specs.Told.{NoFrame, told_answer}
-use Rattle.sg_world.specs.Kept.{Came}
+use Rattle.sg_report.specs.Told.{told_answer}
+use Rattle.sg_world.specs.Kept.{Came, no_frame}
 
 -- what comes of a call is what the node of the past answers, where its frame has this number, by the graph of the call; and the new state goes on for the past
 pub record ComesOfCall (number : ℕ) (old new : NodeState) (past : Past) (call : Call) (c : Came) : Type 0 where
@@ -31,17 +31,9 @@ pub record ComesOfCall (number : ℕ) (old new : NodeState) (past : Past) (call 
   pub notes : c.notes ≡ noted_of real (node_of past) call
   pub goes_on : GoesOn old new call past
 
--- where there is no frame to deliver, no call is made
-pub record ComesOfNone (old new : NodeState) (c : Came) : Type 0 where
-  pub told : c.told ≡ Some NoFrame
-  pub graph : c.graph ≡ None
-  pub frame : c.frame ≡ None
-  pub notes : c.notes ≡ no_notes
-  pub same : new ≡ old
-
--- what comes of a step that makes this call, if it makes one
+-- what comes of a step that makes this call; where there is no frame to deliver, it makes none, and the state is as before
 abbrev pub Comes : ℕ → NodeState → NodeState → Past → Option Call → Came → Type 0
-Comes number old new past None c = ComesOfNone old new c
+Comes number old new past None c = (c ≡ no_frame) × (new ≡ old)
 Comes number old new past (Some call) c = ComesOfCall number old new past call c
 
 -- ---- the call of a step

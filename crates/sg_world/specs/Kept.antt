@@ -1,17 +1,17 @@
 -- The record of a replay: each step that was taken with what came of it, what was noted, and the recorded frames.
-use Rattle.std.specs.Prelude.{◌≡◌, ℕ, ◌+◌, List, [], ◌∷◌, ◌++◌, length, map, sum_by, Option, Some}
+use Rattle.std.specs.Prelude.{◌≡◌, ℕ, ◌+◌, List, [], ◌∷◌, ◌++◌, length, map, sum_by, Option, Some, None}
 use Rattle.std.specs.Option.{option_map_or, option_to_list}
 use Rattle.sg_model.specs.Names.{Name}
 use Rattle.sg_protocol.specs.Graph.{Graph}
 use Rattle.sg_protocol.specs.Keyring.{Program}
 use Rattle.sg_protocol.specs.NodeStates.{NodeState}
-use Rattle.sg_protocol.specs.Notes.{Notes}
+use Rattle.sg_protocol.specs.Notes.{Notes, no_notes}
 use Rattle.sg_protocol.specs.Schedule.{Schedule, Step}
 use Rattle.sg_protocol.specs.Steps.{record_size}
 use Rattle.sg_protocol.specs.World.{World, frames}
 use Rattle.sg_world.specs.Entries.{graph_of_entry}
 use Rattle.sg_world.specs.Stand.{StandForPasts}
-use Rattle.sg_report.specs.Told.{Told, told_log}
+use Rattle.sg_report.specs.Told.{Told, NoFrame, told_log}
 
 -- what came of a step: what is told of it, the graph by which its numbers have names, the frame that it records, and what was noted
 pub record Came : Type 0 where
@@ -19,6 +19,10 @@ pub record Came : Type 0 where
   pub graph : Option Graph
   pub frame : Option (List ℕ)
   pub notes : Notes
+
+-- what comes of a delivery of a frame that isn't there
+abbrev pub no_frame : Came
+no_frame = record { told = Some NoFrame; graph = None; frame = None; notes = no_notes }
 
 -- a step that was taken, what is told of it, and the graph by which its numbers have names
 pub record Taken : Type 0 where

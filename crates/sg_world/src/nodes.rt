@@ -6,6 +6,7 @@ ghost use Rattle.sg_protocol.specs.World.{keyring_of};
 ghost use Rattle.sg_declared.specs.Pairs.{ArePairs};
 ghost use Rattle.sg_sched.specs.Format.StepsHeld.{step_of};
 ghost use Rattle.sg_world.specs.Comes.{ComesAt, IsNamed};
+ghost use Rattle.sg_world.specs.Kept.{no_frame};
 
 use crate::call::call;
 use crate::record::Came;
@@ -60,7 +61,8 @@ pub(crate) fn place_of<'p>(nodes: &IndexMap<Name, Node<'p>>, who: &Name) -> Opti
     nodes.get_index_of(who)
 }
 
-/// Makes the call of a step of this number at the node at a place. If memory runs out, the nodes are as before.
+/// Makes the call of a step of this number at the node at a place, and writes what comes of it over `came`. If memory runs out, the nodes are as
+/// before.
 pub(crate) fn call_at<'p>(
     alloc: Global,
     nodes: &mut IndexMap<Name, Node<'p>>,
@@ -69,12 +71,22 @@ pub(crate) fn call_at<'p>(
     recorded: &[Seq<u8>],
     number: u32,
     step: &Step,
-) -> Result<Came<'p>, OutOfMemory>
+    came: &mut Came<'p>,
+) -> Result<(), OutOfMemory>
     requires within { place < length nodes.old.entries }
     requires named { IsNamed (length setting.now.sessions) (step_of step.now) }
     requires few { length recorded.now + 1 < 2 ^ 32 }
-    ensures comes { IfOk result (ComesAt setting.now.sessions recorded.now number (step_of step.now) place nodes.old.entries nodes.new.entries) }
+    requires blank { came.old ≡ no_frame }
+    ensures comes { OnOk result (ComesAt setting.now.sessions recorded.now number (step_of step.now) place nodes.old.entries nodes.new.entries came.new) }
     ensures back { OnErr result (nodes.new.entries ≡ nodes.old.entries) }
 {
-    call(alloc, &mut nodes[place], setting, recorded, number, step)
+    call(
+        alloc,
+        &mut nodes[place],
+        setting,
+        recorded,
+        number,
+        step,
+        came,
+    )
 }

@@ -33,6 +33,37 @@ impl<'p> Model for Came<'p> {
     ghost view = { λ c. record { told = outcome_of c.outcome; graph = option_copied c.graph; frame = c.frame; notes = c.notes } };
 }
 
+impl<'p> Came<'p> {
+    ghost use Rattle.std.specs.Prelude.{Some};
+    ghost use Rattle.sg_world.specs.Kept.{no_frame};
+
+    /// What comes of a delivery of a frame that isn't there. It takes no memory.
+    pub fn no_frame(alloc: Global) -> Came<'p>
+        ensures { result ≡ no_frame }
+    {
+        Came {
+            outcome: Outcome::NoFrame,
+            graph: None,
+            frame: None,
+            notes: Notes::new(alloc),
+        }
+    }
+
+    /// Says what came of the step.
+    pub fn set_outcome(&mut self, outcome: Outcome)
+        ensures { self.new ≡ record self.old { told = outcome_of outcome } }
+    {
+        self.outcome = outcome;
+    }
+
+    /// Gives the frame that the step records.
+    pub fn set_frame(&mut self, frame: Seq<u8>)
+        ensures { self.new ≡ record self.old { frame = Some frame } }
+    {
+        self.frame = Some(frame);
+    }
+}
+
 /// A step that was taken, what came of it, and the graph by which its numbers have names.
 #[derive(Drop)]
 pub(crate) struct TakenStep<'p> {

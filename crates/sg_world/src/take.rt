@@ -7,6 +7,7 @@ ghost use Rattle.sg_sched.specs.Format.StepsHeld.{step_of};
 ghost use Rattle.sg_world.specs.Comes.{IsNamed};
 ghost use Rattle.sg_world.specs.Crafts.{ComesOfPlace, IsCraftable};
 ghost use Rattle.sg_world.specs.Holds.{schedule_of, Holds};
+ghost use Rattle.sg_world.specs.Kept.{no_frame};
 ghost use Rattle.sg_sched.specs.Steps.{CanBeTaken};
 ghost use Rattle.sg_world.specs.Places.{IsFaultOf, IsPlaceOf, names_of};
 
@@ -79,12 +80,22 @@ pub(crate) fn take_step<'p>(
     let kept = copy_step(alloc, step)?;
     history.make_room()?;
     let number = history.count() as u32 + 1;
-    let came = come(alloc, setting, nodes, place, history.frames(), number, step)?;
+    let mut came = Came::no_frame(alloc);
+    come(
+        alloc,
+        setting,
+        nodes,
+        place,
+        history.frames(),
+        number,
+        step,
+        &mut came,
+    )?;
     history.put(kept, came);
     Ok(())
 }
 
-// What comes of a step of this number: at the node at its place, or of the craft.
+// Writes what comes of a step of this number over `came`: at the node at its place, or of the craft.
 fn come<'p>(
     alloc: Global,
     setting: &Setting<'p>,
@@ -93,17 +104,19 @@ fn come<'p>(
     recorded: &[Seq<u8>],
     number: u32,
     step: &Step,
-) -> Result<Came<'p>, OutOfMemory>
+    came: &mut Came<'p>,
+) -> Result<(), OutOfMemory>
     requires place { IsPlaceOf nodes.old.entries (step_of step.now) place }
     requires named { IsNamed (length setting.now.sessions) (step_of step.now) }
     requires can { IsCraftable setting.now (step_of step.now) }
     requires few { length recorded.now + 1 < 2 ^ 32 }
-    ensures comes { IfOk result (ComesOfPlace setting.now recorded.now number (step_of step.now) place nodes.old.entries nodes.new.entries) }
+    requires blank { came.old ≡ no_frame }
+    ensures comes { OnOk result (ComesOfPlace setting.now recorded.now number (step_of step.now) place nodes.old.entries nodes.new.entries came.new) }
     ensures back { OnErr result (nodes.new.entries ≡ nodes.old.entries) }
 {
     match place {
-        Some(place) => call_at(alloc, nodes, place, setting, recorded, number, step),
-        None => craft(alloc, setting, recorded, step),
+        Some(place) => call_at(alloc, nodes, place, setting, recorded, number, step, came),
+        None => craft(alloc, setting, recorded, step, came),
     }
 }
 

@@ -1,19 +1,20 @@
-use Rattle.std.proofs.Common.{Some, refl}
+use Rattle.std.proofs.Common.{Some, refl, ◌∙◌}
 use Rattle.std.specs.Option.{option_copied}
 use Rattle.sg_protocol.specs.Acting.{answer}
 use Rattle.sg_protocol.specs.Calls as Protocol
 use Rattle.sg_protocol.specs.Calls.{Abandon}
 use Rattle.sg_protocol.specs.Past.{node_of}
 use Rattle.sg_protocol.specs.Texts.{real}
+use Rattle.sg_node.proofs.Acts.{with_none}
 use Rattle.sg_report.specs.Told.{Abandoned, NotAbandoned}
 use Rattle.sg_report.proofs.Answered.{quiet}
 use Rattle.sg_world.proofs.Called.{comes_quiet}
 use Rattle.sg_world.proofs.call.abandon.Goals as goal
 
 pub returns-in-Ok : goal.returns-in-Ok
-returns-in-Ok c = λ number past stands. comes_quiet number c.args.node.now c.abandon.new.self past (Abandon c.args.sid) (Some Abandoned) (option_copied c.graph_of-graph.result) c.new-notes.result c.came.result c.came.ensures tt
-    (quiet number (answer real (node_of past) (Abandon c.args.sid)) Protocol.Abandoned Abandoned refl refl (c.in-Ok.ensures.answer past stands)) (c.graph_of-graph.ensures past stands) c.new-notes.ensures (c.in-Ok.ensures.state past stands)
+returns-in-Ok c = λ number past stands. comes_quiet number c.args.node.now c.abandon.new.self past (Abandon c.args.sid) (Some Abandoned) (option_copied c.graph_of-came-inside.result) c.came.inside.notes _ _ (c.came.view_is ∙ c.requires) c.set_outcome.ensures tt
+    (quiet number (answer real (node_of past) (Abandon c.args.sid)) Protocol.Abandoned Abandoned refl refl (c.in-Ok.ensures.answer past stands)) (c.graph_of-came-inside.ensures past stands) (with_none c.came.inside.notes) (c.in-Ok.ensures.state past stands)
 
 pub returns-in-Err : goal.returns-in-Err
-returns-in-Err c = λ number past stands. comes_quiet number c.args.node.now c.abandon.new.self past (Abandon c.args.sid) (Some NotAbandoned) (option_copied c.graph_of-graph.result) c.new-notes.result c.came-in-Err.result c.came-in-Err.ensures tt
-    (quiet number (answer real (node_of past) (Abandon c.args.sid)) Protocol.NotAbandoned NotAbandoned refl refl (c.in-Err.ensures.answer past stands)) (c.graph_of-graph.ensures past stands) c.new-notes.ensures (c.in-Err.ensures.state past stands)
+returns-in-Err c = λ number past stands. comes_quiet number c.args.node.now c.abandon.new.self past (Abandon c.args.sid) (Some NotAbandoned) (option_copied c.graph_of-came-inside.result) c.came.inside.notes _ _ (c.came.view_is ∙ c.requires) c.set_outcome-in-Err.ensures tt
+    (quiet number (answer real (node_of past) (Abandon c.args.sid)) Protocol.NotAbandoned NotAbandoned refl refl (c.in-Err.ensures.answer past stands)) (c.graph_of-came-inside.ensures past stands) (with_none c.came.inside.notes) (c.in-Err.ensures.state past stands)

@@ -1,4 +1,4 @@
-use Rattle.std.proofs.Common.{◌≡◌, IfOk, refl, subst}
+use Rattle.std.proofs.Common.{◌≡◌, OnOk, refl, subst}
 use Rattle.indexmap.specs.IndexMap.{set_value_at}
 use Rattle.sg_sched.specs.Format.StepsHeld.{step_of}
 use Rattle.sg_world.specs.Comes.{ComesAt, ComesOfStep}
@@ -11,7 +11,7 @@ use Rattle.sg_courses.proofs.Taking.{on_err}
 use Rattle.sg_world.proofs.nodes.call_at.Goals as goal
 
 pub returns-clause-comes : goal.returns-clause-comes
-returns-clause-comes c = if_is_ok (ComesAt c.args.setting.now.sessions c.args.recorded.now c.args.number (step_of c.args.step.now) c.args.place c.args.nodes.now.entries (set_value_at c.args.nodes.now.entries c.args.place c.call.new.node)) c.call.result
+returns-clause-comes c = if_is_ok (ComesAt c.args.setting.now.sessions c.args.recorded.now c.args.number (step_of c.args.step.now) c.args.place c.args.nodes.now.entries (set_value_at c.args.nodes.now.entries c.args.place c.call.new.node) c.call.new.came) c.call.result
     (λ x e.
     let entry = entry_at c.args.nodes.now.entries c.args.place c.index_mut.result.now c.index_mut.ensures.value in
     record {
@@ -20,7 +20,7 @@ returns-clause-comes c = if_is_ok (ComesAt c.args.setting.now.sessions c.args.re
       new = c.call.new.node;
       is_old = entry.1;
       is_new = refl;
-      comes = subst (λ r. IfOk r (ComesOfStep c.args.setting.now.sessions c.args.recorded.now c.args.number (step_of c.args.step.now) c.index_mut.result.now c.call.new.node)) e c.call.ensures.comes;
+      comes = subst (λ r. OnOk r (ComesOfStep c.args.setting.now.sessions c.args.recorded.now c.args.number (step_of c.args.step.now) c.index_mut.result.now c.call.new.node c.call.new.came)) e c.call.ensures.comes;
     })
 
 pub returns-clause-back : goal.returns-clause-back
