@@ -7,9 +7,9 @@ use Rattle.sg_model.specs.Shape.{receiver, target}
 use Rattle.sg_protocol.specs.Graph.{Graph, shape, writes}
 use Rattle.sg_protocol.specs.Schedule.{Step, StartStep, ActStep, AbandonStep, DeliverStep, Whole}
 use Rattle.sg_world.specs.Faults.{IsFull}
-use Rattle.sg_world.specs.Replay.{Replay, size_of}
+use Rattle.sg_world.specs.Replay.{Replay, size_of, up_to}
 use Rattle.sg_drive.specs.Draws.{draw}
-use Rattle.sg_drive.specs.Faults.{IsFullAt, IsStopped, replay_before}
+use Rattle.sg_drive.specs.Faults.{IsFullAt, IsStopped}
 use Rattle.sg_drive.specs.Generated.{Fate, Delivered, Delayed, Repeated, Lost, accepted_time, begin, begin_all, chosen, deliver, fate_of, goes_on, goes_on_by, gone_on, meet, number_sent, play, play_along, play_by, player_at, put_back, take_out, turn, turns, values_drawn, with_frame, with_sent}
 use Rattle.sg_drive.specs.Going.{Going, Pending, came_last, drawing, taking}
 use Rattle.sg_drive.specs.Setup.{player}
@@ -41,7 +41,7 @@ extends_both r r2 r3 a b = record {
 }
 
 -- what was recorded before a step stays
-before_same : (r : Replay) (more : List Step) (n : ℕ) → n ≤ length r.schedule.steps → replay_before n (with_more r more) ≡ replay_before n r
+before_same : (r : Replay) (more : List Step) (n : ℕ) → n ≤ length r.schedule.steps → up_to n (with_more r more) ≡ up_to n r
 before_same r more n h = ap (λ (xs : List Step). let z : Replay = record r { schedule = record (r.schedule) { steps = xs } } in z) (take-append-le n r.schedule.steps more h)
 
 pub full_more : (r r2 : Replay) (bytes : ℕ) → Extends r r2 → IsFullAt r bytes → IsFullAt r2 bytes

@@ -7,12 +7,13 @@ use Rattle.sg_protocol.specs.IsSchedule.{AreCompiled}
 use Rattle.sg_protocol.specs.Keyring.{Program}
 use Rattle.sg_protocol.specs.Schedule.{Schedule}
 use Rattle.sg_protocol.specs.Texts.{real}
+use Rattle.sg_world.specs.Faults.{NeverFull}
 use Rattle.sg_world.specs.Replay.{without_steps}
 use Rattle.sg_drive.proofs.Grouped.{begun_after, budget_before, group_stops, groups_follow, machine_before, one_group, size_at}
 use Rattle.sg_drive.proofs.Left.{at}
 use Rattle.sg_drive.proofs.Turning.{generated_is_one}
 use Rattle.sg_drive.specs.Budget.{HasBudget}
-use Rattle.sg_drive.specs.Faults.{IsGenerateFault, NeverFull}
+use Rattle.sg_drive.specs.Faults.{IsGenerateFault}
 use Rattle.sg_drive.specs.Generated.{AreGroups, Generated, IsGroup}
 use Rattle.sg_drive.specs.Going.{Going, beginning}
 use Rattle.sg_drive.specs.Groups.{AreGrouped, IsGroupFault, IsOfGroup}

@@ -1,30 +1,21 @@
 -- Why a run isn't generated.
 use Rattle.std.specs.Prelude.{◌≡◌, ℕ, ◌<◌, List, length, ⊤}
-use Rattle.sg_protocol.specs.Beginnings.{first_steps}
 use Rattle.sg_protocol.specs.Graph.{Graph}
 use Rattle.sg_protocol.specs.Keyring.{Program}
 use Rattle.sg_world.specs.Faults.{IsFull}
-use Rattle.sg_world.specs.Replay.{Replay, size_of}
+use Rattle.sg_world.specs.Replay.{Replay, size_of, up_to}
 use Rattle.sg_drive.specs.Generated.{Generated}
 use Rattle.sg_drive.specs.Going.{Going}
 use Rattle.sg_drive.specs.declared.fault.GenerateFault.{GenerateFault}
 use Rattle.sg_drive.specs.declared.fault.GenerateFault.TheVariants.{RecordFull, OutOfMemory}
 
--- the replay of the first n steps
-abbrev pub replay_before : ℕ → Replay → Replay
-replay_before n r = record r { schedule = first_steps n r.schedule }
-
--- no step begins with a full record
-abbrev pub NeverFull : Replay → Type 0
-NeverFull r = (n : ℕ) → n < length r.schedule.steps → IsFull (replay_before n r) → ⊥
-
 -- the first step that begins with a full record begins with `bytes` bytes
 pub record IsFullAt (r : Replay) (bytes : ℕ) : Type 0 where
   pub before : ℕ
   pub begins : before < length r.schedule.steps
-  pub full : IsFull (replay_before before r)
-  pub first : (n : ℕ) → n < before → IsFull (replay_before n r) → ⊥
-  pub size : bytes ≡ size_of (replay_before before r)
+  pub full : IsFull (up_to before r)
+  pub first : (n : ℕ) → n < before → IsFull (up_to n r) → ⊥
+  pub size : bytes ≡ size_of (up_to before r)
 
 -- why the replay of all these steps goes no further: a step begins with a full record, or memory ran out
 abbrev pub IsStopped : Replay → GenerateFault → Type 0

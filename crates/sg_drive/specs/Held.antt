@@ -5,8 +5,8 @@ use Rattle.sg_protocol.specs.Graph.{Graph}
 use Rattle.sg_protocol.specs.Keyring.{Program}
 use Rattle.sg_protocol.specs.Schedule.{Schedule}
 use Rattle.sg_sched.specs.Format.StepsHeld.{step_of}
+use Rattle.sg_world.specs.Faults.{NeverFull}
 use Rattle.sg_world.specs.Replay.{Replay, without_steps}
-use Rattle.sg_drive.specs.Faults.{NeverFull}
 use Rattle.sg_drive.specs.Generated.{Generated}
 use Rattle.sg_drive.specs.Generated as rules
 use Rattle.sg_drive.specs.Going.{Going}

@@ -6,8 +6,9 @@ ghost use Rattle.sg_protocol.specs.Steps.{is_taken};
 ghost use Rattle.sg_protocol.specs.Texts.{real};
 ghost use Rattle.sg_sched.specs.Format.StepsHeld.{step_of};
 ghost use Rattle.sg_sched.specs.Steps.{CanBeTaken};
+ghost use Rattle.sg_world.specs.Faults.{NeverFull};
 ghost use Rattle.sg_drive.specs.Draws.{draw};
-ghost use Rattle.sg_drive.specs.Faults.{IsStopped, NeverFull};
+ghost use Rattle.sg_drive.specs.Faults.{IsStopped};
 ghost use Rattle.sg_drive.specs.Going.{adding, beginning, drawing, taking};
 ghost use Rattle.sg_drive.specs.Held.{drive_of};
 

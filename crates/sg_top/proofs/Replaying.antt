@@ -13,27 +13,27 @@ use Rattle.sg_sched.specs.Format.Spells.{SpellsSchedule}
 use Rattle.sg_world.specs.Account.{CanBeNamed, account}
 use Rattle.sg_world.specs.Faults.{IsFull}
 use Rattle.sg_world.specs.Laws.{HasPrograms, LawsHold}
-use Rattle.sg_world.specs.Replay.{Replay}
+use Rattle.sg_world.specs.Replay.{Replay, up_to}
 use Rattle.sg_top.specs.Ending.{Ending, Written, NoCommand, NoGraph, NoExpansion, GraphRefused, NoRole, WrongLine, KeysRefused, ScriptRefused, ProgramRefused, NoLedger, BadSlot, LedgerNotEmpty, FileFailed, WriteFailed, LinkFailed, DiskFailed, NoMemory, NoSuchFile, TooLarge}
 use Rattle.sg_top.specs.Ends.{Output, IsReplay, Replays}
-use Rattle.sg_top.specs.Replayed.{CanBeReplayed, HasNoRoom, Reports, Stops, replay_of, replay_up_to}
+use Rattle.sg_top.specs.Replayed.{CanBeReplayed, HasNoRoom, Reports, Stops, replay_of}
 
 module _ (programs : List Program) (s : Schedule) where
   -- the record was full as none of the first n steps began
   abbrev pub NoneFull : ℕ → Type 0
-  NoneFull n = (k : ℕ) → k < n → IsFull (replay_up_to k programs s) → ⊥
+  NoneFull n = (k : ℕ) → k < n → IsFull (up_to k (replay_of programs s)) → ⊥
 
   -- nor as the next one began
-  pub none_more : (n : ℕ) (w : Replay) → w ≡ replay_up_to n programs s → NoneFull n → (IsFull w → ⊥) → NoneFull (n + 1)
+  pub none_more : (n : ℕ) (w : Replay) → w ≡ up_to n (replay_of programs s) → NoneFull n → (IsFull w → ⊥) → NoneFull (n + 1)
   none_more n w e before next k l full = elim (cases_Bool (nat_lt k n)) [
     | inl y ↦ before k (ltb-true k n y) full
     | inr z ↦ (let least = ltb-false k n z in
         let same : k ≡ n = omega (arith, l, least) in
-        next (subst IsFull (sym e) (subst (λ j. IsFull (replay_up_to j programs s)) same full)))
+        next (subst IsFull (sym e) (subst (λ j. IsFull (up_to j (replay_of programs s))) same full)))
   ]
 
   -- a step that finds no room stops the replay
-  pub stops : (n : ℕ) (w : Replay) (ending : Ending) → w ≡ replay_up_to n programs s → n < length s.steps → HasNoRoom w ending → Stops programs s ending
+  pub stops : (n : ℕ) (w : Replay) (ending : Ending) → w ≡ up_to n (replay_of programs s) → n < length s.steps → HasNoRoom w ending → Stops programs s ending
   stops n w Written e l h = absurd h
   stops n w NoCommand e l h = absurd h
   stops n w (NoGraph fault) e l h = absurd h
@@ -62,7 +62,7 @@ module _ (programs : List Program) (s : Schedule) where
   -- all steps were taken, and this is the report
   pub reports : (n : ℕ) (w : Replay) (text : List ℕ) → w ≡ replay_of programs s → length s.steps ≤ n → NoneFull n → IsReport (account w) text → LawsHold → HasPrograms (replay_of programs s) → Reports programs s text
   reports n w text e all none report laws has = record {
-    room = λ o. none o.before (let b = o.begins in omega (arith, b, all)) o.full;
+    room = λ k l. none k (omega (arith, l, all));
     report = subst (λ (r : Replay). IsReport (account r) text) e report;
     once = none_joins_twice real programs s;
     laws = laws (replay_of programs s) has;

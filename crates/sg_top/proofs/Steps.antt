@@ -14,8 +14,8 @@ use Rattle.sg_protocol.specs.Steps.{is_taken}
 use Rattle.sg_sched.specs.Format.StepsHeld.{step_of}
 use Rattle.sg_sched.specs.declared.step.Step.{Step}
 use Rattle.sg_sched.specs.Steps.{CanBeTaken}
-use Rattle.sg_world.specs.Replay.{with_taken}
-use Rattle.sg_top.specs.Replayed.{CanBeReplayed, replay_of, replay_up_to}
+use Rattle.sg_world.specs.Replay.{up_to, with_taken}
+use Rattle.sg_top.specs.Replayed.{CanBeReplayed, replay_of}
 
 -- step i of the schedule is the one that is held, and fewer were taken than there are
 module _ (s : Schedule) (items : List Step) (i : ℕ) (x : Step) (all : map step_of items ≡ s.steps) (h : i < length items) (at : x ≡ get_or items i x) where
@@ -47,13 +47,13 @@ module _ (s : Schedule) (items : List Step) (i : ℕ) (x : Step) (all : map step
       ])
 
   -- one step more
-  pub more : (programs : List Program) → with_taken (replay_up_to i programs s) (step_of x) ≡ replay_up_to (i + 1) programs s
+  pub more : (programs : List Program) → with_taken (up_to i (replay_of programs s)) (step_of x) ≡ up_to (i + 1) (replay_of programs s)
   more programs =
       let one : take i s.steps ++ step_of x ∷ [] ≡ take (i + 1) s.steps = ap (λ y. take i s.steps ++ y ∷ []) (sym here) ∙ sym (take_more s.steps i (step_of x) begins) in
       ap (λ xs. replay_of programs (record s { steps = xs })) one
 
 -- all steps
-pub whole : (programs : List Program) (s : Schedule) (i : ℕ) → length s.steps ≤ i → replay_up_to i programs s ≡ replay_of programs s
+pub whole : (programs : List Program) (s : Schedule) (i : ℕ) → length s.steps ≤ i → up_to i (replay_of programs s) ≡ replay_of programs s
 whole programs s i h = ap (λ xs. replay_of programs (record s { steps = xs })) (take_all i s.steps h)
 
 -- as many as are held

@@ -3,8 +3,9 @@ use Rattle.std.specs.Prelude.{◌≡◌, ℕ, List, codes, All, ⊤}
 use Rattle.sg_protocol.specs.Graph.{Graph}
 use Rattle.sg_protocol.specs.Keyring.{Program}
 use Rattle.sg_protocol.specs.Past.{JoinedOnce}
+use Rattle.sg_world.specs.Faults.{NeverFull}
 use Rattle.sg_world.specs.Replay.{run_of}
-use Rattle.sg_drive.specs.Faults.{IsTooMuch, NeverFull}
+use Rattle.sg_drive.specs.Faults.{IsTooMuch}
 use Rattle.sg_drive.specs.Generated.{Generated}
 use Rattle.sg_drive.specs.Going.{Going}
 use Rattle.sg_drive.specs.Summary.{IsSummary}

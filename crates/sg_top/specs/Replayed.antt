@@ -1,7 +1,6 @@
 -- What is left of the replay of a schedule over the programs of its graphs.
 use Rattle.std.specs.Prelude.{◌≡◌, ℕ, ◌<◌, true, List, length, codes, All, ⊤}
 use Rattle.std.specs.List.{list_all}
-use Rattle.sg_protocol.specs.Beginnings.{first_steps}
 use Rattle.sg_protocol.specs.Keyring.{Program}
 use Rattle.sg_protocol.specs.Past.{JoinedOnce}
 use Rattle.sg_protocol.specs.Schedule.{Schedule}
@@ -9,18 +8,14 @@ use Rattle.sg_protocol.specs.Steps.{is_taken}
 use Rattle.sg_read.specs.Meant.{IsMeant}
 use Rattle.sg_report.specs.Report.{IsReport}
 use Rattle.sg_world.specs.Account.{CanBeNamed, account}
-use Rattle.sg_world.specs.Faults.{IsFull}
+use Rattle.sg_world.specs.Faults.{IsFull, NeverFull}
 use Rattle.sg_world.specs.Laws.{RunLaws}
-use Rattle.sg_world.specs.Replay.{Replay, run_of}
+use Rattle.sg_world.specs.Replay.{Replay, run_of, up_to}
 use Rattle.sg_top.specs.Ending.{Ending, NoMemory, TooLarge}
 
 -- the replay of all steps
 abbrev pub replay_of : List Program → Schedule → Replay
 replay_of programs s = record { programs = programs; schedule = s }
-
--- the replay of the first n steps
-abbrev pub replay_up_to : ℕ → List Program → Schedule → Replay
-replay_up_to n programs s = replay_of programs (first_steps n s)
 
 -- a schedule that can be replayed: it is one as the protocol has them, whose steps can be taken, each of them a craft or an honest principal's, and told of
 pub record CanBeReplayed (s : Schedule) : Type 0 where
@@ -32,12 +27,12 @@ pub record CanBeReplayed (s : Schedule) : Type 0 where
 pub record IsOverfull (programs : List Program) (s : Schedule) : Type 0 where
   pub before : ℕ
   pub begins : before < length s.steps
-  pub full : IsFull (replay_up_to before programs s)
+  pub full : IsFull (up_to before (replay_of programs s))
 
 -- the text is a report of the replay, whose record is full as no step begins; no honest principal joins a session twice as the same role; and
 -- what holds of runs holds of this one: who sent what was received, what frames show, and what awaited frames come to
 pub record Reports (programs : List Program) (s : Schedule) (text : List ℕ) : Type 0 where
-  pub room : IsOverfull programs s → ⊥
+  pub room : NeverFull (replay_of programs s)
   pub report : IsReport (account (replay_of programs s)) text
   pub once : All JoinedOnce (run_of (replay_of programs s)).pasts
   pub laws : RunLaws (replay_of programs s)

@@ -2,7 +2,6 @@
 use Rattle.std.specs.Prelude.{◌≡◌, ◌↔◌, ℕ, List, Some, true, All, flat_map, option_map}
 use Rattle.sg_model.specs.Last.{last, up_to_last}
 use Rattle.sg_model.specs.Names.{Name}
-use Rattle.sg_protocol.specs.Beginnings.{first_steps}
 use Rattle.sg_protocol.specs.Calls.{Happened}
 use Rattle.sg_protocol.specs.Completeness.{IsAwaited}
 use Rattle.sg_protocol.specs.Frame.{Cast, Frame}
@@ -19,7 +18,7 @@ use Rattle.sg_protocol.specs.Verdict.{receipt}
 use Rattle.sg_protocol.specs.World.{Answered, Logged, past_of}
 use Rattle.sg_report.specs.Report.{premises_hold}
 use Rattle.sg_world.specs.Account.{account}
-use Rattle.sg_world.specs.Replay.{Replay, run_of, with_taken, stepped}
+use Rattle.sg_world.specs.Replay.{Replay, run_of, stepped, up_to, with_taken}
 use Rattle.sg_world.specs.Walked.{PremisesHold}
 
 -- ---- every replay
@@ -38,10 +37,6 @@ NoneJoinsTwice = (r : Replay) → All JoinedOnce (run_of r).pasts
 pub record HasPrograms (r : Replay) : Type 0 where
   pub compiled : AreCompiled real r.schedule.graphs r.programs
   pub schedule : IsSchedule real r.schedule
-
--- the replay up to a step
-abbrev pub up_to : ℕ → Replay → Replay
-up_to number r = record r { schedule = first_steps number r.schedule }
 
 -- where the premises hold, an honest sender's receipt was given by bytes that this sender sent before, in that session and role
 abbrev pub ReceiptsWereSent : Replay → Type 0

@@ -1,5 +1,6 @@
 -- What clauses see of a replay: the programs, and the schedule with the steps that were taken so far. Its run is the core's.
 use Rattle.std.specs.Prelude.{ℕ, ◌+◌, List, [], length}
+use Rattle.sg_protocol.specs.Beginnings.{first_steps}
 use Rattle.sg_protocol.specs.Keyring.{Program}
 use Rattle.sg_protocol.specs.Schedule.{Step, Schedule}
 use Rattle.sg_protocol.specs.Steps.{with_step, record_size}
@@ -19,6 +20,10 @@ without_steps s = record s { steps = [] }
 -- the replay with one more step
 abbrev pub with_taken : Replay → Step → Replay
 with_taken r x = record r { schedule = with_step r.schedule x }
+
+-- the replay of the first n steps
+abbrev pub up_to : ℕ → Replay → Replay
+up_to n r = record r { schedule = first_steps n r.schedule }
 
 -- the run of the steps that were taken
 abbrev pub run_of : Replay → World
