@@ -12,6 +12,7 @@ use Rattle.sg_protocol.specs.Keyring.{Program}
 use Rattle.sg_protocol.specs.Schedule.{Schedule}
 use Rattle.sg_protocol.specs.Texts.{real}
 use Rattle.sg_protocol.proofs.Joins.{none_joins_twice}
+use Rattle.sg_world.specs.Laws.{RunLaws}
 use Rattle.sg_world.specs.Replay.{Replay, without_steps}
 use Rattle.sg_drive.specs.Faults.{IsGenerateFault}
 use Rattle.sg_drive.specs.Held.{Drive, IsDrive}
@@ -41,8 +42,8 @@ module _ (seed sessions : ℕ) (g : Graph) (programs : List Program) where
         omega (arith, few, replay, schedule, short)
 
     -- the summary is that of the generated run
-    pub sums : (text : List ℕ) → IsSummary (length d.schedule.sessions) d.lost g d.replay text → Sums seed sessions g programs text
-    sums text summary = record {
+    pub sums : (text : List ℕ) → IsSummary (length d.schedule.sessions) d.lost g d.replay text → RunLaws d.replay → Sums seed sessions g programs text
+    sums text summary laws = record {
       going = is.going;
       generated = is.generated;
       room = is.room;
@@ -51,6 +52,7 @@ module _ (seed sessions : ℕ) (g : Graph) (programs : List Program) where
           (subst (λ n. IsSummary sessions n g d.replay text) is.lost
           (subst (λ n. IsSummary n d.lost g d.replay text) (all_declared d.schedule is.declared) summary));
       once = none_joins_twice real is.going.replay.programs is.going.replay.schedule;
+      laws = subst RunLaws is.replay laws;
     }
 
   -- a run whose record is full stops the drive

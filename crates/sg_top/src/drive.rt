@@ -118,14 +118,17 @@ fn summary_of(
     ensures stops { IfErr result (λ ending. StopsDrive seed sessions graph.now programs.now (ending_held ending)) }
 {
     match generate(alloc, seed, sessions, graph, programs) {
-        Ok(driven) => match summary(alloc, graph, &driven) {
-            Ok(text) => {
-                // The program ends next, so the run isn't given back piece by piece.
-                mem::forget(driven);
-                Ok(text)
+        Ok(driven) => {
+            driven.world.tell_laws();
+            match summary(alloc, graph, &driven) {
+                Ok(text) => {
+                    // The program ends next, so the run isn't given back piece by piece.
+                    mem::forget(driven);
+                    Ok(text)
+                }
+                Err(_) => Err(Ending::NoMemory),
             }
-            Err(_) => Err(Ending::NoMemory),
-        },
+        }
         Err(GenerateFault::RecordFull { .. }) => Err(Ending::TooLarge { what: "record" }),
         Err(GenerateFault::OutOfMemory) => Err(Ending::NoMemory),
     }

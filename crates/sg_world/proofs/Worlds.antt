@@ -1,17 +1,20 @@
 -- A replay as its parts keep it.
-use Rattle.std.proofs.Common.{◌≡◌, ℕ, zero, suc, ◌<◌, ◌≤◌, List, [], ◌∷◌, map, length, sum_by, slice_get, get_or, Option, Some, None, option_map, arith, sym, ◌∙◌, ap, subst}
+use Rattle.std.proofs.Common.{◌≡◌, ℕ, zero, suc, ◌+◌, ◌<◌, ◌≤◌, List, [], ◌∷◌, map, length, sum_by, slice_get, get_or, Option, Some, option_map, arith, sym, ◌∙◌, ap, subst}
 use Rattle.std.proofs.lemmas.List.{length-map}
 use Rattle.std.proofs.lemmas.Option.{slice_get_read}
 use Rattle.sg_model.specs.Last.{last}
 use Rattle.sg_model.specs.Limits.{most_record_before}
 use Rattle.sg_law.proofs.Cut.{last-option_map}
+use Rattle.sg_protocol.proofs.RealHash.{real_hash}
+use Rattle.sg_protocol.proofs.Sizes.{steps_add_little}
 use Rattle.sg_protocol.proofs.Steps.{runs_go_by_step}
-use Rattle.sg_protocol.specs.IsSchedule.{AreCompiled, IsSchedule}
+use Rattle.sg_protocol.specs.IsSchedule.{AreCompiled, IsSchedule, IsStep}
 use Rattle.sg_protocol.specs.Keyring.{Program}
+use Rattle.sg_protocol.specs.Run.{run, world_after}
 use Rattle.sg_protocol.specs.Schedule.{Schedule, Step}
-use Rattle.sg_protocol.specs.Steps.{with_step}
+use Rattle.sg_protocol.specs.Steps.{record_size, with_step}
 use Rattle.sg_protocol.specs.Texts.{real, graph_text_of}
-use Rattle.sg_protocol.specs.World.{Logged}
+use Rattle.sg_protocol.specs.World.{Logged, World}
 use Rattle.sg_world.specs.Faults.{IsAdmitted, IsFull}
 use Rattle.sg_world.specs.Holds.{Holds, schedule_of}
 use Rattle.sg_world.specs.Kept.{Recorded, Taken}
@@ -59,6 +62,18 @@ pub is_admitted : (rep : Replay) (d : Setting) (nodes : List Named) (r : Recorde
 is_admitted rep d nodes r x place is h at small =
     let sized : r.size ≡ size_of (replay d nodes r) = h.run.size in
     subst (λ (z : Replay). IsAdmitted z x) is (placed nodes x place at, λ (full : IsFull (replay d nodes r)). omega (arith, small, sized, full))
+
+-- what a step adds has room
+pub size_after : (rep new : Replay) (d : Setting) (nodes : List Named) (r : Recorded) (x : Step) → replay d nodes r ≡ rep → Holds d nodes r → IsStep real rep.schedule x → new ≡ with_taken rep x → r.size ≤ 264241152 → size_of new < 268435456
+size_after rep new d nodes r x is h step taken small =
+    let S = schedule_of d nodes r in
+    let W = run real d.programs S in
+    let more : record_size (with_step S x) (world_after real S W (length S.steps + 1) x) < record_size S W + 4194304 =
+    steps_add_little real real_hash d.programs S h.compiled h.schedule (length S.steps + 1) x (subst (λ (z : Replay). IsStep real z.schedule x) (sym is) step) in
+    let after : size_of (with_taken (replay d nodes r) x) ≡ record_size (with_step S x) (world_after real S W (length S.steps + 1) x) = ap (λ (z : World). record_size (with_step S x) z) (runs_go_by_step real d.programs S x) in
+    let there : size_of new ≡ size_of (with_taken (replay d nodes r) x) = ap size_of taken ∙ ap (λ (z : Replay). size_of (with_taken z x)) (sym is) in
+    let sized = h.run.size in
+    omega (arith, more, after, there, sized, small)
 
 -- what is told of the last step
 pub last_told : (rep : Replay) (d : Setting) (nodes : List Named) (r : Recorded) → replay d nodes r ≡ rep → Holds d nodes r → option_map (λ (e : Taken). e.told) (last r.entries) ≡ option_map {U = Option Told} Some (last (told_log (run_of rep).log))

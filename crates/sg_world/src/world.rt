@@ -1,7 +1,7 @@
 //! A replay.
 ghost use Rattle.std.specs.Prelude.{◌≡◌, ◌<◌, ◌≤◌, All, length, map, slice_get, Some, IfOk, IfErr, OnOk, OnErr, option_map};
 ghost use Rattle.sg_model.specs.Last.{last};
-ghost use Rattle.sg_model.specs.Limits.{most_steps};
+ghost use Rattle.sg_model.specs.Limits.{most_record_bytes, most_steps};
 ghost use Rattle.sg_protocol.specs.IsSchedule.{AreCompiled, IsSchedule};
 ghost use Rattle.sg_protocol.specs.Texts.{real};
 ghost use Rattle.sg_sched.specs.Format.StepsHeld.{step_of};
@@ -10,7 +10,7 @@ ghost use Rattle.sg_report.specs.Told.{told_log};
 ghost use Rattle.sg_world.specs.Faults.{IsStepFault, IsAdmitted};
 ghost use Rattle.sg_world.specs.Laws.{HasPrograms, RunLaws};
 ghost use Rattle.sg_sched.specs.Steps.{CanBeTaken};
-ghost use Rattle.sg_world.specs.Replay.{without_steps, with_taken, run_of, stepped};
+ghost use Rattle.sg_world.specs.Replay.{without_steps, with_taken, run_of, size_of, stepped};
 
 use crate::StepFault;
 use crate::nodes::nodes_of;
@@ -82,10 +82,17 @@ impl<'p> World<'p> {
     pub fn len(&self) -> usize
         ensures steps { result ≡ length self.now.schedule.steps }
         ensures told { result ≡ length (told_log (run_of self.now).log) }
+    {
+        self.history.count()
+    }
+
+    /// What holds of each replay: its schedule is one, its programs are those of the schedule's graphs, and the laws of runs hold of its run. It does
+    /// nothing.
+    pub fn tell_laws(&self)
         ensures programs { HasPrograms self.now }
         ensures laws { RunLaws self.now }
     {
-        self.history.count()
+        let _ = self.history.count();
     }
 
     /// What came of the step at a place, counted from 0. It takes no memory.
@@ -112,13 +119,14 @@ impl<'p> World<'p> {
     }
 
     /// Takes a step. Refused where its principal isn't honest, where the record is full, or where memory runs out. After a refusal
-    /// the world is as before.
+    /// the world is as before. The record holds less than 268,435,456 bytes after it.
     pub fn step(&mut self, step: &Step) -> Result<(), StepFault>
         requires room { length self.old.schedule.steps < most_steps }
         requires step { CanBeTaken self.old.schedule (step_of step.now) }
         ensures taken { OnOk result (self.new ≡ with_taken self.old (step_of step.now)) }
         ensures run { OnOk result (run_of self.new ≡ stepped self.old (step_of step.now)) }
         ensures admitted { OnOk result (IsAdmitted self.old (step_of step.now)) }
+        ensures size { OnOk result (size_of self.new < most_record_bytes) }
         ensures refused { IfErr result (IsStepFault self.old (step_of step.now)) }
         ensures back { OnErr result (self.new ≡ self.old) }
     {

@@ -1,4 +1,4 @@
-use Rattle.std.proofs.Common.{[], refl}
+use Rattle.std.proofs.Common.{refl}
 use Rattle.sg_courses.specs.Runs.{AreCourses, IsUnbroken}
 use Rattle.sg_report.specs.Report.{met}
 use Rattle.sg_world.specs.Account.{account}

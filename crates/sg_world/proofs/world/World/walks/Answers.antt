@@ -1,4 +1,4 @@
-use Rattle.std.proofs.Common.{◌≡◌, length, refl}
+use Rattle.std.proofs.Common.{refl}
 use Rattle.sg_courses.specs.Runs.{AreCourses, IsUnbroken}
 use Rattle.sg_world.specs.Replay.{run_of}
 use Rattle.sg_world.proofs.Accounts.{compiled_is, schedule_is}
