@@ -1,5 +1,5 @@
 -- A craft of a schedule can be made, by the means that are gathered for it.
-use Rattle.std.proofs.Common.{◌≡◌, ℕ, ◌<◌, List, [], ◌∷◌, Option, Some, None, option_map, option_and_then, slice_get, IsSomeAnd, refl, ◌∙◌, subst}
+use Rattle.std.proofs.Common.{◌≡◌, List, [], Option, Some, None, option_map, option_and_then, slice_get, IsSomeAnd, refl, subst}
 use Rattle.sg_protocol.specs.Crafted.{crafted_frame}
 use Rattle.sg_protocol.specs.Frame.{Cast, Frame}
 use Rattle.sg_protocol.specs.Graph.{Graph}

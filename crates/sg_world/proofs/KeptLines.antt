@@ -1,19 +1,18 @@
 -- The lines, the names and the events of an account, by what is kept.
-use Rattle.std.specs.Prelude.{◌≡◌, ℕ, ◌<◌, List, [], ◌∷◌, ◌++◌, map, flat_map, filter_map, zip, length, refl, Option, Some, None, option_map, option_and_then, slice_get, get_or}
+use Rattle.std.specs.Prelude.{◌≡◌, ℕ, List, [], ◌∷◌, ◌++◌, map, flat_map, filter_map, zip, refl, Option, Some, None, option_map, option_and_then, slice_get, get_or}
 use Rattle.std.specs.List.{AllByRecursion, AllZip, cons_option}
 use Rattle.std.specs.Option.{option_map_or, option_to_list}
-use Rattle.std.proofs.Common.{sym, ◌∙◌, ap, subst}
-use Rattle.std.proofs.lemmas.Option.{same_Some, slice_get-get_or}
-use Rattle.sg_protocol.specs.Calls.{Answer, Happened, Sends, Call, Start, Abandon, Deliver, Event, sid_of}
+use Rattle.std.proofs.Common.{sym, ◌∙◌, ap}
+use Rattle.std.proofs.lemmas.Option.{slice_get-get_or}
+use Rattle.sg_protocol.specs.Calls.{Happened, Sends, Start, Deliver, Event, sid_of}
 use Rattle.sg_protocol.specs.Frame.{Cast}
-use Rattle.sg_protocol.specs.Graph.{Graph}
 use Rattle.sg_protocol.specs.Run.{events_of_outcome}
-use Rattle.sg_protocol.specs.Schedule.{Declared, Schedule, Step, StartStep, ActStep, AbandonStep, DeliverStep, CraftStep, cast_of, sid_at, who_of}
+use Rattle.sg_protocol.specs.Schedule.{Declared, Schedule, Step, StartStep, ActStep, AbandonStep, DeliverStep, CraftStep, cast_of, who_of}
 use Rattle.sg_protocol.specs.Steps.{frame_number}
 use Rattle.sg_protocol.specs.Texts.{real, session_id}
 use Rattle.sg_protocol.specs.World.{World, Logged, Outcome, Answered, bytes_of, call_of}
 use Rattle.sg_report.specs.Report.{StepLine}
-use Rattle.sg_report.specs.Told.{Told, told_answer, told_outcome, told_after, told_log, event_told, session_told, sid_left}
+use Rattle.sg_report.specs.Told.{Told, told_outcome, told_after, event_told, session_told, sid_left}
 use Rattle.sg_world.specs.Account.{CanBeNamed, graph_told, line_of_entry}
 use Rattle.sg_world.specs.Entries.{graph_of_entry}
 use Rattle.sg_world.specs.Kept.{Taken}

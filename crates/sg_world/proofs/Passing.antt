@@ -1,7 +1,6 @@
 -- The entries of a record, gone through in order.
-use Rattle.std.proofs.Common.{◌≡◌, ℕ, zero, suc, ◌+◌, ◌-◌, ◌<◌, ◌==◌, List, [], ◌∷◌, ◌++◌, map, length, take, drop, get_or, refl, sym, ◌∙◌, ap, subst, arith, append_assoc, append-nil}
-use Rattle.std.specs.Prelude.{Option, Some, option_and_then, slice_get, if◌then◌else◌}
-use Rattle.std.specs.List.{list_all}
+use Rattle.std.proofs.Common.{◌≡◌, ℕ, zero, suc, ◌+◌, ◌-◌, ◌<◌, List, [], ◌∷◌, ◌++◌, map, length, take, drop, get_or, refl, sym, ◌∙◌, ap, arith, append_assoc, append-nil}
+use Rattle.std.specs.Prelude.{Option, Some, option_and_then, slice_get}
 use Rattle.std.specs.Option.{option_to_list}
 use Rattle.sg_model.proofs.Small.{length_map}
 use Rattle.sg_protocol.specs.Calls as Protocol
@@ -12,7 +11,7 @@ use Rattle.sg_protocol.specs.Schedule.{Schedule, Step}
 use Rattle.sg_protocol.specs.Steps.{frame_number}
 use Rattle.sg_protocol.specs.Texts.{real}
 use Rattle.sg_protocol.specs.World as Core
-use Rattle.sg_protocol.specs.World.{World, Logged, frames}
+use Rattle.sg_protocol.specs.World.{Logged, frames}
 use Rattle.sg_report.specs.Told.{Told, told_after, told_log, told_outcome, event_told}
 use Rattle.sg_world.specs.EntriesOfRun.{AreOfRun, IsOfStep}
 use Rattle.sg_world.specs.Kept.{Taken}

@@ -1,5 +1,5 @@
 -- What breaks a premise of a replay's run, by what is kept.
-use Rattle.std.proofs.Common.{◌≡◌, ℕ, suc, ◌+◌, ◌<◌, ◌≤◌, List, [], ◌∷◌, ◌++◌, map, length, find, Option, Some, None, option_map, IfOk, IfSome, MatchOption, Result, Ok, Err, false, is_some, slice_get, refl, sym, ◌∙◌, ap, subst, arith}
+use Rattle.std.proofs.Common.{◌≡◌, ℕ, suc, ◌+◌, ◌<◌, ◌≤◌, List, [], ◌∷◌, ◌++◌, length, find, Option, Some, None, option_map, IfOk, IfSome, MatchOption, Result, Ok, Err, false, is_some, slice_get, sym, ◌∙◌, ap, subst, arith}
 use Rattle.std.specs.Option.{option_or}
 use Rattle.std.proofs.lemmas.List.{length-map}
 use Rattle.sg_model.specs.Limits.{most_steps}
@@ -14,7 +14,6 @@ use Rattle.sg_protocol.specs.NodeStates.{NodeState}
 use Rattle.sg_protocol.specs.Notes.{Note, Notes}
 use Rattle.sg_protocol.specs.Premises.{Unforged, CollisionFree, hashed}
 use Rattle.sg_protocol.specs.Run.{run}
-use Rattle.sg_protocol.specs.Schedule.{Step}
 use Rattle.sg_protocol.specs.Texts.{real}
 use Rattle.sg_protocol.specs.World.{Logged}
 use Rattle.sg_world.specs.Entries.{graph_of_entry}

@@ -1,5 +1,5 @@
 -- What is written is the report of the account.
-use Rattle.std.proofs.Common.{◌≡◌, ◌≢◌, ℕ, Bool, true, false, ◌&&◌, not, List, [], ◌∷◌, ◌++◌, map, flat_map, filter, if◌then◌else◌, bytes_eq, Option, Some, None, is_none, is_some, option_map, MatchBool, OnOk, Result, Ok, Err, refl, sym, ◌∙◌, ap, subst}
+use Rattle.std.proofs.Common.{◌≡◌, ◌≢◌, ℕ, Bool, true, false, ◌&&◌, not, List, [], ◌∷◌, ◌++◌, map, flat_map, filter, if◌then◌else◌, bytes_eq, Option, Some, None, is_none, is_some, option_map, MatchBool, OnOk, Result, Ok, Err, refl, sym, ◌∙◌, ap}
 use Rattle.std.specs.List.{AllByRecursion}
 use Rattle.std.proofs.lemmas.Bool.{and_parts}
 use Rattle.std.proofs.lemmas.List.Elements.{All-from_recursion}
@@ -13,8 +13,8 @@ use Rattle.sg_protocol.specs.Graph.{Graph}
 use Rattle.sg_protocol.specs.Notes.{Note}
 use Rattle.sg_protocol.specs.Premises.{hashed}
 use Rattle.sg_protocol.specs.Texts.{real}
-use Rattle.sg_report.specs.Report.{AreWalks, Explains, IsReport, SessionWalk, lines_from, met, name_in, premise_lines, premises_hold, walk_of}
-use Rattle.sg_world.specs.Account.{account, forgery, graph_of, honest_in}
+use Rattle.sg_report.specs.Report.{Explains, IsReport, SessionWalk, lines_from, met, name_in, premise_lines, premises_hold, walk_of}
+use Rattle.sg_world.specs.Account.{account, forgery, honest_in}
 use Rattle.sg_world.specs.Replay.{Replay, run_of}
 use Rattle.sg_world.specs.Walked.{IsPath, Path, PremisesHold, WalksAreWritten, path_line}
 use Rattle.sg_world.proofs.PremiseLaws.{collision_free_is, unforged_is}

@@ -1,22 +1,19 @@
 -- Each line of an account can be told by its graph.
-use Rattle.std.specs.Prelude.{◌≡◌, ◌≢◌, ℕ, ◌<◌, ◌==◌, ◌⊎◌, ◌||◌, ⊤, nat_lt, Bool, true, false, List, [], ◌∷◌, ◌++◌, ◌-◌, map, find, zip, length, refl, Option, Some, None, option_map, option_and_then, Result, Ok, Err, IsSomeAnd, Contains, All, if◌then◌else◌}
+use Rattle.std.specs.Prelude.{◌≡◌, ℕ, ◌<◌, ◌==◌, ◌⊎◌, ◌||◌, ⊤, nat_lt, Bool, true, false, List, [], ◌∷◌, ◌++◌, ◌-◌, map, find, zip, length, refl, Option, Some, None, option_map, option_and_then, Result, Ok, Err, IsSomeAnd, Contains, All, if◌then◌else◌}
 use Rattle.std.specs.List.{list_all, list_any, AllByRecursion, AllZip}
 use Rattle.std.specs.Option.{option_map_or, option_to_list}
-use Rattle.std.proofs.Common.{sym, ◌∙◌, ap, subst, inl, inr, arith}
+use Rattle.std.proofs.Common.{sym, ◌∙◌, ap, subst, inl, inr}
 use Rattle.std.proofs.lemmas.Bool.{cases_Bool, eqb-true, or_right, lt-ltb, ltb-true}
 use Rattle.std.proofs.lemmas.List.Elements.{recursion_from_All}
 use Rattle.std.proofs.lemmas.Option.{same_Some}
-use Rattle.sg_law.proofs.Members.{rec_in}
 use Rattle.sg_law.proofs.Take.{contains_from_in}
 use Rattle.sg_law.proofs.Upto.{In, in_from_Contains}
-use Rattle.sg_model.specs.Last.{Map}
 use Rattle.sg_model.specs.Lists.{is_in, keys_of, first_some}
 use Rattle.sg_model.specs.Names.{Name}
-use Rattle.sg_model.specs.Values.{Value}
 use Rattle.sg_protocol.proofs.RealHash.{real_hash}
 use Rattle.sg_protocol.proofs.ToldRuns.{entries_are_answered, entries_are_told}
-use Rattle.sg_protocol.specs.Acting.{answer, answer_start, started, rows_of_start}
-use Rattle.sg_protocol.specs.Calls.{Answer, Happened, Sends, NotActed, NotDelivered, NotStarted, Call, Start, Act, Abandon, Deliver, ActFault, SendFault, StartFault, Refusal, Event}
+use Rattle.sg_protocol.specs.Acting.{answer, started, rows_of_start}
+use Rattle.sg_protocol.specs.Calls.{Answer, Happened, Sends, NotActed, NotDelivered, NotStarted, Call, Start, Act, Abandon, Deliver, ActFault, SendFault, StartFault, Refusal}
 use Rattle.sg_protocol.specs.Beginnings.{first_steps}
 use Rattle.sg_protocol.specs.Frame.{Cast, Frame}
 use Rattle.sg_protocol.specs.Graph.{Graph}
@@ -26,17 +23,17 @@ use Rattle.sg_protocol.specs.Node.{Node, starter, session_with}
 use Rattle.sg_protocol.specs.Past.{Past, node_of}
 use Rattle.sg_protocol.specs.Reading.{read}
 use Rattle.sg_protocol.specs.Run.{run}
-use Rattle.sg_protocol.specs.Schedule.{Schedule, Step, StartStep, ActStep, AbandonStep, DeliverStep, CraftStep, cast_of, sid_at}
+use Rattle.sg_protocol.specs.Schedule.{Step, StartStep, ActStep, AbandonStep, DeliverStep, CraftStep, cast_of}
 use Rattle.sg_protocol.specs.Session.{Session}
 use Rattle.sg_protocol.specs.Steps.{is_taken, frame_number}
 use Rattle.sg_protocol.specs.Texts.{real, session_id}
-use Rattle.sg_protocol.specs.Told.{HasNamed, names_numbers, IsAnswered, IsTold, graph_of_call, session_of_call}
+use Rattle.sg_protocol.specs.Told.{HasNamed, names_numbers, IsAnswered, IsTold, graph_of_call}
 use Rattle.sg_protocol.specs.Verdict.{verdict_on, decided, receipt, rows}
 use Rattle.sg_protocol.specs.World.{World, Logged, Outcome, Answered, bytes_of, call_of, past_of}
 use Rattle.sg_report.proofs.Tellable.{told-without_numbers}
 use Rattle.sg_report.specs.Report.{StepLine}
-use Rattle.sg_report.specs.Told.{Told, CanBeTold, told_answer, told_outcome, told_after, told_log}
-use Rattle.sg_world.specs.Account.{graph_told, line_of_entry, lines_of, variable_refused, CanBeNamed}
+use Rattle.sg_report.specs.Told.{CanBeTold, told_answer, told_outcome, told_after}
+use Rattle.sg_world.specs.Account.{graph_told, line_of_entry, lines_of, CanBeNamed}
 use Rattle.sg_world.specs.Entries.{graph_of_entry, past_before}
 use Rattle.sg_world.specs.Replay.{Replay, run_of}
 use Rattle.sg_world.proofs.RunEntries.{EntryOf, IsSilent, entries_of_steps}
