@@ -1,5 +1,5 @@
 //! The record of a replay.
-ghost use Rattle.std.specs.Prelude.{◌≡◌, ◌+◌, ◌<◌, ◌^◌, ◌++◌, ◌∷◌, [], length, sum_by, vec_len, vec_capacity, option_map, OnOk};
+ghost use Rattle.std.specs.Prelude.{◌≡◌, ◌+◌, ◌<◌, ◌^◌, ◌++◌, ◌∷◌, [], length, sum_by, vec_len, vec_capacity, option_map, IfOk, OnOk};
 ghost use Rattle.std.specs.Option.{option_map_or, option_to_list};
 ghost use Rattle.sg_model.specs.Last.{last};
 ghost use Rattle.sg_sched.specs.Format.StepsHeld.{step_of};
@@ -105,16 +105,16 @@ impl<'p> Model for Record<'p> {
 }
 
 impl<'p> Record<'p> {
-    /// The record of a replay of which no step was taken, of this size. It takes no memory.
-    pub fn new(alloc: Global, size: u64) -> Record<'p>
-        ensures { result.done ≡ record { entries = []; notes = []; frames = []; size = size } }
+    /// The record of a replay of which no step was taken, of this size. There is room for so many steps, so that it isn't copied as it grows.
+    pub fn new(alloc: Global, steps: usize, size: u64) -> Result<Record<'p>, OutOfMemory>
+        ensures { IfOk result (λ r. r.done ≡ record { entries = []; notes = []; frames = []; size = size }) }
     {
-        Record {
-            entries: Vec::new(alloc),
-            notes: Vec::new(alloc),
-            frames: Vec::new(alloc),
+        Ok(Record {
+            entries: Vec::with_capacity(alloc, steps)?,
+            notes: Vec::with_capacity(alloc, steps)?,
+            frames: Vec::with_capacity(alloc, steps)?,
             size,
-        }
+        })
     }
 
     /// The number of steps that were taken.

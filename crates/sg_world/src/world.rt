@@ -51,7 +51,8 @@ impl<'p> Model for World<'p> {
 }
 
 impl<'p> World<'p> {
-    /// A replay of which no step was taken: a node for each honest principal with the keys of its pairs, no sessions and no joins.
+    /// A replay of which no step was taken: a node for each honest principal with the keys of its pairs, no sessions and no joins. It has room
+    /// for the steps of the schedule, none of which it takes.
     pub fn new(
         alloc: Global,
         programs: &'p Programs,
@@ -70,11 +71,12 @@ impl<'p> World<'p> {
             schedule.honest.as_slice(),
         )?;
         let size = setting.size()?;
+        let history = Record::new(alloc, schedule.steps.len(), size)?;
         Ok(World {
             alloc,
             setting,
             nodes,
-            history: Record::new(alloc, size),
+            history,
         })
     }
 
