@@ -2,7 +2,7 @@
 # Generates runs of two graphs with 250, 500, 1,000 and 2,000 sessions, and prints for each the frames that were sent, the seconds of a processor and
 # the peak memory: of the shop of the examples, and of a chain of five roles with eight labels at each node and no variables. Beside each stand the
 # seconds of its hashes alone, made right after it by the product's own `tag` and `graph_digest`, and the ratio of the two; behind it the same with
-# `Key::tag`, for which the key is hashed once for all. Each is the least of five runs, one after the other in turn. Which texts a run notes tells
+# `Key::tag`, for which the key is hashed once for all. Each is the least of fifteen runs, one after the other in turn. Which texts a run notes tells
 # tools/model.py of the schedule that tools/drive_model.py makes. Then how the time of 2,000 sessions compares with eight times that of 250. Needs
 # python3, in two runs: the peak memory of a child counts what it was before it became the program, so what runs the program has to be small. No part
 # of the gate.
@@ -69,7 +69,7 @@ for name, graph in (('shop', shop), ('chain', folder + '/chain.graph')):
         with open(f'{folder}/{name}-{sessions}') as counts:
             counts = counts.read()
         spent = {'r': [], 't': [], 'k': []}
-        for _ in range(5):
+        for _ in range(15):
             summary, seconds, peak = timed([program, 'drive', '11', str(sessions), graph])
             spent['r'].append(seconds)
             for how in 'tk':

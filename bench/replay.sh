@@ -4,7 +4,7 @@
 # takes twice the time shows that a step costs the same however many came before.
 # Beside each stand the seconds of its hashes alone: as many tags and digests of texts as long as those that the run notes, made by the product's own
 # `tag` and `graph_digest` in a program of its own, right after the replay; and the ratio of the two. Behind it the same with `Key::tag`, as the program
-# makes its tags: the key is then hashed once for all. Each is the least of five runs, one after the other in turn. Which texts a run notes tells
+# makes its tags: the key is then hashed once for all. Each is the least of fifteen runs, one after the other in turn. Which texts a run notes tells
 # tools/model.py of a short schedule of the same kind: each round after the first notes the same. PROGRAM may name another program. Needs python3; no
 # part of the gate.
 set -eu
@@ -95,7 +95,7 @@ for name, made, sizes in (('asked again', asked, (24_500, 49_000)), ('shop, retr
             out.write('\n'.join(made(size)) + '\n')
         counts = grown(made, size)
         spent = {'r': [], 't': [], 'k': []}
-        for _ in range(5):
+        for _ in range(15):
             took, used, lines = timed([program, 'replay', folder + '/text'])
             spent['r'].append(used.ru_utime + used.ru_stime)
             for how in 'tk':
