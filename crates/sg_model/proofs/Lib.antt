@@ -4,3 +4,5 @@ pub mod Differ
 pub mod LastOf
 pub mod Evidence
 pub mod Walks
+pub mod OneBit
+pub mod Decided

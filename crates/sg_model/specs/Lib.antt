@@ -1,4 +1,5 @@
 pub mod Bytes
+pub mod Claims
 pub mod Last
 pub mod Limits
 pub mod Lists

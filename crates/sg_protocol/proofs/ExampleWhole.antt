@@ -1,4 +1,4 @@
--- One schedule, with two graphs, a compromised role and a crafted frame, of which all that the laws ask is shown; and two that break a premise each.
+-- One schedule, with two graphs, a compromised role and a crafted frame, of which all that the laws ask is shown, and in whose run a claim is kept; and two that break a premise each.
 use Rattle.std.specs.Prelude.{◌≡◌, ◌≢◌, ◌⊎◌, ℕ, zero, suc, ◌<◌, ◌≤◌, nat_lt, Bool, true, false, List, [], ◌∷◌, map, length, get_or, replicate, codes, refl, Option, Some, None, option_map, is_some, AllPairs, Contains, IsTrue, ◌↔◌}
 use Rattle.std.specs.List.{list_all}
 use Rattle.std.specs.Option.{option_map_or}
@@ -30,6 +30,20 @@ use Rattle.sg_protocol.specs.Broken.{first_forged, first_collision}
 use Rattle.sg_law.proofs.Upto.{In, in_from_Contains}
 use Rattle.sg_law.proofs.Take.{contains_from_in}
 use Rattle.sg_protocol.proofs.Broken.{forged_is_first, collision_is_first}
+use Rattle.std.specs.Prelude.{◌+◌, ◌*◌, ◌/◌, ◌%◌, ◌^◌, fold}
+use Rattle.std.specs.Int.{bytes_high_first, byte_at}
+use Rattle.sg_model.specs.Claims.{Claim, Bars, HoldsOnWalks}
+use Rattle.sg_model.proofs.OneBit.{confined_holds}
+use Rattle.sg_model.proofs.Small.{some_same}
+use Rattle.sg_protocol.specs.Frame.{Cast}
+use Rattle.sg_protocol.specs.Texts.{IsHash}
+use Rattle.sg_protocol.specs.Schedule.{graph_with, honest_role}
+use Rattle.sg_protocol.specs.Run.{events_of}
+use Rattle.sg_protocol.specs.Headline.{IsExplained}
+use Rattle.sg_protocol.specs.Claims.{IsClaimKept}
+use Rattle.sg_protocol.proofs.Spelled.{Bytes_, to_bytes}
+use Rattle.sg_protocol.proofs.Causes.{claims_are_kept}
+use Rattle.sg_protocol.proofs.ExampleClaims.{fits_confines}
 use Rattle.sg_protocol.proofs.Examples.{alice, bob, carl, key, cast, toy}
 
 -- ---- a graph of one edge
@@ -274,6 +288,41 @@ is_done other = false
 
 all_done : map (λ l. is_done l.outcome) (run toy programs played).log ≡ true ∷ true ∷ true ∷ true ∷ true ∷ []
 all_done = refl
+
+-- ---- a claim that is kept in the run
+
+toy_hash : IsHash toy
+toy_hash t = (refl, to_bytes (toy t) (small 32 (fold (λ n b. (n * 65599 + b + 1) % 2 ^ 256) 7 t)))
+  where
+    byte : (n : ℕ) → n % 256 < 256
+    byte n = omega arith
+
+    one : (i n : ℕ) → byte_at i n < 256
+    one zero n = byte n
+    one (suc i) n = byte (n / 256 ^ suc i)
+
+    small : (k n : ℕ) → Bytes_ (bytes_high_first k n)
+    small zero n = tt
+    small (suc k) n = (one k n, small k n)
+
+-- alice says it at most once
+abbrev said_once : Claim
+said_once = record { kind = Bars; of = 0 ∷ []; by = 0 ∷ []; since = [] }
+
+is_said_once : HoldsOnWalks (shape (one_edge ping)) said_once
+is_said_once = confined_holds (shape (one_edge ping)) said_once (fits_confines (shape (one_edge ping)) said_once (1 ∷ []) (0 ∷ []) refl)
+
+abbrev first_cast : Cast
+first_cast = cast (graph_digest toy (one_edge ping)) 1 (alice ∷ bob ∷ [])
+
+-- so on whichever walk explains the session, and by its three events
+is_kept : (x : IsExplained toy played (run toy programs played) (session_id toy first_cast)) → IsClaimKept x.graph (honest_role played x.cast) (events_of (session_id toy first_cast) (run toy programs played).log) x.steps said_once
+is_kept x =
+    let c : Some first_cast ≡ Some x.cast = x.is_cast in
+    let d : first_cast ≡ x.cast = some_same c in
+    let g : Some (one_edge ping) ≡ Some x.graph = subst (λ (z : Cast). graph_with toy played.graphs z.graph ≡ Some x.graph) (sym d) x.is_graph in
+    (claims_are_kept toy toy_hash programs played compiled is_schedule premises (session_id toy first_cast) (λ e. absurd (let n : length (events_of (session_id toy first_cast) (run toy programs played).log) ≡ 0 = ap length e in let m : 3 ≡ 0 = n in omega (arith, m)))).1 x said_once
+    (subst (λ z. HoldsOnWalks (shape z) said_once) (some_same g) is_said_once)
 
 -- ---- a broken premise
 

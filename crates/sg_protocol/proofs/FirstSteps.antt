@@ -71,7 +71,7 @@ module _ (sha : Hash) (s : Schedule) where
   begins (suc n) (x ∷ xs) w k = suffix_at (k + 1 + n) (k + suc n) (world_after_all sha s w k (take (suc n) (x ∷ xs))).log (world_after_all sha s w k (x ∷ xs)).log (omega arith) (begins n xs (world_after sha s w k x) (k + 1))
 
   -- a step adds one entry at most, with its number
-  abbrev OneMore : ℕ → List Logged → List Logged → Type 0
+  abbrev pub OneMore : ℕ → List Logged → List Logged → Type 0
   OneMore k log log' = (log' ≡ log) ⊎ ((l : Logged) × (log' ≡ log ++ l ∷ []) × (l.number ≡ k))
 
   one_past : (w : World) (k : ℕ) (who : Name) (c : Option Call) (o : Option Past) → OneMore k w.log (option_map_or (called_if sha w k who c) o w).log
@@ -79,7 +79,7 @@ module _ (sha : Hash) (s : Schedule) where
   one_past w k who None (Some past) = inr (_, refl, refl)
   one_past w k who (Some c) (Some past) = inr (_, refl, refl)
 
-  one_more : (w : World) (k : ℕ) (x : Step) → OneMore k w.log (world_after sha s w k x).log
+  pub one_more : (w : World) (k : ℕ) (x : Step) → OneMore k w.log (world_after sha s w k x).log
   one_more w k (CraftStep c) = inr (_, refl, refl)
   one_more w k (StartStep who m) = one_past w k who (call_of sha s w k (StartStep who m)) (past_of w who)
   one_more w k (ActStep who m label values) = one_past w k who (call_of sha s w k (ActStep who m label values)) (past_of w who)

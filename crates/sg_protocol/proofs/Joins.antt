@@ -187,7 +187,7 @@ module _ (sha : Hash) (n : Node) (h : Owns n.joins n.live) (es : List Event) whe
   abandon_step sid None k = k
   abandon_step sid (Some s) k = k
 
-  call_step : (c : Call) → joins_once (node_after n c (answer sha n c)).joins es ≡ true → joins_once n.joins (events_of_answer (answer sha n c) ++ es) ≡ true
+  pub call_step : (c : Call) → joins_once (node_after n c (answer sha n c)).joins es ≡ true → joins_once n.joins (events_of_answer (answer sha n c) ++ es) ≡ true
   call_step (Start c) k = start_step c (starter n.programs c.graph) k
   call_step (Act sid label values confounders) k = act_step sid label values confounders (session_with n.live sid) refl k
   call_step (Abandon sid) k = abandon_step sid (session_with n.live sid) k

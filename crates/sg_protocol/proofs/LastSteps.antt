@@ -33,7 +33,7 @@ use Rattle.sg_protocol.specs.Beginnings.{first_steps}
 use Rattle.sg_protocol.proofs.FirstSteps.{is_last, first_sched, premises_before}
 
 -- where the acceptance ends the run
-shows_at_end : (sha : Hash) → IsHash sha → (programs : List Program) (s : Schedule) (who : Name) (bs : List ℕ) (f : Frame) (l : Logged) (cast : Cast) (g : Graph) (past : Past) → AreCompiled sha s.graphs programs → IsSchedule sha s → Premises sha s (run sha programs s)
+pub shows_at_end : (sha : Hash) → IsHash sha → (programs : List Program) (s : Schedule) (who : Name) (bs : List ℕ) (f : Frame) (l : Logged) (cast : Cast) (g : Graph) (past : Past) → AreCompiled sha s.graphs programs → IsSchedule sha s → Premises sha s (run sha programs s)
     → last (run sha programs s).log ≡ Some l → IsTaken (run sha programs s) l who bs f → cast_of_session f.sid (run sha programs s).log ≡ Some cast → graph_with sha s.graphs cast.graph ≡ Some g → past_of (run sha programs s) who ≡ Some past
     → ShowsLastSteps s (run sha programs s) g cast f (up_to_last (λ (i : Item). i.role) f.receiver (flat_map items_of (exchanges_of f.sid f.receiver past.calls)))
 shows_at_end sha hash programs s who bs f l cast g past compiled sched premises e t is gr its =

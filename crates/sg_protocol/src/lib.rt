@@ -8,8 +8,8 @@
 //! `Spelling`, `Reading`, `Texts`, `Keyring`, `Session`, `Sending`, `Checks`, `Calls`, `Node`, `Verdict`, `Acting`, `NodeAfter`,
 //! `Past`, `Notes`, `Schedule`, `World`, `Crafted`, `Run`, `Premises`, `Walk`, `IsSchedule`, `Headline`. What code keeps and may
 //! rely on: `Kept`, `Standing`, `Following`, `Live`, `Backed`, `NodeStates`, `Ranges`. What a replay tells: `Grown`, `Steps`,
-//! `Broken`, `Turn`, `Told`. What else holds: `Isolation`, `Receipts`, `LastSteps`, `Completeness`, `GoesOn`. Examples are computed in
-//! `proofs/Example*.antt`; of the proofs read `proofs/Whole.antt` first, which puts the headline together.
+//! `Broken`, `Turn`, `Told`. What else holds: `Isolation`, `Receipts`, `LastSteps`, `Completeness`, `GoesOn`, `Claims`, `Restarts`. Examples
+//! are computed in `proofs/Example*.antt`; of the proofs read `proofs/Whole.antt` first, which puts the headline together.
 #![tactic(auto)]
 
 ghost use Rattle.std.specs.Prelude.{◌≡◌, ◌++◌, ℕ, List, [], Ok};
@@ -39,7 +39,9 @@ ghost use Rattle.sg_protocol.specs.LastSteps.{FramesShowLastSteps};
 ghost use Rattle.sg_protocol.specs.Completeness.{DeliveryIsComplete};
 ghost use Rattle.sg_protocol.specs.GoesOn.{SessionsGoOn};
 ghost use Rattle.sg_protocol.specs.Turn.{TurnIsOfSession};
+ghost use Rattle.sg_protocol.specs.Restarts.{RestartsAbandon, NoRestartsNoChange, LivesJoinOnce, ToldJoinOnce, RestartsAreAbandonments, HeadlineOverRestarts, ReceiptsHaveSendsOverRestarts, SessionsHaveOneCastOverRestarts, NoneTakesTwoRolesOverRestarts, FramesShowLastStepsOverRestarts};
 ghost use Rattle.sg_protocol.specs.Told.{StepsAreTold};
+ghost use Rattle.sg_protocol.specs.Claims.{ClaimsAreKept, EventsStandOnce};
 
 /// What is read from the spelling of a frame is this frame, so no two frames have one spelling.
 pub fn frames_read()
@@ -292,4 +294,51 @@ pub fn delivery()
 /// joins, has room.
 pub fn never_stuck()
     ensures { (sha : List ℕ → List ℕ) → IsHash sha → SessionsGoOn sha }
+{}
+
+/// Where the premises hold, some walk explains each session with an event, and whichever does, each claim that holds of the session's
+/// graph is kept on it and by the events. Where the claim needs, an event with a label of `of` is of a step before which a step with
+/// a label of `by` was taken, with none of `since` between, and what honest roles had to do with that step, its sending and its
+/// receipt with its values, they did before the event; and since the step of an event with a label of `since` it has such a step of
+/// its own. Where it bars, an event with a label of `by` comes before one of another step with a label of `of` only where a step with one of `since`
+/// was taken between. An event stands at no more than one step of a walk.
+pub fn claims_are_kept()
+    ensures kept { (sha : List ℕ → List ℕ) → IsHash sha → ClaimsAreKept sha }
+    ensures once { EventsStandOnce }
+{}
+
+/// A principal that is stopped and begun anew over its joins is as one that has abandoned each of its live sessions, in their
+/// order: its node is the one after these calls, each is answered with Abandoned, the joins are those of before, and no
+/// session is live. So each run with restarts is, but for abandonments, that of a schedule in which each restart is replaced by
+/// an abandonment of each session that it drops: with the same entries besides, in the same order, with the same numbers,
+/// answers, frames and notes. Without restarts it is the run of the schedule with these steps.
+pub fn restarts_abandon()
+    ensures at_nodes { (sha : List ℕ → List ℕ) → RestartsAbandon sha }
+    ensures alone { (sha : List ℕ → List ℕ) → NoRestartsNoChange sha }
+    ensures in_runs { (sha : List ℕ → List ℕ) → IsHash sha → RestartsAreAbandonments sha }
+{}
+
+/// In all its lives together, of which each but the first is begun over the joins that the one before left, a principal joins
+/// no pair of session and role twice, nor one that it began with; its keys and programs may change between its lives. So, wherever
+/// its lives were cut off, what it told of them has no two joins of one pair.
+pub fn lives_join_once()
+    ensures whole { (sha : List ℕ → List ℕ) → LivesJoinOnce sha }
+    ensures told { (sha : List ℕ → List ℕ) → ToldJoinOnce sha }
+{}
+
+/// The headline over restarts: where the premises hold of a run with restarts, each session follows one walk, and,
+/// whatever holds, no honest principal joins a pair of session and role twice in its whole life, restarts included.
+pub fn headline_over_restarts()
+    ensures of_any { (sha : List ℕ → List ℕ) → IsHash sha → HeadlineOverRestarts sha }
+    ensures of_sha256 { HeadlineOverRestarts real }
+{}
+
+/// What else holds over restarts: a receipt from an honest sender was given by bytes that this sender sent before; all events
+/// of a session are of one cast and one graph, and no honest principal has two roles in a session, though a restart lay between;
+/// and an accepted frame shows the last step of each honest sender, and the receiver holds the commitments that its sender held.
+pub fn laws_over_restarts()
+    ensures receipts { (sha : List ℕ → List ℕ) → IsHash sha → ReceiptsHaveSendsOverRestarts sha }
+    ensures one_cast { (sha : List ℕ → List ℕ) → IsHash sha → SessionsHaveOneCastOverRestarts sha }
+    ensures one_role { (sha : List ℕ → List ℕ) → IsHash sha → NoneTakesTwoRolesOverRestarts sha }
+    ensures last_steps { (sha : List ℕ → List ℕ) → IsHash sha → FramesShowLastStepsOverRestarts sha }
 {}
