@@ -123,22 +123,22 @@ module _ (g : Shape) (c : Claim) where
 
   -- a claim is confined or broken
   pub confined_or_broken : Confined g c ⊎ IsBroken g c
-  confined_or_broken = elim (search_below (λ e. is_in e c.of && come_to (source g e) (not (right_bit c.kind))) (length g.edges)) [
+  confined_or_broken = elim (search_below (λ e. is_in e c.later && come_to (source g e) (not (right_bit c.kind))) (length g.edges)) [
     | inl none ↦ inl record {
       within = come_to;
       begins = leads_refl (along_all (length g.edges)) (0, false);
       closed = λ e bit l w. leads_on (along_all (length g.edges)) (0, false) (along e bit) (is_along (length g.edges) e bit l) w;
       right = λ e bit l w i. elim (right_or bit (right_bit c.kind)) [
         | inl y ↦ y
-        | inr z ↦ clash _ (both (is_in e c.of) (come_to (source g e) (not (right_bit c.kind))) i (subst (λ b. come_to (source g e) b ≡ true) z w)) (none e l)
+        | inr z ↦ clash _ (both (is_in e c.later) (come_to (source g e) (not (right_bit c.kind))) i (subst (λ b. come_to (source g e) b ≡ true) z w)) (none e l)
       ];
     }
-    | inr r ↦ (let q = and_parts (is_in r.0 c.of) (come_to (source g r.0) (not (right_bit c.kind))) r.2 in inr record {
+    | inr r ↦ (let q = and_parts (is_in r.0 c.later) (come_to (source g r.0) (not (right_bit c.kind))) r.2 in inr record {
       node = source g r.0;
       reached = reached (source g r.0) (not (right_bit c.kind)) q.1;
       label = r.0;
       is_edge = r.1;
       leaves = refl;
-      is_of = q.0;
+      is_later = q.0;
     })
   ]

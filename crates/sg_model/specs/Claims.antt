@@ -9,30 +9,30 @@ pub data ClaimKind : Type 0 where
   Needs : ClaimKind
   Bars : ClaimKind
 
--- a claim: a label of `of` needs, or bars, a label of `by` before it since the last label of `since`
+-- a claim: a label of `later` needs, or bars, a label of `earlier` before it since the last label of `since`
 pub record Claim : Type 0 where
   pub kind : ClaimKind
-  pub of : List ℕ
-  pub by : List ℕ
+  pub later : List ℕ
+  pub earlier : List ℕ
   pub since : List ℕ
 
--- among the labels stands one of `by`, and none of `since` after it
-pub record StandsSince (by since labels : List ℕ) : Type 0 where
+-- among the labels stands one of `earlier`, and none of `since` after it
+pub record StandsSince (earlier since labels : List ℕ) : Type 0 where
   pub front : List ℕ
   pub label : ℕ
   pub rest : List ℕ
   pub there : labels ≡ front ++ label ∷ rest
-  pub is_by : IsTrue (is_in label by)
+  pub is_earlier : IsTrue (is_in label earlier)
   pub none_since : list_any (λ l. is_in l since) rest ≡ false
 
--- what a claim of this kind says of the labels before one of `of`
-abbrev pub IsRight : ClaimKind → (by since before : List ℕ) → Type 0
-IsRight Needs by since before = StandsSince by since before
-IsRight Bars by since before = StandsSince by since before → ⊥
+-- what a claim of this kind says of the labels before one of `later`
+abbrev pub IsRight : ClaimKind → (earlier since before : List ℕ) → Type 0
+IsRight Needs earlier since before = StandsSince earlier since before
+IsRight Bars earlier since before = StandsSince earlier since before → ⊥
 
--- wherever a label of `of` stands among the labels, those before it are right
+-- wherever a label of `later` stands among the labels, those before it are right
 abbrev pub HoldsOn : Claim → List ℕ → Type 0
-HoldsOn c labels = (before : List ℕ) (l : ℕ) (after : List ℕ) → labels ≡ before ++ l ∷ after → IsTrue (is_in l c.of) → IsRight c.kind c.by c.since before
+HoldsOn c labels = (before : List ℕ) (l : ℕ) (after : List ℕ) → labels ≡ before ++ l ∷ after → IsTrue (is_in l c.later) → IsRight c.kind c.earlier c.since before
 
 -- the claim holds of the graph: on each walk from the start
 abbrev pub HoldsOnWalks : Shape → Claim → Type 0
@@ -40,16 +40,16 @@ HoldsOnWalks g c = (walk : List ℕ) → Walk g 0 walk → HoldsOn c walk
 
 -- ---- one bit decides it
 
--- whether a label of `by` stands after the last one of `since`, one label later
+-- whether a label of `earlier` stands after the last one of `since`, one label later
 abbrev pub bit_after : Claim → Bool → ℕ → Bool
-bit_after c bit l = is_in l c.by || (bit && not (is_in l c.since))
+bit_after c bit l = is_in l c.earlier || (bit && not (is_in l c.since))
 
 -- the same after all these labels
 abbrev pub bit_after_all : Claim → Bool → List ℕ → Bool
 bit_after_all c bit [] = bit
 bit_after_all c bit (l ∷ ls) = bit_after_all c (bit_after c bit l) ls
 
--- the bit before a label of `of` with which the claim holds
+-- the bit before a label of `later` with which the claim holds
 abbrev pub right_bit : ClaimKind → Bool
 right_bit Needs = true
 right_bit Bars = false
@@ -61,30 +61,30 @@ pub record IsReached (g : Shape) (c : Claim) (n : ℕ) (bit : Bool) : Type 0 whe
   pub ends : end_of g 0 walk ≡ n
   pub has_bit : bit_after_all c false walk ≡ bit
 
--- an edge with a label of `of` leaves a node that is reached with the wrong bit
+-- an edge with a label of `later` leaves a node that is reached with the wrong bit
 pub record IsBroken (g : Shape) (c : Claim) : Type 0 where
   pub node : ℕ
   pub reached : IsReached g c node (not (right_bit c.kind))
   pub label : ℕ
   pub is_edge : label < length g.edges
   pub leaves : source g label ≡ node
-  pub is_of : IsTrue (is_in label c.of)
+  pub is_later : IsTrue (is_in label c.later)
 
--- nodes with bits, among them the start without the bit, which no edge leads out of, and which no edge with a label of `of` leaves with the wrong bit: what a check of a claim finds
+-- nodes with bits, among them the start without the bit, which no edge leads out of, and which no edge with a label of `later` leaves with the wrong bit: what a check of a claim finds
 pub record Confined (g : Shape) (c : Claim) : Type 0 where
   pub within : ℕ → Bool → Bool
   pub begins : within 0 false ≡ true
   pub closed : (e : ℕ) (bit : Bool) → e < length g.edges → within (source g e) bit ≡ true → within (target g e) (bit_after c bit e) ≡ true
-  pub right : (e : ℕ) (bit : Bool) → e < length g.edges → within (source g e) bit ≡ true → IsTrue (is_in e c.of) → bit ≡ right_bit c.kind
+  pub right : (e : ℕ) (bit : Bool) → e < length g.edges → within (source g e) bit ≡ true → IsTrue (is_in e c.later) → bit ≡ right_bit c.kind
 
 -- A claim is confined by such nodes with bits, or it is broken
 abbrev pub ClaimsAreConfinedOrBroken : Type 0
 ClaimsAreConfinedOrBroken = (g : Shape) (c : Claim) → Confined g c ⊎ IsBroken g c
 
--- A claim holds of a graph exactly where no edge with a label of `of` leaves a node that is reached with the wrong bit
+-- A claim holds of a graph exactly where no edge with a label of `later` leaves a node that is reached with the wrong bit
 abbrev pub BitsDecideClaims : Type 0
 BitsDecideClaims = (g : Shape) (c : Claim) → HoldsOnWalks g c ↔ (IsBroken g c → ⊥)
 
--- Where a claim that needs holds of labels, between one of `since` and a later one of `of` stands one of `by`, or the one of `since` is one. So where `of` is part of `since`, each label of `of` has one of `by` of its own
+-- Where a claim that needs holds of labels, between one of `since` and a later one of `later` stands one of `earlier`, or the one of `since` is one. So where `later` is part of `since`, each label of `later` has one of `earlier` of its own
 abbrev pub EachHasItsOwn : Type 0
-EachHasItsOwn = (c : Claim) (before : List ℕ) (k : ℕ) (between : List ℕ) (l : ℕ) (after : List ℕ) → c.kind ≡ Needs → HoldsOn c (before ++ k ∷ between ++ l ∷ after) → IsTrue (is_in k c.since) → IsTrue (is_in l c.of) → StandsSince c.by c.since (k ∷ between)
+EachHasItsOwn = (c : Claim) (before : List ℕ) (k : ℕ) (between : List ℕ) (l : ℕ) (after : List ℕ) → c.kind ≡ Needs → HoldsOn c (before ++ k ∷ between ++ l ∷ after) → IsTrue (is_in k c.since) → IsTrue (is_in l c.later) → StandsSince c.earlier c.since (k ∷ between)

@@ -418,15 +418,15 @@ module _ (g : Graph) (h : ℕ → Bool) where
       label : StoredStep → ℕ
       label s = s.label
 
-      caused : c.kind ≡ Needs → (before : List Event) (e : Event) (after : List Event) (l : ℕ) → events ≡ before ++ e ∷ after → label_of e ≡ Some l → IsTrue (is_in l c.of) → HasCause g h c steps before e
+      caused : c.kind ≡ Needs → (before : List Event) (e : Event) (after : List Event) (l : ℕ) → events ≡ before ++ e ∷ after → label_of e ≡ Some l → IsTrue (is_in l c.later) → HasCause g h c steps before e
       caused kind before e after l q n i = from (stands before e after l q n)
         where
           from : Place taken steps (flat_map acts_of_event before) e (flat_map acts_of_event after) → HasCause g h c steps before e
           from p = made (split_map (λ (s : StoredStep). s.label) p.front right.front right.label right.rest right.there)
             where
-              right : StandsSince c.by c.since (labels p.front)
-              right = subst (λ z. IsRight z c.by c.since (labels p.front)) kind
-                  (on (labels p.front) p.step.label (labels p.rest) (ap labels p.there ∙ map-append (λ (s : StoredStep). s.label) p.front (p.step ∷ p.rest)) (subst (λ z. IsTrue (is_in z c.of)) (its_label p.front p.step e l p.is_of n) i))
+              right : StandsSince c.earlier c.since (labels p.front)
+              right = subst (λ z. IsRight z c.earlier c.since (labels p.front)) kind
+                  (on (labels p.front) p.step.label (labels p.rest) (ap labels p.there ∙ map-append (λ (s : StoredStep). s.label) p.front (p.step ∷ p.rest)) (subst (λ z. IsTrue (is_in z c.later)) (its_label p.front p.step e l p.is_of n) i))
 
               made : (u : List StoredStep) × (x : StoredStep) × (v : List StoredStep) × (p.front ≡ u ++ x ∷ v) × (labels u ≡ right.front) × (x.label ≡ right.label) × (labels v ≡ right.rest) → HasCause g h c steps before e
               made m = record {
@@ -437,7 +437,7 @@ module _ (g : Graph) (h : ℕ → Bool) where
                 rest = p.rest;
                 there = p.there ∙ ap (λ z. z ++ p.step ∷ p.rest) m.3;
                 is_at = subst (λ z. IsAtStep g h z p.step before e) m.3 record { is_of = p.is_of; by_honest = p.by_honest; earlier = p.at };
-                is_by = subst (λ z. IsTrue (is_in z c.by)) (sym m.5) right.is_by;
+                is_earlier = subst (λ z. IsTrue (is_in z c.earlier)) (sym m.5) right.is_earlier;
                 none_since = ap (list_any (λ l. is_in l c.since)) m.6 ∙ right.none_since;
                 sent = λ y. was_sent [] before [] [] m.0 m.1 m.2 p.tail m.0 refl are y;
                 received = λ y. was_received [] before [] [] m.0 m.1 m.2 p.tail m.0 refl are refl y;
@@ -454,45 +454,45 @@ module _ (g : Graph) (h : ℕ → Bool) where
         first_two : labels (t.front ++ t.first ∷ t.between) ≡ labels t.front ++ t.first.label ∷ labels t.between
         first_two = map-append (λ (s : StoredStep). s.label) t.front (t.first ∷ t.between)
 
-        its_own : c.kind ≡ Needs → IsTrue (is_in t.first.label c.since) → IsTrue (is_in t.second.label c.of) → HaveCause c (t.first ∷ t.between)
+        its_own : c.kind ≡ Needs → IsTrue (is_in t.first.label c.since) → IsTrue (is_in t.second.label c.later) → HaveCause c (t.first ∷ t.between)
         its_own kind i j = made (split_map (λ (s : StoredStep). s.label) (t.first ∷ t.between) right.front right.label right.rest right.there)
           where
-            right : StandsSince c.by c.since (labels (t.first ∷ t.between))
+            right : StandsSince c.earlier c.since (labels (t.first ∷ t.between))
             right = has_its_own c (labels t.front) t.first.label (labels t.between) t.second.label (labels t.rest) kind (subst (HoldsOn c) (their ∙ ap (λ z. z ++ t.second.label ∷ labels t.rest) first_two) on) i j
 
             made : (u : List StoredStep) × (x : StoredStep) × (v : List StoredStep) × (t.first ∷ t.between ≡ u ++ x ∷ v) × (labels u ≡ right.front) × (x.label ≡ right.label) × (labels v ≡ right.rest) → HaveCause c (t.first ∷ t.between)
-            made m = record { front = m.0; cause = m.1; rest = m.2; there = m.3; is_by = subst (λ z. IsTrue (is_in z c.by)) (sym m.5) right.is_by; none_since = ap (list_any (λ l. is_in l c.since)) m.6 ∙ right.none_since }
+            made m = record { front = m.0; cause = m.1; rest = m.2; there = m.3; is_earlier = subst (λ z. IsTrue (is_in z c.earlier)) (sym m.5) right.is_earlier; none_since = ap (list_any (λ l. is_in l c.since)) m.6 ∙ right.none_since }
 
-        parted : c.kind ≡ Bars → IsTrue (is_in t.first.label c.by) → IsTrue (is_in t.second.label c.of) → HaveSince c t.between
+        parted : c.kind ≡ Bars → IsTrue (is_in t.first.label c.earlier) → IsTrue (is_in t.second.label c.later) → HaveSince c t.between
         parted kind i j = elim (cases_Bool (list_any (λ l. is_in l c.since) (labels t.between))) [
           | inl y ↦ (let m = split_any (λ l. is_in l c.since) (λ (s : StoredStep). s.label) t.between y in record { front = m.0; step = m.1; rest = m.2; there = m.3; is_since = m.4 })
-          | inr n ↦ absurd (bars record { front = labels t.front; label = t.first.label; rest = labels t.between; there = first_two; is_by = i; none_since = n })
+          | inr n ↦ absurd (bars record { front = labels t.front; label = t.first.label; rest = labels t.between; there = first_two; is_earlier = i; none_since = n })
         ]
           where
-            bars : StandsSince c.by c.since (labels (t.front ++ t.first ∷ t.between)) → ⊥
-            bars = subst (λ z. IsRight z c.by c.since (labels (t.front ++ t.first ∷ t.between))) kind (on (labels (t.front ++ t.first ∷ t.between)) t.second.label (labels t.rest) their j)
+            bars : StandsSince c.earlier c.since (labels (t.front ++ t.first ∷ t.between)) → ⊥
+            bars = subst (λ z. IsRight z c.earlier c.since (labels (t.front ++ t.first ∷ t.between))) kind (on (labels (t.front ++ t.first ∷ t.between)) t.second.label (labels t.rest) their j)
 
       kept : IsClaimKept g h events steps c
       kept = record { on_walk = on; caused = caused; own = own_; barred = barred_; never = never_ }
         where
-          own_ : c.kind ≡ Needs → (before : List Event) (d : Event) (between : List Event) (e : Event) (after : List Event) (k l : ℕ) → events ≡ before ++ d ∷ between ++ e ∷ after → label_of d ≡ Some k → label_of e ≡ Some l → IsTrue (is_in k c.since) → IsTrue (is_in l c.of)
+          own_ : c.kind ≡ Needs → (before : List Event) (d : Event) (between : List Event) (e : Event) (after : List Event) (k l : ℕ) → events ≡ before ++ d ∷ between ++ e ∷ after → label_of d ≡ Some k → label_of e ≡ Some l → IsTrue (is_in k c.since) → IsTrue (is_in l c.later)
               → AreOfOneStep g h steps before d between e ⊎ ((t : AreOfTwoSteps g h steps before d between e) × HaveCause c (t.first ∷ t.between))
           own_ kind before d between e after k l q m n i j = elim (two_events before d between e after k l q m n) [
             | inl o ↦ inl o
-            | inr t ↦ inr (t, its_own t kind (subst (λ z. IsTrue (is_in z c.since)) (its_label t.front t.first d k t.is_first.is_of m) i) (subst (λ z. IsTrue (is_in z c.of)) (its_label (t.front ++ t.first ∷ t.between) t.second e l t.is_second.is_of n) j))
+            | inr t ↦ inr (t, its_own t kind (subst (λ z. IsTrue (is_in z c.since)) (its_label t.front t.first d k t.is_first.is_of m) i) (subst (λ z. IsTrue (is_in z c.later)) (its_label (t.front ++ t.first ∷ t.between) t.second e l t.is_second.is_of n) j))
           ]
 
-          barred_ : c.kind ≡ Bars → (before : List Event) (d : Event) (between : List Event) (e : Event) (after : List Event) (k l : ℕ) → events ≡ before ++ d ∷ between ++ e ∷ after → label_of d ≡ Some k → label_of e ≡ Some l → IsTrue (is_in k c.by) → IsTrue (is_in l c.of)
+          barred_ : c.kind ≡ Bars → (before : List Event) (d : Event) (between : List Event) (e : Event) (after : List Event) (k l : ℕ) → events ≡ before ++ d ∷ between ++ e ∷ after → label_of d ≡ Some k → label_of e ≡ Some l → IsTrue (is_in k c.earlier) → IsTrue (is_in l c.later)
               → AreOfOneStep g h steps before d between e ⊎ ((t : AreOfTwoSteps g h steps before d between e) × HaveSince c t.between)
           barred_ kind before d between e after k l q m n i j = elim (two_events before d between e after k l q m n) [
             | inl o ↦ inl o
-            | inr t ↦ inr (t, parted t kind (subst (λ z. IsTrue (is_in z c.by)) (its_label t.front t.first d k t.is_first.is_of m) i) (subst (λ z. IsTrue (is_in z c.of)) (its_label (t.front ++ t.first ∷ t.between) t.second e l t.is_second.is_of n) j))
+            | inr t ↦ inr (t, parted t kind (subst (λ z. IsTrue (is_in z c.earlier)) (its_label t.front t.first d k t.is_first.is_of m) i) (subst (λ z. IsTrue (is_in z c.later)) (its_label (t.front ++ t.first ∷ t.between) t.second e l t.is_second.is_of n) j))
           ]
 
           no_since : (c.since ≡ []) → {ss : List StoredStep} → HaveSince c ss → ⊥
           no_since z h = absurd (let t : is_in h.step.label [] ≡ true = subst (λ xs. is_in h.step.label xs ≡ true) z h.is_since in cc)
 
-          never_ : c.kind ≡ Bars → c.since ≡ [] → (before : List Event) (d : Event) (between : List Event) (e : Event) (after : List Event) (k l : ℕ) → events ≡ before ++ d ∷ between ++ e ∷ after → label_of d ≡ Some k → label_of e ≡ Some l → IsTrue (is_in k c.by) → IsTrue (is_in l c.of) → AreOfOneStep g h steps before d between e
+          never_ : c.kind ≡ Bars → c.since ≡ [] → (before : List Event) (d : Event) (between : List Event) (e : Event) (after : List Event) (k l : ℕ) → events ≡ before ++ d ∷ between ++ e ∷ after → label_of d ≡ Some k → label_of e ≡ Some l → IsTrue (is_in k c.earlier) → IsTrue (is_in l c.later) → AreOfOneStep g h steps before d between e
           never_ kind z before d between e after k l q m n i j = elim (barred_ kind before d between e after k l q m n i j) [
             | inl o ↦ o
             | inr t ↦ absurd (no_since z t.1)
@@ -510,7 +510,7 @@ claims_are_kept sha hash programs s compiled sched premises sid some =
 -- an event doesn't stand at a later step too
 module _ (g : Graph) (h : ℕ → Bool) (f : List StoredStep) (s : StoredStep) (w : List StoredStep) (t : StoredStep) (before : List Event) (e : Event) where
   not_later : IsAtStep g h f s before e → IsAtStep g h (f ++ s ∷ w) t before e → ⊥
-  not_later a b = by (does_send e) refl
+  not_later a b = earlier (does_send e) refl
     where
       one : List Act
       one = act_if (h (sender (shape g) s.label)) (sending g h s)
@@ -527,13 +527,13 @@ module _ (g : Graph) (h : ℕ → Bool) (f : List StoredStep) (s : StoredStep) (
       same : acts_before g h f s (does_send e) ≡ acts_before g h (f ++ s ∷ w) t (does_send e)
       same = sym a.earlier ∙ b.earlier
 
-      by : (d : Bool) → does_send e ≡ d → ⊥
-      by true q =
+      earlier : (d : Bool) → does_send e ≡ d → ⊥
+      earlier true q =
           let n : length (acts g h [] f) ≡ length (acts g h [] (f ++ s ∷ w)) = ap length (subst (λ d. acts_before g h f s d ≡ acts_before g h (f ++ s ∷ w) t d) q same) in
           let y : h (sender (shape g) s.label) ≡ true = ap h (sym (sends_as g h f s e q a.is_of)) ∙ a.by_honest in
           let m : length one ≡ 1 = ap (λ (d : Bool). length (act_if d (sending g h s))) y in
           omega (arith, n, m, long)
-      by false q =
+      earlier false q =
           let n : length (acts g h [] f ++ one) ≡ length (acts g h [] (f ++ s ∷ w) ++ act_if (h (sender (shape g) t.label)) (sending g h t)) = ap length (subst (λ d. acts_before g h f s d ≡ acts_before g h (f ++ s ∷ w) t d) q same) in
           let y : h (receiver (shape g) s.label) ≡ true = ap h (sym (receives_as g h f s e q a.is_of)) ∙ a.by_honest in
           let m : length two ≡ 1 = ap (λ (d : Bool). length (act_if (d && counts true w) (receiving g h (store_after [] f) s))) y ∙ ap (λ (d : Bool). length (act_if d (receiving g h (store_after [] f) s))) (counts_true w) in

@@ -21,7 +21,7 @@ within set unset n false = is_in n unset
 
 -- where the edge may be come to with the bit, it leads on within the set, and the bit is right
 abbrev pub edge_fits : Shape → Claim → List ℕ → List ℕ → Bool → ℕ → Bool
-edge_fits g c set unset bit e = not (within set unset (source g e) bit) || (within set unset (target g e) (bit_after c bit e) && (not (is_in e c.of) || beq bit (right_bit c.kind)))
+edge_fits g c set unset bit e = not (within set unset (source g e) bit) || (within set unset (target g e) (bit_after c bit e) && (not (is_in e c.later) || beq bit (right_bit c.kind)))
 
 -- so it is with each edge and bit, and the start is there without the bit
 abbrev pub fits : Shape → Claim → List ℕ → List ℕ → Bool
@@ -32,7 +32,7 @@ fits_confines g c set unset h = record {
   within = within set unset;
   begins = (and_parts (is_in 0 unset) _ h).0;
   closed = λ e bit l w. (both e bit l w).0;
-  right = λ e bit l w i. same bit (right_bit c.kind) (claimed (is_in e c.of) (beq bit (right_bit c.kind)) i (both e bit l w).1);
+  right = λ e bit l w i. same bit (right_bit c.kind) (claimed (is_in e c.later) (beq bit (right_bit c.kind)) i (both e bit l w).1);
 }
   where
     each : (e : ℕ) (bit : Bool) → e < length g.edges → edge_fits g c set unset bit e ≡ true
@@ -53,28 +53,28 @@ fits_confines g c set unset h = record {
     same true false q = absurd (cc)
     same false true q = absurd (cc)
 
-    both : (e : ℕ) (bit : Bool) → e < length g.edges → within set unset (source g e) bit ≡ true → (within set unset (target g e) (bit_after c bit e) ≡ true) × ((not (is_in e c.of) || beq bit (right_bit c.kind)) ≡ true)
+    both : (e : ℕ) (bit : Bool) → e < length g.edges → within set unset (source g e) bit ≡ true → (within set unset (target g e) (bit_after c bit e) ≡ true) × ((not (is_in e c.later) || beq bit (right_bit c.kind)) ≡ true)
     both e bit l w = and_parts _ _ (then (within set unset (source g e) bit) _ (each e bit l) w)
 
 -- ---- claims of the shop that hold
 
 -- whoever accepts was made an offer since the last retry
 abbrev accept_needs_offer : Claim
-accept_needs_offer = record { kind = Needs; of = buy ∷ []; by = offer ∷ []; since = retry ∷ [] }
+accept_needs_offer = record { kind = Needs; later = buy ∷ []; earlier = offer ∷ []; since = retry ∷ [] }
 
 accepts_have_offers : HoldsOnWalks (shape shop) accept_needs_offer
 accepts_have_offers = confined_holds (shape shop) accept_needs_offer (fits_confines (shape shop) accept_needs_offer (3 ∷ 4 ∷ 7 ∷ []) (0 ∷ 1 ∷ 2 ∷ 5 ∷ 6 ∷ []) refl)
 
 -- each offer has an ask of its own
 abbrev offers_own_ask : Claim
-offers_own_ask = record { kind = Needs; of = offer ∷ []; by = ask ∷ []; since = offer ∷ [] }
+offers_own_ask = record { kind = Needs; later = offer ∷ []; earlier = ask ∷ []; since = offer ∷ [] }
 
 offers_have_asks : HoldsOnWalks (shape shop) offers_own_ask
 offers_have_asks = confined_holds (shape shop) offers_own_ask (fits_confines (shape shop) offers_own_ask (2 ∷ 5 ∷ 6 ∷ []) (0 ∷ 1 ∷ 3 ∷ 4 ∷ 7 ∷ []) refl)
 
 -- once the warehouse refuses nothing is accepted
 abbrev refuse_bars_accept : Claim
-refuse_bars_accept = record { kind = Bars; of = buy ∷ []; by = refuse ∷ []; since = [] }
+refuse_bars_accept = record { kind = Bars; later = buy ∷ []; earlier = refuse ∷ []; since = [] }
 
 none_accepts_refused : HoldsOnWalks (shape shop) refuse_bars_accept
 none_accepts_refused = confined_holds (shape shop) refuse_bars_accept (fits_confines (shape shop) refuse_bars_accept (5 ∷ 6 ∷ []) (0 ∷ 1 ∷ 2 ∷ 3 ∷ 4 ∷ 7 ∷ []) refl)
@@ -90,7 +90,7 @@ follows_to_second = (lit< tt, refl, (lit< tt, refl, (lit< tt, refl, (lit< tt, re
 
 -- there is at most one offer
 abbrev one_offer : Claim
-one_offer = record { kind = Bars; of = offer ∷ []; by = offer ∷ []; since = [] }
+one_offer = record { kind = Bars; later = offer ∷ []; earlier = offer ∷ []; since = [] }
 
 two_offers : IsBroken (shape shop) one_offer
 two_offers = record {
@@ -107,7 +107,7 @@ not_one_offer h = (bits_decide (shape shop) one_offer).0 h two_offers
 
 -- each offer has an order of its own
 abbrev offers_own_order : Claim
-offers_own_order = record { kind = Needs; of = offer ∷ []; by = order ∷ []; since = offer ∷ [] }
+offers_own_order = record { kind = Needs; later = offer ∷ []; earlier = order ∷ []; since = offer ∷ [] }
 
 offer_without_order : IsBroken (shape shop) offers_own_order
 offer_without_order = record {

@@ -307,7 +307,7 @@ toy_hash t = (refl, to_bytes (toy t) (small 32 (fold (λ n b. (n * 65599 + b + 1
 
 -- alice says it at most once
 abbrev said_once : Claim
-said_once = record { kind = Bars; of = 0 ∷ []; by = 0 ∷ []; since = [] }
+said_once = record { kind = Bars; later = 0 ∷ []; earlier = 0 ∷ []; since = [] }
 
 is_said_once : HoldsOnWalks (shape (one_edge ping)) said_once
 is_said_once = confined_holds (shape (one_edge ping)) said_once (fits_confines (shape (one_edge ping)) said_once (1 ∷ []) (0 ∷ []) refl)

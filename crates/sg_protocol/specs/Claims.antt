@@ -78,7 +78,7 @@ pub record HasReceived (g : Graph) (honest : ℕ → Bool) (steps : List StoredS
 
 -- ---- what claims say of events
 
--- The event, after the events before it, stands at a step before which a step with a label of `by` was taken, and none of `since` between. What honest roles had to do with that step they did before the event
+-- The event, after the events before it, stands at a step before which a step with a label of `earlier` was taken, and none of `since` between. What honest roles had to do with that step they did before the event
 pub record HasCause (g : Graph) (honest : ℕ → Bool) (c : Claim) (steps : List StoredStep) (before : List Event) (e : Event) : Type 0 where
   pub front : List StoredStep
   pub cause : StoredStep
@@ -87,7 +87,7 @@ pub record HasCause (g : Graph) (honest : ℕ → Bool) (c : Claim) (steps : Lis
   pub rest : List StoredStep
   pub there : steps ≡ front ++ cause ∷ between ++ step ∷ rest
   pub is_at : IsAtStep g honest (front ++ cause ∷ between) step before e
-  pub is_by : IsTrue (is_in cause.label c.by)
+  pub is_earlier : IsTrue (is_in cause.label c.earlier)
   pub none_since : list_any (λ l. is_in l c.since) (labels between) ≡ false
   pub sent : IsTrue (honest (sender (shape g) cause.label)) → HasSent g honest front cause [] before
   pub received : IsTrue (honest (receiver (shape g) cause.label)) → HasReceived g honest front cause [] before
@@ -116,13 +116,13 @@ pub record AreOfTwoSteps (g : Graph) (honest : ℕ → Bool) (steps : List Store
   pub sent : (up : List StoredStep) (s : StoredStep) (down : List StoredStep) → between ≡ up ++ s ∷ down → IsTrue (honest (sender (shape g) s.label)) → HasSent g honest (front ++ first ∷ up) s (before ++ d ∷ []) events
   pub received : (up : List StoredStep) (s : StoredStep) (down : List StoredStep) → between ≡ up ++ s ∷ down → IsTrue (honest (receiver (shape g) s.label)) → HasReceived g honest (front ++ first ∷ up) s (before ++ d ∷ []) events
 
--- one of the steps has a label of `by`, and none after it one of `since`
+-- one of the steps has a label of `earlier`, and none after it one of `since`
 pub record HaveCause (c : Claim) (steps : List StoredStep) : Type 0 where
   pub front : List StoredStep
   pub cause : StoredStep
   pub rest : List StoredStep
   pub there : steps ≡ front ++ cause ∷ rest
-  pub is_by : IsTrue (is_in cause.label c.by)
+  pub is_earlier : IsTrue (is_in cause.label c.earlier)
   pub none_since : list_any (λ l. is_in l c.since) (labels rest) ≡ false
 
 -- one of the steps has a label of `since`
@@ -137,16 +137,16 @@ pub record HaveSince (c : Claim) (steps : List StoredStep) : Type 0 where
 pub record IsClaimKept (g : Graph) (honest : ℕ → Bool) (events : List Event) (steps : List StoredStep) (c : Claim) : Type 0 where
   -- the walk does what the claim says
   pub on_walk : HoldsOn c (labels steps)
-  -- where it needs, each event with a label of `of` has its cause
-  pub caused : c.kind ≡ Needs → (before : List Event) (e : Event) (after : List Event) (l : ℕ) → events ≡ before ++ e ∷ after → label_of e ≡ Some l → IsTrue (is_in l c.of) → HasCause g honest c steps before e
+  -- where it needs, each event with a label of `later` has its cause
+  pub caused : c.kind ≡ Needs → (before : List Event) (e : Event) (after : List Event) (l : ℕ) → events ≡ before ++ e ∷ after → label_of e ≡ Some l → IsTrue (is_in l c.later) → HasCause g honest c steps before e
   -- and since the step of an event with a label of `since` it has one of its own
-  pub own : c.kind ≡ Needs → (before : List Event) (d : Event) (between : List Event) (e : Event) (after : List Event) (k l : ℕ) → events ≡ before ++ d ∷ between ++ e ∷ after → label_of d ≡ Some k → label_of e ≡ Some l → IsTrue (is_in k c.since) → IsTrue (is_in l c.of) →
+  pub own : c.kind ≡ Needs → (before : List Event) (d : Event) (between : List Event) (e : Event) (after : List Event) (k l : ℕ) → events ≡ before ++ d ∷ between ++ e ∷ after → label_of d ≡ Some k → label_of e ≡ Some l → IsTrue (is_in k c.since) → IsTrue (is_in l c.later) →
       AreOfOneStep g honest steps before d between e ⊎ ((t : AreOfTwoSteps g honest steps before d between e) × HaveCause c (t.first ∷ t.between))
-  -- where it bars, an event with a label of `by` comes before one of another step with a label of `of` only where a step with one of `since` was taken between
-  pub barred : c.kind ≡ Bars → (before : List Event) (d : Event) (between : List Event) (e : Event) (after : List Event) (k l : ℕ) → events ≡ before ++ d ∷ between ++ e ∷ after → label_of d ≡ Some k → label_of e ≡ Some l → IsTrue (is_in k c.by) → IsTrue (is_in l c.of) →
+  -- where it bars, an event with a label of `earlier` comes before one of another step with a label of `later` only where a step with one of `since` was taken between
+  pub barred : c.kind ≡ Bars → (before : List Event) (d : Event) (between : List Event) (e : Event) (after : List Event) (k l : ℕ) → events ≡ before ++ d ∷ between ++ e ∷ after → label_of d ≡ Some k → label_of e ≡ Some l → IsTrue (is_in k c.earlier) → IsTrue (is_in l c.later) →
       AreOfOneStep g honest steps before d between e ⊎ ((t : AreOfTwoSteps g honest steps before d between e) × HaveSince c t.between)
   -- and where it bars for good, with no label of `since`, none at all
-  pub never : c.kind ≡ Bars → c.since ≡ [] → (before : List Event) (d : Event) (between : List Event) (e : Event) (after : List Event) (k l : ℕ) → events ≡ before ++ d ∷ between ++ e ∷ after → label_of d ≡ Some k → label_of e ≡ Some l → IsTrue (is_in k c.by) → IsTrue (is_in l c.of) → AreOfOneStep g honest steps before d between e
+  pub never : c.kind ≡ Bars → c.since ≡ [] → (before : List Event) (d : Event) (between : List Event) (e : Event) (after : List Event) (k l : ℕ) → events ≡ before ++ d ∷ between ++ e ∷ after → label_of d ≡ Some k → label_of e ≡ Some l → IsTrue (is_in k c.earlier) → IsTrue (is_in l c.later) → AreOfOneStep g honest steps before d between e
 
 -- Where the premises hold, some walk explains each session with an event, and whichever does, each claim that holds of its graph is kept on it and by its events
 abbrev pub ClaimsAreKept : Hash → Type 0

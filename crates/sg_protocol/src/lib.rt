@@ -297,10 +297,10 @@ pub fn never_stuck()
 {}
 
 /// Where the premises hold, some walk explains each session with an event, and whichever does, each claim that holds of the session's
-/// graph is kept on it and by the events. Where the claim needs, an event with a label of `of` is of a step before which a step with
-/// a label of `by` was taken, with none of `since` between, and what honest roles had to do with that step, its sending and its
+/// graph is kept on it and by the events. Where the claim needs, an event with a label of `later` is of a step before which a step with
+/// a label of `earlier` was taken, with none of `since` between, and what honest roles had to do with that step, its sending and its
 /// receipt with its values, they did before the event; and since the step of an event with a label of `since` it has such a step of
-/// its own. Where it bars, an event with a label of `by` comes before one of another step with a label of `of` only where a step with one of `since`
+/// its own. Where it bars, an event with a label of `earlier` comes before one of another step with a label of `later` only where a step with one of `since`
 /// was taken between. An event stands at no more than one step of a walk.
 pub fn claims_are_kept()
     ensures kept { (sha : List ℕ → List ℕ) → IsHash sha → ClaimsAreKept sha }
