@@ -1,4 +1,4 @@
-use Rattle.std.specs.Prelude.{ℕ, ◌+◌, ◌-◌, ◌^◌, ◌==◌, nat_lt, if◌then◌else◌, Bool, List}
+use Rattle.std.specs.Prelude.{ℕ, ◌+◌, ◌-◌, ◌^◌, ◌==◌, nat_lt, if◌then◌else◌, Bool, List, Option}
 use Rattle.std.specs.List.{list_any}
 use Rattle.sg_base.specs.declared.address.Addr.{Addr}
 
@@ -39,8 +39,9 @@ pub record SinkHeld : Type 0 where
   pub room : ℕ
   pub plan : FaultPlan
 
--- a link in memory: the deliveries to come, the frames sent, and how many of these there may be
+-- a link in memory: the address at which it waits, the deliveries to come, the frames sent, and how many of these there may be
 pub record LinkHeld : Type 0 where
+  pub bound : Option Addr
   pub deliveries : List (List ℕ)
   pub sent : List (Addr × List ℕ)
   pub room : ℕ

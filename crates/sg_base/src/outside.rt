@@ -2,7 +2,7 @@
 //!
 //! Each object that can fail has a count of faults. The count never falls, and a call answers `Failed` only where it rose in that
 //! call. What an object holds is told by the objects in memory and not by those of the system, so the clauses on it speak of what is
-//! told.
+//! told. At which address a link waits, each link tells.
 ghost use Rattle.std.specs.Prelude.{◌≡◌, ◌<◌, ◌≤◌, ℕ, List, [], ◌∷◌, Option, Some, None, take, drop, replicate, length, slice_index_or, OnOk, OnErr, IfOk, IfErr, IfSome, IfNone, IsSomeAnd};
 ghost use Rattle.sg_base.specs.Outside.{HasRisen, Appends, AppendsFront, TakesFirst, file_at};
 ghost use Rattle.sg_base.specs.declared.address.Addr.{Addr};
@@ -88,16 +88,21 @@ pub trait Link {
     /// How often a call failed.
     ghost faults: { Self → ℕ };
 
+    /// The address at which it waits, or `None` before it is opened.
+    ghost bound: { Self → Option Addr };
+
     /// The deliveries to come, each its bytes, where they are told.
     ghost deliveries: { Self → Option (List (List ℕ)) };
 
     /// The frames that were sent, each its address and its bytes, where they are told.
     ghost sent: { Self → Option (List (Addr × List ℕ)) };
 
-    /// Waits at an address from now on.
+    /// Waits at an address from now on. Where it fails, it waits where it did before.
     fn open(&mut self, at: Addr) -> Result<(), Failed>
         ensures never_falls { faults self.old ≤ faults self.new }
         ensures failed { OnErr result (HasRisen (faults self.old) (faults self.new)) }
+        ensures waits { OnOk result (bound self.new ≡ Some at) }
+        ensures kept_bound { OnErr result (bound self.new ≡ bound self.old) }
         ensures kept { deliveries self.new ≡ deliveries self.old }
         ensures kept_sent { sent self.new ≡ sent self.old };
 
@@ -105,6 +110,7 @@ pub trait Link {
     fn recv(&mut self, alloc: Global) -> Result<Option<Vec<u8>>, LinkFault>
         ensures never_falls { faults self.old ≤ faults self.new }
         ensures failed { result ≡ Err LinkFault.Failed → HasRisen (faults self.old) (faults self.new) }
+        ensures kept_bound { bound self.new ≡ bound self.old }
         ensures kept_sent { sent self.new ≡ sent self.old }
 
         // What each answer says of the deliveries to come.
@@ -118,6 +124,7 @@ pub trait Link {
     fn send(&mut self, to: Addr, frame: Sealed) -> Result<(), (Sealed, Failed)>
         ensures never_falls { faults self.old ≤ faults self.new }
         ensures failed { OnErr result (HasRisen (faults self.old) (faults self.new)) }
+        ensures kept_bound { bound self.new ≡ bound self.old }
         ensures kept { deliveries self.new ≡ deliveries self.old }
         ensures posted { OnOk result (Appends (sent self.old) (sent self.new) ((to, frame.1) ∷ [])) }
         ensures back { IfErr result (λ e. e.0 ≡ frame) }

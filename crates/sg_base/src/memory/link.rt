@@ -1,5 +1,5 @@
 //! A link in memory.
-ghost use Rattle.std.specs.Prelude.{◌≡◌, ◌↔◌, ◌<◌, ◌≤◌, ◌-◌, ◌++◌, ◌||◌, [], ◌∷◌, List, ℕ, map, nat_le, length, drop, IfOk, IfSome, IfNone, IfErr, IsErr, IsTrue, OnOk, OnErr};
+ghost use Rattle.std.specs.Prelude.{◌≡◌, ◌↔◌, ◌<◌, ◌≤◌, ◌-◌, ◌++◌, ◌||◌, [], ◌∷◌, List, ℕ, map, nat_le, length, drop, None, IfOk, IfSome, IfNone, IfErr, IsErr, IsTrue, OnOk, OnErr};
 ghost use Rattle.sg_base.specs.Memory.{new_plan, fails_next, counted, failed};
 
 use super::plan::FaultPlan;
@@ -12,6 +12,7 @@ use std::marker::Model;
 /// given list fail.
 #[derive(Debug, Drop)]
 pub struct MemLink {
+    bound: Option<Addr>,
     deliveries: VecDeque<Vec<u8>>,
     sent: Vec<(Addr, Vec<u8>)>,
     room: usize,
@@ -25,6 +26,7 @@ impl Model for MemLink {
     ghost Value = { LinkHeld };
 
     ghost view = { λ l. record {
+      bound = l.bound;
       deliveries = map (λ d. d.items) l.deliveries.items;
       sent = map (λ f. (f.0, f.1.items)) l.sent.items;
       room = l.room;
@@ -35,7 +37,8 @@ impl Model for MemLink {
 }
 
 impl MemLink {
-    /// A link with these deliveries to come and room for `room` frames, with the numbers of the calls that are to fail.
+    /// A link that waits nowhere yet, with these deliveries to come and room for `room` frames, with the numbers of the calls that are to
+    /// fail.
     pub fn new(
         alloc: Global,
         deliveries: Vec<Vec<u8>>,
@@ -43,6 +46,7 @@ impl MemLink {
         fails: Vec<u32>,
     ) -> Result<MemLink, OutOfMemory>
         ensures { IfOk result (λ l. l ≡ record {
+          bound = None;
           deliveries = map (λ d. d.items) deliveries.items;
           sent = [];
           room = room;
@@ -50,6 +54,7 @@ impl MemLink {
         }) }
     {
         Ok(MemLink {
+            bound: None,
             deliveries: VecDeque::from(deliveries),
             sent: Vec::with_capacity(alloc, room as usize)?,
             room: room as usize,
@@ -70,6 +75,8 @@ impl Link for MemLink {
 
     ghost faults = { λ l. l.plan.faults };
 
+    ghost bound = { λ l. l.bound };
+
     ghost deliveries = { λ l. Some l.deliveries };
 
     ghost sent = { λ l. Some l.sent };
@@ -77,11 +84,12 @@ impl Link for MemLink {
     /// It fails at the calls that are to fail.
     fn open(&mut self, at: Addr) -> Result<(), Failed>
         ensures cause { IsErr result ↔ IsTrue (fails_next self.old.plan) }
-        ensures ok { OnOk result (self.new ≡ record self.old { plan = counted self.old.plan }) }
+        ensures ok { OnOk result (self.new ≡ record self.old { bound = Some at; plan = counted self.old.plan }) }
         ensures err { OnErr result (self.new ≡ record self.old { plan = failed self.old.plan }) }
     {
-        let _ = at;
-        self.plan.call(true)
+        self.plan.call(true)?;
+        self.bound = Some(at);
+        Ok(())
     }
 
     /// It fails at the calls that are to fail, and takes no memory.
