@@ -99,7 +99,7 @@ two_offers = record {
   label = offer;
   is_edge = lit< tt;
   leaves = refl;
-  is_of = refl;
+  is_later = refl;
 }
 
 not_one_offer : HoldsOnWalks (shape shop) one_offer → ⊥
@@ -116,7 +116,7 @@ offer_without_order = record {
   label = offer;
   is_edge = lit< tt;
   leaves = refl;
-  is_of = refl;
+  is_later = refl;
 }
 
 not_own_order : HoldsOnWalks (shape shop) offers_own_order → ⊥
