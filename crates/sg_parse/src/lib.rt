@@ -22,6 +22,8 @@
 //! ```text
 //! use = "use" name ":" name name "->" name "as" name {name} ";"
 //! ```
+//!
+//! `Scanner` gives the tokens one by one to the readers of other texts in the words of this language.
 #![tactic(auto)]
 
 mod edge;
@@ -44,4 +46,6 @@ pub use fault::ParseFault;
 pub use name_set::NameSet;
 pub use part::{Part, Use};
 pub use parts::{parse_parts, part_readings_are_spelled};
+pub use scanner::Scanner;
 pub use text::{canonical_texts_are_read, parse_graph, readings_are_spelled};
+pub use token::Language;

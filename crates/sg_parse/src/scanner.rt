@@ -12,7 +12,7 @@ use crate::token::{self, Language, Placed, Token};
 use sg_base::Name;
 use std::marker::Model;
 
-// The tokens of a text that are not taken yet: the next one is at hand, the others are still bytes. A clause sees all of them.
+/// The tokens of a text that are not taken yet: the next one is at hand, the others are still bytes. A clause sees all of them.
 #[derive(Debug, Drop)]
 pub struct Scanner<'a> {
     bytes: &'a [u8],
@@ -35,7 +35,7 @@ impl<'a> Model for Scanner<'a> {
 }
 
 impl<'a> Scanner<'a> {
-    // All tokens of a text.
+    /// All tokens of a text.
     pub fn new(language: Language, bytes: &'a [u8]) -> Scanner<'a>
         ensures { result ≡ all_seen_as language (tokens bytes.now) }
     {
@@ -49,21 +49,21 @@ impl<'a> Scanner<'a> {
         }
     }
 
-    // The next token is this word.
+    /// The next token is this word.
     pub fn at_word(&self, word: &[u8]) -> bool
         ensures { result ≡ is_next (is_word word.now) self.now }
     {
         token::is_word(&self.next.token, word)
     }
 
-    // The next token is a name, and none of the language's own words.
+    /// The next token is a name, and none of the language's own words.
     pub fn at_name(&self) -> bool
         ensures { result ≡ is_next is_named self.now }
     {
         token::is_named(&self.next.token)
     }
 
-    // Takes off the next token, after which there are more.
+    /// Takes off the next token, after which there are more.
     pub fn skip(&mut self)
         requires { is_next is_last self.old ≡ false }
         ensures { skip self.old ≡ Ok (record { value = tt; rest = self.new }) }
@@ -73,7 +73,7 @@ impl<'a> Scanner<'a> {
         self.end = end;
     }
 
-    // This word.
+    /// This word.
     pub fn word(&mut self, word: &[u8]) -> Result<(), ParseFault>
         ensures { Reads (token (is_word word.now)) self.old self.new result }
     {
@@ -84,7 +84,7 @@ impl<'a> Scanner<'a> {
         Ok(())
     }
 
-    // A `:`.
+    /// A `:`.
     pub fn colon(&mut self) -> Result<(), ParseFault>
         ensures { Reads (token is_colon) self.old self.new result }
     {
@@ -95,7 +95,7 @@ impl<'a> Scanner<'a> {
         Ok(())
     }
 
-    // A `;`.
+    /// A `;`.
     pub fn semicolon(&mut self) -> Result<(), ParseFault>
         ensures { Reads (token is_semicolon) self.old self.new result }
     {
@@ -106,14 +106,14 @@ impl<'a> Scanner<'a> {
         Ok(())
     }
 
-    // The word `use` is next.
+    /// The word `use` is next.
     pub fn at_use(&self) -> bool
         ensures { result ≡ is_next is_use self.now }
     {
         matches!(self.next.token, Token::Use)
     }
 
-    // The word `use`.
+    /// The word `use`.
     pub fn use_word(&mut self) -> Result<(), ParseFault>
         ensures { Reads (token is_use) self.old self.new result }
     {
@@ -124,7 +124,7 @@ impl<'a> Scanner<'a> {
         Ok(())
     }
 
-    // The word `as`.
+    /// The word `as`.
     pub fn as_word(&mut self) -> Result<(), ParseFault>
         ensures { Reads (token is_as) self.old self.new result }
     {
@@ -135,7 +135,7 @@ impl<'a> Scanner<'a> {
         Ok(())
     }
 
-    // A `->`.
+    /// A `->`.
     pub fn arrow(&mut self) -> Result<(), ParseFault>
         ensures { Reads (token is_arrow) self.old self.new result }
     {
@@ -146,7 +146,7 @@ impl<'a> Scanner<'a> {
         Ok(())
     }
 
-    // The end of the text.
+    /// The end of the text.
     pub fn end(&self) -> Result<(), ParseFault>
         ensures { Reads read_end self.now self.now result }
     {
@@ -156,7 +156,7 @@ impl<'a> Scanner<'a> {
         }
     }
 
-    // A name, and its offset.
+    /// A name, and its offset.
     pub fn name(&mut self) -> Result<(Name, usize), ParseFault>
         ensures reads { Reads name self.old self.new result }
         ensures free { IfOk result (λ n. has_text n.0 reserved ≡ false) }
@@ -169,14 +169,14 @@ impl<'a> Scanner<'a> {
         Ok((name, at))
     }
 
-    // The fault at the next token, where the grammar doesn't have it.
+    /// The fault at the next token, where the grammar doesn't have it.
     pub fn refusal(&self) -> ParseFault
         ensures { result ≡ refusal self.now }
     {
         token::refusal(&self.next)
     }
 
-    // This word isn't next: it would begin a statement too many.
+    /// This word isn't next: it would begin a statement too many.
     pub fn no_more(&self, word: &[u8]) -> Result<(), ParseFault>
         ensures { Reads (no_more word.now) self.now self.now result }
     {

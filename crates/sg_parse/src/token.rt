@@ -26,10 +26,12 @@ pub enum Token {
     Bad,
 }
 
-// Which texts have the token: a text of parts also reserves the words `use` and `as`.
+/// Which texts have the token: a text of parts also reserves the words `use` and `as`.
 #[derive(Debug, Clone, Copy)]
 pub enum Language {
+    /// A graph, or what is said of one.
     OfGraph,
+    /// Parts.
     OfParts,
 }
 
