@@ -57,7 +57,7 @@ impl<R: rt::Files + Drop> Files for StdFiles<R> {
     }
 }
 
-/// A writer of the system.
+/// A writer of the system. A write that is interrupted is made again.
 #[derive(Drop)]
 pub struct StdSink<W: Write> {
     writer: W,
@@ -73,6 +73,18 @@ impl<W: Write + Drop> StdSink<W> {
     }
 }
 
+// Writes the first bytes of a piece, and gives their number, which is 0 where the system failed.
+fn write_front<W: Write>(writer: &mut W, piece: &[u8]) -> usize {
+    for _ in 0..u64::MAX {
+        match writer.write(piece) {
+            Ok(count) => return count,
+            Err(e) if e.kind() == ErrorKind::Interrupted => {}
+            Err(_) => return 0,
+        }
+    }
+    0
+}
+
 impl<W: Write> Sink for StdSink<W> {
     ghost use Rattle.std.specs.Prelude.{None};
 
@@ -81,10 +93,7 @@ impl<W: Write> Sink for StdSink<W> {
     ghost written = { λ _. None };
 
     fn write(&mut self, piece: &[u8]) -> Result<usize, Failed> {
-        let taken = match self.writer.write(piece) {
-            Ok(count) => count,
-            Err(_) => 0,
-        };
+        let taken = write_front(&mut self.writer, piece);
         if taken == 0 || taken > piece.len() {
             self.faults = self.faults.saturating_add(1);
             return Err(Failed);
