@@ -4,22 +4,20 @@
 //! All of this is `top` of `sg_top`. Here are the objects of the system that it works on, and the end where the system doesn't give them.
 #![tactic(auto)]
 
-mod fresh;
-
-use fresh::OsFresh;
-use rand::make_rng;
-use rand_chacha::ChaCha20Rng;
 use sg_base::{StdFiles, StdSink};
 use sg_ledger::FileDisk;
 use sg_link::{TcpConns, UdpLink};
 use sg_stream::StreamLink;
-use sg_top::{end_without_memory, end_without_seed, end_without_words, top};
+use sg_system::{OsFresh, StdDescriptors, hold_standard};
+use sg_top::{
+    end_without_descriptors, end_without_memory, end_without_seed, end_without_words, top,
+};
 use std::process::ExitCode;
 use std::{env, io};
 
-// Makes the real objects and ends with the program's status.
+// Holds the standard descriptors, makes the real objects, and ends with the program's status.
 fn main(rt: HostRuntime) -> ExitCode {
-    let status = match on_words(&rt) {
+    let status = match on_descriptors(&rt) {
         Ok(status) => status,
         Err(e) => before_words(&rt, &e),
     };
@@ -35,6 +33,15 @@ fn before_words(rt: &HostRuntime, e: &io::Error) -> u8 {
     }
 }
 
+// Nothing is opened before the standard descriptors are held, so nothing that is opened takes one of their numbers.
+fn on_descriptors(rt: &HostRuntime) -> io::Result<u8> {
+    let mut descriptors = StdDescriptors::new(rt.clone()?, rt.stdin(), rt.stdout(), rt.stderr());
+    match hold_standard(&mut descriptors) {
+        Ok(()) => on_words(rt),
+        Err(_) => Ok(end_without_descriptors()),
+    }
+}
+
 fn on_words(rt: &HostRuntime) -> io::Result<u8> {
     let alloc = rt.alloc();
     let words: Vec<String> = env::args(rt)?.skip(1).collect(alloc)?;
@@ -42,10 +49,9 @@ fn on_words(rt: &HostRuntime) -> io::Result<u8> {
     let mut out = StdSink::new(io::writer(rt));
     let mut err = StdSink::new(rt.stderr());
     let mut link = UdpLink::new(rt.clone()?);
-    let Ok(rng) = make_rng::<ChaCha20Rng, _>(rt) else {
+    let Some(mut fresh) = OsFresh::seeded(rt) else {
         return Ok(end_without_seed(&mut err));
     };
-    let mut fresh = OsFresh::new(rng);
     let mut disk = FileDisk::new(rt.clone()?);
     let Ok(mut stream) = StreamLink::new(alloc, TcpConns::new(rt.clone()?)) else {
         return Ok(end_without_memory(&mut err));

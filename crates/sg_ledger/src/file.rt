@@ -1,23 +1,27 @@
-//! A file of the system as a disk. It tells nothing: what its file holds, and what a crash leaves of it, is what the system says.
+//! A file of the system as a disk. It tells nothing of its bytes: what its file holds, and what a crash leaves of it, is what the system
+//! says.
+//!
+//! One process has the file at a time. `open` takes the advisory lock on the whole file (flock(2)), and it is kept until the process
+//! ends, however it ends; while another process has it, `open` fails.
 ghost use Rattle.std.specs.Prelude.{◌≡◌, ◌≤◌, length, IfOk};
 ghost use Rattle.sg_base.specs.Outside.{HasRisen};
 
 use crate::{Disk, DiskFault};
 use sg_base::{Failed, OutOfMemory};
 use std::alloc::Global;
-use std::fs::{OpenFile, OpenOptions};
+use std::fs::{File, OpenFile, OpenOptions};
 use std::io::{Read, Seek, SeekFrom, Write};
 use std::{fs, io, rt};
 
 /// A file of the system, once it is opened.
 #[derive(Drop)]
-pub struct FileDisk<R: rt::Files> {
+pub struct FileDisk<R: rt::Files<File = File>> {
     rt: R,
-    file: Option<R::File>,
+    file: Option<File>,
     faults: u64,
 }
 
-impl<R: rt::Files + Drop> FileDisk<R> {
+impl<R: rt::Files<File = File> + Drop> FileDisk<R> {
     /// No file yet, and a count of faults of 0.
     pub fn new(rt: R) -> FileDisk<R>
         ensures { ⟦<FileDisk<R> as Disk>⟧.faults result ≡ 0 }
@@ -48,13 +52,14 @@ fn folder_of(name: &str) -> &str {
     }
 }
 
-// Opens a file, which is made where it is missing, and brings its name to the disk.
-fn open_file<R: rt::Files>(rt: &R, name: &str) -> io::Result<R::File> {
+// Opens a file, which is made where it is missing, takes its lock, and brings its name to the disk.
+fn open_file<R: rt::Files<File = File>>(rt: &R, name: &str) -> io::Result<File> {
     let file = OpenOptions::new()
         .read(true)
         .write(true)
         .create(true)
         .open(rt, name)?;
+    file.try_lock()?;
     fs::open(rt, folder_of(name))?.sync_all()?;
     Ok(file)
 }
@@ -74,7 +79,7 @@ fn write_at<F: Write + Seek>(file: &mut F, at: u32, bytes: &[u8]) -> io::Result<
     file.write_all(bytes)
 }
 
-impl<R: rt::Files + Drop> Disk for FileDisk<R> {
+impl<R: rt::Files<File = File> + Drop> Disk for FileDisk<R> {
     ghost use Rattle.std.specs.Prelude.{None};
     ghost use Rattle.sg_ledger.specs.Laws.{never_told};
 

@@ -126,16 +126,23 @@ fn a_ledger_that_gets_full(rt: HostRuntime) -> Result<(), Fail> {
     Ok(())
 }
 
-#[test]
-fn a_ledger_in_a_file(rt: HostRuntime) -> Result<(), Fail> {
-    let alloc = rt.alloc();
+// A ledger in the file "book". A second disk doesn't get the file while the first one has it.
+fn made_in_a_file(rt: &HostRuntime) -> Result<(), Fail> {
     let mut disk = FileDisk::new(rt.clone()?);
     assert!(rt; disk.size() == Err(Failed));
     disk.open("book")?;
-    assert!(rt; made(alloc, &mut disk)? == Ok(()));
+    assert!(rt; made(rt.alloc(), &mut disk)? == Ok(()));
+    let mut second = FileDisk::new(rt.clone()?);
+    assert!(rt; second.open("./book") == Err(Failed));
+    Ok(())
+}
+
+#[test]
+fn a_ledger_in_a_file(rt: HostRuntime) -> Result<(), Fail> {
+    made_in_a_file(&rt)?;
     let mut again = FileDisk::new(rt.clone()?);
     again.open("./book")?;
-    assert_eq!(rt; opened(alloc, &mut again)?, Some(1));
+    assert_eq!(rt; opened(rt.alloc(), &mut again)?, Some(1));
     fs::remove_file(&rt, "book")?;
     Ok(())
 }

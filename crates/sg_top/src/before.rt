@@ -1,12 +1,19 @@
-//! How the program ends where it can't begin: the system gives no words, no memory for them, or no random seed.
-ghost use Rattle.std.specs.Prelude.{codes};
-ghost use Rattle.sg_top.specs.Ending.{NoCommand, NoMemory, line_of, status_of};
+//! How the program ends where it can't begin: the system gives no standard descriptors, no words, no memory for them, or no random seed.
+ghost use Rattle.std.specs.Prelude.{◌≡◌, codes};
+ghost use Rattle.sg_top.specs.Ending.{NoCommand, NoMemory, WriteFailed, line_of, status_of};
 ghost use Rattle.sg_top.specs.Top.{Puts, Says};
 
 use crate::ending::Ending;
 use crate::program::{put, say};
 use sg_base::Sink;
 use std::alloc::Global;
+
+/// Gives the status of a failed write, and says nothing: a standard descriptor is free and stays free, so nothing is to be opened.
+pub fn end_without_descriptors() -> u8
+    ensures { result ≡ status_of WriteFailed }
+{
+    6
+}
 
 /// Says that the words are in no command, as where one is no UTF-8, and gives the status.
 pub fn end_without_words<E: Sink>(alloc: Global, err: &mut E) -> u8

@@ -42,5 +42,7 @@ mod replay;
 mod run;
 mod setup;
 
-pub use before::{end_without_memory, end_without_seed, end_without_words};
+pub use before::{
+    end_without_descriptors, end_without_memory, end_without_seed, end_without_words,
+};
 pub use program::top;

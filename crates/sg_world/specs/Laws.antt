@@ -1,16 +1,20 @@
 -- What holds of every replay, by the core's laws of runs with SHA-256.
-use Rattle.std.specs.Prelude.{◌≡◌, ◌↔◌, ℕ, List, Some, true, All, flat_map, option_map}
+use Rattle.std.specs.Prelude.{◌≡◌, ◌≢◌, ◌↔◌, ℕ, List, [], Some, true, All, flat_map, option_map}
+use Rattle.sg_model.specs.Claims.{Claim, HoldsOnWalks}
 use Rattle.sg_model.specs.Last.{last, up_to_last}
 use Rattle.sg_model.specs.Names.{Name}
-use Rattle.sg_protocol.specs.Calls.{Happened}
+use Rattle.sg_protocol.specs.Calls.{Event, Happened, role_of, sid_of}
+use Rattle.sg_protocol.specs.Claims.{IsClaimKept}
 use Rattle.sg_protocol.specs.Completeness.{IsAwaited}
 use Rattle.sg_protocol.specs.Frame.{Cast, Frame}
-use Rattle.sg_protocol.specs.Graph.{Graph}
+use Rattle.sg_protocol.specs.Graph.{Graph, shape}
+use Rattle.sg_protocol.specs.Headline.{HadEvent, IsExplained, IsOfCast}
 use Rattle.sg_protocol.specs.IsSchedule.{AreCompiled, IsSchedule}
 use Rattle.sg_protocol.specs.LastSteps.{ShowsLastSteps, exchanges_of}
 use Rattle.sg_protocol.specs.Past.{JoinedOnce, Past}
+use Rattle.sg_protocol.specs.Premises.{CollisionFree, hashed}
 use Rattle.sg_protocol.specs.Receipts.{IsTaken, WasSent}
-use Rattle.sg_protocol.specs.Run.{cast_of_session}
+use Rattle.sg_protocol.specs.Run.{cast_of_session, events_of}
 use Rattle.sg_protocol.specs.Schedule.{Step, Whole, DeliverStep, graph_with, honest_role}
 use Rattle.sg_protocol.specs.Session.{items_of, principal}
 use Rattle.sg_protocol.specs.Texts.{real}
@@ -56,12 +60,30 @@ AwaitedIsReceived r = PremisesHold r → (number : ℕ) (who : Name) (past : Pas
     IsAwaited real r.schedule (run_of r) number who past f →
     option_map (λ l. l.outcome) (last (stepped r (DeliverStep who (Whole number))).log) ≡ Some (Answered (Happened (receipt f)))
 
+-- where no two hashed texts have one digest, all events of a session are of one cast and one graph, each of the role that this cast gives its principal
+abbrev pub EventsAreOfOneCast : Replay → Type 0
+EventsAreOfOneCast r = CollisionFree real (hashed r.schedule (run_of r)) → (l : Logged) (who : Name) (e : Event) → HadEvent (run_of r) l who e → IsOfCast real r.schedule (run_of r) l who e
+
+-- where no two hashed texts have one digest, all events of a principal in one session are of one role
+abbrev pub NoneTakesTwoRoles : Replay → Type 0
+NoneTakesTwoRoles r = CollisionFree real (hashed r.schedule (run_of r)) → (l l' : Logged) (who : Name) (e e' : Event) → HadEvent (run_of r) l who e → HadEvent (run_of r) l' who e' →
+    sid_of e ≡ sid_of e' → role_of e ≡ role_of e'
+
+-- where the premises hold, some walk explains each session with an event, and each claim that holds of the session's graph is kept by whichever walk explains it, and by its events
+abbrev pub ClaimsAreKept : Replay → Type 0
+ClaimsAreKept r = PremisesHold r → (sid : List ℕ) → events_of sid (run_of r).log ≢ [] →
+    IsExplained real r.schedule (run_of r) sid
+    × ((x : IsExplained real r.schedule (run_of r) sid) (c : Claim) → HoldsOnWalks (shape x.graph) c → IsClaimKept x.graph (honest_role r.schedule x.cast) (events_of sid (run_of r).log) x.steps c)
+
 -- what holds of the run of a replay: its account tells of both premises as they are, and what the premises bring
 pub record RunLaws (r : Replay) : Type 0 where
   pub premises : (premises_hold (account r) ≡ true) ↔ PremisesHold r
+  pub one_cast : EventsAreOfOneCast r
+  pub one_role : NoneTakesTwoRoles r
   pub receipts : ReceiptsWereSent r
   pub last_steps : LastStepsAreShown r
   pub delivery : AwaitedIsReceived r
+  pub claims : ClaimsAreKept r
 
 -- it holds of each replay over the programs of its graphs
 abbrev pub LawsHold : Type 0
