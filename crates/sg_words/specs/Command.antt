@@ -16,12 +16,14 @@ pub data Command : Type 0 where
   Stream : (keys script : List ℕ) → (deliveries : ℕ) → (programs : List (List ℕ)) → Command
   Audit : (file : List ℕ) → Command
   Compose : (file : List ℕ) → Command
+  Claims : (graph claims : List ℕ) → Command
+  Suggest : (graph : List ℕ) → Command
 
 -- the word begins with -
 abbrev pub is_option : List ℕ → Bool
 is_option word = slice_index word 0 == 45
 
--- check FILE, replay FILE, ledger FILE, audit FILE, or compose FILE
+-- check FILE, replay FILE, ledger FILE, audit FILE, compose FILE, or claims FILE
 abbrev pub on_file : (name file : List ℕ) → Option Command
 on_file name file =
     if bytes_eq name (codes "check") then Some (Check file)
@@ -29,18 +31,22 @@ on_file name file =
     else if bytes_eq name (codes "ledger") then Some (Ledger file)
     else if bytes_eq name (codes "audit") then Some (Audit file)
     else if bytes_eq name (codes "compose") then Some (Compose file)
+    else if bytes_eq name (codes "claims") then Some (Suggest file)
     else None
 
--- compile FILE ROLE
-abbrev pub on_file_and_role : (name file role : List ℕ) → Option Command
-on_file_and_role name file role = if bytes_eq name (codes "compile") then Some (Compile file role) else None
+-- compile FILE ROLE, or claims FILE FILE
+abbrev pub on_two : (name first second : List ℕ) → Option Command
+on_two name first second =
+    if bytes_eq name (codes "compile") then Some (Compile first second)
+    else if bytes_eq name (codes "claims") then Some (Claims first second)
+    else None
 
 -- the command of this name that takes one word or two
 abbrev pub few : (name : List ℕ) → List (List ℕ) → Option Command
 few name [] = None
 few name (file ∷ []) = on_file name file
-few name (file ∷ role ∷ []) = on_file_and_role name file role
-few name (file ∷ role ∷ other ∷ more) = None
+few name (first ∷ second ∷ []) = on_two name first second
+few name (first ∷ second ∷ other ∷ more) = None
 
 -- KEYS SCRIPT N PROGRAM.., at least one program, and N at most 1,000,000
 abbrev pub running : List (List ℕ) → Option Command

@@ -3,7 +3,7 @@ ghost use Rattle.std.specs.Prelude.{◌≡◌, map, option_map};
 ghost use Rattle.std.specs.List.{list_any};
 ghost use Rattle.sg_base.specs.Words.{number};
 ghost use Rattle.sg_model.specs.Limits.{most_deliveries};
-ghost use Rattle.sg_words.specs.Command.{command_of, driving, few, is_option, keeping, named, on_file, on_file_and_role, running, sessions_of, streaming};
+ghost use Rattle.sg_words.specs.Command.{command_of, driving, few, is_option, keeping, named, on_file, on_two, running, sessions_of, streaming};
 ghost use Rattle.sg_words.specs.Model.{command_held};
 
 use sg_base::read_number;
@@ -86,6 +86,18 @@ pub enum Command<'w> {
     Compose {
         /// The file of the parts.
         file: &'w str,
+    },
+    /// Decides claims of a graph.
+    Claims {
+        /// The file of the graph.
+        graph: &'w str,
+        /// The file of the claims.
+        claims: &'w str,
+    },
+    /// Suggests claims that hold of a graph.
+    Suggest {
+        /// The file of the graph.
+        graph: &'w str,
     },
 }
 
@@ -209,7 +221,7 @@ fn few<'w>(name: &str, words: &'w [&'w str]) -> Option<Command<'w>>
 {
     match words {
         [file] => on_file(name, file),
-        [file, role] => on_file_and_role(name, file, role),
+        [first, second] => on_two(name, first, second),
         _ => None,
     }
 }
@@ -224,16 +236,24 @@ fn on_file<'w>(name: &str, file: &'w str) -> Option<Command<'w>>
         "ledger" => Some(Command::Ledger { file }),
         "audit" => Some(Command::Audit { file }),
         "compose" => Some(Command::Compose { file }),
+        "claims" => Some(Command::Suggest { graph: file }),
         _ => None,
     }
 }
 
-// The command of this name that takes a file and a role.
-fn on_file_and_role<'w>(name: &str, file: &'w str, role: &'w str) -> Option<Command<'w>>
-    ensures { option_map command_held result ≡ on_file_and_role name.now file.now role.now }
+// The command of this name that takes two words.
+fn on_two<'w>(name: &str, first: &'w str, second: &'w str) -> Option<Command<'w>>
+    ensures { option_map command_held result ≡ on_two name.now first.now second.now }
 {
     match name {
-        "compile" => Some(Command::Compile { file, role }),
+        "compile" => Some(Command::Compile {
+            file: first,
+            role: second,
+        }),
+        "claims" => Some(Command::Claims {
+            graph: first,
+            claims: second,
+        }),
         _ => None,
     }
 }
