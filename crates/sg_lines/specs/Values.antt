@@ -10,9 +10,13 @@ use Rattle.sg_protocol.specs.Graph.{Graph, variable_name}
 abbrev pub is_plain : ℕ → Bool
 is_plain b = nat_le 0x21 b && nat_le b 0x7E && not (b == 34) && not (b == 92)
 
+-- a byte as \x and two digits
+abbrev pub escaped_byte : ℕ → List ℕ
+escaped_byte b = 92 ∷ 120 ∷ digit_glyph false (b / 16) ∷ digit_glyph false (b % 16) ∷ []
+
 -- a byte between quotes: itself, or \x and two digits
 abbrev pub quoted_byte : ℕ → List ℕ
-quoted_byte b = if is_plain b then b ∷ [] else (92 ∷ 120 ∷ digit_glyph false (b / 16) ∷ digit_glyph false (b % 16) ∷ [])
+quoted_byte b = if is_plain b then b ∷ [] else escaped_byte b
 
 -- a number in digits, a text between quotes
 abbrev pub value_text : Value → List ℕ

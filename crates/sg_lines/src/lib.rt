@@ -16,5 +16,5 @@ mod walk;
 
 pub use event::{put_event, put_event_values, put_sent_to};
 pub use names::SessionNames;
-pub use value::{put_assigned, put_value, put_values};
+pub use value::{put_assigned, put_escaped, put_value, put_values};
 pub use walk::put_walk;

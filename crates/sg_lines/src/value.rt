@@ -1,9 +1,9 @@
 //! Values of variables.
-ghost use Rattle.std.specs.Prelude.{◌≡◌, ◌<◌, ◌/◌, ◌%◌, ◌++◌, ◌∷◌, [], false, All, OnOk, flat_map, length, option_map};
+ghost use Rattle.std.specs.Prelude.{◌≡◌, ◌<◌, ◌++◌, ◌∷◌, [], false, All, OnOk, flat_map, length, option_map};
 ghost use Rattle.std.specs.Fmt.{digit_glyph, signed_decimal};
 ghost use Rattle.std.specs.Option.{option_copied};
 ghost use Rattle.sg_base.specs.Model.{value_of};
-ghost use Rattle.sg_lines.specs.Values.{assigned, is_plain, quoted_byte, value_or_hidden, value_text, values_text};
+ghost use Rattle.sg_lines.specs.Values.{assigned, escaped_byte, is_plain, quoted_byte, value_or_hidden, value_text, values_text};
 ghost use Rattle.sg_walk.specs.Model.{values_of};
 
 use itoa::Buffer;
@@ -51,7 +51,7 @@ fn put_byte(out: &mut ByteOut, byte: u8) -> Result<(), OutOfMemory>
     if is_plain(byte) {
         out.u8(byte)
     } else {
-        put_hex(out, byte)
+        put_escaped(out, byte)
     }
 }
 
@@ -61,8 +61,9 @@ fn is_plain(byte: u8) -> bool
     byte >= 0x21 && byte <= 0x7E && byte != b'"' && byte != b'\\'
 }
 
-fn put_hex(out: &mut ByteOut, byte: u8) -> Result<(), OutOfMemory>
-    ensures { OnOk result (out.new ≡ out.old ++ (92 ∷ 120 ∷ digit_glyph false (byte / 16) ∷ digit_glyph false (byte % 16) ∷ [])) }
+/// Writes a byte as `\x` and its two hexadecimal digits, in small letters.
+pub fn put_escaped(out: &mut ByteOut, byte: u8) -> Result<(), OutOfMemory>
+    ensures { OnOk result (out.new ≡ out.old ++ escaped_byte byte) }
 {
     out.bytes(&[b'\\', b'x', hex_digit(byte / 16), hex_digit(byte % 16)])
 }

@@ -1,5 +1,5 @@
 -- How the program ends, with which status, and what it says of it on standard error.
-use Rattle.std.specs.Prelude.{ℕ, List, [], ◌∷◌, ◌++◌, codes}
+use Rattle.std.specs.Prelude.{ℕ, ◌==◌, nat_lt, ◌||◌, if◌then◌else◌, List, [], ◌∷◌, ◌++◌, codes, flat_map}
 use Rattle.std.specs.Fmt.{decimal}
 use Rattle.sg_protocol.specs.Graph.{Graph}
 use Rattle.sg_parse.specs.declared.fault.ParseFault.{ParseFault}
@@ -15,6 +15,7 @@ use Rattle.sg_audit.specs.declared.fault.LogFault.{LogFault}
 use Rattle.sg_audit.specs.declared.fault.LogFault.TheVariants.{Form as FormOfLogs, Unknown as UnknownInLogs, Twice as TwiceInLogs, Graph as GraphOfLogs, TooManyEvents, OutOfMemory as NoMemoryForLogs}
 use Rattle.sg_parse.specs.FaultText.{parse_text}
 use Rattle.sg_compose.specs.FaultText.{compose_text}
+use Rattle.sg_lines.specs.Values.{escaped_byte}
 use Rattle.sg_program.specs.FaultText.{refusal_text}
 use Rattle.sg_keys.specs.FaultText.{keys_text}
 use Rattle.sg_script.specs.FaultText.{script_text}
@@ -102,6 +103,14 @@ program_text (Malformed at) = codes "malformed at " ++ decimal at
 program_text (NotTheTable n) = codes "entry " ++ decimal n
 program_text TwiceTaken = codes "twice"
 
+-- a byte of a word of the command line: itself, or \x and two digits where it is a control byte, which could end the line or steer a terminal
+abbrev pub shown_byte : ℕ → List ℕ
+shown_byte b = if nat_lt b 0x20 || (b == 0x7F) then escaped_byte b else b ∷ []
+
+-- a word of the command line, as a line on standard error has it
+abbrev pub shown_word : List ℕ → List ℕ
+shown_word word = flat_map shown_byte word
+
 -- the line on standard error
 abbrev pub line_of : Ending → List ℕ
 line_of Written = []
@@ -109,7 +118,7 @@ line_of NoCommand = codes "usage: sessiongraph check|compile|run|replay|drive|le
 line_of (NoGraph fault) = codes "graph refused: " ++ parse_text fault ++ 10 ∷ []
 line_of (NoExpansion fault) = codes "graph refused: " ++ compose_text fault ++ 10 ∷ []
 line_of (GraphRefused g fault) = codes "graph refused: " ++ refusal_text g fault ++ 10 ∷ []
-line_of (NoRole role) = codes "input refused: role " ++ role ++ 10 ∷ []
+line_of (NoRole role) = codes "input refused: role " ++ shown_word role ++ 10 ∷ []
 line_of (WrongLine line wrong) = codes "input refused: line " ++ decimal line ++ 32 ∷ wrong_text wrong ++ 10 ∷ []
 line_of (KeysRefused fault) = codes "input refused: keys " ++ keys_text fault ++ 10 ∷ []
 line_of (ScriptRefused fault) = codes "input refused: script " ++ script_text fault ++ 10 ∷ []
@@ -117,13 +126,13 @@ line_of (ProgramRefused number cause) = codes "input refused: program " ++ decim
 line_of NoLedger = codes "input refused: ledger not made\n"
 line_of (BadSlot slot) = codes "input refused: ledger slot " ++ decimal slot ++ 10 ∷ []
 line_of LedgerNotEmpty = codes "input refused: ledger not empty\n"
-line_of (FileFailed file) = codes "file failed: " ++ file ++ 10 ∷ []
+line_of (FileFailed file) = codes "file failed: " ++ shown_word file ++ 10 ∷ []
 line_of WriteFailed = []
 line_of LinkFailed = codes "link failed\n"
 line_of DiskFailed = codes "disk failed\n"
 line_of NoMemory = codes "out of memory\n"
-line_of (NoSuchFile file) = codes "no such file: " ++ file ++ 10 ∷ []
-line_of (TooLarge what) = codes "too large: " ++ what ++ 10 ∷ []
+line_of (NoSuchFile file) = codes "no such file: " ++ shown_word file ++ 10 ∷ []
+line_of (TooLarge what) = codes "too large: " ++ shown_word what ++ 10 ∷ []
 
 -- ---- the ending that the input has, where nothing fails and memory doesn't run out
 

@@ -1,13 +1,14 @@
 //! How the program ends, and what it says of it.
 ghost use Rattle.std.specs.Prelude.{◌≡◌, ◌≢◌, ◌++◌, ◌∷◌, [], IfOk, OnErr, OnOk, codes};
 ghost use Rattle.sg_program.specs.FaultText.{refusal_text};
-ghost use Rattle.sg_top.specs.Ending.{status_of, line_of};
+ghost use Rattle.sg_top.specs.Ending.{status_of, line_of, shown_byte, shown_word};
 ghost use Rattle.sg_top.specs.Model.{ending_held};
 
 use sg_base::{ByteOut, OutOfMemory};
 use sg_compose::ComposeFault;
 use sg_graph::Graph;
 use sg_keys::KeyFault;
+use sg_lines::put_escaped;
 use sg_parse::ParseFault;
 use sg_program::CompileFault;
 use sg_script::ScriptFault;
@@ -167,7 +168,7 @@ impl<'w> Ending<'w> {
             Ending::NoGraph { fault } => writeln!(out, "graph refused: {fault}"),
             Ending::NoExpansion { fault } => writeln!(out, "graph refused: {fault}"),
             Ending::GraphRefused { graph, fault } => put_refusal(out, graph, fault),
-            Ending::NoRole { role } => writeln!(out, "input refused: role {role}"),
+            Ending::NoRole { role } => put_about(out, b"input refused: role ", role),
             Ending::WrongLine { line, wrong } => {
                 writeln!(out, "input refused: line {line} {wrong}")
             }
@@ -179,12 +180,12 @@ impl<'w> Ending<'w> {
             Ending::NoLedger => writeln!(out, "input refused: ledger not made"),
             Ending::BadSlot { slot } => writeln!(out, "input refused: ledger slot {slot}"),
             Ending::LedgerNotEmpty => writeln!(out, "input refused: ledger not empty"),
-            Ending::FileFailed { file } => writeln!(out, "file failed: {file}"),
+            Ending::FileFailed { file } => put_about(out, b"file failed: ", file),
             Ending::LinkFailed => writeln!(out, "link failed"),
             Ending::DiskFailed => writeln!(out, "disk failed"),
             Ending::NoMemory => writeln!(out, "out of memory"),
-            Ending::NoSuchFile { file } => writeln!(out, "no such file: {file}"),
-            Ending::TooLarge { what } => writeln!(out, "too large: {what}"),
+            Ending::NoSuchFile { file } => put_about(out, b"no such file: ", file),
+            Ending::TooLarge { what } => put_about(out, b"too large: ", what),
         }
     }
 }
@@ -196,4 +197,33 @@ fn put_refusal(out: &mut ByteOut, graph: &Graph, fault: &CompileFault) -> Result
     out.bytes(b"graph refused: ")?;
     fault.put(out, graph)?;
     out.u8(b'\n')
+}
+
+// Writes a line that ends with a word of the command line.
+fn put_about(out: &mut ByteOut, before: &[u8], word: &str) -> Result<(), OutOfMemory>
+    ensures { OnOk result (out.new ≡ out.old ++ (before.now ++ shown_word word.now ++ 10 ∷ [])) }
+{
+    out.bytes(before)?;
+    put_word(out, word)?;
+    out.u8(b'\n')
+}
+
+// Writes a word, with its control bytes escaped.
+fn put_word(out: &mut ByteOut, word: &str) -> Result<(), OutOfMemory>
+    ensures { OnOk result (out.new ≡ out.old ++ shown_word word.now) }
+{
+    for byte in word.as_bytes() {
+        put_shown(out, *byte)?;
+    }
+    Ok(())
+}
+
+fn put_shown(out: &mut ByteOut, byte: u8) -> Result<(), OutOfMemory>
+    ensures { OnOk result (out.new ≡ out.old ++ shown_byte byte) }
+{
+    if byte < 0x20 || byte == 0x7F {
+        put_escaped(out, byte)
+    } else {
+        out.u8(byte)
+    }
 }

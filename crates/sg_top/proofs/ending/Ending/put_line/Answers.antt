@@ -24,11 +24,5 @@ returns-in-BadSlot-clause-value c = rw c.in-BadSlot.is c.writeln-in-BadSlot.ensu
 pub returns-in-LedgerNotEmpty-clause-value : goal.returns-in-LedgerNotEmpty-clause-value
 returns-in-LedgerNotEmpty-clause-value c = rw c.in-LedgerNotEmpty.is c.writeln-in-LedgerNotEmpty.ensures.ok
 
-pub returns-in-FileFailed-clause-value : goal.returns-in-FileFailed-clause-value
-returns-in-FileFailed-clause-value c = rw c.in-FileFailed.is c.writeln-in-FileFailed.ensures.ok
-
 pub returns-in-LinkFailed-clause-value : goal.returns-in-LinkFailed-clause-value
 returns-in-LinkFailed-clause-value c = rw c.in-LinkFailed.is c.writeln-in-LinkFailed.ensures.ok
-
-pub returns-in-NoSuchFile-clause-value : goal.returns-in-NoSuchFile-clause-value
-returns-in-NoSuchFile-clause-value c = rw c.in-NoSuchFile.is c.writeln-in-NoSuchFile.ensures.ok
