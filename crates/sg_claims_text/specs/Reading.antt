@@ -1,12 +1,12 @@
 -- How a text of claims is read: one token after the other, up to the first that is wrong.
 use Rattle.std.specs.Prelude.{ℕ, Bool, not, ◌&&◌, if◌then◌else◌, List, [], ◌∷◌, ◌++◌, codes, bytes_eq, Result, Ok, Err}
+use Rattle.std.specs.List.{list_any}
 use Rattle.sg_claims.specs.declared.claim.NamedClaim.{NamedClaim}
 use Rattle.sg_claims_text.specs.Grammar.{between, most_claims, claim_names}
 use Rattle.sg_claims_text.specs.declared.fault.ClaimsFault.{ClaimsFault}
 use Rattle.sg_claims_text.specs.declared.fault.ClaimsFault.TheVariants.{Text, OtherGraph}
 use Rattle.sg_graph.specs.Parts.{edge_names}
 use Rattle.sg_model.specs.Claims.{Claim, Needs, Bars}
-use Rattle.sg_model.specs.Lists.{has_text}
 use Rattle.sg_parse.specs.PartsReading.{with_place, repeat}
 use Rattle.sg_parse.specs.Reading.{Parsed, Parser, on, after, give, known, token, branch, skip, refused, name, new_name, no_more, read_end, whole}
 use Rattle.sg_parse.specs.Tokens.{tokens, is_word, is_named, is_colon, is_semicolon, text_of}
@@ -14,9 +14,13 @@ use Rattle.sg_parse.specs.declared.token.Token.{Token}
 use Rattle.sg_parse.specs.declared.fault.ParseFault.{ParseFault}
 use Rattle.sg_protocol.specs.Graph.{Graph, Name}
 
+-- a word that ends a list of labels
+abbrev pub is_between : Token → Bool
+is_between t = list_any (λ w. is_word w t) between
+
 -- a name that may stand in a list of labels
 abbrev pub is_label : Token → Bool
-is_label t = is_named t && not (has_text (text_of t) between)
+is_label t = is_named t && not (is_between t)
 
 -- the labels, with those of all names that follow
 abbrev pub more_labels : List Name → List ℕ → Parser (List ℕ)

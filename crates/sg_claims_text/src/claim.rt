@@ -47,11 +47,7 @@ fn new_claim(scanner: &mut Scanner, claims: &ClaimList) -> Result<Name, ParseFau
 }
 
 // What a claim says.
-fn read_said(
-    alloc: Global,
-    scanner: &mut Scanner,
-    names: &LabelNames,
-) -> Result<Claim, ParseFault>
+fn read_said(alloc: Global, scanner: &mut Scanner, names: &LabelNames) -> Result<Claim, ParseFault>
     ensures { Reads (read_said names.now) scanner.old scanner.new result }
 {
     let first = some_labels(alloc, scanner, names)?;

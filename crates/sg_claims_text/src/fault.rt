@@ -16,9 +16,9 @@ impl Error for ClaimsFault {}
 
 impl fmt::Display for ClaimsFault {
     ghost use Rattle.std.specs.Prelude.{Some};
-    ghost use Rattle.sg_claims_text.specs.FaultText.{claims_text};
+    ghost use Rattle.sg_fault_text.specs.FaultText.{fault_text};
 
-    ghost output = { λ fault. Some (claims_text fault) };
+    ghost output = { λ fault. Some (fault_text fault) };
 
     fn fmt<W: fmt::Write>(&self, f: &mut fmt::Formatter<W>) -> fmt::Result {
         match self {

@@ -1,6 +1,6 @@
 //! Lists of labels.
 ghost use Rattle.std.specs.Prelude.{◌≡◌};
-ghost use Rattle.sg_claims_text.specs.Reading.{is_label, read_since, some_labels};
+ghost use Rattle.sg_claims_text.specs.Reading.{is_between, is_label, read_since, some_labels};
 ghost use Rattle.sg_parse.specs.PartsReading.{one_place};
 ghost use Rattle.sg_parse.specs.Owed.{Reads, ReadsInto};
 ghost use Rattle.sg_parse.specs.Reading.{is_next};
@@ -69,11 +69,11 @@ fn one_more(
 fn at_label(scanner: &Scanner) -> bool
     ensures { result ≡ is_next is_label scanner.now }
 {
-    scanner.at_name() && !at_end(scanner)
+    scanner.at_name() && !at_between(scanner)
 }
 
 // The next token is one of the words that end a list of labels.
-fn at_end(scanner: &Scanner) -> bool
+fn at_between(scanner: &Scanner) -> bool
     ensures { result ≡ is_next is_between scanner.now }
 {
     scanner.at_word(b"needs")

@@ -40,11 +40,7 @@ pub fn parse_claims(
 }
 
 // The claims, or the first fault.
-fn read_whole(
-    alloc: Global,
-    graph: &Graph,
-    bytes: &[u8],
-) -> Result<Vec<NamedClaim>, ClaimsFault>
+fn read_whole(alloc: Global, graph: &Graph, bytes: &[u8]) -> Result<Vec<NamedClaim>, ClaimsFault>
     ensures { MatchResult result (λ cs. read graph.now bytes.now ≡ Ok cs.items) (Refuses (read graph.now bytes.now)) }
 {
     let mut scanner = Scanner::new(Language::OfGraph, bytes);
