@@ -1,0 +1,4 @@
+pub mod Labels
+pub mod Kind
+pub mod Model
+pub mod Invariant
