@@ -1,0 +1,6 @@
+pub mod Agrees
+pub mod Among
+pub mod GivesClaims
+pub mod GivesLabels
+pub mod TookClaims
+pub mod TookLabels

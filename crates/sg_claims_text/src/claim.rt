@@ -1,0 +1,98 @@
+//! The statements of claims.
+ghost use Rattle.std.specs.Prelude.{◌≡◌, IfOk, false};
+ghost use Rattle.sg_claims_text.specs.Grammar.{claim_names};
+ghost use Rattle.sg_claims_text.specs.Reading.{read_bars, read_claim, read_needs, read_said};
+ghost use Rattle.sg_model.specs.Lists.{has_text};
+ghost use Rattle.sg_parse.specs.Owed.{Reads, ReadsInto};
+ghost use Rattle.sg_parse.specs.Reading.{new_name};
+
+use crate::claim_list::ClaimList;
+use crate::label_names::LabelNames;
+use crate::labels::{read_since, some_labels};
+use sg_base::Name;
+use sg_claims::{Claim, ClaimKind, LabelSet, NamedClaim};
+use sg_parse::{ParseFault, Scanner};
+use std::alloc::Global;
+
+// One more claim.
+pub fn read_claim(
+    alloc: Global,
+    scanner: &mut Scanner,
+    names: &LabelNames,
+    claims: &mut ClaimList,
+) -> Result<(), ParseFault>
+    ensures { ReadsInto (read_claim names.now claims.old) scanner.old scanner.new claims.new result }
+{
+    scanner.word(b"claim")?;
+    let name = new_claim(scanner, claims)?;
+    scanner.colon()?;
+    let claim = read_said(alloc, scanner, names)?;
+    scanner.semicolon()?;
+    match claims.push(NamedClaim { name, claim }) {
+        Ok(()) => Ok(()),
+        Err(_) => Err(ParseFault::OutOfMemory),
+    }
+}
+
+// A name that no claim has.
+fn new_claim(scanner: &mut Scanner, claims: &ClaimList) -> Result<Name, ParseFault>
+    ensures reads { Reads (new_name (claim_names claims.now)) scanner.old scanner.new result }
+    ensures new { IfOk result (λ n. has_text n (claim_names claims.now) ≡ false) }
+{
+    let (name, at) = scanner.name()?;
+    if claims.has(&name) {
+        return Err(ParseFault::Twice { at });
+    }
+    Ok(name)
+}
+
+// What a claim says.
+fn read_said(alloc: Global, scanner: &mut Scanner, names: &LabelNames) -> Result<Claim, ParseFault>
+    ensures { Reads (read_said names.now) scanner.old scanner.new result }
+{
+    let first = some_labels(alloc, scanner, names)?;
+    if scanner.at_word(b"needs") {
+        scanner.skip();
+        return read_needs(alloc, scanner, names, first);
+    }
+    scanner.word(b"bars")?;
+    read_bars(alloc, scanner, names, first)
+}
+
+// The rest of a claim that labels need others.
+fn read_needs(
+    alloc: Global,
+    scanner: &mut Scanner,
+    names: &LabelNames,
+    later: LabelSet,
+) -> Result<Claim, ParseFault>
+    ensures { Reads (read_needs names.now later) scanner.old scanner.new result }
+{
+    let earlier = some_labels(alloc, scanner, names)?;
+    let since = read_since(alloc, scanner, names, b"since")?;
+    Ok(Claim {
+        kind: ClaimKind::Needs,
+        later,
+        earlier,
+        since,
+    })
+}
+
+// The rest of a claim that labels bar others.
+fn read_bars(
+    alloc: Global,
+    scanner: &mut Scanner,
+    names: &LabelNames,
+    earlier: LabelSet,
+) -> Result<Claim, ParseFault>
+    ensures { Reads (read_bars names.now earlier) scanner.old scanner.new result }
+{
+    let later = some_labels(alloc, scanner, names)?;
+    let since = read_since(alloc, scanner, names, b"until")?;
+    Ok(Claim {
+        kind: ClaimKind::Bars,
+        later,
+        earlier,
+        since,
+    })
+}
