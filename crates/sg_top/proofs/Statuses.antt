@@ -1,10 +1,10 @@
 -- With which statuses the program ends after a play.
 use Rattle.std.proofs.Common.{◌≡◌, ℕ, ◌⊎◌, inl, inr, List, Option, Some, None, refl, sym, subst}
-use Rattle.sg_top.specs.Ending.{Ending, Written, NoCommand, NoGraph, NoExpansion, GraphRefused, NoRole, WrongLine, KeysRefused, ScriptRefused, ProgramRefused, NoLedger, BadSlot, LedgerNotEmpty, FileFailed, WriteFailed, LinkFailed, DiskFailed, NoMemory, NoSuchFile, TooLarge, status_of, line_of}
+use Rattle.sg_top.specs.Ending.{Ending, Written, NoCommand, NoGraph, NoExpansion, GraphRefused, NoRole, WrongLine, KeysRefused, ScriptRefused, ClaimsRefused, ClaimFails, ProgramRefused, NoLedger, BadSlot, LedgerNotEmpty, FileFailed, WriteFailed, LinkFailed, DiskFailed, NoMemory, NoSuchFile, TooLarge, status_of, line_of}
 use Rattle.sg_top.specs.Ends.{Output}
 use Rattle.sg_top.specs.Ledgers.{CanHaveKept}
 use Rattle.sg_top.specs.Runs.{CanHavePlayed}
-use Rattle.sg_words.specs.Command.{Command, Check, Compile, Run, Replay, Drive, Ledger, Keep, Stream, Audit, Compose, command_of}
+use Rattle.sg_words.specs.Command.{Command, Check, Compile, Run, Replay, Drive, Ledger, Keep, Stream, Audit, Compose, Claims, command_of}
 use Rattle.sg_top.specs.Top.{HasPlayed, IsOfKeep, IsOfPlay, MayPlay, PlaysWith, Puts, Says}
 
 -- the statuses of endings after a play
@@ -21,6 +21,8 @@ of_play (NoRole role) h = absurd h
 of_play (WrongLine line wrong) h = absurd h
 of_play (KeysRefused fault) h = absurd h
 of_play (ScriptRefused fault) h = absurd h
+of_play (ClaimsRefused fault) h = absurd h
+of_play ClaimFails h = absurd h
 of_play (ProgramRefused number cause) h = absurd h
 of_play NoLedger h = absurd h
 of_play (BadSlot slot) h = absurd h
@@ -45,6 +47,8 @@ of_keep (NoRole role) h = absurd h
 of_keep (WrongLine line wrong) h = absurd h
 of_keep (KeysRefused fault) h = absurd h
 of_keep (ScriptRefused fault) h = absurd h
+of_keep (ClaimsRefused fault) h = absurd h
+of_keep ClaimFails h = absurd h
 of_keep (ProgramRefused number cause) h = absurd h
 of_keep NoLedger h = absurd h
 of_keep (BadSlot slot) h = absurd h
@@ -82,6 +86,7 @@ status_said (Some (Drive seed sessions file)) work old new status h says = absur
 status_said (Some (Ledger file)) work old new status h says = absurd h
 status_said (Some (Audit file)) work old new status h says = absurd h
 status_said (Some (Compose file)) work old new status h says = absurd h
+status_said (Some (Claims graph claims)) work old new status h says = absurd h
 status_said None work old new status h says = absurd h
 
 -- a run over the link leaves the one over connections as it is, and the other way round

@@ -2,6 +2,8 @@
 use Rattle.std.specs.Prelude.{ℕ, ◌==◌, nat_lt, ◌||◌, if◌then◌else◌, List, [], ◌∷◌, ◌++◌, codes, flat_map}
 use Rattle.std.specs.Fmt.{decimal}
 use Rattle.sg_protocol.specs.Graph.{Graph}
+use Rattle.sg_claims_text.specs.FaultText.{fault_text as claims_text}
+use Rattle.sg_claims_text.specs.declared.fault.ClaimsFault.{ClaimsFault}
 use Rattle.sg_parse.specs.declared.fault.ParseFault.{ParseFault}
 use Rattle.sg_compose.specs.declared.fault.ComposeFault.{ComposeFault}
 use Rattle.sg_keys.specs.declared.key_file.KeyFault.{KeyFault}
@@ -44,6 +46,10 @@ pub data Ending : Type 0 where
   KeysRefused : KeyFault → Ending
   -- the bytes are no script beside the programs
   ScriptRefused : ScriptFault → Ending
+  -- the bytes are no claims of the graph
+  ClaimsRefused : ClaimsFault → Ending
+  -- the output is written whole, and it says of a claim that it fails
+  ClaimFails : Ending
   -- the program of this number, counted from 1, isn't taken
   ProgramRefused : (number : ℕ) → BadProgram → Ending
   -- the file is no ledger
@@ -78,6 +84,7 @@ status_of (NoRole role) = 4
 status_of (WrongLine line wrong) = 4
 status_of (KeysRefused fault) = 4
 status_of (ScriptRefused fault) = 4
+status_of (ClaimsRefused fault) = 4
 status_of (ProgramRefused number cause) = 4
 status_of NoLedger = 4
 status_of (BadSlot slot) = 4
@@ -89,6 +96,7 @@ status_of NoMemory = 8
 status_of (NoSuchFile file) = 9
 status_of (TooLarge what) = 10
 status_of DiskFailed = 11
+status_of ClaimFails = 13
 
 -- what is wrong with a line
 abbrev pub wrong_text : Wrong → List ℕ
@@ -114,7 +122,7 @@ shown_word word = flat_map shown_byte word
 -- the line on standard error
 abbrev pub line_of : Ending → List ℕ
 line_of Written = []
-line_of NoCommand = codes "usage: sessiongraph check|compile|run|replay|drive|ledger|keep|stream|audit|compose\n"
+line_of NoCommand = codes "usage: sessiongraph check|compile|run|replay|drive|ledger|keep|stream|audit|compose|claims\n"
 line_of (NoGraph fault) = codes "graph refused: " ++ parse_text fault ++ 10 ∷ []
 line_of (NoExpansion fault) = codes "graph refused: " ++ compose_text fault ++ 10 ∷ []
 line_of (GraphRefused g fault) = codes "graph refused: " ++ refusal_text g fault ++ 10 ∷ []
@@ -122,6 +130,8 @@ line_of (NoRole role) = codes "input refused: role " ++ shown_word role ++ 10 �
 line_of (WrongLine line wrong) = codes "input refused: line " ++ decimal line ++ 32 ∷ wrong_text wrong ++ 10 ∷ []
 line_of (KeysRefused fault) = codes "input refused: keys " ++ keys_text fault ++ 10 ∷ []
 line_of (ScriptRefused fault) = codes "input refused: script " ++ script_text fault ++ 10 ∷ []
+line_of (ClaimsRefused fault) = codes "input refused: claims " ++ claims_text fault ++ 10 ∷ []
+line_of ClaimFails = []
 line_of (ProgramRefused number cause) = codes "input refused: program " ++ decimal number ++ 32 ∷ program_text cause ++ 10 ∷ []
 line_of NoLedger = codes "input refused: ledger not made\n"
 line_of (BadSlot slot) = codes "input refused: ledger slot " ++ decimal slot ++ 10 ∷ []

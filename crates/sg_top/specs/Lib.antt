@@ -5,6 +5,7 @@ pub mod Replayed
 pub mod Driven
 pub mod Ends
 pub mod Setup
+pub mod Claimed
 pub mod Runs
 pub mod Ledgers
 pub mod Top

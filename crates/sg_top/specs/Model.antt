@@ -1,7 +1,7 @@
 -- What the program holds, as the values of the definitions.
 use Rattle.sg_top.specs.Ending as Ended
 use Rattle.sg_top.specs.declared.ending.Ending.{Ending}
-use Rattle.sg_top.specs.declared.ending.Ending.TheVariants.{Written, NoCommand, NoGraph, NoExpansion, GraphRefused, NoRole, WrongLine, KeysRefused, ScriptRefused, ProgramRefused, NoLedger, BadSlot, LedgerNotEmpty, FileFailed, WriteFailed, LinkFailed, DiskFailed, NoMemory, NoSuchFile, TooLarge}
+use Rattle.sg_top.specs.declared.ending.Ending.TheVariants.{Written, NoCommand, NoGraph, NoExpansion, GraphRefused, NoRole, WrongLine, KeysRefused, ScriptRefused, ClaimsRefused, ClaimFails, ProgramRefused, NoLedger, BadSlot, LedgerNotEmpty, FileFailed, WriteFailed, LinkFailed, DiskFailed, NoMemory, NoSuchFile, TooLarge}
 
 -- the ending that is held
 abbrev pub ending_held : Ending → Ended.Ending
@@ -14,6 +14,8 @@ ending_held (NoRole role) = Ended.NoRole role.now
 ending_held (WrongLine line wrong) = Ended.WrongLine line wrong
 ending_held (KeysRefused fault) = Ended.KeysRefused fault
 ending_held (ScriptRefused fault) = Ended.ScriptRefused fault
+ending_held (ClaimsRefused fault) = Ended.ClaimsRefused fault
+ending_held ClaimFails = Ended.ClaimFails
 ending_held (ProgramRefused number cause) = Ended.ProgramRefused number cause
 ending_held NoLedger = Ended.NoLedger
 ending_held (BadSlot slot) = Ended.BadSlot slot

@@ -5,6 +5,7 @@ ghost use Rattle.sg_top.specs.Ending.{status_of, line_of, shown_byte, shown_word
 ghost use Rattle.sg_top.specs.Model.{ending_held};
 
 use sg_base::{ByteOut, OutOfMemory};
+use sg_claims_text::ClaimsFault;
 use sg_compose::ComposeFault;
 use sg_graph::Graph;
 use sg_keys::KeyFault;
@@ -91,6 +92,10 @@ pub enum Ending<'w> {
     KeysRefused { fault: KeyFault },
     /// The bytes are no script beside the programs: the first fault.
     ScriptRefused { fault: ScriptFault },
+    /// The bytes are no claims of the graph: the fault of the first wrong token.
+    ClaimsRefused { fault: ClaimsFault },
+    /// The output is written whole, and it says of a claim that it fails.
+    ClaimFails,
     /// The program of this number, counted from 1, isn't taken.
     ProgramRefused { number: usize, cause: BadProgram },
     /// The file is no ledger.
@@ -130,6 +135,7 @@ impl<'w> Ending<'w> {
             Ending::WrongLine { .. } => 4,
             Ending::KeysRefused { .. } => 4,
             Ending::ScriptRefused { .. } => 4,
+            Ending::ClaimsRefused { .. } => 4,
             Ending::ProgramRefused { .. } => 4,
             Ending::NoLedger => 4,
             Ending::BadSlot { .. } => 4,
@@ -141,6 +147,7 @@ impl<'w> Ending<'w> {
             Ending::NoSuchFile { .. } => 9,
             Ending::TooLarge { .. } => 10,
             Ending::DiskFailed => 11,
+            Ending::ClaimFails => 13,
         }
     }
 
@@ -160,10 +167,10 @@ impl<'w> Ending<'w> {
         ensures memory { OnErr result (line_of (ending_held self.now) ≢ []) }
     {
         match self {
-            Ending::Written | Ending::WriteFailed => Ok(()),
+            Ending::Written | Ending::ClaimFails | Ending::WriteFailed => Ok(()),
             Ending::NoCommand => writeln!(
                 out,
-                "usage: sessiongraph check|compile|run|replay|drive|ledger|keep|stream|audit|compose"
+                "usage: sessiongraph check|compile|run|replay|drive|ledger|keep|stream|audit|compose|claims"
             ),
             Ending::NoGraph { fault } => writeln!(out, "graph refused: {fault}"),
             Ending::NoExpansion { fault } => writeln!(out, "graph refused: {fault}"),
@@ -174,6 +181,7 @@ impl<'w> Ending<'w> {
             }
             Ending::KeysRefused { fault } => writeln!(out, "input refused: keys {fault}"),
             Ending::ScriptRefused { fault } => writeln!(out, "input refused: script {fault}"),
+            Ending::ClaimsRefused { fault } => writeln!(out, "input refused: claims {fault}"),
             Ending::ProgramRefused { number, cause } => {
                 writeln!(out, "input refused: program {number} {cause}")
             }

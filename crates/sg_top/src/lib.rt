@@ -6,6 +6,7 @@
 //! - The words are read first. Words that are in no command end with the usage line, and nothing else is touched.
 //! - `check`, `compile`, `replay`, `drive`, `audit` and `compose` work on one file. It is read whole, has at most a given number of bytes, and
 //!   its first fault ends the work. Nothing is written before all is done, so what is refused leaves standard output as it was.
+//! - `claims` reads and checks a graph whole, before it reads claims of it.
 //! - `run` reads its files in order, keys, programs and script, and opens the link when all are taken. It writes as it goes: a step's line when
 //!   the link has taken the step's frame.
 //! - `ledger` makes a ledger of a file of the disk and then says so. `keep` reads as `run` does, opens the ledger and then the link, and plays
@@ -22,13 +23,14 @@
 //! why it ends so; `specs/Runs.antt` what a run leaves, `specs/Ledgers.antt` what the making of a ledger leaves, and a run over one, and
 //! `specs/Setup.antt` what the files of a run hold; `specs/Replayed.antt` what is left of a replay, and `specs/Driven.antt` of a drive;
 //! `specs/Ending.antt` the statuses and lines, with `specs/FaultText.antt` of the crates of the faults; `specs/Audited.antt` and
-//! `specs/Accepted.antt` the texts of `audit` and `check`.
+//! `specs/Accepted.antt` the texts of `audit` and `check`, and `specs/Claimed.antt` what `claims` says.
 #![tactic(auto)]
 
 mod answer;
 mod audit;
 mod before;
 mod check;
+mod claims;
 mod compile;
 mod compose;
 mod drive;

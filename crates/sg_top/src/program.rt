@@ -7,6 +7,7 @@ ghost use Rattle.sg_top.specs.Top.{Ends, HasPlayed, IsOnDisk, IsOverLink, IsOver
 
 use crate::audit::audit;
 use crate::check::check;
+use crate::claims::claims;
 use crate::compile::compile;
 use crate::compose::compose;
 use crate::drive::drive;
@@ -31,7 +32,8 @@ use std::alloc::Global;
 /// a file, compiles its graphs, runs it, and writes the report of the run. `drive SEED SESSIONS GRAPH` reads a graph, compiles it, generates a
 /// run of it in SESSIONS sessions, and writes the summary. `audit LOGS` reads logs from a file, makes the checks of `check` for their graph,
 /// and writes of each session whether its logs agree. `compose PARTS` reads parts from a file, expands them, checks the expansion, and writes
-/// its canonical text. `err` gets one line that says why the work ended so, unless the output was written or failed.
+/// its canonical text. `claims GRAPH CLAIMS` reads a graph, makes the checks of `check`, reads claims of it, and writes of each whether it holds,
+/// or a walk that breaks it. `err` gets one line that says why the work ended so, unless the output was written or failed.
 pub fn top<F: Files, O: Sink, E: Sink, L: Link, R: Fresh, D: Disk, C: Conns>(
     alloc: Global,
     words: &[String],
@@ -173,6 +175,12 @@ fn work<'w, F: Files, O: Sink, L: Link, R: Fresh, D: Disk, S: Link>(
         ),
         Some(Command::Audit { file }) => audit(alloc, file, files, out),
         Some(Command::Compose { file }) => compose(alloc, file, files, out),
+        Some(
+            Command::Claims {
+                graph,
+                claims: file,
+            },
+        ) => claims(alloc, graph, file, files, out),
     }
 }
 

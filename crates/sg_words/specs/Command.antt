@@ -17,13 +17,12 @@ pub data Command : Type 0 where
   Audit : (file : List ℕ) → Command
   Compose : (file : List ℕ) → Command
   Claims : (graph claims : List ℕ) → Command
-  Suggest : (graph : List ℕ) → Command
 
 -- the word begins with -
 abbrev pub is_option : List ℕ → Bool
 is_option word = slice_index word 0 == 45
 
--- check FILE, replay FILE, ledger FILE, audit FILE, compose FILE, or claims FILE
+-- check FILE, replay FILE, ledger FILE, audit FILE, or compose FILE
 abbrev pub on_file : (name file : List ℕ) → Option Command
 on_file name file =
     if bytes_eq name (codes "check") then Some (Check file)
@@ -31,7 +30,6 @@ on_file name file =
     else if bytes_eq name (codes "ledger") then Some (Ledger file)
     else if bytes_eq name (codes "audit") then Some (Audit file)
     else if bytes_eq name (codes "compose") then Some (Compose file)
-    else if bytes_eq name (codes "claims") then Some (Suggest file)
     else None
 
 -- compile FILE ROLE, or claims FILE FILE

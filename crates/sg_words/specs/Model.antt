@@ -2,7 +2,7 @@
 use Rattle.std.specs.Prelude.{map}
 use Rattle.sg_words.specs.Command as Asked
 use Rattle.sg_words.specs.declared.command.Command.{Command}
-use Rattle.sg_words.specs.declared.command.Command.TheVariants.{Check, Compile, Run, Replay, Drive, Ledger, Keep, Stream, Audit, Compose, Claims, Suggest}
+use Rattle.sg_words.specs.declared.command.Command.TheVariants.{Check, Compile, Run, Replay, Drive, Ledger, Keep, Stream, Audit, Compose, Claims}
 
 -- the command that is held
 abbrev pub command_held : Command → Asked.Command
@@ -17,4 +17,3 @@ command_held (Stream keys script deliveries programs) = Asked.Stream keys.now sc
 command_held (Audit file) = Asked.Audit file.now
 command_held (Compose file) = Asked.Compose file.now
 command_held (Claims graph claims) = Asked.Claims graph.now claims.now
-command_held (Suggest graph) = Asked.Suggest graph.now

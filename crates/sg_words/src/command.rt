@@ -94,11 +94,6 @@ pub enum Command<'w> {
         /// The file of the claims.
         claims: &'w str,
     },
-    /// Suggests claims that hold of a graph.
-    Suggest {
-        /// The file of the graph.
-        graph: &'w str,
-    },
 }
 
 /// The command, or `None` where the words are not in the table of commands. It takes no memory.
@@ -236,7 +231,6 @@ fn on_file<'w>(name: &str, file: &'w str) -> Option<Command<'w>>
         "ledger" => Some(Command::Ledger { file }),
         "audit" => Some(Command::Audit { file }),
         "compose" => Some(Command::Compose { file }),
-        "claims" => Some(Command::Suggest { graph: file }),
         _ => None,
     }
 }

@@ -1,0 +1,94 @@
+-- What is said of claims of a graph, and how the program ends by it.
+use Rattle.std.specs.Prelude.{◌≡◌, ◌≢◌, ℕ, ◌≤◌, ◌⊎◌, Bool, true, false, ◌&&◌, if◌then◌else◌, List, [], ◌∷◌, ◌++◌, All, Ok, Err, length, codes, ⊤}
+use Rattle.sg_base.specs.Outside.{HasRisen, Appends, AppendsFront}
+use Rattle.sg_claims.specs.Answers.{IsAnswer}
+use Rattle.sg_claims.specs.declared.claim.NamedClaim.{NamedClaim}
+use Rattle.sg_claims.specs.declared.decision.Answer.{Answer}
+use Rattle.sg_claims.specs.declared.decision.Answer.TheVariants.{Holds as HoldsOfAll, Fails}
+use Rattle.sg_claims_text.specs.Grammar.{SpellsClaims}
+use Rattle.sg_claims_text.specs.Reading.{read}
+use Rattle.sg_claims_text.specs.declared.fault.ClaimsFault.TheVariants.{Text}
+use Rattle.sg_graph.specs.Named.{walk_text}
+use Rattle.sg_model.specs.Limits.{most_graph_file}
+use Rattle.sg_parse.specs.Grammar.{SpellsGraph}
+use Rattle.sg_parse.specs.Reading.{read as parsed}
+use Rattle.sg_parse.specs.declared.fault.ParseFault.TheVariants.{OutOfMemory}
+use Rattle.sg_protocol.specs.Graph.{Graph, shape}
+use Rattle.sg_protocol.specs.IsSchedule.{AreCompiled}
+use Rattle.sg_protocol.specs.Keyring.{Program}
+use Rattle.sg_protocol.specs.Texts.{real}
+use Rattle.sg_program.specs.Compiled.{IsWhole}
+use Rattle.sg_top.specs.Ending.{Ending, Written, NoGraph, GraphRefused, ClaimsRefused, ClaimFails, WriteFailed, NoMemory}
+use Rattle.sg_top.specs.Ends.{Told, Output, Writes, IsFirstRefused}
+use Rattle.sg_top.specs.Setup.{Holds, EndsAt}
+
+-- a file of claims has at most 1 MiB
+abbrev pub most_claims_file : ℕ
+most_claims_file = 1048576
+
+-- ---- answers
+
+-- the line of an answer: that the claim holds, or the labels of a walk that breaks it
+abbrev pub answer_line : Graph → NamedClaim → Answer → List ℕ
+answer_line g c HoldsOfAll = codes "claim " ++ c.name ++ codes " holds\n"
+answer_line g c (Fails walk) = codes "claim " ++ c.name ++ codes " fails:" ++ walk_text g walk.items ++ 10 ∷ []
+
+-- by the answer the claim holds
+abbrev pub does_hold : Answer → Bool
+does_hold HoldsOfAll = true
+does_hold (Fails walk) = false
+
+-- the text is the lines of true answers to these claims, in their order, and this is whether all of them hold
+pub data AreAnswered (g : Graph) : List NamedClaim → List ℕ → Bool → Type 0 where
+  NoClaims : AreAnswered g [] [] true
+  OneMore : {cs : List NamedClaim} {text : List ℕ} {all : Bool} {c : NamedClaim} {a : Answer} → AreAnswered g cs text all → IsAnswer (shape g) c.claim a → AreAnswered g (cs ++ c ∷ []) (text ++ answer_line g c a) (all && does_hold a)
+
+-- ---- graphs that are accepted
+
+-- the bytes spell the graph, and it is accepted for each of its roles
+pub record IsAcceptedText (bytes : List ℕ) (g : Graph) : Type 0 where
+  pub programs : List Program
+  pub spelled : SpellsGraph bytes g
+  pub compiled : AreCompiled real (g ∷ []) programs
+  pub few : All IsWhole programs
+
+-- the bytes are no graph, or the one that they spell is refused, by its first fault; or memory ran out
+abbrev pub RefusesGraph : List ℕ → Ending → Type 0
+RefusesGraph bytes (NoGraph fault) = parsed bytes ≡ Err fault
+RefusesGraph bytes (GraphRefused g fault) = SpellsGraph bytes g × IsFirstRefused (g ∷ []) g fault
+RefusesGraph bytes NoMemory = ⊤
+RefusesGraph bytes ending = ⊥
+
+-- ---- claims
+
+-- the bytes are no claims of the graph, as their first fault says, or memory ran out
+abbrev pub RefusesClaims : Graph → List ℕ → Ending → Type 0
+RefusesClaims g bytes (ClaimsRefused fault) = (fault ≢ Text OutOfMemory) × (read g bytes ≡ Err fault)
+RefusesClaims g bytes NoMemory = ⊤
+RefusesClaims g bytes ending = ⊥
+
+-- the bytes spell claims of the graph, whose answers are the text, and this is whether all of them hold
+abbrev pub IsDecision : Graph → (bytes text : List ℕ) → Bool → Type 0
+IsDecision g bytes text all = (cs : List NamedClaim) × SpellsClaims g bytes cs × AreAnswered g cs text all
+
+-- the text is written whole, and the program ends by whether all claims hold; or a front part of it is written, and a write failed
+abbrev pub WritesAnswers : (old new : Output) → List ℕ → (all : Bool) → Ending → Type 0
+WritesAnswers old new text all WriteFailed = Writes old new text WriteFailed
+WritesAnswers old new text all ending = Writes old new text Written × (ending ≡ (if all then Written else ClaimFails))
+
+-- the claims in these bytes are decided, and the answers written; or memory ran out and nothing is written
+abbrev pub Decides : Graph → List ℕ → (old new : Output) → Ending → Type 0
+Decides g bytes old new NoMemory = new.bytes ≡ old.bytes
+Decides g bytes old new ending = (text : List ℕ) × (all : Bool) × IsDecision g bytes text all × WritesAnswers old new text all ending
+
+-- what is done with the claims of an accepted graph: they are refused, and nothing is written, or they are decided
+abbrev pub OnClaims : Graph → (claims : List ℕ) → Told → (faults faults' : ℕ) → (old new : Output) → Ending → Type 0
+OnClaims g claims told faults faults' old new ending =
+    ((new.bytes ≡ old.bytes) × EndsAt told faults faults' most_claims_file claims (RefusesClaims g) ending)
+    ⊎ Holds told most_claims_file claims (λ bytes. Decides g bytes old new ending)
+
+-- the claims of a file are decided on the graph of another so: the graph is read and checked first, and where it is refused nothing is written
+abbrev pub DecidesClaims : (graph claims : List ℕ) → Told → (faults faults' : ℕ) → (old new : Output) → Ending → Type 0
+DecidesClaims graph claims told faults faults' old new ending =
+    ((new.bytes ≡ old.bytes) × EndsAt told faults faults' most_graph_file graph RefusesGraph ending)
+    ⊎ Holds told most_graph_file graph (λ bytes. (g : Graph) × IsAcceptedText bytes g × OnClaims g claims told faults faults' old new ending)
