@@ -10,7 +10,7 @@ use Rattle.sg_keys.specs.KeyFile.{SpellsKeys}
 use Rattle.sg_protocol.specs.Keyring.{Keyring, Program}
 use Rattle.sg_script.specs.Format.{SpellsScript}
 use Rattle.sg_script.specs.Script.{Script}
-use Rattle.sg_top.specs.Ending.{Ending, Written, NoCommand, NoGraph, NoExpansion, GraphRefused, NoRole, WrongLine, KeysRefused, ScriptRefused, ProgramRefused, NoLedger, BadSlot, LedgerNotEmpty, FileFailed, WriteFailed, LinkFailed, DiskFailed, NoMemory, NoSuchFile, TooLarge}
+use Rattle.sg_top.specs.Ending.{Ending, Written, NoCommand, NoGraph, NoExpansion, GraphRefused, NoRole, WrongLine, KeysRefused, ScriptRefused, ClaimsRefused, ClaimFails, ProgramRefused, NoLedger, BadSlot, LedgerNotEmpty, FileFailed, WriteFailed, LinkFailed, DiskFailed, NoMemory, NoSuchFile, TooLarge}
 use Rattle.sg_top.specs.Ends.{Told, Has, IsUnread}
 use Rattle.sg_top.specs.Setup.{Named, Adds, EndsAt, HasSetup, HoldPrograms, OneMore, Holds, IsTextOf, LacksSetup, AtProgram, AtScript, RefusesProgram, RefusesScript, StopsAtProgram}
 
@@ -27,7 +27,7 @@ pub rises : (f0 f1 f2 : ℕ) → f0 ≤ f1 → f1 ≤ f2 → HasRisen f1 f2 → 
 rises f0 f1 f2 a b h = rises_below (2 ^ 64 - 1) f0 f1 f2 a b h
 
 -- a file that isn't read after others
-unread : (most : ℕ) (file : List ℕ) (told : Told) (f0 f1 f2 : ℕ) (e : Ending) → f0 ≤ f1 → f1 ≤ f2 → IsUnread most file told f1 f2 e → IsUnread most file told f0 f2 e
+pub unread : (most : ℕ) (file : List ℕ) (told : Told) (f0 f1 f2 : ℕ) (e : Ending) → f0 ≤ f1 → f1 ≤ f2 → IsUnread most file told f1 f2 e → IsUnread most file told f0 f2 e
 unread most file told f0 f1 f2 (FileFailed word) a b h = (h.0, rises f0 f1 f2 a b h.1)
 unread most file told f0 f1 f2 (NoSuchFile word) a b h = h
 unread most file told f0 f1 f2 (TooLarge word) a b h = h
@@ -41,6 +41,8 @@ unread most file told f0 f1 f2 (NoRole role) a b h = h
 unread most file told f0 f1 f2 (WrongLine line wrong) a b h = h
 unread most file told f0 f1 f2 (KeysRefused fault) a b h = h
 unread most file told f0 f1 f2 (ScriptRefused fault) a b h = h
+unread most file told f0 f1 f2 (ClaimsRefused fault) a b h = h
+unread most file told f0 f1 f2 ClaimFails a b h = h
 unread most file told f0 f1 f2 (ProgramRefused number cause) a b h = h
 unread most file told f0 f1 f2 NoLedger a b h = h
 unread most file told f0 f1 f2 (BadSlot slot) a b h = h

@@ -19,7 +19,7 @@ use Rattle.sg_protocol.specs.Keyring.{Program}
 use Rattle.sg_protocol.specs.Texts.{real}
 use Rattle.sg_program.specs.Compiled.{IsWhole}
 use Rattle.sg_top.specs.Ending.{Ending, Written, NoGraph, GraphRefused, ClaimsRefused, ClaimFails, WriteFailed, NoMemory}
-use Rattle.sg_top.specs.Ends.{Told, Output, Writes, IsFirstRefused}
+use Rattle.sg_top.specs.Ends.{Told, Output, Writes, IsFirstRefused, IsUnread}
 use Rattle.sg_top.specs.Setup.{Holds, EndsAt}
 
 -- a file of claims has at most 1 MiB
@@ -81,14 +81,18 @@ abbrev pub Decides : Graph → List ℕ → (old new : Output) → Ending → Ty
 Decides g bytes old new NoMemory = new.bytes ≡ old.bytes
 Decides g bytes old new ending = (text : List ℕ) × (all : Bool) × IsDecision g bytes text all × WritesAnswers old new text all ending
 
--- what is done with the claims of an accepted graph: they are refused, and nothing is written, or they are decided
+-- what is done with the claims of an accepted graph in these bytes: they are refused, and nothing is written, or they are decided
+abbrev pub OnClaimsIn : Graph → List ℕ → (old new : Output) → Ending → Type 0
+OnClaimsIn g bytes old new ending = ((new.bytes ≡ old.bytes) × RefusesClaims g bytes ending) ⊎ Decides g bytes old new ending
+
+-- the same of a file, which is not read, and nothing is written, or holds such bytes
 abbrev pub OnClaims : Graph → (claims : List ℕ) → Told → (faults faults' : ℕ) → (old new : Output) → Ending → Type 0
 OnClaims g claims told faults faults' old new ending =
-    ((new.bytes ≡ old.bytes) × EndsAt told faults faults' most_claims_file claims (RefusesClaims g) ending)
-    ⊎ Holds told most_claims_file claims (λ bytes. Decides g bytes old new ending)
+    ((new.bytes ≡ old.bytes) × IsUnread most_claims_file claims told faults faults' ending)
+    ⊎ Holds told most_claims_file claims (λ bytes. OnClaimsIn g bytes old new ending)
 
 -- the claims of a file are decided on the graph of another so: the graph is read and checked first, and where it is refused nothing is written
 abbrev pub DecidesClaims : (graph claims : List ℕ) → Told → (faults faults' : ℕ) → (old new : Output) → Ending → Type 0
 DecidesClaims graph claims told faults faults' old new ending =
     ((new.bytes ≡ old.bytes) × EndsAt told faults faults' most_graph_file graph RefusesGraph ending)
-    ⊎ Holds told most_graph_file graph (λ bytes. (g : Graph) × IsAcceptedText bytes g × OnClaims g claims told faults faults' old new ending)
+    ⊎ ((g : Graph) × Holds told most_graph_file graph (λ bytes. IsAcceptedText bytes g) × OnClaims g claims told faults faults' old new ending)

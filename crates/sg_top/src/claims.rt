@@ -1,10 +1,11 @@
 //! The command `claims`: reads a graph, checks it, reads claims of it, and says of each whether it holds.
-ghost use Rattle.std.specs.Prelude.{◌≡◌, ◌++◌, IfErr, IfOk, OnOk, take};
-ghost use Rattle.sg_claims.specs.Answers.{IsAnswer};
+ghost use Rattle.std.specs.Prelude.{◌≡◌, ◌≤◌, ◌++◌, IfErr, IfOk, OnOk};
 ghost use Rattle.sg_claims_text.specs.Grammar.{SpellsClaims};
-ghost use Rattle.sg_protocol.specs.Graph.{shape};
-ghost use Rattle.sg_top.specs.Claimed.{AreAnswered, Decides, DecidesClaims, IsAcceptedText, OnClaims, RefusesGraph, answer_line, does_hold};
+ghost use Rattle.sg_model.specs.Limits.{most_graph_file};
+ghost use Rattle.sg_parse.specs.Grammar.{SpellsGraph};
+ghost use Rattle.sg_top.specs.Claimed.{AreAnswered, Decides, DecidesClaims, IsAcceptedText, OnClaims, OnClaimsIn, RefusesGraph, answer_line, does_hold};
 ghost use Rattle.sg_top.specs.Model.{ending_held};
+ghost use Rattle.sg_top.specs.Setup.{EndsAt, Holds};
 
 use crate::ending::Ending;
 use crate::file::read_file;
@@ -33,14 +34,25 @@ pub fn claims<'w, F: Files, O: Sink>(
     ensures { DecidesClaims graph.now claims.now (F.held files.old) (F.faults files.old) (F.faults files.new)
         (record { bytes = O.written out.old; faults = O.faults out.old }) (record { bytes = O.written out.new; faults = O.faults out.new }) (ending_held result) }
 {
-    let bytes = match read_file(alloc, graph, files, MOST_GRAPH_BYTES) {
-        Ok(bytes) => bytes,
-        Err(ending) => return ending,
-    };
-    match accepted(alloc, bytes.as_slice()) {
+    match accepted_graph(alloc, graph, files) {
         Ok(graph) => on_claims(alloc, &graph, claims, files, out),
         Err(ending) => ending,
     }
+}
+
+// The graph of a file, which is accepted for each of its roles, or how the program ends without one.
+fn accepted_graph<'w, F: Files>(
+    alloc: Global,
+    file: &'w str,
+    files: &mut F,
+) -> Result<Graph, Ending<'w>>
+    ensures holds { IfOk result (λ g. Holds (F.held files.old) most_graph_file file.now (λ bytes. IsAcceptedText bytes g)) }
+    ensures ends { IfErr result (λ ending. EndsAt (F.held files.old) (F.faults files.old) (F.faults files.new) most_graph_file file.now RefusesGraph (ending_held ending)) }
+    ensures kept { F.held files.new ≡ F.held files.old }
+    ensures falls { F.faults files.old ≤ F.faults files.new }
+{
+    let bytes = read_file(alloc, file, files, MOST_GRAPH_BYTES)?;
+    accepted(alloc, bytes.as_slice())
 }
 
 // The graph that the bytes spell, which is accepted for each of its roles, or how the program ends without one.
@@ -75,15 +87,22 @@ fn on_claims<'w, F: Files, O: Sink>(
     files: &mut F,
     out: &mut O,
 ) -> Ending<'w>
-    ensures { OnClaims graph.now file.now (F.held files.old) (F.faults files.old) (F.faults files.new)
+    ensures on { OnClaims graph.now file.now (F.held files.old) (F.faults files.old) (F.faults files.new)
         (record { bytes = O.written out.old; faults = O.faults out.old }) (record { bytes = O.written out.new; faults = O.faults out.new }) (ending_held result) }
+    ensures falls { F.faults files.old ≤ F.faults files.new }
 {
-    let bytes = match read_file(alloc, file, files, MOST_BYTES) {
-        Ok(bytes) => bytes,
-        Err(ending) => return ending,
-    };
-    match parse_claims(alloc, graph, bytes.as_slice()) {
-        Ok(claims) => say_answers(alloc, bytes.as_slice(), graph, claims.as_slice(), out),
+    match read_file(alloc, file, files, MOST_BYTES) {
+        Ok(bytes) => decide_bytes(alloc, graph, bytes.as_slice(), out),
+        Err(ending) => ending,
+    }
+}
+
+// Decides the claims of an accepted graph that the bytes spell, or says why there are none.
+fn decide_bytes<O: Sink>(alloc: Global, graph: &Graph, bytes: &[u8], out: &mut O) -> Ending<'static>
+    ensures { OnClaimsIn graph.now bytes.now (record { bytes = O.written out.old; faults = O.faults out.old }) (record { bytes = O.written out.new; faults = O.faults out.new }) (ending_held result) }
+{
+    match parse_claims(alloc, graph, bytes) {
+        Ok(claims) => say_answers(alloc, bytes, graph, claims.as_slice(), out),
         Err(ClaimsFault::Text(ParseFault::OutOfMemory)) => Ending::NoMemory,
         Err(fault) => Ending::ClaimsRefused { fault },
     }
@@ -124,7 +143,7 @@ fn answers_text(
     for claim in claims {
         let answer = decide(alloc, graph, &claim.claim)?;
         put_answer(&mut text, graph, claim, &answer)?;
-        all_hold = all_hold && matches!(answer, Answer::Holds);
+        all_hold &= does_hold(&answer);
     }
     Ok((text.done(), all_hold))
 }
@@ -148,4 +167,10 @@ fn put_answer(
             out.u8(b'\n')
         }
     }
+}
+
+fn does_hold(answer: &Answer) -> bool
+    ensures { result ≡ does_hold answer.now }
+{
+    matches!(answer, Answer::Holds)
 }
