@@ -4,8 +4,9 @@ use Rattle.sg_base.specs.Memory.{FaultPlan, SinkHeld}
 use Rattle.sg_base.specs.declared.address.Addr.{Addr}
 use Rattle.sg_stream.specs.Traffic.{Writer, Traffic}
 
--- the traffic, for how many more connections there is room, and which calls fail
+-- the address at which they wait, the traffic, for how many more connections there is room, and which calls fail
 pub record ConnsHeld : Type 0 where
+  pub bound : Option Addr
   pub traffic : Traffic
   pub room : ℕ
   pub plan : FaultPlan

@@ -1,5 +1,5 @@
 //! A link over connections.
-ghost use Rattle.std.specs.Prelude.{◌≡◌, ◌≢◌, ◌⊎◌, ◌≤◌, [], ◌∷◌, List, replicate, IfOk, IfErr, IfSome, IfNone, OnErr, OnOk, Err, ℕ};
+ghost use Rattle.std.specs.Prelude.{◌≡◌, ◌≢◌, ◌⊎◌, ◌≤◌, [], ◌∷◌, List, replicate, IfOk, IfErr, IfSome, IfNone, OnErr, OnOk, Err, Some, ℕ};
 ghost use Rattle.sg_stream.specs.Arrivals.{arrivals};
 ghost use Rattle.sg_base.specs.Memory.{one_more};
 ghost use Rattle.sg_base.specs.Outside.{HasRisen, Appends, TakesFirst};
@@ -78,6 +78,8 @@ impl<C: Conns> Link for StreamLink<C> {
 
     ghost faults = { λ l. C.faults l.conns + l.faults };
 
+    ghost bound = { λ l. C.bound l.conns };
+
     ghost deliveries = { λ l. to_come l.unread (C.held l.conns) };
 
     ghost sent = { λ l. sent_of (C.held l.conns) };
@@ -85,6 +87,8 @@ impl<C: Conns> Link for StreamLink<C> {
     fn open(&mut self, at: Addr) -> Result<(), Failed>
         ensures never_falls { C.faults self.old.conns ≤ C.faults self.new.conns }
         ensures failed { OnErr result (HasRisen (C.faults self.old.conns) (C.faults self.new.conns)) }
+        ensures waits { OnOk result (C.bound self.new.conns ≡ Some at) }
+        ensures kept_bound { OnErr result (C.bound self.new.conns ≡ C.bound self.old.conns) }
         ensures held { C.held self.new.conns ≡ C.held self.old.conns }
         ensures kept { self.new.unread ≡ self.old.unread }
         ensures own { self.new.faults ≡ self.old.faults }
@@ -96,6 +100,7 @@ impl<C: Conns> Link for StreamLink<C> {
     /// fails where the connections fail, and where 1,000,000 pieces were taken and no message became whole.
     fn recv(&mut self, alloc: Global) -> Result<Option<Vec<u8>>, LinkFault>
         ensures never_falls { C.faults self.old.conns ≤ C.faults self.new.conns }
+        ensures kept_bound { C.bound self.new.conns ≡ C.bound self.old.conns }
         ensures own { (self.new.faults ≡ self.old.faults) ⊎ ((result ≡ Err LinkFault.Failed) × (self.new.faults ≡ one_more self.old.faults) × TakenOff 1000000 (C.held self.old.conns) (C.held self.new.conns) × IsIdle self.new.unread) }
         ensures failed { result ≡ Err LinkFault.Failed → HasRisen (C.faults self.old.conns) (C.faults self.new.conns) ⊎ ((self.new.faults ≡ one_more self.old.faults) × TakenOff 1000000 (C.held self.old.conns) (C.held self.new.conns) × IsIdle self.new.unread) }
         ensures frame { IfOk result (λ found. IfSome found (λ f. IsFrame f.items)) }
@@ -124,6 +129,7 @@ impl<C: Conns> Link for StreamLink<C> {
     fn send(&mut self, to: Addr, frame: Sealed) -> Result<(), (Sealed, Failed)>
         ensures never_falls { C.faults self.old.conns ≤ C.faults self.new.conns }
         ensures failed { OnErr result (HasRisen (C.faults self.old.conns) (C.faults self.new.conns)) }
+        ensures kept_bound { C.bound self.new.conns ≡ C.bound self.old.conns }
         ensures wrote { OnOk result (WroteTold to (message frame.1) (C.held self.old.conns) (C.held self.new.conns)) }
         ensures front { OnErr result (WroteFront to (message frame.1) (C.held self.old.conns) (C.held self.new.conns)) }
         ensures posted { OnOk result (Appends (sent_of (C.held self.old.conns)) (sent_of (C.held self.new.conns)) ((to, frame.1) ∷ [])) }
@@ -150,6 +156,7 @@ fn next_frame<C: Conns>(
     incoming: &mut Incoming,
 ) -> Result<Option<Vec<u8>>, NoFrame>
     ensures never_falls { C.faults conns.old ≤ C.faults conns.new }
+    ensures kept_bound { C.bound conns.new ≡ C.bound conns.old }
     ensures failed { result ≡ Err NoFrame.Failed → HasRisen (C.faults conns.old) (C.faults conns.new) }
     ensures too_many { result ≡ Err NoFrame.TooManyPieces → TakenOff 1000000 (C.held conns.old) (C.held conns.new) × IsIdle incoming.new }
     ensures frame { IfOk result (λ found. IfSome found (λ f. IsFrame f.items)) }
@@ -185,6 +192,7 @@ fn whole_frame<C: Conns>(
     incoming: &mut Incoming,
 ) -> Result<Option<Vec<u8>>, OutOfMemory>
     ensures never_falls { C.faults conns.old ≤ C.faults conns.new }
+    ensures kept_bound { C.bound conns.new ≡ C.bound conns.old }
     ensures frame { IfOk result (λ found. IfSome found (λ f. IsFrame f.items)) }
     ensures first { IfOk result (λ found. IfSome found (λ f. TakesFirst (to_come incoming.old (C.held conns.old)) (to_come incoming.new (C.held conns.new)) f.items)) }
     ensures idle { IfOk result (λ found. IfNone found (IsIdle incoming.new)) }
@@ -213,6 +221,7 @@ fn take_piece<C: Conns>(
 ) -> Result<Option<Option<Vec<u8>>>, LinkFault>
     requires { IsIdle incoming.old }
     ensures never_falls { C.faults conns.old ≤ C.faults conns.new }
+    ensures kept_bound { C.bound conns.new ≡ C.bound conns.old }
     ensures failed { result ≡ Err LinkFault.Failed → HasRisen (C.faults conns.old) (C.faults conns.new) }
     ensures frame { IfOk result (λ taken. IfSome taken (λ found. IfSome found (λ f. IsFrame f.items))) }
     ensures first { IfOk result (λ taken. IfSome taken (λ found. IfSome found (λ f. TakesFirst (to_come incoming.old (C.held conns.old)) (to_come incoming.new (C.held conns.new)) f.items))) }

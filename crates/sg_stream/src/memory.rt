@@ -1,5 +1,5 @@
 //! Connections in memory.
-ghost use Rattle.std.specs.Prelude.{◌≡◌, ◌↔◌, ◌<◌, ◌≤◌, ◌==◌, ◌||◌, ◌-◌, ◌++◌, [], ◌∷◌, ℕ, List, false, nat_lt, not, drop, length, slice_index_or, vec_capacity, map, reverse, IfOk, IfErr, IfSome, IfNone, IsErr, IsTrue, OnOk, OnErr};
+ghost use Rattle.std.specs.Prelude.{◌≡◌, ◌↔◌, ◌<◌, ◌≤◌, ◌==◌, ◌||◌, ◌-◌, ◌++◌, [], ◌∷◌, ℕ, List, None, Some, false, nat_lt, not, drop, length, slice_index_or, vec_capacity, map, reverse, IfOk, IfErr, IfSome, IfNone, IsErr, IsTrue, OnOk, OnErr};
 ghost use Rattle.std.specs.List.{list_any, remove};
 ghost use Rattle.sg_base.specs.Memory.{new_plan, fails_next, counted, failed};
 ghost use Rattle.sg_stream.specs.Traffic.{without, after_take, after_connect, after_close};
@@ -19,6 +19,7 @@ const WRITER: u8 = 255;
 /// a given list fail.
 #[derive(Debug, Drop)]
 pub struct MemConns {
+    bound: Option<Addr>,
     coming: VecDeque<(u8, Seq<u8>)>,
     writer: Option<(Addr, MemSink)>,
     spare: Vec<MemSink>,
@@ -34,6 +35,7 @@ impl Model for MemConns {
     ghost Value = { ConnsHeld };
 
     ghost view = { λ c. record {
+      bound = c.bound;
       traffic = record { coming = c.coming.items; given = all_given c.writer c.closed.items; open_ones = number_of c.writer };
       room = length c.spare.items;
       plan = c.plan;
@@ -55,6 +57,7 @@ impl MemConns {
     ) -> Result<MemConns, OutOfMemory>
         requires { list_any (λ p. p.0 == 255) pieces.items ≡ false }
         ensures { IfOk result (λ c. c ≡ record {
+          bound = None;
           traffic = record { coming = pieces.items; given = []; open_ones = [] };
           room = connections;
           plan = new_plan fails.items;
@@ -65,6 +68,7 @@ impl MemConns {
             spare.push(MemSink::new(alloc, room, Vec::new(alloc))?)?;
         }
         Ok(MemConns {
+            bound: None,
             coming: VecDeque::from(pieces),
             writer: None,
             spare,
@@ -86,16 +90,19 @@ impl Conns for MemConns {
 
     ghost faults = { λ c. c.plan.faults };
 
+    ghost bound = { λ c. c.bound };
+
     ghost held = { λ c. Some c.traffic };
 
     /// It fails at the calls that are to fail.
     fn open(&mut self, at: Addr) -> Result<(), Failed>
         ensures cause { IsErr result ↔ IsTrue (fails_next self.old.plan) }
-        ensures ok { OnOk result (self.new ≡ record self.old { plan = counted self.old.plan }) }
+        ensures ok { OnOk result (self.new ≡ record self.old { bound = Some at; plan = counted self.old.plan }) }
         ensures err { OnErr result (self.new ≡ record self.old { plan = failed self.old.plan }) }
     {
-        let _ = at;
-        self.plan.call(true)
+        self.plan.call(true)?;
+        self.bound = Some(at);
+        Ok(())
     }
 
     /// It fails at the calls that are to fail, and takes no memory.
@@ -134,7 +141,7 @@ impl Conns for MemConns {
         ensures cause { IsErr result ↔ IsTrue (fails_next self.old.plan || nat_lt 0 (length self.old.traffic.open_ones) || not (nat_lt 0 self.old.room)) }
         ensures number { IfOk result (λ conn. conn ≡ 255) }
         ensures apart { OnOk result ((self.old.traffic.open_ones ≡ []) × (list_any (λ p. p.0 == 255) self.old.traffic.coming ≡ false)) }
-        ensures ok { OnOk result (self.new ≡ record { traffic = after_connect 255 to self.old.traffic; room = self.old.room - 1; plan = counted self.old.plan }) }
+        ensures ok { OnOk result (self.new ≡ record self.old { traffic = after_connect 255 to self.old.traffic; room = self.old.room - 1; plan = counted self.old.plan }) }
         ensures err { OnErr result (self.new ≡ record self.old { plan = failed self.old.plan }) }
     {
         if self.writer.is_some() || self.spare.is_empty() {

@@ -14,6 +14,7 @@ pub(crate) fn post<C: Conns>(conns: &mut C, to: Addr, frame: &[u8]) -> Result<()
     requires { IsFrame frame.now }
     ensures never_falls { C.faults conns.old ≤ C.faults conns.new }
     ensures failed { OnErr result (HasRisen (C.faults conns.old) (C.faults conns.new)) }
+    ensures kept_bound { C.bound conns.new ≡ C.bound conns.old }
     ensures kept { (u : Unread) → to_come u (C.held conns.new) ≡ to_come u (C.held conns.old) }
     ensures wrote { OnOk result (WroteTold to (message frame.now) (C.held conns.old) (C.held conns.new)) }
     ensures front { OnErr result (WroteFront to (message frame.now) (C.held conns.old) (C.held conns.new)) }
@@ -31,6 +32,7 @@ fn give_message<C: Conns>(conns: &mut C, conn: u8, frame: &[u8]) -> Result<(), F
     requires { IsFrame frame.now }
     ensures never_falls { C.faults conns.old ≤ C.faults conns.new }
     ensures failed { OnErr result (HasRisen (C.faults conns.old) (C.faults conns.new)) }
+    ensures kept_bound { C.bound conns.new ≡ C.bound conns.old }
     ensures whole { OnOk result (C.held conns.new ≡ option_map (after_give conn (message frame.now)) (C.held conns.old)) }
     ensures front { OnErr result (GivenFront conn (message frame.now) (C.held conns.old) (C.held conns.new)) }
 {
@@ -45,6 +47,7 @@ fn give_message<C: Conns>(conns: &mut C, conn: u8, frame: &[u8]) -> Result<(), F
 fn give_all<C: Conns>(conns: &mut C, conn: u8, bytes: &[u8]) -> Result<(), Failed>
     ensures never_falls { C.faults conns.old ≤ C.faults conns.new }
     ensures failed { OnErr result (HasRisen (C.faults conns.old) (C.faults conns.new)) }
+    ensures kept_bound { C.bound conns.new ≡ C.bound conns.old }
     ensures whole { OnOk result (C.held conns.new ≡ option_map (after_give conn bytes.now) (C.held conns.old)) }
     ensures front { OnErr result (GivenFront conn bytes.now (C.held conns.old) (C.held conns.new)) }
 {

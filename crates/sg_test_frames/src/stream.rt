@@ -220,17 +220,21 @@ fn each_frame_goes_out_over_a_connection_of_its_own(rt: HostRuntime) -> Result<(
 
 // Connections that end without end.
 #[derive(Drop)]
-struct Endless;
+struct Endless {
+    bound: Option<Addr>,
+}
 
 impl Conns for Endless {
     ghost use Rattle.std.specs.Prelude.{None};
 
     ghost faults = { λ _. 0 };
 
+    ghost bound = { λ c. c.bound };
+
     ghost held = { λ _. None };
 
     fn open(&mut self, at: Addr) -> Result<(), Failed> {
-        let _ = at;
+        self.bound = Some(at);
         Ok(())
     }
 
@@ -256,7 +260,7 @@ impl Conns for Endless {
 #[test]
 fn a_million_pieces_without_a_message_are_a_fault(rt: HostRuntime) -> Result<(), OutOfMemory> {
     let alloc = rt.alloc();
-    let mut link = link_over(alloc, Endless)?;
+    let mut link = link_over(alloc, Endless { bound: None })?;
     assert!(rt; matches!(link.recv(alloc), Err(LinkFault::Failed)));
     Ok(())
 }

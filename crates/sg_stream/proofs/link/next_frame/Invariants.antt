@@ -7,6 +7,7 @@ abbrev pub invariant-loop : goal.invariant-loop
 invariant-loop g l = record {
   idle : IsIdle l.incoming;
   never_falls : g.C.Conns.faults l.fn.conns ≤ g.C.Conns.faults l.conns;
+  bound : g.C.Conns.bound l.conns ≡ g.C.Conns.bound l.fn.conns;
   same : to_come l.incoming (g.C.Conns.held l.conns) ≡ to_come l.fn.incoming (g.C.Conns.held l.fn.conns);
   sent : sent_of (g.C.Conns.held l.conns) ≡ sent_of (g.C.Conns.held l.fn.conns);
   pieces : TakenOff l.counter (g.C.Conns.held l.fn.conns) (g.C.Conns.held l.conns);

@@ -1,4 +1,4 @@
-use Rattle.std.proofs.Common.{◌-◌, sym, ap, ◌∙◌, arith}
+use Rattle.std.proofs.Common.{◌-◌, refl, sym, ap, ◌∙◌, arith}
 use Rattle.std.specs.Option.{option_map}
 use Rattle.std.proofs.lemmas.List.{length-drop, length-take}
 use Rattle.sg_stream.specs.Traffic.{after_give}
@@ -8,6 +8,7 @@ use Rattle.sg_stream.proofs.sending.give_all.Goals as goal
 pub loop-at-init : goal.loop-at-init
 loop-at-init g c = record {
   within = omega arith;
+  bound = refl;
   never_falls = omega arith;
   front = sym (traffic-none c.args.conn (g.C.Conns.held c.args.conns.now));
 }
@@ -15,6 +16,7 @@ loop-at-init g c = record {
 pub loop-at-preserved : goal.loop-at-preserved
 loop-at-preserved g c = record {
   within = let fits = simp (length-take, length-drop) at c.in_ok-at.ensures.fits in omega arith;
+  bound = c.in_ok-at.ensures.kept_bound ∙ c.loop-at.invariant.bound;
   never_falls = omega (arith, c.in_ok-at.ensures.never_falls, c.loop-at.invariant.never_falls);
   front =
       c.in_ok-at.ensures.given

@@ -10,6 +10,7 @@ returns-in-Some c =
     let none = without-none 255 c.self.inside.coming.items c.self.invariant.0 in
     let open_one : c.self.inside.writer ≡ Some c.in-Some.writer = sym c.take.ensures.value ∙ c.in-Some.is in
     rw (← c.self.view_is, c.take.ensures.after, c.put_last.ensures.items, c.if-conn-ne-WRITER.false, open_one, none) (λ i. record {
+      bound = c.self.inside.bound;
       traffic = record { coming = c.self.inside.coming.items; given = latest c.self.inside.closed.items c.in-Some.writer i; open_ones = [] };
       room = length c.self.inside.spare.items;
       plan = c.self.inside.plan;
