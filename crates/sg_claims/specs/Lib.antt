@@ -1,4 +1,7 @@
 pub mod Labels
 pub mod Kind
-pub mod Model
 pub mod Invariant
+pub mod Breaks
+pub mod Answers
+pub mod Place
+pub mod Search

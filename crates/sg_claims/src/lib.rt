@@ -4,7 +4,10 @@
 #![tactic(auto)]
 
 mod claim;
+mod decision;
 mod label_set;
+mod search;
 
 pub use claim::{Claim, ClaimKind, NamedClaim};
+pub use decision::{Answer, decide};
 pub use label_set::LabelSet;
