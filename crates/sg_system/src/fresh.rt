@@ -36,6 +36,17 @@ impl Fresh for OsFresh {
 #[cfg(test)]
 mod tests {
     use super::*;
+    use sg_base::OutOfMemory;
+    use std::alloc::Global;
+
+    // The next 64 words of a generator.
+    fn drawn(alloc: Global, fresh: &mut OsFresh) -> Result<Vec<[u8; 16]>, OutOfMemory> {
+        let mut words = Vec::new(alloc);
+        for _ in 0..64u8 {
+            words.push(fresh.next())?;
+        }
+        Ok(words)
+    }
 
     // The bits that are 1 in one of the words, and those that are 0 in one.
     fn bits(words: &[[u8; 16]]) -> (u128, u128) {
@@ -49,27 +60,32 @@ mod tests {
         (ones, zeros)
     }
 
-    #[test]
-    fn words_differ_and_each_bit_comes_both_ways(rt: HostRuntime) {
-        let mut words = [[0u8; 16]; 128];
-        let Some(mut first) = OsFresh::seeded(&rt) else {
-            assert!(rt; false);
-            return;
-        };
-        let Some(mut second) = OsFresh::seeded(&rt) else {
-            assert!(rt; false);
-            return;
-        };
-        for i in 0..64usize {
-            words[i] = first.next();
-            words[i + 64] = second.next();
-        }
-        for i in 0..128usize {
-            for j in 0..i {
-                assert!(rt; words[i] != words[j]);
+    // How many of the words are this one.
+    fn count(words: &[[u8; 16]], wanted: &[u8; 16]) -> u32 {
+        let mut found = 0u32;
+        for word in words {
+            if word == wanted {
+                found = found.saturating_add(1);
             }
         }
-        assert!(rt; bits(&words[..64]) == (u128::MAX, u128::MAX));
-        assert!(rt; bits(&words[64..]) == (u128::MAX, u128::MAX));
+        found
+    }
+
+    #[test]
+    fn words_differ_and_each_bit_comes_both_ways(rt: HostRuntime) -> Result<(), OutOfMemory> {
+        let alloc = rt.alloc();
+        let (Some(mut one), Some(mut other)) = (OsFresh::seeded(&rt), OsFresh::seeded(&rt)) else {
+            assert!(rt; false);
+            return Ok(());
+        };
+        let mut words = drawn(alloc, &mut one)?;
+        let more = drawn(alloc, &mut other)?;
+        assert!(rt; bits(words.as_slice()) == (u128::MAX, u128::MAX));
+        assert!(rt; bits(more.as_slice()) == (u128::MAX, u128::MAX));
+        words.extend_from_slice(more.as_slice())?;
+        for word in words.as_slice() {
+            assert!(rt; count(words.as_slice(), word) == 1);
+        }
+        Ok(())
     }
 }

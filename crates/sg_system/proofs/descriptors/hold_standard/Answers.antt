@@ -1,4 +1,4 @@
-use Rattle.std.proofs.Common.{Some, drop, ◌+◌, ap, ◌∙◌, arith}
+use Rattle.std.proofs.Common.{Some, drop, ap, ◌∙◌, arith}
 use Rattle.std.proofs.lemmas.List.{drop-drop, drop_all}
 use Rattle.sg_system.proofs.descriptors.hold_standard.Goals as goal
 
