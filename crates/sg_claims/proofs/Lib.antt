@@ -5,3 +5,4 @@ pub mod First
 pub mod Rising
 pub mod Searching
 pub mod Labelled
+pub mod Following
