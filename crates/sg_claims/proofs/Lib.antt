@@ -6,3 +6,6 @@ pub mod Rising
 pub mod Searching
 pub mod Labelled
 pub mod Following
+pub mod Dominating
+pub mod Tables
+pub mod Nearest
