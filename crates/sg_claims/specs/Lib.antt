@@ -1,4 +1,8 @@
 pub mod Labels
 pub mod Kind
-pub mod Model
 pub mod Invariant
+pub mod Breaks
+pub mod Answers
+pub mod Place
+pub mod Search
+pub mod Dominators

@@ -1,4 +1,7 @@
 //! Claims and their names.
+ghost use Rattle.std.specs.Prelude.{◌≡◌};
+ghost use Rattle.sg_model.specs.Claims.{right_bit};
+
 use crate::LabelSet;
 use sg_base::Name;
 use std::marker::Model;
@@ -10,6 +13,20 @@ pub enum ClaimKind {
     Needs,
     /// Wherever a label of `later` stands, none of `earlier` stands before it.
     Bars,
+}
+
+impl ClaimKind {
+    ghost use Rattle.sg_claims.specs.Kind.{kind_of};
+
+    // The bit before a label of `later` with which the claim holds.
+    pub(crate) fn right_bit(self) -> bool
+        ensures { result ≡ right_bit (kind_of self) }
+    {
+        match self {
+            ClaimKind::Needs => true,
+            ClaimKind::Bars => false,
+        }
+    }
 }
 
 /// A claim on the walks of a graph from its start. Only what stands before a label since the last label of `since` counts, and that

@@ -20,12 +20,11 @@ impl Model for LabelSet {
 
     ghost Value = { List ℕ };
 
-    ghost use Rattle.sg_claims.specs.Model.{labels_of};
     ghost use Rattle.sg_claims.specs.Invariant.{HoldsLabels};
 
-    ghost view = { labels_of };
+    ghost view = { λ s. s.labels.items };
 
-    ghost invariant = { HoldsLabels };
+    ghost invariant = { λ s. HoldsLabels s.labels.items s.table };
 }
 
 impl LabelSet {
@@ -43,8 +42,8 @@ impl LabelSet {
     pub fn has(&self, label: Label) -> bool
         ensures { result ≡ is_in label self.now }
     {
-        let table = &self.table;
-        (label.0 as usize) < table.len() && table[label.0 as usize]
+        let place = label.0 as usize;
+        place < 512 && self.table[place]
     }
 
     /// Adds a label that isn't there, at the end. If memory runs out, the labels are as before.

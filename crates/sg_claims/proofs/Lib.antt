@@ -1,0 +1,11 @@
+pub mod Cases
+pub mod Order
+pub mod Walked
+pub mod First
+pub mod Rising
+pub mod Searching
+pub mod Labelled
+pub mod Following
+pub mod Dominating
+pub mod Tables
+pub mod Nearest
