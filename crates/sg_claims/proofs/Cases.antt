@@ -1,5 +1,6 @@
 -- Two cases of numbers, and a bit and its opposite.
 use Rattle.std.proofs.Common.{◌≡◌, ℕ, ◌<◌, ◌≤◌, nat_lt, Bool, true, false, not, ◌⊎◌, refl, inl, inr, arith}
+use Rattle.std.specs.Bool.{beq}
 use Rattle.std.proofs.lemmas.Bool.Decides.{nat_tests}
 use Rattle.std.proofs.lemmas.Bool.{cases_Bool}
 
@@ -18,3 +19,10 @@ other_bit true true d = absurd (d refl)
 other_bit true false d = refl
 other_bit false true d = refl
 other_bit false false d = absurd (d refl)
+
+-- a bit that a test tells from another one is its opposite
+pub told_apart : (a b : Bool) → beq a b ≡ false → a ≡ not b
+told_apart true true h = absurd (cc)
+told_apart true false h = refl
+told_apart false true h = refl
+told_apart false false h = absurd (cc)

@@ -5,3 +5,7 @@ pub mod First
 pub mod Rising
 pub mod Searching
 pub mod Labelled
+pub mod Following
+pub mod Dominating
+pub mod Tables
+pub mod Nearest

@@ -65,6 +65,8 @@ search_begins g c first node bit = record {
   begun = omega arith;
   start = (node, bit);
   table = λ n b h. (let e = at_start n b h in (0, omega arith, node ∙ e.0, bit ∙ e.1));
+  noted = λ i l. (let zero' : i ≡ 0 = omega arith in subst (λ j. get_or (set (replicate 512 false) 0 true) (place_of (entry_at (first ∷ []) j).node (entry_at (first ∷ []) j).bit) false ≡ true) (sym zero')
+      (ap (λ n. get_or (set (replicate 512 false) 0 true) (place_of n first.bit) false) node ∙ ap (λ b. get_or (set (replicate 512 false) 0 true) (place_of 0 b) false) bit ∙ get_or-set_same (replicate 512 false) 0 true false room));
   led = λ i p l. absurd (omega arith);
   rises = λ i j p b l. absurd (omega arith);
   behind = λ i p l. absurd (omega arith);
@@ -91,6 +93,7 @@ search_with g c at left left' entries seen x h back = record {
   begun = x.begun;
   start = x.start;
   table = x.table;
+  noted = x.noted;
   led = x.led;
   rises = x.rises;
   behind = λ i p l. elim (x.behind i p l) [ inl y ↦ inl y | inr q ↦ inr (q.0, λ e k. q.1 e (back e k)) ];
@@ -109,6 +112,7 @@ goes_on g c at entries seen x sound = record {
   begun = x.begun;
   start = x.start;
   table = x.table;
+  noted = x.noted;
   led = x.led;
   rises = x.rises;
   behind = λ i p l. inl (elim (x.behind i p l) [ inl y ↦ omega arith | inr q ↦ (let e = q.0 in omega arith) ]);
@@ -225,6 +229,13 @@ module _ (g : Shape) (c : Claim) (at : ℕ) (left left' : ℕ → Type 0) (entri
           (length entries, omega (arith, size_more), ap (λ (y : Entry). y.node) one ∙ e.0, ap (λ (y : Entry). y.bit) one ∙ e.1))
       | inr other ↦ (let t = x.table n bit (sym (get_or-set_other seen (place_of new.node new.bit) (place_of n bit) true false other) ∙ h) in let one = still t.0 t.1 in
           (t.0, (let w = t.1 in omega (arith, size_more)), ap (λ (y : Entry). y.node) one ∙ t.2, ap (λ (y : Entry). y.bit) one ∙ t.3))
+    ];
+    noted = λ i l. elim (old_or_new i l) [
+      | inl y ↦ subst (λ (z : Entry). get_or (set seen (place_of new.node new.bit) true) (place_of z.node z.bit) false ≡ true) (sym (still i y)) (elim (same_or_not (place_of (entry_at entries i).node (entry_at entries i).bit) (place_of new.node new.bit)) [
+        | inl same ↦ ap (λ k. get_or (set seen (place_of new.node new.bit) true) k false) same ∙ get_or-set_same seen (place_of new.node new.bit) true false room
+        | inr other ↦ get_or-set_other seen (place_of new.node new.bit) (place_of (entry_at entries i).node (entry_at entries i).bit) true false other ∙ x.noted i y
+      ])
+      | inr same ↦ subst (λ (z : Entry). get_or (set seen (place_of new.node new.bit) true) (place_of z.node z.bit) false ≡ true) (sym (newest i same)) (get_or-set_same seen (place_of new.node new.bit) true false room)
     ];
     led = λ i p l. elim (old_or_new i l) [ inl y ↦ led_still i p y | inr same ↦ led_new i same ];
     rises = λ i j p b l. elim (old_or_new j l) [

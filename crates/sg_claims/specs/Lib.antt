@@ -5,3 +5,4 @@ pub mod Breaks
 pub mod Answers
 pub mod Place
 pub mod Search
+pub mod Dominators

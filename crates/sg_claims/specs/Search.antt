@@ -54,6 +54,7 @@ pub record IsSearch (g : Shape) (c : Claim) (at : ℕ) (left : ℕ → Type 0) (
   pub begun : 0 < length entries
   pub start : ((entry_at entries 0).node ≡ 0) × ((entry_at entries 0).bit ≡ false)
   pub table : (n : ℕ) (bit : Bool) → get_or seen (place_of n bit) false ≡ true → (i : ℕ) × (i < length entries) × ((entry_at entries i).node ≡ n) × ((entry_at entries i).bit ≡ bit)
+  pub noted : (i : ℕ) → i < length entries → get_or seen (place_of (entry_at entries i).node (entry_at entries i).bit) false ≡ true
   pub led : (i : ℕ) → 0 < i → i < length entries → IsLed g c entries i
   pub rises : (i j : ℕ) → 0 < i → i < j → j < length entries → ((entry_at entries i).from < (entry_at entries j).from) ⊎ (((entry_at entries i).from ≡ (entry_at entries j).from) × ((entry_at entries i).last < (entry_at entries j).last))
   pub behind : (i : ℕ) → 0 < i → i < length entries → ((entry_at entries i).from < at) ⊎ (((entry_at entries i).from ≡ at) × ((e : ℕ) → left e → (entry_at entries i).last < e))

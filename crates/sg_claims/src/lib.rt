@@ -1,6 +1,13 @@
-//! Claims: what a graph promises of the order of messages on each of its walks.
+//! Claims: what a graph promises of the order of messages, and whether it keeps it.
 //!
-//! A claim says that a label of some needs, or is barred by, a label of others before it, counted since the last label of a third list.
+//! A claim speaks of each walk of the graph from its start. *A needs B since C*: wherever a label of A stands on the walk, a label of B
+//! stands before it, and no label of C between the two. *B bars A until C*: wherever a label of A stands, each label of B that stands
+//! before it is followed, before that of A, by a label of C. What stands at the two places themselves is not between, so a label in both
+//! B and C counts as one of B.
+//!
+//! `decide` goes through the nodes of the graph, each with one bit: whether a label of B stands on the walk since the last one of C. It
+//! comes to each of them once, so it takes time proportional to the edges of the graph, whatever its loops. Where the claim fails it gives
+//! the first of the shortest walks that break it.
 #![tactic(auto)]
 
 mod claim;

@@ -1,10 +1,11 @@
 -- Claims that the text spells are read.
-use Rattle.std.proofs.Common.{◌≡◌, ℕ, zero, suc, ◌≤◌, true, false, ◌⊎◌, List, [], ◌∷◌, ◌++◌, length, codes, bytes_eq, Ok, Err, refl, sym, ap, subst, ◌∙◌, arith, append_assoc, append-nil, flat_map, if◌then◌else◌}
+use Rattle.std.proofs.Common.{◌≡◌, ℕ, zero, suc, ◌≤◌, Bool, true, false, ◌⊎◌, List, [], ◌∷◌, ◌++◌, length, codes, bytes_eq, Result, Ok, Err, refl, sym, ap, subst, ◌∙◌, arith, append_assoc, append-nil, flat_map, if◌then◌else◌}
 use Rattle.std.specs.Prelude.{All}
 use Rattle.std.proofs.lemmas.List.{map-append}
 use Rattle.sg_claims.specs.declared.claim.NamedClaim.{NamedClaim}
 use Rattle.sg_claims_text.specs.Grammar.{AreLabels, IsClaim, claim_names, claim_tokens, most_claims, said, since_tokens, SpellsClaims}
 use Rattle.sg_claims_text.specs.Reading.{in_text, is_label, read, read_bars, read_claim, read_claims, read_name, read_named, read_needs, read_said, read_since, some_labels}
+use Rattle.sg_claims_text.specs.declared.fault.ClaimsFault.{ClaimsFault}
 use Rattle.sg_claims_text.specs.declared.fault.ClaimsFault.TheVariants.{OtherGraph}
 use Rattle.sg_claims_text.proofs.GivesLabels.{gives-labels, gives-since}
 use Rattle.sg_claims_text.proofs.TookClaims.{said_of}
@@ -19,6 +20,7 @@ use Rattle.sg_parse.specs.Reading.{Parsed, Parser, after, give, is_next, name, n
 use Rattle.sg_parse.specs.declared.token.Placed.{Placed}
 use Rattle.sg_parse.specs.declared.token.Token.{Token}
 use Rattle.sg_parse.specs.declared.token.Token.TheVariants.{Word, Colon, Semicolon, End}
+use Rattle.sg_parse.specs.declared.fault.ParseFault.{ParseFault}
 use Rattle.sg_parse.proofs.Gives.{Gives, gives-give, gives-after, gives-first, gives-second, gives-skip, gives-token, gives-word, gives-new, head_is, head-next, name-there, word-is}
 use Rattle.sg_parse.proofs.Middle.{name-middle}
 use Rattle.sg_parse.proofs.Places.{repeat-there, repeat-away}
@@ -43,19 +45,19 @@ module _ (names : List Name) (are : AreNames names) where
   gives-needs : (later earlier since : List ℕ) (us : List Token) → AreLabels names earlier → (since ≡ []) ⊎ AreLabels names since
       → Gives (read_needs names later) (named names earlier ++ since_tokens names (codes "since") since) (Semicolon ∷ us) (record { kind = Needs; later = later; earlier = earlier; since = since })
   gives-needs later earlier since us e s =
-      let end : Claim = record { kind = Needs; later = later; earlier = earlier; since = since } in
-      gives-after (some_labels names) _ (named names earlier) (since_tokens names (codes "since") since) (Semicolon ∷ us) earlier end
-      (gives-labels names are earlier _ e (since-ahead names (codes "since") since us refl))
-      (gives-then (read_since (codes "since") names) (λ since. record { kind = Needs; later = later; earlier = earlier; since = since }) _ (Semicolon ∷ us) since
+      let f : List ℕ → Claim = λ since. record { kind = Needs; later = later; earlier = earlier; since = since } in
+      gives-after (some_labels names) _ (named names earlier) (since_tokens names (codes "since") since) (Semicolon ∷ us) earlier (f since)
+      (gives-labels names are earlier (since_tokens names (codes "since") since ++ Semicolon ∷ us) e (since-ahead names (codes "since") since us refl))
+      (gives-then (read_since (codes "since") names) f (since_tokens names (codes "since") since) (Semicolon ∷ us) since
       (gives-since names are (codes "since") since (Semicolon ∷ us) s refl refl))
 
   gives-bars : (later earlier since : List ℕ) (us : List Token) → AreLabels names later → (since ≡ []) ⊎ AreLabels names since
       → Gives (read_bars names earlier) (named names later ++ since_tokens names (codes "until") since) (Semicolon ∷ us) (record { kind = Bars; later = later; earlier = earlier; since = since })
   gives-bars later earlier since us e s =
-      let end : Claim = record { kind = Bars; later = later; earlier = earlier; since = since } in
-      gives-after (some_labels names) _ (named names later) (since_tokens names (codes "until") since) (Semicolon ∷ us) later end
-      (gives-labels names are later _ e (since-ahead names (codes "until") since us refl))
-      (gives-then (read_since (codes "until") names) (λ since. record { kind = Bars; later = later; earlier = earlier; since = since }) _ (Semicolon ∷ us) since
+      let f : List ℕ → Claim = λ since. record { kind = Bars; later = later; earlier = earlier; since = since } in
+      gives-after (some_labels names) _ (named names later) (since_tokens names (codes "until") since) (Semicolon ∷ us) later (f since)
+      (gives-labels names are later (since_tokens names (codes "until") since ++ Semicolon ∷ us) e (since-ahead names (codes "until") since us refl))
+      (gives-then (read_since (codes "until") names) f (since_tokens names (codes "until") since) (Semicolon ∷ us) since
       (gives-since names are (codes "until") since (Semicolon ∷ us) s refl refl))
 
   -- what a claim says
@@ -64,13 +66,13 @@ module _ (names : List Name) (are : AreNames names) where
   gives-said Needs later earlier since us l e s =
       let end : Claim = record { kind = Needs; later = later; earlier = earlier; since = since } in
       let back : List Token = named names earlier ++ since_tokens names (codes "since") since in
-      gives-after (some_labels names) _ (named names later) (Word (codes "needs") ∷ back) (Semicolon ∷ us) later end (gives-labels names are later _ l refl)
+      gives-after (some_labels names) _ (named names later) (Word (codes "needs") ∷ back) (Semicolon ∷ us) later end (gives-labels names are later (Word (codes "needs") ∷ (back ++ Semicolon ∷ us)) l refl)
       (gives-first (is_word (codes "needs")) _ _ (Word (codes "needs") ∷ back) (Semicolon ∷ us) end (word-is (codes "needs"))
       (gives-after skip (λ _. read_needs names later) (Word (codes "needs") ∷ []) back (Semicolon ∷ us) tt end (gives-skip (Word (codes "needs")) _) (gives-needs later earlier since us e s)))
   gives-said Bars later earlier since us l e s =
       let end : Claim = record { kind = Bars; later = later; earlier = earlier; since = since } in
       let back : List Token = named names later ++ since_tokens names (codes "until") since in
-      gives-after (some_labels names) _ (named names earlier) (Word (codes "bars") ∷ back) (Semicolon ∷ us) earlier end (gives-labels names are earlier _ e refl)
+      gives-after (some_labels names) _ (named names earlier) (Word (codes "bars") ∷ back) (Semicolon ∷ us) earlier end (gives-labels names are earlier (Word (codes "bars") ∷ (back ++ Semicolon ∷ us)) e refl)
       (gives-second (is_word (codes "needs")) _ _ (Word (codes "bars") ∷ back) (Semicolon ∷ us) end refl
       (gives-after (token (is_word (codes "bars"))) (λ _. read_bars names earlier) (Word (codes "bars") ∷ []) back (Semicolon ∷ us) tt end (gives-word (codes "bars") _) (gives-bars later earlier since us l s)))
 
@@ -140,6 +142,7 @@ spells-read g bs cs is s =
     let rest : bare second.1 ≡ (Semicolon ∷ (body ++ [])) ++ End ∷ [] = second.2 ∙ ap (λ l. Semicolon ∷ (l ++ End ∷ [])) (sym (append-nil body)) in
     let all = (gives-all names is.edge_names cs s.few s.names s.claims).go second.1 rest in
     let same : bytes_eq g.name g.name ≡ true = word-is g.name in
+    let on_name : Bool → Result (List NamedClaim) ClaimsFault = λ b. if b then in_text (whole (read_claims names second.1)) else Err (OtherGraph second.0) in
     ap (read_named g) head
-    ∙ ap (λ b. if b then in_text (whole (read_claims names second.1)) else Err (OtherGraph second.0)) same
-    ∙ ap (λ r. in_text (whole r)) all.2
+    ∙ ap on_name same
+    ∙ ap (λ (r : Result (Parsed (List NamedClaim)) ParseFault). in_text (whole r)) all.2

@@ -16,9 +16,26 @@ use Rattle.sg_model.specs.Names.{Name, is_name, reserved}
 use Rattle.sg_parse.specs.Grammar.{named}
 use Rattle.sg_parse.specs.declared.token.Token.{Token}
 use Rattle.sg_parse.specs.declared.token.Token.TheVariants.{Word, Colon, Semicolon, End}
-use Rattle.sg_parse.proofs.Canonical.{lexes-as, is-name, lex-ended}
-use Rattle.sg_parse.proofs.Lexing.{Lexes, StandsApart, lex-end, lex-space, lex-colon, lex-word}
+use Rattle.sg_parse.proofs.Lexing.{Lexes, StandsApart, lex-end, lex-space, lex-line, lex-colon, lex-semicolon, lex-word}
 use Rattle.sg_protocol.specs.Graph.{Graph, IsGraph, Edge, AreNames, ended}
+
+-- lists that are equal have the same tokens
+lexes-as : (cs bs : List ℕ) (ts : List Token) → cs ≡ bs → Lexes bs ts → Lexes cs ts
+lexes-as cs bs ts e h = subst (λ l. Lexes l ts) (sym e) h
+
+-- the end of a statement
+lex-ended : (rest : List ℕ) (ts : List Token) → Lexes rest ts → Lexes (59 ∷ 10 ∷ rest) (Semicolon ∷ ts)
+lex-ended rest ts h = lex-semicolon (10 ∷ rest) ts (lex-line rest ts h)
+
+-- the name at a place is a name
+name-is : (ns : List Name) (r : ℕ) → r < length ns → list_all (λ n. is_name n && not (has_text n reserved)) ns ≡ true → is_name (get_or ns r []) ≡ true
+name-is [] r l h = absurd (omega arith)
+name-is (n ∷ ns) zero l h = (and_parts (is_name n) (not (has_text n reserved)) (and_parts (is_name n && not (has_text n reserved)) (list_all (λ n. is_name n && not (has_text n reserved)) ns) h).0).0
+name-is (n ∷ ns) (suc r) l h = name-is ns r (omega arith) (and_parts (is_name n && not (has_text n reserved)) (list_all (λ n. is_name n && not (has_text n reserved)) ns) h).1
+
+-- so for names
+is-name : (ns : List Name) (r : ℕ) → AreNames ns → r < length ns → is_name (get_or ns r []) ≡ true
+is-name ns r are l = name-is ns r l (and_parts (list_all (λ n. is_name n && not (has_text n reserved)) ns) (all_differ ns) are).0
 
 -- the bytes have these tokens, and don't go on with a word before them
 abbrev Apart : List ℕ → List Token → Type 0

@@ -2,5 +2,6 @@ pub mod Agrees
 pub mod Among
 pub mod GivesClaims
 pub mod GivesLabels
+pub mod Lexed
 pub mod TookClaims
 pub mod TookLabels

@@ -163,6 +163,9 @@ took-claims names (suc n) xs ps o s are h = pick (is_next (is_word (codes "claim
     first c cs f rest zero d l = f
     first c cs f rest (suc k) d l = rest k d (omega (arith, l))
 
+    grown : (c : NamedClaim) (cs all : List NamedClaim) → (xs ++ c ∷ []) ++ cs ≡ all → xs ++ c ∷ cs ≡ all
+    grown c cs all e = sym (append_assoc xs (c ∷ []) cs) ∙ e
+
     pick : (b : Bool) → is_next (is_word (codes "claim")) ps ≡ b
         → ((xs : List NamedClaim) (ps : List Placed) → Sound ps → AreNames (claim_names xs) → repeat n (is_word (codes "claim")) (read_claim names) xs ps ≡ Ok o → TookClaims names n xs ps o)
         → TookClaims names (suc n) xs ps o
@@ -176,7 +179,7 @@ took-claims names (suc n) xs ps o s are h = pick (is_next (is_word (codes "claim
         let again : (xs ++ c ∷ []) ++ rest.claims ≡ xs ++ c ∷ rest.claims = append_assoc xs (c ∷ []) rest.claims in
         record {
           claims = c ∷ rest.claims;
-          value = sym again ∙ rest.value;
+          value = grown c rest.claims o.value rest.value;
           few = omega (arith, rest.few);
           are = subst (λ l. AreNames (claim_names l)) again rest.are;
           all = first c rest.claims one.2 rest.all;

@@ -126,12 +126,15 @@ module _ (names : List Name) where
           → Took ps o (named names o.value) × AreLabels names o.value
       pick (inl (e, k)) =
           let t = took-more [] ps o s k in
-          subst (λ (l : List ℕ). Took ps o (named names l) × AreLabels names l) t.value (t.took, record {
-            some = t.some e;
-            there = all-in (λ n. n < length names) t.order (λ n i. (t.are n i).0);
-            differ = t.once;
-            spelled = all-in (λ n. has_text (get_or names n []) between ≡ false) t.order (λ n i. (t.are n i).1);
-          })
+          subst (λ (l : List ℕ). Took ps o (named names l) × AreLabels names l) t.value (
+            t.took,
+            record {
+              some = t.some e;
+              there = all-in (λ n. n < length names) t.order (λ n i. (t.are n i).0);
+              differ = t.once;
+              spelled = all-in (λ n. has_text (get_or names n []) between ≡ false) t.order (λ n i. (t.are n i).1);
+            },
+          )
       pick (inr (e, k)) = err_ok (Reading.refusal ps) o k
 
   -- a word and labels after it

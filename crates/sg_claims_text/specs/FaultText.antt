@@ -1,8 +1,8 @@
 -- What is said of bytes that are no claims of a graph.
 use Rattle.std.specs.Prelude.{ℕ, List, ◌++◌, codes}
 use Rattle.std.specs.Fmt.{decimal}
-use Rattle.sg_fault_text.specs.declared.fault.ClaimsFault.{ClaimsFault}
-use Rattle.sg_fault_text.specs.declared.fault.ClaimsFault.TheVariants.{Text, OtherGraph}
+use Rattle.sg_claims_text.specs.declared.fault.ClaimsFault.{ClaimsFault}
+use Rattle.sg_claims_text.specs.declared.fault.ClaimsFault.TheVariants.{Text, OtherGraph}
 use Rattle.sg_parse.specs.FaultText.{parse_text}
 
 -- the first wrong token of a text

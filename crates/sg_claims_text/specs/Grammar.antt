@@ -42,8 +42,8 @@ since_tokens names word (l ∷ ls) = Word word ∷ named names (l ∷ ls)
 
 -- what a claim says: A needs B since C, or B bars A until C, where A is `later`, B `earlier` and C `since`
 abbrev pub said : List Name → ClaimKind → (later earlier since : List ℕ) → List Token
-said names Needs later earlier since = named names later ++ Word (codes "needs") ∷ named names earlier ++ since_tokens names (codes "since") since
-said names Bars later earlier since = named names earlier ++ Word (codes "bars") ∷ named names later ++ since_tokens names (codes "until") since
+said names Needs later earlier since = named names later ++ Word (codes "needs") ∷ (named names earlier ++ since_tokens names (codes "since") since)
+said names Bars later earlier since = named names earlier ++ Word (codes "bars") ∷ (named names later ++ since_tokens names (codes "until") since)
 
 -- the statement of a claim
 abbrev pub claim_tokens : List Name → NamedClaim → List Token

@@ -16,7 +16,7 @@ impl Error for ClaimsFault {}
 
 impl fmt::Display for ClaimsFault {
     ghost use Rattle.std.specs.Prelude.{Some};
-    ghost use Rattle.sg_fault_text.specs.FaultText.{fault_text};
+    ghost use Rattle.sg_claims_text.specs.FaultText.{fault_text};
 
     ghost output = { λ fault. Some (fault_text fault) };
 

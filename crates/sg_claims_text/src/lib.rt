@@ -21,6 +21,8 @@ mod fault;
 mod label_names;
 mod labels;
 mod text;
+mod written;
 
 pub use fault::ClaimsFault;
 pub use text::{parse_claims, readings_are_spelled};
+pub use written::{claims_text, written_texts_are_read};

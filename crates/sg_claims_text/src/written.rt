@@ -34,11 +34,7 @@ fn put_end(out: &mut ByteOut) -> Result<(), OutOfMemory>
     out.bytes(b";\n")
 }
 
-fn put_claims(
-    out: &mut ByteOut,
-    graph: &Graph,
-    claims: &[NamedClaim],
-) -> Result<(), OutOfMemory>
+fn put_claims(out: &mut ByteOut, graph: &Graph, claims: &[NamedClaim]) -> Result<(), OutOfMemory>
     ensures { OnOk result (out.new ≡ out.old ++ flat_map (claim_line graph.now) claims.now) }
 {
     for claim in claims {
