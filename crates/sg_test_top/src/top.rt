@@ -392,7 +392,7 @@ fn refuses_what_is_no_schedule(rt: HostRuntime) {
 // The words of a line are no command.
 fn is_no_command(alloc: Global, rt: &impl Abort, line: &str) {
     let usage =
-        "usage: sessiongraph check|compile|run|replay|drive|ledger|keep|stream|audit|compose\n";
+        "usage: sessiongraph check|compile|run|replay|drive|ledger|keep|stream|audit|compose|claims\n";
     refuses(alloc, rt, line, &[], 2, usage);
 }
 
