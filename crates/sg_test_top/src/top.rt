@@ -410,6 +410,7 @@ fn refuses_words_that_are_no_command(rt: HostRuntime) {
     is_no_command(alloc, &rt, "replay");
     is_no_command(alloc, &rt, "replay -f");
     is_no_command(alloc, &rt, "replay f f");
+    is_no_command(alloc, &rt, "claims f");
 }
 
 // A file of `count` bytes is too large for the words.
@@ -582,6 +583,39 @@ const PAIR: &str =
 
 const TELL: &str =
     "graph {\ngraph tell;role a;role b;var q:text by a;var n:int by a;node n0:a;node n1:b;edge Tell:n0->n1 writes q n reads q;\n}\nsession s1\n";
+
+// What is left where the claims of a file `c` are decided on `note` in a file `f`, and this call on a file fails, none for 0.
+fn decided(alloc: Global, rt: &impl Abort, claims: &str, fails: u32, outside: Outside) -> Left {
+    let mut files = Vec::new(alloc);
+    assert!(rt;
+        files
+            .push(named(alloc, rt, "f", text(alloc, rt, &[NOTE])))
+            .is_ok()
+    );
+    assert!(rt;
+        files
+            .push(named(alloc, rt, "c", text(alloc, rt, &[claims])))
+            .is_ok()
+    );
+    let files = MemFiles::new(files, only(alloc, rt, fails));
+    run(alloc, rt, "claims f c", files, outside)
+}
+
+#[test]
+fn decides_claims(rt: HostRuntime) {
+    let alloc = rt.alloc();
+    let left = decided(alloc, &rt, "claims note;claim x: Ask needs Bid;", 0, WHOLE);
+    assert!(rt; left.is(0, b"claim x holds\n", ""));
+    let two = "claims note;claim x: Ask needs Bid;claim y: Bid bars Ask;";
+    let left = decided(alloc, &rt, two, 0, WHOLE);
+    assert!(rt; left.is(13, b"claim x holds\nclaim y fails: Bid Ask\n", ""));
+    let left = decided(alloc, &rt, two, 0, room(10));
+    assert!(rt; left.is(6, b"claim x ho", ""));
+    let left = decided(alloc, &rt, two, 2, WHOLE);
+    assert!(rt; left.is(5, b"", "file failed: c\n"));
+    let left = decided(alloc, &rt, "claims other;", 0, WHOLE);
+    assert!(rt; left.is(4, b"", "input refused: claims other graph at 7\n"));
+}
 
 #[test]
 fn audits_logs(rt: HostRuntime) {
