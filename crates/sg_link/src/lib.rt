@@ -6,8 +6,12 @@
 #![tactic(auto)]
 
 mod address;
+mod giving;
+mod inbox;
+mod intake;
 mod tcp;
 mod udp;
+mod watch;
 
 pub use tcp::TcpConns;
 pub use udp::UdpLink;

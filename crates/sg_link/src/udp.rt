@@ -1,28 +1,32 @@
 //! A link over a UDP socket.
-ghost use Rattle.std.specs.Prelude.{◌≡◌};
+ghost use Rattle.std.specs.Prelude.{◌≡◌, None};
 
 use crate::address::socket_addr;
 use sg_base::{Addr, Failed, Link, LinkFault, Sealed};
 use std::alloc::Global;
+use std::io::ErrorKind;
 use std::net::{Net, UdpSocket};
 
 /// A link over a UDP socket. It has no socket until it is opened. `recv` waits for a datagram, for as long as that takes, and never
-/// gives `None`.
+/// gives `None`. A call that is interrupted is made again.
 #[derive(Drop)]
 pub struct UdpLink<R: Net> {
     rt: R,
     socket: Option<UdpSocket>,
+    bound: Option<Addr>,
     faults: u64,
 }
 
 impl<R: Net + Drop> UdpLink<R> {
     /// A link that is not open, with a count of faults of 0.
     pub fn new(rt: R) -> UdpLink<R>
-        ensures { ⟦<UdpLink<R> as Link>⟧.faults result ≡ 0 }
+        ensures faults { ⟦<UdpLink<R> as Link>⟧.faults result ≡ 0 }
+        ensures bound { ⟦<UdpLink<R> as Link>⟧.bound result ≡ None }
     {
         UdpLink {
             rt,
             socket: None,
+            bound: None,
             faults: 0,
         }
     }
@@ -38,30 +42,40 @@ fn longest_datagram(alloc: Global) -> Option<Vec<u8>> {
 
 // The next datagram, in the room that is given. `None` where there is no socket, or the system failed.
 fn receive(socket: &Option<UdpSocket>, mut bytes: Vec<u8>) -> Option<Vec<u8>> {
-    match socket {
-        Some(socket) => match socket.recv_from(&mut bytes) {
+    let Some(socket) = socket else {
+        return None;
+    };
+    for _ in 0..u64::MAX {
+        match socket.recv_from(&mut bytes) {
             Ok((count, _)) => {
                 bytes.truncate(count);
-                Some(bytes)
+                return Some(bytes);
             }
-            Err(_) => None,
-        },
-        None => None,
+            Err(e) if e.kind() == ErrorKind::Interrupted => {}
+            Err(_) => return None,
+        }
     }
+    None
 }
 
 // Whether the whole datagram was taken.
 fn sends_whole(socket: &UdpSocket, bytes: &[u8], to: Addr) -> bool {
-    match socket.send_to(bytes, socket_addr(to)) {
-        Ok(count) => count == bytes.len(),
-        Err(_) => false,
+    for _ in 0..u64::MAX {
+        match socket.send_to(bytes, socket_addr(to)) {
+            Ok(count) => return count == bytes.len(),
+            Err(e) if e.kind() == ErrorKind::Interrupted => {}
+            Err(_) => return false,
+        }
     }
+    false
 }
 
 impl<R: Net + Drop> Link for UdpLink<R> {
     ghost use Rattle.std.specs.Prelude.{None};
 
     ghost faults = { λ l. l.faults };
+
+    ghost bound = { λ l. l.bound };
 
     ghost deliveries = { λ _. None };
 
@@ -71,6 +85,7 @@ impl<R: Net + Drop> Link for UdpLink<R> {
         match UdpSocket::bind(&self.rt, socket_addr(at)) {
             Ok(socket) => {
                 self.socket = Some(socket);
+                self.bound = Some(at);
                 Ok(())
             }
             Err(_) => {

@@ -1,0 +1,48 @@
+//! Waiting for sockets.
+
+use mio::event::Source;
+use mio::{Events, Interest, Poll, Token};
+use std::alloc::Global;
+use std::net::Net;
+use std::time::{Clock, Duration, Instant};
+
+/// Waits until one of the sockets that it watches changes. A socket that is closed is watched no more.
+#[derive(Drop)]
+pub(crate) struct Watch {
+    poll: Poll,
+    events: Events<Global>,
+}
+
+impl Watch {
+    /// It watches nothing yet. `None` where the system has no place for it, or memory is wanting.
+    pub(crate) fn new<R: Net>(rt: &R, alloc: Global) -> Option<Watch> {
+        let Ok(poll) = Poll::new(rt) else {
+            return None;
+        };
+        match Events::with_capacity(alloc, 4) {
+            Ok(events) => Some(Watch { poll, events }),
+            Err(_) => None,
+        }
+    }
+
+    /// Watches a socket from now on, and tells whether the system took it.
+    pub(crate) fn add<S: Source>(&self, source: &mut S, interest: Interest) -> bool {
+        self.poll
+            .registry()
+            .register(source, Token(0), interest)
+            .is_ok()
+    }
+
+    /// Waits for a change, for so long at most, or as long as it takes. It tells whether the system could.
+    pub(crate) fn wait(&mut self, most: Option<Duration>) -> bool {
+        self.poll.poll(&mut self.events, most).is_ok()
+    }
+}
+
+/// What is left of a time that began then. It is none where the clock can't be read.
+pub(crate) fn left<C: Clock>(clock: &C, begun: Instant, most: Duration) -> Duration {
+    match begun.elapsed(clock) {
+        Ok(gone) => most.saturating_sub(gone),
+        Err(_) => Duration::ZERO,
+    }
+}
