@@ -1,4 +1,4 @@
-//! The text of claims of a graph: from a text to its claims, or to the first fault.
+//! The text of claims of a graph: from a text to its claims, or to the first fault, and from claims to a text.
 //!
 //! A text is in the tokens of the graph language, comments too, and its reserved words are no names here either.
 //!

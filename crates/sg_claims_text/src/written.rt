@@ -91,8 +91,8 @@ fn put_since(
     put_walk(out, graph, labels)
 }
 
-/// The text of claims whose names are names, and whose labels the graph has and no claim spells like a word between lists, spells
-/// these claims, and is read as them.
+/// The text that is written of claims spells these claims and is read as them, where there are at most 1,024, their names are names and
+/// differ, and the graph has their labels, none of which is spelled like a word between lists.
 pub fn written_texts_are_read()
     ensures spelled { (g : GraphValue) (cs : List Seen.NamedClaim) → IsGraph g → length cs ≤ most_claims → AreNames (claim_names cs) → All (λ (c : Seen.NamedClaim). IsClaim (edge_names g) c.claim) cs → SpellsClaims g (written g cs) cs }
     ensures read { (g : GraphValue) (cs : List Seen.NamedClaim) → IsGraph g → length cs ≤ most_claims → AreNames (claim_names cs) → All (λ (c : Seen.NamedClaim). IsClaim (edge_names g) c.claim) cs → read g (written g cs) ≡ Ok cs }
