@@ -66,10 +66,6 @@ module _ (g : Shape) (c : Claim) (at : ℕ) (entries : List Entry) (seen : List 
   found : (v : List ℕ) → Walk g 0 v → Found v (end_of g 0 v) (bit_after_all c false v)
   found v r = all [] 0 false v begins r
 
-  -- once all entries were followed, where each walk comes was found
-  pub found_at_end : length entries ≤ at → (v : List ℕ) → Walk g 0 v → (i : ℕ) × (i < length entries) × ((entry_at entries i).node ≡ end_of g 0 v) × ((entry_at entries i).bit ≡ bit_after_all c false v)
-  found_at_end over v r = elim (found v r) [ inl q ↦ (q.0, q.1, q.2, q.3) | inr q ↦ absurd (let k = q.0 in omega arith) ]
-
   -- once all entries were followed, the claim holds
   pub holds_at_end : length entries ≤ at → HoldsOnWalks g c
   holds_at_end over walk r before l after e i =
@@ -94,7 +90,7 @@ module _ (g : Shape) (c : Claim) (at : ℕ) (entries : List Entry) (seen : List 
         };
         first = λ other o. subst (λ v. (length (walks at ++ l ∷ []) < length v) ⊎ ((length (walks at ++ l ∷ []) ≡ length v) × AreInOrder (walks at ++ l ∷ []) v)) (sym o.there)
             (comes_first (walks at ++ l ∷ []) (o.before ++ o.label ∷ []) (after o.before o.label (walk-append g 0 o.before (o.label ∷ []) (subst (Walk g 0) o.there o.follows)) o.is_later
-              (other_bit (bit_after_all c false o.before) (right_bit c.kind) (λ right. o.wrong (right_from c.kind c.later c.earlier c.since o.before right)))));
+            (other_bit (bit_after_all c false o.before) (right_bit c.kind) (λ right. o.wrong (right_from c.kind c.later c.earlier c.since o.before right)))));
       }
     where
       after : (before : List ℕ) (k : ℕ) → Walk g 0 before × Walk g (end_of g 0 before) (k ∷ []) → IsTrue (is_in k c.later) → bit_after_all c false before ≡ not (right_bit c.kind) → IsUpTo (walks at ++ l ∷ []) (before ++ k ∷ [])

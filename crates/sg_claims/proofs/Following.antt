@@ -33,7 +33,9 @@ followed g c at left left' entries entries' seen seen' new x there node bit from
       | inr n ↦
           (let more = grows n in
           let done = entered g c at left left' entries seen new x there node bit from is_left is_edge leaves small n rest back greater in
-          let longer : at < length (entries ++ new ∷ []) = (let m = length-more entries new in omega (arith, m, there)) in
-          (subst (λ b. IsSearch g c at left' entries' b) (sym more.1) (subst (λ es. IsSearch g c at left' es (set seen (place_of new.node new.bit) true)) (sym more.0) done), subst (λ (es : List Entry). at < length es) (sym more.0) longer,
-            ap (λ es. entry_at es at) more.0 ∙ get_or_append_left entries (new ∷ []) (record { node = 0; bit = false; from = 0; last = 0 }) at there))
+          let longer : at < length (entries ++ new ∷ []) = (let m = length-more entries new in omega (arith, m, there)) in (
+            subst (λ b. IsSearch g c at left' entries' b) (sym more.1) (subst (λ es. IsSearch g c at left' es (set seen (place_of new.node new.bit) true)) (sym more.0) done),
+            subst (λ (es : List Entry). at < length es) (sym more.0) longer,
+            ap (λ es. entry_at es at) more.0 ∙ get_or_append_left entries (new ∷ []) (record { node = 0; bit = false; from = 0; last = 0 }) at there,
+          ))
     ]

@@ -6,6 +6,3 @@ pub mod Rising
 pub mod Searching
 pub mod Labelled
 pub mod Following
-pub mod Dominating
-pub mod Tables
-pub mod Nearest

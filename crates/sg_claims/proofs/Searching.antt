@@ -260,10 +260,10 @@ module _ (g : Shape) (c : Claim) (at : ℕ) (left left' : ℕ → Type 0) (entri
       rises_old : (i j : ℕ) → 0 < i → i < j → j < length entries → ((entry_at more i).from < (entry_at more j).from) ⊎ (((entry_at more i).from ≡ (entry_at more j).from) × ((entry_at more i).last < (entry_at more j).last))
       rises_old i j p b l =
           subst (λ (z : Entry). (z.from < (entry_at more j).from) ⊎ ((z.from ≡ (entry_at more j).from) × (z.last < (entry_at more j).last))) (sym (still i (omega arith)))
-            (subst (λ (z : Entry). ((entry_at entries i).from < z.from) ⊎ (((entry_at entries i).from ≡ z.from) × ((entry_at entries i).last < z.last))) (sym (still j l)) (x.rises i j p b l))
+          (subst (λ (z : Entry). ((entry_at entries i).from < z.from) ⊎ (((entry_at entries i).from ≡ z.from) × ((entry_at entries i).last < z.last))) (sym (still j l)) (x.rises i j p b l))
 
       rises_new : (i j : ℕ) → 0 < i → i < j → j ≡ length entries → ((entry_at more i).from < (entry_at more j).from) ⊎ (((entry_at more i).from ≡ (entry_at more j).from) × ((entry_at more i).last < (entry_at more j).last))
       rises_new i j p b same =
           subst (λ (z : Entry). (z.from < (entry_at more j).from) ⊎ ((z.from ≡ (entry_at more j).from) × (z.last < (entry_at more j).last))) (sym (still i (omega arith)))
-            (subst (λ (z : Entry). ((entry_at entries i).from < z.from) ⊎ (((entry_at entries i).from ≡ z.from) × ((entry_at entries i).last < z.last))) (sym (newest j same))
-              (elim (x.behind i p (omega arith)) [ inl y ↦ inl (omega arith) | inr q ↦ inr (q.0 ∙ sym from, q.1 new.last is_left) ]))
+          (subst (λ (z : Entry). ((entry_at entries i).from < z.from) ⊎ (((entry_at entries i).from ≡ z.from) × ((entry_at entries i).last < z.last))) (sym (newest j same))
+          (elim (x.behind i p (omega arith)) [ inl y ↦ inl (omega arith) | inr q ↦ inr (q.0 ∙ sym from, q.1 new.last is_left) ]))

@@ -5,4 +5,3 @@ pub mod Breaks
 pub mod Answers
 pub mod Place
 pub mod Search
-pub mod Dominators

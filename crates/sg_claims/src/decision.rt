@@ -1,6 +1,7 @@
 //! Whether a claim holds of a graph.
 ghost use Rattle.std.specs.Prelude.{◌≡◌, ℕ, ◌+◌, ◌<◌, ◌++◌, ◌∷◌, [], List, None, length, IfOk, IfSome, OnOk};
 ghost use Rattle.sg_model.specs.Claims.{bit_after};
+ghost use Rattle.sg_model.specs.Lists.{is_in};
 ghost use Rattle.sg_protocol.specs.Graph.{shape};
 ghost use Rattle.sg_claims.specs.Answers.{IsAnswer};
 ghost use Rattle.sg_claims.specs.Search.{Any, AreWalks, IsLeastWrong, IsSearch, IsSound, entry_at};
@@ -49,11 +50,18 @@ fn least_wrong(graph: &Graph, claim: &Claim, node: NodeId, bit: bool) -> Option<
         return None;
     }
     for label in graph.edges_from(node) {
-        if claim.later.has(*label) {
+        if is_later(claim, *label) {
             return Some(*label);
         }
     }
     None
+}
+
+// Whether the claim asks what stands before the label.
+fn is_later(claim: &Claim, label: Label) -> bool
+    ensures { result ≡ is_in label claim.now.later }
+{
+    claim.later.has(label)
 }
 
 // Follows the edges that leave the node of an entry.
@@ -85,7 +93,12 @@ fn next_bit(claim: &Claim, bit: bool, label: Label) -> bool
 }
 
 // The walk to an entry, and a label after it.
-fn walk_by(alloc: Global, entries: &[Entry], at: usize, label: Label) -> Result<Vec<Label>, OutOfMemory>
+fn walk_by(
+    alloc: Global,
+    entries: &[Entry],
+    at: usize,
+    label: Label,
+) -> Result<Vec<Label>, OutOfMemory>
     requires there { at < length entries.now }
     requires earlier { (i : ℕ) → 0 < i → i < length entries.now → (entry_at entries.now i).from < i }
     ensures { (walks : ℕ → List ℕ) → AreWalks entries.now walks → IfOk result (λ walk. walk.items ≡ walks at ++ label ∷ []) }

@@ -10,8 +10,8 @@ use Rattle.sg_claims.proofs.Following.{at_place}
 use Rattle.sg_claims.proofs.Rising.{IsLeft, leaving_rise, left_at_first, left_at_least}
 use Rattle.sg_claims.proofs.decision.least_wrong.Goals as goal
 
-pub returns-then-has-clause-some : goal.returns-then-has-clause-some
-returns-then-has-clause-some c =
+pub returns-then-is_later-clause-some : goal.returns-then-is_later-clause-some
+returns-then-is_later-clause-some c =
     let g = shape c.args.graph.now in
     let later = c.args.claim.now.later in
     let l : ℕ = c.label-item.result in
@@ -24,7 +24,7 @@ returns-then-has-clause-some c =
     record {
       is_edge = rw length-map here.0.0;
       leaves = here.0.1;
-      is_later = subst (λ ls. is_in l ls ≡ true) (ap (λ (k : Claim). k.later) c.claim.view_is) (sym c.has.ensures ∙ c.if-has.true);
+      is_later = sym c.is_later.ensures ∙ c.if-is_later.true;
       wrong = told_apart c.args.bit c.right_bit.result c.if-bit-right_bit.false ∙ ap not (c.right_bit.ensures ∙ ap right_bit (ap (λ (k : Claim). k.kind) c.claim.view_is));
       least = λ e d s i.
           (let k = left_at_first labels e (c.edges_from-label-items.ensures.all e (rw length-map at d) s) in
