@@ -41,7 +41,7 @@ does_hold (Fails walk) = false
 -- the text is the lines of true answers to these claims, in their order, and this is whether all of them hold
 pub data AreAnswered (g : Graph) : List NamedClaim → List ℕ → Bool → Type 0 where
   NoClaims : AreAnswered g [] [] true
-  OneMore : {cs : List NamedClaim} {text : List ℕ} {all : Bool} {c : NamedClaim} {a : Answer} → AreAnswered g cs text all → IsAnswer (shape g) c.claim a → AreAnswered g (cs ++ c ∷ []) (text ++ answer_line g c a) (all && does_hold a)
+  OneMore : {cs : List NamedClaim} {text : List ℕ} {all : Bool} (c : NamedClaim) (a : Answer) → AreAnswered g cs text all → IsAnswer (shape g) c.claim a → AreAnswered g (cs ++ c ∷ []) (text ++ answer_line g c a) (all && does_hold a)
 
 -- ---- graphs that are accepted
 
