@@ -1,6 +1,5 @@
 -- What is said of claims of a graph, and how the program ends by it.
-use Rattle.std.specs.Prelude.{◌≡◌, ◌≢◌, ℕ, ◌≤◌, ◌⊎◌, Bool, true, false, ◌&&◌, if◌then◌else◌, List, [], ◌∷◌, ◌++◌, All, Ok, Err, length, codes, ⊤}
-use Rattle.sg_base.specs.Outside.{HasRisen, Appends, AppendsFront}
+use Rattle.std.specs.Prelude.{◌≡◌, ◌≢◌, ℕ, ◌⊎◌, Bool, true, false, ◌&&◌, if◌then◌else◌, List, [], ◌∷◌, ◌++◌, All, Err, codes, ⊤}
 use Rattle.sg_claims.specs.Answers.{IsAnswer}
 use Rattle.sg_claims.specs.declared.claim.NamedClaim.{NamedClaim}
 use Rattle.sg_claims.specs.declared.decision.Answer.{Answer}
