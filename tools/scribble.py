@@ -314,7 +314,8 @@ class Reader:
         label = self.name(f"here is wanted a message, `choice`, `rec`, `continue` or `do`; {form}")
         payloads = self.payloads() if self.is_next("(") else None
         if self.look().text == "connect":
-            raise Refused(self.look().at, "no message opens a connection: all roles are in the session's cast from its start, so write `from` for `connect`")
+            raise Refused(self.look().at, "no message opens a connection: all roles are in the session's cast from its start, so write `from` for "
+                          "`connect`")
         self.take("from", form)
         sender = self.name(form)
         self.take("to", form)
