@@ -32,6 +32,10 @@ CHECKS = {
 }
 
 
+# From where frames come that nobody is known to have made; no principal has a name with a space.
+NETWORK = 'the network'
+
+
 class Disagreement(Exception):
     """What a page would say differs from the report."""
 
@@ -110,7 +114,8 @@ class Checks:
 
     def room(self, sid, role, graph):
         """The checks on joins."""
-        return (self.add('joined', (f'{self.run.session_word(sid)} as {graph.roles[role]}', (sid, role) not in self.who.joins))
+        new = (sid, role) not in self.who.joins
+        return (self.add('joined', (f'{self.run.session_word(sid)} as {graph.roles[role]} {"is new" if new else "was joined"}', new))
                 and self.add('cache-full', (f'{len(self.who.joins)} of {model.JOINS:,} joins', len(self.who.joins) < model.JOINS))
                 and self.add('sessions-full', (f'{self.who.count} of {model.LIVE_SESSIONS:,} live', self.who.count < model.LIVE_SESSIONS)))
 
@@ -263,7 +268,7 @@ class Watched(model.Run):
     """A run of the model of which it is looked up, before and after each step, what a page tells of it."""
 
     def __init__(self, schedule):
-        self.sessions, self.kept, self.steps, self.event_steps = {}, {}, [], []
+        self.sessions, self.kept, self.steps, self.event_steps, self.refused = {}, {}, [], [], []
         super().__init__(schedule)
 
     def listen(self, who):
@@ -288,23 +293,25 @@ class Watched(model.Run):
         events = len(self.events)
         line = super().outcome(place, step)
         self.event_steps += [place] * (len(self.events) - events)
-        self.compare(place, line, checks)
-        self.steps.append((checks, self.touched(step, line)))
+        # (an abandonment is no event)
+        self.refused.append(step[0] != 'craft' and len(self.events) == events and not (step[0] == 'abandon' and line.endswith(' abandoned')))
+        if checks:
+            self.compare(place, line[len(f'{step[1]} refused '):] if self.refused[-1] else None, checks)
+        self.steps.append((checks, self.touched(step)))
         if self.steps[-1][1] is not None:
             key, session = self.steps[-1][1]
             self.kept.setdefault(key, []).append((place, self.held(session, step[0] == 'abandon')))
         return line
 
-    def compare(self, place, line, checks):
-        """The reason of the line must be that of the first check that doesn't fit."""
-        told = line.split(' refused ', 1)[1] if ' refused ' in line else None
-        found = next((row.reason for row in checks.rows if not row.fits()), None) if checks else None
+    def compare(self, place, told, checks):
+        """The reason that is told, or none, must be that of the first check that doesn't fit."""
+        found = next((row.reason for row in checks.rows if not row.fits()), None)
         if told != found:
             raise Disagreement(f'at step {place} the checks say {found or "accepted"}, and the report {told or "accepted"}')
 
-    def touched(self, step, line):
-        """The session that a step changed, with its key in `sessions`."""
-        if step[0] == 'craft' or ' refused ' in line:
+    def touched(self, step):
+        """The session that the last step changed, with its key in `sessions`."""
+        if step[0] == 'craft' or self.refused[-1]:
             return None
         sid = model.sha256(model.text_of_session(step[2].cast)) if step[0] != 'deliver' else self.events[-1].sid
         return (step[1], sid), self.sessions[step[1], sid]
@@ -461,25 +468,25 @@ class Account:
     def makers(self):
         """Who made each recorded frame, and at which step. What is crafted in the name of an honest principal comes from the network."""
         found = []
-        for place, (step, line) in enumerate(zip(self.run.schedule.steps, self.step_lines), 1):
+        for place, (step, refused) in enumerate(zip(self.run.schedule.steps, self.run.refused), 1):
             if step[0] == 'craft':
                 name = step[1].session.cast.names[step[1].sender]
-                found.append(('network' if name in self.run.schedule.honest else name, place))
-            elif step[0] == 'act' and ' refused ' not in line:
+                found.append((NETWORK if name in self.run.schedule.honest else name, place))
+            elif step[0] == 'act' and not refused:
                 found.append((step[1], place))
         return found
 
     def source(self, step):
         """From whom a delivery comes: the maker of its frame, or the network."""
         _, _, kind, what, change = step
-        return self.made[what - 1][0] if kind == 'frame' and change is None and 1 <= what <= len(self.made) else 'network'
+        return self.made[what - 1][0] if kind == 'frame' and change is None and 1 <= what <= len(self.made) else NETWORK
 
     def people_of(self):
         """Those who have a line in the chart: the casts, whoever else takes a step, and the network where it sends."""
         found = [name for declared in self.run.schedule.sessions.values() for name in declared.cast.names]
         steps = self.run.schedule.steps
-        found += [step[1] for step in steps if step[0] != 'craft'] + [name for name, _ in self.made if name == 'network']
-        found += [name for name in map(self.source, (step for step in steps if step[0] == 'deliver')) if name == 'network']
+        found += [step[1] for step in steps if step[0] != 'craft'] + [name for name, _ in self.made if name == NETWORK]
+        found += [name for name in map(self.source, (step for step in steps if step[0] == 'deliver')) if name == NETWORK]
         return list(dict.fromkeys(found))
 
     # Frames.
@@ -566,8 +573,8 @@ class Account:
                 told['name'] = step[1].session.cast.names[step[1].sender]
             steps.append(told)
         return {
-            'kind': 'run', 'lines': self.step_lines, 'end': self.end_lines, 'steps': steps, 'frames': frames, 'checks': CHECKS, 'premises': self.premises, 'people': self.people,
-            'honest': [name for name in self.people if name in self.run.schedule.honest],
+            'kind': 'run', 'lines': self.step_lines, 'end': self.end_lines, 'steps': steps, 'frames': frames, 'checks': CHECKS,
+            'premises': self.premises, 'people': self.people, 'honest': [name for name in self.people if name in self.run.schedule.honest],
             'held': self.held(), 'sessions': self.sessions(),
         }
 

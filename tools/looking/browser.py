@@ -2,6 +2,7 @@
 import base64
 import json
 import os
+import select
 import shutil
 import subprocess
 import tempfile
@@ -9,7 +10,7 @@ import time
 
 NAMES = ('chromium', 'chromium-browser', 'google-chrome')
 FLAGS = ['--headless=new', '--no-sandbox', '--disable-gpu', '--no-first-run', '--disable-extensions', '--disable-background-networking',
-         '--hide-scrollbars', '--remote-debugging-pipe', '--allow-file-access-from-files']
+         '--hide-scrollbars', '--remote-debugging-pipe']
 CODES = {'ArrowLeft': 37, 'ArrowUp': 38, 'ArrowRight': 39, 'ArrowDown': 40, 'Home': 36, 'End': 35, 'PageUp': 33, 'PageDown': 34}
 
 
@@ -23,7 +24,7 @@ class Fault(Exception):
 
 
 class Browser:
-    """A browser with one tab. `faults` has what its console said of errors since the last page was opened, and `asked` each address that it asked for."""
+    """A browser with one tab. Of the page that was opened last `faults` has the errors of its console, and `asked` each address that it asked for."""
 
     def __init__(self, width=1440, height=900):
         self.room = tempfile.mkdtemp(prefix='page-browser-')
@@ -45,6 +46,8 @@ class Browser:
     def message(self):
         """The next message of the browser."""
         while b'\0' not in self.rest:
+            if not select.select([self.inward], [], [], 180)[0]:
+                raise Fault('the browser says nothing')
             data = os.read(self.inward, 1 << 20)
             if not data:
                 raise Fault('the browser has ended')
@@ -112,7 +115,8 @@ class Browser:
 
     def scheme(self, name):
         """Chooses light or dark."""
-        self.ask('Emulation.setEmulatedMedia', features=[{'name': 'prefers-color-scheme', 'value': name}, {'name': 'prefers-reduced-motion', 'value': 'reduce'}])
+        wanted = {'prefers-color-scheme': name, 'prefers-reduced-motion': 'reduce'}
+        self.ask('Emulation.setEmulatedMedia', features=[{'name': feature, 'value': value} for feature, value in wanted.items()])
 
     def picture(self, path):
         """Writes a picture of the window, as PNG."""

@@ -120,7 +120,7 @@ function run() {
   last = count + 1;
 
   function name(who) {
-    return make('b', {}, who, honest.has(who) || who === 'network' ? '' : ' (compromised)');
+    return make('b', {}, who, honest.has(who) || who === 'the network' ? '' : ' (compromised)');
   }
 
   // What happened, in a sentence.
@@ -150,7 +150,7 @@ function run() {
   // Which items of a frame are wrong, by the refusal's words.
   function wrong(place) {
     const words = data.lines[place - 1].split(' '), item = words.indexOf('item');
-    return { item: words[2] === 'refused' && item > 0 ? Number(words[item + 1]) : 0, opening: words[3] === 'bad-opening' ? words[4] : null,
+    return { item: data.steps[place - 1].refused !== undefined && item > 0 ? Number(words[item + 1]) : 0, opening: words[3] === 'bad-opening' ? words[4] : null,
       tag: words[3] === 'bad-frame-tag' };
   }
 
@@ -217,7 +217,8 @@ function run() {
   const sentTo = new Map(), madeBy = new Map();
   data.lines.forEach((line, place) => {
     const words = line.split(' ');
-    const [those, who, frame] = words[1] === 'crafted' ? [madeBy, data.steps[place].who, words[2]] : words[3] === 'sent' ? [sentTo, words[8], words[10]] : [null];
+    const { kind, who: maker, refused } = data.steps[place];
+    const [those, who, frame] = kind === 'craft' ? [madeBy, maker, words[2]] : kind === 'act' && refused === undefined ? [sentTo, words[8], words[10]] : [null];
     if (those && !those.has(who)) those.set(who, []);
     if (those) those.get(who).push([place + 1, frame]);
   });
@@ -307,7 +308,7 @@ function run() {
     const step = inside ? data.steps[place - 1] : null, from = step && step.kind === 'deliver' && data.frames[step.frame];
     since.style.display = from && from.at && from.at < place ? '' : 'none';
     if (from && from.at && from.at < place) {
-      since.style.left = `${data.places[from.by] - 2}px`;
+      since.style.left = `${data.places[from.by] - 3.5}px`;
       since.style.top = `${top(from.at - 1) + row - 5}px`;
       since.style.height = `${top(place - 1) - top(from.at - 1) - 3}px`;
       since.style.borderColor = honest.has(from.by) ? 'var(--honest)' : '';
@@ -321,7 +322,7 @@ function run() {
   render = place => {
     const line = at('line'), inside = place > 0 && place <= count, step = inside ? data.steps[place - 1] : null;
     at('where').textContent = place === 0 ? `before step 1 of ${count}` : inside ? `step ${place} of ${count}` : `the end, after ${count} steps`;
-    line.textContent = place === 0 ? 'nothing has happened yet' : inside ? data.lines[place - 1] : data.end.length > 3 ? data.end.slice(2).join('\n') : data.end.join('\n');
+    line.textContent = place === 0 ? 'nothing has happened yet' : inside ? data.lines[place - 1] : data.end.at(-1);
     line.className = !step ? (place > count && broken !== null ? 'broken' : '') : breaks.includes(place) ? 'broken' : step.refused !== undefined ? 'refused'
       : step.kind === 'deliver' ? 'accepted' : step.kind === 'craft' ? 'crafted' : 'made';
     fill('told', told(place));

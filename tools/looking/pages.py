@@ -69,11 +69,21 @@ def page(kind, title, header, body, data, texts):
 def bar(last, marks='', more=''):
     """The buttons, the slide, and the line of the moment."""
     return f'''<div class="bar">
-<div class="keys"><button id="first" title="Home" aria-label="to the beginning">|◀</button><button id="back" title="arrow left" aria-label="one step back">◀</button><button id="next" title="arrow right" aria-label="one step on">▶</button><button id="end" title="End" aria-label="to the end">▶|</button>{more}</div>
+<div class="keys"><button id="first" title="Home" aria-label="to the beginning">|◀</button>
+<button id="back" title="arrow left" aria-label="one step back">◀</button>
+<button id="next" title="arrow right" aria-label="one step on">▶</button>
+<button id="end" title="End" aria-label="to the end">▶|</button>{more}</div>
 <div class="slide"><input type="range" id="slide" min="0" max="{last}" value="0" aria-label="step">{marks}</div>
 <span id="where"></span>
 <p id="line" aria-live="polite"></p>
 </div>'''
+
+
+def legend(**lines):
+    """What kinds of lines say, by the names of their classes."""
+    ways = {'x': 'M12 1l10 10m0 -10l-10 10'}
+    told = ''.join(f'<span><svg><path class="{kind}" d="{ways.get(kind, "M0 6h34")}"/></svg> {words}</span>' for kind, words in lines.items())
+    return f'<div class="legend" aria-hidden="true">{told}</div>'
 
 
 def shape_of(graph):
@@ -88,11 +98,13 @@ def run_page(told, name, texts):
     """The page of an account, under a name."""
     data, graphs = told.data(), told.run.schedule.graphs
     chart = drawing.Chart(told, data)
-    data.update(row=drawing.ROW, gap=drawing.BREAK, places={who: chart.x(who) for who in chart.people}, graphs=[shape_of(graph) for graph in graphs], orders=ORDERS)
-    plays = [{(role, who) for session in told.run.schedule.sessions.values() if session.graph is graph for role, who in enumerate(session.cast.names)}
-             for graph in graphs]
+    data.update(row=drawing.ROW, gap=drawing.BREAK, places={who: chart.x(who) for who in chart.people}, orders=ORDERS,
+                graphs=[shape_of(graph) for graph in graphs])
+    sessions = told.run.schedule.sessions.values()
+    plays = [{(role, who) for session in sessions if session.graph is graph for role, who in enumerate(session.cast.names)} for graph in graphs]
     pictures = '\n'.join(drawing.picture(graph, number, sorted(plays[number])) for number, graph in enumerate(graphs))
-    return page('run', f'{name}: a run of {len(data["lines"])} steps', run_header(told, data, name), run_body(told, data, chart, pictures), data, texts)
+    title = f'{name}: a run of {len(data["lines"])} steps'
+    return page('run', title, run_header(told, data, name), run_body(data, chart, pictures), data, texts)
 
 
 def run_header(told, data, name):
@@ -104,16 +116,19 @@ def run_header(told, data, name):
         for role, who, _ in session['cast']:
             if role not in plays.setdefault(who, []):
                 plays[who].append(role)
-    people = ''.join(f'<li class="chip {"honest" if who in data["honest"] else "compromised"}">{escaped(who)}'
-                     + (f' as {escaped(" ".join(plays[who][:3]))}' if who in plays else '') + ('' if who in data['honest'] else ', compromised') + '</li>'
-                     for who in data['people'][:12] if who in plays or who in data['honest'])
-    premises = ''.join(f'<li class="chip {"holds" if it["broken"] is None else "broken"}">{"✓" if it["broken"] is None else "⚡"} {escaped(it["line"])}</li>'
-                       for it in data['premises'])
+    people = ''
+    for who in [who for who in data['people'] if who in plays or who in data['honest']][:12]:
+        honest, roles = who in data['honest'], f' as {" ".join(plays[who][:3])}' if who in plays else ''
+        people += f'<li class="chip {"honest" if honest else "compromised"}">{escaped(who + roles)}{"" if honest else ", compromised"}</li>'
+    premises = ''
+    for it in data['premises']:
+        kind, mark = ('holds', '✓') if it['broken'] is None else ('broken', '⚡')
+        premises += f'<li class="chip {kind}">{mark} {escaped(it["line"])}</li>'
     return (f'<header><h1>{escaped(name)}<small>{escaped(", ".join(counts))}</small></h1><p class="heading">{escaped(told.heading)}</p>'
             f'<div class="facts"><ul aria-label="principals">{people}</ul><ul aria-label="premises">{premises}</ul></div></header>')
 
 
-def run_body(told, data, chart, pictures):
+def run_body(data, chart, pictures):
     """The bar, and the four parts below it."""
     last = len(data['lines']) + 1
     marks = [(place, '') for place, step in enumerate(data['steps'], 1) if 'refused' in step]
@@ -121,20 +136,23 @@ def run_body(told, data, chart, pictures):
     thin = ' style="stroke-width:1"' if len(marks) > 40 else ''
     lines = ''.join(f'<line{kind}{thin} x1="{place}" x2="{place}" y1="0" y2="7"/>' for place, kind in marks)
     ticks = f'<svg viewBox="0 0 {last} 7" preserveAspectRatio="none" aria-hidden="true">{lines}</svg>' if marks else ''
-    more = '<button id="refusal" title="key r">next refusal</button>' if any('refused' in step for step in data['steps']) else ''
+    more = '\n<button id="refusal" title="key r">next refusal</button>' if any('refused' in step for step in data['steps']) else ''
     names = ''.join(f'<option>{escaped(session["name"])}</option>' for session in data['sessions'])
-    choice = f'<label class="quiet">session <select id="session"><option value="">of the step</option>{names}</select></label>' if len(data['sessions']) > 1 else ''
+    choice = f'<label class="quiet">session <select id="session"><option value="">of the step</option>{names}</select></label>'
+    choice = choice if len(data['sessions']) > 1 else ''
     return f'''{bar(last, ticks, more)}
 <main>
 <section id="chart" aria-label="the run"><h2>The run <span>choose a step, or go by the arrow keys, Home and End</span></h2>
 <div class="scroll chart" tabindex="-1">{chart.heads}
 <div id="body">{chart.rows}<div id="later"></div><div id="band"></div><div id="since"></div></div></div>
-<div class="legend" aria-hidden="true"><span><svg><path class="h" d="M0 6h34"/></svg> frame of an honest one</span><span><svg><path class="c" d="M0 6h34"/></svg> crafted by a compromised one</span><span><svg><path class="x" d="M12 1l10 10m0 -10l-10 10"/></svg> refused</span></div></section>
+{legend(h="honest frame", c="crafted frame", x="refused")}</section>
 <section id="step" aria-label="this step"><h2>This step</h2><div class="scroll"><p id="told"></p><div id="detail"></div></div></section>
-<section id="shape" aria-label="the graph and the walk so far"><h2>The walk so far <span id="of"></span></h2><div class="top">{choice}<p class="quiet" id="walked"></p><ol class="walk" id="walk"></ol></div>
+<section id="shape" aria-label="the graph and the walk so far"><h2>The walk so far <span id="of"></span></h2>
+<div class="top">{choice}<p class="quiet" id="walked"></p><ol class="walk" id="walk"></ol></div>
 <div class="scroll"><div class="picture">{pictures}</div></div>
-<div class="legend" aria-hidden="true"><span><svg><path class="h" d="M0 6h34"/></svg> step of an honest one</span><span><svg><path class="c" d="M0 6h34"/></svg> filled in</span><span><svg><path class="b" d="M0 6h34"/></svg> ↺ edge back</span></div></section>
-<section id="holds" aria-label="who holds what"><h2>Who holds what <span id="held-of"></span></h2><div class="scroll"><div class="cards" id="cards"></div></div></section>
+{legend(h="honest step", c="filled in", b="↺ edge back")}</section>
+<section id="holds" aria-label="who holds what"><h2>Who holds what <span id="held-of"></span></h2>
+<div class="scroll"><div class="cards" id="cards"></div></div></section>
 </main>'''
 
 
@@ -155,7 +173,8 @@ def claims_of(text, graph):
             place = labels[label].target
         if held[1] in [claim['name'].split()[0] for claim in found]:
             raise NotThis(f'line {number}: the claim {held[1]} stands there twice')
-        found.append({'name': f'{held[1]} {"holds" if held[2] else "fails"}', 'line': line, 'fails': held[2] is None, 'walks': [walk] if walk else [], 'from': graph.nodes[0].name})
+        found.append({'name': f'{held[1]} {"holds" if held[2] else "fails"}', 'line': line, 'fails': held[2] is None,
+                      'walks': [walk] if walk else [], 'from': graph.nodes[0].name})
     return found
 
 
@@ -193,16 +212,19 @@ def graph_body(graph, claims):
     buttons = ''.join(f'<button class="{"fails" if claim["fails"] else "holds"}" aria-pressed="false"><i>{"✗" if claim["fails"] else "✓"}</i>'
                       f'<span>{escaped(claim["name"])}</span>'
                       f'<small>{escaped(" / ".join(" ".join(walk) for walk in claim["walks"]))}</small></button>' for claim in claims)
-    rows = ''.join(f'<tr><td>{variable.name}</td><td>{variable.kind}</td><td>{escaped(", ".join(graph.roles[role] for role in variable.writers))}</td></tr>'
-                   for variable in graph.variables)
+    rows = ''
+    for variable in graph.variables:
+        rows += f'<tr><td>{variable.name}</td><td>{variable.kind}</td><td>{", ".join(graph.roles[role] for role in variable.writers)}</td></tr>'
     variables = f'<h3>Variables</h3><table><tr><th>name</th><th>kind</th><th>written by</th></tr>{rows}</table>' if rows else ''
     turns = ''.join(f'<tr><td>{role}</td><td>{escaped(", ".join(node.name for node in graph.nodes if node.role == place))}</td></tr>'
                     for place, role in enumerate(graph.roles))
     return f'''{bar(0)}
 <main>
-<section id="shape" aria-label="the graph"><h2>The graph <span>a double outline is the start</span></h2><div class="scroll"><div class="picture">{drawing.picture(graph, 0)}</div></div>
-<div class="legend" aria-hidden="true"><span><svg><path class="h" d="M0 6h34"/></svg> walk</span><span><svg><path class="s" d="M0 6h34"/></svg> the other walk</span><span><svg><path class="b" d="M0 6h34"/></svg> ↺ edge back</span></div></section>
-<section id="claims" aria-label="walks"><h2>Walks <span>go by the arrow keys, Home and End</span></h2><div class="scroll"><div class="claims">{buttons or '<p class="quiet">No claims were given.</p>'}</div>
+<section id="shape" aria-label="the graph"><h2>The graph <span>a double outline is the start</span></h2>
+<div class="scroll"><div class="picture">{drawing.picture(graph, 0)}</div></div>
+{legend(h="walk", s="the other walk", b="↺ edge back")}</section>
+<section id="claims" aria-label="walks"><h2>Walks <span>go by the arrow keys, Home and End</span></h2>
+<div class="scroll"><div class="claims">{buttons or '<p class="quiet">No claims were given.</p>'}</div>
 <p class="quiet" id="walked"></p><ol class="walk" id="walk"></ol>
 <h3>Roles</h3><table><tr><th>role</th><th>acts at</th></tr>{turns}</table>{variables}</div></section>
 </main>'''
