@@ -126,20 +126,21 @@ fn a_ledger_that_gets_full(rt: HostRuntime) -> Result<(), Fail> {
     Ok(())
 }
 
-// A ledger in the file "book". A second disk doesn't get the file while the first one has it.
-fn made_in_a_file(rt: &HostRuntime) -> Result<(), Fail> {
+// Makes a ledger in the file "book", and tells whether a disk fails before it is opened, the ledger is made, and a second disk doesn't get
+// the file while the first one has it.
+fn is_made_for_one(rt: &HostRuntime) -> Result<bool, Fail> {
     let mut disk = FileDisk::new(rt.clone()?);
-    assert!(rt; disk.size() == Err(Failed));
+    let fails = disk.size() == Err(Failed);
     disk.open("book")?;
-    assert!(rt; made(rt.alloc(), &mut disk)? == Ok(()));
+    let is_made = made(rt.alloc(), &mut disk)? == Ok(());
     let mut second = FileDisk::new(rt.clone()?);
-    assert!(rt; second.open("./book") == Err(Failed));
-    Ok(())
+    let waits = second.open("./book") == Err(Failed);
+    Ok(fails && is_made && waits)
 }
 
 #[test]
 fn a_ledger_in_a_file(rt: HostRuntime) -> Result<(), Fail> {
-    made_in_a_file(&rt)?;
+    assert!(rt; is_made_for_one(&rt)?);
     let mut again = FileDisk::new(rt.clone()?);
     again.open("./book")?;
     assert_eq!(rt; opened(rt.alloc(), &mut again)?, Some(1));
