@@ -7,6 +7,7 @@ As a module: `refusals(data)` gives for the bytes of a schedule the sentences by
 tools/model.py, whose lines are the program's: `.ci/tools` compares them. The exit status is 0, or 1 where the file can't be read or is no schedule, or 2
 where the words are others.
 """
+import signal
 import sys
 
 sys.dont_write_bytecode = True
@@ -274,4 +275,5 @@ def main(words):
 
 
 if __name__ == '__main__':
+    signal.signal(signal.SIGPIPE, signal.SIG_DFL)
     sys.exit(main(sys.argv[1:]))
