@@ -1,0 +1,59 @@
+"""Where the two walks of a blinding refusal part.
+
+`graph refused: blinding at NODE for A and B: WALK / WALK` names the first node, in the order of their declaration, from which two roles are blinded.
+Both walks may begin with the same labels; then the node at which they part is blinding for the same two roles too, and is where the graph is mended:
+it comes on the way to either, so neither of the two has a node before it, and it is none of theirs.
+"""
+import re
+from collections import namedtuple
+
+Parting = namedtuple('Parting', 'node line column shared first second')
+Parting.__doc__ = """The node's name, the line and the column (from 1) of its name where it is declared; the labels that both walks begin with; the
+labels of the first and of the second walk from the node on, none of them empty."""
+
+REFUSAL = re.compile(r'(?:graph refused: )?blinding at (\w+) for (\w+) and (\w+): ([\w ]+) / ([\w ]+)')
+NAME = '[A-Za-z][A-Za-z0-9_]*'
+
+
+def shared_labels(first, second):
+    """The labels with which both walks begin."""
+    count = 0
+    while count < min(len(first), len(second)) and first[count] == second[count]:
+        count += 1
+    return first[:count]
+
+
+def without_comments(text):
+    """A text in which each byte of a comment is a space, so that all else stands where it stood."""
+    return re.sub('#[^\n]*', lambda found: ' ' * len(found[0]), text)
+
+
+def statement(kind, name, rest=''):
+    """The pattern of a statement that declares a name; its first group is the name."""
+    return re.compile(rf'\b{kind}\s+({name})\s*:{rest}')
+
+
+def graphs_in(text):
+    """Where each graph of a text begins and ends: a graph file has one, a text of parts or a schedule may have several."""
+    starts = [found.start() for found in re.finditer(rf'\bgraph\s+{NAME}\s*;', text)]
+    return list(zip(starts, starts[1:] + [len(text)]))
+
+
+def where_walks_part(text, line):
+    """Where the two walks of a refusal part, by the text that was refused and the refusal's line, as a `Parting`.
+
+    The text is that of a graph, of parts or of a schedule. None where the line is no such refusal, or where not exactly one graph in the text has the
+    node and all labels that it names, as where parts were composed and the names are those of the expansion."""
+    found = REFUSAL.fullmatch(line.strip())
+    if not found:
+        return None
+    node, first, second = found[1], found[4].split(), found[5].split()
+    shared, bare = shared_labels(first, second), without_comments(text)
+    fitting = [ends for ends in graphs_in(bare) if statement('node', node).search(bare, *ends)
+               and all(statement('edge', label).search(bare, *ends) for label in first + second)]
+    if len(fitting) != 1 or not first[len(shared):] or not second[len(shared):]:
+        return None
+    if shared:
+        node = statement('edge', shared[-1], rf'\s*{NAME}\s*->\s*({NAME})').search(bare, *fitting[0])[2]
+    at = statement('node', node).search(bare, *fitting[0]).start(1)
+    return Parting(node, text.count('\n', 0, at) + 1, at - text.rfind('\n', 0, at), shared, first[len(shared):], second[len(shared):])
