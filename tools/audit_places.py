@@ -118,7 +118,8 @@ class Auditor:
         logs = []
         for role, log in self.session.logs.items():
             logs += [f"log {role}"] + [it.text() for it in log if id(it) in first]
-        for walk in self.walks_for(count):
+        # (of all events the longest walk is looked for first, which is the nearest to the one that is told)
+        for walk in self.walks_for(count)[:: -1 if count == len(self.order) else 1]:
             lines = "\n".join([f"session {self.session.name}", *logs, walk, ""])
             with tempfile.NamedTemporaryFile(suffix=".logs") as file:
                 file.write(b"graph {\n" + self.block.rstrip(b"\n") + b"\n}\n" + lines.encode("latin-1"))
@@ -153,16 +154,21 @@ def of_no(program, text, session):
         return session.at, [f"Each event of {session.name} is explained by this walk, which is not the one that is told: {cut(auditor.walks[count])}. Look to the values that nobody "
                             "with a log has written or received, which must be hidden, and to steps behind the last event."]
     event = auditor.order[count]
-    walk = auditor.walks.get(count) or ("the walk without steps" if not count else "")
-    told = [f"With this event of {event.role} the events of {session.name}, in the order of their times, have no walk any more."]
+    walk = auditor.walks.get(count, "")
+    end = "have no walk any more" if session.walk is None else "don't fit the walk that is told any more"
+    told = [f"With this event of {event.role} the events of {session.name}, in the order of their times, {end}."]
     if count:
-        told.append(f"The {count} before it {'have' if count > 1 else 'has'} one: {cut(walk)}." if walk else f"The {count} before it {'have' if count > 1 else 'has'} one.")
-    return event.at, told + of_sending(auditor, event)
+        told.append(f"The {count} before it {'have' if count > 1 else 'has'} this one: {cut(walk)}.")
+    return event.at, told + of_event(auditor, event)
 
 
-def of_sending(auditor, event):
-    """Tells of the sending of a receipt: how it stands in the sender's log, or that the line is missing there."""
+def of_event(auditor, event):
+    """Tells that an event stands before an earlier one in its log; or of a receipt how its sending stands in the sender's log, or that it is missing."""
     graph, session = auditor.graph, auditor.session
+    own = session.logs[event.role]
+    earlier = next((it for it in own[own.index(event) + 1 :] if (it.time, it.kind != "sent") < (event.time, event.kind != "sent")), None)
+    if earlier:
+        return [f"Behind it in its log, in line {earlier.number}, stands an event of an earlier time: {earlier.text()}."]
     if event.kind != "received" or event.label not in graph.edges:
         return []
     log = session.logs.get(graph.sender(event.label))

@@ -207,7 +207,7 @@ def session(words, names):
     cast, at = words.names("the principals of a session", 2, 16)
     roles = names.graphs[graph].roles if graph in names.graphs else None
     if roles and len(roles) != len(cast):
-        words.fail(f"{graph} has {len(roles)} roles, {' '.join(roles)}, and here are {len(cast)} principals", at)
+        words.fail(f"`{graph}` has {len(roles)} roles, {' '.join(roles)}, and here are {len(cast)} principals", at)
     for it in cast:
         if cast.count(it) > 1:
             words.fail(f"a session's principals differ, and {it} stands twice", at)
@@ -218,7 +218,7 @@ def session(words, names):
 def edge(words, count):
     label, at = words.name("the label")
     if label in RESERVED:
-        words.fail(f"{label} is a reserved word", at)
+        words.fail(f"`{label}` is a reserved word", at)
     one = words.number("a node", 0, 255)
     at = words.here()
     two = words.number("a node", 0, 255)

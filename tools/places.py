@@ -11,7 +11,7 @@ import line_forms
 import run_files
 import toml_text
 from texts import (KINDS, NAME_RULE, RESERVED, STEPS, Graph, Names, Program, blocks_of, graph_statements, kind_of, line_number, lines_of,
-                   lines_outside, listed, meant, statements)
+                   lines_outside, listed, meant, sentence, statements)
 
 try:
     from blinding import where_walks_part
@@ -77,7 +77,7 @@ def of_token(text, at, what):
         if byte == b"-" and text[at + 1 : at + 2].isspace():
             return "An arrow is written in one piece: ->."
         if byte.isdigit() or byte == b"_" or re.match(rb"\w", before):
-            return f"{NAME_RULE.capitalize()}."
+            return sentence(NAME_RULE)
         return None
     token = re.match(rb"[A-Za-z]\w*|->|.|$", text[at:], re.S)[0].decode("latin-1")
     found = [it for it in statements(text[: at + len(token)])]
@@ -260,8 +260,7 @@ def in_line(text, number, what, kind):
         form = line_forms.FORMS[kind].get(words[0][0]) if words else None
         if not found:
             return (words[0][1] if words else lines[number - 1][0] if number <= len(lines) else len(text)), None, form
-        told = found.what[0].upper() + found.what[1:] if found.what[:1].isalpha() else found.what
-        return found.at, f"{told}.", line_forms.PARTS.get(found.part, form)
+        return found.at, sentence(found.what), line_forms.PARTS.get(found.part, form)
     words = next((it for at, _, it in lines_outside(text) if at == number), None)
     if words is None:
         return (lines[number - 1][0] if number <= len(lines) else len(text)), None, None
@@ -303,7 +302,7 @@ def in_toml(file, text, said, programs):
     try:
         root = toml_text.read(text)
     except toml_text.NotToml as it:
-        return Place(file, text, it.at, [f"{it.what[0].upper()}{it.what[1:]}."]) if said[2] == "not toml" else Place(file, text)
+        return Place(file, text, it.at, [sentence(it.what)]) if said[2] == "not toml" else Place(file, text)
     if said[2] == "not toml":
         return Place(file, text)
     entry, kind = int(said[3]), said[2]
@@ -315,7 +314,7 @@ def in_toml(file, text, said, programs):
         fault, heading = found[1] if found and found[0] == kind else None, kind
     if fault and fault.entry == entry:
         first = f", in line {line_number(text, fault.first)}" if fault.first is not None else ""
-        return Place(file, text, fault.at, [f"{fault.what[0].upper()}{fault.what[1:]}{first}." if fault.what[0] != "`" else f"{fault.what}{first}."])
+        return Place(file, text, fault.at, [sentence(fault.what + first)])
     heads = [it.start(1) for it in re.finditer(rf"^[ \t]*(\[\[[ \t]*{heading}[ \t]*\]\])".encode(), text, re.M)]
     return Place(file, text, heads[entry - 1] if 0 < entry <= len(heads) else None)
 

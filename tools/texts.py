@@ -23,6 +23,11 @@ def listed(words, most=12):
     return ", ".join(words[:most]) + (f" and {len(words) - most} more" if len(words) > most else "") if words else "none"
 
 
+def sentence(told):
+    """Returns a sentence of what is told, which begins with a word of English or with a sign."""
+    return f"{told[0].upper()}{told[1:]}."
+
+
 def meant(word, words):
     """Returns which of some words is perhaps meant by a misspelt one, as the end of a sentence."""
     near = difflib.get_close_matches(word, list(words), 1, 0.7)
