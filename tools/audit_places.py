@@ -118,8 +118,7 @@ class Auditor:
         logs = []
         for role, log in self.session.logs.items():
             logs += [f"log {role}"] + [it.text() for it in log if id(it) in first]
-        # (of all events the longest walk is looked for first, which is the nearest to the one that is told)
-        for walk in self.walks_for(count)[:: -1 if count == len(self.order) else 1]:
+        for walk in self.walks_for(count):
             lines = "\n".join([f"session {self.session.name}", *logs, walk, ""])
             with tempfile.NamedTemporaryFile(suffix=".logs") as file:
                 file.write(b"graph {\n" + self.block.rstrip(b"\n") + b"\n}\n" + lines.encode("latin-1"))
