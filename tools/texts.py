@@ -23,6 +23,11 @@ def listed(words, most=12):
     return ", ".join(words[:most]) + (f" and {len(words) - most} more" if len(words) > most else "") if words else "none"
 
 
+def printable(text):
+    """Returns the text with a dot for each character that a terminal would not show as one."""
+    return "".join(it if it.isprintable() and not 0x200B <= ord(it) <= 0x206F else " " if it == "\t" else "." for it in text)
+
+
 def sentence(told):
     """Returns a sentence of what is told, which begins with a word of English or with a sign."""
     return f"{told[0].upper()}{told[1:]}."
