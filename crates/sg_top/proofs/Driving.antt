@@ -21,7 +21,7 @@ use Rattle.sg_drive.specs.Summary.{IsSummary}
 use Rattle.sg_drive.specs.declared.fault.GenerateFault.{GenerateFault}
 use Rattle.sg_drive.specs.declared.fault.GenerateFault.TheVariants.{RecordFull}
 use Rattle.sg_top.specs.Driven.{StopsDrive, Sums}
-use Rattle.sg_top.specs.Ending.{Ending, Written, NoCommand, NoGraph, NoExpansion, GraphRefused, NoRole, WrongLine, KeysRefused, ScriptRefused, ProgramRefused, NoLedger, BadSlot, LedgerNotEmpty, FileFailed, WriteFailed, LinkFailed, DiskFailed, NoMemory, NoSuchFile, TooLarge}
+use Rattle.sg_top.specs.Ending.{Ending, Written, NoCommand, NoGraph, NoExpansion, GraphRefused, NoRole, WrongLine, KeysRefused, ScriptRefused, ClaimsRefused, ClaimFails, ProgramRefused, NoLedger, BadSlot, LedgerNotEmpty, FileFailed, WriteFailed, LinkFailed, DiskFailed, NoMemory, NoSuchFile, TooLarge}
 use Rattle.sg_top.specs.Ends.{Output, Drives, IsDriving}
 
 module _ (seed sessions : ℕ) (g : Graph) (programs : List Program) where
@@ -75,6 +75,8 @@ module _ (seed sessions : ℕ) (g : Graph) (programs : List Program) where
     stopped out (WrongLine line wrong) h = absurd h
     stopped out (KeysRefused fault) h = absurd h
     stopped out (ScriptRefused fault) h = absurd h
+    stopped out (ClaimsRefused fault) h = absurd h
+    stopped out ClaimFails h = absurd h
     stopped out (ProgramRefused number cause) h = absurd h
     stopped out NoLedger h = absurd h
     stopped out (BadSlot slot) h = absurd h

@@ -14,7 +14,7 @@ use Rattle.sg_world.specs.Account.{CanBeNamed, account}
 use Rattle.sg_world.specs.Faults.{IsFull}
 use Rattle.sg_world.specs.Laws.{HasPrograms, LawsHold}
 use Rattle.sg_world.specs.Replay.{Replay, up_to}
-use Rattle.sg_top.specs.Ending.{Ending, Written, NoCommand, NoGraph, NoExpansion, GraphRefused, NoRole, WrongLine, KeysRefused, ScriptRefused, ProgramRefused, NoLedger, BadSlot, LedgerNotEmpty, FileFailed, WriteFailed, LinkFailed, DiskFailed, NoMemory, NoSuchFile, TooLarge}
+use Rattle.sg_top.specs.Ending.{Ending, Written, NoCommand, NoGraph, NoExpansion, GraphRefused, NoRole, WrongLine, KeysRefused, ScriptRefused, ClaimsRefused, ClaimFails, ProgramRefused, NoLedger, BadSlot, LedgerNotEmpty, FileFailed, WriteFailed, LinkFailed, DiskFailed, NoMemory, NoSuchFile, TooLarge}
 use Rattle.sg_top.specs.Ends.{Output, IsReplay, Replays}
 use Rattle.sg_top.specs.Replayed.{CanBeReplayed, HasNoRoom, Reports, Stops, replay_of}
 
@@ -43,6 +43,8 @@ module _ (programs : List Program) (s : Schedule) where
   stops n w (WrongLine line wrong) e l h = absurd h
   stops n w (KeysRefused fault) e l h = absurd h
   stops n w (ScriptRefused fault) e l h = absurd h
+  stops n w (ClaimsRefused fault) e l h = absurd h
+  stops n w ClaimFails e l h = absurd h
   stops n w (ProgramRefused number cause) e l h = absurd h
   stops n w NoLedger e l h = absurd h
   stops n w (BadSlot slot) e l h = absurd h
@@ -84,6 +86,8 @@ module _ (programs : List Program) (s : Schedule) where
     stopped out (WrongLine line wrong) h = absurd h
     stopped out (KeysRefused fault) h = absurd h
     stopped out (ScriptRefused fault) h = absurd h
+    stopped out (ClaimsRefused fault) h = absurd h
+    stopped out ClaimFails h = absurd h
     stopped out (ProgramRefused number cause) h = absurd h
     stopped out NoLedger h = absurd h
     stopped out (BadSlot slot) h = absurd h
