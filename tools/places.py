@@ -425,6 +425,9 @@ def in_graphs(program, words, file, text, line, how, said):
 
 def place_of(program, words, line, how, said, kind):
     """Returns the place that a refusal speaks of, or nothing where it speaks of no file, or of one that can't be read."""
+    if how == "claims":
+        text = read(words[2])
+        return Place(words[2], text, int(said[2])) if text is not None else None
     named = file_of(words, line)
     text = read(named[0]) if named else None
     if text is None:
