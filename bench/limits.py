@@ -4,6 +4,7 @@
 
 prints what the hashes of each step of a schedule take where a compression takes so many nanoseconds.
 """
+import os
 import pathlib
 import subprocess
 import sys
@@ -53,13 +54,13 @@ print(status, used.ru_utime + used.ru_stime, used.ru_maxrss / 1024)
 """
 
 
-def ran(words, folder=None):
-    """Runs a program in a folder: what it printed, the seconds of a processor that it took, and its peak memory in MiB. It must end with status 0."""
+def ran(words, folder=None, end=0):
+    """Runs a program in a folder: what it printed, the seconds of a processor that it took, and its peak memory in MiB. It must end with this status."""
     with tempfile.NamedTemporaryFile() as out:
         told = subprocess.run([sys.executable, '-c', MEASURE, out.name, *words], cwd=folder, stdout=subprocess.PIPE, text=True, check=True).stdout
         status, spent, peak = told.split()
-        if status != '0':
-            sys.exit(f'{words}: status {status}')
+        if os.waitstatus_to_exitcode(int(status)) != end:
+            sys.exit(f'{words}: status {os.waitstatus_to_exitcode(int(status))}')
         return out.read(), float(spent), float(peak)
 
 
