@@ -66,6 +66,10 @@ module _ (g : Shape) (c : Claim) (at : ℕ) (entries : List Entry) (seen : List 
   found : (v : List ℕ) → Walk g 0 v → Found v (end_of g 0 v) (bit_after_all c false v)
   found v r = all [] 0 false v begins r
 
+  -- once all entries were followed, where each walk comes was found
+  pub found_at_end : length entries ≤ at → (v : List ℕ) → Walk g 0 v → (i : ℕ) × (i < length entries) × ((entry_at entries i).node ≡ end_of g 0 v) × ((entry_at entries i).bit ≡ bit_after_all c false v)
+  found_at_end over v r = elim (found v r) [ inl q ↦ (q.0, q.1, q.2, q.3) | inr q ↦ absurd (let k = q.0 in omega arith) ]
+
   -- once all entries were followed, the claim holds
   pub holds_at_end : length entries ≤ at → HoldsOnWalks g c
   holds_at_end over walk r before l after e i =

@@ -12,9 +12,12 @@
 
 mod claim;
 mod decision;
+mod dominators;
 mod label_set;
 mod search;
+mod suggestion;
 
 pub use claim::{Claim, ClaimKind, NamedClaim};
 pub use decision::{Answer, decide};
 pub use label_set::LabelSet;
+pub use suggestion::suggest;
