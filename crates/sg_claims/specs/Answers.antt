@@ -1,5 +1,4 @@
 -- What is answered of a claim.
-use Rattle.std.specs.Prelude.{Bool, true, false}
 use Rattle.sg_model.specs.Shape.{Shape}
 use Rattle.sg_model.specs.Claims.{Claim, HoldsOnWalks}
 use Rattle.sg_claims.specs.Breaks.{IsFirstBreak}
@@ -10,8 +9,3 @@ use Rattle.sg_claims.specs.declared.decision.Answer.TheVariants.{Holds, Fails}
 abbrev pub IsAnswer : Shape → Claim → Answer → Type 0
 IsAnswer g c Holds = HoldsOnWalks g c
 IsAnswer g c (Fails walk) = IsFirstBreak g c walk.items
-
--- by the answer the claim holds
-abbrev pub does_hold : Answer → Bool
-does_hold Holds = true
-does_hold (Fails walk) = false

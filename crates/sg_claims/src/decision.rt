@@ -22,17 +22,6 @@ pub enum Answer {
     Fails(Vec<Label>),
 }
 
-impl Answer {
-    ghost use Rattle.sg_claims.specs.Answers.{does_hold};
-
-    /// Whether the claim holds.
-    pub fn holds(&self) -> bool
-        ensures { result ≡ does_hold self.now }
-    {
-        matches!(self, Answer::Holds)
-    }
-}
-
 /// Decides a claim on a graph of any shape, in time proportional to its edges. It takes memory for the nodes that it comes to, and for
 /// the walk.
 pub fn decide(alloc: Global, graph: &Graph, claim: &Claim) -> Result<Answer, OutOfMemory>

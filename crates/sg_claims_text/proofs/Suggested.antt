@@ -17,7 +17,7 @@ use Rattle.sg_claims_text.specs.Grammar.{AreLabels, IsClaim, SpellsClaims, betwe
 use Rattle.sg_claims_text.specs.Written.{written}
 use Rattle.sg_claims_text.proofs.Among.{name_at, within}
 use Rattle.sg_claims_text.proofs.Lexed.{written-spells}
-use Rattle.sg_graph.specs.Parts.{edge_names}
+use Rattle.sg_graph.specs.Parts.{edge_name, edge_names}
 use Rattle.sg_model.specs.Claims.{Claim}
 use Rattle.sg_model.specs.Lists.{all_differ, has_text, range_from}
 use Rattle.sg_model.specs.Names.{Name, is_name, reserved}
@@ -125,7 +125,7 @@ module _ (g : Graph) where
     some = omega arith;
     there = one_element (λ l. l < length (edge_names g)) a (within g a l);
     differ = refl;
-    spelled = one_element (λ l. has_text (get_or (edge_names g) l []) between ≡ false) a (ap (λ n. has_text n between) (name_at g a l) ∙ not-true (has_text _ between) t);
+    spelled = one_element (λ l. has_text (get_or (edge_names g) l []) between ≡ false) a (ap (λ n. has_text n between) (name_at g a l) ∙ not-true (has_text (edge_name g a) between) t);
   }
 
   nearest_claims : (a : ℕ) (near : Option ℕ) → a < length g.edges → can_be_named g a ≡ true → IsNearestOf (shape g) a near → All (IsClaim (edge_names g)) (needs_nearest g a near)

@@ -1,11 +1,11 @@
 -- Claims that are decided on a graph, file after file and claim after claim.
 use Rattle.std.proofs.Common.{◌≡◌, ℕ, ◌+◌, ◌≤◌, ◌<◌, inl, inr, Bool, ◌&&◌, List, [], ◌∷◌, ◌++◌, take, get_or, length, sym, ap, ◌∙◌, subst}
 use Rattle.std.proofs.lemmas.List.{take_more}
-use Rattle.sg_claims.specs.Answers.{IsAnswer, does_hold}
+use Rattle.sg_claims.specs.Answers.{IsAnswer}
 use Rattle.sg_claims.specs.declared.claim.NamedClaim.{NamedClaim}
 use Rattle.sg_claims.specs.declared.decision.Answer.{Answer}
 use Rattle.sg_protocol.specs.Graph.{Graph, shape}
-use Rattle.sg_top.specs.Claimed.{AreAnswered, OneMore, OnClaims, answer_line, most_claims_file}
+use Rattle.sg_top.specs.Claimed.{AreAnswered, OneMore, OnClaims, answer_line, does_hold, most_claims_file}
 use Rattle.sg_top.specs.Ending.{Ending}
 use Rattle.sg_top.specs.Ends.{Told, Output}
 use Rattle.sg_top.proofs.InOrder.{unread}

@@ -1,6 +1,6 @@
 -- What is said of claims of a graph, which claims are suggested, and how the program ends by it.
 use Rattle.std.specs.Prelude.{◌≡◌, ◌≢◌, ℕ, ◌⊎◌, Bool, true, false, ◌&&◌, if◌then◌else◌, List, [], ◌∷◌, ◌++◌, All, Err, codes, length, ⊤}
-use Rattle.sg_claims.specs.Answers.{IsAnswer, does_hold}
+use Rattle.sg_claims.specs.Answers.{IsAnswer}
 use Rattle.sg_claims.specs.Suggestions.{AreSuggested}
 use Rattle.sg_claims.specs.declared.claim.NamedClaim.{NamedClaim}
 use Rattle.sg_claims.specs.declared.decision.Answer.{Answer}
@@ -33,6 +33,11 @@ most_claims_file = 1048576
 abbrev pub answer_line : Graph → NamedClaim → Answer → List ℕ
 answer_line g c HoldsOfAll = codes "claim " ++ c.name ++ codes " holds\n"
 answer_line g c (Fails walk) = codes "claim " ++ c.name ++ codes " fails:" ++ walk_text g walk.items ++ 10 ∷ []
+
+-- by the answer the claim holds
+abbrev pub does_hold : Answer → Bool
+does_hold HoldsOfAll = true
+does_hold (Fails walk) = false
 
 -- the text is the lines of true answers to these claims, in their order, and this is whether all of them hold
 pub data AreAnswered (g : Graph) : List NamedClaim → List ℕ → Bool → Type 0 where

@@ -3,7 +3,7 @@ ghost use Rattle.std.specs.Prelude.{◌≡◌, ◌≤◌, ◌++◌, IfErr, IfOk,
 ghost use Rattle.sg_claims_text.specs.Grammar.{SpellsClaims};
 ghost use Rattle.sg_model.specs.Limits.{most_graph_file};
 ghost use Rattle.sg_parse.specs.Grammar.{SpellsGraph};
-ghost use Rattle.sg_top.specs.Claimed.{AreAnswered, Decides, DecidesClaims, IsAcceptedText, OnClaims, OnClaimsIn, RefusesGraph, answer_line};
+ghost use Rattle.sg_top.specs.Claimed.{AreAnswered, Decides, DecidesClaims, IsAcceptedText, OnClaims, OnClaimsIn, RefusesGraph, answer_line, does_hold};
 ghost use Rattle.sg_top.specs.Model.{ending_held};
 ghost use Rattle.sg_top.specs.Setup.{EndsAt, Holds};
 
@@ -143,7 +143,7 @@ fn answers_text(
     for claim in claims {
         let answer = decide(alloc, graph, &claim.claim)?;
         put_answer(&mut text, graph, claim, &answer)?;
-        all_hold &= answer.holds();
+        all_hold &= does_hold(&answer);
     }
     Ok((text.done(), all_hold))
 }
@@ -167,4 +167,10 @@ fn put_answer(
             out.u8(b'\n')
         }
     }
+}
+
+fn does_hold(answer: &Answer) -> bool
+    ensures { result ≡ does_hold answer.now }
+{
+    matches!(answer, Answer::Holds)
 }

@@ -8,5 +8,5 @@ loop-claim-init c = subst (λ t. AreAnswered c.args.graph.now [] t true) (sym c.
 
 pub loop-claim-preserved : goal.loop-claim-preserved
 loop-claim-preserved c =
-    one_more c.args.graph.now c.args.claims.now c.loop-claim.claim-index c.claim-item.result c.in_ok-answer.answer c.loop-claim.text c.put_answer.new.out c.loop-claim.all_hold c.holds-all_hold.result
-    c.loop-claim-test.true c.claim-item.is c.loop-claim.invariant c.in_ok-answer.ensures c.in_ok-put_answer.ensures c.holds-all_hold.ensures
+    one_more c.args.graph.now c.args.claims.now c.loop-claim.claim-index c.claim-item.result c.in_ok-answer.answer c.loop-claim.text c.put_answer.new.out c.loop-claim.all_hold c.does_hold-all_hold.result
+    c.loop-claim-test.true c.claim-item.is c.loop-claim.invariant c.in_ok-answer.ensures c.in_ok-put_answer.ensures c.does_hold-all_hold.ensures
