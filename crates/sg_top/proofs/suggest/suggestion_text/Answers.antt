@@ -14,5 +14,5 @@ returns c =
       claims = claims;
       suggested = c.in_ok-claims.ensures.claims;
       says = says;
-      spelled = subst (λ t. SpellsClaims g t claims) (sym says) (suggestion-spells g claims c.name.ensures.graph c.in_ok-claims.ensures.claims);
+      spelled = subst (λ t. SpellsClaims g t claims) (sym says) (suggestion-spells g claims c.name-name.ensures.graph c.in_ok-claims.ensures.claims);
     }
