@@ -626,8 +626,7 @@ fn suggests_claims(rt: HostRuntime) {
         "claims note;\nclaim c1: Bid bars Bid;\nclaim c2: Ask needs Bid;\nclaim c3: Ask bars Ask;\n";
     writes(alloc, &rt, "claims f", &[NOTE], &[claims]);
     let left = decided(alloc, &rt, claims, 0, WHOLE);
-    let holds = b"claim c1 holds\nclaim c2 holds\nclaim c3 holds\n";
-    assert!(rt; left.is(0, holds, ""));
+    assert!(rt; left.is(0, b"claim c1 holds\nclaim c2 holds\nclaim c3 holds\n", ""));
     let line = "graph refused: unexpected at 5\n";
     refuses(alloc, &rt, "claims f", &["graph;"], 3, line);
     refuses(alloc, &rt, "claims g", &[], 9, "no such file: g\n");

@@ -12,7 +12,7 @@ returns c =
     let says : c.in_ok-text.text.items ≡ written g claims = c.in_ok-text.ensures ∙ ap (λ (cs : List NamedClaim). written g cs) c.as_slice.ensures.value in
     record {
       claims = claims;
-      suggested = c.in_ok-claims.ensures.claims;
+      suggested = c.in_ok-claims.ensures;
       says = says;
-      spelled = subst (λ t. SpellsClaims g t claims) (sym says) (suggestion-spells g claims c.name-name.ensures.graph c.in_ok-claims.ensures.claims);
+      spelled = subst (λ t. SpellsClaims g t claims) (sym says) (suggestion-spells g claims c.name-name.ensures.graph c.in_ok-claims.ensures);
     }
