@@ -10,13 +10,10 @@ import tempfile
 import line_forms
 import run_files
 import toml_text
+from blinding import mends, where_walks_part
 from texts import (KINDS, NAME_RULE, RESERVED, STEPS, Graph, Names, Program, blocks_of, graph_statements, kind_of, line_number, lines_of,
                    lines_outside, listed, meant, sentence, statements)
 
-try:
-    from blinding import where_walks_part
-except ImportError:
-    where_walks_part = None
 
 
 class Place:
@@ -136,20 +133,17 @@ def of_graph(text, how, said, line):
 
 
 def of_blinding(text, graph, said, line):
-    """Tells where the two walks part, if that isn't the node which the refusal names."""
-    if where_walks_part:
-        it = where_walks_part(text.decode("latin-1"), line)
-        node, number, first, second = (it.node, it.line, it.first, it.second) if it else (None, 0, [], [])
-    else:
-        walks = [walk.split() for walk in re.fullmatch(r".*: ([\w ]+) / ([\w ]+)", line.strip()).groups()]
-        shared = next((at for at, (one, two) in enumerate(zip(*walks)) if one != two), 0)
-        first, second = walks[0][shared:], walks[1][shared:]
-        node = graph.edges[first[0]].source if first and first[0] in graph.edges else None
-        found = declared(graph_statements(text), "node", node) if node else None
-        number = line_number(text, found[1][1]) if found else 0
-    if node is None or node == said[2] or not number:
-        return None
-    return f"The two walks part at {node}, which line {number} declares, by {first[0]} and {second[0]}: there the graph is to be mended."
+    """Tells where the two walks part, if that isn't the node which the refusal names, and which node on which of them mends it."""
+    a, b, *walks = re.fullmatch(r".* for (\w+) and (\w+): ([\w ]+) / ([\w ]+)", line.strip()).groups()
+    it = where_walks_part(text.decode("latin-1"), line)
+    first, second = (it.first, it.second) if it else (walk.split() for walk in walks)
+    edges = {label: (edge.source, edge.target) for label, edge in graph.edges.items()} if it and graph.is_whole() else {}
+    found, whole = mends(graph.nodes, edges, a, b, first, second)
+    mended = ", or ".join(f"a node of {it.role} on `{' '.join(it.walk)}` right before that of {it.target}" for it in found)
+    told = f"To mend it, put {mended}." + {None: "", True: " The graph then has no blinding.", False: " The graph then still has another blinding."}[whole]
+    if it and it.node != said[2]:
+        told = f"The two walks part at {it.node}, which line {it.line} declares, by {first[0]} and {second[0]}. {told}"
+    return told
 
 
 # ---- schedules and logs
