@@ -353,6 +353,8 @@ def files_of(words):
         return [(words[1], kinds[words[0]])]
     if words[0] == "drive":
         return [(words[3], "graph")]
+    if words[0] == "claims":
+        return [(words[1], "graph"), (words[2], "claims")]
     if words[0] == "ledger":
         return []
     first = 2 if words[0] == "keep" else 1
@@ -362,6 +364,8 @@ def files_of(words):
 def file_of(words, line):
     """Returns the file that a refusal speaks of with the kind that it should be of: a command's own, or that of a run which the line names."""
     files = files_of(words)
+    if words[0] == "claims" and line.startswith(b"input refused: claims"):
+        return files[1]
     if words[0] not in ("run", "keep", "stream"):
         return files[0] if files else None
     said = re.match(rb"input refused: (?:(keys)|(script)|(ledger)|program (\d+))", line)
@@ -373,9 +377,14 @@ def file_of(words, line):
 def of_kind(words, text, wanted_kind):
     """Tells that a file is of another kind than the command takes, by its look."""
     kind = kind_of(text)
-    if kind is None or kind == wanted_kind or {kind, wanted_kind} == {"graph", "parts"} and wanted_kind == "parts" or {kind, wanted_kind} == {"schedule", "logs"} and b"\nlog " not in text:
+    if kind is None or kind == wanted_kind or (kind, wanted_kind) == ("graph", "parts"):
+        return None
+    if (kind, wanted_kind) == ("schedule", "logs") and not any(it[0][0] in ("honest", "key", *STEPS) for _, _, it in lines_outside(text)):
+        # (logs without a log begin as a schedule does)
         return None
     takes = {"keys": "key file", "script": "script", "program": "program", "ledger": "ledger"}.get(wanted_kind)
+    if words[0] == "claims":
+        takes = {"graph": "graph", "claims": "text of claims"}[wanted_kind]
     then = {"parts": " Try `compose`.", "schedule": " Try `replay`.", "logs": " Try `audit`.", "graph": " Try `check`."}.get(kind, "") if not takes else ""
     behind = f"stands where the {takes} must" if takes else f"`{words[0]}` takes {KINDS[wanted_kind].partition(',')[0]}"
     told = KINDS[kind].partition(",")[0] if kind == "parts" else KINDS[kind]
@@ -419,9 +428,6 @@ def in_graphs(program, words, file, text, line, how, said):
 
 def place_of(program, words, line, how, said, kind):
     """Returns the place that a refusal speaks of, or nothing where it speaks of no file, or of one that can't be read."""
-    if how == "claims":
-        text = read(words[2])
-        return Place(words[2], text, int(said[2])) if text is not None else None
     named = file_of(words, line)
     text = read(named[0]) if named else None
     if text is None:
@@ -431,6 +437,8 @@ def place_of(program, words, line, how, said, kind):
     if other:
         # (what is wrong in a file of another kind tells nothing)
         return Place(file, text, None, [other], whole=True)
+    if how == "claims":
+        return Place(file, text, int(said[2]))
     if how == "toml":
         return in_toml(file, text, said, [Program(read(it) or b"") for it, kind in files_of(words) if kind == "program"])
     if how in ("offset", "entry"):

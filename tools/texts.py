@@ -230,10 +230,11 @@ KINDS = {
     "program": "a program, as `compile` writes it",
     "schedule": "a schedule",
     "logs": "a log file",
-    "lines": "the lines of a run, or a report",
+    "lines": "a report, or the lines of a run",
     "keys": "a key file",
     "script": "a script",
     "ledger": "a ledger",
+    "claims": "a text of claims",
 }
 # In the order in which they are looked for: how a text of a kind begins, or what stands in it.
 SIGNS = (
@@ -242,6 +243,7 @@ SIGNS = (
     ("lines", rb"\d+ (?:%b \w+ |crafted f)" % NAME.encode()),
     ("logs", rb"(?s:graph \{\r?\n.*?^\}\r?\n.*?^log \w+\r?$)"),
     ("schedule", rb" *(?:graph +\{|honest +\w+|key +\w+ \w+ |session +\w+ \w+ \d|edge +\w+ +\d+ +\d+|(?:start|act|deliver) +\w+ +\w+|craft +\w+ +from )"),
+    ("claims", rb"\s*claims\s+\w+\s*;"),
     ("parts", rb"(?s:graph\s+\w+\s*;.*^\s*(?:use|graph)\s+\w+\s*[:;])"),
     ("graph", rb"\s*graph\s+\w+\s*;?\s+(?:#[^\n]*\s+)*role\s"),
     ("script", rb"\[\[ *(?:start|choice) *\]\]|(?:start|choice) *="),

@@ -222,6 +222,10 @@ class Watched(model.Run):
         commitments = model.latest(session.own() + frame.items[:place])
         wanted, has = (fields_of(session.graph, one) for one in (session.item_text(item, session.role, commitments), text))
         other = [part for part in wanted if wanted[part] != has[part]]
+        lacks = [part for part in other if part.startswith('commitment') and len(has[part]) == 1]
+        if lacks and lacks == other:
+            names = listed(part.replace('commitment of ', '') for part in lacks)
+            return f'{what} was made without commitments of {names}: in a `craft` line they stand behind `know`, where no item has them'
         # (commitments are of their session, so in another one all of them are others)
         return f'{what} was made on another {listed(part for part in other if "session" not in other or not part.startswith("commitment"))}'
 
