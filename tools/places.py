@@ -188,6 +188,14 @@ def of_blinding(text, graph, said, line):
     return told
 
 
+def of_claims(graph, text, at, line):
+    """Tells which label or graph is perhaps meant by a name in a text of claims that the graph doesn't have."""
+    name = re.match(rb"\w*", text[at:])[0].decode("latin-1")
+    if b"unknown name" in line:
+        return f"{graph.name} has no label {name}{meant(name, graph.edges)}: its labels are {listed(graph.edges)}."
+    return f"The graph is called {graph.name}, and these are claims of {name}." if b"other graph" in line else None
+
+
 # ---- schedules and logs
 
 
@@ -481,7 +489,7 @@ def place_of(program, words, line, how, said, kind):
         # (what is wrong in a file of another kind tells nothing)
         return Place(file, text, None, [other], whole=True)
     if how == "claims":
-        return Place(file, text, int(said[2]))
+        return Place(file, text, int(said[2]), [of_claims(Graph(read(words[1]) or b""), text, int(said[2]), line)])
     if how == "toml":
         return in_toml(file, text, said, [Program(read(it) or b"") for it, kind in files_of(words) if kind == "program"])
     if how in ("offset", "entry"):
