@@ -12,6 +12,8 @@ Parting.__doc__ = """The node's name, the line and the column (from 1) of its na
 labels of the first and of the second walk from the node on, none of them empty."""
 
 REFUSAL = re.compile(r'(?:graph refused: )?blinding at (\w+) for (\w+) and (\w+): ([\w ]+) / ([\w ]+)')
+Mend = namedtuple('Mend', 'role walk target')
+Mend.__doc__ = """The role that gets a node on a walk, a list of labels, right before its last node, and the role of that last node."""
 NAME = '[A-Za-z][A-Za-z0-9_]*'
 
 
@@ -57,3 +59,42 @@ def where_walks_part(text, line):
         node = statement('edge', shared[-1], rf'\s*{NAME}\s*->\s*({NAME})').search(bare, *fitting[0])[2]
     at = statement('node', node).search(bare, *fitting[0]).start(1)
     return Parting(node, text.count('\n', 0, at) + 1, at - text.rfind('\n', 0, at), shared, first[len(shared):], second[len(shared):])
+
+
+def blinded(nodes, ways):
+    """Each node with each two roles that it blinds, as triples. Nodes have their roles by name, and ways are pairs of nodes."""
+    roles, into, found = sorted(set(nodes.values())), {}, set()
+    for source, target in ways:
+        into.setdefault(target, set()).add(source)
+    for place, a in enumerate(roles):
+        for b in roles[place + 1:]:
+            both = set(nodes)
+            for role in (a, b):
+                # (the nodes from which a walk leads to the role, and passes none of the two before)
+                queue, seen = [node for node in nodes if nodes[node] == role], set()
+                while queue:
+                    more = {node for node in into.get(queue.pop(), ()) if nodes[node] not in (a, b)} - seen
+                    seen |= more
+                    queue += more
+                both &= seen
+            found |= {(node, a, b) for node in both}
+    return found
+
+
+def mends(nodes, edges, a, b, first, second):
+    """How a blinding for two roles is mended: the one gets a node on the walk to the other. Walks are from where they part on; nodes have their roles by
+    name, and edges their two nodes.
+
+    Which of the two mends are best, as `Mend`s: those that bring no new blinding, if there are such, and of these the ones that leave fewest. And whether
+    nothing is blinded afterwards, which is None where the edges of the walks aren't known."""
+    both = [Mend(a, second, b), Mend(b, first, a)]
+    if any(label not in edges for label in first + second):
+        return both, None
+    before, left = blinded(nodes, edges.values()), {}
+    for it in both:
+        source, target = edges[it.walk[-1]]
+        ways = [ends for label, ends in edges.items() if label != it.walk[-1]] + [(source, ''), ('', target)]
+        found = {one for one in blinded({**nodes, '': it.role}, ways) if one[0]}
+        left[it.role] = bool(found - before), len(found)
+    best = min(left.values())
+    return [it for it in both if left[it.role] == best], best[1] == 0

@@ -8,7 +8,8 @@
 
 In a generated run every principal is honest and frames come whole, so whether a delivery is accepted follows from the places and times of
 the roles alone: a joining frame of a role that hasn't joined, or another frame of a live role that waits, with a time above its own last
-one. It needs python3 alone."""
+one. It needs python3 alone. The exit status is 0, or 1 where the program's lines are others or GRAPH can't be read, or 2 where the words are others."""
+import os
 import re
 import subprocess
 import sys
@@ -185,9 +186,19 @@ def compare(program, drive, text):
     return None
 
 
+USAGE = 'usage: tools/drive_model.py [--schedule | --replay PROGRAM] SEED SESSIONS GRAPH'
+
+
 def main():
     words = sys.argv[1:]
     mode, program = None, None
+    first = {'--schedule': 1, '--replay': 2}.get(words[0], 0) if words else 0
+    if len(words) != first + 3 or not all(re.fullmatch('[0-9]+', word) for word in words[first:first + 2]):
+        print(USAGE, file=sys.stderr)
+        return 2
+    if not os.path.isfile(words[-1]):
+        print(f'drive_model.py: {words[-1]} is no file', file=sys.stderr)
+        return 1
     if words[0] == '--schedule':
         mode, words = 'schedule', words[1:]
     elif words[0] == '--replay':

@@ -10,13 +10,9 @@ import tempfile
 import line_forms
 import run_files
 import toml_text
-from texts import (KINDS, NAME_RULE, RESERVED, STEPS, Graph, Names, Program, blocks_of, graph_statements, kind_of, line_number, lines_of,
+from blinding import mends, where_walks_part
+from texts import (KINDS, NAME_RULE, RESERVED, STEPS, TOKEN, Graph, Names, Program, blocks_of, graph_statements, kind_of, line_number, lines_of,
                    lines_outside, listed, meant, sentence, statements)
-
-try:
-    from blinding import where_walks_part
-except ImportError:
-    where_walks_part = None
 
 
 class Place:
@@ -83,13 +79,56 @@ def of_token(text, at, what):
     found = [it for it in statements(text[: at + len(token)])]
     statement = found[-1] if found and found[-1][-1][1] == at else []
     if what == "unexpected":
-        wants_name = statement[-2:-1] and (statement[-2][0] in ("graph", "role", "var", "node", "edge", "use", "by", ":", "->", "writes", "reads"))
-        return f"{token} is a reserved word, and here a name is wanted." if token in RESERVED and wants_name else None
+        return of_unexpected(begun(text, at), token)
     if what == "twice" and statement:
         return of_second(text, found, statement, token)
     if what == "unknown name" and statement:
         return of_unknown(found, statement, token)
     return None
+
+
+# The forms of statements in graph texts.
+STATEMENTS = {
+    "graph": "graph NAME;",
+    "role": "role NAME;",
+    "var": "var NAME: int by ROLE ..;, or var NAME: text by ROLE ..;",
+    "node": "node NAME: ROLE;",
+    "edge": "edge LABEL: NODE -> NODE [writes VAR ..] [reads VAR ..];",
+    "use": "use NAME: PART NODE -> NODE as ROLE ..;",
+}
+# The words that they begin with.
+ORDERS = {
+    "graph": ["graph", "a name"],
+    "role": ["role", "a name"],
+    "var": ["var", "a name", ":", "int", "by"],
+    "node": ["node", "a name", ":", "a name"],
+    "edge": ["edge", "a name", ":", "a name", "->", "a name"],
+    "use": ["use", "a name", ":", "a name", "a name", "->", "a name", "as"],
+}
+
+
+def begun(text, at):
+    """Returns the words of the statement in a graph text that is begun before an offset."""
+    words = [it[0].decode("latin-1") for it in TOKEN.finditer(text[:at]) if not it[0].startswith(b"#")]
+    return words[max((place + 1 for place, it in enumerate(words) if it == ";"), default=0) :]
+
+
+def of_unexpected(words, token):
+    """Tells what should stand behind the words of a statement that is begun, in the place of a token."""
+    if not words and token not in RESERVED and re.match("[A-Za-z]", token):
+        return f"No statement begins with {token}{meant(token, STATEMENTS)}."
+    if not words or words[0] not in STATEMENTS:
+        return None
+    kind, before = words[0], words[-1]
+    if kind == "var" and len(words) == 3 and before == ":":
+        return f"A variable is `int` or `text`{f', and {token} is neither' if token else ''}."
+    if kind == "edge" and token == "writes" and "reads" in words:
+        return "`writes` stands before `reads`."
+    order = ORDERS[kind]
+    wanted = order[len(words)] if len(words) < len(order) else "a name" if before in ("by", "as", "writes", "reads") else ";"
+    if wanted == "a name":
+        return f"{token} is a reserved word, and here a name is wanted." if token in RESERVED else f"A name must stand behind {before}."
+    return f"`{wanted}` must stand behind {before}."
 
 
 def of_second(text, found, statement, name):
@@ -136,20 +175,25 @@ def of_graph(text, how, said, line):
 
 
 def of_blinding(text, graph, said, line):
-    """Tells where the two walks part, if that isn't the node which the refusal names."""
-    if where_walks_part:
-        it = where_walks_part(text.decode("latin-1"), line)
-        node, number, first, second = (it.node, it.line, it.first, it.second) if it else (None, 0, [], [])
-    else:
-        walks = [walk.split() for walk in re.fullmatch(r".*: ([\w ]+) / ([\w ]+)", line.strip()).groups()]
-        shared = next((at for at, (one, two) in enumerate(zip(*walks)) if one != two), 0)
-        first, second = walks[0][shared:], walks[1][shared:]
-        node = graph.edges[first[0]].source if first and first[0] in graph.edges else None
-        found = declared(graph_statements(text), "node", node) if node else None
-        number = line_number(text, found[1][1]) if found else 0
-    if node is None or node == said[2] or not number:
-        return None
-    return f"The two walks part at {node}, which line {number} declares, by {first[0]} and {second[0]}: there the graph is to be mended."
+    """Tells where the two walks part, if that isn't the node which the refusal names, and which node on which of them mends it."""
+    a, b, *walks = re.fullmatch(r".* for (\w+) and (\w+): ([\w ]+) / ([\w ]+)", line.strip()).groups()
+    it = where_walks_part(text.decode("latin-1"), line)
+    first, second = (it.first, it.second) if it else (walk.split() for walk in walks)
+    edges = {label: (edge.source, edge.target) for label, edge in graph.edges.items()} if it and graph.is_whole() else {}
+    found, whole = mends(graph.nodes, edges, a, b, first, second)
+    mended = ", or ".join(f"a node of {it.role} on `{' '.join(it.walk)}` right before that of {it.target}" for it in found)
+    told = f"To mend it, put {mended}." + {None: "", True: " The graph then has no blinding.", False: " The graph then still has another blinding."}[whole]
+    if it and it.node != said[2]:
+        told = f"The two walks part at {it.node}, which line {it.line} declares, by {first[0]} and {second[0]}. {told}"
+    return told
+
+
+def of_claims(graph, text, at, line):
+    """Tells which label or graph is perhaps meant by a name in a text of claims that the graph doesn't have."""
+    name = re.match(rb"\w*", text[at:])[0].decode("latin-1")
+    if b"unknown name" in line:
+        return f"{graph.name} has no label {name}{meant(name, graph.edges)}: its labels are {listed(graph.edges)}."
+    return f"The graph is called {graph.name}, and these are claims of {name}." if b"other graph" in line else None
 
 
 # ---- schedules and logs
@@ -427,9 +471,10 @@ def in_graphs(program, words, file, text, line, how, said):
         here = f"{Graph(graph).name} has the roles {listed(roles, 16)}{meant(role, roles)}."
     else:
         here = of_token(graph, at, said[1]) if how == "token" else of_graph(graph, how, said, told)
+    form = STATEMENTS.get((begun(graph, at) or [""])[0]) if how == "token" and said[1] == "unexpected" else None
     shift = line_number(text, first) - 1
     here = re.sub(r"\bline (\d+)", lambda it: f"line {int(it[1]) + shift}", here) if here else None
-    return Place(file, text, None if at is None else first + at, [here])
+    return Place(file, text, None if at is None else first + at, [here], form)
 
 
 def place_of(program, words, line, how, said, kind):
@@ -444,7 +489,7 @@ def place_of(program, words, line, how, said, kind):
         # (what is wrong in a file of another kind tells nothing)
         return Place(file, text, None, [other], whole=True)
     if how == "claims":
-        return Place(file, text, int(said[2]))
+        return Place(file, text, int(said[2]), [of_claims(Graph(read(words[1]) or b""), text, int(said[2]), line)])
     if how == "toml":
         return in_toml(file, text, said, [Program(read(it) or b"") for it, kind in files_of(words) if kind == "program"])
     if how in ("offset", "entry"):

@@ -244,6 +244,28 @@ def ruled_out(root, programs, head=None):
     return sorted(found, key=lambda one: one.at)
 
 
+def comes_again(graph, node):
+    """Returns whether a walk leads from a node to itself."""
+    seen, todo = set(), [node]
+    while todo:
+        found = {edge.target for edge in graph.edges.values() if edge.source == todo[-1]} - seen
+        todo.pop()
+        seen |= found
+        todo += found
+    return node in seen
+
+
+def made_once(root, programs):
+    """Returns of each choice that is the only one for a node of a loop, and has one use by having no `times`, that it is made once."""
+    graphs, found = graphs_of(programs), []
+    tables = [(entry, it.value) for entry, it in enumerate(tables_of(root, "choice"), 1)]
+    turns = [(it["graph"].value, it["node"].value) for _, it in tables]
+    for (entry, it), (graph, node) in zip(tables, turns):
+        if "times" not in it and turns.count((graph, node)) == 1 and comes_again(graphs[graph], node):
+            found.append(Advice("choice", entry, "node", it["node"].at, f"it is made once, since it has no `times`, and a session may come to {node} again, which then is abandoned there"))
+    return found
+
+
 def graphs_of(programs):
     """Returns the graphs of programs by their names, the first of each name."""
     graphs = {}
