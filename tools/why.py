@@ -16,12 +16,10 @@ import model
 # Refusals of which the sentence says no more than the rule; NAME is the principal.
 RULES = {
     'unknown-graph': 'the schedule has no graph with this digest and such a role',
-    'bad-cast': "the cast has a wrong number of principals, one of them twice, or NAME or the sender isn't there in its role",
     'bad-session': "the session's identifier is not that of the cast in the frame",
     'joined': 'NAME joined this session before, and joins none twice',
     'cache-full': 'NAME joined 65,536 sessions',
     'sessions-full': 'NAME has 4,096 live sessions',
-    'bad-values': 'the values are not those that the edge writes, or have another type',
     'time-spent': 'the session has come to the last time there is',
 }
 
@@ -80,7 +78,9 @@ class Watched(model.Run):
 
     def start(self, place, who, declared):
         """A start."""
-        return self.watched(place, lambda: super(Watched, self).start(place, who, declared), lambda why: self.rule(who, why))
+        graph = declared.graph
+        return self.watched(place, lambda: super(Watched, self).start(place, who, declared),
+                            lambda why: cast_fault(graph, declared.cast, graph.nodes[0].role, who) if why == 'bad-cast' else self.rule(who, why))
 
     def abandon(self, place, who, declared):
         """An abandonment."""
@@ -91,7 +91,7 @@ class Watched(model.Run):
         sid = model.sha256(model.text_of_session(declared.cast))
         self.note(sid, [model.Opening(variable, model.confounder_of(place, variable), value) for variable, value in values.items()])
         return self.watched(place, lambda: super(Watched, self).act(place, who, declared, label, values),
-                            lambda why: self.act_fault(who, declared.graph, sid, label, why))
+                            lambda why: self.act_fault(who, declared.graph, sid, label, values, why))
 
     def deliver(self, place, who, kind, what, change):
         """A delivery."""
@@ -114,7 +114,7 @@ class Watched(model.Run):
             return f'{who.name} shares no key with {why.split(" ")[1]}'
         return RULES.get(word, why).replace('NAME', who.name)
 
-    def act_fault(self, who, graph, sid, label, why):
+    def act_fault(self, who, graph, sid, label, values, why):
         """Why an act is refused."""
         if why == 'unknown-session':
             return f'{who.name} is in no such live session: {self.standing(who, sid)}'
@@ -125,6 +125,8 @@ class Watched(model.Run):
         if why == 'no-such-label':
             leaving = listed(graph.edges[other].label for other in graph.leaving(session.place()))
             return f'the session is at {node.name}, which {leaving} may leave, and not {graph.edges[label].label}'
+        if why.startswith('bad-values'):
+            return values_fault(graph, graph.edges[label], values, why.split(' ')[1])
         return self.rule(who, why)
 
     def standing(self, who, sid):
@@ -150,6 +152,9 @@ class Watched(model.Run):
             return f'it is the turn of {who.name}'
         found = {'bad-frame-tag': self.seal_fault, 'no-such-view': self.view_fault, 'bad-time': self.time_fault,
                  'bad-evidence': self.evidence_fault, 'bad-opening': self.opening_fault}.get(why.split(' ')[0])
+        if why == 'bad-cast':
+            graph = next(graph for graph in who.graphs if graph.digest() == frame.join.digest and frame.receiver < len(graph.roles))
+            return cast_fault(graph, frame.join, frame.receiver, who, frame.sender)
         if found is None:
             return self.rule(who, why)
         session = who.session_to_join(frame, model.Notes()) if frame.join else who.session_to_go_on(frame)
@@ -183,7 +188,7 @@ class Watched(model.Run):
                     place = next(place for place, (one, two) in enumerate(zip(shown, other)) if one != two)
                     return (f'item {place + 1}, {name(labels[place])}, has commitments of {listed(graph.names(shown[place][1]), "nothing")}, and must have '
                             f'them of {listed(graph.names(other[place][1]), "nothing")}')
-            takes = [' '.join(name(label) for label, _ in other) for _, other in views]
+            takes = list(dict.fromkeys(' '.join(name(label) for label, _ in other) for _, other in views))
             more = f' and {len(takes) - 6} more' if len(takes) > 6 else ''
             return f'it shows {" ".join(map(name, labels))}, and {when} {role} takes {", ".join(takes[:6]) or "no frame"}{more}'
         for place, item in enumerate(items):
@@ -238,6 +243,29 @@ class Watched(model.Run):
             return f'{name} is opened as {model.spelled(opening.value)}, which is no {kind}'
         committed = self.openings.get(model.latest(session.own() + frame.items)[opening.variable])
         return f'{said(name, opening)} is opened, and {said(name, committed) if committed else "something else"} was committed'
+
+
+def cast_fault(graph, cast, role, who, sender=0):
+    """Why a cast isn't one of the graph with this principal in this role."""
+    names = cast.names
+    if sender >= len(names):
+        return f'the sender is role {sender}, counted from 0, and the cast has {len(names)} principals'
+    if len(names) != len(graph.roles):
+        return f'the cast has {len(names)} principals, and {graph.name} has {len(graph.roles)} roles: {listed(graph.roles)}'
+    twice = next((name for place, name in enumerate(names) if name in names[:place]), None)
+    if twice is not None:
+        return f'{twice} stands twice in the cast'
+    return f'the cast has {names[role]} as {graph.roles[role]}, and not {who.name}'
+
+
+def values_fault(graph, edge, values, name):
+    """Why the value of a variable isn't one that an edge writes."""
+    variable = next(place for place, one in enumerate(graph.variables) if one.name == name)
+    if variable not in edge.writes:
+        return f'{edge.label} writes {listed(graph.names(edge.writes), "nothing")}, and not {name}'
+    if variable not in values:
+        return f'{edge.label} writes {name}, and no value of it is given'
+    return f'{name} is {model.spelled(values[variable])}, which is no {graph.variables[variable].kind}'
 
 
 def said(name, opening):
