@@ -404,7 +404,7 @@ def files_of(words):
     if words[0] == "drive":
         return [(words[3], "graph")]
     if words[0] == "claims":
-        return [(words[1], "graph"), (words[2], "claims")]
+        return list(zip(words[1:], ("graph", "claims")))
     if words[0] == "ledger":
         return []
     first = 2 if words[0] == "keep" else 1
