@@ -1,17 +1,17 @@
 -- What a search that has stopped says of the claim.
-use Rattle.std.proofs.Common.{◌≡◌, ℕ, zero, suc, ◌+◌, ◌<◌, ◌≤◌, Bool, true, false, not, ◌⊎◌, List, [], ◌∷◌, ◌++◌, length, refl, sym, ◌∙◌, ap, subst, inl, inr, arith, append-nil, append_assoc, IsTrue}
+use Rattle.std.proofs.Common.{◌≡◌, ℕ, ◌<◌, ◌≤◌, Bool, false, not, ◌⊎◌, List, [], ◌∷◌, ◌++◌, length, refl, sym, ◌∙◌, ap, subst, inl, inr, arith, append-nil, append_assoc, IsTrue}
 use Rattle.sg_model.specs.Lists.{is_in}
 use Rattle.sg_model.specs.Shape.{Shape, Walk, source, target, end_of}
-use Rattle.sg_model.specs.Claims.{Claim, IsRight, HoldsOnWalks, bit_after, bit_after_all, right_bit}
+use Rattle.sg_model.specs.Claims.{Claim, HoldsOnWalks, bit_after, bit_after_all, right_bit}
 use Rattle.sg_model.proofs.Small.{same_or_not, length-more}
 use Rattle.sg_model.proofs.Walks.{walk-append, walk_join}
 use Rattle.sg_model.proofs.OneBit.{right_from, right_to}
-use Rattle.sg_claims.specs.Breaks.{Breaks, AreInOrder, IsFirstBreak}
+use Rattle.sg_claims.specs.Breaks.{AreInOrder, IsFirstBreak}
 use Rattle.sg_claims.specs.Search.{Any, entry_at, AreWalks, IsEntered, IsSearch, IsLeastWrong}
 use Rattle.sg_claims.specs.declared.search.Entry.{Entry}
 use Rattle.sg_claims.proofs.Cases.{less_or, opposite, other_bit}
-use Rattle.sg_claims.proofs.Order.{IsBefore, IsUpTo, before_on, up_to_before, before_up_to, up_to_on, before_more, before_longer, up_to_more, comes_first, before_last}
-use Rattle.sg_claims.proofs.Walked.{Comes, comes, walks_rise}
+use Rattle.sg_claims.proofs.Order.{IsBefore, IsUpTo, before_on, up_to_before, before_up_to, up_to_on, before_more, before_longer, up_to_more, comes_first}
+use Rattle.sg_claims.proofs.Walked.{comes, walks_rise}
 
 -- at most is the same or below
 at_most : (e f : ℕ) → e ≤ f → (e ≡ f) ⊎ (e < f)
@@ -65,6 +65,10 @@ module _ (g : Shape) (c : Claim) (at : ℕ) (entries : List Entry) (seen : List 
   -- each walk from the start is found so
   found : (v : List ℕ) → Walk g 0 v → Found v (end_of g 0 v) (bit_after_all c false v)
   found v r = all [] 0 false v begins r
+
+  -- once all entries were followed, where each walk comes was found
+  pub found_at_end : length entries ≤ at → (v : List ℕ) → Walk g 0 v → (i : ℕ) × (i < length entries) × ((entry_at entries i).node ≡ end_of g 0 v) × ((entry_at entries i).bit ≡ bit_after_all c false v)
+  found_at_end over v r = elim (found v r) [ inl q ↦ (q.0, q.1, q.2, q.3) | inr q ↦ absurd (let k = q.0 in omega arith) ]
 
   -- once all entries were followed, the claim holds
   pub holds_at_end : length entries ≤ at → HoldsOnWalks g c

@@ -6,3 +6,8 @@ pub mod Rising
 pub mod Searching
 pub mod Labelled
 pub mod Following
+pub mod Dominating
+pub mod Tables
+pub mod Nearest
+pub mod Numbered
+pub mod Suggesting

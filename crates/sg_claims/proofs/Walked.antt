@@ -1,11 +1,11 @@
 -- The walks of the entries of a search.
-use Rattle.std.proofs.Common.{◌≡◌, ℕ, zero, suc, ◌+◌, ◌<◌, ◌≤◌, Bool, false, ◌⊎◌, List, [], ◌∷◌, ◌++◌, length, refl, sym, ◌∙◌, ap, subst, inl, inr, arith}
+use Rattle.std.proofs.Common.{◌≡◌, ℕ, zero, suc, ◌<◌, ◌≤◌, Bool, false, List, [], ◌∷◌, ◌++◌, length, refl, sym, ◌∙◌, ap, subst, inl, inr, arith}
 use Rattle.sg_model.specs.Shape.{Shape, Walk, source, target, end_of}
 use Rattle.sg_model.specs.Claims.{Claim, bit_after, bit_after_all}
 use Rattle.sg_model.proofs.Small.{length-more}
 use Rattle.sg_model.proofs.Walks.{walk_join, end_of-append}
 use Rattle.sg_model.proofs.OneBit.{bit-append}
-use Rattle.sg_claims.specs.Search.{entry_at, AreWalks, IsLed, IsSearch}
+use Rattle.sg_claims.specs.Search.{entry_at, AreWalks, IsSearch}
 use Rattle.sg_claims.specs.declared.search.Entry.{Entry}
 use Rattle.sg_claims.proofs.Order.{IsBefore, before_more, before_last}
 

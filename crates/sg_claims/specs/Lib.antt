@@ -5,3 +5,5 @@ pub mod Breaks
 pub mod Answers
 pub mod Place
 pub mod Search
+pub mod Dominators
+pub mod Suggestions

@@ -65,7 +65,12 @@ fn is_later(claim: &Claim, label: Label) -> bool
 }
 
 // Follows the edges that leave the node of an entry.
-fn follow(graph: &Graph, claim: &Claim, at: usize, search: &mut Search) -> Result<(), OutOfMemory>
+pub fn follow(
+    graph: &Graph,
+    claim: &Claim,
+    at: usize,
+    search: &mut Search,
+) -> Result<(), OutOfMemory>
     requires search { IsSearch (shape graph.now) claim.now at Any search.old.entries.items search.old.seen }
     requires there { at < length search.old.entries.items }
     requires sound { IsSound (shape graph.now) claim.now (entry_at search.old.entries.items at).node (entry_at search.old.entries.items at).bit }

@@ -8,13 +8,19 @@
 //! `decide` goes through the nodes of the graph, each with one bit: whether a label of B stands on the walk since the last one of C. It
 //! comes to each of them once, so it takes time proportional to the edges of the graph, whatever its loops. Where the claim fails it gives
 //! the first of the shortest walks that break it.
+//!
+//! `suggest` gives claims that hold: of each label that it needs its nearest dominator, and that no walk has it twice. The same search, once
+//! for each label, tells which labels dominate which.
 #![tactic(auto)]
 
 mod claim;
 mod decision;
+mod dominators;
 mod label_set;
 mod search;
+mod suggestion;
 
 pub use claim::{Claim, ClaimKind, NamedClaim};
 pub use decision::{Answer, decide};
 pub use label_set::LabelSet;
+pub use suggestion::{one_nearest, suggest};

@@ -59,7 +59,7 @@ impl Search {
 }
 
 // The place of a node with a bit in the table.
-fn place(node: NodeId, bit: bool) -> usize
+pub fn place(node: NodeId, bit: bool) -> usize
     requires { node < 256 }
     ensures place { result ≡ place_of node bit }
     ensures within { result < 512 }

@@ -1,4 +1,4 @@
-use Rattle.std.proofs.Common.{◌≡◌, ◌<◌, ◌≤◌, ◌+◌, ℕ, Bool, true, false, not, length, get_or, refl, inl, inr, sym, ◌∙◌, ap, subst, arith}
+use Rattle.std.proofs.Common.{◌≡◌, ◌<◌, ◌≤◌, ℕ, not, length, get_or, inl, inr, sym, ◌∙◌, ap, subst, arith}
 use Rattle.std.proofs.lemmas.List.{length-map}
 use Rattle.sg_model.specs.Lists.{is_in}
 use Rattle.sg_model.specs.Shape.{source}
@@ -7,7 +7,7 @@ use Rattle.sg_model.proofs.Small.{clash}
 use Rattle.sg_protocol.specs.Graph.{shape}
 use Rattle.sg_claims.proofs.Cases.{less_or, told_apart}
 use Rattle.sg_claims.proofs.Following.{at_place}
-use Rattle.sg_claims.proofs.Rising.{IsLeft, leaving_rise, left_at_first, left_at_least}
+use Rattle.sg_claims.proofs.Rising.{leaving_rise, left_at_first, left_at_least}
 use Rattle.sg_claims.proofs.decision.least_wrong.Goals as goal
 
 pub returns-then-is_later-clause-some : goal.returns-then-is_later-clause-some
