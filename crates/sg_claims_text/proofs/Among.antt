@@ -23,10 +23,10 @@ new-at (n ∷ ns) (suc r) d l =
     ]
 
 -- the name at a label's place
-name_at : (g : Graph) (e : ℕ) → e < length g.edges → get_or (edge_names g) e [] ≡ edge_name g e
+pub name_at : (g : Graph) (e : ℕ) → e < length g.edges → get_or (edge_names g) e [] ≡ edge_name g e
 name_at g e l = get_or-map (λ (d : Edge). d.name) g.edges e _ [] l
 
-within : (g : Graph) (e : ℕ) → e < length g.edges → e < length (edge_names g)
+pub within : (g : Graph) (e : ℕ) → e < length g.edges → e < length (edge_names g)
 within g e l = rw length-map l
 
 -- the name of a label is none of those before it

@@ -17,7 +17,6 @@ use Rattle.sg_parse.specs.Grammar.{named}
 use Rattle.sg_parse.specs.PartsReading.{repeat}
 use Rattle.sg_parse.specs.Tokens.{tokens, is_word, is_colon, is_semicolon, is_end}
 use Rattle.sg_parse.specs.Reading.{Parsed, Parser, after, give, is_next, name, new_name, no_more, read_end, skip, token, whole}
-use Rattle.sg_parse.specs.declared.token.Placed.{Placed}
 use Rattle.sg_parse.specs.declared.token.Token.{Token}
 use Rattle.sg_parse.specs.declared.token.Token.TheVariants.{Word, Colon, Semicolon, End}
 use Rattle.sg_parse.specs.declared.fault.ParseFault.{ParseFault}

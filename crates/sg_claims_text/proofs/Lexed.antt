@@ -1,5 +1,5 @@
 -- The text of claims that is written spells them.
-use Rattle.std.proofs.Common.{◌≡◌, ℕ, zero, suc, ◌<◌, ◌≤◌, not, true, false, ◌&&◌, ◌⊎◌, inl, inr, List, [], ◌∷◌, ◌++◌, length, get_or, codes, refl, sym, ap, subst, ◌∙◌, arith, append_assoc, append-nil, flat_map}
+use Rattle.std.proofs.Common.{◌≡◌, ℕ, zero, suc, ◌<◌, ◌≤◌, not, true, ◌&&◌, ◌⊎◌, inl, inr, List, [], ◌∷◌, ◌++◌, length, get_or, codes, refl, sym, ap, subst, arith, append_assoc, flat_map}
 use Rattle.std.specs.Prelude.{All}
 use Rattle.std.specs.List.{list_all}
 use Rattle.std.proofs.lemmas.Bool.{and_parts}
@@ -10,14 +10,14 @@ use Rattle.sg_claims_text.specs.Written.{claim_line, said_text, since_text, writ
 use Rattle.sg_claims_text.proofs.TookClaims.{said_of}
 use Rattle.sg_graph.specs.Named.{walk_text}
 use Rattle.sg_graph.specs.Parts.{edge_name, edge_names}
-use Rattle.sg_model.specs.Claims.{Claim, ClaimKind, Needs, Bars}
+use Rattle.sg_model.specs.Claims.{ClaimKind, Needs, Bars}
 use Rattle.sg_model.specs.Lists.{has_text, all_differ}
 use Rattle.sg_model.specs.Names.{Name, is_name, reserved}
 use Rattle.sg_parse.specs.Grammar.{named}
 use Rattle.sg_parse.specs.declared.token.Token.{Token}
 use Rattle.sg_parse.specs.declared.token.Token.TheVariants.{Word, Colon, Semicolon, End}
 use Rattle.sg_parse.proofs.Lexing.{Lexes, StandsApart, lex-end, lex-space, lex-line, lex-colon, lex-semicolon, lex-word}
-use Rattle.sg_protocol.specs.Graph.{Graph, IsGraph, Edge, AreNames, ended}
+use Rattle.sg_protocol.specs.Graph.{Graph, IsGraph, Edge, AreNames}
 
 -- lists that are equal have the same tokens
 lexes-as : (cs bs : List ℕ) (ts : List Token) → cs ≡ bs → Lexes bs ts → Lexes cs ts

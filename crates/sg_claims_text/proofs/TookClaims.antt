@@ -1,5 +1,5 @@
 -- Claims that are read are those that the text spells.
-use Rattle.std.proofs.Common.{◌≡◌, ℕ, zero, suc, ◌<◌, ◌≤◌, not, Bool, true, false, ◌&&◌, ◌⊎◌, inl, inr, List, [], ◌∷◌, ◌++◌, length, codes, bytes_eq, Result, Ok, Err, refl, sym, ap, subst, ◌∙◌, arith, if◌then◌else◌, append_assoc, append-nil, flat_map}
+use Rattle.std.proofs.Common.{◌≡◌, ℕ, zero, suc, ◌≤◌, not, Bool, true, false, ◌&&◌, ◌⊎◌, inl, inr, List, [], ◌∷◌, ◌++◌, length, codes, bytes_eq, Result, Ok, Err, refl, sym, ap, subst, ◌∙◌, arith, if◌then◌else◌, append_assoc, append-nil, flat_map}
 use Rattle.std.specs.Prelude.{All}
 use Rattle.std.specs.List.{list_all}
 use Rattle.std.proofs.lemmas.Bool.{and_parts}
@@ -9,8 +9,7 @@ use Rattle.std.proofs.lemmas.Slice.Eq.{bytes_eq-Decides}
 use Rattle.sg_claims.specs.declared.claim.NamedClaim.{NamedClaim}
 use Rattle.sg_claims_text.specs.Grammar.{AreLabels, IsClaim, claim_names, claim_tokens, head_tokens, most_claims, said, since_tokens, SpellsClaims}
 use Rattle.sg_claims_text.specs.Reading.{in_text, read, read_bars, read_claim, read_claims, read_name, read_named, read_needs, read_said, read_since, some_labels}
-use Rattle.sg_claims_text.specs.declared.fault.ClaimsFault.{ClaimsFault}
-use Rattle.sg_claims_text.specs.declared.fault.ClaimsFault.TheVariants.{Text, OtherGraph}
+use Rattle.sg_claims_text.specs.declared.fault.ClaimsFault.TheVariants.{OtherGraph}
 use Rattle.sg_claims_text.proofs.TookLabels.{took-labels, took-since}
 use Rattle.sg_graph.specs.Parts.{edge_names}
 use Rattle.sg_model.specs.Claims.{Claim, Needs, Bars}

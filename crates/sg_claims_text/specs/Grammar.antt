@@ -1,5 +1,6 @@
 -- The grammar of a text of claims, as a relation between the bytes and the claims of a graph.
 use Rattle.std.specs.Prelude.{◌≡◌, ℕ, ◌<◌, ◌≤◌, false, List, [], ◌∷◌, ◌++◌, map, length, get_or, codes, All, IsTrue, flat_map, ◌⊎◌}
+pub use Rattle.sg_claims.specs.Suggestions.{between}
 use Rattle.sg_claims.specs.declared.claim.NamedClaim.{NamedClaim}
 use Rattle.sg_graph.specs.Parts.{edge_names}
 use Rattle.sg_model.specs.Claims.{Claim, ClaimKind, Needs, Bars}
@@ -13,10 +14,6 @@ use Rattle.sg_protocol.specs.Graph.{Graph, Name, AreNames}
 -- the most claims that a text has
 abbrev pub most_claims : ℕ
 most_claims = 1024
-
--- the words between the lists of a claim: no claim can name a label that is spelled so
-abbrev pub between : List Name
-between = codes "needs" ∷ codes "bars" ∷ codes "since" ∷ codes "until" ∷ []
 
 -- the names of the claims
 abbrev pub claim_names : List NamedClaim → List Name

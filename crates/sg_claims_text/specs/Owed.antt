@@ -1,7 +1,7 @@
 -- What the reader of a text of claims owes the definition.
-use Rattle.std.specs.Prelude.{◌≡◌, List, Result, Err}
+use Rattle.std.specs.Prelude.{◌≡◌, Result, Err}
 use Rattle.sg_claims_text.specs.declared.fault.ClaimsFault.{ClaimsFault}
-use Rattle.sg_claims_text.specs.declared.fault.ClaimsFault.TheVariants.{Text, OtherGraph}
+use Rattle.sg_claims_text.specs.declared.fault.ClaimsFault.TheVariants.{Text}
 use Rattle.sg_parse.specs.declared.fault.ParseFault.TheVariants.{OutOfMemory}
 
 -- the definition has this fault, or memory ran out

@@ -2,7 +2,7 @@
 use Rattle.std.specs.Prelude.{ℕ, List, [], ◌∷◌, ◌++◌, codes, flat_map}
 use Rattle.sg_claims.specs.declared.claim.NamedClaim.{NamedClaim}
 use Rattle.sg_graph.specs.Named.{walk_text}
-use Rattle.sg_model.specs.Claims.{Claim, ClaimKind, Needs, Bars}
+use Rattle.sg_model.specs.Claims.{ClaimKind, Needs, Bars}
 use Rattle.sg_protocol.specs.Graph.{Graph, ended}
 
 -- a word and the labels after it, each after a space, or nothing where there are none

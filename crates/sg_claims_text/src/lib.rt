@@ -25,4 +25,4 @@ mod written;
 
 pub use fault::ClaimsFault;
 pub use text::{parse_claims, readings_are_spelled};
-pub use written::{claims_text, written_texts_are_read};
+pub use written::{claims_text, suggestions_are_read, written_texts_are_read};

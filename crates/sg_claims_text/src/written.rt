@@ -1,5 +1,6 @@
 //! Texts of claims.
 ghost use Rattle.std.specs.Prelude.{◌≡◌, ◌++◌, ◌≤◌, All, List, Ok, length, flat_map, IfOk, OnOk};
+ghost use Rattle.sg_claims.specs.Suggestions.{AreSuggested};
 ghost use Rattle.sg_claims.specs.declared.claim.NamedClaim as Seen;
 ghost use Rattle.sg_claims_text.specs.Grammar.{IsClaim, SpellsClaims, claim_names, most_claims};
 ghost use Rattle.sg_claims_text.specs.Reading.{read};
@@ -96,4 +97,10 @@ fn put_since(
 pub fn written_texts_are_read()
     ensures spelled { (g : GraphValue) (cs : List Seen.NamedClaim) → IsGraph g → length cs ≤ most_claims → AreNames (claim_names cs) → All (λ (c : Seen.NamedClaim). IsClaim (edge_names g) c.claim) cs → SpellsClaims g (written g cs) cs }
     ensures read { (g : GraphValue) (cs : List Seen.NamedClaim) → IsGraph g → length cs ≤ most_claims → AreNames (claim_names cs) → All (λ (c : Seen.NamedClaim). IsClaim (edge_names g) c.claim) cs → read g (written g cs) ≡ Ok cs }
+{}
+
+/// The text that is written of claims that are suggested for a graph spells these claims and is read as them.
+pub fn suggestions_are_read()
+    ensures spelled { (g : GraphValue) (cs : List Seen.NamedClaim) → IsGraph g → AreSuggested g (length g.edges) cs → SpellsClaims g (written g cs) cs }
+    ensures read { (g : GraphValue) (cs : List Seen.NamedClaim) → IsGraph g → AreSuggested g (length g.edges) cs → read g (written g cs) ≡ Ok cs }
 {}

@@ -1,6 +1,4 @@
-use Rattle.std.proofs.Common.{◌≡◌, ◌<◌, false, length, take, arith, subst, sym, ap, ◌∙◌, ◌++◌, ◌∷◌, []}
-use Rattle.sg_graph.specs.Parts.{edge_name, edge_names}
-use Rattle.sg_model.specs.Lists.{has_text}
+use Rattle.std.proofs.Common.{◌<◌, length, arith, ◌∙◌}
 use Rattle.sg_claims_text.proofs.Among.{is_new, one_more}
 use Rattle.sg_claims_text.proofs.label_names.LabelNames.of_graph.Goals as goal
 
