@@ -410,7 +410,9 @@ fn refuses_words_that_are_no_command(rt: HostRuntime) {
     is_no_command(alloc, &rt, "replay");
     is_no_command(alloc, &rt, "replay -f");
     is_no_command(alloc, &rt, "replay f f");
-    is_no_command(alloc, &rt, "claims f");
+    is_no_command(alloc, &rt, "claims");
+    is_no_command(alloc, &rt, "claims f -c");
+    is_no_command(alloc, &rt, "claims f c c");
 }
 
 // A file of `count` bytes is too large for the words.
@@ -615,6 +617,20 @@ fn decides_claims(rt: HostRuntime) {
     assert!(rt; left.is(5, b"", "file failed: c\n"));
     let left = decided(alloc, &rt, "claims other;", 0, WHOLE);
     assert!(rt; left.is(4, b"", "input refused: claims other graph at 7\n"));
+}
+
+#[test]
+fn suggests_claims(rt: HostRuntime) {
+    let alloc = rt.alloc();
+    let claims =
+        "claims note;\nclaim c1: Bid bars Bid;\nclaim c2: Ask needs Bid;\nclaim c3: Ask bars Ask;\n";
+    writes(alloc, &rt, "claims f", &[NOTE], &[claims]);
+    let left = decided(alloc, &rt, claims, 0, WHOLE);
+    assert!(rt; left.is(0, b"claim c1 holds\nclaim c2 holds\nclaim c3 holds\n", ""));
+    let line = "graph refused: unexpected at 5\n";
+    refuses(alloc, &rt, "claims f", &["graph;"], 3, line);
+    refuses(alloc, &rt, "claims g", &[], 9, "no such file: g\n");
+    is_too_large(alloc, &rt, "claims f", 4_194_305);
 }
 
 #[test]

@@ -4,7 +4,7 @@ use Rattle.sg_top.specs.Ending.{Ending, Written, NoCommand, NoGraph, NoExpansion
 use Rattle.sg_top.specs.Ends.{Output}
 use Rattle.sg_top.specs.Ledgers.{CanHaveKept}
 use Rattle.sg_top.specs.Runs.{CanHavePlayed}
-use Rattle.sg_words.specs.Command.{Command, Check, Compile, Run, Replay, Drive, Ledger, Keep, Stream, Audit, Compose, Claims, command_of}
+use Rattle.sg_words.specs.Command.{Command, Check, Compile, Run, Replay, Drive, Ledger, Keep, Stream, Audit, Compose, Suggest, Claims, command_of}
 use Rattle.sg_top.specs.Top.{HasPlayed, IsOfKeep, IsOfPlay, MayPlay, PlaysWith, Puts, Says}
 
 -- the statuses of endings after a play
@@ -86,6 +86,7 @@ status_said (Some (Drive seed sessions file)) work old new status h says = absur
 status_said (Some (Ledger file)) work old new status h says = absurd h
 status_said (Some (Audit file)) work old new status h says = absurd h
 status_said (Some (Compose file)) work old new status h says = absurd h
+status_said (Some (Suggest file)) work old new status h says = absurd h
 status_said (Some (Claims graph claims)) work old new status h says = absurd h
 status_said None work old new status h says = absurd h
 

@@ -1,11 +1,13 @@
--- What is said of claims of a graph, and how the program ends by it.
-use Rattle.std.specs.Prelude.{◌≡◌, ◌≢◌, ℕ, ◌⊎◌, Bool, true, false, ◌&&◌, if◌then◌else◌, List, [], ◌∷◌, ◌++◌, All, Err, codes, ⊤}
+-- What is said of claims of a graph, which claims are suggested, and how the program ends by it.
+use Rattle.std.specs.Prelude.{◌≡◌, ◌≢◌, ℕ, ◌⊎◌, Bool, true, false, ◌&&◌, if◌then◌else◌, List, [], ◌∷◌, ◌++◌, All, Err, codes, length, ⊤}
 use Rattle.sg_claims.specs.Answers.{IsAnswer}
+use Rattle.sg_claims.specs.Suggestions.{AreSuggested}
 use Rattle.sg_claims.specs.declared.claim.NamedClaim.{NamedClaim}
 use Rattle.sg_claims.specs.declared.decision.Answer.{Answer}
 use Rattle.sg_claims.specs.declared.decision.Answer.TheVariants.{Holds as HoldsOfAll, Fails}
 use Rattle.sg_claims_text.specs.Grammar.{SpellsClaims}
 use Rattle.sg_claims_text.specs.Reading.{read}
+use Rattle.sg_claims_text.specs.Written.{written}
 use Rattle.sg_claims_text.specs.declared.fault.ClaimsFault.TheVariants.{Text}
 use Rattle.sg_graph.specs.Named.{walk_text}
 use Rattle.sg_model.specs.Limits.{most_graph_file}
@@ -58,7 +60,29 @@ RefusesGraph bytes (GraphRefused g fault) = SpellsGraph bytes g × IsFirstRefuse
 RefusesGraph bytes NoMemory = ⊤
 RefusesGraph bytes ending = ⊥
 
--- ---- claims
+-- ---- claims that are suggested
+
+-- the text is that of the claims that are suggested for the graph, and spells them
+pub record IsSuggestion (g : Graph) (text : List ℕ) : Type 0 where
+  pub claims : List NamedClaim
+  pub suggested : AreSuggested g (length g.edges) claims
+  pub says : text ≡ written g claims
+  pub spelled : SpellsClaims g text claims
+
+-- the bytes spell a graph that is accepted, and the text is the suggestion for it
+pub record IsSuggestionFor (bytes text : List ℕ) : Type 0 where
+  pub graph : Graph
+  pub accepted : IsAcceptedText bytes graph
+  pub suggestion : IsSuggestion graph text
+
+-- claims are suggested for these bytes so: the text of the claims is written; else nothing is written, and the bytes are refused at their first wrong token, or their graph at its first fault, or memory ran out
+abbrev pub Suggests : List ℕ → (old new : Output) → Ending → Type 0
+Suggests bytes old new NoMemory = new.bytes ≡ old.bytes
+Suggests bytes old new (NoGraph fault) = (new.bytes ≡ old.bytes) × (parsed bytes ≡ Err fault)
+Suggests bytes old new (GraphRefused g fault) = (new.bytes ≡ old.bytes) × SpellsGraph bytes g × IsFirstRefused (g ∷ []) g fault
+Suggests bytes old new ending = (text : List ℕ) × IsSuggestionFor bytes text × Writes old new text ending
+
+-- ---- claims that are decided
 
 -- the bytes are no claims of the graph, as their first fault says, or memory ran out
 abbrev pub RefusesClaims : Graph → List ℕ → Ending → Type 0

@@ -4,8 +4,8 @@ use Rattle.sg_base.specs.Outside.{HasRisen, Appends, AppendsFront}
 use Rattle.sg_model.specs.Limits.{most_graph_file, most_logs_file, most_schedule_file}
 use Rattle.sg_stream.specs.Link.{StreamHeld, sent_of, to_come}
 use Rattle.sg_stream.specs.Traffic.{Traffic}
-use Rattle.sg_words.specs.Command.{Command, Check, Compile, Run, Replay, Drive, Ledger, Keep, Stream, Audit, Compose, Claims, command_of}
-use Rattle.sg_top.specs.Claimed.{DecidesClaims}
+use Rattle.sg_words.specs.Command.{Command, Check, Compile, Run, Replay, Drive, Ledger, Keep, Stream, Audit, Compose, Suggest, Claims, command_of}
+use Rattle.sg_top.specs.Claimed.{DecidesClaims, Suggests}
 use Rattle.sg_top.specs.Ending.{Ending, NoCommand, NoMemory, status_of, line_of}
 use Rattle.sg_top.specs.Ends.{Told, Output, OnFile, Checks, Compiles, Replays, Drives, Audits, Composes}
 use Rattle.sg_top.specs.Ledgers.{CanHaveKept, Disked, IsNotAsked, KeepsRun, Makes}
@@ -28,6 +28,7 @@ Works (Some (Keep file keys script most programs)) told faults faults' old new s
 Works (Some (Stream keys script most programs)) told faults faults' old new stream stream' disk disk' ending = Runs (record { keys = keys; programs = programs; script = script }) most told faults faults' (record old { link = stream }) (record new { link = stream' }) ending
 Works (Some (Audit file)) told faults faults' old new stream stream' disk disk' ending = OnFile Audits most_logs_file file told faults faults' old.out new.out ending
 Works (Some (Compose file)) told faults faults' old new stream stream' disk disk' ending = OnFile Composes most_graph_file file told faults faults' old.out new.out ending
+Works (Some (Suggest file)) told faults faults' old new stream stream' disk disk' ending = OnFile Suggests most_graph_file file told faults faults' old.out new.out ending
 Works (Some (Claims graph claims)) told faults faults' old new stream stream' disk disk' ending = DecidesClaims graph claims told faults faults' old.out new.out ending
 
 -- the work that the words ask for ends so, or memory ran out before they were read

@@ -1,4 +1,4 @@
-//! The command `claims`: reads a graph, checks it, reads claims of it, and says of each whether it holds.
+//! The command `claims` on a graph and claims: reads a graph, checks it, reads claims of it, and says of each whether it holds.
 ghost use Rattle.std.specs.Prelude.{◌≡◌, ◌≤◌, ◌++◌, IfErr, IfOk, OnOk};
 ghost use Rattle.sg_claims_text.specs.Grammar.{SpellsClaims};
 ghost use Rattle.sg_model.specs.Limits.{most_graph_file};
@@ -55,8 +55,8 @@ fn accepted_graph<'w, F: Files>(
     accepted(alloc, bytes.as_slice())
 }
 
-// The graph that the bytes spell, which is accepted for each of its roles, or how the program ends without one.
-fn accepted(alloc: Global, bytes: &[u8]) -> Result<Graph, Ending<'static>>
+/// The graph that the bytes spell, which is accepted for each of its roles, or how the program ends without one.
+pub fn accepted(alloc: Global, bytes: &[u8]) -> Result<Graph, Ending<'static>>
     ensures accepted { IfOk result (IsAcceptedText bytes.now) }
     ensures refused { IfErr result (λ ending. RefusesGraph bytes.now (ending_held ending)) }
 {

@@ -6,7 +6,8 @@
 //! - The words are read first. Words that are in no command end with the usage line, and nothing else is touched.
 //! - `check`, `compile`, `replay`, `drive`, `audit` and `compose` work on one file. It is read whole, has at most a given number of bytes, and
 //!   its first fault ends the work. Nothing is written before all is done, so what is refused leaves standard output as it was.
-//! - `claims` reads and checks a graph whole, before it reads claims of it.
+//! - `claims` on a graph alone is another command on one file. With a file of claims it reads and checks the graph whole, before it reads
+//!   the claims.
 //! - `run` reads its files in order, keys, programs and script, and opens the link when all are taken. It writes as it goes: a step's line when
 //!   the link has taken the step's frame.
 //! - `ledger` makes a ledger of a file of the disk and then says so. `keep` reads as `run` does, opens the ledger and then the link, and plays
@@ -16,7 +17,7 @@
 //!   of the disk only where its count of faults rose. Out of memory alone may come in place of anything.
 //! - With each status but 0 and 6 one line on standard error says why. Where that line isn't taken, the status is that of a failed write.
 //!
-//! Each command has a module of its name. `ending` has the ways to end, with their statuses and lines: what a fault of a library is told as
+//! Each command has a module of its name, and `claims` on a graph alone is in `suggest`. `ending` has the ways to end, with their statuses and lines: what a fault of a library is told as
 //! stands in the library. `answer` has the words of audits, and `setup` has what a run reads.
 //!
 //! Where the definitions stand: `specs/Top.antt` says how the program ends, by its command; `specs/Ends.antt` what each command on one file leaves and
@@ -43,6 +44,7 @@ mod program;
 mod replay;
 mod run;
 mod setup;
+mod suggest;
 
 pub use before::{
     end_without_descriptors, end_without_memory, end_without_seed, end_without_words,

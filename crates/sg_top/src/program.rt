@@ -16,6 +16,7 @@ use crate::keep::keep;
 use crate::ledger::ledger;
 use crate::replay::replay;
 use crate::run::run;
+use crate::suggest::suggest;
 use sg_base::{Files, Fresh, Link, Sink, write_all};
 use sg_ledger::Disk;
 use sg_stream::{Conns, StreamLink};
@@ -32,8 +33,9 @@ use std::alloc::Global;
 /// a file, compiles its graphs, runs it, and writes the report of the run. `drive SEED SESSIONS GRAPH` reads a graph, compiles it, generates a
 /// run of it in SESSIONS sessions, and writes the summary. `audit LOGS` reads logs from a file, makes the checks of `check` for their graph,
 /// and writes of each session whether its logs agree. `compose PARTS` reads parts from a file, expands them, checks the expansion, and writes
-/// its canonical text. `claims GRAPH CLAIMS` reads a graph, makes the checks of `check`, reads claims of it, and writes of each whether it holds,
-/// or a walk that breaks it. `err` gets one line that says why the work ended so, unless the output was written or failed.
+/// its canonical text. `claims GRAPH` reads a graph, makes the checks of `check`, and writes a text of claims that hold of it.
+/// `claims GRAPH CLAIMS` reads a graph, makes the checks of `check`, reads claims of it, and writes of each whether it holds, or a walk that
+/// breaks it. `err` gets one line that says why the work ended so, unless the output was written or failed.
 pub fn top<F: Files, O: Sink, E: Sink, L: Link, R: Fresh, D: Disk, C: Conns>(
     alloc: Global,
     words: &[String],
@@ -175,6 +177,7 @@ fn work<'w, F: Files, O: Sink, L: Link, R: Fresh, D: Disk, S: Link>(
         ),
         Some(Command::Audit { file }) => audit(alloc, file, files, out),
         Some(Command::Compose { file }) => compose(alloc, file, files, out),
+        Some(Command::Suggest { file }) => suggest(alloc, file, files, out),
         Some(
             Command::Claims {
                 graph,

@@ -5,7 +5,7 @@ use Rattle.std.proofs.Common.{arith}
 use Rattle.std.proofs.lemmas.Bool.{ltb-true, leb-true}
 use Rattle.sg_base.specs.Words.{number, from_one, up_to, value, is_digit, has_needless_zero}
 use Rattle.sg_model.specs.Limits.{most_deliveries, most_driven, most_seed}
-use Rattle.sg_words.specs.Command.{Command, Check, Compile, Run, Replay, Drive, Ledger, Keep, Stream, Audit, Compose, Claims, CanBeDriven, command_of, driving, few, is_option, keeping, named, on_file, on_two, running, sessions_of, streaming}
+use Rattle.sg_words.specs.Command.{Command, Check, Compile, Run, Replay, Drive, Ledger, Keep, Stream, Audit, Compose, Suggest, Claims, CanBeDriven, command_of, driving, few, is_option, keeping, named, on_file, on_two, running, sessions_of, streaming}
 
 -- a number, if any, of at most `most`
 abbrev AtMost : ℕ → Option ℕ → Type 0
@@ -99,7 +99,8 @@ file_alone name file =
     (either (bytes_eq name (codes "replay")) (Some (Replay file)) _ tt
     (either (bytes_eq name (codes "ledger")) (Some (Ledger file)) _ tt
     (either (bytes_eq name (codes "audit")) (Some (Audit file)) _ tt
-    (either (bytes_eq name (codes "compose")) (Some (Compose file)) None tt tt))))
+    (either (bytes_eq name (codes "compose")) (Some (Compose file)) _ tt
+    (either (bytes_eq name (codes "claims")) (Some (Suggest file)) None tt tt)))))
 
 two : (name first second : List ℕ) → CanBeDriven (on_two name first second)
 two name first second =

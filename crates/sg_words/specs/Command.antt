@@ -16,13 +16,14 @@ pub data Command : Type 0 where
   Stream : (keys script : List ℕ) → (deliveries : ℕ) → (programs : List (List ℕ)) → Command
   Audit : (file : List ℕ) → Command
   Compose : (file : List ℕ) → Command
+  Suggest : (file : List ℕ) → Command
   Claims : (graph claims : List ℕ) → Command
 
 -- the word begins with -
 abbrev pub is_option : List ℕ → Bool
 is_option word = slice_index word 0 == 45
 
--- check FILE, replay FILE, ledger FILE, audit FILE, or compose FILE
+-- check FILE, replay FILE, ledger FILE, audit FILE, compose FILE, or claims FILE
 abbrev pub on_file : (name file : List ℕ) → Option Command
 on_file name file =
     if bytes_eq name (codes "check") then Some (Check file)
@@ -30,6 +31,7 @@ on_file name file =
     else if bytes_eq name (codes "ledger") then Some (Ledger file)
     else if bytes_eq name (codes "audit") then Some (Audit file)
     else if bytes_eq name (codes "compose") then Some (Compose file)
+    else if bytes_eq name (codes "claims") then Some (Suggest file)
     else None
 
 -- compile FILE ROLE, or claims FILE FILE

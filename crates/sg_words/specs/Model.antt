@@ -2,7 +2,7 @@
 use Rattle.std.specs.Prelude.{map}
 use Rattle.sg_words.specs.Command as Asked
 use Rattle.sg_words.specs.declared.command.Command.{Command}
-use Rattle.sg_words.specs.declared.command.Command.TheVariants.{Check, Compile, Run, Replay, Drive, Ledger, Keep, Stream, Audit, Compose, Claims}
+use Rattle.sg_words.specs.declared.command.Command.TheVariants.{Check, Compile, Run, Replay, Drive, Ledger, Keep, Stream, Audit, Compose, Suggest, Claims}
 
 -- the command that is held
 abbrev pub command_held : Command → Asked.Command
@@ -16,4 +16,5 @@ command_held (Keep file keys script deliveries programs) = Asked.Keep file.now k
 command_held (Stream keys script deliveries programs) = Asked.Stream keys.now script.now deliveries (map (λ s. s.now) programs.now)
 command_held (Audit file) = Asked.Audit file.now
 command_held (Compose file) = Asked.Compose file.now
+command_held (Suggest file) = Asked.Suggest file.now
 command_held (Claims graph claims) = Asked.Claims graph.now claims.now

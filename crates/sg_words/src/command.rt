@@ -87,6 +87,11 @@ pub enum Command<'w> {
         /// The file of the parts.
         file: &'w str,
     },
+    /// Suggests claims of a graph.
+    Suggest {
+        /// The file of the graph.
+        file: &'w str,
+    },
     /// Decides claims of a graph.
     Claims {
         /// The file of the graph.
@@ -231,6 +236,7 @@ fn on_file<'w>(name: &str, file: &'w str) -> Option<Command<'w>>
         "ledger" => Some(Command::Ledger { file }),
         "audit" => Some(Command::Audit { file }),
         "compose" => Some(Command::Compose { file }),
+        "claims" => Some(Command::Suggest { file }),
         _ => None,
     }
 }
