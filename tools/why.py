@@ -4,7 +4,7 @@
     tools/why.py SCHEDULE     for each step that is refused its line in the report, `: `, and a sentence
 
 As a module: `refusals(data)` gives for the bytes of a schedule the sentences by the steps' numbers. Which frames there are, and what is refused, comes from
-tools/model.py, whose lines are the program's: `.ci/tools` compares them. The exit status is 0, or 1 where the file can't be read or is no schedule, or 2
+tools/model.py, whose lines are the program's: `.ci/check-tools` compares them. The exit status is 0, or 1 where the file can't be read or is no schedule, or 2
 where the words are others.
 """
 import signal
