@@ -406,8 +406,9 @@ def collision_step(run):
 class Account:
     """All that a page of a run says."""
 
-    def __init__(self, run, words, heading):
-        self.run, self.words, self.heading = run, words, heading
+    def __init__(self, run, words, heading, causes):
+        """Takes a run, the words of its steps, the schedule's heading, and what was wrong with each refused step, by its number."""
+        self.run, self.words, self.heading, self.causes = run, words, heading, causes
         self.lines = model.report(run)
         count = len(run.lines)
         self.step_lines, self.end_lines = self.lines[:count], self.lines[count:]
@@ -497,6 +498,9 @@ class Account:
         told = {'name': name, 'size': len(data), 'change': ' '.join(str(word) for word in change) if change else ''}
         if number and number <= len(self.made):
             told['by'], told['at'] = self.made[number - 1]
+            step = self.run.schedule.steps[told['at'] - 1]
+            if step[0] == 'craft' and not change and step[1].know:
+                told['know'] = [[self.variable(step[1].session.graph, opening.variable), model.spelled(opening.value)] for opening in step[1].know]
         try:
             frame = model.FrameReader(data).frame()
         except model.Refused as refusal:
@@ -562,7 +566,7 @@ class Account:
             refused = next((at for at, row in enumerate(checks.rows) if not row.fits()), -1) if checks else -1
             told = {'kind': step[0], 'who': step[1] if step[0] != 'craft' else self.made_by(line)}
             session = self.session_of(step, number, frames)
-            for key, value in (('session', session), ('frame', number), ('refused', refused)):
+            for key, value in (('session', session), ('frame', number), ('refused', refused), ('cause', self.causes.get(place))):
                 if value is not None and value != -1:
                     told[key] = value
             if checks:

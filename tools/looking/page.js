@@ -171,10 +171,11 @@ function run() {
       delta.length ? make('small', {}, 'commits to ', delta.map(([variable, digits]) => `${variable} ${digits}`).join(', ')) : null,
       tags.map(([role_, digits, source]) => make('small', {}, `tag for ${role_}: `, ...tag([digits, source])))));
     const openings = it.openings.map(([variable, value]) => make('li', { class: bad.opening === variable && 'wrong' }, 'opens ', make('b', {}, `${variable}=${value}`)));
+    const know = it.know ? make('li', {}, 'made with commitments to ', it.know.map(([variable, value]) => `${variable}=${value}`).join(', '), ', which no item here has') : null;
     const seal = make('li', { class: bad.tag && 'wrong' }, 'frame tag', make('small', {}, ...tag(it.tag)));
     const cast = it.joins ? make('li', {}, 'joins with the cast ', it.cast.map(([role, who]) => `${who} as ${role}`).join(', '), make('small', {}, `nonce ${it.nonce}`)) : null;
     return [make('h3', {}, 'What the frame carries'), make('div', { class: kind },
-      make('p', {}, head, make('br'), `${it.joins ? 'joins' : 'continues'} ${it.session}, from ${it.from} to ${it.to}`), make('ul', {}, cast, items, openings, seal))];
+      make('p', {}, head, make('br'), `${it.joins ? 'joins' : 'continues'} ${it.session}, from ${it.from} to ${it.to}`), make('ul', {}, cast, items, openings, know, seal))];
   }
 
   function checks(step, place) {
@@ -195,7 +196,8 @@ function run() {
   function stop(step, place) {
     if (step.refused === undefined) return null;
     const [check, values] = step.checks[step.refused];
-    return make('div', { class: 'stop' }, make('p', {}, '✗ ', data.checks[check], '?'), make('code', {}, values.filter(([, fits]) => !fits).map(([text]) => text).join('; ')));
+    return make('div', { class: 'stop' }, make('p', {}, '✗ ', data.checks[check], '?'), make('code', {}, values.filter(([, fits]) => !fits).map(([text]) => text).join('; ')),
+      step.cause ? make('p', { class: 'cause' }, `${step.cause}.`) : null);
   }
 
   function conclusion() {
