@@ -62,14 +62,6 @@ map_map : {A B C : Type 0} (f : A → B) (g : B → C) (xs : List A) → map g (
 map_map f g [] = refl
 map_map f g (x ∷ xs) = ap (λ l. g (f x) ∷ l) (map_map f g xs)
 
-map_each : {A B : Type 0} (f g : A → B) (xs : List A) → AllByRecursion (λ x. f x ≡ g x) xs → map f xs ≡ map g xs
-map_each f g [] a = refl
-map_each f g (x ∷ xs) a = ap (λ y. y ∷ map f xs) a.0 ∙ ap (λ l. g x ∷ l) (map_each f g xs a.1)
-
-each_by : {A : Type 0} (P : A → Type 0) → ((x : A) → P x) → (xs : List A) → AllByRecursion P xs
-each_by P h [] = tt
-each_by P h (x ∷ xs) = (h x, each_by P h xs)
-
 -- ---- what two worlds have the same
 
 -- a principal's keys and node
