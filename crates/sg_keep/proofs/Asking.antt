@@ -1,5 +1,5 @@
 -- What a keeper holds before a call, once its node was asked, once the join is kept, and once the turn was played.
-use Rattle.std.proofs.Common.{◌≡◌, ◌⊎◌, ℕ, List, [], ◌++◌, false, length, Option, Some, None, option_and_then, Result, Ok, Err, OnOk, refl, sym, ap, ◌∙◌, subst}
+use Rattle.std.proofs.Common.{◌≡◌, ◌⊎◌, ℕ, List, [], ◌++◌, false, length, Option, Some, None, option_and_then, IfSome, Result, Ok, Err, OnOk, refl, sym, ap, ◌∙◌, subst}
 use Rattle.std.proofs.lemmas.List.{append-nil}
 use Rattle.sg_ledger.specs.Format.{Join, Opened, StandsFor}
 use Rattle.sg_node.proofs.Life.{pasts_go_on}
@@ -83,8 +83,12 @@ module _ (k : Keeper) (may_leave : List ℕ → Type 0) (told : Option Told) (h 
   join_is r e = e ∙ ap (option_and_then join_told) h.is_told ∙ told_join h.number given
 
   -- a pair that joins is new to the ledger
-  pub is_new : (j : Join) (r : Option Join) → r ≡ option_and_then join_told told → r ≡ Some j → IsNew k.ledger.joins j
-  is_new j r e is = subst (λ (o : Opened). IsNew o.joins j) (sym h.ledger) ((any_call real (node_of h.past) h.call h.range).1 j (sym (join_is r e) ∙ is))
+  pub is_new : IfSome (option_and_then join_told told) (IsNew k.ledger.joins)
+  is_new = by (option_and_then join_told told) refl
+    where
+      by : (o : Option Join) → o ≡ option_and_then join_told told → IfSome o (IsNew k.ledger.joins)
+      by None e = tt
+      by (Some j) e = subst (λ (l : Opened). IsNew l.joins j) (sym h.ledger) ((any_call real (node_of h.past) h.call h.range).1 j (sym (join_is (Some j) e)))
 
   pub not_failed : k.ledger.failed ≡ false
   not_failed = ap (λ (o : Opened). o.failed) h.ledger
@@ -98,7 +102,7 @@ module _ (k : Keeper) (may_leave : List ℕ → Type 0) (told : Option Told) (h 
       h.stands.joins ∙ joins_with h.past h.call h.range
       ∙ (λ i. with_join (sym (ap (λ (o : Opened). o.joins) h.ledger) i) (sym (join_is r e) i))
 
-  -- the ledger was left as it is, or has it
+  -- the ledger has it
   pub holds_after : (l : Opened) (now_leaves : List ℕ → Type 0) (r : Option Join) → r ≡ option_and_then join_told told → l ≡ working (with_join k.ledger.joins r) → AllStandFor now_leaves l.joins → HoldsJoins (record k { ledger = l }) now_leaves
   holds_after l now_leaves r e is all = record {
     past = past_after real h.past h.call;
@@ -106,15 +110,6 @@ module _ (k : Keeper) (may_leave : List ℕ → Type 0) (told : Option Told) (h 
     told = pasts_go_on h.past h.call h.told_before h.range;
     ledger = is ∙ ap working (sym (node_joins r e));
     images = subst (AllStandFor now_leaves) (ap (λ (o : Opened). o.joins) is ∙ sym (node_joins r e)) all;
-  }
-
-  pub holds_same : (r : Option Join) → r ≡ option_and_then join_told told → r ≡ None → HoldsJoins k may_leave
-  holds_same r e none = record {
-    past = past_after real h.past h.call;
-    stands = h.stands;
-    told = pasts_go_on h.past h.call h.told_before h.range;
-    ledger = h.ledger ∙ ap working (sym (ap (λ (o : Opened). o.joins) h.ledger)) ∙ ap working (sym (node_joins r e ∙ ap (with_join k.ledger.joins) none));
-    images = subst (AllStandFor may_leave) (sym (node_joins r e ∙ ap (with_join k.ledger.joins) none)) stand_now;
   }
 
 -- ---- the call is told

@@ -1,5 +1,5 @@
 //! One principal who plays a script and keeps its joins.
-ghost use Rattle.std.specs.Prelude.{◌≡◌, ◌≤◌, ◌⊎◌, List, ℕ, Err, Some, IfErr, OnErr, OnOk};
+ghost use Rattle.std.specs.Prelude.{◌≡◌, ◌≤◌, ◌⊎◌, false, List, ℕ, Err, Some, option_and_then, IfErr, IfSome, OnErr, OnOk};
 ghost use Rattle.std.specs.Option.{option_copied};
 ghost use Rattle.sg_base.specs.Outside.{HasRisen};
 ghost use Rattle.sg_ledger.specs.Format.{StandsFor};
@@ -7,6 +7,8 @@ ghost use Rattle.sg_play.specs.Ends.{Outside, Whole};
 ghost use Rattle.sg_play.specs.Played.{Play, with_turn};
 ghost use Rattle.sg_protocol.specs.Calls.{Call};
 ghost use Rattle.sg_report.specs.Outcome.{outcome_of};
+ghost use Rattle.sg_keep.specs.Joins.{IsNew, join_told, with_join};
+ghost use Rattle.sg_keep.specs.Kept.{AllStandFor};
 
 use crate::KeepFault;
 use crate::join::join_in;
@@ -73,15 +75,36 @@ impl<'p> Keeper<'p> {
         ensures images { OnErr result ((image : List ℕ) → D.may_leave disk.new image
             → StandsFor image self.old.ledger.joins ⊎ StandsFor image self.old.player.node.joins) }
     {
-        let Some(join) = join_in(outcome) else {
-            return Ok(());
-        };
-        match self.ledger.add(disk, join.0, join.1) {
-            Ok(()) => Ok(()),
-            Err(AddJoinFault::Failed) => Err(KeepFault::DiskFailed),
-            Err(AddJoinFault::OutOfMemory) => Err(KeepFault::Played(PlayFault::OutOfMemory)),
-            Err(AddJoinFault::Twice) => unreachable!(),
-            Err(AddJoinFault::Full) => unreachable!(),
-        }
+        add_join(&mut self.ledger, outcome, disk)
+    }
+}
+
+/// Adds the join of what came of a call to a ledger, if it is one. The ledger works, each image of the disk stands for its joins, and the join
+/// is new to it. It fails where the disk fails, after which an image may have the join or not, or where memory ran out.
+pub fn add_join<D: Disk>(
+    ledger: &mut Ledger,
+    outcome: &Outcome,
+    disk: &mut D,
+) -> Result<(), KeepFault>
+    requires working { ledger.old.failed ≡ false }
+    requires images { AllStandFor (D.may_leave disk.old) ledger.old.joins }
+    requires new { IfSome (option_and_then join_told (outcome_of outcome.now)) (IsNew ledger.old.joins) }
+    ensures falls { D.faults disk.old ≤ D.faults disk.new }
+    ensures failed { result ≡ Err KeepFault.DiskFailed → HasRisen (D.faults disk.old) (D.faults disk.new) }
+    ensures causes { IfErr result (λ e. (e ≡ KeepFault.DiskFailed) ⊎ (e ≡ KeepFault.Played PlayFault.OutOfMemory)) }
+    ensures added { OnOk result (ledger.new ≡ record { joins = with_join ledger.old.joins (option_and_then join_told (outcome_of outcome.now)); failed = false }) }
+    ensures images { OnOk result (AllStandFor (D.may_leave disk.new) ledger.new.joins) }
+    ensures between { OnErr result ((image : List ℕ) → D.may_leave disk.new image
+        → StandsFor image ledger.old.joins ⊎ StandsFor image (with_join ledger.old.joins (option_and_then join_told (outcome_of outcome.now)))) }
+{
+    let Some(join) = join_in(outcome) else {
+        return Ok(());
+    };
+    match ledger.add(disk, join.0, join.1) {
+        Ok(()) => Ok(()),
+        Err(AddJoinFault::Failed) => Err(KeepFault::DiskFailed),
+        Err(AddJoinFault::OutOfMemory) => Err(KeepFault::Played(PlayFault::OutOfMemory)),
+        Err(AddJoinFault::Twice) => unreachable!(),
+        Err(AddJoinFault::Full) => unreachable!(),
     }
 }

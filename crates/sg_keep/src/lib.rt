@@ -5,6 +5,8 @@
 //! is given to the link. Where a ledger can't take a pair, the play ends there. That the pair is in the ledger already, or that the ledger
 //! is full, never happens, since the ledger has the joins of the node before each call.
 //!
+//! Who has an order of its own adds the join of a call by `add_join` before it writes or sends anything of the call.
+//!
 //! On each return each image of the disk, which is what a crash may leave of it, stands for the joins that the ledger was opened with, and
 //! then those of the first calls of the play (`specs/Kept.antt`): with those of each call whose line was begun, and with the session and
 //! the sender of each frame that the link took. Within the play only `Ledger::add` changes the disk, and says of each moment what the
@@ -18,5 +20,6 @@ mod laws;
 mod run;
 
 pub use fault::KeepFault;
+pub use keeper::add_join;
 pub use laws::{frames_tell_their_joins, joins_of_a_node};
 pub use run::keep;

@@ -1,56 +1,45 @@
 -- What comes of an act by a choice, and of a turn.
-use Rattle.std.proofs.Common.{◌≡◌, ℕ, ◌+◌, List, [], ◌∷◌, length, drop, find, Bool, true, false, Option, Some, None, Result, Ok, Err, refl, sym, ap, ◌∙◌, subst}
+use Rattle.std.proofs.Common.{◌≡◌, ℕ, List, [], ◌∷◌, length, drop, find, Bool, true, false, Option, Some, None, Result, Ok, Err, refl, sym, ap, ◌∙◌, subst}
 use Rattle.std.specs.Option.{option_map_or}
 use Rattle.std.proofs.lemmas.List.{length-map}
 use Rattle.sg_base.specs.declared.address.Addr.{Addr}
 use Rattle.sg_base.specs.declared.value.Value.{Value as Held}
 use Rattle.sg_base.specs.Model.{value_of}
-use Rattle.sg_keys.specs.Names.{addr_of}
 use Rattle.sg_model.specs.Last.{Map}
 use Rattle.sg_model.specs.Names.{Name}
 use Rattle.sg_model.specs.Values.{Value}
-use Rattle.sg_node.proofs.Life.{pasts_go_on}
-use Rattle.sg_protocol.specs.Calls.{Call, Answer, Act, Happened, Sends, Abandoned, NotStarted, NotActed, NotAbandoned, NotDelivered}
+use Rattle.sg_protocol.specs.Calls.{Call, Act}
 use Rattle.sg_protocol.specs.Graph.{Graph}
-use Rattle.sg_protocol.specs.Keyring.{Keyring}
 use Rattle.sg_protocol.specs.NodeStates.{NodeState}
 use Rattle.sg_protocol.specs.Past.{node_of}
 use Rattle.sg_protocol.specs.Turn.{turn_of}
-use Rattle.sg_report.specs.Told.{Told, told_answer}
+use Rattle.sg_report.specs.Told.{Told}
 use Rattle.sg_script.specs.Script.{Choice}
 use Rattle.sg_walk.specs.Model.{values_of}
 use Rattle.sg_play.specs.declared.fault.PlayFault.{PlayFault}
 use Rattle.sg_play.specs.declared.player.Player.{Player}
-use Rattle.sg_play.specs.Asking.{Comes, sealed_in}
+use Rattle.sg_play.specs.Asking.{ComesMade}
 use Rattle.sg_play.specs.Choosing.{is_ready, used}
 use Rattle.sg_play.specs.Ends.{Outside, Whole, Ended}
 use Rattle.sg_play.specs.Played.{Play, abandons, act_by, answer_in, called, chosen, next_words, plays_on, step_in}
+use Rattle.sg_play.specs.Posting.{frames_made}
 use Rattle.sg_play.specs.Queues.{Spot, HoldsChoices}
-use Rattle.sg_play.specs.Standing.{Came, CameActing, CameTo, HasActed, HasAsked, StandsForPlay}
-use Rattle.sg_play.specs.Steps.{frames_in}
+use Rattle.sg_play.specs.Standing.{Came, CameActing, CameTo, HasActed, StandsForPlay}
 use Rattle.sg_play.specs.Turns.{acted, acted_by, acted_in, is_sent, or_leaves}
 use Rattle.sg_play.proofs.Coming.{ended_on}
 use Rattle.sg_play.proofs.Extends.{Extends, nothing}
+use Rattle.sg_play.proofs.Telling.{asked_made}
 use Rattle.sg_play.proofs.Turning.{acted_first, leaves, leaving_adds, no_turn, stays, turn_is}
 
 -- ---- asking for the act
 
+-- a player with other choices stands for the play with these
+by_choice : (old : Player) (table : List (Spot × List Choice)) (p : Play) (graph : Name) (node : ℕ) (c : Choice) → HoldsChoices table (used graph node p.choices) → StandsForPlay old p → StandsForPlay (record old { choices = table }) (chosen graph node c p)
+by_choice old table p graph node c holds s = record { node = s.node; told = s.told; keys = s.keys; programs = s.programs; choices = holds; names = s.names; steps = s.steps; frames = s.frames }
+
 -- how many values a choice has
 pub count_is : (c : Choice) (held : List (ℕ × Held)) (n : ℕ) → n ≡ length held → values_of held ≡ c.values → n ≡ length c.values
 count_is c held n e v = e ∙ sym (length-map held (λ (w : ℕ × Held). (w.0, value_of w.1))) ∙ ap (λ (l : Map Value). length l) v
-
--- a made frame with the address of its receiver, if the keyring has one
-abbrev pub addressed : Keyring → Option (Name × List ℕ) → List (Addr × List ℕ)
-addressed keys sealed = option_map_or (λ (s : Name × List ℕ). option_map_or (λ at. (at, s.1) ∷ []) (addr_of keys s.0) []) sealed []
-
-is_addressed : (keys : Keyring) (a : Answer) → addressed keys (sealed_in a) ≡ frames_in keys a
-is_addressed keys (Happened e) = refl
-is_addressed keys (Sends e to f) = refl
-is_addressed keys Abandoned = refl
-is_addressed keys (NotStarted x) = refl
-is_addressed keys (NotActed x) = refl
-is_addressed keys NotAbandoned = refl
-is_addressed keys (NotDelivered x) = refl
 
 -- the act by a choice, of what was read of the choice
 pub act_is : (sid : List ℕ) (c : Choice) (label : ℕ) (values : Map Value) (count : ℕ) (drawn words : List (List ℕ)) → label ≡ c.label → values ≡ c.values → count ≡ length c.values → drawn ≡ next_words count words
@@ -58,30 +47,15 @@ pub act_is : (sid : List ℕ) (c : Choice) (label : ℕ) (values : Map Value) (c
 act_is sid c label values count drawn words l v n w = let d = w ∙ ap (λ k. next_words k words) n in λ i. Act sid (l i) (v i) (d i)
 
 -- the player has acted
-pub has_acted : (old new : Player) (n : NodeState) (table : List (Spot × List Choice)) (p : Play) (sid : List ℕ) (graph : Name) (node : ℕ) (c : Choice) (call : Call) (number : ℕ) (told : Option Told) (by : Option Graph)
-    (sealed : Option (Name × List ℕ)) (made : List (Addr × List ℕ)) (left : Option (List (List ℕ))) → StandsForPlay old p → find (is_ready graph node) p.choices ≡ Some c → call ≡ act_by sid c p.words → number ≡ old.frames + 1
-    → Comes number old.node n p.past call told by sealed → HoldsChoices table (used graph node p.choices) → new ≡ record old { node = n; choices = table; frames = new.frames } → made ≡ addressed old.keys.now sealed
-    → new.frames ≡ old.frames + length made → left ≡ Some (drop (length c.values) p.words) → HasActed new left sid graph node p told by made
-has_acted old new n table p sid graph node c call number told by sealed made left s first is_call is_number comes holds is is_made counted words =
-    let act = act_by sid c p.words in
-    let came = subst (λ (k : Call). Comes number old.node n p.past k told by sealed) is_call comes in
-    let asked : HasAsked (record old { node = n; choices = table; frames = new.frames }) (chosen graph node c p) act told by made = record {
-      node = came.goes_on.stands s.told;
-      told_past = pasts_go_on p.past act s.told came.range;
-      keys = s.keys;
-      programs = s.programs;
-      choices = holds;
-      names = s.names;
-      steps = s.steps;
-      frames = counted ∙ ap (λ k. k + length made) s.frames;
-      is_told = came.is_told ∙ ap (λ k. Some (told_answer k (answer_in p act))) (is_number ∙ ap (λ k. k + 1) s.frames);
-      is_graph = came.is_graph;
-      is_made = is_made ∙ (λ i. addressed (sym s.keys i) (came.is_sealed i)) ∙ is_addressed p.past.keys (answer_in p act);
-    } in
+pub has_acted : (old : Player) (n : NodeState) (table : List (Spot × List Choice)) (counted : ℕ) (p : Play) (sid : List ℕ) (graph : Name) (node : ℕ) (c : Choice) (call : Call) (told : Option Told) (by : Option Graph) (frame : Option (Addr × (Name × List ℕ)))
+    (left : Option (List (List ℕ))) → StandsForPlay old p → find (is_ready graph node) p.choices ≡ Some c → call ≡ act_by sid c p.words → ComesMade old.keys.now old.frames counted old.node n p.past call told by frame
+    → HoldsChoices table (used graph node p.choices) → left ≡ Some (drop (length c.values) p.words) → HasActed (record old { node = n; choices = table; frames = counted }) left sid graph node p told by (frames_made frame)
+has_acted old n table counted p sid graph node c call told by frame left s first is_call comes holds words =
+    let came = subst (λ (k : Call). ComesMade old.keys.now old.frames counted old.node n p.past k told by frame) is_call comes in
     record {
       choice = c;
       is_first = first;
-      asked = subst (λ (pl : Player). HasAsked pl (chosen graph node c p) act told by made) (sym is) asked;
+      asked = asked_made (record old { choices = table }) n counted (chosen graph node c p) (act_by sid c p.words) told by frame (by_choice old table p graph node c holds s) came;
       words_left = words;
     }
 

@@ -1,5 +1,8 @@
 -- What a node answers to a call, as what comes of it.
-use Rattle.std.proofs.Common.{◌≡◌, ℕ, List, Option, Some, None, refl, sym, ◌∙◌, ap}
+use Rattle.std.proofs.Common.{◌≡◌, ℕ, ◌+◌, List, [], ◌∷◌, length, Option, Some, None, option_map, refl, sym, ◌∙◌, ap}
+use Rattle.std.specs.Option.{option_map_or}
+use Rattle.sg_base.specs.declared.address.Addr.{Addr}
+use Rattle.sg_keys.specs.Names.{addr_of}
 use Rattle.sg_model.specs.Last.{Map}
 use Rattle.sg_model.specs.Names.{Name}
 use Rattle.sg_model.specs.Values.{Value}
@@ -8,6 +11,7 @@ use Rattle.sg_protocol.specs.Calls as Protocol
 use Rattle.sg_protocol.specs.Calls.{Call, Answer, Act}
 use Rattle.sg_protocol.specs.Frame.{Frame}
 use Rattle.sg_protocol.specs.Graph.{Graph}
+use Rattle.sg_protocol.specs.Keyring.{Keyring}
 use Rattle.sg_protocol.specs.NodeStates.{NodeState}
 use Rattle.sg_protocol.specs.Past.{Past, node_of}
 use Rattle.sg_protocol.specs.Ranges.{IsCallInRange, AreValues}
@@ -18,7 +22,9 @@ use Rattle.sg_node.specs.Answers.{GoesOn}
 use Rattle.sg_report.specs.Told.{Told, Sends, told_answer}
 use Rattle.sg_protocol.specs.Run.{frame_in}
 use Rattle.sg_report.proofs.Answered.{SendsNothing}
-use Rattle.sg_play.specs.Asking.{Comes, sealed_in}
+use Rattle.sg_play.specs.Asking.{Comes, ComesMade, addressed, sealed_in}
+use Rattle.sg_play.specs.Posting.{frames_made}
+use Rattle.sg_play.specs.Steps.{frames_in}
 
 -- an answer that sends no frame has none that is sealed
 none_sealed : (a : Answer) → None ≡ frame_in a → None ≡ sealed_in a
@@ -40,4 +46,35 @@ comes_sent number old new past sid label values words e to sealed graph f is_to 
   is_graph = graphed;
   is_sealed = (λ i. Some (sealed.0, spelled i)) ∙ ap sealed_in (sym given);
   goes_on = goes;
+}
+
+-- ---- the frame of an act
+
+-- at its address it is the answer's
+one_frame : (f : Frame) (to : Name) (o : Option Addr) → frames_made (option_map (λ (at : Addr). (at, (to, spelling f))) o) ≡ option_map_or (λ at. (at, spelling f) ∷ []) o []
+one_frame f to None = refl
+one_frame f to (Some at) = refl
+
+pub is_addressed : (keys : Keyring) (a : Answer) → frames_made (addressed keys (sealed_in a)) ≡ frames_in keys a
+is_addressed keys (Protocol.Sends e to f) = one_frame f to (addr_of keys to)
+is_addressed keys (Protocol.Happened e) = refl
+is_addressed keys Protocol.Abandoned = refl
+is_addressed keys (Protocol.NotStarted x) = refl
+is_addressed keys (Protocol.NotActed x) = refl
+is_addressed keys Protocol.NotAbandoned = refl
+is_addressed keys (Protocol.NotDelivered x) = refl
+
+-- what comes of an act, with its frame
+pub comes_made : (keys : Keyring) (frames counted : ℕ) (old new : NodeState) (past : Past) (call : Call) (number : ℕ) (told : Option Told) (graph : Option Graph) (sealed : Option (Name × List ℕ)) (frame : Option (Addr × (Name × List ℕ)))
+    → number ≡ frames + 1 → Comes number old new past call told graph sealed → frame ≡ addressed keys sealed → counted ≡ frames + length (frames_made frame) → ComesMade keys frames counted old new past call told graph frame
+comes_made keys frames counted old new past call number told graph sealed frame is_number h is_frame counted_so = record {
+  comes = record {
+    range = h.range;
+    is_told = h.is_told ∙ ap (λ k. Some (told_answer k (answer real (node_of past) call))) is_number;
+    is_graph = h.is_graph;
+    is_sealed = refl;
+    goes_on = h.goes_on;
+  };
+  is_frame = is_frame ∙ ap (addressed keys) h.is_sealed;
+  is_counted = counted_so;
 }

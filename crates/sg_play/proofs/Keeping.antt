@@ -1,5 +1,6 @@
 -- Acts and leavings join nothing.
-use Rattle.std.proofs.Common.{◌≡◌, ℕ, List, Option, Some, None, refl, sym, ap, ◌∙◌, subst}
+use Rattle.std.proofs.Common.{◌≡◌, ℕ, ◌+◌, List, Option, refl, sym, ap, ◌∙◌, subst}
+use Rattle.sg_base.specs.declared.address.Addr.{Addr}
 use Rattle.sg_model.specs.Last.{Map}
 use Rattle.sg_model.specs.Names.{Name}
 use Rattle.sg_model.specs.Values.{Value}
@@ -9,11 +10,12 @@ use Rattle.sg_protocol.specs.Acting.{answer}
 use Rattle.sg_protocol.specs.Calls as Protocol
 use Rattle.sg_protocol.specs.Calls.{Call, Answer, Act, Abandon}
 use Rattle.sg_protocol.specs.Graph.{Graph}
+use Rattle.sg_protocol.specs.Keyring.{Keyring}
 use Rattle.sg_protocol.specs.NodeStates.{NodeState, StandsForPast, state_after}
 use Rattle.sg_protocol.specs.Past.{Past, node_of, past_after}
 use Rattle.sg_protocol.specs.Texts.{real}
 use Rattle.sg_report.specs.Told.{Told}
-use Rattle.sg_play.specs.Asking.{Comes}
+use Rattle.sg_play.specs.Asking.{Comes, ComesMade, sealed_in}
 use Rattle.sg_play.specs.Standing.{KeepsJoins}
 
 -- nothing was asked
@@ -52,10 +54,11 @@ keeps_by number old new c past told graph sealed its h none =
     (past_after real past c, h.goes_on.stands its, pasts_go_on past c its h.range, ap (λ (n : NodeState). n.joins) h.goes_on.state ∙ none (answer real (node_of past) c))
 
 -- an act
-pub keeps_by_act : (number : ℕ) (old new : NodeState) (sid : List ℕ) (label : ℕ) (values : Map Value) (confounders : List (List ℕ)) (told : Option Told) (graph : Option Graph) (sealed : Option (Name × List ℕ))
-    → ((past : Past) → StandsForPast old past → Comes number old new past (Act sid label values confounders) told graph sealed) → KeepsJoins old new
-keeps_by_act number old new sid label values confounders told graph sealed h past s its =
-    keeps_by number old new (Act sid label values confounders) past told graph sealed its (h past s) (acts_join_none old sid label values confounders)
+pub keeps_by_act : (keys : Keyring) (frames counted : ℕ) (old new : NodeState) (sid : List ℕ) (label : ℕ) (values : Map Value) (confounders : List (List ℕ)) (told : Option Told) (graph : Option Graph) (frame : Option (Addr × (Name × List ℕ)))
+    → ((past : Past) → StandsForPast old past → ComesMade keys frames counted old new past (Act sid label values confounders) told graph frame) → KeepsJoins old new
+keeps_by_act keys frames counted old new sid label values confounders told graph frame h past s its =
+    let act = Act sid label values confounders in
+    keeps_by (frames + 1) old new act past told graph (sealed_in (answer real (node_of past) act)) its (h past s).comes (acts_join_none old sid label values confounders)
 
 -- a leaving
 pub keeps_by_leaving : (number : ℕ) (old new : NodeState) (sid : List ℕ) (told : Option Told) (graph : Option Graph) (sealed : Option (Name × List ℕ))

@@ -13,3 +13,4 @@ pub mod Results
 pub mod Queues
 pub mod Rising
 pub mod Keeping
+pub mod Sessions

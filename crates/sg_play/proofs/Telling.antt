@@ -1,11 +1,12 @@
 -- What a player stands for once it has told what came of a call.
-use Rattle.std.proofs.Common.{◌≡◌, ℕ, ◌+◌, List, [], ◌∷◌, ◌++◌, map, flat_map, length, Option, None, refl, sym, ap, ◌∙◌, subst, arith}
+use Rattle.std.proofs.Common.{◌≡◌, ℕ, ◌+◌, List, [], ◌∷◌, ◌++◌, map, flat_map, length, Option, Some, None, refl, sym, ap, ◌∙◌, subst, arith}
 use Rattle.std.specs.Option.{option_map_or}
 use Rattle.std.proofs.lemmas.List.{append-nil, length-append, map-append}
 use Rattle.std.proofs.lemmas.List.Concat.{flat_map-append}
 use Rattle.sg_base.specs.declared.address.Addr.{Addr}
 use Rattle.sg_lines.specs.Sessions.{Met, Naming, naming, session_name}
 use Rattle.sg_node.proofs.Life.{pasts_go_on}
+use Rattle.sg_model.specs.Names.{Name}
 use Rattle.sg_protocol.specs.Calls as Protocol
 use Rattle.sg_protocol.specs.Calls.{Call, Answer, events_of_answer, sid_of}
 use Rattle.sg_protocol.specs.Graph.{Graph}
@@ -16,11 +17,13 @@ use Rattle.sg_protocol.specs.Texts.{real}
 use Rattle.sg_report.specs.Lines.{graph_or_none, line_text}
 use Rattle.sg_report.specs.Told.{Told, told_answer, session_told, sid_left, sid_told}
 use Rattle.sg_play.specs.declared.player.Player.{Player}
-use Rattle.sg_play.specs.Asking.{Comes, sealed_in}
+use Rattle.sg_play.specs.Asking.{Comes, ComesMade, sealed_in}
 use Rattle.sg_play.specs.Meeting.{met_more}
 use Rattle.sg_play.specs.Played.{Play, answer_in, called, sid_given, step_in}
+use Rattle.sg_play.specs.Posting.{frames_made}
 use Rattle.sg_play.specs.Standing.{HasAsked, StandsForPlay}
 use Rattle.sg_play.specs.Steps.{frames_in, frames_of, met_in}
+use Rattle.sg_play.proofs.Called.{is_addressed}
 use Rattle.sg_play.proofs.Endings.{frames_more}
 
 -- ---- names
@@ -90,6 +93,25 @@ asked_quiet pl n p c told graph s h =
       is_told = came.is_told;
       is_graph = came.is_graph;
       is_made = no_frames p.past.keys (answer_in p c) came.is_sealed;
+    }
+
+-- an act was asked, with its frame
+pub asked_made : (pl : Player) (n : NodeState) (counted : ℕ) (p : Play) (c : Call) (told : Option Told) (graph : Option Graph) (frame : Option (Addr × (Name × List ℕ))) → StandsForPlay pl p → ComesMade pl.keys.now pl.frames counted pl.node n p.past c told graph frame
+    → HasAsked (record pl { node = n; frames = counted }) p c told graph (frames_made frame)
+asked_made pl n counted p c told graph frame s h =
+    let came = h.comes in
+    record {
+      node = came.goes_on.stands s.told;
+      told_past = pasts_go_on p.past c s.told came.range;
+      keys = s.keys;
+      programs = s.programs;
+      choices = s.choices;
+      names = s.names;
+      steps = s.steps;
+      frames = h.is_counted ∙ ap (λ k. k + length (frames_made frame)) s.frames;
+      is_told = came.is_told ∙ ap (λ k. Some (told_answer (k + 1) (answer_in p c))) s.frames;
+      is_graph = came.is_graph;
+      is_made = ap frames_made h.is_frame ∙ is_addressed pl.keys.now (answer_in p c) ∙ ap (λ (k : Keyring). frames_in k (answer_in p c)) (sym s.keys);
     }
 
 -- what is told of a call

@@ -1,9 +1,12 @@
 -- What came of a call of the node, as the program holds it.
-use Rattle.std.specs.Prelude.{◌≡◌, ℕ, List, Option, Some, None}
+use Rattle.std.specs.Prelude.{◌≡◌, ℕ, ◌+◌, List, length, Option, Some, None, option_and_then, option_map}
+use Rattle.sg_base.specs.declared.address.Addr.{Addr}
+use Rattle.sg_keys.specs.Names.{addr_of}
 use Rattle.sg_model.specs.Names.{Name}
 use Rattle.sg_protocol.specs.Acting.{answer}
 use Rattle.sg_protocol.specs.Calls.{Answer, Call, Sends}
 use Rattle.sg_protocol.specs.Graph.{Graph}
+use Rattle.sg_protocol.specs.Keyring.{Keyring}
 use Rattle.sg_protocol.specs.NodeStates.{NodeState}
 use Rattle.sg_protocol.specs.Past.{Past, node_of}
 use Rattle.sg_protocol.specs.Ranges.{IsCallInRange}
@@ -12,6 +15,7 @@ use Rattle.sg_protocol.specs.Texts.{real}
 use Rattle.sg_protocol.specs.Told.{graph_of_call}
 use Rattle.sg_node.specs.Answers.{GoesOn}
 use Rattle.sg_report.specs.Told.{Told, told_answer}
+use Rattle.sg_play.specs.Posting.{frames_made}
 
 -- the frame that an answer sends: its receiver, and its bytes
 abbrev pub sealed_in : Answer → Option (Name × List ℕ)
@@ -25,3 +29,13 @@ pub record Comes (number : ℕ) (old new : NodeState) (past : Past) (call : Call
   pub is_graph : graph ≡ graph_of_call real (node_of past) call
   pub is_sealed : sealed ≡ sealed_in (answer real (node_of past) call)
   pub goes_on : GoesOn old new call past
+
+-- a made frame for the address that the keyring has for its receiver
+abbrev pub addressed : Keyring → Option (Name × List ℕ) → Option (Addr × (Name × List ℕ))
+addressed keys sealed = option_and_then (λ s. option_map (λ at. (at, s)) (addr_of keys s.0)) sealed
+
+-- so with the frame that is made, at its address: it has the next number after these, and is counted
+pub record ComesMade (keys : Keyring) (frames counted : ℕ) (old new : NodeState) (past : Past) (call : Call) (told : Option Told) (graph : Option Graph) (frame : Option (Addr × (Name × List ℕ))) : Type 0 where
+  pub comes : Comes (frames + 1) old new past call told graph (sealed_in (answer real (node_of past) call))
+  pub is_frame : frame ≡ addressed keys (sealed_in (answer real (node_of past) call))
+  pub is_counted : counted ≡ frames + length (frames_made frame)

@@ -1,5 +1,5 @@
 //! What the node is asked, what came of it, and the graph by which its numbers have names.
-ghost use Rattle.std.specs.Prelude.{◌≡◌, ◌↔◌, ◌⊎◌, ℕ, length, None, IfOk, IfErr, IsTrue};
+ghost use Rattle.std.specs.Prelude.{◌≡◌, ◌↔◌, ◌⊎◌, ◌+◌, ℕ, length, None, IfOk, IfErr, IsTrue};
 ghost use Rattle.std.specs.Option.{option_copied};
 ghost use Rattle.sg_protocol.specs.Calls.{Start, Act, Abandon, Deliver};
 ghost use Rattle.sg_protocol.specs.NodeStates.{StandsForPast};
@@ -8,14 +8,16 @@ ghost use Rattle.sg_protocol.specs.Texts.{real};
 ghost use Rattle.sg_protocol.specs.Told.{graph_of_call};
 ghost use Rattle.sg_report.specs.Outcome.{outcome_of};
 ghost use Rattle.sg_walk.specs.Model.{values_of};
-ghost use Rattle.sg_play.specs.Asking.{Comes};
+ghost use Rattle.sg_play.specs.Asking.{Comes, ComesMade, addressed};
+ghost use Rattle.sg_play.specs.Posting.{frames_made};
 
 use crate::PlayFault;
 use crate::types::tell_cast;
-use sg_base::{Label, Sealed, Sid, Value, Var, tell_bytes};
+use sg_base::{Addr, Label, Sealed, Sid, Value, Var, tell_bytes};
 use sg_crypt::{Cast, Notes};
 use sg_frame::{DecodeFault, decode};
 use sg_graph::Graph;
+use sg_keys::Keyring;
 use sg_node::{ActFault, Node, Refusal, StartFault};
 use sg_report::Outcome;
 use sg_role::{SendFault, tell_values};
@@ -110,8 +112,66 @@ pub(crate) fn ask_abandon<'p>(node: &mut Node<'p>, sid: Sid) -> (Outcome, Option
     }
 }
 
-/// Acts in a session. The frame that is made is to have this number.
+/// Acts in a session. The frame that is made has the next number and the address that the keyring has for its receiver, and is counted.
 pub(crate) fn ask_act<'p>(
+    alloc: Global,
+    node: &mut Node<'p>,
+    keys: &Keyring,
+    frames: &mut u32,
+    sid: Sid,
+    label: Label,
+    values: &[(Var, Value)],
+    words: &[[u8; 16]],
+) -> Result<(Outcome, Option<&'p Graph>, Option<(Addr, Sealed)>), PlayFault>
+    requires { length words.now ≡ length values.now }
+    ensures comes { (past : Past) → StandsForPast node.old past
+        → IfOk result (λ r. ComesMade keys.now frames.old frames.new node.old node.new past (Act sid label (values_of values.now) words.now) (outcome_of r.0) (option_copied r.1) r.2) }
+    ensures memory { IfErr result (λ e. e ≡ PlayFault.OutOfMemory) }
+{
+    let number = next_frame(*frames)?;
+    let (outcome, graph, sealed) = ask_numbered(alloc, node, sid, label, values, words, number)?;
+    let frame = addressed(keys, frames, sealed, number);
+    Ok((outcome, graph, frame))
+}
+
+// The next frame's number, or `OutOfMemory` where a `u32` holds no more.
+fn next_frame(number: u32) -> Result<u32, PlayFault>
+    ensures next { IfOk result (λ n. n ≡ number + 1) }
+    ensures memory { IfErr result (λ e. e ≡ PlayFault.OutOfMemory) }
+{
+    match number.checked_add(1) {
+        Some(next) => Ok(next),
+        None => Err(PlayFault::OutOfMemory),
+    }
+}
+
+// A made frame for the address that the keyring has for its receiver. It has this number.
+fn addressed(
+    keys: &Keyring,
+    frames: &mut u32,
+    sealed: Option<Sealed>,
+    number: u32,
+) -> Option<(Addr, Sealed)>
+    ensures frame { result ≡ addressed keys.now sealed }
+    ensures count { number ≡ frames.old + 1 → frames.new ≡ frames.old + length (frames_made result) }
+{
+    let Some(sealed) = sealed else {
+        return None;
+    };
+    match keys.addr(&sealed.to()) {
+        Some(at) => {
+            *frames = number;
+            Some((at, sealed))
+        }
+        None => {
+            let _ = sealed.release();
+            None
+        }
+    }
+}
+
+// Acts in a session. The frame that is made is to have this number.
+fn ask_numbered<'p>(
     alloc: Global,
     node: &mut Node<'p>,
     sid: Sid,

@@ -11,10 +11,14 @@
 //! line and frame are, and `specs/Ends.antt` how far a play came that ended early: by whole steps where the link failed or memory ran
 //! out, and with the frame of one more step and a front part of its line where a line was not written whole.
 //!
+//! Who has an order of its own makes each call by itself, and then has the line of its step: `Player::ask_start`, `ask_deliver`, `ask_act` or
+//! `ask_abandon`, and `tell`. A play goes by the same calls.
+//!
 //! Look-ups go by hash tables: the choices for a node of a graph, what a session is called, and what the node has of it.
 #![tactic(auto)]
 
 mod ask;
+mod calls;
 mod choices;
 mod fault;
 mod player;
@@ -28,3 +32,4 @@ mod words;
 pub use fault::PlayFault;
 pub use player::Player;
 pub use run::play;
+pub use words::draw;

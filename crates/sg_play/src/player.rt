@@ -2,6 +2,7 @@
 ghost use Rattle.std.specs.Prelude.{◌≡◌, ◌≤◌, ◌+◌, ℕ, List, [], Some, None, Err, IfOk, IfErr, IfSome, OnOk, unwrap_or};
 ghost use Rattle.std.specs.Option.{option_copied, option_map_or};
 ghost use Rattle.sg_base.specs.Outside.{HasRisen};
+ghost use Rattle.sg_base.specs.declared.address.Addr.{Addr};
 ghost use Rattle.sg_lines.specs.Sessions.{Met, naming, session_name};
 ghost use Rattle.sg_protocol.specs.Calls.{Call, Start, Deliver};
 ghost use Rattle.sg_report.specs.Lines.{graph_or_none, line_text};
@@ -11,7 +12,7 @@ ghost use Rattle.sg_play.specs.Meeting.{met_more};
 ghost use Rattle.sg_play.specs.Posting.{frames_made};
 
 use crate::PlayFault;
-use crate::ask::{ask_abandon, ask_deliver, ask_start};
+use crate::ask::{ask_deliver, ask_start};
 use crate::choices::Choices;
 use crate::post::{Made, let_go, post};
 use crate::run::cast_of;
@@ -37,7 +38,7 @@ pub struct Player<'p> {
     pub(crate) node: Node<'p>,
     pub(crate) choices: Choices,
     pub(crate) names: SessionNames,
-    pub(crate) steps: u32,
+    pub(crate) steps: u64,
     pub(crate) frames: u32,
 }
 
@@ -46,7 +47,7 @@ impl<'p> Player<'p> {
     ghost use Rattle.sg_protocol.specs.Past.{Past};
     ghost use Rattle.sg_play.specs.Asking.{Comes};
     ghost use Rattle.sg_play.specs.Ends.{Outside, Whole};
-    ghost use Rattle.sg_play.specs.Played.{Play, abandons, answer_in, beginning, called, cast_of_start, sid_given};
+    ghost use Rattle.sg_play.specs.Played.{Play, abandons, answer_in, beginning, called, cast_of_start, sid_given, step_in};
     ghost use Rattle.sg_play.specs.Standing.{Came, HasAsked, KeepsJoins, StandsForPlay, done};
 
     /// A player with a node that was made with these keys and programs and was not asked anything yet.
@@ -161,7 +162,7 @@ impl<'p> Player<'p> {
             → Came start (record { written = O.written out.new; sent = L.sent link.new }) self.new (abandons sid p) result }
         ensures joins { OnOk result (KeepsJoins self.old.node self.new.node) }
     {
-        let (outcome, graph) = ask_abandon(&mut self.node, sid);
+        let (outcome, graph) = self.ask_abandon(sid);
         self.give(Some(sid), graph, &outcome, None, link, out)
     }
 
@@ -195,21 +196,20 @@ impl<'p> Player<'p> {
         }
     }
 
-    // The line of the next step.
-    fn tell(
+    /// The line of the next step: of what came of a call, in the session that the call left, if it left one. It is to be written.
+    pub fn tell(
         &mut self,
         left: Option<Sid>,
         graph: Option<&Graph>,
         outcome: &Outcome,
     ) -> Result<Vec<u8>, PlayFault>
         ensures rest { OnOk result (self.new ≡ record self.old { names = self.new.names; steps = self.old.steps + 1 }) }
-        ensures names { OnOk result ((m : Met) (t : Told) → outcome_of outcome.now ≡ Some t → self.old.names ≡ naming 115 m → self.new.names ≡ naming 115 (met_more m t)) }
-        ensures text { IfOk result (λ line. (m : Met) (t : Told) → outcome_of outcome.now ≡ Some t → self.old.names ≡ naming 115 m
-            → line.items ≡ line_text (option_map_or (session_name 115 (met_more m t)) (session_told left t) []) (graph_or_none (option_copied graph.entry)) (self.old.steps + 1) self.old.keys.now.me t) }
+        ensures told { IfOk result (λ line. (p : Play) (c : Call) (made : List (Addr × List ℕ)) → HasAsked self.old p c (outcome_of outcome.now) (option_copied graph.entry) made → left ≡ sid_left c
+            → (line.items ≡ (step_in p c).line) × StandsForPlay self.new (called p c)) }
         ensures memory { IfErr result (λ e. e ≡ PlayFault.OutOfMemory) }
     {
         self.meet(outcome)?;
-        let number = next(self.steps)?;
+        let number = next_step(self.steps)?;
         let line = self.line(number, session_of(left, outcome), graph, outcome)?;
         self.steps = number;
         Ok(line)
@@ -233,7 +233,7 @@ impl<'p> Player<'p> {
     // The line of a step of this number, in a session.
     fn line(
         &self,
-        number: u32,
+        number: u64,
         sid: Option<Sid>,
         graph: Option<&Graph>,
         outcome: &Outcome,
@@ -268,8 +268,8 @@ fn bytes_of(name: &Option<Name>) -> &[u8]
     }
 }
 
-/// One more, or `OutOfMemory` where a `u32` holds no more; such numbers are never reached.
-pub(crate) fn next(number: u32) -> Result<u32, PlayFault>
+// One step more, or `OutOfMemory` where a `u64` holds no more: no principal lives to see it.
+fn next_step(number: u64) -> Result<u64, PlayFault>
     ensures next { IfOk result (λ n. n ≡ number + 1) }
     ensures memory { IfErr result (λ e. e ≡ PlayFault.OutOfMemory) }
 {

@@ -22,7 +22,7 @@ use std::alloc::Global;
 /// them all, except where two different graphs have one digest: then there is no line, as if memory ran out.
 pub(crate) fn told_line(
     alloc: Global,
-    step: u32,
+    step: u64,
     who: Name,
     session: &[u8],
     graph: Option<&Graph>,

@@ -1,8 +1,7 @@
 //! A turn of a session: the act by a choice of the script, or the leaving.
-ghost use Rattle.std.specs.Prelude.{◌≡◌, ◌≤◌, ◌+◌, ℕ, [], ◌∷◌, Err, Some, None, IfOk, IfErr, OnOk, MatchOption, length, find};
-ghost use Rattle.std.specs.Option.{option_copied, option_map_or};
+ghost use Rattle.std.specs.Prelude.{◌≡◌, ◌≤◌, ℕ, Err, Some, None, IfOk, IfErr, OnOk, MatchOption, find};
+ghost use Rattle.std.specs.Option.{option_copied};
 ghost use Rattle.sg_base.specs.Outside.{HasRisen};
-ghost use Rattle.sg_keys.specs.Names.{addr_of};
 ghost use Rattle.sg_protocol.specs.Calls.{Answer};
 ghost use Rattle.sg_report.specs.Outcome.{outcome_of};
 ghost use Rattle.sg_report.specs.Told.{told_answer};
@@ -14,7 +13,6 @@ ghost use Rattle.sg_play.specs.Standing.{CameActing, CameTo, HasActed, KeepsJoin
 ghost use Rattle.sg_play.specs.Turns.{acted, acted_in, is_sent};
 
 use crate::ask::ask_act;
-use crate::player::next;
 use crate::words::draw;
 use crate::{PlayFault, Player};
 use sg_base::{Addr, Fresh, Link, Name, NodeId, Sealed, Sid, Sink};
@@ -126,40 +124,18 @@ impl<'p> Player<'p> {
             Ok(words) => words,
             Err(_) => return Err(PlayFault::OutOfMemory),
         };
-        let number = next(self.frames)?;
-        let (outcome, told_by, sealed) = ask_act(
+        let asked = ask_act(
             self.alloc,
             &mut self.node,
+            self.keys,
+            &mut self.frames,
             sid,
             choice.label,
             choice.values.as_slice(),
             words.as_slice(),
-            number,
         )?;
         self.choices.use_first(graph, node);
-        let frame = self.addressed(sealed, number);
-        Ok(Some((outcome, told_by, frame)))
-    }
-
-    // A made frame for the address that the keyring has for its receiver. It has this number.
-    fn addressed(&mut self, sealed: Option<Sealed>, number: u32) -> Option<(Addr, Sealed)>
-        ensures rest { self.new ≡ record self.old { frames = self.new.frames } }
-        ensures made { frames_made result ≡ option_map_or (λ s. option_map_or (λ at. (at, s.1) ∷ []) (addr_of self.old.keys.now s.0) []) sealed [] }
-        ensures count { number ≡ self.old.frames + 1 → self.new.frames ≡ self.old.frames + length (frames_made result) }
-    {
-        let Some(sealed) = sealed else {
-            return None;
-        };
-        match self.keys.addr(&sealed.to()) {
-            Some(at) => {
-                self.frames = number;
-                Some((at, sealed))
-            }
-            None => {
-                let _ = sealed.release();
-                None
-            }
-        }
+        Ok(Some(asked))
     }
 }
 

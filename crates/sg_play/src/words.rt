@@ -6,7 +6,7 @@ use sg_base::{Fresh, OutOfMemory};
 use std::alloc::Global;
 
 /// The next `count` words.
-pub(crate) fn draw<R: Fresh>(
+pub fn draw<R: Fresh>(
     alloc: Global,
     fresh: &mut R,
     count: usize,

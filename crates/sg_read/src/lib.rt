@@ -36,3 +36,4 @@ mod values;
 mod whole;
 
 pub use read::read_schedule;
+pub use values::{differ, known_values};

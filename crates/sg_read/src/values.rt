@@ -19,7 +19,7 @@ use std::alloc::Global;
 
 /// What is given to variables of the graph, or `None` where a variable isn't one of them.
 #[tactic(auto, using(crate::proofs::ValueLaws::as_many, crate::proofs::ValueLaws::by_numbers))]
-pub(crate) fn known_values(
+pub fn known_values(
     alloc: Global,
     graph: &Graph,
     values: &[Given<'_>],
@@ -120,7 +120,7 @@ pub(crate) fn spelled_value(alloc: Global, word: &[u8]) -> Result<Value, OutOfMe
 }
 
 /// Whether the variables are different.
-pub(crate) fn differ(alloc: Global, values: &[Given<'_>]) -> Result<bool, OutOfMemory>
+pub fn differ(alloc: Global, values: &[Given<'_>]) -> Result<bool, OutOfMemory>
     ensures { IfOk result (λ b. b ≡ all_differ (map (λ v. v.variable) values.now)) }
 {
     let mut names = NameSet::new(alloc);

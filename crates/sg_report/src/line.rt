@@ -21,7 +21,7 @@ use std::alloc::Global;
 /// the call's.
 pub fn report_line(
     alloc: Global,
-    step: u32,
+    step: u64,
     who: Name,
     session: &[u8],
     graph: Option<&Graph>,
@@ -38,7 +38,7 @@ pub fn report_line(
 /// Appends the line of a step to what is written.
 pub fn put_line(
     out: &mut ByteOut,
-    step: u32,
+    step: u64,
     who: &[u8],
     session: &[u8],
     graph: Option<&Graph>,
@@ -47,7 +47,7 @@ pub fn put_line(
     requires { IfSome (outcome_of outcome.now) (CanBeTold (option_copied graph)) }
     ensures { OnOk result (IsSomeAnd (outcome_of outcome.now) (λ told. out.new ≡ out.old ++ line_text session.now (graph_or_none (option_copied graph.entry)) step who.now told)) }
 {
-    out.decimal(step as u64)?;
+    out.decimal(step)?;
     out.u8(b' ')?;
     put_whom(out, who, outcome)?;
     put_told(out, session, graph, outcome)?;

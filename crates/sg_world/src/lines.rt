@@ -55,7 +55,7 @@ fn put_entry<'p>(
     let session = name_in(names, &sid);
     put_line(
         out,
-        number,
+        number as u64,
         bytes_of(&who),
         bytes_of(&session),
         graph_for(entry.graph, setting.graphs(), &entry.outcome),

@@ -1,4 +1,4 @@
-use Rattle.std.proofs.Common.{◌≡◌, IfOk, None, subst}
+use Rattle.std.proofs.Common.{IfOk, None, subst}
 use Rattle.std.specs.Option.{option_copied}
 use Rattle.sg_protocol.specs.Calls.{Start}
 use Rattle.sg_protocol.specs.Frame.{Cast}

@@ -1,25 +1,18 @@
 use Rattle.std.proofs.Common.{◌≡◌, ap}
-use Rattle.std.specs.Option.{option_copied}
-use Rattle.sg_report.specs.Outcome.{outcome_of}
 use Rattle.sg_play.specs.declared.fault.PlayFault.TheVariants.{OutOfMemory}
 use Rattle.sg_play.specs.declared.player.Player.{Player}
 use Rattle.sg_play.specs.Played.{called}
 use Rattle.sg_play.specs.Posting.{frames_made}
-use Rattle.sg_play.specs.Steps.{met_in}
 use Rattle.sg_play.proofs.Coming.{came_after, no_memory_by}
 use Rattle.sg_play.proofs.Extends.{by_call}
 use Rattle.sg_play.proofs.Results.{anyway}
-use Rattle.sg_play.proofs.Telling.{line_is, stands_told, told_in}
 use Rattle.sg_play.proofs.player.Player.give.Goals as goal
 
 pub returns-in-Ok-clause-came : goal.returns-in-Ok-clause-came
 returns-in-Ok-clause-came g c = λ p k start asked left w.
-    let names = c.in-Ok.ensures.names (met_in p.past.calls) (told_in p k) asked.is_told asked.names in
-    let text = c.in-Ok.ensures.text (met_in p.past.calls) (told_in p k) asked.is_told asked.names in
+    let told = c.in-Ok.ensures.told p k (frames_made c.args.frame) asked left in
     came_after start (record { written = g.O.Sink.written c.args.out.now; sent = g.L.Link.sent c.args.link.now }) (record { written = g.O.Sink.written c.post.new.out; sent = g.L.Link.sent c.post.new.link }) c.tell.new.self p k
-    c.in-Ok.line.items (frames_made c.args.frame) c.post.result w
-    (stands_told c.args.self.now c.tell.new.self p k (outcome_of c.args.outcome.now) (option_copied c.args.graph) (frames_made c.args.frame) asked c.in-Ok.ensures.rest names)
-    (line_is c.args.self.now p k (outcome_of c.args.outcome.now) c.args.left (option_copied c.args.graph) (frames_made c.args.frame) c.in-Ok.line.items asked left text)
+    c.in-Ok.line.items (frames_made c.args.frame) c.post.result w told.1 told.0
     asked.is_made c.post.ensures.no_memory c.post.ensures.line c.post.ensures.frame c.post.ensures.front c.post.ensures.no_frame c.post.ensures.no_line
 
 pub returns-in-Err-clause-link_failed : goal.returns-in-Err-clause-link_failed

@@ -1,5 +1,5 @@
 use Rattle.sg_play.proofs.Keeping.{keeps_same}
-use Rattle.std.proofs.Common.{subst, sym, refl}
+use Rattle.std.proofs.Common.{refl}
 use Rattle.sg_play.proofs.player.Player.play_if.Goals as goal
 
 pub returns-in-Some-clause-came : goal.returns-in-Some-clause-came

@@ -1,13 +1,11 @@
-use Rattle.sg_play.specs.declared.player.Player.{Player}
-use Rattle.sg_play.proofs.Keeping.{keeps_by_act, keeps_same, keeps_then}
 use Rattle.std.proofs.Common.{◌≡◌, length, drop, Some, refl, sym, ap, ◌∙◌}
 use Rattle.std.specs.Option.{option_copied}
 use Rattle.sg_protocol.specs.Calls.{Act}
 use Rattle.sg_report.specs.Outcome.{outcome_of}
 use Rattle.sg_script.specs.Script.{Choice}
 use Rattle.sg_walk.specs.Model.{values_of}
-use Rattle.sg_play.specs.Posting.{frames_made}
 use Rattle.sg_play.proofs.Acting.{act_is, count_is, has_acted}
+use Rattle.sg_play.proofs.Keeping.{keeps_by_act, keeps_same}
 use Rattle.sg_play.proofs.player.Player.try_act.Goals as goal
 
 pub returns-in_default-clause-acted : goal.returns-in_default-clause-acted
@@ -20,10 +18,9 @@ returns-clause-acted g c = λ p s w.
     let count : c.len.result ≡ length choice.values = count_is choice c.as_slice.result.now c.len.result (c.len.ensures ∙ sym (ap (λ vs. length vs) c.as_slice.ensures)) values in
     let drawn = c.as_slice-2.ensures.value ∙ c.in-Ok.ensures.words p.words w in
     let call = act_is c.args.sid choice c.choice.inside.label (values_of c.as_slice.result.now) c.len.result c.as_slice-2.result.now p.words (ap (λ (k : Choice). k.label) c.choice.view_is) values count drawn in
-    has_acted c.args.self.now c.addressed-frame.new.self c.ask_act.new.node c.use_first.new.self p c.args.sid c.args.graph.now c.args.node choice
-    (Act c.args.sid c.choice.inside.label (values_of c.as_slice.result.now) c.as_slice-2.result.now) c.in_ok-number.number (outcome_of c.in_ok-outcome.outcome) (option_copied c.in_ok-outcome.told_by) c.in_ok-outcome.sealed
-    (frames_made c.addressed-frame.result) (g.R.Fresh.words c.draw.new.fresh) s (sym (c.first.ensures p.choices s.choices) ∙ ap option_copied c.in-Some.is) call c.in_ok-number.ensures.next
-    (c.in_ok-outcome.ensures.comes p.past s.node) (c.use_first.ensures p.choices s.choices) c.addressed-frame.ensures.rest c.addressed-frame.ensures.made (c.addressed-frame.ensures.count c.in_ok-number.ensures.next)
+    has_acted c.args.self.now c.ask_act.new.node c.use_first.new.self c.ask_act.new.frames p c.args.sid c.args.graph.now c.args.node choice
+    (Act c.args.sid c.choice.inside.label (values_of c.as_slice.result.now) c.as_slice-2.result.now) (outcome_of c.in_ok-asked.asked.0) (option_copied c.in_ok-asked.asked.1) c.in_ok-asked.asked.2
+    (g.R.Fresh.words c.draw.new.fresh) s (sym (c.first.ensures p.choices s.choices) ∙ ap option_copied c.in-Some.is) call (c.in_ok-asked.ensures.comes p.past s.node) (c.use_first.ensures p.choices s.choices)
     (c.in-Ok.ensures.left p.words w ∙ ap (λ n. Some (drop n p.words)) count)
 
 pub returns-in_default-clause-joins : goal.returns-in_default-clause-joins
@@ -31,8 +28,6 @@ returns-in_default-clause-joins g c = keeps_same c.args.self.now.node c.args.sel
 
 pub returns-clause-joins : goal.returns-clause-joins
 returns-clause-joins g c =
-    let old = c.args.self.now.node in
-    let asked = c.ask_act.new.node in
-    keeps_then old asked c.addressed-frame.new.self.node
-    (keeps_by_act c.in_ok-number.number old asked c.args.sid c.choice.inside.label (values_of c.as_slice.result.now) c.as_slice-2.result.now (outcome_of c.in_ok-outcome.outcome) (option_copied c.in_ok-outcome.told_by) c.in_ok-outcome.sealed c.in_ok-outcome.ensures.comes)
-    (keeps_same asked c.addressed-frame.new.self.node (ap (λ (pl : Player). pl.node) c.addressed-frame.ensures.rest))
+    let old = c.args.self.now in
+    keeps_by_act old.keys.now old.frames c.ask_act.new.frames old.node c.ask_act.new.node c.args.sid c.choice.inside.label (values_of c.as_slice.result.now) c.as_slice-2.result.now
+    (outcome_of c.in_ok-asked.asked.0) (option_copied c.in_ok-asked.asked.1) c.in_ok-asked.asked.2 c.in_ok-asked.ensures.comes

@@ -1,0 +1,92 @@
+//! Calls that a caller of a player makes one by one, and what it looks up between them.
+ghost use Rattle.std.specs.Prelude.{◌≡◌, [], length, slice_get, option_map, IfOk, IfErr, OnOk};
+ghost use Rattle.std.specs.Option.{option_copied};
+ghost use Rattle.sg_lines.specs.Sessions.{sids_met};
+ghost use Rattle.sg_protocol.specs.Calls.{Abandon, Act};
+ghost use Rattle.sg_protocol.specs.Past.{node_of};
+ghost use Rattle.sg_protocol.specs.Told.{live_with};
+ghost use Rattle.sg_protocol.specs.Turn.{turn_of};
+ghost use Rattle.sg_report.specs.Outcome.{outcome_of};
+ghost use Rattle.sg_walk.specs.Model.{values_of};
+ghost use Rattle.sg_play.specs.Asking.{addressed, sealed_in};
+ghost use Rattle.sg_play.specs.Played.{Play, answer_in};
+ghost use Rattle.sg_play.specs.Posting.{frames_made};
+ghost use Rattle.sg_play.specs.Standing.{HasAsked, KeepsJoins, StandsForPlay};
+ghost use Rattle.sg_play.specs.Steps.{met_in};
+
+use crate::ask::{ask_abandon, ask_act};
+use crate::{PlayFault, Player};
+use sg_base::{Addr, Label, NodeId, Sealed, Sid, Value, Var};
+use sg_graph::Graph;
+use sg_report::Outcome;
+
+impl<'p> Player<'p> {
+    /// Asks the node for an act in a session, with a word to hide each value: what came of it, the graph by which its numbers have names,
+    /// and the frame that was made, with the address of its receiver. The step's line is still to be told, by `tell`.
+    pub fn ask_act(
+        &mut self,
+        sid: Sid,
+        label: Label,
+        values: &[(Var, Value)],
+        words: &[[u8; 16]],
+    ) -> Result<(Outcome, Option<&'p Graph>, Option<(Addr, Sealed)>), PlayFault>
+        requires { length words.now ≡ length values.now }
+        ensures asked { IfOk result (λ r. (p : Play) → StandsForPlay self.old p
+            → HasAsked self.new p (Act sid label (values_of values.now) words.now) (outcome_of r.0) (option_copied r.1) (frames_made r.2)) }
+        ensures frame { IfOk result (λ r. (p : Play) → StandsForPlay self.old p → r.2 ≡ addressed p.past.keys (sealed_in (answer_in p (Act sid label (values_of values.now) words.now)))) }
+        ensures joins { OnOk result (KeepsJoins self.old.node self.new.node) }
+        ensures memory { IfErr result (λ e. e ≡ PlayFault.OutOfMemory) }
+    {
+        ask_act(
+            self.alloc,
+            &mut self.node,
+            self.keys,
+            &mut self.frames,
+            sid,
+            label,
+            values,
+            words,
+        )
+    }
+
+    /// Asks the node to abandon a session: what came of it, and the graph by which its numbers have names. The step's line is still to be
+    /// told, by `tell`.
+    pub fn ask_abandon(&mut self, sid: Sid) -> (Outcome, Option<&'p Graph>)
+        ensures asked { (p : Play) → StandsForPlay self.old p
+            → HasAsked self.new p (Abandon sid) (outcome_of result.0) (option_copied result.1) [] }
+        ensures joins { KeepsJoins self.old.node self.new.node }
+    {
+        ask_abandon(&mut self.node, sid)
+    }
+
+    /// The graph's node at which a session stands that is at its turn. It takes no memory.
+    pub fn turn(&self, sid: Sid) -> Option<NodeId>
+        ensures { (p : Play) → StandsForPlay self.now p → result ≡ turn_of (node_of p.past) sid }
+    {
+        self.node.turn(sid)
+    }
+
+    /// The graph of a session that is live. It takes no memory.
+    pub fn graph_of(&self, sid: &Sid) -> Option<&'p Graph>
+        ensures { (p : Play) → StandsForPlay self.now p → option_copied result ≡ option_map (λ x. x.0.graph) (live_with (node_of p.past) sid.now) }
+    {
+        self.node.graph_of(sid)
+    }
+
+    /// How many sessions had an event. It takes no memory.
+    pub fn sessions(&self) -> usize
+        ensures { (p : Play) → StandsForPlay self.now p → result ≡ length (sids_met (met_in p.past.calls)) }
+    {
+        self.names.len()
+    }
+
+    /// The session at a place in the order of first events, from 0. It takes no memory.
+    pub fn session_at(&self, place: usize) -> Option<Sid>
+        ensures { (p : Play) → StandsForPlay self.now p → result ≡ slice_get (sids_met (met_in p.past.calls)) place }
+    {
+        match self.names.at(place) {
+            Some(named) => Some(named.0),
+            None => None,
+        }
+    }
+}
