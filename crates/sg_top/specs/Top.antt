@@ -31,11 +31,11 @@ Works (Some (Compose file)) told faults faults' old new stream stream' disk disk
 Works (Some (Suggest file)) told faults faults' old new stream stream' disk disk' ending = OnFile Suggests most_graph_file file told faults faults' old.out new.out ending
 Works (Some (Claims graph claims)) told faults faults' old new stream stream' disk disk' ending = DecidesClaims graph claims told faults faults' old.out new.out ending
 
--- the work that the words ask for ends so, or memory ran out before they were read
+-- the work that the words ask for ends so, or memory ran out before they were read, and nothing was touched
 abbrev pub Does : (words : List (List ℕ)) → Told → (faults faults' : ℕ) → (old new : Outside) → (stream stream' : Linked) → (disk disk' : Disked) → Ending → Type 0
 Does words told faults faults' old new stream stream' disk disk' ending =
     Works (command_of words) told faults faults' old new stream stream' disk disk' ending
-    ⊎ (IsUntouched old new × IsNotAsked disk disk' × (ending ≡ NoMemory))
+    ⊎ (IsUntouched old new × (stream' ≡ stream) × IsNotAsked disk disk' × (ending ≡ NoMemory))
 
 -- a line is written and its status given, or it is not taken whole, which the count of faults shows, and the status is that of a failed write
 abbrev pub Puts : (old new : Output) → (line : List ℕ) → (wanted status : ℕ) → Type 0
