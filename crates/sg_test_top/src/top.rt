@@ -1,4 +1,4 @@
-//! The program over files, outputs and a link in memory: what it writes, the status that it ends with, and what comes of a call that fails.
+//! The program over files, outputs and a link in memory: what comes of a call that fails. What it answers where none does is in the tables of cases.
 ghost use Rattle.std.specs.Prelude.{◌≡◌, string_bytes};
 
 use sg_base::{Addr, Link, MemFiles, MemFresh, MemLink, MemSink};
@@ -11,6 +11,7 @@ use std::alloc::Global;
 use std::process::Abort;
 
 mod ledger;
+mod play;
 mod stream;
 
 // Which call of each object fails, counted from 1, none for 0; and how many bytes standard output takes.
@@ -242,194 +243,6 @@ fn writes(alloc: Global, rt: &impl Abort, line: &str, pieces: &[&str], out: &[&s
     ends(alloc, rt, line, pieces, WHOLE, 0, out, "");
 }
 
-// The words write nothing, and end with this status and line on standard error. There is room for hardly anything else.
-fn refuses(alloc: Global, rt: &impl Abort, line: &str, pieces: &[&str], status: u8, err: &str) {
-    ends(alloc, rt, line, pieces, room(10), status, &[], err);
-}
-
-const HEAD: &str = "edge Request 0 1\n\
-    edge Reply 1 2\n\
-    edge Again 2 1\n\
-    honest a\n\
-    honest b\n\
-    key a b 1111111111111111111111111111111111111111111111111111111111111111\n\
-    session s1 pair 1 a,b\n";
-
-#[test]
-fn reports_a_session_whose_frames_come_again(rt: HostRuntime) {
-    let alloc = rt.alloc();
-    let steps = "start a s1\n\
-        act a s1 Request\n\
-        deliver b f1\n\
-        deliver b f1\n\
-        act b s1 Reply\n\
-        deliver a f2\n\
-        deliver a f2\n\
-        act a s1 Again\n\
-        deliver a f2\n\
-        deliver b f3\n\
-        deliver b f9\n";
-    let report = "1 a s1 started as a\n\
-        2 a s1 sent Request time 1 to b as f1\n\
-        3 b s1 received Request time 1\n\
-        4 b refused joined\n\
-        5 b s1 sent Reply time 2 to a as f2\n\
-        6 a s1 received Reply time 2\n\
-        7 a refused not-waiting\n\
-        8 a s1 sent Again time 3 to b as f3\n\
-        9 a refused bad-time item 1 got 2 least 4\n\
-        10 b s1 received Again time 3\n\
-        11 b refused no-frame\n\
-        premise unforged holds\n\
-        premise collision-free holds\n\
-        walk s1: Request Reply Again\n";
-    writes(alloc, &rt, "replay f", &[HEAD, steps], &[report]);
-}
-
-#[test]
-fn reports_no_steps_as_two_premises(rt: HostRuntime) {
-    let alloc = rt.alloc();
-    let report = "premise unforged holds\n\
-        premise collision-free holds\n";
-    writes(alloc, &rt, "replay f", &[HEAD], &[report]);
-}
-
-// A session that is started and left has a walk without steps.
-#[test]
-fn reports_a_session_without_steps(rt: HostRuntime) {
-    let alloc = rt.alloc();
-    let report = "1 a s1 started as a\n\
-        2 a s1 abandoned\n\
-        premise unforged holds\n\
-        premise collision-free holds\n\
-        walk s1:\n";
-    writes(
-        alloc,
-        &rt,
-        "replay f",
-        &[HEAD, "start a s1\nabandon a s1\n"],
-        &[report],
-    );
-}
-
-// A shop with a compromised principal, bob, at its counter.
-const SHOP: &str = "graph {\n\
-    graph shop;role c;role p;role w;var q:text by c;var price:int by w;\n\
-    node n0:c;node n1:p;node n2:w;node n3:p;node n4:c;\n\
-    edge Order:n0->n1 writes q reads q;edge Ask:n1->n2 reads q;\n\
-    edge Offer:n2->n3 writes price reads price;edge Pass:n3->n4 reads price;\n\
-    }\n\
-    honest alice\n\
-    honest carl\n\
-    key alice bob 1111111111111111111111111111111111111111111111111111111111111111\n\
-    key alice carl 2222222222222222222222222222222222222222222222222222222222222222\n\
-    key bob carl 3333333333333333333333333333333333333333333333333333333333333333\n\
-    session s1 shop 7 alice,bob,carl\n";
-
-#[test]
-fn reports_crafted_frames(rt: HostRuntime) {
-    let alloc = rt.alloc();
-    let steps = "start alice s1\n\
-        act alice s1 Order q=\"tea\"\n\
-        craft s1 from p to w join item Order 1 q=\"tea\"#2 tag w copy f1 1 w item Ask 2 open q=\"tea\"#2 seal key bob carl\n\
-        deliver carl f2\n\
-        act carl s1 Offer price=40\n\
-        craft s1 from p to c item Offer 3 price=1#99 tag c zero item Pass 4 open price=1#99 seal key alice bob\n\
-        deliver alice f4\n";
-    let report = "1 alice s1 started as c\n\
-        2 alice s1 sent Order time 1 to bob as f1 q=\"tea\"\n\
-        3 crafted f2\n\
-        4 carl s1 received Ask time 2 q=\"tea\"\n\
-        5 carl s1 sent Offer time 3 to bob as f3 price=40\n\
-        6 crafted f4\n\
-        7 alice refused bad-evidence item 1\n\
-        premise unforged holds\n\
-        premise collision-free holds\n\
-        walk s1: Order(q=\"tea\") *Ask Offer(price=40)\n";
-    writes(alloc, &rt, "replay f", &[SHOP, steps], &[report]);
-}
-
-#[test]
-fn reports_a_broken_premise_without_walks(rt: HostRuntime) {
-    let alloc = rt.alloc();
-    let steps = "craft s1 from a to b join item Request 1 seal key a b\n\
-        deliver b f1\n\
-        abandon b s1\n\
-        deliver b f1 flip 0\n";
-    let report = "1 crafted f1\n\
-        2 b s1 received Request time 1\n\
-        3 b s1 abandoned\n\
-        4 b refused malformed at 0\n\
-        premise unforged broken at step 2 for a and b\n\
-        premise collision-free holds\n";
-    writes(alloc, &rt, "replay f", &[HEAD, steps], &[report]);
-}
-
-#[test]
-fn refuses_what_is_no_schedule(rt: HostRuntime) {
-    let alloc = rt.alloc();
-    let line = "input refused: line 1 form\n";
-    refuses(alloc, &rt, "replay f", &["honest 9\n"], 4, line);
-    let line = "input refused: line 2 twice\n";
-    refuses(alloc, &rt, "replay f", &["honest a\nhonest a\n"], 4, line);
-    let line = "input refused: line 1 unknown\n";
-    refuses(alloc, &rt, "replay f", &["start a s1\n"], 4, line);
-    let line = "input refused: line 8 not-honest\n";
-    refuses(alloc, &rt, "replay f", &[HEAD, "abandon c s1\n"], 4, line);
-    let line = "graph refused: unexpected at 0\n";
-    refuses(alloc, &rt, "replay f", &["graph {\n}\n"], 3, line);
-    let line = "graph refused: unreachable n2\n";
-    refuses(
-        alloc,
-        &rt,
-        "replay f",
-        &["edge Request 0 1\nedge Late 2 3\n"],
-        3,
-        line,
-    );
-}
-
-// The words of a line are no command.
-fn is_no_command(alloc: Global, rt: &impl Abort, line: &str) {
-    let usage =
-        "usage: sessiongraph check|compile|run|replay|drive|ledger|keep|stream|audit|compose|claims\n";
-    refuses(alloc, rt, line, &[], 2, usage);
-}
-
-#[test]
-fn refuses_words_that_are_no_command(rt: HostRuntime) {
-    let alloc = rt.alloc();
-    is_no_command(alloc, &rt, "");
-    is_no_command(alloc, &rt, "check");
-    is_no_command(alloc, &rt, "drive 0 0 f");
-    is_no_command(alloc, &rt, "drive 0 2001 f");
-    is_no_command(alloc, &rt, "drive 01 1 f");
-    is_no_command(alloc, &rt, "draw f");
-    is_no_command(alloc, &rt, "compile f");
-    is_no_command(alloc, &rt, "compile f -b");
-    is_no_command(alloc, &rt, "replay");
-    is_no_command(alloc, &rt, "replay -f");
-    is_no_command(alloc, &rt, "replay f f");
-    is_no_command(alloc, &rt, "claims");
-    is_no_command(alloc, &rt, "claims f -c");
-    is_no_command(alloc, &rt, "claims f c c");
-}
-
-// A file of `count` bytes is too large for the words.
-fn is_too_large(alloc: Global, rt: &impl Abort, line: &str, count: usize) {
-    let bytes = vec![in alloc; 10; count].expect(rt, "bytes");
-    let left = run(alloc, rt, line, one_file(alloc, rt, bytes, 0), WHOLE);
-    assert!(rt; left.is(10, b"", "too large: f\n"));
-}
-
-#[test]
-fn refuses_files(rt: HostRuntime) {
-    let alloc = rt.alloc();
-    refuses(alloc, &rt, "replay g", &[], 9, "no such file: g\n");
-    is_too_large(alloc, &rt, "replay f", 16_777_217);
-    is_too_large(alloc, &rt, "check f", 4_194_305);
-}
-
 #[test]
 fn a_report_that_is_not_taken_ends_with_6(rt: HostRuntime) {
     let alloc = rt.alloc();
@@ -448,81 +261,6 @@ fn a_report_that_is_not_taken_ends_with_6(rt: HostRuntime) {
 const NOTE: &str = "graph note;role a;role b;var x:int by a b;node n0:a;node n1:b;node n2:a;\
     edge Bid:n0->n1 writes x reads x;edge Ask:n1->n2 writes x reads x;";
 
-const SKIPPED: &str = "graph g;role c;role p;role w;var x:int by c;node n0:c;node n1:p;node n2:w;\
-    edge Give:n0->n1 writes x reads x;edge Skip:n0->n1;edge Tell:n1->n2 reads x;";
-
-const BLINDED: &str =
-    "graph g;role c;role d;role a;role b;node n0:c;node n1:d;node n2:d;node n3:a;node n4:b;\
-    edge L1:n0->n1;edge L2:n0->n2;edge DA:n1->n3;edge DB:n2->n4;";
-
-#[test]
-fn accepts_a_graph(rt: HostRuntime) {
-    let alloc = rt.alloc();
-    writes(
-        alloc,
-        &rt,
-        "check f",
-        &[NOTE],
-        &["accepted note\nviews a 1\nviews b 1\n"],
-    );
-}
-
-// What `note` compiles to for its role `b`.
-const PROGRAM: &str = "sg-program 2\n\
-    role b\n\
-    graph note;\n\
-    role a;\n\
-    role b;\n\
-    var x: int by a b;\n\
-    node n0: a;\n\
-    node n1: b;\n\
-    node n2: a;\n\
-    edge Bid: n0 -> n1 writes x reads x;\n\
-    edge Ask: n1 -> n2 writes x reads x;\n\
-    table\n\
-    turn n1: Ask\n\
-    view start: Bid/00000001\n\
-    end\n";
-
-#[test]
-fn compiles_a_graph(rt: HostRuntime) {
-    let alloc = rt.alloc();
-    writes(alloc, &rt, "compile f b", &[NOTE], &[PROGRAM]);
-}
-
-#[test]
-fn refuses_a_role_after_the_graph(rt: HostRuntime) {
-    let alloc = rt.alloc();
-    refuses(
-        alloc,
-        &rt,
-        "compile f z",
-        &[NOTE],
-        4,
-        "input refused: role z\n",
-    );
-    let line = "graph refused: blinding at n0 for a and b: L1 DA / L2 DB\n";
-    refuses(alloc, &rt, "compile f z", &[BLINDED], 3, line);
-}
-
-#[test]
-fn refuses_what_is_no_graph(rt: HostRuntime) {
-    let alloc = rt.alloc();
-    let graph = "graph g;role a;role b;var x:int by a a;";
-    refuses(
-        alloc,
-        &rt,
-        "check f",
-        &[graph],
-        3,
-        "graph refused: twice at 37\n",
-    );
-    let line = "graph refused: bad read Tell x on Skip Tell\n";
-    refuses(alloc, &rt, "check f", &[SKIPPED], 3, line);
-    let line = "graph refused: blinding at n0 for a and b: L1 DA / L2 DB\n";
-    refuses(alloc, &rt, "check f", &[BLINDED], 3, line);
-}
-
 // A request and its reply.
 const ASKED: &str =
     "graph pair;role a;role b;node n0:a;node n1:b;node n2:a;edge Request:n0->n1;edge Reply:n1->n2;";
@@ -532,59 +270,6 @@ const SENT: &str = "sessions 1\nsent 2\nreceived 2\n";
 
 const ENDED: &str =
     "lost 0\nabandoned 0\ncomplete 1\npremise unforged holds\npremise collision-free holds\nwalks 1\n";
-
-// By this seed the request is delivered twice.
-#[test]
-fn sums_a_generated_run_up(rt: HostRuntime) {
-    let alloc = rt.alloc();
-    writes(
-        alloc,
-        &rt,
-        "drive 7 1 f",
-        &[ASKED],
-        &[SENT, "refused 1\n", ENDED],
-    );
-    let line = "graph refused: blinding at n0 for a and b: L1 DA / L2 DB\n";
-    refuses(alloc, &rt, "drive 0 1 f", &[BLINDED], 3, line);
-}
-
-// A part of a payment.
-const PAY: &str =
-    "graph pay;role x;role y;node p0:x;node p1:y;node p2:x;edge Bill:p0->p1;edge Paid:p1->p2;";
-
-// A trade, up to the roles of its use.
-const TRADE: &str =
-    "graph trade;role a;role b;node n0:a;node n1:b;node n2:a;node n3:a;edge Go:n0->n1;edge Back:n1->n2;use u:pay n2->n3 as ";
-
-#[test]
-fn composes_parts(rt: HostRuntime) {
-    let alloc = rt.alloc();
-    let lines = "graph trade;\n\
-        role a;\n\
-        role b;\n\
-        node n0: a;\n\
-        node n1: b;\n\
-        node n2: a;\n\
-        node n3: a;\n\
-        node u_p1: b;\n\
-        edge Go: n0 -> n1;\n\
-        edge Back: n1 -> n2;\n\
-        edge u_Bill: n2 -> u_p1;\n\
-        edge u_Paid: u_p1 -> n3;\n";
-    writes(alloc, &rt, "compose f", &[PAY, TRADE, "a b;"], &[lines]);
-    let line = "graph refused: bad roles trade u\n";
-    refuses(alloc, &rt, "compose f", &[PAY, TRADE, "b a;"], 3, line);
-    let blinded =
-        "graph g;role a;role b;role c;node n0:a;node n1:b;node n2:a;edge To:n0->n1;use u:pay n0->n2 as a c;";
-    let line = "graph refused: blinding at n0 for b and c: To / u_Bill\n";
-    refuses(alloc, &rt, "compose f", &[PAY, blinded], 3, line);
-}
-
-const PAIR: &str =
-    "graph {\ngraph pair;role a;role b;node n0:a;node n1:b;node n2:a;edge Request:n0->n1;edge Reply:n1->n2;\n}\nsession s1\n";
-
-const TELL: &str =
-    "graph {\ngraph tell;role a;role b;var q:text by a;var n:int by a;node n0:a;node n1:b;edge Tell:n0->n1 writes q n reads q;\n}\nsession s1\n";
 
 // What is left where the claims of a file `c` are decided on `note` in a file `f`, and this call on a file fails, none for 0.
 fn decided(alloc: Global, rt: &impl Abort, claims: &str, fails: u32, outside: Outside) -> Left {
@@ -604,83 +289,13 @@ fn decided(alloc: Global, rt: &impl Abort, claims: &str, fails: u32, outside: Ou
 }
 
 #[test]
-fn decides_claims(rt: HostRuntime) {
+fn each_failure_of_claims_is_told(rt: HostRuntime) {
     let alloc = rt.alloc();
-    let left = decided(alloc, &rt, "claims note;claim x: Ask needs Bid;", 0, WHOLE);
-    assert!(rt; left.is(0, b"claim x holds\n", ""));
     let two = "claims note;claim x: Ask needs Bid;claim y: Bid bars Ask;";
-    let left = decided(alloc, &rt, two, 0, WHOLE);
-    assert!(rt; left.is(13, b"claim x holds\nclaim y fails: Bid Ask\n", ""));
     let left = decided(alloc, &rt, two, 0, room(10));
     assert!(rt; left.is(6, b"claim x ho", ""));
     let left = decided(alloc, &rt, two, 2, WHOLE);
     assert!(rt; left.is(5, b"", "file failed: c\n"));
-    let left = decided(alloc, &rt, "claims other;", 0, WHOLE);
-    assert!(rt; left.is(4, b"", "input refused: claims other graph at 7\n"));
-}
-
-#[test]
-fn suggests_claims(rt: HostRuntime) {
-    let alloc = rt.alloc();
-    let claims =
-        "claims note;\nclaim c1: Bid bars Bid;\nclaim c2: Ask needs Bid;\nclaim c3: Ask bars Ask;\n";
-    writes(alloc, &rt, "claims f", &[NOTE], &[claims]);
-    let left = decided(alloc, &rt, claims, 0, WHOLE);
-    assert!(rt; left.is(0, b"claim c1 holds\nclaim c2 holds\nclaim c3 holds\n", ""));
-    let line = "graph refused: unexpected at 5\n";
-    refuses(alloc, &rt, "claims f", &["graph;"], 3, line);
-    refuses(alloc, &rt, "claims g", &[], 9, "no such file: g\n");
-    is_too_large(alloc, &rt, "claims f", 4_194_305);
-}
-
-#[test]
-fn audits_logs(rt: HostRuntime) {
-    let alloc = rt.alloc();
-    let logs = "log a\nsent Request 1\nreceived Reply 2\nlog b\nreceived Request 1\nsent Reply 2\n";
-    let lines = "audit s1 yes\nwalk s1: Request Reply\n";
-    writes(alloc, &rt, "audit f", &[PAIR, logs], &[lines]);
-    let logs = "log a\nsent Request 1\nreceived Reply 2\nlog b\nsent Reply 2\n";
-    writes(alloc, &rt, "audit f", &[PAIR, logs], &["audit s1 no\n"]);
-    let logs =
-        "log a\nsent Request 1\nreceived Reply 2\nsent Request 2\nlog b\nreceived Request 1\nsent Reply 2\nsession s2\nlog b\nlog a\n";
-    let lines = "audit s1 clash at time 2\naudit s2 yes\nwalk s2:\n";
-    writes(alloc, &rt, "audit f", &[PAIR, logs], &[lines]);
-    let logs = "log b\nreceived Tell 1 q=\"x\\x20y\"\nwalk *Tell(q=\"x\\x20y\",n=?)\n";
-    let lines = "audit s1 yes\nwalk s1: *Tell(q=\"x\\x20y\",n=?)\n";
-    writes(alloc, &rt, "audit f", &[TELL, logs], &[lines]);
-    let logs = "log a\nsent Tell 1 q=\"x\" n=-7\nlog b\n";
-    let lines = "audit s1 yes\nwalk s1: Tell(q=\"x\",n=-7)\n";
-    writes(alloc, &rt, "audit f", &[TELL, logs], &[lines]);
-}
-
-#[test]
-fn refuses_what_are_no_logs(rt: HostRuntime) {
-    let alloc = rt.alloc();
-    let line = "input refused: line 1 form\n";
-    refuses(alloc, &rt, "audit f", &["graph pair;\n"], 4, line);
-    let line = "graph refused: unexpected at 0\n";
-    refuses(
-        alloc,
-        &rt,
-        "audit f",
-        &["graph {\n}\nsession s1\n"],
-        3,
-        line,
-    );
-    let late =
-        "graph {\ngraph g;role a;role b;node n0:a;node n1:b;node n2:a;edge Late:n1->n2;\n}\n";
-    refuses(
-        alloc,
-        &rt,
-        "audit f",
-        &[late],
-        3,
-        "graph refused: unreachable n1\n",
-    );
-    let line = "input refused: line 5 unknown\n";
-    refuses(alloc, &rt, "audit f", &[PAIR, "log c\n"], 4, line);
-    let line = "input refused: line 6 twice\n";
-    refuses(alloc, &rt, "audit f", &[PAIR, "log a\nlog a\n"], 4, line);
 }
 
 const WAREHOUSE: &str = "graph shop;\n\
@@ -902,10 +517,22 @@ fn three_files(
     program: Vec<u8>,
     fails: u32,
 ) -> MemFiles {
+    files_of(alloc, rt, KEYS, script, program, fails)
+}
+
+// The same with other keys.
+fn files_of(
+    alloc: Global,
+    rt: &impl Abort,
+    keys: &str,
+    script: Vec<u8>,
+    program: Vec<u8>,
+    fails: u32,
+) -> MemFiles {
     let mut files = Vec::new(alloc);
     assert!(rt;
         files
-            .push(named(alloc, rt, "k", text(alloc, rt, &[KEYS])))
+            .push(named(alloc, rt, "k", text(alloc, rt, &[keys])))
             .is_ok()
     );
     assert!(rt; files.push(named(alloc, rt, "s", script)).is_ok());

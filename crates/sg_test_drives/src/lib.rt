@@ -1,5 +1,0 @@
-//! Tests of generated runs, and of their summaries.
-#![tactic(auto)]
-
-#[cfg(test)]
-mod drive;

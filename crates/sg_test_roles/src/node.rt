@@ -1,5 +1,0 @@
-//! What nodes answer in whole sessions.
-mod frames;
-mod pair;
-mod parts;
-mod shop;
