@@ -192,7 +192,7 @@ import threading
 
 program, folder, here = sys.argv[1], pathlib.Path(sys.argv[2]), pathlib.Path(sys.argv[3])
 PAIR = 'graph pair;role a;role b;node n0:a;node n1:b;node n2:a;edge Request:n0->n1;edge Reply:n1->n2;\n'
-KEYS = 'me = "a"\nlisten = "127.0.0.1:47331"\n[[peer]]\nname = "b"\naddr = "127.0.0.1:47332"\nkey = "' + '1' * 64 + '"\n'
+KEYS = 'me = "a"\nlisten = "127.0.0.1:28331"\n[[peer]]\nname = "b"\naddr = "127.0.0.1:28332"\nkey = "' + '1' * 64 + '"\n'
 SCRIPT = ('[[start]]\ngraph = "pair"\ncast = ["a", "b"]\n' * 2
           + '[[choice]]\ngraph = "pair"\nnode = "n0"\nlabel = "Request"\nvalues = {}\ntimes = 2\n')
 REQUESTER = ('sg-program 1\nrole a\ngraph pair;\nrole a;\nrole b;\nnode n0: a;\nnode n1: b;\nnode n2: a;\nedge Request: n0 -> n1;\nedge Reply: n1 -> n2;\n'
@@ -277,7 +277,7 @@ for name, text in (('k', KEYS), ('s', SCRIPT), ('p', REQUESTER)):
 if subprocess.run([program, 'ledger', 'l'], cwd=folder / 'room', stdout=subprocess.DEVNULL, check=False).returncode != 0:
     sys.exit('no ledger is made')
 ledger = (folder / 'room/l').read_bytes()
-threading.Thread(target=take, args=(socket.create_server(('127.0.0.1', 47332)),), daemon=True).start()
+threading.Thread(target=take, args=(socket.create_server(('127.0.0.1', 28332)),), daemon=True).start()
 for name, words, text in RUNS:
     text = text.encode() if isinstance(text, str) else text.read_bytes()
     (folder / 'room/f').write_bytes(text)

@@ -49,7 +49,7 @@ import time
 program, folder = sys.argv[1:]
 AT_ONCE, ROUNDS = 200, 50
 KEY = '1' * 64
-for me, port, peer, other in (('a', 47331, 'b', 47332), ('b', 47332, 'a', 47331)):
+for me, port, peer, other in (('a', 28331, 'b', 28332), ('b', 28332, 'a', 28331)):
     with open(f'{folder}/{me}.keys', 'w') as out:
         out.write(f'me = "{me}"\nlisten = "127.0.0.1:{port}"\n[[peer]]\nname = "{peer}"\naddr = "127.0.0.1:{other}"\nkey = "{KEY}"\n')
 choice = '[[choice]]\ngraph = "pair"\nnode = "{}"\nlabel = "{}"\ntimes = ' + str(AT_ONCE) + '\n'
@@ -84,7 +84,7 @@ sessions = lost = 0
 took = used = 0.0
 for _ in range(ROUNDS):
     b = runs('b', subprocess.DEVNULL)
-    while not listens(47332):
+    while not listens(28332):
         time.sleep(0.001)
     a = runs('a', subprocess.PIPE)
     lines = a.stdout.read(1)
