@@ -1,24 +1,42 @@
-"""Looks up who listens at an address of this machine, in /proc/net, and which process that is."""
+"""Looks up who listens at an address of this machine, in /proc/net, and which process that is; and waits until a process listens."""
+import errno
 import os
 import socket
+import time
+
+# What a socket's state is where it takes what comes from anybody. (UDP has two more in use: 01 is a socket with one peer)
+LISTENS = {"udp": "07", "tcp": "0A"}
+# A connection that has ended keeps its port for a minute.
+ENDED = "06"
 
 
-def open_at(link):
-    """Returns the addresses at which sockets of `udp` or `tcp` are open for what comes, as four numbers and a port, each with its inode."""
-    found = {}
-    with open(f"/proc/net/{link}", encoding="ascii") as table:
-        for line in list(table)[1:]:
-            words = line.split()
-            # (state 0A of TCP is a port for connections; a socket of UDP takes whatever comes)
-            if link == "udp" or words[3] == "0A":
-                host, port = words[1].split(":")
-                found.setdefault((socket.inet_ntoa(bytes.fromhex(host)[::-1]), int(port, 16)), words[9])
+class NotThere(Exception):
+    """Why nobody listens where somebody must, as a sentence."""
+
+
+def sockets(link):
+    """Returns the sockets of `udp` or `tcp`, each by its address, as four numbers and a port, its state and its inode; those of IPv6 as far as
+    they have an address of IPv4 or all addresses."""
+    found = []
+    for table in (link, f"{link}6"):
+        try:
+            with open(f"/proc/net/{table}", encoding="ascii") as lines:
+                rows = [line.split() for line in list(lines)[1:]]
+        except FileNotFoundError:
+            continue
+        for words in rows:
+            host, port = words[1].split(":")
+            if host[:-8] in ("", "0" * 16 + "FFFF0000") or not host.strip("0"):
+                found.append(((socket.inet_ntoa(bytes.fromhex(host[-8:])[::-1]), int(port, 16)), words[3], words[9]))
     return found
 
 
 def holder(link, host, port):
     """Returns the address that takes what is sent to this one, with its socket's inode, or nothing."""
-    found = open_at(link)
+    found = {}
+    for at, state, inode in sockets(link):
+        if state == LISTENS[link]:
+            found.setdefault(at, inode)
     at = next((it for it in ((host, port), ("0.0.0.0", port)) if it in found), None)
     if at is None and host == "0.0.0.0":
         at = next((it for it in found if it[1] == port), None)
@@ -35,6 +53,79 @@ def process_of(inode):
         except OSError:
             continue
     return None
+
+
+def is_free(link, host, port):
+    """Returns whether a principal may listen at an address of this machine, as far as others have it: it asks for that as the program does."""
+    kind = socket.SOCK_STREAM if link == "tcp" else socket.SOCK_DGRAM
+    with socket.socket(socket.AF_INET, kind) as it:
+        if link == "tcp":
+            it.setsockopt(socket.SOL_SOCKET, socket.SO_REUSEADDR, 1)
+        try:
+            it.bind((host, port))
+        except OSError as error:
+            return error.errno != errno.EADDRINUSE
+    return True
+
+
+def taken(link, host, port):
+    """Returns who has a port, so that nobody else can listen there, as a sentence; nothing where nobody has it."""
+    if is_free(link, host, port):
+        return ""
+    rows = [it for it in sockets(link) if it[0][1] == port and ("0.0.0.0" in (host, it[0][0]) or it[0][0] == host)]
+    at, state, inode = next((it for it in rows if it[1] == LISTENS[link]), rows[0] if rows else ((host, port), None, None))
+    process = process_of(inode)
+    whose = f"process {process[0]} ({process[1]})" if process else "a process of another user, or of another name space,"
+    what = "listens" if state == LISTENS[link] else "has a connection"
+    if state == ENDED:
+        whose, what = "a connection", "has ended and has it for a minute"
+    return f"Port {port} of {link.upper()} is taken: {whose} {what} at {at[0]}:{at[1]} (/proc/net/{link})."
+
+
+def bound(link, port, backlog=128, options=()):
+    """Returns a socket of this process at a port of the loopback, which listens over TCP. Raises NotThere where somebody else has the port. The options
+    are set before."""
+    made = socket.socket(socket.AF_INET, socket.SOCK_STREAM if link == "tcp" else socket.SOCK_DGRAM)
+    try:
+        if link == "tcp":
+            made.setsockopt(socket.SOL_SOCKET, socket.SO_REUSEADDR, 1)
+        for option in options:
+            made.setsockopt(*option)
+        made.bind(("127.0.0.1", port))
+        if link == "tcp":
+            made.listen(backlog)
+        return made
+    except OSError as error:
+        made.close()
+        raise NotThere(taken(link, "127.0.0.1", port) or f"Port {port} of {link.upper()} can't be had: {error.strerror}.") from None
+
+
+def is_below(number, above):
+    """Returns whether a process is this one, or was started by it or by one below it."""
+    while number > 1 and number != above:
+        try:
+            with open(f"/proc/{number}/stat", encoding="utf-8", errors="replace") as it:
+                number = int(it.read().rpartition(")")[2].split()[1])
+        except OSError:
+            return False
+    return number == above
+
+
+def await_listener(link, port, process, seconds=120):
+    """Waits until a process that was started to listen at a port of the loopback does, or one that it has started. Raises NotThere where it ends before,
+    or lasts so many seconds without. They only end a hang: where somebody else has the port, the process ends by itself."""
+    end = time.monotonic() + seconds
+    while True:
+        status, late = process.poll(), time.monotonic() > end
+        listens = holder(link, "127.0.0.1", port)
+        owner = process_of(listens[1]) if listens else None
+        if owner and is_below(owner[0], process.pid):
+            return
+        if status is not None:
+            raise NotThere(f"the process that is to listen at port {port} of {link.upper()} has ended, with status {status}. {taken(link, '127.0.0.1', port)}".rstrip())
+        if late:
+            raise NotThere(f"nobody listens at port {port} of {link.upper()} after {seconds} seconds. {taken(link, '127.0.0.1', port)}".rstrip())
+        time.sleep(0.02)
 
 
 def is_own(host):
