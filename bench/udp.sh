@@ -40,13 +40,16 @@ fn main(rt: HostRuntime) -> Result<(), io::Error> {
     println!(rt; "{}", nonce[2])
 }
 RATTLE
-python3 - "$program" "$folder" <<'PYTHON'
+python3 -B - "$program" "$folder" "$here/tools" <<'PYTHON'
 import os
 import subprocess
 import sys
 import time
 
-program, folder = sys.argv[1:]
+program, folder, tools = sys.argv[1:]
+sys.path.insert(0, tools)
+import ports
+
 AT_ONCE, ROUNDS = 200, 50
 KEY = '1' * 64
 for me, port, peer, other in (('a', 28331, 'b', 28332), ('b', 28332, 'a', 28331)):
@@ -61,11 +64,6 @@ with open(folder + '/b.script', 'w') as out:
 
 def runs(me, out):
     return subprocess.Popen([program, 'run', f'{folder}/{me}.keys', f'{folder}/{me}.script', str(AT_ONCE), f'{folder}/{me}.program'], stdout=out)
-
-
-def listens(port):
-    with open('/proc/net/udp') as table:
-        return f' 0100007F:{port:04X} ' in table.read()
 
 
 def ended(child):
@@ -84,8 +82,7 @@ sessions = lost = 0
 took = used = 0.0
 for _ in range(ROUNDS):
     b = runs('b', subprocess.DEVNULL)
-    while not listens(28332):
-        time.sleep(0.001)
+    ports.await_listener('udp', 28332, b)
     a = runs('a', subprocess.PIPE)
     lines = a.stdout.read(1)
     begun = time.monotonic()

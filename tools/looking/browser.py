@@ -46,7 +46,7 @@ class Browser:
     def message(self):
         """The next message of the browser."""
         while b'\0' not in self.rest:
-            if not select.select([self.inward], [], [], 180)[0]:
+            if not select.select([self.inward], [], [], 600)[0]:
                 raise Fault('the browser says nothing')
             data = os.read(self.inward, 1 << 20)
             if not data:
@@ -90,11 +90,11 @@ class Browser:
         self.wait('location.protocol === "file:" && document.readyState === "complete"')
 
     def wait(self, script):
-        """Waits, for at most a minute, until an expression in the page is true."""
-        end = time.monotonic() + 60
+        """Waits, for at most five minutes, until an expression in the page is true."""
+        end = time.monotonic() + 300
         while not self.value(script):
             if time.monotonic() > end:
-                raise Fault(f'waited a minute for {script}')
+                raise Fault(f'waited five minutes for {script}')
             time.sleep(0.02)
 
     def value(self, script):
@@ -128,7 +128,7 @@ class Browser:
         try:
             self.tab = None
             self.ask('Browser.close')
-            self.process.wait(10)
+            self.process.wait(60)
         except (Fault, OSError, subprocess.TimeoutExpired):
             self.process.kill()
             self.process.wait()
