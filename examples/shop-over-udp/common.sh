@@ -29,9 +29,9 @@ listens() {
 # taken LINK PORT: says who has a port, if somebody has it.
 taken() {
     if listens "$1" "$2"; then
-        echo "somebody else listens there (/proc/net/$1)"
+        echo "Somebody else listens there (/proc/net/$1)."
     elif [ -n "$(sockets "$1" "$2")" ]; then
-        echo "a connection has the port, or had it less than a minute ago (/proc/net/$1)"
+        echo "A connection has the port, or had it less than a minute ago (/proc/net/$1)."
     fi
 }
 
@@ -47,10 +47,23 @@ starts() {
     local link=$1 port=$2 name=$3
     shift 3
     # (what isn't its own must not be taken for it)
-    ! listens "$link" "$port" || gives_up "$name can't listen at port $port of ${link^^}: $(taken "$link" "$port")"
+    ! listens "$link" "$port" || gives_up "$name can't listen at port $port of ${link^^}. $(taken "$link" "$port")"
     timeout "$limit" "$@" >"$folder/$name.lines" 2>"$folder/$name.err" &
     pids+=($!)
     of+=("$link $port $name")
+}
+
+# ended PLACE: waits for the end of a process that has ended or will. Where it ended badly, or must not have ended yet, the run ends.
+ended() {
+    local link port name status
+    wait "${pids[$1]}"
+    status=$?
+    read -r link port name <<<"${of[$1]}"
+    if [ "$status" -ne 0 ] || [ "${2-}" = early ]; then
+        # (who wrote no line perhaps found the port taken)
+        gives_up "$name, who is to listen at port $port of ${link^^}, ended with status $status. $([ -s "$folder/$name.lines" ] || taken "$link" "$port")"
+    fi
+    unset "pids[$1]" "of[$1]"
 }
 
 # all_listen: waits until each process that was started does.
@@ -59,27 +72,20 @@ all_listen() {
     for place in "${!pids[@]}"; do
         read -r link port name <<<"${of[place]}"
         until listens "$link" "$port"; do
-            # (who hasn't come to listen is ended by its limit)
-            if ! kill -0 "${pids[place]}" 2>/dev/null; then
-                wait "${pids[place]}"
-                gives_up "$name doesn't listen at port $port of ${link^^}, and ended with status $?: $(taken "$link" "$port")"
-            fi
+            # (who neither listens nor ends is ended by its limit)
+            kill -0 "${pids[place]}" 2>/dev/null || ended "$place" early
             sleep 0.1
         done
     done
 }
 
-# all_end: waits until each process that was started has ended, and tells whether all ended well. Who did not is named.
+# all_end: waits until each process that was started has ended.
 all_end() {
-    local place status failed=0
-    for place in "${!pids[@]}"; do
-        wait "${pids[place]}"
-        status=$?
-        if [ "$status" -ne 0 ]; then
-            echo "${of[place]##* } ended with status $status"
-            failed=1
-        fi
+    local place
+    while [ ${#pids[@]} -gt 0 ]; do
+        for place in "${!pids[@]}"; do
+            kill -0 "${pids[place]}" 2>/dev/null || ended "$place"
+        done
+        sleep 0.1
     done
-    pids=() of=()
-    return "$failed"
 }
