@@ -266,11 +266,11 @@ mod tests {
             }
         };
         assert!(rt; matches!(link.recv(alloc), Err(LinkFault::Failed)));
-        assert!(rt; link.open(at(47_302)) == Ok(()));
+        assert!(rt; link.open(at(28_302)) == Ok(()));
         let mut bytes = vec![in alloc; 7u8; 60_000].expect(&rt, "memory");
         bytes[59_999] = 9;
         let name = Name::new(b"b").expect(&rt, "a name");
-        match link.send(at(47_302), Sealed::seal(name, bytes)) {
+        match link.send(at(28_302), Sealed::seal(name, bytes)) {
             Ok(()) => {}
             Err((frame, _)) => {
                 let _ = frame.release();
@@ -278,11 +278,11 @@ mod tests {
             }
         }
         let mut others = TcpConns::new(rt.clone().expect(&rt, "a runtime"));
-        assert!(rt; !sends(&mut others, 47_302, b"x", 1));
-        assert!(rt; others.open(at(47_303)) == Ok(()));
-        assert!(rt; sends(&mut others, 47_302, b"\x00\x00\x00\x00\x00\x00\x00\x01x", 9));
-        assert!(rt; sends(&mut others, 47_302, b"\x00\x00\x00\x02y", 5));
-        assert!(rt; sends(&mut others, 47_302, b"\x00\x00\x00\x03abc", 1));
+        assert!(rt; !sends(&mut others, 28_302, b"x", 1));
+        assert!(rt; others.open(at(28_303)) == Ok(()));
+        assert!(rt; sends(&mut others, 28_302, b"\x00\x00\x00\x00\x00\x00\x00\x01x", 9));
+        assert!(rt; sends(&mut others, 28_302, b"\x00\x00\x00\x02y", 5));
+        assert!(rt; sends(&mut others, 28_302, b"\x00\x00\x00\x03abc", 1));
         match link.recv(alloc) {
             Ok(Some(came)) => {
                 assert!(rt; came.len() == 60_000);
@@ -299,9 +299,9 @@ mod tests {
     fn more_than_the_system_holds_is_taken_in(rt: HostRuntime) {
         let alloc = rt.alloc();
         let mut conns = TcpConns::new(rt.clone().expect(&rt, "a runtime"));
-        assert!(rt; conns.open(at(47_304)) == Ok(()));
+        assert!(rt; conns.open(at(28_304)) == Ok(()));
         for i in 0..300u32 {
-            assert!(rt; sends(&mut conns, 47_304, &i.to_be_bytes(), 3));
+            assert!(rt; sends(&mut conns, 28_304, &i.to_be_bytes(), 3));
         }
         for i in 0..300u32 {
             assert!(rt; takes(alloc, &mut conns, &i.to_be_bytes()));
@@ -313,18 +313,18 @@ mod tests {
         let alloc = rt.alloc();
         let mut conns = TcpConns::new(rt.clone().expect(&rt, "a runtime"));
         conns.limit = Duration::from_millis(200);
-        assert!(rt; conns.open(at(47_305)) == Ok(()));
+        assert!(rt; conns.open(at(28_305)) == Ok(()));
         let mut silent = TcpConns::new(rt.clone().expect(&rt, "a runtime"));
-        assert!(rt; silent.open(at(47_306)) == Ok(()));
-        assert!(rt; silent.connect(at(47_305)) == Ok(WRITTEN));
-        assert!(rt; sends(&mut conns, 47_305, b"abc", 1));
+        assert!(rt; silent.open(at(28_306)) == Ok(()));
+        assert!(rt; silent.connect(at(28_305)) == Ok(WRITTEN));
+        assert!(rt; sends(&mut conns, 28_305, b"abc", 1));
         assert!(rt; takes(alloc, &mut conns, b""));
         assert!(rt; takes(alloc, &mut conns, b"abc"));
         let bytes = vec![in alloc; 7u8; 60_000].expect(&rt, "memory");
-        assert!(rt; is_left(&mut conns, 47_306, bytes.as_slice(), 10_000));
+        assert!(rt; is_left(&mut conns, 28_306, bytes.as_slice(), 10_000));
         let mut left = false;
         for _ in 0..300u32 {
-            left = left || is_left(&mut conns, 47_306, b"x", 1);
+            left = left || is_left(&mut conns, 28_306, b"x", 1);
         }
         assert!(rt; left);
     }

@@ -141,11 +141,11 @@ mod tests {
         let alloc = rt.alloc();
         let mut link = UdpLink::new(rt.clone().expect(&rt, "a runtime"));
         assert!(rt; matches!(link.recv(alloc), Err(LinkFault::Failed)));
-        assert!(rt; link.open(at(47_301)) == Ok(()));
+        assert!(rt; link.open(at(28_301)) == Ok(()));
         let mut bytes = vec![in alloc; 7u8; 60_000].expect(&rt, "memory");
         bytes[59_999] = 9;
         let name = Name::new(b"b").expect(&rt, "a name");
-        match link.send(at(47_301), Sealed::seal(name, bytes)) {
+        match link.send(at(28_301), Sealed::seal(name, bytes)) {
             Ok(()) => {}
             Err((frame, _)) => {
                 let _ = frame.release();
