@@ -6,6 +6,7 @@
 #![tactic(auto)]
 
 mod address;
+mod datagrams;
 mod giving;
 mod inbox;
 mod intake;

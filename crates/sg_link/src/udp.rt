@@ -1,18 +1,20 @@
 //! A link over a UDP socket.
 ghost use Rattle.std.specs.Prelude.{◌≡◌, None};
 
-use crate::address::socket_addr;
+use crate::datagrams::Datagrams;
 use sg_base::{Addr, Failed, Link, LinkFault, Sealed};
+use sg_wait::TimedLink;
 use std::alloc::Global;
-use std::io::ErrorKind;
-use std::net::{Net, UdpSocket};
+use std::net::Net;
+use std::time::{Clock, Duration};
 
 /// A link over a UDP socket. It has no socket until it is opened. `recv` waits for a datagram, for as long as that takes, and never
-/// gives `None`. A call that is interrupted is made again.
+/// gives `None`; neither does `recv_within` where it has no limit. A call that is interrupted is made again, and a wait with a limit goes
+/// on with what is left of the time.
 #[derive(Drop)]
 pub struct UdpLink<R: Net> {
     rt: R,
-    socket: Option<UdpSocket>,
+    socket: Option<Datagrams>,
     bound: Option<Addr>,
     faults: u64,
 }
@@ -40,34 +42,39 @@ fn longest_datagram(alloc: Global) -> Option<Vec<u8>> {
     }
 }
 
-// The next datagram, in the room that is given. `None` where there is no socket, or the system failed.
-fn receive(socket: &Option<UdpSocket>, mut bytes: Vec<u8>) -> Option<Vec<u8>> {
+// The next datagram, in the room that is given. It fails where there is no socket.
+fn receive(socket: &mut Option<Datagrams>, mut bytes: Vec<u8>) -> Result<Vec<u8>, Failed> {
     let Some(socket) = socket else {
-        return None;
+        return Err(Failed);
     };
-    for _ in 0..u64::MAX {
-        match socket.recv_from(&mut bytes) {
-            Ok((count, _)) => {
-                bytes.truncate(count);
-                return Some(bytes);
-            }
-            Err(e) if e.kind() == ErrorKind::Interrupted => {}
-            Err(_) => return None,
-        }
-    }
-    None
+    let count = socket.receive(&mut bytes)?;
+    bytes.truncate(count);
+    Ok(bytes)
 }
 
-// Whether the whole datagram was taken.
-fn sends_whole(socket: &UdpSocket, bytes: &[u8], to: Addr) -> bool {
-    for _ in 0..u64::MAX {
-        match socket.send_to(bytes, socket_addr(to)) {
-            Ok(count) => return count == bytes.len(),
-            Err(e) if e.kind() == ErrorKind::Interrupted => {}
-            Err(_) => return false,
-        }
+// The same, or `None` where no datagram came within a time.
+fn receive_within<C: Clock>(
+    clock: &C,
+    socket: &mut Option<Datagrams>,
+    mut bytes: Vec<u8>,
+    within: Duration,
+) -> Result<Option<Vec<u8>>, Failed> {
+    let Some(socket) = socket else {
+        return Err(Failed);
+    };
+    let Some(count) = socket.receive_within(clock, &mut bytes, within)? else {
+        return Ok(None);
+    };
+    bytes.truncate(count);
+    Ok(Some(bytes))
+}
+
+// Sends a datagram, and tells whether the system took all of it. There is no socket before the link is opened.
+fn send(socket: &mut Option<Datagrams>, bytes: &[u8], to: Addr) -> bool {
+    match socket {
+        Some(socket) => socket.send(bytes, to),
+        None => false,
     }
-    false
 }
 
 impl<R: Net + Drop> Link for UdpLink<R> {
@@ -82,13 +89,13 @@ impl<R: Net + Drop> Link for UdpLink<R> {
     ghost sent = { λ _. None };
 
     fn open(&mut self, at: Addr) -> Result<(), Failed> {
-        match UdpSocket::bind(&self.rt, socket_addr(at)) {
-            Ok(socket) => {
+        match Datagrams::bind(&self.rt, at) {
+            Some(socket) => {
                 self.socket = Some(socket);
                 self.bound = Some(at);
                 Ok(())
             }
-            Err(_) => {
+            None => {
                 self.faults = self.faults.saturating_add(1);
                 Err(Failed)
             }
@@ -99,9 +106,9 @@ impl<R: Net + Drop> Link for UdpLink<R> {
         let Some(bytes) = longest_datagram(alloc) else {
             return Err(LinkFault::OutOfMemory);
         };
-        match receive(&self.socket, bytes) {
-            Some(bytes) => Ok(Some(bytes)),
-            None => {
+        match receive(&mut self.socket, bytes) {
+            Ok(bytes) => Ok(Some(bytes)),
+            Err(_) => {
                 self.faults = self.faults.saturating_add(1);
                 Err(LinkFault::Failed)
             }
@@ -109,11 +116,7 @@ impl<R: Net + Drop> Link for UdpLink<R> {
     }
 
     fn send(&mut self, to: Addr, frame: Sealed) -> Result<(), (Sealed, Failed)> {
-        let whole = match &self.socket {
-            Some(socket) => sends_whole(socket, frame.bytes(), to),
-            None => false,
-        };
-        if whole {
+        if send(&mut self.socket, frame.bytes(), to) {
             let _ = frame.release();
             Ok(())
         } else {
@@ -123,10 +126,51 @@ impl<R: Net + Drop> Link for UdpLink<R> {
     }
 }
 
+impl<R: Net + Clock + Drop> TimedLink for UdpLink<R> {
+    ghost use Rattle.std.specs.Prelude.{None};
+
+    ghost coming = { λ _. None };
+
+    fn open_at(&mut self, at: Addr) -> Result<(), Failed> {
+        self.open(at)
+    }
+
+    /// With a limit it fails too where the clock can't be read.
+    fn recv_within(
+        &mut self,
+        alloc: Global,
+        within: Option<u32>,
+    ) -> Result<Option<Vec<u8>>, LinkFault> {
+        let Some(millis) = within else {
+            return self.recv(alloc);
+        };
+        let Some(bytes) = longest_datagram(alloc) else {
+            return Err(LinkFault::OutOfMemory);
+        };
+        let within = Duration::from_millis(u64::from(millis));
+        match receive_within(&self.rt, &mut self.socket, bytes, within) {
+            Ok(found) => Ok(found),
+            Err(_) => {
+                self.faults = self.faults.saturating_add(1);
+                Err(LinkFault::Failed)
+            }
+        }
+    }
+
+    fn post(&mut self, to: Addr, frame: &[u8]) -> Result<(), Failed> {
+        if send(&mut self.socket, frame, to) {
+            return Ok(());
+        }
+        self.faults = self.faults.saturating_add(1);
+        Err(Failed)
+    }
+}
+
 #[cfg(test)]
 mod tests {
     use super::*;
     use sg_base::Name;
+    use std::time::Instant;
 
     // The loopback, at a port.
     fn at(port: u16) -> Addr {
@@ -159,5 +203,50 @@ mod tests {
             }
             _ => assert!(rt; false),
         }
+    }
+
+    // Whether a wait gave these bytes.
+    fn gave(came: Result<Option<Vec<u8>>, LinkFault>, bytes: &[u8]) -> bool {
+        matches!(came, Ok(Some(came)) if came.as_slice() == bytes)
+    }
+
+    // Posts bytes and waits for them.
+    fn comes_back<L: TimedLink>(
+        alloc: Global,
+        link: &mut L,
+        to: Addr,
+        within: Option<u32>,
+    ) -> bool {
+        link.post(to, b"abc") == Ok(()) && gave(link.recv_within(alloc, within), b"abc")
+    }
+
+    #[test]
+    fn a_wait_ends_in_time(rt: HostRuntime) {
+        let alloc = rt.alloc();
+        let mut link = UdpLink::new(rt.clone().expect(&rt, "a runtime"));
+        assert!(rt; matches!(link.recv_within(alloc, Some(0)), Err(LinkFault::Failed)));
+        assert!(rt; link.post(at(28_311), b"abc") == Err(Failed));
+        assert!(rt; link.open_at(at(28_311)) == Ok(()));
+        assert!(rt; matches!(link.recv_within(alloc, Some(0)), Ok(None)));
+        let begun = Instant::now(&rt).expect(&rt, "a clock");
+        assert!(rt; matches!(link.recv_within(alloc, Some(50)), Ok(None)));
+        let gone = begun.elapsed(&rt).expect(&rt, "a clock");
+        assert!(rt; gone >= Duration::from_millis(50));
+        assert!(rt; matches!(link.recv_within(alloc, Some(0)), Ok(None)));
+    }
+
+    #[test]
+    fn what_came_is_given_with_any_limit(rt: HostRuntime) {
+        let alloc = rt.alloc();
+        let mut link = UdpLink::new(rt.clone().expect(&rt, "a runtime"));
+        assert!(rt; link.open_at(at(28_312)) == Ok(()));
+        assert!(rt; comes_back(alloc, &mut link, at(28_312), Some(0)));
+        assert!(rt; comes_back(alloc, &mut link, at(28_312), Some(50)));
+        assert!(rt; comes_back(alloc, &mut link, at(28_312), None));
+        assert!(rt; matches!(link.recv_within(alloc, Some(0)), Ok(None)));
+        assert!(rt; comes_back(alloc, &mut link, at(28_312), None));
+        assert!(rt; matches!(link.recv_within(alloc, Some(1)), Ok(None)));
+        assert!(rt; link.post(at(28_312), b"x") == Ok(()));
+        assert!(rt; gave(link.recv(alloc), b"x"));
     }
 }
