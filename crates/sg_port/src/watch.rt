@@ -1,0 +1,65 @@
+//! Waiting for sockets.
+
+use mio::event::Source;
+use mio::{Events, Interest, Poll, Token};
+use std::alloc::Global;
+use std::net::Net;
+use std::time::{Clock, Duration, Instant};
+
+/// The most changes that one wait tells of.
+const MOST_CHANGES: usize = 1_024;
+
+/// Waits until one of the sockets that it watches changes. A socket that is closed is watched no more.
+#[derive(Drop)]
+pub(crate) struct Watch {
+    poll: Poll,
+    events: Events<Global>,
+}
+
+impl Watch {
+    /// It watches nothing yet. `None` where the system has no place for it, or memory is wanting.
+    pub(crate) fn new<R: Net>(rt: &R, alloc: Global) -> Option<Watch> {
+        let Ok(poll) = Poll::new(rt) else {
+            return None;
+        };
+        match Events::with_capacity(alloc, MOST_CHANGES) {
+            Ok(events) => Some(Watch { poll, events }),
+            Err(_) => None,
+        }
+    }
+
+    /// Watches a socket from now on under a number, and tells whether the system took it.
+    pub(crate) fn add<S: Source>(&self, source: &mut S, at: usize, interest: Interest) -> bool {
+        self.poll
+            .registry()
+            .register(source, Token(at), interest)
+            .is_ok()
+    }
+
+    /// Waits for a change, for so long at most, or as long as it takes. It tells whether the system could.
+    pub(crate) fn wait(&mut self, most: Option<Duration>) -> bool {
+        self.poll.poll(&mut self.events, most).is_ok()
+    }
+
+    /// What changed in the last wait.
+    pub(crate) fn changes(&self) -> &Events<Global> {
+        &self.events
+    }
+}
+
+/// What is left of a time that began then. It is none where the clock can't be read.
+pub(crate) fn left<C: Clock>(clock: &C, begun: Instant, most: Duration) -> Duration {
+    match begun.elapsed(clock) {
+        Ok(gone) => most.saturating_sub(gone),
+        Err(_) => Duration::ZERO,
+    }
+}
+
+/// The shorter of two times, where `None` is as long as it takes.
+pub(crate) fn shorter(a: Option<Duration>, b: Option<Duration>) -> Option<Duration> {
+    match (a, b) {
+        (Some(a), Some(b)) => Some(a.min(b)),
+        (Some(a), None) => Some(a),
+        (None, b) => b,
+    }
+}
