@@ -41,8 +41,8 @@ pub fn read_given<'a>(alloc: Global, word: &'a [u8]) -> Result<Option<Given<'a>>
     }
 }
 
-/// Each word as `VAR=VALUE`.
-fn read_givens<'a>(
+/// Each word that is left as `VAR=VALUE`, with a written value that spells one, or `None` where a word isn't so.
+pub fn read_givens<'a>(
     alloc: Global,
     words: &mut Words<'a>,
 ) -> Result<Option<Seq<Given<'a>>>, OutOfMemory>

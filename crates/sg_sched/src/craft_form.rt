@@ -289,9 +289,9 @@ fn take_nonce(words: &mut Words) -> Option<Option<u64>>
     Some(Some(nonce))
 }
 
-/// 2 to 16 names with commas between them, equal ones allowed.
+/// 2 to 16 names with commas between them, equal ones allowed, or `None` where the word isn't so.
 #[tactic(auto, unfolding(crate::specs::Format::CraftReading::cast))]
-fn read_cast(alloc: Global, word: &[u8]) -> Result<Option<Seq<Name>>, OutOfMemory>
+pub fn read_cast(alloc: Global, word: &[u8]) -> Result<Option<Seq<Name>>, OutOfMemory>
     ensures { IfOk result (λ o. o ≡ cast word.now) }
 {
     let Some(names) = read_list(alloc, word)? else {

@@ -41,8 +41,9 @@ mod text;
 pub mod value;
 pub mod word;
 
-pub use act::{read_given, split_at};
+pub use act::{read_given, read_givens, split_at};
 pub use craft::{Craft, CraftItem, CraftJoin, HeldCraft, Source};
+pub use craft_form::read_cast;
 pub use fault::{Kind, LineFault};
 pub use key::PairKey;
 pub use line::Given;
