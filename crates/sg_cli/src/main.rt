@@ -1,12 +1,14 @@
-//! `sessiongraph`: checks, composes and compiles session graphs, runs one principal, also over a ledger of its joins or over TCP, replays
+//! `sessiongraph`: checks, composes and compiles session graphs, runs one principal, also over a ledger of its joins or over TCP, serves applications, replays
 //! schedules, generates runs, and audits logs of sessions.
 //!
 //! All of this is `top` of `sg_top`. Here are the objects of the system that it works on, and the end where the system doesn't give them.
 #![tactic(auto)]
 
 use sg_base::{StdFiles, StdSink};
+use sg_input::StdInput;
 use sg_ledger::FileDisk;
 use sg_link::{TcpConns, UdpLink};
+use sg_port::TcpPort;
 use sg_stream::StreamLink;
 use sg_system::{OsFresh, StdDescriptors, hold_standard};
 use sg_top::{
@@ -56,6 +58,8 @@ fn on_words(rt: &HostRuntime) -> io::Result<u8> {
     let Ok(mut stream) = StreamLink::new(alloc, TcpConns::new(rt.clone()?)) else {
         return Ok(end_without_memory(&mut err));
     };
+    let mut port = TcpPort::new(rt.clone()?);
+    let mut input = StdInput::new(rt.stdin());
     Ok(top(
         alloc,
         words.as_slice(),
@@ -66,5 +70,7 @@ fn on_words(rt: &HostRuntime) -> io::Result<u8> {
         &mut fresh,
         &mut disk,
         &mut stream,
+        &mut port,
+        &mut input,
     ))
 }

@@ -1,17 +1,20 @@
 //! The program over files, outputs and a link in memory: what comes of a call that fails. What it answers where none does is in the tables of cases.
 ghost use Rattle.std.specs.Prelude.{◌≡◌, string_bytes};
 
-use sg_base::{Addr, Link, MemFiles, MemFresh, MemLink, MemSink};
+use sg_base::{Addr, Link, MemFiles, MemFresh, MemSink};
 use sg_frame::{Frame, decode};
+use sg_input::MemInput;
 use sg_ledger::MemDisk;
 use sg_link::UdpLink;
 use sg_stream::{Conns, MemConns, StreamLink};
 use sg_top::top;
+use sg_wait::{MemTimedLink, TimedLink};
 use std::alloc::Global;
 use std::process::Abort;
 
 mod ledger;
 mod play;
+mod serve;
 mod stream;
 
 // Which call of each object fails, counted from 1, none for 0; and how many bytes standard output takes.
@@ -105,9 +108,15 @@ fn sink(alloc: Global, rt: &impl Abort, room: u32, fails: u32) -> MemSink {
 }
 
 // A link to which nothing comes, with room for eight frames.
-fn quiet_link(alloc: Global, rt: &impl Abort, fails: u32) -> MemLink {
-    let link = MemLink::new(alloc, Vec::new(alloc), 8, only(alloc, rt, fails));
+fn quiet_link(alloc: Global, rt: &impl Abort, fails: u32) -> MemTimedLink {
+    let link = MemTimedLink::new(alloc, Vec::new(alloc), 8, 60_000, only(alloc, rt, fails));
     link.expect(rt, "a link")
+}
+
+// The same eight random words each time.
+fn random_words(alloc: Global, rt: &impl Abort) -> MemFresh {
+    let words = MemFresh::new(alloc, [7; 32], 8);
+    words.expect(rt, "random words")
 }
 
 // The words of a line.
@@ -147,14 +156,14 @@ fn link_over(alloc: Global, rt: &impl Abort, conns: MemConns) -> StreamLink<MemC
     link.ok().expect(rt, "a link")
 }
 
-// A link over connections that has no room.
+// A link over connections that would fail at its first call.
 fn no_stream(alloc: Global, rt: &impl Abort) -> StreamLink<MemConns> {
-    let conns = MemConns::new(alloc, Vec::new(alloc), 0, 0, Vec::new(alloc));
+    let conns = MemConns::new(alloc, Vec::new(alloc), 0, 0, only(alloc, rt, 1));
     link_over(alloc, rt, conns.expect(rt, "connections"))
 }
 
 // Runs the program on the words of a line, over a link.
-fn run_over<L: Link>(
+fn run_over<L: TimedLink>(
     alloc: Global,
     rt: &impl Abort,
     line: &str,
@@ -176,8 +185,9 @@ fn run_over<L: Link>(
     )
 }
 
-// Runs the program on the words of a line, over a link, a disk, and a link over connections.
-fn run_on<L: Link, C: Conns>(
+// Runs the program on the words of a line, over a link, a disk, and a link over connections. The other link over connections would fail,
+// and standard input is empty.
+fn run_on<L: TimedLink, C: Conns>(
     alloc: Global,
     rt: &impl Abort,
     line: &str,
@@ -187,11 +197,32 @@ fn run_on<L: Link, C: Conns>(
     disk: &mut MemDisk,
     stream: &mut StreamLink<C>,
 ) -> Left {
+    let mut port = quiet_link(alloc, rt, 1);
+    let mut input = MemInput::new(Vec::new(alloc), Vec::new(alloc), Vec::new(alloc));
+    let mut fresh = random_words(alloc, rt);
+    run_with(
+        alloc, rt, line, files, outside, link, disk, stream, &mut port, &mut input, &mut fresh,
+    )
+}
+
+// The same over the other link over connections, standard input and random words too.
+fn run_with<L: TimedLink, C: Conns>(
+    alloc: Global,
+    rt: &impl Abort,
+    line: &str,
+    files: MemFiles,
+    outside: Outside,
+    link: &mut L,
+    disk: &mut MemDisk,
+    stream: &mut StreamLink<C>,
+    port: &mut MemTimedLink,
+    input: &mut MemInput,
+    fresh: &mut MemFresh,
+) -> Left {
     let words = words(alloc, rt, line);
     let mut files = files;
     let mut out = sink(alloc, rt, outside.room, outside.out);
     let mut err = sink(alloc, rt, 1_000, outside.err);
-    let mut fresh = MemFresh::new(alloc, [7; 32], 8).expect(rt, "random words");
     let status = top(
         alloc,
         words.as_slice(),
@@ -199,9 +230,11 @@ fn run_on<L: Link, C: Conns>(
         &mut out,
         &mut err,
         link,
-        &mut fresh,
+        fresh,
         disk,
         stream,
+        port,
+        input,
     );
     Left {
         status,

@@ -21,7 +21,7 @@ use Rattle.sg_drive.specs.Summary.{IsSummary}
 use Rattle.sg_drive.specs.declared.fault.GenerateFault.{GenerateFault}
 use Rattle.sg_drive.specs.declared.fault.GenerateFault.TheVariants.{RecordFull}
 use Rattle.sg_top.specs.Driven.{StopsDrive, Sums}
-use Rattle.sg_top.specs.Ending.{Ending, Written, NoCommand, NoGraph, NoExpansion, GraphRefused, NoRole, WrongLine, KeysRefused, ScriptRefused, ClaimsRefused, ClaimFails, ProgramRefused, NoLedger, BadSlot, LedgerNotEmpty, FileFailed, WriteFailed, LinkFailed, DiskFailed, NoMemory, NoSuchFile, TooLarge}
+use Rattle.sg_top.specs.Ending.{Ending, Written, NoCommand, NoGraph, NoExpansion, GraphRefused, NoRole, WrongLine, KeysRefused, ScriptRefused, ClaimsRefused, ClaimFails, ProgramRefused, NoLedger, BadSlot, LedgerNotEmpty, FileFailed, WriteFailed, LinkFailed, InputFailed, DiskFailed, NoMemory, NoSuchFile, TooLarge}
 use Rattle.sg_top.specs.Ends.{Output, Drives, IsDriving}
 
 module _ (seed sessions : ℕ) (g : Graph) (programs : List Program) where
@@ -84,6 +84,7 @@ module _ (seed sessions : ℕ) (g : Graph) (programs : List Program) where
     stopped out (FileFailed file) h = absurd h
     stopped out WriteFailed h = absurd h
     stopped out LinkFailed h = absurd h
+    stopped out InputFailed h = absurd h
     stopped out DiskFailed h = absurd h
     stopped out NoMemory h = refl
     stopped out (NoSuchFile file) h = absurd h

@@ -10,9 +10,9 @@ use Rattle.sg_keys.specs.KeyFile.{SpellsKeys}
 use Rattle.sg_protocol.specs.Keyring.{Keyring, Program}
 use Rattle.sg_script.specs.Format.{SpellsScript}
 use Rattle.sg_script.specs.Script.{Script}
-use Rattle.sg_top.specs.Ending.{Ending, Written, NoCommand, NoGraph, NoExpansion, GraphRefused, NoRole, WrongLine, KeysRefused, ScriptRefused, ClaimsRefused, ClaimFails, ProgramRefused, NoLedger, BadSlot, LedgerNotEmpty, FileFailed, WriteFailed, LinkFailed, DiskFailed, NoMemory, NoSuchFile, TooLarge}
+use Rattle.sg_top.specs.Ending.{Ending, Written, NoCommand, NoGraph, NoExpansion, GraphRefused, NoRole, WrongLine, KeysRefused, ScriptRefused, ClaimsRefused, ClaimFails, ProgramRefused, NoLedger, BadSlot, LedgerNotEmpty, FileFailed, WriteFailed, LinkFailed, InputFailed, DiskFailed, NoMemory, NoSuchFile, TooLarge}
 use Rattle.sg_top.specs.Ends.{Told, Has, IsUnread}
-use Rattle.sg_top.specs.Setup.{Named, Adds, EndsAt, HasSetup, HoldPrograms, OneMore, Holds, IsTextOf, LacksSetup, AtProgram, AtScript, RefusesProgram, RefusesScript, StopsAtProgram}
+use Rattle.sg_top.specs.Setup.{Named, Principal, Adds, EndsAt, HasPrincipal, HasSetup, HoldPrograms, OneMore, Holds, IsTextOf, LacksPrincipal, AtProgram, LacksSetup, AtScript, RefusesProgram, RefusesScript, StopsAtProgram}
 
 -- a count that rose at the end rose on the whole, or stands where no rise shows, from a number on
 rises_below : (m f0 f1 f2 : ℕ) → f0 ≤ f1 → f1 ≤ f2 → (f1 < f2) ⊎ (m ≤ f1) → (f0 < f2) ⊎ (m ≤ f0)
@@ -49,6 +49,7 @@ unread most file told f0 f1 f2 (BadSlot slot) a b h = h
 unread most file told f0 f1 f2 LedgerNotEmpty a b h = h
 unread most file told f0 f1 f2 WriteFailed a b h = h
 unread most file told f0 f1 f2 LinkFailed a b h = h
+unread most file told f0 f1 f2 InputFailed a b h = h
 unread most file told f0 f1 f2 DiskFailed a b h = h
 
 -- it ends at a file after others
@@ -124,26 +125,27 @@ stops_later told told' f0 f1 f2 files e same a b h = record {
   ends = ends_later most_program_file h.file (RefusesProgram h.programs) told told' f0 f1 f2 e same a b h.ends;
 }
 
--- ---- a setup: the keys are read first, then the programs, then the script
+-- ---- a principal: the keys are read first, then the programs
 
-module _ (named : Named) (keys : Keyring) (told told1 : Told) (same1 : told1 ≡ told) (held : Holds told most_script_file named.keys (λ bytes. SpellsKeys bytes keys)) where
+module _ (file : List ℕ) (files : List (List ℕ)) (keys : Keyring) (told told1 : Told) (same1 : told1 ≡ told) (held : Holds told most_script_file file (λ bytes. SpellsKeys bytes keys)) where
   -- it ends at a program
-  pub lacks_program : (f0 f1 f2 : ℕ) (e : Ending) → f0 ≤ f1 → f1 ≤ f2 → StopsAtProgram told1 f1 f2 named.programs e → LacksSetup told f0 f2 named e
-  lacks_program f0 f1 f2 e a b h = AtProgram held (stops_later told told1 f0 f1 f2 named.programs e same1 a b h)
+  pub lacks_program : (f0 f1 f2 : ℕ) (e : Ending) → f0 ≤ f1 → f1 ≤ f2 → StopsAtProgram told1 f1 f2 files e → LacksPrincipal told f0 f2 file files e
+  lacks_program f0 f1 f2 e a b h = AtProgram held (stops_later told told1 f0 f1 f2 files e same1 a b h)
 
-  module _ (programs : List Program) (told2 : Told) (same2 : told2 ≡ told1) (all : HoldPrograms told1 named.programs programs) where
-    all_here : HoldPrograms told named.programs programs
-    all_here = subst (λ t. HoldPrograms t named.programs programs) same1 all
+  -- it is there
+  pub has_principal : (programs : List Program) → HoldPrograms told1 files programs → HasPrincipal told file files (record { keys = keys; programs = programs })
+  has_principal programs all = record { has_keys = held; has_programs = subst (λ t. HoldPrograms t files programs) same1 all }
 
-    -- it ends at the script
-    pub lacks_script : (f0 f2 f3 : ℕ) (e : Ending) → f0 ≤ f2 → f2 ≤ f3 → EndsAt told2 f2 f3 most_script_file named.script (RefusesScript programs) e → LacksSetup told f0 f3 named e
-    lacks_script f0 f2 f3 e a b h =
-        AtScript held all_here (ends_later most_script_file named.script (RefusesScript programs) told told2 f0 f2 f3 e (same2 ∙ same1) a b h)
+-- ---- a setup: the principal is read first, then the script
 
-    -- it is there
-    pub has_setup : (script : Script) → Holds told2 most_script_file named.script (λ bytes. SpellsScript programs bytes script) → HasSetup told named (record { keys = keys; programs = programs; script = script })
-    has_setup script h = record {
-      keys = held;
-      programs = all_here;
-      script = subst (λ t. Holds t most_script_file named.script (λ bytes. SpellsScript programs bytes script)) (same2 ∙ same1) h;
-    }
+module _ (named : Named) (p : Principal) (told told1 : Told) (same1 : told1 ≡ told) (has : HasPrincipal told named.keys named.programs p) where
+  -- it ends at the script
+  pub lacks_script : (f0 f1 f2 : ℕ) (e : Ending) → f0 ≤ f1 → f1 ≤ f2 → EndsAt told1 f1 f2 most_script_file named.script (RefusesScript p.programs) e → LacksSetup told f0 f2 named e
+  lacks_script f0 f1 f2 e a b h = AtScript has (ends_later most_script_file named.script (RefusesScript p.programs) told told1 f0 f1 f2 e same1 a b h)
+
+  -- it is there
+  pub has_setup : (script : Script) → Holds told1 most_script_file named.script (λ bytes. SpellsScript p.programs bytes script) → HasSetup told named (record { keys = p.keys; programs = p.programs; script = script })
+  has_setup script h = record {
+    principal = has;
+    script = subst (λ t. Holds t most_script_file named.script (λ bytes. SpellsScript p.programs bytes script)) same1 h;
+  }

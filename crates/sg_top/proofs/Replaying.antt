@@ -14,7 +14,7 @@ use Rattle.sg_world.specs.Account.{CanBeNamed, account}
 use Rattle.sg_world.specs.Faults.{IsFull}
 use Rattle.sg_world.specs.Laws.{HasPrograms, LawsHold}
 use Rattle.sg_world.specs.Replay.{Replay, up_to}
-use Rattle.sg_top.specs.Ending.{Ending, Written, NoCommand, NoGraph, NoExpansion, GraphRefused, NoRole, WrongLine, KeysRefused, ScriptRefused, ClaimsRefused, ClaimFails, ProgramRefused, NoLedger, BadSlot, LedgerNotEmpty, FileFailed, WriteFailed, LinkFailed, DiskFailed, NoMemory, NoSuchFile, TooLarge}
+use Rattle.sg_top.specs.Ending.{Ending, Written, NoCommand, NoGraph, NoExpansion, GraphRefused, NoRole, WrongLine, KeysRefused, ScriptRefused, ClaimsRefused, ClaimFails, ProgramRefused, NoLedger, BadSlot, LedgerNotEmpty, FileFailed, WriteFailed, LinkFailed, InputFailed, DiskFailed, NoMemory, NoSuchFile, TooLarge}
 use Rattle.sg_top.specs.Ends.{Output, IsReplay, Replays}
 use Rattle.sg_top.specs.Replayed.{CanBeReplayed, HasNoRoom, Reports, Stops, replay_of}
 
@@ -52,6 +52,7 @@ module _ (programs : List Program) (s : Schedule) where
   stops n w (FileFailed file) e l h = absurd h
   stops n w WriteFailed e l h = absurd h
   stops n w LinkFailed e l h = absurd h
+  stops n w InputFailed e l h = absurd h
   stops n w DiskFailed e l h = absurd h
   stops n w NoMemory e l h = tt
   stops n w (NoSuchFile file) e l h = absurd h
@@ -95,6 +96,7 @@ module _ (programs : List Program) (s : Schedule) where
     stopped out (FileFailed file) h = absurd h
     stopped out WriteFailed h = absurd h
     stopped out LinkFailed h = absurd h
+    stopped out InputFailed h = absurd h
     stopped out DiskFailed h = absurd h
     stopped out NoMemory h = refl
     stopped out (NoSuchFile file) h = absurd h

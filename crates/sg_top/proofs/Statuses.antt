@@ -1,11 +1,12 @@
 -- With which statuses the program ends after a play.
 use Rattle.std.proofs.Common.{◌≡◌, ℕ, ◌⊎◌, inl, inr, List, Option, Some, None, refl, sym, subst}
-use Rattle.sg_top.specs.Ending.{Ending, Written, NoCommand, NoGraph, NoExpansion, GraphRefused, NoRole, WrongLine, KeysRefused, ScriptRefused, ClaimsRefused, ClaimFails, ProgramRefused, NoLedger, BadSlot, LedgerNotEmpty, FileFailed, WriteFailed, LinkFailed, DiskFailed, NoMemory, NoSuchFile, TooLarge, status_of, line_of}
+use Rattle.sg_top.specs.Ending.{Ending, Written, NoCommand, NoGraph, NoExpansion, GraphRefused, NoRole, WrongLine, KeysRefused, ScriptRefused, ClaimsRefused, ClaimFails, ProgramRefused, NoLedger, BadSlot, LedgerNotEmpty, FileFailed, WriteFailed, LinkFailed, InputFailed, DiskFailed, NoMemory, NoSuchFile, TooLarge, status_of, line_of}
 use Rattle.sg_top.specs.Ends.{Output}
 use Rattle.sg_top.specs.Ledgers.{CanHaveKept}
 use Rattle.sg_top.specs.Runs.{CanHavePlayed}
-use Rattle.sg_words.specs.Command.{Command, Check, Compile, Run, Replay, Drive, Ledger, Keep, Stream, Audit, Compose, Suggest, Claims, command_of}
-use Rattle.sg_top.specs.Top.{HasPlayed, IsOfKeep, IsOfPlay, MayPlay, PlaysWith, Puts, Says}
+use Rattle.sg_top.specs.Serves.{CanHaveServed}
+use Rattle.sg_words.specs.Command.{Command, Check, Compile, Run, Replay, Drive, Ledger, Keep, Stream, Audit, Compose, Suggest, Claims, Serve, command_of}
+use Rattle.sg_top.specs.Top.{HasPlayed, IsOfKeep, IsOfPlay, IsOfServe, MayPlay, PlaysWith, Puts, Says}
 
 -- the statuses of endings after a play
 of_play : (e : Ending) → CanHavePlayed e → IsOfPlay (status_of e)
@@ -28,6 +29,7 @@ of_play NoLedger h = absurd h
 of_play (BadSlot slot) h = absurd h
 of_play LedgerNotEmpty h = absurd h
 of_play (FileFailed file) h = absurd h
+of_play InputFailed h = absurd h
 of_play DiskFailed h = absurd h
 of_play (NoSuchFile file) h = absurd h
 of_play (TooLarge what) h = absurd h
@@ -54,8 +56,35 @@ of_keep NoLedger h = absurd h
 of_keep (BadSlot slot) h = absurd h
 of_keep LedgerNotEmpty h = absurd h
 of_keep (FileFailed file) h = absurd h
+of_keep InputFailed h = absurd h
 of_keep (NoSuchFile file) h = absurd h
 of_keep (TooLarge what) h = absurd h
+
+-- and after one for an application
+of_serve : (e : Ending) → CanHaveServed e → IsOfServe (status_of e)
+of_serve InputFailed h = inr refl
+of_serve Written h = inl (of_keep Written tt)
+of_serve WriteFailed h = inl (of_keep WriteFailed tt)
+of_serve LinkFailed h = inl (of_keep LinkFailed tt)
+of_serve DiskFailed h = inl (of_keep DiskFailed tt)
+of_serve NoMemory h = inl (of_keep NoMemory tt)
+of_serve NoCommand h = absurd h
+of_serve (NoGraph fault) h = absurd h
+of_serve (NoExpansion fault) h = absurd h
+of_serve (GraphRefused g fault) h = absurd h
+of_serve (NoRole role) h = absurd h
+of_serve (WrongLine line wrong) h = absurd h
+of_serve (KeysRefused fault) h = absurd h
+of_serve (ScriptRefused fault) h = absurd h
+of_serve (ClaimsRefused fault) h = absurd h
+of_serve ClaimFails h = absurd h
+of_serve (ProgramRefused number cause) h = absurd h
+of_serve NoLedger h = absurd h
+of_serve (BadSlot slot) h = absurd h
+of_serve LedgerNotEmpty h = absurd h
+of_serve (FileFailed file) h = absurd h
+of_serve (NoSuchFile file) h = absurd h
+of_serve (TooLarge what) h = absurd h
 
 -- a status that is said is that of the ending, or that of a failed write, or that of 'out of memory'
 module _ (P : ℕ → Type 0) (six : P 6) (eight : P 8) where
@@ -88,16 +117,17 @@ status_said (Some (Audit file)) work old new status h says = absurd h
 status_said (Some (Compose file)) work old new status h says = absurd h
 status_said (Some (Suggest file)) work old new status h says = absurd h
 status_said (Some (Claims graph claims)) work old new status h says = absurd h
+status_said (Some (Serve over_tcp ledger keys programs)) work old new status h says = of_says IsOfServe (inl (inl six_of_play)) (inl (inl eight_of_play)) work old new status (of_serve work h) says
 status_said None work old new status h says = absurd h
 
--- a run over the link leaves the one over connections as it is, and the other way round
-pub over_link : {Played LinkStays StreamStays WordsStay : Type 0} → StreamStays → Played ⊎ (LinkStays × WordsStay) → Played ⊎ (LinkStays × StreamStays × WordsStay)
-over_link stream (inl played) = inl played
-over_link stream (inr rest) = inr (rest.0, stream, rest.1)
+-- a run over one link leaves the others as they are, and what it doesn't read
+pub over_link : {Played Link Stream Port Input Words : Type 0} → Stream → Port → Input → Played ⊎ (Link × Words) → Played ⊎ (Link × Stream × Port × Input × Words)
+over_link stream port input (inl played) = inl played
+over_link stream port input (inr rest) = inr (rest.0, stream, port, input, rest.1)
 
-pub over_stream : {Played LinkStays StreamStays WordsStay : Type 0} → LinkStays → Played ⊎ (StreamStays × WordsStay) → Played ⊎ (LinkStays × StreamStays × WordsStay)
-over_stream link (inl played) = inl played
-over_stream link (inr rest) = inr (link, rest.0, rest.1)
+pub over_stream : {Played Link Stream Port Input Words : Type 0} → Link → Port → Input → Played ⊎ (Stream × Words) → Played ⊎ (Link × Stream × Port × Input × Words)
+over_stream link port input (inl played) = inl played
+over_stream link port input (inr rest) = inr (link, rest.0, port, input, rest.1)
 
 -- a command that may have played ends with one of its statuses; or the rest holds
 pub may_play : {Rest : Type 0} (words : List (List ℕ)) (c : Option Command) (work : Ending) (old new : Output) (status : ℕ) → c ≡ command_of words → HasPlayed c work ⊎ Rest

@@ -64,6 +64,8 @@ pub data Ending : Type 0 where
   WriteFailed : Ending
   -- the link failed
   LinkFailed : Ending
+  -- the input failed
+  InputFailed : Ending
   -- the disk failed
   DiskFailed : Ending
   -- out of memory
@@ -97,6 +99,7 @@ status_of (NoSuchFile file) = 9
 status_of (TooLarge what) = 10
 status_of DiskFailed = 11
 status_of ClaimFails = 13
+status_of InputFailed = 14
 
 -- what is wrong with a line
 abbrev pub wrong_text : Wrong → List ℕ
@@ -122,7 +125,7 @@ shown_word word = flat_map shown_byte word
 -- the line on standard error
 abbrev pub line_of : Ending → List ℕ
 line_of Written = []
-line_of NoCommand = codes "usage: sessiongraph check|compile|run|replay|drive|ledger|keep|stream|audit|compose|claims\n"
+line_of NoCommand = codes "usage: sessiongraph check|compile|run|replay|drive|ledger|keep|stream|audit|compose|claims|serve\n"
 line_of (NoGraph fault) = codes "graph refused: " ++ parse_text fault ++ 10 ∷ []
 line_of (NoExpansion fault) = codes "graph refused: " ++ compose_text fault ++ 10 ∷ []
 line_of (GraphRefused g fault) = codes "graph refused: " ++ refusal_text g fault ++ 10 ∷ []
@@ -139,6 +142,7 @@ line_of LedgerNotEmpty = codes "input refused: ledger not empty\n"
 line_of (FileFailed file) = codes "file failed: " ++ shown_word file ++ 10 ∷ []
 line_of WriteFailed = []
 line_of LinkFailed = codes "link failed\n"
+line_of InputFailed = codes "input failed\n"
 line_of DiskFailed = codes "disk failed\n"
 line_of NoMemory = codes "out of memory\n"
 line_of (NoSuchFile file) = codes "no such file: " ++ shown_word file ++ 10 ∷ []

@@ -8,5 +8,6 @@ pub mod Setup
 pub mod Claimed
 pub mod Runs
 pub mod Ledgers
+pub mod Serves
 pub mod Top
 pub mod Model

@@ -1,7 +1,7 @@
 -- What the program holds, as the values of the definitions.
 use Rattle.sg_top.specs.Ending as Ended
 use Rattle.sg_top.specs.declared.ending.Ending.{Ending}
-use Rattle.sg_top.specs.declared.ending.Ending.TheVariants.{Written, NoCommand, NoGraph, NoExpansion, GraphRefused, NoRole, WrongLine, KeysRefused, ScriptRefused, ClaimsRefused, ClaimFails, ProgramRefused, NoLedger, BadSlot, LedgerNotEmpty, FileFailed, WriteFailed, LinkFailed, DiskFailed, NoMemory, NoSuchFile, TooLarge}
+use Rattle.sg_top.specs.declared.ending.Ending.TheVariants.{Written, NoCommand, NoGraph, NoExpansion, GraphRefused, NoRole, WrongLine, KeysRefused, ScriptRefused, ClaimsRefused, ClaimFails, ProgramRefused, NoLedger, BadSlot, LedgerNotEmpty, FileFailed, WriteFailed, LinkFailed, InputFailed, DiskFailed, NoMemory, NoSuchFile, TooLarge}
 
 -- the ending that is held
 abbrev pub ending_held : Ending → Ended.Ending
@@ -23,6 +23,7 @@ ending_held LedgerNotEmpty = Ended.LedgerNotEmpty
 ending_held (FileFailed file) = Ended.FileFailed file.now
 ending_held WriteFailed = Ended.WriteFailed
 ending_held LinkFailed = Ended.LinkFailed
+ending_held InputFailed = Ended.InputFailed
 ending_held DiskFailed = Ended.DiskFailed
 ending_held NoMemory = Ended.NoMemory
 ending_held (NoSuchFile file) = Ended.NoSuchFile file.now

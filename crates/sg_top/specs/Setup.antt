@@ -24,6 +24,11 @@ pub record Named : Type 0 where
   pub programs : List (List ℕ)
   pub script : List ℕ
 
+-- the keys and the programs of a principal
+pub record Principal : Type 0 where
+  pub keys : Keyring
+  pub programs : List Program
+
 -- what a run plays by
 pub record Setup : Type 0 where
   pub keys : Keyring
@@ -53,10 +58,14 @@ pub data HoldPrograms (told : Told) : (files : List (List ℕ)) → List Program
   OneMore : {files : List (List ℕ)} {programs : List Program} {file : List ℕ} {p : Program} → HoldPrograms told files programs
       → Holds told most_program_file file (IsTextOf p) → list_any (clashes p) programs ≡ false → HoldPrograms told (files ++ file ∷ []) (programs ++ p ∷ [])
 
+-- the files hold the principal
+pub record HasPrincipal (told : Told) (keys : List ℕ) (programs : List (List ℕ)) (p : Principal) : Type 0 where
+  pub has_keys : Holds told most_script_file keys (λ bytes. SpellsKeys bytes p.keys)
+  pub has_programs : HoldPrograms told programs p.programs
+
 -- the files hold the setup
 pub record HasSetup (told : Told) (named : Named) (s : Setup) : Type 0 where
-  pub keys : Holds told most_script_file named.keys (λ bytes. SpellsKeys bytes s.keys)
-  pub programs : HoldPrograms told named.programs s.programs
+  pub principal : HasPrincipal told named.keys named.programs (record { keys = s.keys; programs = s.programs })
   pub script : Holds told most_script_file named.script (λ bytes. SpellsScript s.programs bytes s.script)
 
 -- ---- what is refused
@@ -100,10 +109,14 @@ pub record StopsAtProgram (told : Told) (faults faults' : ℕ) (files : List (Li
   pub held : HoldPrograms told before programs
   pub ends : EndsAt told faults faults' most_program_file file (RefusesProgram programs) ending
 
--- there is no setup, by the first cause: the keys are looked at first, then the programs in order, then the script
+-- there is no principal, by the first cause: the keys are looked at first, then the programs in order
+pub data LacksPrincipal (told : Told) (faults faults' : ℕ) (keys : List ℕ) (programs : List (List ℕ)) (ending : Ending) : Type 0 where
+  AtKeys : EndsAt told faults faults' most_script_file keys RefusesKeys ending → LacksPrincipal told faults faults' keys programs ending
+  AtProgram : {found : Keyring} → Holds told most_script_file keys (λ bytes. SpellsKeys bytes found) → StopsAtProgram told faults faults' programs ending
+      → LacksPrincipal told faults faults' keys programs ending
+
+-- there is no setup, by the first cause: the principal is looked at first, then the script
 pub data LacksSetup (told : Told) (faults faults' : ℕ) (named : Named) (ending : Ending) : Type 0 where
-  AtKeys : EndsAt told faults faults' most_script_file named.keys RefusesKeys ending → LacksSetup told faults faults' named ending
-  AtProgram : {keys : Keyring} → Holds told most_script_file named.keys (λ bytes. SpellsKeys bytes keys) → StopsAtProgram told faults faults' named.programs ending
+  AtPrincipal : LacksPrincipal told faults faults' named.keys named.programs ending → LacksSetup told faults faults' named ending
+  AtScript : {p : Principal} → HasPrincipal told named.keys named.programs p → EndsAt told faults faults' most_script_file named.script (RefusesScript p.programs) ending
       → LacksSetup told faults faults' named ending
-  AtScript : {keys : Keyring} {programs : List Program} → Holds told most_script_file named.keys (λ bytes. SpellsKeys bytes keys) → HoldPrograms told named.programs programs
-      → EndsAt told faults faults' most_script_file named.script (RefusesScript programs) ending → LacksSetup told faults faults' named ending

@@ -110,6 +110,8 @@ pub enum Ending<'w> {
     WriteFailed,
     /// The link failed.
     LinkFailed,
+    /// The input failed.
+    InputFailed,
     /// The disk failed.
     DiskFailed,
     /// Out of memory.
@@ -148,6 +150,7 @@ impl<'w> Ending<'w> {
             Ending::TooLarge { .. } => 10,
             Ending::DiskFailed => 11,
             Ending::ClaimFails => 13,
+            Ending::InputFailed => 14,
         }
     }
 
@@ -170,7 +173,7 @@ impl<'w> Ending<'w> {
             Ending::Written | Ending::ClaimFails | Ending::WriteFailed => Ok(()),
             Ending::NoCommand => writeln!(
                 out,
-                "usage: sessiongraph check|compile|run|replay|drive|ledger|keep|stream|audit|compose|claims"
+                "usage: sessiongraph check|compile|run|replay|drive|ledger|keep|stream|audit|compose|claims|serve"
             ),
             Ending::NoGraph { fault } => writeln!(out, "graph refused: {fault}"),
             Ending::NoExpansion { fault } => writeln!(out, "graph refused: {fault}"),
@@ -190,6 +193,7 @@ impl<'w> Ending<'w> {
             Ending::LedgerNotEmpty => writeln!(out, "input refused: ledger not empty"),
             Ending::FileFailed { file } => put_about(out, b"file failed: ", file),
             Ending::LinkFailed => writeln!(out, "link failed"),
+            Ending::InputFailed => writeln!(out, "input failed"),
             Ending::DiskFailed => writeln!(out, "disk failed"),
             Ending::NoMemory => writeln!(out, "out of memory"),
             Ending::NoSuchFile { file } => put_about(out, b"no such file: ", file),

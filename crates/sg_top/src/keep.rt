@@ -1,17 +1,16 @@
 //! The command `keep`: a run over a ledger. It reads keys, programs and a script, opens the ledger and then the link, and plays the script as
 //! one principal whose joins are kept (`sg_keep`).
-ghost use Rattle.std.specs.Prelude.{◌≡◌, ◌≤◌, ◌⊎◌, false, IfErr, IfOk, map};
+ghost use Rattle.std.specs.Prelude.{◌≡◌, ◌⊎◌, false, map};
 ghost use Rattle.sg_keep.specs.Kept.{AllStandFor};
-ghost use Rattle.sg_ledger.specs.Disk.{WhereTold};
-ghost use Rattle.sg_ledger.specs.Format.{StandsFor};
-ghost use Rattle.sg_top.specs.Ledgers.{CanHaveKept, EndsOver, IsLeft, KeepsRun, KeepsSetup, LacksLedger, ending_of_play};
+ghost use Rattle.sg_top.specs.Ledgers.{CanHaveKept, EndsOver, KeepsRun, KeepsSetup, ending_of_play};
 ghost use Rattle.sg_top.specs.Model.{ending_held};
 
 use crate::ending::Ending;
+use crate::joins::open_ledger;
 use crate::setup::{Setup, read_setup};
 use sg_base::{Files, Fresh, Link, Sink};
 use sg_keep::KeepFault;
-use sg_ledger::{Disk, Ledger, OpenFault};
+use sg_ledger::{Disk, Ledger};
 use sg_play::PlayFault;
 use std::alloc::Global;
 
@@ -65,28 +64,6 @@ fn keep_setup<O: Sink, L: Link, R: Fresh, D: Disk>(
     match open_ledger(alloc, file, disk) {
         Ok(ledger) => ended(play_over(alloc, setup, ledger, most, out, link, fresh, disk)),
         Err(ending) => ending,
-    }
-}
-
-// The ledger of a file, or how the program ends without it.
-fn open_ledger<D: Disk>(alloc: Global, file: &str, disk: &mut D) -> Result<Ledger, Ending<'static>>
-    ensures working { IfOk result (λ ledger. ledger.failed ≡ false) }
-    ensures opened { IfOk result (λ ledger. WhereTold (D.seen disk.old) (λ bytes. StandsFor bytes ledger.joins)) }
-    ensures stands { IfOk result (λ ledger. AllStandFor (D.may_leave disk.new) ledger.joins) }
-    ensures lacks { IfErr result (λ ending. LacksLedger (record { seen = D.seen disk.old; may_leave = D.may_leave disk.old; faults = D.faults disk.old }) (record { seen = D.seen disk.new; may_leave = D.may_leave disk.new; faults = D.faults disk.new }) (ending_held ending)) }
-    ensures left { IsLeft (record { seen = D.seen disk.old; may_leave = D.may_leave disk.old; faults = D.faults disk.old }) (record { seen = D.seen disk.new; may_leave = D.may_leave disk.new; faults = D.faults disk.new }) }
-    ensures falls { D.faults disk.old ≤ D.faults disk.new }
-{
-    match disk.open(file) {
-        Ok(()) => {}
-        Err(_) => return Err(Ending::DiskFailed),
-    }
-    match Ledger::open(alloc, disk) {
-        Ok(ledger) => Ok(ledger),
-        Err(OpenFault::NotALedger) => Err(Ending::NoLedger),
-        Err(OpenFault::BadSlot { slot }) => Err(Ending::BadSlot { slot }),
-        Err(OpenFault::Failed) => Err(Ending::DiskFailed),
-        Err(OpenFault::OutOfMemory) => Err(Ending::NoMemory),
     }
 }
 

@@ -1,7 +1,7 @@
 //! The program without the real objects: what each command does, with which status it ends, and what it says of it.
 //!
 //! `top` takes the words of a command line, and the outside as objects: files, standard output, standard error, a link, random words, a disk,
-//! and a link over connections. With those of the system it is `sessiongraph` (`sg_cli`); with objects in memory another crate can call it.
+//! a link over connections, another one over connections that are kept, and standard input. With those of the system it is `sessiongraph` (`sg_cli`); with objects in memory another crate can call it.
 //!
 //! - The words are read first. Words that are in no command end with the usage line, and nothing else is touched.
 //! - `check`, `compile`, `replay`, `drive`, `audit` and `compose` work on one file. It is read whole, has at most a given number of bytes, and
@@ -13,16 +13,18 @@
 //! - `ledger` makes a ledger of a file of the disk and then says so. `keep` reads as `run` does, opens the ledger and then the link, and plays
 //!   over the joins that the ledger has. What a crash leaves of the disk has the joins of each step whose line was begun.
 //! - `stream` is `run` over the link over connections: its deliveries are the frames whose messages become whole, in that order.
-//! - Each status has its cause: a refusal comes where the words or the bytes ask for it, and a fault of a file, of an output, of the link or
-//!   of the disk only where its count of faults rose. Out of memory alone may come in place of anything.
+//! - `serve` reads keys and programs as `run` does, opens the ledger, if it has one, and then its link, and answers the lines of standard input,
+//!   each before it reads the next one. A link that fails after that is an answer.
+//! - Each status has its cause: a refusal comes where the words or the bytes ask for it, and a fault of a file, of an output, of the input,
+//!   of the link or of the disk only where its count of faults rose. Out of memory alone may come in place of anything.
 //! - With each status but 0 and 6 one line on standard error says why. Where that line isn't taken, the status is that of a failed write.
 //!
 //! Each command has a module of its name, and `claims` on a graph alone is in `suggest`. `ending` has the ways to end, with their statuses and lines: what a fault of a library is told as
 //! stands in the library. `answer` has the words of audits, and `setup` has what a run reads.
 //!
 //! Where the definitions stand: `specs/Top.antt` says how the program ends, by its command; `specs/Ends.antt` what each command on one file leaves and
-//! why it ends so; `specs/Runs.antt` what a run leaves, `specs/Ledgers.antt` what the making of a ledger leaves, and a run over one, and
-//! `specs/Setup.antt` what the files of a run hold; `specs/Replayed.antt` what is left of a replay, and `specs/Driven.antt` of a drive;
+//! why it ends so; `specs/Runs.antt` what a run leaves, `specs/Ledgers.antt` what the making of a ledger leaves, and a run over one,
+//! `specs/Serves.antt` a run for an application, and `specs/Setup.antt` what the files of a run hold; `specs/Replayed.antt` what is left of a replay, and `specs/Driven.antt` of a drive;
 //! `specs/Ending.antt` the statuses and lines, with `specs/FaultText.antt` of the crates of the faults; `specs/Audited.antt` and
 //! `specs/Accepted.antt` the texts of `audit` and `check`, and `specs/Claimed.antt` what `claims` says.
 #![tactic(auto)]
@@ -38,11 +40,13 @@ mod drive;
 mod ending;
 mod file;
 mod graph;
+mod joins;
 mod keep;
 mod ledger;
 mod program;
 mod replay;
 mod run;
+mod serve;
 mod setup;
 mod suggest;
 

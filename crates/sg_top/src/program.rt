@@ -3,7 +3,7 @@ ghost use Rattle.std.specs.Prelude.{◌≡◌, ◌⊎◌, map, option_map, strin
 ghost use Rattle.sg_words.specs.Command.{CanBeDriven, command_of};
 ghost use Rattle.sg_words.specs.Model.{command_held};
 ghost use Rattle.sg_top.specs.Model.{ending_held};
-ghost use Rattle.sg_top.specs.Top.{Ends, HasPlayed, IsOnDisk, IsOverLink, IsOverStream, MayPlay, Puts, Says, Works, streamed};
+ghost use Rattle.sg_top.specs.Top.{Ends, HasPlayed, IsOnDisk, IsOnInput, IsOverLink, IsOverPort, IsOverStream, MayPlay, Puts, Says, Works, streamed};
 
 use crate::audit::audit;
 use crate::check::check;
@@ -16,10 +16,13 @@ use crate::keep::keep;
 use crate::ledger::ledger;
 use crate::replay::replay;
 use crate::run::run;
+use crate::serve::serve;
 use crate::suggest::suggest;
 use sg_base::{Files, Fresh, Link, Sink, write_all};
+use sg_input::Input;
 use sg_ledger::Disk;
 use sg_stream::{Conns, StreamLink};
+use sg_wait::TimedLink;
 use sg_words::{Command, CommandLine, Given};
 use std::alloc::Global;
 
@@ -35,8 +38,19 @@ use std::alloc::Global;
 /// and writes of each session whether its logs agree. `compose PARTS` reads parts from a file, expands them, checks the expansion, and writes
 /// its canonical text. `claims GRAPH` reads a graph, makes the checks of `check`, and writes a text of claims that hold of it.
 /// `claims GRAPH CLAIMS` reads a graph, makes the checks of `check`, reads claims of it, and writes of each whether it holds, or a walk that
-/// breaks it. `err` gets one line that says why the work ended so, unless the output was written or failed.
-pub fn top<F: Files, O: Sink, E: Sink, L: Link, R: Fresh, D: Disk, C: Conns>(
+/// breaks it. `serve KEYS PROGRAM..` answers the lines of `input` as one principal over `link`, or over `port` with `--tcp`, and keeps its joins in
+/// the ledger of a file with `--ledger FILE`. `err` gets one line that says why the work ended so, unless the output was written or failed.
+pub fn top<
+    F: Files,
+    O: Sink,
+    E: Sink,
+    L: TimedLink,
+    R: Fresh,
+    D: Disk,
+    C: Conns,
+    P: TimedLink,
+    I: Input,
+>(
     alloc: Global,
     words: &[String],
     files: &mut F,
@@ -46,30 +60,49 @@ pub fn top<F: Files, O: Sink, E: Sink, L: Link, R: Fresh, D: Disk, C: Conns>(
     fresh: &mut R,
     disk: &mut D,
     stream: &mut StreamLink<C>,
+    port: &mut P,
+    input: &mut I,
 ) -> u8
     ensures ends { Ends (map string_bytes words.now) (F.held files.old) (F.faults files.old) (F.faults files.new)
         (record { out = record { bytes = O.written out.old; faults = O.faults out.old }; link = record { deliveries = L.deliveries link.old; sent = L.sent link.old; faults = L.faults link.old }; words = R.words fresh.old })
         (record { out = record { bytes = O.written out.new; faults = O.faults out.new }; link = record { deliveries = L.deliveries link.new; sent = L.sent link.new; faults = L.faults link.new }; words = R.words fresh.new })
         (streamed C.held C.faults stream.old) (streamed C.held C.faults stream.new)
         (record { seen = D.seen disk.old; may_leave = D.may_leave disk.old; faults = D.faults disk.old }) (record { seen = D.seen disk.new; may_leave = D.may_leave disk.new; faults = D.faults disk.new })
+        (record { coming = L.coming link.old; port = record { coming = P.coming port.old; sent = P.sent port.old; faults = P.faults port.old }; input = record { bytes = I.coming input.old; faults = I.faults input.old } })
+        (record { coming = L.coming link.new; port = record { coming = P.coming port.new; sent = P.sent port.new; faults = P.faults port.new }; input = record { bytes = I.coming input.new; faults = I.faults input.new } })
         (record { bytes = E.written err.old; faults = E.faults err.old }) (record { bytes = E.written err.new; faults = E.faults err.new }) result }
 
-    // Both links and the random words are as before where no run began.
-    ensures as_before { MayPlay (map string_bytes words.now) result ⊎ ((link.new ≡ link.old) × (stream.new ≡ stream.old) × (fresh.new ≡ fresh.old)) }
+    // All links, the input and the random words are as before where no run began.
+    ensures as_before { MayPlay (map string_bytes words.now) result ⊎ ((link.new ≡ link.old) × (stream.new ≡ stream.old) × (port.new ≡ port.old) × (input.new ≡ input.old) × (fresh.new ≡ fresh.old)) }
 
-    // So is each link where the words ask for no run over it, and the disk where they are not on a ledger.
+    // So is each link where the words ask for no run over it, the input where they don't ask to serve, and the disk where they are not on a
+    // ledger.
     ensures link { IsOverLink (command_of (map string_bytes words.now)) ⊎ (link.new ≡ link.old) }
     ensures stream { IsOverStream (command_of (map string_bytes words.now)) ⊎ (stream.new ≡ stream.old) }
+    ensures port { IsOverPort (command_of (map string_bytes words.now)) ⊎ (port.new ≡ port.old) }
+    ensures input { IsOnInput (command_of (map string_bytes words.now)) ⊎ (input.new ≡ input.old) }
     ensures disk { IsOnDisk (command_of (map string_bytes words.now)) ⊎ (disk.new ≡ disk.old) }
 {
     match CommandLine::new(alloc, words) {
-        Ok(line) => on_line(alloc, &line, files, out, err, link, fresh, disk, stream),
+        Ok(line) => on_line(
+            alloc, &line, files, out, err, link, fresh, disk, stream, port, input,
+        ),
         Err(_) => say(alloc, &Ending::NoMemory, err),
     }
 }
 
 // Does what a command line asks for.
-fn on_line<F: Files, O: Sink, E: Sink, L: Link, R: Fresh, D: Disk, S: Link>(
+fn on_line<
+    F: Files,
+    O: Sink,
+    E: Sink,
+    L: TimedLink,
+    R: Fresh,
+    D: Disk,
+    S: Link,
+    P: TimedLink,
+    I: Input,
+>(
     alloc: Global,
     line: &CommandLine<'_>,
     files: &mut F,
@@ -79,16 +112,22 @@ fn on_line<F: Files, O: Sink, E: Sink, L: Link, R: Fresh, D: Disk, S: Link>(
     fresh: &mut R,
     disk: &mut D,
     stream: &mut S,
+    port: &mut P,
+    input: &mut I,
 ) -> u8
     ensures ends { Ends line.now (F.held files.old) (F.faults files.old) (F.faults files.new)
         (record { out = record { bytes = O.written out.old; faults = O.faults out.old }; link = record { deliveries = L.deliveries link.old; sent = L.sent link.old; faults = L.faults link.old }; words = R.words fresh.old })
         (record { out = record { bytes = O.written out.new; faults = O.faults out.new }; link = record { deliveries = L.deliveries link.new; sent = L.sent link.new; faults = L.faults link.new }; words = R.words fresh.new })
         (record { deliveries = S.deliveries stream.old; sent = S.sent stream.old; faults = S.faults stream.old }) (record { deliveries = S.deliveries stream.new; sent = S.sent stream.new; faults = S.faults stream.new })
         (record { seen = D.seen disk.old; may_leave = D.may_leave disk.old; faults = D.faults disk.old }) (record { seen = D.seen disk.new; may_leave = D.may_leave disk.new; faults = D.faults disk.new })
+        (record { coming = L.coming link.old; port = record { coming = P.coming port.old; sent = P.sent port.old; faults = P.faults port.old }; input = record { bytes = I.coming input.old; faults = I.faults input.old } })
+        (record { coming = L.coming link.new; port = record { coming = P.coming port.new; sent = P.sent port.new; faults = P.faults port.new }; input = record { bytes = I.coming input.new; faults = I.faults input.new } })
         (record { bytes = E.written err.old; faults = E.faults err.old }) (record { bytes = E.written err.new; faults = E.faults err.new }) result }
-    ensures as_before { MayPlay line.now result ⊎ ((link.new ≡ link.old) × (stream.new ≡ stream.old) × (fresh.new ≡ fresh.old)) }
+    ensures as_before { MayPlay line.now result ⊎ ((link.new ≡ link.old) × (stream.new ≡ stream.old) × (port.new ≡ port.old) × (input.new ≡ input.old) × (fresh.new ≡ fresh.old)) }
     ensures link { IsOverLink (command_of line.now) ⊎ (link.new ≡ link.old) }
     ensures stream { IsOverStream (command_of line.now) ⊎ (stream.new ≡ stream.old) }
+    ensures port { IsOverPort (command_of line.now) ⊎ (port.new ≡ port.old) }
+    ensures input { IsOnInput (command_of line.now) ⊎ (input.new ≡ input.old) }
     ensures disk { IsOnDisk (command_of line.now) ⊎ (disk.new ≡ disk.old) }
 {
     match Given::read(alloc, line) {
@@ -102,6 +141,8 @@ fn on_line<F: Files, O: Sink, E: Sink, L: Link, R: Fresh, D: Disk, S: Link>(
                 fresh,
                 disk,
                 stream,
+                port,
+                input,
             );
             say(alloc, &ending, err)
         }
@@ -109,7 +150,7 @@ fn on_line<F: Files, O: Sink, E: Sink, L: Link, R: Fresh, D: Disk, S: Link>(
     }
 }
 
-fn work<'w, F: Files, O: Sink, L: Link, R: Fresh, D: Disk, S: Link>(
+fn work<'w, F: Files, O: Sink, L: TimedLink, R: Fresh, D: Disk, S: Link, P: TimedLink, I: Input>(
     alloc: Global,
     command: Option<Command<'w>>,
     files: &mut F,
@@ -118,6 +159,8 @@ fn work<'w, F: Files, O: Sink, L: Link, R: Fresh, D: Disk, S: Link>(
     fresh: &mut R,
     disk: &mut D,
     stream: &mut S,
+    port: &mut P,
+    input: &mut I,
 ) -> Ending<'w>
     requires { CanBeDriven (option_map command_held command) }
     ensures works { Works (option_map command_held command.entry) (F.held files.old) (F.faults files.old) (F.faults files.new)
@@ -125,10 +168,14 @@ fn work<'w, F: Files, O: Sink, L: Link, R: Fresh, D: Disk, S: Link>(
         (record { out = record { bytes = O.written out.new; faults = O.faults out.new }; link = record { deliveries = L.deliveries link.new; sent = L.sent link.new; faults = L.faults link.new }; words = R.words fresh.new })
         (record { deliveries = S.deliveries stream.old; sent = S.sent stream.old; faults = S.faults stream.old }) (record { deliveries = S.deliveries stream.new; sent = S.sent stream.new; faults = S.faults stream.new })
         (record { seen = D.seen disk.old; may_leave = D.may_leave disk.old; faults = D.faults disk.old }) (record { seen = D.seen disk.new; may_leave = D.may_leave disk.new; faults = D.faults disk.new })
+        (record { coming = L.coming link.old; port = record { coming = P.coming port.old; sent = P.sent port.old; faults = P.faults port.old }; input = record { bytes = I.coming input.old; faults = I.faults input.old } })
+        (record { coming = L.coming link.new; port = record { coming = P.coming port.new; sent = P.sent port.new; faults = P.faults port.new }; input = record { bytes = I.coming input.new; faults = I.faults input.new } })
         (ending_held result) }
-    ensures as_before { HasPlayed (option_map command_held command.entry) (ending_held result) ⊎ ((link.new ≡ link.old) × (stream.new ≡ stream.old) × (fresh.new ≡ fresh.old)) }
+    ensures as_before { HasPlayed (option_map command_held command.entry) (ending_held result) ⊎ ((link.new ≡ link.old) × (stream.new ≡ stream.old) × (port.new ≡ port.old) × (input.new ≡ input.old) × (fresh.new ≡ fresh.old)) }
     ensures link { IsOverLink (option_map command_held command.entry) ⊎ (link.new ≡ link.old) }
     ensures stream { IsOverStream (option_map command_held command.entry) ⊎ (stream.new ≡ stream.old) }
+    ensures port { IsOverPort (option_map command_held command.entry) ⊎ (port.new ≡ port.old) }
+    ensures input { IsOnInput (option_map command_held command.entry) ⊎ (input.new ≡ input.old) }
     ensures disk { IsOnDisk (option_map command_held command.entry) ⊎ (disk.new ≡ disk.old) }
 {
     match command {
@@ -184,6 +231,26 @@ fn work<'w, F: Files, O: Sink, L: Link, R: Fresh, D: Disk, S: Link>(
                 claims: file,
             },
         ) => claims(alloc, graph, file, files, out),
+        Some(
+            Command::Serve {
+                over_tcp: false,
+                ledger,
+                keys,
+                programs,
+            },
+        ) => serve(
+            alloc, ledger, keys, programs, files, out, input, link, fresh, disk,
+        ),
+        Some(
+            Command::Serve {
+                over_tcp: true,
+                ledger,
+                keys,
+                programs,
+            },
+        ) => serve(
+            alloc, ledger, keys, programs, files, out, input, port, fresh, disk,
+        ),
     }
 }
 

@@ -5,7 +5,7 @@ ghost use Rattle.sg_keys.specs.KeyFile.{SpellsKeys, key_file};
 ghost use Rattle.sg_program.specs.Loading.{IsLoadFault};
 ghost use Rattle.sg_script.specs.Format.{SpellsScript};
 ghost use Rattle.sg_top.specs.Model.{ending_held};
-ghost use Rattle.sg_top.specs.Setup.{Adds, EndsAt, HasSetup, HoldPrograms, Holds, IsTextOf, LacksSetup, RefusesKeys, RefusesProgram, RefusesScript, StopsAtProgram};
+ghost use Rattle.sg_top.specs.Setup.{Adds, EndsAt, HasPrincipal, HasSetup, HoldPrograms, Holds, IsTextOf, LacksPrincipal, LacksSetup, RefusesKeys, RefusesProgram, RefusesScript, StopsAtProgram};
 
 use crate::ending::{BadProgram, Ending};
 use crate::file::read_file;
@@ -30,8 +30,37 @@ pub struct Setup {
     pub script: Script,
 }
 
-/// What the files of a run hold, or how the program ends without it. The keys are read first, then the programs in order, then the
-/// script.
+/// The keys, twice, and the programs of a principal.
+#[derive(Drop)]
+pub struct Principal {
+    pub keys: Keyring,
+    pub keys_of_node: Keyring,
+    pub programs: Programs,
+}
+
+/// What the files of a principal hold, or how the program ends without it. The keys are read first, then the programs in order.
+pub fn read_principal<'w, F: Files>(
+    alloc: Global,
+    keys: &'w str,
+    programs: &'w [&'w str],
+    files: &mut F,
+) -> Result<Principal, Ending<'w>>
+    ensures has { IfOk result (λ p. HasPrincipal (F.held files.old) keys.now (map (λ p. p.now) programs.now) (record { keys = p.keys; programs = p.programs })) }
+    ensures same { IfOk result (λ p. p.keys_of_node ≡ p.keys) }
+    ensures lacks { IfErr result (λ ending. LacksPrincipal (F.held files.old) (F.faults files.old) (F.faults files.new) keys.now (map (λ p. p.now) programs.now) (ending_held ending)) }
+    ensures kept { F.held files.new ≡ F.held files.old }
+    ensures falls { F.faults files.old ≤ F.faults files.new }
+{
+    let (keys, keys_of_node) = read_keys(alloc, keys, files)?;
+    let programs = read_programs(alloc, programs, files)?;
+    Ok(Principal {
+        keys,
+        keys_of_node,
+        programs,
+    })
+}
+
+/// What the files of a run hold, or how the program ends without it. The principal is read first, then the script.
 pub fn read_setup<'w, F: Files>(
     alloc: Global,
     keys: &'w str,
@@ -45,9 +74,13 @@ pub fn read_setup<'w, F: Files>(
     ensures lacks { IfErr result (λ ending. LacksSetup (F.held files.old) (F.faults files.old) (F.faults files.new)
         (record { keys = keys.now; programs = map (λ p. p.now) programs.now; script = script.now }) (ending_held ending)) }
 {
-    let (keys, keys_of_node) = read_keys(alloc, keys, files)?;
-    let programs = read_programs(alloc, programs, files)?;
-    let script = script_of(alloc, script, &programs, files)?;
+    let principal = read_principal(alloc, keys, programs, files)?;
+    let script = script_of(alloc, script, &principal.programs, files)?;
+    let Principal {
+        keys,
+        keys_of_node,
+        programs,
+    } = principal;
     Ok(Setup {
         keys,
         keys_of_node,

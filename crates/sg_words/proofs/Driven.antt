@@ -5,7 +5,7 @@ use Rattle.std.proofs.Common.{arith}
 use Rattle.std.proofs.lemmas.Bool.{ltb-true, leb-true}
 use Rattle.sg_base.specs.Words.{number, from_one, up_to, value, is_digit, has_needless_zero}
 use Rattle.sg_model.specs.Limits.{most_deliveries, most_driven, most_seed}
-use Rattle.sg_words.specs.Command.{Command, Check, Compile, Run, Replay, Drive, Ledger, Keep, Stream, Audit, Compose, Suggest, Claims, CanBeDriven, command_of, driving, few, is_option, keeping, named, on_file, on_two, running, sessions_of, streaming}
+use Rattle.sg_words.specs.Command.{Command, Check, Compile, Run, Replay, Drive, Ledger, Keep, Stream, Audit, Compose, Suggest, Claims, Serve, CanBeDriven, command_of, driving, few, is_option, keeping, ledger_or, named, on_file, on_ledger, on_two, plain, running, serving, serving_over, sessions_of, streaming, tcp_or}
 
 -- a number, if any, of at most `most`
 abbrev AtMost : ℕ → Option ℕ → Type 0
@@ -113,12 +113,39 @@ others name (file ∷ []) = file_alone name file
 others name (first ∷ second ∷ []) = two name first second
 others name (first ∷ second ∷ other ∷ more) = tt
 
--- whatever the words
-pub can_be_driven : (words : List (List ℕ)) → CanBeDriven (command_of words)
-can_be_driven [] = tt
-can_be_driven (name ∷ words) =
+serves_over : (over_tcp : Bool) (ledger : Option (List ℕ)) (words : List (List ℕ)) → CanBeDriven (serving_over over_tcp ledger words)
+serves_over over_tcp ledger [] = tt
+serves_over over_tcp ledger (keys ∷ []) = tt
+serves_over over_tcp ledger (keys ∷ program ∷ more) = either (list_any is_option (keys ∷ program ∷ more)) None _ tt tt
+
+serves_tcp : (file : List ℕ) (words : List (List ℕ)) → CanBeDriven (tcp_or file words)
+serves_tcp file [] = tt
+serves_tcp file (word ∷ words) = either (bytes_eq word (codes "--tcp")) (serving_over true (Some file) words) _ (serves_over true (Some file) words) (serves_over false (Some file) (word ∷ words))
+
+serves_on : (over_tcp : Bool) (words : List (List ℕ)) → CanBeDriven (on_ledger over_tcp words)
+serves_on over_tcp [] = tt
+serves_on over_tcp (file ∷ words) =
+    either (is_option file) None _ tt
+    (either over_tcp (serving_over true (Some file) words) (tcp_or file words) (serves_over true (Some file) words) (serves_tcp file words))
+
+serves_or : (over_tcp : Bool) (words : List (List ℕ)) → CanBeDriven (ledger_or over_tcp words)
+serves_or over_tcp [] = tt
+serves_or over_tcp (word ∷ words) = either (bytes_eq word (codes "--ledger")) (on_ledger over_tcp words) _ (serves_on over_tcp words) (serves_over over_tcp None (word ∷ words))
+
+serves : (words : List (List ℕ)) → CanBeDriven (serving words)
+serves [] = tt
+serves (word ∷ words) = either (bytes_eq word (codes "--tcp")) (ledger_or true words) _ (serves_or true words) (serves_or false (word ∷ words))
+
+plainly : (words : List (List ℕ)) → CanBeDriven (plain words)
+plainly [] = tt
+plainly (name ∷ words) =
     either (list_any is_option (name ∷ words)) None (named name words) tt
     (either (bytes_eq name (codes "run")) (running words) _ (runs words)
     (either (bytes_eq name (codes "drive")) (driving words) _ (drives words)
     (either (bytes_eq name (codes "keep")) (keeping words) _ (keeps words)
     (either (bytes_eq name (codes "stream")) (streaming words) (few name words) (streams words) (others name words)))))
+
+-- whatever the words
+pub can_be_driven : (words : List (List ℕ)) → CanBeDriven (command_of words)
+can_be_driven [] = tt
+can_be_driven (name ∷ words) = either (bytes_eq name (codes "serve")) (serving words) _ (serves words) (plainly (name ∷ words))

@@ -1,5 +1,5 @@
 -- What the words of the command line ask for.
-use Rattle.std.specs.Prelude.{ℕ, ◌==◌, ◌≤◌, Bool, if◌then◌else◌, List, [], ◌∷◌, codes, slice_index, Option, Some, None, option_map, option_and_then, bytes_eq, ⊤}
+use Rattle.std.specs.Prelude.{ℕ, ◌==◌, ◌≤◌, Bool, true, false, if◌then◌else◌, List, [], ◌∷◌, codes, slice_index, Option, Some, None, option_map, option_and_then, bytes_eq, ⊤}
 use Rattle.std.specs.List.{list_any}
 use Rattle.sg_base.specs.Words.{number, from_one}
 use Rattle.sg_model.specs.Limits.{most_deliveries, most_driven, most_seed}
@@ -18,6 +18,7 @@ pub data Command : Type 0 where
   Compose : (file : List ℕ) → Command
   Suggest : (file : List ℕ) → Command
   Claims : (graph claims : List ℕ) → Command
+  Serve : (over_tcp : Bool) → (ledger : Option (List ℕ)) → (keys : List ℕ) → (programs : List (List ℕ)) → Command
 
 -- the word begins with -
 abbrev pub is_option : List ℕ → Bool
@@ -85,6 +86,39 @@ streaming (keys ∷ script ∷ []) = None
 streaming (keys ∷ script ∷ n ∷ []) = None
 streaming (keys ∷ script ∷ n ∷ program ∷ more) = option_map (λ d. Stream keys script d (program ∷ more)) (number most_deliveries n)
 
+-- ---- serve
+
+-- KEYS PROGRAM.., at least one program, none of which begins with -
+abbrev pub serving_over : (over_tcp : Bool) → (ledger : Option (List ℕ)) → List (List ℕ) → Option Command
+serving_over over_tcp ledger [] = None
+serving_over over_tcp ledger (keys ∷ []) = None
+serving_over over_tcp ledger (keys ∷ program ∷ more) = if list_any is_option (keys ∷ program ∷ more) then None else Some (Serve over_tcp ledger keys (program ∷ more))
+
+-- these on this ledger, or --tcp and these
+abbrev pub tcp_or : (file : List ℕ) → List (List ℕ) → Option Command
+tcp_or file [] = None
+tcp_or file (word ∷ words) = if bytes_eq word (codes "--tcp") then serving_over true (Some file) words else serving_over false (Some file) (word ∷ words)
+
+-- FILE and these, where --tcp may stand before these if it did not stand before --ledger
+abbrev pub on_ledger : (over_tcp : Bool) → List (List ℕ) → Option Command
+on_ledger over_tcp [] = None
+on_ledger over_tcp (file ∷ words) =
+    if is_option file then None
+    else if over_tcp then serving_over true (Some file) words
+    else tcp_or file words
+
+-- these, or --ledger FILE and these
+abbrev pub ledger_or : (over_tcp : Bool) → List (List ℕ) → Option Command
+ledger_or over_tcp [] = None
+ledger_or over_tcp (word ∷ words) = if bytes_eq word (codes "--ledger") then on_ledger over_tcp words else serving_over over_tcp None (word ∷ words)
+
+-- these behind --tcp and --ledger FILE, each of which may be missing, in either order
+abbrev pub serving : List (List ℕ) → Option Command
+serving [] = None
+serving (word ∷ words) = if bytes_eq word (codes "--tcp") then ledger_or true words else ledger_or false (word ∷ words)
+
+-- ---- a command line
+
 -- the command of this name, with these words after it
 abbrev pub named : (name : List ℕ) → List (List ℕ) → Option Command
 named name words =
@@ -94,10 +128,15 @@ named name words =
     else if bytes_eq name (codes "stream") then streaming words
     else few name words
 
--- the command, where the words are in the table and none begins with -
+-- the command of words of which none begins with -
+abbrev pub plain : List (List ℕ) → Option Command
+plain [] = None
+plain (name ∷ words) = if list_any is_option (name ∷ words) then None else named name words
+
+-- the command, where the words are in the table. No word but the options of serve begins with -
 abbrev pub command_of : List (List ℕ) → Option Command
 command_of [] = None
-command_of (name ∷ words) = if list_any is_option (name ∷ words) then None else named name words
+command_of (name ∷ words) = if bytes_eq name (codes "serve") then serving words else plain (name ∷ words)
 
 -- where sessions are driven, there are 1 to 2,000 of them
 abbrev pub CanBeDriven : Option Command → Type 0

@@ -1,8 +1,8 @@
 -- What the program holds, as the values of the definitions.
-use Rattle.std.specs.Prelude.{map}
+use Rattle.std.specs.Prelude.{map, option_map}
 use Rattle.sg_words.specs.Command as Asked
 use Rattle.sg_words.specs.declared.command.Command.{Command}
-use Rattle.sg_words.specs.declared.command.Command.TheVariants.{Check, Compile, Run, Replay, Drive, Ledger, Keep, Stream, Audit, Compose, Suggest, Claims}
+use Rattle.sg_words.specs.declared.command.Command.TheVariants.{Check, Compile, Run, Replay, Drive, Ledger, Keep, Stream, Audit, Compose, Suggest, Claims, Serve}
 
 -- the command that is held
 abbrev pub command_held : Command → Asked.Command
@@ -18,3 +18,4 @@ command_held (Audit file) = Asked.Audit file.now
 command_held (Compose file) = Asked.Compose file.now
 command_held (Suggest file) = Asked.Suggest file.now
 command_held (Claims graph claims) = Asked.Claims graph.now claims.now
+command_held (Serve over_tcp ledger keys programs) = Asked.Serve over_tcp (option_map (λ s. s.now) ledger) keys.now (map (λ s. s.now) programs.now)

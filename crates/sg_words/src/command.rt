@@ -3,7 +3,7 @@ ghost use Rattle.std.specs.Prelude.{◌≡◌, map, option_map};
 ghost use Rattle.std.specs.List.{list_any};
 ghost use Rattle.sg_base.specs.Words.{number};
 ghost use Rattle.sg_model.specs.Limits.{most_deliveries};
-ghost use Rattle.sg_words.specs.Command.{command_of, driving, few, is_option, keeping, named, on_file, on_two, running, sessions_of, streaming};
+ghost use Rattle.sg_words.specs.Command.{command_of, driving, few, is_option, keeping, ledger_or, named, on_file, on_ledger, on_two, plain, running, serving, serving_over, sessions_of, streaming, tcp_or};
 ghost use Rattle.sg_words.specs.Model.{command_held};
 
 use sg_base::read_number;
@@ -99,17 +99,121 @@ pub enum Command<'w> {
         /// The file of the claims.
         claims: &'w str,
     },
+    /// Runs one principal for an application.
+    Serve {
+        /// Over connections, in place of datagrams.
+        over_tcp: bool,
+        /// The file of the ledger in which its joins are kept, if they are.
+        ledger: Option<&'w str>,
+        /// The key file.
+        keys: &'w str,
+        /// The files of the programs, at least one.
+        programs: &'w [&'w str],
+    },
 }
 
 /// The command, or `None` where the words are not in the table of commands. It takes no memory.
 pub fn read_command<'w>(words: &'w [&'w str]) -> Option<Command<'w>>
     ensures { option_map command_held result ≡ command_of (map (λ s. s.now) words.now) }
 {
+    match words {
+        [name, rest @ ..] => match *name {
+            "serve" => serving(rest),
+            _ => plain(words),
+        },
+        _ => None,
+    }
+}
+
+// The command of words of which none begins with `-`.
+fn plain<'w>(words: &'w [&'w str]) -> Option<Command<'w>>
+    ensures { option_map command_held result ≡ plain (map (λ s. s.now) words.now) }
+{
     if has_option(words) {
         return None;
     }
     match words {
         [name, rest @ ..] => named(name, rest),
+        _ => None,
+    }
+}
+
+// The command that runs one principal for an application.
+fn serving<'w>(words: &'w [&'w str]) -> Option<Command<'w>>
+    ensures { option_map command_held result ≡ serving (map (λ s. s.now) words.now) }
+{
+    match words {
+        [word, rest @ ..] => match *word {
+            "--tcp" => ledger_or(true, rest),
+            _ => ledger_or(false, words),
+        },
+        _ => None,
+    }
+}
+
+// So over connections or not, where `--ledger` and its file may come first.
+fn ledger_or<'w>(over_tcp: bool, words: &'w [&'w str]) -> Option<Command<'w>>
+    ensures { option_map command_held result ≡ ledger_or over_tcp (map (λ s. s.now) words.now) }
+{
+    match words {
+        [word, rest @ ..] => match *word {
+            "--ledger" => on_ledger(over_tcp, rest),
+            _ => serving_over(over_tcp, None, words),
+        },
+        _ => None,
+    }
+}
+
+// So on the ledger of the first word, behind which `--tcp` may stand.
+fn on_ledger<'w>(over_tcp: bool, words: &'w [&'w str]) -> Option<Command<'w>>
+    ensures { option_map command_held result ≡ on_ledger over_tcp (map (λ s. s.now) words.now) }
+{
+    match words {
+        [file, rest @ ..] => {
+            if begins_with_dash(file) {
+                return None;
+            }
+            if over_tcp {
+                serving_over(true, Some(file), rest)
+            } else {
+                tcp_or(file, rest)
+            }
+        }
+        _ => None,
+    }
+}
+
+// So on this ledger, where `--tcp` may come first.
+fn tcp_or<'w>(file: &'w str, words: &'w [&'w str]) -> Option<Command<'w>>
+    ensures { option_map command_held result ≡ tcp_or file.now (map (λ s. s.now) words.now) }
+{
+    match words {
+        [word, rest @ ..] => match *word {
+            "--tcp" => serving_over(true, Some(file), rest),
+            _ => serving_over(false, Some(file), words),
+        },
+        _ => None,
+    }
+}
+
+// So with its keys and programs.
+fn serving_over<'w>(
+    over_tcp: bool,
+    ledger: Option<&'w str>,
+    words: &'w [&'w str],
+) -> Option<Command<'w>>
+    ensures { option_map command_held result ≡ serving_over over_tcp (option_map (λ s. s.now) ledger.entry) (map (λ s. s.now) words.now) }
+{
+    if has_option(words) {
+        return None;
+    }
+    match words {
+        [keys, programs @ ..] if programs.len() > 0 => Some(Command::Serve {
+            over_tcp,
+            ledger,
+            keys,
+            programs,
+        }),
         _ => None,
     }
 }

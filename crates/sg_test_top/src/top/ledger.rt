@@ -14,7 +14,7 @@ const JOINED: &str = "1 a refused joined\n";
 const FAILED: &str = "disk failed\n";
 
 // An empty disk with room for a ledger, of which each call after the first `stop` fails, if that is given.
-fn disk(alloc: Global, rt: &impl Abort, stop: Option<u32>) -> MemDisk {
+pub(super) fn disk(alloc: Global, rt: &impl Abort, stop: Option<u32>) -> MemDisk {
     let disk = MemDisk::new(alloc, 2_300_000, 60, Vec::new(alloc), stop);
     disk.expect(rt, "a disk")
 }
@@ -54,7 +54,7 @@ fn ends_on(
 }
 
 // The ledger is made.
-fn makes(alloc: Global, rt: &impl Abort, disk: &mut MemDisk) {
+pub(super) fn makes(alloc: Global, rt: &impl Abort, disk: &mut MemDisk) {
     ends_on(alloc, rt, "ledger book", disk, WHOLE, 0, MADE, "", 0);
 }
 

@@ -2,12 +2,13 @@
 use super::{
     KEYS, LINES, REQUEST, REQUESTER, START, WHOLE, files_of, is_request, only, run_over, text,
 };
-use sg_base::{Fresh, Link, MemFresh, MemLink};
+use sg_base::{Fresh, Link, MemFresh, Seq};
 use sg_frame::{Frame, decode};
+use sg_wait::{Coming, MemTimedLink};
 use std::alloc::Global;
 use std::process::Abort;
 
-const KEYS_OF_B: &str = "me = \"b\"\n\
+pub(super) const KEYS_OF_B: &str = "me = \"b\"\n\
     listen = \"127.0.0.1:4002\"\n\
     [[peer]]\n\
     name = \"a\"\n\
@@ -16,7 +17,7 @@ const KEYS_OF_B: &str = "me = \"b\"\n\
 
 const REPLY: &str = "[[choice]]\ngraph = \"pair\"\nnode = \"n1\"\nlabel = \"Reply\"\n";
 
-const REPLIER: &str = "sg-program 1\n\
+pub(super) const REPLIER: &str = "sg-program 1\n\
     role b\n\
     graph pair;\n\
     role a;\n\
@@ -40,17 +41,17 @@ const A_IS_ANSWERED: &str =
     "1 a s1 started as a\n2 a s1 sent Request time 1 to b as f1\n3 a s1 received Reply time 2\n";
 
 // A link to which the same bytes come so many times.
-fn link_with(alloc: Global, rt: &impl Abort, bytes: &[u8], times: u32) -> MemLink {
+fn link_with(alloc: Global, rt: &impl Abort, bytes: &[u8], times: u32) -> MemTimedLink {
     let mut to_come = Vec::new(alloc);
     for _ in 0..times {
         let copy = Vec::from_slice(alloc, bytes).expect(rt, "a copy");
-        assert!(rt; to_come.push(copy).is_ok());
+        assert!(rt; to_come.push(Coming::Delivery(Seq::from_vec(copy))).is_ok());
     }
-    MemLink::new(alloc, to_come, 8, only(alloc, rt, 0)).expect(rt, "a link")
+    MemTimedLink::new(alloc, to_come, 8, 60_000, only(alloc, rt, 0)).expect(rt, "a link")
 }
 
 // The principal a, who starts a session and requests, writes this, as it takes deliveries from a link.
-fn a_plays(alloc: Global, rt: &impl Abort, line: &str, link: &mut MemLink, out: &str) {
+fn a_plays(alloc: Global, rt: &impl Abort, line: &str, link: &mut MemTimedLink, out: &str) {
     let script = text(alloc, rt, &[START, REQUEST, "times = 1\n"]);
     let program = text(alloc, rt, &[REQUESTER]);
     let files = files_of(alloc, rt, KEYS, script, program, 0);
@@ -59,7 +60,7 @@ fn a_plays(alloc: Global, rt: &impl Abort, line: &str, link: &mut MemLink, out: 
 }
 
 // The principal b, who replies, writes this.
-fn b_plays(alloc: Global, rt: &impl Abort, line: &str, link: &mut MemLink, out: &str) {
+fn b_plays(alloc: Global, rt: &impl Abort, line: &str, link: &mut MemTimedLink, out: &str) {
     let script = text(alloc, rt, &[REPLY]);
     let program = text(alloc, rt, &[REPLIER]);
     let files = files_of(alloc, rt, KEYS_OF_B, script, program, 0);
@@ -68,7 +69,7 @@ fn b_plays(alloc: Global, rt: &impl Abort, line: &str, link: &mut MemLink, out: 
 }
 
 // The bytes of the only frame that was sent, which went to this port.
-fn only_frame<'a>(rt: &impl Abort, link: &'a MemLink, port: u16) -> &'a [u8] {
+fn only_frame<'a>(rt: &impl Abort, link: &'a MemTimedLink, port: u16) -> &'a [u8] {
     let frames = link.frames();
     assert!(rt; frames.len() == 1);
     assert!(rt; frames[0].0.ip == [127, 0, 0, 1]);
@@ -91,7 +92,7 @@ fn has_nonce(frame: &Frame, nonce: [u8; 16]) -> bool {
 }
 
 // Whether these bytes come from a link.
-fn comes(alloc: Global, link: &mut MemLink, bytes: &[u8]) -> bool {
+fn comes(alloc: Global, link: &mut MemTimedLink, bytes: &[u8]) -> bool {
     match link.recv(alloc) {
         Ok(Some(came)) => came.as_slice() == bytes,
         _ => false,

@@ -1,7 +1,7 @@
 use Rattle.std.proofs.Common.{◌∙◌, Err, ap}
 use Rattle.sg_ledger.specs.declared.ledger.OpenFault.{OpenFault}
 use Rattle.sg_top.proofs.InOrder.{rises}
-use Rattle.sg_top.proofs.keep.open_ledger.Goals as goal
+use Rattle.sg_top.proofs.joins.open_ledger.Goals as goal
 
 pub returns-in-Err-clause-left : goal.returns-in-Err-clause-left
 returns-in-Err-clause-left g c = (c.open.ensures.kept, c.open.ensures.images)

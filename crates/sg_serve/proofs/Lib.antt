@@ -1,0 +1,16 @@
+pub mod Results
+pub mod Appending
+pub mod Rising
+pub mod Saying
+pub mod Giving
+pub mod Counting
+pub mod Asking
+pub mod Telling
+pub mod Replying
+pub mod Answering
+pub mod Lining
+pub mod Running
+pub mod Requests
+pub mod Pasts
+pub mod Calling
+pub mod Ending

@@ -1,0 +1,115 @@
+-- The values of an act that was read are a name and a value each.
+use Rattle.std.proofs.Common.{◌≡◌, ℕ, Bool, true, false, ◌&&◌, ◌==◌, if◌then◌else◌, List, [], ◌∷◌, length, Option, Some, None, option_map, option_and_then, bytes_eq, codes, refl, sym, ap, ◌∙◌, subst}
+use Rattle.std.specs.List.{list_all}
+use Rattle.sg_base.specs.Words.{name}
+use Rattle.sg_model.specs.Names.{Name, is_name}
+use Rattle.sg_sched.specs.Format.CraftReading.{cast}
+use Rattle.sg_sched.specs.Format.Forms.{is_given}
+use Rattle.sg_sched.specs.Format.Reading.{Left, after, ended, given, given_of, givens, split_at, word}
+use Rattle.sg_sched.specs.Format.Said.{Given, Word}
+use Rattle.sg_sched.specs.Format.Values.{is_value}
+use Rattle.sg_sched.specs.Text.{words}
+use Rattle.sg_request.specs.Request.{act_form, content, form, milliseconds, quit_form, receive_form, request_of, session, session_form, short_form, start_form, version}
+use Rattle.sg_request.specs.declared.request.Request.{Request}
+use Rattle.sg_request.specs.declared.request.Request.TheVariants.{Start, Act, Abandon, Receive, Again, Turn, Id, Quit}
+use Rattle.sg_serve.specs.Requests.{AreGiven}
+
+-- ---- a value
+
+given_if : (b : Bool) (w v : Given) → is_given w ≡ b → (if b then Some w else None) ≡ Some v → is_given v ≡ true
+given_if true w v t e = subst (λ (x : Given). is_given x ≡ true) (let z : w ≡ v = (cc) in z) t
+given_if false w v t e = absurd (cc)
+
+given_pair : (o : Option (Word × Word)) (v : Given) → option_and_then given_of o ≡ Some v → is_given v ≡ true
+given_pair None v e = absurd (cc)
+given_pair (Some p) v e = given_if (is_name p.0 && is_value p.1) (record { variable = p.0; value = p.1 }) v refl e
+
+given_ok : (w : Word) (v : Given) → given w ≡ Some v → is_given v ≡ true
+unfolding given
+given_ok w v e = given_pair (split_at 61 w) v e
+
+both : (a b : Bool) → a ≡ true → b ≡ true → (a && b) ≡ true
+both true b e f = f
+both false b e f = absurd (cc)
+
+-- one value more
+given_more : (v : Given) (o : Option (List Given)) (vs : List Given) → is_given v ≡ true → ((us : List Given) → o ≡ Some us → list_all is_given us ≡ true) → option_map (λ (us : List Given). v ∷ us) o ≡ Some vs → list_all is_given vs ≡ true
+given_more v None vs t h e = absurd (cc)
+given_more v (Some us) vs t h e = subst (λ (xs : List Given). list_all is_given xs ≡ true) (let z : v ∷ us ≡ vs = (cc) in z) (both (is_given v) (list_all is_given us) t (h us refl))
+
+givens_on : (o : Option Given) (later : Option (List Given)) (vs : List Given) → ((v : Given) → o ≡ Some v → is_given v ≡ true) → ((us : List Given) → later ≡ Some us → list_all is_given us ≡ true)
+    → option_and_then (λ (v : Given). option_map (λ (us : List Given). v ∷ us) later) o ≡ Some vs → list_all is_given vs ≡ true
+givens_on None later vs one more e = absurd (cc)
+givens_on (Some v) later vs one more e = given_more v later vs (one v refl) more e
+
+givens_ok : (ws : Left) (vs : List Given) → givens ws ≡ Some vs → list_all is_given vs ≡ true
+givens_ok [] vs e = subst (λ (xs : List Given). list_all is_given xs ≡ true) (let z : [] ≡ vs = (cc) in z) refl
+givens_ok (w ∷ ws) vs e = givens_on (given w) (givens ws) vs (given_ok w) (givens_ok ws) e
+
+-- ---- forms
+
+and_then : {A : Type 0} (f : A → Option Request) (o : Option A) (q : Request) → ((a : A) → f a ≡ Some q → AreGiven q) → option_and_then f o ≡ Some q → AreGiven q
+and_then f None q h e = absurd (cc)
+and_then f (Some a) q h e = h a e
+
+mapped : {A : Type 0} (f : A → Request) (o : Option A) (q : Request) → ((a : A) → o ≡ Some a → AreGiven (f a)) → option_map f o ≡ Some q → AreGiven q
+mapped f None q h e = absurd (cc)
+mapped f (Some a) q h e = subst AreGiven (let z : f a ≡ q = (cc) in z) (h a refl)
+
+chosen : (b : Bool) (x y : Option Request) (q : Request) → (x ≡ Some q → AreGiven q) → (y ≡ Some q → AreGiven q) → (if b then x else y) ≡ Some q → AreGiven q
+chosen true x y q f g e = f e
+chosen false x y q f g e = g e
+
+nothing : (q : Request) → None ≡ Some q → AreGiven q
+nothing q e = absurd (cc)
+
+exactly : (x q : Request) → AreGiven x → Some x ≡ Some q → AreGiven q
+exactly x q h e = subst AreGiven (let z : x ≡ q = (cc) in z) h
+
+ends : (x : Request) (ws : Left) (q : Request) → AreGiven x → ended (Some x) ws ≡ Some q → AreGiven q
+ends x ws q h e = chosen (length ws == 0) (Some x) None q (exactly x q h) (nothing q) e
+
+start_given : (ws : Left) (q : Request) → start_form ws ≡ Some q → AreGiven q
+unfolding start_form
+start_given ws q e =
+    and_then _ (word name ws) q
+    (λ graph. and_then _ (word version graph.1) q
+    (λ v. and_then _ (word cast v.1) q
+    (λ names. ends (Start graph.0 v.0 names.0) names.1 q tt)))
+    e
+
+act_given : (ws : Left) (q : Request) → act_form ws ≡ Some q → AreGiven q
+unfolding act_form
+act_given ws q e =
+    and_then _ (word session ws) q
+    (λ n. and_then _ (word name n.1) q
+    (λ label. mapped (Act n.0 label.0) (givens label.1) q (givens_ok label.1)))
+    e
+
+receive_given : (ws : Left) (q : Request) → receive_form ws ≡ Some q → AreGiven q
+unfolding receive_form
+receive_given [] q e = exactly (Receive None) q tt e
+receive_given (w ∷ ws) q e = and_then _ (word milliseconds (w ∷ ws)) q (λ ms. ends (Receive (Some ms.0)) ms.1 q tt) e
+
+quit_given : (ws : Left) (q : Request) → quit_form ws ≡ Some q → AreGiven q
+unfolding quit_form
+quit_given ws q e = ends Quit ws q tt e
+
+short_given : (w : Word) (ws : Left) (q : Request) → short_form w ws ≡ Some q → AreGiven q
+unfolding short_form
+short_given w ws q e =
+    chosen (bytes_eq w (codes "recv")) _ _ q (receive_given ws q)
+    (chosen (bytes_eq w (codes "turn")) _ _ q (mapped Turn (session_form ws) q (λ n is. tt))
+    (chosen (bytes_eq w (codes "abandon")) _ _ q (mapped Abandon (session_form ws) q (λ n is. tt))
+    (chosen (bytes_eq w (codes "again")) _ _ q (mapped Again (session_form ws) q (λ n is. tt))
+    (chosen (bytes_eq w (codes "id")) _ _ q (mapped Id (session_form ws) q (λ n is. tt))
+    (chosen (bytes_eq w (codes "quit")) _ _ q (quit_given ws q) (nothing q))))))
+    e
+
+form_given : (ws : Left) (q : Request) → form ws ≡ Some q → AreGiven q
+unfolding form
+form_given [] q e = nothing q e
+form_given (w ∷ ws) q e = chosen (bytes_eq w (codes "start")) _ _ q (start_given ws q) (chosen (bytes_eq w (codes "act")) _ _ q (act_given ws q) (short_given w ws q)) e
+
+pub given_read : (line : List ℕ) (q : Request) → request_of line ≡ Some q → AreGiven q
+given_read line q e = form_given (words (content line)) q e

@@ -1,0 +1,13 @@
+use Rattle.sg_serve.proofs.reply.Reply.give.Goals as goal
+
+pub returns-clause-given : goal.returns-clause-given
+returns-clause-given g c = record {
+  took = c.send-took.result;
+  quiet = c.send-took.ensures.quiet;
+  falls = c.send-took.ensures.falls;
+  risen = c.send-took.ensures.risen;
+  coming = c.send-took.ensures.coming;
+  frames = c.send-took.ensures.frames;
+  whole = c.write.ensures.whole;
+  front = c.write.ensures.front;
+}

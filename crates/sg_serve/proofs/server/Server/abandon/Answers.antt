@@ -1,0 +1,10 @@
+use Rattle.std.proofs.Common.{◌∙◌, sym}
+use Rattle.std.specs.Option.{option_copied}
+use Rattle.sg_report.specs.Outcome.{outcome_of}
+use Rattle.sg_serve.proofs.Calling.{abandoned}
+use Rattle.sg_serve.proofs.server.Server.abandon.Goals as goal
+
+pub returns-clause-replied : goal.returns-clause-replied
+returns-clause-replied c =
+    let asked = c.ask_abandon-outcome in
+    abandoned c.args.self.now c.tell.new.self asked.new.self c.args.number c.in-Some.sid (outcome_of asked.result.0) (option_copied asked.result.1) c.tell.result (λ p h. sym c.in-Some.is ∙ c.sid.ensures p h) asked.ensures.asked c.tell.ensures.replied

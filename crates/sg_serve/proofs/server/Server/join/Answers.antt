@@ -1,0 +1,25 @@
+use Rattle.std.proofs.Common.{None}
+use Rattle.std.specs.Option.{option_copied}
+use Rattle.sg_play.specs.Steps.{Step}
+use Rattle.sg_report.specs.Outcome.{outcome_of}
+use Rattle.sg_serve.specs.Served.{images_if}
+use Rattle.sg_serve.specs.Serving.{calls}
+use Rattle.sg_serve.specs.Standing.{HasReplied}
+use Rattle.sg_serve.proofs.Replying.{called_with, join_kept, join_unkept, replied_so}
+use Rattle.sg_serve.proofs.Results.{applied}
+use Rattle.sg_serve.proofs.server.Server.join.Goals as goal
+
+pub returns-in-Ok-clause-replied : goal.returns-in-Ok-clause-replied
+returns-in-Ok-clause-replied g c = λ s k called has leaves.
+    let sv = c.args.self.now in
+    let m = c.keep_join.new.self in
+    let leaves_now = g.D.Disk.may_leave c.keep_join.new.disk in
+    let told = outcome_of c.args.outcome.now in
+    let graph = option_copied c.args.graph in
+    replied_so _ s c.tell.new.self (calls s k) c.tell.result
+    (applied c.tell.result _ (λ (step : Step). HasReplied c.tell.new.self step (calls s k)) (λ step h. h s k (called_with sv leaves_now s k told graph None called m c.keep_join.ensures.rest) leaves) c.tell.ensures.replied)
+    (join_kept sv leaves_now s k told graph None called m c.keep_join.ensures.rest c.keep_join.ensures.same c.in-Ok.ensures.holds)
+
+pub returns-in-Err-clause-replied : goal.returns-in-Err-clause-replied
+returns-in-Err-clause-replied g c = λ s k called has leaves.
+    join_unkept c.args.self.now (g.D.Disk.may_leave c.keep_join.new.disk) s k (outcome_of c.args.outcome.now) (option_copied c.args.graph) None called has c.in-Err.ensures.images

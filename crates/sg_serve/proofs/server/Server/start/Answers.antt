@@ -1,0 +1,51 @@
+use Rattle.std.proofs.Common.{find, refl, ap, ◌∙◌}
+use Rattle.std.specs.Prelude.{is_some, not}
+use Rattle.std.specs.Option.{option_copied}
+use Rattle.sg_answers.specs.Answers.{wrong_text}
+use Rattle.sg_answers.specs.declared.line.Wrong.TheVariants.{Unknown}
+use Rattle.sg_play.specs.Played.{cast_of_start}
+use Rattle.sg_program.specs.Together.{is_named}
+use Rattle.sg_protocol.specs.Calls.{Start}
+use Rattle.sg_report.specs.Outcome.{outcome_of}
+use Rattle.sg_script.specs.Script.{Start as ScriptStart}
+use Rattle.sg_serve.specs.Served.{images_if}
+use Rattle.sg_serve.specs.Serving.{calls, less, starts}
+use Rattle.sg_serve.proofs.Asking.{asked_node, has_called, holds_all, ledger_has}
+use Rattle.sg_serve.proofs.Calling.{less_stands, no_start, starts_is}
+use Rattle.sg_serve.proofs.Replying.{none_called, replied_as, replied_so, said_as}
+use Rattle.sg_serve.proofs.server.Server.start.Goals as goal
+
+pub returns-then-is_none-clause-replied : goal.returns-then-is_none-clause-replied
+returns-then-is_none-clause-replied g c = λ s st w.
+    let sv = c.args.self.now in
+    let leaves = g.D.Disk.may_leave c.args.disk.now in
+    let images = images_if (is_some sv.ledger) leaves in
+    let reply = starts s c.args.start_of.now in
+    replied_so images s sv reply c.say_wrong.result (said_as sv s (wrong_text Unknown) reply c.say_wrong.result st (no_start s c.args.start_of.now sv.programs.now c.by_name.result (c.by_name.ensures ∙ ap (λ (x : ScriptStart). find (is_named x.graph) sv.programs.now) c.start_of.view_is) (c.is_none.ensures ∙ ap not c.if-is_none.true) st.programs) c.say_wrong.ensures.text)
+    (none_called images s reply (holds_all sv sv leaves s refl c.requires.holds st))
+
+pub join-requires : goal.join-requires
+join-requires g c =
+    let sv = c.args.self.now in
+    record {
+      asked = asked_node sv c.ask_start.new.self (g.D.Disk.may_leave c.args.disk.now) (Start (cast_of_start sv.player.programs.now c.args.start_of.now c.next-nonce.result)) (outcome_of c.in-Ok.outcome) (option_copied c.in-Ok.graph) c.requires.holds
+          (c.in-Ok.ensures.comes 0 c.requires.holds.past c.requires.holds.stands);
+    }
+
+pub returns-in-Ok-clause-replied : goal.returns-in-Ok-clause-replied
+returns-in-Ok-clause-replied g c = λ s st w.
+    let sv = c.args.self.now in
+    let images = images_if (is_some sv.ledger) (g.D.Disk.may_leave c.join.new.disk) in
+    let start = c.args.start_of.now in
+    let k = Start (cast_of_start sv.player.programs.now start c.next-nonce.result) in
+    let lst = less_stands sv 1 s st in
+    let called = has_called sv c.ask_start.new.self (less 1 s) k (outcome_of c.in-Ok.outcome) (option_copied c.in-Ok.graph) lst c.in-Ok.ensures.rest (λ number. c.in-Ok.ensures.comes number s.play.past st.player.node) in
+    replied_as images (less 1 s) s c.join.new.self (calls (less 1 s) k) (starts s start) c.join.result refl
+    (starts_is s start sv.programs.now sv.player.programs.now c.next-nonce.result c.by_name.result (c.by_name.ensures ∙ ap (λ (x : ScriptStart). find (is_named x.graph) sv.programs.now) c.start_of.view_is) (c.is_none.ensures ∙ ap not c.if-is_none.false) st.programs st.player.programs (c.next-nonce.ensures.word s.play.words w))
+    (c.join.ensures.replied (less 1 s) k called (ledger_has sv (g.D.Disk.may_leave c.args.disk.now) (less 1 s) c.requires.holds lst) refl)
+
+pub returns-in-Err-clause-replied : goal.returns-in-Err-clause-replied
+returns-in-Err-clause-replied g c = λ s st w.
+    let sv = c.args.self.now in
+    let leaves = g.D.Disk.may_leave c.args.disk.now in
+    none_called (images_if (is_some sv.ledger) leaves) s (starts s c.args.start_of.now) (holds_all sv sv leaves s refl c.requires.holds st)

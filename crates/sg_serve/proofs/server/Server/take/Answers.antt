@@ -1,0 +1,41 @@
+use Rattle.std.proofs.Common.{refl, sym, ap, ◌∙◌}
+use Rattle.std.specs.Prelude.{is_some, option_map}
+use Rattle.std.specs.Option.{option_copied}
+use Rattle.sg_answers.specs.Answers.{quiet_text}
+use Rattle.sg_protocol.specs.Calls.{Deliver}
+use Rattle.sg_report.specs.Outcome.{outcome_of}
+use Rattle.sg_serve.specs.Served.{images_if}
+use Rattle.sg_serve.specs.Serving.{calls, takes}
+use Rattle.sg_serve.proofs.Asking.{asked_node, has_called, holds_all, ledger_has}
+use Rattle.sg_serve.proofs.Replying.{none_called, replied_as, replied_so, said_as}
+use Rattle.sg_serve.proofs.server.Server.take.Goals as goal
+
+pub returns-in_default-clause-replied : goal.returns-in_default-clause-replied
+returns-in_default-clause-replied g c = λ s st.
+    let sv = c.args.self.now in
+    let leaves = g.D.Disk.may_leave c.args.disk.now in
+    let images = images_if (is_some sv.ledger) leaves in
+    let reply = takes s (option_map (λ bytes. bytes.items) c.args.found) in
+    replied_so images s sv reply c.say_quiet.result (said_as sv s quiet_text reply c.say_quiet.result st (ap (λ f. takes s (option_map (λ bytes. bytes.items) f)) (sym c.in_default.is)) c.say_quiet.ensures.text)
+    (none_called images s reply (holds_all sv sv leaves s refl c.requires.holds st))
+
+pub join-requires : goal.join-requires
+join-requires g c =
+    let sv = c.args.self.now in
+    record { asked = asked_node sv c.ask_deliver.new.self (g.D.Disk.may_leave c.args.disk.now) (Deliver c.as_slice.result.now) (outcome_of c.in-Ok.outcome) (option_copied c.in-Ok.graph) c.requires.holds (c.in-Ok.ensures.comes 0 c.requires.holds.past c.requires.holds.stands) }
+
+pub returns-in-Ok-clause-replied : goal.returns-in-Ok-clause-replied
+returns-in-Ok-clause-replied g c = λ s st.
+    let sv = c.args.self.now in
+    let images = images_if (is_some sv.ledger) (g.D.Disk.may_leave c.join.new.disk) in
+    let k = Deliver c.as_slice.result.now in
+    let called = has_called sv c.ask_deliver.new.self s k (outcome_of c.in-Ok.outcome) (option_copied c.in-Ok.graph) st c.in-Ok.ensures.rest (λ number. c.in-Ok.ensures.comes number s.play.past st.player.node) in
+    replied_as images s s c.join.new.self (calls s k) (takes s (option_map (λ bytes. bytes.items) c.args.found)) c.join.result refl
+    (ap (λ bytes. calls s (Deliver bytes)) c.as_slice.ensures.value ∙ ap (λ f. takes s (option_map (λ bytes. bytes.items) f)) (sym c.in-Some.is))
+    (c.join.ensures.replied s k called (ledger_has sv (g.D.Disk.may_leave c.args.disk.now) s c.requires.holds st) refl)
+
+pub returns-clause-replied : goal.returns-clause-replied
+returns-clause-replied g c = λ s st.
+    let sv = c.args.self.now in
+    let leaves = g.D.Disk.may_leave c.args.disk.now in
+    none_called (images_if (is_some sv.ledger) leaves) s (takes s (option_map (λ bytes. bytes.items) c.args.found)) (holds_all sv sv leaves s refl c.requires.holds st)

@@ -1,0 +1,19 @@
+-- The counts of faults of what a run acts on.
+use Rattle.std.specs.Prelude.{◌≡◌, ◌≤◌, ℕ, Result, Err}
+use Rattle.sg_base.specs.Outside.{HasRisen}
+use Rattle.sg_serve.specs.declared.fault.ServeFault.{ServeFault}
+use Rattle.sg_serve.specs.declared.fault.ServeFault.TheVariants.{InputFailed, WriteFailed, DiskFailed}
+
+-- how often calls of the link, of the sink and of the disk failed
+pub record Counts : Type 0 where
+  pub link : ℕ
+  pub out : ℕ
+  pub disk : ℕ
+
+-- no count falls, and a fault of the sink or of the disk is answered only where its count rose
+pub record TellsFaults {A : Type 0} (old new : Counts) (result : Result A ServeFault) : Type 0 where
+  pub link_falls : old.link ≤ new.link
+  pub out_falls : old.out ≤ new.out
+  pub disk_falls : old.disk ≤ new.disk
+  pub write_failed : result ≡ Err WriteFailed → HasRisen old.out new.out
+  pub disk_failed : result ≡ Err DiskFailed → HasRisen old.disk new.disk

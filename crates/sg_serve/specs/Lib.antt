@@ -1,0 +1,8 @@
+pub mod Posted
+pub mod Requests
+pub mod Serving
+pub mod Lines
+pub mod Served
+pub mod Faults
+pub mod Standing
+pub mod Laws

@@ -1,0 +1,153 @@
+//! The requests that call the node: a start, an act, a leaving, and a delivery.
+ghost use Rattle.std.specs.Prelude.{◌≡◌, ◌≤◌, ◌⊎◌, List, ℕ, Err, Some, option_map, IfErr, IfOk, IsTrue, IsNone, OnOk, is_some};
+ghost use Rattle.std.specs.List.{list_all};
+ghost use Rattle.sg_base.specs.Outside.{HasRisen};
+ghost use Rattle.sg_request.specs.declared.request.Request.TheVariants as request;
+ghost use Rattle.sg_sched.specs.Format.Forms.{is_given};
+ghost use Rattle.sg_serve.specs.Served.{images_if};
+ghost use Rattle.sg_serve.specs.Serving.{Serving, acts, acts_by, calls, graph_at, of_session, starts, takes};
+ghost use Rattle.sg_serve.specs.Standing.{HasReplied, HoldsJoins, Replied, StandsForServing};
+ghost use Rattle.sg_play.specs.Standing.{KeepsJoins};
+ghost use Rattle.sg_protocol.specs.Calls.{Abandon};
+ghost use Rattle.sg_walk.specs.Model.{values_of};
+
+use crate::ServeFault;
+use crate::reply::Reply;
+use crate::say::{say_quiet, say_unknown, say_wrong};
+use crate::server::Server;
+use sg_answers::Wrong;
+use sg_base::{Fresh, Label, Name, Seq, Sid, Value, Var};
+use sg_ledger::Disk;
+use sg_play::draw;
+use sg_read::{differ, known_values};
+use sg_sched::Given;
+use sg_sched::place::label_place;
+use sg_script::ScriptStart;
+
+impl<'p> Server<'p> {
+    // Starts a session, with the next word as its nonce.
+    pub(crate) fn start<R: Fresh, D: Disk>(
+        &mut self,
+        start_of: &ScriptStart,
+        fresh: &mut R,
+        disk: &mut D,
+    ) -> Result<Reply, ServeFault>
+        requires holds { HoldsJoins self.old (D.may_leave disk.old) }
+        ensures falls { D.faults disk.old ≤ D.faults disk.new }
+        ensures untouched { IsNone self.old.ledger → disk.new ≡ disk.old }
+        ensures failed { result ≡ Err ServeFault.DiskFailed → HasRisen (D.faults disk.old) (D.faults disk.new) }
+        ensures causes { IfErr result (λ e. (e ≡ ServeFault.DiskFailed) ⊎ (e ≡ ServeFault.OutOfMemory)) }
+        ensures same { OnOk result (is_some self.new.ledger ≡ is_some self.old.ledger) }
+        ensures holds { OnOk result (HoldsJoins self.new (D.may_leave disk.new)) }
+        ensures words { OnOk result ((s : Serving) → StandsForServing self.old s → R.words fresh.old ≡ Some s.play.words → R.words fresh.new ≡ Some (starts s start_of.now).0.play.words) }
+        ensures replied { (s : Serving) → StandsForServing self.old s → R.words fresh.old ≡ Some s.play.words
+            → Replied (images_if (is_some self.old.ledger) (D.may_leave disk.new)) s self.new (starts s start_of.now) result }
+    {
+        if self.programs.by_name(&start_of.graph).is_none() {
+            return say_wrong(self.alloc, Wrong::Unknown);
+        }
+        let nonce = fresh.next();
+        match self.player.ask_start(start_of, nonce) {
+            Ok((outcome, graph)) => self.join(&outcome, graph, disk),
+            Err(_) => Err(ServeFault::OutOfMemory),
+        }
+    }
+
+    // Takes a delivery, if one came.
+    pub(crate) fn take<D: Disk>(
+        &mut self,
+        found: Option<Vec<u8>>,
+        disk: &mut D,
+    ) -> Result<Reply, ServeFault>
+        requires holds { HoldsJoins self.old (D.may_leave disk.old) }
+        ensures falls { D.faults disk.old ≤ D.faults disk.new }
+        ensures untouched { IsNone self.old.ledger → disk.new ≡ disk.old }
+        ensures failed { result ≡ Err ServeFault.DiskFailed → HasRisen (D.faults disk.old) (D.faults disk.new) }
+        ensures causes { IfErr result (λ e. (e ≡ ServeFault.DiskFailed) ⊎ (e ≡ ServeFault.OutOfMemory)) }
+        ensures same { OnOk result (is_some self.new.ledger ≡ is_some self.old.ledger) }
+        ensures holds { OnOk result (HoldsJoins self.new (D.may_leave disk.new)) }
+        ensures replied { (s : Serving) → StandsForServing self.old s
+            → Replied (images_if (is_some self.old.ledger) (D.may_leave disk.new)) s self.new (takes s (option_map (λ bytes. bytes.items) found)) result }
+    {
+        let Some(bytes) = found else {
+            return say_quiet(self.alloc);
+        };
+        match self.player.ask_deliver(bytes.as_slice()) {
+            Ok((outcome, graph)) => self.join(&outcome, graph, disk),
+            Err(_) => Err(ServeFault::OutOfMemory),
+        }
+    }
+
+    // Leaves the session of a number.
+    pub(crate) fn abandon(&mut self, number: u32) -> Result<Reply, ServeFault>
+        ensures joins { OnOk result (KeepsJoins self.old.player.node self.new.player.node) }
+        ensures ledger { OnOk result (self.new.ledger ≡ self.old.ledger) }
+        ensures replied { IfOk result (λ step. (s : Serving) → StandsForServing self.old s → HasReplied self.new step (of_session s number (λ sid. calls s (Abandon sid)))) }
+        ensures memory { IfErr result (λ e. e ≡ ServeFault.OutOfMemory) }
+    {
+        let Some(sid) = self.sid(number) else {
+            return say_unknown(self.alloc, number);
+        };
+        let (outcome, graph) = self.player.ask_abandon(sid);
+        self.tell(&Some(sid), &outcome, graph, None)
+    }
+
+    // Acts in the session of a number, by the graph of the session.
+    pub(crate) fn act<R: Fresh>(
+        &mut self,
+        number: u32,
+        label: &Name,
+        values: &[Given<'_>],
+        fresh: &mut R,
+    ) -> Result<Reply, ServeFault>
+        requires given { IsTrue (list_all is_given values.now) }
+        ensures joins { OnOk result (KeepsJoins self.old.player.node self.new.player.node) }
+        ensures ledger { OnOk result (self.new.ledger ≡ self.old.ledger) }
+        ensures replied { IfOk result (λ step. (s : Serving) → StandsForServing self.old s → R.words fresh.old ≡ Some s.play.words → HasReplied self.new step (of_session s number (λ sid. acts_by s sid (graph_at s number) label.now values.now))) }
+        ensures words { OnOk result ((s : Serving) → StandsForServing self.old s → R.words fresh.old ≡ Some s.play.words → R.words fresh.new ≡ Some (of_session s number (λ sid. acts_by s sid (graph_at s number) label.now values.now)).0.play.words) }
+        ensures memory { IfErr result (λ e. e ≡ ServeFault.OutOfMemory) }
+    {
+        let Some(sid) = self.sid(number) else {
+            return say_unknown(self.alloc, number);
+        };
+        let Some(graph) = self.graph(number) else {
+            return say_wrong(self.alloc, Wrong::Unknown);
+        };
+        let Some(label) = label_place(graph, label) else {
+            return say_wrong(self.alloc, Wrong::Unknown);
+        };
+        let known = match known_values(self.alloc, graph, values) {
+            Ok(Some(known)) => known,
+            Ok(None) => return say_wrong(self.alloc, Wrong::Unknown),
+            Err(_) => return Err(ServeFault::OutOfMemory),
+        };
+        match differ(self.alloc, values) {
+            Ok(true) => self.act_with(sid, label, known.as_slice(), fresh),
+            Ok(false) => say_wrong(self.alloc, Wrong::Twice),
+            Err(_) => Err(ServeFault::OutOfMemory),
+        }
+    }
+
+    // Acts in a session with these values, with a word to hide each of them.
+    fn act_with<R: Fresh>(
+        &mut self,
+        sid: Sid,
+        label: Label,
+        values: &[(Var, Value)],
+        fresh: &mut R,
+    ) -> Result<Reply, ServeFault>
+        ensures joins { OnOk result (KeepsJoins self.old.player.node self.new.player.node) }
+        ensures ledger { OnOk result (self.new.ledger ≡ self.old.ledger) }
+        ensures replied { IfOk result (λ step. (s : Serving) → StandsForServing self.old s → R.words fresh.old ≡ Some s.play.words → HasReplied self.new step (acts s sid label (values_of values.now))) }
+        ensures words { OnOk result ((s : Serving) → R.words fresh.old ≡ Some s.play.words → R.words fresh.new ≡ Some (acts s sid label (values_of values.now)).0.play.words) }
+        ensures memory { IfErr result (λ e. e ≡ ServeFault.OutOfMemory) }
+    {
+        let Ok(words) = draw(self.alloc, fresh, values.len()) else {
+            return Err(ServeFault::OutOfMemory);
+        };
+        match self.player.ask_act(sid, label, values, words.as_slice()) {
+            Ok((outcome, graph, frame)) => self.tell(&None, &outcome, graph, frame),
+            Err(_) => Err(ServeFault::OutOfMemory),
+        }
+    }
+}

@@ -1,0 +1,116 @@
+-- How a run for an application ends, and what it leaves.
+use Rattle.std.specs.Prelude.{◌≡◌, ℕ, ◌≤◌, ◌⊎◌, true, false, Bool, if◌then◌else◌, List, [], Option, Some, None, is_some, Result, Ok, Err, ⊤}
+use Rattle.sg_base.specs.Outside.{HasRisen}
+use Rattle.sg_base.specs.declared.address.Addr.{Addr}
+use Rattle.sg_input.specs.Lines.{lines_of}
+use Rattle.sg_ledger.specs.Disk.{WhereTold}
+use Rattle.sg_ledger.specs.Format.{Join, StandsFor}
+use Rattle.sg_serve.specs.Faults.{Counts, TellsFaults}
+use Rattle.sg_serve.specs.Served.{Outside as Given, Served, images_if, opening}
+use Rattle.sg_serve.specs.declared.fault.ServeFault.{ServeFault}
+use Rattle.sg_serve.specs.declared.fault.ServeFault.TheVariants as ServeFaults
+use Rattle.sg_wait.specs.declared.coming.Coming.{Coming}
+use Rattle.sg_top.specs.Ending.{Ending, Written, InputFailed, WriteFailed, LinkFailed, DiskFailed, NoMemory}
+use Rattle.sg_top.specs.Ends.{Told, Output}
+use Rattle.sg_top.specs.Ledgers.{Disked, IsLeft, IsNotAsked, LacksLedger}
+use Rattle.sg_top.specs.Setup.{HasPrincipal, LacksPrincipal, Principal}
+
+-- a link that can wait: what is to come and the frames sent, where they are told, and its count of faults
+pub record Waited : Type 0 where
+  pub coming : Option (List Coming)
+  pub sent : Option (List (Addr × List ℕ))
+  pub faults : ℕ
+
+-- an input: the bytes to come, where they are told, and its count of faults
+pub record Entered : Type 0 where
+  pub bytes : Option (List ℕ)
+  pub faults : ℕ
+
+-- what a run for an application acts on: standard output, its link, the random words to come, where they are told, and standard input
+pub record Application : Type 0 where
+  pub out : Output
+  pub link : Waited
+  pub words : Option (List (List ℕ))
+  pub input : Entered
+
+-- the files that it names
+pub record NamedFiles : Type 0 where
+  pub keys : List ℕ
+  pub programs : List (List ℕ)
+  pub ledger : Option (List ℕ)
+
+-- nothing was written or sent, and nothing that is to come was taken
+abbrev pub IsUnasked : (old new : Application) → Type 0
+IsUnasked old new = ((new.out).bytes ≡ (old.out).bytes) × (new.link ≡ old.link) × (new.words ≡ old.words) × (new.input ≡ old.input)
+
+-- the link isn't opened, which its count of faults shows, and nothing else is touched
+pub record LacksLink (old new : Application) : Type 0 where
+  pub risen : HasRisen (old.link).faults (new.link).faults
+  pub written : (new.out).bytes ≡ (old.out).bytes
+  pub coming : (new.link).coming ≡ (old.link).coming
+  pub sent : (new.link).sent ≡ (old.link).sent
+  pub words : new.words ≡ old.words
+  pub input : new.input ≡ old.input
+
+-- the link was opened: what is to come and what was sent are as before
+pub record IsOpened (old new : Waited) : Type 0 where
+  pub coming : new.coming ≡ old.coming
+  pub sent : new.sent ≡ old.sent
+  pub falls : old.faults ≤ new.faults
+
+-- what the sink and the link tell
+abbrev pub given : Application → Given
+given o = record { written = (o.out).bytes; sent = (o.link).sent; coming = (o.link).coming; failed = (o.link).faults }
+
+-- where the input, the link and the source tell what is to come: what was written and sent is what the lines of the input come to for a principal that joined these pairs before, up to where the run ended, and what a crash leaves of its ledger, if it has one, is the ledger with the joins up to there
+abbrev pub Answers : (kept : Bool) → (opened : List Join) → Principal → (old new : Application) → (disk' : Disked) → Result (Unit {0}) ServeFault → Type 0
+Answers kept opened p old new disk' result = (bytes : List ℕ) (coming : List Coming) (words : List (List ℕ)) → (old.input).bytes ≡ Some bytes → (old.link).coming ≡ Some coming → old.words ≡ Some words
+    → Served (given old) (given new) new.words (images_if kept disk'.may_leave) (opening p.keys p.programs opened coming words) (lines_of bytes) result
+
+-- how often the link, standard output and the disk failed
+abbrev pub counts : Application → Disked → Counts
+counts o disk = record { link = (o.link).faults; out = (o.out).faults; disk = disk.faults }
+
+-- so the run ended, of which a fault is told only where its count rose
+pub record EndsServing (kept : Bool) (opened : List Join) (p : Principal) (old new : Application) (disk disk' : Disked) (result : Result (Unit {0}) ServeFault) : Type 0 where
+  pub answers : Answers kept opened p old new disk' result
+  pub faults : TellsFaults (counts old disk) (counts new disk') result
+  pub input_falls : (old.input).faults ≤ (new.input).faults
+  pub input_failed : result ≡ Err ServeFaults.InputFailed → HasRisen (old.input).faults (new.input).faults
+
+-- how the program ends after it
+abbrev pub ending_of_serve : Result (Unit {0}) ServeFault → Ending
+ending_of_serve (Ok u) = Written
+ending_of_serve (Err ServeFaults.InputFailed) = InputFailed
+ending_of_serve (Err ServeFaults.WriteFailed) = WriteFailed
+ending_of_serve (Err ServeFaults.DiskFailed) = DiskFailed
+ending_of_serve (Err ServeFaults.OutOfMemory) = NoMemory
+
+-- a principal that joined these pairs before serves: its link isn't opened; or it is, and the lines are answered
+abbrev pub ServesOver : (kept : Bool) → (opened : List Join) → Principal → (old new : Application) → (disk disk' : Disked) → Ending → Type 0
+ServesOver kept opened p old new disk disk' ending =
+    (LacksLink old new × IsLeft disk disk' × (ending ≡ LinkFailed))
+    ⊎ ((link : Waited) × (result : Result (Unit {0}) ServeFault) × IsOpened old.link link × EndsServing kept opened p (record old { link = link }) new disk disk' result × (ending ≡ ending_of_serve result))
+
+-- it serves over the ledger that the file is; or the file is none, and nothing is touched. Without a ledger nothing is asked of the disk
+abbrev pub ServesPrincipal : (ledger : Option (List ℕ)) → Principal → (old new : Application) → (disk disk' : Disked) → Ending → Type 0
+ServesPrincipal None p old new disk disk' ending = ServesOver false [] p old new disk disk' ending × IsNotAsked disk disk'
+ServesPrincipal (Some file) p old new disk disk' ending =
+    ((opened : List Join) × WhereTold disk.seen (λ bytes. StandsFor bytes opened) × ServesOver true opened p old new disk disk' ending)
+    ⊎ (IsUnasked old new × IsLeft disk disk' × LacksLedger disk disk' ending)
+
+-- a run for an application ends so: the files hold a principal, which serves; or they hold none, and nothing is touched, nor the disk asked
+abbrev pub ServesRun : NamedFiles → Told → (faults faults' : ℕ) → (old new : Application) → (disk disk' : Disked) → Ending → Type 0
+ServesRun named told faults faults' old new disk disk' ending =
+    ((p : Principal) × HasPrincipal told named.keys named.programs p × ServesPrincipal named.ledger p old new disk disk' ending)
+    ⊎ (IsUnasked old new × IsNotAsked disk disk' × LacksPrincipal told faults faults' named.keys named.programs ending)
+
+-- with these endings a run for an application may have begun
+abbrev pub CanHaveServed : Ending → Type 0
+CanHaveServed Written = ⊤
+CanHaveServed InputFailed = ⊤
+CanHaveServed WriteFailed = ⊤
+CanHaveServed LinkFailed = ⊤
+CanHaveServed DiskFailed = ⊤
+CanHaveServed NoMemory = ⊤
+CanHaveServed ending = ⊥
