@@ -117,3 +117,55 @@ RATTLE
     mkdir "$bench/data"
     : >"$bench/data/counts"
 }
+
+# session_hashes: makes a program of the hashes of sessions of two roles, which `share_of_hashes` runs.
+session_hashes() {
+    program session_hashes sg_base sg_crypt
+    cat >"$bench/src/main.rt" <<'RATTLE'
+//! The hashes of 200,000 sessions of two roles: an identifier at each, and the tag of each of two frames, made and compared.
+#![tactic(auto)]
+
+use sg_base::Name;
+use sg_crypt::{Cast, Key, session_id};
+use std::io;
+
+fn main(rt: HostRuntime) -> Result<(), io::Error> {
+    let key = Key::new([0x11; 32]);
+    let request = [7u8; 104];
+    let reply = [7u8; 51];
+    let mut nonce = [0u8; 16];
+    if let (Some(a), Some(b)) = (Name::new(b"a"), Name::new(b"b")) {
+        for _ in 0..200_000 {
+            if let Some(cast) = Cast::new(1, [3; 32], nonce, &[a, b]) {
+                nonce[0] = session_id(&cast).0[0];
+                nonce[1] = session_id(&cast).0[1];
+            }
+            for text in [request.as_slice(), reply.as_slice()] {
+                let tag = key.tag(b"sg-frame-1", text);
+                nonce[2] = u8::from(key.cut_matches(1, b"sg-frame-1", text, &tag));
+            }
+        }
+    }
+    println!(rt; "{}", nonce[2])
+}
+RATTLE
+    echo 1 >"$bench/stdout"
+}
+
+# share_of_hashes SECONDS: prints what the hashes of a session take, and their share of these seconds of a processor for a whole one. `session_hashes` made
+# the program last.
+share_of_hashes() {
+    local hashes
+    hashes=$(built)
+    python3 - "$1" "$hashes" <<'PYTHON'
+import resource
+import subprocess
+import sys
+
+whole, hashes = float(sys.argv[1]), sys.argv[2]
+subprocess.run([hashes], stdout=subprocess.DEVNULL, check=True)
+used = resource.getrusage(resource.RUSAGE_CHILDREN)
+alone = (used.ru_utime + used.ru_stime) / 200_000
+print(f'the hashes of a session: {alone * 1e6:.1f} us of processor time, {100 * alone / whole:.0f} % of it')
+PYTHON
+}

@@ -13,6 +13,9 @@ How the program is run, in a folder with these files alone:
     out full, err full      standard output, or standard error, is a device that takes nothing
     memory N                it may have N KiB of memory
     seedless                the system gives it no random bytes
+    asks LINE               the next line of standard input, which has no others; where none is given, it is empty
+    input folder            standard input is a folder, which can't be read
+    input unready           standard input is a pipe that doesn't wait, so that it fails behind these lines
 
 What it answers:
 
@@ -20,6 +23,7 @@ What it answers:
     says LINE               the one line on standard error; nothing where it isn't given
     reports LINE            a line that must be among those on standard output; where it isn't given, with a status other than 0, there are none
     whole                   the lines that `reports` says are all of standard output, in this order
+    answers LINE            the next line on standard output, which has no others, whatever the status; `<digest>` in it is 64 hexadecimal digits
     leaves FILE NAME        then the folder has this file, with the text that is called NAME
 
 What is added at a terminal. A case without these lines says nothing of that:
@@ -35,15 +39,16 @@ What is added at a terminal. A case without these lines says nothing of that:
 Lines of text begin with two spaces, which don't count, and belong to the case's file, or to the text that is called by a name. In them `@NAME`
 alone on a line is the text of that name; `{N:TEXT}` is TEXT N times, and `{M..N:TEXT}` once for each number from M to N; in TEXT, `%` is the number,
 counted from 0 or from M, `%+1` is one more, and `%*2+1` one more than twice the number, and TEXT may have repetitions, which come first; `^` is a line
-end, and `<hh>` the byte with these two hexadecimal digits. A line of text that ends with `~` has no line end. Repetitions may stand in what `says` and
-`reports` say, too, and all of this but `@` and `~` in a word of `words`, and in what `place`, `told` and `here` say. `says @NAME` is the first line of
-that text.
+end, and `<hh>` the byte with these two hexadecimal digits. A line of text that ends with `~` has no line end. Repetitions may stand in what `says`,
+`reports` and `answers` say, too, all of this but `@` in what `asks` says, and all but `@` and `~` in a word of `words`, and in what `place`, `told` and
+`here` say. `says @NAME` is the first line of that text.
 """
 import glob
 import os
 import re
 import resource
 import subprocess
+import tempfile
 
 TOP = os.path.dirname(os.path.dirname(os.path.realpath(__file__)))
 # What stands before the program's words where the system gives it no random bytes.
@@ -110,6 +115,7 @@ class Case(Text):
         self.table, self.line, self.name, self.words, self.beside = table, line, name, words, dict(beside)
         self.file, self.full, self.memory, self.seedless = "f", set(), None, False
         self.status, self.says, self.reports, self.whole, self.leaves = 0, None, [], False, {}
+        self.asks, self.answers, self.source, self.ends = [], [], None, []
         self.row, self.row_comes, self.place, self.told, self.here, self.steps, self.nothing = None, True, None, None, [], {}, False
 
     def __str__(self):
@@ -129,6 +135,21 @@ class Case(Text):
         """Returns the two outputs by their names, or in their place what takes nothing."""
         return {name: open("/dev/full", "wb") if short in self.full else file for name, short, file in (("stdout", "out", out), ("stderr", "err", err))}
 
+    def input(self, folder):
+        """Returns what is to be standard input, open for reading; the case's files are in the folder."""
+        if self.source == "folder":
+            return os.open(folder, os.O_RDONLY)
+        if self.source == "unready":
+            # (its other end stays open, since a pipe without one is at its end)
+            self.ends += os.pipe()
+            os.write(self.ends[-1], b"".join(self.asks))
+            os.set_blocking(self.ends[-2], False)
+            return self.ends[-2]
+        file = tempfile.TemporaryFile()
+        file.write(b"".join(self.asks))
+        file.seek(0)
+        return file
+
     def limit(self):
         """Limits this process, as the case has it."""
         if self.memory is not None:
@@ -140,6 +161,8 @@ class Case(Text):
             return f"status {status} and not {self.status}, with: {said.strip()[:200]}"
         if said != (self.says + "\n" if self.says is not None else ""):
             return f"says {said[:200]!r} and not {self.says!r}"
+        if self.answers or self.asks:
+            return self.answers_differ(out)
         if status != 0 and not self.reports and out:
             return f"standard output has {out[:100]!r}"
         got = out.split("\n")
@@ -149,6 +172,14 @@ class Case(Text):
         if self.whole and got != self.reports + [""]:
             return f"standard output has other lines too, or in another order: {out[:600]!r}"
         return None
+
+    def answers_differ(self, out):
+        """Returns what differs in the lines on standard output, as text, from the answers that must come, or None."""
+        lines = out.split("\n")
+        for number, (got, wanted) in enumerate(zip(lines, [*self.answers, ""]), 1):
+            if not re.fullmatch("[0-9a-f]{64}".join(map(re.escape, wanted.split("<digest>"))), got):
+                return f"answer {number} is {got[:200]!r} and not {wanted[:200]!r}"
+        return None if len(lines) == len(self.answers) + 1 else f"{len(lines) - 1} answers come, and not {len(self.answers)}: {out[-200:]!r}"
 
     def left(self, folder):
         """Returns which file of the folder isn't as it must be after a run, as a sentence, or None."""
@@ -181,7 +212,7 @@ class Reader:
                 elif line and not line.startswith("#") and not self.take(number, *line.partition(" ")[::2]):
                     raise ValueError(f"{path} line {number}: {line}")
         for case in self.cases:
-            if case.status == 0 and not case.reports and not case.whole:
+            if case.status == 0 and not case.reports and not case.whole and not case.asks:
                 raise ValueError(f"{path} line {case.line}: the case asks for nothing")
             if case.here and not (case.row or case.place or case.told):
                 raise ValueError(f"{path} line {case.line}: the case has words of no place")
@@ -211,6 +242,12 @@ class Reader:
             setattr(case, word, int(rest))
         elif word == "says":
             case.says = self.texts[rest[1:]].lines[0] if rest.startswith("@") else expanded(rest)
+        elif word == "asks":
+            case.asks.append(as_bytes(rest[:-1] if rest.endswith("~") else rest + "\n"))
+        elif word == "answers":
+            case.answers.append(expanded(rest))
+        elif word == "input" and rest in ("folder", "unready"):
+            case.source = rest
         elif word == "reports":
             case.reports.append(expanded(rest))
         elif word == "leaves":

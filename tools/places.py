@@ -396,6 +396,15 @@ def read(file):
         return None
 
 
+def served_files(words):
+    """Returns the files that `serve` is given behind its own word."""
+    at = 0
+    while words[at] in ("--tcp", "--ledger"):
+        at += 1 if words[at] == "--tcp" else 2
+    ledger = [(words[words.index("--ledger") + 1], "ledger")] if "--ledger" in words[:at] else []
+    return [*ledger, (words[at], "keys"), *((it, "program") for it in words[at + 1 :])]
+
+
 def files_of(words):
     """Returns the files that a command is given, each with the kind that it should be of."""
     kinds = {"check": "graph", "compile": "graph", "replay": "schedule", "audit": "logs", "compose": "parts"}
@@ -407,6 +416,8 @@ def files_of(words):
         return list(zip(words[1:], ("graph", "claims")))
     if words[0] == "ledger":
         return []
+    if words[0] == "serve":
+        return served_files(words[1:])
     first = 2 if words[0] == "keep" else 1
     return [(words[1], "ledger")] * (first - 1) + [(words[first], "keys"), (words[first + 1], "script")] + [(it, "program") for it in words[first + 3 :]]
 
@@ -416,7 +427,7 @@ def file_of(words, line):
     files = files_of(words)
     if words[0] == "claims" and line.startswith(b"input refused: claims"):
         return files[1]
-    if words[0] not in ("run", "keep", "stream"):
+    if words[0] not in ("run", "keep", "stream", "serve"):
         return files[0] if files else None
     said = re.match(rb"input refused: (?:(keys)|(script)|(ledger)|program (\d+))", line)
     kind = "keys" if said and said[1] else "script" if said and said[2] else "ledger" if said and said[3] else "program"

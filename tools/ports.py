@@ -82,22 +82,22 @@ def taken(link, host, port):
     return f"Port {port} of {link.upper()} is taken: {whose} {what} at {at[0]}:{at[1]} (/proc/net/{link})."
 
 
-def bound(link, port, backlog=128, options=()):
-    """Returns a socket of this process at a port of the loopback, which listens over TCP. Raises NotThere where somebody else has the port. The options
-    are set before."""
+def bound(link, port, backlog=128, options=(), host="127.0.0.1"):
+    """Returns a socket of this process at a port of the loopback, or of another host of this machine, which listens over TCP. Raises NotThere where
+    somebody else has the port. The options are set before."""
     made = socket.socket(socket.AF_INET, socket.SOCK_STREAM if link == "tcp" else socket.SOCK_DGRAM)
     try:
         if link == "tcp":
             made.setsockopt(socket.SOL_SOCKET, socket.SO_REUSEADDR, 1)
         for option in options:
             made.setsockopt(*option)
-        made.bind(("127.0.0.1", port))
+        made.bind((host, port))
         if link == "tcp":
             made.listen(backlog)
         return made
     except OSError as error:
         made.close()
-        raise NotThere(taken(link, "127.0.0.1", port) or f"Port {port} of {link.upper()} can't be had: {error.strerror}.") from None
+        raise NotThere(taken(link, host, port) or f"Port {port} of {link.upper()} can't be had: {error.strerror}.") from None
 
 
 def is_below(number, above):
@@ -111,20 +111,20 @@ def is_below(number, above):
     return number == above
 
 
-def await_listener(link, port, process, seconds=120):
+def await_listener(link, port, process, seconds=120, host="127.0.0.1"):
     """Waits until a process that was started to listen at a port of the loopback does, or one that it has started. Raises NotThere where it ends before,
     or lasts so many seconds without. They only end a hang: where somebody else has the port, the process ends by itself."""
     end = time.monotonic() + seconds
     while True:
         status, late = process.poll(), time.monotonic() > end
-        listens = holder(link, "127.0.0.1", port)
+        listens = holder(link, host, port)
         owner = process_of(listens[1]) if listens else None
         if owner and is_below(owner[0], process.pid):
             return
         if status is not None:
-            raise NotThere(f"the process that is to listen at port {port} of {link.upper()} has ended, with status {status}. {taken(link, '127.0.0.1', port)}".rstrip())
+            raise NotThere(f"the process that is to listen at port {port} of {link.upper()} has ended, with status {status}. {taken(link, host, port)}".rstrip())
         if late:
-            raise NotThere(f"nobody listens at port {port} of {link.upper()} after {seconds} seconds. {taken(link, '127.0.0.1', port)}".rstrip())
+            raise NotThere(f"nobody listens at port {port} of {link.upper()} after {seconds} seconds. {taken(link, host, port)}".rstrip())
         time.sleep(0.02)
 
 
