@@ -1,31 +1,53 @@
 -- A state that goes on by a call stands for the past with the call.
-use Rattle.std.specs.Prelude.{◌≡◌, List, [], ◌∷◌, refl}
+use Rattle.std.specs.Prelude.{◌≡◌, ◌⊎◌, ℕ, List, [], ◌∷◌, refl, Option, Some, None, IsSomeAnd}
 use Rattle.std.specs.List.{AllByRecursion}
-use Rattle.std.proofs.Common.{sym, ◌∙◌, subst}
+use Rattle.std.proofs.Common.{sym, subst, inl, inr}
 use Rattle.std.proofs.lemmas.List.Elements.{All-from_recursion}
+use Rattle.sg_model.proofs.Small.{all-append}
 use Rattle.sg_protocol.specs.Calls.{Call}
+use Rattle.sg_protocol.specs.Keyring.{Program}
 use Rattle.sg_protocol.specs.Node.{Node}
-use Rattle.sg_protocol.specs.Past.{Past, Called, new_node, node_of, past_after, node_after_all}
-use Rattle.sg_protocol.specs.NodeAfter.{node_after}
+use Rattle.sg_protocol.specs.Past.{Past, new_node, node_of, past_after}
 use Rattle.sg_protocol.specs.IsSchedule.{IsProgram}
 use Rattle.sg_protocol.specs.Ranges.{IsCallInRange}
 use Rattle.sg_protocol.specs.Acting.{answer}
 use Rattle.sg_protocol.specs.Texts.{real}
-use Rattle.sg_protocol.specs.NodeStates.{NodeState, StandsForPast, state_after}
-use Rattle.sg_protocol.proofs.First.{programs_after}
+use Rattle.sg_protocol.specs.Backed.{IsBackedAtTurn, IsBackedWaiting}
+use Rattle.sg_protocol.specs.NodeStates.{NodeState, IsBackedLive, StandsForNode, StandsForPast, state_after}
+use Rattle.sg_protocol.proofs.Course.{node_more}
 use Rattle.sg_protocol.proofs.NodeStates.{node_states_stand}
 use Rattle.sg_protocol.proofs.RealHash.{real_hash}
 use Rattle.sg_node.specs.Answers.{GoesOn}
+use Rattle.sg_node.specs.Invariant.{HoldsNode, IfLive, IsSlot}
+use Rattle.sg_node.specs.Slots.{Slot, held_at, held_in}
+use Rattle.sg_node.specs.declared.node.Node.TheInside.{Inside}
+use Rattle.sg_node.specs.declared.sessions.Live.{Live}
+use Rattle.sg_node.specs.declared.sessions.Live.TheVariants.{AtTurn, Waiting}
 
-programs_past : (n : Node) (cs : List Called) → (node_after_all n cs).programs ≡ n.programs
-programs_past n [] = refl
-programs_past n (c ∷ cs) = programs_past (node_after n c.call c.answer) cs ∙ programs_after n c.call c.answer
+-- some sound session stands behind each thing that a node holds
+module _ (n : Inside) where
+  one_backed : (sid : List ℕ) (r : ℕ) (l : Option Live) → IfLive n.programs.now sid r l → AllByRecursion (IsBackedLive real n.programs.now) (held_at l)
+  one_backed sid r None k = tt
+  one_backed sid r (Some (AtTurn s)) k = (subst (λ (o : Option Program). IsSomeAnd o (λ p. IsBackedAtTurn real p s.held ⊎ IsBackedWaiting real p s.held)) (sym k.program) (inl k.backed), tt)
+  one_backed sid r (Some (Waiting s)) k = (subst (λ (o : Option Program). IsSomeAnd o (λ p. IsBackedAtTurn real p s.held ⊎ IsBackedWaiting real p s.held)) (sym k.program) (inr k.backed), tt)
 
--- so it does, where its programs are programs and the call is in range
-pub goes_on : (old new : NodeState) (call : Call) (past : Past) → AllByRecursion (IsProgram real) old.programs → IsCallInRange call → StandsForPast old past → new ≡ state_after old call (answer real (node_of past) call) → GoesOn old new call past
-goes_on old new call past programs good st e = record {
+  each_backed : (ss : List Slot) → AllByRecursion (IsSlot n.programs.now n.joins.pairs) ss → AllByRecursion (IsBackedLive real n.programs.now) (held_in ss)
+  each_backed [] a = tt
+  each_backed (s ∷ ss) a = all-append (IsBackedLive real n.programs.now) (held_at s.1) (held_in ss) (one_backed (s.0).0 (s.0).1 s.1 a.0.1) (each_backed ss a.1)
+
+  pub all_backed : HoldsNode n → AllByRecursion (IsBackedLive real n.programs.now) (held_in n.sessions.slots)
+  all_backed h = each_backed n.sessions.slots h.slots
+
+-- so it does, where its programs are programs, sound sessions stand behind what it holds, and the call is in range
+pub goes_on : (old new : NodeState) (call : Call) (past : Past) → AllByRecursion (IsProgram real) old.programs → AllByRecursion (IsBackedLive real old.programs) old.live → IsCallInRange call → StandsForPast old past
+    → new ≡ state_after old call (answer real (node_of past) call) → GoesOn old new call past
+goes_on old new call past programs backed good st e = record {
   state = e;
-  stands = λ told.
-      let its : AllByRecursion (IsProgram real) past.programs = subst (AllByRecursion (IsProgram real)) (st.programs ∙ programs_past (new_node past.keys past.programs past.first) past.calls) programs in
-      subst (λ z. StandsForPast z (past_after real past call)) (sym e) ((node_states_stand real real_hash).after_past old past call (All-from_recursion (IsProgram real) past.programs its) told.calls told.answers good st);
+  stands =
+      let n : Node = node_of past in
+      let ip : AllByRecursion (IsProgram real) n.programs = subst (AllByRecursion (IsProgram real)) st.programs programs in
+      let its : AllByRecursion (IsBackedLive real n.programs) old.live = subst (λ ps. AllByRecursion (IsBackedLive real ps) old.live) st.programs backed in
+      subst (λ z. StandsForPast z (past_after real past call)) (sym e)
+      (subst (StandsForNode (state_after old call (answer real n call))) (sym (node_more (new_node past.keys past.programs past.first) past.calls (record { call = call; answer = answer real n call })))
+      ((node_states_stand real real_hash).after_backed old n call (All-from_recursion (IsProgram real) n.programs ip) (All-from_recursion (IsBackedLive real n.programs) old.live its) good st));
 }

@@ -41,7 +41,7 @@ pasts_go_on past c told good =
     }
 
 pub sessions_alone : SessionsAreAlone
-sessions_alone past sid told room = sessions_are_isolated real past sid told.answers room
+sessions_alone past sid answered room = sessions_are_isolated real past sid answered room
 
 -- the node of a past with one more call
 node_with : (past : Past) (c : Call) → node_of (past_after real past c) ≡ node_after (node_of past) c (answer real (node_of past) c)
@@ -59,4 +59,4 @@ pub others_left : OthersAreLeft
 others_left past sid c other = subst (IsLeft sid (node_of past)) (sym (node_with past c)) (calls_leave_others real sid (node_of past) c other)
 
 pub pairs_once : PairsJoinOnce
-pairs_once past differ told = nodes_join_once real past differ told.answers
+pairs_once past differ answered = nodes_join_once real past differ answered

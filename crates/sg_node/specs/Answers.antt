@@ -53,8 +53,8 @@ pub record IsTold (past : Past) : Type 0 where
   pub calls : All (λ c. IsCallInRange c.call) past.calls
   pub answers : AreAnswers real (new_node past.keys past.programs past.first) past.calls
 
--- a state that stood for the past stands for it with the call
+-- a state that stood for the past stands for it with the call, whatever the past is
 pub record GoesOn (old new : NodeState) (call : Call) (past : Past) : Type 0 where
   -- it is the state after the answer
   pub state : new ≡ state_after old call (answer real (node_of past) call)
-  pub stands : IsTold past → StandsForPast new (past_after real past call)
+  pub stands : StandsForPast new (past_after real past call)

@@ -5,7 +5,7 @@ use Rattle.sg_protocol.specs.Calls.{Call}
 use Rattle.sg_protocol.specs.Isolation.{is_for_room, AreAlike, IsLeft}
 use Rattle.sg_protocol.specs.Keyring.{Keyring, Program}
 use Rattle.sg_protocol.specs.NodeStates.{StandsForPast, new_state}
-use Rattle.sg_protocol.specs.Past.{Past, new_node, node_of, past_after, answers, is_call_of, calls_of_session, pairs_differ, JoinedOnce}
+use Rattle.sg_protocol.specs.Past.{Past, new_node, node_of, past_after, AreAnswers, answers, is_call_of, calls_of_session, pairs_differ, JoinedOnce}
 use Rattle.sg_protocol.specs.Ranges.{IsCallInRange}
 use Rattle.sg_protocol.specs.Texts.{real}
 use Rattle.sg_node.specs.Answers.{IsTold}
@@ -25,7 +25,7 @@ PastsGoOn = (past : Past) (c : Call) → IsTold past → IsCallInRange c → IsT
 
 -- Where no call was refused because there was no room, a node answered the calls of a session as a node that gets no other calls would
 abbrev pub SessionsAreAlone : Type 0
-SessionsAreAlone = (past : Past) (sid : List ℕ) → IsTold past → All (λ c. is_for_room c.answer ≡ false) past.calls →
+SessionsAreAlone = (past : Past) (sid : List ℕ) → AreAnswers real (new_node past.keys past.programs past.first) past.calls → All (λ c. is_for_room c.answer ≡ false) past.calls →
     map (λ c. c.answer) (calls_of_session real sid past.calls)
     ≡ answers real (new_node past.keys past.programs past.first) (map (λ c. c.call) (calls_of_session real sid past.calls))
 
@@ -38,6 +38,6 @@ SameForSessions = (past past' : Past) (sid : List ℕ) (c : Call) → is_call_of
 abbrev pub OthersAreLeft : Type 0
 OthersAreLeft = (past : Past) (sid : List ℕ) (c : Call) → is_call_of real sid c ≡ false → IsLeft sid (node_of past) (node_of (past_after real past c))
 
--- No pair of session and role is joined twice, nor one that the node was made with, where these differ
+-- Whatever the calls are, no pair of session and role is joined twice, nor one that the node was made with, where these differ
 abbrev pub PairsJoinOnce : Type 0
-PairsJoinOnce = (past : Past) → IsTrue (pairs_differ past.first) → IsTold past → JoinedOnce past
+PairsJoinOnce = (past : Past) → IsTrue (pairs_differ past.first) → AreAnswers real (new_node past.keys past.programs past.first) past.calls → JoinedOnce past

@@ -51,7 +51,7 @@ leavings_join_none st sid (Protocol.NotDelivered x) = refl
 keeps_by : (number : ℕ) (old new : NodeState) (c : Call) (past : Past) (told : Option Told) (graph : Option Graph) (sealed : Option (Name × List ℕ)) → IsTold past → Comes number old new past c told graph sealed
     → ((a : Answer) → (state_after old c a).joins ≡ old.joins) → (later : Past) × StandsForPast new later × IsTold later × (new.joins ≡ old.joins)
 keeps_by number old new c past told graph sealed its h none =
-    (past_after real past c, h.goes_on.stands its, pasts_go_on past c its h.range, ap (λ (n : NodeState). n.joins) h.goes_on.state ∙ none (answer real (node_of past) c))
+    (past_after real past c, h.goes_on.stands, pasts_go_on past c its h.range, ap (λ (n : NodeState). n.joins) h.goes_on.state ∙ none (answer real (node_of past) c))
 
 -- an act
 pub keeps_by_act : (keys : Keyring) (frames counted : ℕ) (old new : NodeState) (sid : List ℕ) (label : ℕ) (values : Map Value) (confounders : List (List ℕ)) (told : Option Told) (graph : Option Graph) (frame : Option (Addr × (Name × List ℕ)))

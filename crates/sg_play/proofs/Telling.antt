@@ -82,7 +82,7 @@ pub asked_quiet : (pl : Player) (n : NodeState) (p : Play) (c : Call) (told : Op
 asked_quiet pl n p c told graph s h =
     let came = h (length (frames_of p.steps) + 1) in
     record {
-      node = came.goes_on.stands s.told;
+      node = came.goes_on.stands;
       told_past = pasts_go_on p.past c s.told came.range;
       keys = s.keys;
       programs = s.programs;
@@ -101,7 +101,7 @@ pub asked_made : (pl : Player) (n : NodeState) (counted : ℕ) (p : Play) (c : C
 asked_made pl n counted p c told graph frame s h =
     let came = h.comes in
     record {
-      node = came.goes_on.stands s.told;
+      node = came.goes_on.stands;
       told_past = pasts_go_on p.past c s.told came.range;
       keys = s.keys;
       programs = s.programs;

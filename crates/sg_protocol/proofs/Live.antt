@@ -149,12 +149,12 @@ found_too A p q (z ∷ zs) x e h = elim (cases_Bool (q z)) [
 ]
 
 module _ (sha : Hash) (hash : IsHash sha) (n : Node) (programs : AllByRecursion (IsProgram sha) n.programs) where
-  record Found (digest : List ℕ) (r : ℕ) (p : Program) : Type 0 where
-    is_program : IsProgram sha p
-    digest_is : digest ≡ p.digest
-    role_is : r ≡ p.role
+  pub record Found (digest : List ℕ) (r : ℕ) (p : Program) : Type 0 where
+    pub is_program : IsProgram sha p
+    pub digest_is : digest ≡ p.digest
+    pub role_is : r ≡ p.role
 
-  found : (digest : List ℕ) (r : ℕ) (p : Program) → program_for n.programs digest r ≡ Some p → Found digest r p
+  pub found : (digest : List ℕ) (r : ℕ) (p : Program) → program_for n.programs digest r ≡ Some p → Found digest r p
   found digest r p q =
       let b = and_parts (bytes_eq p.digest digest) (p.role == r) (find_passes (λ (p : Program). bytes_eq p.digest digest && (p.role == r)) n.programs p q) in
       record {
@@ -172,20 +172,25 @@ module _ (sha : Hash) (hash : IsHash sha) (n : Node) (programs : AllByRecursion 
   at_live : (s : Session) (p : Program) → program_for n.programs (s.cast).graph s.role ≡ Some p → IsSound sha p s → Live s
   at_live s p q h = subst (λ o. IsSomeAnd o (λ p. IsSound sha p s)) (sym q) h
 
-  module _ (live : AllByRecursion (IsLive sha n.programs) n.live) where
-    start_sound : (c : Cast) → IsCast c → (p : Program) → Begun sha n c p → Live (new_session (session_id sha c) c p.role)
-    start_sound c h p b =
-        let st : Program → Bool = λ (p : Program). bytes_eq p.digest c.graph && (p.role == role_at (shape p.graph) 0) in
-        let ip : IsProgram sha p = find_all st (IsProgram sha) n.programs p programs b.found in
-        let d : bytes_eq p.digest c.graph ≡ true = (and_parts (bytes_eq p.digest c.graph) (p.role == role_at (shape p.graph) 0) (find_passes st n.programs p b.found)).0 in
-        let s : Session = new_session (session_id sha c) c p.role in
-        let too = found_too Program st (λ (q : Program). bytes_eq q.digest c.graph && (q.role == p.role)) n.programs p b.found (rw d (eq-eqb p.role p.role refl)) in
-        let f : Found c.graph p.role too.0 = found c.graph p.role too.0 too.1 in
-        at_live s too.0 too.1 (new_sound sha too.0 s refl (new_in_range (session_id sha c) c p.role (hash (session_text_of c)) h (role_in p ip)) f.digest_is f.role_is)
-      where
-        role_in : (p : Program) → IsProgram sha p → p.role < 16
-        role_in p ip = let a = ip.role in let b = ip.is_graph.sizes.0 in omega (arith, a, b)
+  pub start_sound : (c : Cast) → IsCast c → (p : Program) → Begun sha n c p → IsLive sha n.programs (new_session (session_id sha c) c p.role)
+  start_sound c h p b =
+      let st : Program → Bool = λ (p : Program). bytes_eq p.digest c.graph && (p.role == role_at (shape p.graph) 0) in
+      let ip : IsProgram sha p = find_all st (IsProgram sha) n.programs p programs b.found in
+      let d : bytes_eq p.digest c.graph ≡ true = (and_parts (bytes_eq p.digest c.graph) (p.role == role_at (shape p.graph) 0) (find_passes st n.programs p b.found)).0 in
+      let s : Session = new_session (session_id sha c) c p.role in
+      let too = found_too Program st (λ (q : Program). bytes_eq q.digest c.graph && (q.role == p.role)) n.programs p b.found (rw d (eq-eqb p.role p.role refl)) in
+      let f : Found c.graph p.role too.0 = found c.graph p.role too.0 too.1 in
+      at_live s too.0 too.1 (new_sound sha too.0 s refl (new_in_range (session_id sha c) c p.role (hash (session_text_of c)) h (role_in p ip)) f.digest_is f.role_is)
+    where
+      role_in : (p : Program) → IsProgram sha p → p.role < 16
+      role_in p ip = let a = ip.role in let b = ip.is_graph.sizes.0 in omega (arith, a, b)
 
+  pub join_sound : (f : Frame) (c : Cast) → HasSpelling f → f.join ≡ Some c → JoinTaken sha n f c → IsLive sha n.programs (extended (new_session f.sid c f.receiver) (Took f))
+  join_sound f c sp e t =
+      let q = found c.graph f.receiver t.p t.found_p in
+      at_live (extended (new_session f.sid c f.receiver) (Took f)) t.p t.found_p (joins_sound sha n.keys t.p f c q.is_program sp e q.digest_is q.role_is t.rows).0
+
+  module _ (live : AllByRecursion (IsLive sha n.programs) n.live) where
     act_sound : (sid0 : List ℕ) (label : ℕ) (values : Map Value) (confs : List (List ℕ)) → AreValues values confs → (f : Frame) (a : ActSent sha n sid0 label values confs f) → Live a.x → IfSome (last f.items) (λ i. Live (extended a.x (Gave i (openings_for values confs))))
     act_sound sid0 label values confs good f a h =
         let r = gives_sound sha hash n.keys a.p a.x label values confs (found (a.x).cast.graph (a.x).role a.p a.found_p).is_program (live_at a.x a.p a.found_p h) a.rows good in
@@ -197,11 +202,6 @@ module _ (sha : Hash) (hash : IsHash sha) (n : Node) (programs : AllByRecursion 
     next_sound f s sp t h =
         let v : s.cast.version ≡ f.version = eqb-true s.cast.version f.version (and_parts (bytes_eq s.sid f.sid && (s.role == f.receiver)) (s.cast.version == f.version) (find_passes (is_for f) n.live s t.found)).1 in
         at_live (extended s (Took f)) t.p t.found_p (takes_sound sha n.keys t.p s f (found s.cast.graph s.role t.p t.found_p).is_program (live_at s t.p t.found_p h) t.waits sp (sym v) t.rows).0
-
-    join_sound : (f : Frame) (c : Cast) → HasSpelling f → f.join ≡ Some c → JoinTaken sha n f c → Live (extended (new_session f.sid c f.receiver) (Took f))
-    join_sound f c sp e t =
-        let q = found c.graph f.receiver t.p t.found_p in
-        at_live (extended (new_session f.sid c f.receiver) (Took f)) t.p t.found_p (joins_sound sha n.keys t.p f c q.is_program sp e q.digest_is q.role_is t.rows).0
 
     pub node_sound : (c : Call) → IsCallInRange c → AllByRecursion (IsLive sha n.programs) (node_after n c (answer sha n c)).live
     node_sound (Start c) h = start_all sha n (IsLive sha n.programs) live c (start_sound c h)

@@ -22,10 +22,11 @@ use Rattle.sg_protocol.specs.IsSchedule.{IsProgram}
 use Rattle.sg_protocol.specs.Ranges.{IsCallInRange}
 use Rattle.sg_protocol.specs.Standing.{Held, held, StandsWaiting, StandsAtTurn, nothing_kept, held_after}
 use Rattle.sg_protocol.specs.Live.{IsSound, IsLive}
-use Rattle.sg_protocol.specs.NodeStates.{NodeState, StandsLive, StandEach, StandsIf, StandsForNode, has_sid, is_held_for, is_spent, unless_spent, still_held, begun, joined_by, replace_held, with_join, with_live, state_taking, state_after, NodeStatesStand}
+use Rattle.sg_protocol.specs.NodeStates.{NodeState, IsBackedLive, StandsLive, StandEach, StandsIf, StandsForNode, has_sid, is_held_for, is_spent, unless_spent, still_held, begun, joined_by, replace_held, with_join, with_live, state_taking, state_after, NodeStatesStand}
 use Rattle.sg_protocol.proofs.Course.{node_more}
 use Rattle.sg_protocol.proofs.First.{programs_after}
 use Rattle.sg_protocol.proofs.Live.{node_sound, all_sound}
+use Rattle.sg_protocol.proofs.Reached.{Reached, ReachedIn, each_reached, node_reached}
 use Rattle.sg_protocol.proofs.Standing.{held_more}
 
 module _ (ps : List Program) where
@@ -230,6 +231,35 @@ after_call sha hash st n c programs live good s =
       live = each_stands (node_after n c a).programs sha (state_after st c a).live (node_after n c a).live r.live (subst (λ ps. AllByRecursion (IsLive sha ps) (node_after n c a).live) (sym same) sound);
     }
 
+-- the same, by what stands behind the things held
+module _ (sha : Hash) (hash : IsHash sha) (ps : List Program) where
+  one_stands' : (h : Held) (s : Session) (p : Program) → h ≡ held p.graph s → Reached sha hash p s → StandsAtTurn p.graph h s ⊎ StandsWaiting p.graph h s
+  one_stands' h s p q (inl t) = inl (subst (λ z. StandsAtTurn p.graph z s) (sym q) t.0)
+  one_stands' h s p q (inr w) = inr (subst (λ z. StandsWaiting p.graph z s) (sym q) w.0)
+
+  each_stands' : (hs : List Held) (ss : List Session) → HoldEach ps hs ss → AllByRecursion (ReachedIn sha hash ps) ss → StandEach ps hs ss
+  each_stands' [] [] e a = tt
+  each_stands' [] (s ∷ ss) e a = absurd e
+  each_stands' (h ∷ hs) [] e a = absurd e
+  each_stands' (h ∷ hs) (s ∷ ss) e a = (
+    if_both ps (λ p. h ≡ held p.graph s) (λ p. Reached sha hash p s) (λ p. StandsAtTurn p.graph h s ⊎ StandsWaiting p.graph h s) (program_for ps (s.cast).graph s.role) (one_stands' h s) e.0 a.0,
+    each_stands' hs ss e.1 a.1,
+  )
+
+after_backed : (sha : Hash) → IsHash sha → (st : NodeState) (n : Node) (c : Call) → AllByRecursion (IsProgram sha) n.programs → AllByRecursion (IsBackedLive sha n.programs) st.live → IsCallInRange c → StandsForNode st n → StandsForNode (state_after st c (answer sha n c)) (node_after n c (answer sha n c))
+after_backed sha hash st n c programs backed good s =
+    let a : Answer = answer sha n c in
+    let h : HoldsNode st n = record { keys = s.keys; programs = s.programs; joins = s.joins; live = each_holds n.programs st.live n.live s.live } in
+    let r : HoldsNode (state_after st c a) (node_after n c a) = holds_after st n h c a in
+    let same : (node_after n c a).programs ≡ n.programs = programs_after n c a in
+    let reached : AllByRecursion (ReachedIn sha hash n.programs) (node_after n c a).live = node_reached sha hash n programs (each_reached sha hash n.programs st.live n.live s.live backed) c good in
+    record {
+      keys = r.keys;
+      programs = r.programs;
+      joins = r.joins;
+      live = each_stands' sha hash (node_after n c a).programs (state_after st c a).live (node_after n c a).live r.live (subst (λ ps. AllByRecursion (ReachedIn sha hash ps) (node_after n c a).live) (sym same) reached);
+    }
+
 programs_past : (n : Node) (cs : List Called) → (Past'.node_after_all n cs).programs ≡ n.programs
 programs_past n [] = refl
 programs_past n (c ∷ cs) = programs_past (node_after n c.call c.answer) cs ∙ programs_after n c.call c.answer
@@ -240,6 +270,7 @@ node_states_stand sha hash = record {
   finds_session = λ ps hs ss sid a. found ps (has_sid sid) (λ s. bytes_eq s.sid sid) (same_sid ps sid) hs ss a;
   finds_for_frame = λ ps hs ss f a. found ps (is_held_for f) (is_for f) (same_for ps f) hs ss a;
   after_call = λ st n c programs live good s. after_call sha hash st n c (recursion_from_All (IsProgram sha) n.programs programs) (recursion_from_All (IsLive sha n.programs) n.live live) good s;
+  after_backed = λ st n c programs backed good s. after_backed sha hash st n c (recursion_from_All (IsProgram sha) n.programs programs) (recursion_from_All (IsBackedLive sha n.programs) st.live backed) good s;
   after_past = λ st past c programs good its now s.
       let first : Node = new_node past.keys past.programs past.first in
       let same : (node_of past).programs ≡ past.programs = programs_past first past.calls in

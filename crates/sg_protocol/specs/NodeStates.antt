@@ -19,6 +19,7 @@ use Rattle.sg_protocol.specs.IsSchedule.{IsProgram}
 use Rattle.sg_protocol.specs.Ranges.{IsCallInRange}
 use Rattle.sg_protocol.specs.Standing.{Held, StandsWaiting, StandsAtTurn, nothing_kept, held_after}
 use Rattle.sg_protocol.specs.Live.{IsLive}
+use Rattle.sg_protocol.specs.Backed.{IsBackedAtTurn, IsBackedWaiting}
 
 -- a node's keys, programs and joins, and what it holds of each live session in the order of joining
 pub record NodeState : Type 0 where
@@ -120,6 +121,10 @@ state_after st (Abandon sid) Abandoned = with_live st (has_sid sid) (λ h. [])
 state_after st (Deliver bytes) (Happened (Received sid r label time values joins)) = state_taking st (read bytes)
 state_after st call other = st
 
+-- some sound session stands behind what is held, under the program for its graph and role
+abbrev pub IsBackedLive : Hash → List Program → Held → Type 0
+IsBackedLive sha programs h = IsSomeAnd (program_for programs (h.cast).graph h.role) (λ p. IsBackedAtTurn sha p h ⊎ IsBackedWaiting sha p h)
+
 -- ---- the laws
 
 -- A state that stands for a node of sound sessions, after a call in range and its answer stands for the node after them
@@ -128,6 +133,8 @@ pub record NodeStatesStand (sha : Hash) : Type 0 where
   pub finds_session : (programs : List Program) (hs : List Held) (ss : List Session) (sid : List ℕ) → StandEach programs hs ss → StandsIf programs (find (has_sid sid) hs) (session_with ss sid)
   pub finds_for_frame : (programs : List Program) (hs : List Held) (ss : List Session) (f : Frame) → StandEach programs hs ss → StandsIf programs (find (is_held_for f) hs) (session_for ss f)
   pub after_call : (st : NodeState) (n : Node) (c : Call) → All (IsProgram sha) n.programs → All (IsLive sha n.programs) n.live → IsCallInRange c → StandsForNode st n → StandsForNode (state_after st c (answer sha n c)) (node_after n c (answer sha n c))
+  -- so does it where some sound session stands behind each thing held, whatever the sessions of the node are
+  pub after_backed : (st : NodeState) (n : Node) (c : Call) → All (IsProgram sha) n.programs → All (IsBackedLive sha n.programs) st.live → IsCallInRange c → StandsForNode st n → StandsForNode (state_after st c (answer sha n c)) (node_after n c (answer sha n c))
   -- and so for each past whose answers are those of the node
   pub after_past : (st : NodeState) (past : Past) (c : Call) → All (IsProgram sha) past.programs → All (λ c. IsCallInRange c.call) past.calls → AreAnswers sha (new_node past.keys past.programs past.first) past.calls → IsCallInRange c →
       StandsForPast st past → StandsForPast (state_after st c (answer sha (node_of past) c)) (past_after sha past c)

@@ -95,7 +95,7 @@ stands_after : (number : ℕ) (who : Name) (old new : NodeState) (call : Call) (
     → (past : Past) → past.keys.me ≡ who → StandsForPast old past → IsTold past → StandsAs (who, new) (past_after real past call)
 stands_after number who old new call c come past me stands told =
     let came = come past stands in
-    record { me = me; stands = came.goes_on.stands told; told = pasts_go_on past call told came.range }
+    record { me = me; stands = came.goes_on.stands; told = pasts_go_on past call told came.range }
 
 -- a principal's step, with the call that it makes
 call_held : (programs : List Program) (s : Schedule) (w : World) (nodes : List Named) (r : Recorded) (k : ℕ) (x : Step) (c : Came) (who : Name) (i : ℕ) (old new : NodeState) (o : Option Call) (f : Found old who w.pasts)
