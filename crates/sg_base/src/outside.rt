@@ -66,6 +66,7 @@ pub trait Sink {
         requires { 0 < length piece.now }
         ensures never_falls { faults self.old ≤ faults self.new }
         ensures failed { OnErr result (HasRisen (faults self.old) (faults self.new)) }
+        ensures no_fault { OnOk result (faults self.new ≡ faults self.old) }
         ensures some { IfOk result (λ count. 0 < count) }
         ensures fits { IfOk result (λ count. count ≤ length piece.now) }
         ensures appended { IfOk result (λ count. Appends (written self.old) (written self.new) (take count piece.now)) }
@@ -146,6 +147,7 @@ pub trait Fresh {
 pub fn write_all<O: Sink>(out: &mut O, text: &[u8]) -> Result<(), Failed>
     ensures never_falls { O.faults out.old ≤ O.faults out.new }
     ensures failed { OnErr result (HasRisen (O.faults out.old) (O.faults out.new)) }
+    ensures no_fault { OnOk result (O.faults out.new ≡ O.faults out.old) }
     ensures whole { OnOk result (Appends (O.written out.old) (O.written out.new) text.now) }
     ensures front { OnErr result (AppendsFront (O.written out.old) (O.written out.new) text.now) }
 {

@@ -41,6 +41,8 @@ impl<'p> Keeper<'p> {
         disk: &mut D,
     ) -> Result<(), KeepFault>
         requires asked { HasAskedNode self.old (D.may_leave disk.old) (outcome_of outcome.now) }
+        ensures link_bound { L.bound link.new ≡ L.bound link.old }
+        ensures disk_bound { D.bound disk.new ≡ D.bound disk.old }
         ensures faults { TellsFaults (record { link = L.faults link.old; out = O.faults out.old; disk = D.faults disk.old })
             (record { link = L.faults link.new; out = O.faults out.new; disk = D.faults disk.new }) result }
         ensures deliveries { L.deliveries link.new ≡ L.deliveries link.old }
@@ -67,6 +69,7 @@ impl<'p> Keeper<'p> {
     // doesn't have this one, and it isn't full.
     fn keep_join<D: Disk>(&mut self, outcome: &Outcome, disk: &mut D) -> Result<(), KeepFault>
         requires asked { HasAskedNode self.old (D.may_leave disk.old) (outcome_of outcome.now) }
+        ensures disk_bound { D.bound disk.new ≡ D.bound disk.old }
         ensures falls { D.faults disk.old ≤ D.faults disk.new }
         ensures failed { result ≡ Err KeepFault.DiskFailed → HasRisen (D.faults disk.old) (D.faults disk.new) }
         ensures causes { IfErr result (λ e. (e ≡ KeepFault.DiskFailed) ⊎ (e ≡ KeepFault.Played PlayFault.OutOfMemory)) }
@@ -89,6 +92,7 @@ pub fn add_join<D: Disk>(
     requires working { ledger.old.failed ≡ false }
     requires images { AllStandFor (D.may_leave disk.old) ledger.old.joins }
     requires new { IfSome (option_and_then join_told (outcome_of outcome.now)) (IsNew ledger.old.joins) }
+    ensures disk_bound { D.bound disk.new ≡ D.bound disk.old }
     ensures falls { D.faults disk.old ≤ D.faults disk.new }
     ensures failed { result ≡ Err KeepFault.DiskFailed → HasRisen (D.faults disk.old) (D.faults disk.new) }
     ensures causes { IfErr result (λ e. (e ≡ KeepFault.DiskFailed) ⊎ (e ≡ KeepFault.Played PlayFault.OutOfMemory)) }

@@ -29,6 +29,8 @@ impl<'p> Keeper<'p> {
         disk: &mut D,
     ) -> Result<(), KeepFault>
         requires holds { HoldsJoins self.old (D.may_leave disk.old) }
+        ensures link_bound { L.bound link.new ≡ L.bound link.old }
+        ensures disk_bound { D.bound disk.new ≡ D.bound disk.old }
         ensures faults { TellsFaults (record { link = L.faults link.old; out = O.faults out.old; disk = D.faults disk.old })
             (record { link = L.faults link.new; out = O.faults out.new; disk = D.faults disk.new }) result }
         ensures deliveries { L.deliveries link.new ≡ L.deliveries link.old }
@@ -56,6 +58,8 @@ impl<'p> Keeper<'p> {
         disk: &mut D,
     ) -> Result<(), KeepFault>
         requires holds { HoldsJoins self.old (D.may_leave disk.old) }
+        ensures link_bound { L.bound link.new ≡ L.bound link.old }
+        ensures disk_bound { D.bound disk.new ≡ D.bound disk.old }
         ensures faults { TellsFaults (record { link = L.faults link.old; out = O.faults out.old; disk = D.faults disk.old })
             (record { link = L.faults link.new; out = O.faults out.new; disk = D.faults disk.new }) result }
         ensures deliveries { L.deliveries link.new ≡ L.deliveries link.old }
@@ -82,6 +86,8 @@ impl<'p> Keeper<'p> {
         disk: &mut D,
     ) -> Result<(), KeepFault>
         requires holds { HoldsJoins self.old (D.may_leave disk.old) }
+        ensures link_bound { L.bound link.new ≡ L.bound link.old }
+        ensures disk_bound { D.bound disk.new ≡ D.bound disk.old }
         ensures faults { TellsFaults (record { link = L.faults link.old; out = O.faults out.old; disk = D.faults disk.old })
             (record { link = L.faults link.new; out = O.faults out.new; disk = D.faults disk.new }) result }
         ensures came { (p : Play) (start : Outside) (deliveries : List (List ℕ)) → L.deliveries link.old ≡ Some deliveries → StandsForKept self.old p → R.words fresh.old ≡ Some p.words
@@ -117,6 +123,8 @@ impl<'p> Keeper<'p> {
         disk: &mut D,
     ) -> Result<(), KeepFault>
         requires holds { HoldsJoins self.old (D.may_leave disk.old) }
+        ensures link_bound { L.bound link.new ≡ L.bound link.old }
+        ensures disk_bound { D.bound disk.new ≡ D.bound disk.old }
         ensures faults { TellsFaults (record { link = L.faults link.old; out = O.faults out.old; disk = D.faults disk.old })
             (record { link = L.faults link.new; out = O.faults out.new; disk = D.faults disk.new }) result }
         ensures deliveries { L.deliveries link.new ≡ L.deliveries link.old }
@@ -153,6 +161,8 @@ pub fn keep<'p, L: Link, R: Fresh, O: Sink, D: Disk>(
     requires keys { keys_of_node ≡ keys.now }
     requires working { ledger.failed ≡ false }
     requires stands { AllStandFor (D.may_leave disk.old) ledger.joins }
+    ensures link_bound { L.bound link.new ≡ L.bound link.old }
+    ensures disk_bound { D.bound disk.new ≡ D.bound disk.old }
     ensures faults { TellsFaults (record { link = L.faults link.old; out = O.faults out.old; disk = D.faults disk.old })
         (record { link = L.faults link.new; out = O.faults out.new; disk = D.faults disk.new }) result }
 

@@ -3,7 +3,7 @@
 //! Between two syncs a crash may leave any bytes in each range that was written and past the old end, also where the write failed;
 //! the bytes elsewhere stay. After a sync that succeeds it leaves what a read gives. What a crash may leave are the images of the
 //! disk. A disk in memory tells its file and its images; one of the system tells neither, so the clauses on them speak of what is
-//! told.
+//! told. The name of the file that it is bound to, each disk tells.
 ghost use Rattle.std.specs.Prelude.{◌≡◌, ℕ, ◌+◌, ◌<◌, ◌≤◌, ◌^◌, List, Option, Some, length, take, drop, IfOk, OnErr, OnOk};
 ghost use Rattle.sg_base.specs.Outside.{HasRisen};
 ghost use Rattle.sg_ledger.specs.Disk.{overlaid, Torn, Keeps, Follows, Elapses, WhereTold};
@@ -28,6 +28,9 @@ pub trait Disk {
     /// How often a call failed.
     ghost faults: { Self → ℕ };
 
+    /// The name of the file that it is bound to, or `None` before one is opened.
+    ghost bound: { Self → Option (List ℕ) };
+
     /// The bytes of the file as a read gives them, where they are told.
     ghost seen: { Self → Option (List ℕ) };
 
@@ -40,10 +43,12 @@ pub trait Disk {
     /// What a crash at some moment from that one on might have left, within a call or between two.
     ghost left_since: { Self → ℕ → List ℕ → Type 0 };
 
-    /// Binds the file of a name, which is made empty where it is missing.
+    /// Binds the file of a name, which is made empty where it is missing. Where it fails, it is bound to the file of before.
     fn open(&mut self, name: &str) -> Result<(), Failed>
         ensures never_falls { faults self.old ≤ faults self.new }
         ensures failed { OnErr result (HasRisen (faults self.old) (faults self.new)) }
+        ensures binds { OnOk result (bound self.new ≡ Some name.now) }
+        ensures kept_bound { OnErr result (bound self.new ≡ bound self.old) }
         ensures kept { seen self.new ≡ seen self.old }
         ensures images { Keeps (may_leave self.old) (may_leave self.new) }
         ensures time { Elapses (moment self.old) (moment self.new) (left_since self.old) (left_since self.new) (may_leave self.new) };
@@ -52,6 +57,7 @@ pub trait Disk {
     fn size(&mut self) -> Result<u32, Failed>
         ensures never_falls { faults self.old ≤ faults self.new }
         ensures failed { OnErr result (HasRisen (faults self.old) (faults self.new)) }
+        ensures kept_bound { bound self.new ≡ bound self.old }
         ensures length { IfOk result (λ n. WhereTold (seen self.old) (λ file. n ≡ length file)) }
         ensures kept { seen self.new ≡ seen self.old }
         ensures images { Keeps (may_leave self.old) (may_leave self.new) }
@@ -62,6 +68,7 @@ pub trait Disk {
         requires { WhereTold (seen self.old) (λ file. at + count ≤ length file) }
         ensures never_falls { faults self.old ≤ faults self.new }
         ensures failed { result ≡ Err DiskFault.Failed → HasRisen (faults self.old) (faults self.new) }
+        ensures kept_bound { bound self.new ≡ bound self.old }
         ensures count { IfOk result (λ bytes. length bytes.items ≡ count) }
         ensures bytes { IfOk result (λ bytes. WhereTold (seen self.old) (λ file. bytes.items ≡ take count (drop at file))) }
         ensures kept { seen self.new ≡ seen self.old }
@@ -74,6 +81,7 @@ pub trait Disk {
         requires begins { WhereTold (seen self.old) (λ file. at ≤ length file) }
         ensures never_falls { faults self.old ≤ faults self.new }
         ensures failed { OnErr result (HasRisen (faults self.old) (faults self.new)) }
+        ensures kept_bound { bound self.new ≡ bound self.old }
         ensures written { OnOk result (WhereTold (seen self.old) (λ file. seen self.new ≡ Some (overlaid file at bytes.now))) }
         ensures images { Follows (Torn at (length bytes.now)) (may_leave self.old) (may_leave self.new) }
         ensures time { Elapses (moment self.old) (moment self.new) (left_since self.old) (left_since self.new) (may_leave self.new) };
@@ -82,6 +90,7 @@ pub trait Disk {
     fn sync(&mut self) -> Result<(), Failed>
         ensures never_falls { faults self.old ≤ faults self.new }
         ensures failed { OnErr result (HasRisen (faults self.old) (faults self.new)) }
+        ensures kept_bound { bound self.new ≡ bound self.old }
         ensures durable { OnOk result ((image : List ℕ) → may_leave self.new image → seen self.new ≡ Some image) }
         ensures kept { seen self.new ≡ seen self.old }
         ensures images { Keeps (may_leave self.old) (may_leave self.new) }

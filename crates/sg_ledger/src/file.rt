@@ -1,11 +1,12 @@
-//! A file of the system as a disk. It tells nothing of its bytes: what its file holds, and what a crash leaves of it, is what the system
-//! says.
+//! A file of the system as a disk. It tells its name and nothing of its bytes: what the file holds, and what a crash leaves of it, is what
+//! the system says.
 //!
 //! One process has the file at a time. `open` takes the advisory lock on the whole file (flock(2)), and it is kept until the process
 //! ends, however it ends; while another process has it, `open` fails.
-ghost use Rattle.std.specs.Prelude.{◌≡◌, ◌≤◌, length, IfOk};
+ghost use Rattle.std.specs.Prelude.{◌≡◌, ◌≤◌, None, length, IfOk};
 ghost use Rattle.sg_base.specs.Outside.{HasRisen};
 
+use crate::bound::Bound;
 use crate::{Disk, DiskFault};
 use sg_base::{Failed, OutOfMemory};
 use std::alloc::Global;
@@ -18,17 +19,20 @@ use std::{fs, io, rt};
 pub struct FileDisk<R: rt::Files<File = File>> {
     rt: R,
     file: Option<File>,
+    bound: Bound,
     faults: u64,
 }
 
 impl<R: rt::Files<File = File> + Drop> FileDisk<R> {
     /// No file yet, and a count of faults of 0.
     pub fn new(rt: R) -> FileDisk<R>
-        ensures { ⟦<FileDisk<R> as Disk>⟧.faults result ≡ 0 }
+        ensures faults { ⟦<FileDisk<R> as Disk>⟧.faults result ≡ 0 }
+        ensures bound { ⟦<FileDisk<R> as Disk>⟧.bound result ≡ None }
     {
         FileDisk {
             rt,
             file: None,
+            bound: Bound::new(),
             faults: 0,
         }
     }
@@ -37,6 +41,7 @@ impl<R: rt::Files<File = File> + Drop> FileDisk<R> {
     fn fault(&mut self) -> Failed
         ensures never_falls { ⟦<FileDisk<R> as Disk>⟧.faults self.old ≤ ⟦<FileDisk<R> as Disk>⟧.faults self.new }
         ensures risen { HasRisen (⟦<FileDisk<R> as Disk>⟧.faults self.old) (⟦<FileDisk<R> as Disk>⟧.faults self.new) }
+        ensures kept_bound { ⟦<FileDisk<R> as Disk>⟧.bound self.new ≡ ⟦<FileDisk<R> as Disk>⟧.bound self.old }
     {
         self.faults = self.faults.saturating_add(1);
         Failed
@@ -85,6 +90,8 @@ impl<R: rt::Files<File = File> + Drop> Disk for FileDisk<R> {
 
     ghost faults = { λ d. d.faults };
 
+    ghost bound = { λ d. d.bound };
+
     ghost seen = { λ _. None };
 
     ghost may_leave = { λ _ _. ⊥ };
@@ -101,15 +108,17 @@ impl<R: rt::Files<File = File> + Drop> Disk for FileDisk<R> {
 
     ghost only_now = { λ _ _ left. left };
 
-    /// The name that it opens is on the disk too once it answers Ok.
+    /// The name that it opens is on the disk too once it answers Ok. It fails too for a name of more than 4,095 bytes, which is longer than
+    /// a path may be.
     fn open(&mut self, name: &str) -> Result<(), Failed> {
-        match open_file(&self.rt, name) {
-            Ok(file) => {
-                self.file = Some(file);
-                Ok(())
-            }
-            Err(_) => Err(self.fault()),
+        if self.bound.has_room_for(name)
+            && let Ok(file) = open_file(&self.rt, name)
+        {
+            self.file = Some(file);
+            self.bound.put(name);
+            return Ok(());
         }
+        Err(self.fault())
     }
 
     /// A file of 4 GiB or more has the greatest length that there is.

@@ -94,6 +94,7 @@ impl Ledger {
     /// failed, the file is then as before.
     pub fn create<D: Disk>(alloc: Global, disk: &mut D) -> Result<(), CreateFault>
         ensures never_falls { D.faults disk.old ≤ D.faults disk.new }
+        ensures kept_bound { D.bound disk.new ≡ D.bound disk.old }
         ensures failed { result ≡ Err CreateFault.Failed → HasRisen (D.faults disk.old) (D.faults disk.new) }
         ensures empty { OnOk result (WhereTold (D.seen disk.old) (λ file. file ≡ [])) }
         ensures not_empty { IfErr result (λ e. (size : ℕ) → e ≡ CreateFault.NotEmpty size → (0 < size) × WhereTold (D.seen disk.old) (λ file. length file ≡ size)) }
@@ -125,6 +126,7 @@ impl Ledger {
     /// joins that the image stands for.
     pub fn open<D: Disk>(alloc: Global, disk: &mut D) -> Result<Ledger, OpenFault>
         ensures never_falls { D.faults disk.old ≤ D.faults disk.new }
+        ensures kept_bound { D.bound disk.new ≡ D.bound disk.old }
         ensures failed { result ≡ Err OpenFault.Failed → HasRisen (D.faults disk.old) (D.faults disk.new) }
         ensures not_failed { IfOk result (λ ledger. ledger.failed ≡ false) }
         ensures joins { IfOk result (λ ledger. WhereTold (D.seen disk.old) (λ file. StandsFor file ledger.joins)) }
@@ -178,6 +180,7 @@ impl Ledger {
         requires working { self.old.failed ≡ false }
         requires stands { (image : List ℕ) → D.may_leave disk.old image → StandsFor image self.old.joins }
         ensures never_falls { D.faults disk.old ≤ D.faults disk.new }
+        ensures kept_bound { D.bound disk.new ≡ D.bound disk.old }
         ensures twice { (result ≡ Err AddJoinFault.Twice) ↔ Contains self.old.joins (sid, role) }
         ensures full { (result ≡ Err AddJoinFault.Full) ↔ ((¬ Contains self.old.joins (sid, role)) × (length self.old.joins ≡ most_joins)) }
         ensures failed { result ≡ Err AddJoinFault.Failed → HasRisen (D.faults disk.old) (D.faults disk.new) }
@@ -239,6 +242,7 @@ fn has_head(file: &[u8]) -> bool
 // The bytes of a file that is as long as a ledger, synced first.
 fn read_file<D: Disk>(alloc: Global, disk: &mut D) -> Result<Vec<u8>, OpenFault>
     ensures never_falls { D.faults disk.old ≤ D.faults disk.new }
+    ensures kept_bound { D.bound disk.new ≡ D.bound disk.old }
     ensures failed { result ≡ Err OpenFault.Failed → HasRisen (D.faults disk.old) (D.faults disk.new) }
     ensures length { IfOk result (λ file. length file.items ≡ 2228232) }
     ensures told { IfOk result (λ file. WhereTold (D.seen disk.old) (λ seen. file.items ≡ seen)) }
@@ -275,6 +279,7 @@ fn write_join<D: Disk>(
     requires absent { ¬ Contains joins.now.keys join }
     requires stands { (image : List ℕ) → D.may_leave disk.old image → StandsFor image joins.now.keys }
     ensures never_falls { D.faults disk.old ≤ D.faults disk.new }
+    ensures kept_bound { D.bound disk.new ≡ D.bound disk.old }
     ensures failed { OnErr result (HasRisen (D.faults disk.old) (D.faults disk.new)) }
     ensures acknowledged { OnOk result ((image : List ℕ) → D.may_leave disk.new image → StandsFor image (joins.now.keys ++ join ∷ [])) }
     ensures any_moment { LeavesOnly D.moment D.left_since disk.old disk.new (StandsForOneOf joins.now.keys join) }
@@ -300,6 +305,7 @@ fn write_through<D: Disk>(disk: &mut D, at: u32, bytes: &[u8]) -> Result<(), Fai
     requires fits { at + length bytes.now < 2 ^ 32 }
     requires begins { WhereTold (D.seen disk.old) (λ file. at ≤ length file) }
     ensures never_falls { D.faults disk.old ≤ D.faults disk.new }
+    ensures kept_bound { D.bound disk.new ≡ D.bound disk.old }
     ensures failed { OnErr result (HasRisen (D.faults disk.old) (D.faults disk.new)) }
     ensures written { OnOk result (WhereTold (D.seen disk.old) (λ file. D.seen disk.new ≡ Some (overlaid file at bytes.now))) }
     ensures durable { OnOk result ((image : List ℕ) → D.may_leave disk.new image → (file : List ℕ) × (D.seen disk.old ≡ Some file) × (image ≡ overlaid file at bytes.now)) }

@@ -9,6 +9,7 @@
 //! [`Disk`] says what is asked of a disk. [`MemDisk`] is one that crashes as a test asks; [`FileDisk`] is a file of the system.
 #![tactic(auto)]
 
+mod bound;
 mod disk;
 mod file;
 mod ledger;

@@ -6,6 +6,7 @@ ghost use Rattle.sg_ledger.specs.Memory.{platter, picked, IsImage, LeftSince};
 ghost use Rattle.sg_ledger.specs.Plan.{fate_of, after_fate};
 ghost use Rattle.sg_ledger.specs.declared.plan.Fate.TheVariants.{Goes};
 
+use crate::bound::Bound;
 use crate::medium::Medium;
 use crate::plan::{DiskPlan, Fate};
 use crate::{Disk, DiskCall, DiskFault};
@@ -13,14 +14,16 @@ use sg_base::{Failed, OutOfMemory};
 use std::alloc::Global;
 use std::marker::Model;
 
-/// A disk in memory with one file, which is empty at first. It tells its file and its images at each moment, by a record of its calls.
+/// A disk in memory with one file, which is empty at first. It tells its file and its images at each moment, by a record of its calls, and
+/// the name that it was opened by; each name is that of the one file.
 ///
 /// It has room for a given number of bytes in the file and as many written in all, and for a given number of calls, and doesn't grow.
 /// Its calls are counted from 1. Those of a given list fail; a write among them leaves its range to chance. After a given number of
 /// calls it stops, as when the power fails: every later call fails, and none reaches the disk. So does a call for which the record
-/// has no room; a write past the room of bytes fails and leaves the file as it was.
+/// has no room; a write past the room of bytes fails and leaves the file as it was, and `open` fails for a name of more than 4,095 bytes.
 #[derive(Debug, Drop)]
 pub struct MemDisk {
+    bound: Bound,
     medium: Medium,
     plan: DiskPlan,
 }
@@ -30,7 +33,7 @@ impl Model for MemDisk {
 
     ghost Value = { DiskHeld };
 
-    ghost view = { λ d. record { medium = d.medium; plan = d.plan } };
+    ghost view = { λ d. record { bound = d.bound; medium = d.medium; plan = d.plan } };
 }
 
 impl MemDisk {
@@ -44,11 +47,13 @@ impl MemDisk {
         stop: Option<u32>,
     ) -> Result<MemDisk, OutOfMemory>
         ensures { IfOk result (λ d. d ≡ record {
+          bound = None;
           medium = record { start = []; calls = []; written = []; room = room; most = calls };
           plan = record { fails = fails.items; stop = stop; calls = 0; faults = 0 };
         }) }
     {
         Ok(MemDisk {
+            bound: Bound::new(),
             medium: Medium::new(alloc, room, calls)?,
             plan: DiskPlan::new(fails, stop),
         })
@@ -69,18 +74,20 @@ impl MemDisk {
     }
 
     /// A disk whose file is one of the images: the bytes at the last sync, with the next of the picks for each byte of each range that
-    /// was written since, in the order of the writes, or zero past their end. It has the same room, an empty record, no calls that are
-    /// to fail and no stop. It takes no memory.
+    /// was written since, in the order of the writes, or zero past their end. It is bound to no name, and has the same room, an empty
+    /// record, no calls that are to fail and no stop. It takes no memory.
     pub fn crash(self, picks: &[u8]) -> MemDisk
         ensures image { IsImage (platter self.medium) (platter result.medium).seen }
         ensures picked { (platter result.medium).seen ≡ picked (platter self.medium).synced (platter self.medium).tears picks.now }
+        ensures bound { result.bound ≡ None }
         ensures calls { result.medium.calls ≡ [] }
         ensures room { result.medium.room ≡ self.medium.room }
         ensures most { result.medium.most ≡ self.medium.most }
         ensures plan { result.plan ≡ record { fails = []; stop = None; calls = 0; faults = 0 } }
     {
-        let MemDisk { medium, plan } = self;
+        let MemDisk { medium, plan, .. } = self;
         MemDisk {
+            bound: Bound::new(),
             medium: medium.crash(picks),
             plan: plan.cleared(),
         }
@@ -90,6 +97,7 @@ impl MemDisk {
     fn keep(&mut self) -> Result<(), Failed>
         ensures cause { IsOk result ↔ (fate_of self.old.plan (nat_lt (length self.old.medium.calls) self.old.medium.most) ≡ Goes) }
         ensures plan { self.new.plan ≡ after_fate self.old.plan (fate_of self.old.plan (nat_lt (length self.old.medium.calls) self.old.medium.most)) }
+        ensures bound { self.new.bound ≡ self.old.bound }
         ensures state { platter self.new.medium ≡ platter self.old.medium }
         ensures time { Elapses (length self.old.medium.calls) (length self.new.medium.calls) (LeftSince self.old.medium) (LeftSince self.new.medium) (IsImage (platter self.new.medium)) }
     {
@@ -112,6 +120,8 @@ impl Disk for MemDisk {
 
     ghost faults = { λ d. d.plan.faults };
 
+    ghost bound = { λ d. d.bound };
+
     ghost seen = { λ d. Some (platter d.medium).seen };
 
     ghost may_leave = { λ d image. IsImage (platter d.medium) image };
@@ -128,10 +138,15 @@ impl Disk for MemDisk {
 
     ghost only_now = { λ d image left. now_only d.medium image left };
 
-    /// It ignores the name.
+    /// The file is the same, whatever the name.
     fn open(&mut self, name: &str) -> Result<(), Failed> {
-        let _ = name;
-        self.keep()
+        self.keep()?;
+        if !self.bound.has_room_for(name) {
+            self.plan.fault();
+            return Err(Failed);
+        }
+        self.bound.put(name);
+        Ok(())
     }
 
     fn size(&mut self) -> Result<u32, Failed> {

@@ -111,6 +111,7 @@ impl<'p> Player<'p> {
         link: &mut L,
         out: &mut O,
     ) -> Result<Option<Sid>, PlayFault>
+        ensures link_bound { L.bound link.new ≡ L.bound link.old }
         ensures link_falls { L.faults link.old ≤ L.faults link.new }
         ensures out_falls { O.faults out.old ≤ O.faults out.new }
         ensures link_failed { result ≡ Err PlayFault.LinkFailed → HasRisen (L.faults link.old) (L.faults link.new) }
@@ -132,6 +133,7 @@ impl<'p> Player<'p> {
         link: &mut L,
         out: &mut O,
     ) -> Result<Option<Sid>, PlayFault>
+        ensures link_bound { L.bound link.new ≡ L.bound link.old }
         ensures link_falls { L.faults link.old ≤ L.faults link.new }
         ensures out_falls { O.faults out.old ≤ O.faults out.new }
         ensures link_failed { result ≡ Err PlayFault.LinkFailed → HasRisen (L.faults link.old) (L.faults link.new) }
@@ -153,6 +155,7 @@ impl<'p> Player<'p> {
         link: &mut L,
         out: &mut O,
     ) -> Result<(), PlayFault>
+        ensures link_bound { L.bound link.new ≡ L.bound link.old }
         ensures link_falls { L.faults link.old ≤ L.faults link.new }
         ensures out_falls { O.faults out.old ≤ O.faults out.new }
         ensures link_failed { result ≡ Err PlayFault.LinkFailed → HasRisen (L.faults link.old) (L.faults link.new) }
@@ -177,6 +180,7 @@ impl<'p> Player<'p> {
         link: &mut L,
         out: &mut O,
     ) -> Result<(), PlayFault>
+        ensures link_bound { L.bound link.new ≡ L.bound link.old }
         ensures link_falls { L.faults link.old ≤ L.faults link.new }
         ensures out_falls { O.faults out.old ≤ O.faults out.new }
         ensures link_failed { result ≡ Err PlayFault.LinkFailed → HasRisen (L.faults link.old) (L.faults link.new) }

@@ -14,6 +14,7 @@ pub(crate) struct Made {
 
 /// Sends the frame of a step, if there is one, and writes its line when the link has taken the frame. It takes no memory.
 pub(crate) fn post<L: Link, O: Sink>(made: Made, link: &mut L, out: &mut O) -> Result<(), PlayFault>
+    ensures link_bound { L.bound link.new ≡ L.bound link.old }
     ensures link_falls { L.faults link.old ≤ L.faults link.new }
     ensures out_falls { O.faults out.old ≤ O.faults out.new }
     ensures link_failed { result ≡ Err PlayFault.LinkFailed → HasRisen (L.faults link.old) (L.faults link.new) }
@@ -38,6 +39,7 @@ pub(crate) fn post<L: Link, O: Sink>(made: Made, link: &mut L, out: &mut O) -> R
 
 // Sends a frame, if there is one.
 fn send<L: Link>(frame: Option<(Addr, Sealed)>, link: &mut L) -> Result<(), PlayFault>
+    ensures link_bound { L.bound link.new ≡ L.bound link.old }
     ensures falls { L.faults link.old ≤ L.faults link.new }
     ensures failed { OnErr result (HasRisen (L.faults link.old) (L.faults link.new)) }
     ensures deliveries { L.deliveries link.new ≡ L.deliveries link.old }

@@ -26,6 +26,7 @@ impl<'p> Player<'p> {
         fresh: &mut R,
         out: &mut O,
     ) -> Result<(), PlayFault>
+        ensures link_bound { L.bound link.new ≡ L.bound link.old }
         ensures link_falls { L.faults link.old ≤ L.faults link.new }
         ensures out_falls { O.faults out.old ≤ O.faults out.new }
         ensures link_failed { result ≡ Err PlayFault.LinkFailed → HasRisen (L.faults link.old) (L.faults link.new) }
@@ -48,6 +49,7 @@ impl<'p> Player<'p> {
         fresh: &mut R,
         out: &mut O,
     ) -> Result<(), PlayFault>
+        ensures link_bound { L.bound link.new ≡ L.bound link.old }
         ensures link_falls { L.faults link.old ≤ L.faults link.new }
         ensures out_falls { O.faults out.old ≤ O.faults out.new }
         ensures link_failed { result ≡ Err PlayFault.LinkFailed → HasRisen (L.faults link.old) (L.faults link.new) }
@@ -71,6 +73,7 @@ impl<'p> Player<'p> {
         fresh: &mut R,
         out: &mut O,
     ) -> Result<(), PlayFault>
+        ensures link_bound { L.bound link.new ≡ L.bound link.old }
         ensures link_falls { L.faults link.old ≤ L.faults link.new }
         ensures out_falls { O.faults out.old ≤ O.faults out.new }
         ensures link_failed { result ≡ Err PlayFault.LinkFailed → HasRisen (L.faults link.old) (L.faults link.new) }
@@ -100,6 +103,7 @@ impl<'p> Player<'p> {
         fresh: &mut R,
         out: &mut O,
     ) -> Result<(), PlayFault>
+        ensures link_bound { L.bound link.new ≡ L.bound link.old }
         ensures link_falls { L.faults link.old ≤ L.faults link.new }
         ensures out_falls { O.faults out.old ≤ O.faults out.new }
         ensures link_failed { result ≡ Err PlayFault.LinkFailed → HasRisen (L.faults link.old) (L.faults link.new) }
@@ -121,6 +125,7 @@ impl<'p> Player<'p> {
         fresh: &mut R,
         out: &mut O,
     ) -> Result<(), PlayFault>
+        ensures link_bound { L.bound link.new ≡ L.bound link.old }
         ensures link_falls { L.faults link.old ≤ L.faults link.new }
         ensures out_falls { O.faults out.old ≤ O.faults out.new }
         ensures link_failed { result ≡ Err PlayFault.LinkFailed → HasRisen (L.faults link.old) (L.faults link.new) }
@@ -175,6 +180,7 @@ pub fn play<'p, L: Link, R: Fresh, O: Sink>(
     fresh: &mut R,
     out: &mut O,
 ) -> Result<(), PlayFault>
+    ensures link_bound { L.bound link.new ≡ L.bound link.old }
     ensures link_falls { L.faults link.old ≤ L.faults link.new }
     ensures out_falls { O.faults out.old ≤ O.faults out.new }
     ensures link_failed { result ≡ Err PlayFault.LinkFailed → HasRisen (L.faults link.old) (L.faults link.new) }

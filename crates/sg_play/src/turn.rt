@@ -29,6 +29,7 @@ impl<'p> Player<'p> {
         fresh: &mut R,
         out: &mut O,
     ) -> Result<(), PlayFault>
+        ensures link_bound { L.bound link.new ≡ L.bound link.old }
         ensures link_falls { L.faults link.old ≤ L.faults link.new }
         ensures out_falls { O.faults out.old ≤ O.faults out.new }
         ensures link_failed { result ≡ Err PlayFault.LinkFailed → HasRisen (L.faults link.old) (L.faults link.new) }
@@ -57,6 +58,7 @@ impl<'p> Player<'p> {
         fresh: &mut R,
         out: &mut O,
     ) -> Result<bool, PlayFault>
+        ensures link_bound { L.bound link.new ≡ L.bound link.old }
         ensures link_falls { L.faults link.old ≤ L.faults link.new }
         ensures out_falls { O.faults out.old ≤ O.faults out.new }
         ensures link_failed { result ≡ Err PlayFault.LinkFailed → HasRisen (L.faults link.old) (L.faults link.new) }
@@ -83,6 +85,7 @@ impl<'p> Player<'p> {
         fresh: &mut R,
         out: &mut O,
     ) -> Result<bool, PlayFault>
+        ensures link_bound { L.bound link.new ≡ L.bound link.old }
         ensures link_falls { L.faults link.old ≤ L.faults link.new }
         ensures out_falls { O.faults out.old ≤ O.faults out.new }
         ensures link_failed { result ≡ Err PlayFault.LinkFailed → HasRisen (L.faults link.old) (L.faults link.new) }

@@ -33,6 +33,7 @@ impl<'p> Server<'p> {
         disk: &mut D,
     ) -> Result<Reply, ServeFault>
         requires holds { HoldsJoins self.old (D.may_leave disk.old) }
+        ensures disk_bound { D.bound disk.new ≡ D.bound disk.old }
         ensures falls { D.faults disk.old ≤ D.faults disk.new }
         ensures untouched { IsNone self.old.ledger → disk.new ≡ disk.old }
         ensures failed { result ≡ Err ServeFault.DiskFailed → HasRisen (D.faults disk.old) (D.faults disk.new) }
@@ -60,6 +61,7 @@ impl<'p> Server<'p> {
         disk: &mut D,
     ) -> Result<Reply, ServeFault>
         requires holds { HoldsJoins self.old (D.may_leave disk.old) }
+        ensures disk_bound { D.bound disk.new ≡ D.bound disk.old }
         ensures falls { D.faults disk.old ≤ D.faults disk.new }
         ensures untouched { IsNone self.old.ledger → disk.new ≡ disk.old }
         ensures failed { result ≡ Err ServeFault.DiskFailed → HasRisen (D.faults disk.old) (D.faults disk.new) }

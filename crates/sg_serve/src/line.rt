@@ -29,6 +29,8 @@ impl<'p> Server<'p> {
         disk: &mut D,
     ) -> Result<Option<Reply>, ServeFault>
         requires holds { HoldsJoins self.old (D.may_leave disk.old) }
+        ensures link_bound { L.bound link.new ≡ L.bound link.old }
+        ensures disk_bound { D.bound disk.new ≡ D.bound disk.old }
         ensures link_falls { L.faults link.old ≤ L.faults link.new }
         ensures falls { D.faults disk.old ≤ D.faults disk.new }
         ensures untouched { IsNone self.old.ledger → disk.new ≡ disk.old }
@@ -60,6 +62,8 @@ impl<'p> Server<'p> {
         disk: &mut D,
     ) -> Result<Reply, ServeFault>
         requires holds { HoldsJoins self.old (D.may_leave disk.old) }
+        ensures link_bound { L.bound link.new ≡ L.bound link.old }
+        ensures disk_bound { D.bound disk.new ≡ D.bound disk.old }
         ensures link_falls { L.faults link.old ≤ L.faults link.new }
         ensures falls { D.faults disk.old ≤ D.faults disk.new }
         ensures untouched { IsNone self.old.ledger → disk.new ≡ disk.old }
@@ -87,6 +91,7 @@ impl<'p> Server<'p> {
     ) -> Result<Reply, ServeFault>
         requires holds { HoldsJoins self.old (D.may_leave disk.old) }
         requires given { AreGiven request }
+        ensures disk_bound { D.bound disk.new ≡ D.bound disk.old }
         ensures falls { D.faults disk.old ≤ D.faults disk.new }
         ensures untouched { IsNone self.old.ledger → disk.new ≡ disk.old }
         ensures failed { result ≡ Err ServeFault.DiskFailed → HasRisen (D.faults disk.old) (D.faults disk.new) }

@@ -39,6 +39,7 @@ impl Reply {
     // Sends the frame, if there is one, and then writes the answer, which says so where the link doesn't take the frame. It takes no
     // memory.
     pub fn give<L: TimedLink, O: Sink>(&self, link: &mut L, out: &mut O) -> Result<(), ServeFault>
+        ensures link_bound { L.bound link.new ≡ L.bound link.old }
         ensures out_falls { O.faults out.old ≤ O.faults out.new }
         ensures write_failed { OnErr result (HasRisen (O.faults out.old) (O.faults out.new)) }
         ensures causes { IfErr result (λ e. e ≡ ServeFault.WriteFailed) }
@@ -51,6 +52,7 @@ impl Reply {
 
     // Sends the frame, if there is one, and says whether the link took it.
     fn send<L: TimedLink>(&self, link: &mut L) -> bool
+        ensures link_bound { L.bound link.new ≡ L.bound link.old }
         ensures falls { L.faults link.old ≤ L.faults link.new }
         ensures risen { result ≡ false → HasRisen (L.faults link.old) (L.faults link.new) }
         ensures quiet { self.now.frames ≡ [] → result ≡ true }

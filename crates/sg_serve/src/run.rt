@@ -34,6 +34,8 @@ impl<'p> Server<'p> {
         disk: &mut D,
     ) -> Result<(), ServeFault>
         requires holds { HoldsJoins self.old (D.may_leave disk.old) }
+        ensures link_bound { L.bound link.new ≡ L.bound link.old }
+        ensures disk_bound { D.bound disk.new ≡ D.bound disk.old }
         ensures faults { TellsFaults (record { link = L.faults link.old; out = O.faults out.old; disk = D.faults disk.old })
             (record { link = L.faults link.new; out = O.faults out.new; disk = D.faults disk.new }) result }
         ensures untouched { IsNone self.old.ledger → disk.new ≡ disk.old }
@@ -77,6 +79,8 @@ impl<'p> Server<'p> {
         disk: &mut D,
     ) -> Result<bool, ServeFault>
         requires holds { HoldsJoins self.old (D.may_leave disk.old) }
+        ensures link_bound { L.bound link.new ≡ L.bound link.old }
+        ensures disk_bound { D.bound disk.new ≡ D.bound disk.old }
         ensures faults { TellsFaults (record { link = L.faults link.old; out = O.faults out.old; disk = D.faults disk.old })
             (record { link = L.faults link.new; out = O.faults out.new; disk = D.faults disk.new }) result }
         ensures untouched { IsNone self.old.ledger → disk.new ≡ disk.old }
@@ -119,6 +123,8 @@ pub fn serve<'p, I: Input, L: TimedLink, R: Fresh, O: Sink, D: Disk>(
     requires node { node ≡ new_state keys.now programs.now (joins_kept ledger) }
     requires working { IfSome ledger (λ l. l.failed ≡ false) }
     requires stands { AllStandFor (images_if (is_some ledger) (D.may_leave disk.old)) (joins_kept ledger) }
+    ensures link_bound { L.bound link.new ≡ L.bound link.old }
+    ensures disk_bound { D.bound disk.new ≡ D.bound disk.old }
     ensures faults { TellsFaults (record { link = L.faults link.old; out = O.faults out.old; disk = D.faults disk.old })
         (record { link = L.faults link.new; out = O.faults out.new; disk = D.faults disk.new }) result }
     ensures input_falls { I.faults input.old ≤ I.faults input.new }

@@ -36,6 +36,7 @@ impl<'p> Server<'p> {
         disk: &mut D,
     ) -> Result<Reply, ServeFault>
         requires asked { HasAskedNode self.old (D.may_leave disk.old) (outcome_of outcome.now) }
+        ensures disk_bound { D.bound disk.new ≡ D.bound disk.old }
         ensures falls { D.faults disk.old ≤ D.faults disk.new }
         ensures untouched { IsNone self.old.ledger → disk.new ≡ disk.old }
         ensures failed { result ≡ Err ServeFault.DiskFailed → HasRisen (D.faults disk.old) (D.faults disk.new) }
@@ -55,6 +56,7 @@ impl<'p> Server<'p> {
     // the call, so it doesn't have this one, and it isn't full.
     fn keep_join<D: Disk>(&mut self, outcome: &Outcome, disk: &mut D) -> Result<(), ServeFault>
         requires asked { HasAskedNode self.old (D.may_leave disk.old) (outcome_of outcome.now) }
+        ensures disk_bound { D.bound disk.new ≡ D.bound disk.old }
         ensures falls { D.faults disk.old ≤ D.faults disk.new }
         ensures untouched { IsNone self.old.ledger → disk.new ≡ disk.old }
         ensures failed { result ≡ Err ServeFault.DiskFailed → HasRisen (D.faults disk.old) (D.faults disk.new) }

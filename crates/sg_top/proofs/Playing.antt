@@ -1,12 +1,15 @@
 -- Runs that play nothing, and plays over a link that was opened.
-use Rattle.std.proofs.Common.{◌≡◌, ℕ, List, [], Option, Some, Result, refl, sym, ap, ◌∙◌, subst, arith}
+use Rattle.std.proofs.Common.{◌≡◌, ◌⊎◌, inl, inr, ℕ, List, [], Option, Some, Result, refl, sym, ap, ◌∙◌, subst, arith}
 use Rattle.std.proofs.lemmas.List.{append-nil}
 use Rattle.sg_base.specs.Outside.{Appends}
 use Rattle.sg_play.specs.Ends.{Outside as Given, WholeFront, Ended}
 use Rattle.sg_play.specs.Steps.{Step}
 use Rattle.sg_play.specs.declared.fault.PlayFault.{PlayFault}
-use Rattle.sg_top.specs.Runs.{Outside, Plays, TakesAtMost, steps_played}
-use Rattle.sg_top.specs.Setup.{Setup}
+use Rattle.sg_base.specs.declared.address.Addr.{Addr}
+use Rattle.sg_protocol.specs.Keyring.{Keyring}
+use Rattle.sg_top.specs.Ending.{Ending, LinkFailed}
+use Rattle.sg_top.specs.Runs.{LacksLink, Outside, Plays, TakesAtMost, WaitsAt, steps_played}
+use Rattle.sg_top.specs.Setup.{Setup, waits_at}
 
 -- nothing was added
 appends_none : {A : Type 0} (x y : Option (List A)) → y ≡ x → Appends x y []
@@ -43,3 +46,12 @@ unplayed s most old new r out sent ends ds ws d w =
 -- a play that ended as this did
 pub ended_as : (s : Setup) (most : ℕ) (old new : Outside) (r q : Result (Unit {0}) PlayFault) → r ≡ q → Plays s most old new r → Plays s most old new q
 ended_as s most old new r q same h = subst (Plays s most old new) same h
+
+-- the address that the keys tell is theirs
+pub at_address : (a : Addr) (keys : Keyring) → a.ip ≡ keys.ip → a.port ≡ keys.port → a ≡ waits_at keys
+at_address a keys ip port = λ i. record { ip = ip i; port = port i }
+
+-- where a play leaves the link that ends so
+pub waits : {P : Type 0} (keys : Keyring) (old new : Outside) (e : Ending) → (P → e ≡ LinkFailed) → ((new.link).bound ≡ Some (waits_at keys)) ⊎ (P × LacksLink old new) → WaitsAt keys old new e
+waits keys old new e h (inl bound) = inl bound
+waits keys old new e h (inr lacks) = inr (h lacks.0, lacks.1)

@@ -13,6 +13,7 @@ module _ (kept : Bool) (opened : List Join) (p : Principal) (old new : Applicati
   -- what was served from when the ledger was opened was served from before
   ends_later : (o : Application) (r : Result (Unit {0}) ServeFault) → EndsServing kept opened p o new disk1 disk2 r → EndsServing kept opened p o new disk disk2 r
   ends_later o r h = record {
+    bound = h.bound;
     answers = h.answers;
     faults = record {
       link_falls = (h.faults).link_falls;

@@ -77,9 +77,9 @@ pub record IsSuggestionFor (bytes text : List ℕ) : Type 0 where
 
 -- claims are suggested for these bytes so: the text of the claims is written; else nothing is written, and the bytes are refused at their first wrong token, or their graph at its first fault, or memory ran out
 abbrev pub Suggests : List ℕ → (old new : Output) → Ending → Type 0
-Suggests bytes old new NoMemory = new.bytes ≡ old.bytes
-Suggests bytes old new (NoGraph fault) = (new.bytes ≡ old.bytes) × (parsed bytes ≡ Err fault)
-Suggests bytes old new (GraphRefused g fault) = (new.bytes ≡ old.bytes) × SpellsGraph bytes g × IsFirstRefused (g ∷ []) g fault
+Suggests bytes old new NoMemory = new ≡ old
+Suggests bytes old new (NoGraph fault) = (new ≡ old) × (parsed bytes ≡ Err fault)
+Suggests bytes old new (GraphRefused g fault) = (new ≡ old) × SpellsGraph bytes g × IsFirstRefused (g ∷ []) g fault
 Suggests bytes old new ending = (text : List ℕ) × IsSuggestionFor bytes text × Writes old new text ending
 
 -- ---- claims that are decided
@@ -101,21 +101,21 @@ WritesAnswers old new text all ending = Writes old new text Written × (ending �
 
 -- the claims in these bytes are decided, and the answers written; or memory ran out and nothing is written
 abbrev pub Decides : Graph → List ℕ → (old new : Output) → Ending → Type 0
-Decides g bytes old new NoMemory = new.bytes ≡ old.bytes
+Decides g bytes old new NoMemory = new ≡ old
 Decides g bytes old new ending = (text : List ℕ) × (all : Bool) × IsDecision g bytes text all × WritesAnswers old new text all ending
 
 -- what is done with the claims of an accepted graph in these bytes: they are refused, and nothing is written, or they are decided
 abbrev pub OnClaimsIn : Graph → List ℕ → (old new : Output) → Ending → Type 0
-OnClaimsIn g bytes old new ending = ((new.bytes ≡ old.bytes) × RefusesClaims g bytes ending) ⊎ Decides g bytes old new ending
+OnClaimsIn g bytes old new ending = ((new ≡ old) × RefusesClaims g bytes ending) ⊎ Decides g bytes old new ending
 
 -- the same of a file, which is not read, and nothing is written, or holds such bytes
 abbrev pub OnClaims : Graph → (claims : List ℕ) → Told → (faults faults' : ℕ) → (old new : Output) → Ending → Type 0
 OnClaims g claims told faults faults' old new ending =
-    ((new.bytes ≡ old.bytes) × IsUnread most_claims_file claims told faults faults' ending)
+    ((new ≡ old) × IsUnread most_claims_file claims told faults faults' ending)
     ⊎ Holds told most_claims_file claims (λ bytes. OnClaimsIn g bytes old new ending)
 
 -- the claims of a file are decided on the graph of another so: the graph is read and checked first, and where it is refused nothing is written
 abbrev pub DecidesClaims : (graph claims : List ℕ) → Told → (faults faults' : ℕ) → (old new : Output) → Ending → Type 0
 DecidesClaims graph claims told faults faults' old new ending =
-    ((new.bytes ≡ old.bytes) × EndsAt told faults faults' most_graph_file graph RefusesGraph ending)
+    ((new ≡ old) × EndsAt told faults faults' most_graph_file graph RefusesGraph ending)
     ⊎ ((g : Graph) × Holds told most_graph_file graph (λ bytes. IsAcceptedText bytes g) × OnClaims g claims told faults faults' old new ending)

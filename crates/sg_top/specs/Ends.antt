@@ -14,6 +14,7 @@ use Rattle.sg_parse.specs.PartsGrammar.{SpellsParts}
 use Rattle.sg_parse.specs.PartsReading.{read as parts_read}
 use Rattle.sg_parse.specs.Reading.{read as parsed}
 use Rattle.sg_compose.specs.Expansion.{expansion}
+use Rattle.sg_compose.specs.Laws.{IsComposed}
 use Rattle.sg_audit.specs.Sessions.{Logs}
 use Rattle.sg_audit.specs.Spells.{SpellsLogs, IsFault}
 use Rattle.sg_audit.specs.declared.fault.LogFault.{LogFault}
@@ -45,9 +46,9 @@ pub record Output : Type 0 where
   pub bytes : Option (List ℕ)
   pub faults : ℕ
 
--- the text is written whole, or a front part of it where a write failed, which the count of faults shows
+-- the text is written whole, and no write failed, or a front part of it where one did, which the count of faults shows
 abbrev pub Writes : (old new : Output) → List ℕ → Ending → Type 0
-Writes old new text Written = Appends old.bytes new.bytes text
+Writes old new text Written = Appends old.bytes new.bytes text × (new.faults ≡ old.faults)
 Writes old new text WriteFailed = AppendsFront old.bytes new.bytes text × HasRisen old.faults new.faults
 Writes old new text ending = ⊥
 
@@ -82,9 +83,9 @@ pub record IsCheck (bytes text : List ℕ) : Type 0 where
 
 -- a check of these bytes ends so: the graph that they spell is accepted and its text written; else nothing is written, and the bytes are refused at their first wrong token, or their graph at its first fault, or memory ran out
 abbrev pub Checks : List ℕ → (old new : Output) → Ending → Type 0
-Checks bytes old new NoMemory = new.bytes ≡ old.bytes
-Checks bytes old new (NoGraph fault) = (new.bytes ≡ old.bytes) × (parsed bytes ≡ Err fault)
-Checks bytes old new (GraphRefused g fault) = (new.bytes ≡ old.bytes) × SpellsGraph bytes g × IsFirstRefused (g ∷ []) g fault
+Checks bytes old new NoMemory = new ≡ old
+Checks bytes old new (NoGraph fault) = (new ≡ old) × (parsed bytes ≡ Err fault)
+Checks bytes old new (GraphRefused g fault) = (new ≡ old) × SpellsGraph bytes g × IsFirstRefused (g ∷ []) g fault
 Checks bytes old new ending = (text : List ℕ) × IsCheck bytes text × Writes old new text ending
 
 -- ---- compile
@@ -119,10 +120,10 @@ pub record LacksRole (bytes name : List ℕ) : Type 0 where
 
 -- a compilation of these bytes for this name ends so: the program's text is written; else nothing is written, and the bytes are refused at their first wrong token, or their graph at its first fault, or it has no such role, or memory ran out
 abbrev pub Compiles : (name bytes : List ℕ) → (old new : Output) → Ending → Type 0
-Compiles name bytes old new NoMemory = new.bytes ≡ old.bytes
-Compiles name bytes old new (NoGraph fault) = (new.bytes ≡ old.bytes) × (parsed bytes ≡ Err fault)
-Compiles name bytes old new (GraphRefused g fault) = (new.bytes ≡ old.bytes) × SpellsGraph bytes g × IsRefusedFor g name fault
-Compiles name bytes old new (NoRole role) = (new.bytes ≡ old.bytes) × (role ≡ name) × LacksRole bytes name
+Compiles name bytes old new NoMemory = new ≡ old
+Compiles name bytes old new (NoGraph fault) = (new ≡ old) × (parsed bytes ≡ Err fault)
+Compiles name bytes old new (GraphRefused g fault) = (new ≡ old) × SpellsGraph bytes g × IsRefusedFor g name fault
+Compiles name bytes old new (NoRole role) = (new ≡ old) × (role ≡ name) × LacksRole bytes name
 Compiles name bytes old new ending = (text : List ℕ) × IsCompilation bytes name text × Writes old new text ending
 
 -- ---- replay
@@ -155,11 +156,11 @@ AsksTooMuch bytes what = IsNoSchedule bytes (TooLarge what) ⊎ ((what ≡ codes
 
 -- a replay of these bytes ends so: the report is written; else nothing is written, and the bytes are refused at their first wrong line, or a graph at its first fault, or too much is asked for, or memory ran out
 abbrev pub Replays : List ℕ → (old new : Output) → Ending → Type 0
-Replays bytes old new NoMemory = new.bytes ≡ old.bytes
-Replays bytes old new (NoGraph fault) = (new.bytes ≡ old.bytes) × IsNoSchedule bytes (NoGraph fault)
-Replays bytes old new (WrongLine line wrong) = (new.bytes ≡ old.bytes) × IsNoSchedule bytes (WrongLine line wrong)
-Replays bytes old new (TooLarge what) = (new.bytes ≡ old.bytes) × AsksTooMuch bytes what
-Replays bytes old new (GraphRefused g fault) = (new.bytes ≡ old.bytes) × ((s : Schedule) × SpellsSchedule real bytes s × IsFirstRefused s.graphs g fault)
+Replays bytes old new NoMemory = new ≡ old
+Replays bytes old new (NoGraph fault) = (new ≡ old) × IsNoSchedule bytes (NoGraph fault)
+Replays bytes old new (WrongLine line wrong) = (new ≡ old) × IsNoSchedule bytes (WrongLine line wrong)
+Replays bytes old new (TooLarge what) = (new ≡ old) × AsksTooMuch bytes what
+Replays bytes old new (GraphRefused g fault) = (new ≡ old) × ((s : Schedule) × SpellsSchedule real bytes s × IsFirstRefused s.graphs g fault)
 Replays bytes old new ending = (text : List ℕ) × IsReplay bytes text × Writes old new text ending
 
 -- ---- drive
@@ -183,10 +184,10 @@ pub record DrivesTooLong (seed sessions : ℕ) (bytes : List ℕ) : Type 0 where
 
 -- a drive of these bytes ends so: the summary is written; else nothing is written, and the bytes are refused at their first wrong token, or their graph at its first fault, or the record grows too large, or memory ran out
 abbrev pub Drives : (seed sessions : ℕ) → List ℕ → (old new : Output) → Ending → Type 0
-Drives seed sessions bytes old new NoMemory = new.bytes ≡ old.bytes
-Drives seed sessions bytes old new (NoGraph fault) = (new.bytes ≡ old.bytes) × (parsed bytes ≡ Err fault)
-Drives seed sessions bytes old new (GraphRefused g fault) = (new.bytes ≡ old.bytes) × SpellsGraph bytes g × IsFirstRefused (g ∷ []) g fault
-Drives seed sessions bytes old new (TooLarge what) = (new.bytes ≡ old.bytes) × (what ≡ codes "record") × DrivesTooLong seed sessions bytes
+Drives seed sessions bytes old new NoMemory = new ≡ old
+Drives seed sessions bytes old new (NoGraph fault) = (new ≡ old) × (parsed bytes ≡ Err fault)
+Drives seed sessions bytes old new (GraphRefused g fault) = (new ≡ old) × SpellsGraph bytes g × IsFirstRefused (g ∷ []) g fault
+Drives seed sessions bytes old new (TooLarge what) = (new ≡ old) × (what ≡ codes "record") × DrivesTooLong seed sessions bytes
 Drives seed sessions bytes old new ending = (text : List ℕ) × IsDriving seed sessions bytes text × Writes old new text ending
 
 -- ---- audit
@@ -206,32 +207,33 @@ IsNoLogs bytes ending = (fault : LogFault) × IsFault bytes fault × (ending ≡
 
 -- an audit of these bytes ends so: the answers are written; else nothing is written, and the bytes are refused by their first fault, or the graph of the logs at its first fault, or memory ran out
 abbrev pub Audits : List ℕ → (old new : Output) → Ending → Type 0
-Audits bytes old new NoMemory = new.bytes ≡ old.bytes
-Audits bytes old new (NoGraph fault) = (new.bytes ≡ old.bytes) × IsNoLogs bytes (NoGraph fault)
-Audits bytes old new (WrongLine line wrong) = (new.bytes ≡ old.bytes) × IsNoLogs bytes (WrongLine line wrong)
-Audits bytes old new (TooLarge what) = (new.bytes ≡ old.bytes) × IsNoLogs bytes (TooLarge what)
-Audits bytes old new (GraphRefused g fault) = (new.bytes ≡ old.bytes) × ((l : Logs) × SpellsLogs bytes l × (l.graph ≡ g) × IsFirstRefused (g ∷ []) g fault)
+Audits bytes old new NoMemory = new ≡ old
+Audits bytes old new (NoGraph fault) = (new ≡ old) × IsNoLogs bytes (NoGraph fault)
+Audits bytes old new (WrongLine line wrong) = (new ≡ old) × IsNoLogs bytes (WrongLine line wrong)
+Audits bytes old new (TooLarge what) = (new ≡ old) × IsNoLogs bytes (TooLarge what)
+Audits bytes old new (GraphRefused g fault) = (new ≡ old) × ((l : Logs) × SpellsLogs bytes l × (l.graph ≡ g) × IsFirstRefused (g ∷ []) g fault)
 Audits bytes old new ending = (text : List ℕ) × IsAudit bytes text × Writes old new text ending
 
 -- ---- compose
 
--- the text is the canonical text of the expansion of the parts that the bytes spell, which is accepted
+-- the text is the canonical text of the expansion of the parts that the bytes spell, which is accepted and whose walks are those that the parts allow
 pub record IsComposition (bytes text : List ℕ) : Type 0 where
   pub parts : List Part
   pub graph : Graph
   pub programs : List Program
   pub spelled : SpellsParts bytes parts
   pub expanded : expansion parts ≡ Ok graph
+  pub keeps : IsComposed parts graph
   pub compiled : AreCompiled real (graph ∷ []) programs
   pub few : All IsWhole programs
   pub says : text ≡ canonical graph
 
 -- a composition of these bytes ends so: the text of the expansion is written; else nothing is written, and the bytes are refused at their first wrong token, or the parts at the first use that can't be expanded, or the expansion at its first fault, or memory ran out
 abbrev pub Composes : List ℕ → (old new : Output) → Ending → Type 0
-Composes bytes old new NoMemory = new.bytes ≡ old.bytes
-Composes bytes old new (NoGraph fault) = (new.bytes ≡ old.bytes) × (parts_read bytes ≡ Err fault)
-Composes bytes old new (NoExpansion fault) = (new.bytes ≡ old.bytes) × ((ps : List Part) × SpellsParts bytes ps × (expansion ps ≡ Err fault))
-Composes bytes old new (GraphRefused g fault) = (new.bytes ≡ old.bytes) × ((ps : List Part) × SpellsParts bytes ps × (expansion ps ≡ Ok g) × IsFirstRefused (g ∷ []) g fault)
+Composes bytes old new NoMemory = new ≡ old
+Composes bytes old new (NoGraph fault) = (new ≡ old) × (parts_read bytes ≡ Err fault)
+Composes bytes old new (NoExpansion fault) = (new ≡ old) × ((ps : List Part) × SpellsParts bytes ps × (expansion ps ≡ Err fault))
+Composes bytes old new (GraphRefused g fault) = (new ≡ old) × ((ps : List Part) × SpellsParts bytes ps × (expansion ps ≡ Ok g) × IsFirstRefused (g ∷ []) g fault)
 Composes bytes old new ending = (text : List ℕ) × IsComposition bytes text × Writes old new text ending
 
 -- ---- files
@@ -248,4 +250,4 @@ IsUnread most file told faults faults' ending = ⊥
 abbrev pub OnFile : (List ℕ → (old new : Output) → Ending → Type 0) → ℕ → List ℕ → Told → (faults faults' : ℕ) → (old new : Output) → Ending → Type 0
 OnFile Does most file told faults faults' old new ending =
     ((bytes : List ℕ) × Has told file (Some bytes) × (length bytes ≤ most) × Does bytes old new ending)
-    ⊎ ((new.bytes ≡ old.bytes) × IsUnread most file told faults faults' ending)
+    ⊎ ((new ≡ old) × IsUnread most file told faults faults' ending)

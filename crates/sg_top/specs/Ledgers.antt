@@ -11,11 +11,12 @@ use Rattle.sg_play.specs.Played.{Play, played}
 use Rattle.sg_play.specs.declared.fault.PlayFault.TheVariants as PlayFaults
 use Rattle.sg_top.specs.Ending.{Ending, Written, NoLedger, BadSlot, LedgerNotEmpty, WriteFailed, LinkFailed, DiskFailed, NoMemory}
 use Rattle.sg_top.specs.Ends.{Told, Output, Writes}
-use Rattle.sg_top.specs.Runs.{Outside, IsUntouched, Takes, TakesAtMost, CanHavePlayed}
+use Rattle.sg_top.specs.Runs.{Outside, IsUntouched, Takes, TakesAtMost, WaitsAt, CanHavePlayed}
 use Rattle.sg_top.specs.Setup.{Named, Setup, HasSetup, LacksSetup}
 
--- a disk: the bytes of its file, where they are told, the images, which are what a crash may leave of it, and its count of faults
+-- a disk: the name of the file that it is bound to, if it is bound to one, the bytes of this file, where they are told, the images, which are what a crash may leave of it, and its count of faults
 pub record Disked : Type 1 where
+  pub bound : Option (List ℕ)
   pub seen : Option (List ℕ)
   pub may_leave : List ℕ → Type 0
   pub faults : ℕ
@@ -24,9 +25,13 @@ pub record Disked : Type 1 where
 abbrev pub IsLeft : (disk disk' : Disked) → Type 0
 IsLeft disk disk' = (disk'.seen ≡ disk.seen) × Keeps disk.may_leave disk'.may_leave
 
--- nothing was asked of the disk: a crash leaves all that it left before too, and the count is the same
+-- nothing was asked of the disk: it is bound to the file of before, a crash leaves all that it left before too, and the count is the same
 abbrev pub IsNotAsked : (disk disk' : Disked) → Type 0
-IsNotAsked disk disk' = IsLeft disk disk' × Keeps disk'.may_leave disk.may_leave × (disk'.faults ≡ disk.faults)
+IsNotAsked disk disk' = IsLeft disk disk' × Keeps disk'.may_leave disk.may_leave × (disk'.bound ≡ disk.bound) × (disk'.faults ≡ disk.faults)
+
+-- the disk is bound to the file of this name; or it can't be, which its count of faults shows, and it is bound and left as before
+abbrev pub IsBound : (file : List ℕ) → (disk disk' : Disked) → Ending → Type 0
+IsBound file disk disk' ending = (disk'.bound ≡ Some file) ⊎ ((ending ≡ DiskFailed) × HasRisen disk.faults disk'.faults × (disk'.bound ≡ disk.bound) × IsLeft disk disk')
 
 -- ---- a ledger is made
 
@@ -41,11 +46,11 @@ LacksRoom disk disk' DiskFailed = HasRisen disk.faults disk'.faults × WhereTold
 LacksRoom disk disk' NoMemory = IsLeft disk disk'
 LacksRoom disk disk' ending = ⊥
 
--- the making of a ledger ends so: it is made, and then this is written; or it isn't, and nothing is written
-abbrev pub Makes : (old new : Output) → (disk disk' : Disked) → Ending → Type 0
-Makes old new disk disk' ending =
-    (IsMade disk disk' × Writes old new (codes "ledger made\n") ending)
-    ⊎ ((new.bytes ≡ old.bytes) × LacksRoom disk disk' ending)
+-- the making of a ledger of a file ends so: it is made, and then this is written; or it isn't, and nothing is written
+abbrev pub Makes : (file : List ℕ) → (old new : Output) → (disk disk' : Disked) → Ending → Type 0
+Makes file old new disk disk' ending = IsBound file disk disk' ending ×
+    ((IsMade disk disk' × Writes old new (codes "ledger made\n") ending)
+    ⊎ ((new ≡ old) × LacksRoom disk disk' ending))
 
 -- ---- a ledger is opened
 
@@ -87,16 +92,16 @@ pub record EndsOver (opened : List Join) (s : Setup) (most : ℕ) (old new : Out
   pub left : OnOk result (Takes most (old.link).deliveries (new.link).deliveries)
   pub at_most : TakesAtMost most (old.link).deliveries (new.link).deliveries
 
--- a setup is played over the ledger that the file is; or the file is none, and nothing is touched
-abbrev pub KeepsSetup : Setup → (most : ℕ) → (old new : Outside) → (disk disk' : Disked) → Ending → Type 0
-KeepsSetup s most old new disk disk' ending =
-    ((opened : List Join) × (result : Result (Unit {0}) KeepFault) × WhereTold disk.seen (λ file. StandsFor file opened) × EndsOver opened s most old new disk disk' result × (ending ≡ ending_of_play result))
-    ⊎ (IsUntouched old new × IsLeft disk disk' × LacksLedger disk disk' ending)
+-- a setup is played over the ledger that the file of this name is, and over the link at the address of its keys; or the file is none, and nothing is touched
+abbrev pub KeepsSetup : (file : List ℕ) → Setup → (most : ℕ) → (old new : Outside) → (disk disk' : Disked) → Ending → Type 0
+KeepsSetup file s most old new disk disk' ending =
+    ((opened : List Join) × (result : Result (Unit {0}) KeepFault) × (disk'.bound ≡ Some file) × WhereTold disk.seen (λ bytes. StandsFor bytes opened) × WaitsAt s.keys old new ending × EndsOver opened s most old new disk disk' result × (ending ≡ ending_of_play result))
+    ⊎ (IsUntouched old new × IsLeft disk disk' × IsBound file disk disk' ending × LacksLedger disk disk' ending)
 
--- a run over a ledger ends so: the files hold a setup, which is played over the ledger, if there is one; or they hold none, and nothing is touched, nor the disk asked
-abbrev pub KeepsRun : Named → (most : ℕ) → Told → (faults faults' : ℕ) → (old new : Outside) → (disk disk' : Disked) → Ending → Type 0
-KeepsRun named most told faults faults' old new disk disk' ending =
-    ((s : Setup) × HasSetup told named s × KeepsSetup s most old new disk disk' ending)
+-- a run over the ledger of a file ends so: the files hold a setup, which is played over the ledger, if there is one; or they hold none, and nothing is touched, nor the disk asked
+abbrev pub KeepsRun : (file : List ℕ) → Named → (most : ℕ) → Told → (faults faults' : ℕ) → (old new : Outside) → (disk disk' : Disked) → Ending → Type 0
+KeepsRun file named most told faults faults' old new disk disk' ending =
+    ((s : Setup) × HasSetup told named s × KeepsSetup file s most old new disk disk' ending)
     ⊎ (IsUntouched old new × IsNotAsked disk disk' × LacksSetup told faults faults' named ending)
 
 -- with these endings a run over a ledger may have played

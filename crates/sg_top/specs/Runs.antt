@@ -7,12 +7,14 @@ use Rattle.sg_play.specs.Played.{played}
 use Rattle.sg_play.specs.Steps.{Step}
 use Rattle.sg_play.specs.declared.fault.PlayFault.{PlayFault}
 use Rattle.sg_play.specs.declared.fault.PlayFault.TheVariants as Play
+use Rattle.sg_protocol.specs.Keyring.{Keyring}
 use Rattle.sg_top.specs.Ending.{Ending, Written, LinkFailed, WriteFailed, NoMemory}
 use Rattle.sg_top.specs.Ends.{Told, Output}
-use Rattle.sg_top.specs.Setup.{Named, Setup, HasSetup, LacksSetup}
+use Rattle.sg_top.specs.Setup.{Named, Setup, HasSetup, LacksSetup, waits_at}
 
--- a link: the deliveries to come and the frames sent, where they are told, and its count of faults
+-- a link: the address at which it waits, if it is open, the deliveries to come and the frames sent, where they are told, and its count of faults
 pub record Linked : Type 0 where
+  pub bound : Option Addr
   pub deliveries : Option (List (List ℕ))
   pub sent : Option (List (Addr × List ℕ))
   pub faults : ℕ
@@ -48,14 +50,27 @@ PlayEnds s most old new WriteFailed = Plays s most old new (Err Play.WriteFailed
 PlayEnds s most old new NoMemory = Plays s most old new (Err Play.OutOfMemory) × TakesAtMost most (old.link).deliveries (new.link).deliveries
 PlayEnds s most old new ending = ⊥
 
--- nothing was written or sent, and no delivery and no word was taken
+-- nothing was written or sent, nor was it tried, and no delivery and no word was taken
 abbrev pub IsUntouched : (old new : Outside) → Type 0
-IsUntouched old new = ((new.out).bytes ≡ (old.out).bytes) × (new.link ≡ old.link) × (new.words ≡ old.words)
+IsUntouched old new = (new.out ≡ old.out) × (new.link ≡ old.link) × (new.words ≡ old.words)
 
--- a run ends so: the files hold a setup, which is played; or they hold none, and nothing is touched
+-- the link isn't opened, which its count of faults shows, and nothing else is touched: it waits where it did before
+pub record LacksLink (old new : Outside) : Type 0 where
+  pub risen : HasRisen (old.link).faults (new.link).faults
+  pub bound : (new.link).bound ≡ (old.link).bound
+  pub deliveries : (new.link).deliveries ≡ (old.link).deliveries
+  pub sent : (new.link).sent ≡ (old.link).sent
+  pub out : new.out ≡ old.out
+  pub words : new.words ≡ old.words
+
+-- the link waits at the address of the keys; or it can't be opened there, and nothing is played
+abbrev pub WaitsAt : Keyring → (old new : Outside) → Ending → Type 0
+WaitsAt keys old new ending = ((new.link).bound ≡ Some (waits_at keys)) ⊎ ((ending ≡ LinkFailed) × LacksLink old new)
+
+-- a run ends so: the files hold a setup, which is played over the link at the address of its keys; or they hold none, and nothing is touched
 abbrev pub Runs : Named → (most : ℕ) → Told → (faults faults' : ℕ) → (old new : Outside) → Ending → Type 0
 Runs named most told faults faults' old new ending =
-    ((s : Setup) × HasSetup told named s × PlayEnds s most old new ending)
+    ((s : Setup) × HasSetup told named s × WaitsAt s.keys old new ending × PlayEnds s most old new ending)
     ⊎ (IsUntouched old new × LacksSetup told faults faults' named ending)
 
 -- with these endings a run may have played

@@ -12,11 +12,12 @@ use Rattle.sg_serve.specs.declared.fault.ServeFault.TheVariants as ServeFaults
 use Rattle.sg_wait.specs.declared.coming.Coming.{Coming}
 use Rattle.sg_top.specs.Ending.{Ending, Written, InputFailed, WriteFailed, LinkFailed, DiskFailed, NoMemory}
 use Rattle.sg_top.specs.Ends.{Told, Output}
-use Rattle.sg_top.specs.Ledgers.{Disked, IsLeft, IsNotAsked, LacksLedger}
-use Rattle.sg_top.specs.Setup.{HasPrincipal, LacksPrincipal, Principal}
+use Rattle.sg_top.specs.Ledgers.{Disked, IsBound, IsLeft, IsNotAsked, LacksLedger}
+use Rattle.sg_top.specs.Setup.{HasPrincipal, LacksPrincipal, Principal, waits_at}
 
--- a link that can wait: what is to come and the frames sent, where they are told, and its count of faults
+-- a link that can wait: the address at which it waits, if it is open, what is to come and the frames sent, where they are told, and its count of faults
 pub record Waited : Type 0 where
+  pub bound : Option Addr
   pub coming : Option (List Coming)
   pub sent : Option (List (Addr × List ℕ))
   pub faults : ℕ
@@ -39,21 +40,23 @@ pub record NamedFiles : Type 0 where
   pub programs : List (List ℕ)
   pub ledger : Option (List ℕ)
 
--- nothing was written or sent, and nothing that is to come was taken
+-- nothing was written or sent, nor was it tried, and nothing that is to come was taken
 abbrev pub IsUnasked : (old new : Application) → Type 0
-IsUnasked old new = ((new.out).bytes ≡ (old.out).bytes) × (new.link ≡ old.link) × (new.words ≡ old.words) × (new.input ≡ old.input)
+IsUnasked old new = (new.out ≡ old.out) × (new.link ≡ old.link) × (new.words ≡ old.words) × (new.input ≡ old.input)
 
--- the link isn't opened, which its count of faults shows, and nothing else is touched
+-- the link isn't opened, which its count of faults shows, and nothing else is touched: it waits where it did before
 pub record LacksLink (old new : Application) : Type 0 where
+  pub bound : (new.link).bound ≡ (old.link).bound
   pub risen : HasRisen (old.link).faults (new.link).faults
-  pub written : (new.out).bytes ≡ (old.out).bytes
+  pub out : new.out ≡ old.out
   pub coming : (new.link).coming ≡ (old.link).coming
   pub sent : (new.link).sent ≡ (old.link).sent
   pub words : new.words ≡ old.words
   pub input : new.input ≡ old.input
 
--- the link was opened: what is to come and what was sent are as before
-pub record IsOpened (old new : Waited) : Type 0 where
+-- the link was opened at this address: what is to come and what was sent are as before
+pub record IsOpened (at : Addr) (old new : Waited) : Type 0 where
+  pub bound : new.bound ≡ Some at
   pub coming : new.coming ≡ old.coming
   pub sent : new.sent ≡ old.sent
   pub falls : old.faults ≤ new.faults
@@ -73,6 +76,7 @@ counts o disk = record { link = (o.link).faults; out = (o.out).faults; disk = di
 
 -- so the run ended, of which a fault is told only where its count rose
 pub record EndsServing (kept : Bool) (opened : List Join) (p : Principal) (old new : Application) (disk disk' : Disked) (result : Result (Unit {0}) ServeFault) : Type 0 where
+  pub bound : (new.link).bound ≡ (old.link).bound
   pub answers : Answers kept opened p old new disk' result
   pub faults : TellsFaults (counts old disk) (counts new disk') result
   pub input_falls : (old.input).faults ≤ (new.input).faults
@@ -86,18 +90,18 @@ ending_of_serve (Err ServeFaults.WriteFailed) = WriteFailed
 ending_of_serve (Err ServeFaults.DiskFailed) = DiskFailed
 ending_of_serve (Err ServeFaults.OutOfMemory) = NoMemory
 
--- a principal that joined these pairs before serves: its link isn't opened; or it is, and the lines are answered
+-- a principal that joined these pairs before serves: its link isn't opened; or it is, at the address of its keys, and the lines are answered
 abbrev pub ServesOver : (kept : Bool) → (opened : List Join) → Principal → (old new : Application) → (disk disk' : Disked) → Ending → Type 0
 ServesOver kept opened p old new disk disk' ending =
     (LacksLink old new × IsLeft disk disk' × (ending ≡ LinkFailed))
-    ⊎ ((link : Waited) × (result : Result (Unit {0}) ServeFault) × IsOpened old.link link × EndsServing kept opened p (record old { link = link }) new disk disk' result × (ending ≡ ending_of_serve result))
+    ⊎ ((link : Waited) × (result : Result (Unit {0}) ServeFault) × IsOpened (waits_at p.keys) old.link link × EndsServing kept opened p (record old { link = link }) new disk disk' result × (ending ≡ ending_of_serve result))
 
--- it serves over the ledger that the file is; or the file is none, and nothing is touched. Without a ledger nothing is asked of the disk
+-- it serves over the ledger that the file of this name is; or the file is none, and nothing is touched. Without a ledger nothing is asked of the disk
 abbrev pub ServesPrincipal : (ledger : Option (List ℕ)) → Principal → (old new : Application) → (disk disk' : Disked) → Ending → Type 0
 ServesPrincipal None p old new disk disk' ending = ServesOver false [] p old new disk disk' ending × IsNotAsked disk disk'
 ServesPrincipal (Some file) p old new disk disk' ending =
-    ((opened : List Join) × WhereTold disk.seen (λ bytes. StandsFor bytes opened) × ServesOver true opened p old new disk disk' ending)
-    ⊎ (IsUnasked old new × IsLeft disk disk' × LacksLedger disk disk' ending)
+    ((opened : List Join) × (disk'.bound ≡ Some file) × WhereTold disk.seen (λ bytes. StandsFor bytes opened) × ServesOver true opened p old new disk disk' ending)
+    ⊎ (IsUnasked old new × IsLeft disk disk' × IsBound file disk disk' ending × LacksLedger disk disk' ending)
 
 -- a run for an application ends so: the files hold a principal, which serves; or they hold none, and nothing is touched, nor the disk asked
 abbrev pub ServesRun : NamedFiles → Told → (faults faults' : ℕ) → (old new : Application) → (disk disk' : Disked) → Ending → Type 0

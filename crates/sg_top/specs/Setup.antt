@@ -1,6 +1,7 @@
 -- What a run is given: the files that its words name, and the keys, the programs and the script that they hold.
 use Rattle.std.specs.Prelude.{◌≡◌, ◌≢◌, ℕ, ◌+◌, ◌≤◌, ◌⊎◌, true, false, List, [], ◌∷◌, ◌++◌, length, Some, Err, ⊤}
 use Rattle.std.specs.List.{list_any}
+use Rattle.sg_base.specs.declared.address.Addr.{Addr}
 use Rattle.sg_model.specs.Limits.{most_program_file, most_script_file}
 use Rattle.sg_protocol.specs.Keyring.{Keyring, Program}
 use Rattle.sg_keys.specs.KeyFile.{SpellsKeys, key_file}
@@ -34,6 +35,10 @@ pub record Setup : Type 0 where
   pub keys : Keyring
   pub programs : List Program
   pub script : Script
+
+-- the address at which the principal of these keys waits
+abbrev pub waits_at : Keyring → Addr
+waits_at keys = record { ip = keys.ip; port = keys.port }
 
 -- ---- what the files hold
 

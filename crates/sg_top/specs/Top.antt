@@ -1,6 +1,7 @@
 -- What the program leaves, and how it says why it ends.
 use Rattle.std.specs.Prelude.{◌≡◌, ◌≢◌, ℕ, ◌+◌, ◌⊎◌, Bool, true, false, if◌then◌else◌, List, [], Option, Some, None, ⊤}
 use Rattle.sg_base.specs.Outside.{HasRisen, Appends, AppendsFront}
+use Rattle.sg_base.specs.declared.address.Addr.{Addr}
 use Rattle.sg_model.specs.Limits.{most_graph_file, most_logs_file, most_schedule_file}
 use Rattle.sg_stream.specs.Link.{StreamHeld, sent_of, to_come}
 use Rattle.sg_stream.specs.Traffic.{Traffic}
@@ -13,9 +14,9 @@ use Rattle.sg_top.specs.Runs.{CanHavePlayed, Linked, Outside, IsUntouched, Runs}
 use Rattle.sg_top.specs.Serves.{Application, CanHaveServed, Entered, ServesRun, Waited}
 use Rattle.sg_wait.specs.declared.coming.Coming.{Coming}
 
--- a link over connections, as a link: the frames of the messages to come, in the order in which these become whole, the frames that went out, and its count of faults, which is that of its connections and its own
-abbrev pub streamed : {C : Type 0} → (held : C → Option Traffic) → (faults : C → ℕ) → StreamHeld C → Linked
-streamed {C} held faults l = record { deliveries = to_come l.unread (held l.conns); sent = sent_of (held l.conns); faults = faults l.conns + l.faults }
+-- a link over connections, as a link: the address at which these wait, the frames of the messages to come, in the order in which these become whole, the frames that went out, and its count of faults, which is that of its connections and its own
+abbrev pub streamed : {C : Type 0} → (bound : C → Option Addr) → (held : C → Option Traffic) → (faults : C → ℕ) → StreamHeld C → Linked
+streamed {C} bound held faults l = record { bound = bound l.conns; deliveries = to_come l.unread (held l.conns); sent = sent_of (held l.conns); faults = faults l.conns + l.faults }
 
 -- what a run for an application acts on beside these: what is to come on the link, where it is told, the link over connections that are kept, and standard input
 pub record Beside : Type 0 where
@@ -27,21 +28,21 @@ pub record Beside : Type 0 where
 abbrev pub application : (over_tcp : Bool) → Outside → Beside → Application
 application over_tcp o b = record {
   out = o.out;
-  link = if over_tcp then b.port else record { coming = b.coming; sent = (o.link).sent; faults = (o.link).faults };
+  link = if over_tcp then b.port else record { bound = (o.link).bound; coming = b.coming; sent = (o.link).sent; faults = (o.link).faults };
   words = o.words;
   input = b.input;
 }
 
 -- the work that a command asks for ends so; a run over connections is a run over that link
 abbrev pub Works : Option Command → Told → (faults faults' : ℕ) → (old new : Outside) → (stream stream' : Linked) → (disk disk' : Disked) → (beside beside' : Beside) → Ending → Type 0
-Works None told faults faults' old new stream stream' disk disk' beside beside' ending = IsUntouched old new × (ending ≡ NoCommand)
+Works None told faults faults' old new stream stream' disk disk' beside beside' ending = IsUntouched old new × (faults' ≡ faults) × (ending ≡ NoCommand)
 Works (Some (Check file)) told faults faults' old new stream stream' disk disk' beside beside' ending = OnFile Checks most_graph_file file told faults faults' old.out new.out ending
 Works (Some (Compile file role)) told faults faults' old new stream stream' disk disk' beside beside' ending = OnFile (Compiles role) most_graph_file file told faults faults' old.out new.out ending
 Works (Some (Run keys script most programs)) told faults faults' old new stream stream' disk disk' beside beside' ending = Runs (record { keys = keys; programs = programs; script = script }) most told faults faults' old new ending
 Works (Some (Replay file)) told faults faults' old new stream stream' disk disk' beside beside' ending = OnFile Replays most_schedule_file file told faults faults' old.out new.out ending
 Works (Some (Drive seed sessions file)) told faults faults' old new stream stream' disk disk' beside beside' ending = OnFile (Drives seed sessions) most_graph_file file told faults faults' old.out new.out ending
-Works (Some (Ledger file)) told faults faults' old new stream stream' disk disk' beside beside' ending = Makes old.out new.out disk disk' ending
-Works (Some (Keep file keys script most programs)) told faults faults' old new stream stream' disk disk' beside beside' ending = KeepsRun (record { keys = keys; programs = programs; script = script }) most told faults faults' old new disk disk' ending
+Works (Some (Ledger file)) told faults faults' old new stream stream' disk disk' beside beside' ending = (faults' ≡ faults) × Makes file old.out new.out disk disk' ending
+Works (Some (Keep file keys script most programs)) told faults faults' old new stream stream' disk disk' beside beside' ending = KeepsRun file (record { keys = keys; programs = programs; script = script }) most told faults faults' old new disk disk' ending
 Works (Some (Stream keys script most programs)) told faults faults' old new stream stream' disk disk' beside beside' ending = Runs (record { keys = keys; programs = programs; script = script }) most told faults faults' (record old { link = stream }) (record new { link = stream' }) ending
 Works (Some (Audit file)) told faults faults' old new stream stream' disk disk' beside beside' ending = OnFile Audits most_logs_file file told faults faults' old.out new.out ending
 Works (Some (Compose file)) told faults faults' old new stream stream' disk disk' beside beside' ending = OnFile Composes most_graph_file file told faults faults' old.out new.out ending
@@ -53,12 +54,12 @@ Works (Some (Serve over_tcp ledger keys programs)) told faults faults' old new s
 abbrev pub Does : (words : List (List ℕ)) → Told → (faults faults' : ℕ) → (old new : Outside) → (stream stream' : Linked) → (disk disk' : Disked) → (beside beside' : Beside) → Ending → Type 0
 Does words told faults faults' old new stream stream' disk disk' beside beside' ending =
     Works (command_of words) told faults faults' old new stream stream' disk disk' beside beside' ending
-    ⊎ (IsUntouched old new × (stream' ≡ stream) × IsNotAsked disk disk' × (beside' ≡ beside) × (ending ≡ NoMemory))
+    ⊎ (IsUntouched old new × (stream' ≡ stream) × IsNotAsked disk disk' × (beside' ≡ beside) × (faults' ≡ faults) × (ending ≡ NoMemory))
 
--- a line is written and its status given, or it is not taken whole, which the count of faults shows, and the status is that of a failed write
+-- a line is written, no write failed, and its status is given, or it is not taken whole, which the count of faults shows, and the status is that of a failed write
 abbrev pub Puts : (old new : Output) → (line : List ℕ) → (wanted status : ℕ) → Type 0
 Puts old new line wanted status =
-    ((status ≡ wanted) × Appends old.bytes new.bytes line)
+    ((status ≡ wanted) × Appends old.bytes new.bytes line × (new.faults ≡ old.faults))
     ⊎ ((status ≡ 6) × HasRisen old.faults new.faults × AppendsFront old.bytes new.bytes line)
 
 -- how the program says how its work ended: by the ending's line and status, or, where memory ran out for a line, by saying this

@@ -32,7 +32,8 @@ pub fn audit<'w, F: Files, O: Sink>(
     files: &mut F,
     out: &mut O,
 ) -> Ending<'w>
-    ensures { OnFile Audits most_logs_file file.now (F.held files.old) (F.faults files.old) (F.faults files.new)
+    ensures kept { F.held files.new ≡ F.held files.old }
+    ensures ends { OnFile Audits most_logs_file file.now (F.held files.old) (F.faults files.old) (F.faults files.new)
         (record { bytes = O.written out.old; faults = O.faults out.old }) (record { bytes = O.written out.new; faults = O.faults out.new }) (ending_held result) }
 {
     match read_file(alloc, file, files, MOST_BYTES) {

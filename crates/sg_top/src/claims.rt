@@ -31,7 +31,8 @@ pub fn claims<'w, F: Files, O: Sink>(
     files: &mut F,
     out: &mut O,
 ) -> Ending<'w>
-    ensures { DecidesClaims graph.now claims.now (F.held files.old) (F.faults files.old) (F.faults files.new)
+    ensures kept { F.held files.new ≡ F.held files.old }
+    ensures ends { DecidesClaims graph.now claims.now (F.held files.old) (F.faults files.old) (F.faults files.new)
         (record { bytes = O.written out.old; faults = O.faults out.old }) (record { bytes = O.written out.new; faults = O.faults out.new }) (ending_held result) }
 {
     match accepted_graph(alloc, graph, files) {
@@ -87,6 +88,7 @@ fn on_claims<'w, F: Files, O: Sink>(
     files: &mut F,
     out: &mut O,
 ) -> Ending<'w>
+    ensures kept { F.held files.new ≡ F.held files.old }
     ensures on { OnClaims graph.now file.now (F.held files.old) (F.faults files.old) (F.faults files.new)
         (record { bytes = O.written out.old; faults = O.faults out.old }) (record { bytes = O.written out.new; faults = O.faults out.new }) (ending_held result) }
     ensures falls { F.faults files.old ≤ F.faults files.new }

@@ -24,7 +24,8 @@ pub fn compile<'w, F: Files, O: Sink>(
     files: &mut F,
     out: &mut O,
 ) -> Ending<'w>
-    ensures { OnFile (Compiles role.now) most_graph_file file.now (F.held files.old) (F.faults files.old) (F.faults files.new)
+    ensures kept { F.held files.new ≡ F.held files.old }
+    ensures ends { OnFile (Compiles role.now) most_graph_file file.now (F.held files.old) (F.faults files.old) (F.faults files.new)
         (record { bytes = O.written out.old; faults = O.faults out.old }) (record { bytes = O.written out.new; faults = O.faults out.new }) (ending_held result) }
 {
     match read_file(alloc, file, files, MOST_BYTES) {

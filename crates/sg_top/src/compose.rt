@@ -6,6 +6,7 @@ ghost use Rattle.sg_protocol.specs.Texts.{real};
 ghost use Rattle.sg_program.specs.Compiled.{IsWhole};
 ghost use Rattle.sg_parse.specs.PartsGrammar.{SpellsParts};
 ghost use Rattle.sg_compose.specs.Expansion.{expansion};
+ghost use Rattle.sg_compose.specs.Laws.{IsComposed};
 ghost use Rattle.sg_top.specs.Ends.{Composes, OnFile};
 ghost use Rattle.sg_top.specs.Model.{ending_held};
 
@@ -27,7 +28,8 @@ pub fn compose<'w, F: Files, O: Sink>(
     files: &mut F,
     out: &mut O,
 ) -> Ending<'w>
-    ensures { OnFile Composes most_graph_file file.now (F.held files.old) (F.faults files.old) (F.faults files.new)
+    ensures kept { F.held files.new ≡ F.held files.old }
+    ensures ends { OnFile Composes most_graph_file file.now (F.held files.old) (F.faults files.old) (F.faults files.new)
         (record { bytes = O.written out.old; faults = O.faults out.old }) (record { bytes = O.written out.new; faults = O.faults out.new }) (ending_held result) }
 {
     match read_file(alloc, file, files, MOST_BYTES) {
@@ -73,6 +75,7 @@ fn check_expansion<O: Sink>(
 ) -> Ending<'static>
     requires spelled { SpellsParts bytes.now parts.now }
     requires expanded { expansion parts.now ≡ Ok graph }
+    requires keeps { IsComposed parts.now graph }
     requires two { 2 ≤ length graph.roles }
     ensures { Composes bytes.now (record { bytes = O.written out.old; faults = O.faults out.old }) (record { bytes = O.written out.new; faults = O.faults out.new }) (ending_held result) }
 {
@@ -94,6 +97,7 @@ fn write_expansion<O: Sink>(
 ) -> Ending<'static>
     requires spelled { SpellsParts bytes.now parts.now }
     requires expanded { expansion parts.now ≡ Ok graph.now }
+    requires keeps { IsComposed parts.now graph.now }
     requires compiled { AreCompiled real (graph.now ∷ []) programs.now }
     requires few { All IsWhole programs.now }
     ensures { Composes bytes.now (record { bytes = O.written out.old; faults = O.faults out.old }) (record { bytes = O.written out.new; faults = O.faults out.new }) (ending_held result) }

@@ -33,7 +33,8 @@ pub fn drive<'w, F: Files, O: Sink>(
     out: &mut O,
 ) -> Ending<'w>
     requires { (1 ≤ sessions) × (sessions ≤ most_driven) }
-    ensures { OnFile (Drives seed sessions) most_graph_file file.now (F.held files.old) (F.faults files.old) (F.faults files.new)
+    ensures kept { F.held files.new ≡ F.held files.old }
+    ensures ends { OnFile (Drives seed sessions) most_graph_file file.now (F.held files.old) (F.faults files.old) (F.faults files.new)
         (record { bytes = O.written out.old; faults = O.faults out.old }) (record { bytes = O.written out.new; faults = O.faults out.new }) (ending_held result) }
 {
     match read_file(alloc, file, files, MOST_BYTES) {

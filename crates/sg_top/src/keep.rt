@@ -1,9 +1,11 @@
 //! The command `keep`: a run over a ledger. It reads keys, programs and a script, opens the ledger and then the link, and plays the script as
 //! one principal whose joins are kept (`sg_keep`).
-ghost use Rattle.std.specs.Prelude.{◌≡◌, ◌⊎◌, false, map};
+ghost use Rattle.std.specs.Prelude.{◌≡◌, ◌⊎◌, Err, Some, false, map};
 ghost use Rattle.sg_keep.specs.Kept.{AllStandFor};
 ghost use Rattle.sg_top.specs.Ledgers.{CanHaveKept, EndsOver, KeepsRun, KeepsSetup, ending_of_play};
 ghost use Rattle.sg_top.specs.Model.{ending_held};
+ghost use Rattle.sg_top.specs.Runs.{LacksLink};
+ghost use Rattle.sg_top.specs.Setup.{waits_at};
 
 use crate::ending::Ending;
 use crate::joins::open_ledger;
@@ -29,10 +31,11 @@ pub fn keep<'w, F: Files, O: Sink, L: Link, R: Fresh, D: Disk>(
     fresh: &mut R,
     disk: &mut D,
 ) -> Ending<'w>
-    ensures keeps { KeepsRun (record { keys = keys.now; programs = map (λ p. p.now) programs.now; script = script.now }) most (F.held files.old) (F.faults files.old) (F.faults files.new)
-        (record { out = record { bytes = O.written out.old; faults = O.faults out.old }; link = record { deliveries = L.deliveries link.old; sent = L.sent link.old; faults = L.faults link.old }; words = R.words fresh.old })
-        (record { out = record { bytes = O.written out.new; faults = O.faults out.new }; link = record { deliveries = L.deliveries link.new; sent = L.sent link.new; faults = L.faults link.new }; words = R.words fresh.new })
-        (record { seen = D.seen disk.old; may_leave = D.may_leave disk.old; faults = D.faults disk.old }) (record { seen = D.seen disk.new; may_leave = D.may_leave disk.new; faults = D.faults disk.new })
+    ensures kept { F.held files.new ≡ F.held files.old }
+    ensures keeps { KeepsRun file.now (record { keys = keys.now; programs = map (λ p. p.now) programs.now; script = script.now }) most (F.held files.old) (F.faults files.old) (F.faults files.new)
+        (record { out = record { bytes = O.written out.old; faults = O.faults out.old }; link = record { bound = L.bound link.old; deliveries = L.deliveries link.old; sent = L.sent link.old; faults = L.faults link.old }; words = R.words fresh.old })
+        (record { out = record { bytes = O.written out.new; faults = O.faults out.new }; link = record { bound = L.bound link.new; deliveries = L.deliveries link.new; sent = L.sent link.new; faults = L.faults link.new }; words = R.words fresh.new })
+        (record { bound = D.bound disk.old; seen = D.seen disk.old; may_leave = D.may_leave disk.old; faults = D.faults disk.old }) (record { bound = D.bound disk.new; seen = D.seen disk.new; may_leave = D.may_leave disk.new; faults = D.faults disk.new })
         (ending_held result) }
     ensures as_before { CanHaveKept (ending_held result) ⊎ ((link.new ≡ link.old) × (fresh.new ≡ fresh.old)) }
 {
@@ -54,10 +57,10 @@ fn keep_setup<O: Sink, L: Link, R: Fresh, D: Disk>(
     disk: &mut D,
 ) -> Ending<'static>
     requires { setup.keys_of_node ≡ setup.keys }
-    ensures keeps { KeepsSetup (record { keys = setup.keys; programs = setup.programs; script = setup.script }) most
-        (record { out = record { bytes = O.written out.old; faults = O.faults out.old }; link = record { deliveries = L.deliveries link.old; sent = L.sent link.old; faults = L.faults link.old }; words = R.words fresh.old })
-        (record { out = record { bytes = O.written out.new; faults = O.faults out.new }; link = record { deliveries = L.deliveries link.new; sent = L.sent link.new; faults = L.faults link.new }; words = R.words fresh.new })
-        (record { seen = D.seen disk.old; may_leave = D.may_leave disk.old; faults = D.faults disk.old }) (record { seen = D.seen disk.new; may_leave = D.may_leave disk.new; faults = D.faults disk.new })
+    ensures keeps { KeepsSetup file.now (record { keys = setup.keys; programs = setup.programs; script = setup.script }) most
+        (record { out = record { bytes = O.written out.old; faults = O.faults out.old }; link = record { bound = L.bound link.old; deliveries = L.deliveries link.old; sent = L.sent link.old; faults = L.faults link.old }; words = R.words fresh.old })
+        (record { out = record { bytes = O.written out.new; faults = O.faults out.new }; link = record { bound = L.bound link.new; deliveries = L.deliveries link.new; sent = L.sent link.new; faults = L.faults link.new }; words = R.words fresh.new })
+        (record { bound = D.bound disk.old; seen = D.seen disk.old; may_leave = D.may_leave disk.old; faults = D.faults disk.old }) (record { bound = D.bound disk.new; seen = D.seen disk.new; may_leave = D.may_leave disk.new; faults = D.faults disk.new })
         (ending_held result) }
     ensures as_before { CanHaveKept (ending_held result) ⊎ ((link.new ≡ link.old) × (fresh.new ≡ fresh.old)) }
 {
@@ -81,10 +84,14 @@ fn play_over<O: Sink, L: Link, R: Fresh, D: Disk>(
     requires keys { setup.keys_of_node ≡ setup.keys }
     requires working { ledger.failed ≡ false }
     requires stands { AllStandFor (D.may_leave disk.old) ledger.joins }
-    ensures { EndsOver ledger.joins (record { keys = setup.keys; programs = setup.programs; script = setup.script }) most
-        (record { out = record { bytes = O.written out.old; faults = O.faults out.old }; link = record { deliveries = L.deliveries link.old; sent = L.sent link.old; faults = L.faults link.old }; words = R.words fresh.old })
-        (record { out = record { bytes = O.written out.new; faults = O.faults out.new }; link = record { deliveries = L.deliveries link.new; sent = L.sent link.new; faults = L.faults link.new }; words = R.words fresh.new })
-        (record { seen = D.seen disk.old; may_leave = D.may_leave disk.old; faults = D.faults disk.old }) (record { seen = D.seen disk.new; may_leave = D.may_leave disk.new; faults = D.faults disk.new })
+    ensures bound { D.bound disk.new ≡ D.bound disk.old }
+    ensures waits { (L.bound link.new ≡ Some (waits_at setup.keys)) ⊎ ((result ≡ Err (KeepFault.Played PlayFault.LinkFailed)) × LacksLink
+        (record { out = record { bytes = O.written out.old; faults = O.faults out.old }; link = record { bound = L.bound link.old; deliveries = L.deliveries link.old; sent = L.sent link.old; faults = L.faults link.old }; words = R.words fresh.old })
+        (record { out = record { bytes = O.written out.new; faults = O.faults out.new }; link = record { bound = L.bound link.new; deliveries = L.deliveries link.new; sent = L.sent link.new; faults = L.faults link.new }; words = R.words fresh.new })) }
+    ensures ends { EndsOver ledger.joins (record { keys = setup.keys; programs = setup.programs; script = setup.script }) most
+        (record { out = record { bytes = O.written out.old; faults = O.faults out.old }; link = record { bound = L.bound link.old; deliveries = L.deliveries link.old; sent = L.sent link.old; faults = L.faults link.old }; words = R.words fresh.old })
+        (record { out = record { bytes = O.written out.new; faults = O.faults out.new }; link = record { bound = L.bound link.new; deliveries = L.deliveries link.new; sent = L.sent link.new; faults = L.faults link.new }; words = R.words fresh.new })
+        (record { bound = D.bound disk.old; seen = D.seen disk.old; may_leave = D.may_leave disk.old; faults = D.faults disk.old }) (record { bound = D.bound disk.new; seen = D.seen disk.new; may_leave = D.may_leave disk.new; faults = D.faults disk.new })
         result }
 {
     match link.open(setup.keys.listen()) {

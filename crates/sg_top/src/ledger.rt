@@ -1,6 +1,6 @@
 //! The command `ledger`: makes a ledger of a file that is missing or empty.
-ghost use Rattle.std.specs.Prelude.{IfErr, OnOk};
-ghost use Rattle.sg_top.specs.Ledgers.{IsMade, LacksRoom, Makes};
+ghost use Rattle.std.specs.Prelude.{◌≡◌, Some, IfErr, OnOk};
+ghost use Rattle.sg_top.specs.Ledgers.{IsBound, IsMade, LacksRoom, Makes};
 ghost use Rattle.sg_top.specs.Model.{ending_held};
 
 use crate::ending::Ending;
@@ -15,8 +15,8 @@ pub fn ledger<O: Sink, D: Disk>(
     out: &mut O,
     disk: &mut D,
 ) -> Ending<'static>
-    ensures { Makes (record { bytes = O.written out.old; faults = O.faults out.old }) (record { bytes = O.written out.new; faults = O.faults out.new })
-        (record { seen = D.seen disk.old; may_leave = D.may_leave disk.old; faults = D.faults disk.old }) (record { seen = D.seen disk.new; may_leave = D.may_leave disk.new; faults = D.faults disk.new })
+    ensures { Makes file.now (record { bytes = O.written out.old; faults = O.faults out.old }) (record { bytes = O.written out.new; faults = O.faults out.new })
+        (record { bound = D.bound disk.old; seen = D.seen disk.old; may_leave = D.may_leave disk.old; faults = D.faults disk.old }) (record { bound = D.bound disk.new; seen = D.seen disk.new; may_leave = D.may_leave disk.new; faults = D.faults disk.new })
         (ending_held result) }
 {
     match create(alloc, file, disk) {
@@ -30,8 +30,10 @@ pub fn ledger<O: Sink, D: Disk>(
 
 // Makes a ledger of a file.
 fn create<D: Disk>(alloc: Global, file: &str, disk: &mut D) -> Result<(), Ending<'static>>
-    ensures made { OnOk result (IsMade (record { seen = D.seen disk.old; may_leave = D.may_leave disk.old; faults = D.faults disk.old }) (record { seen = D.seen disk.new; may_leave = D.may_leave disk.new; faults = D.faults disk.new })) }
-    ensures not_made { IfErr result (λ ending. LacksRoom (record { seen = D.seen disk.old; may_leave = D.may_leave disk.old; faults = D.faults disk.old }) (record { seen = D.seen disk.new; may_leave = D.may_leave disk.new; faults = D.faults disk.new }) (ending_held ending)) }
+    ensures bound { OnOk result (D.bound disk.new ≡ Some file.now) }
+    ensures tried { IfErr result (λ ending. IsBound file.now (record { bound = D.bound disk.old; seen = D.seen disk.old; may_leave = D.may_leave disk.old; faults = D.faults disk.old }) (record { bound = D.bound disk.new; seen = D.seen disk.new; may_leave = D.may_leave disk.new; faults = D.faults disk.new }) (ending_held ending)) }
+    ensures made { OnOk result (IsMade (record { bound = D.bound disk.old; seen = D.seen disk.old; may_leave = D.may_leave disk.old; faults = D.faults disk.old }) (record { bound = D.bound disk.new; seen = D.seen disk.new; may_leave = D.may_leave disk.new; faults = D.faults disk.new })) }
+    ensures not_made { IfErr result (λ ending. LacksRoom (record { bound = D.bound disk.old; seen = D.seen disk.old; may_leave = D.may_leave disk.old; faults = D.faults disk.old }) (record { bound = D.bound disk.new; seen = D.seen disk.new; may_leave = D.may_leave disk.new; faults = D.faults disk.new }) (ending_held ending)) }
 {
     match disk.open(file) {
         Ok(()) => {}

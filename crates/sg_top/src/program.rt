@@ -63,13 +63,15 @@ pub fn top<
     port: &mut P,
     input: &mut I,
 ) -> u8
+    // No command changes the files.
+    ensures files { F.held files.new ≡ F.held files.old }
     ensures ends { Ends (map string_bytes words.now) (F.held files.old) (F.faults files.old) (F.faults files.new)
-        (record { out = record { bytes = O.written out.old; faults = O.faults out.old }; link = record { deliveries = L.deliveries link.old; sent = L.sent link.old; faults = L.faults link.old }; words = R.words fresh.old })
-        (record { out = record { bytes = O.written out.new; faults = O.faults out.new }; link = record { deliveries = L.deliveries link.new; sent = L.sent link.new; faults = L.faults link.new }; words = R.words fresh.new })
-        (streamed C.held C.faults stream.old) (streamed C.held C.faults stream.new)
-        (record { seen = D.seen disk.old; may_leave = D.may_leave disk.old; faults = D.faults disk.old }) (record { seen = D.seen disk.new; may_leave = D.may_leave disk.new; faults = D.faults disk.new })
-        (record { coming = L.coming link.old; port = record { coming = P.coming port.old; sent = P.sent port.old; faults = P.faults port.old }; input = record { bytes = I.coming input.old; faults = I.faults input.old } })
-        (record { coming = L.coming link.new; port = record { coming = P.coming port.new; sent = P.sent port.new; faults = P.faults port.new }; input = record { bytes = I.coming input.new; faults = I.faults input.new } })
+        (record { out = record { bytes = O.written out.old; faults = O.faults out.old }; link = record { bound = L.bound link.old; deliveries = L.deliveries link.old; sent = L.sent link.old; faults = L.faults link.old }; words = R.words fresh.old })
+        (record { out = record { bytes = O.written out.new; faults = O.faults out.new }; link = record { bound = L.bound link.new; deliveries = L.deliveries link.new; sent = L.sent link.new; faults = L.faults link.new }; words = R.words fresh.new })
+        (streamed C.bound C.held C.faults stream.old) (streamed C.bound C.held C.faults stream.new)
+        (record { bound = D.bound disk.old; seen = D.seen disk.old; may_leave = D.may_leave disk.old; faults = D.faults disk.old }) (record { bound = D.bound disk.new; seen = D.seen disk.new; may_leave = D.may_leave disk.new; faults = D.faults disk.new })
+        (record { coming = L.coming link.old; port = record { bound = P.bound port.old; coming = P.coming port.old; sent = P.sent port.old; faults = P.faults port.old }; input = record { bytes = I.coming input.old; faults = I.faults input.old } })
+        (record { coming = L.coming link.new; port = record { bound = P.bound port.new; coming = P.coming port.new; sent = P.sent port.new; faults = P.faults port.new }; input = record { bytes = I.coming input.new; faults = I.faults input.new } })
         (record { bytes = E.written err.old; faults = E.faults err.old }) (record { bytes = E.written err.new; faults = E.faults err.new }) result }
 
     // All links, the input and the random words are as before where no run began.
@@ -115,13 +117,14 @@ fn on_line<
     port: &mut P,
     input: &mut I,
 ) -> u8
+    ensures files { F.held files.new ≡ F.held files.old }
     ensures ends { Ends line.now (F.held files.old) (F.faults files.old) (F.faults files.new)
-        (record { out = record { bytes = O.written out.old; faults = O.faults out.old }; link = record { deliveries = L.deliveries link.old; sent = L.sent link.old; faults = L.faults link.old }; words = R.words fresh.old })
-        (record { out = record { bytes = O.written out.new; faults = O.faults out.new }; link = record { deliveries = L.deliveries link.new; sent = L.sent link.new; faults = L.faults link.new }; words = R.words fresh.new })
-        (record { deliveries = S.deliveries stream.old; sent = S.sent stream.old; faults = S.faults stream.old }) (record { deliveries = S.deliveries stream.new; sent = S.sent stream.new; faults = S.faults stream.new })
-        (record { seen = D.seen disk.old; may_leave = D.may_leave disk.old; faults = D.faults disk.old }) (record { seen = D.seen disk.new; may_leave = D.may_leave disk.new; faults = D.faults disk.new })
-        (record { coming = L.coming link.old; port = record { coming = P.coming port.old; sent = P.sent port.old; faults = P.faults port.old }; input = record { bytes = I.coming input.old; faults = I.faults input.old } })
-        (record { coming = L.coming link.new; port = record { coming = P.coming port.new; sent = P.sent port.new; faults = P.faults port.new }; input = record { bytes = I.coming input.new; faults = I.faults input.new } })
+        (record { out = record { bytes = O.written out.old; faults = O.faults out.old }; link = record { bound = L.bound link.old; deliveries = L.deliveries link.old; sent = L.sent link.old; faults = L.faults link.old }; words = R.words fresh.old })
+        (record { out = record { bytes = O.written out.new; faults = O.faults out.new }; link = record { bound = L.bound link.new; deliveries = L.deliveries link.new; sent = L.sent link.new; faults = L.faults link.new }; words = R.words fresh.new })
+        (record { bound = S.bound stream.old; deliveries = S.deliveries stream.old; sent = S.sent stream.old; faults = S.faults stream.old }) (record { bound = S.bound stream.new; deliveries = S.deliveries stream.new; sent = S.sent stream.new; faults = S.faults stream.new })
+        (record { bound = D.bound disk.old; seen = D.seen disk.old; may_leave = D.may_leave disk.old; faults = D.faults disk.old }) (record { bound = D.bound disk.new; seen = D.seen disk.new; may_leave = D.may_leave disk.new; faults = D.faults disk.new })
+        (record { coming = L.coming link.old; port = record { bound = P.bound port.old; coming = P.coming port.old; sent = P.sent port.old; faults = P.faults port.old }; input = record { bytes = I.coming input.old; faults = I.faults input.old } })
+        (record { coming = L.coming link.new; port = record { bound = P.bound port.new; coming = P.coming port.new; sent = P.sent port.new; faults = P.faults port.new }; input = record { bytes = I.coming input.new; faults = I.faults input.new } })
         (record { bytes = E.written err.old; faults = E.faults err.old }) (record { bytes = E.written err.new; faults = E.faults err.new }) result }
     ensures as_before { MayPlay line.now result ⊎ ((link.new ≡ link.old) × (stream.new ≡ stream.old) × (port.new ≡ port.old) × (input.new ≡ input.old) × (fresh.new ≡ fresh.old)) }
     ensures link { IsOverLink (command_of line.now) ⊎ (link.new ≡ link.old) }
@@ -163,13 +166,14 @@ fn work<'w, F: Files, O: Sink, L: TimedLink, R: Fresh, D: Disk, S: Link, P: Time
     input: &mut I,
 ) -> Ending<'w>
     requires { CanBeDriven (option_map command_held command) }
+    ensures files { F.held files.new ≡ F.held files.old }
     ensures works { Works (option_map command_held command.entry) (F.held files.old) (F.faults files.old) (F.faults files.new)
-        (record { out = record { bytes = O.written out.old; faults = O.faults out.old }; link = record { deliveries = L.deliveries link.old; sent = L.sent link.old; faults = L.faults link.old }; words = R.words fresh.old })
-        (record { out = record { bytes = O.written out.new; faults = O.faults out.new }; link = record { deliveries = L.deliveries link.new; sent = L.sent link.new; faults = L.faults link.new }; words = R.words fresh.new })
-        (record { deliveries = S.deliveries stream.old; sent = S.sent stream.old; faults = S.faults stream.old }) (record { deliveries = S.deliveries stream.new; sent = S.sent stream.new; faults = S.faults stream.new })
-        (record { seen = D.seen disk.old; may_leave = D.may_leave disk.old; faults = D.faults disk.old }) (record { seen = D.seen disk.new; may_leave = D.may_leave disk.new; faults = D.faults disk.new })
-        (record { coming = L.coming link.old; port = record { coming = P.coming port.old; sent = P.sent port.old; faults = P.faults port.old }; input = record { bytes = I.coming input.old; faults = I.faults input.old } })
-        (record { coming = L.coming link.new; port = record { coming = P.coming port.new; sent = P.sent port.new; faults = P.faults port.new }; input = record { bytes = I.coming input.new; faults = I.faults input.new } })
+        (record { out = record { bytes = O.written out.old; faults = O.faults out.old }; link = record { bound = L.bound link.old; deliveries = L.deliveries link.old; sent = L.sent link.old; faults = L.faults link.old }; words = R.words fresh.old })
+        (record { out = record { bytes = O.written out.new; faults = O.faults out.new }; link = record { bound = L.bound link.new; deliveries = L.deliveries link.new; sent = L.sent link.new; faults = L.faults link.new }; words = R.words fresh.new })
+        (record { bound = S.bound stream.old; deliveries = S.deliveries stream.old; sent = S.sent stream.old; faults = S.faults stream.old }) (record { bound = S.bound stream.new; deliveries = S.deliveries stream.new; sent = S.sent stream.new; faults = S.faults stream.new })
+        (record { bound = D.bound disk.old; seen = D.seen disk.old; may_leave = D.may_leave disk.old; faults = D.faults disk.old }) (record { bound = D.bound disk.new; seen = D.seen disk.new; may_leave = D.may_leave disk.new; faults = D.faults disk.new })
+        (record { coming = L.coming link.old; port = record { bound = P.bound port.old; coming = P.coming port.old; sent = P.sent port.old; faults = P.faults port.old }; input = record { bytes = I.coming input.old; faults = I.faults input.old } })
+        (record { coming = L.coming link.new; port = record { bound = P.bound port.new; coming = P.coming port.new; sent = P.sent port.new; faults = P.faults port.new }; input = record { bytes = I.coming input.new; faults = I.faults input.new } })
         (ending_held result) }
     ensures as_before { HasPlayed (option_map command_held command.entry) (ending_held result) ⊎ ((link.new ≡ link.old) × (stream.new ≡ stream.old) × (port.new ≡ port.old) × (input.new ≡ input.old) × (fresh.new ≡ fresh.old)) }
     ensures link { IsOverLink (option_map command_held command.entry) ⊎ (link.new ≡ link.old) }

@@ -2,10 +2,11 @@
 //!
 //! What is played is a function of the keys, the programs, the script, the first deliveries of the link and the random words
 //! (`sg_play`): each call that it makes is a step of a node, so what holds of every run holds of it.
-ghost use Rattle.std.specs.Prelude.{◌≡◌, ◌≤◌, ◌⊎◌, Err, OnOk, map};
+ghost use Rattle.std.specs.Prelude.{◌≡◌, ◌≤◌, ◌⊎◌, Err, OnOk, Some, map};
 ghost use Rattle.sg_base.specs.Outside.{HasRisen};
 ghost use Rattle.sg_top.specs.Model.{ending_held};
-ghost use Rattle.sg_top.specs.Runs.{CanHavePlayed, Plays, Runs, Takes, TakesAtMost};
+ghost use Rattle.sg_top.specs.Runs.{CanHavePlayed, LacksLink, Plays, Runs, Takes, TakesAtMost};
+ghost use Rattle.sg_top.specs.Setup.{waits_at};
 
 use crate::ending::Ending;
 use crate::setup::{Setup, read_setup};
@@ -27,9 +28,10 @@ pub fn run<'w, F: Files, O: Sink, L: Link, R: Fresh>(
     link: &mut L,
     fresh: &mut R,
 ) -> Ending<'w>
+    ensures kept { F.held files.new ≡ F.held files.old }
     ensures runs { Runs (record { keys = keys.now; programs = map (λ p. p.now) programs.now; script = script.now }) most (F.held files.old) (F.faults files.old) (F.faults files.new)
-        (record { out = record { bytes = O.written out.old; faults = O.faults out.old }; link = record { deliveries = L.deliveries link.old; sent = L.sent link.old; faults = L.faults link.old }; words = R.words fresh.old })
-        (record { out = record { bytes = O.written out.new; faults = O.faults out.new }; link = record { deliveries = L.deliveries link.new; sent = L.sent link.new; faults = L.faults link.new }; words = R.words fresh.new })
+        (record { out = record { bytes = O.written out.old; faults = O.faults out.old }; link = record { bound = L.bound link.old; deliveries = L.deliveries link.old; sent = L.sent link.old; faults = L.faults link.old }; words = R.words fresh.old })
+        (record { out = record { bytes = O.written out.new; faults = O.faults out.new }; link = record { bound = L.bound link.new; deliveries = L.deliveries link.new; sent = L.sent link.new; faults = L.faults link.new }; words = R.words fresh.new })
         (ending_held result) }
     ensures as_before { CanHavePlayed (ending_held result) ⊎ ((link.new ≡ link.old) × (fresh.new ≡ fresh.old)) }
 {
@@ -54,9 +56,12 @@ fn play_setup<L: Link, R: Fresh, O: Sink>(
     out: &mut O,
 ) -> Result<(), PlayFault>
     requires { setup.keys_of_node ≡ setup.keys }
+    ensures waits { (L.bound link.new ≡ Some (waits_at setup.keys)) ⊎ ((result ≡ Err PlayFault.LinkFailed) × LacksLink
+        (record { out = record { bytes = O.written out.old; faults = O.faults out.old }; link = record { bound = L.bound link.old; deliveries = L.deliveries link.old; sent = L.sent link.old; faults = L.faults link.old }; words = R.words fresh.old })
+        (record { out = record { bytes = O.written out.new; faults = O.faults out.new }; link = record { bound = L.bound link.new; deliveries = L.deliveries link.new; sent = L.sent link.new; faults = L.faults link.new }; words = R.words fresh.new })) }
     ensures plays { Plays (record { keys = setup.keys; programs = setup.programs; script = setup.script }) most
-        (record { out = record { bytes = O.written out.old; faults = O.faults out.old }; link = record { deliveries = L.deliveries link.old; sent = L.sent link.old; faults = L.faults link.old }; words = R.words fresh.old })
-        (record { out = record { bytes = O.written out.new; faults = O.faults out.new }; link = record { deliveries = L.deliveries link.new; sent = L.sent link.new; faults = L.faults link.new }; words = R.words fresh.new })
+        (record { out = record { bytes = O.written out.old; faults = O.faults out.old }; link = record { bound = L.bound link.old; deliveries = L.deliveries link.old; sent = L.sent link.old; faults = L.faults link.old }; words = R.words fresh.old })
+        (record { out = record { bytes = O.written out.new; faults = O.faults out.new }; link = record { bound = L.bound link.new; deliveries = L.deliveries link.new; sent = L.sent link.new; faults = L.faults link.new }; words = R.words fresh.new })
         result }
     ensures left { OnOk result (Takes most (L.deliveries link.old) (L.deliveries link.new)) }
     ensures at_most { TakesAtMost most (L.deliveries link.old) (L.deliveries link.new) }
@@ -79,9 +84,10 @@ fn play_on<L: Link, R: Fresh, O: Sink>(
     out: &mut O,
 ) -> Result<(), PlayFault>
     requires { setup.keys_of_node ≡ setup.keys }
+    ensures bound { L.bound link.new ≡ L.bound link.old }
     ensures plays { Plays (record { keys = setup.keys; programs = setup.programs; script = setup.script }) most
-        (record { out = record { bytes = O.written out.old; faults = O.faults out.old }; link = record { deliveries = L.deliveries link.old; sent = L.sent link.old; faults = L.faults link.old }; words = R.words fresh.old })
-        (record { out = record { bytes = O.written out.new; faults = O.faults out.new }; link = record { deliveries = L.deliveries link.new; sent = L.sent link.new; faults = L.faults link.new }; words = R.words fresh.new })
+        (record { out = record { bytes = O.written out.old; faults = O.faults out.old }; link = record { bound = L.bound link.old; deliveries = L.deliveries link.old; sent = L.sent link.old; faults = L.faults link.old }; words = R.words fresh.old })
+        (record { out = record { bytes = O.written out.new; faults = O.faults out.new }; link = record { bound = L.bound link.new; deliveries = L.deliveries link.new; sent = L.sent link.new; faults = L.faults link.new }; words = R.words fresh.new })
         result }
     ensures left { OnOk result (Takes most (L.deliveries link.old) (L.deliveries link.new)) }
     ensures at_most { TakesAtMost most (L.deliveries link.old) (L.deliveries link.new) }

@@ -68,6 +68,7 @@ pub fn read_setup<'w, F: Files>(
     programs: &'w [&'w str],
     files: &mut F,
 ) -> Result<Setup, Ending<'w>>
+    ensures kept { F.held files.new ≡ F.held files.old }
     ensures has { IfOk result (λ s. HasSetup (F.held files.old) (record { keys = keys.now; programs = map (λ p. p.now) programs.now; script = script.now })
         (record { keys = s.keys; programs = s.programs; script = s.script })) }
     ensures same { IfOk result (λ s. s.keys_of_node ≡ s.keys) }
@@ -227,6 +228,7 @@ fn script_of<'w, F: Files>(
     programs: &Programs,
     files: &mut F,
 ) -> Result<Script, Ending<'w>>
+    ensures kept { F.held files.new ≡ F.held files.old }
     ensures holds { IfOk result (λ s. Holds (F.held files.old) most_script_file file.now (λ bytes. SpellsScript programs.now bytes s)) }
     ensures ends { IfErr result (λ ending. EndsAt (F.held files.old) (F.faults files.old) (F.faults files.new) most_script_file file.now (RefusesScript programs.now) (ending_held ending)) }
     ensures falls { F.faults files.old ≤ F.faults files.new }

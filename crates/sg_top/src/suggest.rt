@@ -1,5 +1,5 @@
 //! The command `claims` on a graph alone: reads a graph, checks it, and writes claims that hold of it.
-ghost use Rattle.std.specs.Prelude.{IfOk};
+ghost use Rattle.std.specs.Prelude.{◌≡◌, IfOk};
 ghost use Rattle.sg_model.specs.Limits.{most_graph_file};
 ghost use Rattle.sg_top.specs.Claimed.{IsAcceptedText, IsSuggestion, Suggests};
 ghost use Rattle.sg_top.specs.Ends.{OnFile};
@@ -21,7 +21,8 @@ pub fn suggest<'w, F: Files, O: Sink>(
     files: &mut F,
     out: &mut O,
 ) -> Ending<'w>
-    ensures { OnFile Suggests most_graph_file file.now (F.held files.old) (F.faults files.old) (F.faults files.new)
+    ensures kept { F.held files.new ≡ F.held files.old }
+    ensures ends { OnFile Suggests most_graph_file file.now (F.held files.old) (F.faults files.old) (F.faults files.new)
         (record { bytes = O.written out.old; faults = O.faults out.old }) (record { bytes = O.written out.new; faults = O.faults out.new }) (ending_held result) }
 {
     match read_file(alloc, file, files, MOST_BYTES) {

@@ -1,4 +1,4 @@
-use Rattle.std.proofs.Common.{arith}
+use Rattle.std.proofs.Common.{arith, ◌∙◌}
 use Rattle.std.proofs.lemmas.List.{length-drop, length-take}
 use Rattle.sg_base.proofs.Pieces.{append-take-rest}
 use Rattle.sg_base.proofs.outside.write_all.Goals as goal
@@ -6,7 +6,7 @@ use Rattle.sg_base.proofs.outside.write_all.Goals as goal
 pub loop-at-preserved : goal.loop-at-preserved
 loop-at-preserved g c = record {
   within = let fits = simp (length-take, length-drop) at c.in_ok-at.ensures.fits in omega arith;
-  never_falls = omega (arith, c.in_ok-at.ensures.never_falls, c.loop-at.invariant.never_falls);
+  no_fault = c.in_ok-at.ensures.no_fault ∙ c.loop-at.invariant.no_fault;
   front = λ before told.
       rw (← append-take-rest before c.args.text.now c.loop-at.at c.in_ok-at.field-0)
       (c.in_ok-at.ensures.appended _ (c.loop-at.invariant.front before told));

@@ -3,8 +3,8 @@ use Rattle.sg_top.specs.Model.{ending_held}
 use Rattle.sg_top.proofs.Claiming.{on_later}
 use Rattle.sg_top.proofs.claims.claims.Goals as goal
 
-pub returns-in-Ok : goal.returns-in-Ok
-returns-in-Ok g c =
+pub returns-in-Ok-clause-ends : goal.returns-in-Ok-clause-ends
+returns-in-Ok-clause-ends g c =
     inr (
       c.in-Ok.graph,
       c.in-Ok.ensures.holds,

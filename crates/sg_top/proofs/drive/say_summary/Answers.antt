@@ -9,7 +9,7 @@ returns-in-Ok-write_all g c = (
   c.as_slice.result.now,
   is_driving c.args.seed c.args.sessions c.args.graph.now c.args.programs.now c.args.bytes.now c.requires.spelled c.requires.compiled c.requires.few c.as_slice.result.now
       (subst (Sums c.args.seed c.args.sessions c.args.graph.now c.args.programs.now) (sym c.as_slice.ensures.value) c.in-Ok.ensures.sums),
-  c.in-Ok-write_all.ensures.whole,
+  (c.in-Ok-write_all.ensures.whole, c.in-Ok-write_all.ensures.no_fault),
 )
 
 pub returns-in-Ok : goal.returns-in-Ok

@@ -1,4 +1,4 @@
-use Rattle.std.proofs.Common.{◌∙◌, Err, ap}
+use Rattle.std.proofs.Common.{◌∙◌, Err, inl, inr, refl, ap}
 use Rattle.sg_ledger.specs.declared.ledger.OpenFault.{OpenFault}
 use Rattle.sg_top.proofs.InOrder.{rises}
 use Rattle.sg_top.proofs.joins.open_ledger.Goals as goal
@@ -34,3 +34,18 @@ returns-in-Err-Failed-clause-left g c = (c.open-2.ensures.kept ∙ c.open.ensure
 
 pub returns-in-Err-OutOfMemory-clause-left : goal.returns-in-Err-OutOfMemory-clause-left
 returns-in-Err-OutOfMemory-clause-left g c = (c.open-2.ensures.kept ∙ c.open.ensures.kept, λ image left. c.open.ensures.images image (c.open-2.ensures.keeps image left))
+
+pub returns-in-Err-clause-tried : goal.returns-in-Err-clause-tried
+returns-in-Err-clause-tried g c = inr (refl, c.in-Err.ensures.failed, c.in-Err.ensures.kept_bound, (c.open.ensures.kept, c.open.ensures.images))
+
+pub returns-in-Err-NotALedger-clause-tried : goal.returns-in-Err-NotALedger-clause-tried
+returns-in-Err-NotALedger-clause-tried g c = inl (c.open-2.ensures.kept_bound ∙ c.in-Ok.ensures.binds)
+
+pub returns-in-Err-BadSlot-clause-tried : goal.returns-in-Err-BadSlot-clause-tried
+returns-in-Err-BadSlot-clause-tried g c = inl (c.open-2.ensures.kept_bound ∙ c.in-Ok.ensures.binds)
+
+pub returns-in-Err-Failed-clause-tried : goal.returns-in-Err-Failed-clause-tried
+returns-in-Err-Failed-clause-tried g c = inl (c.open-2.ensures.kept_bound ∙ c.in-Ok.ensures.binds)
+
+pub returns-in-Err-OutOfMemory-clause-tried : goal.returns-in-Err-OutOfMemory-clause-tried
+returns-in-Err-OutOfMemory-clause-tried g c = inl (c.open-2.ensures.kept_bound ∙ c.in-Ok.ensures.binds)

@@ -1,4 +1,4 @@
-use Rattle.std.proofs.Common.{◌≡◌, ◌≢◌, ◌∙◌, List, ℕ, Bool, true, false, Err, length, refl, sym, ap, arith, true≢false}
+use Rattle.std.proofs.Common.{◌≡◌, ◌≢◌, ◌∙◌, List, ℕ, Bool, true, false, Err, inl, inr, length, refl, sym, ap, arith, true≢false}
 use Rattle.sg_ledger.specs.declared.ledger.CreateFault.{CreateFault}
 use Rattle.sg_ledger.specs.declared.ledger.CreateFault.TheVariants.{NotEmpty, Failed, OutOfMemory}
 use Rattle.sg_top.proofs.InOrder.{rises}
@@ -43,3 +43,15 @@ pub returns-in-Err-OutOfMemory-clause-not_made : goal.returns-in-Err-OutOfMemory
 returns-in-Err-OutOfMemory-clause-not_made g c =
     let alone = c.in-Err-OutOfMemory.ensures.refused (other _ _ c.in-Err-OutOfMemory.field-0-is refl) in
     (alone.kept ∙ c.open.ensures.kept, λ image left. c.open.ensures.images image (alone.keeps image left))
+
+pub returns-in-Err-clause-tried : goal.returns-in-Err-clause-tried
+returns-in-Err-clause-tried g c = inr (refl, c.in-Err.ensures.failed, c.in-Err.ensures.kept_bound, (c.open.ensures.kept, c.open.ensures.images))
+
+pub returns-in-Err-NotEmpty-clause-tried : goal.returns-in-Err-NotEmpty-clause-tried
+returns-in-Err-NotEmpty-clause-tried g c = inl (c.create.ensures.kept_bound ∙ c.in-Ok.ensures.binds)
+
+pub returns-in-Err-Failed-clause-tried : goal.returns-in-Err-Failed-clause-tried
+returns-in-Err-Failed-clause-tried g c = inl (c.create.ensures.kept_bound ∙ c.in-Ok.ensures.binds)
+
+pub returns-in-Err-OutOfMemory-clause-tried : goal.returns-in-Err-OutOfMemory-clause-tried
+returns-in-Err-OutOfMemory-clause-tried g c = inl (c.create.ensures.kept_bound ∙ c.in-Ok.ensures.binds)

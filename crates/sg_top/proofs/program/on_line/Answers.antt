@@ -23,7 +23,7 @@ returns-in-Ok-clause-as_before g c =
     may_play c.args.line.now (option_map command_held c.command.result) (ending_held c.work-ending.result) _ _ c.say.result (c.command.ensures ∙ ap command_of c.in-Ok.ensures) c.work-ending.ensures.as_before c.say.ensures
 
 pub returns-in-Err-clause-ends : goal.returns-in-Err-clause-ends
-returns-in-Err-clause-ends g c = record { work = NoMemory; does = inr ((refl, refl, refl), refl, ((refl, λ image left. left), λ image left. left, refl), refl, refl); says = c.say-in-Err.ensures }
+returns-in-Err-clause-ends g c = record { work = NoMemory; does = inr ((refl, refl, refl), refl, ((refl, λ image left. left), λ image left. left, refl, refl), refl, refl, refl); says = c.say-in-Err.ensures }
 
 pub returns-in-Ok-clause-disk : goal.returns-in-Ok-clause-disk
 returns-in-Ok-clause-disk g c =

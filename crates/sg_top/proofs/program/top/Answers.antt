@@ -3,7 +3,7 @@ use Rattle.sg_top.specs.Ending.{NoMemory}
 use Rattle.sg_top.proofs.program.top.Goals as goal
 
 pub returns-in-Err-clause-ends : goal.returns-in-Err-clause-ends
-returns-in-Err-clause-ends g c = record { work = NoMemory; does = inr ((refl, refl, refl), refl, ((refl, λ image left. left), λ image left. left, refl), refl, refl); says = c.say.ensures }
+returns-in-Err-clause-ends g c = record { work = NoMemory; does = inr ((refl, refl, refl), refl, ((refl, λ image left. left), λ image left. left, refl, refl), refl, refl, refl); says = c.say.ensures }
 
 pub returns-in-Err-clause-as_before : goal.returns-in-Err-clause-as_before
 returns-in-Err-clause-as_before g c = inr (refl, refl, refl, refl, refl)

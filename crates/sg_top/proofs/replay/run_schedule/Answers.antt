@@ -9,7 +9,7 @@ returns-in-Ok-write_all g c = (
   c.as_slice.result.now,
   is_replay c.args.programs.now c.args.schedule.now c.args.bytes.now c.requires.spelled c.requires.can c.requires.compiled c.requires.few c.as_slice.result.now
       (subst (Reports c.args.programs.now c.args.schedule.now) (sym c.as_slice.ensures.value) c.in-Ok.ensures.reports),
-  c.in-Ok-write_all.ensures.whole,
+  (c.in-Ok-write_all.ensures.whole, c.in-Ok-write_all.ensures.no_fault),
 )
 
 pub returns-in-Ok : goal.returns-in-Ok

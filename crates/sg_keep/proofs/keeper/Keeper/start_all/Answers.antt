@@ -13,7 +13,7 @@ use Rattle.sg_keep.proofs.Going.{starts_on}
 use Rattle.sg_keep.proofs.keeper.Keeper.start_all.Goals as goal
 
 pub loop-start-init : goal.loop-start-init
-loop-start-init g c = record { falls = no_fall (record { link = g.L.Link.faults c.args.link.now; out = g.O.Sink.faults c.args.out.now; disk = g.D.Disk.faults c.args.disk.now }); deliveries = refl; holds = c.requires.holds; came = λ p start s w h. (s, h, w) }
+loop-start-init g c = record { link_bound = refl; disk_bound = refl; falls = no_fall (record { link = g.L.Link.faults c.args.link.now; out = g.O.Sink.faults c.args.out.now; disk = g.D.Disk.faults c.args.disk.now }); deliveries = refl; holds = c.requires.holds; came = λ p start s w h. (s, h, w) }
 
 pub loop-start-preserved : goal.loop-start-preserved
 loop-start-preserved g c =
@@ -23,6 +23,8 @@ loop-start-preserved g c =
     let mid : Counts = record { link = g.L.Link.faults c.loop-start.link; out = g.O.Sink.faults c.loop-start.out; disk = g.D.Disk.faults c.loop-start.disk } in
     let new : Counts = record { link = g.L.Link.faults c.start_one.new.link; out = g.O.Sink.faults c.start_one.new.out; disk = g.D.Disk.faults c.start_one.new.disk } in
     record {
+      link_bound = one.link_bound ∙ inv.link_bound;
+      disk_bound = one.disk_bound ∙ inv.disk_bound;
       falls = falls_on old mid new inv.falls (falls_of mid new c.start_one.result c.start_one.ensures.faults);
       deliveries = one.deliveries ∙ inv.deliveries;
       holds = one.holds;

@@ -7,6 +7,8 @@ use Rattle.sg_keep.proofs.keeper.Keeper.start_all.Given as goal
 
 abbrev pub invariant-loop-start : goal.invariant-loop-start
 invariant-loop-start g l = record {
+  link_bound : g.L.Link.bound l.link ≡ g.L.Link.bound l.initial.link;
+  disk_bound : g.D.Disk.bound l.disk ≡ g.D.Disk.bound l.initial.disk;
   falls : NoFall (record { link = g.L.Link.faults l.initial.link; out = g.O.Sink.faults l.initial.out; disk = g.D.Disk.faults l.initial.disk }) (record { link = g.L.Link.faults l.link; out = g.O.Sink.faults l.out; disk = g.D.Disk.faults l.disk });
   deliveries : g.L.Link.deliveries l.link ≡ g.L.Link.deliveries l.initial.link;
   holds : HoldsJoins l.self (g.D.Disk.may_leave l.disk);

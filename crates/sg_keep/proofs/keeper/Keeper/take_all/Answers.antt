@@ -15,6 +15,8 @@ use Rattle.sg_keep.proofs.keeper.Keeper.take_all.Goals as goal
 
 pub loop-taken-init : goal.loop-taken-init
 loop-taken-init g c = record {
+  link_bound = refl;
+  disk_bound = refl;
   falls = no_fall (record { link = g.L.Link.faults c.args.link.now; out = g.O.Sink.faults c.args.out.now; disk = g.D.Disk.faults c.args.disk.now });
   holds = c.requires.holds;
   left = λ deliveries told. told;
@@ -32,6 +34,8 @@ loop-taken-preserved g c =
     let took : Counts = record { link = g.L.Link.faults c.recv.new.self; out = g.O.Sink.faults c.loop-taken.out; disk = g.D.Disk.faults c.loop-taken.disk } in
     let new : Counts = record { link = g.L.Link.faults c.deliver.new.link; out = g.O.Sink.faults c.deliver.new.out; disk = g.D.Disk.faults c.deliver.new.disk } in
     record {
+      link_bound = one.link_bound ∙ c.recv.ensures.kept_bound ∙ inv.link_bound;
+      disk_bound = one.disk_bound ∙ inv.disk_bound;
       falls = falls_on old mid new inv.falls (falls_on mid took new (link_took _ _ _ _ c.recv.ensures.never_falls) (falls_of took new c.deliver.result c.deliver.ensures.faults));
       holds = one.holds;
       left = λ deliveries told. one.deliveries ∙ (first (drop k deliveries) (inv.left deliveries told)).1 ∙ ap (λ l. Some l) (left_next k deliveries);

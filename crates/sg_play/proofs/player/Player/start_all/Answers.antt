@@ -5,13 +5,14 @@ use Rattle.sg_play.proofs.Running.{start_failed, start_more, starts_done}
 use Rattle.sg_play.proofs.player.Player.start_all.Goals as goal
 
 pub loop-start-init : goal.loop-start-init
-loop-start-init g c = record { link_falls = omega arith; out_falls = omega arith; deliveries = refl; came = λ p start s w h. ((s, h), w) }
+loop-start-init g c = record { link_bound = refl; link_falls = omega arith; out_falls = omega arith; deliveries = refl; came = λ p start s w h. ((s, h), w) }
 
 pub loop-start-preserved : goal.loop-start-preserved
 loop-start-preserved g c =
     let inv = c.loop-start.invariant in
     let one = c.in_ok-start_one.ensures in
     record {
+      link_bound = one.link_bound ∙ inv.link_bound;
       link_falls = omega (arith, inv.link_falls, one.link_falls);
       out_falls = omega (arith, inv.out_falls, one.out_falls);
       deliveries = one.deliveries ∙ inv.deliveries;

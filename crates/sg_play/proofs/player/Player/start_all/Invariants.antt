@@ -6,6 +6,7 @@ use Rattle.sg_play.proofs.player.Player.start_all.Given as goal
 
 abbrev pub invariant-loop-start : goal.invariant-loop-start
 invariant-loop-start g l = record {
+  link_bound : g.L.Link.bound l.link ≡ g.L.Link.bound l.initial.link;
   link_falls : g.L.Link.faults l.initial.link ≤ g.L.Link.faults l.link;
   out_falls : g.O.Sink.faults l.initial.out ≤ g.O.Sink.faults l.out;
   deliveries : g.L.Link.deliveries l.link ≡ g.L.Link.deliveries l.initial.link;

@@ -1,4 +1,4 @@
-use Rattle.std.proofs.Common.{rules, ◌≡◌, ◌≤◌, ◌+◌, ℕ, List, [], ◌∷◌, take, drop, Some, Err, Ok, sym, ap, ◌∙◌, subst, arith}
+use Rattle.std.proofs.Common.{rules, ◌≡◌, ◌≤◌, ◌+◌, ℕ, List, [], ◌∷◌, take, drop, Some, Err, Ok, refl, sym, ap, ◌∙◌, subst, arith}
 use Rattle.sg_play.specs.Ends.{Outside}
 use Rattle.sg_play.specs.Played.{Play, all_deliveries}
 use Rattle.sg_play.specs.Standing.{CameTo}
@@ -7,7 +7,7 @@ use Rattle.sg_play.proofs.Running.{delivery_failed, delivery_more, link_ended, l
 use Rattle.sg_play.proofs.player.Player.take_all.Goals as goal
 
 pub loop-taken-init : goal.loop-taken-init
-loop-taken-init g c = record { link_falls = omega arith; out_falls = omega arith; left = λ deliveries told. told; came = λ p start deliveries told s w h. ((s, h), w) }
+loop-taken-init g c = record { link_bound = refl; link_falls = omega arith; out_falls = omega arith; left = λ deliveries told. told; came = λ p start deliveries told s w h. ((s, h), w) }
 
 pub loop-taken-preserved : goal.loop-taken-preserved
 loop-taken-preserved g c =
@@ -16,6 +16,7 @@ loop-taken-preserved g c =
     let first = rw c.in-Ok-Some.field-0-is at c.in-Ok-Some.ensures.first in
     let one = c.in_ok-deliver-in-Ok-Some.ensures in
     record {
+      link_bound = one.link_bound ∙ c.recv.ensures.kept_bound ∙ inv.link_bound;
       link_falls = omega (arith, inv.link_falls, c.recv.ensures.never_falls, one.link_falls);
       out_falls = omega (arith, inv.out_falls, one.out_falls);
       left = λ deliveries told. one.deliveries ∙ (first (drop k deliveries) (inv.left deliveries told)).1 ∙ ap (λ l. Some l) (left_next k deliveries);

@@ -6,6 +6,7 @@ use Rattle.sg_play.proofs.player.Player.take_all.Given as goal
 
 abbrev pub invariant-loop-taken : goal.invariant-loop-taken
 invariant-loop-taken g l = record {
+  link_bound : g.L.Link.bound l.link ≡ g.L.Link.bound l.initial.link;
   link_falls : g.L.Link.faults l.initial.link ≤ g.L.Link.faults l.link;
   out_falls : g.O.Sink.faults l.initial.out ≤ g.O.Sink.faults l.out;
   left : (deliveries : List (List ℕ)) → g.L.Link.deliveries l.initial.link ≡ Some deliveries → g.L.Link.deliveries l.link ≡ Some (drop l._taken deliveries);

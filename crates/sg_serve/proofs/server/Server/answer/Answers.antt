@@ -45,6 +45,8 @@ returns-in-Ok-Some g c =
     let coming = g.L.TimedLink.coming c.args.link.now in
     let old = g.L.Link.faults c.args.link.now in
     record {
+      link_bound = refl;
+      disk_bound = c.reply.ensures.disk_bound;
       link_falls = same_falls old;
       falls = c.reply.ensures.falls;
       untouched = c.reply.ensures.untouched;

@@ -108,6 +108,8 @@ loop-line-preserved g c =
           let new : Outside = record { written = g.O.Sink.written w.serve_line.new.out; sent = g.L.Link.sent w.serve_line.new.link; coming = g.L.TimedLink.coming w.serve_line.new.link; failed = g.L.Link.faults w.serve_line.new.link } in
           let more : w.in_ok-serve_line-in-Ok-Some-Line.field-0 ≡ true = w.if-not-branch.false in
           record {
+            link_bound = rw w.link-is (w.serve_line.ensures.link_bound ∙ inv.link_bound);
+            disk_bound = rw w.disk-is (w.serve_line.ensures.disk_bound ∙ inv.disk_bound);
             falls = rw (w.link-is, w.out-is, w.disk-is) (falls_on first mid (record { link = g.L.Link.faults w.serve_line.new.link; out = g.O.Sink.faults w.serve_line.new.out; disk = g.D.Disk.faults w.serve_line.new.disk }) inv.falls (falls_of mid (record { link = g.L.Link.faults w.serve_line.new.link; out = g.O.Sink.faults w.serve_line.new.out; disk = g.D.Disk.faults w.serve_line.new.disk }) w.serve_line.result w.serve_line.ensures.faults));
             input_falls = omega (arith, inv.input_falls, c.next.ensures.never_falls);
             same = rw w.self-is (w.in_ok-serve_line-in-Ok-Some-Line.ensures.same ∙ inv.same);
@@ -130,6 +132,8 @@ loop-line-preserved g c =
           let new : Outside = record { written = g.O.Sink.written w.serve_line-in-Ok-Some-TooLong.new.out; sent = g.L.Link.sent w.serve_line-in-Ok-Some-TooLong.new.link; coming = g.L.TimedLink.coming w.serve_line-in-Ok-Some-TooLong.new.link; failed = g.L.Link.faults w.serve_line-in-Ok-Some-TooLong.new.link } in
           let more : w.in_ok-serve_line-in-Ok-Some-TooLong.field-0 ≡ true = w.if-not-branch-2.false in
           record {
+            link_bound = rw w.link-is (w.serve_line-in-Ok-Some-TooLong.ensures.link_bound ∙ inv.link_bound);
+            disk_bound = rw w.disk-is (w.serve_line-in-Ok-Some-TooLong.ensures.disk_bound ∙ inv.disk_bound);
             falls = rw (w.link-is, w.out-is, w.disk-is) (falls_on first mid (record { link = g.L.Link.faults w.serve_line-in-Ok-Some-TooLong.new.link; out = g.O.Sink.faults w.serve_line-in-Ok-Some-TooLong.new.out; disk = g.D.Disk.faults w.serve_line-in-Ok-Some-TooLong.new.disk }) inv.falls (falls_of mid (record { link = g.L.Link.faults w.serve_line-in-Ok-Some-TooLong.new.link; out = g.O.Sink.faults w.serve_line-in-Ok-Some-TooLong.new.out; disk = g.D.Disk.faults w.serve_line-in-Ok-Some-TooLong.new.disk }) w.serve_line-in-Ok-Some-TooLong.result w.serve_line-in-Ok-Some-TooLong.ensures.faults));
             input_falls = omega (arith, inv.input_falls, c.next.ensures.never_falls);
             same = rw w.self-is (w.in_ok-serve_line-in-Ok-Some-TooLong.ensures.same ∙ inv.same);

@@ -9,6 +9,8 @@ use Rattle.sg_serve.proofs.server.Server.serve_all.Given as goal
 
 abbrev pub invariant-loop-line : goal.invariant-loop-line
 invariant-loop-line g l = record {
+  link_bound : g.L.Link.bound l.link ≡ g.L.Link.bound l.initial.link;
+  disk_bound : g.D.Disk.bound l.disk ≡ g.D.Disk.bound l.initial.disk;
   falls : NoFall (record { link = g.L.Link.faults l.initial.link; out = g.O.Sink.faults l.initial.out; disk = g.D.Disk.faults l.initial.disk }) (record { link = g.L.Link.faults l.link; out = g.O.Sink.faults l.out; disk = g.D.Disk.faults l.disk });
   input_falls : g.I.Input.faults l.initial.input ≤ g.I.Input.faults l.input;
   same : is_some l.self.ledger ≡ is_some l.initial.self.ledger;
