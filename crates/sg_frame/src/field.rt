@@ -1,5 +1,5 @@
 //! Single fields of a frame.
-ghost use Rattle.std.specs.Prelude.{◌≡◌, ◌≤◌, ◌++◌, length, drop, IfOk, OnOk};
+ghost use Rattle.std.specs.Prelude.{◌≡◌, ◌≢◌, ◌≤◌, ◌++◌, Err, length, drop, IfOk, OnOk};
 ghost use Rattle.std.specs.Int.{w8, w16, w32};
 ghost use Rattle.sg_model.specs.Names.{is_name};
 ghost use Rattle.sg_protocol.specs.Frame.{tag_len};
@@ -14,6 +14,7 @@ pub fn bytes<'a>(input: &mut ByteIn<'a>, n: usize) -> Result<&'a [u8], FrameStop
     requires { 1 ≤ n }
     ensures reads { ReadsSeen (λ x. x.now) (any_bytes n) input.old input.new result }
     ensures length { IfOk result (λ x. length x.now ≡ n) }
+    ensures told { result ≢ Err FrameStop.OutOfMemory }
 {
     let bytes = input.bytes(n)?;
     Ok(bytes)

@@ -1,11 +1,12 @@
 //! Frames from bytes.
-ghost use Rattle.std.specs.Prelude.{◌≡◌, ◌==◌, ◌&&◌, not, [], ◌∷◌, Ok, MatchResult, IfOk};
+ghost use Rattle.std.specs.Prelude.{◌≡◌, ◌≢◌, ◌⊎◌, ◌<◌, ◌==◌, ◌&&◌, not, [], ◌∷◌, length, Err, Ok, MatchResult, IfOk, IsErr};
+ghost use Rattle.sg_model.specs.Limits.{most_frame_bytes};
 ghost use Rattle.std.specs.Int.{w8, from_be_bytes};
 ghost use Rattle.sg_protocol.specs.Frame.{Frame};
 ghost use Rattle.sg_protocol.specs.Reading.{after, field, is_within, read_version, read_frame_of, read, whole};
 ghost use Rattle.sg_protocol.specs.Spelling.{SpellsFrame};
 ghost use Rattle.sg_protocol.specs.TextLaws.{IsVersion};
-ghost use Rattle.sg_frame.specs.Reads.{Reads, ReadsSeen, Ends, Refuses};
+ghost use Rattle.sg_frame.specs.Reads.{Reads, ReadsSeen, Ends, Refuses, left};
 
 use crate::fault::{DecodeFault, FrameStop};
 use crate::frame::Frame;
@@ -19,6 +20,8 @@ pub fn decode(alloc: Global, bytes: &[u8]) -> Result<Frame, DecodeFault>
     ensures exact { MatchResult result (λ f. read bytes.now ≡ Ok f) (Refuses (read bytes.now)) }
     // What is read is spelled so.
     ensures found { IfOk result (SpellsFrame bytes.now) }
+    // Memory runs out neither for too many bytes nor for a wrong beginning.
+    ensures early { (most_frame_bytes < length bytes.now) ⊎ IsErr (read_version 0 bytes.now) → result ≢ Err DecodeFault.OutOfMemory }
     // What is spelled so is read, unless memory runs out.
     ensures only { (f : Frame) → SpellsFrame bytes.now f → MatchResult result (λ g. g ≡ f) (λ e. e ≡ DecodeFault.OutOfMemory) }
 {
@@ -34,7 +37,8 @@ pub fn decode(alloc: Global, bytes: &[u8]) -> Result<Frame, DecodeFault>
 
 // A frame, and nothing after it.
 fn read_whole(alloc: Global, bytes: &[u8]) -> Result<Frame, FrameStop>
-    ensures { Ends (whole (after read_version read_frame_of 0 bytes.now)) result }
+    ensures early { IsErr (read_version 0 bytes.now) → result ≢ Err FrameStop.OutOfMemory }
+    ensures ends { Ends (whole (after read_version read_frame_of 0 bytes.now)) result }
 {
     let mut input = ByteIn::new(bytes);
     let frame = read_frame(alloc, &mut input)?;
@@ -46,7 +50,8 @@ fn read_whole(alloc: Global, bytes: &[u8]) -> Result<Frame, FrameStop>
 }
 
 fn read_frame(alloc: Global, input: &mut ByteIn) -> Result<Frame, FrameStop>
-    ensures { Reads (after read_version read_frame_of) input.old input.new result }
+    ensures early { IsErr (read_version input.old.at (left input.old)) → result ≢ Err FrameStop.OutOfMemory }
+    ensures reads { Reads (after read_version read_frame_of) input.old input.new result }
 {
     let version = read_version(input)?;
     read_frame_of(alloc, input, version)
@@ -56,6 +61,7 @@ fn read_frame(alloc: Global, input: &mut ByteIn) -> Result<Frame, FrameStop>
 fn read_version(input: &mut ByteIn) -> Result<u8, FrameStop>
     ensures reads { Reads read_version input.old input.new result }
     ensures version { IfOk result IsVersion }
+    ensures told { result ≢ Err FrameStop.OutOfMemory }
 {
     let at = input.at();
     let magic = field::bytes(input, 4)?;

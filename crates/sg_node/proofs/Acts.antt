@@ -44,7 +44,7 @@ use Rattle.sg_node.specs.Slots.{Slot, state_in, held_at, held_in, is_of, first_p
 use Rattle.sg_role.specs.Faults.{RefusesToSend}
 use Rattle.sg_role.specs.declared.fault.SendFault.{SendFault as RoleFault}
 use Rattle.sg_role.specs.declared.fault.SendFault.TheVariants as sending
-use Rattle.sg_node.specs.Answers.{IsAnswer, IsActAnswer, GoesOn, comes_to_a_turn}
+use Rattle.sg_node.specs.Answers.{IsAnswer, IsActAnswer, GoesOn, is_sending}
 use Rattle.sg_node.specs.Faults.{act_fault, of_send}
 use Rattle.sg_node.specs.declared.fault.ActFault.{ActFault as NodeFault}
 use Rattle.sg_node.specs.declared.fault.ActFault.TheVariants as acting
@@ -58,6 +58,13 @@ mapped : {A B : Type 0} (f : A → B) (os : List (Option A)) → first_some (map
 mapped f [] = refl
 mapped f (None ∷ os) = mapped f os
 mapped f (Some x ∷ os) = refl
+
+-- an act lacks memory only where the step does
+pub lacks : (x : RoleFault) → of_send x ≡ acting.OutOfMemory → x ≡ sending.OutOfMemory
+lacks sending.OutOfMemory e = refl
+lacks sending.NoSuchLabel e = absurd cc
+lacks (sending.BadValues var) e = absurd cc
+lacks sending.TimeSpent e = absurd cc
 
 -- what is noted beside nothing
 pub with_none : (n : Notes) → n ≡ with_notes n no_notes
@@ -94,13 +101,6 @@ module _ (m : Node) (sid : List ℕ) (label : ℕ) (values : Map Value) (confs :
 
     is_sent : at_turn p.graph s ≡ true → first_some (rows_of_send p s label values) ≡ None → answer real m (Act sid label values confs) ≡ sent real m.keys p s label values confs
     is_sent t f = by_rows ∙ ap (acted (sent real m.keys p s label values confs)) (rows_at_turn t ∙ ap (option_map Send) f)
-
-    turned : at_turn p.graph s ≡ true → comes_to_a_turn (answer real m (Act sid label values confs)) ≡ true
-    turned t = ap comes_to_a_turn (by_rows ∙ ap (acted (sent real m.keys p s label values confs)) (rows_at_turn t)) ∙ all (first_some (rows_of_send p s label values))
-      where
-        all : (o : Option SendFault) → comes_to_a_turn (acted (sent real m.keys p s label values confs) (option_map Send o)) ≡ true
-        all None = refl
-        all (Some fault) = refl
 
     noted : at_turn p.graph s ≡ true → first_some (rows_of_send p s label values) ≡ None →
         notes real m (Act sid label values confs) ≡ notes_of_sent m.keys p s (frame_sent real m.keys p s label (openings_for values confs)) (openings_for values confs)
@@ -186,9 +186,9 @@ module _ (n : Inside) (h : HoldsNode n) (m : Node) (st : StandsForNode (node_sta
       pub its_session : Its m.programs (AtTurn t) (session_with m.live sid)
       its_session = session_at n h sid i (AtTurn t) e there m st
 
-      -- it is at its turn
-      pub at_a_turn : comes_to_a_turn (answer real m (Act sid label values confs)) ≡ true
-      at_a_turn = let x = its_session in turned m sid label values confs x.session t.program x.is x.program x.stands.turn
+      -- it is at its turn, and sends the step
+      pub would_send : ((s : Session) → StandsAtTurn t.program.graph t.held s → first_some (rows_of_send t.program s label values) ≡ None) → is_sending (answer real m (Act sid label values confs)) ≡ true
+      would_send f = let x = its_session in ap is_sending (is_sent m sid label values confs x.session t.program x.is x.program x.stands.turn (f x.session x.stands))
 
       -- it is at its turn, and does not send the step
       pub not_sent : (fault : SendFault) → ((s : Session) → StandsAtTurn t.program.graph t.held s → first_some (rows_of_send t.program s label values) ≡ Some fault) → answer real m (Act sid label values confs) ≡ NotActed (Send fault)

@@ -32,11 +32,10 @@ abbrev pub IsActAnswer : Answer → Result (Event × (List ℕ × List ℕ)) Act
 IsActAnswer a (Ok r) = (f : Frame) × (a ≡ Sends (event_of r.0) (r.1).0 f) × ((r.1).1 ≡ spelling f)
 IsActAnswer a (Err fault) = IsAnswer a (option_map NotActed (act_fault fault))
 
--- an act that was answered so came to a session at its turn
-abbrev pub comes_to_a_turn : Answer → Bool
-comes_to_a_turn (NotActed Protocol.ActFault.UnknownSession) = false
-comes_to_a_turn (NotActed Protocol.ActFault.NotYourTurn) = false
-comes_to_a_turn other = true
+-- a step is sent
+abbrev pub is_sending : Answer → Bool
+is_sending (Sends e to f) = true
+is_sending other = false
 
 -- the answer to an abandonment
 abbrev pub abandon_answer : Result (Unit {0}) UnknownSession → Answer

@@ -9,7 +9,7 @@ ghost use Rattle.sg_protocol.specs.Past.{Past, node_of};
 ghost use Rattle.sg_protocol.specs.Texts.{real};
 ghost use Rattle.sg_walk.specs.Model.{event_of, values_of};
 ghost use Rattle.sg_role.specs.Sending.{event_sent, frame_made, with_notes};
-ghost use Rattle.sg_node.specs.Answers.{IsActAnswer, GoesOn, comes_to_a_turn};
+ghost use Rattle.sg_node.specs.Answers.{IsActAnswer, GoesOn, is_sending};
 ghost use Rattle.sg_node.specs.Faults.{of_send};
 ghost use Rattle.sg_node.specs.Slots.{left_by};
 
@@ -39,10 +39,10 @@ impl<'p> Node<'p> {
         ensures notes { (past : Past) → StandsForPast self.old past → result ≢ Err ActFault.OutOfMemory
             → notes.new ≡ with_notes notes.old (noted_of real (node_of past) (Act sid label (values_of values.now) confounders.now)) }
         ensures back { OnErr result ((self.new ≡ self.old) × (notes.new ≡ notes.old)) }
-        // `OutOfMemory` is never inside another fault, and never takes the place of a refusal for which no turn is there.
+        // `OutOfMemory` is never inside another fault, and never takes the place of a refusal: memory runs out only for a step that would be sent.
         ensures told { result ≢ Err (ActFault.Send SendFault.OutOfMemory) }
         ensures memory { (past : Past) → StandsForPast self.old past → result ≡ Err ActFault.OutOfMemory
-            → comes_to_a_turn (answer real (node_of past) (Act sid label (values_of values.now) confounders.now)) ≡ true }
+            → is_sending (answer real (node_of past) (Act sid label (values_of values.now) confounders.now)) ≡ true }
     {
         tell_values(values, confounders);
         let Some(index) = self.sessions.first(&sid, false) else {

@@ -1,5 +1,5 @@
 //! A principal's node.
-ghost use Rattle.std.specs.Prelude.{◌≡◌, ◌≢◌, ◌≤◌, [], length, AllPairs, IfOk, IsOk};
+ghost use Rattle.std.specs.Prelude.{◌≡◌, ◌≢◌, ◌≤◌, [], length, AllPairs, IfOk, IsOk, OnErr};
 ghost use Rattle.std.specs.List.{AllByRecursion};
 ghost use Rattle.sg_model.specs.Limits.{most_joins};
 ghost use Rattle.sg_protocol.specs.Acting.{answer};
@@ -96,6 +96,7 @@ impl<'p> Node<'p> {
     pub fn abandon(&mut self, sid: Sid) -> Result<(), UnknownSession>
         ensures answer { (past : Past) → StandsForPast self.old past → answer real (node_of past) (Abandon sid) ≡ abandon_answer result }
         ensures state { (past : Past) → StandsForPast self.old past → GoesOn self.old self.new (Abandon sid) past }
+        ensures back { OnErr result (self.new ≡ self.old) }
     {
         let Some(index) = self.sessions.first(&sid, false) else {
             return Err(UnknownSession);

@@ -1,6 +1,6 @@
 -- The text of a program in its parts.
 use Rattle.std.proofs.Common.{◌≡◌, ℕ, ◌+◌, ◌<◌, List, [], ◌++◌, length, take, drop, get_or, true, Some, None, bytes_eq, refl, sym, ap, subst, ◌∙◌, arith, append_assoc, inl, inr}
-use Rattle.std.specs.Prelude.{codes, Result, Ok, Err, IfOk, IfErr, IsTrue}
+use Rattle.std.specs.Prelude.{codes, Result, Ok, Err, IfOk, IfErr, IsTrue, is_some}
 use Rattle.std.proofs.lemmas.List.{drop-drop}
 use Rattle.std.proofs.lemmas.List.Folds.{list_any_at}
 use Rattle.std.proofs.lemmas.Slice.Eq.{bytes_eq-Decides}
@@ -91,7 +91,7 @@ fault_behind v n text table h r has (Err (Faults.Graph g f)) (e, w, refused, mem
 fault_behind v n text table h r has (Err (Faults.NotTheTable k)) (p, c, w, (other, first)) =
     let moved : HasGraph text n p.graph p.role table = subst (λ (k : ℕ). HasGraph text n p.graph k table) (sym c.role) (subst (λ (k : Graph). HasGraph text n k r table) (sym c.graph) has) in
     (p, table, moved, w ∙ ap version (sym c.graph), compiled_own h r p c, other, first)
-fault_behind v n text table h r has (Err Faults.OutOfMemory) k = k
+fault_behind v n text table h r has (Err Faults.OutOfMemory) k = ap is_some (ap (at_table true) has.spelled ∙ table_behind h has.is_graph table)
 
 -- ---- the whole text
 
@@ -142,7 +142,7 @@ fault_of bs v n rest more start role (Err (Faults.Malformed at)) (inr (e, (g, r,
     let P : ℕ → Type 0 = IsMalformed bs in subst P (sym e) (OtherStart start role has other)
 fault_of bs v n rest more start role (Err (Faults.Graph g f)) (r, ls, has, w, refused, memory) = (r, ls, front_of bs v n rest more ls g r start role has w, refused, memory)
 fault_of bs v n rest more start role (Err (Faults.NotTheTable k)) (p, ls, has, w, c, other, first) = (p, ls, front_of bs v n rest more ls p.graph p.role start role has w, c, other, first)
-fault_of bs v n rest more start role (Err Faults.OutOfMemory) k = k
+fault_of bs v n rest more start role (Err Faults.OutOfMemory) k = record { version = v; name = n; rest = rest; more = more; start = start; role = role; table = k }
 
 -- what follows the first two lines
 pub rest_of : (n : Name) (bs rest : List ℕ) → rest ≡ drop (19 + length n) bs → rest ≡ drop (6 + length n) (drop 13 bs)

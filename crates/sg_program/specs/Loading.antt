@@ -1,5 +1,5 @@
 -- What bytes are no program's text, and where that shows first.
-use Rattle.std.specs.Prelude.{◌≡◌, ◌≢◌, ◌⊎◌, ℕ, ◌+◌, ◌<◌, ◌≤◌, ◌==◌, Bool, ◌&&◌, if◌then◌else◌, List, [], ◌∷◌, ◌++◌, length, take, drop, codes, count_by, bytes_eq, Option, Some, None, option_map, IsTrue, ⊤}
+use Rattle.std.specs.Prelude.{◌≡◌, ◌≢◌, ◌⊎◌, ℕ, ◌+◌, ◌<◌, ◌≤◌, ◌==◌, Bool, ◌&&◌, if◌then◌else◌, List, [], ◌∷◌, ◌++◌, length, take, drop, codes, count_by, bytes_eq, Option, Some, None, option_map, is_some, true, IsTrue, ⊤}
 use Rattle.std.specs.List.{common_prefix_len}
 use Rattle.sg_protocol.specs.Graph.{Graph, IsGraph, Name, is_name, canonical, role_name}
 use Rattle.sg_protocol.specs.Keyring.{Program}
@@ -49,13 +49,30 @@ pub record HasFront (bs : List ℕ) (g : Graph) (r : ℕ) (rest : List ℕ) : Ty
 abbrev pub first_wrong : List ℕ → List ℕ → ℕ
 first_wrong wanted found = 1 + count_by (λ c. c == 10) (take (common_prefix_len (λ a b. a == b) wanted found) wanted)
 
--- the bytes are no program's text for this cause, and none before it holds
+-- the text before its first line `table`, and what follows that line. Whether a line begins here
+abbrev pub at_table : Bool → List ℕ → Option (List ℕ × List ℕ)
+at_table begins [] = None
+at_table begins (c ∷ cs) =
+    if begins && bytes_eq (line (codes "table")) (take 6 (c ∷ cs)) then Some ([], drop 6 (c ∷ cs))
+    else option_map (λ s. (c ∷ s.0, s.1)) (at_table (c == 10) cs)
+
+-- the first two lines are those of a version and of a role, and a line `table` follows. Only then is memory needed
+pub record NeedsMemory (bs : List ℕ) : Type 0 where
+  pub version : ℕ
+  pub name : Name
+  pub rest : List ℕ
+  pub more : List ℕ
+  pub start : HasStart bs version rest
+  pub role : HasRole rest name more
+  pub table : IsTrue (is_some (at_table true more))
+
+-- the bytes are no program's text for this cause, and none before it holds; or memory ran out where it is needed
 abbrev pub IsLoadFault : List ℕ → LoadFault → Type 0
 IsLoadFault bs (Faults.Malformed at) = IsMalformed bs at
 IsLoadFault bs (Faults.Graph g f) = (r : ℕ) × (rest : List ℕ) × HasFront bs g r rest × IsRefused g r f × (f ≢ CompileMemory)
 IsLoadFault bs (Faults.NotTheTable n) = (p : Program) × (rest : List ℕ) × HasFront bs p.graph p.role rest × IsCompiled p.graph p.role p
     × (rest ≢ table_text p) × (n ≡ first_wrong (table_text p) rest)
-IsLoadFault bs Faults.OutOfMemory = ⊤
+IsLoadFault bs Faults.OutOfMemory = NeedsMemory bs
 
 -- the bytes aren't the lines of the program's table, the first wrong one being n
 abbrev pub IsTableFault : Program → List ℕ → LoadFault → Type 0
@@ -85,7 +102,7 @@ IsFaultBehind v n text (Faults.Malformed at) = ((at ≡ 19 + length n) × ((g : 
 IsFaultBehind v n text (Faults.Graph g f) = (r : ℕ) × (rest : List ℕ) × HasGraph text n g r rest × (v ≡ version g) × IsRefused g r f × (f ≢ CompileMemory)
 IsFaultBehind v n text (Faults.NotTheTable k) = (p : Program) × (rest : List ℕ) × HasGraph text n p.graph p.role rest × (v ≡ version p.graph)
     × IsCompiled p.graph p.role p × (rest ≢ table_text p) × (k ≡ first_wrong (table_text p) rest)
-IsFaultBehind v n text Faults.OutOfMemory = ⊤
+IsFaultBehind v n text Faults.OutOfMemory = IsTrue (is_some (at_table true text))
 
 -- the text is the graph's canonical text, and it has two roles and a node
 pub record IsCanonical (bs : List ℕ) (g : Graph) : Type 0 where
@@ -97,10 +114,3 @@ pub record IsCanonical (bs : List ℕ) (g : Graph) : Type 0 where
 -- the text is no such graph's
 abbrev pub IsNoCanonical : List ℕ → Type 0
 IsNoCanonical bs = (g : Graph) → IsCanonical bs g → ⊥
-
--- the text before its first line `table`, and what follows that line. Whether a line begins here
-abbrev pub at_table : Bool → List ℕ → Option (List ℕ × List ℕ)
-at_table begins [] = None
-at_table begins (c ∷ cs) =
-    if begins && bytes_eq (line (codes "table")) (take 6 (c ∷ cs)) then Some ([], drop 6 (c ∷ cs))
-    else option_map (λ s. (c ∷ s.0, s.1)) (at_table (c == 10) cs)

@@ -38,7 +38,8 @@ pub enum LoadFault {
 
 impl Program {
     /// The program whose text the bytes are, or the first cause that holds. The graph is compiled again, and the lines of the table are
-    /// compared with those of the program that comes out. It takes memory as compiling and encoding do.
+    /// compared with those of the program that comes out. It takes memory as compiling and encoding do, and only behind the lines of the
+    /// version and of the role, where a line `table` follows.
     pub fn load(alloc: Global, bytes: &[u8]) -> Result<Program, LoadFault>
         ensures whole { IfOk result IsWhole }
         ensures text { IfOk result (λ p. program_text p ≡ bytes.now) }

@@ -47,6 +47,9 @@ impl<'p> Turn<'p> {
         requires { length confounders.now ≡ length values.now }
         ensures refused { (s : Session) → StandsAtTurn self.entry.program.graph self.entry.held s
             → IfErr result (λ e. RefusesToSend (first_some (rows_of_send self.entry.program s label (values_of values.now))) e.1) }
+        // Memory runs out only for a step that would be sent.
+        ensures memory { (s : Session) → StandsAtTurn self.entry.program.graph self.entry.held s
+            → IfErr result (λ e. e.1 ≡ SendFault.OutOfMemory → first_some (rows_of_send self.entry.program s label (values_of values.now)) ≡ None) }
         ensures back { IfErr result (λ e. (e.0 ≡ self.entry) × (notes.new ≡ notes.old)) }
         ensures accepted { (s : Session) → StandsAtTurn self.entry.program.graph self.entry.held s
             → IfOk result (λ sent. first_some (rows_of_send self.entry.program s label (values_of values.now)) ≡ None) }

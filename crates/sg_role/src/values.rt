@@ -1,5 +1,5 @@
 //! Whether a step can be sent with the values that it is given.
-ghost use Rattle.std.specs.Prelude.{◌≡◌, ◌<◌, ◌≤◌, ◌+◌, ◌==◌, ℕ, false, ◌&&◌, ◌||◌, nat_lt, not, drop, IsTrue, None, Some, length, find, option_map, IfOk, IfErr};
+ghost use Rattle.std.specs.Prelude.{◌≡◌, ◌≢◌, Err, ◌<◌, ◌≤◌, ◌+◌, ◌==◌, ℕ, false, ◌&&◌, ◌||◌, nat_lt, not, drop, IsTrue, None, Some, length, find, option_map, IfOk, IfErr};
 ghost use Rattle.sg_model.specs.Lists.{below, first_some, is_in, keys_of};
 ghost use Rattle.sg_protocol.specs.Acting.{is_bad, is_out_of_order, is_typed};
 ghost use Rattle.std.specs.List.{list_all, list_any, AllByRecursion};
@@ -28,6 +28,7 @@ pub(crate) fn check_step(
     values: &[(Var, Value)],
 ) -> Result<(), SendFault>
     ensures right { IfOk result (λ u. first_some (send_rows (state_of kept.now).program (state_of kept.now).held label (values_of values.now)) ≡ None) }
+    ensures told { result ≢ Err SendFault.OutOfMemory }
     ensures wrong { IfErr result (RefusesToSend (first_some (send_rows (state_of kept.now).program (state_of kept.now).held label (values_of values.now)))) }
 {
     if !leaves(kept, label) {

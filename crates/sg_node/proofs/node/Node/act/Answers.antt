@@ -1,4 +1,4 @@
-use Rattle.std.proofs.Common.{◌<◌, length, None, Some, Err, refl, sym, ◌∙◌, ap, subst}
+use Rattle.std.proofs.Common.{◌≡◌, ◌<◌, length, None, Some, Err, refl, sym, ◌∙◌, ap, subst}
 use Rattle.std.specs.List.{AllByRecursion}
 use Rattle.indexmap.specs.IndexMap.{set_value_at}
 use Rattle.sg_protocol.specs.Calls.{Act}
@@ -11,10 +11,11 @@ use Rattle.sg_role.specs.Model.{RoleState}
 use Rattle.sg_node.specs.Answers.{GoesOn}
 use Rattle.sg_node.specs.Slots.{held_in, left_by}
 use Rattle.sg_node.specs.Invariant.{IsSlot}
+use Rattle.sg_node.specs.declared.fault.ActFault.TheVariants as acting
 use Rattle.sg_node.specs.declared.sessions.Live.TheVariants.{AtTurn, Waiting}
 use Rattle.sg_node.proofs.Places.{live_at, some_none}
 use Rattle.sg_node.proofs.Found.{set_twice, set_same, at_set, length_set}
-use Rattle.sg_node.proofs.Acts.{with_none, quiet, first_at, not_there, not_its_turn, not_sent_by, its_session, at_a_turn, act_answer, act_notes, act_slots, stays_by, goes_by}
+use Rattle.sg_node.proofs.Acts.{with_none, quiet, first_at, not_there, not_its_turn, not_sent_by, its_session, lacks, would_send, act_answer, act_notes, act_slots, stays_by, goes_by}
 use Rattle.sg_node.proofs.node.Node.act.Goals as goal
 
 pub returns-in_default-clause-answer : goal.returns-in_default-clause-answer
@@ -105,4 +106,7 @@ pub returns-in-None-clause-back : goal.returns-in-None-clause-back
 returns-in-None-clause-back c = some_none (first_at c.self.inside c.self.invariant c.args.sid c.in-Some.index (sym c.in-Some.ensures)).live (sym (first_at c.self.inside c.self.invariant c.args.sid c.in-Some.index (sym c.in-Some.ensures)).there ∙ sym c.take.ensures.taken ∙ c.in-None.is)
 
 pub returns-in-Err-clause-memory : goal.returns-in-Err-clause-memory
-returns-in-Err-clause-memory c = λ past st k. at_a_turn c.self.inside c.self.invariant (node_of past) (subst (λ (z : NodeState). StandsForPast z past) (sym c.self.view_is) st) c.args.sid c.args.label (values_of c.args.values.now) c.args.confounders.now c.in-Some.index (sym c.in-Some.ensures) c.in-Some-AtTurn.turn (sym c.take.ensures.taken ∙ c.in-Some-AtTurn.is ∙ ap (λ z. Some z) c.in-Some-AtTurn.field-0-is)
+returns-in-Err-clause-memory c = λ past st k.
+    let same : c.not_sent.result ≡ acting.OutOfMemory = search in
+    would_send c.self.inside c.self.invariant (node_of past) (subst (λ (z : NodeState). StandsForPast z past) (sym c.self.view_is) st) c.args.sid c.args.label (values_of c.args.values.now) c.args.confounders.now c.in-Some.index (sym c.in-Some.ensures) c.in-Some-AtTurn.turn (sym c.take.ensures.taken ∙ c.in-Some-AtTurn.is ∙ ap (λ z. Some z) c.in-Some-AtTurn.field-0-is)
+    (λ s stands. c.in-Err.ensures.memory s stands (lacks c.in-Err.fault (sym c.not_sent.ensures.fault ∙ same)))

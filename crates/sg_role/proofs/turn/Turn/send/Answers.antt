@@ -1,4 +1,4 @@
-use Rattle.std.proofs.Common.{◌≡◌, ℕ, List, Option, None, sym, ap, ◌∙◌, subst}
+use Rattle.std.proofs.Common.{◌≡◌, ℕ, List, Option, None, Err, sym, ap, ◌∙◌, subst}
 use Rattle.sg_model.specs.Lists.{first_some}
 use Rattle.sg_model.specs.Shape.{receiver}
 use Rattle.sg_protocol.specs.Acting.{openings_for}
@@ -26,6 +26,20 @@ returns-in-Err-clause-refused c = λ s stands.
     let vs = values_of c.args.values.now in
     subst (λ (rows : List (Option SendFault)). RefusesToSend (first_some rows) c.in-Err.fault) (rows_held c.args.keys.now c.args.self.program c.args.self.held s stands.holds c.args.label vs)
     (subst (λ (z : RoleState). RefusesToSend (first_some (send_rows z.program z.held c.args.label vs)) c.in-Err.fault) (ap state_of c.as_ref-kept.ensures ∙ c.self.view_is) c.in-Err.ensures.wrong)
+
+pub returns-in-Err-clause-memory : goal.returns-in-Err-clause-memory
+returns-in-Err-clause-memory c = λ s stands lacks. absurd (c.in-Err.ensures.told (ap Err lacks))
+
+pub returns-in-Err-make_step-clause-memory : goal.returns-in-Err-make_step-clause-memory
+returns-in-Err-make_step-clause-memory c = λ s stands lacks.
+    let p = c.args.self.program in
+    let h = c.args.self.held in
+    let keys = c.args.keys.now in
+    let label = c.args.label in
+    let vs = values_of c.args.values.now in
+    let v = ap state_of c.as_ref-kept.ensures ∙ c.self.view_is in
+    let none : first_some (send_rows p h label vs) ≡ None = subst (λ (z : RoleState). first_some (send_rows z.program z.held label vs) ≡ None) v c.in_default.ensures.right in
+    ap first_some (sym (rows_held keys p h s stands.holds label vs)) ∙ none
 
 pub go_on-requires : goal.go_on-requires
 go_on-requires c =
