@@ -20,7 +20,7 @@
 //!
 //! `specs/Spells.antt` says which logs bytes spell, and which line of others is wrong first. What is read is spelled, what is spelled is
 //! read, and a refusal tells the first wrong line and its kind, exactly. The text is read in one pass; the merged order takes a time of
-//! n log n in the events.
+//! n log n in the events. `laws` says that bytes spell the logs of one run at most, or have one first fault.
 #![tactic(auto)]
 
 mod answer;
@@ -28,6 +28,7 @@ mod copy;
 mod explain;
 mod fault;
 mod given;
+pub mod laws;
 mod line;
 mod lines;
 mod merge;

@@ -16,11 +16,12 @@
 //! ```
 //!
 //! with exactly these keys. There may be no `peer` at all. `text_at`, `name_at` and `tables_at` read what stands at a key of a table, for
-//! scripts too.
+//! scripts too. `laws` says that bytes spell one keyring at most.
 #![tactic(auto)]
 
 mod key_file;
 mod keyring;
+pub mod laws;
 mod table;
 mod word;
 

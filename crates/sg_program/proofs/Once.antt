@@ -34,7 +34,7 @@ place_once (n ∷ ns) (suc r) zero d l m e =
 place_once (n ∷ ns) (suc r) (suc s) d l m e = ap suc (place_once ns r s (and_parts (not (has_text n ns)) (all_differ ns) d).1 (omega (arith, l)) (omega (arith, m)) e)
 
 -- a role's name is that of one role
-role_once : (g : Graph) (r s : ℕ) → IsGraph g → r < length g.roles → s < length g.roles → role_name g r ≡ role_name g s → r ≡ s
+pub role_once : (g : Graph) (r s : ℕ) → IsGraph g → r < length g.roles → s < length g.roles → role_name g r ≡ role_name g s → r ≡ s
 role_once g r s is l m e = place_once g.roles r s (and_parts (list_all (λ n. is_name n && not (has_text n reserved)) g.roles) (all_differ g.roles) is.role_names).1 l m e
 
 role_named : (g : Graph) (r : ℕ) → IsGraph g → r < length g.roles → is_name (role_name g r) ≡ true

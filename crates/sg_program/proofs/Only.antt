@@ -30,6 +30,7 @@ use Rattle.sg_vis.specs.declared.view.OpenView.{OpenView}
 use Rattle.sg_vis.specs.declared.fault.ViewFault.{ViewFault}
 use Rattle.sg_vis.specs.declared.fault.ViewFault.TheVariants.{TooManyOpen, TooManyViews, OutOfMemory as ViewMemory}
 use Rattle.sg_program.specs.Compiled.{IsCompiled, IsRefused}
+use Rattle.sg_program.specs.Refused.{IsRefusal}
 use Rattle.sg_program.specs.declared.check.CompileFault.{CompileFault}
 use Rattle.sg_program.specs.declared.check.CompileFault.TheVariants.{Shape, Reads, Blinding as Blinded, Views, OutOfMemory}
 use Rattle.sg_program.proofs.OneTable.{one_view_table, one_target_table}
@@ -128,6 +129,14 @@ accepted_blinding g a (Blinds node one two walk_a walk_b) h = a.sighted node one
       leads_a = h.leads_a;
       leads_b = h.leads_b;
     }
+
+-- an accepted graph isn't refused
+pub accepted_not_refused : (g : Graph) → Accepted g → (f : CompileFault) → IsRefusal g f → f ≡ OutOfMemory
+accepted_not_refused g a OutOfMemory h = refl
+accepted_not_refused g a (Shape f) h = absurd (accepted_shape g a f h)
+accepted_not_refused g a (Reads f) (s, h, other) = absurd (other (accepted_reads g a f h))
+accepted_not_refused g a (Blinded f) (s, k, h, other) = absurd (accepted_blinding g a f h)
+accepted_not_refused g a (Views q f) h = absurd h
 
 -- where a program is compiled, nothing fails unless memory runs out
 pub not_refused : (g : Graph) (r : ℕ) (p : Program) → IsCompiled g r p → (f : CompileFault) → IsRefused g r f → f ≡ OutOfMemory

@@ -6,11 +6,13 @@
 //!
 //! A program has one text, which names its version, its role, its graph and the lines of its table. `Program::load` trusts none of it: it
 //! reads the graph, compiles it again, and compares the lines. `Programs` are found by a graph's name, and by its digest and a role.
+//! `laws` says that what is compiled isn't refused, and that the text of a program is of no other and has no fault.
 #![tactic(auto)]
 
 mod all;
 mod check;
 mod compiler;
+pub mod laws;
 mod load;
 mod program;
 mod programs;

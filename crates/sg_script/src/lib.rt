@@ -22,12 +22,13 @@
 //! A script is read beside the programs that the principal has: a graph is known by its name there, and nodes, labels and variables by
 //! their names in that graph. What is read has numbers in their place. Of all faults that a script has, the first is told: what stands
 //! beside `start` and `choice`, or a `start` that is no list of tables; then the starts in order; then a `choice` that is no list of
-//! tables; then the choices in order.
+//! tables; then the choices in order. `laws` says that bytes spell one script at most.
 #![tactic(auto)]
 
 mod choice;
 mod fault;
 mod graph;
+pub mod laws;
 mod reader;
 mod script;
 mod start;

@@ -88,4 +88,4 @@ module _ (seed sessions : ℕ) (g : Graph) (programs : List Program) where
     stopped out DiskFailed h = absurd h
     stopped out NoMemory h = refl
     stopped out (NoSuchFile file) h = absurd h
-    stopped out (TooLarge what) h = (refl, h.0, record { graph = g; programs = programs; spelled = spelled; compiled = compiled; overfull = h.1 })
+    stopped out (TooLarge what) h = (refl, h.0, record { graph = g; programs = programs; spelled = spelled; compiled = compiled; few = few; overfull = h.1 })

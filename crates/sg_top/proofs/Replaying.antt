@@ -100,4 +100,4 @@ module _ (programs : List Program) (s : Schedule) where
     stopped out DiskFailed h = absurd h
     stopped out NoMemory h = refl
     stopped out (NoSuchFile file) h = absurd h
-    stopped out (TooLarge what) h = (refl, inr (h.0, record { schedule = s; programs = programs; spelled = spelled; compiled = compiled; overfull = h.1 }))
+    stopped out (TooLarge what) h = (refl, inr (h.0, record { schedule = s; programs = programs; spelled = spelled; compiled = compiled; few = few; overfull = h.1 }))

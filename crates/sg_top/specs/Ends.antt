@@ -148,6 +148,7 @@ pub record IsTooLong (bytes : List ℕ) : Type 0 where
   pub programs : List Program
   pub spelled : SpellsSchedule real bytes schedule
   pub compiled : AreCompiled real schedule.graphs programs
+  pub few : All IsWhole programs
   pub overfull : IsOverfull programs schedule
 
 -- too much is asked for: too many steps or sessions, or a record that grows too large
@@ -180,6 +181,7 @@ pub record DrivesTooLong (seed sessions : ℕ) (bytes : List ℕ) : Type 0 where
   pub programs : List Program
   pub spelled : SpellsGraph bytes graph
   pub compiled : AreCompiled real (graph ∷ []) programs
+  pub few : All IsWhole programs
   pub overfull : IsOverfullDrive seed sessions graph programs
 
 -- a drive of these bytes ends so: the summary is written; else nothing is written, and the bytes are refused at their first wrong token, or their graph at its first fault, or the record grows too large, or memory ran out

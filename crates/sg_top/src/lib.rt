@@ -19,6 +19,8 @@
 //!   of the link or of the disk only where its count of faults rose. Out of memory alone may come in place of anything.
 //! - With each status but 0 and 6 one line on standard error says why. Where that line isn't taken, the status is that of a failed write.
 //!
+//! `laws` says of each command on one file that its endings exclude each other.
+//!
 //! Each command has a module of its name, and `claims` on a graph alone is in `suggest`. `ending` has the ways to end, with their statuses and lines: what a fault of a library is told as
 //! stands in the library. `answer` has the words of audits, and `setup` has what a run reads.
 //!
@@ -42,6 +44,7 @@ mod file;
 mod graph;
 mod joins;
 mod keep;
+pub mod laws;
 mod ledger;
 mod program;
 mod replay;

@@ -1,0 +1,6 @@
+-- The law of endings.
+use Rattle.sg_top.proofs.OneEnding.{check_once, compile_once, suggest_once, audit_once, compose_once, replay_once, drive_once}
+use Rattle.sg_top.proofs.laws.one_file_ends_once.Goals as goal
+
+pub returns : goal.returns
+returns c = record { check = check_once; compile = compile_once; suggest = suggest_once; audit = audit_once; compose = compose_once; replay = replay_once; drive = drive_once }
