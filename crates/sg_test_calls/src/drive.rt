@@ -1,62 +1,97 @@
 //! A generated run whose record is full, at its last byte. What `drive` says of it is in the tables of cases.
-ghost use Rattle.std.specs.Prelude.{◌≤◌, ◌∷◌, [], length};
+ghost use Rattle.std.specs.Prelude.{◌≤◌, ◌∷◌, [], length, IfSome};
 ghost use Rattle.sg_protocol.specs.IsSchedule.{AreCompiled};
 ghost use Rattle.sg_protocol.specs.Texts.{real};
 
-use sg_drive::{GenerateFault, generate};
+use sg_drive::generate;
 use sg_graph::Graph;
 use sg_parse::parse_graph;
 use sg_program::{Programs, compile_all};
+use sg_table::{Calls, bytes, hold, number};
 use std::alloc::Global;
-use std::process::Abort;
 use std::slice;
 
+struct Runs;
+
+impl Calls for Runs {
+    fn answer(&self, alloc: Global, call: &str, args: &[Vec<u8>]) -> Option<Vec<u8>> {
+        let _ = call;
+        let [seed, sessions, text] = args else {
+            return None;
+        };
+        let graph = graph_of(alloc, text)?;
+        let programs = programs_of(alloc, &graph)?;
+        told(alloc, number(seed)?, number(sessions)?, &graph, &programs)
+    }
+}
+
 // The graph of a text, with two roles or more.
-fn graph_of(alloc: Global, rt: &impl Abort, text: &[u8]) -> Graph
-    ensures { 2 ≤ length result.roles }
+fn graph_of(alloc: Global, text: &[u8]) -> Option<Graph>
+    ensures { IfSome result (λ graph. 2 ≤ length graph.roles) }
 {
-    let graph = parse_graph(alloc, text).ok().expect(rt, "a graph");
-    assert!(rt; graph.roles() >= 2);
-    graph
+    match parse_graph(alloc, text) {
+        Ok(graph) => {
+            if graph.roles() < 2 {
+                return None;
+            }
+            Some(graph)
+        }
+        Err(_) => None,
+    }
 }
 
 // The programs of a graph.
-fn programs_of(alloc: Global, rt: &impl Abort, graph: &Graph) -> Programs
+fn programs_of(alloc: Global, graph: &Graph) -> Option<Programs>
     requires { 2 ≤ length graph.now.roles }
-    ensures { AreCompiled real (graph.now ∷ []) result }
+    ensures { IfSome result (λ programs. AreCompiled real (graph.now ∷ []) programs) }
 {
-    compile_all(alloc, slice::from_ref(graph))
-        .ok()
-        .expect(rt, "programs")
+    match compile_all(alloc, slice::from_ref(graph)) {
+        Ok(programs) => Some(programs),
+        Err(_) => None,
+    }
 }
 
-// A ring of four roles, each of which writes and reads 32 variables.
-const WIDE: &[u8] = b"graph g;role w;role x;role y;role z;\
-    var A:int by w x y z;var B:int by w x y z;var C:int by w x y z;var D:int by w x y z;\
-    var E:int by w x y z;var F:int by w x y z;var G:int by w x y z;var H:int by w x y z;\
-    var I:int by w x y z;var J:int by w x y z;var K:int by w x y z;var L:int by w x y z;\
-    var M:int by w x y z;var N:int by w x y z;var O:int by w x y z;var P:int by w x y z;\
-    var Q:int by w x y z;var R:int by w x y z;var S:int by w x y z;var T:int by w x y z;\
-    var U:int by w x y z;var V:int by w x y z;var W:int by w x y z;var X:int by w x y z;\
-    var Y:int by w x y z;var Z:int by w x y z;var a:int by w x y z;var b:int by w x y z;\
-    var c:int by w x y z;var d:int by w x y z;var e:int by w x y z;var f:int by w x y z;\
-    node n0:w;node n1:x;node n2:y;node n3:z;\
-    edge L0:n0->n1 writes A B C D E F G H I J K L M N O P Q R S T U V W X Y Z a b c d e f \
-    reads A B C D E F G H I J K L M N O P Q R S T U V W X Y Z a b c d e f;\
-    edge L1:n1->n2 writes A B C D E F G H I J K L M N O P Q R S T U V W X Y Z a b c d e f \
-    reads A B C D E F G H I J K L M N O P Q R S T U V W X Y Z a b c d e f;\
-    edge L2:n2->n3 writes A B C D E F G H I J K L M N O P Q R S T U V W X Y Z a b c d e f \
-    reads A B C D E F G H I J K L M N O P Q R S T U V W X Y Z a b c d e f;\
-    edge L3:n3->n0 writes A B C D E F G H I J K L M N O P Q R S T U V W X Y Z a b c d e f \
-    reads A B C D E F G H I J K L M N O P Q R S T U V W X Y Z a b c d e f;";
+// Why a run isn't generated, if it isn't.
+fn told(
+    alloc: Global,
+    seed: u32,
+    sessions: u32,
+    graph: &Graph,
+    programs: &Programs,
+) -> Option<Vec<u8>>
+    requires two { 2 ≤ length graph.now.roles }
+    requires compiled { AreCompiled real (graph.now ∷ []) programs.now }
+{
+    if sessions == 0 || sessions > 2_000 {
+        return None;
+    }
+    match generate(alloc, seed, sessions, graph, programs) {
+        Ok(_) => bytes(alloc, b"a run"),
+        Err(fault) => bytes(alloc, format!(in alloc; "{fault}").ok()?.as_bytes()),
+    }
+}
 
-// A step begins with a record of at most 264,241,152 bytes. Of the steps of a second generator step 29,577, a start, is the first that doesn't: the
-// frames before it, and the texts that a second implementation of the protocol notes at those steps, have as many bytes as the fault says.
 #[test]
-fn a_full_record_ends_a_run(rt: HostRuntime) {
-    let alloc = rt.alloc();
-    let graph = graph_of(alloc, &rt, WIDE);
-    let programs = programs_of(alloc, &rt, &graph);
-    let fault = generate(alloc, 0, 2_000, &graph, &programs).err();
-    assert!(rt; fault == Some(GenerateFault::RecordFull { bytes: 264_246_175 }));
+fn a_full_record_ends_a_run(rt: HostRuntime) -> Result<(), &'static str> {
+    hold(rt.alloc(), &Runs, LINES)
 }
+
+const LINES: &str = "
+# A ring of four roles, each of which writes and reads 32 variables.
+
+let UP 'A_B_C_D_E_F_G_H_I_J_K_L_M_N_O_P_Q_R_S_T_U_V_W_X_Y_Z
+let ALL '_writes_+$UP+'_a_b_c_d_e_f_reads_+$UP+'_a_b_c_d_e_f;
+let BY ':int_by_w_x_y_z;
+let G 'graph_g;role_w;role_x;role_y;role_z;
+let G $G+'var_A+$BY+'var_B+$BY+'var_C+$BY+'var_D+$BY+'var_E+$BY+'var_F+$BY+'var_G+$BY+'var_H+$BY
+let G $G+'var_I+$BY+'var_J+$BY+'var_K+$BY+'var_L+$BY+'var_M+$BY+'var_N+$BY+'var_O+$BY+'var_P+$BY
+let G $G+'var_Q+$BY+'var_R+$BY+'var_S+$BY+'var_T+$BY+'var_U+$BY+'var_V+$BY+'var_W+$BY+'var_X+$BY
+let G $G+'var_Y+$BY+'var_Z+$BY+'var_a+$BY+'var_b+$BY+'var_c+$BY+'var_d+$BY+'var_e+$BY+'var_f+$BY
+let G $G+'node_n0:w;node_n1:x;node_n2:y;node_n3:z;
+let G $G+'edge_L0:n0->n1+$ALL+'edge_L1:n1->n2+$ALL+'edge_L2:n2->n3+$ALL+'edge_L3:n3->n0+$ALL
+
+# A step begins with a record of at most 264,241,152 bytes. Of the steps of a second generator step 29,577, a start, is the first that doesn't: the
+# frames before it, and the texts that a second implementation of the protocol notes at those steps, have as many bytes as the fault says.
+
+generate '0 '2000 $G 'a_record_of_264246175_bytes
+";

@@ -1,171 +1,212 @@
 //! Graphs that are made part by part: refusals, and the limits; and walks.
-ghost use Rattle.std.specs.Prelude.{◌≡◌, ◌<◌, false, length};
+ghost use Rattle.std.specs.Prelude.{◌≡◌, ◌<◌, false, length, IfSome};
 ghost use Rattle.sg_model.specs.Lists.{has_text};
 ghost use Rattle.sg_model.specs.Names.{reserved};
 ghost use Rattle.sg_protocol.specs.Graph.{AreNumbers};
 
-use sg_base::{Label, Name, NodeId, Role, RoleSet, VarSet, VarType};
+use sg_base::{ByteOut, Label, Name, NodeId, Role, RoleSet, VarSet, VarType};
 use sg_graph::{AddFault, Graph, canonical_text, is_walk};
 use sg_parse::parse_graph;
+use sg_table::{Calls, hold, number, parts, yes};
 use std::alloc::Global;
-use std::process::Abort;
-use std::test::Fail;
 
-// The shop: a customer, a platform and a warehouse.
-const SHOP: &[u8] = b"graph shop;
-role c;
-role p;
-role w;
-var q: text by c;
-var price: int by w;
-node n0: c;
-node n1: p;
-node n2: w;
-node n3: p;
-node n4: c;
-node n5: p;
-node n6: c;
-node n7: p;
-edge Order: n0 -> n1 writes q reads q;
-edge Ask: n1 -> n2 reads q;
-edge Offer: n2 -> n3 writes price reads price;
-edge Refuse: n2 -> n5;
-edge Pass: n3 -> n4 reads price;
-edge Deny: n5 -> n6;
-edge Retry: n4 -> n1 writes q reads q;
-edge Accept: n4 -> n7;
+struct Graphs;
+
+impl Calls for Graphs {
+    fn answer(&self, alloc: Global, call: &str, args: &[Vec<u8>]) -> Option<Vec<u8>> {
+        match args {
+            [text, from, labels] if call == "is_walk" => {
+                let graph = begun(alloc, text)?;
+                let start = node(&graph, from)?;
+                let labels = labels_of(alloc, labels)?;
+                yes(alloc, is_walk(&graph, start, labels.as_slice()))
+            }
+            [text, parts @ ..] => played(alloc, &mut begun(alloc, text)?, parts),
+            _ => None,
+        }
+    }
+}
+
+/// The graph of the first word, with the parts of the others.
+pub fn made(alloc: Global, args: &[Vec<u8>]) -> Option<Graph> {
+    let (text, parts) = args.split_first()?;
+    let mut graph = begun(alloc, text)?;
+    let _ = played(alloc, &mut graph, parts)?;
+    Some(graph)
+}
+
+// The graph of a text, or without parts that of a name.
+fn begun(alloc: Global, text: &[u8]) -> Option<Graph> {
+    match free_name(text) {
+        Some(name) => Some(Graph::new(alloc, name)),
+        None => parse_graph(alloc, text).ok(),
+    }
+}
+
+// What comes of calls on a graph, each a word.
+fn played(alloc: Global, graph: &mut Graph, words: &[Vec<u8>]) -> Option<Vec<u8>> {
+    let mut out = ByteOut::new(alloc);
+    for word in words {
+        call(alloc, graph, &mut out, word)?;
+    }
+    Some(out.done())
+}
+
+// A call is the kind of a part, its name, and what it is of: nothing for a role, a role for a node and for what it alone writes, and a node for an
+// edge from there to there. Where a count stands behind, so many are added, with their numbers behind the name. `text` and `edges` tell of the graph.
+fn call(alloc: Global, graph: &mut Graph, out: &mut ByteOut, word: &[u8]) -> Option<()> {
+    match parts(alloc, word)?.as_slice() {
+        ["text"] => out.bytes(&canonical_text(alloc, graph).ok()?).ok(),
+        ["edges"] => out.decimal(u64::from(graph.edges())).ok(),
+        [kind, name, of] => put_fault(out, add(graph, kind, name.as_bytes(), of.as_bytes())?),
+        [kind, name, of, count] => {
+            let count = number(count.as_bytes())?;
+            add_many(alloc, graph, out, kind, name, of, count)
+        }
+        _ => None,
+    }
+}
+
+fn add_many(
+    alloc: Global,
+    graph: &mut Graph,
+    out: &mut ByteOut,
+    kind: &str,
+    name: &str,
+    of: &str,
+    count: u32,
+) -> Option<()> {
+    for number in 0..count {
+        let name = format!(in alloc; "{name}{number}").ok()?;
+        put_fault(out, add(graph, kind, name.as_bytes(), of.as_bytes())?)?;
+    }
+    Some(())
+}
+
+// Adds a part, and tells why not.
+fn add(graph: &mut Graph, kind: &str, name: &[u8], of: &[u8]) -> Option<Option<AddFault>> {
+    let name = free_name(name)?;
+    match kind {
+        "role" => Some(graph.add_role(name).err()),
+        "int" => {
+            let set = writer(graph, of)?;
+            Some(graph.add_var(name, VarType::Int, set).err())
+        }
+        "text" => {
+            let set = writer(graph, of)?;
+            Some(graph.add_var(name, VarType::Text, set).err())
+        }
+        "node" => {
+            let acts = role(graph, of)?;
+            Some(graph.add_node(name, acts).err())
+        }
+        "edge" => add_edge(graph, name, of),
+        _ => None,
+    }
+}
+
+fn add_edge(graph: &mut Graph, name: Name, of: &[u8]) -> Option<Option<AddFault>>
+    requires { has_text name reserved ≡ false }
+{
+    let end = node(graph, of)?;
+    let none = VarSet::empty();
+    Some(graph.add_edge(name, end, end, none, none).err())
+}
+
+fn put_fault(out: &mut ByteOut, fault: Option<AddFault>) -> Option<()> {
+    match fault {
+        None => Some(()),
+        Some(AddFault::Twice) => out.bytes(b"twice,").ok(),
+        Some(AddFault::TooMany) => out.bytes(b"too many,").ok(),
+        Some(AddFault::OutOfMemory) => None,
+    }
+}
+
+// A name that is no word of the format.
+fn free_name(word: &[u8]) -> Option<Name>
+    ensures { IfSome result (λ name. has_text name reserved ≡ false) }
+{
+    let name = Name::new(word)?;
+    if name.reserved() {
+        return None;
+    }
+    Some(name)
+}
+
+fn role(graph: &Graph, name: &[u8]) -> Option<Role>
+    ensures { IfSome result (λ role. role < length graph.now.roles) }
+{
+    graph.find_role(&Name::new(name)?)
+}
+
+fn node(graph: &Graph, name: &[u8]) -> Option<NodeId>
+    ensures { IfSome result (λ node. node < length graph.now.nodes) }
+{
+    graph.find_node(&Name::new(name)?)
+}
+
+// The set of a role.
+fn writer(graph: &Graph, name: &[u8]) -> Option<RoleSet>
+    ensures there { IfSome result (λ roles. AreNumbers (length graph.now.roles) roles) }
+    ensures some { IfSome result (λ roles. 0 < length roles) }
+{
+    let only = role(graph, name)?;
+    if only.0 >= 16 {
+        return None;
+    }
+    let roles = set_of(graph, only);
+    if roles.is_empty() {
+        return None;
+    }
+    Some(roles)
+}
+
+fn set_of(graph: &Graph, role: Role) -> RoleSet
+    requires small { role < 16 }
+    requires there { role < length graph.now.roles }
+    ensures { AreNumbers (length graph.now.roles) result }
+{
+    let _ = graph;
+    RoleSet::empty().with(role)
+}
+
+// Each byte is a label.
+fn labels_of(alloc: Global, word: &[u8]) -> Option<Vec<Label>> {
+    let mut labels = Vec::new(alloc);
+    for label in word {
+        labels.push(Label(u16::from(*label))).ok()?;
+    }
+    Some(labels)
+}
+
+#[test]
+fn graphs_that_are_made_and_walked(rt: HostRuntime) -> Result<(), &'static str> {
+    hold(rt.alloc(), &Graphs, LINES)
+}
+
+const LINES: &str = "
+# The shop: a customer, a platform and a warehouse.
+
+let SHOP 'graph_shop;^role_c;^role_p;^role_w;^var_q:_text_by_c;^var_price:_int_by_w;^
+let SHOP $SHOP+'node_n0:_c;^node_n1:_p;^node_n2:_w;^node_n3:_p;^node_n4:_c;^node_n5:_p;^node_n6:_c;^node_n7:_p;^
+let SHOP $SHOP+'edge_Order:_n0_->_n1_writes_q_reads_q;^edge_Ask:_n1_->_n2_reads_q;^
+let SHOP $SHOP+'edge_Offer:_n2_->_n3_writes_price_reads_price;^edge_Refuse:_n2_->_n5;^edge_Pass:_n3_->_n4_reads_price;^
+let SHOP $SHOP+'edge_Deny:_n5_->_n6;^edge_Retry:_n4_->_n1_writes_q_reads_q;^edge_Accept:_n4_->_n7;^
+
+# A refusal leaves the graph.
+
+graph $SHOP 'role,c, 'node,n7,c 'int,price,c 'edge,Deny,n7 'text 'twice,twice,twice,twice,+$SHOP
+
+# A full graph takes no more: 16 roles, 32 variables, 256 nodes and 512 edges.
+
+graph 'full 'role,x,,16 'int,x,x0,32 'node,x,x15,256 'edge,x,x255,512 'role,more, 'text,more,x15 'node,more,x0 'edge,more,x0 'edges \
+  'too_many,too_many,too_many,too_many,512
+
+# Walks, by their labels.
+
+is_walk $SHOP 'n0 ' 'yes
+is_walk $SHOP 'n0 000102040601 'yes
+is_walk $SHOP 'n0 01 'no
+is_walk $SHOP 'n0 0002 'no
+is_walk $SHOP 'n0 08 'no
 ";
-
-#[test]
-fn a_refusal_leaves_the_graph(rt: HostRuntime) -> Result<(), Fail> {
-    let mut graph = parse_graph(rt.alloc(), SHOP)?;
-    let customer = role_of(&rt, &graph, "c");
-    assert_eq!(rt; graph.add_role(named(&rt, "c")), Err(AddFault::Twice));
-    assert_eq!(rt;
-        graph.add_node(named(&rt, "n7"), customer),
-        Err(AddFault::Twice)
-    );
-    let writers = role_set(&rt, &graph, &["c"]);
-    assert_eq!(rt;
-        graph.add_var(named(&rt, "price"), VarType::Int, writers),
-        Err(AddFault::Twice)
-    );
-    let node = node_of(&rt, &graph, "n7");
-    let none = VarSet::empty();
-    assert_eq!(rt;
-        graph.add_edge(named(&rt, "Deny"), node, node, none, none),
-        Err(AddFault::Twice)
-    );
-    let text = canonical_text(rt.alloc(), &graph)?;
-    assert!(rt; text.as_slice() == SHOP);
-    Ok(())
-}
-
-#[test]
-fn a_full_graph_takes_no_more(rt: HostRuntime) -> Result<(), Fail> {
-    let mut graph = Graph::new(rt.alloc(), named(&rt, "full"));
-    for number in 0..16 {
-        graph.add_role(numbered(&rt, number))?;
-    }
-    for number in 0..32 {
-        let writers = role_set(&rt, &graph, &["x000"]);
-        graph.add_var(numbered(&rt, number), VarType::Int, writers)?;
-    }
-    for number in 0..256 {
-        let role = role_of(&rt, &graph, "x015");
-        graph.add_node(numbered(&rt, number), role)?;
-    }
-    for number in 0..512 {
-        let node = node_of(&rt, &graph, "x255");
-        graph.add_edge(
-            numbered(&rt, number),
-            node,
-            node,
-            VarSet::empty(),
-            VarSet::empty(),
-        )?;
-    }
-    let more = named(&rt, "more");
-    let role = role_of(&rt, &graph, "x000");
-    let node = node_of(&rt, &graph, "x000");
-    let writers = role_set(&rt, &graph, &["x015"]);
-    let none = VarSet::empty();
-    assert_eq!(rt; graph.add_role(more), Err(AddFault::TooMany));
-    assert_eq!(rt;
-        graph.add_var(more, VarType::Text, writers),
-        Err(AddFault::TooMany)
-    );
-    assert_eq!(rt; graph.add_node(more, role), Err(AddFault::TooMany));
-    assert_eq!(rt;
-        graph.add_edge(more, node, node, none, none),
-        Err(AddFault::TooMany)
-    );
-    assert_eq!(rt; graph.edges(), 512);
-    Ok(())
-}
-
-#[test]
-fn walks_of_the_shop(rt: HostRuntime) -> Result<(), Fail> {
-    let graph = parse_graph(rt.alloc(), SHOP)?;
-    let start = node_of(&rt, &graph, "n0");
-    let [order, ask, offer, pass, retry] = [Label(0), Label(1), Label(2), Label(4), Label(6)];
-    assert!(rt; is_walk(&graph, start, &[]));
-    assert!(rt; is_walk(&graph, start, &[order, ask, offer, pass, retry, ask]));
-    assert!(rt; !is_walk(&graph, start, &[ask]));
-    assert!(rt; !is_walk(&graph, start, &[order, offer]));
-    assert!(rt; !is_walk(&graph, start, &[Label(8)]));
-    Ok(())
-}
-
-// A graph with two roles and nothing else.
-pub fn with_two_roles(alloc: Global, rt: &impl Abort) -> Result<Graph, Fail> {
-    let mut graph = Graph::new(alloc, named(rt, "g"));
-    graph.add_role(named(rt, "a"))?;
-    graph.add_role(named(rt, "b"))?;
-    Ok(graph)
-}
-
-fn named(rt: &impl Abort, text: &str) -> Name
-    ensures { has_text result reserved ≡ false }
-{
-    let name = Name::new(text.as_bytes()).expect(rt, "a name");
-    assert!(rt; !name.reserved());
-    name
-}
-
-fn numbered(rt: &impl Abort, number: u16) -> Name
-    requires { number < 1000 }
-    ensures { has_text result reserved ≡ false }
-{
-    let digit = |place: u16| b'0' + (place % 10) as u8;
-    let text = [b'x', digit(number / 100), digit(number / 10), digit(number)];
-    let name = Name::new(&text).expect(rt, "a name");
-    assert!(rt; !name.reserved());
-    name
-}
-
-fn role_of(rt: &impl Abort, graph: &Graph, name: &str) -> Role
-    ensures { result < length graph.now.roles }
-{
-    graph.find_role(&named(rt, name)).expect(rt, "a role")
-}
-
-fn node_of(rt: &impl Abort, graph: &Graph, name: &str) -> NodeId
-    ensures { result < length graph.now.nodes }
-{
-    graph.find_node(&named(rt, name)).expect(rt, "a node")
-}
-
-fn role_set(rt: &impl Abort, graph: &Graph, names: &[&str]) -> RoleSet
-    ensures there { AreNumbers (length graph.now.roles) result }
-    ensures some { 0 < length result }
-{
-    let mut roles = RoleSet::empty();
-    for name in names {
-        let role = role_of(rt, graph, name);
-        assert!(rt; role.0 < 16);
-        roles = roles.with(role);
-    }
-    assert!(rt; !roles.is_empty());
-    roles
-}

@@ -1,25 +1,35 @@
 //! Graphs that are refused before their reads are looked at, where a command looks.
-use crate::graph::with_two_roles;
-use sg_base::{Label, Var};
-use sg_know::{ReadFault, check_reads};
-use sg_parse::parse_graph;
-use std::test::Fail;
+use crate::graph::made;
+use sg_base::ByteOut;
+use sg_know::check_reads;
+use sg_table::{Calls, hold};
+use std::alloc::Global;
 
-const FAR: &[u8] =
-    b"graph g;role a;role b;var x:int by a b;node n0:a;node n1:b;node n2:a;edge Far:n1->n2 reads x;";
+struct Reads;
 
-const ROUND: &[u8] =
-    b"graph g;role a;role b;var x:int by a b;node n0:a;node n1:b;node n2:a;edge Round:n0->n0 reads x;";
+impl Calls for Reads {
+    fn answer(&self, alloc: Global, call: &str, args: &[Vec<u8>]) -> Option<Vec<u8>> {
+        let _ = call;
+        let graph = made(alloc, args)?;
+        let mut out = ByteOut::new(alloc);
+        match check_reads(alloc, &graph) {
+            Ok(()) => out.bytes(b"ok").ok()?,
+            Err(fault) => fault.put(&mut out, &graph).ok()?,
+        }
+        Some(out.done())
+    }
+}
 
 #[test]
-fn no_node_and_edges_that_no_walk_takes(rt: HostRuntime) -> Result<(), Fail> {
-    let empty = with_two_roles(rt.alloc(), &rt)?;
-    assert!(rt; check_reads(rt.alloc(), &empty).is_ok());
-    let far = parse_graph(rt.alloc(), FAR)?;
-    assert!(rt; check_reads(rt.alloc(), &far).is_ok());
-    let round = parse_graph(rt.alloc(), ROUND)?;
-    assert!(rt;
-        matches!(check_reads(rt.alloc(), &round), Err(ReadFault::BadRead { label: Label(0), var: Var(0), walk }) if walk.as_slice() == [Label(0)].as_slice())
-    );
-    Ok(())
+fn reads_that_no_command_looks_at(rt: HostRuntime) -> Result<(), &'static str> {
+    hold(rt.alloc(), &Reads, LINES)
 }
+
+const LINES: &str = "
+# Without a node there is no walk, nor does one take an edge that no edge leads to. A walk from the start that reads what nobody wrote is told.
+
+let G 'graph_g;role_a;role_b;var_x:int_by_a_b;node_n0:a;node_n1:b;node_n2:a;
+reads 'g 'role,a, 'role,b, 'ok
+reads $G+'edge_Far:n1->n2_reads_x; 'ok
+reads $G+'edge_Round:n0->n0_reads_x; 'bad_read_Round_x_on_Round
+";

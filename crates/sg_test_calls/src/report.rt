@@ -1,39 +1,46 @@
 //! The lines of the premises. No run is known in which two texts have one digest.
-use sg_base::{ByteOut, Name};
+use sg_base::{ByteOut, OutOfMemory};
 use sg_report::{Forgery, put_premises};
+use sg_table::{Calls, hold, name, number};
 use std::alloc::Global;
-use std::process::Abort;
 
-fn name(rt: &impl Abort, text: &str) -> Name {
-    Name::new(text.as_bytes()).expect(rt, "a name")
+struct Premises;
+
+impl Calls for Premises {
+    fn answer(&self, alloc: Global, call: &str, args: &[Vec<u8>]) -> Option<Vec<u8>> {
+        let collision_free = call == "collision_free";
+        match args {
+            [] => told(alloc, None, collision_free).ok(),
+            [step, one, two] => {
+                let forgery = Forgery {
+                    step: number(step)?,
+                    one: name(one)?,
+                    two: name(two)?,
+                };
+                told(alloc, Some(&forgery), collision_free).ok()
+            }
+            _ => None,
+        }
+    }
 }
 
-// Compares the lines of the premises.
-fn tells_premises(
+fn told(
     alloc: Global,
-    rt: &impl Abort,
     forged: Option<&Forgery>,
     collision_free: bool,
-    lines: &str,
-) {
+) -> Result<Vec<u8>, OutOfMemory> {
     let mut out = ByteOut::new(alloc);
-    let told = put_premises(&mut out, forged, collision_free);
-    assert!(rt; told.is_ok());
-    assert!(rt; out.done().as_slice() == lines.as_bytes(), "{lines}");
+    put_premises(&mut out, forged, collision_free)?;
+    Ok(out.done())
 }
 
 #[test]
-fn premises_have_their_lines(rt: HostRuntime) {
-    let alloc = rt.alloc();
-    let both = "premise unforged holds\npremise collision-free holds\n";
-    tells_premises(alloc, &rt, None, true, both);
-    let forgery = Forgery {
-        step: 2,
-        one: name(&rt, "a"),
-        two: name(&rt, "b"),
-    };
-    let forged = "premise unforged broken at step 2 for a and b\npremise collision-free holds\n";
-    tells_premises(alloc, &rt, Some(&forgery), true, forged);
-    let collides = "premise unforged holds\npremise collision-free broken\n";
-    tells_premises(alloc, &rt, None, false, collides);
+fn premises_have_their_lines(rt: HostRuntime) -> Result<(), &'static str> {
+    hold(rt.alloc(), &Premises, LINES)
 }
+
+const LINES: &str = "
+collision_free 'premise_unforged_holds^premise_collision-free_holds^
+collision_free '2 'a 'b 'premise_unforged_broken_at_step_2_for_a_and_b^premise_collision-free_holds^
+collision 'premise_unforged_holds^premise_collision-free_broken^
+";

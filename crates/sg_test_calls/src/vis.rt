@@ -1,46 +1,60 @@
 //! Views of a graph that `check` refuses, since it blinds two roles.
-use sg_base::Role;
-use sg_graph::Graph;
+use sg_base::{ByteOut, OutOfMemory, Role};
 use sg_parse::parse_graph;
-use sg_vis::{Origin, View, ViewId, views};
+use sg_table::{Calls, byte, hold};
+use sg_vis::{Origin, View, ViewId, ViewTable, views};
 use std::alloc::Global;
-use std::test::Fail;
 
-// a and b go back and forth, by an edge each that writes and one that doesn't; b may go on to c.
-const LOOPS: &[u8] =
-    b"graph g;role a;role b;role c;var x:int by a;node n0:a;node n1:b;node n2:c;edge Loud:n0->n1 writes x;\
-edge Still:n0->n1;edge Back:n1->n0;edge On:n1->n2;";
+struct Spelled;
 
-#[test]
-fn views_of_walks_through_loops_differ_by_what_was_written(rt: HostRuntime) -> Result<(), Fail> {
-    let graph = parse_graph(rt.alloc(), LOOPS)?;
-    assert!(rt; graph.roles() == 3);
-    let last = spelled(rt.alloc(), &graph, Role(2))?;
-    assert_eq!(rt;
-        last.as_str(),
-        "start: 0/1 3/0\nstart: 1/0 3/0\nstart: 1/1 3/0\n"
-    );
+impl Calls for Spelled {
+    fn answer(&self, alloc: Global, call: &str, args: &[Vec<u8>]) -> Option<Vec<u8>> {
+        let _ = call;
+        let [text, role] = args else {
+            return None;
+        };
+        let graph = parse_graph(alloc, text).ok()?;
+        let table = views(alloc, &graph, Role(byte(role)?)).ok()?;
+        let mut out = ByteOut::new(alloc);
+        put_views(&mut out, &table).ok()?;
+        Some(out.done())
+    }
+}
+
+// Puts the views of a role, each on a line.
+fn put_views(out: &mut ByteOut, table: &ViewTable) -> Result<(), OutOfMemory> {
+    for number in 0..table.len() {
+        put_view(out, table.get(ViewId(number)))?;
+    }
     Ok(())
 }
 
-// The views of a role, each on a line.
-fn spelled(alloc: Global, graph: &Graph, role: Role) -> Result<String, Fail> {
-    let table = views(alloc, graph, role)?;
-    let mut text = String::new(alloc);
-    for number in 0..table.len() {
-        spell(alloc, &mut text, table.get(ViewId(number)))?;
-    }
-    Ok(text)
-}
-
-fn spell(alloc: Global, text: &mut String, view: &View) -> Result<(), Fail> {
+fn put_view(out: &mut ByteOut, view: &View) -> Result<(), OutOfMemory> {
     match view.from {
-        Origin::Start => text.push_str("start:")?,
-        Origin::After(label) => text.push_str(&format!(in alloc; "after {}:", label.0)?)?,
+        Origin::Start => out.bytes(b"start:")?,
+        Origin::After(label) => {
+            let label = label.0;
+            write!(out, "after {label}:")?;
+        }
     }
     for item in view.items.as_slice() {
-        text.push_str(&format!(in alloc; " {}/{}", item.label.0, item.delta.0)?)?;
+        let (label, delta) = (item.label.0, item.delta.0);
+        write!(out, " {label}/{delta}")?;
     }
-    text.push_str("\n")?;
-    Ok(())
+    out.u8(b'\n')
 }
+
+#[test]
+fn views_of_walks_through_loops_differ_by_what_was_written(
+    rt: HostRuntime,
+) -> Result<(), &'static str> {
+    hold(rt.alloc(), &Spelled, LINES)
+}
+
+const LINES: &str = "
+# a and b go back and forth, by an edge each that writes and one that doesn't; b may go on to c.
+
+let LOOPS 'graph_g;role_a;role_b;role_c;var_x:int_by_a;node_n0:a;node_n1:b;node_n2:c;
+let LOOPS $LOOPS+'edge_Loud:n0->n1_writes_x;edge_Still:n0->n1;edge_Back:n1->n0;edge_On:n1->n2;
+views $LOOPS 02 'start:_0/1_3/0^start:_1/0_3/0^start:_1/1_3/0^
+";

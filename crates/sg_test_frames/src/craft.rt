@@ -1,29 +1,57 @@
 //! Frames that are changed, and confounders.
 use sg_base::{Seq, Var};
 use sg_craft::{confounder, first_bytes, flipped, frame_at};
-use std::test::Fail;
+use sg_table::{Calls, byte, bytes, fixed, hold, number};
+use std::alloc::Global;
 
-#[test]
-fn frames_are_found_and_changed(rt: HostRuntime) -> Result<(), Fail> {
-    let alloc = rt.alloc();
+struct Crafts;
+
+impl Calls for Crafts {
+    fn answer(&self, alloc: Global, call: &str, args: &[Vec<u8>]) -> Option<Vec<u8>> {
+        match args {
+            [frame, at] if call == "frame_at" => recorded(alloc, frame, number(at)?),
+            [text, at] if call == "flipped" => flipped(alloc, text, number(at)?).ok(),
+            [text, count] if call == "first_bytes" => {
+                bytes(alloc, first_bytes(text, number(count)?))
+            }
+            [step, var] => {
+                let step = u64::from_be_bytes(fixed(step)?);
+                bytes(alloc, &confounder(step, Var(byte(var)?)))
+            }
+            _ => None,
+        }
+    }
+}
+
+fn recorded(alloc: Global, frame: &[u8], at: u32) -> Option<Vec<u8>> {
     let mut frames = Seq::new(alloc);
-    frames.push(Seq::from_vec(b"SGF1".to_vec(alloc)?))?;
-    assert!(rt; frame_at(frames.as_slice(), 0).is_none());
-    assert!(rt; frame_at(frames.as_slice(), 2).is_none());
-    let frame = frame_at(frames.as_slice(), 1).ok_or("a frame")?;
-    assert!(rt; frame == b"SGF1".as_slice());
-    assert!(rt; first_bytes(frame, 3) == b"SGF".as_slice());
-    assert!(rt; first_bytes(frame, 5) == b"SGF1".as_slice());
-    let changed = flipped(alloc, frame, 0)?;
-    assert!(rt; changed.as_slice() == b"RGF1".as_slice());
-    let same = flipped(alloc, frame, 4)?;
-    assert!(rt; same.as_slice() == b"SGF1".as_slice());
-    Ok(())
+    frames.push(Seq::from_vec(bytes(alloc, frame)?)).ok()?;
+    match frame_at(frames.as_slice(), at) {
+        Some(frame) => bytes(alloc, frame),
+        None => bytes(alloc, b"none"),
+    }
 }
 
 #[test]
-fn a_confounder_is_the_step_and_the_variable(rt: HostRuntime) -> Result<(), Fail> {
-    let made = confounder(0x0102_0304_0506_0708, Var(31));
-    assert!(rt; made == [1, 2, 3, 4, 5, 6, 7, 8, 0, 0, 0, 0, 0, 0, 0, 31]);
-    Ok(())
+fn frames_that_are_found_and_changed(rt: HostRuntime) -> Result<(), &'static str> {
+    hold(rt.alloc(), &Crafts, LINES)
 }
+
+const LINES: &str = "
+# The frame of a number, from 1, where one is recorded.
+
+frame_at 'SGF1 '0 'none
+frame_at 'SGF1 '1 'SGF1
+frame_at 'SGF1 '2 'none
+
+# The first bytes of a frame, and the frame with the lowest bit of the byte at a place changed.
+
+first_bytes 'SGF1 '3 'SGF
+first_bytes 'SGF1 '5 'SGF1
+flipped 'SGF1 '0 'RGF1
+flipped 'SGF1 '4 'SGF1
+
+# A confounder is the step and the variable.
+
+confounder 0102030405060708 1f 0102030405060708000000000000001f
+";

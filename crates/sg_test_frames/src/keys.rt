@@ -1,167 +1,154 @@
-use sg_base::{Addr, Name};
+//! Key files, and keyrings.
+use crate::script::{Script, played};
+use sg_base::{Addr, ByteOut, OutOfMemory};
 use sg_crypt::Cast;
-use sg_keys::{KeyFault, Keyring, PeerFault};
-use std::alloc::{AllocError, Global};
+use sg_keys::{KeyFault, Keyring};
+use sg_table::{Calls, bytes, hold, name, name_or_none, number};
+use std::alloc::Global;
 
-const HEAD: &str = "me = \"a\"\nlisten = \"127.0.0.1:4001\"\n";
+const ADDR: Addr = Addr {
+    ip: [0; 4],
+    port: 0,
+};
 
-const B: &str =
-    "[[peer]]\nname = \"b\"\naddr = \"127.0.0.1:4002\"\nkey = \"1111111111111111111111111111111111111111111111111111111111111111\"\n";
+struct Keys;
 
-const KEY_LINE: &str =
-    "key = \"AAAAAAAAAAAAAAAAAAAAAAAAAAAAAAAAaaaaaaaaaaaaaaaaaaaaaaaaaaaaaaaa\"\n";
-
-// What is answered to a head and what follows it.
-fn fault(alloc: Global, head: &str, rest: &str) -> Result<Option<KeyFault>, AllocError> {
-    let text = format!(in alloc; "{head}{rest}")?;
-    Ok(Keyring::from_toml(alloc, text.as_bytes()).err())
-}
-
-// A peer of this name and address with a key of 64 digits.
-fn peer(alloc: Global, name: &str, addr: &str) -> Result<String, AllocError> {
-    format!(in alloc;
-        "{B}[[peer]]\nname = \"{name}\"\naddr = \"{addr}\"\nkey = \"AAAAAAAAAAAAAAAAAAAAAAAAAAAAAAAAaaaaaaaaaaaaaaaaaaaaaaaaaaaaaaaa\"\n"
-    )
-}
-
-fn name(text: &str) -> Option<Name> {
-    Name::new(text.as_bytes())
-}
-
-#[test]
-fn the_example_is_read(rt: HostRuntime) {
-    let alloc = rt.alloc();
-    let text = format!(in alloc; "{HEAD}{B}").expect(&rt, "memory");
-    let keys = Keyring::from_toml(alloc, text.as_bytes()).expect(&rt, "a keyring");
-    let a = name("a").expect(&rt, "a name");
-    let b = name("b").expect(&rt, "a name");
-    let c = name("c").expect(&rt, "a name");
-    assert!(rt; keys.me() == a);
-    assert!(rt;
-        keys.listen()
-            == Addr {
-                ip: [127, 0, 0, 1],
-                port: 4001
+impl Calls for Keys {
+    fn answer(&self, alloc: Global, call: &str, args: &[Vec<u8>]) -> Option<Vec<u8>> {
+        match call {
+            "keys" => read(alloc, args),
+            "many" => many(alloc, args),
+            "added" => {
+                let (me, peers) = args.split_first()?;
+                played(alloc, &mut Keyring::new(alloc, name(me)?, ADDR), peers)
             }
-    );
-    assert!(rt;
-        keys.addr(&b)
-            == Some(Addr {
-                ip: [127, 0, 0, 1],
-                port: 4002
-            })
-    );
-    assert!(rt; matches!(keys.key(&b), Some(key) if *key == [0x11; 32]));
-    assert!(rt; keys.key(&a).is_none());
-    let cast = Cast::new(1, [0; 32], [0; 16], &[b, a, c]).expect(&rt, "a cast");
-    assert!(rt; keys.covers(&cast) == Some(c));
+            _ => {
+                let (text, asked) = args.split_first()?;
+                let keys = Keyring::from_toml(alloc, text).ok()?;
+                of_keyring(alloc, &keys, call, asked)
+            }
+        }
+    }
 }
 
-#[test]
-fn a_peer_is_added_once(rt: HostRuntime) {
-    let addr = Addr {
-        ip: [0; 4],
-        port: 0,
+fn read(alloc: Global, args: &[Vec<u8>]) -> Option<Vec<u8>> {
+    let [text] = args else {
+        return None;
     };
-    let a = name("a").expect(&rt, "a name");
-    let b = name("b").expect(&rt, "a name");
-    let mut keys = Keyring::new(rt.alloc(), a, addr);
-    assert!(rt; keys.add(rt.alloc(), b, addr, [7; 32]) == Ok(()));
-    assert!(rt; keys.add(rt.alloc(), b, addr, [8; 32]) == Err(PeerFault::Twice));
-    assert!(rt; keys.add(rt.alloc(), a, addr, [8; 32]) == Err(PeerFault::Twice));
-    assert!(rt; matches!(keys.key(&b), Some(key) if *key == [7; 32]));
+    told(alloc, Keyring::from_toml(alloc, text))
+}
+
+fn many(alloc: Global, args: &[Vec<u8>]) -> Option<Vec<u8>> {
+    let [head, count, peer, last] = args else {
+        return None;
+    };
+    let mut text = ByteOut::new(alloc);
+    put_many(&mut text, head, number(count)?, peer, last).ok()?;
+    told(alloc, Keyring::from_toml(alloc, &text.done()))
+}
+
+// `read`, or why the bytes are no key file.
+fn told(alloc: Global, keys: Result<Keyring, KeyFault>) -> Option<Vec<u8>> {
+    match keys {
+        Ok(_) => bytes(alloc, b"read"),
+        Err(fault) => bytes(alloc, format!(in alloc; "{fault}").ok()?.as_bytes()),
+    }
+}
+
+// Puts a key file with so many peers p0, p1, .. with these entries behind their names, and then the last one.
+fn put_many(
+    out: &mut ByteOut,
+    head: &[u8],
+    count: u32,
+    peer: &[u8],
+    last: &[u8],
+) -> Result<(), OutOfMemory> {
+    out.bytes(head)?;
+    for number in 0..count {
+        write!(out, "[[peer]]\nname = \"p{number}\"\n")?;
+        out.bytes(peer)?;
+    }
+    out.bytes(last)
+}
+
+fn of_keyring(alloc: Global, keys: &Keyring, call: &str, asked: &[Vec<u8>]) -> Option<Vec<u8>> {
+    match asked {
+        [] if call == "me" => bytes(alloc, keys.me().as_bytes()),
+        [] => spelled(alloc, Some(keys.listen())),
+        [peer] if call == "addr" => spelled(alloc, keys.addr(&name(peer)?)),
+        [peer] => match keys.key(&name(peer)?) {
+            Some(key) => bytes(alloc, key),
+            None => bytes(alloc, b"none"),
+        },
+        [one, two, three] => {
+            let principals = [name(one)?, name(two)?, name(three)?];
+            let cast = Cast::new(1, [0; 32], [0; 16], &principals)?;
+            name_or_none(alloc, keys.covers(&cast))
+        }
+        _ => None,
+    }
+}
+
+fn spelled(alloc: Global, addr: Option<Addr>) -> Option<Vec<u8>> {
+    let Some(addr) = addr else {
+        return bytes(alloc, b"none");
+    };
+    let ip = addr.ip;
+    let mut out = ByteOut::new(alloc);
+    out.bytes(&ip).ok()?;
+    out.u16(addr.port).ok()?;
+    Some(out.done())
+}
+
+// A call adds a peer, a byte of its key and its name. Its answer has the key with this name afterwards.
+impl Script for Keyring {
+    fn call(&mut self, alloc: Global, out: &mut ByteOut, word: &[u8]) -> Option<()> {
+        let (byte, peer) = word.split_first()?;
+        let peer = name(peer)?;
+        match self.add(alloc, peer, ADDR, [*byte; 32]) {
+            Ok(()) => out.bytes(b"ok,").ok()?,
+            Err(fault) => write!(out, "{fault},").ok()?,
+        }
+        match self.key(&peer) {
+            Some(key) => out.bytes(key).ok(),
+            None => Some(()),
+        }
+    }
 }
 
 #[test]
-fn a_head_is_read_or_refused(rt: HostRuntime) -> Result<(), AllocError> {
-    let alloc = rt.alloc();
-    let bad = Some(KeyFault::BadEntry { entry: 0 });
-    assert!(rt; fault(alloc, HEAD, "")? == None);
-    assert!(rt; fault(alloc, HEAD, "peer = []\n")? == None);
-    assert!(rt; fault(alloc, HEAD, "peer = [1]\n")? == bad);
-    assert!(rt; fault(alloc, HEAD, "port = 1\n")? == bad);
-    assert!(rt; fault(alloc, "me = \"a\"\n", B)? == bad);
-    assert!(rt; fault(alloc, "me = 1\nlisten = \"127.0.0.1:4001\"\n", B)? == bad);
-    assert!(rt; fault(alloc, "me = \"1\"\nlisten = \"127.0.0.1:4001\"\n", B)? == bad);
-    assert!(rt;
-        fault(
-            alloc,
-            "me = \"a\"\nlisten = \"1.2.3.4.5:6\"\n",
-            "peer = [1]\n"
-        )? == bad
-    );
-    assert!(rt; fault(alloc, "me = \"a\"\nlisten = \"1.2.3.4:0\"\n", "")? == bad);
-    assert!(rt; fault(alloc, "me = \"a\"\nlisten = \"1.2.3.4:65535\"\n", "")? == None);
-    assert!(rt; fault(alloc, "me = \"a\"\nlisten = \"1.2.3.4:65536\"\n", "")? == bad);
-    assert!(rt; fault(alloc, "me = \"a\"\nlisten = \"1.2.3.256:6\"\n", "")? == bad);
-    assert!(rt; fault(alloc, "me = \"a\"\nlisten = \"1.2.3.04:6\"\n", "")? == bad);
-    assert!(rt; fault(alloc, HEAD, HEAD)? == Some(KeyFault::NotToml));
-    Ok(())
+fn key_files_and_keyrings(rt: HostRuntime) -> Result<(), &'static str> {
+    hold(rt.alloc(), &Keys, LINES)
 }
 
-#[test]
-fn a_peer_is_read_or_refused(rt: HostRuntime) -> Result<(), AllocError> {
-    let alloc = rt.alloc();
-    let short =
-        "[[peer]]\nname = \"b\"\naddr = \"127.0.0.1:4002\"\nkey = \"111111111111111111111111111111111111111111111111111111111111111\"\n";
-    assert!(rt; fault(alloc, HEAD, short)? == Some(KeyFault::BadEntry { entry: 1 }));
-    assert!(rt;
-        fault(alloc, HEAD, "[[peer]]\nname = \"b\"\n")? == Some(KeyFault::BadEntry { entry: 1 })
-    );
-    assert!(rt; fault(alloc, HEAD, peer(alloc, "c", "1.2.3.4:5")?.as_str())? == None);
-    assert!(rt;
-        fault(alloc, HEAD, peer(alloc, "c", "1.2.3:5")?.as_str())?
-            == Some(KeyFault::BadEntry { entry: 2 })
-    );
-    assert!(rt;
-        fault(alloc, HEAD, peer(alloc, "a", "1.2.3:5")?.as_str())?
-            == Some(KeyFault::BadEntry { entry: 2 })
-    );
-    for bad in [
-        "[[peer]]\nname = 1\naddr = \"1.2.3.4:5\"\n",
-        "[[peer]]\nname = \"1\"\naddr = \"1.2.3.4:5\"\n",
-        "[[peer]]\nname = \"c\"\naddr = 1\n",
-        "[[peer]]\nname = \"c\"\naddr = \"1.2.3.4:0\"\n",
-    ] {
-        let text = format!(in alloc; "{B}{bad}{KEY_LINE}")?;
-        assert!(rt;
-            fault(alloc, HEAD, text.as_str())? == Some(KeyFault::BadEntry { entry: 2 }),
-            "{bad}"
-        );
-    }
-    let keyed = format!(in alloc; "{B}port = 1\n")?;
-    assert!(rt; fault(alloc, HEAD, keyed.as_str())? == Some(KeyFault::BadEntry { entry: 1 }));
-    let typed = "[[peer]]\nname = \"c\"\naddr = \"1.2.3.4:5\"\nkey = 1\n";
-    assert!(rt; fault(alloc, HEAD, typed)? == Some(KeyFault::BadEntry { entry: 1 }));
-    assert!(rt;
-        fault(alloc, HEAD, peer(alloc, "a", "1.2.3.4:5")?.as_str())?
-            == Some(KeyFault::Twice { entry: 2 })
-    );
-    assert!(rt;
-        fault(alloc, HEAD, peer(alloc, "b", "1.2.3.4:5")?.as_str())?
-            == Some(KeyFault::Twice { entry: 2 })
-    );
-    Ok(())
-}
+// What is told of shorter key files is in the tables of cases.
+const LINES: &str = "
+let HEAD 'me_=_\"a\"^listen_=_\"127.0.0.1:4001\"^
+let B '[[peer]]^name_=_\"b\"^addr_=_\"127.0.0.1:4002\"^key_=_\"1111111111111111111111111111111111111111111111111111111111111111\"^
 
-// The entry that is bad, or of a name that was there, is told by its number, however many are before it.
-#[test]
-fn many_peers_are_read(rt: HostRuntime) -> Result<(), AllocError> {
-    let alloc = rt.alloc();
-    let mut text = String::from_str(alloc, HEAD)?;
-    for number in 0..65_535u32 {
-        let peer = format!(in alloc;
-            "[[peer]]\nname = \"p{number}\"\naddr = \"1.2.3.4:5\"\n{KEY_LINE}"
-        )?;
-        text.push_str(peer.as_str())?;
-    }
-    let again = format!(in alloc; "[[peer]]\nname = \"p0\"\naddr = \"1.2.3.4:5\"\n{KEY_LINE}")?;
-    for (last, answer) in [
-        ("", None),
-        ("[[peer]]\n", Some(KeyFault::BadEntry { entry: 65_536 })),
-        (again.as_str(), Some(KeyFault::Twice { entry: 65_536 })),
-    ] {
-        assert!(rt; fault(alloc, text.as_str(), last)? == answer);
-    }
-    Ok(())
-}
+# What a key file says: its principal's name and address; a peer's address and key; and of a cast the first principal without a key.
+
+keys $HEAD+$B 'read
+me $HEAD+$B 'a
+listen $HEAD+$B 7f000001+0fa1
+addr $HEAD+$B 'b 7f000001+0fa2
+key $HEAD+$B 'b 32*11
+key $HEAD+$B 'a 'none
+covers $HEAD+$B 'b 'a 'c 'c
+
+# The head is looked at before the peers.
+
+keys 'me_=_\"a\"^+$B 'entry_0
+keys 'me_=_\"1\"^listen_=_\"127.0.0.1:4001\"^+$B 'entry_0
+
+# A peer is added once, and no principal is its own peer.
+
+added 'a 07+'b 08+'b 08+'a 'ok,+32*07+'a_peer_twice,+32*07+'a_peer_twice,
+
+# Entries that are bad, or whose name was there, are told by their number, however many are before them: here 65,535.
+
+let PEER 'addr_=_\"1.2.3.4:5\"^key_=_\"AAAAAAAAAAAAAAAAAAAAAAAAAAAAAAAAaaaaaaaaaaaaaaaaaaaaaaaaaaaaaaaa\"^
+many $HEAD '65535 $PEER ' 'read
+many $HEAD '65535 $PEER '[[peer]]^ 'entry_65536
+many $HEAD '65535 $PEER '[[peer]]^name_=_\"p0\"^+$PEER 'twice_65536
+";

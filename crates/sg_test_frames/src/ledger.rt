@@ -1,130 +1,145 @@
-use sg_base::{Failed, Role, Sid};
+//! Ledgers: what a crash leaves, slots, and a file of the system.
+use crate::script::{Script, played};
+use sg_base::{ByteOut, Failed, OutOfMemory, Role, Sid};
 use sg_ledger::{AddJoinFault, Disk, FileDisk, Ledger, MemDisk, OpenFault};
+use sg_table::{Calls, bytes, fixed, hold, number};
 use std::alloc::Global;
 use std::fs;
 use std::test::Fail;
 
 const JOIN: (Sid, Role) = (Sid([7; 32]), Role(1));
 
-const BAD_0: OpenFault = OpenFault::BadSlot { slot: 0 };
+struct Ledgers;
 
-const BAD_1: OpenFault = OpenFault::BadSlot { slot: 1 };
+impl Calls for Ledgers {
+    fn answer(&self, alloc: Global, call: &str, args: &[Vec<u8>]) -> Option<Vec<u8>> {
+        match args {
+            [slots] => told(alloc, Ledger::open(alloc, &mut disk_with(alloc, slots)?)),
+            [calls, picks] if call == "crash" => crashed(alloc, number(calls)?, picks),
+            [count, joins @ ..] => {
+                let mut slots = ByteOut::new(alloc);
+                put_many(&mut slots, number(count)?).ok()?;
+                played(alloc, &mut disk_with(alloc, &slots.done())?, joins)
+            }
+            _ => None,
+        }
+    }
+}
 
 // Opens a ledger and adds the join of a session.
-fn added<D: Disk>(alloc: Global, disk: &mut D, sid: Sid) -> Result<Result<(), AddJoinFault>, Fail> {
-    let mut ledger = Ledger::open(alloc, disk)?;
-    Ok(ledger.add(disk, sid, JOIN.1))
+fn added<D: Disk>(alloc: Global, disk: &mut D, sid: Sid) -> Option<Result<(), AddJoinFault>> {
+    let mut ledger = Ledger::open(alloc, disk).ok()?;
+    Some(ledger.add(disk, sid, JOIN.1))
 }
 
 // Makes a ledger, opens it and adds a join.
-fn made<D: Disk>(alloc: Global, disk: &mut D) -> Result<Result<(), AddJoinFault>, Fail> {
-    Ledger::create(alloc, disk)?;
+fn made<D: Disk>(alloc: Global, disk: &mut D) -> Option<Result<(), AddJoinFault>> {
+    Ledger::create(alloc, disk).ok()?;
     added(alloc, disk, JOIN.0)
 }
 
-// How many joins are opened, where there is none but that one.
-fn opened<D: Disk>(alloc: Global, disk: &mut D) -> Result<Option<usize>, Fail> {
-    let ledger = Ledger::open(alloc, disk)?;
-    let joins = ledger.joins();
-    Ok(if joins.iter().all(|join| *join == JOIN) {
-        Some(joins.len())
-    } else {
-        None
-    })
+// How many joins a ledger has, or why it isn't opened.
+fn told(alloc: Global, ledger: Result<Ledger, OpenFault>) -> Option<Vec<u8>> {
+    let told = match ledger {
+        Ok(ledger) => {
+            let count = ledger.joins().len();
+            format!(in alloc; "{count}")
+        }
+        Err(fault) => format!(in alloc; "{fault}"),
+    };
+    bytes(alloc, told.ok()?.as_bytes())
 }
 
-// The same after a crash that comes after `calls` disk calls of `add`.
-fn joins_after(alloc: Global, calls: u32, picks: &[u8]) -> Result<Option<usize>, Fail> {
-    let stop = calls.saturating_add(6);
-    let mut disk = MemDisk::new(alloc, 2_300_000, 20, Vec::new(alloc), Some(stop))?;
+// The same after a crash that comes after so many calls of a disk within `add`, and leaves these bytes of what was written. There is no other
+// join than the one that was added.
+fn crashed(alloc: Global, calls: u32, picks: &[u8]) -> Option<Vec<u8>> {
+    let stop = Some(calls.saturating_add(6));
+    let mut disk = MemDisk::new(alloc, 2_300_000, 20, Vec::new(alloc), stop).ok()?;
     let _ = made(alloc, &mut disk)?;
-    let mut left = disk.crash(picks);
-    opened(alloc, &mut left)
-}
-
-#[test]
-fn a_crash_within_add(rt: HostRuntime) -> Result<(), Fail> {
-    let alloc = rt.alloc();
-    // The write of the pair may leave any bytes behind the gate.
-    assert_eq!(rt; joins_after(alloc, 1, &[])?, Some(0));
-    assert_eq!(rt; joins_after(alloc, 1, &[1; 33])?, Some(0));
-    assert_eq!(rt; joins_after(alloc, 2, &[1; 33])?, Some(0));
-    // The write of the gate may leave any byte for it.
-    assert_eq!(rt; joins_after(alloc, 3, &[0])?, Some(0));
-    assert_eq!(rt; joins_after(alloc, 3, &[2])?, Some(0));
-    assert_eq!(rt; joins_after(alloc, 3, &[1])?, Some(1));
-    assert_eq!(rt; joins_after(alloc, 4, &[0])?, Some(1));
-    Ok(())
-}
-
-// A slot: its gate, a session of a number, and a role.
-fn slot(gate: u8, number: u16, role: u8) -> [u8; 34] {
-    let mut slot = [0; 34];
-    slot[0] = gate;
-    slot[1..3].copy_from_slice(&number.to_be_bytes());
-    slot[33] = role;
-    slot
+    let ledger = Ledger::open(alloc, &mut disk.crash(picks));
+    if let Ok(ledger) = &ledger {
+        if !ledger.joins().iter().all(|join| *join == JOIN) {
+            return None;
+        }
+    }
+    told(alloc, ledger)
 }
 
 // A disk whose file has the head and the length of a ledger, and these slots first.
-fn disk_with(alloc: Global, slots: &[[u8; 34]]) -> Result<MemDisk, Fail> {
+fn disk_with(alloc: Global, slots: &[u8]) -> Option<MemDisk> {
     let mut file = Vec::new(alloc);
-    file.extend_from_slice(b"SGLEDG01")?;
-    for slot in slots {
-        file.extend_from_slice(slot)?;
-    }
-    file.resize(2_228_232, 0)?;
-    let mut disk = MemDisk::new(alloc, 2_300_000, 20, Vec::new(alloc), None)?;
-    disk.write(0, &file)?;
-    Ok(disk)
+    file.extend_from_slice(b"SGLEDG01").ok()?;
+    file.extend_from_slice(slots).ok()?;
+    file.resize(2_228_232, 0).ok()?;
+    let mut disk = MemDisk::new(alloc, 2_300_000, 20, Vec::new(alloc), None).ok()?;
+    disk.write(0, &file).ok()?;
+    Some(disk)
 }
 
-// With how many joins a ledger of these slots opens.
-fn joins_of(alloc: Global, slots: &[[u8; 34]]) -> Result<Result<usize, OpenFault>, Fail> {
-    let mut disk = disk_with(alloc, slots)?;
-    Ok(match Ledger::open(alloc, &mut disk) {
-        Ok(ledger) => Ok(ledger.joins().len()),
-        Err(fault) => Err(fault),
-    })
-}
-
-#[test]
-fn slots_that_no_ledger_has(rt: HostRuntime) -> Result<(), Fail> {
-    let alloc = rt.alloc();
-    for (first, second, answer) in [
-        (slot(1, 7, 15), slot(1, 7, 14), Ok(2)),
-        (slot(1, 7, 15), slot(1, 8, 15), Ok(2)),
-        (slot(1, 7, 15), slot(2, 7, 16), Ok(1)),
-        (slot(1, 7, 16), slot(1, 8, 15), Err(BAD_0)),
-        (slot(1, 7, 15), slot(1, 8, 16), Err(BAD_1)),
-        (slot(1, 7, 15), slot(1, 7, 15), Err(BAD_1)),
-        (slot(2, 7, 15), slot(1, 8, 15), Err(BAD_1)),
-    ] {
-        assert!(rt; joins_of(alloc, &[first, second])? == answer);
+// Puts so many slots, of sessions that begin with their number.
+fn put_many(out: &mut ByteOut, count: u32) -> Result<(), OutOfMemory> {
+    for number in 0..count {
+        out.u8(1)?;
+        out.u32(number)?;
+        out.bytes(&[0; 28])?;
+        out.u8(1)?;
     }
     Ok(())
 }
 
-// The last place is taken, and then no other join has one.
-#[test]
-fn a_ledger_that_gets_full(rt: HostRuntime) -> Result<(), Fail> {
-    let alloc = rt.alloc();
-    let mut slots = Vec::new(alloc);
-    for number in 0..65_535u16 {
-        slots.push(slot(1, number, 1))?;
+// A call opens the ledger and adds the join of a session.
+impl Script for MemDisk {
+    fn call(&mut self, alloc: Global, out: &mut ByteOut, word: &[u8]) -> Option<()> {
+        match added(alloc, self, Sid(fixed(word)?))? {
+            Ok(()) => out.bytes(b"added,").ok(),
+            Err(fault) => write!(out, "{fault},").ok(),
+        }
     }
-    let mut disk = disk_with(alloc, &slots)?;
-    for (byte, answer) in [
-        (0, Err(AddJoinFault::Twice)),
-        (7, Ok(())),
-        (7, Err(AddJoinFault::Twice)),
-        (0, Err(AddJoinFault::Twice)),
-        (8, Err(AddJoinFault::Full)),
-    ] {
-        assert!(rt; added(alloc, &mut disk, Sid([byte; 32]))? == answer);
-    }
-    Ok(())
 }
+
+#[test]
+fn a_crash_within_add(rt: HostRuntime) -> Result<(), &'static str> {
+    hold(rt.alloc(), &Ledgers, CRASHES)
+}
+
+const CRASHES: &str = "
+# How many joins a ledger has after a crash within the first `add`, after so many of its calls of the disk, where these bytes are left of what was
+# written. The write of the pair may leave any bytes behind the gate.
+
+crash '1 ' '0
+crash '1 33*01 '0
+crash '2 33*01 '0
+
+# The write of the gate may leave any byte for it.
+
+crash '3 00 '0
+crash '3 02 '0
+crash '3 01 '1
+crash '4 00 '1
+";
+
+#[test]
+fn slots_that_no_ledger_has_and_the_last_one(rt: HostRuntime) -> Result<(), &'static str> {
+    hold(rt.alloc(), &Ledgers, SLOTS)
+}
+
+const SLOTS: &str = "
+# How many joins a ledger has that begins with two slots: gate, session and role, each.
+
+let SEVEN 0007+30*00
+let EIGHT 0008+30*00
+slots 01+$SEVEN+0f+01+$SEVEN+0e '2
+slots 01+$SEVEN+0f+01+$EIGHT+0f '2
+slots 01+$SEVEN+0f+02+$SEVEN+10 '1
+slots 01+$SEVEN+10+01+$EIGHT+0f 'slot_0
+slots 01+$SEVEN+0f+01+$EIGHT+10 'slot_1
+slots 01+$SEVEN+0f+01+$SEVEN+0f 'slot_1
+slots 02+$SEVEN+0f+01+$EIGHT+0f 'slot_1
+
+# The last place is taken, and then no other join has one. There are 65,535 of sessions that are numbers.
+
+adds '65535 32*00 32*07 32*07 32*00 32*08 'joined_already,added,joined_already,joined_already,the_ledger_is_full,
+";
 
 // Makes a ledger in the file "book", and tells whether a disk fails before it is opened, the ledger is made, and a second disk doesn't get
 // the file while the first one has it.
@@ -132,7 +147,7 @@ fn is_made_for_one(rt: &HostRuntime) -> Result<bool, Fail> {
     let mut disk = FileDisk::new(rt.clone()?);
     let fails = disk.size() == Err(Failed);
     disk.open("book")?;
-    let is_made = made(rt.alloc(), &mut disk)? == Ok(());
+    let is_made = made(rt.alloc(), &mut disk) == Some(Ok(()));
     let mut second = FileDisk::new(rt.clone()?);
     let waits = second.open("./book") == Err(Failed);
     Ok(fails && is_made && waits)
@@ -143,7 +158,8 @@ fn a_ledger_in_a_file(rt: HostRuntime) -> Result<(), Fail> {
     assert!(rt; is_made_for_one(&rt)?);
     let mut again = FileDisk::new(rt.clone()?);
     again.open("./book")?;
-    assert_eq!(rt; opened(rt.alloc(), &mut again)?, Some(1));
+    let ledger = Ledger::open(rt.alloc(), &mut again)?;
+    assert!(rt; ledger.joins() == [JOIN].as_slice());
     fs::remove_file(&rt, "book")?;
     Ok(())
 }

@@ -1,4 +1,5 @@
-//! Tests of hashes, tags and frames, of keys and joins on a disk, of streams, and of the texts of a report.
+//! Tests of hashes, tags and frames, of keys and joins on a disk, of streams, and of the texts of a report. The cases are lines of tables, which
+//! `sg_table` reads.
 #![tactic(auto)]
 
 #[cfg(test)]
@@ -16,4 +17,8 @@ mod lines;
 #[cfg(test)]
 mod premises;
 #[cfg(test)]
+mod script;
+#[cfg(test)]
 mod stream;
+#[cfg(test)]
+mod table;

@@ -1,56 +1,71 @@
 //! How values are written, and what sessions are called.
-use sg_base::{ByteOut, Chars, Name, Sid, Value};
+use crate::crypt::texts::typed;
+use crate::script::{Script, played};
+use sg_base::{ByteOut, Name, OutOfMemory, Sid};
 use sg_lines::{SessionNames, put_value};
+use sg_table::{Calls, hold};
 use std::alloc::Global;
-use std::process::Abort;
-use std::test::Fail;
 
-// How a value is written.
-fn written(alloc: Global, value: &Value) -> Result<Vec<u8>, Fail> {
-    let mut out = ByteOut::new(alloc);
-    put_value(&mut out, value)?;
-    Ok(out.done())
+struct Values;
+
+impl Calls for Values {
+    fn answer(&self, alloc: Global, call: &str, args: &[Vec<u8>]) -> Option<Vec<u8>> {
+        if call == "sessions" {
+            return played(alloc, &mut SessionNames::new(alloc, b'x'), args);
+        }
+        let [kind, value] = args else {
+            return None;
+        };
+        let value = typed(alloc, kind, value)?;
+        let mut out = ByteOut::new(alloc);
+        put_value(&mut out, &value).ok()?;
+        Some(out.done())
+    }
+}
+
+// A call is `?` and a session, which asks for its name; a session that is met; or a session and the name that it is declared with. In the end all
+// sessions are told in order. The bytes of an identifier are all the same, and a call has one of them.
+impl Script for SessionNames {
+    fn call(&mut self, alloc: Global, out: &mut ByteOut, word: &[u8]) -> Option<()> {
+        match word {
+            [b'?', sid] => put_name(out, self.name_of(&Sid([*sid; 32]))).ok(),
+            [sid] => self.meet(alloc, Sid([*sid; 32])).ok(),
+            [sid, name @ ..] => self.declare(Name::new(name)?, Sid([*sid; 32])).ok(),
+            [] => None,
+        }
+    }
+
+    fn end(&self, out: &mut ByteOut) -> Result<(), OutOfMemory> {
+        for place in 0..self.len() {
+            if let Some((sid, name)) = self.at(place) {
+                out.bytes(&sid.0)?;
+                put_name(out, Some(name))?;
+            }
+        }
+        Ok(())
+    }
+}
+
+fn put_name(out: &mut ByteOut, name: Option<Name>) -> Result<(), OutOfMemory> {
+    match name {
+        Some(name) => write!(out, "{name},"),
+        None => out.bytes(b"none,"),
+    }
 }
 
 #[test]
-fn texts_stand_between_quotes(rt: HostRuntime) -> Result<(), Fail> {
-    let alloc = rt.alloc();
-    let price = written(alloc, &Value::Int(-40))?;
-    assert!(rt; price.as_slice() == b"-40".as_slice());
-    let text = Value::Text(Chars::new(alloc, b"green tea \"\\")?);
-    let text = written(alloc, &text)?;
-    assert!(rt; text.as_slice() == b"\"green\\x20tea\\x20\\x22\\x5c\"".as_slice());
-    Ok(())
+fn values_and_sessions(rt: HostRuntime) -> Result<(), &'static str> {
+    hold(rt.alloc(), &Values, LINES)
 }
 
-fn name(rt: &impl Abort, text: &str) -> Name {
-    Name::new(text.as_bytes()).expect(rt, "a name")
-}
+const LINES: &str = "
+# Values: a number, and a text, which stands between quotes.
 
-fn is_called(names: &SessionNames, sid: u8, name: &str) -> bool {
-    match names.name_of(&Sid([sid; 32])) {
-        Some(found) => found.as_bytes() == name.as_bytes(),
-        None => false,
-    }
-}
+value 00 ffffffffffffffd8 '-40
+value 01 'green_tea_\"\\ '\"green\\x20tea\\x20\\x22\\x5c\"
 
-// Session 2 is declared twice, sessions 7 and 8 are met without being declared.
-#[test]
-fn sessions_are_called_by_declaration_or_first_event(rt: HostRuntime) -> Result<(), Fail> {
-    let alloc = rt.alloc();
-    let mut names = SessionNames::new(alloc, b'x');
-    for (text, sid) in [("one", 1), ("two", 2), ("again", 2)] {
-        names.declare(name(&rt, text), Sid([sid; 32]))?;
-    }
-    for sid in [8, 2, 7, 8] {
-        names.meet(alloc, Sid([sid; 32]))?;
-    }
-    assert!(rt; is_called(&names, 1, "one"));
-    assert!(rt; is_called(&names, 2, "two"));
-    assert!(rt; is_called(&names, 8, "x1"));
-    assert!(rt; is_called(&names, 7, "x2"));
-    assert!(rt; names.name_of(&Sid([9; 32])).is_none());
-    assert!(rt; names.len() == 4);
-    assert!(rt; names.at(2) == Some((Sid([8; 32]), name(&rt, "x1"))));
-    Ok(())
-}
+# Sessions are called by their first declaration, or by their first event: session 2 is declared twice, and 7 and 8 are met without being declared.
+
+sessions 01+'one 02+'two 02+'again 08 02 07 08 '?+01 '?+02 '?+08 '?+07 '?+09 \
+  'one,two,x1,x2,none,+32*01+'one,+32*02+'two,+32*08+'x1,+32*07+'x2,
+";

@@ -1,11 +1,49 @@
 //! Which note is forged first, and texts that repeat.
 ghost use Rattle.std.specs.Prelude.{[], ◌∷◌};
 
-use sg_base::{Name, OutOfMemory, Seq};
-use sg_crypt::{Hashed, Note, Notes, Pair};
-use sg_premises::{Honest, first_collision, first_forged};
+use crate::crypt::notes::{hashed, put_note, take};
+use crate::script::{Script, played};
+use sg_base::{ByteOut, Name, OutOfMemory};
+use sg_crypt::Notes;
+use sg_premises::{Forged, Honest, first_collision, first_forged};
+use sg_table::{Calls, bytes, hold, name};
 use std::alloc::Global;
-use std::test::Fail;
+
+struct Premises;
+
+impl Calls for Premises {
+    fn answer(&self, alloc: Global, call: &str, args: &[Vec<u8>]) -> Option<Vec<u8>> {
+        let [one, two, steps @ ..] = args else {
+            return None;
+        };
+        let mut notes = Vec::new(alloc);
+        let _ = played(alloc, &mut notes, steps)?;
+        if call == "forged" {
+            forged(alloc, name(one)?, name(two)?, &notes)
+        } else {
+            collision(alloc, one, two, &notes)
+        }
+    }
+}
+
+// The first forged note of what the steps noted, where these two principals are honest.
+fn forged(alloc: Global, one: Name, two: Name, notes: &[Notes]) -> Option<Vec<u8>> {
+    match first_forged(alloc, &Two { one, two }, notes).ok()? {
+        Some(forged) => told(alloc, &forged).ok(),
+        None => bytes(alloc, b"none"),
+    }
+}
+
+// Whether two texts, or those that the steps hashed, collide.
+fn collision(alloc: Global, one: &[u8], two: &[u8], notes: &[Notes]) -> Option<Vec<u8>> {
+    let mut texts = Vec::new(alloc);
+    texts.push(hashed(alloc, one)?).ok()?;
+    texts.push(hashed(alloc, two)?).ok()?;
+    match first_collision(alloc, &texts, notes).ok()? {
+        Some(_) => bytes(alloc, b"some"),
+        None => bytes(alloc, b"none"),
+    }
+}
 
 // Two honest principals.
 #[derive(Drop)]
@@ -22,59 +60,39 @@ impl Honest for Two {
     }
 }
 
-// What a step noted that tagged a text, or found its tag right.
-fn step(
-    alloc: Global,
-    one: Name,
-    two: Name,
-    text: &[u8],
-    made: bool,
-) -> Result<Notes, OutOfMemory> {
-    let note = Note::new(Pair::new(alloc, one, two)?, text.to_vec(alloc)?);
-    let mut notes = Notes::new(alloc);
-    if made {
-        notes.note_made(note)?;
-    } else {
-        notes.note_found(note)?;
+// A call is a note of a new step, or of the last one behind `also,`.
+impl Script for Vec<Notes> {
+    fn call(&mut self, alloc: Global, out: &mut ByteOut, word: &[u8]) -> Option<()> {
+        let _ = out;
+        if let Some(note) = word.strip_prefix(b"also,") {
+            return take(alloc, self.last_mut()?, note);
+        }
+        let mut notes = Notes::new(alloc);
+        take(alloc, &mut notes, word)?;
+        self.push(notes).ok()
     }
-    Ok(notes)
+}
+
+fn told(alloc: Global, forged: &Forged<'_>) -> Result<Vec<u8>, OutOfMemory> {
+    let mut out = ByteOut::new(alloc);
+    let step = forged.step;
+    write!(out, "{step},")?;
+    put_note(&mut out, forged.note)?;
+    Ok(out.done())
 }
 
 #[test]
-fn the_first_text_that_nobody_tagged_is_told(rt: HostRuntime) -> Result<(), Fail> {
-    let alloc = rt.alloc();
-    let a = Name::new(b"a").ok_or("a name")?;
-    let b = Name::new(b"b").ok_or("a name")?;
-    let c = Name::new(b"c").ok_or("a name")?;
-    let honest = Two { one: a, two: b };
-    let mut notes = Seq::new(alloc);
-    notes.push(step(alloc, a, b, b"one", true)?)?;
-    notes.push(step(alloc, b, a, b"one", false)?)?;
-    notes.push(step(alloc, a, c, b"two", false)?)?;
-    let none = first_forged(alloc, &honest, notes.as_slice())?;
-    assert!(rt; none.is_none());
-    notes.push(step(alloc, b, a, b"two", false)?)?;
-    notes.push(step(alloc, a, b, b"two", true)?)?;
-    notes.push(step(alloc, a, b, b"three", false)?)?;
-    let forged = first_forged(alloc, &honest, notes.as_slice())?.ok_or("a forged text")?;
-    assert!(rt; forged.step == 4);
-    assert!(rt; *forged.note.one() == a && *forged.note.two() == b);
-    assert!(rt; forged.note.text() == b"two".as_slice());
-    Ok(())
+fn forged_texts_and_collisions(rt: HostRuntime) -> Result<(), &'static str> {
+    hold(rt.alloc(), &Premises, LINES)
 }
 
-#[test]
-fn a_text_that_repeats_collides_with_none(rt: HostRuntime) -> Result<(), Fail> {
-    let alloc = rt.alloc();
-    let mut texts = Seq::new(alloc);
-    texts.push(Hashed::new(b"one".to_vec(alloc)?))?;
-    texts.push(Hashed::new(b"two".to_vec(alloc)?))?;
-    let mut hashed = Notes::new(alloc);
-    hashed.note_hashed(Hashed::new(b"one".to_vec(alloc)?))?;
-    hashed.note_hashed(Hashed::new(b"three".to_vec(alloc)?))?;
-    let mut notes = Seq::new(alloc);
-    notes.push(hashed)?;
-    let none = first_collision(alloc, texts.as_slice(), notes.as_slice())?;
-    assert!(rt; none.is_none());
-    Ok(())
-}
+const LINES: &str = "
+# The first text that nobody tagged, of two honest principals: its step and its note.
+
+forged 'a 'b 'made,a,b,one 'found,b,a,one 'found,a,c,two 'none
+forged 'a 'b 'made,a,b,one 'found,b,a,one 'found,a,c,two 'found,b,a,two 'made,a,b,two 'found,a,b,three '4,a,b,two;
+
+# A text that repeats collides with none.
+
+collision 'one 'two 'hashed,one 'also,hashed,three 'none
+";

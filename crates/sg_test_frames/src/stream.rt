@@ -1,222 +1,271 @@
-ghost use Rattle.std.specs.Prelude.{◌≡◌, ◌<◌, ◌≤◌, length, IfOk};
-ghost use Rattle.sg_model.specs.Limits.{most_frame_bytes};
+//! Frames over streams of bytes, and connections in memory.
+ghost use Rattle.std.specs.Prelude.{◌≡◌, ◌==◌};
+ghost use Rattle.std.specs.List.{list_any};
 
-use sg_base::{Addr, Failed, Link, LinkFault, Name, OutOfMemory, Sealed, Seq};
-use sg_stream::{Conns, MemConns, StreamFault, StreamLink, StreamReader};
-use std::alloc::Global;
+use crate::script::{Script, played};
+use sg_base::{Addr, ByteOut, Failed, Link, LinkFault, MemSink, OutOfMemory, Sealed, Seq};
+use sg_stream::{Conns, MemConns, StreamLink, StreamReader};
+use sg_table::{Calls, byte, bytes, fixed, hold, name, number};
+use std::alloc::{AllocError, Global};
+use std::fmt;
 
-// Two messages, of `abc` and of `z`.
-const TWO: &[u8] = b"\x00\x00\x00\x03abc\x00\x00\x00\x01z";
+struct Streams;
 
-// 60,001 as a length.
-const TOO_LONG: &[u8] = b"\x00\x00\xea\x61";
-
-#[test]
-fn frames_come_out_of_pieces_of_one_byte(rt: HostRuntime) -> Result<(), StreamFault> {
-    let alloc = rt.alloc();
-    let mut reader = StreamReader::new(alloc);
-    let mut count = 0u32;
-    for byte in TWO {
-        assert!(rt; matches!(reader.next(alloc)?, None));
-        reader.feed(&[*byte])?;
-        count = count.wrapping_add(1);
-        if count == 7 {
-            assert!(rt;
-                matches!(reader.next(alloc)?, Some(frame) if frame.as_slice() == b"abc".as_slice())
-            );
+impl Calls for Streams {
+    fn answer(&self, alloc: Global, call: &str, args: &[Vec<u8>]) -> Option<Vec<u8>> {
+        if call == "reader" {
+            return played(alloc, &mut StreamReader::new(alloc), args);
+        }
+        let [count, room, fails, calls @ ..] = args else {
+            return None;
+        };
+        let mut conns = conns(alloc, count, room, fails, calls)?;
+        if call == "conns" {
+            played(alloc, &mut conns, calls)
+        } else {
+            played(alloc, &mut StreamLink::new(alloc, conns).ok()?, calls)
         }
     }
-    assert!(rt; matches!(reader.next(alloc)?, Some(frame) if frame.as_slice() == b"z".as_slice()));
-    assert!(rt; matches!(reader.next(alloc)?, None));
-    Ok(())
 }
 
-#[test]
-fn one_piece_may_have_many_frames(rt: HostRuntime) -> Result<(), StreamFault> {
-    let alloc = rt.alloc();
-    let mut reader = StreamReader::new(alloc);
-    reader.feed(TWO)?;
-    reader.feed(TWO)?;
-    for frame in [b"abc".as_slice(), b"z", b"abc", b"z"] {
-        assert!(rt; matches!(reader.next(alloc)?, Some(found) if found.as_slice() == frame));
+// A call is a piece, or nothing for a call of `next`.
+impl Script for StreamReader {
+    fn call(&mut self, alloc: Global, out: &mut ByteOut, word: &[u8]) -> Option<()> {
+        if word.is_empty() {
+            put_next(alloc, self, out).ok()
+        } else {
+            self.feed(word).ok()
+        }
     }
-    assert!(rt; matches!(reader.next(alloc)?, None));
-    Ok(())
 }
 
-#[test]
-fn a_bad_length_stays(rt: HostRuntime) -> Result<(), StreamFault> {
-    let alloc = rt.alloc();
-    let mut reader = StreamReader::new(alloc);
-    reader.feed(TOO_LONG)?;
-    assert!(rt;
-        matches!(
-            reader.next(alloc),
-            Err(StreamFault::BadLength { len: 60_001 })
-        )
-    );
-    reader.feed(TWO)?;
-    assert!(rt;
-        matches!(
-            reader.next(alloc),
-            Err(StreamFault::BadLength { len: 60_001 })
-        )
-    );
-    let mut empty = StreamReader::new(alloc);
-    empty.feed(&[0; 4])?;
-    assert!(rt; matches!(empty.next(alloc), Err(StreamFault::BadLength { len: 0 })));
-    Ok(())
+fn put_next(
+    alloc: Global,
+    reader: &mut StreamReader,
+    out: &mut ByteOut,
+) -> Result<(), OutOfMemory> {
+    match reader.next(alloc) {
+        Ok(Some(frame)) => out.bytes(&frame)?,
+        Ok(None) => out.bytes(b"none")?,
+        Err(fault) => write!(out, "{fault}")?,
+    }
+    out.u8(b',')
 }
 
-// A piece of a connection.
-fn piece(alloc: Global, conn: u8, bytes: &[u8]) -> Result<(u8, Seq<u8>), OutOfMemory>
-    ensures { IfOk result (λ p. p.0 ≡ conn) }
+// Connections with room for so many of them for writing, and for so many bytes in each, of which a call fails. The pieces to come are those of a
+// script.
+fn conns(
+    alloc: Global,
+    count: &[u8],
+    room: &[u8],
+    fails: &[u8],
+    script: &[Vec<u8>],
+) -> Option<MemConns> {
+    let mut pieces = Vec::new(alloc);
+    let _ = played(alloc, &mut pieces, script)?;
+    if has_writer(&pieces) {
+        return None;
+    }
+    let fails = vec![in alloc; number(fails)?].ok()?;
+    MemConns::new(alloc, pieces, number(count)?, number(room)?, fails).ok()
+}
+
+// A call is a piece behind the number of its connection. Others are passed over.
+impl Script for Vec<(u8, Seq<u8>)> {
+    fn call(&mut self, alloc: Global, out: &mut ByteOut, word: &[u8]) -> Option<()> {
+        let _ = out;
+        if let Some(piece) = word.strip_prefix(b"piece") {
+            let (conn, piece) = piece.split_first()?;
+            self.push((*conn, Seq::from_vec(bytes(alloc, piece)?)))
+                .ok()?;
+        }
+        Some(())
+    }
+}
+
+// A piece is of the connection for writing.
+fn has_writer(pieces: &[(u8, Seq<u8>)]) -> bool
+    ensures { result ≡ list_any (λ p. p.0 == 255) pieces.now }
 {
-    let mut copy = Vec::new(alloc);
-    copy.extend_from_slice(bytes)?;
-    Ok((conn, Seq::from_vec(copy)))
+    pieces.iter().any(|piece| piece.0 == 255)
 }
 
-// The port of an address on the loopback.
-fn at(port: u16) -> Addr {
-    Addr {
+// A call is one on connections, with what stands behind its name. In the end it is told what each connection for writing was given that was
+// closed: its port, and the bytes.
+impl Script for MemConns {
+    fn call(&mut self, alloc: Global, out: &mut ByteOut, word: &[u8]) -> Option<()> {
+        call_conns(alloc, self, out, word)
+    }
+
+    fn end(&self, out: &mut ByteOut) -> Result<(), OutOfMemory> {
+        put_closed(out, self.closed())
+    }
+}
+
+fn call_conns<C: Conns>(
+    alloc: Global,
+    conns: &mut C,
+    out: &mut ByteOut,
+    word: &[u8],
+) -> Option<()> {
+    if let Some(port) = word.strip_prefix(b"open") {
+        put(out, conns.open(at(port)?).map(|()| "open"))
+    } else if let Some(port) = word.strip_prefix(b"connect") {
+        put(out, conns.connect(at(port)?))
+    } else if let Some(given) = word.strip_prefix(b"give") {
+        put(out, give(conns, given)?)
+    } else if let Some(conn) = word.strip_prefix(b"close") {
+        conns.close(byte(conn)?);
+        Some(())
+    } else if word == b"take".as_slice() {
+        put_taken(out, conns.take(alloc)).ok()
+    } else {
+        word.strip_prefix(b"piece").map(|_| ())
+    }
+}
+
+// Puts what a call answers.
+fn put<T: fmt::Display + Drop>(out: &mut ByteOut, answer: Result<T, Failed>) -> Option<()> {
+    match answer {
+        Ok(value) => write!(out, "{value},").ok(),
+        Err(fault) => write!(out, "{fault},").ok(),
+    }
+}
+
+fn put_taken(
+    out: &mut ByteOut,
+    taken: Result<Option<(u8, Vec<u8>)>, LinkFault>,
+) -> Result<(), OutOfMemory> {
+    match taken {
+        Ok(Some((conn, piece))) => {
+            out.u8(conn)?;
+            out.bytes(&piece)?;
+            out.u8(b',')
+        }
+        Ok(None) => out.bytes(b"none,"),
+        Err(fault) => write!(out, "{fault},"),
+    }
+}
+
+// Gives bytes to a connection, whose number is before them.
+fn give<C: Conns>(conns: &mut C, given: &[u8]) -> Option<Result<usize, Failed>> {
+    let (conn, piece) = given.split_first()?;
+    if piece.is_empty() {
+        return None;
+    }
+    Some(conns.give(*conn, piece))
+}
+
+// An address on the loopback with this port.
+fn at(port: &[u8]) -> Option<Addr> {
+    Some(Addr {
         ip: [127, 0, 0, 1],
-        port,
+        port: u16::from_be_bytes(fixed(port)?),
+    })
+}
+
+fn put_closed(out: &mut ByteOut, closed: &[(Addr, MemSink)]) -> Result<(), OutOfMemory> {
+    for (to, sink) in closed {
+        out.u16(to.port)?;
+        out.bytes(sink.bytes())?;
+        out.u8(b';')?;
+    }
+    Ok(())
+}
+
+// The same of a link over connections.
+impl Script for StreamLink<MemConns> {
+    fn call(&mut self, alloc: Global, out: &mut ByteOut, word: &[u8]) -> Option<()> {
+        call_link(alloc, self, out, word)
+    }
+
+    fn end(&self, out: &mut ByteOut) -> Result<(), OutOfMemory> {
+        put_closed(out, self.conns().closed())
     }
 }
 
-// Takes a piece, and tells whether it is this one.
-fn takes<C: Conns>(alloc: Global, conns: &mut C, conn: u8, bytes: &[u8]) -> bool {
-    matches!(conns.take(alloc), Ok(Some((from, piece))) if from == conn && piece.as_slice() == bytes)
-}
-
-#[test]
-fn a_closed_connection_gives_no_piece(rt: HostRuntime) -> Result<(), OutOfMemory> {
-    let alloc = rt.alloc();
-    let pieces = vec![in alloc;
-        piece(alloc, 1, b"a")?,
-        piece(alloc, 2, b"b")?,
-        piece(alloc, 1, b"c")?,
-        piece(alloc, 1, b"")?,
-        piece(alloc, 1, b"d")?,
-    ]?;
-    let mut conns = MemConns::new(alloc, pieces, 0, 0, vec![in alloc; 3]?)?;
-    assert!(rt; conns.open(at(4)) == Ok(()));
-    assert!(rt; takes(alloc, &mut conns, 1, b"a"));
-    assert!(rt; matches!(conns.take(alloc), Err(LinkFault::Failed)));
-    conns.close(1);
-    assert!(rt; takes(alloc, &mut conns, 2, b"b"));
-    assert!(rt; takes(alloc, &mut conns, 1, b"d"));
-    assert!(rt; matches!(conns.take(alloc), Ok(None)));
-    Ok(())
-}
-
-#[test]
-fn connections_for_writing_have_room(rt: HostRuntime) -> Result<(), OutOfMemory> {
-    let alloc = rt.alloc();
-    let mut conns = MemConns::new(alloc, Vec::new(alloc), 2, 3, Vec::new(alloc))?;
-    assert!(rt; conns.give(255, b"a") == Err(Failed));
-    assert!(rt; conns.connect(at(4)) == Ok(255));
-    assert!(rt; conns.connect(at(4)) == Err(Failed));
-    assert!(rt; conns.give(255, b"ab") == Ok(2));
-    assert!(rt; conns.give(255, b"cd") == Ok(1));
-    assert!(rt; conns.give(255, b"d") == Err(Failed));
-    conns.close(255);
-    assert!(rt; conns.connect(at(5)) == Ok(255));
-    conns.close(255);
-    assert!(rt; conns.connect(at(6)) == Err(Failed));
-    assert!(rt;
-        matches!(conns.closed(), [(to, sink), (other, none)]
-            if *to == at(4) && sink.bytes() == b"abc".as_slice() && *other == at(5) && none.bytes().is_empty())
-    );
-    Ok(())
-}
-
-// A link over connections.
-fn link_over<C: Conns + Drop>(alloc: Global, conns: C) -> Result<StreamLink<C>, OutOfMemory> {
-    match StreamLink::new(alloc, conns) {
-        Ok(link) => Ok(link),
-        Err((_, fault)) => Err(fault),
+fn call_link<L: Link>(alloc: Global, link: &mut L, out: &mut ByteOut, word: &[u8]) -> Option<()> {
+    if let Some(sent) = word.strip_prefix(b"send") {
+        let (port, frame) = sent.split_first_chunk::<2>()?;
+        send(link, out, at(port)?, bytes(alloc, frame)?)
+    } else if word == b"recv".as_slice() {
+        put_frame(out, link.recv(alloc)).ok()
+    } else {
+        word.strip_prefix(b"piece").map(|_| ())
     }
 }
 
-// Whether this frame is the next delivery.
-fn delivers<L: Link>(alloc: Global, link: &mut L, bytes: &[u8]) -> bool {
-    matches!(link.recv(alloc), Ok(Some(frame)) if frame.as_slice() == bytes)
+fn put_frame(
+    out: &mut ByteOut,
+    received: Result<Option<Vec<u8>>, LinkFault>,
+) -> Result<(), OutOfMemory> {
+    match received {
+        Ok(Some(frame)) => {
+            out.bytes(&frame)?;
+            out.u8(b',')
+        }
+        Ok(None) => out.bytes(b"none,"),
+        Err(fault) => write!(out, "{fault},"),
+    }
 }
 
-#[test]
-fn frames_come_in_the_order_in_which_they_are_whole(rt: HostRuntime) -> Result<(), OutOfMemory> {
-    let alloc = rt.alloc();
-    let pieces = vec![in alloc;
-        piece(alloc, 1, b"\x00\x00\x00\x03a")?,
-        piece(
-            alloc,
-            2,
-            b"\x00\x00\x00\x01z\x00\x00\x00\x01y\x00\x00\x00\x02x"
-        )?,
-        piece(alloc, 1, b"bc\x00\x00\xea\x61")?,
-        piece(alloc, 2, b"")?,
-        piece(alloc, 1, b"\x00\x00\x00\x01v")?,
-        piece(alloc, 1, b"")?,
-        piece(alloc, 2, b"\x00\x00\x00\x01w")?,
-        piece(alloc, 1, b"\x00\x00\x00\x01u")?,
-    ]?;
-    let conns = MemConns::new(alloc, pieces, 0, 0, vec![in alloc; 3]?)?;
-    let mut link = link_over(alloc, conns)?;
-    assert!(rt; delivers(alloc, &mut link, b"z"));
-    assert!(rt; delivers(alloc, &mut link, b"y"));
-    assert!(rt; matches!(link.recv(alloc), Err(LinkFault::Failed)));
-    assert!(rt; delivers(alloc, &mut link, b"abc"));
-    assert!(rt; delivers(alloc, &mut link, b"w"));
-    assert!(rt; delivers(alloc, &mut link, b"u"));
-    assert!(rt; matches!(link.recv(alloc), Ok(None)));
-    Ok(())
-}
-
-// Sends a frame, and tells whether it went out. A frame that comes back must be this one.
-fn sends<L: Link>(link: &mut L, to: Addr, bytes: Vec<u8>, copy: &[u8]) -> Option<bool>
-    requires some { 0 < length bytes.items }
-    requires fits { length bytes.items ≤ most_frame_bytes }
-{
-    let name = Name::new(b"b")?;
-    match link.send(to, Sealed::seal(name, bytes)) {
-        Ok(()) => Some(true),
+// Sends a frame, and puts it where it comes back.
+fn send<L: Link>(link: &mut L, out: &mut ByteOut, to: Addr, frame: Vec<u8>) -> Option<()> {
+    let name = name(b"b")?;
+    if frame.is_empty() || frame.len() > 60_000 {
+        return None;
+    }
+    match link.send(to, Sealed::seal(name, frame)) {
+        Ok(()) => out.bytes(b"sent,").ok(),
         Err((frame, _)) => {
             let (_, back) = frame.release();
-            if back.as_slice() == copy {
-                Some(false)
-            } else {
-                None
-            }
+            out.bytes(&back).ok()?;
+            out.bytes(b" comes back,").ok()
         }
     }
 }
 
 #[test]
-fn each_frame_goes_out_over_a_connection_of_its_own(rt: HostRuntime) -> Result<(), OutOfMemory> {
-    let alloc = rt.alloc();
-    let conns = MemConns::new(alloc, Vec::new(alloc), 3, 7, vec![in alloc; 6]?)?;
-    let mut link = link_over(alloc, conns)?;
-    assert!(rt; sends(&mut link, at(4), vec![in alloc; 97u8, 98, 99]?, b"abc") == Some(true));
-    assert!(rt; sends(&mut link, at(5), vec![in alloc; 120u8]?, b"x") == Some(false));
-    assert!(rt;
-        sends(
-            &mut link,
-            at(6),
-            vec![in alloc; 97u8, 98, 99, 100]?,
-            b"abcd"
-        ) == Some(false)
-    );
-    assert!(rt; sends(&mut link, at(7), vec![in alloc; 121u8]?, b"y") == Some(false));
-    assert!(rt;
-        matches!(link.conns().closed(), [(one, whole), (two, cut), (three, part)]
-            if *one == at(4) && whole.bytes() == b"\x00\x00\x00\x03abc".as_slice()
-            && *two == at(5) && cut.bytes() == b"\x00\x00\x00\x01".as_slice()
-            && *three == at(6) && part.bytes() == b"\x00\x00\x00\x04abc".as_slice())
-    );
-    Ok(())
+fn streams_and_connections(rt: HostRuntime) -> Result<(), &'static str> {
+    hold(rt.alloc(), &Streams, LINES)
 }
+
+const LINES: &str = "
+let ABC 00000003+'abc
+let Z 00000001+'z
+let LONG 0000ea61
+
+# What a reader gives that takes these pieces, by a call of `next` wherever nothing stands. Pieces of one byte; many frames in a piece; and lengths of
+# 60,001 and 0, which stay.
+
+reader ' 00 ' 00 ' 00 ' 03 ' 'a ' 'b ' 'c ' ' 00 ' 00 ' 00 ' 01 ' 'z ' ' 'none,none,none,none,none,none,none,abc,none,none,none,none,none,z,none,
+reader $ABC+$Z $ABC+$Z ' ' ' ' ' 'abc,z,abc,z,none,
+reader $LONG ' $ABC+$Z ' 'a_length_of_60001,a_length_of_60001,
+reader 00000000 ' 'a_length_of_0,
+
+# What comes of calls on connections in memory: these have room for so many connections for writing, with so many bytes each, and a call fails, whose
+# number comes next; then come the pieces, each behind its connection, and the calls. In the end it is told which connections for writing were closed,
+# by their ports, and what they were given.
+
+# A closed connection gives no piece.
+
+conns '0 '0 '3 'piece+01+'a 'piece+02+'b 'piece+01+'c 'piece+01 'piece+01+'d \
+  'open+0004 'take 'take 'close+01 'take 'take 'take \
+  'open,+01+'a,the_link_failed,+02+'b,+01+'d,none,
+
+# Connections for writing have room.
+
+conns '2 '3 '0 'give+ff+'a 'connect+0004 'connect+0004 'give+ff+'ab 'give+ff+'cd 'give+ff+'d 'close+ff 'connect+0005 'close+ff 'connect+0006 \
+  'the_call_failed,255,the_call_failed,2,1,the_call_failed,255,the_call_failed,+0004+'abc;+0005+';
+
+# The same of calls on a link over connections. Frames come in the order in which they are whole; each goes out over a connection of its own.
+
+link '0 '0 '3 'piece+01+00000003+'a 'piece+02+$Z+00000001+'y+00000002+'x 'piece+01+'bc+$LONG 'piece+02 'piece+01+00000001+'v 'piece+01 \
+  'piece+02+00000001+'w 'piece+01+00000001+'u 'recv 'recv 'recv 'recv 'recv 'recv 'recv \
+  'z,y,the_link_failed,abc,w,u,none,
+link '3 '7 '6 'send+0004+'abc 'send+0005+'x 'send+0006+'abcd 'send+0007+'y \
+  'sent,x_comes_back,abcd_comes_back,y_comes_back,+0004+$ABC+';+0005+00000001+';+0006+00000004+'abc;
+";
 
 // Connections that end without end.
 #[derive(Drop)]
@@ -260,7 +309,9 @@ impl Conns for Endless {
 #[test]
 fn a_million_pieces_without_a_message_are_a_fault(rt: HostRuntime) -> Result<(), OutOfMemory> {
     let alloc = rt.alloc();
-    let mut link = link_over(alloc, Endless { bound: None })?;
+    let Ok(mut link) = StreamLink::new(alloc, Endless { bound: None }) else {
+        return Err(AllocError);
+    };
     assert!(rt; matches!(link.recv(alloc), Err(LinkFault::Failed)));
     Ok(())
 }

@@ -1,50 +1,92 @@
-use sg_base::Name;
+//! Notes of texts.
+use crate::script::Script;
+use sg_base::{ByteOut, Name, OutOfMemory};
 use sg_crypt::{Counts, Hashed, Note, Notes, Pair};
-use std::test::Fail;
+use sg_table::parts;
+use std::alloc::Global;
 
-#[test]
-fn notes_come_and_go(rt: HostRuntime) -> Result<(), Fail> {
-    let alloc = rt.alloc();
-    let (long, short) = (
-        Name::new(b"ab").ok_or("a name")?,
-        Name::new(b"a").ok_or("a name")?,
-    );
-    let mut notes = Notes::new(alloc);
-    notes.note_made(Note::new(Pair::new(alloc, long, short)?, b"one".to_vec(alloc)?))?;
-    let counts = notes.counts();
-    notes.note_found(Note::new(Pair::new(alloc, short, long)?, b"two".to_vec(alloc)?))?;
-    notes.note_hashed(Hashed::new(b"three".to_vec(alloc)?))?;
-    assert!(rt;
-        notes.made().iter().all(|note| *note.one() == short
-            && *note.two() == long
-            && note.text() == b"one".as_slice())
-    );
-    assert!(rt;
-        notes.found().iter().all(|note| *note.one() == short && note.text() == b"two".as_slice())
-    );
-    assert!(rt;
-        notes
-            .hashed()
-            .iter()
-            .all(|text| text.as_slice() == b"three".as_slice())
-    );
-    notes.keep(counts);
-    assert_eq!(rt;
-        notes.counts(),
-        Counts {
-            made: 1,
-            found: 0,
-            hashed: 0
+/// Notes, and the counts that were marked.
+#[derive(Drop)]
+pub struct Noted {
+    notes: Notes,
+    marked: Counts,
+}
+
+impl Noted {
+    /// No notes.
+    pub fn new(alloc: Global) -> Noted {
+        let notes = Notes::new(alloc);
+        let marked = notes.counts();
+        Noted { notes, marked }
+    }
+}
+
+impl Script for Noted {
+    fn call(&mut self, alloc: Global, out: &mut ByteOut, word: &[u8]) -> Option<()> {
+        match word {
+            b"count" => return put_counts(out, self.notes.counts()).ok(),
+            b"mark" => self.marked = self.notes.counts(),
+            b"keep" => self.notes.keep(self.marked),
+            b"clear" => self.notes.clear(),
+            note => return take(alloc, &mut self.notes, note),
         }
-    );
-    notes.clear();
-    assert_eq!(rt;
-        notes.counts(),
-        Counts {
-            made: 0,
-            found: 0,
-            hashed: 0
+        Some(())
+    }
+
+    fn end(&self, out: &mut ByteOut) -> Result<(), OutOfMemory> {
+        put_notes(out, "made", self.notes.made())?;
+        put_notes(out, "found", self.notes.found())?;
+        for text in self.notes.hashed() {
+            out.bytes(b"hashed,")?;
+            out.bytes(text.as_slice())?;
+            out.u8(b';')?;
         }
-    );
+        Ok(())
+    }
+}
+
+/// Takes a note: `made` or `found`, two principals and a text, or `hashed` and a text.
+pub fn take(alloc: Global, notes: &mut Notes, word: &[u8]) -> Option<()> {
+    match parts(alloc, word)?.as_slice() {
+        ["made", one, two, text] => notes.note_made(note(alloc, one, two, text)?).ok(),
+        ["found", one, two, text] => notes.note_found(note(alloc, one, two, text)?).ok(),
+        ["hashed", text] => notes.note_hashed(hashed(alloc, text.as_bytes())?).ok(),
+        _ => None,
+    }
+}
+
+fn note(alloc: Global, one: &str, two: &str, text: &str) -> Option<Note> {
+    let (one, two) = (Name::new(one.as_bytes())?, Name::new(two.as_bytes())?);
+    let text = text.as_bytes().to_vec(alloc).ok()?;
+    Some(Note::new(Pair::new(alloc, one, two).ok()?, text))
+}
+
+/// A text that is hashed.
+pub fn hashed(alloc: Global, text: &[u8]) -> Option<Hashed> {
+    Some(Hashed::new(text.to_vec(alloc).ok()?))
+}
+
+fn put_counts(out: &mut ByteOut, counts: Counts) -> Result<(), OutOfMemory> {
+    let Counts {
+        made,
+        found,
+        hashed,
+    } = counts;
+    write!(out, "{made},{found},{hashed};")
+}
+
+fn put_notes(out: &mut ByteOut, kind: &str, notes: &[Note]) -> Result<(), OutOfMemory> {
+    for note in notes {
+        write!(out, "{kind},")?;
+        put_note(out, note)?;
+    }
     Ok(())
+}
+
+/// Puts a note: its principals and its text.
+pub fn put_note(out: &mut ByteOut, note: &Note) -> Result<(), OutOfMemory> {
+    let (one, two) = (note.one(), note.two());
+    write!(out, "{one},{two},")?;
+    out.bytes(note.text())?;
+    out.u8(b';')
 }

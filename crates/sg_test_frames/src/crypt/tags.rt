@@ -1,88 +1,44 @@
+//! Hashes and tags.
+ghost use Rattle.std.specs.Prelude.{◌≡◌, ◌⊎◌};
+
+use crate::crypt::texts::version;
 use sg_base::Tag;
 use sg_crypt::{Key, cut, cut_matches, tag, tag_matches};
+use sg_table::{bytes, fixed, yes};
 use sha2::{Digest, Sha256};
+use std::alloc::Global;
 
-// The test cases 1, 2 and 6 of RFC 4231.
-#[test]
-fn tags_of_rfc_4231(rt: HostRuntime) {
-    let one = [
-        0xb0, 0x34, 0x4c, 0x61, 0xd8, 0xdb, 0x38, 0x53, 0x5c, 0xa8, 0xaf, 0xce, 0xaf, 0x0b, 0xf1,
-        0x2b, 0x88, 0x1d, 0xc2, 0x00, 0xc9, 0x83, 0x3d, 0xa7, 0x26, 0xe9, 0x37, 0x6c, 0x2e, 0x32,
-        0xcf, 0xf7,
-    ];
-    let two = [
-        0x5b, 0xdc, 0xc1, 0x46, 0xbf, 0x60, 0x75, 0x4e, 0x6a, 0x04, 0x24, 0x26, 0x08, 0x95, 0x75,
-        0xc7, 0x5a, 0x00, 0x3f, 0x08, 0x9d, 0x27, 0x39, 0x83, 0x9d, 0xec, 0x58, 0xb9, 0x64, 0xec,
-        0x38, 0x43,
-    ];
-    let six = [
-        0x60, 0xe4, 0x31, 0x59, 0x1e, 0xe0, 0xb6, 0x7f, 0x0d, 0x8a, 0x26, 0xaa, 0xcb, 0xf5, 0xb7,
-        0x7f, 0x8e, 0x0b, 0xc6, 0x21, 0x37, 0x28, 0xc5, 0x14, 0x05, 0x46, 0x04, 0x0f, 0x0e, 0xe3,
-        0x7f, 0x54,
-    ];
-    let long = b"Test Using Larger Than Block-Size Key - Hash Key First";
-    assert_eq!(rt; tag(&[0x0b; 20], b"Hi", b" There"), Tag(one));
-    assert_eq!(rt;
-        tag(b"Jefe", b"what do ya want ", b"for nothing?"),
-        Tag(two)
-    );
-    assert_eq!(rt; tag(&[0xaa; 131], b"", long), Tag(six));
-    assert!(rt; tag_matches(b"Jefe", b"what do ya want ", b"for nothing?", &Tag(two)));
-    assert!(rt; !tag_matches(b"Jefe", b"what do ya want ", b"for nothing?", &Tag(one)));
+pub fn answer(alloc: Global, call: &str, args: &[Vec<u8>]) -> Option<Vec<u8>> {
+    match args {
+        [key] if call == "key_bytes" => bytes(alloc, Key::new(fixed(key)?).bytes()),
+        [text] => bytes(alloc, &Sha256::digest(text.as_slice())),
+        [key, head, rest] => of_text(alloc, call, key, head, rest),
+        [key, head, rest, tag] if call == "tag_matches" => {
+            yes(alloc, tag_matches(key, head, rest, &Tag(fixed(tag)?)))
+        }
+        [first, key, head, rest] => { bytes(alloc, &cut(version(first)?, tag(key, head, rest)).0) }
+        [first, key, head, rest, tag] => {
+            let tag = Tag(fixed(tag)?);
+            yes(alloc, is_tag(call, version(first)?, key, head, rest, &tag)?)
+        }
+        _ => None,
+    }
 }
 
-// The same, cut to sixteen bytes.
-#[test]
-fn tags_that_are_cut(rt: HostRuntime) {
-    let one = [
-        0xb0, 0x34, 0x4c, 0x61, 0xd8, 0xdb, 0x38, 0x53, 0x5c, 0xa8, 0xaf, 0xce, 0xaf, 0x0b, 0xf1,
-        0x2b, 0x00, 0x00, 0x00, 0x00, 0x00, 0x00, 0x00, 0x00, 0x00, 0x00, 0x00, 0x00, 0x00, 0x00,
-        0x00, 0x00,
-    ];
-    let two = [
-        0x5b, 0xdc, 0xc1, 0x46, 0xbf, 0x60, 0x75, 0x4e, 0x6a, 0x04, 0x24, 0x26, 0x08, 0x95, 0x75,
-        0xc7, 0x00, 0x00, 0x00, 0x00, 0x00, 0x00, 0x00, 0x00, 0x00, 0x00, 0x00, 0x00, 0x00, 0x00,
-        0x00, 0x00,
-    ];
-    let six = [
-        0x60, 0xe4, 0x31, 0x59, 0x1e, 0xe0, 0xb6, 0x7f, 0x0d, 0x8a, 0x26, 0xaa, 0xcb, 0xf5, 0xb7,
-        0x7f, 0x00, 0x00, 0x00, 0x00, 0x00, 0x00, 0x00, 0x00, 0x00, 0x00, 0x00, 0x00, 0x00, 0x00,
-        0x00, 0x00,
-    ];
-    let long = b"Test Using Larger Than Block-Size Key - Hash Key First";
-    assert!(rt; cut_matches(2, &[0x0b; 20], b"Hi", b" There", &Tag(one)));
-    assert_eq!(rt;
-        cut(2, tag(b"Jefe", b"what do ya want ", b"for nothing?")),
-        Tag(two)
-    );
-    assert!(rt; cut_matches(2, &[0xaa; 131], b"", long, &Tag(six)));
-    assert!(rt; !cut_matches(1, &[0xaa; 131], b"", long, &Tag(six)));
+fn of_text(alloc: Global, call: &str, key: &[u8], head: &[u8], rest: &[u8]) -> Option<Vec<u8>> {
+    if call == "key_tag" {
+        bytes(alloc, &Key::new(fixed(key)?).tag(head, rest).0)
+    } else {
+        bytes(alloc, &tag(key, head, rest).0)
+    }
 }
 
-#[test]
-fn the_digest_of_no_bytes(rt: HostRuntime) {
-    let digest = [
-        0xe3, 0xb0, 0xc4, 0x42, 0x98, 0xfc, 0x1c, 0x14, 0x9a, 0xfb, 0xf4, 0xc8, 0x99, 0x6f, 0xb9,
-        0x24, 0x27, 0xae, 0x41, 0xe4, 0x64, 0x9b, 0x93, 0x4c, 0xa4, 0x95, 0x99, 0x1b, 0x78, 0x52,
-        0xb8, 0x55,
-    ];
-    assert_eq!(rt; Sha256::digest(b""), digest);
-}
-
-// Test case 3 of RFC 4231 has a key of twenty bytes; zeros after it change nothing (RFC 2104 section 2).
-#[test]
-fn tags_of_a_ready_key(rt: HostRuntime) {
-    let mut bytes = [0u8; 32];
-    bytes[..20].copy_from_slice(&[0xaa; 20]);
-    let three = [
-        0x77, 0x3e, 0xa9, 0x1e, 0x36, 0x80, 0x0e, 0x46, 0x85, 0x4d, 0xb8, 0xeb, 0xd0, 0x91, 0x81,
-        0xa7, 0x29, 0x59, 0x09, 0x8b, 0x3e, 0xf8, 0xc1, 0x22, 0xd9, 0x63, 0x55, 0x14, 0xce, 0xd5,
-        0x65, 0xfe,
-    ];
-    let key = Key::new(bytes);
-    assert_eq!(rt; *key.bytes(), bytes);
-    assert_eq!(rt; key.tag(&[0xdd; 20], &[0xdd; 30]), Tag(three));
-    assert_eq!(rt; key.tag(&[0xdd; 50], b""), Tag(three));
-    assert!(rt; key.cut_matches(1, &[0xdd; 25], &[0xdd; 25], &Tag(three)));
-    assert!(rt; !key.cut_matches(2, &[0xdd; 25], &[0xdd; 25], &Tag(three)));
+fn is_tag(call: &str, version: u8, key: &[u8], head: &[u8], rest: &[u8], tag: &Tag) -> Option<bool>
+    requires { (version ≡ 1) ⊎ (version ≡ 2) }
+{
+    if call == "key_cut_matches" {
+        Some(Key::new(fixed(key)?).cut_matches(version, head, rest, tag))
+    } else {
+        Some(cut_matches(version, key, head, rest, tag))
+    }
 }
