@@ -1,0 +1,140 @@
+//! What a line gives to the program: files, and for its next run the calls that fail, room, lines, deliveries and pieces.
+use crate::table::{bytes, number};
+use sg_base::Seq;
+use sg_wait::Coming;
+use std::alloc::Global;
+
+/// The bytes of each file that there may be, by its name.
+#[derive(Drop)]
+pub struct Texts {
+    pub f: Vec<u8>,
+    pub c: Vec<u8>,
+    pub k: Vec<u8>,
+    pub s: Vec<u8>,
+    pub p: Vec<u8>,
+}
+
+impl Texts {
+    /// Empty files.
+    pub fn new(alloc: Global) -> Texts {
+        Texts {
+            f: Vec::new(alloc),
+            c: Vec::new(alloc),
+            k: Vec::new(alloc),
+            s: Vec::new(alloc),
+            p: Vec::new(alloc),
+        }
+    }
+
+    /// Gives a file its bytes.
+    pub fn put(&mut self, name: &str, text: Vec<u8>) -> Option<()> {
+        match name {
+            "f" => self.f = text,
+            "c" => self.c = text,
+            "k" => self.k = text,
+            "s" => self.s = text,
+            "p" => self.p = text,
+            _ => return None,
+        }
+        Some(())
+    }
+}
+
+/// Which call of each object fails, counted from 1, none for 0.
+#[derive(Clone, Copy)]
+pub struct Fails {
+    pub files: u32,
+    pub out: u32,
+    pub err: u32,
+    pub link: u32,
+    pub stream: u32,
+    pub port: u32,
+    pub input: u32,
+}
+
+// The links over connections fail at once, as long as nothing is said of them.
+const WHOLE: Fails = Fails {
+    files: 0,
+    out: 0,
+    err: 0,
+    link: 0,
+    stream: 1,
+    port: 1,
+    input: 0,
+};
+
+impl Fails {
+    fn put(&mut self, object: &[u8], call: u32) -> Option<()> {
+        match object {
+            b"files" => self.files = call,
+            b"out" => self.out = call,
+            b"err" => self.err = call,
+            b"link" => self.link = call,
+            b"stream" => self.stream = call,
+            b"port" => self.port = call,
+            b"input" => self.input = call,
+            _ => return None,
+        }
+        Some(())
+    }
+}
+
+/// What the next run has besides its files and its disk.
+#[derive(Drop)]
+pub struct Given {
+    pub fails: Fails,
+    /// How many bytes standard output takes.
+    pub room: u32,
+    /// What stands on standard input.
+    pub asks: Vec<u8>,
+    /// What is to come on the link.
+    pub coming: Vec<Coming>,
+    /// What is to come on the connections.
+    pub pieces: Vec<(u8, Seq<u8>)>,
+}
+
+impl Given {
+    /// Room enough, and nothing else.
+    pub fn new(alloc: Global) -> Given {
+        Given {
+            fails: WHOLE,
+            room: 10_000,
+            asks: Vec::new(alloc),
+            coming: Vec::new(alloc),
+            pieces: Vec::new(alloc),
+        }
+    }
+
+    /// Takes what a word gives.
+    pub fn put(&mut self, alloc: Global, what: &str, rest: &[u8]) -> Option<()> {
+        match what {
+            "fails" => {
+                let (object, call) = parted(rest)?;
+                self.fails.put(object, number(call)?)
+            }
+            "room" => {
+                self.room = number(rest)?;
+                Some(())
+            }
+            "asks" => self.asks.extend_from_slice(rest).ok(),
+            "comes" => {
+                let delivery = Seq::from_vec(bytes(alloc, rest)?);
+                self.coming.push(Coming::Delivery(delivery)).ok()
+            }
+            "silence" => self.coming.push(Coming::Silence).ok(),
+            "piece" => {
+                let (conn, piece) = rest.split_first()?;
+                let piece = Seq::from_vec(bytes(alloc, piece)?);
+                self.pieces.push((*conn, piece)).ok()
+            }
+            _ => None,
+        }
+    }
+}
+
+/// What stands before the first blank, and behind it.
+pub fn parted(word: &[u8]) -> Option<(&[u8], &[u8])> {
+    let at = word.iter().position(|byte| *byte == b' ');
+    let (first, rest) = word.split_at_checked(at.unwrap_or(word.len()))?;
+    Some((first, rest.strip_prefix(b" ").unwrap_or(rest)))
+}
