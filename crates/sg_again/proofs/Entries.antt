@@ -1,4 +1,4 @@
--- What follows for entries where a test of the place and one of the session agree.
+-- What follows for entries where a test of the index and one of the session agree.
 use Rattle.std.proofs.Common.{◌≡◌, ℕ, suc, Bool, true, false, not, sym, ap, ◌∙◌, refl, List, [], ◌∷◌, ◌++◌, map, filter, if◌then◌else◌, Option, Some, None, inl, inr}
 use Rattle.std.specs.Prelude.{⊤, length}
 use Rattle.std.specs.List.{AllByRecursion, find}
@@ -7,7 +7,7 @@ use Rattle.std.specs.Option.{unwrap_or}
 use Rattle.std.specs.Set.{remove_key}
 use Rattle.std.proofs.lemmas.Bool.{cases_Bool}
 use Rattle.sg_again.specs.LastFrames.{Kept, is_over}
-use Rattle.sg_again.specs.Invariant.{Entry, place_by}
+use Rattle.sg_again.specs.Invariant.{Entry, index_by}
 
 -- ---- what holds of each entry
 
@@ -26,9 +26,9 @@ pub all_append : (P : Entry → Type 0) (es : List Entry) (x : Entry) → AllByR
 all_append P [] x h p = (p, tt)
 all_append P (e ∷ es) x h p = (h.0, all_append P es x h.1 p)
 
--- the places of those whose session is live no more
-abbrev pub over_places : List Entry → List ℕ
-over_places es = keys_of (filter (λ (e : Entry). is_over e.1) es)
+-- the indices of those whose session is live no more
+abbrev pub over_indices : List Entry → List ℕ
+over_indices es = keys_of (filter (λ (e : Entry). is_over e.1) es)
 
 -- ---- a test of the session
 
@@ -50,11 +50,11 @@ module _ (s : Kept → Bool) where
   others-none [] h = refl
   others-none (e ∷ es) h = rw h.0 (ap (λ r. e ∷ r) (others-none es h.1))
 
-  pub none_placed : (es : List Entry) → place_by s es ≡ None → NonePass es
-  none_placed [] h = tt
-  none_placed (e ∷ es) h = elim (cases_Bool (s e.1)) [
+  pub none_indexed : (es : List Entry) → index_by s es ≡ None → NonePass es
+  none_indexed [] h = tt
+  none_indexed (e ∷ es) h = elim (cases_Bool (s e.1)) [
     | inl p ↦ absurd (let k = rw p at h in let n : Some e.0 ≡ None = k in cc)
-    | inr p ↦ let k = rw p at h in (p, none_placed es k)
+    | inr p ↦ let k = rw p at h in (p, none_indexed es k)
   ]
 
   -- the entries, where those that pass are written over
@@ -79,34 +79,34 @@ module _ (s : Kept → Bool) where
     | inr p ↦ rw p (ap (λ r. e.1 ∷ r) (values-others es))
   ]
 
-  -- ---- and one of the place that agrees with it
+  -- ---- and one of the index that agrees with it
 
   module _ (t : ℕ → Bool) where
     abbrev pub Agree : List Entry → Type 0
     Agree es = AllByRecursion (λ (e : Entry). t e.0 ≡ s e.1) es
 
     -- the one that passes is taken out
-    pub remove-others : (es xs : List Entry) (m : ℕ) → Agree es → Once es → place_by s es ≡ Some m → remove_entry t (es ++ xs) ≡ others es ++ xs
+    pub remove-others : (es xs : List Entry) (m : ℕ) → Agree es → Once es → index_by s es ≡ Some m → remove_entry t (es ++ xs) ≡ others es ++ xs
     remove-others [] xs m a o h = absurd (let n : None ≡ Some m = h in cc)
     remove-others (e ∷ es) xs m a o h = elim (cases_Bool (s e.1)) [
       | inl p ↦ rw (a.0, p) (ap (λ r. r ++ xs) (sym (others-none es (o.0 p))))
       | inr p ↦ let k = rw p at h in rw (a.0, p) (ap (λ r. e ∷ r) (remove-others es xs m a.1 o.1 k))
     ]
 
-    remove_key-none : (es : List Entry) → Agree es → NonePass es → remove_key t (over_places es) ≡ over_places es
+    remove_key-none : (es : List Entry) → Agree es → NonePass es → remove_key t (over_indices es) ≡ over_indices es
     remove_key-none [] a h = refl
     remove_key-none (e ∷ es) a h = elim (cases_Bool e.1.live) [
       | inl p ↦ rw p (remove_key-none es a.1 h.1)
       | inr p ↦ rw (p, a.0, h.0) (ap (λ r. e.0 ∷ r) (remove_key-none es a.1 h.1))
     ]
 
-    -- so among the places of those whose session is live no more
-    pub remove_key-others : (es : List Entry) → Agree es → Once es → remove_key t (over_places es) ≡ over_places (others es)
+    -- so among the indices of those whose session is live no more
+    pub remove_key-others : (es : List Entry) → Agree es → Once es → remove_key t (over_indices es) ≡ over_indices (others es)
     remove_key-others [] a o = refl
     remove_key-others (e ∷ es) a o = elim (cases_Bool (s e.1)) [
       | inl p ↦ elim (cases_Bool e.1.live) [
-        | inl q ↦ rw (p, q) (remove_key-none es a.1 (o.0 p) ∙ ap over_places (sym (others-none es (o.0 p))))
-        | inr q ↦ rw (p, q, a.0, p) (ap over_places (sym (others-none es (o.0 p))))
+        | inl q ↦ rw (p, q) (remove_key-none es a.1 (o.0 p) ∙ ap over_indices (sym (others-none es (o.0 p))))
+        | inr q ↦ rw (p, q, a.0, p) (ap over_indices (sym (others-none es (o.0 p))))
       ]
       | inr p ↦ elim (cases_Bool e.1.live) [
         | inl q ↦ rw (p, q) (remove_key-others es a.1 o.1)
@@ -124,13 +124,13 @@ module _ (s : Kept → Bool) where
       | inr p ↦ let n = rw (a.0, p) at h in rw (a.0, p) (ap (λ r. e ∷ r) (set-written f k es a.1 o.1 n))
     ]
 
-    -- what is found at its place is found by its session
+    -- what is found at its index is found by its session
     pub lookup-found : (es : List Entry) → Agree es → lookup t es ≡ find s (values_of es)
     lookup-found [] a = refl
     lookup-found (e ∷ es) a = rw (a.0, lookup-found es a.1) refl
 
--- as many places as frames
-pub length-over : (es : List Entry) → length (over_places es) ≡ length (filter is_over (values_of es))
+-- as many indices as frames
+pub length-over : (es : List Entry) → length (over_indices es) ≡ length (filter is_over (values_of es))
 length-over [] = refl
 length-over (e ∷ es) = elim (cases_Bool e.1.live) [
   | inl p ↦ rw p (length-over es)

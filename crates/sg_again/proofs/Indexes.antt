@@ -14,11 +14,11 @@ use Rattle.std.proofs.lemmas.Slice.Eq.{slice_eq-Decides, bytes_eq-Decides}
 use Rattle.std.proofs.lemmas.Bool.Decides.{Decides-eqb, nat_tests, same_from_decides}
 use Rattle.sg_base.specs.contracts.number.SidPartialEq.TheImpl.{eq-value}
 use Rattle.sg_again.specs.LastFrames.{Kept, SentFrame, most_over, is_of, is_over, over, without_first_over, within_limit, sent, ended, frame_of}
-use Rattle.sg_again.specs.Invariant.{Entry, place_by, Apart, Below, Indexed}
-use Rattle.sg_again.proofs.Entries.{all_more, all_filter, all_append, over_places, NonePass, others, others-none, none_placed, written, written-none, values-written, values-others, remove-others, remove_key-others, set-written, lookup-found, length-over}
-use Rattle.sg_again.proofs.Places.{at, at_same, once, agree, apart-others, apart-append, apart-written, below-written, placed-written, placed-sent, placed-others, insert-written, first_leaves, placed_found}
+use Rattle.sg_again.specs.Invariant.{Entry, index_by, Apart, Below, Indexed}
+use Rattle.sg_again.proofs.Entries.{all_more, all_filter, all_append, over_indices, NonePass, others, others-none, none_indexed, written, written-none, values-written, values-others, remove-others, remove_key-others, set-written, lookup-found, length-over}
+use Rattle.sg_again.proofs.Indices.{at, at_same, once, agree, apart-others, apart-append, apart-written, below-written, indexed-written, indexed-sent, indexed-others, insert-written, first_leaves, indexed_found}
 
--- ---- the table of places
+-- ---- the table of indices
 
 -- the `==` of sids
 abbrev pub same : List ℕ → List ℕ → Bool
@@ -34,25 +34,25 @@ lookup-same sid (p ∷ ps) = rw (same-bytes_eq sid p.0, lookup-same sid ps) refl
 -- ---- a frame is sent
 
 -- the frames after the new one was put behind the others, and the earlier one was taken out where there is one
-pub sent_entries : (es : List Entry) (sid : List ℕ) (n : ℕ) (k : Kept) (earlier : Option ℕ) (after : List Entry) → Apart es → place_by (is_of sid) es ≡ earlier
+pub sent_entries : (es : List Entry) (sid : List ℕ) (n : ℕ) (k : Kept) (earlier : Option ℕ) (after : List Entry) → Apart es → index_by (is_of sid) es ≡ earlier
     → (earlier ≡ None → after ≡ es ++ (n, k) ∷ [])
     → ((m : ℕ) → earlier ≡ Some m → after ≡ remove_entry (at m) (es ++ (n, k) ∷ []))
     → after ≡ others (is_of sid) es ++ (n, k) ∷ []
-sent_entries es sid n k None after h p none some = none refl ∙ ap (λ xs. xs ++ (n, k) ∷ []) (sym (others-none (is_of sid) es (none_placed (is_of sid) es p)))
+sent_entries es sid n k None after h p none some = none refl ∙ ap (λ xs. xs ++ (n, k) ∷ []) (sym (others-none (is_of sid) es (none_indexed (is_of sid) es p)))
 sent_entries es sid n k (Some m) after h p none some = some m refl ∙ remove-others (is_of sid) (at m) es ((n, k) ∷ []) m (agree sid m es h p) (once sid es h) p
 
-pub sent_over : (es : List Entry) (sid : List ℕ) (earlier : Option ℕ) (before after : List ℕ) → Apart es → place_by (is_of sid) es ≡ earlier → before ≡ over_places es
+pub sent_over : (es : List Entry) (sid : List ℕ) (earlier : Option ℕ) (before after : List ℕ) → Apart es → index_by (is_of sid) es ≡ earlier → before ≡ over_indices es
     → (earlier ≡ None → after ≡ before)
     → ((m : ℕ) → earlier ≡ Some m → after ≡ remove_key (at m) before)
-    → after ≡ over_places (others (is_of sid) es)
-sent_over es sid None before after h p o none some = none refl ∙ o ∙ ap over_places (sym (others-none (is_of sid) es (none_placed (is_of sid) es p)))
+    → after ≡ over_indices (others (is_of sid) es)
+sent_over es sid None before after h p o none some = none refl ∙ o ∙ ap over_indices (sym (others-none (is_of sid) es (none_indexed (is_of sid) es p)))
 sent_over es sid (Some m) before after h p o none some = some m refl ∙ ap (remove_key (at m)) o ∙ remove_key-others (is_of sid) (at m) es (agree sid m es h p) (once sid es h)
 
-over_places-append : (es : List Entry) (n : ℕ) (k : Kept) → k.live ≡ true → over_places (es ++ (n, k) ∷ []) ≡ over_places es
-over_places-append [] n k l = rw l refl
-over_places-append (e ∷ es) n k l = elim (cases_Bool e.1.live) [
-  | inl p ↦ rw p (over_places-append es n k l)
-  | inr p ↦ rw p (ap (λ r. e.0 ∷ r) (over_places-append es n k l))
+over_indices-append : (es : List Entry) (n : ℕ) (k : Kept) → k.live ≡ true → over_indices (es ++ (n, k) ∷ []) ≡ over_indices es
+over_indices-append [] n k l = rw l refl
+over_indices-append (e ∷ es) n k l = elim (cases_Bool e.1.live) [
+  | inl p ↦ rw p (over_indices-append es n k l)
+  | inr p ↦ rw p (ap (λ r. e.0 ∷ r) (over_indices-append es n k l))
 ]
 
 values-append : (es : List Entry) (n : ℕ) (k : Kept) → values_of (es ++ (n, k) ∷ []) ≡ values_of es ++ k ∷ []
@@ -72,15 +72,15 @@ sent_values es after sid n f e = ap values_of e ∙ values-append (others (is_of
 pub sent_indexed : (es after : List Entry) (before over' : List ℕ) (ps ps' : List (List ℕ × ℕ)) (sid : List ℕ) (n : ℕ) (f : SentFrame)
     → Indexed es before ps → Below n es
     → after ≡ others (is_of sid) es ++ (n, record { session = sid; frame = f; live = true }) ∷ []
-    → over' ≡ over_places (others (is_of sid) es)
+    → over' ≡ over_indices (others (is_of sid) es)
     → ((q : List ℕ) → lookup (bytes_eq q) ps' ≡ (if bytes_eq sid q then Some n else lookup (bytes_eq q) ps))
     → Indexed after over' ps'
 sent_indexed es after before over' ps ps' sid n f h b e o l =
     let k : Kept = record { session = sid; frame = f; live = true } in
     subst (λ (x : List Entry). Indexed x over' ps') (sym e) (record {
       apart = apart-append (others (is_of sid) es) n k (apart-others (is_of sid) es h.apart) (all_filter (λ (x : Entry). x.0 < n) (λ (x : Entry). not (is_of sid x.1)) es b) (not_others sid es k refl);
-      over_is = o ∙ sym (over_places-append (others (is_of sid) es) n k refl);
-      found = λ q. l q ∙ rw (h.found q) (sym (placed-sent sid q n k es refl));
+      over_is = o ∙ sym (over_indices-append (others (is_of sid) es) n k refl);
+      found = λ q. l q ∙ rw (h.found q) (sym (indexed-sent sid q n k es refl));
     })
 
 pub sent_below : (es after : List Entry) (sid : List ℕ) (n : ℕ) (k : Kept) → Below n es → after ≡ others (is_of sid) es ++ (n, k) ∷ [] → Below (n + 1) after
@@ -92,12 +92,12 @@ sent_below es after sid n k b e = subst (Below (n + 1)) (sym e) (all_append (λ 
 abbrev pub ended_frame : Kept → Kept
 ended_frame k = record { session = k.session; frame = k.frame; live = false }
 
-pub ended_entries : (es after : List Entry) (sid : List ℕ) (m : ℕ) (k : Kept) → Apart es → place_by (is_of sid) es ≡ Some m → lookup (at m) es ≡ Some k
+pub ended_entries : (es after : List Entry) (sid : List ℕ) (m : ℕ) (k : Kept) → Apart es → index_by (is_of sid) es ≡ Some m → lookup (at m) es ≡ Some k
     → after ≡ set_value (at m) es (ended_frame k) → after ≡ written (is_of sid) ended_frame es
 ended_entries es after sid m k h p l e = e ∙ set-written (is_of sid) (at m) ended_frame k es (agree sid m es h p) (once sid es h) l
 
 pub ended_indexed : (es after : List Entry) (before over' : List ℕ) (ps : List (List ℕ × ℕ)) (sid : List ℕ) (m : ℕ)
-    → Indexed es before ps → place_by (is_of sid) es ≡ Some m
+    → Indexed es before ps → index_by (is_of sid) es ≡ Some m
     → after ≡ written (is_of sid) ended_frame es
     → over' ≡ insert_key nat_cmp before m
     → Indexed after over' ps
@@ -105,7 +105,7 @@ ended_indexed es after before over' ps sid m h p e o =
     subst (λ (x : List Entry). Indexed x over' ps) (sym e) (record {
       apart = apart-written (is_of sid) ended_frame (λ k. refl) es h.apart;
       over_is = o ∙ ap (λ xs. insert_key nat_cmp xs m) h.over_is ∙ insert-written sid ended_frame m es (λ k. refl) h.apart p;
-      found = λ q. h.found q ∙ sym (placed-written (is_of sid) ended_frame (λ k. refl) q es);
+      found = λ q. h.found q ∙ sym (indexed-written (is_of sid) ended_frame (λ k. refl) q es);
     })
 
 pub ended_below : (es after : List Entry) (sid : List ℕ) (n : ℕ) → Below n es → after ≡ written (is_of sid) ended_frame es → Below n after
@@ -118,7 +118,7 @@ ended_values es after sid e = ap values_of e ∙ values-written (is_of sid) ende
 
 pub first_is : (es after : List Entry) (n : ℕ) (k : Kept) → Apart es → lookup (at n) es ≡ Some k → after ≡ remove_entry (at n) es → after ≡ others (is_of k.session) es
 first_is es after n k h l e =
-    let p = placed_found n k es h l in
+    let p = indexed_found n k es h l in
     e ∙ ap (remove_entry (at n)) (sym (append-nil es)) ∙ remove-others (is_of k.session) (at n) es [] n (agree k.session n es h p) (once k.session es h) p ∙ append-nil (others (is_of k.session) es)
 
 pub first_indexed : (es after : List Entry) (n : ℕ) (ns : List ℕ) (ps ps' : List (List ℕ × ℕ)) (k : Kept)
@@ -127,18 +127,18 @@ pub first_indexed : (es after : List Entry) (n : ℕ) (ns : List ℕ) (ps ps' : 
     → ((q : List ℕ) → lookup (bytes_eq q) ps' ≡ (if bytes_eq k.session q then None else lookup (bytes_eq q) ps))
     → Indexed after ns ps'
 first_indexed es after n ns ps ps' k h l e f =
-    let p = placed_found n k es h.apart l in
+    let p = indexed_found n k es h.apart l in
     let gone : remove_key (at n) (n ∷ ns) ≡ ns = rw (at_same n n refl) refl in
     subst (λ (x : List Entry). Indexed x ns ps') (sym (first_is es after n k h.apart l e)) (record {
       apart = apart-others (is_of k.session) es h.apart;
       over_is = sym gone ∙ ap (remove_key (at n)) h.over_is ∙ remove_key-others (is_of k.session) (at n) es (agree k.session n es h.apart p) (once k.session es h.apart);
-      found = λ q. f q ∙ rw (h.found q) (sym (placed-others k.session q es));
+      found = λ q. f q ∙ rw (h.found q) (sym (indexed-others k.session q es));
     })
 
 pub first_below : (es after : List Entry) (n next : ℕ) (k : Kept) → Apart es → lookup (at n) es ≡ Some k → after ≡ remove_entry (at n) es → Below next es → Below next after
 first_below es after n next k h l e b = subst (Below next) (sym (first_is es after n k h l e)) (all_filter (λ (x : Entry). x.0 < next) (λ (x : Entry). not (is_of k.session x.1)) es b)
 
-pub first_values : (es after : List Entry) (n : ℕ) (ns : List ℕ) → Apart es → n ∷ ns ≡ over_places es → after ≡ remove_entry (at n) es → values_of after ≡ without_first_over (values_of es)
+pub first_values : (es after : List Entry) (n : ℕ) (ns : List ℕ) → Apart es → n ∷ ns ≡ over_indices es → after ≡ remove_entry (at n) es → values_of after ≡ without_first_over (values_of es)
 first_values es after n ns h o e = ap values_of e ∙ first_leaves n ns es h (sym o)
 
 -- ---- the limit
@@ -176,7 +176,7 @@ ended_many es after over' ps sid h e l =
 
 -- a session of which no frame is kept
 pub ended_none : (es : List Entry) (before : List ℕ) (ps : List (List ℕ × ℕ)) (sid : List ℕ) → Indexed es before ps → length before ≤ most_over → lookup (bytes_eq sid) ps ≡ None → values_of es ≡ ended (values_of es) sid
-ended_none es before ps sid h few l = ended_few es es before ps sid h (sym (written-none (is_of sid) ended_frame es (none_placed (is_of sid) es (sym (h.found sid) ∙ l)))) few
+ended_none es before ps sid h few l = ended_few es es before ps sid h (sym (written-none (is_of sid) ended_frame es (none_indexed (is_of sid) es (sym (h.found sid) ∙ l)))) few
 
 -- what comes of an end, before the limit is kept
 pub record EndedAt (es after : List Entry) (over' : List ℕ) (ps : List (List ℕ × ℕ)) (sid : List ℕ) (next : ℕ) : Type 0 where
@@ -186,7 +186,7 @@ pub record EndedAt (es after : List Entry) (over' : List ℕ) (ps : List (List �
 
 -- ---- what is asked
 
-found_by : (s : Kept → Bool) (es : List Entry) (m : ℕ) → place_by s es ≡ Some m → (k : Kept) × (find s (values_of es) ≡ Some k)
+found_by : (s : Kept → Bool) (es : List Entry) (m : ℕ) → index_by s es ≡ Some m → (k : Kept) × (find s (values_of es) ≡ Some k)
 found_by s [] m h = absurd (let z : None ≡ Some m = h in cc)
 found_by s (e ∷ es) m h = elim (cases_Bool (s e.1)) [
   | inl p ↦ (e.1, rw p refl)
@@ -197,15 +197,15 @@ none_by : (s : Kept → Bool) (es : List Entry) → NonePass s es → find s (va
 none_by s [] h = refl
 none_by s (e ∷ es) h = rw h.0 (none_by s es h.1)
 
--- something is kept at a session's place
-pub kept_at : (es : List Entry) (before : List ℕ) (ps : List (List ℕ × ℕ)) (sid : List ℕ) (m : ℕ) → Indexed es before ps → place_by (is_of sid) es ≡ Some m → (k : Kept) × (lookup (at m) es ≡ Some k)
+-- something is kept at a session's index
+pub kept_at : (es : List Entry) (before : List ℕ) (ps : List (List ℕ × ℕ)) (sid : List ℕ) (m : ℕ) → Indexed es before ps → index_by (is_of sid) es ≡ Some m → (k : Kept) × (lookup (at m) es ≡ Some k)
 kept_at es before ps sid m h p = let found = found_by (is_of sid) es m p in (found.0, lookup-found (is_of sid) (at m) es (agree sid m es h.apart p) ∙ found.1)
 
 pub frame_found : (es : List Entry) (before : List ℕ) (ps : List (List ℕ × ℕ)) (sid : List ℕ) (m : ℕ) (o : Option Kept) → Indexed es before ps → lookup (bytes_eq sid) ps ≡ Some m → lookup (at m) es ≡ o → option_map (λ (k : Kept). k.frame) o ≡ frame_of (values_of es) sid
 frame_found es before ps sid m o h l f = ap (λ (x : Option Kept). option_map (λ (k : Kept). k.frame) x) (sym f ∙ lookup-found (is_of sid) (at m) es (agree sid m es h.apart (sym (h.found sid) ∙ l)))
 
 pub frame_missing : (es : List Entry) (before : List ℕ) (ps : List (List ℕ × ℕ)) (sid : List ℕ) → Indexed es before ps → lookup (bytes_eq sid) ps ≡ None → None ≡ frame_of (values_of es) sid
-frame_missing es before ps sid h l = ap (λ (x : Option Kept). option_map (λ (k : Kept). k.frame) x) (sym (none_by (is_of sid) es (none_placed (is_of sid) es (sym (h.found sid) ∙ l))))
+frame_missing es before ps sid h l = ap (λ (x : Option Kept). option_map (λ (k : Kept). k.frame) x) (sym (none_by (is_of sid) es (none_indexed (is_of sid) es (sym (h.found sid) ∙ l))))
 
 pub ended_at : (es after : List Entry) (before over' : List ℕ) (ps : List (List ℕ × ℕ)) (sid : List ℕ) (m next : ℕ) (found : Option ℕ)
     → Indexed es before ps → Below next es → found ≡ lookup (bytes_eq sid) ps → found ≡ Some m
@@ -213,7 +213,7 @@ pub ended_at : (es after : List Entry) (before over' : List ℕ) (ps : List (Lis
     → over' ≡ insert_key nat_cmp before m
     → EndedAt es after over' ps sid next
 ended_at es after before over' ps sid m next found h b asked is e o =
-    let p : place_by (is_of sid) es ≡ Some m = sym (h.found sid) ∙ sym asked ∙ is in
+    let p : index_by (is_of sid) es ≡ Some m = sym (h.found sid) ∙ sym asked ∙ is in
     let k = kept_at es before ps sid m h p in
     let w = ended_entries es after sid m k.0 h.apart p k.1 (e k.0 k.1) in
     record {
@@ -238,7 +238,7 @@ pub sent_at : (es after put : List Entry) (before over' : List ℕ) (ps asked ps
     → ((q : List ℕ) → lookup (bytes_eq q) ps' ≡ (if bytes_eq sid q then Some n else lookup (bytes_eq q) asked))
     → SentAt es after over' ps' sid n f
 sent_at es after put before over' ps asked ps' sid n f k earlier h b same found is last none some l =
-    let p : place_by (is_of sid) es ≡ earlier = sym (h.found sid) ∙ sym (found ∙ ap (λ (xs : List (List ℕ × ℕ)). lookup (bytes_eq sid) xs) same) in
+    let p : index_by (is_of sid) es ≡ earlier = sym (h.found sid) ∙ sym (found ∙ ap (λ (xs : List (List ℕ × ℕ)). lookup (bytes_eq sid) xs) same) in
     let new : Kept = record { session = sid; frame = f; live = true } in
     let e : after ≡ others (is_of sid) es ++ (n, new) ∷ [] =
     subst (λ (x : Kept). after ≡ others (is_of sid) es ++ (n, x) ∷ []) is (sent_entries es sid n k earlier after h.apart p (λ z. (none z).0 ∙ last) (λ m z. (some m z).0 ∙ ap (remove_entry (at m)) last)) in

@@ -1,4 +1,4 @@
 pub mod Calls
 pub mod Entries
 pub mod Indexes
-pub mod Places
+pub mod Indices

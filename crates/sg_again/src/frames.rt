@@ -26,7 +26,7 @@ const MOST_OVER: usize = 4_096;
 pub struct LastFrames {
     frames: BTreeMap<u64, Kept>,
     over: BTreeSet<u64>,
-    places: IndexMap<Sid, u64>,
+    indices: IndexMap<Sid, u64>,
     next: u64,
 }
 
@@ -40,7 +40,7 @@ impl Model for LastFrames {
 
     ghost view = { λ l. values_of l.frames.entries };
 
-    ghost invariant = { λ l. Indexed l.frames.entries l.over.keys l.places.entries × Below l.next l.frames.entries × (length l.over.keys ≤ most_over) };
+    ghost invariant = { λ l. Indexed l.frames.entries l.over.keys l.indices.entries × Below l.next l.frames.entries × (length l.over.keys ≤ most_over) };
 }
 
 impl LastFrames {
@@ -51,7 +51,7 @@ impl LastFrames {
         LastFrames {
             frames: BTreeMap::new(alloc),
             over: BTreeSet::new(alloc),
-            places: IndexMap::new(alloc),
+            indices: IndexMap::new(alloc),
             next: 0,
         }
     }
@@ -61,13 +61,13 @@ impl LastFrames {
         ensures ok { OnOk result (self.new ≡ sent self.old sid frame) }
         ensures err { OnErr result (self.new ≡ self.old) }
     {
-        let place = self.next;
-        let next = next_place(place)?;
-        self.places.reserve(1)?;
-        put_last(&mut self.frames, place, Kept::new(sid, frame))?;
-        let earlier = find_place(&self.places, &sid);
+        let index = self.next;
+        let next = next_index(index)?;
+        self.indices.reserve(1)?;
+        put_last(&mut self.frames, index, Kept::new(sid, frame))?;
+        let earlier = find_index(&self.indices, &sid);
         take_out(&mut self.frames, &mut self.over, earlier);
-        put_place(&mut self.places, sid, place);
+        put_label_and_var(&mut self.indices, sid, index);
         self.next = next;
         Ok(())
     }
@@ -78,13 +78,13 @@ impl LastFrames {
         ensures ok { OnOk result (self.new ≡ ended self.old sid.now) }
         ensures err { OnErr result (self.new ≡ self.old) }
     {
-        let Some(place) = find_place(&self.places, sid) else {
+        let Some(index) = find_index(&self.indices, sid) else {
             return Ok(());
         };
-        self.over.insert(place)?;
-        end_at(&mut self.frames, place);
+        self.over.insert(index)?;
+        end_at(&mut self.frames, index);
         if self.over.len() > MOST_OVER {
-            let_first_go(&mut self.frames, &mut self.over, &mut self.places);
+            let_first_go(&mut self.frames, &mut self.over, &mut self.indices);
         }
         Ok(())
     }
@@ -93,80 +93,80 @@ impl LastFrames {
     pub fn of(&self, sid: &Sid) -> Option<&LastFrame>
         ensures { option_copied result ≡ frame_of self.now sid.now }
     {
-        let Some(place) = find_place(&self.places, sid) else {
+        let Some(index) = find_index(&self.indices, sid) else {
             return None;
         };
-        match self.frames.get(&place) {
+        match self.frames.get(&index) {
             Some(kept) => Some(kept.frame()),
             None => None,
         }
     }
 }
 
-// The place after this one, or `OutOfMemory` where a `u64` holds no more.
-fn next_place(place: u64) -> Result<u64, OutOfMemory>
-    ensures { IfOk result (λ n. n ≡ place + 1) }
+// The index after this one, or `OutOfMemory` where a `u64` holds no more.
+fn next_index(index: u64) -> Result<u64, OutOfMemory>
+    ensures { IfOk result (λ n. n ≡ index + 1) }
 {
-    match place.checked_add(1) {
+    match index.checked_add(1) {
         Some(next) => Ok(next),
         None => Err(AllocError),
     }
 }
 
-// The place of a session's frame.
-fn find_place(places: &IndexMap<Sid, u64>, sid: &Sid) -> Option<u64>
-    ensures { result ≡ lookup (bytes_eq sid.now) places.now.entries }
+// The index of a session's frame.
+fn find_index(indices: &IndexMap<Sid, u64>, sid: &Sid) -> Option<u64>
+    ensures { result ≡ lookup (bytes_eq sid.now) indices.now.entries }
 {
-    places.get(sid).copied()
+    indices.get(sid).copied()
 }
 
-// Gives a session its place. There has to be room.
-fn put_place(places: &mut IndexMap<Sid, u64>, sid: Sid, place: u64)
-    requires { 0 < spare places.old }
-    ensures { (q : List ℕ) → lookup (bytes_eq q) places.new.entries ≡ (if bytes_eq sid q then Some place else lookup (bytes_eq q) places.old.entries) }
+// Gives a session its index. There has to be room.
+fn put_label_and_var(indices: &mut IndexMap<Sid, u64>, sid: Sid, index: u64)
+    requires { 0 < spare indices.old }
+    ensures { (q : List ℕ) → lookup (bytes_eq q) indices.new.entries ≡ (if bytes_eq sid q then Some index else lookup (bytes_eq q) indices.old.entries) }
 {
-    match places.insert(sid, place) {
+    match indices.insert(sid, index) {
         Ok(_) => {}
         Err(_) => unreachable!(),
     }
 }
 
-// A session has no place.
-fn drop_place(places: &mut IndexMap<Sid, u64>, sid: Sid)
-    ensures { (q : List ℕ) → lookup (bytes_eq q) places.new.entries ≡ (if bytes_eq sid q then None else lookup (bytes_eq q) places.old.entries) }
+// A session has no index.
+fn drop_index(indices: &mut IndexMap<Sid, u64>, sid: Sid)
+    ensures { (q : List ℕ) → lookup (bytes_eq q) indices.new.entries ≡ (if bytes_eq sid q then None else lookup (bytes_eq q) indices.old.entries) }
 {
-    places.swap_remove(&sid);
+    indices.swap_remove(&sid);
 }
 
 // Puts a frame behind the others.
-fn put_last(frames: &mut BTreeMap<u64, Kept>, place: u64, kept: Kept) -> Result<(), OutOfMemory>
-    requires { Below place frames.old.entries }
-    ensures ok { OnOk result (frames.new.entries ≡ frames.old.entries ++ (place, kept) ∷ []) }
+fn put_last(frames: &mut BTreeMap<u64, Kept>, index: u64, kept: Kept) -> Result<(), OutOfMemory>
+    requires { Below index frames.old.entries }
+    ensures ok { OnOk result (frames.new.entries ≡ frames.old.entries ++ (index, kept) ∷ []) }
     ensures err { OnErr result (frames.new.entries ≡ frames.old.entries) }
 {
-    frames.insert(place, kept)?;
+    frames.insert(index, kept)?;
     Ok(())
 }
 
-// Takes out what is kept at a place, if one is given.
-fn take_out(frames: &mut BTreeMap<u64, Kept>, over: &mut BTreeSet<u64>, place: Option<u64>)
-    ensures none { place ≡ None → (frames.new.entries ≡ frames.old.entries) × (over.new.keys ≡ over.old.keys) }
-    ensures some { (m : ℕ) → place ≡ Some m → (frames.new.entries ≡ remove_entry (is_at (nat_cmp m)) frames.old.entries) × (over.new.keys ≡ remove_key (is_at (nat_cmp m)) over.old.keys) }
+// Takes out what is kept at an index, if one is given.
+fn take_out(frames: &mut BTreeMap<u64, Kept>, over: &mut BTreeSet<u64>, index: Option<u64>)
+    ensures none { index ≡ None → (frames.new.entries ≡ frames.old.entries) × (over.new.keys ≡ over.old.keys) }
+    ensures some { (m : ℕ) → index ≡ Some m → (frames.new.entries ≡ remove_entry (is_at (nat_cmp m)) frames.old.entries) × (over.new.keys ≡ remove_key (is_at (nat_cmp m)) over.old.keys) }
     ensures fewer { length over.new.keys ≤ length over.old.keys }
 {
-    if let Some(place) = place {
-        frames.remove(&place);
-        over.remove(&place);
+    if let Some(index) = index {
+        frames.remove(&index);
+        over.remove(&index);
     }
 }
 
-// Says of what is kept at a place that its session is live no more.
-fn end_at(frames: &mut BTreeMap<u64, Kept>, place: u64)
-    requires { IsSome (lookup (is_at (nat_cmp place)) frames.old.entries) }
-    ensures { (k : KeptFrame) → lookup (is_at (nat_cmp place)) frames.old.entries ≡ Some k
-        → frames.new.entries ≡ set_value (is_at (nat_cmp place)) frames.old.entries (record { session = k.session; frame = k.frame; live = false }) }
+// Says of what is kept at an index that its session is live no more.
+fn end_at(frames: &mut BTreeMap<u64, Kept>, index: u64)
+    requires { IsSome (lookup (is_at (nat_cmp index)) frames.old.entries) }
+    ensures { (k : KeptFrame) → lookup (is_at (nat_cmp index)) frames.old.entries ≡ Some k
+        → frames.new.entries ≡ set_value (is_at (nat_cmp index)) frames.old.entries (record { session = k.session; frame = k.frame; live = false }) }
 {
-    match frames.get_mut(&place) {
+    match frames.get_mut(&index) {
         Some(kept) => kept.end(),
         None => unreachable!(),
     }
@@ -176,11 +176,11 @@ fn end_at(frames: &mut BTreeMap<u64, Kept>, place: u64)
 fn let_first_go(
     frames: &mut BTreeMap<u64, Kept>,
     over: &mut BTreeSet<u64>,
-    places: &mut IndexMap<Sid, u64>,
+    indices: &mut IndexMap<Sid, u64>,
 )
-    requires indexed { Indexed frames.old.entries over.old.keys places.old.entries }
+    requires indexed { Indexed frames.old.entries over.old.keys indices.old.entries }
     requires some { 0 < length over.old.keys }
-    ensures indexed { Indexed frames.new.entries over.new.keys places.new.entries }
+    ensures indexed { Indexed frames.new.entries over.new.keys indices.new.entries }
     ensures values { values_of frames.new.entries ≡ without_first_over (values_of frames.old.entries) }
     ensures below { (next : ℕ) → Below next frames.old.entries → Below next frames.new.entries }
     ensures fewer { length over.new.keys + 1 ≡ length over.old.keys }
@@ -191,5 +191,5 @@ fn let_first_go(
     let Some(kept) = frames.remove(&first) else {
         unreachable!()
     };
-    drop_place(places, kept.session());
+    drop_index(indices, kept.session());
 }

@@ -106,13 +106,13 @@ opened_read ls inner o rest =
 
 pub block_read : (ls : List Line) (text : List ℕ) → IsBlock ls text → (rest : List Line) → read_lines 1 (ls ++ rest) ≡ with_graph (parsed text) (1 + length ls) rest
 block_read ls text b rest =
-    let laid : ls ++ rest ≡ b.front ++ (b.closing ∷ rest) = ap (λ xs. xs ++ rest) b.all ∙ append_assoc b.front (b.closing ∷ []) rest in
+    let laid : ls ++ rest ≡ b.prefix ++ (b.closing ∷ rest) = ap (λ xs. xs ++ rest) b.all ∙ append_assoc b.prefix (b.closing ∷ []) rest in
     let closed = b.closed in
-    let last : read_block (length b.front) (concat b.inner) (b.closing ∷ rest) ≡ with_graph (parsed (concat b.inner)) (length b.front + 1 + 1) rest = rw closed refl in
+    let last : read_block (length b.prefix) (concat b.inner) (b.closing ∷ rest) ≡ with_graph (parsed (concat b.inner)) (length b.prefix + 1 + 1) rest = rw closed refl in
     let long = ap length b.all in
-    let split = length-append b.front (b.closing ∷ []) in
-    let number : length b.front + 1 + 1 ≡ 1 + length ls = omega (arith, long, split) in
-    ap (read_lines 1) laid ∙ opened_read b.front b.inner b.opened (b.closing ∷ rest) ∙ last ∙ (λ i. with_graph (parsed (sym b.within i)) (number i) rest)
+    let split = length-append b.prefix (b.closing ∷ []) in
+    let number : length b.prefix + 1 + 1 ≡ 1 + length ls = omega (arith, long, split) in
+    ap (read_lines 1) laid ∙ opened_read b.prefix b.inner b.opened (b.closing ∷ rest) ∙ last ∙ (λ i. with_graph (parsed (sym b.within i)) (number i) rest)
 
 -- no line, or lines that are skipped alone
 pub none_read : (ls : List Line) → list_all is_skipped ls ≡ true → read_lines 1 ls ≡ Err (WrongLine (length ls + 1) Form)
@@ -140,21 +140,21 @@ pub data Begins (ls : List Line) : Result Logs Fault → Type 0 where
   Whole : (block rest : List Line) (text : List ℕ) → ls ≡ block ++ rest → IsBlock block text → Begins ls (with_graph (parsed text) (1 + length block) rest)
 
 -- from the block's opening line on
-from_block : (front inner ls : List Line) → IsOpened front inner → Begins (front ++ ls) (read_block (length front) (concat inner) ls)
-from_block front inner [] o = subst (λ xs. Begins xs (Err (WrongLine (length front) Form))) (sym (append-nil front)) (Open inner o)
-from_block front inner (l ∷ ls) o = elim (cases_Bool (closes l)) [
-  | inl y ↦ (let long = length-append front (l ∷ []) in
-      let number : 1 + length (front ++ l ∷ []) ≡ length front + 1 + 1 = omega (arith, long) in
-      let laid : front ++ l ∷ ls ≡ (front ++ l ∷ []) ++ ls = sym (append_assoc front (l ∷ []) ls) in
-      let block : IsBlock (front ++ l ∷ []) (concat inner) = record { front = front; inner = inner; closing = l; all = refl; opened = o; closed = y; within = refl } in
-      rw y (subst (λ n. Begins (front ++ l ∷ ls) (with_graph (parsed (concat inner)) n ls)) number (Whole (front ++ l ∷ []) ls (concat inner) laid block)))
-  | inr z ↦ (let long = length-append front (l ∷ []) in
-      let number : length (front ++ l ∷ []) ≡ length front + 1 = omega (arith, long) in
-      let all : front ++ l ∷ [] ≡ o.before ++ o.opening ∷ (inner ++ l ∷ []) = ap (λ xs. xs ++ l ∷ []) o.all ∙ append_assoc o.before (o.opening ∷ inner) (l ∷ []) in
-      let opened : IsOpened (front ++ l ∷ []) (inner ++ l ∷ []) = record { before = o.before; opening = o.opening; all = all; skipped = o.skipped; opens = o.opens; open_yet = all_last (λ l. not (closes l)) inner l o.open_yet (ap not z) } in
-      let rest = from_block (front ++ l ∷ []) (inner ++ l ∷ []) ls opened in
-      rw z (subst (λ xs. Begins xs (read_block (length front + 1) (concat inner ++ l) ls)) (append_assoc front (l ∷ []) ls)
-      (subst (λ r. Begins ((front ++ l ∷ []) ++ ls) r) (λ i. read_block (number i) (concat_last inner l i) ls) rest)))
+from_block : (prefix inner ls : List Line) → IsOpened prefix inner → Begins (prefix ++ ls) (read_block (length prefix) (concat inner) ls)
+from_block prefix inner [] o = subst (λ xs. Begins xs (Err (WrongLine (length prefix) Form))) (sym (append-nil prefix)) (Open inner o)
+from_block prefix inner (l ∷ ls) o = elim (cases_Bool (closes l)) [
+  | inl y ↦ (let long = length-append prefix (l ∷ []) in
+      let number : 1 + length (prefix ++ l ∷ []) ≡ length prefix + 1 + 1 = omega (arith, long) in
+      let laid : prefix ++ l ∷ ls ≡ (prefix ++ l ∷ []) ++ ls = sym (append_assoc prefix (l ∷ []) ls) in
+      let block : IsBlock (prefix ++ l ∷ []) (concat inner) = record { prefix = prefix; inner = inner; closing = l; all = refl; opened = o; closed = y; within = refl } in
+      rw y (subst (λ n. Begins (prefix ++ l ∷ ls) (with_graph (parsed (concat inner)) n ls)) number (Whole (prefix ++ l ∷ []) ls (concat inner) laid block)))
+  | inr z ↦ (let long = length-append prefix (l ∷ []) in
+      let number : length (prefix ++ l ∷ []) ≡ length prefix + 1 = omega (arith, long) in
+      let all : prefix ++ l ∷ [] ≡ o.before ++ o.opening ∷ (inner ++ l ∷ []) = ap (λ xs. xs ++ l ∷ []) o.all ∙ append_assoc o.before (o.opening ∷ inner) (l ∷ []) in
+      let opened : IsOpened (prefix ++ l ∷ []) (inner ++ l ∷ []) = record { before = o.before; opening = o.opening; all = all; skipped = o.skipped; opens = o.opens; open_yet = all_last (λ l. not (closes l)) inner l o.open_yet (ap not z) } in
+      let rest = from_block (prefix ++ l ∷ []) (inner ++ l ∷ []) ls opened in
+      rw z (subst (λ xs. Begins xs (read_block (length prefix + 1) (concat inner ++ l) ls)) (append_assoc prefix (l ∷ []) ls)
+      (subst (λ r. Begins ((prefix ++ l ∷ []) ++ ls) r) (λ i. read_block (number i) (concat_last inner l i) ls) rest)))
 ]
 
 -- from the first line on

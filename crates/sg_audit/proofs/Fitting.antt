@@ -11,7 +11,7 @@ use Rattle.sg_protocol.specs.Graph.{Graph, IsGraph}
 use Rattle.sg_protocol.specs.Calls.{Event}
 use Rattle.sg_protocol.specs.Walk.{StoredStep}
 use Rattle.sg_protocol.proofs.Spelled.{range_all}
-use Rattle.sg_parse.specs.Reading.{place_of}
+use Rattle.sg_parse.specs.Reading.{index_of}
 use Rattle.sg_sched.specs.Text.{content, words}
 use Rattle.sg_sched.specs.Format.Forms.{is_skipped}
 use Rattle.sg_sched.specs.Format.Said.{Word}
@@ -23,7 +23,7 @@ use Rattle.sg_audit.specs.declared.fault.Mistake.{Mistake}
 use Rattle.sg_audit.specs.declared.fault.Mistake.TheVariants.{Form, TooManyEvents, Unknown, Twice}
 use Rattle.sg_model.specs.Values.{Value}
 use Rattle.sg_model.proofs.Small.{some_same}
-use Rattle.sg_audit.specs.Said.{Given, Said, SaidStep, SaidSession, SaidLog, SaidEvent, SaidWalk, numbered, falls, rise}
+use Rattle.sg_audit.specs.Said.{Given, LogContent, StepContent, SaidSession, SaidLog, SaidEvent, SaidWalk, numbered, falls, rise}
 use Rattle.sg_graph.specs.Parts.{edge_names, variable_names}
 use Rattle.sg_sched.specs.Format.Values.{spelled_value}
 use Rattle.sg_audit.specs.Reading.{all_assigned, time, form, session_form, log_form, event_form, walk_form}
@@ -84,9 +84,9 @@ same_differ : (logs : List Log) (r : ℕ) (es fs : List Event) → roles_differ 
 same_differ [] r es fs d = (refl, tt)
 same_differ (k ∷ ks) r es fs d = (subst (λ rs. is_in k.0 rs ≡ false) (same_roles ks r es fs) d.0, same_differ ks r es fs d.1)
 
-front : (g : Graph) (logs : List Log) (l : Log) → AllByRecursion (IsLog g) (logs ++ l ∷ []) → AllByRecursion (IsLog g) logs × IsLog g l
-front g [] l h = (tt, h.0)
-front g (k ∷ ks) l h = let r = front g ks l h.1 in ((h.0, r.0), r.1)
+prefix : (g : Graph) (logs : List Log) (l : Log) → AllByRecursion (IsLog g) (logs ++ l ∷ []) → AllByRecursion (IsLog g) logs × IsLog g l
+prefix g [] l h = (tt, h.0)
+prefix g (k ∷ ks) l h = let r = prefix g ks l h.1 in ((h.0, r.0), r.1)
 
 -- ---- sessions
 
@@ -162,7 +162,7 @@ adds_event g d e sent label at v f h = let one = split_if (not (is_open d)) Form
         let ev = event sent r l at v.pairs in
         let old : all_logs d ≡ d.logs ++ (r, d.events) ∷ [] = rw q refl in
         let new : option_map_or (λ r. d.logs ++ (r, d.events ++ ev ∷ []) ∷ []) d.role d.logs ≡ d.logs ++ (r, d.events ++ ev ∷ []) ∷ [] = rw q refl in
-        let was = front g d.logs (r, d.events) (subst (AllByRecursion (IsLog g)) old f.each) in
+        let was = prefix g d.logs (r, d.events) (subst (AllByRecursion (IsLog g)) old f.each) in
         subst (Fine g) (ok_is (with_event d ev) e two.1) (record {
           done = f.done;
           roles = λ x. f.roles x ∙ ap (λ ls. is_in x (roles_of ls)) old ∙ ap (is_in x) (same_roles d.logs r d.events (d.events ++ ev ∷ [])) ∙ sym (ap (λ ls. is_in x (roles_of ls)) new);
@@ -177,7 +177,7 @@ adds_event g d e sent label at v f h = let one = split_if (not (is_open d)) Form
         let two = split_if (nat_le 100000 d.count) TooManyEvents (put_event d sent r label at v) e one.1 in
         put r q label two.1
 
-adds_walk : (g : Graph) (d e : SoFar) (ss : List SaidStep) → Fine g d → add_walk g d ss ≡ Ok e → Fine g e
+adds_walk : (g : Graph) (d e : SoFar) (ss : List StepContent) → Fine g d → add_walk g d ss ≡ Ok e → Fine g e
 unfolding add_walk
 adds_walk g d e ss f h =
     let one = split_if (not (is_open d) || all_have_logs g d) Form unfallen e h in
@@ -201,19 +201,19 @@ adds_walk g d e ss f h =
 -- ---- what words say
 
 -- the role of a log is one of the graph's
-abbrev pub FitsSaid : Graph → Said → Type 0
+abbrev pub FitsSaid : Graph → LogContent → Type 0
 FitsSaid g (SaidLog role) = IfSome role (λ r. r < length g.roles)
 FitsSaid g other = ⊤
 
-place_small : (n : Name) (names : List Name) → has_text n names ≡ true → place_of n names < length names
-place_small n [] h = absurd (cc)
-place_small n (m ∷ ms) h = elim (cases_Bool (bytes_eq n m)) [
+index_small : (n : Name) (names : List Name) → has_text n names ≡ true → index_of n names < length names
+index_small n [] h = absurd (cc)
+index_small n (m ∷ ms) h = elim (cases_Bool (bytes_eq n m)) [
   | inl y ↦ rw y (omega arith)
-  | inr z ↦ (let r = place_small n ms (rw z at h) in rw z (omega (arith, r)))
+  | inr z ↦ (let r = index_small n ms (rw z at h) in rw z (omega (arith, r)))
 ]
 
 numbered_small : (names : List Name) (n : Name) → IfSome (numbered names n) (λ r. r < length names)
-numbered_small names n = elim (cases_Bool (has_text n names)) [ inl y ↦ rw y (place_small n names y) | inr z ↦ rw z tt ]
+numbered_small names n = elim (cases_Bool (has_text n names)) [ inl y ↦ rw y (index_small n names y) | inr z ↦ rw z tt ]
 
 if_either : {A : Type 0} (b : Bool) (x y z : A) (P : Type 0) → (if b then x else y) ≡ z → (x ≡ z → P) → (y ≡ z → P) → P
 if_either true x y z P h f g = f h
@@ -237,26 +237,26 @@ after_fits {A} {B} P take next ws s h q = by (take ws) q
     by None q = absurd (none_some s q)
     by (Some p) q = h p.0 p.1 q
 
-session_fits : (g : Graph) (ws : List Word) (s : Said) → session_form ws ≡ Some s → FitsSaid g s
+session_fits : (g : Graph) (ws : List Word) (s : LogContent) → session_form ws ≡ Some s → FitsSaid g s
 unfolding session_form
 session_fits g ws s h = after_fits (FitsSaid g) (word name) _ ws s (λ n rest q. subst (FitsSaid g) (some_same (ended_fits _ rest s q)) tt) h
 
-log_fits : (g : Graph) (ws : List Word) (s : Said) → log_form g ws ≡ Some s → FitsSaid g s
+log_fits : (g : Graph) (ws : List Word) (s : LogContent) → log_form g ws ≡ Some s → FitsSaid g s
 unfolding log_form
 log_fits g ws s h = after_fits (FitsSaid g) (word name) _ ws s (λ n rest q. subst (FitsSaid g) (some_same (ended_fits _ rest s q)) (numbered_small g.roles n)) h
 
-event_fits : (g : Graph) (sent : Bool) (ws : List Word) (s : Said) → event_form g sent ws ≡ Some s → FitsSaid g s
+event_fits : (g : Graph) (sent : Bool) (ws : List Word) (s : LogContent) → event_form g sent ws ≡ Some s → FitsSaid g s
 unfolding event_form
 event_fits g sent ws s h =
     after_fits (FitsSaid g) (word name) _ ws s (λ n rest q.
     after_fits {A = ℕ} (FitsSaid g) (word time) (λ at left. option_map (SaidEvent sent (numbered (edge_names g) n) at) (all_assigned (variable_names g) spelled_value left)) rest s (λ t left r.
     mapped_fits {A = Given Value} (FitsSaid g) (SaidEvent sent (numbered (edge_names g) n) t) (all_assigned (variable_names g) spelled_value left) s (λ a. tt) r) q) h
 
-walk_fits : (g : Graph) (ws : List Word) (s : Said) → walk_form g ws ≡ Some s → FitsSaid g s
+walk_fits : (g : Graph) (ws : List Word) (s : LogContent) → walk_form g ws ≡ Some s → FitsSaid g s
 unfolding walk_form
 walk_fits g ws s h = mapped_fits (FitsSaid g) SaidWalk _ s (λ a. tt) h
 
-pub form_fits : (g : Graph) (ws : List Word) (s : Said) → form g ws ≡ Some s → FitsSaid g s
+pub form_fits : (g : Graph) (ws : List Word) (s : LogContent) → form g ws ≡ Some s → FitsSaid g s
 unfolding form
 form_fits g [] s h = absurd (none_some s h)
 form_fits g (w ∷ ws) s h =
@@ -266,19 +266,19 @@ form_fits g (w ∷ ws) s h =
     if_either (bytes_eq w (codes "received")) (event_form g false ws) not_received (Some s) (FitsSaid g s) h (event_fits g false ws s) (λ h.
     if_either (bytes_eq w (codes "walk")) (walk_form g ws) None (Some s) (FitsSaid g s) h (walk_fits g ws s) (λ h. absurd (none_some s h))))))
   where
-    not_received : Option Said
+    not_received : Option LogContent
     not_received = if bytes_eq w (codes "walk") then walk_form g ws else None
 
-    not_sent : Option Said
+    not_sent : Option LogContent
     not_sent = if bytes_eq w (codes "received") then event_form g false ws else not_received
 
-    not_log : Option Said
+    not_log : Option LogContent
     not_log = if bytes_eq w (codes "sent") then event_form g true ws else not_sent
 
-    not_session : Option Said
+    not_session : Option LogContent
     not_session = if bytes_eq w (codes "log") then log_form g ws else not_log
 
-pub adds : (g : Graph) (d e : SoFar) (s : Said) → IsGraph g → FitsSaid g s → Fine g d → add g d s ≡ Ok e → Fine g e
+pub adds : (g : Graph) (d e : SoFar) (s : LogContent) → IsGraph g → FitsSaid g s → Fine g d → add g d s ≡ Ok e → Fine g e
 unfolding add
 adds g d e (SaidSession n) is small f h = adds_session g d e n f h
 adds g d e (SaidLog role) is small f h = adds_log g d e role is small f h
@@ -290,7 +290,7 @@ unfolding add_line
 adds_line g d e l is f h =
     if_either (is_skipped l) (Ok d) (option_map_or (add g d) (form g (words (content l))) (Err Form)) (Ok e) (Fine g e) h (λ q. subst (Fine g) (ok_is d e q) f) (λ q. by (form g (words (content l))) (form_fits g (words (content l))) q)
   where
-    by : (o : Option Said) → ((s : Said) → o ≡ Some s → FitsSaid g s) → option_map_or (add g d) o (Err Form) ≡ Ok e → Fine g e
+    by : (o : Option LogContent) → ((s : LogContent) → o ≡ Some s → FitsSaid g s) → option_map_or (add g d) o (Err Form) ≡ Ok e → Fine g e
     by None k q = absurd (err_ok _ _ q)
     by (Some s) k q = adds g d e s is (k s refl) f q
 

@@ -10,7 +10,7 @@ use Rattle.sg_protocol.specs.Calls.{Event}
 use Rattle.sg_protocol.specs.Graph.{Graph}
 use Rattle.sg_protocol.specs.Walk.{StoredStep}
 use Rattle.sg_audit.specs.Merged.{Log, events_of}
-use Rattle.sg_audit.specs.Said.{Given, Said, SaidSession, SaidLog, SaidEvent, SaidWalk, falls}
+use Rattle.sg_audit.specs.Said.{Given, LogContent, SaidSession, SaidLog, SaidEvent, SaidWalk, falls}
 use Rattle.sg_audit.specs.Sessions.{Session, change_last, event, stored_step, with_event as with_one, added}
 use Rattle.sg_audit.specs.Faults.{where', fault, is_too_many, is_unknown, is_repeated}
 use Rattle.sg_audit.specs.SoFar.{SoFar, all_logs, all_sessions}
@@ -47,7 +47,7 @@ maps : (f : Session → Session) (g h : Name → Session) (o : Option Name) → 
 maps f g h None e = refl
 maps f g h (Some n) e = ap Some (e n)
 
-pub moved : (d : SoFar) (s : Said) → Kept d → told_by (next d s) ≡ added (told_by d) s
+pub moved : (d : SoFar) (s : LogContent) → Kept d → told_by (next d s) ≡ added (told_by d) s
 moved d (SaidSession n) k = λ i. record { over = sym (sessions_told d) i; last = Some (record { name = n; logs = []; walk = None }) }
 moved d (SaidLog role) k = λ i. record {
   over = d.done;
@@ -124,7 +124,7 @@ event_counted d n r e p q =
     let z = length-append d.events (e ∷ []) in
     omega (arith, a, b, c, f, x, y, z)
 
-pub kept : (g : Graph) (d : SoFar) (s : Said) → Kept d → fault g (told_by d) s ≡ None → Kept (next d s)
+pub kept : (g : Graph) (d : SoFar) (s : LogContent) → Kept d → fault g (told_by d) s ≡ None → Kept (next d s)
 kept g d (SaidSession n) k h = record {
   names = names_last (all_sessions d) (record { name = n; logs = []; walk = None }) ∙ ap (λ ns. ns ++ n ∷ []) k.names;
   count = let c = counted (all_sessions d) (record { name = n; logs = []; walk = None }) in let m = k.count in omega (arith, c, m);

@@ -13,7 +13,7 @@ use Rattle.sg_protocol.specs.Graph.{Graph}
 use Rattle.sg_protocol.specs.Walk.{StoredStep}
 use Rattle.sg_parse.proofs.Sets.{rising-differ}
 use Rattle.sg_audit.specs.Merged.{Log, roles_of, events_of}
-use Rattle.sg_audit.specs.Said.{Given, SaidStep, Said, SaidSession, SaidLog, SaidEvent, SaidWalk, differ, falls, rise}
+use Rattle.sg_audit.specs.Said.{Given, StepContent, LogContent, SaidSession, SaidLog, SaidEvent, SaidWalk, differ, falls, rise}
 use Rattle.sg_audit.specs.Sessions.{Session, Told, sessions_of, event, stored_step}
 use Rattle.sg_audit.specs.Faults.{last_logs, event_count, is_double, is_strange, where', fault, is_open as is_open_now, all_have_logs as all_have, is_whole as is_over}
 use Rattle.sg_audit.specs.SoFar.{SoFar, all_logs, all_sessions, all_have_logs, is_whole, is_open, add, add_session, add_log, open_log, add_event, count_event, with_event, add_walk, is_unknown}
@@ -100,7 +100,7 @@ same_count d k = ap (λ ss. length (flat_map (λ (s : Session). events_of s.logs
 
 -- ---- what the reader keeps after one more line
 
-abbrev pub next : SoFar → Said → SoFar
+abbrev pub next : SoFar → LogContent → SoFar
 next d (SaidSession n) = record { names = d.names ++ n ∷ []; count = d.count; done = all_sessions d; name = Some n; logs = []; roles = []; role = None; events = []; walk = None }
 next d (SaidLog role) = record { names = d.names; count = d.count; done = d.done; name = d.name; logs = all_logs d; roles = with_member 16 d.roles (unwrap_or role 0); role = Some (unwrap_or role 0); events = []; walk = d.walk }
 next d (SaidEvent sent label time v) = with_event d (event sent (unwrap_or d.role 0) (unwrap_or label 0) time v.pairs)
@@ -188,7 +188,7 @@ event_same g d sent label time v f k =
 -- ---- walks
 
 -- where no step is strange and none falls, those that don't rise name a variable twice
-same_double : (ss : List SaidStep) → list_any (λ s. falls s.writes) ss ≡ false → list_any is_unknown ss ≡ false → list_any (λ s. not (rise s.writes)) ss ≡ list_any (λ s. is_double s.writes) ss
+same_double : (ss : List StepContent) → list_any (λ s. falls s.writes) ss ≡ false → list_any is_unknown ss ≡ false → list_any (λ s. not (rise s.writes)) ss ≡ list_any (λ s. is_double s.writes) ss
 same_double [] h u = refl
 same_double (s ∷ ss) h u = λ i. one s.writes.known (differ (keys_of s.writes.pairs)) (rise s.writes) (rising-differ 0 (keys_of s.writes.pairs)) (first_false _ _ h) (label s.label s.writes.known (first_false _ _ u)) i || same_double ss (second_false _ _ h) (second_false _ _ u) i
   where
@@ -204,7 +204,7 @@ same_double (s ∷ ss) h u = λ i. one s.writes.known (differ (keys_of s.writes.
     one true true false h p q = absurd (cc)
     one false true false h p q = absurd (cc)
 
-walk_same : (g : Graph) (d : SoFar) (ss : List SaidStep) → Fine g d → add_walk g d ss ≡ judged (fault g (told_by d) (SaidWalk ss)) (next d (SaidWalk ss))
+walk_same : (g : Graph) (d : SoFar) (ss : List StepContent) → Fine g d → add_walk g d ss ≡ judged (fault g (told_by d) (SaidWalk ss)) (next d (SaidWalk ss))
 unfolding add_walk
 walk_same g d ss f = sym (in_turn (not (is_open_now (told_by d)) || all_have g (told_by d) || list_any (λ s. falls s.writes) ss) false (list_any is_strange ss) (list_any (λ s. is_double s.writes) ss) (next d (SaidWalk ss))
     ∙ by d.name refl)
@@ -232,7 +232,7 @@ walk_same g d ss f = sym (in_turn (not (is_open_now (told_by d)) || all_have g (
 -- ---- all forms
 
 -- the reader refuses what is wrong, and else goes on
-pub add_same : (g : Graph) (d : SoFar) (s : Said) → Fine g d → Kept d → add g d s ≡ judged (fault g (told_by d) s) (next d s)
+pub add_same : (g : Graph) (d : SoFar) (s : LogContent) → Fine g d → Kept d → add g d s ≡ judged (fault g (told_by d) s) (next d s)
 unfolding add
 add_same g d (SaidSession n) f k = session_same g d n f k
 add_same g d (SaidLog role) f k = log_same g d role f

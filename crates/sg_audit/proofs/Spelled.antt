@@ -9,7 +9,7 @@ use Rattle.sg_parse.proofs.TookGraph.{read-spells}
 use Rattle.sg_parse.proofs.GivesGraph.{spells-read}
 use Rattle.sg_sched.specs.Text.{lines, content, words}
 use Rattle.sg_sched.specs.Format.Spells.{Line}
-use Rattle.sg_audit.specs.Said.{Said}
+use Rattle.sg_audit.specs.Said.{LogContent}
 use Rattle.sg_audit.specs.Reading.{form}
 use Rattle.sg_audit.specs.Sessions.{Logs, Told, sessions_of}
 use Rattle.sg_audit.specs.Faults.{fault, is_whole as is_over}
@@ -126,7 +126,7 @@ first_found ls _ (OfNoForm g t right rest l at a z unsaid) =
     ∙ ap (λ x. go_on (1 + length right) x (λ d. read_sessions g (1 + length right + 1) d rest)) (no_line g r.state l z (formless (form g (words (content l))) refl))
     ∙ ap (λ n. Err (WrongLine n FormKind)) number
   where
-    formless : (o : Option Said) → form g (words (content l)) ≡ o → form g (words (content l)) ≡ None
+    formless : (o : Option LogContent) → form g (words (content l)) ≡ o → form g (words (content l)) ≡ None
     formless None q = q
     formless (Some s) q = absurd (unsaid s (form_is g (words (content l)) s q))
 first_found ls _ (OfAForm g t right rest l s {kind = kind} at a z says wrong) =

@@ -6,7 +6,7 @@ use Rattle.sg_protocol.specs.Graph.{Graph, IsGraph}
 use Rattle.sg_sched.specs.Text.{content, words}
 use Rattle.sg_sched.specs.Format.Forms.{is_skipped}
 use Rattle.sg_sched.specs.Format.Spells.{Line}
-use Rattle.sg_audit.specs.Said.{Said}
+use Rattle.sg_audit.specs.Said.{LogContent}
 use Rattle.sg_audit.specs.Reading.{form}
 use Rattle.sg_audit.specs.Sessions.{Logs, Told, sessions_of, added}
 use Rattle.sg_audit.specs.Faults.{fault, is_whole as is_over}
@@ -30,18 +30,18 @@ pub no_line : (g : Graph) (d : SoFar) (l : Line) → is_skipped l ≡ false → 
 unfolding add_line
 no_line g d l s n = rw (s, n) refl
 
-pub said_line : (g : Graph) (d : SoFar) (l : Line) (s : Said) → is_skipped l ≡ false → form g (words (content l)) ≡ Some s → add_line g d l ≡ add g d s
+pub said_line : (g : Graph) (d : SoFar) (l : Line) (s : LogContent) → is_skipped l ≡ false → form g (words (content l)) ≡ Some s → add_line g d l ≡ add g d s
 unfolding add_line
 said_line g d l s k h = rw (k, h) refl
 
 -- what the reader makes of a line of a form
-pub right_line : (g : Graph) (d : SoFar) (l : Line) (s : Said) → Fine g d → Kept d → is_skipped l ≡ false → form g (words (content l)) ≡ Some s → fault g (told_by d) s ≡ None → add_line g d l ≡ Ok (next d s)
+pub right_line : (g : Graph) (d : SoFar) (l : Line) (s : LogContent) → Fine g d → Kept d → is_skipped l ≡ false → form g (words (content l)) ≡ Some s → fault g (told_by d) s ≡ None → add_line g d l ≡ Ok (next d s)
 right_line g d l s f k n h e = said_line g d l s n h ∙ add_same g d s f k ∙ ap (λ o. judged o (next d s)) e
 
-pub wrong_line : (g : Graph) (d : SoFar) (l : Line) (s : Said) (kind : Mistake) → Fine g d → Kept d → is_skipped l ≡ false → form g (words (content l)) ≡ Some s → fault g (told_by d) s ≡ Some kind → add_line g d l ≡ Err kind
+pub wrong_line : (g : Graph) (d : SoFar) (l : Line) (s : LogContent) (kind : Mistake) → Fine g d → Kept d → is_skipped l ≡ false → form g (words (content l)) ≡ Some s → fault g (told_by d) s ≡ Some kind → add_line g d l ≡ Err kind
 wrong_line g d l s kind f k n h e = said_line g d l s n h ∙ add_same g d s f k ∙ ap (λ o. judged o (next d s)) e
 
-pub fine_next : (g : Graph) (d : SoFar) (l : Line) (s : Said) → IsGraph g → Fine g d → Kept d → form g (words (content l)) ≡ Some s → fault g (told_by d) s ≡ None → Fine g (next d s)
+pub fine_next : (g : Graph) (d : SoFar) (l : Line) (s : LogContent) → IsGraph g → Fine g d → Kept d → form g (words (content l)) ≡ Some s → fault g (told_by d) s ≡ None → Fine g (next d s)
 fine_next g d l s is f k h e = adds g d (next d s) s is (form_fits g (words (content l)) s h) f (add_same g d s f k ∙ ap (λ o. judged o (next d s)) e)
 
 -- ---- from what is told to what is read
@@ -99,46 +99,46 @@ pub data Ends (g : Graph) (n : ℕ) (ls : List Line) : Result Logs Fault → Typ
   Well : (t : Told) → Tell g ls t → is_over g t ≡ true → Ends g n ls (Ok (record { graph = g; sessions = sessions_of t }))
   Few : (t : Told) → Tell g ls t → is_over g t ≡ false → Ends g n ls (Err (WrongLine (n + length ls) Form))
   Formless : (t : Told) (right rest : List Line) (line : Line) → ls ≡ right ++ line ∷ rest → Tell g right t → is_skipped line ≡ false → form g (words (content line)) ≡ None → Ends g n ls (Err (WrongLine (n + length right) Form))
-  Faulty : (t : Told) (right rest : List Line) (line : Line) (said : Said) {kind : Mistake} → ls ≡ right ++ line ∷ rest → Tell g right t → is_skipped line ≡ false → form g (words (content line)) ≡ Some said
+  Faulty : (t : Told) (right rest : List Line) (line : Line) (said : LogContent) {kind : Mistake} → ls ≡ right ++ line ∷ rest → Tell g right t → is_skipped line ≡ false → form g (words (content line)) ≡ Some said
       → fault g t said ≡ Some kind → Ends g n ls (Err (WrongLine (n + length right) kind))
 
-pub ends : (g : Graph) (n : ℕ) (front : List Line) (d : SoFar) (ls : List Line) → IsGraph g → Fine g d → Kept d → Tell g front (told_by d) → Ends g n (front ++ ls) (read_sessions g (n + length front) d ls)
-ends g n front d [] is f k tell = elim (cases_Bool (is_whole g d)) [
-  | inl y ↦ subst (Ends g n (front ++ [])) (sym (rw (sessions_told d, y) refl)) (Well (told_by d) whole (same_whole g d f ∙ y))
-  | inr z ↦ subst (Ends g n (front ++ [])) (sym (rw (append-nil front, z) refl)) (Few (told_by d) whole (same_whole g d f ∙ z))
+pub ends : (g : Graph) (n : ℕ) (prefix : List Line) (d : SoFar) (ls : List Line) → IsGraph g → Fine g d → Kept d → Tell g prefix (told_by d) → Ends g n (prefix ++ ls) (read_sessions g (n + length prefix) d ls)
+ends g n prefix d [] is f k tell = elim (cases_Bool (is_whole g d)) [
+  | inl y ↦ subst (Ends g n (prefix ++ [])) (sym (rw (sessions_told d, y) refl)) (Well (told_by d) whole (same_whole g d f ∙ y))
+  | inr z ↦ subst (Ends g n (prefix ++ [])) (sym (rw (append-nil prefix, z) refl)) (Few (told_by d) whole (same_whole g d f ∙ z))
 ]
   where
-    whole : Tell g (front ++ []) (told_by d)
-    whole = subst (λ ls. Tell g ls (told_by d)) (sym (append-nil front)) tell
-ends g n front d (l ∷ ls) is f k tell = elim (cases_Bool (is_skipped l)) [
-  | inl y ↦ on (λ e f' k' t. ends g n (front ++ l ∷ []) e ls is f' k' t) d f k (Skip l tell y) (skip_line g d l y)
-  | inr z ↦ by (λ e f' k' t. ends g n (front ++ l ∷ []) e ls is f' k' t) z (form g (words (content l))) refl
+    whole : Tell g (prefix ++ []) (told_by d)
+    whole = subst (λ ls. Tell g ls (told_by d)) (sym (append-nil prefix)) tell
+ends g n prefix d (l ∷ ls) is f k tell = elim (cases_Bool (is_skipped l)) [
+  | inl y ↦ on (λ e f' k' t. ends g n (prefix ++ l ∷ []) e ls is f' k' t) d f k (Skip l tell y) (skip_line g d l y)
+  | inr z ↦ by (λ e f' k' t. ends g n (prefix ++ l ∷ []) e ls is f' k' t) z (form g (words (content l))) refl
 ]
   where
     Goal : Type 0
-    Goal = Ends g n (front ++ l ∷ ls) (read_sessions g (n + length front) d (l ∷ ls))
+    Goal = Ends g n (prefix ++ l ∷ ls) (read_sessions g (n + length prefix) d (l ∷ ls))
 
     -- how the lines behind this one end
     Rest : Type 0
-    Rest = (e : SoFar) → Fine g e → Kept e → Tell g (front ++ l ∷ []) (told_by e) → Ends g n ((front ++ l ∷ []) ++ ls) (read_sessions g (n + length (front ++ l ∷ [])) e ls)
+    Rest = (e : SoFar) → Fine g e → Kept e → Tell g (prefix ++ l ∷ []) (told_by e) → Ends g n ((prefix ++ l ∷ []) ++ ls) (read_sessions g (n + length (prefix ++ l ∷ [])) e ls)
 
     -- the line is taken
-    on : Rest → (e : SoFar) → Fine g e → Kept e → Tell g (front ++ l ∷ []) (told_by e) → add_line g d l ≡ Ok e → Goal
+    on : Rest → (e : SoFar) → Fine g e → Kept e → Tell g (prefix ++ l ∷ []) (told_by e) → add_line g d l ≡ Ok e → Goal
     on more e f' k' tell' a =
-        let long = length-append front (l ∷ []) in
-        let number : n + length (front ++ l ∷ []) ≡ n + length front + 1 = omega (arith, long) in
+        let long = length-append prefix (l ∷ []) in
+        let number : n + length (prefix ++ l ∷ []) ≡ n + length prefix + 1 = omega (arith, long) in
         let rest = more e f' k' tell' in
-        subst (λ r. Ends g n (front ++ l ∷ ls) r) (ap (λ m. read_sessions g m e ls) number ∙ sym (ap (λ r. go_on (n + length front) r (λ d'. read_sessions g (n + length front + 1) d' ls)) a))
-        (subst (λ xs. Ends g n xs (read_sessions g (n + length (front ++ l ∷ [])) e ls)) (append_assoc front (l ∷ []) ls) rest)
+        subst (λ r. Ends g n (prefix ++ l ∷ ls) r) (ap (λ m. read_sessions g m e ls) number ∙ sym (ap (λ r. go_on (n + length prefix) r (λ d'. read_sessions g (n + length prefix + 1) d' ls)) a))
+        (subst (λ xs. Ends g n xs (read_sessions g (n + length (prefix ++ l ∷ [])) e ls)) (append_assoc prefix (l ∷ []) ls) rest)
 
     -- the line is not taken
-    off : (kind : Mistake) → Ends g n (front ++ l ∷ ls) (Err (WrongLine (n + length front) kind)) → add_line g d l ≡ Err kind → Goal
-    off kind e a = subst (Ends g n (front ++ l ∷ ls)) (sym (ap (λ r. go_on (n + length front) r (λ d'. read_sessions g (n + length front + 1) d' ls)) a)) e
+    off : (kind : Mistake) → Ends g n (prefix ++ l ∷ ls) (Err (WrongLine (n + length prefix) kind)) → add_line g d l ≡ Err kind → Goal
+    off kind e a = subst (Ends g n (prefix ++ l ∷ ls)) (sym (ap (λ r. go_on (n + length prefix) r (λ d'. read_sessions g (n + length prefix + 1) d' ls)) a)) e
 
-    of : Rest → (s : Said) → is_skipped l ≡ false → form g (words (content l)) ≡ Some s → (o : Option Mistake) → fault g (told_by d) s ≡ o → Goal
-    of more s z h None e = on more (next d s) (fine_next g d l s is f k h e) (kept g d s k e) (subst (Tell g (front ++ l ∷ [])) (sym (moved d s k)) (Say l s tell z (form_is g (words (content l)) s h) e)) (right_line g d l s f k z h e)
-    of more s z h (Some kind) e = off kind (Faulty (told_by d) front ls l s refl tell z h e) (wrong_line g d l s kind f k z h e)
+    of : Rest → (s : LogContent) → is_skipped l ≡ false → form g (words (content l)) ≡ Some s → (o : Option Mistake) → fault g (told_by d) s ≡ o → Goal
+    of more s z h None e = on more (next d s) (fine_next g d l s is f k h e) (kept g d s k e) (subst (Tell g (prefix ++ l ∷ [])) (sym (moved d s k)) (Say l s tell z (form_is g (words (content l)) s h) e)) (right_line g d l s f k z h e)
+    of more s z h (Some kind) e = off kind (Faulty (told_by d) prefix ls l s refl tell z h e) (wrong_line g d l s kind f k z h e)
 
-    by : Rest → is_skipped l ≡ false → (o : Option Said) → form g (words (content l)) ≡ o → Goal
-    by more z None h = off Form (Formless (told_by d) front ls l refl tell z h) (no_line g d l z h)
+    by : Rest → is_skipped l ≡ false → (o : Option LogContent) → form g (words (content l)) ≡ o → Goal
+    by more z None h = off Form (Formless (told_by d) prefix ls l refl tell z h) (no_line g d l z h)
     by more z (Some s) h = of more s z h (fault g (told_by d) s) refl

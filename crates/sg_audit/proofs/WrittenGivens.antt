@@ -6,7 +6,7 @@ use Rattle.sg_model.specs.Lists.{has_text}
 use Rattle.sg_model.specs.Names.{Name, is_name}
 use Rattle.sg_model.specs.Values.{Value, TextValue}
 use Rattle.sg_model.proofs.Small.{and_left, and_right, some_same}
-use Rattle.sg_parse.specs.Reading.{place_of}
+use Rattle.sg_parse.specs.Reading.{index_of}
 use Rattle.sg_sched.specs.Format.Said.{Word, Given as Pair, given_word}
 use Rattle.sg_sched.specs.Format.Values.{spelled_value, is_value, value_of}
 use Rattle.sg_sched.specs.Format.Reading.{split_at}
@@ -92,7 +92,7 @@ in_front {A} names value p ps = by (has_text p.variable names) refl
     rest = given_in names value ps
 
     by : (b : Bool) → has_text p.variable names ≡ b → both_given (one_given names p.variable (value p.value)) (given_in names value ps) ≡ given_in names value (p ∷ ps)
-    by true e = rw e (λ i. record { pairs = (place_of p.variable names, value p.value) ∷ rest.pairs; known = and_swap rest.known true i })
+    by true e = rw e (λ i. record { pairs = (index_of p.variable names, value p.value) ∷ rest.pairs; known = and_swap rest.known true i })
     by false e = rw e (λ i. record { pairs = rest.pairs; known = and_swap rest.known false i })
 
 -- words that are VAR=VALUE, and what they give

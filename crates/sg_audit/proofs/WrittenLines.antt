@@ -17,7 +17,7 @@ use Rattle.sg_sched.specs.Format.Reading.{word, after, ended}
 use Rattle.sg_sched.proofs.FormLaws.{none_some, step, ended_is, line_up, name_ok}
 use Rattle.sg_sched.proofs.FormatWords.{both}
 use Rattle.sg_sched.proofs.NumberLaws.{number_is, number_ok}
-use Rattle.sg_audit.specs.Said.{Given, SaidStep, Said, SaidSession, SaidLog, SaidEvent, SaidWalk, numbered}
+use Rattle.sg_audit.specs.Said.{Given, StepContent, LogContent, SaidSession, SaidLog, SaidEvent, SaidWalk, numbered}
 use Rattle.sg_audit.specs.Reading.{all_assigned, steps, time, session_form, log_form, event_form, walk_form, form}
 use Rattle.sg_audit.specs.Written.{Written, ASession, ALog, AnEvent, AWalk, line_words, is_given, is_form, said_in, Says}
 use Rattle.sg_audit.proofs.WrittenGivens.{of_values, pairs_are, pairs_ok}
@@ -60,7 +60,7 @@ time_ok t h =
 
 -- ---- what is read is written so
 
-session_is : (g : Graph) (ws : List Word) (s : Said) → session_form ws ≡ Some s → Says g (codes "session" ∷ ws) s
+session_is : (g : Graph) (ws : List Word) (s : LogContent) → session_form ws ≡ Some s → Says g (codes "session" ∷ ws) s
 unfolding session_form
 session_is g ws s h =
     let a = step name (λ n. ended (Some (SaidSession n))) ws s h in
@@ -68,7 +68,7 @@ session_is g ws s h =
     let n = name_is a.first a.value a.was in
     record { written = ASession a.value; spelled = ap (λ r. codes "session" ∷ r) (line_up a.all n.0 e.0); form = n.1; says = some_same e.1 }
 
-log_is : (g : Graph) (ws : List Word) (s : Said) → log_form g ws ≡ Some s → Says g (codes "log" ∷ ws) s
+log_is : (g : Graph) (ws : List Word) (s : LogContent) → log_form g ws ≡ Some s → Says g (codes "log" ∷ ws) s
 unfolding log_form
 log_is g ws s h =
     let a = step name (λ n. ended (Some (SaidLog (numbered g.roles n)))) ws s h in
@@ -80,7 +80,7 @@ log_is g ws s h =
 abbrev event_word : Bool → Word
 event_word sent = if sent then codes "sent" else codes "received"
 
-event_is : (g : Graph) (sent : Bool) (ws : List Word) (s : Said) → event_form g sent ws ≡ Some s → Says g (event_word sent ∷ ws) s
+event_is : (g : Graph) (sent : Bool) (ws : List Word) (s : LogContent) → event_form g sent ws ≡ Some s → Says g (event_word sent ∷ ws) s
 unfolding event_form
 event_is g sent ws s h =
     let a = step name (λ label. after (word time) λ at. λ ws. option_map (SaidEvent sent (numbered (edge_names g) label) at) (all_assigned (variable_names g) spelled_value ws)) ws s h in
@@ -101,21 +101,21 @@ event_is g sent ws s h =
           says = ap (SaidEvent sent (numbered (edge_names g) label) at) (sym a.gives) ∙ some_same h;
         }
 
-walk_is : (g : Graph) (ws : List Word) (s : Said) → walk_form g ws ≡ Some s → Says g (codes "walk" ∷ ws) s
+walk_is : (g : Graph) (ws : List Word) (s : LogContent) → walk_form g ws ≡ Some s → Says g (codes "walk" ∷ ws) s
 unfolding walk_form
 walk_is g ws s h = found (steps g ws) refl h
   where
-    found : (o : Option (List SaidStep)) → steps g ws ≡ o → option_map SaidWalk o ≡ Some s → Says g (codes "walk" ∷ ws) s
+    found : (o : Option (List StepContent)) → steps g ws ≡ o → option_map SaidWalk o ≡ Some s → Says g (codes "walk" ∷ ws) s
     found None e h = none_some h
     found (Some ss) e h =
         let a = steps_are g ws ss e in
         record { written = AWalk a.list; spelled = ap (λ r. codes "walk" ∷ r) a.spelled; form = a.form; says = ap SaidWalk a.says ∙ some_same h }
 
 -- a form's words behind its first word
-first_is : {g : Graph} {first w : Word} {ws : List Word} {s : Said} → bytes_eq w first ≡ true → Says g (first ∷ ws) s → Says g (w ∷ ws) s
+first_is : {g : Graph} {first w : Word} {ws : List Word} {s : LogContent} → bytes_eq w first ≡ true → Says g (first ∷ ws) s → Says g (w ∷ ws) s
 first_is {g} {first} {w} {ws} e f = record { written = f.written; spelled = ap (λ x. x ∷ ws) ((bytes_eq-Decides w first).0 e) ∙ f.spelled; form = f.form; says = f.says }
 
-pub form_is : (g : Graph) (ws : List Word) (s : Said) → form g ws ≡ Some s → Says g ws s
+pub form_is : (g : Graph) (ws : List Word) (s : LogContent) → form g ws ≡ Some s → Says g ws s
 unfolding form
 form_is g [] s h = none_some h
 form_is g (w ∷ ws) s h =
@@ -137,12 +137,12 @@ unfolding form session_form log_form event_form walk_form word
 written_ok g (ASession n) h = rw (name_ok n h) refl
 written_ok g (ALog role) h = rw (name_ok role h) refl
 written_ok g (AnEvent true label at ps) h =
-    let front = and_left (is_name label && is_time at) (list_all is_given ps) h in
-    rw (name_ok label (and_left (is_name label) (is_time at) front), time_ok at (and_right (is_name label) (is_time at) front), pairs_ok (variable_names g) spelled_value is_value value_of of_values ps (and_right (is_name label && is_time at) (list_all is_given ps) h)) refl
+    let prefix = and_left (is_name label && is_time at) (list_all is_given ps) h in
+    rw (name_ok label (and_left (is_name label) (is_time at) prefix), time_ok at (and_right (is_name label) (is_time at) prefix), pairs_ok (variable_names g) spelled_value is_value value_of of_values ps (and_right (is_name label && is_time at) (list_all is_given ps) h)) refl
 written_ok g (AnEvent false label at ps) h =
-    let front = and_left (is_name label && is_time at) (list_all is_given ps) h in
-    rw (name_ok label (and_left (is_name label) (is_time at) front), time_ok at (and_right (is_name label) (is_time at) front), pairs_ok (variable_names g) spelled_value is_value value_of of_values ps (and_right (is_name label && is_time at) (list_all is_given ps) h)) refl
+    let prefix = and_left (is_name label && is_time at) (list_all is_given ps) h in
+    rw (name_ok label (and_left (is_name label) (is_time at) prefix), time_ok at (and_right (is_name label) (is_time at) prefix), pairs_ok (variable_names g) spelled_value is_value value_of of_values ps (and_right (is_name label && is_time at) (list_all is_given ps) h)) refl
 written_ok g (AWalk ss) h = rw (steps_ok g ss h) refl
 
-pub form_ok : (g : Graph) (ws : List Word) (s : Said) → Says g ws s → form g ws ≡ Some s
+pub form_ok : (g : Graph) (ws : List Word) (s : LogContent) → Says g ws s → form g ws ≡ Some s
 form_ok g ws s p = ap (form g) p.spelled ∙ written_ok g p.written p.form ∙ ap Some p.says

@@ -15,7 +15,7 @@ use Rattle.sg_sched.specs.Format.Reading.{split_at}
 use Rattle.sg_sched.proofs.FormLaws.{none_some}
 use Rattle.sg_sched.proofs.PartLaws.{split_is, split_ok}
 use Rattle.sg_sched.proofs.FormatWords.{both, lacks, name_lacks}
-use Rattle.sg_audit.specs.Said.{Given, SaidStep, numbered}
+use Rattle.sg_audit.specs.Said.{Given, StepContent, numbered}
 use Rattle.sg_audit.specs.Reading.{all_assigned, shown_or_hidden, parts, unclosed, written, labelled, unstarred, step, steps}
 use Rattle.sg_audit.specs.Written.{WrittenStep, writes_word, step_word, is_write, is_step, shown_value, given_in, step_in}
 use Rattle.sg_audit.proofs.WrittenGivens.{of_writes, is_shown, pairs_are, pairs_ok}
@@ -26,8 +26,8 @@ use Rattle.sg_audit.proofs.WrittenSteps.{Split, split_of, parts_joined, closed_w
 unclosed_ok : (v : Word) → unclosed (v ++ 41 ∷ []) ≡ Some v
 unclosed_ok v =
     let at : slice_index (v ++ 41 ∷ []) (length (v ++ 41 ∷ []) - 1) ≡ 41 = grind (arith, common_steps) in
-    let front : take (length (v ++ 41 ∷ []) - 1) (v ++ 41 ∷ []) ≡ v = grind (arith, common_steps) in
-    rw (at, front) refl
+    let prefix : take (length (v ++ 41 ∷ []) - 1) (v ++ 41 ∷ []) ≡ v = grind (arith, common_steps) in
+    rw (at, prefix) refl
 
 ends_with : (c : ℕ) (cs : Word) → slice_index (c ∷ cs) (length cs) ≡ 41 → c ∷ cs ≡ take (length cs) (c ∷ cs) ++ 41 ∷ []
 ends_with c [] e = λ i. e i ∷ []
@@ -128,13 +128,13 @@ star_of (c ∷ cs) = by (c == 42) refl
     by true e = record { starred = true; all = rw e (ap (λ x. x ∷ cs) (eqb-true c 42 e)) }
     by false e = record { starred = false; all = rw e refl }
 
-pub record Steps (g : Graph) (w : Word) (s : SaidStep) : Type 0 where
+pub record Steps (g : Graph) (w : Word) (s : StepContent) : Type 0 where
   pub written : WrittenStep
   pub spelled : w ≡ step_word written
   pub form : is_step written ≡ true
   pub says : step_in g written ≡ s
 
-pub step_is : (g : Graph) (w : Word) (s : SaidStep) → step g w ≡ Some s → Steps g w s
+pub step_is : (g : Graph) (w : Word) (s : StepContent) → step g w ≡ Some s → Steps g w s
 unfolding step
 step_is g w s h = found (split_at 40 (unstarred w)) refl h
   where
@@ -192,24 +192,24 @@ step_ok g s h =
         ∙ ap (option_map (λ writes. record { label = numbered (edge_names g) s.label; writes = writes })) (writes_ok (variable_names g) ps f)
         ∙ ap (λ o. Some (record { label = numbered (edge_names g) s.label; writes = given_in (variable_names g) shown_value (option_map_or (λ ps. ps) o []) })) (sym e)
 
-pub record AllSteps (g : Graph) (ws : List Word) (ss : List SaidStep) : Type 0 where
+pub record AllSteps (g : Graph) (ws : List Word) (ss : List StepContent) : Type 0 where
   pub list : List WrittenStep
   pub spelled : ws ≡ map step_word list
   pub form : list_all is_step list ≡ true
   pub says : map (step_in g) list ≡ ss
 
-pub steps_are : (g : Graph) (ws : List Word) (ss : List SaidStep) → steps g ws ≡ Some ss → AllSteps g ws ss
+pub steps_are : (g : Graph) (ws : List Word) (ss : List StepContent) → steps g ws ≡ Some ss → AllSteps g ws ss
 steps_are g [] ss h = record { list = []; spelled = refl; form = refl; says = some_same h }
 steps_are g (w ∷ ws) ss h = first (step g w) refl (steps_are g ws) h
   where
-    rest : ((us : List SaidStep) → steps g ws ≡ Some us → AllSteps g ws us) → (s : SaidStep) → step g w ≡ Some s → (o : Option (List SaidStep)) → steps g ws ≡ o → option_map (λ us. s ∷ us) o ≡ Some ss → AllSteps g (w ∷ ws) ss
+    rest : ((us : List StepContent) → steps g ws ≡ Some us → AllSteps g ws us) → (s : StepContent) → step g w ≡ Some s → (o : Option (List StepContent)) → steps g ws ≡ o → option_map (λ us. s ∷ us) o ≡ Some ss → AllSteps g (w ∷ ws) ss
     rest ih s e None f h = none_some h
     rest ih s e (Some us) f h =
         let a = step_is g w s e in
         let b = ih us f in
         record { list = a.written ∷ b.list; spelled = λ i. a.spelled i ∷ b.spelled i; form = both a.form b.form; says = (λ i. a.says i ∷ b.says i) ∙ some_same h }
 
-    first : (o : Option SaidStep) → step g w ≡ o → ((us : List SaidStep) → steps g ws ≡ Some us → AllSteps g ws us) → option_and_then (λ s. option_map (λ us. s ∷ us) (steps g ws)) o ≡ Some ss → AllSteps g (w ∷ ws) ss
+    first : (o : Option StepContent) → step g w ≡ o → ((us : List StepContent) → steps g ws ≡ Some us → AllSteps g ws us) → option_and_then (λ s. option_map (λ us. s ∷ us) (steps g ws)) o ≡ Some ss → AllSteps g (w ∷ ws) ss
     first None e ih h = none_some h
     first (Some s) e ih h = rest ih s e (steps g ws) refl h
 

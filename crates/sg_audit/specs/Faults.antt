@@ -6,7 +6,7 @@ use Rattle.sg_model.specs.Lists.{has_text, is_in, below, keys_of, first_some}
 use Rattle.sg_model.specs.Limits.{most_events}
 use Rattle.sg_protocol.specs.Graph.{Graph}
 use Rattle.sg_audit.specs.Merged.{Log, roles_of, events_of}
-use Rattle.sg_audit.specs.Said.{Given, SaidStep, Said, SaidSession, SaidLog, SaidEvent, SaidWalk, differ, falls}
+use Rattle.sg_audit.specs.Said.{Given, StepContent, LogContent, SaidSession, SaidLog, SaidEvent, SaidWalk, differ, falls}
 use Rattle.sg_audit.specs.Sessions.{Told, sessions_of}
 use Rattle.sg_audit.specs.declared.fault.Mistake.{Mistake}
 use Rattle.sg_audit.specs.declared.fault.Mistake.TheVariants.{Form, TooManyEvents, Unknown, Twice}
@@ -38,33 +38,33 @@ abbrev pub is_double : {A : Type 0} → Given A → Bool
 is_double v = not (differ (keys_of v.pairs))
 
 -- the label of the step or a variable of it isn't the graph's
-abbrev pub is_strange : SaidStep → Bool
+abbrev pub is_strange : StepContent → Bool
 is_strange s = is_none s.label || not s.writes.known
 
 -- ---- the kinds
 
 -- out of place: a session before the last one may end; a log or a walk in no session that is open, or a walk where each role has a log; an event in no log.
 -- Or variables, all the graph's and none named twice, that don't rise
-abbrev pub is_wrong : Graph → Told → Said → Bool
+abbrev pub is_wrong : Graph → Told → LogContent → Bool
 is_wrong g t (SaidSession n) = not (is_whole g t)
 is_wrong g t (SaidLog role) = not (is_open t)
 is_wrong g t (SaidEvent sent label time v) = not (is_open t) || length (last_logs t) == 0 || falls v
 is_wrong g t (SaidWalk steps) = not (is_open t) || all_have_logs g t || list_any (λ s. falls s.writes) steps
 
 -- the event 100,001
-abbrev pub is_too_many : Told → Said → Bool
+abbrev pub is_too_many : Told → LogContent → Bool
 is_too_many t (SaidEvent sent label time v) = nat_le most_events (event_count t)
 is_too_many t other = false
 
 -- a role, a label or a variable isn't the graph's
-abbrev pub is_unknown : Said → Bool
+abbrev pub is_unknown : LogContent → Bool
 is_unknown (SaidSession n) = false
 is_unknown (SaidLog role) = is_none role
 is_unknown (SaidEvent sent label time v) = is_none label || not v.known
 is_unknown (SaidWalk steps) = list_any is_strange steps
 
 -- a session of this name or a log of this role is there, or a variable is named twice
-abbrev pub is_repeated : Told → Said → Bool
+abbrev pub is_repeated : Told → LogContent → Bool
 is_repeated t (SaidSession n) = has_text n (map (λ s. s.name) (sessions_of t))
 is_repeated t (SaidLog role) = option_map_or (λ r. is_in r (roles_of (last_logs t))) role false
 is_repeated t (SaidEvent sent label time v) = is_double v
@@ -75,5 +75,5 @@ abbrev pub where' : Bool → Mistake → Option Mistake
 where' b kind = if b then Some kind else None
 
 -- what is wrong with a line, the first in this order
-abbrev pub fault : Graph → Told → Said → Option Mistake
+abbrev pub fault : Graph → Told → LogContent → Option Mistake
 fault g t l = first_some (where' (is_wrong g t l) Form ∷ where' (is_too_many t l) TooManyEvents ∷ where' (is_unknown l) Unknown ∷ where' (is_repeated t l) Twice ∷ [])

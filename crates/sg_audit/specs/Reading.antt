@@ -9,8 +9,8 @@ use Rattle.sg_protocol.specs.Graph.{Graph}
 use Rattle.sg_graph.specs.Parts.{variable_names, edge_names}
 use Rattle.sg_sched.specs.Format.Said.{Word}
 use Rattle.sg_sched.specs.Format.Values.{spelled_value}
-use Rattle.sg_sched.specs.Format.Reading.{Left, word, after, ended, split_at}
-use Rattle.sg_audit.specs.Said.{Given, SaidStep, Said, SaidSession, SaidLog, SaidEvent, SaidWalk, numbered, nothing_given, one_given, both_given}
+use Rattle.sg_sched.specs.Format.Reading.{WordsLeft, word, after, ended, split_at}
+use Rattle.sg_audit.specs.Said.{Given, StepContent, LogContent, SaidSession, SaidLog, SaidEvent, SaidWalk, numbered, nothing_given, one_given, both_given}
 
 -- ---- variables with values
 
@@ -60,7 +60,7 @@ abbrev pub written : List Name → Word → Option (Given (Option Value))
 written names w = option_and_then (λ inner. all_assigned names shown_or_hidden (parts false inner)) (unclosed w)
 
 -- a label alone, or LABEL(VAR=VALUE,..)
-abbrev pub labelled : Graph → Word → Option (Word × Word) → Option SaidStep
+abbrev pub labelled : Graph → Word → Option (Word × Word) → Option StepContent
 labelled g w None = if is_name w then Some (record { label = numbered (edge_names g) w; writes = nothing_given }) else None
 labelled g w (Some p) = if is_name p.0 then option_map (λ writes. record { label = numbered (edge_names g) p.0; writes = writes }) (written (variable_names g) p.1) else None
 
@@ -70,24 +70,24 @@ unstarred [] = []
 unstarred (c ∷ cs) = if c == 42 then cs else (c ∷ cs)
 
 -- a step of a walk, with or without *
-unfoldable pub step : Graph → Word → Option SaidStep
+unfoldable pub step : Graph → Word → Option StepContent
 step g w = labelled g (unstarred w) (split_at 40 (unstarred w))
 
 -- each word is a step
-abbrev pub steps : Graph → List Word → Option (List SaidStep)
+abbrev pub steps : Graph → List Word → Option (List StepContent)
 steps g [] = Some []
 steps g (w ∷ ws) = option_and_then (λ s. option_map (λ ss. s ∷ ss) (steps g ws)) (step g w)
 
 -- ---- forms, each after its first word
 
 -- session NAME
-unfoldable pub session_form : Left → Option Said
+unfoldable pub session_form : WordsLeft → Option LogContent
 session_form =
     after (word name) λ n.
     ended (Some (SaidSession n))
 
 -- log ROLE
-unfoldable pub log_form : Graph → Left → Option Said
+unfoldable pub log_form : Graph → WordsLeft → Option LogContent
 log_form g =
     after (word name) λ n.
     ended (Some (SaidLog (numbered g.roles n)))
@@ -97,18 +97,18 @@ unfoldable pub time : Word → Option ℕ
 time w = option_and_then from_one (number most_time w)
 
 -- sent LABEL TIME VAR=VALUE .., and the same of received
-unfoldable pub event_form : Graph → Bool → Left → Option Said
+unfoldable pub event_form : Graph → Bool → WordsLeft → Option LogContent
 event_form g sent =
     after (word name) λ label.
     after (word time) λ at.
     λ ws. option_map (SaidEvent sent (numbered (edge_names g) label) at) (all_assigned (variable_names g) spelled_value ws)
 
 -- walk STEP ..
-unfoldable pub walk_form : Graph → Left → Option Said
+unfoldable pub walk_form : Graph → WordsLeft → Option LogContent
 walk_form g ws = option_map SaidWalk (steps g ws)
 
 -- a line by its first word
-unfoldable pub form : Graph → Left → Option Said
+unfoldable pub form : Graph → WordsLeft → Option LogContent
 form g [] = None
 form g (w ∷ ws) =
     if bytes_eq w (codes "session") then session_form ws

@@ -5,11 +5,11 @@ use Rattle.sg_model.specs.Last.{Map}
 use Rattle.sg_model.specs.Lists.{has_text, is_in, keys_of, rises_from}
 use Rattle.sg_model.specs.Names.{Name}
 use Rattle.sg_model.specs.Values.{Value}
-use Rattle.sg_parse.specs.Reading.{place_of}
+use Rattle.sg_parse.specs.Reading.{index_of}
 
 -- the number of a name among names, if it is one of them
 abbrev pub numbered : List Name → Name → Option ℕ
-numbered names n = if has_text n names then Some (place_of n names) else None
+numbered names n = if has_text n names then Some (index_of n names) else None
 
 -- variables with what they are given: those that the graph declares, in the order of the line, and whether it declares all
 pub record Given (A : Type 0) : Type 0 where
@@ -17,16 +17,16 @@ pub record Given (A : Type 0) : Type 0 where
   pub known : Bool
 
 -- a step of a walk: its label, if the graph has it, and what it writes
-pub record SaidStep : Type 0 where
+pub record StepContent : Type 0 where
   pub label : Option ℕ
   pub writes : Given (Option Value)
 
 -- what a line says. A role or a label is none where the graph has none of the name
-pub data Said : Type 0 where
-  SaidSession : Name → Said
-  SaidLog : (role : Option ℕ) → Said
-  SaidEvent : (sent : Bool) (label : Option ℕ) (time : ℕ) (values : Given Value) → Said
-  SaidWalk : List SaidStep → Said
+pub data LogContent : Type 0 where
+  SaidSession : Name → LogContent
+  SaidLog : (role : Option ℕ) → LogContent
+  SaidEvent : (sent : Bool) (label : Option ℕ) (time : ℕ) (values : Given Value) → LogContent
+  SaidWalk : List StepContent → LogContent
 
 -- ---- variables
 

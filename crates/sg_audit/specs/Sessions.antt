@@ -8,7 +8,7 @@ use Rattle.sg_protocol.specs.Graph.{Graph}
 use Rattle.sg_protocol.specs.Calls.{Event, Sent, Received}
 use Rattle.sg_protocol.specs.Walk.{StoredStep}
 use Rattle.sg_audit.specs.Merged.{Log}
-use Rattle.sg_audit.specs.Said.{SaidStep, Said, SaidSession, SaidLog, SaidEvent, SaidWalk}
+use Rattle.sg_audit.specs.Said.{StepContent, LogContent, SaidSession, SaidLog, SaidEvent, SaidWalk}
 
 -- a session with its logs, and its walk where one is told
 pub record Session : Type 0 where
@@ -44,7 +44,7 @@ event true role label time values = Sent (replicate 32 0) role label time values
 event false role label time values = Received (replicate 32 0) role label time values false
 
 -- the step, where its label is the graph's
-abbrev pub stored_step : SaidStep → StoredStep
+abbrev pub stored_step : StepContent → StoredStep
 stored_step s = record { label = option_map_or (λ l. l) s.label 0; writes = s.writes.pairs }
 
 -- the last log with one more event of its role
@@ -56,7 +56,7 @@ abbrev pub with_logs : (List Log → List Log) → Told → Told
 with_logs f t = record { over = t.over; last = option_map (λ s. record { name = s.name; logs = f s.logs; walk = s.walk }) t.last }
 
 -- a session begins; the last one gets a log, the last log an event, the last session its walk
-abbrev pub added : Told → Said → Told
+abbrev pub added : Told → LogContent → Told
 added t (SaidSession n) = record { over = sessions_of t; last = Some (record { name = n; logs = []; walk = None }) }
 added t (SaidLog role) = with_logs (λ logs. logs ++ (unwrap_or role 0, []) ∷ []) t
 added t (SaidEvent sent label time v) = with_logs (with_event (λ r. event sent r (unwrap_or label 0) time v.pairs)) t

@@ -11,7 +11,7 @@ use Rattle.sg_protocol.specs.Graph.{Graph}
 use Rattle.sg_protocol.specs.Calls.{Event}
 use Rattle.sg_protocol.specs.Walk.{StoredStep}
 use Rattle.sg_audit.specs.Merged.{Log}
-use Rattle.sg_audit.specs.Said.{Given, SaidStep, Said, SaidSession, SaidLog, SaidEvent, SaidWalk, falls, rise}
+use Rattle.sg_audit.specs.Said.{Given, StepContent, LogContent, SaidSession, SaidLog, SaidEvent, SaidWalk, falls, rise}
 use Rattle.sg_audit.specs.Sessions.{Session, event, stored_step}
 use Rattle.sg_audit.specs.declared.fault.Mistake.{Mistake}
 use Rattle.sg_audit.specs.declared.fault.Mistake.TheVariants.{Form, TooManyEvents, Unknown, Twice}
@@ -97,11 +97,11 @@ add_event d sent label time v = if not (is_open d) then Err Form else option_map
 -- ---- walks
 
 -- the step's label or one of its variables isn't the graph's
-abbrev pub is_unknown : SaidStep → Bool
+abbrev pub is_unknown : StepContent → Bool
 is_unknown s = is_none s.label || not s.writes.known
 
 -- the walk of an open session in which a role has no log
-unfoldable pub add_walk : Graph → SoFar → List SaidStep → Added
+unfoldable pub add_walk : Graph → SoFar → List StepContent → Added
 add_walk g d ss =
     if not (is_open d) || all_have_logs g d then Err Form
     else if list_any (λ s. falls s.writes) ss then Err Form
@@ -112,7 +112,7 @@ add_walk g d ss =
 -- ---- lines
 
 -- what a line of a form adds
-unfoldable pub add : Graph → SoFar → Said → Added
+unfoldable pub add : Graph → SoFar → LogContent → Added
 add g d (SaidSession n) = add_session g d n
 add g d (SaidLog role) = add_log d role
 add g d (SaidEvent sent label time values) = add_event d sent label time values

@@ -8,7 +8,7 @@ use Rattle.sg_parse.specs.declared.fault.ParseFault.{ParseFault}
 use Rattle.sg_sched.specs.Text.{lines, content, words}
 use Rattle.sg_sched.specs.Format.Forms.{is_skipped}
 use Rattle.sg_sched.specs.Format.Spells.{Line, closes}
-use Rattle.sg_audit.specs.Said.{Said}
+use Rattle.sg_audit.specs.Said.{LogContent}
 use Rattle.sg_audit.specs.Written.{Says}
 use Rattle.sg_audit.specs.Sessions.{Logs, Told, sessions_of, added}
 use Rattle.sg_audit.specs.Faults.{fault, is_whole}
@@ -30,25 +30,25 @@ pub record IsOpened (ls : List Line) (inner : List Line) : Type 0 where
 
 -- these lines are skipped ones and a block, and the bytes and line ends of the block as they stand are its text
 pub record IsBlock (ls : List Line) (text : List ℕ) : Type 0 where
-  pub front : List Line
+  pub prefix : List Line
   pub inner : List Line
   pub closing : Line
-  pub all : ls ≡ front ++ closing ∷ []
-  pub opened : IsOpened front inner
+  pub all : ls ≡ prefix ++ closing ∷ []
+  pub opened : IsOpened prefix inner
   pub closed : IsTrue (closes closing)
   pub within : text ≡ concat inner
 
 -- ---- the sessions
 
 -- the words of the line say this of the graph
-abbrev pub SaysLine : AGraph → Line → Said → Type 0
+abbrev pub SaysLine : AGraph → Line → LogContent → Type 0
 SaysLine g line said = Says g (words (content line)) said
 
 -- the lines after the block, from the first one on, tell this, and none of them is wrong
 pub data Tell (g : AGraph) : List Line → Told → Type 0 where
   Nothing : Tell g [] (record { over = []; last = None })
   Skip : {ls : List Line} {t : Told} (line : Line) → Tell g ls t → IsTrue (is_skipped line) → Tell g (ls ++ line ∷ []) t
-  Say : {ls : List Line} {t : Told} (line : Line) (said : Said) → Tell g ls t → IsFalse (is_skipped line) → SaysLine g line said → fault g t said ≡ None → Tell g (ls ++ line ∷ []) (added t said)
+  Say : {ls : List Line} {t : Told} (line : Line) (said : LogContent) → Tell g ls t → IsFalse (is_skipped line) → SaysLine g line said → fault g t said ≡ None → Tell g (ls ++ line ∷ []) (added t said)
 
 -- after the block of a graph, these lines tell this
 pub record TellAfter (g : AGraph) (ls : List Line) (t : Told) : Type 0 where
@@ -82,8 +82,8 @@ pub data IsFirstFault (ls : List Line) : Fault → Type 0 where
   NotClosed : (inner : List Line) → IsOpened ls inner → IsFirstFault ls (WrongLine (length ls) Form)
   OfGraph : (block rest : List Line) (text : List ℕ) {e : ParseFault} → ls ≡ block ++ rest → IsBlock block text → read text ≡ Err e → IsFirstFault ls (NoGraph e)
   OfNoForm : (g : AGraph) (t : Told) (right rest : List Line) (line : Line) → ls ≡ right ++ line ∷ rest → TellAfter g right t → IsFalse (is_skipped line)
-      → ((said : Said) → SaysLine g line said → ⊥) → IsFirstFault ls (WrongLine (length right + 1) Form)
-  OfAForm : (g : AGraph) (t : Told) (right rest : List Line) (line : Line) (said : Said) {kind : Mistake} → ls ≡ right ++ line ∷ rest → TellAfter g right t → IsFalse (is_skipped line)
+      → ((said : LogContent) → SaysLine g line said → ⊥) → IsFirstFault ls (WrongLine (length right + 1) Form)
+  OfAForm : (g : AGraph) (t : Told) (right rest : List Line) (line : Line) (said : LogContent) {kind : Mistake} → ls ≡ right ++ line ∷ rest → TellAfter g right t → IsFalse (is_skipped line)
       → SaysLine g line said → fault g t said ≡ Some kind → IsFirstFault ls (WrongLine (length right + 1) kind)
   TooFew : (g : AGraph) (t : Told) → TellAfter g ls t → IsFalse (is_whole g t) → IsFirstFault ls (WrongLine (length ls + 1) Form)
 

@@ -4,7 +4,7 @@ use Rattle.sg_base.specs.declared.value.Value.{Value as Held}
 use Rattle.sg_model.specs.Values.{Value}
 use Rattle.sg_walk.specs.Model.{values_of, writes_of, steps_of}
 use Rattle.sg_audit.specs.Model.{log_of}
-use Rattle.sg_audit.specs.Said.{Given, SaidStep, Said, SaidSession, SaidLog, SaidEvent, SaidWalk}
+use Rattle.sg_audit.specs.Said.{Given, StepContent, LogContent, SaidSession, SaidLog, SaidEvent, SaidWalk}
 use Rattle.sg_audit.specs.SoFar.{SoFar, Added}
 use Rattle.sg_audit.specs.Sessions.{Session, Logs}
 use Rattle.sg_audit.specs.Spells.{Fault, WrongLine, NoGraph}
@@ -29,11 +29,11 @@ abbrev pub given_writes : Taken (Option Held) → Given (Option Value)
 given_writes v = record { pairs = writes_of v.pairs; known = v.known }
 
 -- a step that is held
-abbrev pub step_said : GivenStep → SaidStep
+abbrev pub step_said : GivenStep → StepContent
 step_said s = record { label = s.label; writes = given_writes s.writes }
 
 -- what a line that is held says
-abbrev pub said : LogLine → Said
+abbrev pub said : LogLine → LogContent
 said (ALine n) = SaidSession n
 said (Log role) = SaidLog role
 said (Event sent label time values) = SaidEvent sent label time (given_values values)

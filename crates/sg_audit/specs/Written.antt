@@ -11,7 +11,7 @@ use Rattle.sg_protocol.specs.Graph.{Graph}
 use Rattle.sg_graph.specs.Parts.{variable_names, edge_names}
 use Rattle.sg_sched.specs.Format.Said.{Word, Given as Pair, given_word, joined_names}
 use Rattle.sg_sched.specs.Format.Values.{is_value, value_of}
-use Rattle.sg_audit.specs.Said.{Given, SaidStep, Said, SaidSession, SaidLog, SaidEvent, SaidWalk, numbered}
+use Rattle.sg_audit.specs.Said.{Given, StepContent, LogContent, SaidSession, SaidLog, SaidEvent, SaidWalk, numbered}
 
 -- a step of a walk: whether * stands in front, the label, and what stands between ( and ) where they stand
 pub record WrittenStep : Type 0 where
@@ -76,18 +76,18 @@ abbrev pub given_in : {A : Type 0} → List Name → (Word → A) → List Pair 
 given_in names value ps = record { pairs = filter_map (λ p. option_map (λ x. (x, value p.value)) (numbered names p.variable)) ps; known = list_all (λ p. has_text p.variable names) ps }
 
 -- a step
-abbrev pub step_in : Graph → WrittenStep → SaidStep
+abbrev pub step_in : Graph → WrittenStep → StepContent
 step_in g s = record { label = numbered (edge_names g) s.label; writes = given_in (variable_names g) shown_value (option_map_or (λ ps. ps) s.writes []) }
 
 -- what a line says, with the numbers of its names
-abbrev pub said_in : Graph → Written → Said
+abbrev pub said_in : Graph → Written → LogContent
 said_in g (ASession n) = SaidSession n
 said_in g (ALog role) = SaidLog (numbered g.roles role)
 said_in g (AnEvent sent label time values) = SaidEvent sent (numbered (edge_names g) label) time (given_in (variable_names g) value_of values)
 said_in g (AWalk steps) = SaidWalk (map (step_in g) steps)
 
 -- the words are those of a line, each place of which holds what it may hold, and they say this of the graph
-pub record Says (g : Graph) (ws : List Word) (said : Said) : Type 0 where
+pub record Says (g : Graph) (ws : List Word) (said : LogContent) : Type 0 where
   pub written : Written
   pub spelled : ws ≡ line_words written
   pub form : is_form written ≡ true

@@ -24,7 +24,7 @@ pub(crate) struct Given<T> {
 fn variable_named(graph: &Graph, name: &Name) -> Option<Var>
     ensures { result ≡ numbered (variable_names graph.now) name.now }
 {
-    // The names of its variables differ, so the place is this one.
+    // The names of its variables differ, so the index is this one.
     let _count = graph.vars();
     graph.find_var(name)
 }

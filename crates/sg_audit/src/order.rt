@@ -124,18 +124,18 @@ fn differ<T>(pairs: &[(Var, T)]) -> bool
     let mut left = pairs.len();
     while left > 0 {
         left -= 1;
-        let place = place_of(pairs[left].0);
-        if seen[place] {
+        let index = index_of(pairs[left].0);
+        if seen[index] {
             return false;
         }
-        seen[place] = true;
+        seen[index] = true;
     }
     true
 }
 
-// The variable's place among all.
-fn place_of(var: Var) -> usize
-    ensures place { result ≡ var }
+// The variable's index among all.
+fn index_of(var: Var) -> usize
+    ensures index { result ≡ var }
     ensures within { result < 256 }
 {
     var.0 as usize

@@ -144,16 +144,16 @@ fn split_part(bytes: &[u8]) -> (&[u8], Option<&[u8]>)
     ensures split { MatchOption result.1 (parts false bytes.now ≡ result.0.now ∷ []) (λ rest. parts false bytes.now ≡ result.0.now ∷ parts false rest.now) }
     ensures shorter { IfSome result.1 (λ rest. length rest.now < length bytes.now) }
 {
-    let (front, rest) = bytes.split_at(part_end(bytes));
+    let (prefix, rest) = bytes.split_at(part_end(bytes));
     match rest {
-        [_, rest @ ..] => (front, Some(rest)),
-        [] => (front, None),
+        [_, rest @ ..] => (prefix, Some(rest)),
+        [] => (prefix, None),
     }
 }
 
-// The place of the first comma outside double quotes, or the length.
+// The index of the first comma outside double quotes, or the length.
 fn part_end(bytes: &[u8]) -> usize
-    ensures place { result ≡ part_end false bytes.now }
+    ensures index { result ≡ part_end false bytes.now }
     ensures within { result ≤ length bytes.now }
 {
     let mut quoted = false;

@@ -14,12 +14,12 @@ abbrev pub same : List ℕ → List ℕ → Bool
 same a b = eq-value.it a b
 
 -- texts of one length that are equal with what follows them are equal
-front_equal : (a b x y : List ℕ) → (a ++ x ≡ b ++ y) × (length a ≡ length b) → a ≡ b
-front_equal a b x y h = sym (take-append_seam a x) ∙ (λ i. take (h.1 i) (h.0 i)) ∙ take-append_seam b y
+prefix_equal : (a b x y : List ℕ) → (a ++ x ≡ b ++ y) × (length a ≡ length b) → a ≡ b
+prefix_equal a b x y h = sym (take-append_seam a x) ∙ (λ i. take (h.1 i) (h.0 i)) ∙ take-append_seam b y
 
 -- it is equality
 pub same-Decides : (a b : List ℕ) → Decides (same a b) (a ≡ b)
-same-Decides a b = Decides-like _ (front_equal a b _ _) (λ e. (ap (λ n. (fields_of n).bytes) e, ap length e)) (Decides-and _ _ (slice_eq-Decides Decides-eqb (fields_of a).bytes (fields_of b).bytes _ refl) (Decides-eqb (length a) (length b)))
+same-Decides a b = Decides-like _ (prefix_equal a b _ _) (λ e. (ap (λ n. (fields_of n).bytes) e, ap length e)) (Decides-and _ _ (slice_eq-Decides Decides-eqb (fields_of a).bytes (fields_of b).bytes _ refl) (Decides-eqb (length a) (length b)))
 
 -- as the equality of texts is
 pub same-bytes_eq : (a b : List ℕ) → same a b ≡ bytes_eq a b

@@ -10,9 +10,9 @@ HasRisen old new = (old < new) ⊎ (2 ^ 64 - 1 ≤ old)
 abbrev pub Appends : {A : Type 0} → Option (List A) → Option (List A) → List A → Type 0
 Appends {A} old new items = (before : List A) → old ≡ Some before → new ≡ Some (before ++ items)
 
--- a front part of the items was added at the end of a list, where the list is told
-abbrev pub AppendsFront : {A : Type 0} → Option (List A) → Option (List A) → List A → Type 0
-AppendsFront {A} old new items =
+-- a prefix of the items was added at the end of a list, where the list is told
+abbrev pub AppendsPrefix : {A : Type 0} → Option (List A) → Option (List A) → List A → Type 0
+AppendsPrefix {A} old new items =
     (count : ℕ) × (count ≤ length items) × Appends old new (take count items)
 
 -- the first item was taken off a list, where the list is told

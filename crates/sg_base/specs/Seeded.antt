@@ -3,15 +3,15 @@ use Rattle.std.specs.Int.{w32, to_le_bytes}
 use Rattle.rand_chacha.specs.ChaCha.{word_at, key_of}
 use Rattle.sg_model.specs.Lists.{below}
 
--- the four bytes of one place of a key stream of ChaCha20 (RFC 8439, section 2.4), low byte first
+-- the four bytes of one position of a key stream of ChaCha20 (RFC 8439, section 2.4), low byte first
 abbrev pub stream_bytes : List ℕ → ℕ → ℕ → List ℕ
-stream_bytes key stream place = to_le_bytes w32 (word_at 10 key stream place)
+stream_bytes key stream position = to_le_bytes w32 (word_at 10 key stream position)
 
--- the sixteen bytes of four places
+-- the sixteen bytes of four positions
 abbrev pub stream_word : List ℕ → ℕ → ℕ → List ℕ
-stream_word key stream place =
-    stream_bytes key stream place ++ stream_bytes key stream (place + 1)
-    ++ stream_bytes key stream (place + 2) ++ stream_bytes key stream (place + 3)
+stream_word key stream position =
+    stream_bytes key stream position ++ stream_bytes key stream (position + 1)
+    ++ stream_bytes key stream (position + 2) ++ stream_bytes key stream (position + 3)
 
 -- the first words of a seed, of sixteen bytes each, one after the other in the key stream
 abbrev pub seeded_words : List ℕ → ℕ → List (List ℕ)

@@ -34,14 +34,14 @@ impl<'a> Model for ByteIn<'a> {
 }
 
 impl<'a> ByteIn<'a> {
-    /// The slice, with the place at its beginning.
+    /// The slice, with the position at its beginning.
     pub fn new(bytes: &'a [u8]) -> ByteIn<'a>
         ensures { result ≡ record { bytes = bytes.now; at = 0 } }
     {
         ByteIn { bytes, at: 0 }
     }
 
-    /// The offset of the place.
+    /// The offset of the position.
     pub fn at(&self) -> usize
         ensures { result ≡ self.now.at }
     {

@@ -67,7 +67,7 @@ impl Name {
             return None;
         }
         let mut kept = [0u8; 32];
-        put_front(&mut kept, bytes);
+        put_prefix(&mut kept, bytes);
         Some(Name {
             bytes: kept,
             count: bytes.len() as u8,
@@ -143,9 +143,9 @@ fn are_name_bytes(bytes: &[u8]) -> bool
     bytes.iter().all(|byte| name_byte(*byte))
 }
 
-fn put_front(block: &mut [u8; 32], front: &[u8])
-    requires { length front.now ≤ 32 }
-    ensures { block.new ≡ front.now ++ drop (length front.now) block.old }
+fn put_prefix(block: &mut [u8; 32], prefix: &[u8])
+    requires { length prefix.now ≤ 32 }
+    ensures { block.new ≡ prefix.now ++ drop (length prefix.now) block.old }
 {
-    block[..front.len()].copy_from_slice(front);
+    block[..prefix.len()].copy_from_slice(prefix);
 }

@@ -6,7 +6,7 @@ ghost use Rattle.std.proofs.Common.{rules};
 use std::hash::{Hash, Hasher};
 use std::marker::Model;
 
-/// A role of a graph, by its place in the order of declaration, from 0 to 15.
+/// A role of a graph, by its index in the order of declaration, from 0 to 15.
 #[derive(Debug, Clone, Copy, PartialEq, Eq, Hash)]
 pub struct Role(pub u8);
 
@@ -20,7 +20,7 @@ impl Model for Role {
     ghost inverse = { λ n. record { 0 = n } };
 }
 
-/// A variable of a graph, by its place in the order of declaration, from 0 to 31.
+/// A variable of a graph, by its index in the order of declaration, from 0 to 31.
 #[derive(Debug, Clone, Copy, PartialEq, Eq)]
 pub struct Var(pub u8);
 
@@ -34,7 +34,7 @@ impl Model for Var {
     ghost inverse = { λ n. record { 0 = n } };
 }
 
-/// A node of a graph, by its place in the order of declaration, from 0 to 255. Node 0 is the start.
+/// A node of a graph, by its index in the order of declaration, from 0 to 255. Node 0 is the start.
 #[derive(Debug, Clone, Copy, PartialEq, Eq)]
 pub struct NodeId(pub u16);
 
@@ -48,7 +48,7 @@ impl Model for NodeId {
     ghost inverse = { λ n. record { 0 = n } };
 }
 
-/// An edge of a graph, which is its label, by its place in the order of declaration, from 0 to 511.
+/// An edge of a graph, which is its label, by its index in the order of declaration, from 0 to 511.
 #[derive(Debug, Clone, Copy, PartialEq, Eq)]
 pub struct Label(pub u16);
 

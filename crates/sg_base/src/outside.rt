@@ -4,7 +4,7 @@
 //! call. What an object holds is told by the objects in memory and not by those of the system, so the clauses on it speak of what is
 //! told. At which address a link waits, each link tells.
 ghost use Rattle.std.specs.Prelude.{◌≡◌, ◌<◌, ◌≤◌, ℕ, List, [], ◌∷◌, Option, Some, None, take, drop, replicate, length, slice_index_or, OnOk, OnErr, IfOk, IfErr, IfSome, IfNone, IsSomeAnd};
-ghost use Rattle.sg_base.specs.Outside.{HasRisen, Appends, AppendsFront, TakesFirst, file_at};
+ghost use Rattle.sg_base.specs.Outside.{HasRisen, Appends, AppendsPrefix, TakesFirst, file_at};
 ghost use Rattle.sg_base.specs.declared.address.Addr.{Addr};
 
 use crate::{Addr, Sealed};
@@ -143,13 +143,13 @@ pub trait Fresh {
         ensures taken { (all : List (List ℕ)) → words self.old ≡ Some all → words self.new ≡ Some (drop 1 all) };
 }
 
-/// Writes all of a text, in as many calls as it takes. Where a call fails, a front part may have been written.
+/// Writes all of a text, in as many calls as it takes. Where a call fails, a prefix may have been written.
 pub fn write_all<O: Sink>(out: &mut O, text: &[u8]) -> Result<(), Failed>
     ensures never_falls { O.faults out.old ≤ O.faults out.new }
     ensures failed { OnErr result (HasRisen (O.faults out.old) (O.faults out.new)) }
     ensures no_fault { OnOk result (O.faults out.new ≡ O.faults out.old) }
     ensures whole { OnOk result (Appends (O.written out.old) (O.written out.new) text.now) }
-    ensures front { OnErr result (AppendsFront (O.written out.old) (O.written out.new) text.now) }
+    ensures prefix { OnErr result (AppendsPrefix (O.written out.old) (O.written out.new) text.now) }
 {
     let mut at = 0usize;
     while at < text.len() {

@@ -24,7 +24,7 @@ impl<R: rt::Files + Drop> StdFiles<R> {
 }
 
 // The first bytes of a file, at most one more than `max`.
-fn read_front<R: rt::Files>(rt: &R, alloc: Global, name: &str, max: u32) -> io::Result<Vec<u8>>
+fn read_prefix<R: rt::Files>(rt: &R, alloc: Global, name: &str, max: u32) -> io::Result<Vec<u8>>
 where
     R::File: Drop,
 {
@@ -42,7 +42,7 @@ impl<R: rt::Files + Drop> Files for StdFiles<R> {
     ghost held = { λ _. None };
 
     fn read(&mut self, alloc: Global, name: &str, max: u32) -> Result<Option<Vec<u8>>, FileFault> {
-        match read_front(&self.rt, alloc, name, max) {
+        match read_prefix(&self.rt, alloc, name, max) {
             Ok(bytes) if bytes.len() > max as usize => Err(FileFault::TooLong),
             Ok(bytes) => Ok(Some(bytes)),
             Err(e) => match e.kind() {
@@ -74,7 +74,7 @@ impl<W: Write + Drop> StdSink<W> {
 }
 
 // Writes the first bytes of a piece, and gives their number, which is 0 where the system failed.
-fn write_front<W: Write>(writer: &mut W, piece: &[u8]) -> usize {
+fn write_prefix<W: Write>(writer: &mut W, piece: &[u8]) -> usize {
     for _ in 0..u64::MAX {
         match writer.write(piece) {
             Ok(count) => return count,
@@ -93,7 +93,7 @@ impl<W: Write> Sink for StdSink<W> {
     ghost written = { λ _. None };
 
     fn write(&mut self, piece: &[u8]) -> Result<usize, Failed> {
-        let taken = write_front(&mut self.writer, piece);
+        let taken = write_prefix(&mut self.writer, piece);
         if taken == 0 || taken > piece.len() {
             self.faults = self.faults.saturating_add(1);
             return Err(Failed);

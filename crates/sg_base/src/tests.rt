@@ -6,7 +6,7 @@ use crate::{
 use std::test::Fail;
 
 #[test]
-fn a_field_one_byte_short_answers_its_offset_and_the_place_stays(rt: HostRuntime) {
+fn a_field_one_byte_short_answers_its_offset_and_the_position_stays(rt: HostRuntime) {
     let mut at_end = ByteIn::new(b"");
     assert_eq!(rt; at_end.u8(), Err(Short { at: 0 }));
     let mut two = ByteIn::new(b"ab");

@@ -9,7 +9,7 @@ use Rattle.sg_reach.specs.Reaches.{IsWithin, LeadsPast}
 use Rattle.sg_reach.proofs.Cases.{less_or}
 use Rattle.sg_reach.proofs.Pair.{pair, leads_first, leads_second, first_leads, second_leads}
 use Rattle.sg_reach.proofs.There.{ends_there, end_there, role_there}
-use Rattle.sg_check.specs.Blind.{PairAtNode, IsBefore, IsBlind, IsClear, IsLeastBlinding, IsFaultAmong, AtNode, AtPair, AtPlace}
+use Rattle.sg_check.specs.Blind.{PairAtNode, IsBefore, IsBlind, IsClear, IsLeastBlinding, IsFaultAmong, AtNode, AtPair, AtRoles}
 use Rattle.sg_check.specs.declared.blinding.BlindFault.{BlindFault}
 use Rattle.sg_check.specs.declared.blinding.BlindFault.TheVariants.{Blinding as Blinds, OutOfMemory}
 
@@ -63,20 +63,20 @@ fault_blind g among (Blinds node a b walk_a walk_b) x =
 fault_blind g among OutOfMemory x = x
 
 -- where a closure past two roles has no node of the first, the two aren't blinded
-pub clear_first : (g : Graph) (m a b : ℕ) → ((n : ℕ) → role_at (shape g) n ≡ a → IsWithin (record { graph = g; from = m; past = pair a b }) n → ⊥) → IsClear (shape g) (AtPlace m a b)
+pub clear_first : (g : Graph) (m a b : ℕ) → ((n : ℕ) → role_at (shape g) n ≡ a → IsWithin (record { graph = g; from = m; past = pair a b }) n → ⊥) → IsClear (shape g) (AtRoles m a b)
 clear_first g m a b h p at blind =
     let x : Blinding (shape g) m a b = subst (λ (i : ℕ). Blinding (shape g) m a i) at.2 (subst (λ (i : ℕ). Blinding (shape g) m i p.b) at.1 (subst (λ (i : ℕ). Blinding (shape g) i p.a p.b) at.0 blind.1)) in
     h (end_of (shape g) m x.to_a) x.leads_a.ends (x.to_a, first_leads (shape g) m a b x.to_a x.leads_a)
 
 -- nor where it has no node of the second
-pub clear_second : (g : Graph) (m a b : ℕ) → ((n : ℕ) → role_at (shape g) n ≡ b → IsWithin (record { graph = g; from = m; past = pair a b }) n → ⊥) → IsClear (shape g) (AtPlace m a b)
+pub clear_second : (g : Graph) (m a b : ℕ) → ((n : ℕ) → role_at (shape g) n ≡ b → IsWithin (record { graph = g; from = m; past = pair a b }) n → ⊥) → IsClear (shape g) (AtRoles m a b)
 clear_second g m a b h p at blind =
     let x : Blinding (shape g) m a b = subst (λ (i : ℕ). Blinding (shape g) m a i) at.2 (subst (λ (i : ℕ). Blinding (shape g) m i p.b) at.1 (subst (λ (i : ℕ). Blinding (shape g) i p.a p.b) at.0 blind.1)) in
     h (end_of (shape g) m x.to_b) x.leads_b.ends (x.to_b, second_leads (shape g) m a b x.to_b x.leads_b)
 
 -- where it has a node of each, they are blinded, and a walk to each shows it
 pub shown : (g : Graph) (m a b n k : ℕ) (walk_a walk_b : List ℕ) → a < b → b < 16 → role_at (shape g) m ≢ a → role_at (shape g) m ≢ b → role_at (shape g) n ≡ a → role_at (shape g) k ≡ b
-    → LeadsPast (shape g) m (pair a b) n walk_a → LeadsPast (shape g) m (pair a b) k walk_b → IsLeastBlinding (shape g) (AtPlace m a b) (record { node = m; a = a; b = b }) walk_a walk_b
+    → LeadsPast (shape g) m (pair a b) n walk_a → LeadsPast (shape g) m (pair a b) k walk_b → IsLeastBlinding (shape g) (AtRoles m a b) (record { node = m; a = a; b = b }) walk_a walk_b
 shown g m a b n k walk_a walk_b rising small not_a not_b role_a role_b to_a to_b = record {
   one = (refl, refl, refl);
   rising = rising;
@@ -89,7 +89,7 @@ shown g m a b n k walk_a walk_b rising small not_a not_b role_a role_b to_a to_b
 
 -- nodes of both roles in the closure make a blinding
 pub blind_at : (g : Graph) (m a b n k : ℕ) → a < b → b < 16 → role_at (shape g) m ≢ a → role_at (shape g) m ≢ b → role_at (shape g) n ≡ a → role_at (shape g) k ≡ b
-    → IsWithin (record { graph = g; from = m; past = pair a b }) n → IsWithin (record { graph = g; from = m; past = pair a b }) k → (p : PairAtNode) × AtPlace m a b p × IsBlind (shape g) p
+    → IsWithin (record { graph = g; from = m; past = pair a b }) n → IsWithin (record { graph = g; from = m; past = pair a b }) k → (p : PairAtNode) × AtRoles m a b p × IsBlind (shape g) p
 blind_at g m a b n k rising small not_a not_b role_a role_b to_a to_b =
     let x = shown g m a b n k to_a.0 to_b.0 rising small not_a not_b role_a role_b to_a.1 to_b.1 in
     (record { node = m; a = a; b = b }, x.one, (x.rising, record { apart = apart; not_a = x.not_a; not_b = x.not_b; to_a = to_a.0; to_b = to_b.0; leads_a = x.leads_a; leads_b = x.leads_b }))
@@ -98,9 +98,9 @@ blind_at g m a b n k rising small not_a not_b role_a role_b to_a to_b =
     apart e = omega arith
 
 -- a fault at one place is one among those of its node and first role, where the lesser second roles have none
-pub fault_of_pair : (g : Shape) (m a b : ℕ) (f : BlindFault) → ((p : PairAtNode) → p.node ≡ m → p.a ≡ a → p.b < b → IsBlind g p → ⊥) → IsFaultAmong g (AtPlace m a b) f → IsFaultAmong g (AtPair m a) f
+pub fault_of_pair : (g : Shape) (m a b : ℕ) (f : BlindFault) → ((p : PairAtNode) → p.node ≡ m → p.a ≡ a → p.b < b → IsBlind g p → ⊥) → IsFaultAmong g (AtRoles m a b) f → IsFaultAmong g (AtPair m a) f
 fault_of_pair g m a b f clear x =
-    widened g (AtPlace m a b) (AtPair m a) f (λ p at. (at.0, at.1))
+    widened g (AtRoles m a b) (AtPair m a) f (λ p at. (at.0, at.1))
     (λ p q one at before. inr (clear q at.0 at.1 (elim before [ inl l ↦ absurd (omega (arith, one.0, at.0, l)) | inr r ↦ elim r.1 [ inl l ↦ absurd (omega (arith, one.1, at.1, l)) | inr s ↦ omega (arith, one.2, s.1) ] ]))) x
 
 -- and that among those of its node, where the lesser first roles have none

@@ -10,7 +10,7 @@ pub record PairAtNode : Type 0 where
   pub a : ℕ
   pub b : ℕ
 
--- the first place has the lesser node, or the same and the lesser first role, or the same two and the lesser second role
+-- the first pair has the lesser node, or the same and the lesser first role, or the same two and the lesser second role
 abbrev pub IsBefore : PairAtNode → PairAtNode → Type 0
 IsBefore p q = (p.node < q.node) ⊎ ((p.node ≡ q.node) × ((p.a < q.a) ⊎ ((p.a ≡ q.a) × (p.b < q.b))))
 
@@ -18,11 +18,11 @@ IsBefore p q = (p.node < q.node) ⊎ ((p.node ≡ q.node) × ((p.a < q.a) ⊎ ((
 abbrev pub IsBlind : Shape → PairAtNode → Type 0
 IsBlind g p = (p.a < p.b) × Blinding g p.node p.a p.b
 
--- none of these places has a blinding
+-- none of these pairs has a blinding
 abbrev pub IsClear : Shape → (PairAtNode → Type 0) → Type 0
 IsClear g among = (p : PairAtNode) → among p → IsBlind g p → ⊥
 
--- two walks that show a blinding at one of these places, before which none of them has one
+-- two walks that show a blinding at one of these pairs, before which none of them has one
 pub record IsLeastBlinding (g : Shape) (among : PairAtNode → Type 0) (p : PairAtNode) (walk_a walk_b : List ℕ) : Type 0 where
   pub one : among p
   pub rising : p.a < p.b
@@ -32,7 +32,7 @@ pub record IsLeastBlinding (g : Shape) (among : PairAtNode → Type 0) (p : Pair
   pub leads_b : Leads g p.node p.b p.a walk_b
   pub none_before : (q : PairAtNode) → among q → IsBefore q p → IsBlind g q → ⊥
 
--- the least blinding at these places; or one of them has a blinding, and there was no memory for the walks
+-- the least blinding at these pairs; or one of them has a blinding, and there was no memory for the walks
 abbrev pub IsFaultAmong : Shape → (PairAtNode → Type 0) → BlindFault → Type 0
 IsFaultAmong g among (Blinds node a b walk_a walk_b) = IsLeastBlinding g among (record { node = node; a = a; b = b }) walk_a walk_b
 IsFaultAmong g among OutOfMemory = (p : PairAtNode) × among p × IsBlind g p
@@ -41,14 +41,14 @@ IsFaultAmong g among OutOfMemory = (p : PairAtNode) × among p × IsBlind g p
 abbrev pub IsBlindFault : Shape → BlindFault → Type 0
 IsBlindFault g fault = IsFaultAmong g (λ p. ⊤) fault
 
--- the place has this node
+-- the pair has this node
 abbrev pub AtNode : ℕ → PairAtNode → Type 0
 AtNode m p = p.node ≡ m
 
--- the place has this node and this first role
+-- the pair has this node and this first role
 abbrev pub AtPair : ℕ → ℕ → PairAtNode → Type 0
 AtPair m a p = (p.node ≡ m) × (p.a ≡ a)
 
--- the place has this node and these roles
-abbrev pub AtPlace : ℕ → ℕ → ℕ → PairAtNode → Type 0
-AtPlace m a b p = (p.node ≡ m) × (p.a ≡ a) × (p.b ≡ b)
+-- the pair has this node and these roles
+abbrev pub AtRoles : ℕ → ℕ → ℕ → PairAtNode → Type 0
+AtRoles m a b p = (p.node ≡ m) × (p.a ≡ a) × (p.b ≡ b)

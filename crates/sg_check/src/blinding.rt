@@ -4,7 +4,7 @@ ghost use Rattle.sg_model.specs.Shape.{Sighted};
 ghost use Rattle.sg_protocol.specs.Graph.{shape};
 ghost use Rattle.sg_reach.specs.Reaches.{IsWithin, LeadsPast};
 ghost use Rattle.sg_check.specs.FaultText.{blinded_text, blinding_text, roles_text, walks_text};
-ghost use Rattle.sg_check.specs.Blind.{IsBlindFault, IsFaultAmong, IsClear, AtNode, AtPair, AtPlace};
+ghost use Rattle.sg_check.specs.Blind.{IsBlindFault, IsFaultAmong, IsClear, AtNode, AtPair, AtRoles};
 
 use sg_base::{ByteOut, Label, NodeId, OutOfMemory, Role, RoleSet, Seq};
 use sg_graph::{Graph, put_node, put_role, put_walk};
@@ -127,13 +127,13 @@ fn check_pairs(alloc: Global, graph: &Graph, node: NodeId, a: Role) -> Result<()
 {
     let roles = graph.roles();
     for number in a.0 + 1..roles {
-        check_place(alloc, graph, node, a, Role(number))?;
+        check_roles(alloc, graph, node, a, Role(number))?;
     }
     Ok(())
 }
 
 // Whether the node doesn't blind these two roles.
-fn check_place(
+fn check_roles(
     alloc: Global,
     graph: &Graph,
     node: NodeId,
@@ -143,8 +143,8 @@ fn check_place(
     requires node { node < length graph.now.nodes }
     requires rising { a < b }
     requires role { b < length graph.now.roles }
-    ensures ok { OnOk result (IsClear (shape graph.now) (AtPlace node a b)) }
-    ensures refused { IfErr result (IsFaultAmong (shape graph.now) (AtPlace node a b)) }
+    ensures ok { OnOk result (IsClear (shape graph.now) (AtRoles node a b)) }
+    ensures refused { IfErr result (IsFaultAmong (shape graph.now) (AtRoles node a b)) }
 {
     // At most 16.
     let _roles = graph.roles();

@@ -26,15 +26,15 @@ module _ (g : Shape) (c : Claim) (at : ℕ) (entries : List Entry) (seen : List 
   begins = inl (0, x.begun, x.start.0, x.start.1, inl w.first)
 
   -- where an edge leads was found by a walk up to the one along it
-  in_time : (i e : ℕ) → (t : IsEntered g c entries i e) → i < length entries → IsUpTo (walks t.place) (walks i ++ e ∷ [])
+  in_time : (i e : ℕ) → (t : IsEntered g c entries i e) → i < length entries → IsUpTo (walks t.index) (walks i ++ e ∷ [])
   in_time i e t l =
-      elim (same_or_not t.place 0) [
-        | inl first ↦ inr (inl (let z : length (walks t.place) ≡ 0 = ap (λ j. length (walks j)) first ∙ ap length w.first in let m = length-more (walks i) e in omega (arith, z, m)))
-        | inr other ↦ subst (λ v. IsUpTo v (walks i ++ e ∷ [])) (sym (w.others t.place (omega arith) t.within)) (elim t.in_time [
+      elim (same_or_not t.index 0) [
+        | inl first ↦ inr (inl (let z : length (walks t.index) ≡ 0 = ap (λ j. length (walks j)) first ∙ ap length w.first in let m = length-more (walks i) e in omega (arith, z, m)))
+        | inr other ↦ subst (λ v. IsUpTo v (walks i ++ e ∷ [])) (sym (w.others t.index (omega arith) t.within)) (elim t.in_time [
           | inl none ↦ absurd (other none)
           | inr found ↦ elim found [
-            | inl less ↦ inr (before_more (walks (entry_at entries t.place).from) (walks i) (entry_at entries t.place).last e (walks_rise g c at Any entries seen x walks w (entry_at entries t.place).from i less l))
-            | inr same ↦ up_to_more (walks (entry_at entries t.place).from) (walks i) (entry_at entries t.place).last e (inl (ap walks same.0)) (at_most (entry_at entries t.place).last e same.1)
+            | inl less ↦ inr (before_more (walks (entry_at entries t.index).from) (walks i) (entry_at entries t.index).last e (walks_rise g c at Any entries seen x walks w (entry_at entries t.index).from i less l))
+            | inr same ↦ up_to_more (walks (entry_at entries t.index).from) (walks i) (entry_at entries t.index).last e (inl (ap walks same.0)) (at_most (entry_at entries t.index).last e same.1)
           ]
         ])
       ]
@@ -44,7 +44,7 @@ module _ (g : Shape) (c : Claim) (at : ℕ) (entries : List Entry) (seen : List 
   step v n bit e (inl p) l s =
       elim (less_or p.0 at) [
         | inl y ↦ elim (x.closed p.0 e (omega arith) p.1 l (s ∙ sym p.2)) [
-          | inl t ↦ inl (t.place, t.within, t.node, t.has_bit ∙ ap (λ b. bit_after c b e) p.3, up_to_on (walks t.place) (walks p.0 ++ e ∷ []) (v ++ e ∷ []) (in_time p.0 e t p.1) (up_to_more (walks p.0) v e e p.4 (inl refl)))
+          | inl t ↦ inl (t.index, t.within, t.node, t.has_bit ∙ ap (λ b. bit_after c b e) p.3, up_to_on (walks t.index) (walks p.0 ++ e ∷ []) (v ++ e ∷ []) (in_time p.0 e t p.1) (up_to_more (walks p.0) v e e p.4 (inl refl)))
           | inr q ↦ absurd (let same = q.0 in omega arith)
         ]
         | inr m ↦ inr (let m' = p.1 in omega arith, up_to_before (walks at) v (v ++ e ∷ []) (since p.0 m p.1 v p.4) (before_longer v e))

@@ -7,7 +7,7 @@ use mathlib.Core.Bool.{cond}
 use Rattle.sg_model.specs.Shape.{Shape, source, target}
 use Rattle.sg_model.specs.Claims.{Claim, bit_after}
 use Rattle.sg_model.proofs.Small.{clash, same_or_not, length-more, upto}
-use Rattle.sg_claims.specs.Place.{place_of}
+use Rattle.sg_claims.specs.Index.{index_of}
 use Rattle.sg_claims.specs.Search.{Any, IsSound, entry_at, IsLed, IsEntered, IsSearch}
 use Rattle.sg_claims.specs.declared.search.Entry.{Entry}
 use Rattle.sg_claims.proofs.Labelled.{told_none}
@@ -33,18 +33,18 @@ count-false size = of (replicate size false) (told_none size)
         let rest = of xs (λ i. h (suc i)) in
         sum_by-cons one_if x xs ∙ rw (first, rest) refl
 
--- ---- places of nodes with bits
+-- ---- indices of nodes with bits
 
--- no two nodes with bits have one place
-one_place : (m n : ℕ) (a b : Bool) → place_of m a ≡ place_of n b → (m ≡ n) × (a ≡ b)
-one_place m n true true e = (omega arith, refl)
-one_place m n false false e = (omega arith, refl)
-one_place m n true false e = absurd (omega arith)
-one_place m n false true e = absurd (omega arith)
+-- no two nodes with bits have one index
+one_index : (m n : ℕ) (a b : Bool) → index_of m a ≡ index_of n b → (m ≡ n) × (a ≡ b)
+one_index m n true true e = (omega arith, refl)
+one_index m n false false e = (omega arith, refl)
+one_index m n true false e = absurd (omega arith)
+one_index m n false true e = absurd (omega arith)
 
-pub place_within : (n : ℕ) (bit : Bool) → n < 256 → place_of n bit < 512
-place_within n true l = omega arith
-place_within n false l = omega arith
+pub index_within : (n : ℕ) (bit : Bool) → n < 256 → index_of n bit < 512
+index_within n true l = omega arith
+index_within n false l = omega arith
 
 -- ---- entries with one more at the end
 
@@ -64,8 +64,8 @@ search_begins g c first node bit = record {
   begun = omega arith;
   start = (node, bit);
   table = λ n b h. (let e = at_start n b h in (0, omega arith, node ∙ e.0, bit ∙ e.1));
-  noted = λ i l. (let zero' : i ≡ 0 = omega arith in subst (λ j. get_or (set (replicate 512 false) 0 true) (place_of (entry_at (first ∷ []) j).node (entry_at (first ∷ []) j).bit) false ≡ true) (sym zero')
-      (ap (λ n. get_or (set (replicate 512 false) 0 true) (place_of n first.bit) false) node ∙ ap (λ b. get_or (set (replicate 512 false) 0 true) (place_of 0 b) false) bit ∙ get_or-set_same (replicate 512 false) 0 true false room));
+  noted = λ i l. (let zero' : i ≡ 0 = omega arith in subst (λ j. get_or (set (replicate 512 false) 0 true) (index_of (entry_at (first ∷ []) j).node (entry_at (first ∷ []) j).bit) false ≡ true) (sym zero')
+      (ap (λ n. get_or (set (replicate 512 false) 0 true) (index_of n first.bit) false) node ∙ ap (λ b. get_or (set (replicate 512 false) 0 true) (index_of 0 b) false) bit ∙ get_or-set_same (replicate 512 false) 0 true false room));
   led = λ i p l. absurd (omega arith);
   rises = λ i j p b l. absurd (omega arith);
   behind = λ i p l. absurd (omega arith);
@@ -76,11 +76,11 @@ search_begins g c first node bit = record {
     room : 0 < length (replicate 512 false)
     room = omega (arith, length-replicate 512 false)
 
-    at_start : (n : ℕ) (b : Bool) → get_or (set (replicate 512 false) 0 true) (place_of n b) false ≡ true → (0 ≡ n) × (false ≡ b)
+    at_start : (n : ℕ) (b : Bool) → get_or (set (replicate 512 false) 0 true) (index_of n b) false ≡ true → (0 ≡ n) × (false ≡ b)
     at_start n b h =
-        elim (same_or_not (place_of n b) 0) [
-          | inl same ↦ one_place 0 n false b (sym same)
-          | inr other ↦ clash (get_or (set (replicate 512 false) 0 true) (place_of n b) false) h (get_or-set_other (replicate 512 false) 0 (place_of n b) true false other ∙ told_none 512 (place_of n b))
+        elim (same_or_not (index_of n b) 0) [
+          | inl same ↦ one_index 0 n false b (sym same)
+          | inr other ↦ clash (get_or (set (replicate 512 false) 0 true) (index_of n b) false) h (get_or-set_other (replicate 512 false) 0 (index_of n b) true false other ∙ told_none 512 (index_of n b))
         ]
 
 -- what was left is done or still left
@@ -124,11 +124,11 @@ goes_on g c at entries seen x sound = record {
 
 -- where a label that is left leads was found before
 pub known : (g : Shape) (c : Claim) (at : ℕ) (left : ℕ → Type 0) (entries : List Entry) (seen : List Bool) (e : ℕ) → IsSearch g c at left entries seen → left e
-    → get_or seen (place_of (target g e) (bit_after c (entry_at entries at).bit e)) false ≡ true → IsEntered g c entries at e
+    → get_or seen (index_of (target g e) (bit_after c (entry_at entries at).bit e)) false ≡ true → IsEntered g c entries at e
 known g c at left entries seen e x l h =
     let t = x.table (target g e) (bit_after c (entry_at entries at).bit e) h in
     record {
-      place = t.0;
+      index = t.0;
       within = t.1;
       node = t.2;
       has_bit = t.3;
@@ -142,7 +142,7 @@ known g c at left entries seen e x l h =
 module _ (g : Shape) (c : Claim) (at : ℕ) (left left' : ℕ → Type 0) (entries : List Entry) (seen : List Bool) (new : Entry) (x : IsSearch g c at left entries seen) (there : at < length entries)
     (node : new.node ≡ target g new.last) (has_bit : new.bit ≡ bit_after c (entry_at entries at).bit new.last) (from : new.from ≡ at)
     (is_left : left new.last) (is_edge : new.last < length g.edges) (leaves : source g new.last ≡ (entry_at entries at).node) (small : new.node < 256)
-    (unseen : get_or seen (place_of new.node new.bit) false ≡ false)
+    (unseen : get_or seen (index_of new.node new.bit) false ≡ false)
     (rest : (e : ℕ) → left e → (e ≡ new.last) ⊎ left' e) (back : (e : ℕ) → left' e → left e) (greater : (e : ℕ) → left' e → new.last < e) where
   abbrev more : List Entry
   more = entries ++ new ∷ []
@@ -160,8 +160,8 @@ module _ (g : Shape) (c : Claim) (at : ℕ) (left left' : ℕ → Type 0) (entri
   old_or_new : (i : ℕ) → i < length more → (i < length entries) ⊎ (i ≡ length entries)
   old_or_new i l = upto i (length entries) (omega (arith, size_more))
 
-  room : place_of new.node new.bit < length seen
-  room = omega (arith, x.size, place_within new.node new.bit small)
+  room : index_of new.node new.bit < length seen
+  room = omega (arith, x.size, index_within new.node new.bit small)
 
   led_still : (i : ℕ) → 0 < i → i < length entries → IsLed g c more i
   led_still i p l =
@@ -196,13 +196,13 @@ module _ (g : Shape) (c : Claim) (at : ℕ) (left left' : ℕ → Type 0) (entri
 
   entered_still : (i e : ℕ) → i < length entries → IsEntered g c entries i e → IsEntered g c more i e
   entered_still i e l t =
-      let one = still t.place t.within in
+      let one = still t.index t.within in
       record {
-        place = t.place;
+        index = t.index;
         within = let w = t.within in omega (arith, size_more);
         node = ap (λ (y : Entry). y.node) one ∙ t.node;
         has_bit = ap (λ (y : Entry). y.bit) one ∙ t.has_bit ∙ sym (ap (λ (y : Entry). bit_after c y.bit e) (still i l));
-        in_time = subst (λ (y : Entry). (t.place ≡ 0) ⊎ (y.from < i) ⊎ ((y.from ≡ i) × (y.last ≤ e))) (sym one) t.in_time;
+        in_time = subst (λ (y : Entry). (t.index ≡ 0) ⊎ (y.from < i) ⊎ ((y.from ≡ i) × (y.last ≤ e))) (sym one) t.in_time;
       }
 
   -- and now the label leads to what was found
@@ -210,31 +210,31 @@ module _ (g : Shape) (c : Claim) (at : ℕ) (left left' : ℕ → Type 0) (entri
   entered_now =
       let one = newest (length entries) refl in
       record {
-        place = length entries;
+        index = length entries;
         within = omega (arith, size_more);
         node = ap (λ (y : Entry). y.node) one ∙ node;
         has_bit = ap (λ (y : Entry). y.bit) one ∙ has_bit ∙ sym (ap (λ (y : Entry). bit_after c y.bit new.last) (still at there));
         in_time = subst (λ (y : Entry). (length entries ≡ 0) ⊎ (y.from < at) ⊎ ((y.from ≡ at) × (y.last ≤ new.last))) (sym one) (inr (inr (from, omega arith)));
       }
 
-  pub entered : IsSearch g c at left' more (set seen (place_of new.node new.bit) true)
+  pub entered : IsSearch g c at left' more (set seen (index_of new.node new.bit) true)
   entered = record {
-    size = length-set seen (place_of new.node new.bit) true ∙ x.size;
-    counted = size_more ∙ ap (λ n. n + 1) x.counted ∙ sym (count-set seen (place_of new.node new.bit) room unseen);
+    size = length-set seen (index_of new.node new.bit) true ∙ x.size;
+    counted = size_more ∙ ap (λ n. n + 1) x.counted ∙ sym (count-set seen (index_of new.node new.bit) room unseen);
     begun = omega (arith, size_more);
     start = (ap (λ (y : Entry). y.node) (still 0 x.begun) ∙ x.start.0, ap (λ (y : Entry). y.bit) (still 0 x.begun) ∙ x.start.1);
-    table = λ n bit h. elim (same_or_not (place_of n bit) (place_of new.node new.bit)) [
-      | inl same ↦ (let e = one_place new.node n new.bit bit (sym same) in let one = newest (length entries) refl in
+    table = λ n bit h. elim (same_or_not (index_of n bit) (index_of new.node new.bit)) [
+      | inl same ↦ (let e = one_index new.node n new.bit bit (sym same) in let one = newest (length entries) refl in
           (length entries, omega (arith, size_more), ap (λ (y : Entry). y.node) one ∙ e.0, ap (λ (y : Entry). y.bit) one ∙ e.1))
-      | inr other ↦ (let t = x.table n bit (sym (get_or-set_other seen (place_of new.node new.bit) (place_of n bit) true false other) ∙ h) in let one = still t.0 t.1 in
+      | inr other ↦ (let t = x.table n bit (sym (get_or-set_other seen (index_of new.node new.bit) (index_of n bit) true false other) ∙ h) in let one = still t.0 t.1 in
           (t.0, (let w = t.1 in omega (arith, size_more)), ap (λ (y : Entry). y.node) one ∙ t.2, ap (λ (y : Entry). y.bit) one ∙ t.3))
     ];
     noted = λ i l. elim (old_or_new i l) [
-      | inl y ↦ subst (λ (z : Entry). get_or (set seen (place_of new.node new.bit) true) (place_of z.node z.bit) false ≡ true) (sym (still i y)) (elim (same_or_not (place_of (entry_at entries i).node (entry_at entries i).bit) (place_of new.node new.bit)) [
-        | inl same ↦ ap (λ k. get_or (set seen (place_of new.node new.bit) true) k false) same ∙ get_or-set_same seen (place_of new.node new.bit) true false room
-        | inr other ↦ get_or-set_other seen (place_of new.node new.bit) (place_of (entry_at entries i).node (entry_at entries i).bit) true false other ∙ x.noted i y
+      | inl y ↦ subst (λ (z : Entry). get_or (set seen (index_of new.node new.bit) true) (index_of z.node z.bit) false ≡ true) (sym (still i y)) (elim (same_or_not (index_of (entry_at entries i).node (entry_at entries i).bit) (index_of new.node new.bit)) [
+        | inl same ↦ ap (λ k. get_or (set seen (index_of new.node new.bit) true) k false) same ∙ get_or-set_same seen (index_of new.node new.bit) true false room
+        | inr other ↦ get_or-set_other seen (index_of new.node new.bit) (index_of (entry_at entries i).node (entry_at entries i).bit) true false other ∙ x.noted i y
       ])
-      | inr same ↦ subst (λ (z : Entry). get_or (set seen (place_of new.node new.bit) true) (place_of z.node z.bit) false ≡ true) (sym (newest i same)) (get_or-set_same seen (place_of new.node new.bit) true false room)
+      | inr same ↦ subst (λ (z : Entry). get_or (set seen (index_of new.node new.bit) true) (index_of z.node z.bit) false ≡ true) (sym (newest i same)) (get_or-set_same seen (index_of new.node new.bit) true false room)
     ];
     led = λ i p l. elim (old_or_new i l) [ inl y ↦ led_still i p y | inr same ↦ led_new i same ];
     rises = λ i j p b l. elim (old_or_new j l) [

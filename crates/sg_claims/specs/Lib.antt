@@ -3,7 +3,7 @@ pub mod Kind
 pub mod Invariant
 pub mod Breaks
 pub mod Answers
-pub mod Place
+pub mod Index
 pub mod Search
 pub mod Dominators
 pub mod Suggestions

@@ -3,7 +3,7 @@ use Rattle.std.specs.Prelude.{◌≡◌, ℕ, ◌<◌, ◌≤◌, Bool, true, fa
 use Rattle.sg_model.specs.Lists.{is_in}
 use Rattle.sg_model.specs.Shape.{Shape, source, target}
 use Rattle.sg_model.specs.Claims.{Claim, bit_after, right_bit}
-use Rattle.sg_claims.specs.Place.{place_of}
+use Rattle.sg_claims.specs.Index.{index_of}
 use Rattle.sg_claims.specs.declared.search.Entry.{Entry}
 
 -- no edge with a label of `later` leaves the node with the wrong bit
@@ -18,7 +18,7 @@ pub record IsLeastWrong (g : Shape) (c : Claim) (n : ℕ) (bit : Bool) (label : 
   pub wrong : bit ≡ not (right_bit c.kind)
   pub least : (e : ℕ) → e < length g.edges → source g e ≡ n → IsTrue (is_in e c.later) → label ≤ e
 
--- an entry by its place in the order of finding
+-- an entry by its index in the order of finding
 abbrev pub entry_at : List Entry → ℕ → Entry
 entry_at entries i = get_or entries i (record { node = 0; bit = false; from = 0; last = 0 })
 
@@ -37,11 +37,11 @@ pub record IsLed (g : Shape) (c : Claim) (entries : List Entry) (i : ℕ) : Type
 
 -- where a label leads from an entry was found, and no later than by this label from there
 pub record IsEntered (g : Shape) (c : Claim) (entries : List Entry) (i e : ℕ) : Type 0 where
-  pub place : ℕ
-  pub within : place < length entries
-  pub node : (entry_at entries place).node ≡ target g e
-  pub has_bit : (entry_at entries place).bit ≡ bit_after c (entry_at entries i).bit e
-  pub in_time : (place ≡ 0) ⊎ ((entry_at entries place).from < i) ⊎ (((entry_at entries place).from ≡ i) × ((entry_at entries place).last ≤ e))
+  pub index : ℕ
+  pub within : index < length entries
+  pub node : (entry_at entries index).node ≡ target g e
+  pub has_bit : (entry_at entries index).bit ≡ bit_after c (entry_at entries i).bit e
+  pub in_time : (index ≡ 0) ⊎ ((entry_at entries index).from < i) ⊎ (((entry_at entries index).from ≡ i) × ((entry_at entries index).last ≤ e))
 
 -- any label
 abbrev pub Any : ℕ → Type 0
@@ -53,8 +53,8 @@ pub record IsSearch (g : Shape) (c : Claim) (at : ℕ) (left : ℕ → Type 0) (
   pub counted : length entries ≡ count_by (λ b. b) seen
   pub begun : 0 < length entries
   pub start : ((entry_at entries 0).node ≡ 0) × ((entry_at entries 0).bit ≡ false)
-  pub table : (n : ℕ) (bit : Bool) → get_or seen (place_of n bit) false ≡ true → (i : ℕ) × (i < length entries) × ((entry_at entries i).node ≡ n) × ((entry_at entries i).bit ≡ bit)
-  pub noted : (i : ℕ) → i < length entries → get_or seen (place_of (entry_at entries i).node (entry_at entries i).bit) false ≡ true
+  pub table : (n : ℕ) (bit : Bool) → get_or seen (index_of n bit) false ≡ true → (i : ℕ) × (i < length entries) × ((entry_at entries i).node ≡ n) × ((entry_at entries i).bit ≡ bit)
+  pub noted : (i : ℕ) → i < length entries → get_or seen (index_of (entry_at entries i).node (entry_at entries i).bit) false ≡ true
   pub led : (i : ℕ) → 0 < i → i < length entries → IsLed g c entries i
   pub rises : (i j : ℕ) → 0 < i → i < j → j < length entries → ((entry_at entries i).from < (entry_at entries j).from) ⊎ (((entry_at entries i).from ≡ (entry_at entries j).from) × ((entry_at entries i).last < (entry_at entries j).last))
   pub behind : (i : ℕ) → 0 < i → i < length entries → ((entry_at entries i).from < at) ⊎ (((entry_at entries i).from ≡ at) × ((e : ℕ) → left e → (entry_at entries i).last < e))

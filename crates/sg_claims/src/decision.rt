@@ -110,11 +110,11 @@ fn walk_by(
 {
     let mut walk = Vec::new(alloc);
     walk.push(label)?;
-    let mut place = at;
-    while place > 0 {
-        let entry = entries[place];
+    let mut index = at;
+    while index > 0 {
+        let entry = entries[index];
         walk.push(entry.last)?;
-        place = entry.from;
+        index = entry.from;
     }
     walk.reverse();
     Ok(walk)

@@ -42,8 +42,8 @@ impl LabelSet {
     pub fn has(&self, label: Label) -> bool
         ensures { result ≡ is_in label self.now }
     {
-        let place = label.0 as usize;
-        place < 512 && self.table[place]
+        let index = label.0 as usize;
+        index < 512 && self.table[index]
     }
 
     /// Adds a label that isn't there, at the end. If memory runs out, the labels are as before.

@@ -2,7 +2,7 @@
 //!
 //! A claim speaks of each walk of the graph from its start. *A needs B since C*: wherever a label of A stands on the walk, a label of B
 //! stands before it, and no label of C between the two. *B bars A until C*: wherever a label of A stands, each label of B that stands
-//! before it is followed, before that of A, by a label of C. What stands at the two places themselves is not between, so a label in both
+//! before it is followed, before that of A, by a label of C. What stands at the two indices themselves is not between, so a label in both
 //! B and C counts as one of B.
 //!
 //! `decide` goes through the nodes of the graph, each with one bit: whether a label of B stands on the walk since the last one of C. It

@@ -2,12 +2,12 @@
 ghost use Rattle.std.specs.Prelude.{◌≡◌, ◌<◌, ◌++◌, ◌∷◌, [], true, false, get_or, length, slice_set, IfOk, OnOk};
 ghost use Rattle.sg_model.specs.Claims.{Claim as CoreClaim};
 ghost use Rattle.sg_model.specs.Shape.{Shape};
-ghost use Rattle.sg_claims.specs.Place.{place_of};
+ghost use Rattle.sg_claims.specs.Index.{index_of};
 
 use sg_base::{Label, NodeId, OutOfMemory};
 use std::alloc::Global;
 
-/// A node with its bit, in the order in which they were found: the place in this order of the one that it was found from, and the label
+/// A node with its bit, in the order in which they were found: the index in this order of the one that it was found from, and the label
 /// of the edge from there. Both mean nothing at the first, the start.
 #[derive(Debug, Clone, Copy)]
 pub struct Entry {
@@ -46,22 +46,22 @@ impl Search {
     /// Enters a node with a bit, if they weren't found yet.
     pub fn enter(&mut self, entry: Entry) -> Result<(), OutOfMemory>
         requires { entry.node < 256 }
-        ensures known { get_or self.old.seen (place_of entry.node entry.bit) false ≡ true → OnOk result ((self.new.entries.items ≡ self.old.entries.items) × (self.new.seen ≡ self.old.seen)) }
-        ensures entered { get_or self.old.seen (place_of entry.node entry.bit) false ≡ false → OnOk result ((self.new.entries.items ≡ self.old.entries.items ++ entry ∷ []) × (self.new.seen ≡ slice_set self.old.seen (place_of entry.node entry.bit) true)) }
+        ensures known { get_or self.old.seen (index_of entry.node entry.bit) false ≡ true → OnOk result ((self.new.entries.items ≡ self.old.entries.items) × (self.new.seen ≡ self.old.seen)) }
+        ensures entered { get_or self.old.seen (index_of entry.node entry.bit) false ≡ false → OnOk result ((self.new.entries.items ≡ self.old.entries.items ++ entry ∷ []) × (self.new.seen ≡ slice_set self.old.seen (index_of entry.node entry.bit) true)) }
     {
-        let place = place(entry.node, entry.bit);
-        if !self.seen[place] {
+        let index = table_index(entry.node, entry.bit);
+        if !self.seen[index] {
             self.entries.push(entry)?;
-            self.seen[place] = true;
+            self.seen[index] = true;
         }
         Ok(())
     }
 }
 
-// The place of a node with a bit in the table.
-pub fn place(node: NodeId, bit: bool) -> usize
+// The index of a node with a bit in the table.
+pub fn table_index(node: NodeId, bit: bool) -> usize
     requires { node < 256 }
-    ensures place { result ≡ place_of node bit }
+    ensures index { result ≡ index_of node bit }
     ensures within { result < 512 }
 {
     let twice = 2 * node.0 as usize;

@@ -22,7 +22,7 @@ new-at (n ∷ ns) (suc r) d l =
       | inr z ↦ rw z (new-at ns r parts.1 (omega arith))
     ]
 
--- the name at a label's place
+-- the name at a label's index
 pub name_at : (g : Graph) (e : ℕ) → e < length g.edges → get_or (edge_names g) e [] ≡ edge_name g e
 name_at g e l = get_or-map (λ (d : Edge). d.name) g.edges e _ [] l
 

@@ -22,7 +22,7 @@ use Rattle.sg_parse.specs.declared.token.Token.TheVariants.{Word, Colon, Semicol
 use Rattle.sg_parse.specs.declared.fault.ParseFault.{ParseFault}
 use Rattle.sg_parse.proofs.Gives.{Gives, gives-give, gives-after, gives-first, gives-second, gives-skip, gives-token, gives-word, gives-new, head_is, head-next, name-there, word-is}
 use Rattle.sg_parse.proofs.Middle.{name-middle}
-use Rattle.sg_parse.proofs.Places.{repeat-there, repeat-away}
+use Rattle.sg_parse.proofs.Indices.{repeat-there, repeat-away}
 use Rattle.sg_parse.proofs.Readings.{onward}
 use Rattle.sg_parse.proofs.Took.{bare}
 use Rattle.sg_protocol.specs.Graph.{Graph, IsGraph, AreNames}

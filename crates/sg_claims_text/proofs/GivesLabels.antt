@@ -13,12 +13,12 @@ use Rattle.sg_model.proofs.Small.{or_true}
 use Rattle.sg_parse.specs.Grammar.{named, differ}
 use Rattle.sg_parse.specs.Tokens.{is_word}
 use Rattle.sg_parse.specs.Reading.{give, skip}
-use Rattle.sg_parse.specs.declared.token.Placed.{Placed}
+use Rattle.sg_parse.specs.declared.token.TokenAt.{TokenAt}
 use Rattle.sg_parse.specs.declared.token.Token.{Token}
 use Rattle.sg_parse.specs.declared.token.Token.TheVariants.{Word}
 use Rattle.sg_parse.proofs.Gives.{Gives, gives-give, gives-after, gives-skip, gives-first, gives-second, head_is, word-is}
 use Rattle.sg_parse.proofs.Middle.{name-at}
-use Rattle.sg_parse.proofs.Names.{named_there, place_there}
+use Rattle.sg_parse.proofs.Names.{named_there, index_there}
 use Rattle.sg_parse.proofs.Took.{bare}
 use Rattle.sg_protocol.specs.Graph.{AreNames}
 
@@ -33,9 +33,9 @@ module _ (names : List Name) (are : AreNames names) where
       let parts = and_parts (list_all (λ n. is_name n && not (has_text n reserved)) names) (all_differ names) are in
       label-is (get_or names l []) (name-at names l below parts.0) out
 
-  more-there : (order labels : List ℕ) (us : List Token) (ps : List Placed) → All (λ l. l < length names) order → All (λ l. has_text (get_or names l []) between ≡ false) order
+  more-there : (order labels : List ℕ) (us : List Token) (ps : List TokenAt) → All (λ l. l < length names) order → All (λ l. has_text (get_or names l []) between ≡ false) order
       → differ order ≡ true → ((n : ℕ) → is_in n order ≡ true → is_in n labels ≡ false) → head_is is_label us ≡ false → bare ps ≡ named names order ++ us
-      → (rest : List Placed) × (bare rest ≡ us) × (more_labels names labels ps ≡ Ok (record { value = labels ++ order; rest = rest }))
+      → (rest : List TokenAt) × (bare rest ≡ us) × (more_labels names labels ps ≡ Ok (record { value = labels ++ order; rest = rest }))
   more-there [] labels us [] below out once apart h e = ([], e, ap (λ l. Ok (record { value = l; rest = [] })) (sym (append-nil labels)))
   more-there [] labels us (p ∷ ps) below out once apart h e =
       let away : is_label p.token ≡ false = ap (head_is is_label) e ∙ h in
@@ -53,7 +53,7 @@ module _ (names : List Name) (are : AreNames names) where
       let absent : is_in x xs ≡ false = not-true (is_in x xs) once'.0 in
       let r = more-there xs (labels ++ x ∷ []) us ps (λ k d l. below (suc k) d (omega (arith, l))) (λ k d l. out (suc k) d (omega (arith, l))) once'.1
       (λ n i. is_in-more n x labels ∙ rw (apart n (rw i (or_true (x == n)))) (other n i absent)) h rest in
-      (r.0, r.1, rw (tok, is, named_there names x l, place_there names x parts.1 l, new) (r.2 ∙ ap (λ l. Ok (record { value = l; rest = r.0 })) (append_assoc labels (x ∷ []) xs)))
+      (r.0, r.1, rw (tok, is, named_there names x l, index_there names x parts.1 l, new) (r.2 ∙ ap (λ l. Ok (record { value = l; rest = r.0 })) (append_assoc labels (x ∷ []) xs)))
     where
       other : (n : ℕ) → is_in n xs ≡ true → is_in x xs ≡ false → (x == n) ≡ false
       other n i absent = elim (cases_Bool (x == n)) [

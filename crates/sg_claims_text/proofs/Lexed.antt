@@ -27,7 +27,7 @@ lexes-as cs bs ts e h = subst (λ l. Lexes l ts) (sym e) h
 lex-ended : (rest : List ℕ) (ts : List Token) → Lexes rest ts → Lexes (59 ∷ 10 ∷ rest) (Semicolon ∷ ts)
 lex-ended rest ts h = lex-semicolon (10 ∷ rest) ts (lex-line rest ts h)
 
--- the name at a place is a name
+-- the name at an index is a name
 name-is : (ns : List Name) (r : ℕ) → r < length ns → list_all (λ n. is_name n && not (has_text n reserved)) ns ≡ true → is_name (get_or ns r []) ≡ true
 name-is [] r l h = absurd (omega arith)
 name-is (n ∷ ns) zero l h = (and_parts (is_name n) (not (has_text n reserved)) (and_parts (is_name n && not (has_text n reserved)) (list_all (λ n. is_name n && not (has_text n reserved)) ns) h).0).0

@@ -22,7 +22,7 @@ use Rattle.sg_parse.specs.PartsReading.{repeat}
 use Rattle.sg_parse.specs.Tokens.{tokens, is_word, is_colon, is_semicolon}
 use Rattle.sg_parse.specs.Reading as Reading
 use Rattle.sg_parse.specs.Reading.{Parsed, on, after, branch, give, is_next, token, name, new_name, no_more, read_end, skip, whole}
-use Rattle.sg_parse.specs.declared.token.Placed.{Placed}
+use Rattle.sg_parse.specs.declared.token.TokenAt.{TokenAt}
 use Rattle.sg_parse.specs.declared.token.Token.{Token}
 use Rattle.sg_parse.specs.declared.token.Token.TheVariants.{Word, Colon, Semicolon, End}
 use Rattle.sg_parse.specs.declared.fault.ParseFault.{ParseFault}
@@ -30,17 +30,17 @@ use Rattle.sg_parse.specs.declared.fault.ParseFault.TheVariants.{TooMany}
 use Rattle.sg_parse.proofs.Sound.{Sound, sound-tokens}
 use Rattle.sg_parse.proofs.Took.{Took, IsFresh, bare, ok_same, err_ok, on-inv, branch-inv, took-both, took-give, took-token, took-name, took-new, only-word, only-colon, only-semicolon}
 use Rattle.sg_parse.proofs.TookGraph.{took-end, whole-inv}
-use Rattle.sg_parse.proofs.Places.{repeat-there, repeat-away, repeat-none}
+use Rattle.sg_parse.proofs.Indices.{repeat-there, repeat-away, repeat-none}
 
 -- what the claim says
 abbrev pub said_of : List Name → Claim → List Token
 said_of names c = said names c.kind c.later c.earlier c.since
 
 -- the rest of a claim was taken, behind its first labels
-abbrev Rest : List Name → List ℕ → List Placed → Parsed Claim → Type 0
+abbrev Rest : List Name → List ℕ → List TokenAt → Parsed Claim → Type 0
 Rest names first ps o = (ts : List Token) × Took ps o ts × (named names first ++ ts ≡ said_of names o.value) × IsClaim names o.value
 
-took-needs : (names : List Name) (later : List ℕ) (ps : List Placed) (o : Parsed Claim) → Sound ps → AreLabels names later → read_needs names later ps ≡ Ok o
+took-needs : (names : List Name) (later : List ℕ) (ps : List TokenAt) (o : Parsed Claim) → Sound ps → AreLabels names later → read_needs names later ps ≡ Ok o
     → (ts : List Token) × Took ps o ts × (named names later ++ Word (codes "needs") ∷ ts ≡ said_of names o.value) × IsClaim names o.value
 took-needs names later ps o s are h =
     let a = on-inv (some_labels names ps) _ o h in
@@ -56,7 +56,7 @@ took-needs names later ps o s are h =
       subst (IsClaim names) end.0 (record { later = are; earlier = e.1; since = f.1 }),
     )
 
-took-bars : (names : List Name) (earlier : List ℕ) (ps : List Placed) (o : Parsed Claim) → Sound ps → AreLabels names earlier → read_bars names earlier ps ≡ Ok o
+took-bars : (names : List Name) (earlier : List ℕ) (ps : List TokenAt) (o : Parsed Claim) → Sound ps → AreLabels names earlier → read_bars names earlier ps ≡ Ok o
     → (ts : List Token) × Took ps o ts × (named names earlier ++ Word (codes "bars") ∷ ts ≡ said_of names o.value) × IsClaim names o.value
 took-bars names earlier ps o s are h =
     let a = on-inv (some_labels names ps) _ o h in
@@ -72,7 +72,7 @@ took-bars names earlier ps o s are h =
       subst (IsClaim names) end.0 (record { later = e.1; earlier = are; since = f.1 }),
     )
 
-took-rest : (names : List Name) (first : List ℕ) (ps : List Placed) (o : Parsed Claim) → Sound ps → AreLabels names first
+took-rest : (names : List Name) (first : List ℕ) (ps : List TokenAt) (o : Parsed Claim) → Sound ps → AreLabels names first
     → branch (is_word (codes "needs")) (after skip λ _. read_needs names first) (after (token (is_word (codes "bars"))) λ _. read_bars names first) ps ≡ Ok o → Rest names first ps o
 took-rest names first ps o s are h = pick (branch-inv (is_word (codes "needs")) (after skip λ _. read_needs names first) (after (token (is_word (codes "bars"))) λ _. read_bars names first) ps o h)
   where
@@ -91,7 +91,7 @@ took-rest names first ps o s are h = pick (branch-inv (is_word (codes "needs")) 
         (Word (codes "bars") ∷ r.0, took-both ps a.0 o (Word (codes "bars") ∷ []) r.0 t r.1, r.2, r.3)
 
 -- what a claim says
-took-said : (names : List Name) (ps : List Placed) (o : Parsed Claim) → Sound ps → read_said names ps ≡ Ok o → Took ps o (said_of names o.value) × IsClaim names o.value
+took-said : (names : List Name) (ps : List TokenAt) (o : Parsed Claim) → Sound ps → read_said names ps ≡ Ok o → Took ps o (said_of names o.value) × IsClaim names o.value
 took-said names ps o s h =
     let a = on-inv (some_labels names ps) _ o h in
     let first = took-labels names ps a.0 s a.1 in
@@ -99,7 +99,7 @@ took-said names ps o s h =
     (subst (Took ps o) r.2 (took-both ps a.0 o (named names (a.0).value) r.0 first.0 r.1), r.3)
 
 -- one more claim
-took-claim : (names : List Name) (claims : List NamedClaim) (ps : List Placed) (o : Parsed (List NamedClaim)) → Sound ps → read_claim names claims ps ≡ Ok o
+took-claim : (names : List Name) (claims : List NamedClaim) (ps : List TokenAt) (o : Parsed (List NamedClaim)) → Sound ps → read_claim names claims ps ≡ Ok o
     → (c : NamedClaim) × (claims ++ c ∷ [] ≡ o.value) × IsClaim names c.claim × IsFresh (claim_names claims) c.name × Took ps o (claim_tokens names c)
 took-claim names claims ps o s h =
     let a = on-inv (token (is_word (codes "claim")) ps) _ o h in
@@ -133,7 +133,7 @@ names-one_more ns n are f =
     rw (all, all_differ-append ns n parts.1 f.new) refl
 
 -- claims were read behind others
-record TookClaims (names : List Name) (n : ℕ) (xs : List NamedClaim) (ps : List Placed) (o : Parsed (List NamedClaim)) : Type 0 where
+record TookClaims (names : List Name) (n : ℕ) (xs : List NamedClaim) (ps : List TokenAt) (o : Parsed (List NamedClaim)) : Type 0 where
   claims : List NamedClaim
   value : xs ++ claims ≡ o.value
   few : length claims ≤ n
@@ -141,7 +141,7 @@ record TookClaims (names : List Name) (n : ℕ) (xs : List NamedClaim) (ps : Lis
   all : All (λ c. IsClaim names c.claim) claims
   took : Took ps o (flat_map (claim_tokens names) claims)
 
-no_more_claims : (names : List Name) (n : ℕ) (xs : List NamedClaim) (ps : List Placed) (o : Parsed (List NamedClaim)) → Sound ps → AreNames (claim_names xs) → give xs ps ≡ Ok o → TookClaims names n xs ps o
+no_more_claims : (names : List Name) (n : ℕ) (xs : List NamedClaim) (ps : List TokenAt) (o : Parsed (List NamedClaim)) → Sound ps → AreNames (claim_names xs) → give xs ps ≡ Ok o → TookClaims names n xs ps o
 no_more_claims names n xs ps o s are h =
     let g = took-give xs ps o s h in
     record {
@@ -153,7 +153,7 @@ no_more_claims names n xs ps o s are h =
       took = g.1;
     }
 
-took-claims : (names : List Name) (n : ℕ) (xs : List NamedClaim) (ps : List Placed) (o : Parsed (List NamedClaim)) → Sound ps → AreNames (claim_names xs)
+took-claims : (names : List Name) (n : ℕ) (xs : List NamedClaim) (ps : List TokenAt) (o : Parsed (List NamedClaim)) → Sound ps → AreNames (claim_names xs)
     → repeat n (is_word (codes "claim")) (read_claim names) xs ps ≡ Ok o → TookClaims names n xs ps o
 took-claims names zero xs ps o s are h = no_more_claims names 0 xs ps o s are (sym (repeat-none (is_word (codes "claim")) (read_claim names) xs ps) ∙ h)
 took-claims names (suc n) xs ps o s are h = pick (is_next (is_word (codes "claim")) ps) refl (λ xs ps s are h. took-claims names n xs ps o s are h)
@@ -166,7 +166,7 @@ took-claims names (suc n) xs ps o s are h = pick (is_next (is_word (codes "claim
     grown c cs all e = sym (append_assoc xs (c ∷ []) cs) ∙ e
 
     pick : (b : Bool) → is_next (is_word (codes "claim")) ps ≡ b
-        → ((xs : List NamedClaim) (ps : List Placed) → Sound ps → AreNames (claim_names xs) → repeat n (is_word (codes "claim")) (read_claim names) xs ps ≡ Ok o → TookClaims names n xs ps o)
+        → ((xs : List NamedClaim) (ps : List TokenAt) → Sound ps → AreNames (claim_names xs) → repeat n (is_word (codes "claim")) (read_claim names) xs ps ≡ Ok o → TookClaims names n xs ps o)
         → TookClaims names (suc n) xs ps o
     pick false e more = no_more_claims names (suc n) xs ps o s are (sym (repeat-away (is_word (codes "claim")) (read_claim names) (suc n) xs ps e) ∙ h)
     pick true e more =
@@ -188,7 +188,7 @@ took-claims names (suc n) xs ps o s are h = pick (is_next (is_word (codes "claim
 -- ---- the whole text
 
 -- the word that would begin a claim too many isn't there
-took-no_more : (ps : List Placed) (o : Parsed (Unit {0})) → no_more (codes "claim") ps ≡ Ok o → ps ≡ o.rest
+took-no_more : (ps : List TokenAt) (o : Parsed (Unit {0})) → no_more (codes "claim") ps ≡ Ok o → ps ≡ o.rest
 took-no_more ps o h = pick (branch-inv (is_word (codes "claim")) Reading.crowded (give tt) ps o h)
   where
     pick : ((is_next (is_word (codes "claim")) ps ≡ true) × (Reading.crowded ps ≡ Ok o)) ⊎ ((is_next (is_word (codes "claim")) ps ≡ false) × (give tt ps ≡ Ok o)) → ps ≡ o.rest
@@ -196,13 +196,13 @@ took-no_more ps o h = pick (branch-inv (is_word (codes "claim")) Reading.crowded
     pick (inr (e, k)) = ap (λ (r : Parsed (Unit {0})). r.rest) (ok_same (record { value = tt; rest = ps }) o k)
 
 -- all claims, and the end
-record TookAll (names : List Name) (ps : List Placed) (cs : List NamedClaim) : Type 0 where
+record TookAll (names : List Name) (ps : List TokenAt) (cs : List NamedClaim) : Type 0 where
   few : length cs ≤ most_claims
   are : AreNames (claim_names cs)
   all : All (λ c. IsClaim names c.claim) cs
   begins : bare ps ≡ Semicolon ∷ (flat_map (claim_tokens names) cs ++ End ∷ [])
 
-took-all : (names : List Name) (ps : List Placed) (o : Parsed (List NamedClaim)) → Sound ps → read_claims names ps ≡ Ok o → TookAll names ps o.value
+took-all : (names : List Name) (ps : List TokenAt) (o : Parsed (List NamedClaim)) → Sound ps → read_claims names ps ≡ Ok o → TookAll names ps o.value
 took-all names ps o s h =
     let a = on-inv (token is_semicolon ps) _ o h in
     let first = took-token is_semicolon Semicolon ps a.0 only-semicolon s a.1 in
@@ -221,13 +221,13 @@ took-all names ps o s h =
       begins = first.begins ∙ ap (λ l. Semicolon ∷ l) (t.took.begins ∙ ap (λ l. flat_map (claim_tokens names) t.claims ++ bare l) none ∙ ap (λ l. flat_map (claim_tokens names) t.claims ++ l) end);
     })
 
--- what was read, without its place
+-- what was read, without its index
 in_text-inv : (r : Result (List NamedClaim) ParseFault) (cs : List NamedClaim) → in_text r ≡ Ok cs → r ≡ Ok cs
 in_text-inv (Ok x) cs h = (let same : x ≡ cs = cc in ap Ok same)
 in_text-inv (Err e) cs h = absurd (cc)
 
 -- the head of a text
-took-head : (ps : List Placed) (o : Parsed (Name × ℕ)) → Sound ps → read_name ps ≡ Ok o → Took ps o (Word (codes "claims") ∷ Word o.value.0 ∷ [])
+took-head : (ps : List TokenAt) (o : Parsed (Name × ℕ)) → Sound ps → read_name ps ≡ Ok o → Took ps o (Word (codes "claims") ∷ Word o.value.0 ∷ [])
 took-head ps o s h =
     let a = on-inv (token (is_word (codes "claims")) ps) _ o h in
     let first = took-token (is_word (codes "claims")) (Word (codes "claims")) ps a.0 (only-word (codes "claims")) s a.1 in

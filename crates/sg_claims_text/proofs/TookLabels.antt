@@ -10,16 +10,16 @@ use Rattle.sg_model.specs.Names.{Name}
 use Rattle.sg_model.proofs.Numbers.{is_in-more}
 use Rattle.sg_model.proofs.Small.{or_true, first_false}
 use Rattle.sg_parse.specs.Grammar.{named, differ}
-use Rattle.sg_parse.specs.PartsReading.{with_place}
+use Rattle.sg_parse.specs.PartsReading.{with_index}
 use Rattle.sg_parse.specs.Tokens.{is_word, is_named, text_of}
 use Rattle.sg_parse.specs.Reading as Reading
-use Rattle.sg_parse.specs.Reading.{Parsed, on, after, give, known, is_next, skip, place_of}
-use Rattle.sg_parse.specs.declared.token.Placed.{Placed}
+use Rattle.sg_parse.specs.Reading.{Parsed, on, after, give, known, is_next, skip, index_of}
+use Rattle.sg_parse.specs.declared.token.TokenAt.{TokenAt}
 use Rattle.sg_parse.specs.declared.token.Token.{Token}
 use Rattle.sg_parse.specs.declared.token.Token.TheVariants.{Word}
 use Rattle.sg_parse.specs.declared.fault.ParseFault.TheVariants.{Twice, UnknownName}
 use Rattle.sg_parse.proofs.Sound.{Sound}
-use Rattle.sg_parse.proofs.Took.{Took, bare, err_ok, branch-inv, took-give, named-word, place_has, only-word}
+use Rattle.sg_parse.proofs.Took.{Took, bare, err_ok, branch-inv, took-give, named-word, index_has, only-word}
 
 -- a label of these names that isn't spelled like a word between lists
 abbrev IsLabel : List Name → ℕ → Type 0
@@ -32,7 +32,7 @@ all-in P (x ∷ xs) h zero d l = (let same : (x == x) ≡ true = eq-eqb x x refl
 all-in P (x ∷ xs) h (suc k) d l = all-in P xs (λ n i. h n (rw i (or_true (x == n)))) k d (omega (arith, l))
 
 -- the labels that were read behind others
-record TookLabels (names : List Name) (labels : List ℕ) (ps : List Placed) (o : Parsed (List ℕ)) : Type 0 where
+record TookLabels (names : List Name) (labels : List ℕ) (ps : List TokenAt) (o : Parsed (List ℕ)) : Type 0 where
   order : List ℕ
   took : Took ps o (named names order)
   value : labels ++ order ≡ o.value
@@ -41,7 +41,7 @@ record TookLabels (names : List Name) (labels : List ℕ) (ps : List Placed) (o 
   are : (n : ℕ) → is_in n order ≡ true → IsLabel names n
   some : is_next is_label ps ≡ true → 1 ≤ length order
 
-no_more : (names : List Name) (labels : List ℕ) (ps : List Placed) (o : Parsed (List ℕ)) → Sound ps → is_next is_label ps ≡ false → give labels ps ≡ Ok o → TookLabels names labels ps o
+no_more : (names : List Name) (labels : List ℕ) (ps : List TokenAt) (o : Parsed (List ℕ)) → Sound ps → is_next is_label ps ≡ false → give labels ps ≡ Ok o → TookLabels names labels ps o
 no_more names labels ps o s away h =
     let g = took-give labels ps o s h in
     record {
@@ -59,67 +59,67 @@ label-word : (t : Token) → t ≡ Word (text_of t) → is_between t ≡ false �
 label-word t w h = subst (λ u. is_between u ≡ false) w h
 
 module _ (names : List Name) where
-  one-took : (labels : List ℕ) (p : Placed) (ps : List Placed) (o : Parsed (List ℕ)) → p.token ≡ Word (text_of p.token) → has_text (text_of p.token) between ≡ false
-      → has_text (text_of p.token) names ≡ true → is_in (place_of (text_of p.token) names) labels ≡ false
-      → TookLabels names (labels ++ place_of (text_of p.token) names ∷ []) ps o → TookLabels names labels (p ∷ ps) o
+  one-took : (labels : List ℕ) (p : TokenAt) (ps : List TokenAt) (o : Parsed (List ℕ)) → p.token ≡ Word (text_of p.token) → has_text (text_of p.token) between ≡ false
+      → has_text (text_of p.token) names ≡ true → is_in (index_of (text_of p.token) names) labels ≡ false
+      → TookLabels names (labels ++ index_of (text_of p.token) names ∷ []) ps o → TookLabels names labels (p ∷ ps) o
   one-took labels p ps o w out has new t =
-      let place : ℕ = place_of (text_of p.token) names in
-      let there = place_has (text_of p.token) names has in
-      let same : (place == place) ≡ true = eq-eqb place place refl in
-      let is : IsLabel names place = (there.0, subst (λ m. has_text m between ≡ false) (sym there.1) out) in
-      let absent : is_in place t.order ≡ false = elim (cases_Bool (is_in place t.order)) [
+      let index : ℕ = index_of (text_of p.token) names in
+      let there = index_has (text_of p.token) names has in
+      let same : (index == index) ≡ true = eq-eqb index index refl in
+      let is : IsLabel names index = (there.0, subst (λ m. has_text m between ≡ false) (sym there.1) out) in
+      let absent : is_in index t.order ≡ false = elim (cases_Bool (is_in index t.order)) [
         | inl y ↦
-            (let clash : is_in place (labels ++ place ∷ []) ≡ true = is_in-more place place labels ∙ rw (new, same) refl in
-            let clash' : is_in place (labels ++ place ∷ []) ≡ false = t.apart place y in
+            (let clash : is_in index (labels ++ index ∷ []) ≡ true = is_in-more index index labels ∙ rw (new, same) refl in
+            let clash' : is_in index (labels ++ index ∷ []) ≡ false = t.apart index y in
             absurd (cc))
         | inr n ↦ n
       ] in
       record {
-        order = place ∷ t.order;
-        took = record { begins = (rw there.1 (ap (λ u. u ∷ bare ps) w)) ∙ ap (λ l. Word (get_or names place []) ∷ l) t.took.begins; sound = t.took.sound };
-        value = sym (append_assoc labels (place ∷ []) t.order) ∙ t.value;
+        order = index ∷ t.order;
+        took = record { begins = (rw there.1 (ap (λ u. u ∷ bare ps) w)) ∙ ap (λ l. Word (get_or names index []) ∷ l) t.took.begins; sound = t.took.sound };
+        value = sym (append_assoc labels (index ∷ []) t.order) ∙ t.value;
         once = rw (absent, t.once) refl;
-        apart = λ n e. apart' place n t.order new e (λ i. sym (is_in-more n place labels) ∙ t.apart n i);
-        are = λ n e. are' place n t.order is e (t.are n);
+        apart = λ n e. apart' index n t.order new e (λ i. sym (is_in-more n index labels) ∙ t.apart n i);
+        are = λ n e. are' index n t.order is e (t.are n);
         some = λ e. omega arith;
       }
     where
-      apart' : (place n : ℕ) (order : List ℕ) → is_in place labels ≡ false → is_in n (place ∷ order) ≡ true → (is_in n order ≡ true → (is_in n labels || (place == n)) ≡ false) → is_in n labels ≡ false
-      apart' place n order new e later = elim (cases_Bool (place == n)) [
-        | inl y ↦ (let same : place ≡ n = grind (arith, nat_tests, y) in subst (λ k. is_in k labels ≡ false) same new)
-        | inr d ↦ first_false (is_in n labels) (place == n) (later (rw d at e))
+      apart' : (index n : ℕ) (order : List ℕ) → is_in index labels ≡ false → is_in n (index ∷ order) ≡ true → (is_in n order ≡ true → (is_in n labels || (index == n)) ≡ false) → is_in n labels ≡ false
+      apart' index n order new e later = elim (cases_Bool (index == n)) [
+        | inl y ↦ (let same : index ≡ n = grind (arith, nat_tests, y) in subst (λ k. is_in k labels ≡ false) same new)
+        | inr d ↦ first_false (is_in n labels) (index == n) (later (rw d at e))
       ]
 
-      are' : (place n : ℕ) (order : List ℕ) → IsLabel names place → is_in n (place ∷ order) ≡ true → (is_in n order ≡ true → IsLabel names n) → IsLabel names n
-      are' place n order l e later = elim (cases_Bool (place == n)) [
-        | inl y ↦ (let same : place ≡ n = grind (arith, nat_tests, y) in subst (IsLabel names) same l)
+      are' : (index n : ℕ) (order : List ℕ) → IsLabel names index → is_in n (index ∷ order) ≡ true → (is_in n order ≡ true → IsLabel names n) → IsLabel names n
+      are' index n order l e later = elim (cases_Bool (index == n)) [
+        | inl y ↦ (let same : index ≡ n = grind (arith, nat_tests, y) in subst (IsLabel names) same l)
         | inr d ↦ later (rw d at e)
       ]
 
   -- all labels that follow
-  took-more : (labels : List ℕ) (ps : List Placed) (o : Parsed (List ℕ)) → Sound ps → more_labels names labels ps ≡ Ok o → TookLabels names labels ps o
+  took-more : (labels : List ℕ) (ps : List TokenAt) (o : Parsed (List ℕ)) → Sound ps → more_labels names labels ps ≡ Ok o → TookLabels names labels ps o
   took-more labels [] o s h = no_more names labels [] o s refl h
   took-more labels (p ∷ ps) o s h = first (is_label p.token) refl h (λ next k. took-more next ps o s.2 k)
     where
       second : (x y : Bool) → p.token ≡ Word (text_of p.token) → has_text (text_of p.token) between ≡ false → has_text (text_of p.token) names ≡ x
-          → is_in (place_of (text_of p.token) names) labels ≡ y
-          → on (known (if x then (if y then Err (Twice p.at) else Ok (labels ++ place_of (text_of p.token) names ∷ [])) else Err (UnknownName p.at)) ps) (λ next _. more_labels names next ps) ≡ Ok o
+          → is_in (index_of (text_of p.token) names) labels ≡ y
+          → on (known (if x then (if y then Err (Twice p.at) else Ok (labels ++ index_of (text_of p.token) names ∷ [])) else Err (UnknownName p.at)) ps) (λ next _. more_labels names next ps) ≡ Ok o
           → ((next : List ℕ) → more_labels names next ps ≡ Ok o → TookLabels names next ps o) → TookLabels names labels (p ∷ ps) o
       second true true w out ex ey k rest = err_ok (Twice p.at) o k
       second false y w out ex ey k rest = err_ok (UnknownName p.at) o k
-      second true false w out ex ey k rest = one-took labels p ps o w out ex ey (rest (labels ++ place_of (text_of p.token) names ∷ []) k)
+      second true false w out ex ey k rest = one-took labels p ps o w out ex ey (rest (labels ++ index_of (text_of p.token) names ∷ []) k)
 
       first : (b : Bool) → is_label p.token ≡ b
-          → (if b then on (known (with_place names labels (text_of p.token, p.at)) ps) (λ next _. more_labels names next ps) else give labels (p ∷ ps)) ≡ Ok o
+          → (if b then on (known (with_index names labels (text_of p.token, p.at)) ps) (λ next _. more_labels names next ps) else give labels (p ∷ ps)) ≡ Ok o
           → ((next : List ℕ) → more_labels names next ps ≡ Ok o → TookLabels names next ps o) → TookLabels names labels (p ∷ ps) o
       first true e k rest =
           let parts = and_parts (is_named p.token) (not (is_between p.token)) e in
           let w = (named-word p.token s.0 parts.0).0 in
-          second (has_text (text_of p.token) names) (is_in (place_of (text_of p.token) names) labels) w (label-word p.token w (not-true (is_between p.token) parts.1)) refl refl k rest
+          second (has_text (text_of p.token) names) (is_in (index_of (text_of p.token) names) labels) w (label-word p.token w (not-true (is_between p.token) parts.1)) refl refl k rest
       first false e k rest = no_more names labels (p ∷ ps) o s e k
 
   -- one or more labels
-  pub took-labels : (ps : List Placed) (o : Parsed (List ℕ)) → Sound ps → some_labels names ps ≡ Ok o → Took ps o (named names o.value) × AreLabels names o.value
+  pub took-labels : (ps : List TokenAt) (o : Parsed (List ℕ)) → Sound ps → some_labels names ps ≡ Ok o → Took ps o (named names o.value) × AreLabels names o.value
   took-labels ps o s h = pick (branch-inv is_label (more_labels names []) Reading.refused ps o h)
     where
       pick : ((is_next is_label ps ≡ true) × (more_labels names [] ps ≡ Ok o)) ⊎ ((is_next is_label ps ≡ false) × (Reading.refused ps ≡ Ok o))
@@ -143,11 +143,11 @@ module _ (names : List Name) where
   since-some first (x ∷ xs) l = refl
 
   -- the labels after a word, or none
-  pub took-since : (first : Name) (ps : List Placed) (o : Parsed (List ℕ)) → Sound ps → read_since first names ps ≡ Ok o
+  pub took-since : (first : Name) (ps : List TokenAt) (o : Parsed (List ℕ)) → Sound ps → read_since first names ps ≡ Ok o
       → Took ps o (since_tokens names first o.value) × ((o.value ≡ []) ⊎ AreLabels names o.value)
   took-since first ps o s h = pick (branch-inv (is_word first) (after skip λ _. some_labels names) (give []) ps o h)
     where
-      there : (ps : List Placed) → Sound ps → is_next (is_word first) ps ≡ true → on (skip ps) (λ _. some_labels names) ≡ Ok o
+      there : (ps : List TokenAt) → Sound ps → is_next (is_word first) ps ≡ true → on (skip ps) (λ _. some_labels names) ≡ Ok o
           → Took ps o (since_tokens names first o.value) × ((o.value ≡ []) ⊎ AreLabels names o.value)
       there [] s e k = absurd (cc)
       there (p ∷ ps) s e k =

@@ -7,7 +7,7 @@ use Rattle.sg_claims_text.specs.declared.fault.ClaimsFault.{ClaimsFault}
 use Rattle.sg_claims_text.specs.declared.fault.ClaimsFault.TheVariants.{Text, OtherGraph}
 use Rattle.sg_graph.specs.Parts.{edge_names}
 use Rattle.sg_model.specs.Claims.{Claim, Needs, Bars}
-use Rattle.sg_parse.specs.PartsReading.{with_place, repeat}
+use Rattle.sg_parse.specs.PartsReading.{with_index, repeat}
 use Rattle.sg_parse.specs.Reading.{Parsed, Parser, on, after, give, known, token, branch, skip, refused, name, new_name, no_more, read_end, whole}
 use Rattle.sg_parse.specs.Tokens.{tokens, is_word, is_named, is_colon, is_semicolon, text_of}
 use Rattle.sg_parse.specs.declared.token.Token.{Token}
@@ -26,7 +26,7 @@ is_label t = is_named t && not (is_between t)
 abbrev pub more_labels : List Name → List ℕ → Parser (List ℕ)
 more_labels names labels [] = give labels []
 more_labels names labels (p ∷ ps) =
-    if is_label p.token then on (known (with_place names labels (text_of p.token, p.at)) ps) (λ next _. more_labels names next ps)
+    if is_label p.token then on (known (with_index names labels (text_of p.token, p.at)) ps) (λ next _. more_labels names next ps)
     else give labels (p ∷ ps)
 
 -- one or more labels of these names, each once, in the order in which they stand

@@ -2,7 +2,7 @@
 ghost use Rattle.std.specs.Prelude.{◌≡◌, ◌<◌, ◌≤◌, IfOk, IfSome, IsSome, IsTrue, ◌↔◌, length};
 ghost use Rattle.sg_graph.specs.Parts.{edge_names};
 ghost use Rattle.sg_model.specs.Lists.{has_text};
-ghost use Rattle.sg_parse.specs.Reading.{place_of};
+ghost use Rattle.sg_parse.specs.Reading.{index_of};
 
 use sg_base::{Label, Name, OutOfMemory};
 use sg_graph::Graph;
@@ -41,11 +41,11 @@ impl LabelNames {
     // The label of this name.
     pub fn find(&self, name: &Name) -> Option<Label>
         ensures found { IsSome result ↔ IsTrue (has_text name.now self.now) }
-        ensures place { IfSome result (λ l. place_of name.now self.now ≡ l) }
+        ensures index { IfSome result (λ l. index_of name.now self.now ≡ l) }
         ensures there { IfSome result (λ l. l < 512) }
     {
-        match self.names.place(name) {
-            Some(place) => Some(Label(place as u16)),
+        match self.names.index(name) {
+            Some(index) => Some(Label(index as u16)),
             None => None,
         }
     }

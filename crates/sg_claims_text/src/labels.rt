@@ -1,7 +1,7 @@
 //! Lists of labels.
 ghost use Rattle.std.specs.Prelude.{◌≡◌};
 ghost use Rattle.sg_claims_text.specs.Reading.{is_between, is_label, read_since, some_labels};
-ghost use Rattle.sg_parse.specs.PartsReading.{one_place};
+ghost use Rattle.sg_parse.specs.PartsReading.{one_index};
 ghost use Rattle.sg_parse.specs.Owed.{Reads, ReadsInto};
 ghost use Rattle.sg_parse.specs.Reading.{is_next};
 
@@ -50,7 +50,7 @@ fn one_more(
     names: &LabelNames,
     labels: &mut LabelSet,
 ) -> Result<(), ParseFault>
-    ensures { ReadsInto (one_place names.now labels.old) scanner.old scanner.new labels.new result }
+    ensures { ReadsInto (one_index names.now labels.old) scanner.old scanner.new labels.new result }
 {
     let (name, at) = scanner.name()?;
     let Some(label) = names.find(&name) else {

@@ -94,7 +94,7 @@ uses-roles part graphs (u ∷ us) h k e =
 
 -- what is said of parts behind others
 record Kept (graphs : List Graph) (ps : List Part) (gs : List Graph) : Type 0 where
-  front : (more : List Graph) × (gs ≡ graphs ++ more)
+  prefix : (more : List Graph) × (gs ≡ graphs ++ more)
   keeps : (k : ℕ) (p : Part) → slice_get ps k ≡ Some p → HasWalks (take (length graphs + k) gs) p (graph_at gs (length graphs + k))
   two : (k : ℕ) → k < length ps → 2 ≤ length (graph_at gs (length graphs + k)).roles
   count : length gs ≡ length graphs + length ps
@@ -112,7 +112,7 @@ ranged-more (h ∷ graphs) g all r (suc n) l = ranged-more graphs g (λ k lk. al
 
 parts-kept : (graphs : List Graph) (ps : List Part) (gs : List Graph) → ((n : ℕ) → n < length graphs → Ranged (graph_at graphs n)) → ((k : ℕ) (p : Part) → slice_get ps k ≡ Some p → IsPart (length graphs + k) p)
     → expansions graphs ps ≡ Ok gs → Kept graphs ps gs
-parts-kept graphs [] gs ranged each e = record { front = ([], sym (ok_same graphs gs e) ∙ sym (append-nil graphs)); keeps = λ k p h. absurd (cc); two = λ k l. absurd (omega (arith, l)); count = ap length (sym (ok_same graphs gs e)) ∙ omega arith }
+parts-kept graphs [] gs ranged each e = record { prefix = ([], sym (ok_same graphs gs e) ∙ sym (append-nil graphs)); keeps = λ k p h. absurd (cc); two = λ k l. absurd (omega (arith, l)); count = ap length (sym (ok_same graphs gs e)) ∙ omega arith }
 parts-kept graphs (p ∷ ps) gs ranged each e =
     let a = followed-inv (expanded graphs p) (λ g. expansions (graphs ++ g ∷ []) ps) gs e in
     let g : Graph = a.0 in
@@ -123,11 +123,11 @@ parts-kept graphs (p ∷ ps) gs ranged each e =
     let longer : length (graphs ++ g ∷ []) ≡ length graphs + 1 = length-append graphs (g ∷ []) in
     let rest = parts-kept (graphs ++ g ∷ []) ps gs (ranged-more graphs g ranged j.ranged)
     (λ k q h. (let same : length graphs + suc k ≡ length (graphs ++ g ∷ []) + k = omega (arith, longer) in subst (λ n. IsPart n q) same (each (suc k) q h))) a.2 in
-    let all : gs ≡ graphs ++ g ∷ rest.front.0 = rest.front.1 ∙ append_assoc graphs (g ∷ []) rest.front.0 in
+    let all : gs ≡ graphs ++ g ∷ rest.prefix.0 = rest.prefix.1 ∙ append_assoc graphs (g ∷ []) rest.prefix.0 in
     record {
-      front = (g ∷ rest.front.0, all);
-      keeps = keeps g rest.front.0 all one (λ k q h. (let same : length (graphs ++ g ∷ []) + k ≡ length graphs + suc k = omega (arith, longer) in subst (λ n. HasWalks (take n gs) q (graph_at gs n)) same (rest.keeps k q h)));
-      two = two g rest.front.0 all (omega (arith, is.two_roles, uses-roles p.graph.name graphs p.uses p.graph g a.1)) (λ k l. (let same : length (graphs ++ g ∷ []) + k ≡ length graphs + suc k = omega (arith, longer) in subst (λ n. 2 ≤ length (graph_at gs n).roles) same (rest.two k l)));
+      prefix = (g ∷ rest.prefix.0, all);
+      keeps = keeps g rest.prefix.0 all one (λ k q h. (let same : length (graphs ++ g ∷ []) + k ≡ length graphs + suc k = omega (arith, longer) in subst (λ n. HasWalks (take n gs) q (graph_at gs n)) same (rest.keeps k q h)));
+      two = two g rest.prefix.0 all (omega (arith, is.two_roles, uses-roles p.graph.name graphs p.uses p.graph g a.1)) (λ k l. (let same : length (graphs ++ g ∷ []) + k ≡ length graphs + suc k = omega (arith, longer) in subst (λ n. 2 ≤ length (graph_at gs n).roles) same (rest.two k l)));
       count = rest.count ∙ omega (arith, longer);
     }
   where
@@ -144,9 +144,9 @@ parts-kept graphs (p ∷ ps) gs ranged each e =
     keeps g more all one rest zero q h =
         let same : p ≡ q = cc in
         let none : length graphs + 0 ≡ length graphs = omega arith in
-        let front : take (length graphs) gs ≡ graphs = ap (take (length graphs)) all ∙ take_at graphs (g ∷ more) (length graphs) refl in
+        let prefix : take (length graphs) gs ≡ graphs = ap (take (length graphs)) all ∙ take_at graphs (g ∷ more) (length graphs) refl in
         let at : graph_at gs (length graphs) ≡ g = ap (λ l. graph_at l (length graphs)) all ∙ graph-middle graphs g more in
-        let one' : HasWalks (take (length graphs) gs) p (graph_at gs (length graphs)) = subst (λ l. HasWalks l p (graph_at gs (length graphs))) (sym front) (subst (HasWalks graphs p) (sym at) one) in
+        let one' : HasWalks (take (length graphs) gs) p (graph_at gs (length graphs)) = subst (λ l. HasWalks l p (graph_at gs (length graphs))) (sym prefix) (subst (HasWalks graphs p) (sym at) one) in
         subst (λ n. HasWalks (take n gs) q (graph_at gs n)) (sym none) (subst (λ r. HasWalks (take (length graphs) gs) r (graph_at gs (length graphs))) same one')
     keeps g more all one rest (suc k) q h = rest k q h
 

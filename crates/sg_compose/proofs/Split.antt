@@ -76,19 +76,19 @@ module _ (h g : Shape) (N : ℕ) (is : List Inset) (owner : ℕ → Inset × ℕ
   -- an outer edge before
   along : (e : ℕ) (w : List ℕ) → e < length g.edges → Splits g is (target g e) w → Splits g is (source g e) (e ∷ w)
   along e w l (inl (n, f)) = inl (n, Along l f)
-  along e w l (inr p) = inr (record { front = e ∷ p.front; put = p.put; there = p.there; filled = Along l p.filled; inner = p.inner; unfinished = p.unfinished; joined = ap (λ l. e ∷ l) p.joined })
+  along e w l (inr p) = inr (record { prefix = e ∷ p.prefix; put = p.put; there = p.there; filled = Along l p.filled; inner = p.inner; unfinished = p.unfinished; joined = ap (λ l. e ∷ l) p.joined })
 
   -- a complete walk of what is put in before
   through : (i : Inset) (v w : List ℕ) → Contains is i → IsComplete i.inner v → Splits g is i.to w → Splits g is i.from (renamed i v ++ w)
   through i v w c full (inl (n, f)) = inl (n, Through c full f)
   through i v w c full (inr p) = inr (record {
-    front = renamed i v ++ p.front;
+    prefix = renamed i v ++ p.prefix;
     put = p.put;
     there = p.there;
     filled = Through c full p.filled;
     inner = p.inner;
     unfinished = p.unfinished;
-    joined = ap (λ l. renamed i v ++ l) p.joined ∙ sym (append_assoc (renamed i v) p.front (renamed p.put p.inner));
+    joined = ap (λ l. renamed i v ++ l) p.joined ∙ sym (append_assoc (renamed i v) p.prefix (renamed p.put p.inner));
   })
 
   -- one edge of what is put in, and then within
@@ -99,7 +99,7 @@ module _ (h g : Shape) (N : ℕ) (is : List Inset) (owner : ℕ → Inset × ℕ
   -- what begins at the start of what is put in begins outside
   enters : (i : Inset) (w : List ℕ) → Contains is i → w ≢ [] → Within i 0 w → Splits g is i.from w
   enters i w c some (inl (v, walk, out, same)) = inr (record {
-    front = [];
+    prefix = [];
     put = i;
     there = c;
     filled = Here;
@@ -232,6 +232,6 @@ module _ (h g : Shape) (N : ℕ) (is : List Inset) (owner : ℕ → Inset × ℕ
   -- so is one that pends
   pub pending-walks : (m : ℕ) (w : List ℕ) → m < N → Pending g is m w → Walk h m w
   pending-walks m w lt p =
-      let first = filled-walks m p.front p.put.from lt p.filled in
+      let first = filled-walks m p.prefix p.put.from lt p.filled in
       let back = put-walk p.put p.there 0 p.inner p.unfinished.walk in
-      subst (Walk h m) (sym p.joined) (walk-join m p.front (renamed p.put p.inner) first.0 (subst (λ k. Walk h k (renamed p.put p.inner)) (sym first.1) back.0))
+      subst (Walk h m) (sym p.joined) (walk-join m p.prefix (renamed p.put p.inner) first.0 (subst (λ k. Walk h k (renamed p.put p.inner)) (sym first.1) back.0))

@@ -51,13 +51,13 @@ pub data Filled (g : Shape) (is : List Inset) : ℕ → List ℕ → ℕ → Typ
 
 -- a filled walk from m to where a use begins, then an unfinished walk of what is put in
 pub record Pending (g : Shape) (is : List Inset) (m : ℕ) (w : List ℕ) : Type 0 where
-  pub front : List ℕ
+  pub prefix : List ℕ
   pub put : Inset
   pub there : Contains is put
-  pub filled : Filled g is m front put.from
+  pub filled : Filled g is m prefix put.from
   pub inner : List ℕ
   pub unfinished : IsUnfinished put.inner inner
-  pub joined : w ≡ front ++ renamed put inner
+  pub joined : w ≡ prefix ++ renamed put inner
 
 -- the initial walks of the expansion h of a part, where the parts before it expand to these graphs: the filled walks, which end at the part's own nodes, and the pending ones
 pub record HasWalks (graphs : List Graph) (p : Part) (h : Graph) : Type 0 where

@@ -126,8 +126,8 @@ differs k r low d = elim (cases_Bool (nat_lt k r)) [
   | inr n ↦ absurd (d (let h : r ≤ k = grind (arith, nat_tests, n) in omega (arith, h, low)))
 ]
 
-cases_place : (k r : ℕ) → (k ≡ r) ⊎ (k ≡ r → ⊥)
-cases_place k r = elim (cases_Bool (k == r)) [
+cases_index : (k r : ℕ) → (k ≡ r) ⊎ (k ≡ r → ⊥)
+cases_index k r = elim (cases_Bool (k == r)) [
   | inl y ↦ inl (eqb-true k r y)
   | inr n ↦ inr (λ e. absurd (let z : true ≡ false = sym (eq-eqb k r e) ∙ n in cc))
 ]
@@ -135,7 +135,7 @@ cases_place k r = elim (cases_Bool (k == r)) [
 -- the number is one of these
 in_range_from : (k n r : ℕ) → k ≤ r → r < k + n → In (range_from k n) r
 in_range_from k zero r low high = absurd (omega (arith, low, high))
-in_range_from k (suc n) r low high = elim (cases_place k r) [ inl e ↦ inl (sym e) | inr d ↦ inr (in_range_from (suc k) n r (differs k r low d) (omega (arith, high))) ]
+in_range_from k (suc n) r low high = elim (cases_index k r) [ inl e ↦ inl (sym e) | inr d ↦ inr (in_range_from (suc k) n r (differs k r low d) (omega (arith, high))) ]
 
 -- a graph's role is one of the parts
 part_in : (gs : List Graph) (g : Graph) (r : ℕ) → In gs g → r < length g.roles → In (parts gs) (g, r)

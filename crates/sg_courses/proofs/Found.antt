@@ -19,7 +19,7 @@ course_there [] i sid h e = absurd (omega (arith, h))
 course_there (x ∷ xs) zero sid h e = (omega arith, x.1, ap (λ (z : List ℕ). Some (z, x.1)) (sym e))
 course_there (x ∷ xs) (suc i) sid h e = let rest = course_there xs i sid (omega (arith, h)) e in (let l = rest.0 in omega (arith, l), rest.1, rest.2)
 
--- the place at which a sid is found
+-- the index at which a sid is found
 pub found_sid : (sid : List ℕ) (es : List Entry) (o : Option ℕ) → o ≡ position (same sid) (keys es) → MatchOption o (has_text sid (keys es) ≡ false) (λ i. (i < length es) × (c : Course) × (slice_get es i ≡ Some (sid, c)))
 found_sid sid es None e = sym (any_same sid (keys es)) ∙ none_passes (same sid) (keys es) (sym e)
 found_sid sid es (Some i) e =
@@ -33,7 +33,7 @@ found_none sid (e ∷ es) h =
     let ps = or_parts (bytes_eq sid e.0) (has_text sid (keys es)) h in
     rw (same-bytes_eq sid e.0, ps.0) (found_none sid es ps.1)
 
--- the entry of a value at a place
+-- the entry of a value at an index
 pub entry_at : (es : List Entry) (i : ℕ) (v : Course) → slice_get (map (λ (e : Entry). e.1) es) i ≡ Some v → (sid : List ℕ) × (slice_get es i ≡ Some (sid, v))
 entry_at [] i v e = absurd (cc)
 entry_at (x ∷ xs) zero v e = let q : x.1 ≡ v = cc in (x.0, ap (λ (z : Course). Some (x.0, z)) q)

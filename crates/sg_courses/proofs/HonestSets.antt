@@ -51,7 +51,7 @@ honest_same names cast n set other h r = h r ∙ elim (cases_Bool (r == n)) [
     both false true = refl
     both false false = refl
 
--- the principal of a role stands at its place
+-- the principal of a role stands at its index
 pub there : (cast : Cast) (names : List Name) (n : ℕ) (name : Name) → names ≡ cast.names → n < length cast.names → name ≡ get_or names n name → principal cast n ≡ name
 there cast names n name is less at = any_default cast.names n [] name less ∙ ap (λ (ns : List Name). get_or ns n name) (sym is) ∙ sym at
   where

@@ -46,15 +46,15 @@ module _ (programs : List Program) (s : Schedule) (before : List Logged) (l : Lo
   cast_met : (n : IsNext programs s before l) (e : Event) (call : Call) (i : IsEntry programs s e) → has_text (sid_of e) (sids_of before) ≡ false → events_of_outcome l.outcome ≡ e ∷ [] → l.call ≡ Some call → cast_in call ≡ Some i.cast
   cast_met n e call i none one is = first_cast (sid_of e) before l n.after e call i.cast none one refl is (ap (cast_of_session (sid_of e)) (sym n.parts) ∙ i.is_cast)
 
-  -- a course goes on at its place
+  -- a course goes on at its index
   module _ (Comes : Course → Course → Type 0) (e : Event) (one : events_of_outcome l.outcome ≡ e ∷ []) (step : (old new : Course) → Comes old new → IsCourseOf s log before (sid_of e) old → IsCourseOf s log (before ++ l ∷ []) (sid_of e) new) where
-    at_place : (es now : List Entry) (place : ℕ) (c : Course) → slice_get es place ≡ Some (sid_of e, c) → GoesAt Comes es now place → AreCourses s before (with_table programs es) → AreCourses s (before ++ l ∷ []) (with_table programs now)
-    at_place es now place c at g are =
+    at_index : (es now : List Entry) (index : ℕ) (c : Course) → slice_get es index ≡ Some (sid_of e, c) → GoesAt Comes es now index → AreCourses s before (with_table programs es) → AreCourses s (before ++ l ∷ []) (with_table programs now)
+    at_index es now index c at g are =
         let two : Some (g.sid, g.old) ≡ Some (sid_of e, c) = sym g.is_old ∙ at in
         let pair : (g.sid, g.old) ≡ (sid_of e, c) = cc in
         let is : g.sid ≡ sid_of e = ap (λ (x : Entry). x.0) pair in
         subst (λ xs. AreCourses s (before ++ l ∷ []) (with_table programs xs)) (sym g.is_new)
-        (goes_at s programs before l e es place g.old g.new one (g.is_old ∙ ap (λ (sid : List ℕ). Some (sid, g.old)) is) (step g.old g.new g.comes) are)
+        (goes_at s programs before l e es index g.old g.new one (g.is_old ∙ ap (λ (sid : List ℕ). Some (sid, g.old)) is) (step g.old g.new g.comes) are)
 
     -- a course begins as the last one
     at_end : (u : IsUnbroken programs s) (i : IsEntry programs s e) (names : List Name) (cast : Cast) (es now : List Entry) → s.honest ≡ names → has_text (sid_of e) (keys es) ≡ false → i.cast ≡ cast → Begun Comes programs names cast (role_of e) (sid_of e) es now
@@ -67,11 +67,11 @@ module _ (programs : List Program) (s : Schedule) (before : List Logged) (l : Lo
 
   -- ---- a start
 
-  pub started_at : (e : Event) (cast : Cast) (es now : List Entry) (place : ℕ) (c : Course) → l.call ≡ Some (Start cast) → events_of_outcome l.outcome ≡ e ∷ [] → slice_get es place ≡ Some (sid_of e, c)
-      → GoesAt (λ old new. Adds old new e []) es now place → GoOn s before l (with_table programs es) (with_table programs now)
-  started_at e cast es now place c call one at g u n are =
+  pub started_at : (e : Event) (cast : Cast) (es now : List Entry) (index : ℕ) (c : Course) → l.call ≡ Some (Start cast) → events_of_outcome l.outcome ≡ e ∷ [] → slice_get es index ≡ Some (sid_of e, c)
+      → GoesAt (λ old new. Adds old new e []) es now index → GoOn s before l (with_table programs es) (with_table programs now)
+  started_at e cast es now index c call one at g u n are =
       let other : is_receipt e ≡ false = start_is programs s u l cast e (in_log n) call one in
-      at_place (λ old new. Adds old new e []) e one (λ old new add h. acts s log before l (sid_of e) old new e [] one refl other add h) es now place c at g are
+      at_index (λ old new. Adds old new e []) e one (λ old new add h. acts s log before l (sid_of e) old new e [] one refl other add h) es now index c at g are
 
   pub started_new : (e : Event) (cast : Cast) (names : List Name) (es now : List Entry) → s.honest ≡ names → l.call ≡ Some (Start cast) → events_of_outcome l.outcome ≡ e ∷ [] → has_text (sid_of e) (keys es) ≡ false
       → Begun (λ old new. Adds old new e []) programs names cast (role_of e) (sid_of e) es now → GoOn s before l (with_table programs es) (with_table programs now)
@@ -85,10 +85,10 @@ module _ (programs : List Program) (s : Schedule) (before : List Logged) (l : Lo
   -- ---- what was sent
 
   module _ (e : Event) (sid : List ℕ) (label : ℕ) (values : Map Value) (confounders : List (List ℕ)) (es : List Entry) (call : l.call ≡ Some (Act sid label values confounders)) (one : events_of_outcome l.outcome ≡ e ∷ []) where
-    pub sent_at : (now : List Entry) (place : ℕ) (c : Course) → slice_get es place ≡ Some (sid_of e, c) → GoesAt (λ old new. Adds old new e []) es now place → GoOn s before l (with_table programs es) (with_table programs now)
-    sent_at now place c at g u n are =
+    pub sent_at : (now : List Entry) (index : ℕ) (c : Course) → slice_get es index ≡ Some (sid_of e, c) → GoesAt (λ old new. Adds old new e []) es now index → GoOn s before l (with_table programs es) (with_table programs now)
+    sent_at now index c at g u n are =
         let other : is_receipt e ≡ false = act_is programs s u l sid label values confounders e (in_log n) call one in
-        at_place (λ old new. Adds old new e []) e one (λ old new add h. acts s log before l (sid_of e) old new e [] one refl other add h) es now place c at g are
+        at_index (λ old new. Adds old new e []) e one (λ old new add h. acts s log before l (sid_of e) old new e [] one refl other add h) es now index c at g are
 
     -- no session begins so
     pub sent_new : (now : List Entry) → has_text (sid_of e) (keys es) ≡ false → GoOn s before l (with_table programs es) (with_table programs now)
@@ -106,11 +106,11 @@ module _ (programs : List Program) (s : Schedule) (before : List Logged) (l : Lo
     step_taken u n x is one' old new t h =
         takes programs s u before l n.after bs f old new n.parts call reads one' (delivery_is programs s u l bs f (receipt f) (in_log n) call reads one').0 (entry programs s u l (Deliver bs) (receipt f) (in_log n) call one') t h
 
-    pub received_at : (place : ℕ) (c : Course) → slice_get es place ≡ Some (f.sid, c) → GoesAt (Taken e) es now place → GoOn s before l (with_table programs es) (with_table programs now)
-    received_at place c at g u n are =
+    pub received_at : (index : ℕ) (c : Course) → slice_get es index ≡ Some (f.sid, c) → GoesAt (Taken e) es now index → GoOn s before l (with_table programs es) (with_table programs now)
+    received_at index c at g u n are =
         let is : receipt f ≡ e = (delivery_is programs s u l bs f e (in_log n) call reads one).1 in
         let one' : events_of_outcome l.outcome ≡ receipt f ∷ [] = one ∙ ap (λ x. x ∷ []) (sym is) in
-        at_place (Taken (receipt f)) (receipt f) one' (step_taken u n e is one') es now place c at (subst (λ x. GoesAt (Taken x) es now place) (sym is) g) are
+        at_index (Taken (receipt f)) (receipt f) one' (step_taken u n e is one') es now index c at (subst (λ x. GoesAt (Taken x) es now index) (sym is) g) are
 
     pub received_new : (names : List Name) → s.honest ≡ names → has_text f.sid (keys es) ≡ false → ((cast : Cast) → f.join ≡ Some cast → Begun (Taken e) programs names cast f.receiver f.sid es now) → GoOn s before l (with_table programs es) (with_table programs now)
     received_new names honest none begun u n are =

@@ -98,12 +98,12 @@ shown_more old was now x is more = ap (map pair_of) more ∙ map-append pair_of 
 
 -- ---- the table
 
-pub goes_at_place : (P : Course → Course → Type 0) (es : List Entry) (i : ℕ) (old new : Course) → slice_get (map (λ (e : Entry). e.1) es) i ≡ Some old → P old new → GoesAt P es (set_value_at es i new) i
-goes_at_place P es i old new at comes =
+pub goes_at_index : (P : Course → Course → Type 0) (es : List Entry) (i : ℕ) (old new : Course) → slice_get (map (λ (e : Entry). e.1) es) i ≡ Some old → P old new → GoesAt P es (set_value_at es i new) i
+goes_at_index P es i old new at comes =
     let entry = entry_at es i old at in
     record { sid = entry.0; old = old; new = new; is_old = entry.1; is_new = refl; comes = comes }
 
--- the value at a place put there again
+-- the value at an index put there again
 pub same_value : (es : List Entry) (i : ℕ) (old new : Course) → slice_get (map (λ (e : Entry). e.1) es) i ≡ Some old → new ≡ old → set_value_at es i new ≡ es
 same_value es i old new at is = ap (set_value_at es i) is ∙ put_again es i at
   where

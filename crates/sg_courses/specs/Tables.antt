@@ -8,13 +8,13 @@ use Rattle.sg_protocol.specs.Node.{program_for}
 use Rattle.sg_courses.specs.Adding.{Begins}
 use Rattle.sg_courses.specs.Courses.{Course}
 
--- at the place a new course comes of the old one, and the others are as before
-pub record GoesAt (Comes : Course → Course → Type 0) (before now : List (List ℕ × Course)) (place : ℕ) : Type 0 where
+-- at the index a new course comes of the old one, and the others are as before
+pub record GoesAt (Comes : Course → Course → Type 0) (before now : List (List ℕ × Course)) (index : ℕ) : Type 0 where
   pub sid : List ℕ
   pub old : Course
   pub new : Course
-  pub is_old : slice_get before place ≡ Some (sid, old)
-  pub is_new : now ≡ set_value_at before place new
+  pub is_old : slice_get before index ≡ Some (sid, old)
+  pub is_new : now ≡ set_value_at before index new
   pub comes : Comes old new
 
 -- the last course is one that a new one became, and the others are as before

@@ -72,8 +72,8 @@ impl<'r> Courses<'r> {
         ensures programs { self.new.programs ≡ self.old.programs }
         ensures err { OnErr result (self.new ≡ self.old) }
     {
-        match place_of(&self.table, &sid_of(event)) {
-            Some(place) => add_at(&mut self.table, place, event),
+        match index_of(&self.table, &sid_of(event)) {
+            Some(index) => add_at(&mut self.table, index, event),
             None => begin(alloc, &mut self.table, self.programs, honest, cast, event),
         }
     }
@@ -85,8 +85,8 @@ impl<'r> Courses<'r> {
         ensures programs { self.new.programs ≡ self.old.programs }
         ensures err { OnErr result (self.new ≡ self.old) }
     {
-        match place_of(&self.table, &sid_of(event)) {
-            Some(place) => add_at(&mut self.table, place, event),
+        match index_of(&self.table, &sid_of(event)) {
+            Some(index) => add_at(&mut self.table, index, event),
             None => Ok(()),
         }
     }
@@ -105,8 +105,8 @@ impl<'r> Courses<'r> {
         ensures programs { self.new.programs ≡ self.old.programs }
         ensures err { OnErr result (self.new ≡ self.old) }
     {
-        match place_of(&self.table, &frame.sid) {
-            Some(place) => take_at(alloc, &mut self.table, place, self.programs, frame, event),
+        match index_of(&self.table, &frame.sid) {
+            Some(index) => take_at(alloc, &mut self.table, index, self.programs, frame, event),
             None => join(alloc, &mut self.table, self.programs, honest, frame, event),
         }
     }
@@ -139,11 +139,11 @@ impl<'r> Courses<'r> {
         self.table.len()
     }
 
-    /// The sid and the course of the session at a place, in the order of first events. It takes no memory.
-    pub fn at(&self, place: usize) -> Option<(Sid, &Course<'r>)>
-        ensures { option_map (λ e. (e.0, e.1.now)) result ≡ slice_get self.now.courses place }
+    /// The sid and the course of the session at an index, in the order of first events. It takes no memory.
+    pub fn at(&self, index: usize) -> Option<(Sid, &Course<'r>)>
+        ensures { option_map (λ e. (e.0, e.1.now)) result ≡ slice_get self.now.courses index }
     {
-        match self.table.get_index(place) {
+        match self.table.get_index(index) {
             Some((sid, course)) => Some((*sid, course)),
             None => None,
         }
@@ -168,8 +168,8 @@ impl<'r> Courses<'r> {
     }
 }
 
-// The place of a session's course.
-fn place_of<'r>(table: &IndexMap<Sid, Course<'r>>, sid: &Sid) -> Option<usize>
+// The index of a session's course.
+fn index_of<'r>(table: &IndexMap<Sid, Course<'r>>, sid: &Sid) -> Option<usize>
     ensures { MatchOption result
         (has_text sid.now (map (λ e. e.0) table.now.entries) ≡ false)
         (λ i. (i < length table.now.entries) × (c : Kept) × (slice_get table.now.entries i ≡ Some (sid.now, c))) }
@@ -177,34 +177,34 @@ fn place_of<'r>(table: &IndexMap<Sid, Course<'r>>, sid: &Sid) -> Option<usize>
     table.get_index_of(sid)
 }
 
-// The course at a place goes on by a start or what was sent.
+// The course at an index goes on by a start or what was sent.
 fn add_at<'r>(
     table: &mut IndexMap<Sid, Course<'r>>,
-    place: usize,
+    index: usize,
     event: &'r Event,
 ) -> Result<(), OutOfMemory>
-    requires { place < length table.old.entries }
-    ensures ok { OnOk result (GoesAt (λ old new. Adds old new (event_of event.now) []) table.old.entries table.new.entries place) }
+    requires { index < length table.old.entries }
+    ensures ok { OnOk result (GoesAt (λ old new. Adds old new (event_of event.now) []) table.old.entries table.new.entries index) }
     ensures err { OnErr result (table.new.entries ≡ table.old.entries) }
 {
-    table[place].add(event, &[])
+    table[index].add(event, &[])
 }
 
-// The course at a place goes on by a receipt.
+// The course at an index goes on by a receipt.
 fn take_at<'r>(
     alloc: Global,
     table: &mut IndexMap<Sid, Course<'r>>,
-    place: usize,
+    index: usize,
     programs: &'r Programs,
     frame: &Frame,
     event: &'r Event,
 ) -> Result<(), OutOfMemory>
-    requires place { place < length table.old.entries }
+    requires index { index < length table.old.entries }
     requires frame { HasSpelling frame.now }
-    ensures ok { OnOk result (GoesAt (λ old new. Takes programs.now old new (event_of event.now) frame.now) table.old.entries table.new.entries place) }
+    ensures ok { OnOk result (GoesAt (λ old new. Takes programs.now old new (event_of event.now) frame.now) table.old.entries table.new.entries index) }
     ensures err { OnErr result (table.new.entries ≡ table.old.entries) }
 {
-    table[place].take(alloc, programs, frame, event)
+    table[index].take(alloc, programs, frame, event)
 }
 
 // Begins the course of a session that has none, with its start. If memory runs out, the table is as before.

@@ -1,3 +1,3 @@
 pub mod Joined
 pub mod NameOrder
-pub mod Places
+pub mod Slots

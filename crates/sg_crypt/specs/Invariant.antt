@@ -13,7 +13,7 @@ pub record HoldsCast (c : Inside) : Type 0 where
   pub version : IsVersion c.version
   pub cast : IsCastOf c.version (cast_of c)
   pub counted : length (take c.count c.names) ≡ c.count
-  pub places : c.names ≡ filled (take c.count c.names)
+  pub slots : c.names ≡ filled (take c.count c.names)
 
 -- each hasher holds the key's block under its pad
 pub record IsReady (k : KeyInside) : Type 0 where

@@ -1,4 +1,4 @@
--- How a cast is kept: its names in sixteen places, the first again after the last; and two principals in order.
+-- How a cast is kept: its names in sixteen slots, the first again after the last; and two principals in order.
 use Rattle.std.specs.Prelude.{◌-◌, if◌then◌else◌, List, [], ◌++◌, length, take, replicate, slice_index_or}
 use Rattle.sg_model.specs.Names.{Name}
 use Rattle.sg_protocol.specs.Frame.{Cast}

@@ -106,15 +106,15 @@ impl Cast {
     }
 }
 
-// The names in sixteen places, the first again after the last.
+// The names in sixteen slots, the first again after the last.
 fn filled(names: &[Name]) -> [Name; 16]
     requires some { 2 ≤ length names.now }
     requires fits { length names.now ≤ 16 }
     ensures { result ≡ filled names.now }
 {
-    let mut places = [names[0]; 16];
-    places[..names.len()].copy_from_slice(names);
-    places
+    let mut slots = [names[0]; 16];
+    slots[..names.len()].copy_from_slice(names);
+    slots
 }
 
 // What the type `Name` says of each of these.

@@ -71,18 +71,18 @@ pub(crate) fn key_block(key: &[u8]) -> [u8; 64]
     let mut block = [0u8; 64];
     if key.len() > 64 {
         let digest = Sha256::digest(key);
-        put_front(&mut block, &digest);
+        put_prefix(&mut block, &digest);
     } else {
-        put_front(&mut block, key);
+        put_prefix(&mut block, key);
     }
     block
 }
 
-fn put_front(block: &mut [u8; 64], front: &[u8])
-    requires { length front.now ≤ 64 }
-    ensures { block.new ≡ front.now ++ drop (length front.now) block.old }
+fn put_prefix(block: &mut [u8; 64], prefix: &[u8])
+    requires { length prefix.now ≤ 64 }
+    ensures { block.new ≡ prefix.now ++ drop (length prefix.now) block.old }
 {
-    block[..front.len()].copy_from_slice(front);
+    block[..prefix.len()].copy_from_slice(prefix);
 }
 
 pub(crate) fn padded(pad: u8, block: &[u8; 64]) -> [u8; 64]

@@ -32,30 +32,30 @@ pub fn put_opening(out: &mut ByteOut, opening: &Opening) -> Result<(), OutOfMemo
     put
 }
 
-// Appends a name after its length, or a front part of this.
+// Appends a name after its length, or a prefix of this.
 fn put_name_parts(out: &mut ByteOut, name: &Name) -> Result<(), OutOfMemory>
     ensures ok { OnOk result (out.new ≡ out.old ++ short_text name.now) }
-    ensures front { OnErr result (take (length out.old) out.new ≡ out.old) }
+    ensures prefix { OnErr result (take (length out.old) out.new ≡ out.old) }
 {
     let bytes = name.as_bytes();
     out.u8(bytes.len() as u8)?;
     out.bytes(bytes)
 }
 
-// Appends an opening, or a front part of it.
+// Appends an opening, or a prefix of it.
 fn put_opening_parts(out: &mut ByteOut, opening: &Opening) -> Result<(), OutOfMemory>
     ensures ok { OnOk result (out.new ≡ out.old ++ opening_bytes opening.now) }
-    ensures front { OnErr result (take (length out.old) out.new ≡ out.old) }
+    ensures prefix { OnErr result (take (length out.old) out.new ≡ out.old) }
 {
     out.u8(opening.var.0)?;
     out.bytes(&opening.confounder)?;
     put_value(out, &opening.value)
 }
 
-// Appends a value after its type and its length, or a front part of this.
+// Appends a value after its type and its length, or a prefix of this.
 fn put_value(out: &mut ByteOut, value: &Value) -> Result<(), OutOfMemory>
     ensures ok { OnOk result (out.new ≡ out.old ++ (u8 (kind_code (value_of value.now)) ++ sized (value_of value.now))) }
-    ensures front { OnErr result (take (length out.old) out.new ≡ out.old) }
+    ensures prefix { OnErr result (take (length out.old) out.new ≡ out.old) }
 {
     match value {
         Value::Int(number) => {

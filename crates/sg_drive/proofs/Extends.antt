@@ -117,12 +117,12 @@ module _ (seed : ℕ) (g : Graph) where
   goes_meet p Repeated x = goes_deliver p (put_back p x)
   goes_meet p Lost x = extends_itself x.replay
 
-  goes_take_out : (place : ℕ) (o : Option Pending) (x : Going) → Goes x (take_out seed g place o x)
-  goes_take_out place None x = extends_itself x.replay
-  goes_take_out place (Some p) x = goes_meet p (fate_of p.count (draw seed (x.draws + 1) % 16)) _
+  goes_take_out : (index : ℕ) (o : Option Pending) (x : Going) → Goes x (take_out seed g index o x)
+  goes_take_out index None x = extends_itself x.replay
+  goes_take_out index (Some p) x = goes_meet p (fate_of p.count (draw seed (x.draws + 1) % 16)) _
 
   pub goes_turn : (x : Going) → Goes x (turn seed g x)
-  goes_turn x = let place : ℕ = draw seed x.draws % length x.pending in goes_take_out place (slice_get x.pending place) x
+  goes_turn x = let index : ℕ = draw seed x.draws % length x.pending in goes_take_out index (slice_get x.pending index) x
 
   pub goes_turns : (n : ℕ) (x : Going) → Goes x (turns n seed g x)
   goes_turns zero x = extends_itself x.replay

@@ -42,9 +42,9 @@ has_begun m m1 m2 first n e b l q =
     let here : HasBudget (80 * n) (first + n) (at m y) = subst (HasBudget (80 * n) (first + n)) e b in
     let next : HasBudget (80 * n + 80) (first + n + 1) (at m (begin m.seed m.graph (first + n) y)) = begin_keeps m (first + n) (80 * n) y here (first + n) l l in
     let is : m2 ≡ at m (begin m.seed m.graph (first + n) y) = q ∙ ap (λ (z : Machine). at z (begin z.seed z.graph (first + n) z.going)) e in
-    let place : first + n + 1 ≡ first + (n + 1) = omega arith in (
+    let index : first + n + 1 ≡ first + (n + 1) = omega arith in (
       is ∙ ap (λ k. begun_so_far m first k) (sym (add-one n)),
-      subst (HasBudget (80 * (n + 1)) (first + (n + 1))) (sym is) (subst (λ k. HasBudget (80 * (n + 1)) k (at m (begin m.seed m.graph (first + n) y))) place (more_budget (80 * n + 80) (80 * (n + 1)) (first + n + 1) (at m (begin m.seed m.graph (first + n) y)) (omega arith) next)),
+      subst (HasBudget (80 * (n + 1)) (first + (n + 1))) (sym is) (subst (λ k. HasBudget (80 * (n + 1)) k (at m (begin m.seed m.graph (first + n) y))) index (more_budget (80 * n + 80) (80 * (n + 1)) (first + n + 1) (at m (begin m.seed m.graph (first + n) y)) (omega arith) next)),
     )
 
 goes_further : (seed : ℕ) (g : Graph) (first i n : ℕ) (x : Going) → i ≤ n → Goes (begin_all seed g first i x) (begin_all seed g first n x)

@@ -218,16 +218,16 @@ module _ (m : Machine) (begun : ℕ) where
       go : (left : ℕ) (ways : List OnItsWay) → left ≤ suc most → HasLeft left begun (at m x) ways → HasBudget most begun (at m (turn m.seed m.graph x))
       go zero ways l h = absurd (let none : x.pending ≡ [] = none_left begun (at m x) (budget_of 0 0 begun (at m x) ways (omega arith) h) in let z : length x.pending ≡ 0 = ap (λ (ps : List Pending). length ps) none in omega (arith, z, some))
       go (suc left) ways l h =
-          let place : ℕ = draw m.seed x.draws % length x.pending in
-          let t : TakenOut (suc left) begun (at m x) ways place frame.0 = taken_out (suc left) begun (at m x) ways h place frame.0 frame.1 in
-          let y : Going = record x { pending = remove x.pending place } in
+          let index : ℕ = draw m.seed x.draws % length x.pending in
+          let t : TakenOut (suc left) begun (at m x) ways index frame.0 = taken_out (suc left) begun (at m x) ways h index frame.0 frame.1 in
+          let y : Going = record x { pending = remove x.pending index } in
           let c = h.covers in
           let w = t.whole in
           let e : ℕ = draw m.seed (x.draws + 1) % 16 in
           let there : IsThere m.graph m.sessions t.o.pending = subst (λ (p : Pending). IsThere m.graph m.sessions p) (sym t.is) t.there in
           let met : HasBudget left begun (at m (meet m.seed m.graph t.o.pending (fate_of t.o.pending.count e) (drawing 2 y))) = meet_keeps m begun left y t.rest t.has t.o t.on there (omega (arith, c, w)) e in
           let met2 : HasBudget left begun (at m (meet m.seed m.graph frame.0 (fate_of frame.0.count e) (drawing 2 y))) = subst (λ (p : Pending). HasBudget left begun (at m (meet m.seed m.graph p (fate_of p.count e) (drawing 2 y)))) t.is met in
-          more_budget left most begun (at m (turn m.seed m.graph x)) (omega (arith, l)) (subst (λ z. HasBudget left begun (at m (take_out m.seed m.graph place z x))) (sym frame.1) met2)
+          more_budget left most begun (at m (turn m.seed m.graph x)) (omega (arith, l)) (subst (λ z. HasBudget left begun (at m (take_out m.seed m.graph index z x))) (sym frame.1) met2)
 
   -- so do turns
   turn_again : (most : ℕ) (y : Going) → HasBudget most begun (at m y) → (ps : List Pending) → y.pending ≡ ps → HasBudget most begun (at m (turn m.seed m.graph y))

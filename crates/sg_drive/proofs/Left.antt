@@ -176,20 +176,20 @@ module _ (left begun : ℕ) (m : Machine) (ways : List OnItsWay) (h : HasLeft le
 
 -- ---- taking out
 
--- an element of a list at a place, and the others
-record Parted (P : OnItsWay → Type 0) (Q : Pending → Type 0) (ways : List OnItsWay) (place : ℕ) (p : Pending) : Type 0 where
+-- an element of a list at an index, and the others
+record Parted (P : OnItsWay → Type 0) (Q : Pending → Type 0) (ways : List OnItsWay) (index : ℕ) (p : Pending) : Type 0 where
   o : OnItsWay
   rest : List OnItsWay
   is : o.pending ≡ p
-  others : map (λ (o : OnItsWay). o.pending) rest ≡ remove (map (λ (o : OnItsWay). o.pending) ways) place
+  others : map (λ (o : OnItsWay). o.pending) rest ≡ remove (map (λ (o : OnItsWay). o.pending) ways) index
   whole : sum_by steps_of ways ≡ steps_of o + sum_by steps_of rest
   on : P o
   each : AllByRecursion P rest
   there : Q p
   all : AllByRecursion Q (map (λ (o : OnItsWay). o.pending) rest)
 
-parted : (P : OnItsWay → Type 0) (Q : Pending → Type 0) (ways : List OnItsWay) (place : ℕ) (p : Pending) → AllByRecursion P ways → AllByRecursion Q (map (λ (o : OnItsWay). o.pending) ways) → slice_get (map (λ (o : OnItsWay). o.pending) ways) place ≡ Some p → Parted P Q ways place p
-parted P Q [] place p a b e = absurd (cc)
+parted : (P : OnItsWay → Type 0) (Q : Pending → Type 0) (ways : List OnItsWay) (index : ℕ) (p : Pending) → AllByRecursion P ways → AllByRecursion Q (map (λ (o : OnItsWay). o.pending) ways) → slice_get (map (λ (o : OnItsWay). o.pending) ways) index ≡ Some p → Parted P Q ways index p
+parted P Q [] index p a b e = absurd (cc)
 parted P Q (o ∷ os) zero p a b e =
     let is : o.pending ≡ p = cc in
     record { o = o; rest = os; is = is; others = refl; whole = sum_cons o os; on = a.0; each = a.1; there = subst Q is b.0; all = b.1 }
@@ -207,21 +207,21 @@ parted P Q (o ∷ os) (suc k) p a b e =
       all = (b.0, q.all);
     }
 
--- the frame at a place is taken out
-pub record TakenOut (left begun : ℕ) (m : Machine) (ways : List OnItsWay) (place : ℕ) (p : Pending) : Type 0 where
+-- the frame at an index is taken out
+pub record TakenOut (left begun : ℕ) (m : Machine) (ways : List OnItsWay) (index : ℕ) (p : Pending) : Type 0 where
   pub o : OnItsWay
   pub rest : List OnItsWay
   pub is : o.pending ≡ p
   pub on : IsOnItsWay m.graph m.going.replay o
   pub there : IsThere m.graph m.sessions p
   pub whole : sum_by steps_of ways ≡ steps_of o + sum_by steps_of rest
-  pub has : HasLeft left begun (at m (record (m.going) { pending = remove m.going.pending place })) rest
+  pub has : HasLeft left begun (at m (record (m.going) { pending = remove m.going.pending index })) rest
 
-pub taken_out : (left begun : ℕ) (m : Machine) (ways : List OnItsWay) → HasLeft left begun m ways → (place : ℕ) (p : Pending) → slice_get m.going.pending place ≡ Some p → TakenOut left begun m ways place p
-taken_out left begun m ways h place p e =
+pub taken_out : (left begun : ℕ) (m : Machine) (ways : List OnItsWay) → HasLeft left begun m ways → (index : ℕ) (p : Pending) → slice_get m.going.pending index ≡ Some p → TakenOut left begun m ways index p
+taken_out left begun m ways h index p e =
     let there : AllByRecursion (IsThere m.graph m.sessions) (map (λ (o : OnItsWay). o.pending) ways) = subst (λ (ps : List Pending). AllByRecursion (IsThere m.graph m.sessions) ps) (sym h.pending) h.there in
-    let q = parted (IsOnItsWay m.graph m.going.replay) (IsThere m.graph m.sessions) ways place p h.each there (ap (λ (ps : List Pending). slice_get ps place) h.pending ∙ e) in
-    let others : map (λ (o : OnItsWay). o.pending) q.rest ≡ remove m.going.pending place = q.others ∙ ap (λ (ps : List Pending). remove ps place) h.pending in
+    let q = parted (IsOnItsWay m.graph m.going.replay) (IsThere m.graph m.sessions) ways index p h.each there (ap (λ (ps : List Pending). slice_get ps index) h.pending ∙ e) in
+    let others : map (λ (o : OnItsWay). o.pending) q.rest ≡ remove m.going.pending index = q.others ∙ ap (λ (ps : List Pending). remove ps index) h.pending in
     record {
       o = q.o;
       rest = q.rest;

@@ -27,7 +27,7 @@ use Rattle.sg_protocol.specs.NodeAfter.{goes_on, joined, node_after, still, take
 use Rattle.sg_protocol.specs.Ranges.{AreValues, IsCallInRange}
 use Rattle.sg_protocol.specs.Reading.{read}
 use Rattle.sg_protocol.specs.Sending.{own_item}
-use Rattle.sg_protocol.specs.Session.{Session, Took, Gave, extended, last_time, new_session, principal, time, told}
+use Rattle.sg_protocol.specs.Session.{Session, Took, Gave, extended, last_time, new_session, principal, time, transcript}
 use Rattle.sg_protocol.specs.Spelling.{HasSpelling, spelling}
 use Rattle.sg_protocol.specs.Texts.{Hash, IsHash}
 use Rattle.std.specs.Option.{option_map_or}
@@ -131,7 +131,7 @@ module _ (sha : Hash) (hash : IsHash sha) (g : Graph) (few : length g.roles ≤ 
         let spelled : HasSpelling f = subst HasSpelling s.its (gs.short).spelled in
         let again : read (spelling f) ≡ Ok f = read-spelling f spelled in
         let join : IfSome f.join (λ (c : Cast). c.names ≡ players (length g.roles)) = subst (λ (z : Frame). IfSome z.join (λ (c : Cast). c.names ≡ players (length g.roles))) s.its
-        (join_names (has (λ (j : Item). j.role) (receiver (shape p.graph) label) (told s.x)) (s.x).cast own.1) in
+        (join_names (has (λ (j : Item). j.role) (receiver (shape p.graph) label) (transcript s.x)) (s.x).cast own.1) in
         record {
           x = s.x;
           found = s.found;

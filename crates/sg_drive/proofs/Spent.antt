@@ -30,7 +30,7 @@ use Rattle.sg_protocol.specs.NodeAfter.{goes_on, joined, node_after, replace, st
 use Rattle.sg_protocol.specs.Ranges.{AreValues, IsCallInRange}
 use Rattle.sg_protocol.specs.Reading.{read}
 use Rattle.sg_protocol.specs.Sending.{own_item}
-use Rattle.sg_protocol.specs.Session.{Exchange, Session, Took, Gave, at_turn, extended, items_of, last_time, new_session, own_time, time, told}
+use Rattle.sg_protocol.specs.Session.{Exchange, Session, Took, Gave, at_turn, extended, items_of, last_time, new_session, own_time, time, transcript}
 use Rattle.sg_protocol.specs.Texts.{Hash, IsHash, session_id}
 use Rattle.sg_protocol.specs.Verdict.{bad_time, decided, join_rows, next_rows, receipt, row, rows, rows_of_join, rows_of_next, rows_of_session, verdict_on}
 use Rattle.sg_drive.specs.Spent.{AllDiffer, Differ, FramesAreTakenOnce, IsOrderly, IsPast, IsSpent}
@@ -46,8 +46,8 @@ tail_of (o ∷ os) = os
 
 -- ---- times
 
-told-extended : (s : Session) (e : Exchange) → told (extended s e) ≡ told s ++ items_of e
-told-extended s e = flat_map-append items_of s.exchanges (e ∷ []) ∙ ap (λ l. told s ++ l) (append-nil (items_of e))
+transcript-extended : (s : Session) (e : Exchange) → transcript (extended s e) ≡ transcript s ++ items_of e
+transcript-extended s e = flat_map-append items_of s.exchanges (e ∷ []) ∙ ap (λ l. transcript s ++ l) (append-nil (items_of e))
 
 abbrev time_in : Option Item → ℕ
 time_in o = unwrap_or (option_map (λ (i : Item). i.time) o) 0
@@ -58,11 +58,11 @@ time_took q s f h = by (last f.items) refl h
   where
     by : (o : Option Item) → last f.items ≡ o → option_map_or q o false ≡ true → time (extended s (Took f)) ≡ last_time f.items
     by None e h = absurd (let z : false ≡ true = h in cc)
-    by (Some i) e h = ap (λ (l : List Item). last_time l) (told-extended s (Took f)) ∙ ap time_in (last-append_some (told s) f.items i e) ∙ sym (ap time_in e)
+    by (Some i) e h = ap (λ (l : List Item). last_time l) (transcript-extended s (Took f)) ∙ ap time_in (last-append_some (transcript s) f.items i e) ∙ sym (ap time_in e)
 
 -- and after an item of its own of that item's
 pub time_gave : (s : Session) (i : Item) (os : List Opening) → time (extended s (Gave i os)) ≡ i.time
-time_gave s i os = ap (λ (l : List Item). last_time l) (told-extended s (Gave i os)) ∙ ap time_in (last-append (told s) i [])
+time_gave s i os = ap (λ (l : List Item). last_time l) (transcript-extended s (Gave i os)) ∙ ap time_in (last-append (transcript s) i [])
 
 -- times that rise end above the first
 pub last_rises : (q : Item → Bool) (k b : ℕ) (items : List Item) → bad_time k b items ≡ None → option_map_or q (last items) false ≡ true → b < last_time items

@@ -14,7 +14,7 @@ module _ (m : Machine) (i : Inside) (view : machine_of i ≡ m) (h : HoldsMachin
   pub is_declared : without_steps m.going.replay.schedule ≡ setup m.sessions m.graph
   is_declared = subst (λ (z : Machine). without_steps z.going.replay.schedule ≡ setup z.sessions z.graph) view (ap without_steps h.taken)
 
-  -- the session of a place is there
+  -- the session of an index is there
   pub is_there : (n : ℕ) → n < m.sessions → n < length m.going.replay.schedule.sessions
   is_there n l = session_there m.going.replay.schedule m.sessions n m.graph is_declared l
 

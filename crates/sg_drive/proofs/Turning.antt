@@ -14,7 +14,7 @@ use Rattle.sg_drive.proofs.Extends.{Goes, extends_both, extends_itself, goes_tur
 module _ (seed : ℕ) (g : Graph) where
   -- where no frame is pending, a turn changes nothing
   pub turn_none : (x : Going) → x.pending ≡ [] → turn seed g x ≡ x
-  turn_none x h = let place : ℕ = draw seed x.draws % length x.pending in ap (λ (ps : List Pending). take_out seed g place (slice_get ps place) x) h
+  turn_none x h = let index : ℕ = draw seed x.draws % length x.pending in ap (λ (ps : List Pending). take_out seed g index (slice_get ps index) x) h
 
   -- nor do more
   later : (n k m : ℕ) (x : Going) → (turns n seed g x).pending ≡ [] → m ≡ n + k → turns m seed g x ≡ turns n seed g x

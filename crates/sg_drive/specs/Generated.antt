@@ -114,14 +114,14 @@ meet seed g p Delayed x = put_back p x
 meet seed g p Repeated x = deliver seed g p (put_back p x)
 meet seed g p Lost x = record x { lost = x.lost + 1 }
 
--- the frame at a place, where there is one, is taken out, and the next draw but one, modulo 16, decides
-abbrev pub take_out : (seed : ℕ) → Graph → (place : ℕ) → Option Pending → Going → Going
-take_out seed g place None x = x
-take_out seed g place (Some p) x = meet seed g p (fate_of p.count (draw seed (x.draws + 1) % 16)) (without place (drawing 2 x))
+-- the frame at an index, where there is one, is taken out, and the next draw but one, modulo 16, decides
+abbrev pub take_out : (seed : ℕ) → Graph → (index : ℕ) → Option Pending → Going → Going
+take_out seed g index None x = x
+take_out seed g index (Some p) x = meet seed g p (fate_of p.count (draw seed (x.draws + 1) % 16)) (without index (drawing 2 x))
 
--- a turn: a draw gives the place, modulo the length of the list. Nothing is drawn where no frame is pending
+-- a turn: a draw gives the index, modulo the length of the list. Nothing is drawn where no frame is pending
 abbrev pub turn : (seed : ℕ) → Graph → Going → Going
-turn seed g x = let place = draw seed x.draws % length x.pending in take_out seed g place (slice_get x.pending place) x
+turn seed g x = let index = draw seed x.draws % length x.pending in take_out seed g index (slice_get x.pending index) x
 
 -- n turns
 abbrev pub turns : ℕ → (seed : ℕ) → Graph → Going → Going
@@ -134,7 +134,7 @@ turns (suc n) seed g x = turn seed g (turns n seed g x)
 abbrev pub begin : (seed : ℕ) → Graph → (session : ℕ) → Going → Going
 begin seed g session x = play seed g session 0 (taking (StartStep (player_at g 0) session) x)
 
--- `count` sessions do, one after another, the first of place `first`
+-- `count` sessions do, one after another, the first of index `first`
 abbrev pub begin_all : (seed : ℕ) → Graph → (first count : ℕ) → Going → Going
 begin_all seed g first zero x = x
 begin_all seed g first (suc n) x = begin seed g (first + n) (begin_all seed g first n x)

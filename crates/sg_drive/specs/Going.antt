@@ -8,7 +8,7 @@ use Rattle.sg_report.specs.Told.{Told, told_log}
 use Rattle.sg_world.specs.Replay.{Replay, run_of, with_taken}
 use Rattle.sg_drive.specs.Setup.{setup}
 
--- a frame that is on its way: its number, the place of its session, the label along which it was sent, and how often it went to the list's end again
+-- a frame that is on its way: its number, the index of its session, the label along which it was sent, and how often it went to the list's end again
 pub record Pending : Type 0 where
   pub frame : ℕ
   pub session : ℕ
@@ -38,9 +38,9 @@ drawing n x = record x { draws = x.draws + n }
 abbrev pub adding : List Pending → Going → Going
 adding frames x = record x { pending = x.pending ++ frames }
 
--- the list without the frame at a place
-abbrev pub without : (place : ℕ) → Going → Going
-without place x = record x { pending = remove x.pending place }
+-- the list without the frame at an index
+abbrev pub without : (index : ℕ) → Going → Going
+without index x = record x { pending = remove x.pending index }
 
 -- what came of the last step, by the run of all
 abbrev pub came_last : Going → Option Told

@@ -19,7 +19,7 @@ use Rattle.sg_drive.specs.declared.pending.Fate.TheVariants as held
 
 -- ---- the generator
 
--- what is held stands for the run that is being generated
+-- what is held represents the run that is being generated
 abbrev pub machine_of : Inside → Machine
 machine_of m = record {
   seed = m.draws.seed;

@@ -34,8 +34,8 @@ impl Draws {
         ensures small { result < 65_536 }
         ensures next { self.new ≡ record self.old { count = self.old.count + 1 } }
     {
-        let place = u64::from(self.seed) + u64::from(self.count);
+        let index = u64::from(self.seed) + u64::from(self.count);
         self.count += 1;
-        (place * 2_654_435_761 % 4_294_967_296 / 65_536) as u32
+        (index * 2_654_435_761 % 4_294_967_296 / 65_536) as u32
     }
 }

@@ -77,7 +77,7 @@ impl<'g, 'p> Generator<'g, 'p> {
         self.group(first, count)
     }
 
-    // A group of `count` sessions, the first of place `first`: they begin, and turns are made until no frame is pending.
+    // A group of `count` sessions, the first of index `first`: they begin, and turns are made until no frame is pending.
     fn group(&mut self, first: u32, count: u32) -> Result<(), GenerateFault>
         requires budget { HasBudget 0 first self.old }
         requires few { (first + count ≤ self.old.sessions) × (count ≤ 16) }
@@ -88,15 +88,15 @@ impl<'g, 'p> Generator<'g, 'p> {
         self.take_turns(first + count)
     }
 
-    // `count` sessions begin one after another, the first of place `first`.
+    // `count` sessions begin one after another, the first of index `first`.
     fn begin_all(&mut self, first: u32, count: u32) -> Result<(), GenerateFault>
         requires budget { HasBudget 0 first self.old }
         requires few { (first + count ≤ self.old.sessions) × (count ≤ 16) }
         ensures going { OnOk result (self.new ≡ record self.old { going = begin_all self.old.seed self.old.graph first count self.old.going }) }
         ensures stopped { IfErr result (IsStopped (begin_all self.old.seed self.old.graph first count self.old.going).replay) }
     {
-        for place in 0..count {
-            self.begin(first + place)?;
+        for index in 0..count {
+            self.begin(first + index)?;
         }
         Ok(())
     }

@@ -32,18 +32,18 @@ impl<'g, 'p> Generator<'g, 'p> {
         ensures going { OnOk result (self.new ≡ record self.old { going = turn self.old.seed self.old.graph self.old.going }) }
         ensures stopped { IfErr result (IsStopped (turn self.old.seed self.old.graph self.old.going).replay) }
     {
-        let place = self.draw_place();
+        let index = self.draw_index();
         let drawn = self.draw() % 16;
-        let frame = self.take_out(place);
+        let frame = self.take_out(index);
         let fate = frame.fate(drawn);
         self.meet(frame, fate)
     }
 
-    // The place of a frame in the list, by the next draw.
-    fn draw_place(&mut self) -> usize
+    // The index of a frame in the list, by the next draw.
+    fn draw_index(&mut self) -> usize
         requires draws { self.old.going.draws < 1_000_000_000 }
         requires some { 0 < length self.old.going.pending }
-        ensures place { result ≡ draw self.old.seed self.old.going.draws % length self.old.going.pending }
+        ensures index { result ≡ draw self.old.seed self.old.going.draws % length self.old.going.pending }
         ensures there { result < length self.old.going.pending }
         ensures going { self.new ≡ record self.old { going = drawing 1 self.old.going } }
     {
@@ -59,13 +59,13 @@ impl<'g, 'p> Generator<'g, 'p> {
         self.pending.is_empty()
     }
 
-    // The frame at a place is taken out of the list.
-    fn take_out(&mut self, place: usize) -> Pending
-        requires { place < length self.old.going.pending }
-        ensures taken { slice_get self.old.going.pending place ≡ Some result }
-        ensures going { self.new ≡ record self.old { going = without place self.old.going } }
+    // The frame at an index is taken out of the list.
+    fn take_out(&mut self, index: usize) -> Pending
+        requires { index < length self.old.going.pending }
+        ensures taken { slice_get self.old.going.pending index ≡ Some result }
+        ensures going { self.new ≡ record self.old { going = without index self.old.going } }
     {
-        self.pending.remove(place)
+        self.pending.remove(index)
     }
 
     // A frame that was taken out meets its fate.

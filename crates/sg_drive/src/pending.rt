@@ -11,7 +11,7 @@ use std::marker::Model;
 pub(crate) struct Pending {
     /// Its number, from 1.
     pub frame: u32,
-    /// The place of its session, from 0.
+    /// The index of its session, from 0.
     pub session: u32,
     /// The label along which it was sent.
     pub label: Label,

@@ -115,8 +115,8 @@ fn sessions_of(
 {
     let digest = digest_of(alloc, graph)?;
     let mut list = Seq::new(alloc);
-    for place in 0..sessions {
-        list.push(session(alloc, place + 1, digest, names)?)?;
+    for index in 0..sessions {
+        list.push(session(alloc, index + 1, digest, names)?)?;
     }
     Ok(list)
 }

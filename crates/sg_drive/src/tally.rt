@@ -56,8 +56,8 @@ impl Tally {
         ensures { IfOk result (λ t. t ≡ counts_of graph.now world.now) }
     {
         let mut tally = Tally::new(alloc);
-        for place in 0..world.len() {
-            tally.add(graph, world.outcome(place))?;
+        for index in 0..world.len() {
+            tally.add(graph, world.outcome(index))?;
         }
         Ok(tally)
     }

@@ -91,15 +91,15 @@ pub fn read_tag(input: &mut ByteIn, version: u8) -> Result<Tag, FrameStop>
     ensures { Reads (read_tag version) input.old input.new result }
 {
     let mut kept = [0u8; 32];
-    put_front(&mut kept, bytes(input, tag_len(version))?);
+    put_prefix(&mut kept, bytes(input, tag_len(version))?);
     Ok(Tag(kept))
 }
 
-fn put_front(block: &mut [u8; 32], front: &[u8])
-    requires { length front.now ≤ 32 }
-    ensures { block.new ≡ front.now ++ drop (length front.now) block.old }
+fn put_prefix(block: &mut [u8; 32], prefix: &[u8])
+    requires { length prefix.now ≤ 32 }
+    ensures { block.new ≡ prefix.now ++ drop (length prefix.now) block.old }
 {
-    block[..front.len()].copy_from_slice(front);
+    block[..prefix.len()].copy_from_slice(prefix);
 }
 
 // A name after its length.

@@ -1,4 +1,4 @@
--- What the first place of a name says of the names.
+-- What the first index of a name says of the names.
 use Rattle.std.proofs.Common.{◌≡◌, ℕ, ◌+◌, ◌<◌, nat_lt, Bool, true, false, List, [], ◌∷◌, map, length, get_or, refl, sym, ◌∙◌, inl, inr, arith}
 use Rattle.std.specs.Prelude.{Option, Some, None, position, bytes_eq, IsSome, IsTrue, is_some, ◌↔◌}
 use Rattle.std.specs.List.{list_any, position_or_len, position_from}
@@ -10,7 +10,7 @@ use Rattle.std.proofs.lemmas.Bool.{cases_Bool}
 use Rattle.sg_model.specs.Lists.{has_text}
 use Rattle.sg_model.specs.Names.{Name}
 
--- the first place of one that passes is a place of one that passes
+-- the first index of one that passes is an index of one that passes
 pub passes_there : {X : Type 0} (p : X → Bool) (xs : List X) (i : ℕ) (d : X) → position p xs ≡ Some i → (i < length xs) × (p (get_or xs i d) ≡ true)
 passes_there p xs i d h =
     elim (cases_Bool (nat_lt (position_or_len p xs) (length xs))) [
@@ -23,7 +23,7 @@ passes_there p xs i d h =
       | inr n ↦ (let e : None ≡ Some i = rw n at h in absurd (cc))
     ]
 
--- where the search from n on finds a place, one passes
+-- where the search from n on finds an index, one passes
 some_from : {X : Type 0} (p : X → Bool) (xs : List X) (n i : ℕ) → position_from p n xs ≡ Some i → list_any p xs ≡ true
 some_from p [] n i h = absurd (cc)
 some_from p (x ∷ xs) n i h = elim (cases_Bool (p x)) [ inl y ↦ rw y refl | inr z ↦ rw z (some_from p xs (n + 1) i (rw z at h)) ]
@@ -33,7 +33,7 @@ none_from : {X : Type 0} (p : X → Bool) (xs : List X) (n : ℕ) → position_f
 none_from p [] n h = refl
 none_from p (x ∷ xs) n h = elim (cases_Bool (p x)) [ inl y ↦ (let e : Some n ≡ None = rw y at h in absurd (cc)) | inr z ↦ rw z (none_from p xs (n + 1) (rw z at h)) ]
 
--- where there is a first place, one passes
+-- where there is a first index, one passes
 pub some_passes : {X : Type 0} (p : X → Bool) (xs : List X) (i : ℕ) → position p xs ≡ Some i → list_any p xs ≡ true
 some_passes p xs i h = some_from p xs 0 i (sym (position_from-zero p xs) ∙ h)
 
@@ -51,18 +51,18 @@ position_from-map : {X Y : Type 0} (p : Y → Bool) (f : X → Y) (xs : List X) 
 position_from-map p f [] n = refl
 position_from-map p f (x ∷ xs) n = rw (position_from-map p f xs (n + 1))
 
--- the first place among images is the first among the elements
+-- the first index among images is the first among the elements
 pub position-map : {X Y : Type 0} (p : Y → Bool) (f : X → Y) (xs : List X) → position p (map f xs) ≡ position (λ x. p (f x)) xs
 position-map p f xs = position_from-zero p (map f xs) ∙ position_from-map p f xs 0 ∙ sym (position_from-zero (λ x. p (f x)) xs)
 
--- the first place of a name has it
+-- the first index of a name has it
 pub name_there : {Y : Type 0} (name_of : Y → Name) (name : Name) (ys : List Y) (i : ℕ) (d : Y) → Some i ≡ position (λ y. bytes_eq name (name_of y)) ys
     → (i < length ys) × (name_of (get_or ys i d) ≡ name)
 name_there name_of name ys i d h =
     let there = passes_there (λ y. bytes_eq name (name_of y)) ys i d (sym h) in
     (there.0, sym ((bytes_eq-Decides name (name_of (get_or ys i d))).0 there.1))
 
--- where there is a first place of a name, it is among the names
+-- where there is a first index of a name, it is among the names
 pub name_found : {Y : Type 0} (name_of : Y → Name) (name : Name) (ys : List Y) (i : ℕ) → Some i ≡ position (λ y. bytes_eq name (name_of y)) ys → has_text name (map name_of ys) ≡ true
 name_found name_of name ys i h = list_any-map (bytes_eq name) name_of ys ∙ some_passes (λ y. bytes_eq name (name_of y)) ys i (sym h)
 
@@ -70,13 +70,13 @@ name_found name_of name ys i h = list_any-map (bytes_eq name) name_of ys ∙ som
 pub name_missed : {Y : Type 0} (name_of : Y → Name) (name : Name) (ys : List Y) → None ≡ position (λ y. bytes_eq name (name_of y)) ys → has_text name (map name_of ys) ≡ false
 name_missed name_of name ys h = list_any-map (bytes_eq name) name_of ys ∙ none_passes (λ y. bytes_eq name (name_of y)) ys (sym h)
 
--- neither the place nor the name is there
+-- neither the index nor the name is there
 pub neither : {A : Type 0} (o : Option A) (b : Bool) → o ≡ None → b ≡ false → (IsSome o → IsTrue b) × (IsTrue b → IsSome o)
 neither (Some a) b n f = absurd (cc)
 neither None true n f = absurd (cc)
 neither None false n f = (λ y. y, λ y. y)
 
--- a name that has no place isn't there
+-- a name that has no index isn't there
 pub unfound : {A : Type 0} (o : Option A) (r b : Bool) → (IsSome o ↔ IsTrue b) → r ≡ is_some o → r ≡ false → b ≡ false
 unfound o r true h s f = absurd (clash (is_some o) (h.1 refl) (sym s ∙ f))
   where

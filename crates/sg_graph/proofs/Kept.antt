@@ -15,33 +15,33 @@ use Rattle.sg_model.specs.Lists.{below}
 use Rattle.sg_graph.proofs.Found.{position-map}
 use Rattle.sg_model.proofs.Numbers.{below-suc, below-at}
 
--- a place among the roles
-pub role_place : (g : Inside) (now : Graph) (seen : List Name) (name : Name) (o : Option ℕ) → graph_of g ≡ now → seen ≡ g.roles.items
+-- an index among the roles
+pub role_index : (g : Inside) (now : Graph) (seen : List Name) (name : Name) (o : Option ℕ) → graph_of g ≡ now → seen ≡ g.roles.items
     → o ≡ position (bytes_eq name) seen → o ≡ position (bytes_eq name) now.roles
-role_place g now seen name o view same at =
+role_index g now seen name o view same at =
     let e : seen ≡ now.roles = same ∙ ap (λ (g : Graph). g.roles) view in
     at ∙ ap (λ (ns : List Name). position (bytes_eq name) ns) e
 
--- a place among the variables
-pub variable_place : (g : Inside) (now : Graph) (seen : List KeptVariable) (name : Name) (o : Option ℕ) → graph_of g ≡ now → seen ≡ g.vars.items
+-- an index among the variables
+pub variable_index : (g : Inside) (now : Graph) (seen : List KeptVariable) (name : Name) (o : Option ℕ) → graph_of g ≡ now → seen ≡ g.vars.items
     → o ≡ position (λ v. bytes_eq name v.name) seen → o ≡ position (λ v. bytes_eq name v.name) now.variables
-variable_place g now seen name o view same at =
+variable_index g now seen name o view same at =
     let e : map variable_of seen ≡ now.variables = ap (map variable_of) same ∙ ap (λ (g : Graph). g.variables) view in
     at ∙ sym (position-map (λ (v : Variable). bytes_eq name v.name) variable_of seen)
     ∙ ap (λ (vs : List Variable). position (λ v. bytes_eq name v.name) vs) e
 
--- a place among the nodes
-pub node_place : (g : Inside) (now : Graph) (seen : List KeptNode) (name : Name) (o : Option ℕ) → graph_of g ≡ now → seen ≡ g.nodes.items
+-- an index among the nodes
+pub node_index : (g : Inside) (now : Graph) (seen : List KeptNode) (name : Name) (o : Option ℕ) → graph_of g ≡ now → seen ≡ g.nodes.items
     → o ≡ position (λ n. bytes_eq name n.name) seen → o ≡ position (λ n. bytes_eq name n.name) now.nodes
-node_place g now seen name o view same at =
+node_index g now seen name o view same at =
     let e : map node_of seen ≡ now.nodes = ap (map node_of) same ∙ ap (λ (g : Graph). g.nodes) view in
     at ∙ sym (position-map (λ (n : Node). bytes_eq name n.name) node_of seen)
     ∙ ap (λ (ns : List Node). position (λ n. bytes_eq name n.name) ns) e
 
--- a place among the edges
-pub edge_place : (g : Inside) (now : Graph) (seen : List NamedEdge) (name : Name) (o : Option ℕ) → graph_of g ≡ now → seen ≡ g.edges.items
+-- an index among the edges
+pub edge_index : (g : Inside) (now : Graph) (seen : List NamedEdge) (name : Name) (o : Option ℕ) → graph_of g ≡ now → seen ≡ g.edges.items
     → o ≡ position (λ e. bytes_eq name e.name) seen → o ≡ position (λ e. bytes_eq name e.name) now.edges
-edge_place g now seen name o view same at =
+edge_index g now seen name o view same at =
     let e : map edge_of seen ≡ now.edges = ap (map edge_of) same ∙ ap (λ (g : Graph). g.edges) view in
     at ∙ sym (position-map (λ (e : Edge). bytes_eq name e.name) edge_of seen)
     ∙ ap (λ (es : List Edge). position (λ e. bytes_eq name e.name) es) e
@@ -59,15 +59,15 @@ labels-append es e fs kept at same =
 abbrev arrow_of : Edge → Arrow
 arrow_of e = record { source = e.source; target = e.target; writes = e.writes; reads = e.reads }
 
--- the element at a place of a list that is seen through f
-pub at_place : {X Y : Type 0} (f : X → Y) (xs : List X) (ys : List Y) (k i : ℕ) (x : X) (d : Y) → map f xs ≡ ys → k ≡ i → i < length ys → x ≡ get_or xs k x → get_or ys i d ≡ f x
-at_place f xs ys k i x d seen at l same =
+-- the element at an index of a list that is seen through f
+pub at_index : {X Y : Type 0} (f : X → Y) (xs : List X) (ys : List Y) (k i : ℕ) (x : X) (d : Y) → map f xs ≡ ys → k ≡ i → i < length ys → x ≡ get_or xs k x → get_or ys i d ≡ f x
+at_index f xs ys k i x d seen at l same =
     let within : i < length xs = rw (← seen, length-map) at l in
     rw (← seen, get_or-map f xs i x d within, ← at, ← same)
 
--- what holds of each element holds of the one at a place
+-- what holds of each element holds of the one at an index
 pub all_at : {X Y : Type 0} (f : X → Y) (xs : List X) (ys : List Y) (k i : ℕ) (x : X) (P : Y → Type 0) → map f xs ≡ ys → k ≡ i → i < length ys → x ≡ get_or xs k x → All P ys → P (f x)
-all_at f xs ys k i x P seen at l same all = subst P (at_place f xs ys k i x (f x) seen at l same) (all i (f x) l)
+all_at f xs ys k i x P seen at l same all = subst P (at_index f xs ys k i x (f x) seen at l same) (all i (f x) l)
 
 -- the edge that is kept for a label is the edge of the label
 pub edge_kept : (g : Inside) (now : Graph) (k i : ℕ) (e : NamedEdge) → HoldsGraph g → graph_of g ≡ now → k ≡ i → i < length now.edges
@@ -78,10 +78,10 @@ edge_kept g now k i e holds view at l same =
     let labels : map (λ e. e.edge.label) g.edges.items ≡ below (length g.edges.items) = holds.labels in
     let within' : i < length (below (length g.edges.items)) = rw (← labels, length-map) within in
     let label : e.edge.label ≡ i =
-    sym (at_place (λ (e : NamedEdge). e.edge.label) g.edges.items (below (length g.edges.items)) k i e 0 labels at within' same)
+    sym (at_index (λ (e : NamedEdge). e.edge.label) g.edges.items (below (length g.edges.items)) k i e 0 labels at within' same)
     ∙ below-at (length g.edges.items) i 0 within in
     let arrow : arrow_of (edge_of e) ≡ edge_at (shape now) i =
-    sym (get_or-map arrow_of now.edges i (edge_of e) _ l ∙ ap arrow_of (at_place edge_of g.edges.items now.edges k i e (edge_of e) seen at l same)) in
+    sym (get_or-map arrow_of now.edges i (edge_of e) _ l ∙ ap arrow_of (at_index edge_of g.edges.items now.edges k i e (edge_of e) seen at l same)) in
     λ j. record { label = label j; source = (arrow j).source; target = (arrow j).target; writes = (arrow j).writes; reads = (arrow j).reads }
 
 -- what holds of each edge holds of the one that is kept for a label
@@ -95,7 +95,7 @@ pub role_kept : (g : Inside) (now : Graph) (k i : ℕ) (n : KeptNode) → graph_
 role_kept g now k i n view at l same =
     let seen : map node_of g.nodes.items ≡ now.nodes = ap (λ (g : Graph). g.nodes) view in
     sym (get_or-map (λ (n : Node). n.role) now.nodes i (node_of n) 0 l
-    ∙ ap (λ (n : Node). n.role) (at_place node_of g.nodes.items now.nodes k i n (node_of n) seen at l same))
+    ∙ ap (λ (n : Node). n.role) (at_index node_of g.nodes.items now.nodes k i n (node_of n) seen at l same))
 
 -- what holds of each node holds of the one that is kept
 pub node_has : (P : Node → Type 0) (g : Inside) (now : Graph) (k i : ℕ) (n : KeptNode) → graph_of g ≡ now → k ≡ i → i < length now.nodes

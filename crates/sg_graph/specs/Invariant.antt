@@ -6,7 +6,7 @@ use Rattle.sg_graph.specs.Edges.{leaving_of}
 use Rattle.sg_graph.specs.declared.graph.Graph.TheInside.{Inside}
 use Rattle.sg_graph.specs.Model.{graph_of}
 
--- a graph is kept, each edge has its place as its label, and each node the labels that leave it
+-- a graph is kept, each edge has its index as its label, and each node the labels that leave it
 pub record HoldsGraph (g : Inside) : Type 0 where
   pub graph : IsGraph (graph_of g)
   pub labels : map (λ e. e.edge.label) g.edges.items ≡ below (length g.edges.items)

@@ -16,6 +16,6 @@ mod walk;
 
 pub use edge::Edge;
 pub use graph::{AddFault, Graph};
-pub use named::{put_label, put_node, put_place, put_role, put_var, put_walk};
+pub use named::{put_label, put_label_and_var, put_node, put_role, put_var, put_walk};
 pub use text::canonical_text;
 pub use walk::is_walk;

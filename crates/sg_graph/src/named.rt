@@ -1,7 +1,7 @@
 //! Names of what a graph has by number, appended to what is there.
 ghost use Rattle.std.specs.Prelude.{◌≡◌, ◌++◌, ◌∷◌, OnOk};
 ghost use Rattle.sg_protocol.specs.Graph.{role_name, variable_name, node_name};
-ghost use Rattle.sg_graph.specs.Named.{place_text, walk_text};
+ghost use Rattle.sg_graph.specs.Named.{label_and_var_text, walk_text};
 ghost use Rattle.sg_graph.specs.Parts.{edge_name};
 
 use crate::Graph;
@@ -48,13 +48,13 @@ pub fn put_var(out: &mut ByteOut, graph: &Graph, var: Var) -> Result<(), OutOfMe
 }
 
 /// Writes the names of a label's edge and of a variable, with a space between them.
-pub fn put_place(
+pub fn put_label_and_var(
     out: &mut ByteOut,
     graph: &Graph,
     label: Label,
     var: Var,
 ) -> Result<(), OutOfMemory>
-    ensures { OnOk result (out.new ≡ out.old ++ place_text graph.now label var) }
+    ensures { OnOk result (out.new ≡ out.old ++ label_and_var_text graph.now label var) }
 {
     put_label(out, graph, label)?;
     out.u8(b' ')?;

@@ -7,13 +7,13 @@ use Rattle.sg_model.proofs.Small.{drop_from}
 pub one_back : {A : Type 0} (xs : List A) (back : ℕ) (x : A) → back < length xs → x ≡ get_or xs (length xs - 1 - back) x → drop (length xs - (back + 1)) xs ≡ x ∷ drop (length xs - back) xs
 one_back xs back x l e =
     let here : length xs - (back + 1) ≡ length xs - 1 - back = omega arith in
-    let place : suc (length xs - 1 - back) ≡ length xs - back = omega arith in
-    ap (λ n. drop n xs) here ∙ drop_from xs (length xs - 1 - back) x (omega arith) e ∙ ap (λ n. x ∷ drop n xs) place
+    let index : suc (length xs - 1 - back) ≡ length xs - back = omega arith in
+    ap (λ n. drop n xs) here ∙ drop_from xs (length xs - 1 - back) x (omega arith) e ∙ ap (λ n. x ∷ drop n xs) index
 
 -- what stands in front of a list stands behind it in reverse
-pub push_back : {A : Type 0} (front xs old new : List A) (x : A) → old ≡ front ++ reverse xs → new ≡ old ++ x ∷ [] → new ≡ front ++ reverse (x ∷ xs)
-push_back front xs old new x before more =
-    more ∙ ap (λ l. l ++ x ∷ []) before ∙ append_assoc front (reverse xs) (x ∷ []) ∙ ap (λ l. front ++ l) (sym (reverse-append (x ∷ []) xs))
+pub push_back : {A : Type 0} (prefix xs old new : List A) (x : A) → old ≡ prefix ++ reverse xs → new ≡ old ++ x ∷ [] → new ≡ prefix ++ reverse (x ∷ xs)
+push_back prefix xs old new x before more =
+    more ∙ ap (λ l. l ++ x ∷ []) before ∙ append_assoc prefix (reverse xs) (x ∷ []) ∙ ap (λ l. prefix ++ l) (sym (reverse-append (x ∷ []) xs))
 
 -- a list is reversed where it is seen
 pub map-reverse : {A B : Type 0} (f : A → B) (xs : List A) → map f (reverse xs) ≡ reverse (map f xs)

@@ -43,12 +43,12 @@ set_whole delta at vars h l before =
 pub key_small : (delta : Map (List ℕ)) (at : ℕ) (w : ℕ × List ℕ) → AreNumbers 32 (keys_of delta) → at < length delta → w ≡ get_or delta at w → w.0 < 32
 key_small delta at w h l is =
     let parts = and_parts (rises_from 0 (keys_of delta)) (list_all (λ x. nat_lt x 32) (keys_of delta)) h in
-    subst (λ (v : ℕ × List ℕ). v.0 < 32) (sym is) (at_place delta at (small_keys (keys_of delta) parts.1) l)
+    subst (λ (v : ℕ × List ℕ). v.0 < 32) (sym is) (at_index delta at (small_keys (keys_of delta) parts.1) l)
   where
-    at_place : (ws : Map (List ℕ)) (at : ℕ) → AllByRecursion (λ x. x < 32) (keys_of ws) → at < length ws → (get_or ws at w).0 < 32
-    at_place [] at h l = absurd (omega arith)
-    at_place (v ∷ vs) zero h l = h.0
-    at_place (v ∷ vs) (suc at) h l = at_place vs at h.1 (omega arith)
+    at_index : (ws : Map (List ℕ)) (at : ℕ) → AllByRecursion (λ x. x < 32) (keys_of ws) → at < length ws → (get_or ws at w).0 < 32
+    at_index [] at h l = absurd (omega arith)
+    at_index (v ∷ vs) zero h l = h.0
+    at_index (v ∷ vs) (suc at) h l = at_index vs at h.1 (omega arith)
 
 -- the variables of each delta of a frame rise
 pub deltas_rise : (f : Frame) → HasSpelling f → All (λ (i : Item). AreNumbers 32 (keys_of i.delta)) f.items

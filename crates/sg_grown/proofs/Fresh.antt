@@ -87,6 +87,6 @@ new_after g honest r (y ∷ ys) (suc n) x l e k h =
 pub new_back : (g : Shape) (honest : ℕ → Bool) (r : ℕ) (es : List ℕ) (back x : ℕ) → back < length es → x ≡ get_or es (length es - 1 - back) x → is_known g honest r x ≡ true
     → list_any (is_known g honest r) (drop (length es - back) es) ≡ false → drop (length es - back) es ≡ after_honest g honest (after_last (sender g) r es)
 new_back g honest r es back x l e k h =
-    let place : suc (length es - 1 - back) ≡ length es - back = omega arith in
-    let on = new_after g honest r es (length es - 1 - back) x (omega arith) e k (rw place h) in
-    rw place at on
+    let index : suc (length es - 1 - back) ≡ length es - back = omega arith in
+    let on = new_after g honest r es (length es - 1 - back) x (omega arith) e k (rw index h) in
+    rw index at on

@@ -149,7 +149,7 @@ sessions_are_grown sha hash programs s sid cast g part compiled sched premises i
 
 -- where a step of the session stands among all
 abbrev StandsIn : List ℕ → List Logged → List Logged → Logged → Type 0
-StandsIn sid log before l = (front : List Logged) × (back : List Logged) × (log ≡ front ++ l ∷ back) × (events_of sid front ≡ events_of sid before)
+StandsIn sid log before l = (prefix : List Logged) × (back : List Logged) × (log ≡ prefix ++ l ∷ back) × (events_of sid prefix ≡ events_of sid before)
 
 further : (sid : List ℕ) (x y : Logged) (xs before : List Logged) (l : Logged) → x ≡ y → StandsIn sid xs before l → StandsIn sid (x ∷ xs) (y ∷ before) l
 further sid x y xs before l same r =

@@ -48,9 +48,9 @@ filled_step steps f k h [] s = refl
 filled_step steps f k h (x ∷ xs) s = λ i. (x, h x s.0 i) ∷ filled_step steps f k h xs s.1 i
 
 -- one step more in front
-pub hidden_front : (g : Graph) (f k : ℕ → Option Value) (e : ℕ) (es : List ℕ) → Small (writes g e) → Agree k (unless_written (hidden_steps g es) f)
+pub hidden_prefix : (g : Graph) (f k : ℕ → Option Value) (e : ℕ) (es : List ℕ) → Small (writes g e) → Agree k (unless_written (hidden_steps g es) f)
     → found_step g k e ∷ filled_by f (hidden_steps g es) ≡ filled_by f (hidden_steps g (e ∷ es))
-hidden_front g f k e es s h = λ i. record { label = e; writes = filled_step (hidden_steps g es) f k h (writes g e) s i } ∷ filled_by f (hidden_steps g es)
+hidden_prefix g f k e es s h = λ i. record { label = e; writes = filled_step (hidden_steps g es) f k h (writes g e) s i } ∷ filled_by f (hidden_steps g es)
 
 keys-hidden : (xs : List ℕ) → keys_of (map hidden xs) ≡ xs
 keys-hidden [] = refl
@@ -61,9 +61,9 @@ either_written true b n k f e h = e
 either_written false b n k f e h = e ∙ h
 
 -- and what is kept then
-pub kept_front : (g : Graph) (f k n : ℕ → Option Value) (e : ℕ) (es : List ℕ) → ((x : ℕ) → x < 32 → n x ≡ (if is_in x (writes g e) then None else k x)) → Agree k (unless_written (hidden_steps g es) f)
+pub kept_prefix : (g : Graph) (f k n : ℕ → Option Value) (e : ℕ) (es : List ℕ) → ((x : ℕ) → x < 32 → n x ≡ (if is_in x (writes g e) then None else k x)) → Agree k (unless_written (hidden_steps g es) f)
     → Agree n (unless_written (hidden_steps g (e ∷ es)) f)
-kept_front g f k n e es h a x b =
+kept_prefix g f k n e es h a x b =
     either_written (is_in x (writes g e)) (is_written x (hidden_steps g es)) (n x) (k x) (f x) (h x b) (a x b)
     ∙ ap (λ ks. if (is_in x ks || is_written x (hidden_steps g es)) then None else f x) (sym (keys-hidden (writes g e)))
 
@@ -109,17 +109,17 @@ same_given g honest f k h (Received sid r label time values joins) walk x b =
 -- ---- the loops
 
 -- one step more, from the end
-pub step_back : (g : Graph) (f k n : ℕ → Option Value) (front old new : List StoredStep) (labels : List ℕ) (back e : ℕ) → IsGraph g → back < length labels → e ≡ get_or labels (length labels - 1 - back) e
-    → old ≡ front ++ reverse (filled_by f (hidden_steps g (drop (length labels - back) labels))) → Agree k (unless_written (hidden_steps g (drop (length labels - back) labels)) f)
+pub step_back : (g : Graph) (f k n : ℕ → Option Value) (prefix old new : List StoredStep) (labels : List ℕ) (back e : ℕ) → IsGraph g → back < length labels → e ≡ get_or labels (length labels - 1 - back) e
+    → old ≡ prefix ++ reverse (filled_by f (hidden_steps g (drop (length labels - back) labels))) → Agree k (unless_written (hidden_steps g (drop (length labels - back) labels)) f)
     → new ≡ old ++ found_step g k e ∷ [] → ((x : ℕ) → x < 32 → n x ≡ (if is_in x (writes g e) then None else k x))
-    → (new ≡ front ++ reverse (filled_by f (hidden_steps g (drop (length labels - (back + 1)) labels)))) × Agree n (unless_written (hidden_steps g (drop (length labels - (back + 1)) labels)) f)
-step_back g f k n front old new labels back e is l at before agree more kept =
+    → (new ≡ prefix ++ reverse (filled_by f (hidden_steps g (drop (length labels - (back + 1)) labels)))) × Agree n (unless_written (hidden_steps g (drop (length labels - (back + 1)) labels)) f)
+step_back g f k n prefix old new labels back e is l at before agree more kept =
     let rest : List ℕ = drop (length labels - back) labels in
     let cut : drop (length labels - (back + 1)) labels ≡ e ∷ rest = one_back labels back e l at in (
-      push_back front (filled_by f (hidden_steps g rest)) old new (found_step g k e) before more
-          ∙ ap (λ ss. front ++ reverse ss) (hidden_front g f k e rest (small_writes g is e) agree)
-          ∙ ap (λ es. front ++ reverse (filled_by f (hidden_steps g es))) (sym cut),
-      subst (λ es. Agree n (unless_written (hidden_steps g es) f)) (sym cut) (kept_front g f k n e rest kept agree),
+      push_back prefix (filled_by f (hidden_steps g rest)) old new (found_step g k e) before more
+          ∙ ap (λ ss. prefix ++ reverse ss) (hidden_prefix g f k e rest (small_writes g is e) agree)
+          ∙ ap (λ es. prefix ++ reverse (filled_by f (hidden_steps g es))) (sym cut),
+      subst (λ es. Agree n (unless_written (hidden_steps g es) f)) (sym cut) (kept_prefix g f k n e rest kept agree),
     )
 
 -- one event more, from the end

@@ -42,9 +42,9 @@ parts buffer start seen end low high =
     ∙ (take-add (seen - start) (end - seen) (drop start buffer)
     ∙ ap (λ d. take (seen - start) (drop start buffer) ++ take (end - seen) d) (drop-drop (seen - start) start buffer ∙ ap (λ k. drop k buffer) at))
 
--- the front of a part, and the rest of one
-front_of_part : (buffer : List ℕ) (start end n : ℕ) → n ≤ end - start → take n (slice_range buffer start end) ≡ slice_range buffer start (start + n)
-front_of_part buffer start end n fits =
+-- the prefix of a part, and the rest of one
+prefix_of_part : (buffer : List ℕ) (start end n : ℕ) → n ≤ end - start → take n (slice_range buffer start end) ≡ slice_range buffer start (start + n)
+prefix_of_part buffer start end n fits =
     let long : n ≡ (start + n) - start = omega arith in
     take-take n (end - start) (drop start buffer) fits ∙ ap (λ k. take k (drop start buffer)) long
 
@@ -78,19 +78,19 @@ feed_at buffer start seen end n low high fits bare is =
     let f = feed_there (slice_range buffer seen end) n is in
     let long = length_part buffer seen end high fits in
     let within : seen + n < end = omega (arith, f.0, long) in
-    let front : slice_range buffer start (seen + n) ≡ slice_range buffer start seen ++ take n (slice_range buffer seen end) =
-    parts buffer start seen (seen + n) low (omega arith) ∙ ap (λ p. slice_range buffer start seen ++ p) (sym (front_of_part buffer seen end n (omega (arith, within)))) in
+    let prefix : slice_range buffer start (seen + n) ≡ slice_range buffer start seen ++ take n (slice_range buffer seen end) =
+    parts buffer start seen (seen + n) low (omega arith) ∙ ap (λ p. slice_range buffer start seen ++ p) (sym (prefix_of_part buffer seen end n (omega (arith, within)))) in
     let one : seen + (n + 1) ≡ (seen + n) + 1 = omega arith in
     let back : drop (n + 1) (slice_range buffer seen end) ≡ slice_range buffer ((seen + n) + 1) end =
     rest_of_part buffer seen end (n + 1) (omega (arith, within)) ∙ ap (λ k. slice_range buffer k end) one in
     record {
       within = within;
-      line = rw front (All-append (λ c. c ≢ 10) (slice_range buffer start seen) (take n (slice_range buffer seen end)) bare f.1);
+      line = rw prefix (All-append (λ c. c ≢ 10) (slice_range buffer start seen) (take n (slice_range buffer seen end)) bare f.1);
       whole =
           parts buffer start seen end low high
           ∙ (ap (λ p. slice_range buffer start seen ++ p) f.2
           ∙ (sym (append_assoc (slice_range buffer start seen) (take n (slice_range buffer seen end)) (10 ∷ drop (n + 1) (slice_range buffer seen end)))
-          ∙ (ap (λ p. p ++ 10 ∷ drop (n + 1) (slice_range buffer seen end)) (sym front)
+          ∙ (ap (λ p. p ++ 10 ∷ drop (n + 1) (slice_range buffer seen end)) (sym prefix)
           ∙ ap (λ d. slice_range buffer start (seen + n) ++ 10 ∷ d) back)));
     }
 
@@ -99,12 +99,12 @@ pub feed_nowhere : (buffer : List ℕ) (start seen end : ℕ) → start ≤ seen
 feed_nowhere buffer start seen end low high bare is =
     rw (parts buffer start seen end low high) (All-append (λ c. c ≢ 10) (slice_range buffer start seen) (slice_range buffer seen end) bare (feed_none (slice_range buffer seen end) is))
 
--- a part of which a front was kept, maybe in another place
+-- a part of which a prefix was kept, maybe in another place
 pub kept_part : (old : List ℕ) (start end count : ℕ) (kept : List ℕ) → start ≤ end → end ≤ length old → NoFeed (slice_range old start end) → count ≤ end - start → (count ≡ end - start) ⊎ (262144 < count) → kept ≡ slice_range old start (start + count) → NoFeed kept × ((more : List ℕ) → lines_of (kept ++ more) ≡ lines_of (slice_range old start end ++ more))
 kept_part old start end count kept low fits bare within enough is =
-    let front : kept ≡ take count (slice_range old start end) = is ∙ sym (front_of_part old start end count within) in
+    let prefix : kept ≡ take count (slice_range old start end) = is ∙ sym (prefix_of_part old start end count within) in
     let long = length_part old start end low fits in
     let cases : (count ≡ length (slice_range old start end)) ⊎ (262144 < count) = rw long enough in (
-      rw front (All-take (λ c. c ≢ 10) count (slice_range old start end) bare),
-      λ more. ap (λ k. lines_of (k ++ more)) front ∙ lines_of-cut (slice_range old start end) more count bare (rw long within) cases,
+      rw prefix (All-take (λ c. c ≢ 10) count (slice_range old start end) bare),
+      λ more. ap (λ k. lines_of (k ++ more)) prefix ∙ lines_of-cut (slice_range old start end) more count bare (rw long within) cases,
     )

@@ -9,13 +9,13 @@ use Rattle.sg_input.specs.Lines.{Line, Whole, TooLong, NoFeed, line_of, lines_of
 use Rattle.sg_input.proofs.Runs.{lines_of-line, lines_of-none}
 
 -- bytes that were kept stand for those that were there, and more were read behind them
-pub left_filled : (old kept front : List ℕ) (count : ℕ) (was now : Option (List ℕ)) → ((more : List ℕ) → lines_of (kept ++ more) ≡ lines_of (old ++ more)) → BeginsWith was front → now ≡ option_map (drop count) was → length front ≡ count → lines_left (kept ++ front) now ≡ lines_left old was
-left_filled old kept front count None now same first taken long = ap (λ o. lines_left (kept ++ front) o) taken
-left_filled old kept front count (Some all) now same first taken long =
-    let behind : all ≡ front ++ drop count all = first all refl ∙ ap (λ n. front ++ drop n all) long in
-    let whole : lines_of ((kept ++ front) ++ drop count all) ≡ lines_of (old ++ all) =
-    ap (λ b. lines_of b) (append_assoc kept front (drop count all)) ∙ (ap (λ b. lines_of (kept ++ b)) (sym behind) ∙ same all) in
-    ap (λ o. lines_left (kept ++ front) o) taken ∙ ap Some whole
+pub left_filled : (old kept prefix : List ℕ) (count : ℕ) (was now : Option (List ℕ)) → ((more : List ℕ) → lines_of (kept ++ more) ≡ lines_of (old ++ more)) → BeginsWith was prefix → now ≡ option_map (drop count) was → length prefix ≡ count → lines_left (kept ++ prefix) now ≡ lines_left old was
+left_filled old kept prefix count None now same first taken long = ap (λ o. lines_left (kept ++ prefix) o) taken
+left_filled old kept prefix count (Some all) now same first taken long =
+    let behind : all ≡ prefix ++ drop count all = first all refl ∙ ap (λ n. prefix ++ drop n all) long in
+    let whole : lines_of ((kept ++ prefix) ++ drop count all) ≡ lines_of (old ++ all) =
+    ap (λ b. lines_of b) (append_assoc kept prefix (drop count all)) ∙ (ap (λ b. lines_of (kept ++ b)) (sym behind) ∙ same all) in
+    ap (λ o. lines_left (kept ++ prefix) o) taken ∙ ap Some whole
 
 -- none were read
 pub left_kept : (old kept : List ℕ) (was now : Option (List ℕ)) → ((more : List ℕ) → lines_of (kept ++ more) ≡ lines_of (old ++ more)) → now ≡ was → lines_left kept now ≡ lines_left old was

@@ -10,11 +10,11 @@ yes_or_no true = inl refl
 yes_or_no false = inr refl
 
 -- a run without a line feed goes behind the front
-behind-run : (front run rest : List ℕ) → NoFeed run → lines_behind front (run ++ rest) ≡ lines_behind (front ++ run) rest
-behind-run front [] rest bare = ap (λ f. lines_behind f rest) (sym (append-nil front))
-behind-run front (b ∷ run) rest bare =
+behind-run : (prefix run rest : List ℕ) → NoFeed run → lines_behind prefix (run ++ rest) ≡ lines_behind (prefix ++ run) rest
+behind-run prefix [] rest bare = ap (λ f. lines_behind f rest) (sym (append-nil prefix))
+behind-run prefix (b ∷ run) rest bare =
     let other : (b == 10) ≡ false = ne_eqb b 10 (All-head (λ c. c ≢ 10) b run bare) in
-    rw other (behind-run (front ++ b ∷ []) run rest (All-tail (λ c. c ≢ 10) b run bare) ∙ ap (λ f. lines_behind f rest) (append_assoc front (b ∷ []) run))
+    rw other (behind-run (prefix ++ b ∷ []) run rest (All-tail (λ c. c ≢ 10) b run bare) ∙ ap (λ f. lines_behind f rest) (append_assoc prefix (b ∷ []) run))
 
 -- a run with a line feed behind it is the first line
 pub lines_of-line : (line rest more : List ℕ) → NoFeed line → lines_of ((line ++ 10 ∷ rest) ++ more) ≡ line_of line ∷ lines_of (rest ++ more)
@@ -25,7 +25,7 @@ lines_of-line line rest more bare =
 pub lines_of-none : (run : List ℕ) → NoFeed run → lines_of run ≡ []
 lines_of-none run bare = ap (λ b. lines_behind [] b) (sym (append-nil run)) ∙ behind-run [] run [] bare
 
--- what a front that is too long is doesn't matter
+-- what a prefix that is too long is doesn't matter
 behind-long : (a b bytes : List ℕ) → 262144 < length a → 262144 < length b → lines_behind a bytes ≡ lines_behind b bytes
 behind-long a b [] la lb = refl
 behind-long a b (x ∷ bytes) la lb =
@@ -34,7 +34,7 @@ behind-long a b (x ∷ bytes) la lb =
       | inr e ↦ rw e (behind-long (a ++ x ∷ []) (b ++ x ∷ []) bytes (omega (arith, length-append a (x ∷ []))) (omega (arith, length-append b (x ∷ []))))
     ]
 
--- of a run without a line feed that is too long a front part that is too long tells the same
+-- of a run without a line feed that is too long a prefix that is too long tells the same
 lines_of-long : (a b more : List ℕ) → NoFeed a → NoFeed b → 262144 < length a → 262144 < length b → lines_of (a ++ more) ≡ lines_of (b ++ more)
 lines_of-long a b more na nb la lb = behind-run [] a more na ∙ (behind-long a b more la lb ∙ sym (behind-run [] b more nb))
 

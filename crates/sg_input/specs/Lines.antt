@@ -20,11 +20,11 @@ pub data Line : Type 0 where
 abbrev pub line_of : List ℕ → Line
 line_of bytes = if nat_le (length bytes) most_line_bytes then Whole bytes else TooLong
 
--- the lines of bytes that stand behind the front of the first line
+-- the lines of bytes that stand behind the prefix of the first line
 abbrev pub lines_behind : List ℕ → List ℕ → List Line
-lines_behind front [] = []
-lines_behind front (b ∷ bytes) =
-    if b == 10 then line_of front ∷ lines_behind [] bytes else lines_behind (front ++ b ∷ []) bytes
+lines_behind prefix [] = []
+lines_behind prefix (b ∷ bytes) =
+    if b == 10 then line_of prefix ∷ lines_behind [] bytes else lines_behind (prefix ++ b ∷ []) bytes
 
 -- the lines of bytes
 abbrev pub lines_of : List ℕ → List Line

@@ -62,7 +62,7 @@ impl Input for MemInput {
     fn read(&mut self, room: &mut [u8]) -> Result<usize, Failed>
         ensures cause { IsErr result ↔ IsTrue (fails_next self.old.plan) }
         ensures count { IfOk result (λ n. n ≡ min (length room.old) (min (piece_bytes self.old.pieces (length self.old.bytes)) (length self.old.bytes))) }
-        ensures front { IfOk result (λ n. take n room.new ≡ take n self.old.bytes) }
+        ensures prefix { IfOk result (λ n. take n room.new ≡ take n self.old.bytes) }
         ensures ok { IfOk result (λ n. self.new ≡ record { bytes = drop n self.old.bytes; pieces = drop 1 self.old.pieces; plan = counted self.old.plan }) }
         ensures err { OnErr result (self.new ≡ record self.old { plan = failed self.old.plan }) }
     {
@@ -70,7 +70,7 @@ impl Input for MemInput {
         let left = self.bytes.len() - self.given;
         let piece = next_piece(&mut self.pieces, left);
         let count = room.len().min(piece.min(left));
-        put_front(room, &self.bytes[self.given..self.given + count]);
+        put_prefix(room, &self.bytes[self.given..self.given + count]);
         self.given += count;
         Ok(count)
     }
@@ -88,7 +88,7 @@ fn next_piece(pieces: &mut VecDeque<u32>, all: usize) -> usize
 }
 
 // Writes bytes over the front of a room.
-fn put_front(room: &mut [u8], bytes: &[u8])
+fn put_prefix(room: &mut [u8], bytes: &[u8])
     requires { length bytes.now ≤ length room.old }
     ensures { take (length bytes.now) room.new ≡ bytes.now }
 {

@@ -41,7 +41,7 @@ pub enum InputFault {
 /// Reads the lines of an input, one at each call. A clause sees the bytes of the line that it found last, and the bytes that it read
 /// and did not give yet.
 ///
-/// It takes no memory after `new`. A line stays where it was read, unless the buffer ends within it: then its front is moved to the buffer's
+/// It takes no memory after `new`. A line stays where it was read, unless the buffer ends within it: then its prefix is moved to the buffer's
 /// front, once.
 #[derive(Debug, Drop)]
 pub struct LineReader {
@@ -179,7 +179,7 @@ struct Kept {
     end: usize,
 }
 
-// Makes room behind the front of a line, which is between two places and of which as much is kept as a line may have, and one byte more.
+// Makes room behind the prefix of a line, which is between two places and of which as much is kept as a line may have, and one byte more.
 fn make_room(buffer: &mut Vec<u8>, start: usize, end: usize) -> Kept
     requires within { start ≤ end }
     requires fits { end ≤ length buffer.old.items }
@@ -198,14 +198,14 @@ fn make_room(buffer: &mut Vec<u8>, start: usize, end: usize) -> Kept
             end: start + count,
         };
     }
-    move_front(buffer, start, count);
+    move_prefix(buffer, start, count);
     Kept {
         start: 0,
         end: count,
     }
 }
 
-// How many bytes of the front of a line are kept, where it has so many.
+// How many bytes of the prefix of a line are kept, where it has so many.
 fn kept_bytes(len: usize) -> usize
     ensures within { result ≤ len }
     ensures most { result ≤ 262145 }
@@ -219,7 +219,7 @@ fn kept_bytes(len: usize) -> usize
 }
 
 // Moves bytes from a place on to the front.
-fn move_front(buffer: &mut Vec<u8>, start: usize, count: usize)
+fn move_prefix(buffer: &mut Vec<u8>, start: usize, count: usize)
     requires { start + count ≤ length buffer.old.items }
     ensures whole { length buffer.new.items ≡ length buffer.old.items }
     ensures moved { take count buffer.new.items ≡ slice_range buffer.old.items start (start + count) }
@@ -233,7 +233,7 @@ fn read_behind<I: Input>(buffer: &mut Vec<u8>, at: usize, input: &mut I) -> Resu
     ensures never_falls { I.faults input.old ≤ I.faults input.new }
     ensures failed { OnErr result (HasRisen (I.faults input.old) (I.faults input.new)) }
     ensures whole { length buffer.new.items ≡ length buffer.old.items }
-    ensures front { take at buffer.new.items ≡ take at buffer.old.items }
+    ensures prefix { take at buffer.new.items ≡ take at buffer.old.items }
     ensures fits { IfOk result (λ count. at + count ≤ length buffer.new.items) }
     ensures first { IfOk result (λ count. BeginsWith (I.coming input.old) (slice_range buffer.new.items at (at + count))) }
     ensures taken { IfOk result (λ count. I.coming input.new ≡ option_map (drop count) (I.coming input.old)) }

@@ -22,7 +22,7 @@ impl<R: Read + Drop> StdInput<R> {
 }
 
 // Reads the first bytes to come into a room, and gives their number, or `None` where the system failed.
-fn read_front<R: Read>(reader: &mut R, room: &mut [u8]) -> Option<usize>
+fn read_prefix<R: Read>(reader: &mut R, room: &mut [u8]) -> Option<usize>
     ensures { IfSome result (λ count. count ≤ length room.new) }
 {
     for _ in 0..u64::MAX {
@@ -43,7 +43,7 @@ impl<R: Read + Drop> Input for StdInput<R> {
     ghost coming = { λ _. None };
 
     fn read(&mut self, room: &mut [u8]) -> Result<usize, Failed> {
-        match read_front(&mut self.reader, room) {
+        match read_prefix(&mut self.reader, room) {
             Some(count) => Ok(count),
             None => {
                 self.faults = self.faults.saturating_add(1);

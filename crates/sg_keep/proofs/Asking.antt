@@ -1,7 +1,7 @@
 -- What a keeper holds before a call, once its node was asked, once the join is kept, and once the turn was played.
 use Rattle.std.proofs.Common.{◌≡◌, ◌⊎◌, ℕ, List, [], ◌++◌, false, length, Option, Some, None, option_and_then, IfSome, Result, Ok, Err, OnOk, refl, sym, ap, ◌∙◌, subst}
 use Rattle.std.proofs.lemmas.List.{append-nil}
-use Rattle.sg_ledger.specs.Format.{Join, Opened, StandsFor}
+use Rattle.sg_ledger.specs.Format.{Join, OpenLedger, Represents}
 use Rattle.sg_node.proofs.Life.{pasts_go_on}
 use Rattle.sg_protocol.specs.Acting.{answer}
 use Rattle.sg_protocol.specs.Calls as Protocol
@@ -18,7 +18,7 @@ use Rattle.sg_play.specs.declared.player.Player.{Player}
 use Rattle.sg_play.specs.Asking.{Comes}
 use Rattle.sg_play.specs.Ends.{Outside, Whole, Ended}
 use Rattle.sg_play.specs.Played.{Play, all_deliveries, all_starts, beginning, called, played, with_turn}
-use Rattle.sg_play.specs.Standing.{HasAsked, KeepsJoins, StandsForPlay}
+use Rattle.sg_play.specs.Representation.{HasAsked, KeepsJoins, RepresentsPlay}
 use Rattle.sg_play.specs.Steps.{Step, frames_of}
 use Rattle.sg_play.proofs.Endings.{whole_none}
 use Rattle.sg_play.proofs.Telling.{asked_quiet}
@@ -26,15 +26,15 @@ use Rattle.sg_keep.specs.declared.fault.KeepFault.{KeepFault}
 use Rattle.sg_keep.specs.declared.fault.KeepFault.TheVariants.{Played, DiskFailed}
 use Rattle.sg_keep.specs.declared.keeper.Keeper.{Keeper}
 use Rattle.sg_keep.specs.Joins.{IsNew, join_in, join_told, joins_made, with_join}
-use Rattle.sg_keep.specs.Kept.{AllStandFor, AreOfJoins, Kept}
-use Rattle.sg_keep.specs.Standing.{CameTo, HasAskedNode, HoldsJoins, IsAsked, StandsForKept}
+use Rattle.sg_keep.specs.Kept.{AllRepresent, AreOfJoins, Kept}
+use Rattle.sg_keep.specs.Representation.{CameTo, HasAskedNode, HoldsJoins, IsAsked, RepresentsKept}
 use Rattle.sg_keep.proofs.Ending.{IsBetween, end_on, not_kept, played_end, stopped}
 use Rattle.sg_keep.proofs.Going.{Goes, after_call, by_call, by_deliveries, by_starts, in_step_on, joined, quiet_joins, with_call}
 use Rattle.sg_keep.proofs.NewJoins.{any_call, joins_of_node, joins_with}
 use Rattle.sg_keep.proofs.Owning.{OwnsAll, none_sent, owned_past, sent_more}
 
 -- an opened ledger that works, with these joins
-abbrev pub working : List Join → Opened
+abbrev pub working : List Join → OpenLedger
 working joins = record { joins = joins; failed = false }
 
 -- ---- the node was asked
@@ -46,13 +46,13 @@ asked_node k pl may_leave c told graph h came = record {
   number = 0;
   range = came.range;
   told_before = h.told;
-  stands = came.goes_on.stands;
+  represents = came.goes_on.represents;
   is_told = came.is_told;
-  ledger = h.ledger ∙ ap working h.stands.joins;
-  images = subst (AllStandFor may_leave) h.stands.joins h.images;
+  ledger = h.ledger ∙ ap working h.represents.joins;
+  images = subst (AllRepresent may_leave) h.represents.joins h.images;
 }
 
-pub is_asked : (k : Keeper) (pl : Player) (may_leave : List ℕ → Type 0) (p : Play) (c : Call) (told : Option Told) (graph : Option Graph) → HoldsJoins k may_leave → StandsForKept k p → pl ≡ record k.player { node = pl.node }
+pub is_asked : (k : Keeper) (pl : Player) (may_leave : List ℕ → Type 0) (p : Play) (c : Call) (told : Option Told) (graph : Option Graph) → HoldsJoins k may_leave → RepresentsKept k p → pl ≡ record k.player { node = pl.node }
     → ((number : ℕ) → Comes number k.player.node pl.node p.past c told graph None) → None ≡ sid_left c → IsAsked (record k { player = pl }) p c told graph
 is_asked k pl may_leave p c told graph h s is comes stays = record {
   asked = subst (λ (x : Player). HasAsked x p c told graph []) (sym is) (asked_quiet k.player pl.node p c told graph s.player comes);
@@ -60,7 +60,7 @@ is_asked k pl may_leave p c told graph h s is comes stays = record {
   told_before = s.player.told;
   in_step = s.in_step;
   sent = s.sent;
-  ledger = ap (λ (o : Opened). o.joins) h.ledger ∙ s.player.node.joins;
+  ledger = ap (λ (o : OpenLedger). o.joins) h.ledger ∙ s.player.node.joins;
 }
 
 -- ---- the join of what came of it
@@ -88,28 +88,28 @@ module _ (k : Keeper) (may_leave : List ℕ → Type 0) (told : Option Told) (h 
     where
       by : (o : Option Join) → o ≡ option_and_then join_told told → IfSome o (IsNew k.ledger.joins)
       by None e = tt
-      by (Some j) e = subst (λ (l : Opened). IsNew l.joins j) (sym h.ledger) ((any_call real (node_of h.past) h.call h.range).1 j (sym (join_is (Some j) e)))
+      by (Some j) e = subst (λ (l : OpenLedger). IsNew l.joins j) (sym h.ledger) ((any_call real (node_of h.past) h.call h.range).1 j (sym (join_is (Some j) e)))
 
   pub not_failed : k.ledger.failed ≡ false
-  not_failed = ap (λ (o : Opened). o.failed) h.ledger
+  not_failed = ap (λ (o : OpenLedger). o.failed) h.ledger
 
-  pub stand_now : AllStandFor may_leave k.ledger.joins
-  stand_now = subst (λ (o : Opened). AllStandFor may_leave o.joins) (sym h.ledger) h.images
+  pub represent_now : AllRepresent may_leave k.ledger.joins
+  represent_now = subst (λ (o : OpenLedger). AllRepresent may_leave o.joins) (sym h.ledger) h.images
 
   -- the node's joins are the ledger's with it
   pub node_joins : (r : Option Join) → r ≡ option_and_then join_told told → k.player.node.joins ≡ with_join k.ledger.joins r
   node_joins r e =
-      h.stands.joins ∙ joins_with h.past h.call h.range
-      ∙ (λ i. with_join (sym (ap (λ (o : Opened). o.joins) h.ledger) i) (sym (join_is r e) i))
+      h.represents.joins ∙ joins_with h.past h.call h.range
+      ∙ (λ i. with_join (sym (ap (λ (o : OpenLedger). o.joins) h.ledger) i) (sym (join_is r e) i))
 
   -- the ledger has it
-  pub holds_after : (l : Opened) (now_leaves : List ℕ → Type 0) (r : Option Join) → r ≡ option_and_then join_told told → l ≡ working (with_join k.ledger.joins r) → AllStandFor now_leaves l.joins → HoldsJoins (record k { ledger = l }) now_leaves
+  pub holds_after : (l : OpenLedger) (now_leaves : List ℕ → Type 0) (r : Option Join) → r ≡ option_and_then join_told told → l ≡ working (with_join k.ledger.joins r) → AllRepresent now_leaves l.joins → HoldsJoins (record k { ledger = l }) now_leaves
   holds_after l now_leaves r e is all = record {
     past = past_after real h.past h.call;
-    stands = h.stands;
+    represents = h.represents;
     told = pasts_go_on h.past h.call h.told_before h.range;
     ledger = is ∙ ap working (sym (node_joins r e));
-    images = subst (AllStandFor now_leaves) (ap (λ (o : Opened). o.joins) is ∙ sym (node_joins r e)) all;
+    images = subst (AllRepresent now_leaves) (ap (λ (o : OpenLedger). o.joins) is ∙ sym (node_joins r e)) all;
   }
 
 -- ---- the call is told
@@ -120,15 +120,15 @@ module _ (start now : Outside) (may_leave : List ℕ → Type 0) (k : Keeper) (p
   node_has = a.asked.node.joins ∙ joins_of_node (past_after real p.past c) a.asked.told_past
 
   -- its join was not kept
-  pub unkept : (f : KeepFault) → IsBetween f → ((image : List ℕ) → may_leave image → StandsFor image k.ledger.joins ⊎ StandsFor image k.player.node.joins) → Whole start now p.steps → Kept start now may_leave (with_turn p c) (Err f)
+  pub unkept : (f : KeepFault) → IsBetween f → ((image : List ℕ) → may_leave image → Represents image k.ledger.joins ⊎ Represents image k.player.node.joins) → Whole start now p.steps → Kept start now may_leave (with_turn p c) (Err f)
   unkept f causes images w =
       end_on start now may_leave (called p c) (with_turn p c) f (after_call p c).0
       (not_kept start now may_leave p c f k.ledger.joins k.player.node.joins causes a.in_step a.sent (a.ledger ∙ joins_of_node p.past a.told_before) node_has images w)
 
   -- its join is kept
   module _ (m : Keeper) (same : m.player ≡ k.player) (h : HoldsJoins m may_leave) where
-    all : AllStandFor may_leave ((called p c).past.first ++ joins_made (called p c).past.calls)
-    all = subst (AllStandFor may_leave) (ap (λ (pl : Player). pl.node.joins) same ∙ node_has) h.images
+    all : AllRepresent may_leave ((called p c).past.first ++ joins_made (called p c).past.calls)
+    all = subst (AllRepresent may_leave) (ap (λ (pl : Player). pl.node.joins) same ∙ node_has) h.images
 
     owns : OwnsAll (called p c)
     owns = record { live = owned_past (past_after real p.past c) a.asked.told_past; sent = sent_more p c (record { live = owned_past p.past a.told_before; sent = a.sent }) }
@@ -150,29 +150,29 @@ module _ (start now : Outside) (may_leave : List ℕ → Type 0) (k : Keeper) (p
     pub unplayed : (f : PlayFault) → Ended start now (with_turn p c).steps (Err f) → Kept start now may_leave (with_turn p c) (Err (Played f))
     unplayed f e =
         played_end start now may_leave (with_turn p c) (in_step_on (called p c) (with_turn p c) (after_call p c).0 steps_so) owns_then.sent
-        (subst (AllStandFor may_leave) (sym (quiet_joins (called p c) (with_turn p c) (after_call p c))) all) f e
+        (subst (AllRepresent may_leave) (sym (quiet_joins (called p c) (with_turn p c) (after_call p c))) all) f e
 
     -- it was played
-    pub stands_kept : (k' : Keeper) → StandsForPlay k'.player (with_turn p c) → StandsForKept k' (with_turn p c)
-    stands_kept k' s = record { player = s; in_step = in_step_on p (with_turn p c) (with_call p c) a.in_step; sent = owns_then.sent }
+    pub represents_kept : (k' : Keeper) → RepresentsPlay k'.player (with_turn p c) → RepresentsKept k' (with_turn p c)
+    represents_kept k' s = record { player = s; in_step = in_step_on p (with_turn p c) (with_call p c) a.in_step; sent = owns_then.sent }
 
 -- ---- the turn was played
 
 -- the node goes on without a join
 pub holds_on : (k m : Keeper) (may_leave : List ℕ → Type 0) → HoldsJoins k may_leave → m.ledger ≡ k.ledger → KeepsJoins k.player.node m.player.node → HoldsJoins m may_leave
 holds_on k m may_leave h same keeps =
-    let later = keeps h.past h.stands h.told in
+    let later = keeps h.past h.represents h.told in
     record {
       past = later.0;
-      stands = later.1;
+      represents = later.1;
       told = later.2;
       ledger = same ∙ h.ledger ∙ ap working (sym later.3);
-      images = subst (AllStandFor may_leave) (sym later.3) h.images;
+      images = subst (AllRepresent may_leave) (sym later.3) h.images;
     }
 
 -- ---- a word less, or the outside by another name
 
-pub kept_without : (k : Keeper) (p q : Play) → q.past ≡ p.past → q.steps ≡ p.steps → StandsForPlay k.player q → StandsForKept k p → StandsForKept k q
+pub kept_without : (k : Keeper) (p q : Play) → q.past ≡ p.past → q.steps ≡ p.steps → RepresentsPlay k.player q → RepresentsKept k p → RepresentsKept k q
 kept_without k p q past steps s h = record {
   player = s;
   in_step = (λ i. length (steps i)) ∙ h.in_step ∙ (λ i. length (sym past i).calls);
@@ -182,10 +182,10 @@ kept_without k p q past steps s h = record {
 -- ---- before a call
 
 -- all joins of the play are kept
-pub holds_all : (k : Keeper) (may_leave : List ℕ → Type 0) (p : Play) → HoldsJoins k may_leave → StandsForKept k p → AllStandFor may_leave (p.past.first ++ joins_made p.past.calls)
-holds_all k may_leave p h s = subst (AllStandFor may_leave) (s.player.node.joins ∙ joins_of_node p.past s.player.told) h.images
+pub holds_all : (k : Keeper) (may_leave : List ℕ → Type 0) (p : Play) → HoldsJoins k may_leave → RepresentsKept k p → AllRepresent may_leave (p.past.first ++ joins_made p.past.calls)
+holds_all k may_leave p h s = subst (AllRepresent may_leave) (s.player.node.joins ∙ joins_of_node p.past s.player.told) h.images
 
-module _ (start now : Outside) (may_leave : List ℕ → Type 0) (k : Keeper) (p q : Play) (h : HoldsJoins k may_leave) (s : StandsForKept k p) (g : Goes p q) (w : Whole start now p.steps) where
+module _ (start now : Outside) (may_leave : List ℕ → Type 0) (k : Keeper) (p q : Play) (h : HoldsJoins k may_leave) (s : RepresentsKept k p) (g : Goes p q) (w : Whole start now p.steps) where
   -- memory ran out between steps
   pub memory_end : (f : PlayFault) → f ≡ OutOfMemory → Kept start now may_leave q (Err (Played f))
   memory_end f e = subst (λ (z : PlayFault). Kept start now may_leave q (Err (Played z))) (sym e) (end_on start now may_leave p q (Played OutOfMemory) g (stopped start now may_leave p s.in_step s.sent (holds_all k may_leave p h s) w))
@@ -196,20 +196,20 @@ module _ (start now : Outside) (may_leave : List ℕ → Type 0) (k : Keeper) (p
 
 -- ---- a play begins
 
-pub holds_first : (k : Keeper) (may_leave : List ℕ → Type 0) (keys : Keyring) (programs : List Program) (first : List Join) (choices : List Choice) → StandsForPlay k.player (beginning keys programs first choices []) → k.ledger ≡ working first → AllStandFor may_leave first → HoldsJoins k may_leave
+pub holds_first : (k : Keeper) (may_leave : List ℕ → Type 0) (keys : Keyring) (programs : List Program) (first : List Join) (choices : List Choice) → RepresentsPlay k.player (beginning keys programs first choices []) → k.ledger ≡ working first → AllRepresent may_leave first → HoldsJoins k may_leave
 holds_first k may_leave keys programs first choices s is all = record {
   past = record { keys = keys; programs = programs; first = first; calls = [] };
-  stands = s.node;
+  represents = s.node;
   told = s.told;
   ledger = is ∙ ap working (sym s.node.joins);
-  images = subst (AllStandFor may_leave) (sym s.node.joins) all;
+  images = subst (AllRepresent may_leave) (sym s.node.joins) all;
 }
 
-pub stands_first : (k : Keeper) (keys : Keyring) (programs : List Program) (first : List Join) (choices : List Choice) (words : List (List ℕ)) → StandsForPlay k.player (beginning keys programs first choices words) → StandsForKept k (beginning keys programs first choices words)
-stands_first k keys programs first choices words s = record { player = s; in_step = refl; sent = none_sent [] }
+pub represents_first : (k : Keeper) (keys : Keyring) (programs : List Program) (first : List Join) (choices : List Choice) (words : List (List ℕ)) → RepresentsPlay k.player (beginning keys programs first choices words) → RepresentsKept k (beginning keys programs first choices words)
+represents_first k keys programs first choices words s = record { player = s; in_step = refl; sent = none_sent [] }
 
 -- memory ran out before its first step
-pub not_begun : (start : Outside) (may_leave : List ℕ → Type 0) (keys : Keyring) (programs : List Program) (first : List Join) (script : Script) (deliveries words : List (List ℕ)) → AllStandFor may_leave first
+pub not_begun : (start : Outside) (may_leave : List ℕ → Type 0) (keys : Keyring) (programs : List Program) (first : List Join) (script : Script) (deliveries words : List (List ℕ)) → AllRepresent may_leave first
     → (f : PlayFault) → f ≡ OutOfMemory → Kept start start may_leave (played keys programs first script deliveries words) (Err (Played f))
 not_begun start may_leave keys programs first script deliveries words all f e =
     let begun = beginning keys programs first script.choices words in
@@ -217,7 +217,7 @@ not_begun start may_leave keys programs first script deliveries words all f e =
     let whole = all_deliveries started deliveries in
     subst (λ (z : PlayFault). Kept start start may_leave whole (Err (Played z))) (sym e)
     (end_on start start may_leave begun whole (Played OutOfMemory) (joined begun started whole (by_starts begun script.starts) (by_deliveries started deliveries))
-    (stopped start start may_leave begun refl (none_sent []) (subst (AllStandFor may_leave) (sym (append-nil first)) all) (whole_none start)))
+    (stopped start start may_leave begun refl (none_sent []) (subst (AllRepresent may_leave) (sym (append-nil first)) all) (whole_none start)))
 
 -- ---- a play ends
 

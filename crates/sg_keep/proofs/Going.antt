@@ -7,7 +7,7 @@ use Rattle.sg_ledger.specs.Format.{Join}
 use Rattle.sg_model.specs.Names.{Name}
 use Rattle.sg_protocol.specs.Calls.{Call, Answer, Start, Abandon, Deliver, Happened, Sends, Abandoned, NotStarted, NotActed, NotAbandoned, NotDelivered}
 use Rattle.sg_protocol.specs.Keyring.{Program}
-use Rattle.sg_protocol.specs.Past.{Called, node_of}
+use Rattle.sg_protocol.specs.Past.{AnsweredCall, node_of}
 use Rattle.sg_protocol.specs.Session.{Session}
 use Rattle.sg_protocol.specs.Texts.{real}
 use Rattle.sg_protocol.specs.Told.{live_with}
@@ -26,7 +26,7 @@ use Rattle.std.specs.Prelude.{take, ◌≤◌}
 -- the second has further steps, and as many further calls
 pub record Goes (p q : Play) : Type 0 where
   pub steps : List Step
-  pub calls : List Called
+  pub calls : List AnsweredCall
   pub is_steps : q.steps ≡ p.steps ++ steps
   pub is_calls : q.past.calls ≡ p.past.calls ++ calls
   pub as_many : length steps ≡ length calls
@@ -58,8 +58,8 @@ quiet_nothing : (p : Play) → Quiet p p
 unfolding nothing
 quiet_nothing p = (nothing p, refl, λ h. h)
 
-quiet_both : (a b : List Called) → joins_made a ≡ [] → joins_made b ≡ [] → joins_made (a ++ b) ≡ []
-quiet_both a b e f = flat_map-append (λ (c : Called). option_map_or (λ (j : Join). j ∷ []) (join_in c.answer) []) a b ∙ (λ i. e i ++ f i)
+quiet_both : (a b : List AnsweredCall) → joins_made a ≡ [] → joins_made b ≡ [] → joins_made (a ++ b) ≡ []
+quiet_both a b e f = flat_map-append (λ (c : AnsweredCall). option_map_or (λ (j : Join). j ∷ []) (join_in c.answer) []) a b ∙ (λ i. e i ++ f i)
 
 quiet_joined : (p q r : Play) → Quiet p q → Quiet q r → Quiet p r
 unfolding joined
@@ -150,7 +150,7 @@ deliveries_on p k m ds l =
 pub in_step_on : (p q : Play) → Goes p q → length p.steps ≡ length p.past.calls → length q.steps ≡ length q.past.calls
 in_step_on p q g e =
     let a = ap (λ (l : List Step). length l) g.is_steps ∙ length-append p.steps g.steps in
-    let b = ap (λ (l : List Called). length l) g.is_calls ∙ length-append p.past.calls g.calls in
+    let b = ap (λ (l : List AnsweredCall). length l) g.is_calls ∙ length-append p.past.calls g.calls in
     let c = g.as_many in
     omega (arith, a, b, c, e)
 
@@ -158,4 +158,4 @@ in_step_on p q g e =
 pub quiet_joins : (p q : Play) → Quiet p q → q.past.first ++ joins_made q.past.calls ≡ p.past.first ++ joins_made p.past.calls
 quiet_joins p q h =
     (λ i. h.0.first i ++ joins_made (h.0.is_calls i))
-    ∙ ap (λ (l : List Join). p.past.first ++ l) (flat_map-append (λ (c : Called). option_map_or (λ (j : Join). j ∷ []) (join_in c.answer) []) p.past.calls h.0.calls ∙ ap (λ (l : List Join). joins_made p.past.calls ++ l) h.1 ∙ append-nil (joins_made p.past.calls))
+    ∙ ap (λ (l : List Join). p.past.first ++ l) (flat_map-append (λ (c : AnsweredCall). option_map_or (λ (j : Join). j ∷ []) (join_in c.answer) []) p.past.calls h.0.calls ∙ ap (λ (l : List Join). joins_made p.past.calls ++ l) h.1 ∙ append-nil (joins_made p.past.calls))

@@ -29,7 +29,7 @@ use Rattle.sg_protocol.specs.Graph.{Graph}
 use Rattle.sg_protocol.specs.Keyring.{Keyring, Program}
 use Rattle.sg_protocol.specs.Node.{Node, has_joined, is_cast, is_for, program_for, session_with, starter}
 use Rattle.sg_protocol.specs.NodeAfter.{goes_on, joined, node_after, still, takes_read}
-use Rattle.sg_protocol.specs.Past.{AreAnswers, Called, Past, new_node, node_after_all, node_of, past_after}
+use Rattle.sg_protocol.specs.Past.{AreAnswers, AnsweredCall, Past, new_node, node_after_all, node_of, past_after}
 use Rattle.sg_protocol.specs.Ranges.{IsCallInRange}
 use Rattle.sg_protocol.specs.Reading.{read}
 use Rattle.sg_protocol.specs.Session.{Session, Took, extended, last_label, last_time, new_session, principal}
@@ -199,18 +199,18 @@ module _ (sha : Hash) (n : Node) where
 -- ---- a past
 
 -- one call more
-pub made_more : (joins : List Join) (calls : List Called) (c : Called) → with_join (joins ++ joins_made calls) (join_in c.answer) ≡ joins ++ joins_made (calls ++ c ∷ [])
+pub made_more : (joins : List Join) (calls : List AnsweredCall) (c : AnsweredCall) → with_join (joins ++ joins_made calls) (join_in c.answer) ≡ joins ++ joins_made (calls ++ c ∷ [])
 made_more joins calls c = by (join_in c.answer) refl
   where
     by : (o : Option Join) → join_in c.answer ≡ o → with_join (joins ++ joins_made calls) o ≡ joins ++ joins_made (calls ++ c ∷ [])
-    by None e = ap (λ l. joins ++ l) (sym (flat_map-append (λ (c : Called). option_map_or (λ j. j ∷ []) (join_in c.answer) []) calls (c ∷ []) ∙ (λ i. joins_made calls ++ (option_map_or (λ j. j ∷ []) (e i) [] ++ [])) ∙ append-nil (joins_made calls)))
-    by (Some j) e = append_assoc joins (joins_made calls) (j ∷ []) ∙ ap (λ l. joins ++ l) (sym (flat_map-append (λ (c : Called). option_map_or (λ j. j ∷ []) (join_in c.answer) []) calls (c ∷ []) ∙ (λ i. joins_made calls ++ (option_map_or (λ j. j ∷ []) (e i) [] ++ []))))
+    by None e = ap (λ l. joins ++ l) (sym (flat_map-append (λ (c : AnsweredCall). option_map_or (λ j. j ∷ []) (join_in c.answer) []) calls (c ∷ []) ∙ (λ i. joins_made calls ++ (option_map_or (λ j. j ∷ []) (e i) [] ++ [])) ∙ append-nil (joins_made calls)))
+    by (Some j) e = append_assoc joins (joins_made calls) (j ∷ []) ∙ ap (λ l. joins ++ l) (sym (flat_map-append (λ (c : AnsweredCall). option_map_or (λ j. j ∷ []) (join_in c.answer) []) calls (c ∷ []) ∙ (λ i. joins_made calls ++ (option_map_or (λ j. j ∷ []) (e i) [] ++ []))))
 
 -- the calls of a past are in range, as a list is gone through
-abbrev InRange : List Called → Type 0
-InRange cs = AllByRecursion (λ (c : Called). IsCallInRange c.call) cs
+abbrev InRange : List AnsweredCall → Type 0
+InRange cs = AllByRecursion (λ (c : AnsweredCall). IsCallInRange c.call) cs
 
-joins_after_all : (sha : Hash) (n : Node) (before : List Join) (done cs : List Called) → n.joins ≡ before ++ joins_made done → InRange cs → AreAnswers sha n cs → (node_after_all n cs).joins ≡ before ++ joins_made (done ++ cs)
+joins_after_all : (sha : Hash) (n : Node) (before : List Join) (done cs : List AnsweredCall) → n.joins ≡ before ++ joins_made done → InRange cs → AreAnswers sha n cs → (node_after_all n cs).joins ≡ before ++ joins_made (done ++ cs)
 joins_after_all sha n before done [] e r a = e ∙ ap (λ l. before ++ joins_made l) (sym (append-nil done))
 joins_after_all sha n before done (c ∷ cs) e r a =
     let one : (node_after n c.call c.answer).joins ≡ before ++ joins_made (done ++ c ∷ []) =
@@ -220,7 +220,7 @@ joins_after_all sha n before done (c ∷ cs) e r a =
 -- the joins of a node are those that it was made with, and then those that its calls made
 pub joins_of_node : (past : Past) → IsTold past → (node_of past).joins ≡ past.first ++ joins_made past.calls
 joins_of_node past told =
-    joins_after_all real (new_node past.keys past.programs past.first) past.first [] past.calls (sym (append-nil past.first)) (recursion_from_All (λ (c : Called). IsCallInRange c.call) past.calls told.calls) told.answers
+    joins_after_all real (new_node past.keys past.programs past.first) past.first [] past.calls (sym (append-nil past.first)) (recursion_from_All (λ (c : AnsweredCall). IsCallInRange c.call) past.calls told.calls) told.answers
 
 -- and after a call, with the one that the answer says
 pub joins_with : (past : Past) (c : Call) → IsCallInRange c → (node_of (past_after real past c)).joins ≡ with_join (node_of past).joins (join_in (answer real (node_of past) c))

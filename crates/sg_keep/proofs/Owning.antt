@@ -30,7 +30,7 @@ use Rattle.sg_protocol.specs.Graph.{shape}
 use Rattle.sg_protocol.specs.Keyring.{Program}
 use Rattle.sg_protocol.specs.Node.{Node, has_joined, is_for, program_for, session_with, starter}
 use Rattle.sg_protocol.specs.NodeAfter.{goes_on, joined, node_after, still, takes_read}
-use Rattle.sg_protocol.specs.Past.{AreAnswers, Called, Past, new_node, node_after_all, node_of}
+use Rattle.sg_protocol.specs.Past.{AreAnswers, AnsweredCall, Past, new_node, node_after_all, node_of}
 use Rattle.sg_protocol.specs.Ranges.{IsCallInRange}
 use Rattle.sg_protocol.specs.Reading.{read}
 use Rattle.sg_protocol.specs.Session.{Session, Took, extended, new_session, principal, time}
@@ -240,17 +240,17 @@ module _ (sha : Hash) (n : Node) (made : List Join) (h : Owns made n.live) (e : 
 
 -- ---- a past
 
-abbrev InRange : List Called → Type 0
-InRange cs = AllByRecursion (λ (c : Called). IsCallInRange c.call) cs
+abbrev InRange : List AnsweredCall → Type 0
+InRange cs = AllByRecursion (λ (c : AnsweredCall). IsCallInRange c.call) cs
 
 -- the joins that more calls made
-pub made_by : (cs ds : List Called) → joins_made (cs ++ ds) ≡ joins_made cs ++ joins_made ds
-made_by cs ds = flat_map-append (λ (x : Called). one (join_in x.answer)) cs ds
+pub made_by : (cs ds : List AnsweredCall) → joins_made (cs ++ ds) ≡ joins_made cs ++ joins_made ds
+made_by cs ds = flat_map-append (λ (x : AnsweredCall). one (join_in x.answer)) cs ds
 
-made_with : (cs : List Called) (c : Called) → joins_made (cs ++ c ∷ []) ≡ joins_made cs ++ one (join_in c.answer)
+made_with : (cs : List AnsweredCall) (c : AnsweredCall) → joins_made (cs ++ c ∷ []) ≡ joins_made cs ++ one (join_in c.answer)
 made_with cs c = made_by cs (c ∷ []) ∙ ap (λ (js : List Join). joins_made cs ++ js) (append-nil (one (join_in c.answer)))
 
-owned_after_all : (sha : Hash) (n : Node) (made : List Join) (cs : List Called) → Owns made n.live → InRange cs → AreAnswers sha n cs → Owns (made ++ joins_made cs) (node_after_all n cs).live
+owned_after_all : (sha : Hash) (n : Node) (made : List Join) (cs : List AnsweredCall) → Owns made n.live → InRange cs → AreAnswers sha n cs → Owns (made ++ joins_made cs) (node_after_all n cs).live
 owned_after_all sha n made [] h r a = subst (λ (js : List Join). Owns js n.live) (sym (append-nil made)) h
 owned_after_all sha n made (c ∷ cs) h r a =
     let next = subst (λ (x : Answer). Owns (made ++ one (join_in x)) (node_after n c.call x).live) (sym a.0) (owned_on sha n made c.call r.0 h) in
@@ -260,7 +260,7 @@ owned_after_all sha n made (c ∷ cs) h r a =
 -- each live session of a node was joined by its calls
 pub owned_past : (past : Past) → IsTold past → Owns (joins_made past.calls) (node_of past).live
 owned_past past told =
-    owned_after_all real (new_node past.keys past.programs past.first) [] past.calls refl (recursion_from_All (λ (c : Called). IsCallInRange c.call) past.calls told.calls) told.answers
+    owned_after_all real (new_node past.keys past.programs past.first) [] past.calls refl (recursion_from_All (λ (c : AnsweredCall). IsCallInRange c.call) past.calls told.calls) told.answers
 
 -- ---- the frames of a play
 
@@ -269,10 +269,10 @@ pub record OwnsAll (p : Play) : Type 0 where
   pub live : Owns (joins_made p.past.calls) (node_of p.past).live
   pub sent : AreOfJoins (joins_made p.past.calls) (frames_of p.steps)
 
--- the front of a list for which it holds of each
-all_front : {X : Type 0} (P : X → Type 0) (xs ys : List X) → All P (xs ++ ys) → All P xs
-all_front P [] ys h = All-nil P
-all_front P (x ∷ xs) ys h = All-cons P x xs (All-head P x (xs ++ ys) h) (all_front P xs ys (All-tail P x (xs ++ ys) h))
+-- the prefix of a list for which it holds of each
+all_prefix : {X : Type 0} (P : X → Type 0) (xs ys : List X) → All P (xs ++ ys) → All P xs
+all_prefix P [] ys h = All-nil P
+all_prefix P (x ∷ xs) ys h = All-cons P x xs (All-head P x (xs ++ ys) h) (all_prefix P xs ys (All-tail P x (xs ++ ys) h))
 
 -- a frame beside an address is so
 abbrev IsOf : List Join → (Addr × List ℕ) → Type 0
@@ -287,16 +287,16 @@ pub of_more : (js ks : List Join) (frames : List (Addr × List ℕ)) → AreOfJo
 of_more js ks frames h = All-weaker (IsOf js) (IsOf (js ++ ks)) (λ x k. (k.0, k.1, Contains-append_left js ks (k.0.sid, k.0.sender) k.2)) frames h
 
 -- of the first frames
-pub of_front : (js : List Join) (frames others : List (Addr × List ℕ)) → AreOfJoins js (frames ++ others) → AreOfJoins js frames
-of_front js frames others h = all_front (IsOf js) frames others h
+pub of_prefix : (js : List Join) (frames others : List (Addr × List ℕ)) → AreOfJoins js (frames ++ others) → AreOfJoins js frames
+of_prefix js frames others h = all_prefix (IsOf js) frames others h
 
-pub of_first_steps : (js : List Join) (ss front rest : List Step) → ss ≡ front ++ rest → AreOfJoins js (frames_of ss) → AreOfJoins js (frames_of front)
-of_first_steps js ss front rest e h = of_front js (frames_of front) (frames_of rest) (subst (AreOfJoins js) (ap frames_of e ∙ flat_map-append (λ (s : Step). s.frames) front rest) h)
+pub of_first_steps : (js : List Join) (ss prefix rest : List Step) → ss ≡ prefix ++ rest → AreOfJoins js (frames_of ss) → AreOfJoins js (frames_of prefix)
+of_first_steps js ss prefix rest e h = of_prefix js (frames_of prefix) (frames_of rest) (subst (AreOfJoins js) (ap frames_of e ∙ flat_map-append (λ (s : Step). s.frames) prefix rest) h)
 
-pub of_step_more : (js : List Join) (ss front rest : List Step) (s : Step) → ss ≡ front ++ s ∷ rest → AreOfJoins js (frames_of ss) → AreOfJoins js (frames_of front ++ s.frames)
-of_step_more js ss front rest s e h =
-    of_front js (frames_of front ++ s.frames) (frames_of rest)
-    (subst (AreOfJoins js) (ap frames_of e ∙ flat_map-append (λ (x : Step). x.frames) front (s ∷ rest) ∙ sym (append_assoc (frames_of front) s.frames (frames_of rest))) h)
+pub of_step_more : (js : List Join) (ss prefix rest : List Step) (s : Step) → ss ≡ prefix ++ s ∷ rest → AreOfJoins js (frames_of ss) → AreOfJoins js (frames_of prefix ++ s.frames)
+of_step_more js ss prefix rest s e h =
+    of_prefix js (frames_of prefix ++ s.frames) (frames_of rest)
+    (subst (AreOfJoins js) (ap frames_of e ∙ flat_map-append (λ (x : Step). x.frames) prefix (s ∷ rest) ∙ sym (append_assoc (frames_of prefix) s.frames (frames_of rest))) h)
 
 -- a call more
 module _ (p : Play) (c : Call) (h : OwnsAll p) where

@@ -5,13 +5,13 @@ use Rattle.std.proofs.Common.{ap, sym, ◌∙◌, subst, arith, append_assoc, in
 use Rattle.std.proofs.lemmas.Bool.{cases_Bool}
 use Rattle.std.proofs.lemmas.List.Elements.{All-append, All-contains, All-cons, All-nil, All-same, Contains-append_right}
 use Rattle.std.proofs.Math.Seq.{drop-append-add, get_or-append_seam, take-append_seam}
-use Rattle.sg_ledger.specs.Format.{Join, StandsFor, pair_of, pairs_of, slot_of}
+use Rattle.sg_ledger.specs.Format.{Join, Represents, pair_of, pairs_of, slot_of}
 use Rattle.sg_protocol.proofs.ReadBack.{read-SpellsFrame}
 use Rattle.sg_protocol.specs.Frame.{Frame, tag_len}
 use Rattle.sg_protocol.specs.Spelling.{item_bytes, join_bytes, join_code, magic, opening_bytes, spelling, u8, u16}
 use Rattle.sg_keep.specs.Laws.{FramesTellTheirJoins}
 
--- ---- the joins that a file stands for
+-- ---- the joins that a file represents
 
 slot_long : (file : List ℕ) (n : ℕ) → length file ≡ 2228232 → n < 65536 → length (pair_of (slot_of file n)).0 ≡ 32
 slot_long file n long few =
@@ -30,7 +30,7 @@ each_long file (suc n) long few =
     (All-cons (λ (j : Join). length j.0 ≡ 32) (pair_of (slot_of file n)) [] (slot_long file n long (omega (arith, few))) (All-nil (λ (j : Join). length j.0 ≡ 32)))
 
 -- the session of a join has 32 bytes
-join_long : (file : List ℕ) (joins : List Join) (j : Join) → StandsFor file joins → Contains joins j → length j.0 ≡ 32
+join_long : (file : List ℕ) (joins : List Join) (j : Join) → Represents file joins → Contains joins j → length j.0 ≡ 32
 join_long file joins j h there =
     All-contains (λ (j : Join). length j.0 ≡ 32) joins j (All-same (λ (j : Join). length j.0 ≡ 32) joins (pairs_of file (length joins)) h.slots.pairs (each_long file (length joins) h.ledger.0 h.slots.fits)) there
 
@@ -64,10 +64,10 @@ pair_at f long =
     λ i. (sid i, sender i)
 
 pub frames_tell : FramesTellTheirJoins
-frames_tell file bytes opened made f stands is all r =
+frames_tell file bytes opened made f represents is all r =
     let g = is.0 in
     let found = read-SpellsFrame bytes f all r in
-    let long = join_long file (opened ++ made) (g.sid, g.sender) stands (Contains-append_right opened made (g.sid, g.sender) is.2) in
+    let long = join_long file (opened ++ made) (g.sid, g.sender) represents (Contains-append_right opened made (g.sid, g.sender) is.2) in
     let pair : ◌≡◌ {A = Join} (g.sid, g.sender) (f.sid, f.sender) =
     sym (pair_at g long) ∙ ap pair_in (sym is.1 ∙ sym found.spelled) ∙ pair_at f found.is_frame.fields.sid.0 in
     subst (Contains made) pair is.2

@@ -3,7 +3,7 @@ use Rattle.std.specs.Prelude.{◌<◌, List, [], ◌∷◌, ◌++◌, if◌then�
 use Rattle.std.specs.Option.{option_map_or}
 use Rattle.sg_ledger.specs.Format.{Join}
 use Rattle.sg_protocol.specs.Calls.{Event, Answer, Happened, sid_of, role_of, does_join}
-use Rattle.sg_protocol.specs.Past.{Called}
+use Rattle.sg_protocol.specs.Past.{AnsweredCall}
 use Rattle.sg_report.specs.Told as Report
 use Rattle.sg_report.specs.Told.{Told}
 
@@ -26,7 +26,7 @@ abbrev pub with_join : List Join → Option Join → List Join
 with_join joins join = option_map_or (λ j. joins ++ j ∷ []) join joins
 
 -- the joins that calls made, in order
-abbrev pub joins_made : List Called → List Join
+abbrev pub joins_made : List AnsweredCall → List Join
 joins_made calls = flat_map (λ c. option_map_or (λ j. j ∷ []) (join_in c.answer) []) calls
 
 -- the pair can join these: it is none of them, there are fewer than 65,536, and its role is below 16

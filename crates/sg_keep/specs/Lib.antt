@@ -2,4 +2,4 @@ pub mod Joins
 pub mod Kept
 pub mod Faults
 pub mod Laws
-pub mod Standing
+pub mod Representation

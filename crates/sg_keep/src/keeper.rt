@@ -2,13 +2,13 @@
 ghost use Rattle.std.specs.Prelude.{◌≡◌, ◌≤◌, ◌⊎◌, false, List, ℕ, Err, Some, option_and_then, IfErr, IfSome, OnErr, OnOk};
 ghost use Rattle.std.specs.Option.{option_copied};
 ghost use Rattle.sg_base.specs.Outside.{HasRisen};
-ghost use Rattle.sg_ledger.specs.Format.{StandsFor};
+ghost use Rattle.sg_ledger.specs.Format.{Represents};
 ghost use Rattle.sg_play.specs.Ends.{Outside, Whole};
 ghost use Rattle.sg_play.specs.Played.{Play, with_turn};
 ghost use Rattle.sg_protocol.specs.Calls.{Call};
 ghost use Rattle.sg_report.specs.Outcome.{outcome_of};
 ghost use Rattle.sg_keep.specs.Joins.{IsNew, join_told, with_join};
-ghost use Rattle.sg_keep.specs.Kept.{AllStandFor};
+ghost use Rattle.sg_keep.specs.Kept.{AllRepresent};
 
 use crate::KeepFault;
 use crate::join::join_in;
@@ -27,7 +27,7 @@ pub(crate) struct Keeper<'p> {
 
 impl<'p> Keeper<'p> {
     ghost use Rattle.sg_keep.specs.Faults.{TellsFaults};
-    ghost use Rattle.sg_keep.specs.Standing.{CameTo, HasAskedNode, HoldsJoins, IsAsked};
+    ghost use Rattle.sg_keep.specs.Representation.{CameTo, HasAskedNode, HoldsJoins, IsAsked};
 
     /// Keeps the join of what came of a call, if it is one; gives the outside what came of it when the join is kept; and plays the turn that
     /// it gives.
@@ -76,13 +76,13 @@ impl<'p> Keeper<'p> {
         ensures player { self.new.player ≡ self.old.player }
         ensures holds { OnOk result (HoldsJoins self.new (D.may_leave disk.new)) }
         ensures images { OnErr result ((image : List ℕ) → D.may_leave disk.new image
-            → StandsFor image self.old.ledger.joins ⊎ StandsFor image self.old.player.node.joins) }
+            → Represents image self.old.ledger.joins ⊎ Represents image self.old.player.node.joins) }
     {
         add_join(&mut self.ledger, outcome, disk)
     }
 }
 
-/// Adds the join of what came of a call to a ledger, if it is one. The ledger works, each image of the disk stands for its joins, and the join
+/// Adds the join of what came of a call to a ledger, if it is one. The ledger works, each image of the disk represents its joins, and the join
 /// is new to it. It fails where the disk fails, after which an image may have the join or not, or where memory ran out.
 pub fn add_join<D: Disk>(
     ledger: &mut Ledger,
@@ -90,16 +90,16 @@ pub fn add_join<D: Disk>(
     disk: &mut D,
 ) -> Result<(), KeepFault>
     requires working { ledger.old.failed ≡ false }
-    requires images { AllStandFor (D.may_leave disk.old) ledger.old.joins }
+    requires images { AllRepresent (D.may_leave disk.old) ledger.old.joins }
     requires new { IfSome (option_and_then join_told (outcome_of outcome.now)) (IsNew ledger.old.joins) }
     ensures disk_bound { D.bound disk.new ≡ D.bound disk.old }
     ensures falls { D.faults disk.old ≤ D.faults disk.new }
     ensures failed { result ≡ Err KeepFault.DiskFailed → HasRisen (D.faults disk.old) (D.faults disk.new) }
     ensures causes { IfErr result (λ e. (e ≡ KeepFault.DiskFailed) ⊎ (e ≡ KeepFault.Played PlayFault.OutOfMemory)) }
     ensures added { OnOk result (ledger.new ≡ record { joins = with_join ledger.old.joins (option_and_then join_told (outcome_of outcome.now)); failed = false }) }
-    ensures images { OnOk result (AllStandFor (D.may_leave disk.new) ledger.new.joins) }
+    ensures images { OnOk result (AllRepresent (D.may_leave disk.new) ledger.new.joins) }
     ensures between { OnErr result ((image : List ℕ) → D.may_leave disk.new image
-        → StandsFor image ledger.old.joins ⊎ StandsFor image (with_join ledger.old.joins (option_and_then join_told (outcome_of outcome.now)))) }
+        → Represents image ledger.old.joins ⊎ Represents image (with_join ledger.old.joins (option_and_then join_told (outcome_of outcome.now)))) }
 {
     let Some(join) = join_in(outcome) else {
         return Ok(());

@@ -4,8 +4,8 @@ ghost use Rattle.sg_play.specs.Ends.{Outside, Whole};
 ghost use Rattle.sg_play.specs.Played.{Play, all_deliveries, all_starts, played, starts, with_turn};
 ghost use Rattle.sg_protocol.specs.Calls.{Deliver};
 ghost use Rattle.sg_keep.specs.Faults.{TellsFaults};
-ghost use Rattle.sg_keep.specs.Kept.{AllStandFor, Kept};
-ghost use Rattle.sg_keep.specs.Standing.{CameTo, HoldsJoins, StandsForKept};
+ghost use Rattle.sg_keep.specs.Kept.{AllRepresent, Kept};
+ghost use Rattle.sg_keep.specs.Representation.{CameTo, HoldsJoins, RepresentsKept};
 
 use crate::KeepFault;
 use crate::keeper::Keeper;
@@ -35,7 +35,7 @@ impl<'p> Keeper<'p> {
             (record { link = L.faults link.new; out = O.faults out.new; disk = D.faults disk.new }) result }
         ensures deliveries { L.deliveries link.new ≡ L.deliveries link.old }
         ensures holds { OnOk result (HoldsJoins self.new (D.may_leave disk.new)) }
-        ensures came { (p : Play) (start : Outside) → StandsForKept self.old p → R.words fresh.old ≡ Some p.words
+        ensures came { (p : Play) (start : Outside) → RepresentsKept self.old p → R.words fresh.old ≡ Some p.words
             → Whole start (record { written = O.written out.old; sent = L.sent link.old }) p.steps
             → CameTo start (record { written = O.written out.new; sent = L.sent link.new }) (D.may_leave disk.new) self.new (R.words fresh.new) (all_starts p starts.now) result }
     {
@@ -64,7 +64,7 @@ impl<'p> Keeper<'p> {
             (record { link = L.faults link.new; out = O.faults out.new; disk = D.faults disk.new }) result }
         ensures deliveries { L.deliveries link.new ≡ L.deliveries link.old }
         ensures holds { OnOk result (HoldsJoins self.new (D.may_leave disk.new)) }
-        ensures came { (p : Play) (start : Outside) → StandsForKept self.old p → R.words fresh.old ≡ Some p.words
+        ensures came { (p : Play) (start : Outside) → RepresentsKept self.old p → R.words fresh.old ≡ Some p.words
             → Whole start (record { written = O.written out.old; sent = L.sent link.old }) p.steps
             → CameTo start (record { written = O.written out.new; sent = L.sent link.new }) (D.may_leave disk.new) self.new (R.words fresh.new) (starts p start_of.now) result }
     {
@@ -90,7 +90,7 @@ impl<'p> Keeper<'p> {
         ensures disk_bound { D.bound disk.new ≡ D.bound disk.old }
         ensures faults { TellsFaults (record { link = L.faults link.old; out = O.faults out.old; disk = D.faults disk.old })
             (record { link = L.faults link.new; out = O.faults out.new; disk = D.faults disk.new }) result }
-        ensures came { (p : Play) (start : Outside) (deliveries : List (List ℕ)) → L.deliveries link.old ≡ Some deliveries → StandsForKept self.old p → R.words fresh.old ≡ Some p.words
+        ensures came { (p : Play) (start : Outside) (deliveries : List (List ℕ)) → L.deliveries link.old ≡ Some deliveries → RepresentsKept self.old p → R.words fresh.old ≡ Some p.words
             → Whole start (record { written = O.written out.old; sent = L.sent link.old }) p.steps
             → CameTo start (record { written = O.written out.new; sent = L.sent link.new }) (D.may_leave disk.new) self.new (R.words fresh.new) (all_deliveries p (take most deliveries)) result }
         ensures left { OnOk result ((deliveries : List (List ℕ)) → L.deliveries link.old ≡ Some deliveries → L.deliveries link.new ≡ Some (drop most deliveries)) }
@@ -129,7 +129,7 @@ impl<'p> Keeper<'p> {
             (record { link = L.faults link.new; out = O.faults out.new; disk = D.faults disk.new }) result }
         ensures deliveries { L.deliveries link.new ≡ L.deliveries link.old }
         ensures holds { OnOk result (HoldsJoins self.new (D.may_leave disk.new)) }
-        ensures came { (p : Play) (start : Outside) → StandsForKept self.old p → R.words fresh.old ≡ Some p.words
+        ensures came { (p : Play) (start : Outside) → RepresentsKept self.old p → R.words fresh.old ≡ Some p.words
             → Whole start (record { written = O.written out.old; sent = L.sent link.old }) p.steps
             → CameTo start (record { written = O.written out.new; sent = L.sent link.new }) (D.may_leave disk.new) self.new (R.words fresh.new) (with_turn p (Deliver bytes.now)) result }
     {
@@ -160,7 +160,7 @@ pub fn keep<'p, L: Link, R: Fresh, O: Sink, D: Disk>(
 ) -> Result<(), KeepFault>
     requires keys { keys_of_node ≡ keys.now }
     requires working { ledger.failed ≡ false }
-    requires stands { AllStandFor (D.may_leave disk.old) ledger.joins }
+    requires represents { AllRepresent (D.may_leave disk.old) ledger.joins }
     ensures link_bound { L.bound link.new ≡ L.bound link.old }
     ensures disk_bound { D.bound disk.new ≡ D.bound disk.old }
     ensures faults { TellsFaults (record { link = L.faults link.old; out = O.faults out.old; disk = D.faults disk.old })

@@ -11,7 +11,7 @@ use Rattle.sg_know.specs.declared.fault.ReadFault.TheVariants.{NotWriter, ReadsO
 use Rattle.sg_know.specs.Reads.{AcceptedReads, HasBadRead, IsFirstFault, IsNotWriter, IsNowhere, IsReadsOwn}
 use Rattle.sg_know.proofs.First.{last-more, last_split}
 
--- where no place is wrong, the graph has what accepted graphs owe
+-- where no index is wrong, the graph has what accepted graphs owe
 pub accepted_reads : (g : Graph) → IsNowhere (IsNotWriter g) → IsNowhere (IsReadsOwn g) → IsNowhere (HasBadRead g) → AcceptedReads g
 accepted_reads g one two three = record {
   writers_write = λ e x w. true_from_ne_false (is_in (sender (shape g) e) (writers g x)) (λ f. one e x (w, f));

@@ -10,7 +10,7 @@ use Rattle.sg_protocol.specs.Graph.{Graph, shape, reads}
 use Rattle.sg_protocol.specs.Knowledge.{knows}
 use Rattle.sg_know.specs.declared.bad.BadRead.{BadRead as Found}
 use Rattle.sg_know.specs.declared.states.WalkState.{WalkState}
-use Rattle.sg_know.specs.declared.states.Reached.{Reached}
+use Rattle.sg_know.specs.declared.states.ReachedState.{ReachedState}
 use Rattle.sg_know.specs.Reads.{HasBadRead, IsBadRead, IsUpTo}
 use Rattle.sg_know.specs.Parts.{IsBadOf, IsBadOfVar, IsFirstBad, earlier, is_up_to}
 use Rattle.sg_know.specs.States.{IsClosure, IsPath, IsUnknownRead, is_known, state_after, state_along, state_at}
@@ -41,7 +41,7 @@ last_split (x ∷ xs) e h = let same : last_or x xs ≡ e = cc in deep x xs same
 -- ---- bad reads and states
 
 -- a bad read leaves a state of the closure
-pub bad_unknown : (g : Graph) (r x : ℕ) (states : List Reached) → IsClosure g r x states → (e y : ℕ) → IsBadOf g r x e y → (i : ℕ) × IsUnknownRead g r x states e i
+pub bad_unknown : (g : Graph) (r x : ℕ) (states : List ReachedState) → IsClosure g r x states → (e y : ℕ) → IsBadOf g r x e y → (i : ℕ) × IsUnknownRead g r x states e i
 bad_unknown g r x states h e y b =
     let walk = b.0.0 in
     let bad : IsBadRead g e x walk = subst (λ z. IsBadRead g e z walk) b.2 b.0.1 in
@@ -56,7 +56,7 @@ bad_unknown g r x states h e y b =
     (there.0, (read_there g e x bad.is_read, b.1, bad.is_read, (there.1, ap (λ (s : WalkState). s.node) there.2 ∙ sym leaves.1, unknown)))
 
 -- a state of the closure after which a read isn't known gives a bad read, on the walk that leads there
-pub unknown_bad : (g : Graph) (r x : ℕ) (states : List Reached) → IsClosure g r x states → (e i : ℕ) → IsUnknownRead g r x states e i
+pub unknown_bad : (g : Graph) (r x : ℕ) (states : List ReachedState) → IsClosure g r x states → (e i : ℕ) → IsUnknownRead g r x states e i
     → (before : List ℕ) → IsPath states i before → IsBadRead g e x (before ++ e ∷ [])
 unknown_bad g r x states h e i u before p =
     let after = u.3 in
@@ -72,14 +72,14 @@ unknown_bad g r x states h e i u before p =
 
 -- ---- the least place
 
--- one place up to another, and that up to a third
+-- one index up to another, and that up to a third
 IsUpTo-through : (e x f y k z : ℕ) → IsUpTo e x f y → IsUpTo f y k z → IsUpTo e x k z
 IsUpTo-through e x f y k z (inl a) (inl b) = inl (omega arith)
 IsUpTo-through e x f y k z (inl a) (inr b) = inl (omega (arith, b.0))
 IsUpTo-through e x f y k z (inr a) (inl b) = inl (omega (arith, a.0))
 IsUpTo-through e x f y k z (inr a) (inr b) = inr (a.0 ∙ b.0, omega (arith, a.1, b.1))
 
--- the test says which of two places comes first
+-- the test says which of two indices comes first
 up_to_yes : (a b : Found) → is_up_to a b ≡ true → IsUpTo a.label a.var b.label b.var
 up_to_yes a b h =
     elim (or_cases (nat_lt a.label b.label) ((a.label == b.label) && nat_le a.var b.var) h) [
@@ -100,7 +100,7 @@ up_to_no a b h =
     ]
 
 -- the unknown read with the least label gives the first bad read of its variable by its role
-pub first_bad : (g : Graph) (r x : ℕ) (states : List Reached) (e i : ℕ) (before walk : List ℕ) → IsClosure g r x states → IsUnknownRead g r x states e i
+pub first_bad : (g : Graph) (r x : ℕ) (states : List ReachedState) (e i : ℕ) (before walk : List ℕ) → IsClosure g r x states → IsUnknownRead g r x states e i
     → ((f j : ℕ) → IsUnknownRead g r x states f j → e ≤ f) → IsPath states i before → walk ≡ before ++ e ∷ [] → IsFirstBad g (IsBadOf g r x) (Some (record { label = e; var = x; walk = walk }))
 first_bad g r x states e i before walk h u least p is = ((((walk, bad), u.1, refl), each), bad)
   where
@@ -113,12 +113,12 @@ first_bad g r x states e i before walk h u least p is = ((((walk, bad), u.1, ref
         let le = least f v.0 v.1 in
         elim (cases_lt e f) [ inl l ↦ inl l | inr l ↦ inr (omega arith, omega (arith, b.2)) ]
 
--- the first of one kind of places, where another kind has the same places
+-- the first of one kind of indices, where another kind has the same indices
 pub IsFirstBad-same : (g : Graph) (P Q : ℕ → ℕ → Type 0) (found : Option Found) → ((e x : ℕ) → P e x → Q e x) → ((e x : ℕ) → Q e x → P e x) → IsFirstBad g P found → IsFirstBad g Q found
 IsFirstBad-same g P Q None to from h = λ e x q. h e x (from e x q)
 IsFirstBad-same g P Q (Some b) to from h = ((to b.label b.var h.0.0, λ f y q. h.0.1 f y (from f y q)), h.1)
 
--- the first of two kinds of places is the earlier one of the first of each kind
+-- the first of two kinds of indices is the earlier one of the first of each kind
 pub IsFirstBad-earlier : (g : Graph) (P Q R : ℕ → ℕ → Type 0) (a b : Option Found) → ((e x : ℕ) → R e x → P e x ⊎ Q e x) → ((e x : ℕ) → P e x → R e x) → ((e x : ℕ) → Q e x → R e x)
     → IsFirstBad g P a → IsFirstBad g Q b → IsFirstBad g R (earlier a b)
 IsFirstBad-earlier g P Q R None None split p q h k = λ e x r. elim (split e x r) [ inl y ↦ h e x y | inr y ↦ k e x y ]
@@ -132,7 +132,7 @@ IsFirstBad-earlier g P Q R (Some a) (Some b) split p q h k =
           rw away ((q b.label b.var k.0.0, λ f y r. elim (split f y r) [ inl z ↦ IsUpTo-through b.label b.var a.label a.var f y up (h.0.1 f y z) | inr z ↦ k.0.1 f y z ]), k.1))
     ]
 
--- ---- places below a bound that grows
+-- ---- indices below a bound that grows
 
 -- bad reads of variables below n + 1 are those of variables below n and those of n
 pub more_vars : (g : Graph) (n : ℕ) (a b c : Option Found) → c ≡ earlier a b → IsFirstBad g (λ e y. HasBadRead g e y × (y < n)) a → IsFirstBad g (IsBadOfVar g n) b

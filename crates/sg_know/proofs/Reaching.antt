@@ -7,7 +7,7 @@ use Rattle.sg_model.specs.Shape.{Shape, Walk, end_of, source, target}
 use Rattle.sg_protocol.specs.Graph.{Graph, shape}
 use Rattle.sg_know.specs.declared.states.WalkState.{WalkState}
 use Rattle.sg_know.specs.declared.states.Arrival.{Arrival}
-use Rattle.sg_know.specs.declared.states.Reached.{Reached}
+use Rattle.sg_know.specs.declared.states.ReachedState.{ReachedState}
 use Rattle.sg_know.specs.States.{AreReached, AreThere, ComesBy, Enters, Extends, Has, IsPath, begin, state_after, state_along, state_at, step_at}
 use Rattle.sg_know.specs.States.IsPath.{Begins, Goes}
 use Rattle.sg_know.proofs.Knowing.{state_after-more}
@@ -32,7 +32,7 @@ walk_before g m e (f ∷ before) w = (w.0, w.1, walk_before g (target g f) e bef
 -- ---- paths
 
 -- a list of states that are reached has a walk for each path
-pub path_walks : (g : Graph) (r x : ℕ) (states : List Reached) → AreReached g r x states → (i : ℕ) (labels : List ℕ) → i < length states → IsPath states i labels
+pub path_walks : (g : Graph) (r x : ℕ) (states : List ReachedState) → AreReached g r x states → (i : ℕ) (labels : List ℕ) → i < length states → IsPath states i labels
     → Walk (shape g) 0 labels × (state_after g r x labels ≡ state_at states i)
 path_walks g r x states h i labels l (Begins e) = let at = h i l in let is = rw e at at in (tt, sym is)
 path_walks g r x states h i labels l (Goes {s = s} {labels = before} e p) =
@@ -48,41 +48,41 @@ path_walks g r x states h i labels l (Goes {s = s} {labels = before} e p) =
 -- ---- lists that go on
 
 -- a list that goes on from one that goes on from a third goes on from this
-pub Extends-more : (one two three : List Reached) → Extends one two → Extends two three → Extends one three
+pub Extends-more : (one two three : List ReachedState) → Extends one two → Extends two three → Extends one three
 Extends-more one two three a b = (a.0 ++ b.0, b.1 ∙ ap (λ l. l ++ b.0) a.1 ∙ append_assoc one a.0 b.0)
 
 -- the elements of a list that goes on stay where they are
-same_there : (old new : List Reached) (i : ℕ) → Extends old new → i < length old → get_or new i begin ≡ get_or old i begin
+same_there : (old new : List ReachedState) (i : ℕ) → Extends old new → i < length old → get_or new i begin ≡ get_or old i begin
 same_there old new i e l = rw (e.1) (get_or_append_left old e.0 begin i l)
 
 -- so do their states
-pub state_stays : (old new : List Reached) (i : ℕ) → Extends old new → i < length old → state_at new i ≡ state_at old i
-state_stays old new i e l = ap (λ (t : Reached). t.state) (same_there old new i e l)
+pub state_stays : (old new : List ReachedState) (i : ℕ) → Extends old new → i < length old → state_at new i ≡ state_at old i
+state_stays old new i e l = ap (λ (t : ReachedState). t.state) (same_there old new i e l)
 
 -- and it is no shorter
-pub Extends-length : (old new : List Reached) → Extends old new → length old ≤ length new
+pub Extends-length : (old new : List ReachedState) → Extends old new → length old ≤ length new
 Extends-length old new e = rw (e.1) (omega (arith, length-append old e.0))
 
 -- what the list had it has
-pub Has-extends : (old new : List Reached) (s : WalkState) → Extends old new → Has old s → Has new s
+pub Has-extends : (old new : List ReachedState) (s : WalkState) → Extends old new → Has old s → Has new s
 Has-extends old new s e h = (h.0, omega (arith, h.1, Extends-length old new e), state_stays old new h.0 e h.1 ∙ h.2)
 
 -- a list with a state more goes on
-pub Extends-enters : (old new : List Reached) (t : Reached) → Enters old t new → Extends old new
+pub Extends-enters : (old new : List ReachedState) (t : ReachedState) → Enters old t new → Extends old new
 Extends-enters old new t (inl h) = ([], h.1 ∙ sym (append-nil old))
 Extends-enters old new t (inr h) = (t ∷ [], h.1)
 
 -- and has the state
-pub Has-enters : (old new : List Reached) (t : Reached) → Enters old t new → Has new t.state
+pub Has-enters : (old new : List ReachedState) (t : ReachedState) → Enters old t new → Has new t.state
 Has-enters old new t (inl h) = rw (h.1) (h.0)
 Has-enters old new t (inr h) =
-    (length old, rw (h.1) (omega (arith, length_push old t)), rw (h.1) (ap (λ (t : Reached). t.state) (get_or_push old t begin (length old) refl)))
+    (length old, rw (h.1) (omega (arith, length_push old t)), rw (h.1) (ap (λ (t : ReachedState). t.state) (get_or_push old t begin (length old) refl)))
 
 -- a state that was reached is reached in a list that goes on
-reached_still : (g : Graph) (r x : ℕ) (old new : List Reached) (i : ℕ) → Extends old new → i < length old
+reached_still : (g : Graph) (r x : ℕ) (old new : List ReachedState) (i : ℕ) → Extends old new → i < length old
     → MatchOption (step_at old i) (state_at old i ≡ begin.state) (ComesBy g r x old i) → MatchOption (step_at new i) (state_at new i ≡ begin.state) (ComesBy g r x new i)
 reached_still g r x old new i e l m =
-    subst (λ (o : Option Arrival). MatchOption o (state_at new i ≡ begin.state) (ComesBy g r x new i)) (sym (ap (λ (t : Reached). t.by) (same_there old new i e l))) (onto (step_at old i) m)
+    subst (λ (o : Option Arrival). MatchOption o (state_at new i ≡ begin.state) (ComesBy g r x new i)) (sym (ap (λ (t : ReachedState). t.by) (same_there old new i e l))) (onto (step_at old i) m)
   where
     onto : (o : Option Arrival) → MatchOption o (state_at old i ≡ begin.state) (ComesBy g r x old i) → MatchOption o (state_at new i ≡ begin.state) (ComesBy g r x new i)
     onto None b = state_stays old new i e l ∙ b
@@ -96,12 +96,12 @@ reached_still g r x old new i e l m =
         }
 
 -- a state that an edge leads to from one of the list comes in: each is reached still
-pub AreReached-enters : (g : Graph) (r x at e : ℕ) (old new : List Reached) → AreReached g r x old → at < length old → e < length g.edges → source (shape g) e ≡ (state_at old at).node
+pub AreReached-enters : (g : Graph) (r x at e : ℕ) (old new : List ReachedState) → AreReached g r x old → at < length old → e < length g.edges → source (shape g) e ≡ (state_at old at).node
     → Enters old (record { state = state_along g r x e (state_at old at); by = Some (record { from = at; label = e }) }) new → AreReached g r x new
 AreReached-enters g r x at e old new h l there leaves (inl k) = subst (AreReached g r x) (sym (k.1)) h
 AreReached-enters g r x at e old new h l there leaves (inr k) = subst (AreReached g r x) (sym (k.1)) (λ i li. elim (cases_lt i (length old)) [ inl w ↦ reached_still g r x old (old ++ t ∷ []) i goes_on w (h i w) | inr w ↦ last i w li ])
   where
-    t : Reached
+    t : ReachedState
     t = record { state = state_along g r x e (state_at old at); by = Some (record { from = at; label = e }) }
 
     goes_on : Extends old (old ++ t ∷ [])
@@ -112,16 +112,16 @@ AreReached-enters g r x at e old new h l there leaves (inr k) = subst (AreReache
         let end : length old ≡ i = omega (arith, length_push old t) in
         let here : get_or (old ++ t ∷ []) i begin ≡ t = get_or_push old t begin i end in
         let before : state_at (old ++ t ∷ []) at ≡ state_at old at = state_stays old (old ++ t ∷ []) at goes_on l in
-        subst (λ (o : Option Arrival). MatchOption o (state_at (old ++ t ∷ []) i ≡ begin.state) (ComesBy g r x (old ++ t ∷ []) i)) (sym (ap (λ (t : Reached). t.by) here))
+        subst (λ (o : Option Arrival). MatchOption o (state_at (old ++ t ∷ []) i ≡ begin.state) (ComesBy g r x (old ++ t ∷ []) i)) (sym (ap (λ (t : ReachedState). t.by) here))
         (record {
           earlier = omega arith;
           there = there;
           leaves = leaves ∙ ap (λ (t : WalkState). t.node) (sym before);
-          state = ap (λ (t : Reached). t.state) here ∙ ap (state_along g r x e) (sym before);
+          state = ap (λ (t : ReachedState). t.state) here ∙ ap (state_along g r x e) (sym before);
         })
 
 -- a state at a node of the graph comes in: each is at one still
-pub AreThere-enters : (g : Graph) (old new : List Reached) (t : Reached) → AreThere g old → t.state.node < length g.nodes → Enters old t new → AreThere g new
+pub AreThere-enters : (g : Graph) (old new : List ReachedState) (t : ReachedState) → AreThere g old → t.state.node < length g.nodes → Enters old t new → AreThere g new
 AreThere-enters g old new t h l (inl k) = subst (AreThere g) (sym (k.1)) h
 AreThere-enters g old new t h l (inr k) =
     subst (AreThere g) (sym (k.1)) (λ i li.
@@ -129,17 +129,17 @@ AreThere-enters g old new t h l (inr k) =
       | inl w ↦ (let same : (state_at (old ++ t ∷ []) i).node ≡ (state_at old i).node = ap (λ (s : WalkState). s.node) (state_stays old (old ++ t ∷ []) i (t ∷ [], refl) w) in rw same (h i w))
       | inr w ↦
           (let end : length old ≡ i = omega (arith, length_push old t) in
-          let same : (state_at (old ++ t ∷ []) i).node ≡ t.state.node = ap (λ (s : Reached). s.state.node) (get_or_push old t begin i end) in rw same l)
+          let same : (state_at (old ++ t ∷ []) i).node ≡ t.state.node = ap (λ (s : ReachedState). s.state.node) (get_or_push old t begin i end) in rw same l)
     ])
 
 -- ---- closures
 
 -- each edge that leaves one of the first n states leads to a state of the list
-abbrev pub AreFollowed : Graph → ℕ → ℕ → ℕ → List Reached → Type 0
+abbrev pub AreFollowed : Graph → ℕ → ℕ → ℕ → List ReachedState → Type 0
 AreFollowed g r x n states = (i e : ℕ) → i < n → e < length g.edges → source (shape g) e ≡ (state_at states i).node → Has states (state_along g r x e (state_at states i))
 
 -- one state more whose edges lead to states of the list
-pub AreFollowed-more : (g : Graph) (r x n : ℕ) (old new : List Reached) → Extends old new → n < length old → AreFollowed g r x n old
+pub AreFollowed-more : (g : Graph) (r x n : ℕ) (old new : List ReachedState) → Extends old new → n < length old → AreFollowed g r x n old
     → ((e : ℕ) → e < length g.edges → source (shape g) e ≡ (state_at old n).node → Has new (state_along g r x e (state_at old n))) → AreFollowed g r x (n + 1) new
 AreFollowed-more g r x n old new goes_on l before here i e li there leaves =
     let same : state_at new i ≡ state_at old i = state_stays old new i goes_on (omega arith) in
@@ -152,7 +152,7 @@ AreFollowed-more g r x n old new goes_on l before here i e li there leaves =
     ])
 
 -- a list that has the start's state and each state that an edge leads to has the state of each walk
-pub followed_whole : (g : Graph) (r x : ℕ) (states : List Reached) → Has states begin.state → AreFollowed g r x (length states) states
+pub followed_whole : (g : Graph) (r x : ℕ) (states : List ReachedState) → Has states begin.state → AreFollowed g r x (length states) states
     → (walk : List ℕ) → Walk (shape g) 0 walk → Has states (state_after g r x walk)
 followed_whole g r x states start f walk w = onwards [] walk w start
   where

@@ -11,7 +11,7 @@ use Rattle.sg_know.specs.declared.states.Mark.{Mark}
 use Rattle.sg_know.specs.declared.states.Mark.TheVariants.{Unwritten, Unknown, Known}
 use Rattle.sg_know.specs.declared.states.WalkState.{WalkState}
 use Rattle.sg_know.specs.declared.states.Arrival.{Arrival}
-use Rattle.sg_know.specs.declared.states.Reached.{Reached}
+use Rattle.sg_know.specs.declared.states.ReachedState.{ReachedState}
 
 -- ---- states
 
@@ -48,51 +48,51 @@ state_along g r x e s = record {
 -- ---- the list of states
 
 -- the state of the empty walk
-abbrev pub begin : Reached
+abbrev pub begin : ReachedState
 begin = record { state = record { node = 0; mark = Unwritten }; by = None }
 
--- the state at a place of the list
-abbrev pub state_at : List Reached → ℕ → WalkState
+-- the state at an index of the list
+abbrev pub state_at : List ReachedState → ℕ → WalkState
 state_at states i = (get_or states i begin).state
 
--- the edge by which the state at a place was reached, with the place that it came from
-abbrev pub step_at : List Reached → ℕ → Option Arrival
+-- the edge by which the state at an index was reached, with the index that it came from
+abbrev pub step_at : List ReachedState → ℕ → Option Arrival
 step_at states i = (get_or states i begin).by
 
 -- the list has the state
-abbrev pub Has : List Reached → WalkState → Type 0
+abbrev pub Has : List ReachedState → WalkState → Type 0
 Has states s = (i : ℕ) × (i < length states) × (state_at states i ≡ s)
 
 -- a state comes in at the end, unless the list has it
-abbrev pub Enters : List Reached → Reached → List Reached → Type 0
+abbrev pub Enters : List ReachedState → ReachedState → List ReachedState → Type 0
 Enters old reached new = (Has old reached.state × (new ≡ old)) ⊎ ((Has old reached.state → ⊥) × (new ≡ old ++ reached ∷ []))
 
 -- the list goes on from an earlier one
-abbrev pub Extends : List Reached → List Reached → Type 0
-Extends old new = (more : List Reached) × (new ≡ old ++ more)
+abbrev pub Extends : List ReachedState → List ReachedState → Type 0
+Extends old new = (more : List ReachedState) × (new ≡ old ++ more)
 
 -- each state is at a node of the graph
-abbrev pub AreThere : Graph → List Reached → Type 0
+abbrev pub AreThere : Graph → List ReachedState → Type 0
 AreThere g states = (i : ℕ) → i < length states → (state_at states i).node < length g.nodes
 
--- the edge leads to the state at place i from an earlier one
-pub record ComesBy (g : Graph) (r x : ℕ) (states : List Reached) (i : ℕ) (s : Arrival) : Type 0 where
+-- the edge leads to the state at index i from an earlier one
+pub record ComesBy (g : Graph) (r x : ℕ) (states : List ReachedState) (i : ℕ) (s : Arrival) : Type 0 where
   pub earlier : s.from < i
   pub there : s.label < length g.edges
   pub leaves : source (shape g) s.label ≡ (state_at states s.from).node
   pub state : state_at states i ≡ state_along g r x s.label (state_at states s.from)
 
 -- each state of the list is that of the empty walk, or an edge leads to it from an earlier one
-abbrev pub AreReached : Graph → ℕ → ℕ → List Reached → Type 0
+abbrev pub AreReached : Graph → ℕ → ℕ → List ReachedState → Type 0
 AreReached g r x states = (i : ℕ) → i < length states → MatchOption (step_at states i) (state_at states i ≡ begin.state) (ComesBy g r x states i)
 
 -- each state of the list is reached, and the state of each walk from the start is in the list
-pub record IsClosure (g : Graph) (r x : ℕ) (states : List Reached) : Type 0 where
+pub record IsClosure (g : Graph) (r x : ℕ) (states : List ReachedState) : Type 0 where
   pub reached : AreReached g r x states
   pub whole : (walk : List ℕ) → Walk (shape g) 0 walk → Has states (state_after g r x walk)
 
--- the labels by which the state at a place was reached
-pub data IsPath (states : List Reached) : ℕ → List ℕ → Type 0 where
+-- the labels by which the state at an index was reached
+pub data IsPath (states : List ReachedState) : ℕ → List ℕ → Type 0 where
   Begins : {i : ℕ} → step_at states i ≡ None → IsPath states i []
   Goes : {i : ℕ} {s : Arrival} {labels : List ℕ} → step_at states i ≡ Some s → IsPath states s.from labels → IsPath states i (labels ++ s.label ∷ [])
 
@@ -102,21 +102,21 @@ is_known Unwritten = false
 is_known Unknown = false
 is_known Known = true
 
--- edge e leaves the state at place i, and after it role r doesn't know x
-abbrev pub IsUnknownAfter : Graph → ℕ → ℕ → List Reached → ℕ → ℕ → Type 0
+-- edge e leaves the state at index i, and after it role r doesn't know x
+abbrev pub IsUnknownAfter : Graph → ℕ → ℕ → List ReachedState → ℕ → ℕ → Type 0
 IsUnknownAfter g r x states e i = (i < length states) × ((state_at states i).node ≡ source (shape g) e) × (is_known (state_along g r x e (state_at states i)).mark ≡ false)
 
--- r sends along e, which reads x, and doesn't know x after the state at place i and this edge
-abbrev pub IsUnknownRead : Graph → ℕ → ℕ → List Reached → ℕ → ℕ → Type 0
+-- r sends along e, which reads x, and doesn't know x after the state at index i and this edge
+abbrev pub IsUnknownRead : Graph → ℕ → ℕ → List ReachedState → ℕ → ℕ → Type 0
 IsUnknownRead g r x states e i = (e < length g.edges) × (sender (shape g) e ≡ r) × IsTrue (is_in x (reads g e)) × IsUnknownAfter g r x states e i
 
 -- such a read with the least label, or none where there is none
-abbrev pub IsFirstUnknown : Graph → ℕ → ℕ → List Reached → Option UnknownRead → Type 0
+abbrev pub IsFirstUnknown : Graph → ℕ → ℕ → List ReachedState → Option UnknownRead → Type 0
 IsFirstUnknown g r x states found =
     MatchOption found ((e i : ℕ) → IsUnknownRead g r x states e i → ⊥)
-    (λ u. IsUnknownRead g r x states u.label u.place × ((e i : ℕ) → IsUnknownRead g r x states e i → u.label ≤ e))
+    (λ u. IsUnknownRead g r x states u.label u.index × ((e i : ℕ) → IsUnknownRead g r x states e i → u.label ≤ e))
 
--- ---- the table of places
+-- ---- the table of indices
 
 -- a number for each mark
 abbrev pub rank_of : Mark → ℕ
@@ -128,14 +128,14 @@ rank_of Known = 2
 abbrev pub key_of : WalkState → ℕ
 key_of s = 3 * s.node + rank_of s.mark
 
--- each state of the list has its place at its number in the table, and the table has no other places
-pub record IsTable (states : List Reached) (places : List (Option ℕ)) : Type 0 where
-  pub size : length places ≡ 768
+-- each state of the list has its index at its number in the table, and the table has no other indices
+pub record IsTable (states : List ReachedState) (indices : List (Option ℕ)) : Type 0 where
+  pub size : length indices ≡ 768
   pub within : (i : ℕ) → i < length states → (state_at states i).node < most_nodes
-  pub noted : (i : ℕ) → i < length states → get_or places (key_of (state_at states i)) None ≡ Some i
-  pub right : (k : ℕ) → IfSome (get_or places k None) (λ i. (i < length states) × (key_of (state_at states i) ≡ k))
-  pub count : count_by is_some places ≡ length states
+  pub noted : (i : ℕ) → i < length states → get_or indices (key_of (state_at states i)) None ≡ Some i
+  pub right : (k : ℕ) → IfSome (get_or indices k None) (λ i. (i < length states) × (key_of (state_at states i) ≡ k))
+  pub count : count_by is_some indices ≡ length states
 
 -- each state but those of the start was reached from an earlier one
-abbrev pub AreInOrder : List Reached → Type 0
+abbrev pub AreInOrder : List ReachedState → Type 0
 AreInOrder states = (i : ℕ) → i < length states → IfSome (step_at states i) (λ s. s.from < i)

@@ -102,7 +102,7 @@ fn bad_read_of(
     let Some(unknown) = first_unknown(graph, &states, role, var) else {
         return Ok(None);
     };
-    let mut walk = states.path(alloc, unknown.place)?;
+    let mut walk = states.path(alloc, unknown.index)?;
     walk.push(unknown.label)?;
     Ok(Some(BadRead {
         label: unknown.label,
@@ -111,11 +111,11 @@ fn bad_read_of(
     }))
 }
 
-/// The label of a read that isn't known, and the place of the state from which its edge leads.
+/// The label of a read that isn't known, and the index of the state from which its edge leads.
 #[derive(Clone, Copy)]
 struct UnknownRead {
     label: Label,
-    place: usize,
+    index: usize,
 }
 
 /// The read of the variable by the role that has the least label among those that the role doesn't know.
@@ -124,14 +124,14 @@ fn first_unknown(graph: &Graph, states: &States, role: Role, var: Var) -> Option
 {
     for number in 0..graph.edges() {
         let label = Label(number);
-        if let Some(place) = unknown_read(graph, states, role, var, label) {
-            return Some(UnknownRead { label, place });
+        if let Some(index) = unknown_read(graph, states, role, var, label) {
+            return Some(UnknownRead { label, index });
         }
     }
     None
 }
 
-/// The place of a state from which the role sends along the edge, which reads the variable, and doesn't know it then.
+/// The index of a state from which the role sends along the edge, which reads the variable, and doesn't know it then.
 fn unknown_read(graph: &Graph, states: &States, role: Role, var: Var, label: Label) -> Option<usize>
     requires { label < length graph.now.edges }
     ensures { MatchOption result ((i : ℕ) → IsUnknownRead graph.now role var states.now label i → ⊥) (IsUnknownRead graph.now role var states.now label) }
@@ -142,7 +142,7 @@ fn unknown_read(graph: &Graph, states: &States, role: Role, var: Var, label: Lab
     unknown_after(graph, states, role, var, label)
 }
 
-/// The place of a state at the edge's source after which, along the edge, the role doesn't know the variable.
+/// The index of a state at the edge's source after which, along the edge, the role doesn't know the variable.
 fn unknown_after(
     graph: &Graph,
     states: &States,
@@ -154,14 +154,14 @@ fn unknown_after(
     ensures { MatchOption result ((i : ℕ) → IsUnknownAfter graph.now role var states.now label i → ⊥) (IsUnknownAfter graph.now role var states.now label) }
 {
     for mark in [Mark::Unwritten, Mark::Unknown, Mark::Known] {
-        if let Some(place) = unknown_after_mark(graph, states, role, var, label, mark) {
-            return Some(place);
+        if let Some(index) = unknown_after_mark(graph, states, role, var, label, mark) {
+            return Some(index);
         }
     }
     None
 }
 
-/// The place of such a state with this mark.
+/// The index of such a state with this mark.
 fn unknown_after_mark(
     graph: &Graph,
     states: &States,

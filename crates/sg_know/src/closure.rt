@@ -6,7 +6,7 @@ ghost use Rattle.sg_protocol.specs.Graph.{shape, writes};
 ghost use Rattle.sg_protocol.specs.Knowledge.{learns};
 ghost use Rattle.sg_know.specs.States.{AreReached, AreThere, Extends, Has, IsClosure, known_if, mark_after, state_along, state_at};
 
-use crate::states::{Arrival, Mark, Reached, States, WalkState};
+use crate::states::{Arrival, Mark, ReachedState, States, WalkState};
 use sg_base::{Label, NodeId, OutOfMemory, Role, Var};
 use sg_graph::Graph;
 use std::alloc::Global;
@@ -22,7 +22,7 @@ pub(crate) fn closure(
     ensures { IfOk result (IsClosure graph.now role var) }
 {
     let mut states = States::new(alloc)?;
-    states.enter(Reached {
+    states.enter(ReachedState {
         state: WalkState {
             node: NodeId(0),
             mark: Mark::Unwritten,
@@ -37,7 +37,7 @@ pub(crate) fn closure(
     Ok(states)
 }
 
-/// Enters each state that one edge leads to from the state at a place.
+/// Enters each state that one edge leads to from the state at an index.
 fn follow(
     graph: &Graph,
     role: Role,
@@ -55,7 +55,7 @@ fn follow(
 {
     let state = states.state(at);
     for label in graph.edges_from(state.node) {
-        states.enter(Reached {
+        states.enter(ReachedState {
             state: along(graph, role, var, *label, &state),
             by: Some(Arrival {
                 from: at,

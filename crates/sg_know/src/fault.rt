@@ -3,7 +3,7 @@ ghost use Rattle.std.specs.Prelude.{◌≡◌, ◌++◌, OnOk};
 ghost use Rattle.sg_know.specs.FaultText.{reads_text};
 
 use sg_base::{ByteOut, Label, OutOfMemory, Seq, Var};
-use sg_graph::{Graph, put_place, put_walk};
+use sg_graph::{Graph, put_label_and_var, put_walk};
 use thiserror::Error;
 
 /// A write or a read that a graph may not have, by its label and its variable.
@@ -48,15 +48,15 @@ impl ReadFault {
         match self {
             ReadFault::NotWriter { label, var } => {
                 out.bytes(b"not writer ")?;
-                put_place(out, graph, *label, *var)
+                put_label_and_var(out, graph, *label, *var)
             }
             ReadFault::ReadsOwn { label, var } => {
                 out.bytes(b"reads own ")?;
-                put_place(out, graph, *label, *var)
+                put_label_and_var(out, graph, *label, *var)
             }
             ReadFault::BadRead { label, var, walk } => {
                 out.bytes(b"bad read ")?;
-                put_place(out, graph, *label, *var)?;
+                put_label_and_var(out, graph, *label, *var)?;
                 out.bytes(b" on")?;
                 put_walk(out, graph, walk.as_slice())
             }

@@ -24,7 +24,7 @@ pub(crate) struct WalkState {
     pub mark: Mark,
 }
 
-/// The edge by which a state was reached, and the place of the state before it.
+/// The edge by which a state was reached, and the index of the state before it.
 #[derive(Debug, Clone, Copy)]
 pub(crate) struct Arrival {
     pub from: usize,
@@ -33,7 +33,7 @@ pub(crate) struct Arrival {
 
 /// A state, and how it was reached: that of the empty walk by no step.
 #[derive(Debug, Clone, Copy)]
-pub(crate) struct Reached {
+pub(crate) struct ReachedState {
     pub state: WalkState,
     pub by: Option<Arrival>,
 }
@@ -41,15 +41,15 @@ pub(crate) struct Reached {
 /// States, each once, in the order in which they were reached. There are 256 nodes and three marks at most.
 #[derive(Drop)]
 pub(crate) struct States {
-    list: Vec<Reached>,
-    places: Vec<Option<usize>>,
+    list: Vec<ReachedState>,
+    indices: Vec<Option<usize>>,
 }
 
 impl Model for States {
     ghost use Rattle.std.specs.Prelude.{List};
-    ghost use Rattle.sg_know.specs.declared.states.Reached.{Reached};
+    ghost use Rattle.sg_know.specs.declared.states.ReachedState.{ReachedState};
 
-    ghost Value = { List Reached };
+    ghost Value = { List ReachedState };
 
     ghost use Rattle.sg_know.specs.Model.{states_of};
     ghost use Rattle.sg_know.specs.Invariant.{HoldsStates};
@@ -60,13 +60,13 @@ impl Model for States {
 }
 
 impl States {
-    /// No states. It takes memory for the table of places.
+    /// No states. It takes memory for the table of indices.
     pub(crate) fn new(alloc: Global) -> Result<States, OutOfMemory>
         ensures { IfOk result (λ states. states ≡ []) }
     {
         Ok(States {
             list: Vec::new(alloc),
-            places: vec![in alloc; None; 768]?,
+            indices: vec![in alloc; None; 768]?,
         })
     }
 
@@ -78,56 +78,56 @@ impl States {
         self.list.len()
     }
 
-    /// The state at a place.
-    pub(crate) fn state(&self, place: usize) -> WalkState
-        requires { place < length self.now }
-        ensures state { result ≡ state_at self.now place }
+    /// The state at an index.
+    pub(crate) fn state(&self, index: usize) -> WalkState
+        requires { index < length self.now }
+        ensures state { result ≡ state_at self.now index }
         ensures there { result.node < 256 }
     {
-        self.list[place].state
+        self.list[index].state
     }
 
-    /// The edge by which the state at a place was reached, from an earlier one.
-    fn step(&self, place: usize) -> Option<Arrival>
-        requires { place < length self.now }
-        ensures step { result ≡ step_at self.now place }
-        ensures earlier { IfSome result (λ s. s.from < place) }
+    /// The edge by which the state at an index was reached, from an earlier one.
+    fn step(&self, index: usize) -> Option<Arrival>
+        requires { index < length self.now }
+        ensures step { result ≡ step_at self.now index }
+        ensures earlier { IfSome result (λ s. s.from < index) }
     {
-        self.list[place].by
+        self.list[index].by
     }
 
     /// Puts a state at the end, unless it is there. If memory runs out, the list is as before.
-    pub(crate) fn enter(&mut self, reached: Reached) -> Result<(), OutOfMemory>
+    pub(crate) fn enter(&mut self, reached: ReachedState) -> Result<(), OutOfMemory>
         requires node { reached.state.node < 256 }
         requires order { IfSome reached.by (λ s. s.from < length self.old) }
         ensures ok { OnOk result (Enters self.old reached self.new) }
         ensures err { OnErr result (self.new ≡ self.old) }
     {
         let key = key_of_state(&reached.state);
-        if self.places[key].is_some() {
+        if self.indices[key].is_some() {
             return Ok(());
         }
-        let place = self.list.len();
+        let index = self.list.len();
         self.list.push(reached)?;
-        self.places[key] = Some(place);
+        self.indices[key] = Some(index);
         Ok(())
     }
 
-    /// The place of a state.
+    /// The index of a state.
     pub(crate) fn find(&self, state: &WalkState) -> Option<usize>
         requires { state.now.node < 256 }
         ensures { MatchOption result (Has self.now state.now → ⊥) (λ i. (i < length self.now) × (state_at self.now i ≡ state.now)) }
     {
-        self.places[key_of_state(state)]
+        self.indices[key_of_state(state)]
     }
 
-    /// The labels of the walk by which the state at a place was reached.
-    pub(crate) fn path(&self, alloc: Global, place: usize) -> Result<Vec<Label>, OutOfMemory>
-        requires { place < length self.now }
-        ensures { IfOk result (λ labels. IsPath self.now place labels.items) }
+    /// The labels of the walk by which the state at an index was reached.
+    pub(crate) fn path(&self, alloc: Global, index: usize) -> Result<Vec<Label>, OutOfMemory>
+        requires { index < length self.now }
+        ensures { IfOk result (λ labels. IsPath self.now index labels.items) }
     {
         let mut labels = Vec::new(alloc);
-        let mut at = place;
+        let mut at = index;
         while let Some(step) = self.step(at) {
             labels.push(step.label)?;
             at = step.from;

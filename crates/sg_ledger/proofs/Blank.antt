@@ -1,7 +1,7 @@
--- A ledger with nothing but zeros behind its head stands for no joins.
+-- A ledger with nothing but zeros behind its head represents no joins.
 use Rattle.std.proofs.Common.{◌≡◌, ℕ, ◌+◌, ◌*◌, ◌<◌, ◌≤◌, List, [], ◌∷◌, ◌++◌, length, take, drop, get_or, refl, sym, ◌∙◌, ap, subst, arith, length-drop, get_or-take, get_or-drop, append-nil, drop_of_length-le}
 use Rattle.sg_ledger.specs.Disk.{overlaid}
-use Rattle.sg_ledger.specs.Format.{slot_of, IsOpen, IsBlank, StandsFor}
+use Rattle.sg_ledger.specs.Format.{slot_of, IsOpen, IsBlank, Represents}
 
 gate_zero : (file : List ℕ) (n : ℕ) → IsBlank file → n < 65536 → get_or (slot_of file n) 0 0 ≡ 0
 gate_zero file n blank lt =
@@ -11,8 +11,8 @@ gate_zero file n blank lt =
     ∙ get_or-drop (8 + 34 * n) file 0 0 ∙ ap (λ (k : ℕ). get_or file k 0) same
     ∙ sym (get_or-drop 8 file (34 * n) 0) ∙ blank.1 (34 * n) 0 inside
 
-pub blank_stands : (file : List ℕ) → IsBlank file → StandsFor file []
-blank_stands file blank = record {
+pub blank_represents : (file : List ℕ) → IsBlank file → Represents file []
+blank_represents file blank = record {
   ledger = blank.0;
   slots = record {
     fits = omega arith;

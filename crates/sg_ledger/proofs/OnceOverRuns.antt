@@ -3,7 +3,7 @@ use Rattle.std.proofs.Common.{◌≡◌, ◌≢◌, ◌⊎◌, inl, inr, ⊎_eli
 use Rattle.std.specs.List.{All, AllPairs}
 use Rattle.std.proofs.lemmas.List.Elements.{Contains-append_left, Contains-append_right, All-cons}
 use Rattle.std.proofs.lemmas.List.Kept.{AllPairs-cons}
-use Rattle.sg_ledger.specs.Format.{Join, StandsFor, StandsForOneOf}
+use Rattle.sg_ledger.specs.Format.{Join, Represents, RepresentsOneOf}
 use Rattle.sg_ledger.specs.Runs.{LedgerEvent, Added, CutShort, MayHappen, answered}
 use Rattle.sg_ledger.proofs.SlotBySlot.{only_joins}
 
@@ -53,9 +53,9 @@ all_differ joins (CutShort join ∷ events) last happen =
     ⊎_elim (all_differ joins events last) (all_differ (joins ++ join ∷ []) events last) happen.1
 
 -- what is opened after a call that was cut short
-pub opened_after : (joins : List Join) (join : Join) (image : List ℕ) (opened : List Join) → StandsForOneOf joins join image → StandsFor image opened
+pub opened_after : (joins : List Join) (join : Join) (image : List ℕ) (opened : List Join) → RepresentsOneOf joins join image → Represents image opened
     → (opened ≡ joins) ⊎ (opened ≡ joins ++ join ∷ [])
-opened_after joins join image opened before_or_after stands = ⊎_elim
-    (λ before. inl (only_joins image 65536 opened joins stands.slots before.slots))
-    (λ after. inr (only_joins image 65536 opened (joins ++ join ∷ []) stands.slots after.slots))
+opened_after joins join image opened before_or_after represents = ⊎_elim
+    (λ before. inl (only_joins image 65536 opened joins represents.slots before.slots))
+    (λ after. inr (only_joins image 65536 opened (joins ++ join ∷ []) represents.slots after.slots))
     before_or_after

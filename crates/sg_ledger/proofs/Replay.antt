@@ -58,10 +58,10 @@ pub taken_more : (calls : List DiskCall) (call : DiskCall) → all_taken (calls 
 taken_more [] call = omega arith
 taken_more (first ∷ calls) call = let rest = taken_more calls call in omega (arith, rest)
 
-taken_front : (k : ℕ) (calls : List DiskCall) → all_taken (take k calls) ≤ all_taken calls
-taken_front zero calls = omega arith
-taken_front (suc k) [] = omega arith
-taken_front (suc k) (call ∷ calls) = let rest = taken_front k calls in omega (arith, rest)
+taken_prefix : (k : ℕ) (calls : List DiskCall) → all_taken (take k calls) ≤ all_taken calls
+taken_prefix zero calls = omega arith
+taken_prefix (suc k) [] = omega arith
+taken_prefix (suc k) (call ∷ calls) = let rest = taken_prefix k calls in omega (arith, rest)
 
 take_push : {A : Type 0} (k : ℕ) (xs : List A) (x : A) → k ≤ length xs → take k (xs ++ x ∷ []) ≡ take k xs
 take_push zero xs x le = refl
@@ -75,7 +75,7 @@ module _ (m : Medium) (call : DiskCall) (bytes : List ℕ) (total : all_taken m.
   -- the earlier moments are as they were
   earlier : (k : ℕ) → k ≤ length m.calls → platter_at (with_call m call bytes) k ≡ platter_at m k
   earlier k le =
-      let few : all_taken (take k m.calls) ≤ length m.written = omega (arith, total, taken_front k m.calls) in
+      let few : all_taken (take k m.calls) ≤ length m.written = omega (arith, total, taken_prefix k m.calls) in
       (λ i. after_calls (at_rest m.start) (take_push k m.calls call le i) (m.written ++ bytes))
       ∙ all_same (at_rest m.start) (take k m.calls) m.written bytes few
 

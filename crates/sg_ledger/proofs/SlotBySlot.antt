@@ -1,4 +1,4 @@
--- What the first slots of a file stand for, slot by slot.
+-- What the first slots of a file represent, slot by slot.
 use Rattle.std.proofs.Common.{◌≡◌, ◌≢◌, ◌⊎◌, inl, inr, ⊎_elim, ℕ, zero, suc, ◌+◌, ◌<◌, ◌≤◌, List, [], ◌∷◌, ◌++◌, length, get_or, Contains, refl, sym, ◌∙◌, ap, subst, arith, length-append}
 use Rattle.std.specs.List.{All, AllPairs}
 use Rattle.std.proofs.Math.ListN.{get_or-append}
@@ -6,7 +6,7 @@ use Rattle.std.proofs.lemmas.Bool.{cases_eq, cases_lt}
 use Rattle.std.proofs.lemmas.List.{get_or_push}
 use Rattle.std.proofs.lemmas.List.Elements.{All-push, Contains-get_or}
 use Rattle.std.proofs.lemmas.List.Quantifiers.{all_pairs_push}
-use Rattle.sg_ledger.specs.Format.{Join, slot_of, IsOpen, pair_of, pairs_of, IsLedger, SlotsStandFor, StandsFor, IsBadSlot, IsFirstBadSlot}
+use Rattle.sg_ledger.specs.Format.{Join, slot_of, IsOpen, pair_of, pairs_of, IsLedger, SlotsRepresent, Represents, IsBadSlot, IsFirstBadSlot}
 
 length-pairs_of : (file : List ℕ) (n : ℕ) → length (pairs_of file n) ≡ n
 length-pairs_of file zero = refl
@@ -27,7 +27,7 @@ get_or-pairs_of file (suc n) k d lt = elim (cases_eq k n) [
       ∙ get_or-pairs_of file n k d below
 ]
 
-module _ (file : List ℕ) (n : ℕ) (joins : List Join) (so_far : SlotsStandFor file n joins) where
+module _ (file : List ℕ) (n : ℕ) (joins : List Join) (so_far : SlotsRepresent file n joins) where
   -- each join is the pair of its slot
   pub join_at : (k : ℕ) (d : Join) → k < length joins → get_or joins k d ≡ pair_of (slot_of file k)
   join_at k d lt = ap (λ (js : List Join). get_or js k d) so_far.pairs ∙ get_or-pairs_of file (length joins) k d lt
@@ -53,7 +53,7 @@ module _ (file : List ℕ) (n : ℕ) (joins : List Join) (so_far : SlotsStandFor
   ]
 
   -- a shut slot adds nothing
-  pub slot_shut : ¬ IsOpen (slot_of file n) → SlotsStandFor file (n + 1) joins
+  pub slot_shut : ¬ IsOpen (slot_of file n) → SlotsRepresent file (n + 1) joins
   slot_shut is_shut = record {
     fits = omega (arith, so_far.fits);
     gates = so_far.gates;
@@ -68,7 +68,7 @@ module _ (file : List ℕ) (n : ℕ) (joins : List Join) (so_far : SlotsStandFor
 
   -- an open one behind none but open ones adds its pair
   pub slot_open : n ≡ length joins → IsOpen (slot_of file n) → (pair_of (slot_of file n)).1 < 16 → ¬ Contains joins (pair_of (slot_of file n))
-      → SlotsStandFor file (n + 1) (joins ++ pair_of (slot_of file n) ∷ [])
+      → SlotsRepresent file (n + 1) (joins ++ pair_of (slot_of file n) ∷ [])
   slot_open next is_open role absent =
       let join : Join = pair_of (slot_of file n) in
       let longer : length (joins ++ join ∷ []) ≡ length joins + 1 = length-append joins (join ∷ []) in
@@ -112,12 +112,12 @@ module _ (file : List ℕ) (n : ℕ) (joins : List Join) (so_far : SlotsStandFor
   -- one that was read and is none of those
   pub slot_read : (slot : List ℕ) (after : List Join) → slot ≡ slot_of file n → (IsOpen slot → n ≡ length joins) → (IsOpen slot → (pair_of slot).1 < 16)
       → (IsOpen slot → ¬ Contains joins (pair_of slot)) → (IsOpen slot → after ≡ joins ++ pair_of slot ∷ []) → (¬ IsOpen slot → after ≡ joins)
-      → SlotsStandFor file (n + 1) after
+      → SlotsRepresent file (n + 1) after
   slot_read slot after is next role absent added same = elim (cases_eq (get_or slot 0 0) 1) [
-    | inl is_open ↦ subst (SlotsStandFor file (n + 1)) (sym (added is_open))
-        (subst (λ (s : List ℕ). SlotsStandFor file (n + 1) (joins ++ pair_of s ∷ [])) (sym is)
+    | inl is_open ↦ subst (SlotsRepresent file (n + 1)) (sym (added is_open))
+        (subst (λ (s : List ℕ). SlotsRepresent file (n + 1) (joins ++ pair_of s ∷ [])) (sym is)
         (slot_open (next is_open) (subst IsOpen is is_open) (subst (λ (s : List ℕ). (pair_of s).1 < 16) is (role is_open)) (subst (λ (s : List ℕ). ¬ Contains joins (pair_of s)) is (absent is_open))))
-    | inr is_shut ↦ subst (SlotsStandFor file (n + 1)) (sym (same is_shut)) (slot_shut (subst (λ (s : List ℕ). ¬ IsOpen s) is is_shut))
+    | inr is_shut ↦ subst (SlotsRepresent file (n + 1)) (sym (same is_shut)) (slot_shut (subst (λ (s : List ℕ). ¬ IsOpen s) is is_shut))
   ]
 
   -- one that was read and is one of those
@@ -127,18 +127,18 @@ module _ (file : List ℕ) (n : ℕ) (joins : List Join) (so_far : SlotsStandFor
       slot_bad lt (subst IsOpen is is_open)
       (subst (λ (s : List ℕ). (16 ≤ (pair_of s).1) ⊎ Contains joins (pair_of s) ⊎ (n ≡ length joins → ⊥)) is cause)
 
-no_more : (file : List ℕ) (n : ℕ) (first second : List Join) → SlotsStandFor file n first → SlotsStandFor file n second → length first ≤ length second
+no_more : (file : List ℕ) (n : ℕ) (first second : List Join) → SlotsRepresent file n first → SlotsRepresent file n second → length first ≤ length second
 no_more file n first second one two = elim (cases_lt (length second) (length first)) [
   | inl lt ↦ absurd (two.shut (length second) (omega arith) (omega (arith, lt, one.fits)) (one.gates (length second) lt))
   | inr le ↦ le
 ]
 
--- slots stand for one list of joins
-pub only_joins : (file : List ℕ) (n : ℕ) (first second : List Join) → SlotsStandFor file n first → SlotsStandFor file n second → first ≡ second
+-- slots represent one list of joins
+pub only_joins : (file : List ℕ) (n : ℕ) (first second : List Join) → SlotsRepresent file n first → SlotsRepresent file n second → first ≡ second
 only_joins file n first second one two =
     let same : length first ≡ length second = omega (arith, no_more file n first second one two, no_more file n second first two one) in
     one.pairs ∙ ap (pairs_of file) same ∙ sym two.pairs
 
 -- and then none of them is bad
-pub stands_not_bad : (file : List ℕ) (joins : List Join) (n : ℕ) → StandsFor file joins → ¬ IsFirstBadSlot file n
-stands_not_bad file joins n stands bad = none_bad file 65536 joins stands.slots n bad.0 bad.1
+pub represents_not_bad : (file : List ℕ) (joins : List Join) (n : ℕ) → Represents file joins → ¬ IsFirstBadSlot file n
+represents_not_bad file joins n represents bad = none_bad file 65536 joins represents.slots n bad.0 bad.1

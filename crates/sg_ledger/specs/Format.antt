@@ -1,4 +1,4 @@
--- The file of a ledger: its head, then 65,536 slots of 34 bytes, and the joins that its bytes stand for.
+-- The file of a ledger: its head, then 65,536 slots of 34 bytes, and the joins that its bytes represent.
 use Rattle.std.specs.Prelude.{◌≡◌, ◌≢◌, ◌⊎◌, ℕ, zero, suc, ◌+◌, ◌*◌, ◌<◌, ◌≤◌, List, [], ◌∷◌, ◌++◌, length, take, drop, get_or, Bool, All, AllPairs}
 use Rattle.sg_model.specs.Limits.{most_joins}
 
@@ -35,9 +35,9 @@ IsLedger file = (length file ≡ 2228232) × (take 8 file ≡ magic)
 abbrev pub IsBlank : List ℕ → Type 0
 IsBlank file = IsLedger file × All (λ b. b ≡ 0) (drop 8 file)
 
--- The first `count` slots of a file stand for joins: as many gates are open as there are joins, all before those that are not, and
+-- The first `count` slots of a file represent joins: as many gates are open as there are joins, all before those that are not, and
 -- behind them stand the pairs in order, which all differ and whose roles are below 16.
-pub record SlotsStandFor (file : List ℕ) (count : ℕ) (joins : List Join) : Type 0 where
+pub record SlotsRepresent (file : List ℕ) (count : ℕ) (joins : List Join) : Type 0 where
   pub fits : length joins ≤ count
   pub gates : (n : ℕ) → n < length joins → IsOpen (slot_of file n)
   pub pairs : joins ≡ pairs_of file (length joins)
@@ -45,14 +45,14 @@ pub record SlotsStandFor (file : List ℕ) (count : ℕ) (joins : List Join) : T
   pub roles : All (λ j. j.1 < 16) joins
   pub differ : AllPairs (λ a b. a ≢ b) joins
 
--- the bytes of a ledger stand for joins
-pub record StandsFor (file : List ℕ) (joins : List Join) : Type 0 where
+-- the bytes of a ledger represent joins
+pub record Represents (file : List ℕ) (joins : List Join) : Type 0 where
   pub ledger : IsLedger file
-  pub slots : SlotsStandFor file most_joins joins
+  pub slots : SlotsRepresent file most_joins joins
 
--- they stand for the joins, or for the joins and one more
-abbrev pub StandsForOneOf : List Join → Join → List ℕ → Type 0
-StandsForOneOf joins join file = StandsFor file joins ⊎ StandsFor file (joins ++ join ∷ [])
+-- they represent the joins, or for the joins and one more
+abbrev pub RepresentsOneOf : List Join → Join → List ℕ → Type 0
+RepresentsOneOf joins join file = Represents file joins ⊎ Represents file (joins ++ join ∷ [])
 
 -- an open slot that no ledger has: its role is above 15, or it repeats a pair, or it follows a gate that is not open
 abbrev pub IsBadSlot : List ℕ → ℕ → Type 0
@@ -66,6 +66,6 @@ abbrev pub IsFirstBadSlot : List ℕ → ℕ → Type 0
 IsFirstBadSlot file n = (n < most_joins) × IsBadSlot file n × ((m : ℕ) → m < n → ¬ IsBadSlot file m)
 
 -- what clauses see of an opened ledger: its joins in order, and whether a call to add one has failed
-pub record Opened : Type 0 where
+pub record OpenLedger : Type 0 where
   pub joins : List Join
   pub failed : Bool

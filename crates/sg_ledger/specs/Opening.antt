@@ -1,6 +1,6 @@
 -- What the answers of opening a ledger say of its file.
 use Rattle.std.specs.Prelude.{◌≡◌, ◌⊎◌, ℕ, List, Result, IfOk, IfErr, ⊤}
-use Rattle.sg_ledger.specs.Format.{Join, Opened, IsLedger, IsFirstBadSlot}
+use Rattle.sg_ledger.specs.Format.{Join, OpenLedger, IsLedger, IsFirstBadSlot}
 use Rattle.sg_ledger.specs.declared.ledger.OpenFault.{OpenFault}
 use Rattle.sg_ledger.specs.declared.ledger.OpenFault.TheVariants.{NotALedger, BadSlot, Failed, OutOfMemory}
 
@@ -19,6 +19,6 @@ Refuses file Failed = ⊤
 Refuses file OutOfMemory = ⊤
 
 -- These joins are opened, and the only refusals are that the disk failed or that memory ran out.
-abbrev pub Opens : Result Opened OpenFault → List Join → Type 0
+abbrev pub Opens : Result OpenLedger OpenFault → List Join → Type 0
 Opens result joins =
     (IfOk result (λ ledger. ledger.joins ≡ joins)) × (IfErr result (λ e. (e ≡ Failed) ⊎ (e ≡ OutOfMemory)))

@@ -46,14 +46,14 @@ impl Bound {
         requires { length name.now ≤ 4095 }
         ensures { self.new ≡ Some name.now }
     {
-        put_front(&mut self.bytes, name.as_bytes());
+        put_prefix(&mut self.bytes, name.as_bytes());
         self.count = Some(name.len());
     }
 }
 
-fn put_front(block: &mut [u8; MOST_BYTES], front: &[u8])
-    requires { length front.now ≤ 4095 }
-    ensures { block.new ≡ front.now ++ drop (length front.now) block.old }
+fn put_prefix(block: &mut [u8; MOST_BYTES], prefix: &[u8])
+    requires { length prefix.now ≤ 4095 }
+    ensures { block.new ≡ prefix.now ++ drop (length prefix.now) block.old }
 {
-    block[..front.len()].copy_from_slice(front);
+    block[..prefix.len()].copy_from_slice(prefix);
 }

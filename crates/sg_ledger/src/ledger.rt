@@ -3,7 +3,7 @@ ghost use Rattle.std.specs.Prelude.{◌≡◌, ◌≢◌, ◌⊎◌, ◌↔◌, 
 ghost use Rattle.sg_model.specs.Limits.{most_joins};
 ghost use Rattle.sg_base.specs.Outside.{HasRisen};
 ghost use Rattle.sg_ledger.specs.Disk.{overlaid, Torn, Keeps, LeavesOnly, IsLeftAlone, WhereTold};
-ghost use Rattle.sg_ledger.specs.Format.{magic, Join, IsBlank, StandsFor, StandsForOneOf};
+ghost use Rattle.sg_ledger.specs.Format.{magic, Join, IsBlank, Represents, RepresentsOneOf};
 ghost use Rattle.sg_ledger.specs.Opening.{Refuses, Opens};
 
 use crate::slots::{FILE, HEAD, MAGIC, MOST_JOINS, SLOT, has, put_last, read_slots};
@@ -78,10 +78,10 @@ pub struct Ledger {
 
 impl Model for Ledger {
     ghost use Rattle.std.specs.Prelude.{◌≤◌, length};
-    ghost use Rattle.sg_ledger.specs.Format.{Opened};
+    ghost use Rattle.sg_ledger.specs.Format.{OpenLedger};
     ghost use Rattle.sg_model.specs.Limits.{most_joins};
 
-    ghost Value = { Opened };
+    ghost Value = { OpenLedger };
 
     ghost view = { λ l. record { joins = l.joins.keys; failed = l.failed } };
 
@@ -99,7 +99,7 @@ impl Ledger {
         ensures empty { OnOk result (WhereTold (D.seen disk.old) (λ file. file ≡ [])) }
         ensures not_empty { IfErr result (λ e. (size : ℕ) → e ≡ CreateFault.NotEmpty size → (0 < size) × WhereTold (D.seen disk.old) (λ file. length file ≡ size)) }
         ensures blank { OnOk result ((image : List ℕ) → D.may_leave disk.new image → IsBlank image) }
-        ensures made { OnOk result ((image : List ℕ) → D.may_leave disk.new image → StandsFor image []) }
+        ensures made { OnOk result ((image : List ℕ) → D.may_leave disk.new image → Represents image []) }
 
         // A file that has bytes is left alone whatever the answer is, and any file where memory ran out.
         ensures refused { IfErr result (λ e. e ≢ CreateFault.Failed → IsLeftAlone D.seen D.may_leave D.moment D.left_since disk.old disk.new) }
@@ -123,18 +123,18 @@ impl Ledger {
 
     /// Opens a ledger: brings to the disk what a read gives, and reads the joins. It writes nothing. Refused where the bytes are no
     /// ledger, where a slot is bad, where the disk fails, or where memory runs out. Whatever image a crash has left, it gives the
-    /// joins that the image stands for.
+    /// joins that the image represents.
     pub fn open<D: Disk>(alloc: Global, disk: &mut D) -> Result<Ledger, OpenFault>
         ensures never_falls { D.faults disk.old ≤ D.faults disk.new }
         ensures kept_bound { D.bound disk.new ≡ D.bound disk.old }
         ensures failed { result ≡ Err OpenFault.Failed → HasRisen (D.faults disk.old) (D.faults disk.new) }
         ensures not_failed { IfOk result (λ ledger. ledger.failed ≡ false) }
-        ensures joins { IfOk result (λ ledger. WhereTold (D.seen disk.old) (λ file. StandsFor file ledger.joins)) }
+        ensures joins { IfOk result (λ ledger. WhereTold (D.seen disk.old) (λ file. Represents file ledger.joins)) }
         ensures refused { IfErr result (λ e. WhereTold (D.seen disk.old) (λ file. Refuses file e)) }
-        ensures stands { (joins : List Join) → WhereTold (D.seen disk.old) (λ file. StandsFor file joins → Opens result joins) }
+        ensures represents { (joins : List Join) → WhereTold (D.seen disk.old) (λ file. Represents file joins → Opens result joins) }
 
-        // Every image stands for the joins, now and at each moment of the call it is one of those from before.
-        ensures images { IfOk result (λ ledger. (image : List ℕ) → D.may_leave disk.new image → StandsFor image ledger.joins) }
+        // Every image represents the joins, now and at each moment of the call it is one of those from before.
+        ensures images { IfOk result (λ ledger. (image : List ℕ) → D.may_leave disk.new image → Represents image ledger.joins) }
         ensures kept { D.seen disk.new ≡ D.seen disk.old }
         ensures keeps { Keeps (D.may_leave disk.old) (D.may_leave disk.new) }
         ensures any_moment { LeavesOnly D.moment D.left_since disk.old disk.new (D.may_leave disk.old) }
@@ -178,7 +178,7 @@ impl Ledger {
     pub fn add<D: Disk>(&mut self, disk: &mut D, sid: Sid, role: Role) -> Result<(), AddJoinFault>
         requires role { role < 16 }
         requires working { self.old.failed ≡ false }
-        requires stands { (image : List ℕ) → D.may_leave disk.old image → StandsFor image self.old.joins }
+        requires represents { (image : List ℕ) → D.may_leave disk.old image → Represents image self.old.joins }
         ensures never_falls { D.faults disk.old ≤ D.faults disk.new }
         ensures kept_bound { D.bound disk.new ≡ D.bound disk.old }
         ensures twice { (result ≡ Err AddJoinFault.Twice) ↔ Contains self.old.joins (sid, role) }
@@ -188,9 +188,9 @@ impl Ledger {
         ensures broken { result ≡ Err AddJoinFault.Failed → self.new ≡ record { joins = self.old.joins; failed = true } }
         ensures same { IfErr result (λ e. e ≢ AddJoinFault.Failed → (self.new ≡ self.old) × (disk.new ≡ disk.old)) }
 
-        // From Ok on each image stands for the joins with the new one; at each moment of the call, for them with or without it.
-        ensures acknowledged { OnOk result ((image : List ℕ) → D.may_leave disk.new image → StandsFor image self.new.joins) }
-        ensures any_moment { LeavesOnly D.moment D.left_since disk.old disk.new (StandsForOneOf self.old.joins (sid, role)) }
+        // From Ok on each image represents the joins with the new one; at each moment of the call, for them with or without it.
+        ensures acknowledged { OnOk result ((image : List ℕ) → D.may_leave disk.new image → Represents image self.new.joins) }
+        ensures any_moment { LeavesOnly D.moment D.left_since disk.old disk.new (RepresentsOneOf self.old.joins (sid, role)) }
     {
         if has(&self.joins, &(sid, role)) {
             return Err(AddJoinFault::Twice);
@@ -277,12 +277,12 @@ fn write_join<D: Disk>(
     requires room { length joins.now.keys < most_joins }
     requires role { join.1 < 16 }
     requires absent { ¬ Contains joins.now.keys join }
-    requires stands { (image : List ℕ) → D.may_leave disk.old image → StandsFor image joins.now.keys }
+    requires represents { (image : List ℕ) → D.may_leave disk.old image → Represents image joins.now.keys }
     ensures never_falls { D.faults disk.old ≤ D.faults disk.new }
     ensures kept_bound { D.bound disk.new ≡ D.bound disk.old }
     ensures failed { OnErr result (HasRisen (D.faults disk.old) (D.faults disk.new)) }
-    ensures acknowledged { OnOk result ((image : List ℕ) → D.may_leave disk.new image → StandsFor image (joins.now.keys ++ join ∷ [])) }
-    ensures any_moment { LeavesOnly D.moment D.left_since disk.old disk.new (StandsForOneOf joins.now.keys join) }
+    ensures acknowledged { OnOk result ((image : List ℕ) → D.may_leave disk.new image → Represents image (joins.now.keys ++ join ∷ [])) }
+    ensures any_moment { LeavesOnly D.moment D.left_since disk.old disk.new (RepresentsOneOf joins.now.keys join) }
 {
     let gate = (HEAD + SLOT * joins.len()) as u32;
     write_through(disk, gate + 1, &pair_bytes(join))?;

@@ -1,8 +1,8 @@
-//! The slots of a ledger's file, and the joins that they stand for.
+//! The slots of a ledger's file, and the joins that they represent.
 ghost use Rattle.std.specs.Prelude.{◌≡◌, ◌≢◌, ◌⊎◌, ◌↔◌, ◌++◌, ◌<◌, ◌≤◌, [], ◌∷◌, ℕ, length, true, false, Contains, IfOk, IfErr, IsTrue, IsOk, OnErr, OnOk};
 ghost use Rattle.indexmap.specs.IndexSet.{spare};
 ghost use Rattle.sg_model.specs.Limits.{most_joins};
-ghost use Rattle.sg_ledger.specs.Format.{slot_of, IsOpen, pair_of, SlotsStandFor};
+ghost use Rattle.sg_ledger.specs.Format.{slot_of, IsOpen, pair_of, SlotsRepresent};
 ghost use Rattle.sg_ledger.specs.Opening.{RefusesSlots};
 
 use crate::OpenFault;
@@ -67,10 +67,10 @@ fn slot_bytes(file: &[u8], slot: usize) -> &[u8]
     &file[at..at + SLOT]
 }
 
-/// The joins that the slots of a file stand for, or the first slot that no ledger has.
+/// The joins that the slots of a file represent, or the first slot that no ledger has.
 pub(crate) fn read_slots(alloc: Global, file: &[u8]) -> Result<IndexSet<(Sid, Role)>, OpenFault>
     requires { length file.now ≡ 2228232 }
-    ensures joins { IfOk result (λ joins. SlotsStandFor file.now most_joins joins.keys) }
+    ensures joins { IfOk result (λ joins. SlotsRepresent file.now most_joins joins.keys) }
     ensures bad { IfErr result (λ e. RefusesSlots file.now e) }
 {
     let mut joins = IndexSet::new(alloc);

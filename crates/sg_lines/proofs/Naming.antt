@@ -11,17 +11,17 @@ use Rattle.std.proofs.lemmas.Slice.Eq.{bytes_eq-Decides}
 use Rattle.sg_model.specs.Lists.{has_text}
 use Rattle.sg_model.specs.Names.{Name}
 use Rattle.sg_model.proofs.Small.{bytes_refl}
-use Rattle.sg_lines.specs.Sessions.{firsts, Met, declared_sids, undeclared, all_sids, numbered, session_name, Naming, naming, with_declared, with_event}
+use Rattle.sg_lines.specs.Sessions.{firsts, KnownSessions, declared_sids, undeclared, all_sids, numbered, session_name, Naming, naming, with_declared, with_event}
 use Rattle.sg_lines.proofs.Firsts.{has_text-filter, has_text-filtered, has_text-firsts, firsts-new, firsts-again}
 
 -- ---- which sids there are
 
 -- the sid is not declared
-abbrev is_other : Met → List ℕ → Bool
+abbrev is_other : KnownSessions → List ℕ → Bool
 is_other m sid = not (has_text sid (declared_sids m))
 
 -- a sid is among those of all sessions where it is declared or met
-pub has_text-all_sids : (m : Met) (sid : List ℕ) → has_text sid (all_sids m) ≡ (has_text sid (declared_sids m) || has_text sid m.events)
+pub has_text-all_sids : (m : KnownSessions) (sid : List ℕ) → has_text sid (all_sids m) ≡ (has_text sid (declared_sids m) || has_text sid m.events)
 has_text-all_sids m sid =
     list_any-append (bytes_eq sid) (firsts (declared_sids m)) (undeclared m) ∙ ap (λ b. b || has_text sid (undeclared m)) (has_text-firsts sid (declared_sids m)) ∙ by (has_text sid (declared_sids m)) refl
   where
@@ -30,7 +30,7 @@ has_text-all_sids m sid =
     by false e = has_text-filter (is_other m) sid (ap not e) (firsts m.events) ∙ has_text-firsts sid m.events
 
 -- an event of such a session leaves those that are not declared
-undeclared-again : (m : Met) (sid : List ℕ) → has_text sid (all_sids m) ≡ true → undeclared (with_event m sid) ≡ undeclared m
+undeclared-again : (m : KnownSessions) (sid : List ℕ) → has_text sid (all_sids m) ≡ true → undeclared (with_event m sid) ≡ undeclared m
 undeclared-again m sid h = by (has_text sid m.events) refl
   where
     declared : (b : Bool) → has_text sid (declared_sids m) ≡ b → has_text sid m.events ≡ false → has_text sid (declared_sids m) ≡ true
@@ -44,41 +44,41 @@ undeclared-again m sid h = by (has_text sid m.events) refl
         ∙ ap (λ b. undeclared m ++ cond (not b) (sid ∷ []) []) (declared (has_text sid (declared_sids m)) refl e) ∙ append-nil (undeclared m)
 
 -- and one of another session puts its sid last
-undeclared-new : (m : Met) (sid : List ℕ) → has_text sid (all_sids m) ≡ false → undeclared (with_event m sid) ≡ undeclared m ++ sid ∷ []
+undeclared-new : (m : KnownSessions) (sid : List ℕ) → has_text sid (all_sids m) ≡ false → undeclared (with_event m sid) ≡ undeclared m ++ sid ∷ []
 undeclared-new m sid h =
     let miss = or_parts (has_text sid (declared_sids m)) (has_text sid m.events) (sym (has_text-all_sids m sid) ∙ h) in
     ap (filter (is_other m)) (firsts-new sid m.events miss.1) ∙ filter-append (is_other m) (firsts m.events) (sid ∷ [])
     ∙ ap (λ b. undeclared m ++ cond (not b) (sid ∷ []) []) miss.0
 
--- ---- places
+-- ---- indices
 
-place_found : (p : List ℕ → Bool) (xs : List (List ℕ)) → list_any p xs ≡ true → position_or_len p xs < length xs
-place_found p [] h = absurd (true≢false (sym h))
-place_found p (x ∷ xs) h = by (p x) refl (place_found p xs)
+index_found : (p : List ℕ → Bool) (xs : List (List ℕ)) → list_any p xs ≡ true → position_or_len p xs < length xs
+index_found p [] h = absurd (true≢false (sym h))
+index_found p (x ∷ xs) h = by (p x) refl (index_found p xs)
   where
     by : (b : Bool) → p x ≡ b → (list_any p xs ≡ true → position_or_len p xs < length xs) → cond (not b) (1 + position_or_len p xs) 0 < suc (length xs)
     by true e rest = omega arith
     by false e rest = let l : position_or_len p xs < length xs = rest (sym (ap (λ b. b || list_any p xs) e) ∙ h) in omega arith
 
-place_missed : (p : List ℕ → Bool) (xs : List (List ℕ)) → list_any p xs ≡ false → position_or_len p xs ≡ length xs
-place_missed p [] h = refl
-place_missed p (x ∷ xs) h = ap (λ b. cond (not b) (1 + position_or_len p xs) 0) (or_parts (p x) (list_any p xs) h).0 ∙ rest (place_missed p xs (or_parts (p x) (list_any p xs) h).1)
+index_missed : (p : List ℕ → Bool) (xs : List (List ℕ)) → list_any p xs ≡ false → position_or_len p xs ≡ length xs
+index_missed p [] h = refl
+index_missed p (x ∷ xs) h = ap (λ b. cond (not b) (1 + position_or_len p xs) 0) (or_parts (p x) (list_any p xs) h).0 ∙ rest (index_missed p xs (or_parts (p x) (list_any p xs) h).1)
   where
     rest : position_or_len p xs ≡ length xs → 1 + position_or_len p xs ≡ suc (length xs)
     rest e = omega arith
 
--- the place of one that is there stays
+-- the index of one that is there stays
 position-push_found : (p : List ℕ → Bool) (xs : List (List ℕ)) (y : List ℕ) → list_any p xs ≡ true → position p (xs ++ y ∷ []) ≡ position p xs
 position-push_found p xs y h =
-    let l : position_or_len p xs < length xs = place_found p xs h in
+    let l : position_or_len p xs < length xs = index_found p xs h in
     let same : position_or_len p (xs ++ y ∷ []) ≡ position_or_len p xs = position_or_len_push p xs y ∙ ap (λ b. cond b (length xs + cond (p y) 0 1) (position_or_len p xs)) (ne_eqb (position_or_len p xs) (length xs) (λ e. omega arith)) in
     let longer : position_or_len p xs < length (xs ++ y ∷ []) = omega (arith, length-append xs (y ∷ [])) in
     ap (λ n. cond (nat_lt n (length (xs ++ y ∷ []))) (Some n) None) same ∙ ap (λ b. cond b (Some (position_or_len p xs)) None) (lt-ltb (position_or_len p xs) (length (xs ++ y ∷ [])) longer ∙ sym (lt-ltb (position_or_len p xs) (length xs) l))
 
--- the place of a new one is behind the others
+-- the index of a new one is behind the others
 position-push_new : (p : List ℕ → Bool) (xs : List (List ℕ)) (y : List ℕ) → list_any p xs ≡ false → p y ≡ true → position p (xs ++ y ∷ []) ≡ Some (length xs)
 position-push_new p xs y h t =
-    let last : position_or_len p xs ≡ length xs = place_missed p xs h in
+    let last : position_or_len p xs ≡ length xs = index_missed p xs h in
     let at : position_or_len p (xs ++ y ∷ []) ≡ length xs =
     position_or_len_push p xs y ∙ ap (λ b. cond b (length xs + cond (p y) 0 1) (position_or_len p xs)) (eq-eqb (position_or_len p xs) (length xs) last) ∙ ap (λ b. length xs + cond b 0 1) t ∙ omega arith in
     let longer : length xs < length (xs ++ y ∷ []) = omega (arith, length-append xs (y ∷ [])) in
@@ -104,7 +104,7 @@ abbrev called : Option (Name × List ℕ) → Name → Name
 called found other = option_map_or (λ (d : Name × List ℕ). d.0) found other
 
 -- the declared sessions with a sid
-abbrev found_in : Met → List ℕ → Option (Name × List ℕ)
+abbrev found_in : KnownSessions → List ℕ → Option (Name × List ℕ)
 found_in m sid = find (λ (d : Name × List ℕ). bytes_eq d.1 sid) m.declared
 
 found_name : (found : Option (Name × List ℕ)) (a b : Name) → is_some found ≡ true → called found a ≡ called found b
@@ -116,22 +116,22 @@ missed_name None a h = refl
 missed_name (Some d) a h = absurd (true≢false h)
 
 -- an event leaves the names of sids that are there
-name-kept : (letter : ℕ) (m : Met) (new sid : List ℕ) → has_text sid (all_sids m) ≡ true → session_name letter (with_event m new) sid ≡ session_name letter m sid
+name-kept : (letter : ℕ) (m : KnownSessions) (new sid : List ℕ) → has_text sid (all_sids m) ≡ true → session_name letter (with_event m new) sid ≡ session_name letter m sid
 name-kept letter m new sid h = by (has_text sid (declared_sids m)) refl
   where
-    place : (b : Bool) → has_text new (all_sids m) ≡ b → has_text sid (undeclared m) ≡ true → position (bytes_eq sid) (undeclared (with_event m new)) ≡ position (bytes_eq sid) (undeclared m)
-    place true e there = ap (position (bytes_eq sid)) (undeclared-again m new e)
-    place false e there = ap (position (bytes_eq sid)) (undeclared-new m new e) ∙ position-push_found (bytes_eq sid) (undeclared m) new there
+    index : (b : Bool) → has_text new (all_sids m) ≡ b → has_text sid (undeclared m) ≡ true → position (bytes_eq sid) (undeclared (with_event m new)) ≡ position (bytes_eq sid) (undeclared m)
+    index true e there = ap (position (bytes_eq sid)) (undeclared-again m new e)
+    index false e there = ap (position (bytes_eq sid)) (undeclared-new m new e) ∙ position-push_found (bytes_eq sid) (undeclared m) new there
 
     by : (b : Bool) → has_text sid (declared_sids m) ≡ b → session_name letter (with_event m new) sid ≡ session_name letter m sid
     by true e = found_name (found_in m sid) _ _ (find_declared sid m.declared ∙ e)
     by false e =
         let there : has_text sid (undeclared m) ≡ true =
         sym (list_any-append (bytes_eq sid) (firsts (declared_sids m)) (undeclared m) ∙ ap (λ b. b || has_text sid (undeclared m)) (has_text-firsts sid (declared_sids m) ∙ e)) ∙ h in
-        ap (λ o. called (found_in m sid) (option_map_or (λ n. numbered letter (n + 1)) o [])) (place (has_text new (all_sids m)) refl there)
+        ap (λ o. called (found_in m sid) (option_map_or (λ n. numbered letter (n + 1)) o [])) (index (has_text new (all_sids m)) refl there)
 
 -- the name of a sid that is not declared and met first
-name-new : (letter : ℕ) (m : Met) (sid : List ℕ) → has_text sid (all_sids m) ≡ false → session_name letter (with_event m sid) sid ≡ numbered letter (length (undeclared m) + 1)
+name-new : (letter : ℕ) (m : KnownSessions) (sid : List ℕ) → has_text sid (all_sids m) ≡ false → session_name letter (with_event m sid) sid ≡ numbered letter (length (undeclared m) + 1)
 name-new letter m sid h =
     let miss = or_parts (has_text sid (declared_sids m)) (has_text sid m.events) (sym (has_text-all_sids m sid) ∙ h) in
     missed_name (found_in m sid) _ (find_declared sid m.declared ∙ miss.0)
@@ -164,7 +164,7 @@ abbrev pub with_name : Naming → List ℕ → Name → Naming
 with_name t sid name = record t { names = t.names ++ (sid, name) ∷ [] }
 
 -- an event of a session that is there leaves the table
-pub naming-met_again : (letter : ℕ) (m : Met) (sid : List ℕ) → has_text sid (all_sids m) ≡ true → naming letter (with_event m sid) ≡ naming letter m
+pub naming-met_again : (letter : ℕ) (m : KnownSessions) (sid : List ℕ) → has_text sid (all_sids m) ≡ true → naming letter (with_event m sid) ≡ naming letter m
 naming-met_again letter m sid h =
     let sids : all_sids (with_event m sid) ≡ all_sids m = ap (λ us. firsts (declared_sids m) ++ us) (undeclared-again m sid h) in
     let names : (naming letter (with_event m sid)).names ≡ (naming letter m).names =
@@ -172,7 +172,7 @@ naming-met_again letter m sid h =
     λ i. record { letter = letter; declared = length (firsts (declared_sids m)); names = names i }
 
 -- and one of another session puts it last
-pub naming-met_new : (letter : ℕ) (m : Met) (sid : List ℕ) → has_text sid (all_sids m) ≡ false → naming letter (with_event m sid) ≡ with_name (naming letter m) sid (numbered letter (length (undeclared m) + 1))
+pub naming-met_new : (letter : ℕ) (m : KnownSessions) (sid : List ℕ) → has_text sid (all_sids m) ≡ false → naming letter (with_event m sid) ≡ with_name (naming letter m) sid (numbered letter (length (undeclared m) + 1))
 naming-met_new letter m sid h =
     let sids : all_sids (with_event m sid) ≡ all_sids m ++ sid ∷ [] =
     ap (λ us. firsts (declared_sids m) ++ us) (undeclared-new m sid h) ∙ sym (append_assoc (firsts (declared_sids m)) (undeclared m) (sid ∷ [])) in
@@ -181,20 +181,20 @@ naming-met_new letter m sid h =
     λ i. record { letter = letter; declared = length (firsts (declared_sids m)); names = names i }
 
 -- how many are not declared
-pub length-undeclared : (letter : ℕ) (m : Met) → length (naming letter m).names ≡ (naming letter m).declared + length (undeclared m)
+pub length-undeclared : (letter : ℕ) (m : KnownSessions) → length (naming letter m).names ≡ (naming letter m).declared + length (undeclared m)
 length-undeclared letter m = length-map (all_sids m) (paired (session_name letter m)) ∙ length-append (firsts (declared_sids m)) (undeclared m)
 
 -- ---- declarations, before any event
 
 -- without events none is undeclared
-pub undeclared-none : (m : Met) → m.events ≡ [] → undeclared m ≡ []
+pub undeclared-none : (m : KnownSessions) → m.events ≡ [] → undeclared m ≡ []
 undeclared-none m e = ap (λ es. filter (is_other m) (firsts es)) e
 
 -- so the sids are the declared ones
-all_sids-declared : (m : Met) → m.events ≡ [] → all_sids m ≡ firsts (declared_sids m)
+all_sids-declared : (m : KnownSessions) → m.events ≡ [] → all_sids m ≡ firsts (declared_sids m)
 all_sids-declared m e = ap (λ us. firsts (declared_sids m) ++ us) (undeclared-none m e) ∙ append-nil (firsts (declared_sids m))
 
-declared_sids-more : (m : Met) (name : Name) (sid : List ℕ) → declared_sids (with_declared m name sid) ≡ declared_sids m ++ sid ∷ []
+declared_sids-more : (m : KnownSessions) (name : Name) (sid : List ℕ) → declared_sids (with_declared m name sid) ≡ declared_sids m ++ sid ∷ []
 declared_sids-more m name sid = map-append (λ (d : Name × List ℕ). d.1) m.declared ((name, sid) ∷ [])
 
 found_first : (one two : Option (Name × List ℕ)) (a b : Name) → is_some one ≡ true → called (option_or one two) a ≡ called one b
@@ -206,25 +206,25 @@ found_second None d a h = refl
 found_second (Some x) d a h = absurd (true≢false h)
 
 -- a declaration leaves the names of sids that are there
-name-declared : (letter : ℕ) (m : Met) (name : Name) (new sid : List ℕ) → has_text sid (declared_sids m) ≡ true → session_name letter (with_declared m name new) sid ≡ session_name letter m sid
+name-declared : (letter : ℕ) (m : KnownSessions) (name : Name) (new sid : List ℕ) → has_text sid (declared_sids m) ≡ true → session_name letter (with_declared m name new) sid ≡ session_name letter m sid
 name-declared letter m name new sid h =
     let other : Name = option_map_or (λ n. numbered letter (n + 1)) (position (bytes_eq sid) (undeclared (with_declared m name new))) [] in
     ap (λ o. called o other) (find-append (λ (d : Name × List ℕ). bytes_eq d.1 sid) m.declared ((name, new) ∷ []))
     ∙ found_first (found_in m sid) _ other (option_map_or (λ n. numbered letter (n + 1)) (position (bytes_eq sid) (undeclared m)) []) (find_declared sid m.declared ∙ h)
 
 -- and names its own
-name-of_declared : (letter : ℕ) (m : Met) (name : Name) (sid : List ℕ) → has_text sid (declared_sids m) ≡ false → session_name letter (with_declared m name sid) sid ≡ name
+name-of_declared : (letter : ℕ) (m : KnownSessions) (name : Name) (sid : List ℕ) → has_text sid (declared_sids m) ≡ false → session_name letter (with_declared m name sid) sid ≡ name
 name-of_declared letter m name sid h =
     let other : Name = option_map_or (λ n. numbered letter (n + 1)) (position (bytes_eq sid) (undeclared (with_declared m name sid))) [] in
     ap (λ o. called o other) (find-append (λ (d : Name × List ℕ). bytes_eq d.1 sid) m.declared ((name, sid) ∷ []))
     ∙ ap (λ b. called (option_or (found_in m sid) (cond b (Some (name, sid)) None)) other) (bytes_refl sid)
     ∙ found_second (found_in m sid) (name, sid) other (find_declared sid m.declared ∙ h)
 
-declared_there : (m : Met) (sid : List ℕ) (b : Bool) → m.events ≡ [] → has_text sid (all_sids m) ≡ b → has_text sid (declared_sids m) ≡ b
+declared_there : (m : KnownSessions) (sid : List ℕ) (b : Bool) → m.events ≡ [] → has_text sid (all_sids m) ≡ b → has_text sid (declared_sids m) ≡ b
 declared_there m sid b e h = sym (ap (has_text sid) (all_sids-declared m e) ∙ has_text-firsts sid (declared_sids m)) ∙ h
 
 -- a declaration of a sid that is there leaves the table
-pub naming-declared_again : (letter : ℕ) (m : Met) (name : Name) (sid : List ℕ) → m.events ≡ [] → has_text sid (all_sids m) ≡ true → naming letter (with_declared m name sid) ≡ naming letter m
+pub naming-declared_again : (letter : ℕ) (m : KnownSessions) (name : Name) (sid : List ℕ) → m.events ≡ [] → has_text sid (all_sids m) ≡ true → naming letter (with_declared m name sid) ≡ naming letter m
 naming-declared_again letter m name sid e h =
     let there : has_text sid (declared_sids m) ≡ true = declared_there m sid true e h in
     let firsts_are : firsts (declared_sids (with_declared m name sid)) ≡ firsts (declared_sids m) = ap firsts (declared_sids-more m name sid) ∙ firsts-again sid (declared_sids m) there in
@@ -235,7 +235,7 @@ naming-declared_again letter m name sid e h =
     λ i. record { letter = letter; declared = length (firsts_are i); names = names i }
 
 -- and one of another puts it last
-pub naming-declared_new : (letter : ℕ) (m : Met) (name : Name) (sid : List ℕ) → m.events ≡ [] → has_text sid (all_sids m) ≡ false
+pub naming-declared_new : (letter : ℕ) (m : KnownSessions) (name : Name) (sid : List ℕ) → m.events ≡ [] → has_text sid (all_sids m) ≡ false
     → naming letter (with_declared m name sid) ≡ record { letter = letter; declared = (naming letter m).declared + 1; names = (naming letter m).names ++ (sid, name) ∷ [] }
 naming-declared_new letter m name sid e h =
     let miss : has_text sid (declared_sids m) ≡ false = declared_there m sid false e h in
@@ -249,12 +249,12 @@ naming-declared_new letter m name sid e h =
 
 -- ---- no such session
 
-place_none : (p : List ℕ → Bool) (xs : List (List ℕ)) → list_any p xs ≡ false → position p xs ≡ None
-place_none p xs h = ap (λ n. cond (nat_lt n (length xs)) (Some n) None) (place_missed p xs h) ∙ ap (λ b. cond b (Some (length xs)) None) (le-ltb (length xs) (length xs) (omega arith))
+index_none : (p : List ℕ → Bool) (xs : List (List ℕ)) → list_any p xs ≡ false → position p xs ≡ None
+index_none p xs h = ap (λ n. cond (nat_lt n (length xs)) (Some n) None) (index_missed p xs h) ∙ ap (λ b. cond b (Some (length xs)) None) (le-ltb (length xs) (length xs) (omega arith))
 
 -- a session that is not there has no name
-pub session_name-none : (letter : ℕ) (m : Met) (sid : List ℕ) → has_text sid (all_sids m) ≡ false → session_name letter m sid ≡ []
+pub session_name-none : (letter : ℕ) (m : KnownSessions) (sid : List ℕ) → has_text sid (all_sids m) ≡ false → session_name letter m sid ≡ []
 session_name-none letter m sid h =
     let miss = or_parts (has_text sid (declared_sids m)) (has_text sid m.events) (sym (has_text-all_sids m sid) ∙ h) in
     missed_name (found_in m sid) _ (find_declared sid m.declared ∙ miss.0)
-    ∙ ap (λ o. option_map_or (λ n. numbered letter (n + 1)) o []) (place_none (bytes_eq sid) (undeclared m) (has_text-filtered (is_other m) sid (firsts m.events) (has_text-firsts sid m.events ∙ miss.1)))
+    ∙ ap (λ o. option_map_or (λ n. numbered letter (n + 1)) o []) (index_none (bytes_eq sid) (undeclared m) (has_text-filtered (is_other m) sid (firsts m.events) (has_text-firsts sid m.events ∙ miss.1)))

@@ -4,17 +4,17 @@ use Rattle.std.specs.Map.{keys_of, lookup}
 use Rattle.std.specs.Prelude.{MatchOption}
 use Rattle.sg_model.specs.Lists.{has_text}
 use Rattle.sg_model.specs.Names.{Name}
-use Rattle.sg_lines.specs.Sessions.{Met, all_sids, undeclared, numbered, session_name, Naming, naming, with_declared, with_event}
+use Rattle.sg_lines.specs.Sessions.{KnownSessions, all_sids, undeclared, numbered, session_name, Naming, naming, with_declared, with_event}
 use Rattle.sg_lines.proofs.SameSid.{Entry, same, keys_of-map, lookup-map}
 use Rattle.sg_lines.proofs.Naming.{naming-declared_new, naming-met_new, length-undeclared, undeclared-none, session_name-none}
 
 -- whether the table has a sid says whether there is such a session
-pub asked : (letter : ℕ) (m : Met) (sid : List ℕ) (es : List Entry) (r b : Bool) → es ≡ (naming letter m).names → r ≡ has_text sid (keys_of es) → r ≡ b → has_text sid (all_sids m) ≡ b
+pub asked : (letter : ℕ) (m : KnownSessions) (sid : List ℕ) (es : List Entry) (r b : Bool) → es ≡ (naming letter m).names → r ≡ has_text sid (keys_of es) → r ≡ b → has_text sid (all_sids m) ≡ b
 asked letter m sid es r b same is at =
     ap (has_text sid) (sym (keys_of-map (session_name letter m) (all_sids m)) ∙ sym (ap keys_of same)) ∙ sym is ∙ at
 
 -- a new session that is declared
-pub declared_more : (letter : ℕ) (m : Met) (name : Name) (sid : List ℕ) (l count : ℕ) (old new : List Entry) → m.events ≡ [] → l ≡ letter → old ≡ (naming letter m).names → has_text sid (all_sids m) ≡ false
+pub declared_more : (letter : ℕ) (m : KnownSessions) (name : Name) (sid : List ℕ) (l count : ℕ) (old new : List Entry) → m.events ≡ [] → l ≡ letter → old ≡ (naming letter m).names → has_text sid (all_sids m) ≡ false
     → new ≡ old ++ (sid, name) ∷ [] → count ≡ length new → (let t : Naming = record { letter = l; declared = count; names = new } in t ≡ naming letter (with_declared m name sid))
 declared_more letter m name sid l count old new none is same miss more counted =
     let names : new ≡ (naming letter m).names ++ (sid, name) ∷ [] = more ∙ ap (λ es. es ++ (sid, name) ∷ []) same in
@@ -23,7 +23,7 @@ declared_more letter m name sid l count old new none is same miss more counted =
     (λ i. record { letter = is i; declared = number i; names = names i }) ∙ sym (naming-declared_new letter m name sid none miss)
 
 -- a new session that is met
-pub met_more : (letter : ℕ) (m : Met) (sid : List ℕ) (name : Name) (l d n : ℕ) (old new : List Entry) → l ≡ letter → d ≡ (naming letter m).declared → old ≡ (naming letter m).names → has_text sid (all_sids m) ≡ false
+pub met_more : (letter : ℕ) (m : KnownSessions) (sid : List ℕ) (name : Name) (l d n : ℕ) (old new : List Entry) → l ≡ letter → d ≡ (naming letter m).declared → old ≡ (naming letter m).names → has_text sid (all_sids m) ≡ false
     → name ≡ numbered l n → n ≡ length old - d + 1 → new ≡ old ++ (sid, name) ∷ [] → (let t : Naming = record { letter = l; declared = d; names = new } in t ≡ naming letter (with_event m sid))
 met_more letter m sid name l d n old new is counted same miss named number more =
     let others : n ≡ length (undeclared m) + 1 = number ∙ ap (λ k. k - d + 1) (ap length same ∙ length-undeclared letter m) ∙ ap (λ k. (naming letter m).declared + length (undeclared m) - k + 1) counted ∙ omega arith in
@@ -32,7 +32,7 @@ met_more letter m sid name l d n old new is counted same miss named number more 
     (λ i. record { letter = is i; declared = counted i; names = names i }) ∙ sym (naming-met_new letter m sid miss)
 
 -- what the table finds for a sid
-pub name_found : (letter : ℕ) (m : Met) (sid : List ℕ) (r : Option Name) → r ≡ lookup (same sid) (naming letter m).names
+pub name_found : (letter : ℕ) (m : KnownSessions) (sid : List ℕ) (r : Option Name) → r ≡ lookup (same sid) (naming letter m).names
     → MatchOption r ((has_text sid (all_sids m) ≡ false) × (session_name letter m sid ≡ [])) (λ n. (has_text sid (all_sids m) ≡ true) × (n ≡ session_name letter m sid))
 name_found letter m sid r is = by (has_text sid (all_sids m)) refl r (is ∙ lookup-map (session_name letter m) sid (all_sids m))
   where

@@ -11,24 +11,24 @@ firsts [] = []
 firsts (t ∷ ts) = t ∷ filter (λ s. not (bytes_eq s t)) (firsts ts)
 
 -- the declared sessions by name and sid, and the sids of the events in their order
-pub record Met : Type 0 where
+pub record KnownSessions : Type 0 where
   pub declared : List (Name × List ℕ)
   pub events : List (List ℕ)
 
 -- the sids of the declared sessions
-abbrev pub declared_sids : Met → List (List ℕ)
+abbrev pub declared_sids : KnownSessions → List (List ℕ)
 declared_sids m = map (λ (d : Name × List ℕ). d.1) m.declared
 
 -- the sids that are not declared, in the order of their first events
-abbrev pub undeclared : Met → List (List ℕ)
+abbrev pub undeclared : KnownSessions → List (List ℕ)
 undeclared m = filter (λ sid. not (has_text sid (declared_sids m))) (firsts m.events)
 
 -- the sids of all sessions: the declared ones in order, then the others
-abbrev pub all_sids : Met → List (List ℕ)
+abbrev pub all_sids : KnownSessions → List (List ℕ)
 all_sids m = firsts (declared_sids m) ++ undeclared m
 
 -- the sids of the sessions with an event, in this order
-abbrev pub sids_met : Met → List (List ℕ)
+abbrev pub sids_met : KnownSessions → List (List ℕ)
 sids_met m = filter (λ sid. has_text sid m.events) (all_sids m)
 
 -- a letter and a number
@@ -36,7 +36,7 @@ abbrev pub numbered : ℕ → ℕ → Name
 numbered letter n = letter ∷ decimal n
 
 -- the first declared name of a session, or a letter and its number among the others, counted from 1. Nothing where there is no such session
-abbrev pub session_name : (letter : ℕ) → Met → List ℕ → Name
+abbrev pub session_name : (letter : ℕ) → KnownSessions → List ℕ → Name
 session_name letter m sid = option_map_or (λ (d : Name × List ℕ). d.0) (find (λ (d : Name × List ℕ). bytes_eq d.1 sid) m.declared)
     (option_map_or (λ n. numbered letter (n + 1)) (position (bytes_eq sid) (undeclared m)) [])
 
@@ -49,12 +49,12 @@ pub record Naming : Type 0 where
   pub names : List (List ℕ × Name)
 
 -- the table of all sids
-abbrev pub naming : (letter : ℕ) → Met → Naming
+abbrev pub naming : (letter : ℕ) → KnownSessions → Naming
 naming letter m = record { letter = letter; declared = length (firsts (declared_sids m)); names = map (λ sid. (sid, session_name letter m sid)) (all_sids m) }
 
 -- the sessions with one more declared, or one more event
-abbrev pub with_declared : Met → Name → List ℕ → Met
+abbrev pub with_declared : KnownSessions → Name → List ℕ → KnownSessions
 with_declared m name sid = record m { declared = m.declared ++ (name, sid) ∷ [] }
 
-abbrev pub with_event : Met → List ℕ → Met
+abbrev pub with_event : KnownSessions → List ℕ → KnownSessions
 with_event m sid = record m { events = m.events ++ sid ∷ [] }

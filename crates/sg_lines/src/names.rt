@@ -3,7 +3,7 @@ ghost use Rattle.std.specs.Prelude.{◌≡◌, ℕ, ◌<◌, ◌++◌, ◌∷◌
 ghost use Rattle.std.specs.Map.{keys_of};
 ghost use Rattle.sg_model.specs.Lists.{has_text};
 ghost use Rattle.sg_model.specs.Names.{is_letter};
-ghost use Rattle.sg_lines.specs.Sessions.{Met, all_sids, naming, numbered, session_name, with_declared, with_event};
+ghost use Rattle.sg_lines.specs.Sessions.{KnownSessions, all_sids, naming, numbered, session_name, with_declared, with_event};
 
 use indexmap::IndexMap;
 use sg_base::{ByteOut, Name, OutOfMemory, Sid};
@@ -46,7 +46,7 @@ impl SessionNames {
 
     /// Declares a session, before any event. If memory runs out, the names are as before.
     pub fn declare(&mut self, name: Name, sid: Sid) -> Result<(), OutOfMemory>
-        ensures ok { (letter : ℕ) (m : Met) → m.events ≡ [] → self.old ≡ naming letter m → OnOk result (self.new ≡ naming letter (with_declared m name sid)) }
+        ensures ok { (letter : ℕ) (m : KnownSessions) → m.events ≡ [] → self.old ≡ naming letter m → OnOk result (self.new ≡ naming letter (with_declared m name sid)) }
         ensures err { OnErr result (self.new ≡ self.old) }
     {
         if has_sid(&self.names, &sid) {
@@ -59,7 +59,7 @@ impl SessionNames {
 
     /// Meets an event of a session. If memory runs out, the names are as before.
     pub fn meet(&mut self, alloc: Global, sid: Sid) -> Result<(), OutOfMemory>
-        ensures ok { (letter : ℕ) (m : Met) → self.old ≡ naming letter m → OnOk result (self.new ≡ naming letter (with_event m sid)) }
+        ensures ok { (letter : ℕ) (m : KnownSessions) → self.old ≡ naming letter m → OnOk result (self.new ≡ naming letter (with_event m sid)) }
         ensures err { OnErr result (self.new ≡ self.old) }
     {
         if has_sid(&self.names, &sid) {
@@ -73,7 +73,7 @@ impl SessionNames {
 
     /// The name of a session that is declared or has an event, or `None` for another one. It takes no memory.
     pub fn name_of(&self, sid: &Sid) -> Option<Name>
-        ensures { (letter : ℕ) (m : Met) → self.now ≡ naming letter m → MatchOption result
+        ensures { (letter : ℕ) (m : KnownSessions) → self.now ≡ naming letter m → MatchOption result
             ((has_text sid.now (all_sids m) ≡ false) × (session_name letter m sid.now ≡ []))
             (λ n. (has_text sid.now (all_sids m) ≡ true) × (n ≡ session_name letter m sid.now)) }
     {
@@ -87,11 +87,11 @@ impl SessionNames {
         self.names.len()
     }
 
-    /// The sid of the session at a place, and its name: the declared ones in order, then the others. It takes no memory.
-    pub fn at(&self, place: usize) -> Option<(Sid, Name)>
-        ensures { result ≡ slice_get self.now.names place }
+    /// The sid of the session at an index, and its name: the declared ones in order, then the others. It takes no memory.
+    pub fn at(&self, index: usize) -> Option<(Sid, Name)>
+        ensures { result ≡ slice_get self.now.names index }
     {
-        match self.names.get_index(place) {
+        match self.names.get_index(index) {
             Some((sid, name)) => Some((*sid, *name)),
             None => None,
         }

@@ -67,7 +67,7 @@ Sublist-last_of key (x ∷ xs) =
 
 -- a key that occurs has a last element
 last_at : {A : Type 0} (key : A → ℕ) (k : ℕ) (xs : List A) → has key k xs ≡ true
-    → (s : A) × (front rest kept kept' : List A) × (key s ≡ k) × (xs ≡ front ++ s ∷ rest) × (last_of key xs ≡ kept ++ s ∷ kept')
+    → (s : A) × (prefix rest kept kept' : List A) × (key s ≡ k) × (xs ≡ prefix ++ s ∷ rest) × (last_of key xs ≡ kept ++ s ∷ kept')
 last_at key k [] is = absurd (cc)
 last_at {A = A} key k (x ∷ xs) is =
     elim (cases_Bool (has key k xs)) [
@@ -76,7 +76,7 @@ last_at {A = A} key k (x ∷ xs) is =
     ]
   where
     Found : List A → Type 0
-    Found zs = (s : A) × (front rest kept kept' : List A) × (key s ≡ k) × (zs ≡ front ++ s ∷ rest) × (last_of key zs ≡ kept ++ s ∷ kept')
+    Found zs = (s : A) × (prefix rest kept kept' : List A) × (key s ≡ k) × (zs ≡ prefix ++ s ∷ rest) × (last_of key zs ≡ kept ++ s ∷ kept')
 
     here : key x ≡ k → has key k xs ≡ false → Found (x ∷ xs)
     here same l = (x, [], xs, [], last_of key xs, same, refl, last_of-keep key x xs (ap (λ n. has key n xs) same ∙ l))
@@ -91,12 +91,12 @@ last_at {A = A} key k (x ∷ xs) is =
 pub covered : {A : Type 0} (key : A → ℕ) (before : List A) (x : A) (after : List A) → Covered key before x after
 covered key [] x after =
     let c = last_at key (key x) (x ∷ after) (or_left (key x == key x) (has key (key x) after) (eqb_same (key x))) in
-    record { by = c.0; front = c.1; rest = c.2; kept = c.3; kept' = c.4; same = c.5; there = c.6; named = c.7 }
+    record { by = c.0; prefix = c.1; rest = c.2; kept = c.3; kept' = c.4; same = c.5; there = c.6; named = c.7 }
 covered {A = A} key (y ∷ ys) x after = further (covered key ys x after)
   where
     further : Covered key ys x after → Covered key (y ∷ ys) x after
     further c =
         elim (cases_Bool (has key (key y) (ys ++ x ∷ after))) [
-          | inl d ↦ record { by = c.by; front = c.front; rest = c.rest; kept = c.kept; kept' = c.kept'; same = c.same; there = c.there; named = last_of-drop key y (ys ++ x ∷ after) d ∙ c.named }
-          | inr d ↦ record { by = c.by; front = c.front; rest = c.rest; kept = y ∷ c.kept; kept' = c.kept'; same = c.same; there = c.there; named = last_of-keep key y (ys ++ x ∷ after) d ∙ ap (λ z. y ∷ z) c.named }
+          | inl d ↦ record { by = c.by; prefix = c.prefix; rest = c.rest; kept = c.kept; kept' = c.kept'; same = c.same; there = c.there; named = last_of-drop key y (ys ++ x ∷ after) d ∙ c.named }
+          | inr d ↦ record { by = c.by; prefix = c.prefix; rest = c.rest; kept = y ∷ c.kept; kept' = c.kept'; same = c.same; there = c.there; named = last_of-keep key y (ys ++ x ∷ after) d ∙ ap (λ z. y ∷ z) c.named }
         ]

@@ -28,16 +28,16 @@ module _ (c : Claim) where
   -- a label of `earlier` with none of `since` after it sets the bit
   pub bit_from : (bit : Bool) (ls : List ℕ) → StandsSince c.earlier c.since ls → bit_after_all c bit ls ≡ true
   bit_from bit ls s =
-      ap (bit_after_all c bit) s.there ∙ bit-append bit s.front (s.label ∷ s.rest)
-      ∙ ap (λ (b : Bool). bit_after_all c (b || (bit_after_all c bit s.front && not (is_in s.label c.since))) s.rest) s.is_earlier ∙ bit_stays s.rest s.none_since
+      ap (bit_after_all c bit) s.there ∙ bit-append bit s.prefix (s.label ∷ s.rest)
+      ∙ ap (λ (b : Bool). bit_after_all c (b || (bit_after_all c bit s.prefix && not (is_in s.label c.since))) s.rest) s.is_earlier ∙ bit_stays s.rest s.none_since
 
   -- the bit is set by such a label, or was set before
   bit_or : (bit : Bool) (ls : List ℕ) → bit_after_all c bit ls ≡ true → StandsSince c.earlier c.since ls ⊎ ((bit ≡ true) × (list_any (λ l. is_in l c.since) ls ≡ false))
   bit_or bit [] e = inr (e, refl)
   bit_or bit (l ∷ ls) e = elim (bit_or (bit_after c bit l) ls e) [
-    | inl s ↦ inl record { front = l ∷ s.front; label = s.label; rest = s.rest; there = ap (λ z. l ∷ z) s.there; is_earlier = s.is_earlier; none_since = s.none_since }
+    | inl s ↦ inl record { prefix = l ∷ s.prefix; label = s.label; rest = s.rest; there = ap (λ z. l ∷ z) s.there; is_earlier = s.is_earlier; none_since = s.none_since }
     | inr p ↦ elim (cases_Bool (is_in l c.earlier)) [
-      | inl y ↦ inl record { front = []; label = l; rest = ls; there = refl; is_earlier = y; none_since = p.1 }
+      | inl y ↦ inl record { prefix = []; label = l; rest = ls; there = refl; is_earlier = y; none_since = p.1 }
       | inr n ↦ (let q = and_parts bit (not (is_in l c.since)) (sym (ap (λ (b : Bool). b || (bit && not (is_in l c.since))) n) ∙ p.0) in inr (q.0, none (is_in l c.since) (list_any (λ l. is_in l c.since) ls) q.1 p.1))
     ]
   ]

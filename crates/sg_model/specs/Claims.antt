@@ -18,10 +18,10 @@ pub record Claim : Type 0 where
 
 -- among the labels stands one of `earlier`, and none of `since` after it
 pub record StandsSince (earlier since labels : List ℕ) : Type 0 where
-  pub front : List ℕ
+  pub prefix : List ℕ
   pub label : ℕ
   pub rest : List ℕ
-  pub there : labels ≡ front ++ label ∷ rest
+  pub there : labels ≡ prefix ++ label ∷ rest
   pub is_earlier : IsTrue (is_in label earlier)
   pub none_since : list_any (λ l. is_in l since) rest ≡ false
 

@@ -11,16 +11,16 @@ use Rattle.sg_protocol.specs.Calls.{Happened, NotDelivered, UnknownSession, NotW
 use Rattle.sg_protocol.specs.Frame.{Cast, Frame}
 use Rattle.sg_protocol.specs.Keyring.{Keyring, Program}
 use Rattle.sg_protocol.specs.Node.{Node, session_for}
-use Rattle.sg_protocol.specs.NodeStates.{StandsForNode, StandsIf, is_held_for, unless_spent, still_held, with_live, with_join, joined_by, state_taking}
+use Rattle.sg_protocol.specs.NodeStates.{RepresentsNode, RepresentsIf, is_held_for, unless_spent, still_held, with_live, with_join, joined_by, state_taking}
 use Rattle.sg_protocol.specs.Notes.{Notes, no_notes, row_number, notes_in_session, notes_of_read}
 use Rattle.sg_protocol.specs.Session.{Session, Took}
 use Rattle.sg_protocol.specs.Spelling.{HasSpelling}
-use Rattle.sg_protocol.specs.Standing.{StandsBefore, held_after}
-use Rattle.sg_protocol.specs.Backed.{IsBackedAtTurn, IsBackedWaiting}
+use Rattle.sg_protocol.specs.Representation.{RepresentsBefore, held_after}
+use Rattle.sg_protocol.specs.Reachable.{IsReachableAtTurn, IsReachableWaiting}
 use Rattle.sg_protocol.specs.Texts.{real}
 use Rattle.sg_protocol.specs.Verdict.{rows, rows_of_session, receipt, decided, verdict_on}
-use Rattle.sg_protocol.proofs.Backed.{states_are_backed}
-use Rattle.sg_protocol.proofs.NodeStates.{node_states_stand}
+use Rattle.sg_protocol.proofs.Reachable.{states_are_reachable}
+use Rattle.sg_protocol.proofs.NodeStates.{node_states_represent}
 use Rattle.sg_protocol.proofs.RealHash.{real_hash}
 use Rattle.sg_role.specs.Accepting.{Acceptance, state_after}
 use Rattle.sg_role.specs.Faults.{Refuses}
@@ -31,10 +31,10 @@ use Rattle.sg_node.specs.Answers.{IsAnswer}
 use Rattle.sg_node.specs.declared.node.Node.TheInside.{Inside}
 use Rattle.sg_node.specs.declared.sessions.Live.TheVariants.{AtTurn, Waiting}
 use Rattle.sg_node.specs.Faults.{of_role, refusal}
-use Rattle.sg_node.specs.Slots.{Slot, state_in, held_at, held_in, is_for, first_place, left_after}
+use Rattle.sg_node.specs.Slots.{Slot, state_in, held_at, held_in, is_for, first_index, left_after}
 use Rattle.sg_node.specs.Invariant.{IsSlot, HoldsNode, node_state}
-use Rattle.sg_node.proofs.Places.{live_at, Tests, First, held_first}
-use Rattle.sg_node.proofs.Found.{Its, AtPlace, none_here, place, replaced, its_program, its_passes, session_here}
+use Rattle.sg_node.proofs.Indices.{live_at, Tests, First, held_first}
+use Rattle.sg_node.proofs.Found.{Its, AtIndex, none_here, its_slot, replaced, its_program, its_passes, session_here}
 use Rattle.sg_node.proofs.Receipts.{role_refused, early, no_text, no_session, not_waiting, next_rows_waiting, next_notes, unless_left, left_live}
 
 turned : (v a b : Bool) → (v && a && b) ≡ (a && b && v)
@@ -57,7 +57,7 @@ module _ (f : Frame) (ps : List Program) (js : List (List ℕ × ℕ)) where
 
 -- an acceptance of a frame by a role that kept this
 pub record AcceptedBy (keys : Keyring) (t : RoleState) (f : Frame) (a : Acceptance) : Type 0 where
-  pub rows : (s : Session) → StandsBefore t.program.graph t.held s → first_some (rows_of_session real keys t.program s f) ≡ None
+  pub rows : (s : Session) → RepresentsBefore t.program.graph t.held s → first_some (rows_of_session real keys t.program s f) ≡ None
   pub program : a.program ≡ t.program
   pub before : a.before ≡ t.held
   pub after : a.after ≡ held_after t.program.graph t.held (Took f)
@@ -70,70 +70,70 @@ module _ (n : Inside) (h : HoldsNode n) (f : Frame) where
   pub tests : AllByRecursion (Tests (is_held_for f) (is_for f)) n.sessions.slots
   tests = tests_for f n.programs.now n.joins.pairs n.sessions.slots h.slots
 
-  pub stands_if : (m : Node) → StandsForNode (node_state n) m → StandsIf m.programs (find (is_held_for f) (held_in n.sessions.slots)) (session_for m.live f)
-  stands_if m st = (node_states_stand real real_hash).finds_for_frame m.programs (held_in n.sessions.slots) m.live f st.live
+  pub represents_if : (m : Node) → RepresentsNode (node_state n) m → RepresentsIf m.programs (find (is_held_for f) (held_in n.sessions.slots)) (session_for m.live f)
+  represents_if m st = (node_states_represent real real_hash).finds_for_frame m.programs (held_in n.sessions.slots) m.live f st.live
 
   -- no session is there for the frame
-  module _ (j : f.join ≡ None) (m : Node) (st : StandsForNode (node_state n) m) where
-    pub unknown : first_place (is_for f) n.sessions.slots ≡ None → (verdict_on real m (Ok f) ≡ NotDelivered UnknownSession) × (notes_of_read real m (Ok f) ≡ no_notes)
+  module _ (j : f.join ≡ None) (m : Node) (st : RepresentsNode (node_state n) m) where
+    pub unknown : first_index (is_for f) n.sessions.slots ≡ None → (verdict_on real m (Ok f) ≡ NotDelivered UnknownSession) × (notes_of_read real m (Ok f) ≡ no_notes)
     unknown e =
-        let r = no_session m f j (none_here n h (is_held_for f) (is_for f) tests e m.programs (session_for m.live f) (stands_if m st)) in
+        let r = no_session m f j (none_here n h (is_held_for f) (is_for f) tests e m.programs (session_for m.live f) (represents_if m st)) in
         (ap (decided (receipt f)) r, early m f UnknownSession r refl refl refl ∙ ap (λ h. record { made = []; found = []; hashed = h }) (no_text m f j 9))
 
   -- the place of the session for the frame
-  pub first_for : (i : ℕ) → first_place (is_for f) n.sessions.slots ≡ Some i → First (is_held_for f) (is_for f) n.sessions.slots i
+  pub first_for : (i : ℕ) → first_index (is_for f) n.sessions.slots ≡ Some i → First (is_held_for f) (is_for f) n.sessions.slots i
   first_for i e = held_first (is_held_for f) (is_for f) n.sessions.slots i tests e
 
-  module _ (i : ℕ) (t : RoleState) (e : first_place (is_for f) n.sessions.slots ≡ Some i) where
+  module _ (i : ℕ) (t : RoleState) (e : first_index (is_for f) n.sessions.slots ≡ Some i) where
     -- its session is at its turn
-    pub at_its_turn : live_at n.sessions.slots i ≡ Some (AtTurn t) → f.join ≡ None → (m : Node) → StandsForNode (node_state n) m → (verdict_on real m (Ok f) ≡ NotDelivered NotWaiting) × (notes_of_read real m (Ok f) ≡ no_notes)
+    pub at_its_turn : live_at n.sessions.slots i ≡ Some (AtTurn t) → f.join ≡ None → (m : Node) → RepresentsNode (node_state n) m → (verdict_on real m (Ok f) ≡ NotDelivered NotWaiting) × (notes_of_read real m (Ok f) ≡ no_notes)
     at_its_turn there j m st =
-        let x : Its m.programs (AtTurn t) (session_for m.live f) = session_here n h (is_held_for f) (is_for f) tests i (AtTurn t) e there m st (session_for m.live f) (stands_if m st) in
-        let r = not_waiting m f j x.session t.program x.is x.program x.stands.turn in
+        let x : Its m.programs (AtTurn t) (session_for m.live f) = session_here n h (is_held_for f) (is_for f) tests i (AtTurn t) e there m st (session_for m.live f) (represents_if m st) in
+        let r = not_waiting m f j x.session t.program x.is x.program x.represents.turn in
         (ap (decided (receipt f)) r, early m f NotWaiting r refl refl refl ∙ ap (λ h. record { made = []; found = []; hashed = h }) (no_text m f j 10))
 
     -- it waits
     module _ (there : live_at n.sessions.slots i ≡ Some (Waiting t)) where
-      at : AtPlace n.programs.now n.joins.pairs n.sessions.slots i (Waiting t)
-      at = place n h (is_held_for f) (is_for f) tests i (Waiting t) e there
+      at : AtIndex n.programs.now n.joins.pairs n.sessions.slots i (Waiting t)
+      at = its_slot n h (is_held_for f) (is_for f) tests i (Waiting t) e there
 
       pub version_is : f.version ≡ (t.held.cast).version
       version_is = sym (eqb-true (t.held.cast).version f.version (and_right (bytes_eq t.held.sid f.sid && (t.held.role == f.receiver)) ((t.held.cast).version == f.version) (its_passes n h (is_held_for f) (is_for f) tests i (Waiting t) e there)))
 
-      module _ (j : f.join ≡ None) (m : Node) (st : StandsForNode (node_state n) m) where
+      module _ (j : f.join ≡ None) (m : Node) (st : RepresentsNode (node_state n) m) where
         it : Its m.programs (Waiting t) (session_for m.live f)
-        it = session_here n h (is_held_for f) (is_for f) tests i (Waiting t) e there m st (session_for m.live f) (stands_if m st)
+        it = session_here n h (is_held_for f) (is_for f) tests i (Waiting t) e there m st (session_for m.live f) (represents_if m st)
 
         its_rows : first_some (rows real m f) ≡ first_some (rows_of_session real n.keys t.program it.session f)
-        its_rows = next_rows_waiting m f j it.session t.program it.is it.program it.stands.waits ∙ ap (λ k. first_some (rows_of_session real k t.program it.session f)) (sym st.keys)
+        its_rows = next_rows_waiting m f j it.session t.program it.is it.program it.represents.waits ∙ ap (λ k. first_some (rows_of_session real k t.program it.session f)) (sym st.keys)
 
-        pub refused : (r : RoleRefusal) → ((s : Session) → StandsBefore t.program.graph t.held s → Refuses (first_some (rows_of_session real n.keys t.program s f)) r) → IsAnswer (verdict_on real m (Ok f)) (option_map NotDelivered (refusal (of_role r)))
-        refused r g = role_refused (receipt f) (first_some (rows real m f)) r (subst (λ x. Refuses x r) (sym its_rows) (g it.session it.stands.before))
+        pub refused : (r : RoleRefusal) → ((s : Session) → RepresentsBefore t.program.graph t.held s → Refuses (first_some (rows_of_session real n.keys t.program s f)) r) → IsAnswer (verdict_on real m (Ok f)) (option_map NotDelivered (refusal (of_role r)))
+        refused r g = role_refused (receipt f) (first_some (rows real m f)) r (subst (λ x. Refuses x r) (sym its_rows) (g it.session it.represents.before))
 
         pub taken : (a : Acceptance) → AcceptedBy n.keys t f a → verdict_on real m (Ok f) ≡ Happened (receipt f)
-        taken a d = ap (decided (receipt f)) (its_rows ∙ d.rows it.session it.stands.before)
+        taken a d = ap (decided (receipt f)) (its_rows ∙ d.rows it.session it.represents.before)
 
         pub noted : (old new : Notes) →
-            ((s : Session) → StandsBefore t.program.graph t.held s → new ≡ with_notes old (notes_in_session real n.keys t.program s f (row_number (first_some (rows_of_session real n.keys t.program s f))))) →
+            ((s : Session) → RepresentsBefore t.program.graph t.held s → new ≡ with_notes old (notes_in_session real n.keys t.program s f (row_number (first_some (rows_of_session real n.keys t.program s f))))) →
             new ≡ with_notes old (notes_of_read real m (Ok f))
         noted old new g =
-            g it.session it.stands.before
-            ∙ ap (with_notes old) (sym (next_notes m f j it.session t.program it.is it.program it.stands.waits ∙ ap (λ k. notes_in_session real k t.program it.session f (row_number (first_some (rows_of_session real k t.program it.session f)))) (sym st.keys)))
+            g it.session it.represents.before
+            ∙ ap (with_notes old) (sym (next_notes m f j it.session t.program it.is it.program it.represents.waits ∙ ap (λ k. notes_in_session real k t.program it.session f (row_number (first_some (rows_of_session real k t.program it.session f)))) (sym st.keys)))
 
       module _ (sp : HasSpelling f) (a : Acceptance) (d : AcceptedBy n.keys t f a) where
-        backed : IsBackedAtTurn real t.program (held_after t.program.graph t.held (Took f))
-        backed =
-            let b : IsBackedWaiting real t.program t.held = at.live.backed in
-            let laws = states_are_backed real real_hash in
-            laws.takes n.keys t.program t.held b.session f (its_program n h (is_held_for f) (is_for f) tests i (Waiting t) e there) (laws.before t.program t.held b) b.stands.before sp version_is (d.rows b.session b.stands.before)
+        reachable : IsReachableAtTurn real t.program (held_after t.program.graph t.held (Took f))
+        reachable =
+            let b : IsReachableWaiting real t.program t.held = at.live.reachable in
+            let laws = states_are_reachable real real_hash in
+            laws.takes n.keys t.program t.held b.session f (its_program n h (is_held_for f) (is_for f) tests i (Waiting t) e there) (laws.before t.program t.held b) b.represents.before sp version_is (d.rows b.session b.represents.before)
 
         pub next_slots : AllByRecursion (IsSlot n.programs.now n.joins.pairs) (set_value_at n.sessions.slots i (left_after a))
-        next_slots = at.put (left_after a) (left_live t.program (held_after t.program.graph t.held (Took f)) backed a (same_state n.keys t f a d) n.programs.now (at.key).0 (at.key).1 at.live.sid at.live.role at.live.program)
+        next_slots = at.put (left_after a) (left_live t.program (held_after t.program.graph t.held (Took f)) reachable a (same_state n.keys t f a d) n.programs.now (at.key).0 (at.key).1 at.live.sid at.live.role at.live.program)
 
         still : still_held n.programs.now t.held (Took f) ≡ held_at (left_after a)
         still =
             ap (λ (o : Option Program). option_map_or (λ p. unless_spent p (held_after p.graph t.held (Took f))) o []) at.live.program
-            ∙ unless_left t.program (held_after t.program.graph t.held (Took f)) backed a (same_state n.keys t f a d)
+            ∙ unless_left t.program (held_after t.program.graph t.held (Took f)) reachable a (same_state n.keys t f a d)
 
         pub next_state : f.join ≡ None → record { keys = n.keys; programs = n.programs.now; joins = n.joins.pairs; live = held_in (set_value_at n.sessions.slots i (left_after a)) } ≡ state_taking (node_state n) (Ok f)
         next_state j =

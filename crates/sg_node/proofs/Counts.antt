@@ -6,7 +6,7 @@ use Rattle.std.proofs.lemmas.List.{length-append}
 use Rattle.indexmap.specs.IndexMap.{set_value_at}
 use Rattle.sg_node.specs.declared.sessions.Live.{Live}
 use Rattle.sg_node.specs.Slots.{Slot, held_at, held_in, HoldsTable}
-use Rattle.sg_node.proofs.Places.{live_at}
+use Rattle.sg_node.proofs.Indices.{live_at}
 
 at_most_one : (o : Option Live) → length (held_at o) ≤ 1
 at_most_one None = omega arith

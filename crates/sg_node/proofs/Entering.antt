@@ -16,18 +16,18 @@ use Rattle.sg_protocol.specs.Graph.{shape}
 use Rattle.sg_protocol.specs.IsSchedule.{IsProgram}
 use Rattle.sg_protocol.specs.Keyring.{Keyring, Program}
 use Rattle.sg_protocol.specs.Node.{Node, program_for, is_cast, stranger, has_joined}
-use Rattle.sg_protocol.specs.NodeStates.{NodeState, StandsForNode, is_held_for, unless_spent, still_held, with_live, with_join, joined_by, state_taking}
+use Rattle.sg_protocol.specs.NodeStates.{NodeState, RepresentsNode, is_held_for, unless_spent, still_held, with_live, with_join, joined_by, state_taking}
 use Rattle.sg_protocol.specs.Notes.{Notes, no_notes, row_number, notes_in_session, notes_of_read}
 use Rattle.sg_protocol.specs.Session.{Session, new_session, principal, Took}
 use Rattle.sg_protocol.specs.Spelling.{HasSpelling}
-use Rattle.sg_protocol.specs.Standing.{StandsBefore, nothing_kept, held_after}
-use Rattle.sg_protocol.specs.Backed.{IsBackedBefore, IsBackedAtTurn}
+use Rattle.sg_protocol.specs.Representation.{RepresentsBefore, nothing_kept, held_after}
+use Rattle.sg_protocol.specs.Reachable.{IsReachableBefore, IsReachableAtTurn}
 use Rattle.sg_protocol.specs.Texts.{real, session_id, session_text_of}
 use Rattle.sg_protocol.specs.Verdict.{rows, rows_of_session, receipt, decided, verdict_on}
-use Rattle.sg_protocol.proofs.Backed.{states_are_backed}
+use Rattle.sg_protocol.proofs.Reachable.{states_are_reachable}
 use Rattle.sg_protocol.proofs.Live.{sessions_are_sound}
 use Rattle.sg_protocol.proofs.RealHash.{real_hash}
-use Rattle.sg_protocol.proofs.Standing.{states_stand}
+use Rattle.sg_protocol.proofs.Representation.{states_represent}
 use Rattle.sg_protocol.proofs.Finding.{find_passes}
 use Rattle.sg_role.specs.Accepting.{Acceptance}
 use Rattle.sg_role.specs.Faults.{Refuses}
@@ -43,7 +43,7 @@ use Rattle.sg_node.specs.Joining.{obstacle_to, refusal_for}
 use Rattle.sg_node.specs.Slots.{Slot, held_at, held_in, slot_of, left_after}
 use Rattle.sg_node.specs.Invariant.{IsSlot, HoldsNode, node_state}
 use Rattle.sg_node.proofs.Found.{found_all}
-use Rattle.sg_node.proofs.Joined.{as_many, held_more, slots_more, no_place, nothing_else, free_by, past_three}
+use Rattle.sg_node.proofs.Joined.{as_many, held_more, slots_more, no_slot, nothing_else, free_by, past_three}
 use Rattle.sg_node.proofs.Starts.{first_state}
 use Rattle.sg_node.proofs.Receipts.{role_refused, early, no_text_yet, text, no_program, bad_cast, no_key, bad_session, joining_rows, join_notes, unless_left, left_live}
 use Rattle.sg_node.proofs.Continuing.{AcceptedBy, same_state}
@@ -74,7 +74,7 @@ module _ (m : Node) (f : Frame) (c : Cast) (j : f.join ≡ Some c) where
 -- ---- another session
 
 module _ (n : NodeState) (f : Frame) (c : Cast) (j : f.join ≡ Some c) (p : Program) (q : program_for n.programs c.graph f.receiver ≡ Some p)
-    (test : (is_cast n.keys p.graph c f.receiver && nat_lt f.sender (length c.names)) ≡ true) (covered : stranger n.keys c ≡ None) (m : Node) (st : StandsForNode n m) where
+    (test : (is_cast n.keys p.graph c f.receiver && nat_lt f.sender (length c.names)) ≡ true) (covered : stranger n.keys c ≡ None) (m : Node) (st : RepresentsNode n m) where
   pub other_session : f.sid ≢ session_id real c → (verdict_on real m (Ok f) ≡ NotDelivered BadSession) × (notes_of_read real m (Ok f) ≡ first_text c)
   other_session k =
       let b : bytes_eq f.sid (session_id real c) ≡ false = elim (cases_Bool (bytes_eq f.sid (session_id real c))) [ inl e ↦ absurd (k (same_bytes f.sid (session_id real c) e)) | inr e ↦ e ] in
@@ -132,7 +132,7 @@ module _ (n : Inside) (h : HoldsNode n) (f : Frame) (c : Cast) (j : f.join ≡ S
   both : (k : Keyring) → n.keys ≡ k → (is_cast k p.graph c f.receiver && nat_lt f.sender (length c.names)) ≡ true
   both k e = subst (λ z. (is_cast z p.graph c f.receiver && nat_lt f.sender (length c.names)) ≡ true) e test
 
-  module _ (m : Node) (st : StandsForNode (node_state n) m) where
+  module _ (m : Node) (st : RepresentsNode (node_state n) m) where
     q_here : program_for m.programs c.graph f.receiver ≡ Some p
     q_here = subst (λ ps. program_for ps c.graph f.receiver ≡ Some p) st.programs q
 
@@ -176,10 +176,10 @@ module _ (n : Inside) (h : HoldsNode n) (f : Frame) (c : Cast) (j : f.join ≡ S
     same_session : new_session f.sid c f.receiver ≡ its_session
     same_session = ap (λ z. new_session z c f.receiver) its_sid ∙ ap (λ z. new_session (session_id real c) c z) (sym its_role)
 
-    stands : StandsBefore p.graph (first_state p c).held its_session
-    stands = (states_stand real).is_new p.graph (session_id real c) c p.role
+    represents : RepresentsBefore p.graph (first_state p c).held its_session
+    represents = (states_represent real).is_new p.graph (session_id real c) c p.role
 
-    module _ (m : Node) (st : StandsForNode (node_state n) m) (none : obstacle_to n.joins.pairs (length (held_in n.sessions.slots)) f.sid f.receiver ≡ None) where
+    module _ (m : Node) (st : RepresentsNode (node_state n) m) (none : obstacle_to n.joins.pairs (length (held_in n.sessions.slots)) f.sid f.receiver ≡ None) where
       its_rows : first_some (rows real m f) ≡ first_some (rows_of_session real m.keys p (new_session f.sid c f.receiver) f)
       its_rows =
           let z = nothing_else (has_joined m.joins f.sid f.receiver) (nat_le 65536 (length m.joins)) (nat_le 4096 (length m.live)) (sym (same_obstacles m st its_sid) ∙ none) in
@@ -189,15 +189,15 @@ module _ (n : Inside) (h : HoldsNode n) (f : Frame) (c : Cast) (j : f.join ≡ S
       here_rows : first_some (rows_of_session real m.keys p (new_session f.sid c f.receiver) f) ≡ first_some (rows_of_session real n.keys p its_session f)
       here_rows = ap (λ s. first_some (rows_of_session real m.keys p s f)) same_session ∙ ap (λ k. first_some (rows_of_session real k p its_session f)) (sym st.keys)
 
-      pub refused : (r : RoleRefusal) → ((s : Session) → StandsBefore p.graph (first_state p c).held s → Refuses (first_some (rows_of_session real n.keys p s f)) r) → IsAnswer (verdict_on real m (Ok f)) (option_map NotDelivered (refusal (of_role r)))
-      refused r g = role_refused (receipt f) (first_some (rows real m f)) r (subst (λ x. Refuses x r) (sym (its_rows ∙ here_rows)) (g its_session stands))
+      pub refused : (r : RoleRefusal) → ((s : Session) → RepresentsBefore p.graph (first_state p c).held s → Refuses (first_some (rows_of_session real n.keys p s f)) r) → IsAnswer (verdict_on real m (Ok f)) (option_map NotDelivered (refusal (of_role r)))
+      refused r g = role_refused (receipt f) (first_some (rows real m f)) r (subst (λ x. Refuses x r) (sym (its_rows ∙ here_rows)) (g its_session represents))
 
       pub taken : (a : Acceptance) → AcceptedBy n.keys (first_state p c) f a → verdict_on real m (Ok f) ≡ Happened (receipt f)
-      taken a d = ap (decided (receipt f)) (its_rows ∙ here_rows ∙ d.rows its_session stands)
+      taken a d = ap (decided (receipt f)) (its_rows ∙ here_rows ∙ d.rows its_session represents)
 
       -- the session text was noted, and then what the role notes
       module _ (first old new : Notes) (e : old ≡ record first { hashed = first.hashed ++ session_text_of c ∷ [] })
-          (g : (s : Session) → StandsBefore p.graph (first_state p c).held s → new ≡ with_notes old (notes_in_session real n.keys p s f (row_number (first_some (rows_of_session real n.keys p s f))))) where
+          (g : (s : Session) → RepresentsBefore p.graph (first_state p c).held s → new ≡ with_notes old (notes_in_session real n.keys p s f (row_number (first_some (rows_of_session real n.keys p s f))))) where
         noted : nat_lt 4 (row_number (first_some (rows_of_session real n.keys p its_session f))) ≡ true → new ≡ with_notes first (notes_of_read real m (Ok f))
         noted l =
             let all : Notes = notes_in_session real n.keys p its_session f (row_number (first_some (rows_of_session real n.keys p its_session f))) in
@@ -207,15 +207,15 @@ module _ (n : Inside) (h : HoldsNode n) (f : Frame) (c : Cast) (j : f.join ≡ S
             let read : notes_of_read real m (Ok f) ≡ record all { hashed = session_text_of c ∷ all.hashed } =
             join_notes m f c j p (q_here m st) its_rows (ap (λ x. nat_lt 4 (row_number x)) here_rows ∙ l)
             ∙ ap (λ (z : Notes). record z { hashed = session_text_of c ∷ z.hashed }) same in
-            g its_session stands ∙ ap (λ z. with_notes z all) e
+            g its_session represents ∙ ap (λ z. with_notes z all) e
             ∙ ap (λ hs. record { made = first.made ++ all.made; found = first.found ++ all.found; hashed = hs }) (append_assoc first.hashed (session_text_of c ∷ []) all.hashed)
             ∙ ap (with_notes first) (sym read)
 
-        pub noted_refused : (r : RoleRefusal) → ((s : Session) → StandsBefore p.graph (first_state p c).held s → Refuses (first_some (rows_of_session real n.keys p s f)) r) → r ≢ role.OutOfMemory → new ≡ with_notes first (notes_of_read real m (Ok f))
-        noted_refused r h k = noted (behind_four (first_some (rows_of_session real n.keys p its_session f)) r (h its_session stands) k)
+        pub noted_refused : (r : RoleRefusal) → ((s : Session) → RepresentsBefore p.graph (first_state p c).held s → Refuses (first_some (rows_of_session real n.keys p s f)) r) → r ≢ role.OutOfMemory → new ≡ with_notes first (notes_of_read real m (Ok f))
+        noted_refused r h k = noted (behind_four (first_some (rows_of_session real n.keys p its_session f)) r (h its_session represents) k)
 
         pub noted_taken : (a : Acceptance) → AcceptedBy n.keys (first_state p c) f a → new ≡ with_notes first (notes_of_read real m (Ok f))
-        noted_taken a d = noted (ap (λ x. nat_lt 4 (row_number x)) (d.rows its_session stands))
+        noted_taken a d = noted (ap (λ x. nat_lt 4 (row_number x)) (d.rows its_session represents))
 
     -- ---- a pair that can be joined
 
@@ -225,37 +225,37 @@ module _ (n : Inside) (h : HoldsNode n) (f : Frame) (c : Cast) (j : f.join ≡ S
           let z = free_by n.joins.pairs (length (held_in n.sessions.slots)) f.sid f.receiver none in
           (subst (λ s. ¬ Contains n.joins.pairs (s, p.role)) its_sid (subst (λ r. ¬ Contains n.joins.pairs (f.sid, r)) (sym its_role) z.0), z.1)
 
-      pub no_place_yet : ¬ Contains (map (λ (s : Slot). s.0) n.sessions.slots) (session_id real c, p.role)
-      no_place_yet = no_place n.programs.now n.joins.pairs (session_id real c, p.role) n.sessions.slots h.slots free_pair.0
+      pub no_slot_yet : ¬ Contains (map (λ (s : Slot). s.0) n.sessions.slots) (session_id real c, p.role)
+      no_slot_yet = no_slot n.programs.now n.joins.pairs (session_id real c, p.role) n.sessions.slots h.slots free_pair.0
 
     -- ---- what is left
 
     module _ (sp : HasSpelling f) (a : Acceptance) (d : AcceptedBy n.keys (first_state p c) f a) where
       rows_none : first_some (rows_of_session real n.keys p its_session f) ≡ None
-      rows_none = d.rows its_session stands
+      rows_none = d.rows its_session represents
 
       pub not_starter : role_at (shape p.graph) 0 ≢ p.role
       not_starter = (sessions_are_sound real real_hash).not_at_start n.keys p its_session f its_program refl refl rows_none
 
-      back : IsBackedBefore real p (first_state p c).held
-      back = (states_are_backed real real_hash).is_new p (session_id real c) c its_program (subst (AreBytes 32) its_sid sp.fields.sid) (in_range sp) its_graph
+      back : IsReachableBefore real p (first_state p c).held
+      back = (states_are_reachable real real_hash).is_new p (session_id real c) c its_program (subst (AreBytes 32) its_sid sp.fields.sid) (in_range sp) its_graph
 
-      backed : IsBackedAtTurn real p (held_after p.graph (first_state p c).held (Took f))
-      backed = (states_are_backed real real_hash).takes n.keys p (first_state p c).held its_session f its_program back stands sp (its_version sp) rows_none
+      reachable : IsReachableAtTurn real p (held_after p.graph (first_state p c).held (Took f))
+      reachable = (states_are_reachable real real_hash).takes n.keys p (first_state p c).held its_session f its_program back represents sp (its_version sp) rows_none
 
       known : program_for n.programs.now c.graph p.role ≡ Some p
       known = ap (program_for n.programs.now c.graph) its_role ∙ q
 
       pub join_slots : AllByRecursion (IsSlot n.programs.now (n.joins.pairs ++ (session_id real c, p.role) ∷ [])) (n.sessions.slots ++ slot_of (session_id real c, p.role) (left_after a))
       join_slots = slots_more n.programs.now n.joins.pairs (session_id real c, p.role) n.sessions.slots (left_after a) h.slots
-          (left_live p (held_after p.graph (first_state p c).held (Took f)) backed a (same_state n.keys (first_state p c) f a d) n.programs.now (session_id real c) p.role refl refl known)
+          (left_live p (held_after p.graph (first_state p c).held (Took f)) reachable a (same_state n.keys (first_state p c) f a d) n.programs.now (session_id real c) p.role refl refl known)
 
       joined : joined_by n.programs.now f c ≡ held_at (left_after a)
       joined =
           ap (λ (o : Option Program). option_map_or (λ p. unless_spent p (held_after p.graph (record { sid = f.sid; cast = c; role = f.receiver; kept = nothing_kept p.graph }) (Took f))) o []) q
           ∙ ap (λ z. unless_spent p (held_after p.graph (record { sid = z; cast = c; role = f.receiver; kept = nothing_kept p.graph }) (Took f))) its_sid
           ∙ ap (λ z. unless_spent p (held_after p.graph (record { sid = session_id real c; cast = c; role = z; kept = nothing_kept p.graph }) (Took f))) (sym its_role)
-          ∙ unless_left p (held_after p.graph (first_state p c).held (Took f)) backed a (same_state n.keys (first_state p c) f a d)
+          ∙ unless_left p (held_after p.graph (first_state p c).held (Took f)) reachable a (same_state n.keys (first_state p c) f a d)
 
       pub join_state : record { keys = n.keys; programs = n.programs.now; joins = n.joins.pairs ++ (session_id real c, p.role) ∷ []; live = held_in (n.sessions.slots ++ slot_of (session_id real c, p.role) (left_after a)) } ≡ state_taking (node_state n) (Ok f)
       join_state =

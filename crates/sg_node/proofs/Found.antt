@@ -11,81 +11,81 @@ use Rattle.sg_protocol.specs.Keyring.{Program}
 use Rattle.sg_protocol.specs.Session.{Session, at_turn}
 use Rattle.sg_protocol.specs.Node.{Node, program_for}
 use Rattle.sg_protocol.specs.Texts.{real}
-use Rattle.sg_protocol.specs.Standing.{Held, held, StandsAtTurn, StandsWaiting}
-use Rattle.sg_protocol.specs.Backed.{IsBackedAtTurn, IsBackedWaiting}
+use Rattle.sg_protocol.specs.Representation.{Held, held, RepresentsAtTurn, RepresentsWaiting}
+use Rattle.sg_protocol.specs.Reachable.{IsReachableAtTurn, IsReachableWaiting}
 use Rattle.sg_protocol.specs.IsSchedule.{IsProgram}
-use Rattle.sg_protocol.specs.NodeStates.{StandsLive, StandsIf, StandsForNode, replace_held}
+use Rattle.sg_protocol.specs.NodeStates.{RepresentsLive, RepresentsIf, RepresentsNode, replace_held}
 use Rattle.sg_role.specs.Accepting.{Acceptance, goes_on, state_after}
 use Rattle.sg_role.specs.Model.{RoleState}
 use Rattle.sg_node.specs.declared.node.Node.TheInside.{Inside}
 use Rattle.sg_node.specs.declared.sessions.Live.{Live}
 use Rattle.sg_node.specs.declared.sessions.Live.TheVariants.{AtTurn, Waiting}
-use Rattle.sg_node.specs.Slots.{Slot, state_in, held_at, held_in, first_place, left_after}
+use Rattle.sg_node.specs.Slots.{Slot, state_in, held_at, held_in, first_index, left_after}
 use Rattle.sg_node.specs.Invariant.{IsLiveAt, IfLive, IsSlot, HoldsNode, node_state}
-use Rattle.sg_node.proofs.Places.{live_at, some_none, Tests, First, held_first, none_held}
+use Rattle.sg_node.proofs.Indices.{live_at, some_none, Tests, First, held_first, none_held}
 
--- at its turn or waiting, it stands for the session
-abbrev pub StandsAs : Live → Session → Type 0
-StandsAs (AtTurn t) s = StandsAtTurn t.program.graph t.held s
-StandsAs (Waiting t) s = StandsWaiting t.program.graph t.held s
+-- at its turn or waiting, it represents the session
+abbrev pub RepresentsAs : Live → Session → Type 0
+RepresentsAs (AtTurn t) s = RepresentsAtTurn t.program.graph t.held s
+RepresentsAs (Waiting t) s = RepresentsWaiting t.program.graph t.held s
 
--- the session is there, and it stands for it under the session's program
+-- the session is there, and it represents it under the session's program
 pub record Its (ps : List Program) (l : Live) (o : Option Session) : Type 0 where
   pub session : Session
   pub is : o ≡ Some session
   pub program : program_for ps (session.cast).graph session.role ≡ Some (state_in l).program
-  pub stands : StandsAs l session
+  pub represents : RepresentsAs l session
 
 -- the test of the turn reads what is held
 pub turn_held : (g : Graph) (h : Held) (s : Session) → h ≡ held g s → (role_at (shape g) (h.kept).place == h.role) ≡ at_turn g s
 turn_held g h s e = ap (λ (z : Held). role_at (shape g) (z.kept).place == z.role) e
 
 module _ (ps : List Program) (h : Held) (s : Session) where
-  holds : (p : Program) → StandsAtTurn p.graph h s ⊎ StandsWaiting p.graph h s → h ≡ held p.graph s
+  holds : (p : Program) → RepresentsAtTurn p.graph h s ⊎ RepresentsWaiting p.graph h s → h ≡ held p.graph s
   holds p (inl t) = t.holds
   holds p (inr w) = w.before.holds
 
   -- it stands under the program for its own graph and role
-  pub under : (p : Program) → program_for ps (h.cast).graph h.role ≡ Some p → StandsLive ps h s → (program_for ps (s.cast).graph s.role ≡ Some p) × (StandsAtTurn p.graph h s ⊎ StandsWaiting p.graph h s)
+  pub under : (p : Program) → program_for ps (h.cast).graph h.role ≡ Some p → RepresentsLive ps h s → (program_for ps (s.cast).graph s.role ≡ Some p) × (RepresentsAtTurn p.graph h s ⊎ RepresentsWaiting p.graph h s)
   under p q l = go (program_for ps (s.cast).graph s.role) refl l
     where
-      go : (o : Option Program) → program_for ps (s.cast).graph s.role ≡ o → IsSomeAnd o (λ p. StandsAtTurn p.graph h s ⊎ StandsWaiting p.graph h s) → (program_for ps (s.cast).graph s.role ≡ Some p) × (StandsAtTurn p.graph h s ⊎ StandsWaiting p.graph h s)
+      go : (o : Option Program) → program_for ps (s.cast).graph s.role ≡ o → IsSomeAnd o (λ p. RepresentsAtTurn p.graph h s ⊎ RepresentsWaiting p.graph h s) → (program_for ps (s.cast).graph s.role ≡ Some p) × (RepresentsAtTurn p.graph h s ⊎ RepresentsWaiting p.graph h s)
       go None e k = absurd k
       go (Some x) e k =
           let same : Some x ≡ Some p = sym e ∙ ap (λ (z : Held). program_for ps (z.cast).graph z.role) (sym (holds x k)) ∙ q in
-          (e ∙ same, subst (λ (z : Program). StandsAtTurn z.graph h s ⊎ StandsWaiting z.graph h s) (ap (λ o. unwrap_or o x) same) k)
+          (e ∙ same, subst (λ (z : Program). RepresentsAtTurn z.graph h s ⊎ RepresentsWaiting z.graph h s) (ap (λ o. unwrap_or o x) same) k)
 
-turns : (p : Program) (h : Held) (s : Session) → IsBackedAtTurn real p h → StandsAtTurn p.graph h s ⊎ StandsWaiting p.graph h s → StandsAtTurn p.graph h s
+turns : (p : Program) (h : Held) (s : Session) → IsReachableAtTurn real p h → RepresentsAtTurn p.graph h s ⊎ RepresentsWaiting p.graph h s → RepresentsAtTurn p.graph h s
 turns p h s b (inl t) = t
-turns p h s b (inr w) = clash (role_at (shape p.graph) (h.kept).place == h.role) (turn_held p.graph h b.session b.stands.holds ∙ b.stands.turn) (turn_held p.graph h s w.before.holds ∙ w.waits)
+turns p h s b (inr w) = clash (role_at (shape p.graph) (h.kept).place == h.role) (turn_held p.graph h b.session b.represents.holds ∙ b.represents.turn) (turn_held p.graph h s w.before.holds ∙ w.waits)
 
-waits : (p : Program) (h : Held) (s : Session) → IsBackedWaiting real p h → StandsAtTurn p.graph h s ⊎ StandsWaiting p.graph h s → StandsWaiting p.graph h s
-waits p h s b (inl t) = clash (role_at (shape p.graph) (h.kept).place == h.role) (turn_held p.graph h s t.holds ∙ t.turn) (turn_held p.graph h b.session b.stands.before.holds ∙ b.stands.waits)
+waits : (p : Program) (h : Held) (s : Session) → IsReachableWaiting real p h → RepresentsAtTurn p.graph h s ⊎ RepresentsWaiting p.graph h s → RepresentsWaiting p.graph h s
+waits p h s b (inl t) = clash (role_at (shape p.graph) (h.kept).place == h.role) (turn_held p.graph h s t.holds ∙ t.turn) (turn_held p.graph h b.session b.represents.before.holds ∙ b.represents.waits)
 waits p h s b (inr w) = w
 
--- what is live stands for the session that is found for it
-pub its : (ps : List Program) (id : List ℕ) (r : ℕ) (l : Live) → IsLiveAt ps id r l → (o : Option Session) (s : Session) → o ≡ Some s → StandsLive ps (state_in l).held s → Its ps l o
-its ps id r (AtTurn t) at o s e k = let u = under ps t.held s t.program at.program k in record { session = s; is = e; program = u.0; stands = turns t.program t.held s at.backed u.1 }
-its ps id r (Waiting t) at o s e k = let u = under ps t.held s t.program at.program k in record { session = s; is = e; program = u.0; stands = waits t.program t.held s at.backed u.1 }
+-- what is live represents the session that is found for it
+pub its : (ps : List Program) (id : List ℕ) (r : ℕ) (l : Live) → IsLiveAt ps id r l → (o : Option Session) (s : Session) → o ≡ Some s → RepresentsLive ps (state_in l).held s → Its ps l o
+its ps id r (AtTurn t) at o s e k = let u = under ps t.held s t.program at.program k in record { session = s; is = e; program = u.0; represents = turns t.program t.held s at.reachable u.1 }
+its ps id r (Waiting t) at o s e k = let u = under ps t.held s t.program at.program k in record { session = s; is = e; program = u.0; represents = waits t.program t.held s at.reachable u.1 }
 
 -- ---- places
 
 -- what is live at a place stands there rightly, and so may what is put into it
-pub record AtPlace (ps : List Program) (js : List (List ℕ × ℕ)) (ss : List Slot) (i : ℕ) (l : Live) : Type 0 where
+pub record AtIndex (ps : List Program) (js : List (List ℕ × ℕ)) (ss : List Slot) (i : ℕ) (l : Live) : Type 0 where
   pub key : List ℕ × ℕ
   pub live : IsLiveAt ps key.0 key.1 l
   pub put : (w : Option Live) → IfLive ps key.0 key.1 w → AllByRecursion (IsSlot ps js) (set_value_at ss i w)
 
-pub at_place : (ps : List Program) (js : List (List ℕ × ℕ)) (ss : List Slot) (i : ℕ) (l : Live) → AllByRecursion (IsSlot ps js) ss → live_at ss i ≡ Some l → AtPlace ps js ss i l
-at_place ps js [] i l h e = some_none l (sym e)
-at_place ps js ((k, None) ∷ ss) zero l h e = some_none l (sym e)
-at_place ps js ((k, Some x) ∷ ss) zero l h e = record {
+pub at_index : (ps : List Program) (js : List (List ℕ × ℕ)) (ss : List Slot) (i : ℕ) (l : Live) → AllByRecursion (IsSlot ps js) ss → live_at ss i ≡ Some l → AtIndex ps js ss i l
+at_index ps js [] i l h e = some_none l (sym e)
+at_index ps js ((k, None) ∷ ss) zero l h e = some_none l (sym e)
+at_index ps js ((k, Some x) ∷ ss) zero l h e = record {
   key = k;
   live = subst (IsLiveAt ps k.0 k.1) (ap (λ o. unwrap_or o x) e) h.0.1;
   put = λ w g. ((h.0.0, g), h.1);
 }
-at_place ps js (s ∷ ss) (suc i) l h e =
-    let a : AtPlace ps js ss i l = at_place ps js ss i l h.1 e in
+at_index ps js (s ∷ ss) (suc i) l h e =
+    let a : AtIndex ps js ss i l = at_index ps js ss i l h.1 e in
     record { key = a.key; live = a.live; put = λ w g. (h.0, a.put w g) }
 
 -- what is found passes what all pass
@@ -96,16 +96,16 @@ found_all P q (y ∷ ys) x h e = elim (cases_Bool (q y)) [
   | inr f ↦ found_all P q ys x h.1 (sym (ap (λ b. if b then Some y else find q ys) f) ∙ e)
 ]
 
--- the first place that passes, and the session for which what is live there stands
+-- the first place that passes, and the session that what is live there represents
 module _ (n : Inside) (h : HoldsNode n) (which : Held → Bool) (test : Slot → Bool) (tests : AllByRecursion (Tests which test) n.sessions.slots) where
-  pub none_here : first_place test n.sessions.slots ≡ None → (ps : List Program) (o : Option Session) → StandsIf ps (find which (held_in n.sessions.slots)) o → o ≡ None
-  none_here e ps o f = go o (subst (λ x. StandsIf ps x o) (none_held which test n.sessions.slots tests e) f)
+  pub none_here : first_index test n.sessions.slots ≡ None → (ps : List Program) (o : Option Session) → RepresentsIf ps (find which (held_in n.sessions.slots)) o → o ≡ None
+  none_here e ps o f = go o (subst (λ x. RepresentsIf ps x o) (none_held which test n.sessions.slots tests e) f)
     where
-      go : (o : Option Session) → StandsIf ps None o → o ≡ None
+      go : (o : Option Session) → RepresentsIf ps None o → o ≡ None
       go None s = refl
       go (Some x) s = absurd s
 
-  module _ (i : ℕ) (l : Live) (e : first_place test n.sessions.slots ≡ Some i) (there : live_at n.sessions.slots i ≡ Some l) where
+  module _ (i : ℕ) (l : Live) (e : first_index test n.sessions.slots ≡ Some i) (there : live_at n.sessions.slots i ≡ Some l) where
     found : First which test n.sessions.slots i
     found = held_first which test n.sessions.slots i tests e
 
@@ -115,21 +115,21 @@ module _ (n : Inside) (h : HoldsNode n) (which : Held → Bool) (test : Slot →
     pub its_passes : which (state_in l).held ≡ true
     its_passes = ap (λ z. which (state_in z).held) (sym same) ∙ found.passes
 
-    pub place : AtPlace n.programs.now n.joins.pairs n.sessions.slots i l
-    place = at_place n.programs.now n.joins.pairs n.sessions.slots i l h.slots there
+    pub its_slot : AtIndex n.programs.now n.joins.pairs n.sessions.slots i l
+    its_slot = at_index n.programs.now n.joins.pairs n.sessions.slots i l h.slots there
 
     pub replaced : (w : Option Live) (now : Held → List Held) → now (state_in l).held ≡ held_at w → held_in (set_value_at n.sessions.slots i w) ≡ replace_held which now (held_in n.sessions.slots)
     replaced w now e = found.replaced w now (ap (λ z. now (state_in z).held) same ∙ e)
 
     pub its_program : IsProgram real (state_in l).program
-    its_program = found_all (IsProgram real) _ n.programs.now (state_in l).program h.programs place.live.program
+    its_program = found_all (IsProgram real) _ n.programs.now (state_in l).program h.programs its_slot.live.program
 
-    pub session_here : (m : Node) → StandsForNode (node_state n) m → (o : Option Session) → StandsIf m.programs (find which (held_in n.sessions.slots)) o → Its m.programs l o
-    session_here m st o f = go o (subst (λ x. StandsIf m.programs x o) (found.found ∙ ap (λ z. Some (state_in z).held) same) f)
+    pub session_here : (m : Node) → RepresentsNode (node_state n) m → (o : Option Session) → RepresentsIf m.programs (find which (held_in n.sessions.slots)) o → Its m.programs l o
+    session_here m st o f = go o (subst (λ x. RepresentsIf m.programs x o) (found.found ∙ ap (λ z. Some (state_in z).held) same) f)
       where
-        go : (o : Option Session) → StandsIf m.programs (Some (state_in l).held) o → Its m.programs l o
+        go : (o : Option Session) → RepresentsIf m.programs (Some (state_in l).held) o → Its m.programs l o
         go None s = absurd s
-        go (Some x) s = its m.programs (place.key).0 (place.key).1 l (subst (λ ps. IsLiveAt ps (place.key).0 (place.key).1 l) st.programs place.live) (Some x) x refl s
+        go (Some x) s = its m.programs (its_slot.key).0 (its_slot.key).1 l (subst (λ ps. IsLiveAt ps (its_slot.key).0 (its_slot.key).1 l) st.programs its_slot.live) (Some x) x refl s
 
 -- ---- writing at a place
 

@@ -1,4 +1,4 @@
--- A state that goes on by a call stands for the past with the call.
+-- A state that goes on by a call represents the past with the call.
 use Rattle.std.specs.Prelude.{◌≡◌, ◌⊎◌, ℕ, List, [], ◌∷◌, refl, Option, Some, None, IsSomeAnd}
 use Rattle.std.specs.List.{AllByRecursion}
 use Rattle.std.proofs.Common.{sym, subst, inl, inr}
@@ -12,10 +12,10 @@ use Rattle.sg_protocol.specs.IsSchedule.{IsProgram}
 use Rattle.sg_protocol.specs.Ranges.{IsCallInRange}
 use Rattle.sg_protocol.specs.Acting.{answer}
 use Rattle.sg_protocol.specs.Texts.{real}
-use Rattle.sg_protocol.specs.Backed.{IsBackedAtTurn, IsBackedWaiting}
-use Rattle.sg_protocol.specs.NodeStates.{NodeState, IsBackedLive, StandsForNode, StandsForPast, state_after}
+use Rattle.sg_protocol.specs.Reachable.{IsReachableAtTurn, IsReachableWaiting}
+use Rattle.sg_protocol.specs.NodeStates.{NodeState, IsBackedLive, RepresentsNode, RepresentsPast, state_after}
 use Rattle.sg_protocol.proofs.Course.{node_more}
-use Rattle.sg_protocol.proofs.NodeStates.{node_states_stand}
+use Rattle.sg_protocol.proofs.NodeStates.{node_states_represent}
 use Rattle.sg_protocol.proofs.RealHash.{real_hash}
 use Rattle.sg_node.specs.Answers.{GoesOn}
 use Rattle.sg_node.specs.Invariant.{HoldsNode, IfLive, IsSlot}
@@ -28,8 +28,8 @@ use Rattle.sg_node.specs.declared.sessions.Live.TheVariants.{AtTurn, Waiting}
 module _ (n : Inside) where
   one_backed : (sid : List ℕ) (r : ℕ) (l : Option Live) → IfLive n.programs.now sid r l → AllByRecursion (IsBackedLive real n.programs.now) (held_at l)
   one_backed sid r None k = tt
-  one_backed sid r (Some (AtTurn s)) k = (subst (λ (o : Option Program). IsSomeAnd o (λ p. IsBackedAtTurn real p s.held ⊎ IsBackedWaiting real p s.held)) (sym k.program) (inl k.backed), tt)
-  one_backed sid r (Some (Waiting s)) k = (subst (λ (o : Option Program). IsSomeAnd o (λ p. IsBackedAtTurn real p s.held ⊎ IsBackedWaiting real p s.held)) (sym k.program) (inr k.backed), tt)
+  one_backed sid r (Some (AtTurn s)) k = (subst (λ (o : Option Program). IsSomeAnd o (λ p. IsReachableAtTurn real p s.held ⊎ IsReachableWaiting real p s.held)) (sym k.program) (inl k.reachable), tt)
+  one_backed sid r (Some (Waiting s)) k = (subst (λ (o : Option Program). IsSomeAnd o (λ p. IsReachableAtTurn real p s.held ⊎ IsReachableWaiting real p s.held)) (sym k.program) (inr k.reachable), tt)
 
   each_backed : (ss : List Slot) → AllByRecursion (IsSlot n.programs.now n.joins.pairs) ss → AllByRecursion (IsBackedLive real n.programs.now) (held_in ss)
   each_backed [] a = tt
@@ -39,15 +39,15 @@ module _ (n : Inside) where
   all_backed h = each_backed n.sessions.slots h.slots
 
 -- so it does, where its programs are programs, sound sessions stand behind what it holds, and the call is in range
-pub goes_on : (old new : NodeState) (call : Call) (past : Past) → AllByRecursion (IsProgram real) old.programs → AllByRecursion (IsBackedLive real old.programs) old.live → IsCallInRange call → StandsForPast old past
+pub goes_on : (old new : NodeState) (call : Call) (past : Past) → AllByRecursion (IsProgram real) old.programs → AllByRecursion (IsBackedLive real old.programs) old.live → IsCallInRange call → RepresentsPast old past
     → new ≡ state_after old call (answer real (node_of past) call) → GoesOn old new call past
-goes_on old new call past programs backed good st e = record {
+goes_on old new call past programs reachable good st e = record {
   state = e;
-  stands =
+  represents =
       let n : Node = node_of past in
       let ip : AllByRecursion (IsProgram real) n.programs = subst (AllByRecursion (IsProgram real)) st.programs programs in
-      let its : AllByRecursion (IsBackedLive real n.programs) old.live = subst (λ ps. AllByRecursion (IsBackedLive real ps) old.live) st.programs backed in
-      subst (λ z. StandsForPast z (past_after real past call)) (sym e)
-      (subst (StandsForNode (state_after old call (answer real n call))) (sym (node_more (new_node past.keys past.programs past.first) past.calls (record { call = call; answer = answer real n call })))
-      ((node_states_stand real real_hash).after_backed old n call (All-from_recursion (IsProgram real) n.programs ip) (All-from_recursion (IsBackedLive real n.programs) old.live its) good st));
+      let its : AllByRecursion (IsBackedLive real n.programs) old.live = subst (λ ps. AllByRecursion (IsBackedLive real ps) old.live) st.programs reachable in
+      subst (λ z. RepresentsPast z (past_after real past call)) (sym e)
+      (subst (RepresentsNode (state_after old call (answer real n call))) (sym (node_more (new_node past.keys past.programs past.first) past.calls (record { call = call; answer = answer real n call })))
+      ((node_states_represent real real_hash).after_backed old n call (All-from_recursion (IsProgram real) n.programs ip) (All-from_recursion (IsBackedLive real n.programs) old.live its) good st));
 }

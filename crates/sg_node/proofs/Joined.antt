@@ -13,9 +13,9 @@ use Rattle.sg_protocol.specs.Calls as Protocol
 use Rattle.sg_protocol.specs.Graph.{Graph, Edge, shape}
 use Rattle.sg_protocol.specs.Keyring.{Program}
 use Rattle.sg_protocol.specs.Node.{has_joined}
-use Rattle.sg_protocol.specs.NodeStates.{StandEach}
+use Rattle.sg_protocol.specs.NodeStates.{RepresentEach}
 use Rattle.sg_protocol.specs.Session.{Session}
-use Rattle.sg_protocol.specs.Standing.{Held}
+use Rattle.sg_protocol.specs.Representation.{Held}
 use Rattle.sg_protocol.specs.Verdict.{row}
 use Rattle.sg_cache.proofs.SameJoin.{any_of_parts}
 use Rattle.sg_role.proofs.Edges.{goes_on_by}
@@ -27,8 +27,8 @@ use Rattle.sg_node.specs.Joining.{obstacle_to, fault_for}
 use Rattle.sg_node.specs.Slots.{Slot, held_at, held_in, slot_of}
 use Rattle.sg_node.specs.Invariant.{IfLive, IsSlot}
 
--- as many as the sessions for which they stand
-pub as_many : (ps : List Program) (hs : List Held) (ss : List Session) → StandEach ps hs ss → length hs ≡ length ss
+-- as many as the sessions that they represent
+pub as_many : (ps : List Program) (hs : List Held) (ss : List Session) → RepresentEach ps hs ss → length hs ≡ length ss
 as_many ps [] [] e = refl
 as_many ps [] (s ∷ ss) e = absurd e
 as_many ps (h ∷ hs) [] e = absurd e
@@ -57,8 +57,8 @@ module _ (ps : List Program) (js : List (List ℕ × ℕ)) (k : List ℕ × ℕ)
   in_joins (s ∷ ss) h j zero l e = subst (Contains js) e h.0.0
   in_joins (s ∷ ss) h j (suc i) l e = in_joins ss h.1 j i (omega (arith, l)) e
 
-  pub no_place : (ss : List Slot) → AllByRecursion (IsSlot ps js) ss → ¬ Contains js k → ¬ Contains (map (λ (s : Slot). s.0) ss) k
-  no_place ss h absent c = absent (in_joins ss h k c.0 c.1 c.2)
+  pub no_slot : (ss : List Slot) → AllByRecursion (IsSlot ps js) ss → ¬ Contains js k → ¬ Contains (map (λ (s : Slot). s.0) ss) k
+  no_slot ss h absent c = absent (in_joins ss h k c.0 c.1 c.2)
 
 -- ---- whether a pair can be joined
 

@@ -8,8 +8,8 @@ use Rattle.indexmap.specs.IndexMap.{insert_entry}
 use Rattle.sg_model.proofs.Small.{clash, and_false, and_true}
 use Rattle.sg_cache.proofs.SameJoin.{Join, same, same-Decides, any_same, same-parts}
 use Rattle.sg_node.specs.declared.sessions.Live.{Live}
-use Rattle.sg_node.specs.Slots.{Slot, is_of, is_of_role, earlier_of, first_place}
-use Rattle.sg_node.proofs.Places.{live_at, earlier_position, same_position, place_is_position}
+use Rattle.sg_node.specs.Slots.{Slot, is_of, is_of_role, earlier_of, first_index}
+use Rattle.sg_node.proofs.Indices.{live_at, earlier_position, same_position, index_is_position}
 
 -- the place is of the key, and what is there passes
 module _ (q : Option Live → Bool) (sid : List ℕ) (r : ℕ) where
@@ -24,7 +24,7 @@ module _ (q : Option Live → Bool) (sid : List ℕ) (r : ℕ) where
       grouped false b c = refl
 
   -- where a key stands first, none behind it has it
-  none_behind : (j : Join) → same (sid, r) j ≡ true → (ss : List Slot) → AllByRecursion (λ k. same j k ≡ false) (map (λ s. s.0) ss) → first_place by_key ss ≡ None
+  none_behind : (j : Join) → same (sid, r) j ≡ true → (ss : List Slot) → AllByRecursion (λ k. same j k ≡ false) (map (λ s. s.0) ss) → first_index by_key ss ≡ None
   none_behind j e [] h = refl
   none_behind j e (s ∷ ss) h =
       let f : same (sid, r) s.0 ≡ false = subst (λ k. same k s.0 ≡ false) (sym ((same-Decides (sid, r) j).0 e)) h.0 in
@@ -32,17 +32,17 @@ module _ (q : Option Live → Bool) (sid : List ℕ) (r : ℕ) where
       rw t (ap (option_map suc) (none_behind j e ss h.1))
 
   -- the place where the key stands, if what is there passes
-  pub place_of_key : (ss : List Slot) → IsDistinct same (map (λ s. s.0) ss) →
-      first_place by_key ss ≡ option_and_then (λ i. if q (live_at ss i) then Some i else None) (first_place (same (sid, r)) (map (λ s. s.0) ss))
+  pub index_of_key : (ss : List Slot) → IsDistinct same (map (λ s. s.0) ss) →
+      first_index by_key ss ≡ option_and_then (λ i. if q (live_at ss i) then Some i else None) (first_index (same (sid, r)) (map (λ s. s.0) ss))
   unfolding IsDistinct
-  place_of_key [] d = refl
-  place_of_key (s ∷ ss) d = elim (cases_Bool (same (sid, r) s.0)) [
+  index_of_key [] d = refl
+  index_of_key (s ∷ ss) d = elim (cases_Bool (same (sid, r) s.0)) [
     | inl e ↦
         let t : by_key s ≡ q s.1 = of_key s ∙ ap (λ b. q s.1 && b) e ∙ and_true (q s.1) in
         rw (t, e) (elim (cases_Bool (q s.1)) [ inl f ↦ rw f refl | inr f ↦ rw f (ap (option_map suc) (none_behind s.0 e ss d.0)) ])
     | inr e ↦
         let t : by_key s ≡ false = of_key s ∙ ap (λ b. q s.1 && b) e ∙ and_false (q s.1) in
-        rw (t, e) (ap (option_map suc) (place_of_key ss d.1) ∙ shifted (first_place (same (sid, r)) (map (λ s. s.0) ss)))
+        rw (t, e) (ap (option_map suc) (index_of_key ss d.1) ∙ shifted (first_index (same (sid, r)) (map (λ s. s.0) ss)))
   ]
     where
       shifted : (p : Option ℕ) → option_map suc (option_and_then (λ i. if q (live_at ss i) then Some i else None) p) ≡ option_and_then (λ i. if q (live_at (s ∷ ss) i) then Some i else None) (option_map suc p)
@@ -51,8 +51,8 @@ module _ (q : Option Live → Bool) (sid : List ℕ) (r : ℕ) where
 
   -- what is found by a key
   pub looked_up : (ss : List Slot) (i : Option ℕ) → IsDistinct same (map (λ s. s.0) ss) → i ≡ position (same (sid, r)) (map (λ s. s.0) ss) →
-      option_and_then (λ i. if q (live_at ss i) then Some i else None) i ≡ first_place by_key ss
-  looked_up ss i d e = ap (option_and_then (λ i. if q (live_at ss i) then Some i else None)) (e ∙ place_is_position (same (sid, r)) (map (λ s. s.0) ss)) ∙ sym (place_of_key ss d)
+      option_and_then (λ i. if q (live_at ss i) then Some i else None) i ≡ first_index by_key ss
+  looked_up ss i d e = ap (option_and_then (λ i. if q (live_at ss i) then Some i else None)) (e ∙ index_is_position (same (sid, r)) (map (λ s. s.0) ss)) ∙ sym (index_of_key ss d)
 
 -- ---- a new key
 
@@ -77,14 +77,14 @@ abbrev pub is_below : Bool → List ℕ → ℕ → Slot → Bool
 is_below o sid n s = is_of o sid s && nat_lt (s.0).1 n
 
 -- none is below 0
-pub none_below : (o : Bool) (sid : List ℕ) (ss : List Slot) → first_place (is_below o sid 0) ss ≡ None
+pub none_below : (o : Bool) (sid : List ℕ) (ss : List Slot) → first_index (is_below o sid 0) ss ≡ None
 none_below o sid [] = refl
 none_below o sid (s ∷ ss) = let e : nat_lt (s.0).1 0 ≡ false = grind (arith, nat_tests) in
     let t : is_below o sid 0 s ≡ false = ap (λ b. is_of o sid s && b) e ∙ and_false (is_of o sid s) in
     rw t (ap (option_map suc) (none_below o sid ss))
 
 -- one more role
-pub one_below : (o : Bool) (sid : List ℕ) (n : ℕ) (ss : List Slot) → first_place (is_below o sid (n + 1)) ss ≡ earlier_of (first_place (is_below o sid n) ss) (first_place (is_of_role o sid n) ss)
+pub one_below : (o : Bool) (sid : List ℕ) (n : ℕ) (ss : List Slot) → first_index (is_below o sid (n + 1)) ss ≡ earlier_of (first_index (is_below o sid n) ss) (first_index (is_of_role o sid n) ss)
 one_below o sid n ss = earlier_position (is_below o sid n) (is_of_role o sid n) (is_below o sid (n + 1)) (λ s. more (is_of o sid s) (s.0).1) ss
   where
     more : (b : Bool) (r : ℕ) → (b && nat_lt r (n + 1)) ≡ ((b && nat_lt r n) || (b && (r == n)))
@@ -98,7 +98,7 @@ one_below o sid n ss = earlier_position (is_below o sid n) (is_of_role o sid n) 
     ]
 
 -- all are below a bound
-pub all_below : (o : Bool) (sid : List ℕ) (n : ℕ) (ss : List Slot) → AllByRecursion (λ (s : Slot). (s.0).1 < n) ss → first_place (is_below o sid n) ss ≡ first_place (is_of o sid) ss
+pub all_below : (o : Bool) (sid : List ℕ) (n : ℕ) (ss : List Slot) → AllByRecursion (λ (s : Slot). (s.0).1 < n) ss → first_index (is_below o sid n) ss ≡ first_index (is_of o sid) ss
 all_below o sid n ss h = same_position (λ (s : Slot). (s.0).1 < n) (is_below o sid n) (is_of o sid) (λ s l. full (is_of o sid s) (nat_lt (s.0).1 n) (grind (arith, nat_tests, l))) ss h
   where
     full : (a b : Bool) → b ≡ true → (a && b) ≡ a

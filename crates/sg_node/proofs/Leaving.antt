@@ -10,15 +10,15 @@ use Rattle.sg_protocol.specs.Calls.{Abandon, Abandoned, NotAbandoned}
 use Rattle.sg_protocol.specs.Node.{Node, session_with}
 use Rattle.sg_protocol.specs.Acting.{answer}
 use Rattle.sg_protocol.specs.Texts.{real}
-use Rattle.sg_protocol.specs.Standing.{Held}
-use Rattle.sg_protocol.specs.NodeStates.{StandsLive, StandEach, StandsIf, StandsForNode, has_sid, replace_held}
-use Rattle.sg_protocol.proofs.NodeStates.{node_states_stand}
+use Rattle.sg_protocol.specs.Representation.{Held}
+use Rattle.sg_protocol.specs.NodeStates.{RepresentsLive, RepresentEach, RepresentsIf, RepresentsNode, has_sid, replace_held}
+use Rattle.sg_protocol.proofs.NodeStates.{node_states_represent}
 use Rattle.sg_protocol.proofs.RealHash.{real_hash}
 use Rattle.sg_node.specs.declared.node.Node.TheInside.{Inside}
 use Rattle.sg_node.specs.declared.sessions.Live.TheVariants.{AtTurn, Waiting}
-use Rattle.sg_node.specs.Slots.{Slot, state_in, held_in, is_of, first_place}
+use Rattle.sg_node.specs.Slots.{Slot, state_in, held_in, is_of, first_index}
 use Rattle.sg_node.specs.Invariant.{IsSlot, HoldsNode, node_state}
-use Rattle.sg_node.proofs.Places.{Tests, held_first, none_held}
+use Rattle.sg_node.proofs.Indices.{Tests, held_first, none_held}
 
 -- a place passes where what is held there has the sid
 test_sid : (ps : List Program) (js : List (List ℕ × ℕ)) (sid : List ℕ) (s : Slot) → IsSlot ps js s → Tests (has_sid sid) (is_of false sid) s
@@ -38,36 +38,36 @@ emptied ps js (s ∷ ss) (suc i) h = (h.0, emptied ps js ss i h.1)
 
 -- ---- the session with a sid
 
-pub no_session : (ps : List Program) (hs : List Held) (ss : List Session) (sid : List ℕ) → StandEach ps hs ss → find (has_sid sid) hs ≡ None → session_with ss sid ≡ None
-no_session ps hs ss sid e f = go (session_with ss sid) (subst (λ o. StandsIf ps o (session_with ss sid)) f ((node_states_stand real real_hash).finds_session ps hs ss sid e))
+pub no_session : (ps : List Program) (hs : List Held) (ss : List Session) (sid : List ℕ) → RepresentEach ps hs ss → find (has_sid sid) hs ≡ None → session_with ss sid ≡ None
+no_session ps hs ss sid e f = go (session_with ss sid) (subst (λ o. RepresentsIf ps o (session_with ss sid)) f ((node_states_represent real real_hash).finds_session ps hs ss sid e))
   where
-    go : (o : Option Session) → StandsIf ps None o → o ≡ None
+    go : (o : Option Session) → RepresentsIf ps None o → o ≡ None
     go None s = refl
     go (Some x) s = absurd s
 
-pub some_session : (ps : List Program) (hs : List Held) (ss : List Session) (sid : List ℕ) (h : Held) → StandEach ps hs ss → find (has_sid sid) hs ≡ Some h → (s : Session) × (session_with ss sid ≡ Some s) × StandsLive ps h s
-some_session ps hs ss sid h e f = go (session_with ss sid) (subst (λ o. StandsIf ps o (session_with ss sid)) f ((node_states_stand real real_hash).finds_session ps hs ss sid e))
+pub some_session : (ps : List Program) (hs : List Held) (ss : List Session) (sid : List ℕ) (h : Held) → RepresentEach ps hs ss → find (has_sid sid) hs ≡ Some h → (s : Session) × (session_with ss sid ≡ Some s) × RepresentsLive ps h s
+some_session ps hs ss sid h e f = go (session_with ss sid) (subst (λ o. RepresentsIf ps o (session_with ss sid)) f ((node_states_represent real real_hash).finds_session ps hs ss sid e))
   where
-    go : (o : Option Session) → StandsIf ps (Some h) o → (s : Session) × (o ≡ Some s) × StandsLive ps h s
+    go : (o : Option Session) → RepresentsIf ps (Some h) o → (s : Session) × (o ≡ Some s) × RepresentsLive ps h s
     go None s = absurd s
     go (Some x) s = (x, refl, s)
 
 -- ---- an abandonment
 
-module _ (n : Inside) (h : HoldsNode n) (m : Node) (st : StandsForNode (node_state n) m) (sid : List ℕ) where
+module _ (n : Inside) (h : HoldsNode n) (m : Node) (st : RepresentsNode (node_state n) m) (sid : List ℕ) where
   tests : AllByRecursion (Tests (has_sid sid) (is_of false sid)) n.sessions.slots
   tests = tests_sid n.programs.now n.joins.pairs sid n.sessions.slots h.slots
 
-  pub not_abandoned : first_place (is_of false sid) n.sessions.slots ≡ None → answer real m (Abandon sid) ≡ NotAbandoned
+  pub not_abandoned : first_index (is_of false sid) n.sessions.slots ≡ None → answer real m (Abandon sid) ≡ NotAbandoned
   not_abandoned e = ap (λ (o : Option Session). option_map_or (λ s. Abandoned) o NotAbandoned) (no_session m.programs (held_in n.sessions.slots) m.live sid st.live (none_held (has_sid sid) (is_of false sid) n.sessions.slots tests e))
 
-  pub abandoned : (i : ℕ) → first_place (is_of false sid) n.sessions.slots ≡ Some i → answer real m (Abandon sid) ≡ Abandoned
+  pub abandoned : (i : ℕ) → first_index (is_of false sid) n.sessions.slots ≡ Some i → answer real m (Abandon sid) ≡ Abandoned
   abandoned i e =
       let f = held_first (has_sid sid) (is_of false sid) n.sessions.slots i tests e in
       let s = some_session m.programs (held_in n.sessions.slots) m.live sid (state_in f.live).held st.live f.found in
       ap (λ (o : Option Session). option_map_or (λ s. Abandoned) o NotAbandoned) s.1
 
 -- what is live after it
-pub left : (n : Inside) → HoldsNode n → (sid : List ℕ) (i : ℕ) → first_place (is_of false sid) n.sessions.slots ≡ Some i →
+pub left : (n : Inside) → HoldsNode n → (sid : List ℕ) (i : ℕ) → first_index (is_of false sid) n.sessions.slots ≡ Some i →
     held_in (set_value_at n.sessions.slots i None) ≡ replace_held (has_sid sid) (λ h. []) (held_in n.sessions.slots)
 left n h sid i e = (held_first (has_sid sid) (is_of false sid) n.sessions.slots i (tests_sid n.programs.now n.joins.pairs sid n.sessions.slots h.slots) e).replaced None (λ h. []) refl

@@ -1,5 +1,5 @@
 pub mod More
-pub mod Places
+pub mod Indices
 pub mod Programs
 pub mod Keys
 pub mod Counts

@@ -8,35 +8,35 @@ use Rattle.sg_protocol.specs.Calls.{Call}
 use Rattle.sg_protocol.specs.Isolation.{AreAlike, IsLeft}
 use Rattle.sg_protocol.specs.Node.{Node}
 use Rattle.sg_protocol.specs.NodeAfter.{node_after}
-use Rattle.sg_protocol.specs.NodeStates.{NodeState, StandsForPast, new_state}
-use Rattle.sg_protocol.specs.Past.{Past, Called, new_node, node_of, node_after_all, past_after, AreAnswers}
+use Rattle.sg_protocol.specs.NodeStates.{NodeState, RepresentsPast, new_state}
+use Rattle.sg_protocol.specs.Past.{Past, AnsweredCall, new_node, node_of, node_after_all, past_after, AreAnswers}
 use Rattle.sg_protocol.specs.Ranges.{IsCallInRange}
 use Rattle.sg_protocol.specs.Texts.{real}
 use Rattle.sg_protocol.proofs.Course.{node_more}
 use Rattle.sg_protocol.proofs.Isolation.{sessions_are_isolated}
 use Rattle.sg_protocol.proofs.Joins.{nodes_join_once}
-use Rattle.sg_protocol.proofs.NodeStates.{node_states_stand}
+use Rattle.sg_protocol.proofs.NodeStates.{node_states_represent}
 use Rattle.sg_protocol.proofs.PerCall.{answers_are_of_sessions, calls_keep_alike, calls_leave_others}
 use Rattle.sg_protocol.proofs.RealHash.{real_hash}
 use Rattle.sg_protocol.specs.Keyring.{Keyring, Program}
-use Rattle.sg_node.specs.Laws.{new_past, NewNodesStand, PastsGoOn, SessionsAreAlone, SameForSessions, OthersAreLeft, PairsJoinOnce}
+use Rattle.sg_node.specs.Laws.{new_past, NewNodesRepresent, PastsGoOn, SessionsAreAlone, SameForSessions, OthersAreLeft, PairsJoinOnce}
 
--- a new state stands for the past without calls
-pub stands_new : (st : NodeState) (keys : Keyring) (programs : List Program) (first : List (List ℕ × ℕ)) → st ≡ new_state keys programs first → StandsForPast st (new_past keys programs first)
-stands_new st keys programs first e = subst (λ (z : NodeState). StandsForPast z (new_past keys programs first)) (sym e) ((node_states_stand real real_hash).is_new keys programs first)
+-- a new state represents the past without calls
+pub represents_new : (st : NodeState) (keys : Keyring) (programs : List Program) (first : List (List ℕ × ℕ)) → st ≡ new_state keys programs first → RepresentsPast st (new_past keys programs first)
+represents_new st keys programs first e = subst (λ (z : NodeState). RepresentsPast z (new_past keys programs first)) (sym e) ((node_states_represent real real_hash).is_new keys programs first)
 
-pub new_nodes : NewNodesStand
-new_nodes keys programs first = ((node_states_stand real real_hash).is_new keys programs first, record { calls = All-nil (λ (x : Called). IsCallInRange x.call); answers = tt })
+pub new_nodes : NewNodesRepresent
+new_nodes keys programs first = ((node_states_represent real real_hash).is_new keys programs first, record { calls = All-nil (λ (x : AnsweredCall). IsCallInRange x.call); answers = tt })
 
-answers_more : (n : Node) (cs : List Called) (c : Call) → AreAnswers real n cs → AreAnswers real n (cs ++ record { call = c; answer = answer real (node_after_all n cs) c } ∷ [])
+answers_more : (n : Node) (cs : List AnsweredCall) (c : Call) → AreAnswers real n cs → AreAnswers real n (cs ++ record { call = c; answer = answer real (node_after_all n cs) c } ∷ [])
 answers_more n [] c a = (refl, tt)
 answers_more n (x ∷ cs) c a = (a.0, answers_more (node_after n x.call x.answer) cs c a.1)
 
 pub pasts_go_on : PastsGoOn
 pasts_go_on past c told good =
-    let new : Called = record { call = c; answer = answer real (node_of past) c } in
+    let new : AnsweredCall = record { call = c; answer = answer real (node_of past) c } in
     record {
-      calls = All-from_recursion (λ (x : Called). IsCallInRange x.call) (past.calls ++ new ∷ []) (all-append (λ (x : Called). IsCallInRange x.call) past.calls (new ∷ []) (recursion_from_All (λ (x : Called). IsCallInRange x.call) past.calls told.calls) (good, tt));
+      calls = All-from_recursion (λ (x : AnsweredCall). IsCallInRange x.call) (past.calls ++ new ∷ []) (all-append (λ (x : AnsweredCall). IsCallInRange x.call) past.calls (new ∷ []) (recursion_from_All (λ (x : AnsweredCall). IsCallInRange x.call) past.calls told.calls) (good, tt));
       answers = answers_more (new_node past.keys past.programs past.first) past.calls c told.answers;
     }
 

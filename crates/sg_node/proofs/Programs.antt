@@ -8,7 +8,7 @@ use Rattle.sg_protocol.specs.Graph.{shape}
 use Rattle.sg_protocol.specs.Keyring.{Program}
 use Rattle.sg_protocol.specs.Node.{program_for, starter}
 use Rattle.sg_protocol.proofs.Finding.{find_passes}
-use Rattle.sg_node.proofs.Places.{some_none}
+use Rattle.sg_node.proofs.Indices.{some_none}
 
 -- two that are found first, each of which passes the other's test, are one
 same_first : {A : Type 0} (p q : A → Bool) (xs : List A) (a b : A) → find p xs ≡ Some a → find q xs ≡ Some b → q a ≡ true → p b ≡ true → b ≡ a

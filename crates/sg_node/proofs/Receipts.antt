@@ -13,8 +13,8 @@ use Rattle.sg_protocol.specs.Node.{Node, program_for, session_for, is_cast, stra
 use Rattle.sg_protocol.specs.NodeStates.{is_spent, unless_spent}
 use Rattle.sg_protocol.specs.Notes.{Notes, no_notes, row_number, notes_in_session, session_of_frame, hashed_of_join, notes_of_read}
 use Rattle.sg_protocol.specs.Session.{Session, new_session, at_turn}
-use Rattle.sg_protocol.specs.Standing.{Held}
-use Rattle.sg_protocol.specs.Backed.{IsBackedAtTurn}
+use Rattle.sg_protocol.specs.Representation.{Held}
+use Rattle.sg_protocol.specs.Reachable.{IsReachableAtTurn}
 use Rattle.sg_protocol.specs.Texts.{real, session_id, session_text_of}
 use Rattle.sg_protocol.specs.Verdict.{row, rows, rows_of_session, rows_of_join, rows_of_next, join_rows, next_rows, decided}
 use Rattle.sg_role.specs.Accepting.{Acceptance, goes_on, state_after}
@@ -210,9 +210,9 @@ module _ (m : Node) (f : Frame) where
 
 -- ---- what is left
 
-module _ (p : Program) (h : Held) (b : IsBackedAtTurn real p h) (a : Acceptance) (same : state_after a ≡ record { program = p; held = h }) where
+module _ (p : Program) (h : Held) (b : IsReachableAtTurn real p h) (a : Acceptance) (same : state_after a ≡ record { program = p; held = h }) where
   spent : is_spent p h ≡ not (goes_on p.graph (h.kept).place)
-  spent = ap (λ b. if b then not (list_any (λ e. e.source == (h.kept).place) p.graph.edges) else not (option_map_or (may_return p) (h.kept).origin true)) (turn_held p.graph h b.session b.stands.holds ∙ b.stands.turn)
+  spent = ap (λ b. if b then not (list_any (λ e. e.source == (h.kept).place) p.graph.edges) else not (option_map_or (may_return p) (h.kept).origin true)) (turn_held p.graph h b.session b.represents.holds ∙ b.represents.turn)
 
   by_turn : (b : Bool) → (if not b then [] else h ∷ []) ≡ held_at (if b then Some (AtTurn (record { program = p; held = h })) else None)
   by_turn true = refl
@@ -228,5 +228,5 @@ module _ (p : Program) (h : Held) (b : IsBackedAtTurn real p h) (a : Acceptance)
   left_live ps id r x y z = subst (IfLive ps id r) (sym left_is) (go (goes_on p.graph (h.kept).place))
     where
       go : (t : Bool) → IfLive ps id r (if t then Some (AtTurn (record { program = p; held = h })) else None)
-      go true = record { sid = x; role = y; program = z; backed = b }
+      go true = record { sid = x; role = y; program = z; reachable = b }
       go false = tt

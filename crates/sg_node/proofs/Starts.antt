@@ -13,13 +13,13 @@ use Rattle.sg_protocol.specs.Graph.{shape}
 use Rattle.sg_protocol.specs.IsSchedule.{IsProgram}
 use Rattle.sg_protocol.specs.Keyring.{Program, may_return}
 use Rattle.sg_protocol.specs.Node.{Node, starter, program_for, is_cast, stranger, has_joined}
-use Rattle.sg_protocol.specs.NodeStates.{StandsForNode, begun, is_spent, unless_spent, state_after}
+use Rattle.sg_protocol.specs.NodeStates.{RepresentsNode, begun, is_spent, unless_spent, state_after}
 use Rattle.sg_protocol.specs.Notes.{Notes, notes_of_start}
-use Rattle.sg_protocol.specs.Standing.{nothing_kept}
+use Rattle.sg_protocol.specs.Representation.{nothing_kept}
 use Rattle.sg_protocol.specs.Texts.{real, session_id, session_text_of}
 use Rattle.sg_protocol.specs.Verdict.{row}
-use Rattle.sg_protocol.specs.Backed.{IsBackedBefore}
-use Rattle.sg_protocol.proofs.Backed.{states_are_backed}
+use Rattle.sg_protocol.specs.Reachable.{IsReachableBefore}
+use Rattle.sg_protocol.proofs.Reachable.{states_are_reachable}
 use Rattle.sg_protocol.proofs.RealHash.{real_hash}
 use Rattle.sg_role.specs.Accepting.{goes_on}
 use Rattle.sg_role.specs.Sending.{with_notes}
@@ -67,7 +67,7 @@ text_noted c = record { made = []; found = []; hashed = session_text_of c ∷ []
 pub with_text : (n : Notes) (c : Cast) → record n { hashed = n.hashed ++ session_text_of c ∷ [] } ≡ with_notes n (text_noted c)
 with_text n c = λ i. record { made = sym (append-nil n.made) i; found = sym (append-nil n.found) i; hashed = n.hashed ++ session_text_of c ∷ [] }
 
-module _ (n : Inside) (m : Node) (st : StandsForNode (node_state n) m) (c : Cast) (p : Program)
+module _ (n : Inside) (m : Node) (st : RepresentsNode (node_state n) m) (c : Cast) (p : Program)
     (e : starter n.programs.now c.graph ≡ Some p) (f : is_cast n.keys p.graph c p.role ≡ true) (g : stranger n.keys c ≡ None) where
   pub by_state : answer_start real m c ≡ started (session_id real c) p.role (option_and_then (λ o. start_fault (fault_for o)) (obstacle_to n.joins.pairs (length (held_in n.sessions.slots)) (session_id real c) p.role))
   by_state =
@@ -111,7 +111,7 @@ module _ (n : Inside) (m : Node) (c : Cast) (p : Program) (ip : IsProgram real p
       ∙ ap (state_after (node_state n) (Start c)) (sym a)
 
 -- the table with it
-module _ (n : Inside) (h : HoldsNode n) (c : Cast) (p : Program) (e : program_for n.programs.now c.graph p.role ≡ Some p) (r : role_at (shape p.graph) 0 ≡ p.role) (b : IsBackedBefore real p (first_state p c).held) where
+module _ (n : Inside) (h : HoldsNode n) (c : Cast) (p : Program) (e : program_for n.programs.now c.graph p.role ≡ Some p) (r : role_at (shape p.graph) 0 ≡ p.role) (b : IsReachableBefore real p (first_state p c).held) where
   pub start_slots : AllByRecursion (IsSlot n.programs.now (n.joins.pairs ++ (session_id real c, p.role) ∷ [])) (n.sessions.slots ++ ((session_id real c, p.role), Some (AtTurn (first_state p c))) ∷ [])
   start_slots = slots_more n.programs.now n.joins.pairs (session_id real c, p.role) n.sessions.slots (Some (AtTurn (first_state p c))) h.slots
-      (record { sid = refl; role = refl; program = e; backed = (states_are_backed real real_hash).begins p (first_state p c).held b refl r })
+      (record { sid = refl; role = refl; program = e; reachable = (states_are_reachable real real_hash).begins p (first_state p c).held b refl r })

@@ -9,7 +9,7 @@ use Rattle.sg_protocol.specs.Calls as Protocol
 use Rattle.sg_protocol.specs.Calls.{Answer, Deliver, Happened, NotDelivered}
 use Rattle.sg_protocol.specs.Frame.{Frame}
 use Rattle.sg_protocol.specs.IsSchedule.{IsProgram}
-use Rattle.sg_protocol.specs.NodeStates.{NodeState, IsBackedLive, StandsForPast, state_taking, state_after}
+use Rattle.sg_protocol.specs.NodeStates.{NodeState, IsBackedLive, RepresentsPast, state_taking, state_after}
 use Rattle.sg_protocol.specs.Past.{Past, node_of}
 use Rattle.sg_protocol.specs.Reading.{read}
 use Rattle.sg_protocol.specs.Texts.{real}
@@ -27,17 +27,17 @@ no_refusal : (r : Refusal) → refusal r ≡ None → r ≡ refusals.OutOfMemory
 no_refusal refusals.OutOfMemory e = refl
 no_refusal other e = absurd (cc)
 
-module _ (old new : NodeState) (past : Past) (bytes : List ℕ) (programs : AllByRecursion (IsProgram real) old.programs) (backed : AllByRecursion (IsBackedLive real old.programs) old.live) (good : IsBytes bytes) (st : StandsForPast old past) where
+module _ (old new : NodeState) (past : Past) (bytes : List ℕ) (programs : AllByRecursion (IsProgram real) old.programs) (reachable : AllByRecursion (IsBackedLive real old.programs) old.live) (good : IsBytes bytes) (st : RepresentsPast old past) where
   -- by bytes that are no frame
   pub stays_by : (r : Protocol.Refusal) → answer real (node_of past) (Deliver bytes) ≡ NotDelivered r → new ≡ old → GoesOn old new (Deliver bytes) past
-  stays_by r a e = goes_on old new (Deliver bytes) past programs backed good st (e ∙ ap (state_after old (Deliver bytes)) (sym a))
+  stays_by r a e = goes_on old new (Deliver bytes) past programs reachable good st (e ∙ ap (state_after old (Deliver bytes)) (sym a))
 
   module _ (f : Frame) (q : read bytes ≡ Ok f) where
     read_answer : answer real (node_of past) (Deliver bytes) ≡ verdict_on real (node_of past) (Ok f)
     read_answer = ap (verdict_on real (node_of past)) q
 
     accepted : (x : Option Protocol.Refusal) → first_some (rows real (node_of past) f) ≡ x → (e : Event) → decided (receipt f) x ≡ Happened (event_of e) → new ≡ state_taking old (Ok f) → GoesOn old new (Deliver bytes) past
-    accepted None r e a t = goes_on old new (Deliver bytes) past programs backed good st
+    accepted None r e a t = goes_on old new (Deliver bytes) past programs reachable good st
         (t ∙ ap (state_taking old) (sym q) ∙ ap (λ x. state_after old (Deliver bytes) (decided (receipt f) x)) (sym r) ∙ ap (state_after old (Deliver bytes)) (sym read_answer))
     accepted (Some x) r e a t = absurd (cc)
 

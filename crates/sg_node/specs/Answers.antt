@@ -5,7 +5,7 @@ use Rattle.sg_protocol.specs.Calls as Protocol
 use Rattle.sg_protocol.specs.Frame.{Frame}
 use Rattle.sg_protocol.specs.Past.{Past, node_of, past_after, new_node, AreAnswers}
 use Rattle.sg_protocol.specs.Ranges.{IsCallInRange}
-use Rattle.sg_protocol.specs.NodeStates.{NodeState, StandsForPast, state_after}
+use Rattle.sg_protocol.specs.NodeStates.{NodeState, RepresentsPast, state_after}
 use Rattle.sg_protocol.specs.Spelling.{spelling}
 use Rattle.sg_protocol.specs.Acting.{answer}
 use Rattle.sg_protocol.specs.Texts.{real}
@@ -52,8 +52,8 @@ pub record IsTold (past : Past) : Type 0 where
   pub calls : All (λ c. IsCallInRange c.call) past.calls
   pub answers : AreAnswers real (new_node past.keys past.programs past.first) past.calls
 
--- a state that stood for the past stands for it with the call, whatever the past is
+-- a state that represented the past represents it with the call, whatever the past is
 pub record GoesOn (old new : NodeState) (call : Call) (past : Past) : Type 0 where
   -- it is the state after the answer
   pub state : new ≡ state_after old call (answer real (node_of past) call)
-  pub stands : StandsForPast new (past_after real past call)
+  pub represents : RepresentsPast new (past_after real past call)

@@ -6,23 +6,23 @@ use Rattle.sg_protocol.specs.Node.{program_for}
 use Rattle.sg_protocol.specs.NodeStates.{NodeState}
 use Rattle.sg_protocol.specs.IsSchedule.{IsProgram}
 use Rattle.sg_protocol.specs.Texts.{real}
-use Rattle.sg_protocol.specs.Backed.{IsBackedAtTurn, IsBackedWaiting}
+use Rattle.sg_protocol.specs.Reachable.{IsReachableAtTurn, IsReachableWaiting}
 use Rattle.sg_node.specs.declared.node.Node.TheInside.{Inside}
 use Rattle.sg_node.specs.declared.sessions.Live.{Live}
 use Rattle.sg_node.specs.declared.sessions.Live.TheVariants.{AtTurn, Waiting}
 use Rattle.sg_node.specs.Slots.{Slot, state_in, held_in}
 
--- some sound session stands behind the state
-abbrev pub IsBacked : Live → Type 0
-IsBacked (AtTurn s) = IsBackedAtTurn real s.program s.held
-IsBacked (Waiting s) = IsBackedWaiting real s.program s.held
+-- the state represents some sound session
+abbrev pub IsReachable : Live → Type 0
+IsReachable (AtTurn s) = IsReachableAtTurn real s.program s.held
+IsReachable (Waiting s) = IsReachableWaiting real s.program s.held
 
 -- a live session stands at the place of its join, under the program for its graph and role
 pub record IsLiveAt (programs : List Program) (id : List ℕ) (r : ℕ) (l : Live) : Type 0 where
   pub sid : (state_in l).held.sid ≡ id
   pub role : (state_in l).held.role ≡ r
   pub program : program_for programs (state_in l).held.cast.graph (state_in l).held.role ≡ Some (state_in l).program
-  pub backed : IsBacked l
+  pub reachable : IsReachable l
 
 -- none is there, or one that is live
 abbrev pub IfLive : List Program → List ℕ → ℕ → Option Live → Type 0

@@ -4,7 +4,7 @@ use Rattle.sg_protocol.specs.Acting.{answer}
 use Rattle.sg_protocol.specs.Calls.{Call}
 use Rattle.sg_protocol.specs.Isolation.{is_for_room, AreAlike, IsLeft}
 use Rattle.sg_protocol.specs.Keyring.{Keyring, Program}
-use Rattle.sg_protocol.specs.NodeStates.{StandsForPast, new_state}
+use Rattle.sg_protocol.specs.NodeStates.{RepresentsPast, new_state}
 use Rattle.sg_protocol.specs.Past.{Past, new_node, node_of, past_after, AreAnswers, answers, is_call_of, calls_of_session, pairs_differ, JoinedOnce}
 use Rattle.sg_protocol.specs.Ranges.{IsCallInRange}
 use Rattle.sg_protocol.specs.Texts.{real}
@@ -14,10 +14,10 @@ use Rattle.sg_node.specs.Answers.{IsTold}
 abbrev pub new_past : Keyring → List Program → List (List ℕ × ℕ) → Past
 new_past keys programs first = record { keys = keys; programs = programs; first = first; calls = [] }
 
--- A node that is made stands for the past without calls, which was told
-abbrev pub NewNodesStand : Type 0
-NewNodesStand = (keys : Keyring) (programs : List Program) (first : List (List ℕ × ℕ)) →
-    StandsForPast (new_state keys programs first) (new_past keys programs first) × IsTold (new_past keys programs first)
+-- A node that is made represents the past without calls, which was told
+abbrev pub NewNodesRepresent : Type 0
+NewNodesRepresent = (keys : Keyring) (programs : List Program) (first : List (List ℕ × ℕ)) →
+    RepresentsPast (new_state keys programs first) (new_past keys programs first) × IsTold (new_past keys programs first)
 
 -- A past that was told is told with a call in range and the node's answer
 abbrev pub PastsGoOn : Type 0

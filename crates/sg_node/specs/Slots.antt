@@ -1,7 +1,7 @@
 -- The table of a node's sessions: a place for each join, empty where the session is over.
 use Rattle.std.specs.Prelude.{ℕ, ◌<◌, ◌==◌, Bool, true, false, ◌&&◌, not, bytes_eq, nat_lt, if◌then◌else◌, List, [], ◌∷◌, ◌++◌, length, Option, None, Some, option_map, suc, ◌≡◌}
 use Rattle.std.specs.List.{AllByRecursion}
-use Rattle.sg_protocol.specs.Standing.{Held}
+use Rattle.sg_protocol.specs.Representation.{Held}
 use Rattle.sg_protocol.specs.Frame.{Frame}
 use Rattle.sg_role.specs.Accepting.{Acceptance, goes_on, state_after}
 use Rattle.sg_role.specs.Model.{RoleState}
@@ -87,6 +87,6 @@ slot_of k None = []
 slot_of k (Some l) = (k, Some l) ∷ []
 
 -- the first place at which an element passes
-abbrev pub first_place : {A : Type 0} → (A → Bool) → List A → Option ℕ
-first_place p [] = None
-first_place p (x ∷ xs) = if p x then Some 0 else option_map suc (first_place p xs)
+abbrev pub first_index : {A : Type 0} → (A → Bool) → List A → Option ℕ
+first_index p [] = None
+first_index p (x ∷ xs) = if p x then Some 0 else option_map suc (first_index p xs)

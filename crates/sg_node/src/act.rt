@@ -3,7 +3,7 @@ ghost use Rattle.std.specs.Prelude.{◌≡◌, ◌≢◌, ◌<◌, true, Err, No
 ghost use Rattle.indexmap.specs.IndexMap.{set_value_at};
 ghost use Rattle.sg_protocol.specs.Acting.{answer};
 ghost use Rattle.sg_protocol.specs.Calls.{Act};
-ghost use Rattle.sg_protocol.specs.NodeStates.{StandsForPast};
+ghost use Rattle.sg_protocol.specs.NodeStates.{RepresentsPast};
 ghost use Rattle.sg_protocol.specs.Notes.{notes as noted_of};
 ghost use Rattle.sg_protocol.specs.Past.{Past, node_of};
 ghost use Rattle.sg_protocol.specs.Texts.{real};
@@ -32,16 +32,16 @@ impl<'p> Node<'p> {
         notes: &mut Notes,
     ) -> Result<(Event, Sealed), ActFault>
         requires { length confounders.now ≡ length values.now }
-        ensures answer { (past : Past) → StandsForPast self.old past
+        ensures answer { (past : Past) → RepresentsPast self.old past
             → IsActAnswer (answer real (node_of past) (Act sid label (values_of values.now) confounders.now)) result }
-        ensures state { (past : Past) → StandsForPast self.old past → result ≢ Err ActFault.OutOfMemory
+        ensures state { (past : Past) → RepresentsPast self.old past → result ≢ Err ActFault.OutOfMemory
             → GoesOn self.old self.new (Act sid label (values_of values.now) confounders.now) past }
-        ensures notes { (past : Past) → StandsForPast self.old past → result ≢ Err ActFault.OutOfMemory
+        ensures notes { (past : Past) → RepresentsPast self.old past → result ≢ Err ActFault.OutOfMemory
             → notes.new ≡ with_notes notes.old (noted_of real (node_of past) (Act sid label (values_of values.now) confounders.now)) }
         ensures back { OnErr result ((self.new ≡ self.old) × (notes.new ≡ notes.old)) }
         // `OutOfMemory` is never inside another fault, and never takes the place of a refusal: memory runs out only for a step that would be sent.
         ensures told { result ≢ Err (ActFault.Send SendFault.OutOfMemory) }
-        ensures memory { (past : Past) → StandsForPast self.old past → result ≡ Err ActFault.OutOfMemory
+        ensures memory { (past : Past) → RepresentsPast self.old past → result ≡ Err ActFault.OutOfMemory
             → is_sending (answer real (node_of past) (Act sid label (values_of values.now) confounders.now)) ≡ true }
     {
         tell_values(values, confounders);

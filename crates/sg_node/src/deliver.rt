@@ -5,7 +5,7 @@ ghost use Rattle.indexmap.specs.IndexMap.{set_value_at};
 ghost use Rattle.sg_protocol.specs.Acting.{answer};
 ghost use Rattle.sg_protocol.specs.Calls.{Deliver};
 ghost use Rattle.sg_protocol.specs.Node.{Node as DefinedNode, program_for, is_cast, stranger};
-ghost use Rattle.sg_protocol.specs.NodeStates.{StandsForNode, StandsForPast, state_taking};
+ghost use Rattle.sg_protocol.specs.NodeStates.{RepresentsNode, RepresentsPast, state_taking};
 ghost use Rattle.sg_protocol.specs.Notes.{Notes, notes as noted_of, notes_of_read};
 ghost use Rattle.sg_protocol.specs.Past.{Past, node_of};
 ghost use Rattle.sg_protocol.specs.Reading.{read};
@@ -36,9 +36,9 @@ impl<'p> Node<'p> {
     /// Takes bytes that were delivered: the receipt of the frame that they spell, in the session that it continues or joins, or the
     /// first cause for which it is refused. After a refusal the node is as before.
     pub fn deliver(&mut self, bytes: &[u8], notes: &mut Notes) -> Result<Event, Refusal>
-        ensures answer { (past : Past) → StandsForPast self.old past → IsAnswer (answer real (node_of past) (Deliver bytes.now)) (delivery_answer result) }
-        ensures state { (past : Past) → StandsForPast self.old past → result ≢ Err Refusal.OutOfMemory → GoesOn self.old self.new (Deliver bytes.now) past }
-        ensures notes { (past : Past) → StandsForPast self.old past → result ≢ Err Refusal.OutOfMemory
+        ensures answer { (past : Past) → RepresentsPast self.old past → IsAnswer (answer real (node_of past) (Deliver bytes.now)) (delivery_answer result) }
+        ensures state { (past : Past) → RepresentsPast self.old past → result ≢ Err Refusal.OutOfMemory → GoesOn self.old self.new (Deliver bytes.now) past }
+        ensures notes { (past : Past) → RepresentsPast self.old past → result ≢ Err Refusal.OutOfMemory
             → notes.new ≡ with_notes notes.old (noted_of real (node_of past) (Deliver bytes.now)) }
         ensures back { OnErr result (self.new ≡ self.old) }
         ensures memory { result ≡ Err Refusal.OutOfMemory → notes.new ≡ notes.old }
@@ -61,9 +61,9 @@ impl<'p> Node<'p> {
     ) -> Result<Event, Refusal>
         requires spelled { SpellsFrame bytes.now frame.now }
         requires read { read bytes.now ≡ Ok frame.now }
-        ensures answer { (past : Past) → StandsForPast self.old past → IsAnswer (answer real (node_of past) (Deliver bytes.now)) (delivery_answer result) }
-        ensures state { (past : Past) → StandsForPast self.old past → result ≢ Err Refusal.OutOfMemory → GoesOn self.old self.new (Deliver bytes.now) past }
-        ensures notes { (past : Past) → StandsForPast self.old past → result ≢ Err Refusal.OutOfMemory
+        ensures answer { (past : Past) → RepresentsPast self.old past → IsAnswer (answer real (node_of past) (Deliver bytes.now)) (delivery_answer result) }
+        ensures state { (past : Past) → RepresentsPast self.old past → result ≢ Err Refusal.OutOfMemory → GoesOn self.old self.new (Deliver bytes.now) past }
+        ensures notes { (past : Past) → RepresentsPast self.old past → result ≢ Err Refusal.OutOfMemory
             → notes.new ≡ with_notes notes.old (noted_of real (node_of past) (Deliver bytes.now)) }
         ensures back { OnErr result (self.new ≡ self.old) }
         ensures memory { result ≡ Err Refusal.OutOfMemory → notes.new ≡ notes.old }
@@ -76,10 +76,10 @@ impl<'p> Node<'p> {
     // Takes a frame.
     fn receive(&mut self, frame: &Frame, bytes: &[u8], notes: &mut Notes) -> Result<Event, Refusal>
         requires { SpellsFrame bytes.now frame.now }
-        ensures answer { (n : DefinedNode) → StandsForNode self.old n → IsAnswer (verdict_on real n (Ok frame.now)) (delivery_answer result) }
+        ensures answer { (n : DefinedNode) → RepresentsNode self.old n → IsAnswer (verdict_on real n (Ok frame.now)) (delivery_answer result) }
         ensures taken { OnOk result (self.new ≡ state_taking self.old (Ok frame.now)) }
         ensures back { OnErr result (self.new ≡ self.old) }
-        ensures notes { (n : DefinedNode) → StandsForNode self.old n → result ≢ Err Refusal.OutOfMemory
+        ensures notes { (n : DefinedNode) → RepresentsNode self.old n → result ≢ Err Refusal.OutOfMemory
             → notes.new ≡ with_notes notes.old (notes_of_read real n (Ok frame.now)) }
         ensures memory { result ≡ Err Refusal.OutOfMemory → notes.new ≡ notes.old }
     {
@@ -93,10 +93,10 @@ impl<'p> Node<'p> {
     fn go_on(&mut self, frame: &Frame, bytes: &[u8], notes: &mut Notes) -> Result<Event, Refusal>
         requires spelled { SpellsFrame bytes.now frame.now }
         requires continues { frame.now.join ≡ None }
-        ensures answer { (n : DefinedNode) → StandsForNode self.old n → IsAnswer (verdict_on real n (Ok frame.now)) (delivery_answer result) }
+        ensures answer { (n : DefinedNode) → RepresentsNode self.old n → IsAnswer (verdict_on real n (Ok frame.now)) (delivery_answer result) }
         ensures taken { OnOk result (self.new ≡ state_taking self.old (Ok frame.now)) }
         ensures back { OnErr result (self.new ≡ self.old) }
-        ensures notes { (n : DefinedNode) → StandsForNode self.old n → result ≢ Err Refusal.OutOfMemory
+        ensures notes { (n : DefinedNode) → RepresentsNode self.old n → result ≢ Err Refusal.OutOfMemory
             → notes.new ≡ with_notes notes.old (notes_of_read real n (Ok frame.now)) }
         ensures memory { result ≡ Err Refusal.OutOfMemory → notes.new ≡ notes.old }
     {
@@ -126,10 +126,10 @@ impl<'p> Node<'p> {
     ) -> Result<Event, Refusal>
         requires spelled { SpellsFrame bytes.now frame.now }
         requires joins { frame.now.join ≡ Some cast }
-        ensures answer { (n : DefinedNode) → StandsForNode self.old n → IsAnswer (verdict_on real n (Ok frame.now)) (delivery_answer result) }
+        ensures answer { (n : DefinedNode) → RepresentsNode self.old n → IsAnswer (verdict_on real n (Ok frame.now)) (delivery_answer result) }
         ensures taken { OnOk result (self.new ≡ state_taking self.old (Ok frame.now)) }
         ensures back { OnErr result (self.new ≡ self.old) }
-        ensures notes { (n : DefinedNode) → StandsForNode self.old n → result ≢ Err Refusal.OutOfMemory
+        ensures notes { (n : DefinedNode) → RepresentsNode self.old n → result ≢ Err Refusal.OutOfMemory
             → notes.new ≡ with_notes notes.old (notes_of_read real n (Ok frame.now)) }
         ensures memory { result ≡ Err Refusal.OutOfMemory → notes.new ≡ notes.old }
     {
@@ -159,10 +159,10 @@ impl<'p> Node<'p> {
         requires program { program_for self.old.programs cast.graph frame.now.receiver ≡ Some program.now }
         requires cast { (is_cast self.old.keys program.now.graph cast frame.now.receiver && nat_lt frame.now.sender (length cast.names)) ≡ true }
         requires covered { stranger self.old.keys cast ≡ None }
-        ensures answer { (n : DefinedNode) → StandsForNode self.old n → IsAnswer (verdict_on real n (Ok frame.now)) (delivery_answer result) }
+        ensures answer { (n : DefinedNode) → RepresentsNode self.old n → IsAnswer (verdict_on real n (Ok frame.now)) (delivery_answer result) }
         ensures taken { OnOk result (self.new ≡ state_taking self.old (Ok frame.now)) }
         ensures back { OnErr result (self.new ≡ self.old) }
-        ensures notes { (n : DefinedNode) → StandsForNode self.old n → result ≢ Err Refusal.OutOfMemory
+        ensures notes { (n : DefinedNode) → RepresentsNode self.old n → result ≢ Err Refusal.OutOfMemory
             → notes.new ≡ with_notes notes.old (notes_of_read real n (Ok frame.now)) }
         ensures memory { result ≡ Err Refusal.OutOfMemory → notes.new ≡ notes.old }
     {
@@ -194,10 +194,10 @@ impl<'p> Node<'p> {
         requires cast { (is_cast self.old.keys program.now.graph cast frame.now.receiver && nat_lt frame.now.sender (length cast.names)) ≡ true }
         requires covered { stranger self.old.keys cast ≡ None }
         requires session { sid ≡ session_id real cast }
-        ensures answer { (n : DefinedNode) → StandsForNode self.old n → IsAnswer (verdict_on real n (Ok frame.now)) (delivery_answer result) }
+        ensures answer { (n : DefinedNode) → RepresentsNode self.old n → IsAnswer (verdict_on real n (Ok frame.now)) (delivery_answer result) }
         ensures taken { OnOk result (self.new ≡ state_taking self.old (Ok frame.now)) }
         ensures back { OnErr result (self.new ≡ self.old) }
-        ensures notes { (n : DefinedNode) (first : Notes) → StandsForNode self.old n
+        ensures notes { (n : DefinedNode) (first : Notes) → RepresentsNode self.old n
             → notes.old ≡ record first { hashed = first.hashed ++ session_text_of cast ∷ [] } → result ≢ Err Refusal.OutOfMemory
             → notes.new ≡ with_notes first (notes_of_read real n (Ok frame.now)) }
         ensures memory { result ≡ Err Refusal.OutOfMemory → notes.new ≡ notes.old }

@@ -2,7 +2,7 @@
 ghost use Rattle.std.specs.Prelude.{◌≡◌, option_and_then, option_map};
 ghost use Rattle.std.specs.Option.{option_copied};
 ghost use Rattle.sg_protocol.specs.Calls.{Start};
-ghost use Rattle.sg_protocol.specs.NodeStates.{StandsForPast};
+ghost use Rattle.sg_protocol.specs.NodeStates.{RepresentsPast};
 ghost use Rattle.sg_protocol.specs.Notes.{session_of_frame};
 ghost use Rattle.sg_protocol.specs.Past.{Past, node_of};
 ghost use Rattle.sg_protocol.specs.Texts.{real};
@@ -22,7 +22,7 @@ use sg_program::Programs;
 impl<'p> Node<'p> {
     /// The graph of the session that a start with this cast is of, if a program starts it. It takes no memory.
     pub fn start_graph(&self, cast: &Cast) -> Option<&'p Graph>
-        ensures { (past : Past) → StandsForPast self.now past → option_copied result ≡ graph_of_call real (node_of past) (Start cast.now) }
+        ensures { (past : Past) → RepresentsPast self.now past → option_copied result ≡ graph_of_call real (node_of past) (Start cast.now) }
     {
         match first_starter(self.programs, &cast.graph()) {
             Some(program) => Some(program.graph()),
@@ -33,7 +33,7 @@ impl<'p> Node<'p> {
     /// The graph of the first live session with an identifier, if there is one: an act and an abandonment are of that session. It takes no
     /// memory.
     pub fn graph_of(&self, sid: &Sid) -> Option<&'p Graph>
-        ensures { (past : Past) → StandsForPast self.now past → option_copied result ≡ option_map (λ x. x.0.graph) (live_with (node_of past) sid.now) }
+        ensures { (past : Past) → RepresentsPast self.now past → option_copied result ≡ option_map (λ x. x.0.graph) (live_with (node_of past) sid.now) }
     {
         match self.sessions.first(sid, false) {
             Some(index) => graph_at(self.programs, &self.sessions, index),
@@ -44,7 +44,7 @@ impl<'p> Node<'p> {
     /// The graph of the session that a frame joins or continues, if there is one: a delivery of bytes that are read as this frame is of that
     /// session. It takes no memory.
     pub fn frame_graph(&self, frame: &Frame) -> Option<&'p Graph>
-        ensures { (past : Past) → StandsForPast self.now past → option_copied result ≡ option_map (λ x. x.0.graph) (session_of_frame (node_of past) frame.now) }
+        ensures { (past : Past) → RepresentsPast self.now past → option_copied result ≡ option_map (λ x. x.0.graph) (session_of_frame (node_of past) frame.now) }
     {
         if let Some(cast) = &frame.join {
             return graph_for(self.programs, &cast.get().graph(), frame.receiver);

@@ -95,7 +95,7 @@ pub(crate) fn begin_session<'p>(joins: &mut Cache, sessions: &mut Sessions<'p>, 
     requires absent { ¬ Contains joins.old.pairs (before.held.sid, before.held.role) }
     requires count { length joins.old.pairs < most_joins }
     requires room { 0 < joins.old.spare }
-    requires place { 0 < sessions.old.spare }
+    requires slot { 0 < sessions.old.spare }
     requires free { ¬ Contains (map (λ s. s.0) sessions.old.slots) (before.held.sid, before.held.role) }
     requires role { before.held.role < 16 }
     requires starts { role_at (shape before.program.graph) 0 ≡ before.held.role }
@@ -123,7 +123,7 @@ pub(crate) fn join_session<'p>(
     requires absent { ¬ Contains joins.old.pairs (before.held.sid, before.held.role) }
     requires count { length joins.old.pairs < most_joins }
     requires room { 0 < joins.old.spare }
-    requires place { 0 < sessions.old.spare }
+    requires slot { 0 < sessions.old.spare }
     requires free { ¬ Contains (map (λ s. s.0) sessions.old.slots) (before.held.sid, before.held.role) }
     requires role { before.held.role < 16 }
     requires waits { role_at (shape before.program.graph) 0 ≢ before.held.role }

@@ -1,10 +1,10 @@
 //! What holds of a node's whole life. Each function is a law: it does nothing, and its contract is the statement.
-ghost use Rattle.sg_node.specs.Laws.{NewNodesStand, PastsGoOn, SessionsAreAlone, SameForSessions, OthersAreLeft, PairsJoinOnce};
+ghost use Rattle.sg_node.specs.Laws.{NewNodesRepresent, PastsGoOn, SessionsAreAlone, SameForSessions, OthersAreLeft, PairsJoinOnce};
 
-/// A node that is made stands for the past without calls, and a past that was told is told with each call in range and the node's
-/// answer. So a node stands for its past after all its calls, by the contract of each.
-pub fn stands_for_its_past()
-    ensures begins { NewNodesStand }
+/// A node that is made represents the past without calls, and a past that was told is told with each call in range and the node's
+/// answer. So a node represents its past after all its calls, by the contract of each.
+pub fn represents_its_past()
+    ensures begins { NewNodesRepresent }
     ensures goes_on { PastsGoOn }
 {}
 

@@ -5,7 +5,7 @@ ghost use Rattle.sg_model.specs.Limits.{most_joins};
 ghost use Rattle.sg_protocol.specs.Acting.{answer};
 ghost use Rattle.sg_protocol.specs.Calls.{Abandon};
 ghost use Rattle.sg_protocol.specs.IsSchedule.{IsProgram};
-ghost use Rattle.sg_protocol.specs.NodeStates.{StandsForPast, new_state};
+ghost use Rattle.sg_protocol.specs.NodeStates.{RepresentsPast, new_state};
 ghost use Rattle.sg_protocol.specs.Past.{Past, node_of};
 ghost use Rattle.sg_protocol.specs.Texts.{real};
 ghost use Rattle.sg_protocol.specs.Turn.{turn_of};
@@ -47,7 +47,7 @@ impl<'p> Model for Node<'p> {
 
 impl<'p> Node<'p> {
     /// A node with these keys and programs, without joins and sessions. It takes no memory.
-    #[tactic(auto, using(crate::proofs::Life::stands_new))]
+    #[tactic(auto, using(crate::proofs::Life::represents_new))]
     pub fn new(
         alloc: Global,
         keys: Keyring,
@@ -55,7 +55,7 @@ impl<'p> Node<'p> {
     ) -> Result<Node<'p>, OutOfMemory>
         ensures ok { IsOk result }
         ensures made { IfOk result (λ n. n ≡ new_state keys programs.entry.now []) }
-        ensures stands { IfOk result (λ n. StandsForPast n (new_past keys programs.entry.now [])) }
+        ensures represents { IfOk result (λ n. RepresentsPast n (new_past keys programs.entry.now [])) }
     {
         tell_programs(programs);
         Ok(Node {
@@ -68,7 +68,7 @@ impl<'p> Node<'p> {
     }
 
     /// A node with these keys and programs, which joined these pairs before: they are not joined again. It has no live session.
-    #[tactic(auto, using(crate::proofs::Life::stands_new))]
+    #[tactic(auto, using(crate::proofs::Life::represents_new))]
     pub fn with_joins(
         alloc: Global,
         keys: Keyring,
@@ -78,7 +78,7 @@ impl<'p> Node<'p> {
         requires count { length joins.now ≤ most_joins }
         requires different { AllPairs (λ a b. a ≢ b) joins.now }
         ensures made { IfOk result (λ n. n ≡ new_state keys programs.entry.now joins.now) }
-        ensures stands { IfOk result (λ n. StandsForPast n (new_past keys programs.entry.now joins.now)) }
+        ensures represents { IfOk result (λ n. RepresentsPast n (new_past keys programs.entry.now joins.now)) }
     {
         tell_programs(programs);
         Ok(Node {
@@ -94,8 +94,8 @@ impl<'p> Node<'p> {
     /// none. It takes no memory.
     #[tactic(auto, using(crate::proofs::Leaving::not_abandoned, crate::proofs::Leaving::abandoned, crate::proofs::Leaving::left, crate::proofs::Leaving::emptied, crate::proofs::Going::goes_on))]
     pub fn abandon(&mut self, sid: Sid) -> Result<(), UnknownSession>
-        ensures answer { (past : Past) → StandsForPast self.old past → answer real (node_of past) (Abandon sid) ≡ abandon_answer result }
-        ensures state { (past : Past) → StandsForPast self.old past → GoesOn self.old self.new (Abandon sid) past }
+        ensures answer { (past : Past) → RepresentsPast self.old past → answer real (node_of past) (Abandon sid) ≡ abandon_answer result }
+        ensures state { (past : Past) → RepresentsPast self.old past → GoesOn self.old self.new (Abandon sid) past }
         ensures back { OnErr result (self.new ≡ self.old) }
     {
         let Some(index) = self.sessions.first(&sid, false) else {
@@ -108,7 +108,7 @@ impl<'p> Node<'p> {
     /// The graph's node at which the first live session with an identifier stands that is at its turn, if there is one. It takes no
     /// memory.
     pub fn turn(&self, sid: Sid) -> Option<NodeId>
-        ensures { (past : Past) → StandsForPast self.now past → result ≡ turn_of (node_of past) sid }
+        ensures { (past : Past) → RepresentsPast self.now past → result ≡ turn_of (node_of past) sid }
     {
         let Some(index) = self.sessions.first(&sid, true) else {
             return None;

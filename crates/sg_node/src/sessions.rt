@@ -2,8 +2,8 @@
 ghost use Rattle.std.specs.Prelude.{◌≡◌, ◌<◌, ◌++◌, [], ◌∷◌, if◌then◌else◌, length, None, Some, map, option_and_then, option_map, slice_get, Contains, OnOk};
 ghost use Rattle.std.specs.Option.{option_copied};
 ghost use Rattle.indexmap.specs.IndexMap.{set_value_at, spare};
-ghost use Rattle.sg_node.specs.Invariant.{IsBacked};
-ghost use Rattle.sg_node.specs.Slots.{first_place, has_version, held_in, is_for, is_live, is_of, is_of_role, state_in};
+ghost use Rattle.sg_node.specs.Invariant.{IsReachable};
+ghost use Rattle.sg_node.specs.Slots.{first_index, has_version, held_in, is_for, is_live, is_of, is_of_role, state_in};
 
 use indexmap::IndexMap;
 use sg_base::{OutOfMemory, Role, Sid};
@@ -21,7 +21,7 @@ pub(crate) enum Live<'p> {
 
 /// Tells what stands behind a live session.
 pub(crate) fn tell_backed(live: &Live)
-    ensures { IsBacked live.now }
+    ensures { IsReachable live.now }
 {
     match live {
         Live::AtTurn(turn) => {
@@ -82,7 +82,7 @@ impl<'p> Sessions<'p> {
 
     // The place of a live session in a role; where `only_turns`, of one that is at its turn.
     fn find(&self, sid: &Sid, role: Role, only_turns: bool) -> Option<usize>
-        ensures { result ≡ first_place (is_of_role only_turns sid.now role) self.now.slots }
+        ensures { result ≡ first_index (is_of_role only_turns sid.now role) self.now.slots }
     {
         let index = self.slots.get_index_of(&(*sid, role));
         self.if_live(index, only_turns)
@@ -90,7 +90,7 @@ impl<'p> Sessions<'p> {
 
     /// The place of the live session for which a frame is, by its sid, its receiver and its version. It takes no memory.
     pub fn find_for(&self, frame: &Frame) -> Option<usize>
-        ensures { result ≡ first_place (is_for frame.now) self.now.slots }
+        ensures { result ≡ first_index (is_for frame.now) self.now.slots }
     {
         let index = self.slots.get_index_of(&(frame.sid, frame.receiver));
         self.if_of_version(index, frame.version)
@@ -120,7 +120,7 @@ impl<'p> Sessions<'p> {
     /// it looks once for each role up to the highest that was joined. It takes no memory.
     #[tactic(auto, using(crate::proofs::Keys::none_below, crate::proofs::Keys::one_below, crate::proofs::Keys::all_below))]
     pub fn first(&self, sid: &Sid, only_turns: bool) -> Option<usize>
-        ensures { result ≡ first_place (is_of only_turns sid.now) self.now.slots }
+        ensures { result ≡ first_index (is_of only_turns sid.now) self.now.slots }
     {
         let _count = self.live;
         let mut first = None;

@@ -5,7 +5,7 @@ ghost use Rattle.sg_protocol.specs.Acting.{answer, answer_start};
 ghost use Rattle.sg_protocol.specs.Graph.{shape};
 ghost use Rattle.sg_protocol.specs.Calls.{Start};
 ghost use Rattle.sg_protocol.specs.Node.{Node as DefinedNode, starter, program_for, is_cast, stranger};
-ghost use Rattle.sg_protocol.specs.NodeStates.{StandsForNode, StandsForPast, state_after};
+ghost use Rattle.sg_protocol.specs.NodeStates.{RepresentsNode, RepresentsPast, state_after};
 ghost use Rattle.sg_protocol.specs.Notes.{notes as noted_of, notes_of_start};
 ghost use Rattle.sg_protocol.specs.Past.{Past, node_of};
 ghost use Rattle.sg_protocol.specs.Ranges.{IsCast};
@@ -27,9 +27,9 @@ impl<'p> Node<'p> {
     /// Starts a session of a cast, at the start node of its graph, or gives the first cause for which it is refused. After a
     /// refusal the node is as before.
     pub fn start(&mut self, cast: Cast, notes: &mut Notes) -> Result<Event, StartFault>
-        ensures answer { (past : Past) → StandsForPast self.old past → IsAnswer (answer real (node_of past) (Start cast)) (start_answer result) }
-        ensures state { (past : Past) → StandsForPast self.old past → result ≢ Err StartFault.OutOfMemory → GoesOn self.old self.new (Start cast) past }
-        ensures notes { (past : Past) → StandsForPast self.old past → result ≢ Err StartFault.OutOfMemory
+        ensures answer { (past : Past) → RepresentsPast self.old past → IsAnswer (answer real (node_of past) (Start cast)) (start_answer result) }
+        ensures state { (past : Past) → RepresentsPast self.old past → result ≢ Err StartFault.OutOfMemory → GoesOn self.old self.new (Start cast) past }
+        ensures notes { (past : Past) → RepresentsPast self.old past → result ≢ Err StartFault.OutOfMemory
             → notes.new ≡ with_notes notes.old (noted_of real (node_of past) (Start cast)) }
         ensures back { OnErr result (self.new ≡ self.old) }
         ensures memory { result ≡ Err StartFault.OutOfMemory → notes.new ≡ notes.old }
@@ -63,10 +63,10 @@ impl<'p> Node<'p> {
         requires covered { stranger self.old.keys cast ≡ None }
         requires node { role_at (shape program.now.graph) 0 ≡ program.now.role }
         requires graph { cast.graph ≡ program.now.digest }
-        ensures answer { (n : DefinedNode) → StandsForNode self.old n → IsAnswer (answer_start real n cast) (start_answer result) }
-        ensures state { (n : DefinedNode) → StandsForNode self.old n → result ≢ Err StartFault.OutOfMemory
+        ensures answer { (n : DefinedNode) → RepresentsNode self.old n → IsAnswer (answer_start real n cast) (start_answer result) }
+        ensures state { (n : DefinedNode) → RepresentsNode self.old n → result ≢ Err StartFault.OutOfMemory
             → self.new ≡ state_after self.old (Start cast) (answer_start real n cast) }
-        ensures notes { (n : DefinedNode) → StandsForNode self.old n → result ≢ Err StartFault.OutOfMemory
+        ensures notes { (n : DefinedNode) → RepresentsNode self.old n → result ≢ Err StartFault.OutOfMemory
             → notes.new ≡ with_notes notes.old (notes_of_start cast (answer_start real n cast)) }
         ensures back { OnErr result (self.new ≡ self.old) }
         ensures memory { result ≡ Err StartFault.OutOfMemory → notes.new ≡ notes.old }

@@ -22,7 +22,7 @@ use Rattle.sg_parse.proofs.Lexing.{Lexes, StandsApart, lex-end, lex-space, lex-l
 lexes-as : (cs bs : List ℕ) (ts : List Token) → cs ≡ bs → Lexes bs ts → Lexes cs ts
 lexes-as cs bs ts e h = subst (λ l. Lexes l ts) (sym e) h
 
--- the name at a place is a name
+-- the name at an index is a name
 pub name-is : (ns : List Name) (r : ℕ) → r < length ns → list_all (λ n. is_name n && not (has_text n reserved)) ns ≡ true → is_name (get_or ns r []) ≡ true
 name-is [] r l h = absurd (omega arith)
 name-is (n ∷ ns) zero l h = (and_parts (is_name n) (not (has_text n reserved)) (and_parts (is_name n && not (has_text n reserved)) (list_all (λ n. is_name n && not (has_text n reserved)) ns) h).0).0
@@ -41,9 +41,9 @@ lex-ended : (rest : List ℕ) (ts : List Token) → Lexes rest ts → Lexes (59 
 lex-ended rest ts h = lex-semicolon (10 ∷ rest) ts (lex-line rest ts h)
 
 -- names after spaces
-lex-spaced : (name_at : ℕ → Name) (names : List Name) (places : List ℕ) (rest : List ℕ) (ts : List Token)
-    → ((x : ℕ) → is_in x places ≡ true → (name_at x ≡ get_or names x []) × (is_name (name_at x) ≡ true)) → StandsApart rest → Lexes rest ts
-    → Lexes (spaced (map name_at places) ++ rest) (named names places ++ ts) × StandsApart (spaced (map name_at places) ++ rest)
+lex-spaced : (name_at : ℕ → Name) (names : List Name) (indices : List ℕ) (rest : List ℕ) (ts : List Token)
+    → ((x : ℕ) → is_in x indices ≡ true → (name_at x ≡ get_or names x []) × (is_name (name_at x) ≡ true)) → StandsApart rest → Lexes rest ts
+    → Lexes (spaced (map name_at indices) ++ rest) (named names indices ++ ts) × StandsApart (spaced (map name_at indices) ++ rest)
 lex-spaced name_at names [] rest ts is a h = (h, a)
 lex-spaced name_at names (x ∷ xs) rest ts is a h =
     let e : (x == x) ≡ true = eq-eqb x x refl in

@@ -8,18 +8,18 @@ use Rattle.sg_model.specs.Names.{Name, is_name, reserved}
 use Rattle.sg_protocol.specs.Graph.{VariableKind, Int, Text, kind_text, AreNames}
 use Rattle.sg_parse.specs.Tokens.{is_word}
 use Rattle.sg_parse.specs.Reading.{Parser, after, give, is_next, branch, token, skip, name, new_name, known_name, read_kind, fail}
-use Rattle.sg_parse.specs.declared.token.Placed.{Placed}
+use Rattle.sg_parse.specs.declared.token.TokenAt.{TokenAt}
 use Rattle.sg_parse.specs.declared.token.Token.{Token}
 use Rattle.sg_parse.specs.declared.token.Token.TheVariants.{Word}
 use Rattle.sg_parse.specs.declared.fault.ParseFault.TheVariants.{Twice}
 use Rattle.sg_parse.proofs.Took.{bare}
-use Rattle.sg_parse.proofs.Names.{named_there, place_there}
+use Rattle.sg_parse.proofs.Names.{named_there, index_there}
 use Rattle.sg_parse.proofs.Middle.{name-at}
 use Rattle.sg_parse.proofs.Readings.{onward, known_read}
 
 -- from tokens ts before us the reader reads x
 pub record Gives {A : Type 0} (r : Parser A) (ts us : List Token) (x : A) : Type 0 where
-  pub go : (ps : List Placed) → bare ps ≡ ts ++ us → (rest : List Placed) × (bare rest ≡ us) × (r ps ≡ Ok (record { value = x; rest = rest }))
+  pub go : (ps : List TokenAt) → bare ps ≡ ts ++ us → (rest : List TokenAt) × (bare rest ≡ us) × (r ps ≡ Ok (record { value = x; rest = rest }))
 
 pub gives-give : {A : Type 0} (x : A) (us : List Token) → Gives (give x) [] us x
 gives-give x us = record { go = λ ps e. (ps, e, refl) }
@@ -37,7 +37,7 @@ abbrev pub head_is : (Token → Bool) → List Token → Bool
 head_is test [] = false
 head_is test (t ∷ ts) = test t
 
-pub head-next : (test : Token → Bool) (ps : List Placed) → is_next test ps ≡ head_is test (bare ps)
+pub head-next : (test : Token → Bool) (ps : List TokenAt) → is_next test ps ≡ head_is test (bare ps)
 head-next test [] = refl
 head-next test (p ∷ ps) = refl
 
@@ -60,7 +60,7 @@ gives-second test first second ts us x h a = record {
 pub gives-skip : (t : Token) (us : List Token) → Gives skip (t ∷ []) us tt
 gives-skip t us = record { go = go }
   where
-    go : (ps : List Placed) → bare ps ≡ t ∷ us → (rest : List Placed) × (bare rest ≡ us) × (skip ps ≡ Ok (record { value = tt; rest = rest }))
+    go : (ps : List TokenAt) → bare ps ≡ t ∷ us → (rest : List TokenAt) × (bare rest ≡ us) × (skip ps ≡ Ok (record { value = tt; rest = rest }))
     go [] e = absurd (cc)
     go (p ∷ ps) e = (ps, cc, refl)
 
@@ -75,8 +75,8 @@ gives-word w us = gives-token (is_word w) (Word w) us (word-is w)
 
 -- ---- names
 
-pub name-there : (ps : List Placed) (n : Name) (us : List Token) → has_text n reserved ≡ false → bare ps ≡ Word n ∷ us
-    → (at : ℕ) × (rest : List Placed) × (bare rest ≡ us) × (name ps ≡ Ok (record { value = (n, at); rest = rest }))
+pub name-there : (ps : List TokenAt) (n : Name) (us : List Token) → has_text n reserved ≡ false → bare ps ≡ Word n ∷ us
+    → (at : ℕ) × (rest : List TokenAt) × (bare rest ≡ us) × (name ps ≡ Ok (record { value = (n, at); rest = rest }))
 name-there [] n us h e = absurd (cc)
 name-there (p ∷ ps) n us h e =
     let t : p.token ≡ Word n = cc in
@@ -95,7 +95,7 @@ gives-known names r us are l = record {
   go = λ ps e.
       let parts = and_parts (list_all (λ n. is_name n && not (has_text n reserved)) names) (all_differ names) are in
       let f = name-there ps (get_or names r []) us (name-at names r l parts.0) e in
-      (f.1, f.2, known_read names ps f.1 (get_or names r []) f.0 r f.3 (named_there names r l) (place_there names r parts.1 l));
+      (f.1, f.2, known_read names ps f.1 (get_or names r []) f.0 r f.3 (named_there names r l) (index_there names r parts.1 l));
 }
 
 pub gives-kind : (k : VariableKind) (us : List Token) → Gives read_kind (Word (kind_text k) ∷ []) us k

@@ -7,7 +7,7 @@ use Rattle.sg_graph.specs.Adding.{no_parts, with_role, with_variable, with_node,
 use Rattle.sg_parse.specs.Grammar.{head_tokens, role_tokens, node_tokens, SpellsVariable, SpellsEdge, InTurn, Done, Then, SpellsStatements, SpellsGraph}
 use Rattle.sg_parse.specs.Tokens.{tokens, is_word, is_semicolon, is_end}
 use Rattle.sg_parse.specs.Reading.{Parser, after, give, is_next, token, name, read_role, read_variable, read_node, read_edge, read_head, read_roles, read_variables, read_nodes, read_edges, read_end, read_statements, read_text, statement, up_to, whole, read}
-use Rattle.sg_parse.specs.declared.token.Placed.{Placed}
+use Rattle.sg_parse.specs.declared.token.TokenAt.{TokenAt}
 use Rattle.sg_parse.specs.declared.token.Token.{Token}
 use Rattle.sg_parse.specs.declared.token.Token.TheVariants.{Word, Semicolon, End}
 use Rattle.sg_parse.proofs.Loops.{up_to-there, up_to-away}
@@ -29,14 +29,14 @@ module _ {A : Type 0} (add : Graph → A → Graph) (Spells : Graph → A → Li
       → Gives (up_to n first reader g) ts us (adds add g xs)
   gives-up_to n g [] ts us l is Done h = record { go = λ ps e. (ps, e, up_to-away first reader n g ps (head-next (is_word first) ps ∙ ap (head_is (is_word first)) e ∙ h)) }
   gives-up_to zero g (x ∷ xs) ts us l is t h = absurd (omega (arith, l))
-  gives-up_to (suc n) g (x ∷ xs) ts us l is (Then {ts = front} {us = back} s rest) h =
+  gives-up_to (suc n) g (x ∷ xs) ts us l is (Then {ts = prefix} {us = back} s rest) h =
       let more : Gives (up_to n first reader (add g x)) back us (adds add (add g x) xs) =
       gives-up_to n (add g x) xs back us (omega (arith, l)) is (in_turn-map (Spells g) (Spells (add g x)) xs back (moves g x) rest) h in
-      let both : Gives (after (statement first reader g) (up_to n first reader)) (front ++ back) us (adds add (add g x) xs) =
-      gives-after (statement first reader g) (up_to n first reader) front back us (add g x) (adds add (add g x) xs) (step g x xs front (back ++ us) is s) more in
+      let both : Gives (after (statement first reader g) (up_to n first reader)) (prefix ++ back) us (adds add (add g x) xs) =
+      gives-after (statement first reader g) (up_to n first reader) prefix back us (add g x) (adds add (add g x) xs) (step g x xs prefix (back ++ us) is s) more in
       record {
         go = λ ps e.
-            let there : is_next (is_word first) ps ≡ true = head-next (is_word first) ps ∙ ap (head_is (is_word first)) (e ∙ append_assoc front back us) ∙ begins g x front (back ++ us) s in
+            let there : is_next (is_word first) ps ≡ true = head-next (is_word first) ps ∙ ap (head_is (is_word first)) (e ∙ append_assoc prefix back us) ∙ begins g x prefix (back ++ us) s in
             let r = both.go ps e in
             (r.0, r.1, up_to-there first reader n g ps there ∙ r.2);
       }
@@ -58,11 +58,11 @@ edge_begins test g x ts us s = ap (λ l. head_is test (l ++ us)) s.spelled
 -- behind statements in turn, what doesn't begin them and what follows doesn't begin
 variables_ahead : (test : Token → Bool) (g : Graph) (xs : List Variable) (ts us : List Token) → InTurn (SpellsVariable g) xs ts → test (Word (codes "var")) ≡ false → head_is test us ≡ false → head_is test (ts ++ us) ≡ false
 variables_ahead test g [] ts us Done w h = h
-variables_ahead test g (x ∷ xs) ts us (Then {ts = front} {us = back} s rest) w h = ap (head_is test) (append_assoc front back us) ∙ variable_begins test g x front (back ++ us) s ∙ w
+variables_ahead test g (x ∷ xs) ts us (Then {ts = prefix} {us = back} s rest) w h = ap (head_is test) (append_assoc prefix back us) ∙ variable_begins test g x prefix (back ++ us) s ∙ w
 
 edges_ahead : (test : Token → Bool) (g : Graph) (xs : List Edge) (ts us : List Token) → InTurn (SpellsEdge g) xs ts → test (Word (codes "edge")) ≡ false → head_is test us ≡ false → head_is test (ts ++ us) ≡ false
 edges_ahead test g [] ts us Done w h = h
-edges_ahead test g (x ∷ xs) ts us (Then {ts = front} {us = back} s rest) w h = ap (head_is test) (append_assoc front back us) ∙ edge_begins test g x front (back ++ us) s ∙ w
+edges_ahead test g (x ∷ xs) ts us (Then {ts = prefix} {us = back} s rest) w h = ap (head_is test) (append_assoc prefix back us) ∙ edge_begins test g x prefix (back ++ us) s ∙ w
 
 -- statements that are determined stand in turn
 flat-in_turn : {A : Type 0} (f : A → List Token) (xs : List A) → InTurn (λ x us. us ≡ f x) xs (flat_map f xs)
@@ -81,7 +81,7 @@ gives-head : (n : Name) (us : List Token) → has_text n reserved ≡ false → 
 gives-head n us free =
     gives-after (token (is_word (codes "graph"))) _ (Word (codes "graph") ∷ []) (Word n ∷ Semicolon ∷ []) us tt (no_parts n) (gives-word (codes "graph") (Word n ∷ Semicolon ∷ us)) (record { go = go })
   where
-    go : (ps : List Placed) → bare ps ≡ Word n ∷ Semicolon ∷ us → (rest : List Placed) × (bare rest ≡ us)
+    go : (ps : List TokenAt) → bare ps ≡ Word n ∷ Semicolon ∷ us → (rest : List TokenAt) × (bare rest ≡ us)
         × (after name (λ (n : Name × ℕ). after (token is_semicolon) λ _. give (no_parts n.0)) ps ≡ Ok (record { value = no_parts n; rest = rest }))
     go ps e =
         let f = name-there ps n (Semicolon ∷ us) free e in

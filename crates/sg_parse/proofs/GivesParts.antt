@@ -16,44 +16,44 @@ use Rattle.sg_graph.specs.Parts.{node_names}
 use Rattle.sg_parse.specs.Grammar.{named, differ, head_tokens, role_tokens, node_tokens, InTurn, Done, Then, SpellsStatements}
 use Rattle.sg_parse.specs.Parts.{Part, Use, IsUse, IsPart, AreParts, part_names, use_names}
 use Rattle.sg_parse.specs.PartsGrammar.{use_tokens, SpellsPart, SpellsParts}
-use Rattle.sg_parse.specs.PartsReading.{more_places, some_places, repeat, read_use, read_uses, read_part_head, read_part, read_parts, read}
+use Rattle.sg_parse.specs.PartsReading.{more_indices, some_indices, repeat, read_use, read_uses, read_part_head, read_part, read_parts, read}
 use Rattle.sg_parse.specs.Tokens.{Part as Region, tokens, tokens_from, leading, begun, part_of, goes_on, is_last, is_separator, seen_as, part_tokens, is_word, is_named, is_colon, is_semicolon, is_arrow, is_use, is_as, is_end}
 use Rattle.sg_parse.specs.Reading.{after, give, is_next, token, new_name, known_name, read_statements, read_end, whole}
-use Rattle.sg_parse.specs.declared.token.Placed.{Placed}
+use Rattle.sg_parse.specs.declared.token.TokenAt.{TokenAt}
 use Rattle.sg_parse.specs.declared.token.Token.{Token}
 use Rattle.sg_parse.specs.declared.token.Language.TheVariants.{OfParts}
 use Rattle.sg_parse.specs.declared.token.Token.TheVariants.{Word, Colon, Semicolon, Arrow, Use as UseWord, As, End}
 use Rattle.sg_parse.proofs.Took.{bare}
-use Rattle.sg_parse.proofs.Names.{named_there, place_there}
+use Rattle.sg_parse.proofs.Names.{named_there, index_there}
 use Rattle.sg_parse.proofs.Middle.{name-at, name-middle}
 use Rattle.sg_parse.proofs.Gives.{Gives, gives-give, gives-after, gives-token, gives-word, gives-new, gives-known, gives-first, head_is, head-next}
 use Rattle.sg_parse.proofs.GivesGraph.{gives-statements}
 use Rattle.sg_parse.proofs.TookParts.{uses-behind}
-use Rattle.sg_parse.proofs.Places.{repeat-there, repeat-away}
+use Rattle.sg_parse.proofs.Indices.{repeat-there, repeat-away}
 
--- ---- places
+-- ---- indices
 
 module _ (names : List Name) (are : AreNames names) where
-  more-there : (order places : List ℕ) (us : List Token) (ps : List Placed) → All (λ r. r < length names) order → differ order ≡ true → ((n : ℕ) → is_in n order ≡ true → is_in n places ≡ false)
+  more-there : (order indices : List ℕ) (us : List Token) (ps : List TokenAt) → All (λ r. r < length names) order → differ order ≡ true → ((n : ℕ) → is_in n order ≡ true → is_in n indices ≡ false)
       → head_is is_named us ≡ false → bare ps ≡ named names order ++ us
-      → (rest : List Placed) × (bare rest ≡ us) × (more_places names places ps ≡ Ok (record { value = places ++ order; rest = rest }))
-  more-there [] places us [] below once apart h e = ([], e, ap (λ l. Ok (record { value = l; rest = [] })) (sym (append-nil places)))
-  more-there [] places us (p ∷ ps) below once apart h e =
+      → (rest : List TokenAt) × (bare rest ≡ us) × (more_indices names indices ps ≡ Ok (record { value = indices ++ order; rest = rest }))
+  more-there [] indices us [] below once apart h e = ([], e, ap (λ l. Ok (record { value = l; rest = [] })) (sym (append-nil indices)))
+  more-there [] indices us (p ∷ ps) below once apart h e =
       let away : is_named p.token ≡ false = ap (head_is is_named) e ∙ h in
-      (p ∷ ps, e, rw away (ap (λ l. Ok (record { value = l; rest = p ∷ ps })) (sym (append-nil places))))
-  more-there (x ∷ xs) places us [] below once apart h e = absurd (cc)
-  more-there (x ∷ xs) places us (p ∷ ps) below once apart h e =
+      (p ∷ ps, e, rw away (ap (λ l. Ok (record { value = l; rest = p ∷ ps })) (sym (append-nil indices))))
+  more-there (x ∷ xs) indices us [] below once apart h e = absurd (cc)
+  more-there (x ∷ xs) indices us (p ∷ ps) below once apart h e =
       let l : x < length names = below 0 x (omega arith) in
       let tok : p.token ≡ Word (get_or names x []) = cc in
       let rest : bare ps ≡ named names xs ++ us = cc in
       let parts = and_parts (list_all (λ n. is_name n && not (has_text n reserved)) names) (all_differ names) are in
       let free : has_text (get_or names x []) reserved ≡ false = name-at names x l parts.0 in
       let same : (x == x) ≡ true = eq-eqb x x refl in
-      let new : is_in x places ≡ false = apart x (rw same refl) in
+      let new : is_in x indices ≡ false = apart x (rw same refl) in
       let once' = and_parts (not (is_in x xs)) (differ xs) once in
       let out : is_in x xs ≡ false = not-true (is_in x xs) once'.0 in
-      let r = more-there xs (places ++ x ∷ []) us ps (λ k d l. below (suc k) d (omega (arith, l))) once'.1 (λ n i. is_in-more n x places ∙ rw (apart n (rw i (or_true (x == n)))) (other n i out)) h rest in
-      (r.0, r.1, rw (tok, free, named_there names x l, place_there names x parts.1 l, new) (r.2 ∙ ap (λ l. Ok (record { value = l; rest = r.0 })) (append_assoc places (x ∷ []) xs)))
+      let r = more-there xs (indices ++ x ∷ []) us ps (λ k d l. below (suc k) d (omega (arith, l))) once'.1 (λ n i. is_in-more n x indices ∙ rw (apart n (rw i (or_true (x == n)))) (other n i out)) h rest in
+      (r.0, r.1, rw (tok, free, named_there names x l, index_there names x parts.1 l, new) (r.2 ∙ ap (λ l. Ok (record { value = l; rest = r.0 })) (append_assoc indices (x ∷ []) xs)))
     where
       other : (n : ℕ) → is_in n xs ≡ true → is_in x xs ≡ false → (x == n) ≡ false
       other n i out = elim (cases_Bool (x == n)) [
@@ -61,15 +61,15 @@ module _ (names : List Name) (are : AreNames names) where
         | inr d ↦ d
       ]
 
-  gives-places : (order : List ℕ) (us : List Token) → 1 ≤ length order → All (λ r. r < length names) order → differ order ≡ true → head_is is_named us ≡ false
-      → Gives (some_places names) (named names order) us order
-  gives-places [] us some below once h = absurd (omega (arith, some))
-  gives-places (x ∷ xs) us some below once h =
+  gives-indices : (order : List ℕ) (us : List Token) → 1 ≤ length order → All (λ r. r < length names) order → differ order ≡ true → head_is is_named us ≡ false
+      → Gives (some_indices names) (named names order) us order
+  gives-indices [] us some below once h = absurd (omega (arith, some))
+  gives-indices (x ∷ xs) us some below once h =
       let parts = and_parts (list_all (λ n. is_name n && not (has_text n reserved)) names) (all_differ names) are in
       let free : has_text (get_or names x []) reserved ≡ false = name-at names x (below 0 x (omega arith)) parts.0 in
       let begins : head_is is_named (named names (x ∷ xs) ++ us) ≡ true = rw free refl in
-      let more : Gives (more_places names []) (named names (x ∷ xs)) us (x ∷ xs) = record { go = λ ps e. more-there (x ∷ xs) [] us ps below once (λ n i. refl) h e } in
-      gives-first is_named (more_places names []) _ (named names (x ∷ xs)) us (x ∷ xs) begins more
+      let more : Gives (more_indices names []) (named names (x ∷ xs)) us (x ∷ xs) = record { go = λ ps e. more-there (x ∷ xs) [] us ps below once (λ n i. refl) h e } in
+      gives-first is_named (more_indices names []) _ (named names (x ∷ xs)) us (x ∷ xs) begins more
 
 -- ---- uses
 
@@ -94,7 +94,7 @@ gives-use names g uses u us are is f free new =
     (gives-after (known_name (node_names g)) _ (Word (node_name g u.to) ∷ []) (As ∷ back) us u.to end
     (subst (λ w. Gives (known_name (node_names g)) (Word w ∷ []) ((As ∷ back) ++ us) u.to) to_word (gives-known (node_names g) u.to _ is.node_names to))
     (gives-after (token is_as) _ (As ∷ []) back us tt end (gives-token is_as As _ refl)
-    (gives-after (some_places g.roles) _ roles (Semicolon ∷ []) us u.roles end (gives-places g.roles is.role_names u.roles (Semicolon ∷ us) f.some f.roles f.differ refl)
+    (gives-after (some_indices g.roles) _ roles (Semicolon ∷ []) us u.roles end (gives-indices g.roles is.role_names u.roles (Semicolon ∷ us) f.some f.roles f.differ refl)
     (gives-after (token is_semicolon) _ (Semicolon ∷ []) [] us tt end (gives-token is_semicolon Semicolon _ refl) (gives-give end us))))))))))
   where
     node_at' : (n : ℕ) → n < length g.nodes → get_or (node_names g) n [] ≡ node_name g n
@@ -175,7 +175,7 @@ part-begins test names p ts us s = ap (λ l. head_is test (l ++ us)) (s.spelled 
 -- behind parts in turn, what doesn't begin them and what follows doesn't begin
 parts-ahead : (test : Token → Bool) (names : List Name) (ys : List Part) (ts us : List Token) → InTurn (SpellsPart names) ys ts → test (Word (codes "graph")) ≡ false → head_is test us ≡ false → head_is test (ts ++ us) ≡ false
 parts-ahead test names [] ts us Done w h = h
-parts-ahead test names (y ∷ ys) ts us (Then {ts = front} {us = back} s rest) w h = ap (head_is test) (append_assoc front back us) ∙ part-begins test names y front (back ++ us) s ∙ w
+parts-ahead test names (y ∷ ys) ts us (Then {ts = prefix} {us = back} s rest) w h = ap (head_is test) (append_assoc prefix back us) ∙ part-begins test names y prefix (back ++ us) s ∙ w
 
 -- the names of parts are names
 names-of : (ps : List Part) (i : ℕ) → ((k : ℕ) (p : Part) → slice_get ps k ≡ Some p → IsPart (i + k) p) → all_differ (part_names ps) ≡ true → AreNames (part_names ps)
@@ -191,20 +191,20 @@ names-of ps i each d = rw (all ps i each, d) refl
         rw (here, all ps (suc i) (λ k q e. (let same : i + suc k ≡ suc i + k = omega arith in subst (λ m. IsPart m q) same (each (suc k) q e)))) refl
 
 -- the names before others
-names-front : (as' bs : List Name) → AreNames (as' ++ bs) → AreNames as'
-names-front [] bs h = refl
-names-front (a ∷ as') bs h =
+names-prefix : (as' bs : List Name) → AreNames (as' ++ bs) → AreNames as'
+names-prefix [] bs h = refl
+names-prefix (a ∷ as') bs h =
     let p : Name → Bool = λ n. is_name n && not (has_text n reserved) in
     let parts = and_parts (list_all p (a ∷ (as' ++ bs))) (all_differ (a ∷ (as' ++ bs))) h in
     let l = and_parts (p a) (list_all p (as' ++ bs)) parts.0 in
     let d = and_parts (not (has_text a (as' ++ bs))) (all_differ (as' ++ bs)) parts.1 in
-    let rest = names-front as' bs (rw (l.1, d.1) refl) in
+    let rest = names-prefix as' bs (rw (l.1, d.1) refl) in
     let rest' = and_parts (list_all p as') (all_differ as') rest in
-    let out : has_text a as' ≡ false = front as' bs (not-true (has_text a (as' ++ bs)) d.0) in
+    let out : has_text a as' ≡ false = prefix as' bs (not-true (has_text a (as' ++ bs)) d.0) in
     rw (l.0, rest'.0, out, rest'.1) refl
   where
-    front : (ns ms : List Name) → has_text a (ns ++ ms) ≡ false → has_text a ns ≡ false
-    front ns ms h = first_false (has_text a ns) (has_text a ms) (sym (list_any-append (bytes_eq a) ns ms) ∙ h)
+    prefix : (ns ms : List Name) → has_text a (ns ++ ms) ≡ false → has_text a ns ≡ false
+    prefix ns ms h = first_false (has_text a ns) (has_text a ms) (sym (list_any-append (bytes_eq a) ns ms) ∙ h)
 
 -- a part has some token
 part-some : (names : List Name) (p : Part) (ts : List Token) → SpellsPart names p ts → 1 ≤ length ts
@@ -218,10 +218,10 @@ part-some names p ts s =
 -- as many parts as tokens at most
 parts-few : (names : List Name) (ys : List Part) (ts : List Token) → InTurn (SpellsPart names) ys ts → length ys ≤ length ts
 parts-few names [] ts Done = omega arith
-parts-few names (y ∷ ys) ts (Then {ts = front} {us = back} s rest) =
+parts-few names (y ∷ ys) ts (Then {ts = prefix} {us = back} s rest) =
     let few = parts-few names ys back rest in
-    let some = part-some names y front s in
-    let all : length (front ++ back) ≡ length front + length back = length-append front back in
+    let some = part-some names y prefix s in
+    let all : length (prefix ++ back) ≡ length prefix + length back = length-append prefix back in
     omega (arith, few, some, all)
 
 -- the parts are given in turn
@@ -229,9 +229,9 @@ module _ (bytes : ℕ) where
   abbrev end : List Token
   end = End ∷ []
 
-  one-part : (xs : List Part) (y : Part) (ys : List Part) (front back : List Token) → AreNames (part_names (xs ++ y ∷ ys)) → IsPart (length xs) y → SpellsPart (part_names (xs ++ y ∷ ys)) y front
-      → InTurn (SpellsPart (part_names (xs ++ y ∷ ys))) ys back → length front ≤ bytes → Gives (read_part bytes xs) front (back ++ end) (xs ++ y ∷ [])
-  one-part xs y ys front back are is s rest few =
+  one-part : (xs : List Part) (y : Part) (ys : List Part) (prefix back : List Token) → AreNames (part_names (xs ++ y ∷ ys)) → IsPart (length xs) y → SpellsPart (part_names (xs ++ y ∷ ys)) y prefix
+      → InTurn (SpellsPart (part_names (xs ++ y ∷ ys))) ys back → length prefix ≤ bytes → Gives (read_part bytes xs) prefix (back ++ end) (xs ++ y ∷ [])
+  one-part xs y ys prefix back are is s rest few =
       let split : part_names (xs ++ y ∷ ys) ≡ part_names xs ++ y.graph.name ∷ part_names ys = map-append (λ (p : Part). p.graph.name) xs (y ∷ ys) in
       let are' : AreNames (part_names xs ++ y.graph.name ∷ part_names ys) = subst AreNames split are in
       let middle = name-middle (part_names xs) y.graph.name (part_names ys) are' in
@@ -239,8 +239,8 @@ module _ (bytes : ℕ) where
       let uses : All (IsUse (length (part_names xs)) y.graph) y.uses = subst (λ k. All (IsUse k y.graph) y.uses) many is.uses in
       let back' : flat_map (use_tokens (part_names (xs ++ y ∷ ys)) y.graph) y.uses ≡ flat_map (use_tokens (part_names xs) y.graph) y.uses =
       ap (λ l. flat_map (use_tokens l y.graph) y.uses) split ∙ sym (uses-behind (part_names xs) (y.graph.name ∷ part_names ys) y.graph y.uses uses) in
-      let s' : SpellsPart (part_names xs) y front = record { of_graph = s.of_graph; graph = s.graph; spelled = s.spelled ∙ ap (λ l. s.of_graph ++ l) back' } in
-      gives-part bytes xs y front (back ++ end) (names-front (part_names xs) (y.graph.name ∷ part_names ys) are') is s' middle.1 few
+      let s' : SpellsPart (part_names xs) y prefix = record { of_graph = s.of_graph; graph = s.graph; spelled = s.spelled ∙ ap (λ l. s.of_graph ++ l) back' } in
+      gives-part bytes xs y prefix (back ++ end) (names-prefix (part_names xs) (y.graph.name ∷ part_names ys) are') is s' middle.1 few
       (parts-ahead (is_word (codes "node")) (part_names (xs ++ y ∷ ys)) ys back end rest refl refl)
       (parts-ahead (is_word (codes "edge")) (part_names (xs ++ y ∷ ys)) ys back end rest refl refl)
       (parts-ahead is_use (part_names (xs ++ y ∷ ys)) ys back end rest refl refl)
@@ -257,11 +257,11 @@ module _ (bytes : ℕ) where
     );
   }
   gives-parts zero xs (y ∷ ys) ts are each t few l = absurd (omega (arith, l))
-  gives-parts (suc n) xs (y ∷ ys) ts are each (Then {ts = front} {us = back} s rest) few l =
-      let lengths : length (front ++ back) ≡ length front + length back = length-append front back in
+  gives-parts (suc n) xs (y ∷ ys) ts are each (Then {ts = prefix} {us = back} s rest) few l =
+      let lengths : length (prefix ++ back) ≡ length prefix + length back = length-append prefix back in
       let none : length xs + 0 ≡ length xs = omega arith in
       let is : IsPart (length xs) y = subst (λ m. IsPart m y) none (each 0 y refl) in
-      let one = one-part xs y ys front back are is s rest (omega (arith, lengths, few)) in
+      let one = one-part xs y ys prefix back are is s rest (omega (arith, lengths, few)) in
       let again : (xs ++ y ∷ []) ++ ys ≡ xs ++ y ∷ ys = append_assoc xs (y ∷ []) ys in
       let longer : length (xs ++ y ∷ []) ≡ length xs + 1 = length-append xs (y ∷ []) in
       let more : Gives (repeat n (is_word (codes "graph")) (read_part bytes) (xs ++ y ∷ [])) back end (xs ++ y ∷ ys) =
@@ -269,11 +269,11 @@ module _ (bytes : ℕ) where
       (gives-parts n (xs ++ y ∷ []) ys back (subst (λ l. AreNames (part_names l)) (sym again) are)
       (λ k p e. (let same : length xs + suc k ≡ length (xs ++ y ∷ []) + k = omega (arith, longer) in subst (λ m. IsPart m p) same (each (suc k) p e)))
       (subst (λ l. InTurn (SpellsPart (part_names l)) ys back) (sym again) rest) (omega (arith, lengths, few)) (omega (arith, l))) in
-      let both' = gives-after (read_part bytes xs) (repeat n (is_word (codes "graph")) (read_part bytes)) front back end (xs ++ y ∷ []) (xs ++ y ∷ ys) one more in
+      let both' = gives-after (read_part bytes xs) (repeat n (is_word (codes "graph")) (read_part bytes)) prefix back end (xs ++ y ∷ []) (xs ++ y ∷ ys) one more in
       record {
         go = λ ps e.
             let there : is_next (is_word (codes "graph")) ps ≡ true =
-            head-next (is_word (codes "graph")) ps ∙ ap (head_is (is_word (codes "graph"))) (e ∙ append_assoc front back end) ∙ part-begins (is_word (codes "graph")) (part_names (xs ++ y ∷ ys)) y front (back ++ end) s in
+            head-next (is_word (codes "graph")) ps ∙ ap (head_is (is_word (codes "graph"))) (e ∙ append_assoc prefix back end) ∙ part-begins (is_word (codes "graph")) (part_names (xs ++ y ∷ ys)) y prefix (back ++ end) s in
             let r = both'.go ps e in
             (r.0, r.1, repeat-there (is_word (codes "graph")) (read_part bytes) n xs ps there ∙ r.2);
       }
@@ -284,11 +284,11 @@ unfolding tokens_from
 tokens-few before at [] = omega arith
 tokens-few before at (b ∷ bs) = pick (goes_on before b || is_separator b || (b == 35)) (tokens_from (part_of before b) (suc at) bs) (tokens-few (part_of before b) (suc at) bs)
   where
-    lead : (c : Bool) (ps : List Placed) → length ps ≤ suc (length bs) → length (if c then [] else ps) ≤ suc (length bs)
+    lead : (c : Bool) (ps : List TokenAt) → length ps ≤ suc (length bs) → length (if c then [] else ps) ≤ suc (length bs)
     lead true ps l = omega arith
     lead false ps l = l
 
-    pick : (c : Bool) (ps : List Placed) → length ps ≤ suc (length bs) → length (if c then ps else leading (begun at b bs) ps) ≤ suc (suc (length bs))
+    pick : (c : Bool) (ps : List TokenAt) → length ps ≤ suc (length bs) → length (if c then ps else leading (begun at b bs) ps) ≤ suc (suc (length bs))
     pick true ps l = omega (arith, l)
     pick false ps l = (let m = lead (is_last (begun at b bs).token) ps l in omega (arith, m))
 
@@ -298,22 +298,22 @@ spells-read bs ps s = go ps s.parts s.of_parts s.spells s.spelled
   where
     go : (ps : List Part) → AreParts ps → (ts : List Token) → InTurn (SpellsPart (part_names ps)) ps ts → bare (part_tokens bs) ≡ ts ++ End ∷ [] → read bs ≡ Ok ps
     go [] are ts t e = absurd (omega (arith, are.some))
-    go (y ∷ ys) are ts (Then {ts = front} {us = back} s rest) e =
+    go (y ∷ ys) are ts (Then {ts = prefix} {us = back} s rest) e =
         let bytes : ℕ = length bs in
         let names : AreNames (part_names (y ∷ ys)) = names-of (y ∷ ys) 0 (λ k p h. (let same : k ≡ 0 + k = omega arith in subst (λ m. IsPart m p) same (are.each k p h))) are.names in
         let few : length (tokens bs) ≤ suc (length bs) = tokens-few Region.Apart 0 bs in
-        let same : length (bare (part_tokens bs)) ≡ length (tokens bs) = length-map (part_tokens bs) (λ (p : Placed). p.token) ∙ length-map (tokens bs) (seen_as OfParts) in
-        let all : length (bare (part_tokens bs)) ≡ length (front ++ back) + 1 = ap length e ∙ length-append (front ++ back) (End ∷ []) in
-        let lengths : length (front ++ back) ≡ length front + length back = length-append front back in
-        let one : Gives (read_part bytes []) front (back ++ End ∷ []) (y ∷ []) = one-part bytes [] y ys front back names (are.each 0 y refl) s rest (omega (arith, few, same, all, lengths)) in
+        let same : length (bare (part_tokens bs)) ≡ length (tokens bs) = length-map (part_tokens bs) (λ (p : TokenAt). p.token) ∙ length-map (tokens bs) (seen_as OfParts) in
+        let all : length (bare (part_tokens bs)) ≡ length (prefix ++ back) + 1 = ap length e ∙ length-append (prefix ++ back) (End ∷ []) in
+        let lengths : length (prefix ++ back) ≡ length prefix + length back = length-append prefix back in
+        let one : Gives (read_part bytes []) prefix (back ++ End ∷ []) (y ∷ []) = one-part bytes [] y ys prefix back names (are.each 0 y refl) s rest (omega (arith, few, same, all, lengths)) in
         let more : Gives (repeat bytes (is_word (codes "graph")) (read_part bytes) (y ∷ [])) back (End ∷ []) (y ∷ ys) =
         gives-parts bytes bytes (y ∷ []) ys back names (λ k p h. (let same : suc k ≡ 1 + k = omega arith in subst (λ m. IsPart m p) same (are.each (suc k) p h))) rest (omega (arith, few, same, all, lengths))
         (let fewer = parts-few (part_names (y ∷ ys)) ys back rest in omega (arith, fewer, few, same, all, lengths)) in
         let last : Gives (after read_end (λ _. give (y ∷ ys))) [] (End ∷ []) (y ∷ ys) = gives-after read_end (λ _. give (y ∷ ys)) [] [] (End ∷ []) tt (y ∷ ys) (gives-first is_end (give tt) _ [] (End ∷ []) tt refl (gives-give tt (End ∷ []))) (gives-give (y ∷ ys) (End ∷ [])) in
         let rest' : Gives (after (repeat bytes (is_word (codes "graph")) (read_part bytes) (y ∷ [])) (λ parts. after read_end λ _. give parts)) (back ++ []) (End ∷ []) (y ∷ ys) =
         gives-after (repeat bytes (is_word (codes "graph")) (read_part bytes) (y ∷ [])) (λ parts. after read_end λ _. give parts) back [] (End ∷ []) (y ∷ ys) (y ∷ ys) more last in
-        let one' : Gives (read_part bytes []) front ((back ++ []) ++ End ∷ []) (y ∷ []) = subst (λ l. Gives (read_part bytes []) front (l ++ End ∷ []) (y ∷ [])) (sym (append-nil back)) one in
-        let text : Gives (read_parts bytes) (front ++ (back ++ [])) (End ∷ []) (y ∷ ys) = gives-after (read_part bytes []) _ front (back ++ []) (End ∷ []) (y ∷ []) (y ∷ ys) one' rest' in
-        let spelled : bare (part_tokens bs) ≡ (front ++ (back ++ [])) ++ End ∷ [] = e ∙ ap (λ l. (front ++ l) ++ End ∷ []) (sym (append-nil back)) in
+        let one' : Gives (read_part bytes []) prefix ((back ++ []) ++ End ∷ []) (y ∷ []) = subst (λ l. Gives (read_part bytes []) prefix (l ++ End ∷ []) (y ∷ [])) (sym (append-nil back)) one in
+        let text : Gives (read_parts bytes) (prefix ++ (back ++ [])) (End ∷ []) (y ∷ ys) = gives-after (read_part bytes []) _ prefix (back ++ []) (End ∷ []) (y ∷ []) (y ∷ ys) one' rest' in
+        let spelled : bare (part_tokens bs) ≡ (prefix ++ (back ++ [])) ++ End ∷ [] = e ∙ ap (λ l. (prefix ++ l) ++ End ∷ []) (sym (append-nil back)) in
         let r = text.go (part_tokens bs) spelled in
         ap whole r.2

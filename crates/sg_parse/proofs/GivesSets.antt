@@ -12,16 +12,16 @@ use Rattle.sg_graph.proofs.Sets.{AreNumbers-with_member, AreNumbers-none, number
 use Rattle.sg_parse.specs.Grammar.{IsOrderOf, named, differ, SpellsClause, Without, With}
 use Rattle.sg_parse.specs.Tokens.{is_word, is_named}
 use Rattle.sg_parse.specs.Reading.{give, skip, more_names, some_names, read_clause}
-use Rattle.sg_parse.specs.declared.token.Placed.{Placed}
+use Rattle.sg_parse.specs.declared.token.TokenAt.{TokenAt}
 use Rattle.sg_parse.specs.declared.token.Token.{Token}
 use Rattle.sg_parse.specs.declared.token.Token.TheVariants.{Word}
 use Rattle.sg_parse.proofs.Took.{bare}
-use Rattle.sg_parse.proofs.Names.{named_there, place_there}
+use Rattle.sg_parse.proofs.Names.{named_there, index_there}
 use Rattle.sg_parse.proofs.Middle.{name-at}
 use Rattle.sg_parse.proofs.Sets.{is_in-with, joined_all, joined_order}
 use Rattle.sg_parse.proofs.Gives.{Gives, gives-give, gives-after, gives-skip, gives-first, gives-second, head_is, word-is}
 
--- all of these numbers are places, stand once, and are not in the set
+-- all of these numbers are indices, stand once, and are not in the set
 record Joinable (k : ℕ) (set order : List ℕ) : Type 0 where
   below : (n : ℕ) → is_in n order ≡ true → n < k
   once : differ order ≡ true
@@ -50,8 +50,8 @@ joinable-next width k x set order a w j =
     ]
 
 module _ (width : ℕ) (names : List Name) (are : AreNames names) (fits : length names ≤ width) where
-  more-there : (order set : List ℕ) (us : List Token) (ps : List Placed) → AreNumbers (length names) set → Joinable (length names) set order → head_is is_named us ≡ false
-      → bare ps ≡ named names order ++ us → (rest : List Placed) × (bare rest ≡ us) × (more_names width names set ps ≡ Ok (record { value = joined_all width set order; rest = rest }))
+  more-there : (order set : List ℕ) (us : List Token) (ps : List TokenAt) → AreNumbers (length names) set → Joinable (length names) set order → head_is is_named us ≡ false
+      → bare ps ≡ named names order ++ us → (rest : List TokenAt) × (bare rest ≡ us) × (more_names width names set ps ≡ Ok (record { value = joined_all width set order; rest = rest }))
   more-there [] set us [] a j h e = ([], e, refl)
   more-there [] set us (p ∷ ps) a j h e =
       let away : is_named p.token ≡ false = ap (head_is is_named) e ∙ h in
@@ -64,7 +64,7 @@ module _ (width : ℕ) (names : List Name) (are : AreNames names) (fits : length
       let parts = and_parts (list_all (λ n. is_name n && not (has_text n reserved)) names) (all_differ names) are in
       let free : has_text (get_or names x []) reserved ≡ false = name-at names x next.0 parts.0 in
       let r = more-there xs (with_member width set x) us ps (AreNumbers-with_member width (length names) x set a next.0) next.2 h rest in
-      (r.0, r.1, rw (tok, free, named_there names x next.0, place_there names x parts.1 next.0, next.1) r.2)
+      (r.0, r.1, rw (tok, free, named_there names x next.0, index_there names x parts.1 next.0, next.1) r.2)
 
   -- one or more names are read into their set
   pub gives-some : (set order : List ℕ) (us : List Token) → AreNumbers (length names) set → 1 ≤ length set → IsOrderOf set order → head_is is_named us ≡ false

@@ -6,7 +6,7 @@ use Rattle.std.proofs.lemmas.Bool.Decides.{nat_tests}
 use Rattle.std.proofs.lemmas.Bool.{and_parts}
 use Rattle.sg_model.specs.Names.{is_letter, is_name_byte, is_name}
 use Rattle.sg_parse.specs.Tokens.{OfWord, Apart, part_of, is_separator, leading, has_head, mark, begun, tokens_from, word_at}
-use Rattle.sg_parse.specs.declared.token.Placed.{Placed}
+use Rattle.sg_parse.specs.declared.token.TokenAt.{TokenAt}
 use Rattle.sg_parse.specs.declared.token.Token.{Token}
 use Rattle.sg_parse.specs.declared.token.Token.TheVariants.{Word, Colon, Semicolon, Arrow, End}
 use Rattle.sg_parse.proofs.Scanning.{step, word_ends, letter_in_name}
@@ -92,6 +92,6 @@ lex-word (c ∷ cs) rest ts n a h =
     record {
       go = λ at.
           let one : tokens_from Apart at (c ∷ (cs ++ rest)) ≡ leading (record { token = Word (c ∷ cs); at = at }) (tokens_from (part_of Apart c) (suc at) (cs ++ rest)) =
-          step Apart at c (cs ++ rest) ∙ rw apart (ap (λ (p : Placed). leading p (tokens_from (part_of Apart c) (suc at) (cs ++ rest))) (token at)) in
+          step Apart at c (cs ++ rest) ∙ rw apart (ap (λ (p : TokenAt). leading p (tokens_from (part_of Apart c) (suc at) (cs ++ rest))) (token at)) in
           ap bare one ∙ ap (λ l. Word (c ∷ cs) ∷ l) (behind at);
     }

@@ -11,7 +11,7 @@ pub mod Middle
 pub mod Names
 pub mod NewName
 pub mod PartsAgree
-pub mod Places
+pub mod Indices
 pub mod Readings
 pub mod Room
 pub mod Scanning

@@ -38,7 +38,7 @@ name-middle ns n ms h =
     let parts = and_parts (list_all p (ns ++ n ∷ ms)) (all_differ (ns ++ n ∷ ms)) h in
     (not-true (has_text n reserved) (and_parts (is_name n) (not (has_text n reserved)) (list_all-middle p ns n ms parts.0)).1, new-middle ns n ms parts.1)
 
--- the name at a place is free
+-- the name at an index is free
 pub name-at : (ns : List Name) (r : ℕ) → r < length ns → list_all (λ n. is_name n && not (has_text n reserved)) ns ≡ true → has_text (get_or ns r []) reserved ≡ false
 name-at [] r l h = absurd (omega arith)
 name-at (n ∷ ns) zero l h = not-true (has_text n reserved) (and_parts (is_name n) (not (has_text n reserved)) (and_parts (is_name n && not (has_text n reserved)) (list_all (λ n. is_name n && not (has_text n reserved)) ns) h).0).1

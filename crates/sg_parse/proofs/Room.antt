@@ -5,16 +5,16 @@ use Rattle.sg_graph.specs.Adding.{no_parts, with_role, with_variable, with_node,
 use Rattle.sg_graph.specs.Parts.{variable_names, node_names, edge_names}
 use Rattle.sg_parse.specs.Tokens.{is_word, is_colon, is_semicolon, is_arrow}
 use Rattle.sg_parse.specs.Reading.{Parsed, Parser, give, is_next, token, name, new_name, known_name, some_names, read_kind, read_role, read_clause, read_variable, read_node, read_edge, read_head, read_roles, read_variables, read_nodes, read_edges, read_statements, statement, up_to, no_more}
-use Rattle.sg_parse.specs.declared.token.Placed.{Placed}
+use Rattle.sg_parse.specs.declared.token.TokenAt.{TokenAt}
 use Rattle.sg_parse.proofs.Loops.{up_to-there, up_to-away, up_to-none}
 use Rattle.sg_parse.proofs.Took.{ok_same, on-inv}
 
 -- the reading doesn't change what the graph has so
 abbrev pub Keeps : {B : Type 0} → (Graph → B) → (Graph → Parser Graph) → Type 0
-Keeps size reader = (g : Graph) (ps : List Placed) (o : Parsed Graph) → reader g ps ≡ Ok o → size o.value ≡ size g
+Keeps size reader = (g : Graph) (ps : List TokenAt) (o : Parsed Graph) → reader g ps ≡ Ok o → size o.value ≡ size g
 
 -- a graph of this size is given
-given : {B : Type 0} (size : Graph → B) (n : B) (g : Graph) (ps : List Placed) (o : Parsed Graph) → size g ≡ n → give g ps ≡ Ok o → size o.value ≡ n
+given : {B : Type 0} (size : Graph → B) (n : B) (g : Graph) (ps : List TokenAt) (o : Parsed Graph) → size g ≡ n → give g ps ≡ Ok o → size o.value ≡ n
 given size n g ps o is e = ap (λ (r : Parsed Graph). size r.value) (sym (ok_same (record { value = g; rest = ps }) o e)) ∙ is
 
 module _ {B : Type 0} (first : List ℕ) (reader : Graph → Parser Graph) (size : Graph → B) (keeps : Keeps size reader) where
@@ -36,7 +36,7 @@ module _ {B : Type 0} (first : List ℕ) (reader : Graph → Parser Graph) (size
       pick false e more = given size (size g) g ps o refl (sym (up_to-away first reader (suc n) g ps e) ∙ h)
 
 -- the head of a text is read
-pub head_none : (size : Graph → ℕ) → ((n : Name) → size (no_parts n) ≡ 0) → (ps : List Placed) (o : Parsed Graph) → read_head ps ≡ Ok o → size o.value ≡ 0
+pub head_none : (size : Graph → ℕ) → ((n : Name) → size (no_parts n) ≡ 0) → (ps : List TokenAt) (o : Parsed Graph) → read_head ps ≡ Ok o → size o.value ≡ 0
 head_none size none ps o h =
     let a = on-inv (token (is_word (codes "graph")) ps) _ o h in
     let b = on-inv (name (a.0).rest) _ o a.2 in

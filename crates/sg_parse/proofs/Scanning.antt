@@ -1,4 +1,4 @@
--- The tokens from one place on, and from a later one.
+-- The tokens from one index on, and from a later one.
 use Rattle.std.proofs.Common.{◌≡◌, ◌≢◌, ℕ, suc, ◌+◌, ◌<◌, ◌≤◌, ◌==◌, nat_le, Bool, true, false, ◌&&◌, ◌||◌, inl, inr, List, [], ◌∷◌, length, get_or, drop, take_while, refl, sym, ap, subst, ◌∙◌, arith, add-one, add-zero, one-add, ◌-◌, if◌then◌else◌}
 use Rattle.std.proofs.Math.Seq.{drop-cons}
 use Rattle.std.proofs.Math.ListN.{drop_of_length-le}
@@ -9,7 +9,7 @@ use Rattle.std.proofs.Math.Seq.{drop-drop}
 use Rattle.std.proofs.lemmas.Bool.{cases_Bool}
 use Rattle.sg_model.specs.Names.{is_letter, is_name_byte, is_name}
 use Rattle.sg_parse.specs.Tokens.{Part, OfWord, OfComment, OfArrow, Apart, goes_on, part_of, is_separator, leading, begun, mark, tokens_from, word_at, has_head}
-use Rattle.sg_parse.specs.declared.token.Placed.{Placed}
+use Rattle.sg_parse.specs.declared.token.TokenAt.{TokenAt}
 use Rattle.sg_parse.specs.declared.token.Token.TheVariants.{End}
 
 -- one byte of the definition
@@ -23,7 +23,7 @@ none : (before : Part) (at : ℕ) → tokens_from before at [] ≡ record { toke
 unfolding tokens_from
 none before at = refl
 
--- the byte at a place
+-- the byte at an index
 there : (before : Part) (bs : List ℕ) (i : ℕ) → i < length bs → tokens_from before i (drop i bs) ≡ tokens_from before i (get_or bs i 0 ∷ drop (i + 1) bs)
 there before bs i h = ap (tokens_from before i) (rw add-one (drop-cons bs i 0 h))
 
@@ -78,7 +78,7 @@ pub begins : (bs : List ℕ) (i : ℕ) → i < length bs → (is_separator (get_
 begins bs i h e = there Apart bs i h ∙ step Apart i (get_or bs i 0) (drop (i + 1) bs) ∙ rw (e, add-one) refl
 
 -- the end of the text
-pub ends : (bs : List ℕ) (i : ℕ) (rest : List Placed) → i ≡ length bs → tokens_from Apart i (drop i bs) ≡ leading (record { token = End; at = i }) rest
+pub ends : (bs : List ℕ) (i : ℕ) (rest : List TokenAt) → i ≡ length bs → tokens_from Apart i (drop i bs) ≡ leading (record { token = End; at = i }) rest
 ends bs i rest e = let over : length bs ≤ i = omega arith in rw (drop_of_length-le bs over) (none Apart i)
 
 -- a letter may stand in a name
@@ -94,16 +94,16 @@ word_ends at [] = none OfWord at ∙ rw add-zero (sym (none Apart at))
 word_ends at (b ∷ bs) = elim (cases_Bool (is_name_byte b)) [
   | inl y ↦
       (let one : tokens_from OfWord at (b ∷ bs) ≡ tokens_from OfWord (suc at) bs = step OfWord at b bs ∙ rw y refl in
-      let place : suc at + prefix_len is_name_byte bs ≡ at + suc (prefix_len is_name_byte bs) = omega arith in
+      let index : suc at + prefix_len is_name_byte bs ≡ at + suc (prefix_len is_name_byte bs) = omega arith in
       let rest : tokens_from OfWord (suc at) bs ≡ tokens_from Apart (at + suc (prefix_len is_name_byte bs)) (drop (prefix_len is_name_byte bs) bs) =
-      subst (λ n. tokens_from OfWord (suc at) bs ≡ tokens_from Apart n (drop (prefix_len is_name_byte bs) bs)) place (word_ends (suc at) bs) in
+      subst (λ n. tokens_from OfWord (suc at) bs ≡ tokens_from Apart n (drop (prefix_len is_name_byte bs) bs)) index (word_ends (suc at) bs) in
       rw (y, one-add) (one ∙ rest))
   | inr n ↦
       (let one : tokens_from OfWord at (b ∷ bs) ≡ tokens_from Apart at (b ∷ bs) = rw (step OfWord at b bs, step Apart at b bs, n) refl in
       rw (n, add-zero) one)
 ]
 
--- the word at a place, and the tokens behind it
+-- the word at an index, and the tokens behind it
 pub word_there : (bs : List ℕ) (i : ℕ) → i < length bs → is_letter (get_or bs i 0) ≡ true → (is_separator (get_or bs i 0) || (get_or bs i 0 == 35)) ≡ false
     → tokens_from Apart i (drop i bs)
     ≡ leading (word_at i (take_while is_name_byte (drop i bs))) (tokens_from Apart (i + length (take_while is_name_byte (drop i bs))) (drop (i + length (take_while is_name_byte (drop i bs))) bs))
@@ -115,9 +115,9 @@ word_there bs i h l e =
     let long : length (take_while is_name_byte (b ∷ rest)) ≡ prefix_len is_name_byte (b ∷ rest) = length-prefix_len is_name_byte (b ∷ rest) in
     let more : prefix_len is_name_byte (b ∷ rest) ≡ 1 + prefix_len is_name_byte rest = rw name refl in
     let part : part_of Apart b ≡ OfWord = rw name refl in
-    let place : (i + 1) + prefix_len is_name_byte rest ≡ i + (1 + prefix_len is_name_byte rest) = omega arith in
+    let index : (i + 1) + prefix_len is_name_byte rest ≡ i + (1 + prefix_len is_name_byte rest) = omega arith in
     let behind : tokens_from OfWord (i + 1) rest ≡ tokens_from Apart (i + (1 + prefix_len is_name_byte rest)) (drop (i + (1 + prefix_len is_name_byte rest)) bs) =
-    word_ends (i + 1) rest ∙ rw (drop-drop (prefix_len is_name_byte rest) (i + 1) bs, place) refl in
+    word_ends (i + 1) rest ∙ rw (drop-drop (prefix_len is_name_byte rest) (i + 1) bs, index) refl in
     begins bs i h e ∙ rw (part, behind, whole, long, more, l) refl
 
 -- the first bytes that may stand in a name all may
@@ -162,7 +162,7 @@ pub mark_there : (bs : List ℕ) (i : ℕ) → i < length bs → (is_separator (
 mark_there bs i h e l other =
     let token : begun i (get_or bs i 0) (drop (i + 1) bs) ≡ record { token = mark (get_or bs i 0) (has_head (drop (i + 1) bs)); at = i } =
     ap (λ (l : Bool). if l then word_at i (take_while is_name_byte (get_or bs i 0 ∷ drop (i + 1) bs)) else record { token = mark (get_or bs i 0) (has_head (drop (i + 1) bs)); at = i }) l in
-    begins bs i h e ∙ ap (λ (p : Placed). leading p (tokens_from (part_of Apart (get_or bs i 0)) (i + 1) (drop (i + 1) bs))) token ∙ pick (get_or bs i 0) (has_head (drop (i + 1) bs)) other
+    begins bs i h e ∙ ap (λ (p : TokenAt). leading p (tokens_from (part_of Apart (get_or bs i 0)) (i + 1) (drop (i + 1) bs))) token ∙ pick (get_or bs i 0) (has_head (drop (i + 1) bs)) other
   where
     pick : (b : ℕ) (head : Bool) → ((b == 45) && head) ≡ false
         → leading (record { token = mark b head; at = i }) (tokens_from (part_of Apart b) (i + 1) (drop (i + 1) bs))

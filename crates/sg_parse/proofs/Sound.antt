@@ -3,7 +3,7 @@ use Rattle.std.proofs.Common.{◌≡◌, ℕ, suc, ◌+◌, ◌<◌, ◌≤◌, 
 use Rattle.std.proofs.lemmas.Bool.Decides.{nat_tests}
 use Rattle.sg_model.specs.Names.{is_letter, is_name_byte, is_name}
 use Rattle.sg_parse.specs.Tokens.{Part, goes_on, part_of, is_separator, is_last, leading, kept, seen_as, part_tokens, has_head, mark, begun, tokens_from, tokens, word_at, Apart}
-use Rattle.sg_parse.specs.declared.token.Placed.{Placed}
+use Rattle.sg_parse.specs.declared.token.TokenAt.{TokenAt}
 use Rattle.sg_parse.specs.declared.token.Token.{Token}
 use Rattle.sg_parse.specs.declared.token.Language.TheVariants.{OfParts}
 use Rattle.sg_parse.specs.declared.token.Token.TheVariants.{Word, Colon, Semicolon, Arrow, Use, As, End, Long, Bad}
@@ -15,11 +15,11 @@ IsSpelled (Word w) = is_name w ≡ true
 IsSpelled t = Unit {0}
 
 -- so each word, and nothing stands behind an end or a fault
-abbrev pub Sound : List Placed → Type 0
+abbrev pub Sound : List TokenAt → Type 0
 Sound [] = Unit {0}
 Sound (p ∷ ps) = IsSpelled p.token × (is_last p.token ≡ true → ps ≡ []) × Sound ps
 
-sound-leading : (p : Placed) (ps : List Placed) → IsSpelled p.token → Sound ps → Sound (leading p ps)
+sound-leading : (p : TokenAt) (ps : List TokenAt) → IsSpelled p.token → Sound ps → Sound (leading p ps)
 sound-leading p ps w s = (w, (λ e. rw e refl), pick (is_last p.token))
   where
     pick : (b : Bool) → Sound (if b then [] else ps)
@@ -39,7 +39,7 @@ spelled-word : (at b : ℕ) (bs : List ℕ) → is_letter b ≡ true → IsSpell
 spelled-word at b bs l = pick (nat_le (length (take_while is_name_byte (b ∷ bs))) 32) refl
   where
     pick : (s : Bool) → nat_le (length (take_while is_name_byte (b ∷ bs))) 32 ≡ s
-        → (let p : Placed = if s then record { token = Word (take_while is_name_byte (b ∷ bs)); at = at } else record { token = Long; at = at + 32 } in IsSpelled p.token)
+        → (let p : TokenAt = if s then record { token = Word (take_while is_name_byte (b ∷ bs)); at = at } else record { token = Long; at = at + 32 } in IsSpelled p.token)
     pick true e =
         let short : length (take_while is_name_byte (b ∷ bs)) ≤ 32 = grind (arith, nat_tests, e) in
         let there : 0 < length (b ∷ bs) = omega arith in
@@ -49,7 +49,7 @@ spelled-word at b bs l = pick (nat_le (length (take_while is_name_byte (b ∷ bs
 spelled-begun : (at b : ℕ) (bs : List ℕ) → IsSpelled (begun at b bs).token
 spelled-begun at b bs = pick (is_letter b) refl
   where
-    pick : (l : Bool) → is_letter b ≡ l → (let p : Placed = if l then word_at at (take_while is_name_byte (b ∷ bs)) else record { token = mark b (has_head bs); at = at } in IsSpelled p.token)
+    pick : (l : Bool) → is_letter b ≡ l → (let p : TokenAt = if l then word_at at (take_while is_name_byte (b ∷ bs)) else record { token = mark b (has_head bs); at = at } in IsSpelled p.token)
     pick true e = spelled-word at b bs e
     pick false e = spelled-mark b (has_head bs)
 
@@ -59,7 +59,7 @@ sound-tokens_from before at [] = (tt, (λ e. refl), tt)
 sound-tokens_from before at (b ∷ bs) =
     pick (goes_on before b || is_separator b || (b == 35)) (tokens_from (part_of before b) (suc at) bs) (sound-tokens_from (part_of before b) (suc at) bs)
   where
-    pick : (c : Bool) (ps : List Placed) → Sound ps → Sound (if c then ps else leading (begun at b bs) ps)
+    pick : (c : Bool) (ps : List TokenAt) → Sound ps → Sound (if c then ps else leading (begun at b bs) ps)
     pick true ps s = s
     pick false ps s = sound-leading (begun at b bs) ps (spelled-begun at b bs) s
 
@@ -101,7 +101,7 @@ kept-last End = refl
 kept-last Long = refl
 kept-last Bad = refl
 
-sound-kept : (ps : List Placed) → Sound ps → Sound (map (seen_as OfParts) ps)
+sound-kept : (ps : List TokenAt) → Sound ps → Sound (map (seen_as OfParts) ps)
 sound-kept [] s = tt
 sound-kept (p ∷ ps) s = (kept-spelled p.token s.0, (λ e. rw (s.1 (rw kept-last at e)) refl), sound-kept ps s.2)
 

@@ -6,8 +6,8 @@ use Rattle.sg_model.specs.Lists.{has_text}
 use Rattle.sg_model.specs.Names.{Name, is_name, reserved}
 use Rattle.sg_parse.specs.Tokens.{is_word, is_named, is_colon, is_semicolon, is_arrow, is_use, is_as, is_end, text_of}
 use Rattle.sg_parse.specs.Reading as Reading
-use Rattle.sg_parse.specs.Reading.{Parsed, Parser, on, after, give, is_next, branch, token, skip, word, name, new_name, known_name, place_of}
-use Rattle.sg_parse.specs.declared.token.Placed.{Placed}
+use Rattle.sg_parse.specs.Reading.{Parsed, Parser, on, after, give, is_next, branch, token, skip, word, name, new_name, known_name, index_of}
+use Rattle.sg_parse.specs.declared.token.TokenAt.{TokenAt}
 use Rattle.sg_parse.specs.declared.token.Token.{Token}
 use Rattle.sg_parse.specs.declared.token.Token.TheVariants.{Word, Colon, Semicolon, Arrow, Use, As, End, Long, Bad}
 use Rattle.sg_parse.specs.declared.fault.ParseFault.{ParseFault}
@@ -15,11 +15,11 @@ use Rattle.sg_parse.specs.declared.fault.ParseFault.TheVariants.{Twice, UnknownN
 use Rattle.sg_parse.proofs.Sound.{IsSpelled, Sound}
 
 -- the tokens without their offsets
-abbrev pub bare : List Placed → List Token
+abbrev pub bare : List TokenAt → List Token
 bare ps = map (λ p. p.token) ps
 
 -- what a reading took: its tokens, and sound ones are left
-pub record Took {A : Type 0} (ps : List Placed) (o : Parsed A) (ts : List Token) : Type 0 where
+pub record Took {A : Type 0} (ps : List TokenAt) (o : Parsed A) (ts : List Token) : Type 0 where
   pub begins : bare ps ≡ ts ++ bare o.rest
   pub sound : Sound o.rest
 
@@ -34,20 +34,20 @@ on-inv (Err e) next o h = err_ok e o h
 on-inv (Ok r) next o h = (r, refl, h)
 
 -- both readings, one after the other
-pub took-both : {A B : Type 0} (ps : List Placed) (r : Parsed A) (o : Parsed B) (ts us : List Token) → Took ps r ts → Took r.rest o us → Took ps o (ts ++ us)
+pub took-both : {A B : Type 0} (ps : List TokenAt) (r : Parsed A) (o : Parsed B) (ts us : List Token) → Took ps r ts → Took r.rest o us → Took ps o (ts ++ us)
 took-both ps r o ts us t u = record {
   begins = t.begins ∙ ap (λ l. ts ++ l) u.begins ∙ sym (append_assoc ts us (bare o.rest));
   sound = u.sound;
 }
 
 -- nothing is taken
-pub took-give : {A : Type 0} (x : A) (ps : List Placed) (o : Parsed A) → Sound ps → give x ps ≡ Ok o → (x ≡ o.value) × Took ps o []
+pub took-give : {A : Type 0} (x : A) (ps : List TokenAt) (o : Parsed A) → Sound ps → give x ps ≡ Ok o → (x ≡ o.value) × Took ps o []
 took-give {A} x ps o s h =
     let same : record { value = x; rest = ps } ≡ o = ok_same (record { value = x; rest = ps }) o h in
     subst (λ (o : Parsed A). (x ≡ o.value) × Took ps o []) same (refl, record { begins = refl; sound = s })
 
 -- a branch is one of both
-pub branch-inv : {A : Type 0} (test : Token → Bool) (first second : Parser A) (ps : List Placed) (o : Parsed A) → branch test first second ps ≡ Ok o
+pub branch-inv : {A : Type 0} (test : Token → Bool) (first second : Parser A) (ps : List TokenAt) (o : Parsed A) → branch test first second ps ≡ Ok o
     → ((is_next test ps ≡ true) × (first ps ≡ Ok o)) ⊎ ((is_next test ps ≡ false) × (second ps ≡ Ok o))
 branch-inv test first second ps o h = pick (is_next test ps) refl h
   where
@@ -56,7 +56,7 @@ branch-inv test first second ps o h = pick (is_next test ps) refl h
     pick false e h = inr (e, h)
 
 -- a token that is taken is the one that passes
-pub took-token : (test : Token → Bool) (t : Token) (ps : List Placed) (o : Parsed (Unit {0})) → ((u : Token) → test u ≡ true → u ≡ t) → Sound ps → token test ps ≡ Ok o → Took ps o (t ∷ [])
+pub took-token : (test : Token → Bool) (t : Token) (ps : List TokenAt) (o : Parsed (Unit {0})) → ((u : Token) → test u ≡ true → u ≡ t) → Sound ps → token test ps ≡ Ok o → Took ps o (t ∷ [])
 took-token test t [] o only s h = absurd (cc)
 took-token test t (p ∷ ps) o only s h = pick (test p.token) refl h
   where
@@ -158,7 +158,7 @@ named-word Long s h = absurd (cc)
 named-word Bad s h = absurd (cc)
 
 -- a name
-pub took-name : (ps : List Placed) (o : Parsed (Name × ℕ)) → Sound ps → name ps ≡ Ok o → Took ps o (Word o.value.0 ∷ []) × (is_name o.value.0 ≡ true) × (has_text o.value.0 reserved ≡ false)
+pub took-name : (ps : List TokenAt) (o : Parsed (Name × ℕ)) → Sound ps → name ps ≡ Ok o → Took ps o (Word o.value.0 ∷ []) × (is_name o.value.0 ≡ true) × (has_text o.value.0 reserved ≡ false)
 took-name [] o s h = absurd (cc)
 took-name (p ∷ ps) o s h = pick (is_named p.token) refl h
   where
@@ -178,7 +178,7 @@ pub record IsFresh (names : List Name) (n : Name) : Type 0 where
   pub new : has_text n names ≡ false
 
 -- a new name
-pub took-new : (names : List Name) (ps : List Placed) (o : Parsed Name) → Sound ps → new_name names ps ≡ Ok o → Took ps o (Word o.value ∷ []) × IsFresh names o.value
+pub took-new : (names : List Name) (ps : List TokenAt) (o : Parsed Name) → Sound ps → new_name names ps ≡ Ok o → Took ps o (Word o.value ∷ []) × IsFresh names o.value
 took-new names ps o s h =
     let i = on-inv (name ps) (λ (n : Name × ℕ). if has_text n.0 names then Reading.fail (Twice n.1) else give n.0) o h in
     let n = took-name ps i.0 s i.1 in
@@ -192,26 +192,26 @@ took-new names ps o s h =
         subst (λ (o : Parsed Name). Took ps o (Word o.value ∷ []) × IsFresh names o.value) same
         (record { begins = (n.0).begins; sound = (n.0).sound }, record { name = n.1; free = n.2; new = e })
 
--- the place of a name that is there
-pub place_has : (n : Name) (names : List Name) → has_text n names ≡ true → (place_of n names < length names) × (get_or names (place_of n names) [] ≡ n)
-place_has n [] h = absurd (cc)
-place_has n (m ∷ ms) h = elim (cases_Bool (bytes_eq n m)) [
+-- the index of a name that is there
+pub index_has : (n : Name) (names : List Name) → has_text n names ≡ true → (index_of n names < length names) × (get_or names (index_of n names) [] ≡ n)
+index_has n [] h = absurd (cc)
+index_has n (m ∷ ms) h = elim (cases_Bool (bytes_eq n m)) [
   | inl y ↦ (let e : n ≡ m = (bytes_eq-Decides n m).0 y in rw y (omega arith, sym e))
-  | inr z ↦ (let rest = place_has n ms (rw z at h) in rw z (omega (arith, rest.0), rest.1))
+  | inr z ↦ (let rest = index_has n ms (rw z at h) in rw z (omega (arith, rest.0), rest.1))
 ]
 
 -- a known name
-pub took-known : (names : List Name) (ps : List Placed) (o : Parsed ℕ) → Sound ps → known_name names ps ≡ Ok o → Took ps o (Word (get_or names o.value []) ∷ []) × (o.value < length names)
+pub took-known : (names : List Name) (ps : List TokenAt) (o : Parsed ℕ) → Sound ps → known_name names ps ≡ Ok o → Took ps o (Word (get_or names o.value []) ∷ []) × (o.value < length names)
 took-known names ps o s h =
-    let i = on-inv (name ps) (λ (n : Name × ℕ). if has_text n.0 names then give (place_of n.0 names) else Reading.fail (UnknownName n.1)) o h in
+    let i = on-inv (name ps) (λ (n : Name × ℕ). if has_text n.0 names then give (index_of n.0 names) else Reading.fail (UnknownName n.1)) o h in
     let n = took-name ps i.0 s i.1 in
     pick (i.0) n.0 (has_text (i.0).value.0 names) refl i.2
   where
     pick : (r : Parsed (Name × ℕ)) → Took ps r (Word r.value.0 ∷ []) → (b : Bool) → has_text r.value.0 names ≡ b
-        → (if b then give (place_of r.value.0 names) else Reading.fail (UnknownName r.value.1)) r.rest ≡ Ok o → Took ps o (Word (get_or names o.value []) ∷ []) × (o.value < length names)
+        → (if b then give (index_of r.value.0 names) else Reading.fail (UnknownName r.value.1)) r.rest ≡ Ok o → Took ps o (Word (get_or names o.value []) ∷ []) × (o.value < length names)
     pick r n false e h = err_ok (UnknownName r.value.1) o h
     pick r n true e h =
-        let place = place_has r.value.0 names e in
-        let same : record { value = place_of r.value.0 names; rest = r.rest } ≡ o = ok_same (record { value = place_of r.value.0 names; rest = r.rest }) o h in
+        let index = index_has r.value.0 names e in
+        let same : record { value = index_of r.value.0 names; rest = r.rest } ≡ o = ok_same (record { value = index_of r.value.0 names; rest = r.rest }) o h in
         subst (λ (o : Parsed ℕ). Took ps o (Word (get_or names o.value []) ∷ []) × (o.value < length names)) same
-        (rw place.1 (record { begins = n.begins; sound = n.sound }), place.0)
+        (rw index.1 (record { begins = n.begins; sound = n.sound }), index.0)

@@ -8,7 +8,7 @@ use Rattle.sg_parse.specs.Grammar.{head_tokens, role_tokens, node_tokens, Spells
 use Rattle.sg_parse.specs.Tokens.{tokens, is_word, is_semicolon, is_end, is_last}
 use Rattle.sg_parse.specs.Reading as Reading
 use Rattle.sg_parse.specs.Reading.{Parsed, Parser, on, after, give, is_next, branch, token, name, read_role, read_variable, read_node, read_edge, read_head, read_roles, read_variables, read_nodes, read_edges, read_end, read_statements, read_text, statement, up_to, whole, read}
-use Rattle.sg_parse.specs.declared.token.Placed.{Placed}
+use Rattle.sg_parse.specs.declared.token.TokenAt.{TokenAt}
 use Rattle.sg_parse.specs.declared.token.Token.{Token}
 use Rattle.sg_parse.specs.declared.token.Token.TheVariants.{Word, Colon, Semicolon, Arrow, Use, As, End, Long, Bad}
 use Rattle.sg_parse.specs.declared.fault.ParseFault.{ParseFault}
@@ -71,7 +71,7 @@ in_turn-flat f (x ∷ xs) ts (Then s rest) = rw (s, in_turn-flat f xs _ rest) re
 
 -- ---- the parts of a text
 
-took-head : (ps : List Placed) (o : Parsed Graph) → Sound ps → read_head ps ≡ Ok o → (n : Name) × (no_parts n ≡ o.value) × IsGraph (no_parts n) × Took ps o (head_tokens n)
+took-head : (ps : List TokenAt) (o : Parsed Graph) → Sound ps → read_head ps ≡ Ok o → (n : Name) × (no_parts n ≡ o.value) × IsGraph (no_parts n) × Took ps o (head_tokens n)
 took-head ps o s h =
     let a = on-inv (token (is_word (codes "graph")) ps) _ o h in
     let first = took-token (is_word (codes "graph")) (Word (codes "graph")) ps a.0 (only-word (codes "graph")) s a.1 in
@@ -86,7 +86,7 @@ took-head ps o s h =
       took-both ps a.0 o (Word (codes "graph") ∷ []) _ first (took-both (a.0).rest b.0 o (Word (b.0).value.0 ∷ []) _ n.0 (took-both (b.0).rest c.0 o (Semicolon ∷ []) [] last end.1)),
     )
 
-took-roles : (g : Graph) (ps : List Placed) (o : Parsed Graph) → IsGraph g → length g.roles ≡ 0 → Sound ps → read_roles g ps ≡ Ok o
+took-roles : (g : Graph) (ps : List TokenAt) (o : Parsed Graph) → IsGraph g → length g.roles ≡ 0 → Sound ps → read_roles g ps ≡ Ok o
     → (r : Ran with_role SpellsRole g ps o) × (2 ≤ length r.parts)
 took-roles g ps o is none s h =
     let a = on-inv (statement (codes "role") read_role g ps) _ o h in
@@ -105,7 +105,7 @@ took-roles g ps o is none s h =
     let all = one_ran with_role SpellsRole (codes "role") read_role (λ g. length g.roles) 16 role_grows role_stays took-role g ps a.0 o one.0 one.1 one.2 one.4 one.5 both in
     (all, omega arith)
 
-took-nodes : (g : Graph) (ps : List Placed) (o : Parsed Graph) → IsGraph g → length g.nodes ≡ 0 → Sound ps → read_nodes g ps ≡ Ok o
+took-nodes : (g : Graph) (ps : List TokenAt) (o : Parsed Graph) → IsGraph g → length g.nodes ≡ 0 → Sound ps → read_nodes g ps ≡ Ok o
     → (r : Ran with_node SpellsNode g ps o) × (1 ≤ length r.parts)
 took-nodes g ps o is none s h =
     let a = on-inv (statement (codes "node") read_node g ps) _ o h in
@@ -119,7 +119,7 @@ took-nodes g ps o is none s h =
     (all, omega arith)
 
 -- the end of the text
-pub took-end : (ps : List Placed) (o : Parsed (Unit {0})) → Sound ps → read_end ps ≡ Ok o → bare ps ≡ End ∷ []
+pub took-end : (ps : List TokenAt) (o : Parsed (Unit {0})) → Sound ps → read_end ps ≡ Ok o → bare ps ≡ End ∷ []
 took-end [] o s h = absurd (cc)
 took-end (p ∷ ps) o s h = pick (branch-inv is_end (give tt) Reading.refused (p ∷ ps) o h)
   where
@@ -152,7 +152,7 @@ pub regroup : (h a b c d e : List Token) → (h ++ (a ++ (b ++ (c ++ d)))) ++ e 
 regroup h a b c d e = simp append_assoc
 
 -- a graph whose parts were read one after the other is spelled
-spells-parts : (ps : List Placed) (n : Name) (a b c d e : Parsed Graph) → no_parts n ≡ a.value → Took ps a (head_tokens n)
+spells-parts : (ps : List TokenAt) (n : Name) (a b c d e : Parsed Graph) → no_parts n ≡ a.value → Took ps a (head_tokens n)
     → (roles : Ran with_role SpellsRole a.value a.rest b) → 2 ≤ length roles.parts → Ran with_variable SpellsVariable b.value b.rest c
     → (nodes : Ran with_node SpellsNode c.value c.rest d) → 1 ≤ length nodes.parts → Ran with_edge SpellsEdge d.value d.rest e
     → (ts : List Token) × SpellsStatements e.value ts × Took ps e ts × (n ≡ e.value.name)
@@ -215,7 +215,7 @@ nodes_keep : (g : Graph) (xs : List Node) (h : Graph) → adds with_node g xs �
 nodes_keep g xs h e = subst (λ k. length k.edges ≡ length g.edges) (sym (adds_nodes g xs) ∙ e) refl
 
 -- the statements behind the graph's name
-pub took-statements : (ps : List Placed) (n : Name) (a w : Parsed Graph) → no_parts n ≡ a.value → IsGraph (no_parts n) → Took ps a (head_tokens n)
+pub took-statements : (ps : List TokenAt) (n : Name) (a w : Parsed Graph) → no_parts n ≡ a.value → IsGraph (no_parts n) → Took ps a (head_tokens n)
     → read_statements a.value a.rest ≡ Ok w
     → (ts : List Token) × SpellsStatements w.value ts × Took ps w ts × (n ≡ w.value.name)
 took-statements ps n a w e0 is head h =

@@ -18,19 +18,19 @@ use Rattle.sg_graph.proofs.Growth.{IsGraph-no_parts}
 use Rattle.sg_parse.specs.Grammar.{named, differ, head_tokens, InTurn, Done, Then}
 use Rattle.sg_parse.specs.Parts.{Part, Use, IsUse, IsPart, part_names, use_names}
 use Rattle.sg_parse.specs.PartsGrammar.{use_tokens, SpellsPart, SpellsParts}
-use Rattle.sg_parse.specs.PartsReading.{with_place, more_places, some_places, repeat, read_use, read_uses, read_part_head, read_part, read_parts, read}
+use Rattle.sg_parse.specs.PartsReading.{with_index, more_indices, some_indices, repeat, read_use, read_uses, read_part_head, read_part, read_parts, read}
 use Rattle.sg_parse.specs.Tokens.{part_tokens, is_word, is_named, is_colon, is_semicolon, is_arrow, is_use, is_as, text_of}
 use Rattle.sg_parse.specs.Reading as Reading
-use Rattle.sg_parse.specs.Reading.{Parsed, Parser, on, after, give, known, is_next, branch, token, name, new_name, known_name, place_of, read_statements, read_end, whole}
-use Rattle.sg_parse.specs.declared.token.Placed.{Placed}
+use Rattle.sg_parse.specs.Reading.{Parsed, Parser, on, after, give, known, is_next, branch, token, name, new_name, known_name, index_of, read_statements, read_end, whole}
+use Rattle.sg_parse.specs.declared.token.TokenAt.{TokenAt}
 use Rattle.sg_parse.specs.declared.token.Token.{Token}
 use Rattle.sg_parse.specs.declared.token.Token.TheVariants.{Word, Colon, Semicolon, Arrow, Use as UseWord, As, End}
 use Rattle.sg_parse.specs.declared.fault.ParseFault.TheVariants.{Twice, UnknownName}
 use Rattle.sg_parse.proofs.Sound.{Sound, sound-part_tokens}
-use Rattle.sg_parse.proofs.Took.{Took, IsFresh, bare, ok_same, err_ok, on-inv, branch-inv, took-both, took-give, took-token, took-new, took-known, named-word, place_has, only-word, only-colon, only-semicolon, only-arrow, only-use, only-as}
+use Rattle.sg_parse.proofs.Took.{Took, IsFresh, bare, ok_same, err_ok, on-inv, branch-inv, took-both, took-give, took-token, took-new, took-known, named-word, index_has, only-word, only-colon, only-semicolon, only-arrow, only-use, only-as}
 use Rattle.sg_parse.proofs.TookStatements.{node_at}
 use Rattle.sg_parse.proofs.TookGraph.{took-statements, took-end, whole-inv}
-use Rattle.sg_parse.proofs.Places.{repeat-there, repeat-away, repeat-none}
+use Rattle.sg_parse.proofs.Indices.{repeat-there, repeat-away, repeat-none}
 
 -- ---- names that differ, with one more
 
@@ -42,7 +42,7 @@ names-one_more ns n are f =
     let all : list_all p (ns ++ n ∷ []) ≡ true = list_all-append p ns (n ∷ []) ∙ rw (parts.0, f.name, f.free) refl in
     rw (all, all_differ-append ns n parts.1 f.new) refl
 
--- ---- places
+-- ---- indices
 
 -- what holds of each number of a list
 all-in : (P : ℕ → Type 0) (xs : List ℕ) → ((n : ℕ) → is_in n xs ≡ true → P n) → All P xs
@@ -50,22 +50,22 @@ all-in P [] h k d l = absurd (omega arith)
 all-in P (x ∷ xs) h zero d l = (let same : (x == x) ≡ true = eq-eqb x x refl in h x (rw same refl))
 all-in P (x ∷ xs) h (suc k) d l = all-in P xs (λ n i. h n (rw i (or_true (x == n)))) k d (omega (arith, l))
 
-record TookPlaces (names : List Name) (places : List ℕ) (ps : List Placed) (o : Parsed (List ℕ)) : Type 0 where
+record TookIndices (names : List Name) (indices : List ℕ) (ps : List TokenAt) (o : Parsed (List ℕ)) : Type 0 where
   order : List ℕ
   took : Took ps o (named names order)
-  value : places ++ order ≡ o.value
+  value : indices ++ order ≡ o.value
   once : differ order ≡ true
-  apart : (n : ℕ) → is_in n order ≡ true → is_in n places ≡ false
+  apart : (n : ℕ) → is_in n order ≡ true → is_in n indices ≡ false
   below : (n : ℕ) → is_in n order ≡ true → n < length names
   some : is_next is_named ps ≡ true → 1 ≤ length order
 
-no_more : (names : List Name) (places : List ℕ) (ps : List Placed) (o : Parsed (List ℕ)) → Sound ps → is_next is_named ps ≡ false → give places ps ≡ Ok o → TookPlaces names places ps o
-no_more names places ps o s away h =
-    let g = took-give places ps o s h in
+no_more : (names : List Name) (indices : List ℕ) (ps : List TokenAt) (o : Parsed (List ℕ)) → Sound ps → is_next is_named ps ≡ false → give indices ps ≡ Ok o → TookIndices names indices ps o
+no_more names indices ps o s away h =
+    let g = took-give indices ps o s h in
     record {
       order = [];
       took = g.1;
-      value = append-nil places ∙ g.0;
+      value = append-nil indices ∙ g.0;
       once = refl;
       apart = λ n e. absurd (cc);
       below = λ n e. absurd (cc);
@@ -73,76 +73,76 @@ no_more names places ps o s away h =
     }
 
 module _ (names : List Name) where
-  one_place-took : (places : List ℕ) (p : Placed) (ps : List Placed) (o : Parsed (List ℕ)) → p.token ≡ Word (text_of p.token)
-      → has_text (text_of p.token) names ≡ true → is_in (place_of (text_of p.token) names) places ≡ false
-      → TookPlaces names (places ++ place_of (text_of p.token) names ∷ []) ps o → TookPlaces names places (p ∷ ps) o
-  one_place-took places p ps o w has new t =
-      let place : ℕ = place_of (text_of p.token) names in
-      let there = place_has (text_of p.token) names has in
-      let same : (place == place) ≡ true = eq-eqb place place refl in
-      let absent : is_in place t.order ≡ false = elim (cases_Bool (is_in place t.order)) [
+  one_index-took : (indices : List ℕ) (p : TokenAt) (ps : List TokenAt) (o : Parsed (List ℕ)) → p.token ≡ Word (text_of p.token)
+      → has_text (text_of p.token) names ≡ true → is_in (index_of (text_of p.token) names) indices ≡ false
+      → TookIndices names (indices ++ index_of (text_of p.token) names ∷ []) ps o → TookIndices names indices (p ∷ ps) o
+  one_index-took indices p ps o w has new t =
+      let index : ℕ = index_of (text_of p.token) names in
+      let there = index_has (text_of p.token) names has in
+      let same : (index == index) ≡ true = eq-eqb index index refl in
+      let absent : is_in index t.order ≡ false = elim (cases_Bool (is_in index t.order)) [
         | inl y ↦
-            (let clash : is_in place (places ++ place ∷ []) ≡ true = is_in-more place place places ∙ rw (new, same) refl in
-            let clash' : is_in place (places ++ place ∷ []) ≡ false = t.apart place y in
+            (let clash : is_in index (indices ++ index ∷ []) ≡ true = is_in-more index index indices ∙ rw (new, same) refl in
+            let clash' : is_in index (indices ++ index ∷ []) ≡ false = t.apart index y in
             absurd (cc))
         | inr n ↦ n
       ] in
       record {
-        order = place ∷ t.order;
-        took = record { begins = (rw there.1 (ap (λ u. u ∷ bare ps) w)) ∙ ap (λ l. Word (get_or names place []) ∷ l) t.took.begins; sound = t.took.sound };
-        value = sym (append_assoc places (place ∷ []) t.order) ∙ t.value;
+        order = index ∷ t.order;
+        took = record { begins = (rw there.1 (ap (λ u. u ∷ bare ps) w)) ∙ ap (λ l. Word (get_or names index []) ∷ l) t.took.begins; sound = t.took.sound };
+        value = sym (append_assoc indices (index ∷ []) t.order) ∙ t.value;
         once = rw (absent, t.once) refl;
-        apart = λ n e. apart' place n t.order new e (λ i. sym (is_in-more n place places) ∙ t.apart n i);
-        below = λ n e. below' place n t.order there.0 e (t.below n);
+        apart = λ n e. apart' index n t.order new e (λ i. sym (is_in-more n index indices) ∙ t.apart n i);
+        below = λ n e. below' index n t.order there.0 e (t.below n);
         some = λ e. omega arith;
       }
     where
-      apart' : (place n : ℕ) (order : List ℕ) → is_in place places ≡ false → is_in n (place ∷ order) ≡ true → (is_in n order ≡ true → (is_in n places || (place == n)) ≡ false) → is_in n places ≡ false
-      apart' place n order new e later = elim (cases_Bool (place == n)) [
-        | inl y ↦ (let same : place ≡ n = grind (arith, nat_tests, y) in subst (λ k. is_in k places ≡ false) same new)
-        | inr d ↦ first_false (is_in n places) (place == n) (later (rw d at e))
+      apart' : (index n : ℕ) (order : List ℕ) → is_in index indices ≡ false → is_in n (index ∷ order) ≡ true → (is_in n order ≡ true → (is_in n indices || (index == n)) ≡ false) → is_in n indices ≡ false
+      apart' index n order new e later = elim (cases_Bool (index == n)) [
+        | inl y ↦ (let same : index ≡ n = grind (arith, nat_tests, y) in subst (λ k. is_in k indices ≡ false) same new)
+        | inr d ↦ first_false (is_in n indices) (index == n) (later (rw d at e))
       ]
 
-      below' : (place n : ℕ) (order : List ℕ) → place < length names → is_in n (place ∷ order) ≡ true → (is_in n order ≡ true → n < length names) → n < length names
-      below' place n order l e later = elim (cases_Bool (place == n)) [
-        | inl y ↦ (let same : place ≡ n = grind (arith, nat_tests, y) in subst (λ k. k < length names) same l)
+      below' : (index n : ℕ) (order : List ℕ) → index < length names → is_in n (index ∷ order) ≡ true → (is_in n order ≡ true → n < length names) → n < length names
+      below' index n order l e later = elim (cases_Bool (index == n)) [
+        | inl y ↦ (let same : index ≡ n = grind (arith, nat_tests, y) in subst (λ k. k < length names) same l)
         | inr d ↦ later (rw d at e)
       ]
 
-  -- one or more places
-  took-more-places : (places : List ℕ) (ps : List Placed) (o : Parsed (List ℕ)) → Sound ps → more_places names places ps ≡ Ok o → TookPlaces names places ps o
-  took-more-places places [] o s h = no_more names places [] o s refl h
-  took-more-places places (p ∷ ps) o s h = first (is_named p.token) refl h (λ next k. took-more-places next ps o s.2 k)
+  -- one or more indices
+  took-more-indices : (indices : List ℕ) (ps : List TokenAt) (o : Parsed (List ℕ)) → Sound ps → more_indices names indices ps ≡ Ok o → TookIndices names indices ps o
+  took-more-indices indices [] o s h = no_more names indices [] o s refl h
+  took-more-indices indices (p ∷ ps) o s h = first (is_named p.token) refl h (λ next k. took-more-indices next ps o s.2 k)
     where
-      second : (x y : Bool) → p.token ≡ Word (text_of p.token) → has_text (text_of p.token) names ≡ x → is_in (place_of (text_of p.token) names) places ≡ y
-          → on (known (if x then (if y then Err (Twice p.at) else Ok (places ++ place_of (text_of p.token) names ∷ [])) else Err (UnknownName p.at)) ps) (λ next _. more_places names next ps) ≡ Ok o
-          → ((next : List ℕ) → more_places names next ps ≡ Ok o → TookPlaces names next ps o) → TookPlaces names places (p ∷ ps) o
+      second : (x y : Bool) → p.token ≡ Word (text_of p.token) → has_text (text_of p.token) names ≡ x → is_in (index_of (text_of p.token) names) indices ≡ y
+          → on (known (if x then (if y then Err (Twice p.at) else Ok (indices ++ index_of (text_of p.token) names ∷ [])) else Err (UnknownName p.at)) ps) (λ next _. more_indices names next ps) ≡ Ok o
+          → ((next : List ℕ) → more_indices names next ps ≡ Ok o → TookIndices names next ps o) → TookIndices names indices (p ∷ ps) o
       second true true w ex ey k rest = err_ok (Twice p.at) o k
       second false y w ex ey k rest = err_ok (UnknownName p.at) o k
-      second true false w ex ey k rest = one_place-took places p ps o w ex ey (rest (places ++ place_of (text_of p.token) names ∷ []) k)
+      second true false w ex ey k rest = one_index-took indices p ps o w ex ey (rest (indices ++ index_of (text_of p.token) names ∷ []) k)
 
       first : (b : Bool) → is_named p.token ≡ b
-          → (if b then on (known (with_place names places (text_of p.token, p.at)) ps) (λ next _. more_places names next ps) else give places (p ∷ ps)) ≡ Ok o
-          → ((next : List ℕ) → more_places names next ps ≡ Ok o → TookPlaces names next ps o) → TookPlaces names places (p ∷ ps) o
-      first true e k rest = second (has_text (text_of p.token) names) (is_in (place_of (text_of p.token) names) places) (named-word p.token s.0 e).0 refl refl k rest
-      first false e k rest = no_more names places (p ∷ ps) o s e k
+          → (if b then on (known (with_index names indices (text_of p.token, p.at)) ps) (λ next _. more_indices names next ps) else give indices (p ∷ ps)) ≡ Ok o
+          → ((next : List ℕ) → more_indices names next ps ≡ Ok o → TookIndices names next ps o) → TookIndices names indices (p ∷ ps) o
+      first true e k rest = second (has_text (text_of p.token) names) (is_in (index_of (text_of p.token) names) indices) (named-word p.token s.0 e).0 refl refl k rest
+      first false e k rest = no_more names indices (p ∷ ps) o s e k
 
-  -- the places of names
-  took-places : (ps : List Placed) (o : Parsed (List ℕ)) → Sound ps → some_places names ps ≡ Ok o
+  -- the indices of names
+  took-indices : (ps : List TokenAt) (o : Parsed (List ℕ)) → Sound ps → some_indices names ps ≡ Ok o
       → Took ps o (named names o.value) × (1 ≤ length o.value) × All (λ r. r < length names) o.value × (differ o.value ≡ true)
-  took-places ps o s h = pick (branch-inv is_named (more_places names []) Reading.refused ps o h)
+  took-indices ps o s h = pick (branch-inv is_named (more_indices names []) Reading.refused ps o h)
     where
-      pick : ((is_next is_named ps ≡ true) × (more_places names [] ps ≡ Ok o)) ⊎ ((is_next is_named ps ≡ false) × (Reading.refused ps ≡ Ok o))
+      pick : ((is_next is_named ps ≡ true) × (more_indices names [] ps ≡ Ok o)) ⊎ ((is_next is_named ps ≡ false) × (Reading.refused ps ≡ Ok o))
           → Took ps o (named names o.value) × (1 ≤ length o.value) × All (λ r. r < length names) o.value × (differ o.value ≡ true)
       pick (inl (e, k)) =
-          let t = took-more-places [] ps o s k in
+          let t = took-more-indices [] ps o s k in
           subst (λ (l : List ℕ). Took ps o (named names l) × (1 ≤ length l) × All (λ r. r < length names) l × (differ l ≡ true)) t.value
           (t.took, t.some e, all-in (λ r. r < length names) t.order t.below, t.once)
       pick (inr (e, k)) = err_ok (Reading.refusal ps) o k
 
 -- ---- uses
 
-took-use : (names : List Name) (g : Graph) (uses : List Use) (ps : List Placed) (o : Parsed (List Use)) → Sound ps → read_use names g uses ps ≡ Ok o
+took-use : (names : List Name) (g : Graph) (uses : List Use) (ps : List TokenAt) (o : Parsed (List Use)) → Sound ps → read_use names g uses ps ≡ Ok o
     → (u : Use) × (ts : List Token) × (uses ++ u ∷ [] ≡ o.value) × (IsUse (length names) g u × IsFresh (use_names uses) u.name × (ts ≡ use_tokens names g u)) × Took ps o ts
 took-use names g uses ps o s h =
     let a = on-inv (token is_use ps) _ o h in
@@ -161,8 +161,8 @@ took-use names g uses ps o s h =
     let target = took-known (node_names g) (f.0).rest k.0 arrow.sound k.1 in
     let l = on-inv (token is_as (k.0).rest) _ o k.2 in
     let as' = took-token is_as As (k.0).rest l.0 only-as (target.0).sound l.1 in
-    let m = on-inv (some_places g.roles (l.0).rest) _ o l.2 in
-    let roles = took-places g.roles (l.0).rest m.0 as'.sound m.1 in
+    let m = on-inv (some_indices g.roles (l.0).rest) _ o l.2 in
+    let roles = took-indices g.roles (l.0).rest m.0 as'.sound m.1 in
     let q = on-inv (token is_semicolon (m.0).rest) _ o m.2 in
     let last = took-token is_semicolon Semicolon (m.0).rest q.0 only-semicolon (roles.0).sound q.1 in
     let u : Use = record { name = (b.0).value; part = (d.0).value; from = (e.0).value; to = (k.0).value; roles = (m.0).value } in
@@ -195,17 +195,17 @@ data Grown {B : Type 0} (Fits : List B → B → List Token → Type 0) : List B
   OneMore : {xs ys : List B} {y : B} {ts us : List Token} → Fits xs y ts → Grown Fits (xs ++ y ∷ []) ys us → Grown Fits xs (y ∷ ys) (ts ++ us)
 
 module _ {B : Type 0} (Fits : List B → B → List Token → Type 0) (test : Token → Bool) (reader : List B → Parser (List B))
-    (step : (xs : List B) (ps : List Placed) (o : Parsed (List B)) → Sound ps → reader xs ps ≡ Ok o → (y : B) × (ts : List Token) × (xs ++ y ∷ [] ≡ o.value) × Fits xs y ts × Took ps o ts) where
-  none_grown : (xs : List B) (ps : List Placed) (o : Parsed (List B)) → Sound ps → give xs ps ≡ Ok o → (ys : List B) × (ts : List Token) × (xs ++ ys ≡ o.value) × Grown Fits xs ys ts × Took ps o ts
+    (step : (xs : List B) (ps : List TokenAt) (o : Parsed (List B)) → Sound ps → reader xs ps ≡ Ok o → (y : B) × (ts : List Token) × (xs ++ y ∷ [] ≡ o.value) × Fits xs y ts × Took ps o ts) where
+  none_grown : (xs : List B) (ps : List TokenAt) (o : Parsed (List B)) → Sound ps → give xs ps ≡ Ok o → (ys : List B) × (ts : List Token) × (xs ++ ys ≡ o.value) × Grown Fits xs ys ts × Took ps o ts
   none_grown xs ps o s h = (let g = took-give xs ps o s h in ([], [], append-nil xs ∙ g.0, NoMore, g.1))
 
-  took-repeat : (n : ℕ) (xs : List B) (ps : List Placed) (o : Parsed (List B)) → Sound ps → repeat n test reader xs ps ≡ Ok o
+  took-repeat : (n : ℕ) (xs : List B) (ps : List TokenAt) (o : Parsed (List B)) → Sound ps → repeat n test reader xs ps ≡ Ok o
       → (ys : List B) × (ts : List Token) × (xs ++ ys ≡ o.value) × Grown Fits xs ys ts × Took ps o ts
   took-repeat zero xs ps o s h = none_grown xs ps o s (sym (repeat-none test reader xs ps) ∙ h)
   took-repeat (suc n) xs ps o s h = pick (is_next test ps) refl (λ xs ps s h. took-repeat n xs ps o s h)
     where
       pick : (b : Bool) → is_next test ps ≡ b
-          → ((xs : List B) (ps : List Placed) → Sound ps → repeat n test reader xs ps ≡ Ok o → (ys : List B) × (ts : List Token) × (xs ++ ys ≡ o.value) × Grown Fits xs ys ts × Took ps o ts)
+          → ((xs : List B) (ps : List TokenAt) → Sound ps → repeat n test reader xs ps ≡ Ok o → (ys : List B) × (ts : List Token) × (xs ++ ys ≡ o.value) × Grown Fits xs ys ts × Took ps o ts)
           → (ys : List B) × (ts : List Token) × (xs ++ ys ≡ o.value) × Grown Fits xs ys ts × Took ps o ts
       pick false e more = none_grown xs ps o s (sym (repeat-away test reader (suc n) xs ps e) ∙ h)
       pick true e more =
@@ -240,7 +240,7 @@ uses-grown names g xs (y ∷ ys) ts (OneMore {us = us} f rest) are =
 abbrev PartFits : List Part → Part → List Token → Type 0
 PartFits parts p ts = IsPart (length parts) p × SpellsPart (part_names parts) p ts × (has_text p.graph.name (part_names parts) ≡ false)
 
-took-part : (bytes : ℕ) (parts : List Part) (ps : List Placed) (o : Parsed (List Part)) → Sound ps → read_part bytes parts ps ≡ Ok o
+took-part : (bytes : ℕ) (parts : List Part) (ps : List TokenAt) (o : Parsed (List Part)) → Sound ps → read_part bytes parts ps ≡ Ok o
     → (p : Part) × (ts : List Token) × (parts ++ p ∷ [] ≡ o.value) × PartFits parts p ts × Took ps o ts
 took-part bytes parts ps o s h =
     let names : List Name = part_names parts in
@@ -281,11 +281,11 @@ took-part bytes parts ps o s h =
       took-both ps b.0 o g.0 (u.1 ++ []) g.2 (took-both (b.0).rest c.0 o u.1 [] u.4 done.1),
     )
 
--- the name at a place before others
-get_or-front : (a b : List Name) (k : ℕ) → k < length a → get_or (a ++ b) k [] ≡ get_or a k []
-get_or-front [] b k l = absurd (omega arith)
-get_or-front (x ∷ a) b zero l = refl
-get_or-front (x ∷ a) b (suc k) l = get_or-front a b k (omega (arith, l))
+-- the name at an index before others
+get_or-prefix : (a b : List Name) (k : ℕ) → k < length a → get_or (a ++ b) k [] ≡ get_or a k []
+get_or-prefix [] b k l = absurd (omega arith)
+get_or-prefix (x ∷ a) b zero l = refl
+get_or-prefix (x ∷ a) b (suc k) l = get_or-prefix a b k (omega (arith, l))
 
 -- a use is spelled the same with more parts behind
 pub uses-behind : (a b : List Name) (g : Graph) (us : List Use) → All (IsUse (length a) g) us → flat_map (use_tokens a g) us ≡ flat_map (use_tokens (a ++ b) g) us
@@ -293,13 +293,13 @@ uses-behind a b g [] all = refl
 uses-behind a b g (u ∷ us) all =
     let here : IsUse (length a) g u = all 0 u (omega arith) in
     let rest = uses-behind a b g us (λ k d l. all (suc k) d (omega (arith, l))) in
-    rw (get_or-front a b u.part here.part, rest) refl
+    rw (get_or-prefix a b u.part here.part, rest) refl
 
 -- parts that were read one after the other
 parts-grown : (xs ys : List Part) (ts : List Token) → Grown PartFits xs ys ts → all_differ (part_names xs) ≡ true
     → (all_differ (part_names (xs ++ ys)) ≡ true) × ((k : ℕ) (p : Part) → slice_get ys k ≡ Some p → IsPart (length xs + k) p) × InTurn (SpellsPart (part_names (xs ++ ys))) ys ts
 parts-grown xs [] ts NoMore d = (subst (λ l. all_differ (part_names l) ≡ true) (sym (append-nil xs)) d, (λ k p e. absurd (cc)), Done)
-parts-grown xs (y ∷ ys) ts (OneMore {ts = front} {us = us} f rest) d =
+parts-grown xs (y ∷ ys) ts (OneMore {ts = prefix} {us = us} f rest) d =
     let more : all_differ (part_names (xs ++ y ∷ [])) ≡ true =
     subst (λ l. all_differ l ≡ true) (sym (map-append (λ (p : Part). p.graph.name) xs (y ∷ []))) (all_differ-append (part_names xs) y.graph.name d f.2) in
     let r = parts-grown (xs ++ y ∷ []) ys us rest more in
@@ -308,7 +308,7 @@ parts-grown xs (y ∷ ys) ts (OneMore {ts = front} {us = us} f rest) d =
     let many : length (part_names xs) ≡ length xs = length-map xs (λ (p : Part). p.graph.name) in
     let uses : All (IsUse (length (part_names xs)) y.graph) y.uses = subst (λ k. All (IsUse k y.graph) y.uses) (sym many) (f.0).uses in
     let longer : length (xs ++ y ∷ []) ≡ length xs + 1 = length-append xs (y ∷ []) in
-    let here : SpellsPart (part_names (xs ++ y ∷ ys)) y front = record {
+    let here : SpellsPart (part_names (xs ++ y ∷ ys)) y prefix = record {
       of_graph = (f.1).of_graph;
       graph = (f.1).graph;
       spelled = (f.1).spelled ∙ ap (λ l. (f.1).of_graph ++ l) (uses-behind (part_names xs) (part_names (y ∷ ys)) y.graph y.uses uses ∙ ap (λ l. flat_map (use_tokens l y.graph) y.uses) (sym names));

@@ -9,7 +9,7 @@ use Rattle.sg_graph.proofs.Growth.{IsGraph-with_role, IsGraph-with_variable, IsG
 use Rattle.sg_parse.specs.Grammar.{named, role_tokens, node_tokens, SpellsVariable, SpellsEdge}
 use Rattle.sg_parse.specs.Tokens.{is_word, is_colon, is_semicolon, is_arrow}
 use Rattle.sg_parse.specs.Reading.{Parsed, on, after, give, is_next, token, skip, new_name, known_name, some_names, read_clause, read_kind, read_role, read_variable, read_node, read_edge}
-use Rattle.sg_parse.specs.declared.token.Placed.{Placed}
+use Rattle.sg_parse.specs.declared.token.TokenAt.{TokenAt}
 use Rattle.sg_parse.specs.declared.token.Token.{Token}
 use Rattle.sg_parse.specs.declared.token.Token.TheVariants.{Word, Colon, Semicolon, Arrow}
 use Rattle.sg_parse.proofs.Sound.{Sound}
@@ -17,7 +17,7 @@ use Rattle.sg_parse.proofs.Took.{Took, bare, on-inv, branch-inv, took-both, took
 use Rattle.sg_parse.proofs.TookSets.{took-some, took-clause}
 
 -- a part was added to a graph, and its statement was taken from behind its first word
-pub record Stepped {A : Type 0} (add : Graph → A → Graph) (Spells : Graph → A → List Token → Type 0) (first : List ℕ) (g : Graph) (ps : List Placed) (o : Parsed Graph) : Type 0 where
+pub record Stepped {A : Type 0} (add : Graph → A → Graph) (Spells : Graph → A → List Token → Type 0) (first : List ℕ) (g : Graph) (ps : List TokenAt) (o : Parsed Graph) : Type 0 where
   pub part : A
   pub tokens : List Token
   pub value : add g part ≡ o.value
@@ -32,7 +32,7 @@ SpellsRole g n ts = ts ≡ role_tokens n
 abbrev pub SpellsNode : Graph → Node → List Token → Type 0
 SpellsNode g n ts = ts ≡ node_tokens g n
 
-pub took-role : (g : Graph) (ps : List Placed) (o : Parsed Graph) → IsGraph g → length g.roles < 16 → Sound ps → read_role g ps ≡ Ok o → Stepped with_role SpellsRole (codes "role") g ps o
+pub took-role : (g : Graph) (ps : List TokenAt) (o : Parsed Graph) → IsGraph g → length g.roles < 16 → Sound ps → read_role g ps ≡ Ok o → Stepped with_role SpellsRole (codes "role") g ps o
 took-role g ps o is room s h =
     let i = on-inv (new_name g.roles ps) (λ n. after (token is_semicolon) λ _. give (with_role g n)) o h in
     let n = took-new g.roles ps i.0 s i.1 in
@@ -48,10 +48,10 @@ took-role g ps o is room s h =
       took = took-both ps i.0 o (Word (i.0).value ∷ []) (Semicolon ∷ []) n.0 (took-both (i.0).rest j.0 o (Semicolon ∷ []) [] t e.1);
     }
 
-pub took-kind : (ps : List Placed) (o : Parsed VariableKind) → Sound ps → read_kind ps ≡ Ok o → Took ps o (Word (kind_text o.value) ∷ [])
+pub took-kind : (ps : List TokenAt) (o : Parsed VariableKind) → Sound ps → read_kind ps ≡ Ok o → Took ps o (Word (kind_text o.value) ∷ [])
 took-kind ps o s h = pick (branch-inv (is_word (codes "int")) (after skip λ _. give Int) (after (token (is_word (codes "text"))) λ _. give Text) ps o h)
   where
-    there : (ps : List Placed) → Sound ps → is_next (is_word (codes "int")) ps ≡ true → on (skip ps) (λ _. give Int) ≡ Ok o → Took ps o (Word (kind_text o.value) ∷ [])
+    there : (ps : List TokenAt) → Sound ps → is_next (is_word (codes "int")) ps ≡ true → on (skip ps) (λ _. give Int) ≡ Ok o → Took ps o (Word (kind_text o.value) ∷ [])
     there [] s e k = absurd (cc)
     there (p ∷ ps) s e k =
         let g = took-give Int ps o s.2 k in
@@ -68,7 +68,7 @@ took-kind ps o s h = pick (branch-inv (is_word (codes "int")) (after skip λ _. 
         let g = took-give Text (j.0).rest o t.sound j.2 in
         subst (λ v. Took ps o (Word (kind_text v) ∷ [])) g.0 (took-both ps j.0 o (Word (codes "text") ∷ []) [] t g.1)
 
-pub took-variable : (g : Graph) (ps : List Placed) (o : Parsed Graph) → IsGraph g → length g.variables < 32 → Sound ps → read_variable g ps ≡ Ok o
+pub took-variable : (g : Graph) (ps : List TokenAt) (o : Parsed Graph) → IsGraph g → length g.variables < 32 → Sound ps → read_variable g ps ≡ Ok o
     → Stepped with_variable SpellsVariable (codes "var") g ps o
 took-variable g ps o is room s h =
     let a = on-inv (new_name (variable_names g) ps) _ o h in
@@ -100,7 +100,7 @@ took-variable g ps o is room s h =
           (took-both (e.0).rest f.0 o (Semicolon ∷ []) [] last end.1)))));
     }
 
-pub took-node : (g : Graph) (ps : List Placed) (o : Parsed Graph) → IsGraph g → length g.nodes < 256 → Sound ps → read_node g ps ≡ Ok o → Stepped with_node SpellsNode (codes "node") g ps o
+pub took-node : (g : Graph) (ps : List TokenAt) (o : Parsed Graph) → IsGraph g → length g.nodes < 256 → Sound ps → read_node g ps ≡ Ok o → Stepped with_node SpellsNode (codes "node") g ps o
 took-node g ps o is room s h =
     let a = on-inv (new_name (node_names g) ps) _ o h in
     let n = took-new (node_names g) ps a.0 s a.1 in
@@ -128,7 +128,7 @@ took-node g ps o is room s h =
 pub node_at : (g : Graph) (n : ℕ) → n < length (node_names g) → (get_or (node_names g) n [] ≡ node_name g n) × (n < length g.nodes)
 node_at g n h = let l : n < length g.nodes = rw length-map at h in (get_or-map (λ (m : Node). m.name) g.nodes n _ [] l, l)
 
-pub took-edge : (g : Graph) (ps : List Placed) (o : Parsed Graph) → IsGraph g → length g.edges < 512 → Sound ps → read_edge g ps ≡ Ok o → Stepped with_edge SpellsEdge (codes "edge") g ps o
+pub took-edge : (g : Graph) (ps : List TokenAt) (o : Parsed Graph) → IsGraph g → length g.edges < 512 → Sound ps → read_edge g ps ≡ Ok o → Stepped with_edge SpellsEdge (codes "edge") g ps o
 took-edge g ps o is room s h =
     let few : length (variable_names g) ≤ 32 = rw length-map is.sizes.1 in
     let a = on-inv (new_name (edge_names g) ps) _ o h in

@@ -5,7 +5,7 @@ use Rattle.sg_parse.specs.Grammar.{InTurn, Done, Then}
 use Rattle.sg_parse.specs.Tokens.{is_word}
 use Rattle.sg_parse.specs.Reading as Reading
 use Rattle.sg_parse.specs.Reading.{Parsed, Parser, on, after, give, is_next, branch, token, name, read_role, read_variable, read_node, read_edge, read_head, read_roles, read_variables, read_nodes, read_edges, read_end, read_text, statement, up_to, no_more, whole, read}
-use Rattle.sg_parse.specs.declared.token.Placed.{Placed}
+use Rattle.sg_parse.specs.declared.token.TokenAt.{TokenAt}
 use Rattle.sg_parse.specs.declared.token.Token.{Token}
 use Rattle.sg_parse.specs.declared.token.Token.TheVariants.{Word}
 use Rattle.sg_parse.specs.declared.fault.ParseFault.TheVariants.{TooMany}
@@ -20,7 +20,7 @@ adds add g [] = g
 adds add g (x ∷ xs) = adds add (add g x) xs
 
 -- parts were added, and their statements taken
-pub record Ran {A : Type 0} (add : Graph → A → Graph) (Spells : Graph → A → List Token → Type 0) (g : Graph) (ps : List Placed) (o : Parsed Graph) : Type 0 where
+pub record Ran {A : Type 0} (add : Graph → A → Graph) (Spells : Graph → A → List Token → Type 0) (g : Graph) (ps : List TokenAt) (o : Parsed Graph) : Type 0 where
   pub parts : List A
   pub tokens : List Token
   pub value : adds add g parts ≡ o.value
@@ -36,9 +36,9 @@ in_turn-map S T (x ∷ xs) ts k (Then s rest) = Then (k x _ s) (in_turn-map S T 
 module _ {A : Type 0} (add : Graph → A → Graph) (Spells : Graph → A → List Token → Type 0) (first : List ℕ) (reader : Graph → Parser Graph) (size : Graph → ℕ) (limit : ℕ)
     (grows : (g : Graph) (x : A) → size (add g x) ≡ suc (size g))
     (stays : (g : Graph) (x y : A) (ts : List Token) → Spells (add g x) y ts → Spells g y ts)
-    (step : (g : Graph) (ps : List Placed) (o : Parsed Graph) → IsGraph g → size g < limit → Sound ps → reader g ps ≡ Ok o → Stepped add Spells first g ps o) where
+    (step : (g : Graph) (ps : List TokenAt) (o : Parsed Graph) → IsGraph g → size g < limit → Sound ps → reader g ps ≡ Ok o → Stepped add Spells first g ps o) where
   -- a statement with its first word
-  pub took-statement : (g : Graph) (ps : List Placed) (o : Parsed Graph) → IsGraph g → size g < limit → Sound ps → statement first reader g ps ≡ Ok o
+  pub took-statement : (g : Graph) (ps : List TokenAt) (o : Parsed Graph) → IsGraph g → size g < limit → Sound ps → statement first reader g ps ≡ Ok o
       → (x : A) × (ts : List Token) × (add g x ≡ o.value) × IsGraph (add g x) × Spells g x ts × Took ps o ts
   took-statement g ps o is room s h =
       let i = on-inv (token (is_word first) ps) (λ _. reader g) o h in
@@ -46,13 +46,13 @@ module _ {A : Type 0} (add : Graph → A → Graph) (Spells : Graph → A → Li
       let d = step g (i.0).rest o is room t.sound i.2 in
       (d.part, Word first ∷ d.tokens, d.value, d.is_graph, d.spells, took-both ps i.0 o (Word first ∷ []) d.tokens t d.took)
 
-  none_ran : (g : Graph) (ps : List Placed) (o : Parsed Graph) → IsGraph g → Sound ps → give g ps ≡ Ok o → Ran add Spells g ps o
+  none_ran : (g : Graph) (ps : List TokenAt) (o : Parsed Graph) → IsGraph g → Sound ps → give g ps ≡ Ok o → Ran add Spells g ps o
   none_ran g ps o is s h =
       let e = took-give g ps o s h in
       record { parts = []; tokens = []; value = e.0; is_graph = subst IsGraph e.0 is; spells = Done; took = e.1 }
 
   -- a statement and what ran behind it
-  abbrev pub one_ran : (g : Graph) (ps : List Placed) (r o : Parsed Graph) (x : A) (ts : List Token) → add g x ≡ r.value → Spells g x ts → Took ps r ts → Ran add Spells r.value r.rest o → Ran add Spells g ps o
+  abbrev pub one_ran : (g : Graph) (ps : List TokenAt) (r o : Parsed Graph) (x : A) (ts : List Token) → add g x ≡ r.value → Spells g x ts → Took ps r ts → Ran add Spells r.value r.rest o → Ran add Spells g ps o
   one_ran g ps r o x ts same s t rest =
       let rest' : Ran add Spells (add g x) r.rest o = subst (λ k. Ran add Spells k r.rest o) (sym same) rest in
       record {
@@ -65,7 +65,7 @@ module _ {A : Type 0} (add : Graph → A → Graph) (Spells : Graph → A → Li
       }
 
   -- statements, up to n of them
-  pub took-up_to : (n : ℕ) (g : Graph) (ps : List Placed) (o : Parsed Graph) → IsGraph g → size g + n ≤ limit → Sound ps → up_to n first reader g ps ≡ Ok o → Ran add Spells g ps o
+  pub took-up_to : (n : ℕ) (g : Graph) (ps : List TokenAt) (o : Parsed Graph) → IsGraph g → size g + n ≤ limit → Sound ps → up_to n first reader g ps ≡ Ok o → Ran add Spells g ps o
   took-up_to zero g ps o is room s h =
       let i = on-inv (no_more first ps) (λ _. give g) o (sym (up_to-none first reader g ps) ∙ h) in
       pick i.0 (branch-inv (is_word first) Reading.crowded (give tt) ps i.0 i.1) i.2

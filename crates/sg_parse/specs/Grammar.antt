@@ -17,9 +17,9 @@ pub record IsOrderOf (set ns : List ℕ) : Type 0 where
   pub same : (n : ℕ) → is_in n ns ≡ is_in n set
   pub once : IsTrue (differ ns)
 
--- the names at these places
+-- the names at these indices
 abbrev pub named : List Name → List ℕ → List Token
-named names places = map (λ n. Word (get_or names n [])) places
+named names indices = map (λ n. Word (get_or names n [])) indices
 
 -- the statement of a graph's name
 abbrev pub head_tokens : Name → List Token

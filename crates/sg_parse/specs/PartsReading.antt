@@ -5,32 +5,32 @@ use Rattle.sg_protocol.specs.Graph.{Graph, Name}
 use Rattle.sg_graph.specs.Adding.{no_parts}
 use Rattle.sg_graph.specs.Parts.{node_names}
 use Rattle.sg_parse.specs.Parts.{Part, Use, part_names, use_names}
-use Rattle.sg_parse.specs.Reading.{Parser, on, after, give, known, token, branch, refused, name, new_name, known_name, place_of, read_statements, read_end, whole}
+use Rattle.sg_parse.specs.Reading.{Parser, on, after, give, known, token, branch, refused, name, new_name, known_name, index_of, read_statements, read_end, whole}
 use Rattle.sg_parse.specs.Tokens.{part_tokens, is_word, is_named, is_colon, is_semicolon, is_arrow, is_use, is_as, text_of}
 use Rattle.sg_parse.specs.declared.token.Token.{Token}
 use Rattle.sg_parse.specs.declared.fault.ParseFault.{ParseFault}
 use Rattle.sg_parse.specs.declared.fault.ParseFault.TheVariants.{UnknownName, Twice}
 
--- the places with that of one more name, which is one of the names and none of the places yet, or the fault at its offset
-abbrev pub with_place : List Name → List ℕ → Name × ℕ → Result (List ℕ) ParseFault
-with_place names places n =
-    if has_text n.0 names then (if is_in (place_of n.0 names) places then Err (Twice n.1) else Ok (places ++ place_of n.0 names ∷ []))
+-- the indices with that of one more name, which is one of the names and none of the indices yet, or the fault at its offset
+abbrev pub with_index : List Name → List ℕ → Name × ℕ → Result (List ℕ) ParseFault
+with_index names indices n =
+    if has_text n.0 names then (if is_in (index_of n.0 names) indices then Err (Twice n.1) else Ok (indices ++ index_of n.0 names ∷ []))
     else Err (UnknownName n.1)
 
 -- one more name
-abbrev pub one_place : List Name → List ℕ → Parser (List ℕ)
-one_place names places = after name λ n. known (with_place names places n)
+abbrev pub one_index : List Name → List ℕ → Parser (List ℕ)
+one_index names indices = after name λ n. known (with_index names indices n)
 
--- the places, with those of all names that follow
-abbrev pub more_places : List Name → List ℕ → Parser (List ℕ)
-more_places names places [] = give places []
-more_places names places (p ∷ ps) =
-    if is_named p.token then on (known (with_place names places (text_of p.token, p.at)) ps) (λ next _. more_places names next ps)
-    else give places (p ∷ ps)
+-- the indices, with those of all names that follow
+abbrev pub more_indices : List Name → List ℕ → Parser (List ℕ)
+more_indices names indices [] = give indices []
+more_indices names indices (p ∷ ps) =
+    if is_named p.token then on (known (with_index names indices (text_of p.token, p.at)) ps) (λ next _. more_indices names next ps)
+    else give indices (p ∷ ps)
 
--- one or more of these names, each once: their places in the order in which they stand
-abbrev pub some_places : List Name → Parser (List ℕ)
-some_places names = branch is_named (more_places names []) refused
+-- one or more of these names, each once: their indices in the order in which they stand
+abbrev pub some_indices : List Name → Parser (List ℕ)
+some_indices names = branch is_named (more_indices names []) refused
 
 -- one reading after another as long as the next token passes the test, up to n times
 unfoldable pub repeat : {A : Type 0} → ℕ → (Token → Bool) → (A → Parser A) → A → Parser A
@@ -48,7 +48,7 @@ read_use names g uses =
     after (token is_arrow) λ _.
     after (known_name (node_names g)) λ to.
     after (token is_as) λ _.
-    after (some_places g.roles) λ roles.
+    after (some_indices g.roles) λ roles.
     after (token is_semicolon) λ _.
     give (uses ++ record { name = n; part = part; from = from; to = to; roles = roles } ∷ [])
 

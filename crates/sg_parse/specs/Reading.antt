@@ -9,7 +9,7 @@ use Rattle.sg_graph.specs.Parts.{variable_names, node_names, edge_names}
 use Rattle.sg_parse.specs.Tokens.{tokens, is_word, is_named, is_colon, is_semicolon, is_arrow, is_end, text_of}
 use Rattle.sg_parse.specs.declared.token.Token.{Token}
 use Rattle.sg_parse.specs.declared.token.Token.TheVariants.{Long, Bad}
-use Rattle.sg_parse.specs.declared.token.Placed.{Placed}
+use Rattle.sg_parse.specs.declared.token.TokenAt.{TokenAt}
 use Rattle.sg_parse.specs.declared.fault.ParseFault.{ParseFault}
 use Rattle.sg_parse.specs.declared.fault.ParseFault.TheVariants.{BadByte, Unexpected, UnknownName, Twice, TooMany}
 
@@ -18,11 +18,11 @@ use Rattle.sg_parse.specs.declared.fault.ParseFault.TheVariants.{BadByte, Unexpe
 -- what was read, and the tokens that are left
 pub record Parsed (A : Type 0) : Type 0 where
   pub value : A
-  pub rest : List Placed
+  pub rest : List TokenAt
 
 -- reads tokens, or gives the fault at the first wrong one
 abbrev pub Parser : Type 0 → Type 0
-Parser A = List Placed → Result (Parsed A) ParseFault
+Parser A = List TokenAt → Result (Parsed A) ParseFault
 
 -- the fault at a token that the grammar doesn't have at its place
 abbrev pub refusal_of : Token → ℕ → ParseFault
@@ -53,17 +53,17 @@ abbrev pub after : {A B : Type 0} → Parser A → (A → Parser B) → Parser B
 after first next ps = on (first ps) next
 
 -- the next token passes the test; a text has no token after its end
-abbrev pub is_next : (Token → Bool) → List Placed → Bool
+abbrev pub is_next : (Token → Bool) → List TokenAt → Bool
 is_next test [] = false
 is_next test (p ∷ ps) = test p.token
 
 -- the offset of the next token
-abbrev pub offset_of : List Placed → ℕ
+abbrev pub offset_of : List TokenAt → ℕ
 offset_of [] = 0
 offset_of (p ∷ ps) = p.at
 
 -- the fault at the next token, which the grammar doesn't have at its place
-abbrev pub refusal : List Placed → ParseFault
+abbrev pub refusal : List TokenAt → ParseFault
 refusal [] = Unexpected 0
 refusal (p ∷ ps) = refusal_of p.token p.at
 
@@ -103,33 +103,33 @@ name = branch is_named word refused
 abbrev pub new_name : List Name → Parser Name
 new_name names = after name λ n. if has_text n.0 names then fail (Twice n.1) else give n.0
 
--- the place of a name among names
-abbrev pub place_of : Name → List Name → ℕ
-place_of n [] = 0
-place_of n (m ∷ ms) = if bytes_eq n m then 0 else suc (place_of n ms)
+-- the index of a name among names
+abbrev pub index_of : Name → List Name → ℕ
+index_of n [] = 0
+index_of n (m ∷ ms) = if bytes_eq n m then 0 else suc (index_of n ms)
 
--- a name that is one of these, by its place
+-- a name that is one of these, by its index
 abbrev pub known_name : List Name → Parser ℕ
-known_name names = after name λ n. if has_text n.0 names then give (place_of n.0 names) else fail (UnknownName n.1)
+known_name names = after name λ n. if has_text n.0 names then give (index_of n.0 names) else fail (UnknownName n.1)
 
--- the set with the place of a name, which is one of the names and not in the set yet, or the fault at its offset
+-- the set with the index of a name, which is one of the names and not in the set yet, or the fault at its offset
 abbrev pub joined : ℕ → List Name → List ℕ → Name × ℕ → Result (List ℕ) ParseFault
 joined width names set n =
-    if has_text n.0 names then (if is_in (place_of n.0 names) set then Err (Twice n.1) else Ok (with_member width set (place_of n.0 names)))
+    if has_text n.0 names then (if is_in (index_of n.0 names) set then Err (Twice n.1) else Ok (with_member width set (index_of n.0 names)))
     else Err (UnknownName n.1)
 
 -- a name that joins the set
 abbrev pub one_more : ℕ → List Name → List ℕ → Parser (List ℕ)
 one_more width names set = after name λ n. known (joined width names set n)
 
--- the set, with the places of all names that follow
+-- the set, with the indices of all names that follow
 abbrev pub more_names : ℕ → List Name → List ℕ → Parser (List ℕ)
 more_names width names set [] = give set []
 more_names width names set (p ∷ ps) =
     if is_named p.token then on (known (joined width names set (text_of p.token, p.at)) ps) (λ next _. more_names width names next ps)
     else give set (p ∷ ps)
 
--- one or more of these names, each once: the set of their places
+-- one or more of these names, each once: the set of their indices
 abbrev pub some_names : ℕ → List Name → Parser (List ℕ)
 some_names width names = branch is_named (more_names width names []) refused
 

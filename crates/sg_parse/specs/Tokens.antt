@@ -4,7 +4,7 @@ use Rattle.sg_model.specs.Lists.{has_text}
 use Rattle.sg_model.specs.Names.{is_letter, is_name_byte, reserved}
 use Rattle.sg_parse.specs.declared.token.Token.{Token}
 use Rattle.sg_parse.specs.declared.token.Token.TheVariants.{Word, Colon, Semicolon, Arrow, Use, As, End, Long, Bad}
-use Rattle.sg_parse.specs.declared.token.Placed.{Placed}
+use Rattle.sg_parse.specs.declared.token.TokenAt.{TokenAt}
 use Rattle.sg_parse.specs.declared.token.Language.{Language}
 use Rattle.sg_parse.specs.declared.token.Language.TheVariants.{OfGraph, OfParts}
 
@@ -32,7 +32,7 @@ part_of OfComment b = if b == 10 then Apart else OfComment
 part_of before b = if is_name_byte b then OfWord else if b == 35 then OfComment else if b == 45 then OfArrow else Apart
 
 -- a word, or the fault at its 33rd byte
-abbrev pub word_at : ℕ → List ℕ → Placed
+abbrev pub word_at : ℕ → List ℕ → TokenAt
 word_at at w = if nat_le (length w) 32 then record { token = Word w; at = at } else record { token = Long; at = at + 32 }
 
 -- the bytes begin with `>`
@@ -45,7 +45,7 @@ abbrev pub mark : ℕ → Bool → Token
 mark b head = if b == 58 then Colon else if b == 59 then Semicolon else if (b == 45) && head then Arrow else Bad
 
 -- the token that the byte b begins, before the bytes bs
-abbrev pub begun : ℕ → ℕ → List ℕ → Placed
+abbrev pub begun : ℕ → ℕ → List ℕ → TokenAt
 begun at b bs = if is_letter b then word_at at (take_while is_name_byte (b ∷ bs)) else record { token = mark b (has_head bs); at = at }
 
 -- the end of the text, or a fault: no tokens are asked for after it
@@ -56,18 +56,18 @@ is_last Bad = true
 is_last t = false
 
 -- a token, and those after it unless it is the last
-abbrev pub leading : Placed → List Placed → List Placed
+abbrev pub leading : TokenAt → List TokenAt → List TokenAt
 leading p ps = p ∷ (if is_last p.token then [] else ps)
 
 -- the tokens that begin in the bytes, the first of which stands at an offset, up to the end or to the first fault
-unfoldable pub tokens_from : Part → ℕ → List ℕ → List Placed
+unfoldable pub tokens_from : Part → ℕ → List ℕ → List TokenAt
 tokens_from before at [] = record { token = End; at = at } ∷ []
 tokens_from before at (b ∷ bs) =
     if goes_on before b || is_separator b || (b == 35) then tokens_from (part_of before b) (suc at) bs
     else leading (begun at b bs) (tokens_from (part_of before b) (suc at) bs)
 
 -- the tokens of a text
-abbrev pub tokens : List ℕ → List Placed
+abbrev pub tokens : List ℕ → List TokenAt
 tokens bs = tokens_from Apart 0 bs
 
 -- ---- the further words that a text of parts reserves
@@ -78,17 +78,17 @@ kept (Word w) = if bytes_eq w (codes "use") then Use else if bytes_eq w (codes "
 kept t = t
 
 -- a token of a text, as its language has it
-abbrev pub seen_as : Language → Placed → Placed
+abbrev pub seen_as : Language → TokenAt → TokenAt
 seen_as OfGraph p = p
 seen_as OfParts p = record { token = kept p.token; at = p.at }
 
 -- the tokens of a text, as its language has them
-abbrev pub all_seen_as : Language → List Placed → List Placed
+abbrev pub all_seen_as : Language → List TokenAt → List TokenAt
 all_seen_as OfGraph ps = ps
 all_seen_as OfParts ps = map (seen_as OfParts) ps
 
 -- the tokens of a text of parts
-abbrev pub part_tokens : List ℕ → List Placed
+abbrev pub part_tokens : List ℕ → List TokenAt
 part_tokens bs = all_seen_as OfParts (tokens bs)
 
 -- ---- which token it is

@@ -70,7 +70,7 @@ pub fn known_role(scanner: &mut Scanner, graph: &Graph) -> Result<Role, ParseFau
     ensures there { IfOk result (λ r. r < length graph.now.roles) }
 {
     let (name, at) = scanner.name()?;
-    // The names of its roles differ, so the place is this one.
+    // The names of its roles differ, so the index is this one.
     let _count = graph.roles();
     match graph.find_role(&name) {
         Some(role) => Ok(role),
@@ -84,7 +84,7 @@ pub fn known_node(scanner: &mut Scanner, graph: &Graph) -> Result<NodeId, ParseF
     ensures there { IfOk result (λ n. n < length graph.now.nodes) }
 {
     let (name, at) = scanner.name()?;
-    // The names of its nodes differ, so the place is this one.
+    // The names of its nodes differ, so the index is this one.
     let _count = graph.nodes();
     match graph.find_node(&name) {
         Some(node) => Ok(node),

@@ -38,9 +38,9 @@ impl NameSet {
         self.names.contains(name)
     }
 
-    /// The place of the name, counted from 0, or `None` where it is not there.
-    pub fn place(&self, name: &Name) -> Option<usize>
-        ensures place { result ≡ position (bytes_eq name.now) self.now }
+    /// The index of the name, counted from 0, or `None` where it is not there.
+    pub fn index(&self, name: &Name) -> Option<usize>
+        ensures index { result ≡ position (bytes_eq name.now) self.now }
         ensures within { IfSome result (λ i. i < length self.now) }
     {
         self.names.get_index_of(name)

@@ -2,7 +2,7 @@
 ghost use Rattle.std.specs.Prelude.{◌≡◌, ◌<◌, ◌++◌, [], ◌∷◌, false, length, IfSome, IsSome, IsTrue, ◌↔◌, OnErr, OnOk};
 ghost use Rattle.sg_model.specs.Lists.{has_text};
 ghost use Rattle.sg_parse.specs.Parts.{part_names, use_names};
-ghost use Rattle.sg_parse.specs.Reading.{place_of};
+ghost use Rattle.sg_parse.specs.Reading.{index_of};
 
 use crate::name_set::NameSet;
 use crate::part::{Part, Use};
@@ -47,12 +47,12 @@ impl PartList {
     }
 
     // The number of the part with the name.
-    pub fn place(&self, name: &Name) -> Option<usize>
+    pub fn index(&self, name: &Name) -> Option<usize>
         ensures found { IsSome result ↔ IsTrue (has_text name.now (part_names self.now)) }
-        ensures place { IfSome result (λ k. place_of name.now (part_names self.now) ≡ k) }
+        ensures index { IfSome result (λ k. index_of name.now (part_names self.now) ≡ k) }
         ensures there { IfSome result (λ k. k < length self.now) }
     {
-        self.names.place(name)
+        self.names.index(name)
     }
 
     // Adds a part whose name no part has.

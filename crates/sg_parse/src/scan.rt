@@ -4,11 +4,11 @@ ghost use Rattle.std.specs.List.{prefix_len};
 ghost use Rattle.sg_model.specs.Names.{is_letter, is_name_byte, is_name};
 ghost use Rattle.sg_parse.specs.Tokens.{tokens_from, leading, Part, has_head, is_separator, mark, word_at};
 
-use crate::token::{Placed, Token};
+use crate::token::{Token, TokenAt};
 use sg_base::Name;
 
 // The next token from an offset on, and where it ends.
-pub fn scan(bytes: &[u8], from: usize) -> (Placed, usize)
+pub fn scan(bytes: &[u8], from: usize) -> (TokenAt, usize)
     requires { from ≤ length bytes.now }
     ensures tokens { tokens_from Part.Apart from (drop from bytes.now) ≡ leading result.0 (tokens_from Part.Apart result.1 (drop result.1 bytes.now)) }
     ensures within { result.1 ≤ length bytes.now }
@@ -16,7 +16,7 @@ pub fn scan(bytes: &[u8], from: usize) -> (Placed, usize)
     let at = gap_end(bytes, from);
     if at == bytes.len() {
         return (
-            Placed {
+            TokenAt {
                 token: Token::End,
                 at,
             },
@@ -71,7 +71,7 @@ fn comment_end(bytes: &[u8], from: usize) -> usize
 }
 
 // The token that the byte at an offset begins, and where it ends.
-fn token_at(bytes: &[u8], at: usize) -> (Placed, usize)
+fn token_at(bytes: &[u8], at: usize) -> (TokenAt, usize)
     requires there { at < length bytes.now }
     requires begins { (is_separator (get_or bytes.now at 0) || (get_or bytes.now at 0 == 35)) ≡ false }
     ensures tokens { tokens_from Part.Apart at (drop at bytes.now) ≡ leading result.0 (tokens_from Part.Apart result.1 (drop result.1 bytes.now)) }
@@ -85,7 +85,7 @@ fn token_at(bytes: &[u8], at: usize) -> (Placed, usize)
 }
 
 // The word that begins at an offset, and where it ends.
-fn word_at(bytes: &[u8], at: usize) -> (Placed, usize)
+fn word_at(bytes: &[u8], at: usize) -> (TokenAt, usize)
     requires there { at < length bytes.now }
     requires letter { is_letter (get_or bytes.now at 0) ≡ true }
     ensures token { result.0 ≡ word_at at (take_while is_name_byte (drop at bytes.now)) }
@@ -118,13 +118,13 @@ fn name_len(bytes: &[u8]) -> usize
 }
 
 // A word, which is a name unless it is too long.
-fn word_token(word: &[u8], at: usize) -> Placed
+fn word_token(word: &[u8], at: usize) -> TokenAt
     requires fits { at + length word.now < 2 ^ 64 }
     requires named { length word.now ≤ 32 → is_name word.now ≡ true }
     ensures { result ≡ word_at at word.now }
 {
     if word.len() > 32 {
-        return Placed {
+        return TokenAt {
             token: Token::Long,
             at: at + 32,
         };
@@ -133,11 +133,11 @@ fn word_token(word: &[u8], at: usize) -> Placed
         Some(name) => Token::Word(name),
         None => Token::Bad,
     };
-    Placed { token, at }
+    TokenAt { token, at }
 }
 
 // The token that begins with a byte that is no letter, and where it ends.
-fn mark_at(bytes: &[u8], at: usize) -> (Placed, usize)
+fn mark_at(bytes: &[u8], at: usize) -> (TokenAt, usize)
     requires there { at < length bytes.now }
     requires begins { (is_separator (get_or bytes.now at 0) || (get_or bytes.now at 0 == 35)) ≡ false }
     requires letter { is_letter (get_or bytes.now at 0) ≡ false }
@@ -147,9 +147,9 @@ fn mark_at(bytes: &[u8], at: usize) -> (Placed, usize)
     let head = has_head(bytes, at + 1);
     let token = mark(bytes[at], head);
     if bytes[at] == b'-' && head {
-        (Placed { token, at }, at + 2)
+        (TokenAt { token, at }, at + 2)
     } else {
-        (Placed { token, at }, at + 1)
+        (TokenAt { token, at }, at + 1)
     }
 }
 

@@ -8,7 +8,7 @@ ghost use Rattle.sg_parse.specs.Tokens.{tokens, all_seen_as, is_word, is_named, 
 
 use crate::fault::ParseFault;
 use crate::scan::scan;
-use crate::token::{self, Language, Placed, Token};
+use crate::token::{self, Language, Token, TokenAt};
 use sg_base::Name;
 use std::marker::Model;
 
@@ -18,16 +18,16 @@ pub struct Scanner<'a> {
     bytes: &'a [u8],
     // Where the next token ends.
     end: usize,
-    next: Placed,
+    next: TokenAt,
     language: Language,
 }
 
 impl<'a> Model for Scanner<'a> {
     ghost use Rattle.std.specs.Prelude.{◌≤◌, List, drop, length};
     ghost use Rattle.sg_parse.specs.Tokens.{tokens_from, leading, all_seen_as, Part};
-    ghost use Rattle.sg_parse.specs.declared.token.Placed.{Placed};
+    ghost use Rattle.sg_parse.specs.declared.token.TokenAt.{TokenAt};
 
-    ghost Value = { List Placed };
+    ghost Value = { List TokenAt };
 
     ghost view = { λ s. leading s.next (all_seen_as s.language (tokens_from Part.Apart s.end (drop s.end s.bytes.now))) };
 
@@ -39,8 +39,8 @@ impl<'a> Scanner<'a> {
     pub fn new(language: Language, bytes: &'a [u8]) -> Scanner<'a>
         ensures { result ≡ all_seen_as language (tokens bytes.now) }
     {
-        let (placed, end) = scan(bytes, 0);
-        let next = token::seen_as(language, placed);
+        let (token_at, end) = scan(bytes, 0);
+        let next = token::seen_as(language, token_at);
         Scanner {
             bytes,
             end,
@@ -68,8 +68,8 @@ impl<'a> Scanner<'a> {
         requires { is_next is_last self.old ≡ false }
         ensures { skip self.old ≡ Ok (record { value = tt; rest = self.new }) }
     {
-        let (placed, end) = scan(self.bytes, self.end);
-        self.next = token::seen_as(self.language, placed);
+        let (token_at, end) = scan(self.bytes, self.end);
+        self.next = token::seen_as(self.language, token_at);
         self.end = end;
     }
 

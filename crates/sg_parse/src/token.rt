@@ -37,20 +37,20 @@ pub enum Language {
 
 // A token and its offset in bytes.
 #[derive(Debug, Clone, Copy)]
-pub struct Placed {
+pub struct TokenAt {
     pub token: Token,
     pub at: usize,
 }
 
 // The token as the language has it.
-pub fn seen_as(language: Language, placed: Placed) -> Placed
-    ensures { result ≡ seen_as language placed }
+pub fn seen_as(language: Language, token_at: TokenAt) -> TokenAt
+    ensures { result ≡ seen_as language token_at }
 {
     match language {
-        Language::OfGraph => placed,
-        Language::OfParts => Placed {
-            token: kept(placed.token),
-            at: placed.at,
+        Language::OfGraph => token_at,
+        Language::OfParts => TokenAt {
+            token: kept(token_at.token),
+            at: token_at.at,
         },
     }
 }
@@ -100,11 +100,11 @@ pub fn name_of(token: &Token) -> Option<Name>
 }
 
 // The fault at a token that the grammar doesn't have at its place.
-pub fn refusal(placed: &Placed) -> ParseFault
-    ensures { result ≡ refusal_of placed.now.token placed.now.at }
+pub fn refusal(token_at: &TokenAt) -> ParseFault
+    ensures { result ≡ refusal_of token_at.now.token token_at.now.at }
 {
-    let at = placed.at;
-    match placed.token {
+    let at = token_at.at;
+    match token_at.token {
         Token::Bad => ParseFault::BadByte { at },
         Token::Long => ParseFault::TooMany { at },
         _ => ParseFault::Unexpected { at },

@@ -4,7 +4,7 @@ ghost use Rattle.sg_model.specs.Lists.{has_text};
 ghost use Rattle.std.specs.List.{list_any};
 ghost use Rattle.sg_parse.specs.Owed.{Reads, ReadsInto};
 ghost use Rattle.sg_parse.specs.Parts.{part_names, use_names};
-ghost use Rattle.sg_parse.specs.PartsReading.{one_place, some_places, read_use, read_uses};
+ghost use Rattle.sg_parse.specs.PartsReading.{one_index, some_indices, read_use, read_uses};
 ghost use Rattle.sg_parse.specs.Reading.{known_name, new_name};
 
 use crate::fault::ParseFault;
@@ -86,7 +86,7 @@ fn known_part(scanner: &mut Scanner, parts: &PartList) -> Result<usize, ParseFau
     ensures { Reads (known_name (part_names parts.now)) scanner.old scanner.new result }
 {
     let (name, at) = scanner.name()?;
-    match parts.place(&name) {
+    match parts.index(&name) {
         Some(part) => Ok(part),
         None => Err(ParseFault::UnknownName { at }),
     }
@@ -94,7 +94,7 @@ fn known_part(scanner: &mut Scanner, parts: &PartList) -> Result<usize, ParseFau
 
 // The names of one or more roles, each once, in their order.
 fn some_roles(alloc: Global, scanner: &mut Scanner, graph: &Graph) -> Result<Seq<Role>, ParseFault>
-    ensures { Reads (some_places graph.now.roles) scanner.old scanner.new result }
+    ensures { Reads (some_indices graph.now.roles) scanner.old scanner.new result }
 {
     if !scanner.at_name() {
         return Err(scanner.refusal());
@@ -112,10 +112,10 @@ fn one_more_role(
     graph: &Graph,
     roles: &mut Seq<Role>,
 ) -> Result<(), ParseFault>
-    ensures { ReadsInto (one_place graph.now.roles roles.old) scanner.old scanner.new roles.new result }
+    ensures { ReadsInto (one_index graph.now.roles roles.old) scanner.old scanner.new roles.new result }
 {
     let (name, at) = scanner.name()?;
-    // The names of its roles differ, so the place is this one.
+    // The names of its roles differ, so the index is this one.
     let _count = graph.roles();
     let Some(role) = graph.find_role(&name) else {
         return Err(ParseFault::UnknownName { at });

@@ -24,7 +24,7 @@ use Rattle.sg_play.specs.Ends.{Outside, Whole, Ended}
 use Rattle.sg_play.specs.Played.{Play, abandons, act_by, answer_in, called, chosen, next_words, plays_on, step_in}
 use Rattle.sg_play.specs.Posting.{frames_made}
 use Rattle.sg_play.specs.Queues.{Spot, HoldsChoices}
-use Rattle.sg_play.specs.Standing.{Came, CameActing, CameTo, HasActed, StandsForPlay}
+use Rattle.sg_play.specs.Representation.{Came, CameActing, CameTo, HasActed, RepresentsPlay}
 use Rattle.sg_play.specs.Turns.{acted, acted_by, acted_in, is_sent, or_leaves}
 use Rattle.sg_play.proofs.Coming.{ended_on}
 use Rattle.sg_play.proofs.Extends.{Extends, nothing}
@@ -33,8 +33,8 @@ use Rattle.sg_play.proofs.Turning.{acted_first, leaves, leaving_adds, no_turn, s
 
 -- ---- asking for the act
 
--- a player with other choices stands for the play with these
-by_choice : (old : Player) (table : List (Spot × List Choice)) (p : Play) (graph : Name) (node : ℕ) (c : Choice) → HoldsChoices table (used graph node p.choices) → StandsForPlay old p → StandsForPlay (record old { choices = table }) (chosen graph node c p)
+-- a player with other choices represents the play with these
+by_choice : (old : Player) (table : List (Spot × List Choice)) (p : Play) (graph : Name) (node : ℕ) (c : Choice) → HoldsChoices table (used graph node p.choices) → RepresentsPlay old p → RepresentsPlay (record old { choices = table }) (chosen graph node c p)
 by_choice old table p graph node c holds s = record { node = s.node; told = s.told; keys = s.keys; programs = s.programs; choices = holds; names = s.names; steps = s.steps; frames = s.frames }
 
 -- how many values a choice has
@@ -48,7 +48,7 @@ act_is sid c label values count drawn words l v n w = let d = w ∙ ap (λ k. ne
 
 -- the player has acted
 pub has_acted : (old : Player) (n : NodeState) (table : List (Spot × List Choice)) (counted : ℕ) (p : Play) (sid : List ℕ) (graph : Name) (node : ℕ) (c : Choice) (call : Call) (told : Option Told) (by : Option Graph) (frame : Option (Addr × (Name × List ℕ)))
-    (left : Option (List (List ℕ))) → StandsForPlay old p → find (is_ready graph node) p.choices ≡ Some c → call ≡ act_by sid c p.words → ComesMade old.keys.now old.frames counted old.node n p.past call told by frame
+    (left : Option (List (List ℕ))) → RepresentsPlay old p → find (is_ready graph node) p.choices ≡ Some c → call ≡ act_by sid c p.words → ComesMade old.keys.now old.frames counted old.node n p.past call told by frame
     → HoldsChoices table (used graph node p.choices) → left ≡ Some (drop (length c.values) p.words) → HasActed (record old { node = n; choices = table; frames = counted }) left sid graph node p told by (frames_made frame)
 has_acted old n table counted p sid graph node c call told by frame left s first is_call comes holds words =
     let came = subst (λ (k : Call). ComesMade old.keys.now old.frames counted old.node n p.past k told by frame) is_call comes in
@@ -79,8 +79,8 @@ module _ (start now : Outside) (pl : Player) (words : Option (List (List ℕ))) 
   act_same x y r e h = subst (λ (z : Play × Bool). CameActing start now pl words z r) (sym e) h
 
   -- no choice, or no session
-  pub act_none : (old : Player) (before : Option (List (List ℕ))) (x : Play × Bool) (p : Play) → x ≡ (p, false) → pl ≡ old → words ≡ before → StandsForPlay old p → before ≡ Some p.words → Whole start now p.steps → CameActing start now pl words x (Ok false)
-  act_none old before x p e same kept s w h = act_same (p, false) x (Ok false) e (((subst (λ (z : Player). StandsForPlay z p) (sym same) s, h), kept ∙ w), refl)
+  pub act_none : (old : Player) (before : Option (List (List ℕ))) (x : Play × Bool) (p : Play) → x ≡ (p, false) → pl ≡ old → words ≡ before → RepresentsPlay old p → before ≡ Some p.words → Whole start now p.steps → CameActing start now pl words x (Ok false)
+  act_none old before x p e same kept s w h = act_same (p, false) x (Ok false) e (((subst (λ (z : Player). RepresentsPlay z p) (sym same) s, h), kept ∙ w), refl)
 
 -- by the first choice
 module _ (start now : Outside) (old pl : Player) (words : Option (List (List ℕ))) (sid : List ℕ) (graph : Name) (node : ℕ) (p : Play) (told : Option Told) (by : Option Graph) (made : List (Addr × List ℕ)) (h : HasActed old words sid graph node p told by made) where
@@ -94,7 +94,7 @@ module _ (start now : Outside) (old pl : Player) (words : Option (List (List ℕ
 
 module _ (start now : Outside) (pl : Player) (words : Option (List (List ℕ))) (sid : List ℕ) (p : Play) where
   -- none
-  pub turn_none : turn_of (node_of p.past) sid ≡ None → StandsForPlay pl p → words ≡ Some p.words → Whole start now p.steps → CameTo start now pl words (plays_on sid p) (Ok tt)
+  pub turn_none : turn_of (node_of p.past) sid ≡ None → RepresentsPlay pl p → words ≡ Some p.words → Whole start now p.steps → CameTo start now pl words (plays_on sid p) (Ok tt)
   turn_none e s w h = subst (λ (q : Play). CameTo start now pl words q (Ok tt)) (sym (no_turn sid p e)) ((s, h), w)
 
   -- a step was sent

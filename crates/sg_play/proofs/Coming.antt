@@ -1,14 +1,14 @@
 -- How a play comes to another: by whole steps, or to an early end.
 use Rattle.std.proofs.Common.{◌≡◌, ◌≢◌, ℕ, List, [], ◌∷◌, Option, Some, Result, Ok, Err, OnOk, refl, sym, subst}
 use Rattle.sg_base.specs.declared.address.Addr.{Addr}
-use Rattle.sg_base.specs.Outside.{Appends, AppendsFront}
+use Rattle.sg_base.specs.Outside.{Appends, AppendsPrefix}
 use Rattle.sg_protocol.specs.Calls.{Call}
 use Rattle.sg_play.specs.declared.fault.PlayFault.{PlayFault}
 use Rattle.sg_play.specs.declared.fault.PlayFault.TheVariants.{LinkFailed, WriteFailed, OutOfMemory}
 use Rattle.sg_play.specs.declared.player.Player.{Player}
 use Rattle.sg_play.specs.Ends.{Outside, Whole, Ended}
 use Rattle.sg_play.specs.Played.{Play, called, step_in}
-use Rattle.sg_play.specs.Standing.{Came, CameTo, StandsForPlay}
+use Rattle.sg_play.specs.Representation.{Came, CameTo, RepresentsPlay}
 use Rattle.sg_play.specs.Steps.{Step}
 use Rattle.sg_play.proofs.Endings.{begun, ended_more, stopped, whole_more}
 use Rattle.sg_play.proofs.Extends.{Extends}
@@ -19,28 +19,28 @@ ended_on start now p q f e h = subst (λ (l : List Step). Ended start now l (Err
 
 -- where memory runs out between steps, or the link gives no delivery
 pub no_memory : (start now : Outside) (p q : Play) → Extends p q → Whole start now p.steps → Ended start now q.steps (Err OutOfMemory)
-no_memory start now p q e w = record { front = p.steps; rest = e.0; is = e.1; whole = w }
+no_memory start now p q e w = record { prefix = p.steps; rest = e.0; is = e.1; whole = w }
 
 pub no_link : (start now : Outside) (p q : Play) → Extends p q → Whole start now p.steps → Ended start now q.steps (Err LinkFailed)
-no_link start now p q e w = record { front = p.steps; rest = e.0; is = e.1; whole = w }
+no_link start now p q e w = record { prefix = p.steps; rest = e.0; is = e.1; whole = w }
 
 -- a fault that is `OutOfMemory`
 pub no_memory_by : (start now : Outside) (p q : Play) (f : PlayFault) → f ≡ OutOfMemory → Extends p q → Whole start now p.steps → Ended start now q.steps (Err f)
 no_memory_by start now p q f is e w = subst (λ (x : PlayFault). Ended start now q.steps (Err x)) (sym is) (no_memory start now p q e w)
 
 -- what was given of a step
-pub came_after : (start old new : Outside) (pl : Player) (p : Play) (c : Call) (line : List ℕ) (made : List (Addr × List ℕ)) (r : Result (Unit {0}) PlayFault) → Whole start old p.steps → StandsForPlay pl (called p c)
+pub came_after : (start old new : Outside) (pl : Player) (p : Play) (c : Call) (line : List ℕ) (made : List (Addr × List ℕ)) (r : Result (Unit {0}) PlayFault) → Whole start old p.steps → RepresentsPlay pl (called p c)
     → line ≡ (step_in p c).line → made ≡ (step_in p c).frames → r ≢ Err OutOfMemory → OnOk r (Appends old.written new.written line) → (r ≢ Err LinkFailed → Appends old.sent new.sent made)
-    → (r ≡ Err WriteFailed → AppendsFront old.written new.written line) → (r ≡ Err LinkFailed → new.sent ≡ old.sent) → (r ≡ Err LinkFailed → new.written ≡ old.written) → Came start new pl (called p c) r
-came_after start old new pl p c line made (Ok u) w stands l m memory whole frames front no_frame no_line =
-    (stands, whole_more start old new p.steps (step_in p c) w (subst (Appends old.written new.written) l whole) (subst (Appends old.sent new.sent) m (frames (λ e. cc))))
-came_after start old new pl p c line made (Err LinkFailed) w stands l m memory whole frames front no_frame no_line =
+    → (r ≡ Err WriteFailed → AppendsPrefix old.written new.written line) → (r ≡ Err LinkFailed → new.sent ≡ old.sent) → (r ≡ Err LinkFailed → new.written ≡ old.written) → Came start new pl (called p c) r
+came_after start old new pl p c line made (Ok u) w represents l m memory whole frames prefix no_frame no_line =
+    (represents, whole_more start old new p.steps (step_in p c) w (subst (Appends old.written new.written) l whole) (subst (Appends old.sent new.sent) m (frames (λ e. cc))))
+came_after start old new pl p c line made (Err LinkFailed) w represents l m memory whole frames prefix no_frame no_line =
     let sent = no_frame refl in
     let written = no_line refl in
     stopped start old new p.steps (step_in p c ∷ []) w (λ i. record { written = written i; sent = sent i })
-came_after start old new pl p c line made (Err WriteFailed) w stands l m memory whole frames front no_frame no_line =
-    begun start old new p.steps [] (step_in p c) w (subst (AppendsFront old.written new.written) l (front refl)) (subst (Appends old.sent new.sent) m (frames (λ e. cc)))
-came_after start old new pl p c line made (Err OutOfMemory) w stands l m memory whole frames front no_frame no_line = absurd (memory refl)
+came_after start old new pl p c line made (Err WriteFailed) w represents l m memory whole frames prefix no_frame no_line =
+    begun start old new p.steps [] (step_in p c) w (subst (AppendsPrefix old.written new.written) l (prefix refl)) (subst (Appends old.sent new.sent) m (frames (λ e. cc)))
+came_after start old new pl p c line made (Err OutOfMemory) w represents l m memory whole frames prefix no_frame no_line = absurd (memory refl)
 
 -- ---- one after another
 

@@ -1,10 +1,10 @@
 -- What a play gives the outside, put together from its steps.
 use Rattle.std.proofs.Common.{◌≡◌, List, [], ◌∷◌, ◌++◌, take, Option, Some, Err, refl, sym, ap, ◌∙◌, subst, append_assoc}
 use Rattle.std.proofs.lemmas.List.{append-nil}
-use Rattle.sg_base.specs.Outside.{Appends, AppendsFront}
+use Rattle.sg_base.specs.Outside.{Appends, AppendsPrefix}
 use Rattle.sg_play.specs.declared.fault.PlayFault.{PlayFault}
 use Rattle.sg_play.specs.declared.fault.PlayFault.TheVariants.{LinkFailed, WriteFailed, OutOfMemory}
-use Rattle.sg_play.specs.Ends.{Outside, Whole, WholeFront, Begun, Ended}
+use Rattle.sg_play.specs.Ends.{Outside, Whole, WholePrefix, Begun, Ended}
 use Rattle.sg_play.specs.Steps.{Step, lines_of, frames_of}
 
 -- nothing was added
@@ -35,13 +35,13 @@ whole_more start old new ss s w l f = record {
 }
 
 -- nothing of a further step was given
-pub stopped : (start old new : Outside) (ss rest : List Step) → Whole start old ss → new ≡ old → WholeFront start new (ss ++ rest)
-stopped start old new ss rest w e = record { front = ss; rest = rest; is = refl; whole = subst (λ o. Whole start o ss) (sym e) w }
+pub stopped : (start old new : Outside) (ss rest : List Step) → Whole start old ss → new ≡ old → WholePrefix start new (ss ++ rest)
+stopped start old new ss rest w e = record { prefix = ss; rest = rest; is = refl; whole = subst (λ o. Whole start o ss) (sym e) w }
 
--- the frame of a further step was taken, and a front part of its line was written
-pub begun : (start old new : Outside) (ss rest : List Step) (s : Step) → Whole start old ss → AppendsFront old.written new.written s.line → Appends old.sent new.sent s.frames → Begun start new (ss ++ s ∷ rest)
+-- the frame of a further step was taken, and a prefix of its line was written
+pub begun : (start old new : Outside) (ss rest : List Step) (s : Step) → Whole start old ss → AppendsPrefix old.written new.written s.line → Appends old.sent new.sent s.frames → Begun start new (ss ++ s ∷ rest)
 begun start old new ss rest s w l f = record {
-  front = ss;
+  prefix = ss;
   step = s;
   rest = rest;
   bytes = l.0;
@@ -52,14 +52,14 @@ begun start old new ss rest s w l f = record {
 
 -- the steps go on after the end
 pub ended_more : (start now : Outside) (ss rest : List Step) (f : PlayFault) → Ended start now ss (Err f) → Ended start now (ss ++ rest) (Err f)
-ended_more start now ss rest LinkFailed h = record { front = h.front; rest = h.rest ++ rest; is = ap (λ l. l ++ rest) h.is ∙ append_assoc h.front h.rest rest; whole = h.whole }
+ended_more start now ss rest LinkFailed h = record { prefix = h.prefix; rest = h.rest ++ rest; is = ap (λ l. l ++ rest) h.is ∙ append_assoc h.prefix h.rest rest; whole = h.whole }
 ended_more start now ss rest WriteFailed h = record {
-  front = h.front;
+  prefix = h.prefix;
   step = h.step;
   rest = h.rest ++ rest;
   bytes = h.bytes;
-  is = ap (λ l. l ++ rest) h.is ∙ append_assoc h.front (h.step ∷ h.rest) rest;
+  is = ap (λ l. l ++ rest) h.is ∙ append_assoc h.prefix (h.step ∷ h.rest) rest;
   lines = h.lines;
   frames = h.frames;
 }
-ended_more start now ss rest OutOfMemory h = record { front = h.front; rest = h.rest ++ rest; is = ap (λ l. l ++ rest) h.is ∙ append_assoc h.front h.rest rest; whole = h.whole }
+ended_more start now ss rest OutOfMemory h = record { prefix = h.prefix; rest = h.rest ++ rest; is = ap (λ l. l ++ rest) h.is ∙ append_assoc h.prefix h.rest rest; whole = h.whole }

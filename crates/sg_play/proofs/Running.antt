@@ -12,7 +12,7 @@ use Rattle.sg_play.specs.declared.fault.PlayFault.TheVariants.{LinkFailed, OutOf
 use Rattle.sg_play.specs.declared.player.Player.{Player}
 use Rattle.sg_play.specs.Ends.{Outside, Whole, Ended}
 use Rattle.sg_play.specs.Played.{Play, all_deliveries, all_starts, answer_in, beginning, called, cast_of_start, played, plays_on, sid_given, starts, with_turn, without, word}
-use Rattle.sg_play.specs.Standing.{CameTo, StandsForPlay}
+use Rattle.sg_play.specs.Representation.{CameTo, RepresentsPlay}
 use Rattle.sg_play.proofs.Coming.{ended_on, failed, no_link, no_memory, no_memory_by}
 use Rattle.sg_play.proofs.Endings.{whole_none}
 use Rattle.sg_play.proofs.Extends.{after_call, by_deliveries, by_starts, joined}
@@ -31,8 +31,8 @@ module _ (start now : Outside) (pl : Player) (words : Option (List (List ℕ))) 
 
 -- ---- a start
 
--- a player stands for the play without a word
-pub without_one : (pl : Player) (p : Play) → StandsForPlay pl p → StandsForPlay pl (without 1 p)
+-- a player represents the play without a word
+pub without_one : (pl : Player) (p : Play) → RepresentsPlay pl p → RepresentsPlay pl (without 1 p)
 without_one pl p s = record { node = s.node; told = s.told; keys = s.keys; programs = s.programs; choices = s.choices; names = s.names; steps = s.steps; frames = s.frames }
 
 -- a start with the next word as its nonce
@@ -82,7 +82,7 @@ module _ (start now : Outside) (pl : Player) (words : Option (List (List ℕ))) 
   link_full m l w = no_memory start now (all_deliveries p (take k ds)) (all_deliveries p (take m ds)) (deliveries_on p k m ds l) w
 
   -- the link's end
-  pub link_ended : (m : ℕ) → k ≤ m → drop k ds ≡ [] → StandsForPlay pl (all_deliveries p (take k ds)) → Whole start now (all_deliveries p (take k ds)).steps → words ≡ Some (all_deliveries p (take k ds)).words → CameTo start now pl words (all_deliveries p (take m ds)) (Ok tt)
+  pub link_ended : (m : ℕ) → k ≤ m → drop k ds ≡ [] → RepresentsPlay pl (all_deliveries p (take k ds)) → Whole start now (all_deliveries p (take k ds)).steps → words ≡ Some (all_deliveries p (take k ds)).words → CameTo start now pl words (all_deliveries p (take m ds)) (Ok tt)
   link_ended m l e s w left = subst (λ (z : List (List ℕ)). CameTo start now pl words (all_deliveries p z) (Ok tt)) (sym (taken_all k m ds l e)) ((s, w), left)
 
 -- ---- a play

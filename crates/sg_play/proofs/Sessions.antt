@@ -8,7 +8,7 @@ use Rattle.sg_lines.proofs.Naming.{has_text-all_sids}
 use Rattle.sg_model.specs.Lists.{has_text}
 use Rattle.sg_model.specs.Names.{Name}
 use Rattle.sg_model.proofs.Small.{bytes_refl}
-use Rattle.sg_protocol.specs.Past.{Called}
+use Rattle.sg_protocol.specs.Past.{AnsweredCall}
 use Rattle.sg_play.specs.Steps.{met_in}
 
 -- what is among these passes, so all of a part passes
@@ -23,26 +23,26 @@ all_pass (x ∷ xs) zs h =
     by t false e = e
 
 -- the sessions with an event are all sessions, where none is declared
-pub all_met : (calls : List Called) → sids_met (met_in calls) ≡ all_sids (met_in calls)
+pub all_met : (calls : List AnsweredCall) → sids_met (met_in calls) ≡ all_sids (met_in calls)
 all_met calls =
     let m = met_in calls in
     (λ i. filter (λ sid. sym (has_text-all_sids m sid) i) (all_sids m)) ∙ all_pass (all_sids m) (all_sids m) (λ t e. e)
 
 -- how many there are
-pub count_met : (ns : Naming) (calls : List Called) → ns ≡ naming 115 (met_in calls) → length ns.names ≡ length (sids_met (met_in calls))
+pub count_met : (ns : Naming) (calls : List AnsweredCall) → ns ≡ naming 115 (met_in calls) → length ns.names ≡ length (sids_met (met_in calls))
 count_met ns calls e =
     let m = met_in calls in
     ap (λ (n : Naming). length n.names) e ∙ length-map (all_sids m) (λ sid. (sid, session_name 115 m sid)) ∙ sym (ap (λ (l : List (List ℕ)). length l) (all_met calls))
 
--- the one at a place
+-- the one at an index
 sid_of_pair : (o : Option (List ℕ)) (f : List ℕ → Name) → option_map (λ (x : List ℕ × Name). x.0) (option_map (λ sid. (sid, f sid)) o) ≡ o
 sid_of_pair None f = refl
 sid_of_pair (Some sid) f = refl
 
-pub met_at : (ns : Naming) (calls : List Called) (place : ℕ) → ns ≡ naming 115 (met_in calls) → option_map (λ (x : List ℕ × Name). x.0) (slice_get ns.names place) ≡ slice_get (sids_met (met_in calls)) place
-met_at ns calls place e =
+pub met_at : (ns : Naming) (calls : List AnsweredCall) (index : ℕ) → ns ≡ naming 115 (met_in calls) → option_map (λ (x : List ℕ × Name). x.0) (slice_get ns.names index) ≡ slice_get (sids_met (met_in calls)) index
+met_at ns calls index e =
     let m = met_in calls in
-    ap (λ (n : Naming). option_map (λ (x : List ℕ × Name). x.0) (slice_get n.names place)) e
-    ∙ ap (option_map (λ (x : List ℕ × Name). x.0)) (slice_get-map (λ sid. (sid, session_name 115 m sid)) (all_sids m) place)
-    ∙ sid_of_pair (slice_get (all_sids m) place) (session_name 115 m)
-    ∙ sym (ap (λ (l : List (List ℕ)). slice_get l place) (all_met calls))
+    ap (λ (n : Naming). option_map (λ (x : List ℕ × Name). x.0) (slice_get n.names index)) e
+    ∙ ap (option_map (λ (x : List ℕ × Name). x.0)) (slice_get-map (λ sid. (sid, session_name 115 m sid)) (all_sids m) index)
+    ∙ sid_of_pair (slice_get (all_sids m) index) (session_name 115 m)
+    ∙ sym (ap (λ (l : List (List ℕ)). slice_get l index) (all_met calls))

@@ -1,10 +1,10 @@
--- What a player stands for once it has told what came of a call.
+-- What a player represents once it has told what came of a call.
 use Rattle.std.proofs.Common.{◌≡◌, ℕ, ◌+◌, List, [], ◌∷◌, ◌++◌, map, flat_map, length, Option, Some, None, refl, sym, ap, ◌∙◌, subst, arith}
 use Rattle.std.specs.Option.{option_map_or}
 use Rattle.std.proofs.lemmas.List.{append-nil, length-append, map-append}
 use Rattle.std.proofs.lemmas.List.Concat.{flat_map-append}
 use Rattle.sg_base.specs.declared.address.Addr.{Addr}
-use Rattle.sg_lines.specs.Sessions.{Met, Naming, naming, session_name}
+use Rattle.sg_lines.specs.Sessions.{KnownSessions, Naming, naming, session_name}
 use Rattle.sg_node.proofs.Life.{pasts_go_on}
 use Rattle.sg_model.specs.Names.{Name}
 use Rattle.sg_protocol.specs.Calls as Protocol
@@ -12,7 +12,7 @@ use Rattle.sg_protocol.specs.Calls.{Call, Answer, events_of_answer, sid_of}
 use Rattle.sg_protocol.specs.Graph.{Graph}
 use Rattle.sg_protocol.specs.Keyring.{Keyring}
 use Rattle.sg_protocol.specs.NodeStates.{NodeState}
-use Rattle.sg_protocol.specs.Past.{Called, past_after}
+use Rattle.sg_protocol.specs.Past.{AnsweredCall, past_after}
 use Rattle.sg_protocol.specs.Texts.{real}
 use Rattle.sg_report.specs.Lines.{graph_or_none, line_text}
 use Rattle.sg_report.specs.Told.{Told, told_answer, session_told, sid_left, sid_told}
@@ -21,19 +21,19 @@ use Rattle.sg_play.specs.Asking.{Comes, ComesMade, sealed_in}
 use Rattle.sg_play.specs.Meeting.{met_more}
 use Rattle.sg_play.specs.Played.{Play, answer_in, called, sid_given, step_in}
 use Rattle.sg_play.specs.Posting.{frames_made}
-use Rattle.sg_play.specs.Standing.{HasAsked, StandsForPlay}
+use Rattle.sg_play.specs.Representation.{HasAsked, RepresentsPlay}
 use Rattle.sg_play.specs.Steps.{frames_in, frames_of, met_in}
 use Rattle.sg_play.proofs.Called.{is_addressed}
 use Rattle.sg_play.proofs.Endings.{frames_more}
 
 -- ---- names
 
-sids_more : (calls : List Called) (c : Called) → (met_in (calls ++ c ∷ [])).events ≡ (met_in calls).events ++ map sid_of (events_of_answer c.answer)
+sids_more : (calls : List AnsweredCall) (c : AnsweredCall) → (met_in (calls ++ c ∷ [])).events ≡ (met_in calls).events ++ map sid_of (events_of_answer c.answer)
 sids_more calls c =
-    ap (map sid_of) (flat_map-append (λ (c : Called). events_of_answer c.answer) calls (c ∷ []) ∙ ap (λ l. flat_map (λ (c : Called). events_of_answer c.answer) calls ++ l) (append-nil (events_of_answer c.answer)))
-    ∙ map-append sid_of (flat_map (λ (c : Called). events_of_answer c.answer) calls) (events_of_answer c.answer)
+    ap (map sid_of) (flat_map-append (λ (c : AnsweredCall). events_of_answer c.answer) calls (c ∷ []) ∙ ap (λ l. flat_map (λ (c : AnsweredCall). events_of_answer c.answer) calls ++ l) (append-nil (events_of_answer c.answer)))
+    ∙ map-append sid_of (flat_map (λ (c : AnsweredCall). events_of_answer c.answer) calls) (events_of_answer c.answer)
 
-abbrev with_events : List (List ℕ) → Met
+abbrev with_events : List (List ℕ) → KnownSessions
 with_events l = record { declared = []; events = l }
 
 met_by : (m : List (List ℕ)) (k : ℕ) (a : Answer) → with_events (m ++ map sid_of (events_of_answer a)) ≡ met_more (with_events m) (told_answer k a)
@@ -46,7 +46,7 @@ met_by m k Protocol.NotAbandoned = ap with_events (append-nil m)
 met_by m k (Protocol.NotDelivered x) = ap with_events (append-nil m)
 
 -- the sessions after a call, by what is told of it
-pub met_after : (calls : List Called) (c : Called) (k : ℕ) → met_in (calls ++ c ∷ []) ≡ met_more (met_in calls) (told_answer k c.answer)
+pub met_after : (calls : List AnsweredCall) (c : AnsweredCall) (k : ℕ) → met_in (calls ++ c ∷ []) ≡ met_more (met_in calls) (told_answer k c.answer)
 met_after calls c k = ap with_events (sids_more calls c) ∙ met_by (met_in calls).events k c.answer
 
 -- the session in which something happened
@@ -78,11 +78,11 @@ no_more : (n : ℕ) → n ≡ n + 0
 no_more n = omega arith
 
 -- a call that sends no frame was asked
-pub asked_quiet : (pl : Player) (n : NodeState) (p : Play) (c : Call) (told : Option Told) (graph : Option Graph) → StandsForPlay pl p → ((number : ℕ) → Comes number pl.node n p.past c told graph None) → HasAsked (record pl { node = n }) p c told graph []
+pub asked_quiet : (pl : Player) (n : NodeState) (p : Play) (c : Call) (told : Option Told) (graph : Option Graph) → RepresentsPlay pl p → ((number : ℕ) → Comes number pl.node n p.past c told graph None) → HasAsked (record pl { node = n }) p c told graph []
 asked_quiet pl n p c told graph s h =
     let came = h (length (frames_of p.steps) + 1) in
     record {
-      node = came.goes_on.stands;
+      node = came.goes_on.represents;
       told_past = pasts_go_on p.past c s.told came.range;
       keys = s.keys;
       programs = s.programs;
@@ -96,12 +96,12 @@ asked_quiet pl n p c told graph s h =
     }
 
 -- an act was asked, with its frame
-pub asked_made : (pl : Player) (n : NodeState) (counted : ℕ) (p : Play) (c : Call) (told : Option Told) (graph : Option Graph) (frame : Option (Addr × (Name × List ℕ))) → StandsForPlay pl p → ComesMade pl.keys.now pl.frames counted pl.node n p.past c told graph frame
+pub asked_made : (pl : Player) (n : NodeState) (counted : ℕ) (p : Play) (c : Call) (told : Option Told) (graph : Option Graph) (frame : Option (Addr × (Name × List ℕ))) → RepresentsPlay pl p → ComesMade pl.keys.now pl.frames counted pl.node n p.past c told graph frame
     → HasAsked (record pl { node = n; frames = counted }) p c told graph (frames_made frame)
 asked_made pl n counted p c told graph frame s h =
     let came = h.comes in
     record {
-      node = came.goes_on.stands;
+      node = came.goes_on.represents;
       told_past = pasts_go_on p.past c s.told came.range;
       keys = s.keys;
       programs = s.programs;
@@ -140,10 +140,10 @@ line_is pl p c told left graph made line h l e =
 pub names_are : (ns : Naming) (p : Play) (c : Call) → ns ≡ naming 115 (met_more (met_in p.past.calls) (told_in p c)) → ns ≡ naming 115 (met_in (past_after real p.past c).calls)
 names_are ns p c e = e ∙ ap (naming 115) (met_with p c)
 
--- and the player stands for the play with the step
-pub stands_told : (old new : Player) (p : Play) (c : Call) (told : Option Told) (graph : Option Graph) (made : List (Addr × List ℕ)) → HasAsked old p c told graph made → new ≡ record old { names = new.names; steps = old.steps + 1 }
-    → new.names ≡ naming 115 (met_more (met_in p.past.calls) (told_in p c)) → StandsForPlay new (called p c)
-stands_told old new p c told graph made h is names = subst (λ (pl : Player). StandsForPlay pl (called p c)) (sym is) (record {
+-- and the player represents the play with the step
+pub represents_told : (old new : Player) (p : Play) (c : Call) (told : Option Told) (graph : Option Graph) (made : List (Addr × List ℕ)) → HasAsked old p c told graph made → new ≡ record old { names = new.names; steps = old.steps + 1 }
+    → new.names ≡ naming 115 (met_more (met_in p.past.calls) (told_in p c)) → RepresentsPlay new (called p c)
+represents_told old new p c told graph made h is names = subst (λ (pl : Player). RepresentsPlay pl (called p c)) (sym is) (record {
   node = h.node;
   told = h.told_past;
   keys = h.keys;

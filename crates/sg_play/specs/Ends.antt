@@ -17,25 +17,25 @@ pub record Whole (old new : Outside) (steps : List Step) : Type 0 where
   pub frames : Appends old.sent new.sent (frames_of steps)
 
 -- those of the first of these steps
-pub record WholeFront (old new : Outside) (steps : List Step) : Type 0 where
-  pub front : List Step
+pub record WholePrefix (old new : Outside) (steps : List Step) : Type 0 where
+  pub prefix : List Step
   pub rest : List Step
-  pub is : steps ≡ front ++ rest
-  pub whole : Whole old new front
+  pub is : steps ≡ prefix ++ rest
+  pub whole : Whole old new prefix
 
--- those of the first of these steps, then the frame of one more, and a front part of its line
+-- those of the first of these steps, then the frame of one more, and a prefix of its line
 pub record Begun (old new : Outside) (steps : List Step) : Type 0 where
-  pub front : List Step
+  pub prefix : List Step
   pub step : Step
   pub rest : List Step
   pub bytes : ℕ
-  pub is : steps ≡ front ++ step ∷ rest
-  pub lines : Appends old.written new.written (lines_of front ++ take bytes step.line)
-  pub frames : Appends old.sent new.sent (frames_of front ++ step.frames)
+  pub is : steps ≡ prefix ++ step ∷ rest
+  pub lines : Appends old.written new.written (lines_of prefix ++ take bytes step.line)
+  pub frames : Appends old.sent new.sent (frames_of prefix ++ step.frames)
 
 -- a play of these steps ended so. Where the link failed or memory ran out, whole steps were taken; where a line was not written whole, its frame was taken
 abbrev pub Ended : (old new : Outside) → List Step → Result (Unit {0}) PlayFault → Type 0
 Ended old new steps (Ok u) = Whole old new steps
-Ended old new steps (Err LinkFailed) = WholeFront old new steps
+Ended old new steps (Err LinkFailed) = WholePrefix old new steps
 Ended old new steps (Err WriteFailed) = Begun old new steps
-Ended old new steps (Err OutOfMemory) = WholeFront old new steps
+Ended old new steps (Err OutOfMemory) = WholePrefix old new steps

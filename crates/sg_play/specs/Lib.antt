@@ -5,6 +5,6 @@ pub mod Played
 pub mod Ends
 pub mod Posting
 pub mod Asking
-pub mod Standing
+pub mod Representation
 pub mod Turns
 pub mod Meeting

@@ -6,12 +6,12 @@ use Rattle.sg_protocol.specs.Acting.{answer}
 use Rattle.sg_protocol.specs.Calls as Protocol
 use Rattle.sg_protocol.specs.Calls.{sid_of, Call, Answer, events_of_answer}
 use Rattle.sg_protocol.specs.Keyring.{Keyring}
-use Rattle.sg_protocol.specs.Past.{Called, Past, node_of, past_after}
+use Rattle.sg_protocol.specs.Past.{AnsweredCall, Past, node_of, past_after}
 use Rattle.sg_protocol.specs.Spelling.{spelling}
 use Rattle.sg_protocol.specs.Texts.{real}
 use Rattle.sg_protocol.specs.Told.{graph_of_call}
 use Rattle.sg_keys.specs.Names.{addr_of}
-use Rattle.sg_lines.specs.Sessions.{Met, session_name}
+use Rattle.sg_lines.specs.Sessions.{KnownSessions, session_name}
 use Rattle.sg_report.specs.Lines.{graph_or_none, line_text}
 use Rattle.sg_report.specs.Told.{told_answer, session_told, sid_left}
 
@@ -31,7 +31,7 @@ frames_of steps = flat_map (λ s. s.frames) steps
 -- ---- sessions
 
 -- the sessions with an event are called s1, s2 and so on, in the order of their first events
-abbrev pub met_in : List Called → Met
+abbrev pub met_in : List AnsweredCall → KnownSessions
 met_in calls = record { declared = []; events = map sid_of (flat_map (λ c. events_of_answer c.answer) calls) }
 
 -- ---- a step

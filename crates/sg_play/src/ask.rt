@@ -2,7 +2,7 @@
 ghost use Rattle.std.specs.Prelude.{◌≡◌, ◌↔◌, ◌⊎◌, ◌+◌, ℕ, length, None, IfOk, IfErr, IsTrue};
 ghost use Rattle.std.specs.Option.{option_copied};
 ghost use Rattle.sg_protocol.specs.Calls.{Start, Act, Abandon, Deliver};
-ghost use Rattle.sg_protocol.specs.NodeStates.{StandsForPast};
+ghost use Rattle.sg_protocol.specs.NodeStates.{RepresentsPast};
 ghost use Rattle.sg_protocol.specs.Past.{Past, node_of};
 ghost use Rattle.sg_protocol.specs.Texts.{real};
 ghost use Rattle.sg_protocol.specs.Told.{graph_of_call};
@@ -29,7 +29,7 @@ pub(crate) fn ask_start<'p>(
     node: &mut Node<'p>,
     cast: Cast,
 ) -> Result<(Outcome, Option<&'p Graph>), PlayFault>
-    ensures comes { (number : ℕ) (past : Past) → StandsForPast node.old past → IfOk result (λ r. Comes number node.old node.new past (Start cast) (outcome_of r.0) (option_copied r.1) None) }
+    ensures comes { (number : ℕ) (past : Past) → RepresentsPast node.old past → IfOk result (λ r. Comes number node.old node.new past (Start cast) (outcome_of r.0) (option_copied r.1) None) }
     ensures memory { IfErr result (λ e. e ≡ PlayFault.OutOfMemory) }
 {
     tell_cast(&cast);
@@ -60,7 +60,7 @@ pub(crate) fn ask_deliver<'p>(
     node: &mut Node<'p>,
     bytes: &[u8],
 ) -> Result<(Outcome, Option<&'p Graph>), PlayFault>
-    ensures comes { (number : ℕ) (past : Past) → StandsForPast node.old past → IfOk result (λ r. Comes number node.old node.new past (Deliver bytes.now) (outcome_of r.0) (option_copied r.1) None) }
+    ensures comes { (number : ℕ) (past : Past) → RepresentsPast node.old past → IfOk result (λ r. Comes number node.old node.new past (Deliver bytes.now) (outcome_of r.0) (option_copied r.1) None) }
     ensures memory { IfErr result (λ e. e ≡ PlayFault.OutOfMemory) }
 {
     tell_bytes(bytes);
@@ -84,7 +84,7 @@ fn delivered_graph<'p>(
     node: &Node<'p>,
     bytes: &[u8],
 ) -> Result<Option<&'p Graph>, PlayFault>
-    ensures graph { (past : Past) → StandsForPast node.now past → IfOk result (λ g. option_copied g ≡ graph_of_call real (node_of past) (Deliver bytes.now)) }
+    ensures graph { (past : Past) → RepresentsPast node.now past → IfOk result (λ g. option_copied g ≡ graph_of_call real (node_of past) (Deliver bytes.now)) }
     ensures memory { IfErr result (λ e. e ≡ PlayFault.OutOfMemory) }
 {
     match decode(alloc, bytes) {
@@ -103,7 +103,7 @@ fn is_delivery_memory(why: &Refusal) -> bool
 
 /// Leaves a session.
 pub(crate) fn ask_abandon<'p>(node: &mut Node<'p>, sid: Sid) -> (Outcome, Option<&'p Graph>)
-    ensures { (number : ℕ) (past : Past) → StandsForPast node.old past → Comes number node.old node.new past (Abandon sid) (outcome_of result.0) (option_copied result.1) None }
+    ensures { (number : ℕ) (past : Past) → RepresentsPast node.old past → Comes number node.old node.new past (Abandon sid) (outcome_of result.0) (option_copied result.1) None }
 {
     let graph = node.graph_of(&sid);
     match node.abandon(sid) {
@@ -124,7 +124,7 @@ pub(crate) fn ask_act<'p>(
     words: &[[u8; 16]],
 ) -> Result<(Outcome, Option<&'p Graph>, Option<(Addr, Sealed)>), PlayFault>
     requires { length words.now ≡ length values.now }
-    ensures comes { (past : Past) → StandsForPast node.old past
+    ensures comes { (past : Past) → RepresentsPast node.old past
         → IfOk result (λ r. ComesMade keys.now frames.old frames.new node.old node.new past (Act sid label (values_of values.now) words.now) (outcome_of r.0) (option_copied r.1) r.2) }
     ensures memory { IfErr result (λ e. e ≡ PlayFault.OutOfMemory) }
 {
@@ -181,7 +181,7 @@ fn ask_numbered<'p>(
     number: u32,
 ) -> Result<(Outcome, Option<&'p Graph>, Option<Sealed>), PlayFault>
     requires { length words.now ≡ length values.now }
-    ensures comes { (past : Past) → StandsForPast node.old past
+    ensures comes { (past : Past) → RepresentsPast node.old past
         → IfOk result (λ r. Comes number node.old node.new past (Act sid label (values_of values.now) words.now) (outcome_of r.0) (option_copied r.1) r.2) }
     ensures memory { IfErr result (λ e. e ≡ PlayFault.OutOfMemory) }
 {

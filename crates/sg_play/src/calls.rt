@@ -11,7 +11,7 @@ ghost use Rattle.sg_walk.specs.Model.{values_of};
 ghost use Rattle.sg_play.specs.Asking.{addressed, sealed_in};
 ghost use Rattle.sg_play.specs.Played.{Play, answer_in};
 ghost use Rattle.sg_play.specs.Posting.{frames_made};
-ghost use Rattle.sg_play.specs.Standing.{HasAsked, KeepsJoins, StandsForPlay};
+ghost use Rattle.sg_play.specs.Representation.{HasAsked, KeepsJoins, RepresentsPlay};
 ghost use Rattle.sg_play.specs.Steps.{met_in};
 
 use crate::ask::{ask_abandon, ask_act};
@@ -31,9 +31,9 @@ impl<'p> Player<'p> {
         words: &[[u8; 16]],
     ) -> Result<(Outcome, Option<&'p Graph>, Option<(Addr, Sealed)>), PlayFault>
         requires { length words.now ≡ length values.now }
-        ensures asked { IfOk result (λ r. (p : Play) → StandsForPlay self.old p
+        ensures asked { IfOk result (λ r. (p : Play) → RepresentsPlay self.old p
             → HasAsked self.new p (Act sid label (values_of values.now) words.now) (outcome_of r.0) (option_copied r.1) (frames_made r.2)) }
-        ensures frame { IfOk result (λ r. (p : Play) → StandsForPlay self.old p → r.2 ≡ addressed p.past.keys (sealed_in (answer_in p (Act sid label (values_of values.now) words.now)))) }
+        ensures frame { IfOk result (λ r. (p : Play) → RepresentsPlay self.old p → r.2 ≡ addressed p.past.keys (sealed_in (answer_in p (Act sid label (values_of values.now) words.now)))) }
         ensures joins { OnOk result (KeepsJoins self.old.node self.new.node) }
         ensures memory { IfErr result (λ e. e ≡ PlayFault.OutOfMemory) }
     {
@@ -52,7 +52,7 @@ impl<'p> Player<'p> {
     /// Asks the node to abandon a session: what came of it, and the graph by which its numbers have names. The step's line is still to be
     /// told, by `tell`.
     pub fn ask_abandon(&mut self, sid: Sid) -> (Outcome, Option<&'p Graph>)
-        ensures asked { (p : Play) → StandsForPlay self.old p
+        ensures asked { (p : Play) → RepresentsPlay self.old p
             → HasAsked self.new p (Abandon sid) (outcome_of result.0) (option_copied result.1) [] }
         ensures joins { KeepsJoins self.old.node self.new.node }
     {
@@ -61,30 +61,30 @@ impl<'p> Player<'p> {
 
     /// The graph's node at which a session stands that is at its turn. It takes no memory.
     pub fn turn(&self, sid: Sid) -> Option<NodeId>
-        ensures { (p : Play) → StandsForPlay self.now p → result ≡ turn_of (node_of p.past) sid }
+        ensures { (p : Play) → RepresentsPlay self.now p → result ≡ turn_of (node_of p.past) sid }
     {
         self.node.turn(sid)
     }
 
     /// The graph of a session that is live. It takes no memory.
     pub fn graph_of(&self, sid: &Sid) -> Option<&'p Graph>
-        ensures { (p : Play) → StandsForPlay self.now p → option_copied result ≡ option_map (λ x. x.0.graph) (live_with (node_of p.past) sid.now) }
+        ensures { (p : Play) → RepresentsPlay self.now p → option_copied result ≡ option_map (λ x. x.0.graph) (live_with (node_of p.past) sid.now) }
     {
         self.node.graph_of(sid)
     }
 
     /// How many sessions had an event. It takes no memory.
     pub fn sessions(&self) -> usize
-        ensures { (p : Play) → StandsForPlay self.now p → result ≡ length (sids_met (met_in p.past.calls)) }
+        ensures { (p : Play) → RepresentsPlay self.now p → result ≡ length (sids_met (met_in p.past.calls)) }
     {
         self.names.len()
     }
 
-    /// The session at a place in the order of first events, from 0. It takes no memory.
-    pub fn session_at(&self, place: usize) -> Option<Sid>
-        ensures { (p : Play) → StandsForPlay self.now p → result ≡ slice_get (sids_met (met_in p.past.calls)) place }
+    /// The session at an index in the order of first events, from 0. It takes no memory.
+    pub fn session_at(&self, index: usize) -> Option<Sid>
+        ensures { (p : Play) → RepresentsPlay self.now p → result ≡ slice_get (sids_met (met_in p.past.calls)) index }
     {
-        match self.names.at(place) {
+        match self.names.at(index) {
             Some(named) => Some(named.0),
             None => None,
         }

@@ -9,7 +9,7 @@
 //!
 //! `specs/Played.antt` says so as a function of what the script, the deliveries and the words are; `specs/Steps.antt` says what a step's
 //! line and frame are, and `specs/Ends.antt` how far a play came that ended early: by whole steps where the link failed or memory ran
-//! out, and with the frame of one more step and a front part of its line where a line was not written whole.
+//! out, and with the frame of one more step and a prefix of its line where a line was not written whole.
 //!
 //! Who has an order of its own makes each call by itself, and then has the line of its step: `Player::ask_start`, `ask_deliver`, `ask_act` or
 //! `ask_abandon`, and `tell`. A play goes by the same calls.

@@ -3,7 +3,7 @@ ghost use Rattle.std.specs.Prelude.{◌≡◌, ◌≤◌, ◌+◌, ℕ, List, []
 ghost use Rattle.std.specs.Option.{option_copied, option_map_or};
 ghost use Rattle.sg_base.specs.Outside.{HasRisen};
 ghost use Rattle.sg_base.specs.declared.address.Addr.{Addr};
-ghost use Rattle.sg_lines.specs.Sessions.{Met, naming, session_name};
+ghost use Rattle.sg_lines.specs.Sessions.{KnownSessions, naming, session_name};
 ghost use Rattle.sg_protocol.specs.Calls.{Call, Start, Deliver};
 ghost use Rattle.sg_report.specs.Lines.{graph_or_none, line_text};
 ghost use Rattle.sg_report.specs.Outcome.{outcome_of};
@@ -43,12 +43,12 @@ pub struct Player<'p> {
 }
 
 impl<'p> Player<'p> {
-    ghost use Rattle.sg_protocol.specs.NodeStates.{StandsForPast, new_state};
+    ghost use Rattle.sg_protocol.specs.NodeStates.{RepresentsPast, new_state};
     ghost use Rattle.sg_protocol.specs.Past.{Past};
     ghost use Rattle.sg_play.specs.Asking.{Comes};
     ghost use Rattle.sg_play.specs.Ends.{Outside, Whole};
     ghost use Rattle.sg_play.specs.Played.{Play, abandons, answer_in, beginning, called, cast_of_start, sid_given, step_in};
-    ghost use Rattle.sg_play.specs.Standing.{Came, HasAsked, KeepsJoins, StandsForPlay, done};
+    ghost use Rattle.sg_play.specs.Representation.{Came, HasAsked, KeepsJoins, RepresentsPlay, done};
 
     /// A player with a node that was made with these keys and programs and was not asked anything yet.
     pub fn new(
@@ -58,8 +58,8 @@ impl<'p> Player<'p> {
         programs: &'p Programs,
         choices: Seq<ScriptChoice>,
     ) -> Result<Player<'p>, PlayFault>
-        ensures stands { IfOk result (λ pl. (first : List (List ℕ × ℕ)) (words : List (List ℕ)) → node.entry ≡ new_state keys.entry.now programs.entry.now first
-            → StandsForPlay pl (beginning keys.entry.now programs.entry.now first choices words)) }
+        ensures represents { IfOk result (λ pl. (first : List (List ℕ × ℕ)) (words : List (List ℕ)) → node.entry ≡ new_state keys.entry.now programs.entry.now first
+            → RepresentsPlay pl (beginning keys.entry.now programs.entry.now first choices words)) }
         ensures memory { IfErr result (λ e. e ≡ PlayFault.OutOfMemory) }
     {
         let names = SessionNames::new(alloc, b's');
@@ -86,7 +86,7 @@ impl<'p> Player<'p> {
         nonce: [u8; 16],
     ) -> Result<(Outcome, Option<&'p Graph>), PlayFault>
         ensures rest { OnOk result (self.new ≡ record self.old { node = self.new.node }) }
-        ensures comes { (number : ℕ) (past : Past) → StandsForPast self.old.node past
+        ensures comes { (number : ℕ) (past : Past) → RepresentsPast self.old.node past
             → IfOk result (λ r. Comes number self.old.node self.new.node past (Start (cast_of_start self.old.programs.now start_of.now nonce)) (outcome_of r.0) (option_copied r.1) None) }
         ensures memory { IfErr result (λ e. e ≡ PlayFault.OutOfMemory) }
     {
@@ -97,7 +97,7 @@ impl<'p> Player<'p> {
     /// Asks the node to take a delivery: what came of it, and the graph by which its numbers have names. It is to be given to the outside.
     pub fn ask_deliver(&mut self, bytes: &[u8]) -> Result<(Outcome, Option<&'p Graph>), PlayFault>
         ensures rest { OnOk result (self.new ≡ record self.old { node = self.new.node }) }
-        ensures comes { (number : ℕ) (past : Past) → StandsForPast self.old.node past
+        ensures comes { (number : ℕ) (past : Past) → RepresentsPast self.old.node past
             → IfOk result (λ r. Comes number self.old.node self.new.node past (Deliver bytes.now) (outcome_of r.0) (option_copied r.1) None) }
         ensures memory { IfErr result (λ e. e ≡ PlayFault.OutOfMemory) }
     {
@@ -117,9 +117,9 @@ impl<'p> Player<'p> {
         ensures link_failed { result ≡ Err PlayFault.LinkFailed → HasRisen (L.faults link.old) (L.faults link.new) }
         ensures write_failed { result ≡ Err PlayFault.WriteFailed → HasRisen (O.faults out.old) (O.faults out.new) }
         ensures deliveries { L.deliveries link.new ≡ L.deliveries link.old }
-        ensures came { (p : Play) (start : Outside) → StandsForPlay self.old p → Whole start (record { written = O.written out.old; sent = L.sent link.old }) p.steps
+        ensures came { (p : Play) (start : Outside) → RepresentsPlay self.old p → Whole start (record { written = O.written out.old; sent = L.sent link.old }) p.steps
             → Came start (record { written = O.written out.new; sent = L.sent link.new }) self.new (called p (Start cast)) (done result) }
-        ensures turn { IfOk result (λ sid. (p : Play) → StandsForPlay self.old p → sid ≡ sid_given (answer_in p (Start cast))) }
+        ensures turn { IfOk result (λ sid. (p : Play) → RepresentsPlay self.old p → sid ≡ sid_given (answer_in p (Start cast))) }
     {
         let (outcome, graph) = ask_start(self.alloc, &mut self.node, cast)?;
         self.give(None, graph, &outcome, None, link, out)?;
@@ -139,9 +139,9 @@ impl<'p> Player<'p> {
         ensures link_failed { result ≡ Err PlayFault.LinkFailed → HasRisen (L.faults link.old) (L.faults link.new) }
         ensures write_failed { result ≡ Err PlayFault.WriteFailed → HasRisen (O.faults out.old) (O.faults out.new) }
         ensures deliveries { L.deliveries link.new ≡ L.deliveries link.old }
-        ensures came { (p : Play) (start : Outside) → StandsForPlay self.old p → Whole start (record { written = O.written out.old; sent = L.sent link.old }) p.steps
+        ensures came { (p : Play) (start : Outside) → RepresentsPlay self.old p → Whole start (record { written = O.written out.old; sent = L.sent link.old }) p.steps
             → Came start (record { written = O.written out.new; sent = L.sent link.new }) self.new (called p (Deliver bytes.now)) (done result) }
-        ensures turn { IfOk result (λ sid. (p : Play) → StandsForPlay self.old p → sid ≡ sid_given (answer_in p (Deliver bytes.now))) }
+        ensures turn { IfOk result (λ sid. (p : Play) → RepresentsPlay self.old p → sid ≡ sid_given (answer_in p (Deliver bytes.now))) }
     {
         let (outcome, graph) = ask_deliver(self.alloc, &mut self.node, bytes)?;
         self.give(None, graph, &outcome, None, link, out)?;
@@ -161,7 +161,7 @@ impl<'p> Player<'p> {
         ensures link_failed { result ≡ Err PlayFault.LinkFailed → HasRisen (L.faults link.old) (L.faults link.new) }
         ensures write_failed { result ≡ Err PlayFault.WriteFailed → HasRisen (O.faults out.old) (O.faults out.new) }
         ensures deliveries { L.deliveries link.new ≡ L.deliveries link.old }
-        ensures came { (p : Play) (start : Outside) → StandsForPlay self.old p → Whole start (record { written = O.written out.old; sent = L.sent link.old }) p.steps
+        ensures came { (p : Play) (start : Outside) → RepresentsPlay self.old p → Whole start (record { written = O.written out.old; sent = L.sent link.old }) p.steps
             → Came start (record { written = O.written out.new; sent = L.sent link.new }) self.new (abandons sid p) result }
         ensures joins { OnOk result (KeepsJoins self.old.node self.new.node) }
     {
@@ -209,7 +209,7 @@ impl<'p> Player<'p> {
     ) -> Result<Vec<u8>, PlayFault>
         ensures rest { OnOk result (self.new ≡ record self.old { names = self.new.names; steps = self.old.steps + 1 }) }
         ensures told { IfOk result (λ line. (p : Play) (c : Call) (made : List (Addr × List ℕ)) → HasAsked self.old p c (outcome_of outcome.now) (option_copied graph.entry) made → left ≡ sid_left c
-            → (line.items ≡ (step_in p c).line) × StandsForPlay self.new (called p c)) }
+            → (line.items ≡ (step_in p c).line) × RepresentsPlay self.new (called p c)) }
         ensures memory { IfErr result (λ e. e ≡ PlayFault.OutOfMemory) }
     {
         self.meet(outcome)?;
@@ -222,7 +222,7 @@ impl<'p> Player<'p> {
     // Meets the session in which an outcome happened, if it did in one.
     fn meet(&mut self, outcome: &Outcome) -> Result<(), PlayFault>
         ensures rest { OnOk result (self.new ≡ record self.old { names = self.new.names }) }
-        ensures names { OnOk result ((m : Met) (t : Told) → outcome_of outcome.now ≡ Some t → self.old.names ≡ naming 115 m → self.new.names ≡ naming 115 (met_more m t)) }
+        ensures names { OnOk result ((m : KnownSessions) (t : Told) → outcome_of outcome.now ≡ Some t → self.old.names ≡ naming 115 m → self.new.names ≡ naming 115 (met_more m t)) }
         ensures memory { IfErr result (λ e. e ≡ PlayFault.OutOfMemory) }
     {
         match sid_told(outcome) {
@@ -242,7 +242,7 @@ impl<'p> Player<'p> {
         graph: Option<&Graph>,
         outcome: &Outcome,
     ) -> Result<Vec<u8>, PlayFault>
-        ensures text { IfOk result (λ v. (m : Met) (t : Told) → outcome_of outcome.now ≡ Some t → self.now.names ≡ naming 115 m
+        ensures text { IfOk result (λ v. (m : KnownSessions) (t : Told) → outcome_of outcome.now ≡ Some t → self.now.names ≡ naming 115 m
             → v.items ≡ line_text (option_map_or (session_name 115 m) sid []) (graph_or_none (option_copied graph.entry)) number self.now.keys.now.me t) }
         ensures memory { IfErr result (λ e. e ≡ PlayFault.OutOfMemory) }
     {
@@ -253,7 +253,7 @@ impl<'p> Player<'p> {
 
     // The name of a session, if there is one.
     fn name(&self, sid: Option<Sid>) -> Option<Name>
-        ensures { (m : Met) → self.now.names ≡ naming 115 m → unwrap_or result [] ≡ option_map_or (session_name 115 m) sid [] }
+        ensures { (m : KnownSessions) → self.now.names ≡ naming 115 m → unwrap_or result [] ≡ option_map_or (session_name 115 m) sid [] }
     {
         match sid {
             Some(sid) => self.names.name_of(&sid),

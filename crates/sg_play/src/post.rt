@@ -1,6 +1,6 @@
 //! What a step gives the outside: first its frame, then its line.
 ghost use Rattle.std.specs.Prelude.{◌≡◌, ◌≢◌, ◌≤◌, ℕ, List, [], ◌∷◌, Err, OnErr, OnOk, Option, Some, None};
-ghost use Rattle.sg_base.specs.Outside.{HasRisen, Appends, AppendsFront};
+ghost use Rattle.sg_base.specs.Outside.{HasRisen, Appends, AppendsPrefix};
 ghost use Rattle.sg_play.specs.Posting.{frames_made};
 
 use crate::PlayFault;
@@ -23,7 +23,7 @@ pub(crate) fn post<L: Link, O: Sink>(made: Made, link: &mut L, out: &mut O) -> R
     ensures deliveries { L.deliveries link.new ≡ L.deliveries link.old }
     ensures line { OnOk result (Appends (O.written out.old) (O.written out.new) made.line.items) }
     ensures frame { result ≢ Err PlayFault.LinkFailed → Appends (L.sent link.old) (L.sent link.new) (frames_made made.frame) }
-    ensures front { result ≡ Err PlayFault.WriteFailed → AppendsFront (O.written out.old) (O.written out.new) made.line.items }
+    ensures prefix { result ≡ Err PlayFault.WriteFailed → AppendsPrefix (O.written out.old) (O.written out.new) made.line.items }
     ensures no_frame { result ≡ Err PlayFault.LinkFailed → L.sent link.new ≡ L.sent link.old }
     ensures no_line { result ≡ Err PlayFault.LinkFailed → O.written out.new ≡ O.written out.old }
 {

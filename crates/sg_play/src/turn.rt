@@ -9,7 +9,7 @@ ghost use Rattle.sg_play.specs.Choosing.{is_ready};
 ghost use Rattle.sg_play.specs.Ends.{Outside, Whole};
 ghost use Rattle.sg_play.specs.Played.{Play, plays_on};
 ghost use Rattle.sg_play.specs.Posting.{frames_made};
-ghost use Rattle.sg_play.specs.Standing.{CameActing, CameTo, HasActed, KeepsJoins, StandsForPlay};
+ghost use Rattle.sg_play.specs.Representation.{CameActing, CameTo, HasActed, KeepsJoins, RepresentsPlay};
 ghost use Rattle.sg_play.specs.Turns.{acted, acted_in, is_sent};
 
 use crate::ask::ask_act;
@@ -35,7 +35,7 @@ impl<'p> Player<'p> {
         ensures link_failed { result ≡ Err PlayFault.LinkFailed → HasRisen (L.faults link.old) (L.faults link.new) }
         ensures write_failed { result ≡ Err PlayFault.WriteFailed → HasRisen (O.faults out.old) (O.faults out.new) }
         ensures deliveries { L.deliveries link.new ≡ L.deliveries link.old }
-        ensures came { (p : Play) (start : Outside) → StandsForPlay self.old p → R.words fresh.old ≡ Some p.words → Whole start (record { written = O.written out.old; sent = L.sent link.old }) p.steps
+        ensures came { (p : Play) (start : Outside) → RepresentsPlay self.old p → R.words fresh.old ≡ Some p.words → Whole start (record { written = O.written out.old; sent = L.sent link.old }) p.steps
             → CameTo start (record { written = O.written out.new; sent = L.sent link.new }) self.new (R.words fresh.new) (plays_on sid p) result }
         ensures joins { OnOk result (KeepsJoins self.old.node self.new.node) }
     {
@@ -64,7 +64,7 @@ impl<'p> Player<'p> {
         ensures link_failed { result ≡ Err PlayFault.LinkFailed → HasRisen (L.faults link.old) (L.faults link.new) }
         ensures write_failed { result ≡ Err PlayFault.WriteFailed → HasRisen (O.faults out.old) (O.faults out.new) }
         ensures deliveries { L.deliveries link.new ≡ L.deliveries link.old }
-        ensures came { (p : Play) (start : Outside) → StandsForPlay self.old p → R.words fresh.old ≡ Some p.words → Whole start (record { written = O.written out.old; sent = L.sent link.old }) p.steps
+        ensures came { (p : Play) (start : Outside) → RepresentsPlay self.old p → R.words fresh.old ≡ Some p.words → Whole start (record { written = O.written out.old; sent = L.sent link.old }) p.steps
             → CameActing start (record { written = O.written out.new; sent = L.sent link.new }) self.new (R.words fresh.new) (acted sid node p) result }
         ensures joins { OnOk result (KeepsJoins self.old.node self.new.node) }
     {
@@ -91,7 +91,7 @@ impl<'p> Player<'p> {
         ensures link_failed { result ≡ Err PlayFault.LinkFailed → HasRisen (L.faults link.old) (L.faults link.new) }
         ensures write_failed { result ≡ Err PlayFault.WriteFailed → HasRisen (O.faults out.old) (O.faults out.new) }
         ensures deliveries { L.deliveries link.new ≡ L.deliveries link.old }
-        ensures came { (p : Play) (start : Outside) → StandsForPlay self.old p → R.words fresh.old ≡ Some p.words → Whole start (record { written = O.written out.old; sent = L.sent link.old }) p.steps
+        ensures came { (p : Play) (start : Outside) → RepresentsPlay self.old p → R.words fresh.old ≡ Some p.words → Whole start (record { written = O.written out.old; sent = L.sent link.old }) p.steps
             → CameActing start (record { written = O.written out.new; sent = L.sent link.new }) self.new (R.words fresh.new) (acted_in sid graph.now node p) result }
         ensures joins { OnOk result (KeepsJoins self.old.node self.new.node) }
     {
@@ -114,7 +114,7 @@ impl<'p> Player<'p> {
         node: NodeId,
         fresh: &mut R,
     ) -> Result<Option<(Outcome, Option<&'p Graph>, Option<(Addr, Sealed)>)>, PlayFault>
-        ensures acted { IfOk result (λ r. (p : Play) → StandsForPlay self.old p → R.words fresh.old ≡ Some p.words → MatchOption r
+        ensures acted { IfOk result (λ r. (p : Play) → RepresentsPlay self.old p → R.words fresh.old ≡ Some p.words → MatchOption r
             ((find (is_ready graph.now node) p.choices ≡ None) × (self.new ≡ self.old) × (R.words fresh.new ≡ R.words fresh.old))
             (λ a. HasActed self.new (R.words fresh.new) sid graph.now node p (outcome_of a.0) (option_copied a.1) (frames_made a.2))) }
         ensures joins { OnOk result (KeepsJoins self.old.node self.new.node) }

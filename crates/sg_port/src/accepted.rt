@@ -12,7 +12,7 @@ use std::alloc::{AllocError, Global};
 use std::time::Instant;
 
 /// How many connections are open at once.
-pub(crate) const PLACES: usize = 256;
+pub(crate) const SLOTS: usize = 256;
 
 // An accepted connection.
 #[derive(Drop)]
@@ -25,49 +25,49 @@ struct Accepted {
     ready: bool,
 }
 
-/// The connections that were accepted, each at its place. They are read in turn, one frame each.
+/// The connections that were accepted, each at its slot. They are read in turn, one frame each.
 #[derive(Drop)]
 pub(crate) struct Table {
-    places: Vec<Option<Accepted>>,
+    slots: Vec<Option<Accepted>>,
     turn: usize,
-    ghost all: { length places.items ≡ 256 },
+    ghost all: { length slots.items ≡ 256 },
 }
 
 impl Table {
-    /// Places for connections, with none in them. `None` means out of memory.
+    /// Slots for connections, with none in them. `None` means out of memory.
     pub(crate) fn new(alloc: Global) -> Option<Table> {
-        let mut places = Vec::new(alloc);
-        if places.resize_with(PLACES, || None).is_err() {
+        let mut slots = Vec::new(alloc);
+        if slots.resize_with(SLOTS, || None).is_err() {
             return None;
         }
-        Some(Table { places, turn: 0 })
+        Some(Table { slots, turn: 0 })
     }
 
-    /// A connection at a place has something to read.
+    /// A connection at a slot has something to read.
     pub(crate) fn wake(&mut self, at: usize, now: Instant) {
-        if let Some(place) = self.places.get_mut(at) {
-            wake_at(place, now);
+        if let Some(slot) = self.slots.get_mut(at) {
+            wake_at(slot, now);
         }
     }
 
-    /// A place for one more connection: a free one, or else that of the connection that was silent longest. `None` where each has something
+    /// A slot for one more connection: a free one, or else that of the connection that was silent longest. `None` where each has something
     /// to read.
-    pub(crate) fn place(&mut self) -> Option<usize>
-        ensures within { IfSome result (λ at. at < PLACES) }
-        ensures gives_way { IfSome result (λ at. (slice_get self.new.places.items at ≡ Some None) ⊎ IsQuietest self.new.places.items at) }
+    pub(crate) fn slot(&mut self) -> Option<usize>
+        ensures within { IfSome result (λ at. at < SLOTS) }
+        ensures gives_way { IfSome result (λ at. (slice_get self.new.slots.items at ≡ Some None) ⊎ IsQuietest self.new.slots.items at) }
     {
-        match self.places.iter().position(|place| place.is_none()) {
+        match self.slots.iter().position(|slot| slot.is_none()) {
             Some(at) => Some(at),
-            None => silent(&mut self.places),
+            None => silent(&mut self.slots),
         }
     }
 
-    /// Puts a connection at a place, and closes the one that was there.
+    /// Puts a connection at a slot, and closes the one that was there.
     pub(crate) fn put(&mut self, alloc: Global, at: usize, stream: TcpStream, now: Instant)
-        requires { at < PLACES }
-        ensures { map stream_at self.new.places.items ≡ slice_set (map stream_at self.old.places.items) at (Some stream) }
+        requires { at < SLOTS }
+        ensures { map stream_at self.new.slots.items ≡ slice_set (map stream_at self.old.slots.items) at (Some stream) }
     {
-        self.places[at] = Some(Accepted {
+        self.slots[at] = Some(Accepted {
             stream,
             parcel: Parcel::new(alloc),
             heard: now,
@@ -77,9 +77,9 @@ impl Table {
 
     /// Closes the connection that was silent longest, and tells whether there is one that has nothing to read.
     pub(crate) fn close_silent(&mut self) -> bool {
-        match silent(&mut self.places) {
+        match silent(&mut self.slots) {
             Some(at) => {
-                self.places[at] = None;
+                self.slots[at] = None;
                 true
             }
             None => false,
@@ -88,14 +88,14 @@ impl Table {
 
     /// Whether a connection is open.
     pub(crate) fn has_open(&self) -> bool {
-        self.places.iter().any(|place| place.is_some())
+        self.slots.iter().any(|slot| slot.is_some())
     }
 
     /// The next whole frame of those that may be read, or `None` where there is none yet. Connections that have ended are closed.
     pub(crate) fn next(&mut self, alloc: Global) -> Result<Option<Vec<u8>>, OutOfMemory>
         ensures { IfOk result (λ found. IfSome found (λ frame. length frame.items ≤ most_frame_bytes)) }
     {
-        for _ in 0..PLACES {
+        for _ in 0..SLOTS {
             match self.read_next(alloc) {
                 Came::Frame(frame) => return Ok(Some(frame)),
                 Came::OutOfMemory => return Err(AllocError),
@@ -105,56 +105,56 @@ impl Table {
         Ok(None)
     }
 
-    // Reads on at the place whose turn it is.
+    // Reads on at the slot whose turn it is.
     fn read_next(&mut self, alloc: Global) -> Came
         ensures { Fits result }
     {
         let at = self.turn;
         self.turn = behind(at);
-        match self.places.get_mut(at) {
-            Some(place) => read_at(alloc, place),
+        match self.slots.get_mut(at) {
+            Some(slot) => read_at(alloc, slot),
             None => Came::Nothing,
         }
     }
 }
 
-// The connection at a place has something to read.
-fn wake_at(place: &mut Option<Accepted>, now: Instant) {
-    if let Some(open) = place {
+// The connection at a slot has something to read.
+fn wake_at(slot: &mut Option<Accepted>, now: Instant) {
+    if let Some(open) = slot {
         open.ready = true;
         open.heard = now;
     }
 }
 
-// The place behind a place, in a circle.
+// The slot behind a slot, in a circle.
 fn behind(at: usize) -> usize
-    ensures { result < PLACES }
+    ensures { result < SLOTS }
 {
-    if at < PLACES - 1 { at + 1 } else { 0 }
+    if at < SLOTS - 1 { at + 1 } else { 0 }
 }
 
-// The place of the connection that was silent longest, of those that have nothing to read by now.
-fn silent(places: &mut [Option<Accepted>]) -> Option<usize>
-    ensures same { length places.new ≡ length places.old }
-    ensures quietest { IfSome result (λ at. IsQuietest places.new at) }
+// The slot of the connection that was silent longest, of those that have nothing to read by now.
+fn silent(slots: &mut [Option<Accepted>]) -> Option<usize>
+    ensures same { length slots.new ≡ length slots.old }
+    ensures quietest { IfSome result (λ at. IsQuietest slots.new at) }
 {
-    for _ in 0..PLACES {
-        let at = quietest(places)?;
-        if !has_more(&mut places[at]) {
+    for _ in 0..SLOTS {
+        let at = quietest(slots)?;
+        if !has_more(&mut slots[at]) {
             return Some(at);
         }
     }
     None
 }
 
-// The place of the connection that was heard least lately, of those that have nothing to read.
-fn quietest(places: &[Option<Accepted>]) -> Option<usize>
-    ensures some { IfSome result (λ at. IsQuietest places.now at) }
-    ensures none { IfNone result (All (λ place. silent_since place ≡ None) places.now) }
+// The slot of the connection that was heard least lately, of those that have nothing to read.
+fn quietest(slots: &[Option<Accepted>]) -> Option<usize>
+    ensures some { IfSome result (λ at. IsQuietest slots.now at) }
+    ensures none { IfNone result (All (λ slot. silent_since slot ≡ None) slots.now) }
 {
     let mut found: Option<(usize, Instant)> = None;
-    for (at, place) in places.iter().enumerate() {
-        if let Some(heard) = silent_since(place) {
+    for (at, slot) in slots.iter().enumerate() {
+        if let Some(heard) = silent_since(slot) {
             if is_earliest(heard, found) {
                 found = Some((at, heard));
             }
@@ -166,11 +166,11 @@ fn quietest(places: &[Option<Accepted>]) -> Option<usize>
     }
 }
 
-// When the connection at a place was heard, if it has nothing to read.
-fn silent_since(place: &Option<Accepted>) -> Option<Instant>
-    ensures { option_map instant_nanos result ≡ silent_since place.now }
+// When the connection at a slot was heard, if it has nothing to read.
+fn silent_since(slot: &Option<Accepted>) -> Option<Instant>
+    ensures { option_map instant_nanos result ≡ silent_since slot.now }
 {
-    match place {
+    match slot {
         Some(open) if !open.ready => Some(open.heard),
         _ => None,
     }
@@ -187,11 +187,11 @@ fn is_earliest(heard: Instant, found: Option<(usize, Instant)>) -> bool
     }
 }
 
-// Whether the connection at a place has something to read by now, and is kept therefore.
-fn has_more(place: &mut Option<Accepted>) -> bool
-    ensures { IsFalse result → place.new ≡ place.old }
+// Whether the connection at a slot has something to read by now, and is kept therefore.
+fn has_more(slot: &mut Option<Accepted>) -> bool
+    ensures { IsFalse result → slot.new ≡ slot.old }
 {
-    let Some(open) = place else {
+    let Some(open) = slot else {
         return false;
     };
     let more = matches!(open.stream.peek(&mut [0u8]), Ok(count) if count > 0);
@@ -201,11 +201,11 @@ fn has_more(place: &mut Option<Accepted>) -> bool
     more
 }
 
-// Reads on at a place. A connection that has ended is closed.
-fn read_at(alloc: Global, place: &mut Option<Accepted>) -> Came
+// Reads on at a slot. A connection that has ended is closed.
+fn read_at(alloc: Global, slot: &mut Option<Accepted>) -> Came
     ensures { Fits result }
 {
-    let Some(open) = place else {
+    let Some(open) = slot else {
         return Came::Nothing;
     };
     if !open.ready {
@@ -214,7 +214,7 @@ fn read_at(alloc: Global, place: &mut Option<Accepted>) -> Came
     let came = open.parcel.read_on(alloc, &mut open.stream);
     match &came {
         Came::Nothing => open.ready = false,
-        Came::End => *place = None,
+        Came::End => *slot = None,
         Came::Frame(_) | Came::OutOfMemory => {}
     }
     came

@@ -16,7 +16,7 @@ const MOST_FRAMES: usize = 65_536;
 /// The most bytes of a frame.
 const FRAME: usize = 60_000;
 
-/// Whole frames in the order in which they came: at most 65,536 of them, and 4,194,304 bytes. Their places are made beforehand.
+/// Whole frames in the order in which they came: at most 65,536 of them, and 4,194,304 bytes. Their slots are made beforehand.
 #[derive(Drop)]
 pub(crate) struct Inbox {
     frames: VecDeque<Vec<u8>>,
@@ -36,7 +36,7 @@ impl Model for Inbox {
 }
 
 impl Inbox {
-    /// No frames, and the places for them.
+    /// No frames, and the slots for them.
     pub(crate) fn new(alloc: Global) -> Result<Inbox, AllocError>
         ensures { IfOk result (λ b. b ≡ []) }
     {

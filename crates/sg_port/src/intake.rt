@@ -1,7 +1,7 @@
 //! What comes in: a listener, its connections, and the frames that were taken in while a send waited.
 ghost use Rattle.std.specs.Prelude.{◌<◌};
 
-use crate::accepted::{PLACES, Table};
+use crate::accepted::{SLOTS, Table};
 use crate::fault::{has_no_room, is_passing};
 use crate::inbox::Inbox;
 use crate::kept::Kept;
@@ -202,7 +202,7 @@ impl Intake {
         true
     }
 
-    // Accepts what is offered, as far as there are places. Where the system has no room for one more connection, the one that was silent longest
+    // Accepts what is offered, as far as there are slots. Where the system has no room for one more connection, the one that was silent longest
     // gives way; where that didn't help, or none is open, it accepts nothing for a while. It tells whether more can come.
     fn accept<C: Clock>(&mut self, clock: &C) -> bool {
         self.put_off = false;
@@ -211,7 +211,7 @@ impl Intake {
             if !self.offered {
                 return true;
             }
-            let Some(at) = self.table.place() else {
+            let Some(at) = self.table.slot() else {
                 return true;
             };
             match self.accept_one(clock, at) {
@@ -231,9 +231,9 @@ impl Intake {
         true
     }
 
-    // Accepts the next connection that is offered, and reads it from now on, at a place.
+    // Accepts the next connection that is offered, and reads it from now on, at a slot.
     fn accept_one<C: Clock>(&mut self, clock: &C, at: usize) -> Offer
-        requires { at < PLACES }
+        requires { at < SLOTS }
     {
         match self.listener.accept() {
             Ok((stream, _)) => {
@@ -247,9 +247,9 @@ impl Intake {
         }
     }
 
-    // Reads a connection from now on, at a place. One that the system doesn't watch is closed.
+    // Reads a connection from now on, at a slot. One that the system doesn't watch is closed.
     fn admit<C: Clock>(&mut self, clock: &C, at: usize, mut stream: TcpStream)
-        requires { at < PLACES }
+        requires { at < SLOTS }
     {
         let Ok(now) = Instant::now(clock) else {
             return;

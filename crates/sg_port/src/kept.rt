@@ -78,7 +78,7 @@ impl Kept {
         }
     }
 
-    /// Keeps a connection that had one message more. It is closed where that was the last one that it has, and where all places are taken,
+    /// Keeps a connection that had one message more. It is closed where that was the last one that it has, and where all slots are taken,
     /// the one that rests longest is.
     pub(crate) fn keep<C: Clock>(&mut self, clock: &C, mut line: Line) {
         line.given = line.given.saturating_add(1);

@@ -9,7 +9,7 @@
 //!   turn; waits are for any change, and each has an end;
 //! - what came is not lost: bytes are read only where there is room for them, a connection gives way only where nothing of it waits to be
 //!   read, and a message for which memory is wanting stays where it is;
-//! - strangers keep nobody out: where there is no room for one more connection, be it of places or of the system's descriptors, the one that
+//! - strangers keep nobody out: where there is no room for one more connection, be it of slots or of the system's descriptors, the one that
 //!   was silent longest gives way;
 //! - a send that fails ends nothing: its connection is closed, and the next send makes a new one;
 //! - room is bounded, whoever sends what: 256 accepted connections with at most one message each, 256 kept ones, 4,194,304 bytes of frames

@@ -9,7 +9,7 @@ ghost use Rattle.sg_protocol.specs.World.{World};
 ghost use Rattle.sg_premises.specs.Forged.{IsRecord, is_unmade, forged_from};
 
 use crate::Honest;
-use crate::made::Made;
+use crate::made::TaggedTexts;
 use sg_base::OutOfMemory;
 use sg_crypt::{Note, Notes};
 use std::alloc::Global;
@@ -45,11 +45,11 @@ fn find_forged<'n, H: Honest>(
 ) -> Result<Option<Forged<'n>>, OutOfMemory>
     ensures { IfOk result (λ o. option_map (λ f. (f.step, f.note.now)) o ≡ forged_from (H.names honest.now) 1 [] notes.now) }
 {
-    let mut tagged = Made::new(alloc);
-    for (place, step) in notes.iter().enumerate() {
+    let mut tagged = TaggedTexts::new(alloc);
+    for (index, step) in notes.iter().enumerate() {
         if let Some(note) = first_unmade(honest, &tagged, step.found()) {
             return Ok(Some(Forged {
-                step: place + 1,
+                step: index + 1,
                 note,
             }));
         }
@@ -59,7 +59,11 @@ fn find_forged<'n, H: Honest>(
 }
 
 // The first note that is of two honest principals and not among those that were made.
-fn first_unmade<'n, H: Honest>(honest: &H, made: &Made<'_>, found: &'n [Note]) -> Option<&'n Note>
+fn first_unmade<'n, H: Honest>(
+    honest: &H,
+    made: &TaggedTexts<'_>,
+    found: &'n [Note],
+) -> Option<&'n Note>
     ensures { option_copied result ≡ find (is_unmade (H.names honest.now) made.now) found.now }
 {
     for note in found {
@@ -70,13 +74,13 @@ fn first_unmade<'n, H: Honest>(honest: &H, made: &Made<'_>, found: &'n [Note]) -
     None
 }
 
-fn is_unmade<H: Honest>(honest: &H, made: &Made<'_>, note: &Note) -> bool
+fn is_unmade<H: Honest>(honest: &H, made: &TaggedTexts<'_>, note: &Note) -> bool
     ensures { result ≡ is_unmade (H.names honest.now) made.now note.now }
 {
     honest.is_honest(note.one()) && honest.is_honest(note.two()) && !made.has(note)
 }
 
-fn add_all<'n>(made: &mut Made<'n>, notes: &'n [Note]) -> Result<(), OutOfMemory>
+fn add_all<'n>(made: &mut TaggedTexts<'n>, notes: &'n [Note]) -> Result<(), OutOfMemory>
     ensures { OnOk result ((n : Note) → list_any (same_note n) made.new ≡ list_any (same_note n) (made.old ++ notes.now)) }
 {
     for note in notes {

@@ -16,20 +16,20 @@ use std::marker::Model;
 
 /// Notes of texts that were tagged.
 #[derive(Drop)]
-pub struct Made<'n> {
-    notes: IndexSet<Said<'n>>,
+pub struct TaggedTexts<'n> {
+    notes: IndexSet<TaggedText<'n>>,
 }
 
 // A text for two principals.
 #[derive(Clone, Copy, PartialEq, Eq)]
-struct Said<'n> {
+struct TaggedText<'n> {
     one: &'n Name,
     two: &'n Name,
     text: &'n [u8],
 }
 
 // The text alone, in one piece: it names the session and the role that tagged it.
-impl<'n> Hash for Said<'n> {
+impl<'n> Hash for TaggedText<'n> {
     ghost hash_input = { λ s. s.text.now ∷ [] };
 
     ghost respects_eq = { Prim.search (hashing, rules) };
@@ -39,7 +39,7 @@ impl<'n> Hash for Said<'n> {
     }
 }
 
-impl<'n> Model for Made<'n> {
+impl<'n> Model for TaggedTexts<'n> {
     ghost use Rattle.std.specs.Prelude.{List};
     ghost use Rattle.sg_protocol.specs.Notes.{Note};
 
@@ -50,12 +50,12 @@ impl<'n> Model for Made<'n> {
     ghost view = { notes_kept };
 }
 
-impl<'n> Made<'n> {
+impl<'n> TaggedTexts<'n> {
     /// No notes. It takes no memory.
-    pub fn new(alloc: Global) -> Made<'n>
+    pub fn new(alloc: Global) -> TaggedTexts<'n>
         ensures { result ≡ [] }
     {
-        Made {
+        TaggedTexts {
             notes: IndexSet::new(alloc),
         }
     }
@@ -79,10 +79,10 @@ impl<'n> Made<'n> {
 }
 
 // The note as it is kept.
-fn kept(note: &Note) -> Said<'_>
+fn kept(note: &Note) -> TaggedText<'_>
     ensures { note_kept result ≡ note.now }
 {
-    Said {
+    TaggedText {
         one: note.one(),
         two: note.two(),
         text: note.text(),

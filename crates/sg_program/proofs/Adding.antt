@@ -32,8 +32,8 @@ pairs_more xs ys p before g n more all c =
     ∙ append_assoc before (roles_of g n) ((g, n) ∷ []) ∙ ap (λ rs. before ++ rs) (sym next)
 
 -- a graph that isn't accepted is stopped at its first role
-pub stopped_first : (before : List Program) (place : ℕ) (g : Graph) (f : CompileFault) → 2 ≤ length g.roles → All IsWhole before → IsRefusal g f → IsGraphFault before place g (all_fault place f)
-stopped_first before place g f two each h = by f h
+pub stopped_first : (before : List Program) (index : ℕ) (g : Graph) (f : CompileFault) → 2 ≤ length g.roles → All IsWhole before → IsRefusal g f → IsGraphFault before index g (all_fault index f)
+stopped_first before index g f two each h = by f h
   where
     none : pairs_of before ≡ pairs_of before ++ roles_of g 0
     none = sym (append-nil (pairs_of before))
@@ -41,7 +41,7 @@ stopped_first before place g f two each h = by f h
     stopped : (f : CompileFault) → IsRefused g 0 f → f ≢ OutOfMemory → IsStopped (pairs_of before) g f
     stopped f r m = record { role = 0; there = omega (arith, two); programs = before; each = each; earlier = none; refused = r; memory = m }
 
-    by : (f : CompileFault) → IsRefusal g f → IsGraphFault before place g (all_fault place f)
+    by : (f : CompileFault) → IsRefusal g f → IsGraphFault before index g (all_fault index f)
     by OutOfMemory h = tt
     by (Shape f) h = (refl, stopped (Shape f) h (λ e. cc))
     by (Reads f) h = (refl, stopped (Reads f) h (λ e. cc))

@@ -64,7 +64,7 @@ of_programs : (P : Graph → Type 0) (programs : List Program) → AllByRecursio
 of_programs P [] h = tt
 of_programs P (p ∷ ps) h = (h.0, of_programs P ps h.1)
 
--- graphs before one of another place have other names
+-- graphs before one of another index have other names
 others_before : (graphs : List Graph) (i : ℕ) (x : Graph) → all_differ (map (λ (g : Graph). g.name) graphs) ≡ true → slice_get graphs i ≡ Some x → AllByRecursion (λ (g : Graph). g.name ≢ x.name) (take i graphs)
 others_before [] i x d at = absurd (cc)
 others_before (g ∷ gs) zero x d at = tt

@@ -10,7 +10,7 @@ use Rattle.sg_protocol.specs.Keyring.{Program}
 use Rattle.sg_protocol.proofs.GraphText.{canonical_same}
 use Rattle.sg_vis.specs.Limits.{FewOpen}
 use Rattle.sg_program.specs.Compiled.{IsCompiled, IsRefused, IsWhole}
-use Rattle.sg_program.specs.Loading.{HasFront, HasGraph, HasRole, HasStart, IsCanonical, IsFaultAfter, IsFaultBehind, IsLoadFault, IsLoaded, IsMalformed, IsNoCanonical, NoGraph, OtherStart, at_table}
+use Rattle.sg_program.specs.Loading.{HasPrefix, HasGraph, HasRole, HasStart, IsCanonical, IsFaultAfter, IsFaultBehind, IsLoadFault, IsLoaded, IsMalformed, IsNoCanonical, NoGraph, OtherStart, at_table}
 use Rattle.sg_program.specs.Text.{line, program_text, role_line, start_line, table_text, version}
 use Rattle.sg_program.specs.declared.load.LoadFault.{LoadFault}
 use Rattle.sg_program.specs.declared.load.LoadFault.TheVariants as Faults
@@ -27,39 +27,39 @@ pub none_split : (text : List ℕ) (n : Name) → None ≡ at_table true text �
 none_split text n e g r rest h = some_not_none (e ∙ ap (at_table true) h.spelled ∙ table_behind g h.is_graph rest)
 
 -- what stands before the first line `table` is the graph's text
-pub split_same : (text : List ℕ) (place : ℕ) (n : Name) → Some (take place text, drop (place + 6) text) ≡ at_table true text
-    → (g : Graph) (r : ℕ) (rest : List ℕ) → HasGraph text n g r rest → canonical g ≡ take place text
-split_same text place n e g r rest h =
+pub split_same : (text : List ℕ) (index : ℕ) (n : Name) → Some (take index text, drop (index + 6) text) ≡ at_table true text
+    → (g : Graph) (r : ℕ) (rest : List ℕ) → HasGraph text n g r rest → canonical g ≡ take index text
+split_same text index n e g r rest h =
     sym (ap (λ (s : List ℕ × List ℕ). s.0) (some_same (e ∙ ap (at_table true) h.spelled ∙ table_behind g h.is_graph rest)))
 
 -- where that is no canonical text there is no such graph
-pub none_canonical : (text : List ℕ) (place : ℕ) (n : Name) → Some (take place text, drop (place + 6) text) ≡ at_table true text → IsNoCanonical (take place text)
+pub none_canonical : (text : List ℕ) (index : ℕ) (n : Name) → Some (take index text, drop (index + 6) text) ≡ at_table true text → IsNoCanonical (take index text)
     → (g : Graph) (r : ℕ) (rest : List ℕ) → HasGraph text n g r rest → ⊥
-none_canonical text place n e none g r rest h =
-    none g (record { is_graph = h.is_graph; two_roles = h.two_roles; has_node = h.has_node; spelled = split_same text place n e g r rest h })
+none_canonical text index n e none g r rest h =
+    none g (record { is_graph = h.is_graph; two_roles = h.two_roles; has_node = h.has_node; spelled = split_same text index n e g r rest h })
 
 -- a role's name is among the names
 pub role_there : (n : Name) (names : List Name) (r : ℕ) → r < length names → get_or names r [] ≡ n → has_text n names ≡ true
 role_there n names r l e = list_any_at (bytes_eq n) names r [] l ((bytes_eq-Decides n (get_or names r [])).1 (sym e))
 
 -- where the graph doesn't have the role there is no such graph
-pub none_role : (text : List ℕ) (place : ℕ) (n : Name) (h : Graph) → Some (take place text, drop (place + 6) text) ≡ at_table true text → IsCanonical (take place text) h
+pub none_role : (text : List ℕ) (index : ℕ) (n : Name) (h : Graph) → Some (take index text, drop (index + 6) text) ≡ at_table true text → IsCanonical (take index text) h
     → (IsTrue (has_text n h.roles) → ⊥) → (g : Graph) (r : ℕ) (rest : List ℕ) → HasGraph text n g r rest → ⊥
-none_role text place n h e is none g r rest has =
-    let same : g ≡ h = canonical_same g h has.is_graph is.is_graph (split_same text place n e g r rest has ∙ sym is.spelled) in
+none_role text index n h e is none g r rest has =
+    let same : g ≡ h = canonical_same g h has.is_graph is.is_graph (split_same text index n e g r rest has ∙ sym is.spelled) in
     none (subst (λ (k : Graph). has_text n k.roles ≡ true) same (role_there n g.roles r has.there has.named))
 
 -- the parts of the text behind the name of the role
-pub graph_read : (text : List ℕ) (place : ℕ) (n : Name) (h : Graph) (r : ℕ) → text ≡ take place text ++ line (codes "table") ++ drop (place + 6) text → IsCanonical (take place text) h
-    → r < length h.roles → role_name h r ≡ n → HasGraph text n h r (drop (place + 6) text)
-graph_read text place n h r e is there named =
+pub graph_read : (text : List ℕ) (index : ℕ) (n : Name) (h : Graph) (r : ℕ) → text ≡ take index text ++ line (codes "table") ++ drop (index + 6) text → IsCanonical (take index text) h
+    → r < length h.roles → role_name h r ≡ n → HasGraph text n h r (drop (index + 6) text)
+graph_read text index n h r e is there named =
     record {
       is_graph = is.is_graph;
       two_roles = is.two_roles;
       has_node = is.has_node;
       there = there;
       named = named;
-      spelled = e ∙ ap (λ front. front ++ line (codes "table") ++ drop (place + 6) text) (sym is.spelled);
+      spelled = e ∙ ap (λ prefix. prefix ++ line (codes "table") ++ drop (index + 6) text) (sym is.spelled);
     }
 
 -- a compiled program, of its own graph and role
@@ -117,10 +117,10 @@ pub whole_of : (v : ℕ) (n : Name) (more : List ℕ) (result : Result Program L
 whole_of v n more (Ok p) k = k.whole
 whole_of v n more (Err e) k = k
 
--- the front of the text
-pub front_of : (bs : List ℕ) (v : ℕ) (n : Name) (rest more ls : List ℕ) (g : Graph) (r : ℕ) → HasStart bs v rest → HasRole rest n more → HasGraph more n g r ls → v ≡ version g
-    → HasFront bs g r ls
-front_of bs v n rest more ls g r start role has w =
+-- the prefix of the text
+pub prefix_of : (bs : List ℕ) (v : ℕ) (n : Name) (rest more ls : List ℕ) (g : Graph) (r : ℕ) → HasStart bs v rest → HasRole rest n more → HasGraph more n g r ls → v ≡ version g
+    → HasPrefix bs g r ls
+prefix_of bs v n rest more ls g r start role has w =
     let a : List ℕ = line (start_line (version g)) in
     let b : List ℕ = line (role_line g r) in
     record {
@@ -140,8 +140,8 @@ fault_of bs v n rest more start role (Err (Faults.Malformed at)) (inl (e, none))
     let P : ℕ → Type 0 = IsMalformed bs in subst P (sym e) (NoGraph start role none)
 fault_of bs v n rest more start role (Err (Faults.Malformed at)) (inr (e, (g, r, ls, has, other))) =
     let P : ℕ → Type 0 = IsMalformed bs in subst P (sym e) (OtherStart start role has other)
-fault_of bs v n rest more start role (Err (Faults.Graph g f)) (r, ls, has, w, refused, memory) = (r, ls, front_of bs v n rest more ls g r start role has w, refused, memory)
-fault_of bs v n rest more start role (Err (Faults.NotTheTable k)) (p, ls, has, w, c, other, first) = (p, ls, front_of bs v n rest more ls p.graph p.role start role has w, c, other, first)
+fault_of bs v n rest more start role (Err (Faults.Graph g f)) (r, ls, has, w, refused, memory) = (r, ls, prefix_of bs v n rest more ls g r start role has w, refused, memory)
+fault_of bs v n rest more start role (Err (Faults.NotTheTable k)) (p, ls, has, w, c, other, first) = (p, ls, prefix_of bs v n rest more ls p.graph p.role start role has w, c, other, first)
 fault_of bs v n rest more start role (Err Faults.OutOfMemory) k = record { version = v; name = n; rest = rest; more = more; start = start; role = role; table = k }
 
 -- what follows the first two lines

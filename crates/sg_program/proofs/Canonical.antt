@@ -12,7 +12,7 @@ use Rattle.sg_program.proofs.Tabled.{behind, table_on}
 
 -- the search for the line goes past these bytes
 abbrev pub Skipped : List ℕ → Type 0
-Skipped front = (rest : List ℕ) → at_table true (front ++ rest) ≡ behind front (at_table true rest)
+Skipped prefix = (rest : List ℕ) → at_table true (prefix ++ rest) ≡ behind prefix (at_table true rest)
 
 behind_append : (a b : List ℕ) (o : Option (List ℕ × List ℕ)) → behind a (behind b o) ≡ behind (a ++ b) o
 behind_append a b None = refl

@@ -9,7 +9,7 @@ pub mod Lines
 pub mod Once
 pub mod OneTable
 pub mod Only
-pub mod Places
+pub mod Indices
 pub mod Reading
 pub mod SameKey
 pub mod Tabled

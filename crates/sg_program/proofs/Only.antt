@@ -61,7 +61,7 @@ stands_in x xs i =
 -- a list of different elements that all stand in another is no longer
 no_longer : {X : Type 0} (xs ys : List X) → AllPairs (λ a b. a ≢ b) xs → ((v : X) → Contains xs v → Contains ys v) → length xs ≤ length ys
 no_longer [] ys differ each = omega arith
-no_longer {X} (x ∷ xs) ys differ each = pigeonhole (length (x ∷ xs)) (length ys) place (λ i l. (found i).1) one
+no_longer {X} (x ∷ xs) ys differ each = pigeonhole (length (x ∷ xs)) (length ys) index (λ i l. (found i).1) one
   where
     at : ℕ → X
     at i = get_or (x ∷ xs) i x
@@ -69,13 +69,13 @@ no_longer {X} (x ∷ xs) ys differ each = pigeonhole (length (x ∷ xs)) (length
     found : (i : ℕ) → Contains ys (at i)
     found i = each (at i) (stands_in x xs i)
 
-    place : ℕ → ℕ
-    place i = (found i).0
+    index : ℕ → ℕ
+    index i = (found i).0
 
-    there : (i : ℕ) → get_or ys (place i) x ≡ at i
-    there i = same_at ys (place i) x (at i) (found i).1 ∙ (found i).2
+    there : (i : ℕ) → get_or ys (index i) x ≡ at i
+    there i = same_at ys (index i) x (at i) (found i).1 ∙ (found i).2
 
-    one : (i j : ℕ) → i < length (x ∷ xs) → j < length (x ∷ xs) → place i ≡ place j → i ≡ j
+    one : (i j : ℕ) → i < length (x ∷ xs) → j < length (x ∷ xs) → index i ≡ index j → i ≡ j
     one i j l m e =
         let same : at i ≡ at j = sym (there i) ∙ ap (λ k. get_or ys k x) e ∙ there j in
         elim (cases_order i j) [
@@ -116,7 +116,7 @@ accepted_reads g a (BadRead e x walk) (none, own, least, bad) =
     absurd (true≢false (sym known ∙ ap (λ w. knows g (sender (shape g) e) x w) (sym split.1) ∙ bad.unknown))
 
 accepted_blinding : (g : Graph) → Accepted g → (f : BlindFault) → IsBlindFault (shape g) f → ⊥
-accepted_blinding g a BlindMemory (place, one, (less, blinds)) = a.sighted place.node place.a place.b blinds
+accepted_blinding g a BlindMemory (index, one, (less, blinds)) = a.sighted index.node index.a index.b blinds
 accepted_blinding g a (Blinds node one two walk_a walk_b) h = a.sighted node one two blinds
   where
     blinds : Blinding (shape g) node one two

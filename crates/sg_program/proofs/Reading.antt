@@ -17,13 +17,13 @@ use Rattle.sg_program.specs.Text.{line}
 -- ---- beginnings
 
 -- a text that begins with another is that and the rest
-pub begins_yes : (front xs : List ℕ) → bytes_eq front (take (length front) xs) ≡ true → xs ≡ front ++ drop (length front) xs
-begins_yes front xs h =
-    sym (take-append-drop (length front) xs) ∙ ap (λ ys. ys ++ drop (length front) xs) (sym ((bytes_eq-Decides front (take (length front) xs)).0 h))
+pub begins_yes : (prefix xs : List ℕ) → bytes_eq prefix (take (length prefix) xs) ≡ true → xs ≡ prefix ++ drop (length prefix) xs
+begins_yes prefix xs h =
+    sym (take-append-drop (length prefix) xs) ∙ ap (λ ys. ys ++ drop (length prefix) xs) (sym ((bytes_eq-Decides prefix (take (length prefix) xs)).0 h))
 
 -- what stands in front of two equal texts goes
-pub front_goes : (front xs ys : List ℕ) → front ++ xs ≡ front ++ ys → xs ≡ ys
-front_goes front xs ys e = sym (drop-append_seam front xs) ∙ ap (drop (length front)) e ∙ drop-append_seam front ys
+pub prefix_goes : (prefix xs ys : List ℕ) → prefix ++ xs ≡ prefix ++ ys → xs ≡ ys
+prefix_goes prefix xs ys e = sym (drop-append_seam prefix xs) ∙ ap (drop (length prefix)) e ∙ drop-append_seam prefix ys
 
 -- ---- lines
 
@@ -131,7 +131,7 @@ none_free (x ∷ xs) h = by (x == 10) refl (none_free xs)
 -- a text whose line has no end has no line of a role
 pub no_role : (text : List ℕ) → text ≡ codes "role " ++ drop 5 text → find (λ c. c == 10) (drop 5 text) ≡ None → (n : Name) (rest : List ℕ) → HasRole text n rest → ⊥
 no_role text e none n rest h =
-    let whole : drop 5 text ≡ n ++ 10 ∷ rest = front_goes (codes "role ") (drop 5 text) (n ++ 10 ∷ rest) (sym e ∙ h.spelled ∙ seam n rest) in
+    let whole : drop 5 text ≡ n ++ 10 ∷ rest = prefix_goes (codes "role ") (drop 5 text) (n ++ 10 ∷ rest) (sym e ∙ h.spelled ∙ seam n rest) in
     no_end (drop 5 text) n rest (none_free (drop 5 text) none) whole
   where
     seam : (n rest : List ℕ) → line (codes "role " ++ n) ++ rest ≡ codes "role " ++ (n ++ 10 ∷ rest)
@@ -143,7 +143,7 @@ pub role_read : (text word : List ℕ) (end : ℕ) (o : Option Name) → text �
     → MatchOption o ((n : Name) (rest : List ℕ) → HasRole text n rest → ⊥) (λ n. HasRole text n (drop (6 + length n) text))
 role_read text word end None e at found value =
     λ n rest h.
-    let whole : word ≡ n ++ 10 ∷ rest = front_goes (codes "role ") word (n ++ 10 ∷ rest) (sym e ∙ h.spelled ∙ seam n rest) in
+    let whole : word ≡ n ++ 10 ∷ rest = prefix_goes (codes "role ") word (n ++ 10 ∷ rest) (sym e ∙ h.spelled ∙ seam n rest) in
     let (free, split) = line_at word end at in
     let same : take end word ≡ n = (line_unique (take end word) n (drop (end + 1) word) rest free (name_free n h.named) (sym split ∙ whole)).0 in
     true≢false (sym (found.1 (subst (λ m. IsTrue (is_name m)) (sym same) h.named)))
@@ -153,13 +153,13 @@ role_read text word end None e at found value =
 role_read text word end (Some m) e at found value =
     let (free, split) = line_at word end at in
     let rest : List ℕ = drop (end + 1) word in
-    let front : List ℕ = line (codes "role " ++ m) in
-    let spelled : text ≡ front ++ rest = e ∙ ap (λ w. codes "role " ++ w) (split ∙ ap (λ w. w ++ 10 ∷ rest) (sym value)) ∙ sym (seam m rest) in
-    let size : length front ≡ 6 + length m = sized m in
-    let left : drop (6 + length m) text ≡ rest = ap (λ k. drop k text) (sym size) ∙ ap (drop (length front)) spelled ∙ drop-append_seam front rest in
+    let prefix : List ℕ = line (codes "role " ++ m) in
+    let spelled : text ≡ prefix ++ rest = e ∙ ap (λ w. codes "role " ++ w) (split ∙ ap (λ w. w ++ 10 ∷ rest) (sym value)) ∙ sym (seam m rest) in
+    let size : length prefix ≡ 6 + length m = sized m in
+    let left : drop (6 + length m) text ≡ rest = ap (λ k. drop k text) (sym size) ∙ ap (drop (length prefix)) spelled ∙ drop-append_seam prefix rest in
     record {
       named = subst (λ n. IsTrue (is_name n)) (sym value) (found.0 refl);
-      spelled = spelled ∙ ap (λ r. front ++ r) (sym left);
+      spelled = spelled ∙ ap (λ r. prefix ++ r) (sym left);
     }
   where
     seam : (n rest : List ℕ) → line (codes "role " ++ n) ++ rest ≡ codes "role " ++ (n ++ 10 ∷ rest)

@@ -50,12 +50,12 @@ in_roles : (g : Graph) (r : ℕ) → r < length g.roles → In (roles_of g (leng
 in_roles g r l = in_pairs g (below (length g.roles)) r (subst (In (below (length g.roles))) (zero-add r) (in_range 0 (length g.roles) r l))
 
 -- a role of one of the graphs
-in_parts : (graphs : List Graph) (place : ℕ) (g : Graph) (r : ℕ) → slice_get graphs place ≡ Some g → r < length g.roles → In (parts graphs) (g, r)
-in_parts [] place g r e l = absurd (cc)
+in_parts : (graphs : List Graph) (index : ℕ) (g : Graph) (r : ℕ) → slice_get graphs index ≡ Some g → r < length g.roles → In (parts graphs) (g, r)
+in_parts [] index g r e l = absurd (cc)
 in_parts (h ∷ hs) zero g r e l =
     let same : h ≡ g = cc in
     in_left (roles_of h (length h.roles)) (parts hs) (g, r) (subst (λ (k : Graph). In (roles_of k (length k.roles)) (g, r)) (sym same) (in_roles g r l))
-in_parts (h ∷ hs) (suc place) g r e l = in_right (roles_of h (length h.roles)) (parts hs) (g, r) (in_parts hs place g r e l)
+in_parts (h ∷ hs) (suc index) g r e l = in_right (roles_of h (length h.roles)) (parts hs) (g, r) (in_parts hs index g r e l)
 
 -- the program of a role that programs have
 of_pair : (programs : List Program) (g : Graph) (r : ℕ) → In (pairs_of programs) (g, r) → (p : Program) × In programs p × (p.graph ≡ g) × (p.role ≡ r)
@@ -72,8 +72,8 @@ none_stopped before g f s programs whole there =
     s.memory (not_refused g s.role p has f s.refused)
 
 pub all_or_refused : AllCompiledIsNotRefused
-all_or_refused graphs programs place f compiled whole (g, at, s) =
-    none_stopped (parts (take place graphs)) g f s programs whole (subst (λ ts. In ts (g, s.role)) (sym compiled.all) (in_parts graphs place g s.role at s.there))
+all_or_refused graphs programs index f compiled whole (g, at, s) =
+    none_stopped (parts (take index graphs)) g f s programs whole (subst (λ ts. In ts (g, s.role)) (sym compiled.all) (in_parts graphs index g s.role at s.there))
 
 -- ---- one refusal
 
@@ -90,8 +90,8 @@ none_before graphs i j f k l (g, at, s) (h, there, t) =
     (subst (λ ts. In ts (g, s.role)) (sym t.earlier) (in_left (parts (take j graphs)) (roles_of h t.role) (g, s.role) early))
 
 -- the first graph that is refused stands at one place
-pub one_place : (graphs : List Graph) (i j : ℕ) (f k : CompileFault) → IsAllFault graphs (Refused i f) → IsAllFault graphs (Refused j k) → i ≡ j
-one_place graphs i j f k a b = elim (cases_lt i j) [
+pub one_index : (graphs : List Graph) (i j : ℕ) (f k : CompileFault) → IsAllFault graphs (Refused i f) → IsAllFault graphs (Refused j k) → i ≡ j
+one_index graphs i j f k a b = elim (cases_lt i j) [
   | inl l ↦ absurd (none_before graphs i j f k l a b)
   | inr m ↦ elim (cases_lt j i) [
     | inl l ↦ absurd (none_before graphs j i k f l b a)

@@ -8,7 +8,7 @@ use Rattle.sg_program.proofs.Reading.{begins_yes}
 
 -- what at_table finds behind some bytes, with these in front
 abbrev pub behind : List ℕ → Option (List ℕ × List ℕ) → Option (List ℕ × List ℕ)
-behind front o = option_map (λ (s : List ℕ × List ℕ). (front ++ s.0, s.1)) o
+behind prefix o = option_map (λ (s : List ℕ × List ℕ). (prefix ++ s.0, s.1)) o
 
 -- the line stands here
 pub table_here : (xs : List ℕ) → bytes_eq (line (codes "table")) (take 6 xs) ≡ true → at_table true xs ≡ Some ([], drop 6 xs)
@@ -20,9 +20,9 @@ pub table_on : (begins : Bool) (x : ℕ) (xs : List ℕ) → (begins && bytes_eq
     → at_table begins (x ∷ xs) ≡ behind (x ∷ []) (at_table (x == 10) xs)
 table_on begins x xs h = rw h refl
 
-behind_more : (front : List ℕ) (x : ℕ) (o : Option (List ℕ × List ℕ)) → behind front (behind (x ∷ []) o) ≡ behind (front ++ x ∷ []) o
-behind_more front x None = refl
-behind_more front x (Some s) = λ i. Some (sym (append_assoc front (x ∷ []) s.0) i, s.1)
+behind_more : (prefix : List ℕ) (x : ℕ) (o : Option (List ℕ × List ℕ)) → behind prefix (behind (x ∷ []) o) ≡ behind (prefix ++ x ∷ []) o
+behind_more prefix x None = refl
+behind_more prefix x (Some s) = λ i. Some (sym (append_assoc prefix (x ∷ []) s.0) i, s.1)
 
 -- one byte on
 pub table_more : (xs : List ℕ) (i : ℕ) (begins : Bool) → i < length xs → (begins && bytes_eq (line (codes "table")) (take 6 (drop i xs))) ≡ false
@@ -31,7 +31,7 @@ pub table_more : (xs : List ℕ) (i : ℕ) (begins : Bool) → i < length xs →
 table_more xs i begins l miss before =
     let here = drop_more xs i 0 l in
     before ∙ ap (behind (take i xs)) (ap (at_table begins) here ∙ table_on begins (get_or xs i 0) (drop (i + 1) xs) (rw here at miss))
-    ∙ behind_more (take i xs) (get_or xs i 0) _ ∙ ap (λ front. behind front (at_table (get_or xs i 0 == 10) (drop (i + 1) xs))) (sym (take_more xs i 0 l))
+    ∙ behind_more (take i xs) (get_or xs i 0) _ ∙ ap (λ prefix. behind prefix (at_table (get_or xs i 0 == 10) (drop (i + 1) xs))) (sym (take_more xs i 0 l))
 
 -- found
 pub table_found : (xs : List ℕ) (i : ℕ) (begins : Bool) → begins ≡ true → bytes_eq (line (codes "table")) (take 6 (drop i xs)) ≡ true

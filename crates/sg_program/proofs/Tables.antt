@@ -11,7 +11,7 @@ use Rattle.sg_model.proofs.Small.{bytes_eq-swap, eqb-swap}
 use Rattle.sg_program.specs.declared.programs.ProgramKey.{ProgramKey}
 use Rattle.sg_program.specs.Together.{is_key, is_pair}
 use Rattle.sg_base.proofs.SameName.{same, same_is, same-bytes_eq}
-use Rattle.sg_program.proofs.Places.{first_put, first_kept}
+use Rattle.sg_program.proofs.Indices.{first_put, first_kept}
 
 none_from : (o : Option ℕ) → is_some o ≡ false → o ≡ None
 none_from None h = refl
@@ -28,20 +28,20 @@ on_ok (Err e) P h ok = absurd (true≢false (sym ok))
 
 -- ---- names
 
--- a place for a name that has none
-pub name_put : (name : List ℕ) (place : ℕ) (old new : List (List ℕ × ℕ)) → is_some (lookup (same name) old) ≡ false
-    → ((n : List ℕ) → lookup (same n) new ≡ cond (same name n) (Some place) (lookup (same n) old))
-    → (n : List ℕ) → lookup (bytes_eq n) new ≡ option_or (lookup (bytes_eq n) old) (if bytes_eq n name then Some place else None)
-name_put name place old new gone update n =
-    first_put (same name n) (bytes_eq n name) (lookup (bytes_eq n) old) (lookup (bytes_eq n) new) place (same-bytes_eq name n ∙ bytes_eq-swap name n)
+-- an index for a name that has none
+pub name_put : (name : List ℕ) (index : ℕ) (old new : List (List ℕ × ℕ)) → is_some (lookup (same name) old) ≡ false
+    → ((n : List ℕ) → lookup (same n) new ≡ cond (same name n) (Some index) (lookup (same n) old))
+    → (n : List ℕ) → lookup (bytes_eq n) new ≡ option_or (lookup (bytes_eq n) old) (if bytes_eq n name then Some index else None)
+name_put name index old new gone update n =
+    first_put (same name n) (bytes_eq n name) (lookup (bytes_eq n) old) (lookup (bytes_eq n) new) index (same-bytes_eq name n ∙ bytes_eq-swap name n)
     (rw (← same_is n) (update n))
     (λ e. (λ i. lookup (bytes_eq ((bytes_eq-Decides n name).0 e i)) old) ∙ rw (← same_is name) (none_from _ gone))
 
--- a name that has a place keeps it
-pub name_kept : (name : List ℕ) (place : ℕ) (old : List (List ℕ × ℕ)) → is_some (lookup (same name) old) ≡ true
-    → (n : List ℕ) → lookup (bytes_eq n) old ≡ option_or (lookup (bytes_eq n) old) (if bytes_eq n name then Some place else None)
-name_kept name place old there n =
-    first_kept (bytes_eq n name) (lookup (bytes_eq n) old) place
+-- a name that has an index keeps it
+pub name_kept : (name : List ℕ) (index : ℕ) (old : List (List ℕ × ℕ)) → is_some (lookup (same name) old) ≡ true
+    → (n : List ℕ) → lookup (bytes_eq n) old ≡ option_or (lookup (bytes_eq n) old) (if bytes_eq n name then Some index else None)
+name_kept name index old there n =
+    first_kept (bytes_eq n name) (lookup (bytes_eq n) old) index
     (λ e none. not_none (lookup (same name) old) there (ap (λ test. lookup test old) (same_is name) ∙ sym (λ i. lookup (bytes_eq ((bytes_eq-Decides n name).0 e i)) old) ∙ none))
 
 -- ---- keys
@@ -54,12 +54,12 @@ key_same d r key e =
     let parts = and_parts _ _ e in
     λ i. is_key ((bytes_eq-Decides d key.digest).0 parts.0 i) ((Decides-eqb r key.role).0 parts.1 i)
 
--- a place for a key that has none
-pub key_put : (key : ProgramKey) (place : ℕ) (old new : List (ProgramKey × ℕ)) → is_some (lookup (is_key key.digest key.role) old) ≡ false
-    → ((k : ProgramKey) → lookup (is_key k.digest k.role) new ≡ cond (is_key key.digest key.role k) (Some place) (lookup (is_key k.digest k.role) old))
-    → (d : List ℕ) (r : ℕ) → lookup (is_key d r) new ≡ option_or (lookup (is_key d r) old) (if is_key d r key then Some place else None)
-key_put key place old new gone update d r =
-    first_put (is_key key.digest key.role (record { digest = d; role = r })) (is_key d r key) (lookup (is_key d r) old) (lookup (is_key d r) new) place (key_swap d r key)
+-- an index for a key that has none
+pub key_put : (key : ProgramKey) (index : ℕ) (old new : List (ProgramKey × ℕ)) → is_some (lookup (is_key key.digest key.role) old) ≡ false
+    → ((k : ProgramKey) → lookup (is_key k.digest k.role) new ≡ cond (is_key key.digest key.role k) (Some index) (lookup (is_key k.digest k.role) old))
+    → (d : List ℕ) (r : ℕ) → lookup (is_key d r) new ≡ option_or (lookup (is_key d r) old) (if is_key d r key then Some index else None)
+key_put key index old new gone update d r =
+    first_put (is_key key.digest key.role (record { digest = d; role = r })) (is_key d r key) (lookup (is_key d r) old) (lookup (is_key d r) new) index (key_swap d r key)
     (update (record { digest = d; role = r }))
     (λ e. ap (λ test. lookup test old) (key_same d r key e) ∙ none_from _ gone)
 

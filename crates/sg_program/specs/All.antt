@@ -28,17 +28,17 @@ pub record IsStopped (before : List (Graph × ℕ)) (g : Graph) (fault : Compile
   pub refused : IsRefused g role fault
   pub memory : fault ≢ CompileMemory
 
--- the fault of the first graph and its first role that isn't compiled, with the graph's place
+-- the fault of the first graph and its first role that isn't compiled, with the graph's index
 abbrev pub IsAllFault : List Graph → AllFault → Type 0
-IsAllFault graphs (Refused place fault) = (g : Graph) × (slice_get graphs place ≡ Some g) × IsStopped (parts (take place graphs)) g fault
+IsAllFault graphs (Refused index fault) = (g : Graph) × (slice_get graphs index ≡ Some g) × IsStopped (parts (take index graphs)) g fault
 IsAllFault graphs OutOfMemory = ⊤
 
--- the fault of a graph at its place, after earlier programs
+-- the fault of a graph at its index, after earlier programs
 abbrev pub IsGraphFault : List Program → ℕ → Graph → AllFault → Type 0
-IsGraphFault before place g (Refused at fault) = (at ≡ place) × IsStopped (pairs_of before) g fault
-IsGraphFault before place g OutOfMemory = ⊤
+IsGraphFault before index g (Refused at fault) = (at ≡ index) × IsStopped (pairs_of before) g fault
+IsGraphFault before index g OutOfMemory = ⊤
 
--- the fault of the graph at this place, with `OutOfMemory` outside
+-- the fault of the graph at this index, with `OutOfMemory` outside
 abbrev pub all_fault : ℕ → CompileFault → AllFault
-all_fault place CompileMemory = OutOfMemory
-all_fault place f = Refused place f
+all_fault index CompileMemory = OutOfMemory
+all_fault index f = Refused index f

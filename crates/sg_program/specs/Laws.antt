@@ -20,8 +20,8 @@ CompiledIsNotRefused = (g : Graph) (r : ℕ) (p : Program) (f : CompileFault) �
 
 -- Of graphs that have programs for all their roles none is refused
 abbrev pub AllCompiledIsNotRefused : Type 0
-AllCompiledIsNotRefused = (graphs : List Graph) (programs : List Program) (place : ℕ) (f : CompileFault)
-    → AreCompiled real graphs programs → All IsWhole programs → IsAllFault graphs (Refused place f) → ⊥
+AllCompiledIsNotRefused = (graphs : List Graph) (programs : List Program) (index : ℕ) (f : CompileFault)
+    → AreCompiled real graphs programs → All IsWhole programs → IsAllFault graphs (Refused index f) → ⊥
 
 -- Two programs have two texts
 abbrev pub TextsDiffer : Type 0

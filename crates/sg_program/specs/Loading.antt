@@ -4,7 +4,7 @@ use Rattle.std.specs.List.{common_prefix_len}
 use Rattle.sg_protocol.specs.Graph.{Graph, IsGraph, Name, is_name, canonical, role_name}
 use Rattle.sg_protocol.specs.Keyring.{Program}
 use Rattle.sg_program.specs.Compiled.{IsCompiled, IsRefused, IsWhole}
-use Rattle.sg_program.specs.Text.{line, start_line, version, front, table_text}
+use Rattle.sg_program.specs.Text.{line, start_line, version, prefix, table_text}
 use Rattle.sg_program.specs.declared.check.CompileFault.TheVariants.{OutOfMemory as CompileMemory}
 use Rattle.sg_program.specs.declared.load.LoadFault.{LoadFault}
 use Rattle.sg_program.specs.declared.load.LoadFault.TheVariants as Faults
@@ -37,13 +37,13 @@ pub data IsMalformed (bs : List ℕ) : ℕ → Type 0 where
   OtherStart : {v r : ℕ} {n : Name} {g : Graph} {rest more ls : List ℕ} → HasStart bs v rest → HasRole rest n more → HasGraph more n g r ls
       → v ≢ version g → IsMalformed bs 11
 
--- the front of the text is that of the graph and the role, and these bytes follow
-pub record HasFront (bs : List ℕ) (g : Graph) (r : ℕ) (rest : List ℕ) : Type 0 where
+-- the prefix of the text is that of the graph and the role, and these bytes follow
+pub record HasPrefix (bs : List ℕ) (g : Graph) (r : ℕ) (rest : List ℕ) : Type 0 where
   pub is_graph : IsGraph g
   pub two_roles : 2 ≤ length g.roles
   pub has_node : 1 ≤ length g.nodes
   pub there : r < length g.roles
-  pub spelled : bs ≡ front g r ++ rest
+  pub spelled : bs ≡ prefix g r ++ rest
 
 -- the number of the first line that differs, counted from 1: one more than the line ends that both begin with
 abbrev pub first_wrong : List ℕ → List ℕ → ℕ
@@ -69,8 +69,8 @@ pub record NeedsMemory (bs : List ℕ) : Type 0 where
 -- the bytes are no program's text for this cause, and none before it holds; or memory ran out where it is needed
 abbrev pub IsLoadFault : List ℕ → LoadFault → Type 0
 IsLoadFault bs (Faults.Malformed at) = IsMalformed bs at
-IsLoadFault bs (Faults.Graph g f) = (r : ℕ) × (rest : List ℕ) × HasFront bs g r rest × IsRefused g r f × (f ≢ CompileMemory)
-IsLoadFault bs (Faults.NotTheTable n) = (p : Program) × (rest : List ℕ) × HasFront bs p.graph p.role rest × IsCompiled p.graph p.role p
+IsLoadFault bs (Faults.Graph g f) = (r : ℕ) × (rest : List ℕ) × HasPrefix bs g r rest × IsRefused g r f × (f ≢ CompileMemory)
+IsLoadFault bs (Faults.NotTheTable n) = (p : Program) × (rest : List ℕ) × HasPrefix bs p.graph p.role rest × IsCompiled p.graph p.role p
     × (rest ≢ table_text p) × (n ≡ first_wrong (table_text p) rest)
 IsLoadFault bs Faults.OutOfMemory = NeedsMemory bs
 

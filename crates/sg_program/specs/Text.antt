@@ -61,9 +61,9 @@ abbrev pub table_text : Program → List ℕ
 table_text p = flat_map line (table_lines p)
 
 -- the text before the lines of the table: the version, the role and the graph
-abbrev pub front : Graph → ℕ → List ℕ
-front g r = line (start_line (version g)) ++ line (role_line g r) ++ canonical g ++ line (codes "table")
+abbrev pub prefix : Graph → ℕ → List ℕ
+prefix g r = line (start_line (version g)) ++ line (role_line g r) ++ canonical g ++ line (codes "table")
 
 -- the text of a program
 abbrev pub program_text : Program → List ℕ
-program_text p = front p.graph p.role ++ table_text p
+program_text p = prefix p.graph p.role ++ table_text p

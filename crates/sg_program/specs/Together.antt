@@ -31,7 +31,7 @@ clashes p q = is_named p.graph.name q && ((p.role == q.role) || not (bytes_eq p.
 abbrev pub part_of : Program → Name × ℕ
 part_of p = (p.graph.name, p.role)
 
--- the programs, with a place for each name and for each digest and role: that of the first such program
+-- the programs, with an index for each name and for each digest and role: that of the first such program
 pub record HoldsPrograms (s : Inside) : Type 0 where
   pub names : (n : Name) → lookup (bytes_eq n) s.names.entries ≡ position (is_named n) s.list.items
   pub parts : s.parts.keys ≡ map part_of s.list.items

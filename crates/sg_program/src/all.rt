@@ -18,10 +18,10 @@ use thiserror::Error;
 /// Why graphs aren't compiled.
 #[derive(Debug, Drop, Error)]
 pub enum AllFault {
-    /// The first graph that isn't compiled for one of its roles, by its place from 0, and the fault of its first such role. The fault
+    /// The first graph that isn't compiled for one of its roles, by its index from 0, and the fault of its first such role. The fault
     /// isn't `OutOfMemory`.
-    #[error("graph {place}: {fault}")]
-    Refused { place: u32, fault: CompileFault },
+    #[error("graph {index}: {fault}")]
+    Refused { index: u32, fault: CompileFault },
     /// Out of memory.
     #[error("out of memory")]
     OutOfMemory,
@@ -39,17 +39,17 @@ pub fn compile_all(alloc: Global, graphs: &[Graph]) -> Result<Programs, AllFault
     ensures refused { IfErr result (IsAllFault graphs.now) }
 {
     let mut programs = Programs::new(alloc);
-    for (place, graph) in graphs.iter().enumerate() {
-        add_roles(alloc, &mut programs, place as u32, graph)?;
+    for (index, graph) in graphs.iter().enumerate() {
+        add_roles(alloc, &mut programs, index as u32, graph)?;
     }
     Ok(programs)
 }
 
-// Adds the programs of all roles of a graph, whose place is told where it isn't compiled.
+// Adds the programs of all roles of a graph, whose index is told where it isn't compiled.
 fn add_roles(
     alloc: Global,
     programs: &mut Programs,
-    place: u32,
+    index: u32,
     graph: &Graph,
 ) -> Result<(), AllFault>
     requires two { 2 ≤ length graph.now.roles }
@@ -57,10 +57,10 @@ fn add_roles(
     requires new { All (λ q. q.graph.name ≢ graph.now.name) programs.old }
     ensures each { OnOk result (All IsWhole programs.new) }
     ensures added { OnOk result (pairs_of programs.new ≡ pairs_of programs.old ++ roles_of graph.now (length graph.now.roles)) }
-    ensures refused { IfErr result (IsGraphFault programs.old place graph.now) }
+    ensures refused { IfErr result (IsGraphFault programs.old index graph.now) }
 {
     if let Err(fault) = check_graph(alloc, graph) {
-        return Err(fault_at(place, fault));
+        return Err(fault_at(index, fault));
     }
     for number in 0..graph.roles() {
         match compile_accepted(alloc, graph, Role(number)) {
@@ -68,18 +68,18 @@ fn add_roles(
                 Ok(()) => {}
                 Err(_) => return Err(AllFault::OutOfMemory),
             },
-            Err(fault) => return Err(fault_at(place, fault)),
+            Err(fault) => return Err(fault_at(index, fault)),
         }
     }
     Ok(())
 }
 
-// A fault of the graph at its place.
-fn fault_at(place: u32, fault: CompileFault) -> AllFault
-    ensures { result ≡ all_fault place fault }
+// A fault of the graph at its index.
+fn fault_at(index: u32, fault: CompileFault) -> AllFault
+    ensures { result ≡ all_fault index fault }
 {
     match fault {
         CompileFault::OutOfMemory => AllFault::OutOfMemory,
-        fault => AllFault::Refused { place, fault },
+        fault => AllFault::Refused { index, fault },
     }
 }

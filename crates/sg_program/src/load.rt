@@ -64,17 +64,17 @@ fn load_graph(alloc: Global, start: u8, name: &Name, text: &[u8]) -> Result<Prog
     ensures fault { IfErr result (IsFaultBehind start name.now text.now) }
 {
     let at = 19 + name.as_bytes().len() as u32;
-    let Some(place) = table_at(text) else {
+    let Some(index) = table_at(text) else {
         return Err(LoadFault::Malformed { at });
     };
-    let (front, _) = text.split_at(place);
-    let Some(graph) = read_canonical(alloc, front)? else {
+    let (prefix, _) = text.split_at(index);
+    let Some(graph) = read_canonical(alloc, prefix)? else {
         return Err(LoadFault::Malformed { at });
     };
     let Some(role) = graph.find_role(name) else {
         return Err(LoadFault::Malformed { at });
     };
-    let (_, table) = text.split_at(place + 6);
+    let (_, table) = text.split_at(index + 6);
     load_table(alloc, start, graph, role, table)
 }
 
@@ -107,7 +107,7 @@ fn role_of(text: &[u8]) -> Option<Name>
 
 // The offset of the first line end.
 fn line_end(text: &[u8]) -> Option<usize>
-    ensures place { result ≡ position (λ c. c == 10) text.now }
+    ensures index { result ≡ position (λ c. c == 10) text.now }
     ensures within { IfSome result (λ i. i < length text.now) }
 {
     text.iter().position(|byte| *byte == b'\n')

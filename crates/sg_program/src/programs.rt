@@ -118,16 +118,16 @@ impl Programs {
         {
             return Err(program);
         }
-        let place = self.list.len();
+        let index = self.list.len();
         let name = program.graph().name();
         let role = program.role();
         let key = ProgramKey {
             digest: *program.digest(),
             role,
         };
-        put_name(&mut self.names, name, place);
+        put_name(&mut self.names, name, index);
         put_part(&mut self.parts, name, role);
-        put_key(&mut self.digests, key, place);
+        put_key(&mut self.digests, key, index);
         put_last(&mut self.list, program);
         Ok(())
     }
@@ -161,7 +161,7 @@ impl Programs {
             role,
         };
         match self.digests.get(&key) {
-            Some(place) => Some(&self.list[*place]),
+            Some(index) => Some(&self.list[*index]),
             None => None,
         }
     }
@@ -171,7 +171,7 @@ impl Programs {
         ensures { option_copied result ≡ find (is_named graph.now) self.now }
     {
         match self.names.get(graph) {
-            Some(place) => Some(&self.list[*place]),
+            Some(index) => Some(&self.list[*index]),
             None => None,
         }
     }
@@ -196,24 +196,24 @@ fn reserve_one(
     digests.reserve(1)
 }
 
-// Keeps the place of a name, where it has none.
-fn put_name(names: &mut IndexMap<Name, usize>, name: Name, place: usize)
+// Keeps the index of a name, where it has none.
+fn put_name(names: &mut IndexMap<Name, usize>, name: Name, index: usize)
     requires { 0 < spare names.old }
-    ensures { (n : List ℕ) → lookup (bytes_eq n) names.new.entries ≡ option_or (lookup (bytes_eq n) names.old.entries) (if bytes_eq n name then Some place else None) }
+    ensures { (n : List ℕ) → lookup (bytes_eq n) names.new.entries ≡ option_or (lookup (bytes_eq n) names.old.entries) (if bytes_eq n name then Some index else None) }
 {
     if !names.contains_key(&name) {
-        names.insert(name, place).unwrap();
+        names.insert(name, index).unwrap();
     }
 }
 
-// Keeps the place of a key, where it has none.
-fn put_key(digests: &mut IndexMap<ProgramKey, usize>, key: ProgramKey, place: usize)
+// Keeps the index of a key, where it has none.
+fn put_key(digests: &mut IndexMap<ProgramKey, usize>, key: ProgramKey, index: usize)
     requires { 0 < spare digests.old }
     ensures { (d : List ℕ) (r : ℕ) → let test = is_key d r in
-        lookup test digests.new.entries ≡ option_or (lookup test digests.old.entries) (if test key then Some place else None) }
+        lookup test digests.new.entries ≡ option_or (lookup test digests.old.entries) (if test key then Some index else None) }
 {
     if !digests.contains_key(&key) {
-        digests.insert(key, place).unwrap();
+        digests.insert(key, index).unwrap();
     }
 }
 

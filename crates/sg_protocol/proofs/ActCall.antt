@@ -17,7 +17,7 @@ use Rattle.sg_protocol.specs.Spelling.{HasSpelling, body}
 use Rattle.sg_protocol.specs.Texts.{Hash, IsHash, commitment, commitment_text_of}
 use Rattle.sg_protocol.specs.TextLaws.{IsVersion, OpeningFits}
 use Rattle.sg_protocol.specs.Keyring.{Program, targets_of}
-use Rattle.sg_protocol.specs.Session.{Session, Gave, principal, told, own, time, place, at_turn, commitments, extended}
+use Rattle.sg_protocol.specs.Session.{Session, Gave, principal, transcript, own_part, time, place, at_turn, commitments, extended}
 use Rattle.sg_protocol.specs.Sending.{text_of, text_to, frame_sent, own_item}
 use Rattle.sg_protocol.specs.Calls.{ActFault, Event, Sent, Act, Answer, Sends, NotActed}
 use Rattle.sg_protocol.specs.Verdict.{rows}
@@ -45,9 +45,9 @@ use Rattle.sg_protocol.specs.Walk as Walk'
 use Rattle.sg_protocol.proofs.Isolation.{of_sid, replace-other, still-own, still-other}
 use Rattle.sg_protocol.proofs.KnownSession.{SessionOfCast}
 use Rattle.sg_protocol.proofs.Acts as C
-use Rattle.sg_protocol.proofs.Finding.{one_place, find_passes, find_all}
-use Rattle.sg_protocol.proofs.Calls.{told_in, sent_in, quiet_event, NodeOk, Out}
-use Rattle.sg_protocol.proofs.AfterCalls.{still_lengths, replace_lengths, event_other, kept_writes, told_step, goes_now, goes_status, other_status, nothing, the_session}
+use Rattle.sg_protocol.proofs.Finding.{one_index, find_passes, find_all}
+use Rattle.sg_protocol.proofs.Calls.{transcript_in, sent_in, quiet_event, NodeOk, Out}
+use Rattle.sg_protocol.proofs.AfterCalls.{still_lengths, replace_lengths, event_other, kept_writes, transcript_step, goes_now, goes_status, other_status, nothing, the_session}
 
 none_some : (t : Turn) → None ≡ Some t → ⊥
 none_some t e = absurd (cc)
@@ -96,15 +96,15 @@ module _ {sha : Hash} {programs : List Program} {sid : List ℕ} {cast : Cast} {
         frame = λ v f' spelled' same e. absurd (differs (sym fs ∙ frame_sid f.version v f f' (ap length fs ∙ l) (ap length same ∙ long) (sym (note_text n.keys.me (principal x.cast f.receiver) (text_of f)) ∙ e) ∙ same));
       }
 
-      item_note : (i : Item) (t : ℕ) → NoteOk g sid st.log (note_of n.keys.me (principal x.cast t) (text_to p.graph x (told x) i t))
+      item_note : (i : Item) (t : ℕ) → NoteOk g sid st.log (note_of n.keys.me (principal x.cast t) (text_to p.graph x (transcript x) i t))
       item_note i t = record {
-        item = λ v from to label' time' held fits e. absurd (differs (item_sid x.cast.version v x.sid sid i.role from t to i.label label' i.time time' (commitments p.graph (told x ++ i ∷ [])) held l long (sym (note_text n.keys.me (principal x.cast t) (text_to p.graph x (told x) i t)) ∙ e)));
-        frame = λ v f' spelled' same e. absurd (kinds_differ.item_frame x.cast.version x.sid i.role t i.label i.time (commitments p.graph (told x ++ i ∷ [])) v (body f') (sym (note_text n.keys.me (principal x.cast t) (text_to p.graph x (told x) i t)) ∙ e));
+        item = λ v from to label' time' held fits e. absurd (differs (item_sid x.cast.version v x.sid sid i.role from t to i.label label' i.time time' (commitments p.graph (transcript x ++ i ∷ [])) held l long (sym (note_text n.keys.me (principal x.cast t) (text_to p.graph x (transcript x) i t)) ∙ e)));
+        frame = λ v f' spelled' same e. absurd (kinds_differ.item_frame x.cast.version x.sid i.role t i.label i.time (commitments p.graph (transcript x ++ i ∷ [])) v (body f') (sym (note_text n.keys.me (principal x.cast t) (text_to p.graph x (transcript x) i t)) ∙ e));
       }
 
-      items_of_frame : (o : Option Item) → In (option_map_or (λ (i : Item). map (λ t. note_of n.keys.me (principal x.cast t) (text_to p.graph x (told x) i t)) (targets_of p i.label)) o []) nt → NoteOk g sid st.log nt
+      items_of_frame : (o : Option Item) → In (option_map_or (λ (i : Item). map (λ t. note_of n.keys.me (principal x.cast t) (text_to p.graph x (transcript x) i t)) (targets_of p i.label)) o []) nt → NoteOk g sid st.log nt
       items_of_frame None j = absurd j
-      items_of_frame (Some i) j = let r = C.of_map (λ t. note_of n.keys.me (principal x.cast t) (text_to p.graph x (told x) i t)) (targets_of p i.label) nt j in subst (NoteOk g sid st.log) (sym r.1) (item_note i r.0)
+      items_of_frame (Some i) j = let r = C.of_map (λ t. note_of n.keys.me (principal x.cast t) (text_to p.graph x (transcript x) i t)) (targets_of p i.label) nt j in subst (NoteOk g sid st.log) (sym r.1) (item_note i r.0)
 
   module _ (sid0 : List ℕ) (label : ℕ) (values : Map Value) (F : ℕ × Value → List ℕ) (small : AllByRecursion (λ k. k < 256) (keys_of values)) (opens : AllByRecursion OpeningFits (openings_for values (map F values))) where
     abbrev os : List Opening
@@ -185,8 +185,8 @@ module _ {sha : Hash} {programs : List Program} {sid : List ℕ} {cast : Cast} {
             made = C.entry_made sha hash s sid cast n.keys p x label values F st who is' acc' m' hon version long small rs;
           }
 
-      act_told : (gi : Item) → last f.items ≡ Some gi → x.sid ≡ sid → told_in sid x.role (Act sid0 label values (map F values)) its_answer ≡ gi ∷ []
-      act_told gi e q = rw ((bytes_eq-Decides x.sid sid).1 q, eq-eqb x.role x.role refl, e) refl
+      act_transcript : (gi : Item) → last f.items ≡ Some gi → x.sid ≡ sid → transcript_in sid x.role (Act sid0 label values (map F values)) its_answer ≡ gi ∷ []
+      act_transcript gi e q = rw ((bytes_eq-Decides x.sid sid).1 q, eq-eqb x.role x.role refl, e) refl
 
       act_sent : (gi : Item) → last f.items ≡ Some gi → x.sid ≡ sid → sent_in sid its_answer ≡ gi ∷ []
       act_sent gi e q = rw ((bytes_eq-Decides x.sid sid).1 q, e) refl
@@ -217,10 +217,10 @@ module _ {sha : Hash} {programs : List Program} {sid : List ℕ} {cast : Cast} {
             used = used_all;
             made = gv.notes_ok;
             log = λ mk i. in_left st.log (V.made_by commit st x.role label os ∷ []) mk i;
-            told = λ r e l. subst (λ k. ((moved commit st (Writes x.role label os)).told k ≡ st.told k ++ entries (told_in sid k (Act sid0 label values (map F values)) its_answer)) × Roles (shape g) (told_in sid k (Act sid0 label values (map F values)) its_answer))
-                (one_place cast.names x.role r differ m.inside l (m.is_who ∙ sym e))
-                (rw (act_told gv.gi gv.its_last m.same_sid) (told_step known s LeftBy st (moved commit st (Writes x.role label os)) who x (Gave gv.gi os) m gv.matches));
-            sent = rw (act_sent gv.gi gv.its_last m.same_sid) (ap (λ z. st.machine.sent ++ V.step_of z ∷ []) (sym gv.made), (told_step known s LeftBy st (moved commit st (Writes x.role label os)) who x (Gave gv.gi os) m gv.matches).1);
+            transcript = λ r e l. subst (λ k. ((moved commit st (Writes x.role label os)).transcript k ≡ st.transcript k ++ entries (transcript_in sid k (Act sid0 label values (map F values)) its_answer)) × Roles (shape g) (transcript_in sid k (Act sid0 label values (map F values)) its_answer))
+                (one_index cast.names x.role r differ m.inside l (m.is_who ∙ sym e))
+                (rw (act_transcript gv.gi gv.its_last m.same_sid) (transcript_step known s LeftBy st (moved commit st (Writes x.role label os)) who x (Gave gv.gi os) m gv.matches));
+            sent = rw (act_sent gv.gi gv.its_last m.same_sid) (ap (λ z. st.machine.sent ++ V.step_of z ∷ []) (sym gv.made), (transcript_step known s LeftBy st (moved commit st (Writes x.role label os)) who x (Gave gv.gi os) m gv.matches).1);
             took = λ f t. (let e = t.is_call in absurd (cc));
             views = λ f t. (let e = t.is_call in absurd (cc));
             life = inr (inr (inr (inr record {
@@ -252,7 +252,7 @@ module _ {sha : Hash} {programs : List Program} {sid : List ℕ} {cast : Cast} {
         where
           no_turn_now : principal cast x.role ≡ who → x.role < length cast.names → (y : Session) → Matches g sid cast (moved commit st (Writes x.role label os)) who y → (at_turn g y ≡ true) ⊎ (at_turn g y ≡ false) → at_turn g y ≡ false
           no_turn_now who_x in_x y m' (inr b) = b
-          no_turn_now who_x in_x y m' (inl a) = absurd (no_turn_law y.role (m'.turns a) (one_place cast.names y.role x.role differ m'.inside in_x (m'.is_who ∙ sym who_x)))
+          no_turn_now who_x in_x y m' (inl a) = absurd (no_turn_law y.role (m'.turns a) (one_index cast.names y.role x.role differ m'.inside in_x (m'.is_who ∙ sym who_x)))
             where
               no_turn_law : (r : ℕ) → ((moved commit st (Writes x.role label os)).machine.at r).turn ≡ Some (record { node = place g y; time = time y }) → r ≡ x.role → ⊥
               no_turn_law r e q = none_some (record { node = place g y; time = time y }) (rw (eq-eqb r x.role q) at e)

@@ -19,7 +19,7 @@ use Rattle.sg_protocol.specs.Spelling.{HasSpelling, body}
 use Rattle.sg_protocol.specs.Texts.{Hash, IsHash, commitment, commitment_text_of}
 use Rattle.sg_protocol.specs.TextLaws.{IsVersion, ItemFits, untagged, SameItem}
 use Rattle.sg_protocol.specs.Keyring.{Keyring, Program, targets_of}
-use Rattle.sg_protocol.specs.Session.{Session, Gave, principal, items_of, told, own, time, place, at_turn, committed, commitments, extended}
+use Rattle.sg_protocol.specs.Session.{Session, Gave, principal, items_of, transcript, own_part, time, place, at_turn, committed, commitments, extended}
 use Rattle.sg_protocol.specs.Sending.{text_of, text_to, own_item, frame_sent, item_of, entry_of, shown_to}
 use Rattle.sg_protocol.specs.Verdict.{row}
 use Rattle.sg_protocol.specs.Notes.{Note, note_of, notes_of_sent}
@@ -29,7 +29,7 @@ use Rattle.sg_law.specs.Last as B
 use Rattle.sg_law.specs.Run.{RisesFrom, Turn}
 use Rattle.sg_law.specs.Run as R
 use Rattle.sg_law.specs.Values as V
-use Rattle.sg_law.specs.Values.{State, Made, told_with_item, com_of, Move, Commit, moved, MayTake, Tagged, Framed, Opened, own_of, is_variable, put}
+use Rattle.sg_law.specs.Values.{State, SentItem, transcript_with_item, com_of, Move, Commit, moved, MayTake, Tagged, Framed, Opened, own_part_of, is_variable, put}
 use Rattle.sg_law.specs.Values.Move.{Writes, Takes}
 use Rattle.sg_law.proofs.Lists.{eqb_same}
 use Rattle.sg_law.proofs.Upto.{In}
@@ -144,14 +144,14 @@ module _ (sha : Hash) (hash : IsHash sha) (s : Schedule) (sid : List ℕ) (cast 
   oi_role : oi.role ≡ sender (shape g) oi.label
   oi_role = sym by_x
 
-  all_roles : Roles (shape g) (told x ++ oi ∷ [])
-  all_roles = roles-append (shape g) (told x) (oi ∷ []) m.roles (oi_role, tt)
+  all_roles : Roles (shape g) (transcript x ++ oi ∷ [])
+  all_roles = roles-append (shape g) (transcript x) (oi ∷ []) m.roles (oi_role, tt)
 
   -- the item before was not the role's own
-  other_last : IfSome (last (after_last (by (shape g)) to (entries (told x)))) (λ (i : B.Entry TimedLabel Code). has (by (shape g)) (sender (shape g) i.step.label) (entry oi ∷ []) ≡ false)
-  other_last = go (after_last (by (shape g)) to (entries (told x))) refl
+  other_last : IfSome (last (after_last (by (shape g)) to (entries (transcript x)))) (λ (i : B.Entry TimedLabel Code). has (by (shape g)) (sender (shape g) i.step.label) (entry oi ∷ []) ≡ false)
+  other_last = go (after_last (by (shape g)) to (entries (transcript x))) refl
     where
-      one : (o : Option Item) → last (told x) ≡ o → IfSome o (λ (i : Item). i.label < length g.edges) → IfSome (option_map entry o) (λ (i : B.Entry TimedLabel Code). has (by (shape g)) (sender (shape g) i.step.label) (entry oi ∷ []) ≡ false)
+      one : (o : Option Item) → last (transcript x) ≡ o → IfSome o (λ (i : Item). i.label < length g.edges) → IfSome (option_map entry o) (λ (i : B.Entry TimedLabel Code). has (by (shape g)) (sender (shape g) i.step.label) (entry oi ∷ []) ≡ false)
       one None e h = tt
       one (Some i) e h =
           let at : place g x ≡ target (shape g) i.label = ap (λ o. unwrap_or (option_map (target (shape g)) (option_map (λ (i : Item). i.label) o)) 0) e in
@@ -159,10 +159,10 @@ module _ (sha : Hash) (hash : IsHash sha) (s : Schedule) (sid : List ℕ) (cast 
           let ne : (sender (shape g) label == sender (shape g) i.label) ≡ false = ne_eqb (sender (shape g) label) (sender (shape g) i.label) (λ q. acc.no_self_edge i.label h (sym q ∙ by_x ∙ sym mine)) in
           rw ne refl
 
-      go : (ys : List (B.Entry TimedLabel Code)) → after_last (by (shape g)) to (entries (told x)) ≡ ys → IfSome (last (after_last (by (shape g)) to (entries (told x)))) (λ (i : B.Entry TimedLabel Code). has (by (shape g)) (sender (shape g) i.step.label) (entry oi ∷ []) ≡ false)
+      go : (ys : List (B.Entry TimedLabel Code)) → after_last (by (shape g)) to (entries (transcript x)) ≡ ys → IfSome (last (after_last (by (shape g)) to (entries (transcript x)))) (λ (i : B.Entry TimedLabel Code). has (by (shape g)) (sender (shape g) i.step.label) (entry oi ∷ []) ≡ false)
       go [] e = subst (λ l. IfSome (last l) (λ (i : B.Entry TimedLabel Code). has (by (shape g)) (sender (shape g) i.step.label) (entry oi ∷ []) ≡ false)) (sym e) tt
       go (y ∷ ys) e = subst (λ o. IfSome o (λ (i : B.Entry TimedLabel Code). has (by (shape g)) (sender (shape g) i.step.label) (entry oi ∷ []) ≡ false))
-          (sym (last-option_map entry (told x)) ∙ last-after (by (shape g)) to (entries (told x)) y ys e ∙ ap last (sym e)) (one (last (told x)) refl m.last_edge)
+          (sym (last-option_map entry (transcript x)) ∙ last-after (by (shape g)) to (entries (transcript x)) y ys e ∙ ap last (sym e)) (one (last (transcript x)) refl m.last_edge)
 
   rising_delta : in_order (length g.variables) oi.delta ≡ oi.delta
   rising_delta =
@@ -170,23 +170,23 @@ module _ (sha : Hash) (hash : IsHash sha) (s : Schedule) (sid : List ℕ) (cast 
       in_order-all (length g.variables) oi.delta (ap (rises_from 0) same ∙ writes_rise g is label) (subst (AllByRecursion (λ z. z < length g.variables)) (sym same) (writes_below g is label))
 
   abbrev es : List (A.Entry Item (List ℕ))
-  es = evidence_for (λ (i : Item). i.role) to (map entry_of (told x ++ oi ∷ []))
+  es = evidence_for (λ (i : Item). i.role) to (map entry_of (transcript x ++ oi ∷ []))
 
   abbrev X : List (B.Entry TimedLabel Code)
-  X = after_last (by (shape g)) to (entries (told x))
+  X = after_last (by (shape g)) to (entries (transcript x))
 
   -- what the frame ends with
   pub gave : (i : Item) × (last f.items ≡ Some i) × (entry i ≡ entry oi) × (i.role ≡ x.role)
   gave = from (last es) refl
     where
       cut : (T : List (B.Entry TimedLabel Code)) × (B.evidence (sender_of (shape g)) (X ++ entry oi ∷ []) ≡ T ++ entry oi ∷ []) × (option_map label_of (last T) ≡ option_map label_of (last X))
-      cut = cut_evidence (sender_of (shape g)) (after_last (by (shape g)) to (entries (told x))) (entry oi ∷ []) other_last
+      cut = cut_evidence (sender_of (shape g)) (after_last (by (shape g)) to (entries (transcript x))) (entry oi ∷ []) other_last
 
       whole_is : map as_entry es ≡ cut.0 ++ entry oi ∷ []
       whole_is =
-          evidence_for-ents (shape g) to (told x ++ oi ∷ []) all_roles
-          ∙ ap (λ l. B.evidence (sender_of (shape g)) (after_last (by (shape g)) to l)) (map-append entry (told x) (oi ∷ []))
-          ∙ ap (B.evidence (sender_of (shape g))) (after-more (by (shape g)) to (entries (told x)) (entry oi ∷ []) (rw (ne_eqb (sender (shape g) label) to (λ q. apart (sym q ∙ by_x))) refl))
+          evidence_for-ents (shape g) to (transcript x ++ oi ∷ []) all_roles
+          ∙ ap (λ l. B.evidence (sender_of (shape g)) (after_last (by (shape g)) to l)) (map-append entry (transcript x) (oi ∷ []))
+          ∙ ap (B.evidence (sender_of (shape g))) (after-more (by (shape g)) to (entries (transcript x)) (entry oi ∷ []) (rw (ne_eqb (sender (shape g) label) to (λ q. apart (sym q ∙ by_x))) refl))
           ∙ cut.1
 
       from : (o : Option (A.Entry Item (List ℕ))) → last es ≡ o → (i : Item) × (last f.items ≡ Some i) × (entry i ≡ entry oi) × (i.role ≡ x.role)
@@ -196,7 +196,7 @@ module _ (sha : Hash) (hash : IsHash sha) (s : Schedule) (sid : List ℕ) (cast 
           let b : as_entry e0 ≡ entry oi = cc in
           let t = last_tags (map (item_of g) es) (item_of g e0) (last-option_map (item_of g) es ∙ ap (option_map (item_of g)) e) in
           let ent : entry (item_of g e0) ≡ entry oi = ap (λ (z : B.Entry TimedLabel Code). record { step = z.step; writes = in_order (length g.variables) z.writes }) b ∙ ap (λ d. record { step = record { label = oi.label; time = oi.time }; writes = d }) rising_delta in
-          let role : e0.step.role ≡ x.role = evidence_for-role (shape g) to (told x ++ oi ∷ []) e0 all_roles e ∙ ap (λ (z : B.Entry TimedLabel Code). sender (shape g) z.step.label) b ∙ by_x in
+          let role : e0.step.role ≡ x.role = evidence_for-role (shape g) to (transcript x ++ oi ∷ []) e0 all_roles e ∙ ap (λ (z : B.Entry TimedLabel Code). sender (shape g) z.step.label) b ∙ by_x in
           (t.0, t.1, t.2 ∙ ent, t.3 ∙ role)
 
   abbrev pub gi : Item
@@ -211,25 +211,25 @@ module _ (sha : Hash) (hash : IsHash sha) (s : Schedule) (sid : List ℕ) (cast 
   abbrev pub law_later : State
   law_later = moved commit st (Writes x.role label os)
 
-  told_later : told later ≡ told x ++ gi ∷ []
-  told_later = flat_map-append items_of x.exchanges (Gave gi os ∷ [])
+  transcript_later : transcript later ≡ transcript x ++ gi ∷ []
+  transcript_later = flat_map-append items_of x.exchanges (Gave gi os ∷ [])
 
   pub entry_made : entry gi ≡ V.item_for commit st x.role label os
   entry_made = gave.2 ∙ ap (λ t. record { step = record { label = label; time = t + 1 }; writes = map (λ (o : Opening). (o.variable, commitment sha x.sid o)) os }) (sym (ap R.turn_time (m.turns rows.turn)))
       ∙ ap (λ z. record { step = record { label = label; time = R.turn_time (st.machine.at x.role).turn + 1 }; writes = map (λ (o : Opening). (o.variable, commitment sha z o)) os }) m.same_sid
 
-  whole_made : told_with_item (V.made_by commit st x.role label os) ≡ entries (told x ++ gi ∷ [])
-  whole_made = ap (λ l. l ++ V.item_for commit st x.role label os ∷ []) m.is_told ∙ ap (λ z. entries (told x) ++ z ∷ []) (sym entry_made) ∙ sym (map-append entry (told x) (gi ∷ []))
+  whole_made : transcript_with_item (V.made_by commit st x.role label os) ≡ entries (transcript x ++ gi ∷ [])
+  whole_made = ap (λ l. l ++ V.item_for commit st x.role label os ∷ []) m.is_transcript ∙ ap (λ z. entries (transcript x) ++ z ∷ []) (sym entry_made) ∙ sym (map-append entry (transcript x) (gi ∷ []))
 
   label_gi : gi.label ≡ label
   label_gi = ap (λ (z : B.Entry TimedLabel Code). z.step.label) gave.2
 
   place_later : place g later ≡ target (shape g) label
-  place_later = ap (λ l. unwrap_or (option_map (target (shape g)) (option_map (λ (i : Item). i.label) (last l))) 0) told_later
-      ∙ ap (λ o. unwrap_or (option_map (target (shape g)) (option_map (λ (i : Item). i.label) o)) 0) (last-append (told x) gi []) ∙ ap (target (shape g)) label_gi
+  place_later = ap (λ l. unwrap_or (option_map (target (shape g)) (option_map (λ (i : Item). i.label) (last l))) 0) transcript_later
+      ∙ ap (λ o. unwrap_or (option_map (target (shape g)) (option_map (λ (i : Item). i.label) o)) 0) (last-append (transcript x) gi []) ∙ ap (target (shape g)) label_gi
 
-  own_later : own later ≡ told x ++ gi ∷ []
-  own_later = ap (up_to_last (λ (i : Item). i.role) x.role) told_later ∙ upto-at (λ (i : Item). i.role) x.role (told x) gi [] gave.3 refl
+  own_part_later : own_part later ≡ transcript x ++ gi ∷ []
+  own_part_later = ap (up_to_last (λ (i : Item). i.role) x.role) transcript_later ∙ upto-at (λ (i : Item). i.role) x.role (transcript x) gi [] gave.3 refl
 
   pub given : Matches g sid cast law_later who later
   given = record {
@@ -237,13 +237,13 @@ module _ (sha : Hash) (hash : IsHash sha) (s : Schedule) (sid : List ℕ) (cast 
     same_cast = m.same_cast;
     is_who = m.is_who;
     inside = m.inside;
-    is_told = rw (eqb_same x.role) (whole_made ∙ ap entries (sym told_later));
-    is_own = rw (eqb_same x.role) (ap (λ (z : B.Entry TimedLabel Code). Some (V.step_of z)) (sym entry_made) ∙ sym (ap (λ l. option_map step (last l)) own_later ∙ ap (option_map step) (last-append (told x) gi [])));
+    is_transcript = rw (eqb_same x.role) (whole_made ∙ ap entries (sym transcript_later));
+    is_own = rw (eqb_same x.role) (ap (λ (z : B.Entry TimedLabel Code). Some (V.step_of z)) (sym entry_made) ∙ sym (ap (λ l. option_map step (last l)) own_part_later ∙ ap (option_map step) (last-append (transcript x) gi [])));
     turns = λ e. absurd (apart (ap (role_at (shape g)) (sym place_later) ∙ eqb-true (role_at (shape g) (place g later)) x.role e));
     waits = λ e. rw (eqb_same x.role) refl;
-    roles = subst (Roles (shape g)) (sym told_later) (roles-append (shape g) (told x) (gi ∷ []) m.roles (gave.3 ∙ sym by_x ∙ ap (sender (shape g)) (sym label_gi), tt));
-    fits = subst FitItems (sym told_later) (fit-append (told x) (gi ∷ []) m.fits (gi_fits, tt));
-    last_edge = subst (λ l. IfSome (last l) (λ (i : Item). i.label < length g.edges)) (sym told_later) (subst (λ o. IfSome o (λ (i : Item). i.label < length g.edges)) (sym (last-append (told x) gi [])) (subst (λ z. z < length g.edges) (sym label_gi) in_edges));
+    roles = subst (Roles (shape g)) (sym transcript_later) (roles-append (shape g) (transcript x) (gi ∷ []) m.roles (gave.3 ∙ sym by_x ∙ ap (sender (shape g)) (sym label_gi), tt));
+    fits = subst FitItems (sym transcript_later) (fit-append (transcript x) (gi ∷ []) m.fits (gi_fits, tt));
+    last_edge = subst (λ l. IfSome (last l) (λ (i : Item). i.label < length g.edges)) (sym transcript_later) (subst (λ o. IfSome o (λ (i : Item). i.label < length g.edges)) (sym (last-append (transcript x) gi [])) (subst (λ z. z < length g.edges) (sym label_gi) in_edges));
   }
     where
       gi_fits : FitItem gi
@@ -251,42 +251,42 @@ module _ (sha : Hash) (hash : IsHash sha) (s : Schedule) (sid : List ℕ) (cast 
 
   -- ---- what was noted
 
-  abbrev log_later : List Made
+  abbrev log_later : List SentItem
   log_later = st.log ++ V.made_by commit st x.role label os ∷ []
 
   there_now : Contains log_later (V.made_by commit st x.role label os)
   there_now = contains_from_in log_later (V.made_by commit st x.role label os) (in_last st.log (V.made_by commit st x.role label os))
 
-  held_now : commitments g (told x ++ gi ∷ []) ≡ map (λ y. com_of (told_with_item (V.made_by commit st x.role label os)) y) (below (length g.variables))
-  held_now = map_same (λ y. committed y (told x ++ gi ∷ [])) (λ y. com_of (told_with_item (V.made_by commit st x.role label os)) y) (below (length g.variables)) (λ y. sym (entries-com (told x ++ gi ∷ []) y) ∙ ap (λ l. com_of l y) (sym whole_made))
+  held_now : commitments g (transcript x ++ gi ∷ []) ≡ map (λ y. com_of (transcript_with_item (V.made_by commit st x.role label os)) y) (below (length g.variables))
+  held_now = map_same (λ y. committed y (transcript x ++ gi ∷ [])) (λ y. com_of (transcript_with_item (V.made_by commit st x.role label os)) y) (below (length g.variables)) (λ y. sym (entries-com (transcript x ++ gi ∷ []) y) ∙ ap (λ l. com_of l y) (sym whole_made))
 
-  fits_now : FitItems (told x ++ gi ∷ [])
-  fits_now = subst FitItems told_later given.fits
+  fits_now : FitItems (transcript x ++ gi ∷ [])
+  fits_now = subst FitItems transcript_later given.fits
 
   version_x : IsVersion x.cast.version
   version_x = subst (λ (c : Cast). IsVersion c.version) (sym m.same_cast) version
 
-  item_fits : ItemFits x.cast.version x.sid gi.label gi.time (commitments g (told x ++ gi ∷ []))
+  item_fits : ItemFits x.cast.version x.sid gi.label gi.time (commitments g (transcript x ++ gi ∷ []))
   item_fits = record {
     version = version_x;
     sid = ap length m.same_sid ∙ long;
     label = (let a = label_gi in let b = in_edges in let c = is.sizes.3 in omega arith);
     time = (let a : gi.time ≡ time x + 1 = ap (λ (z : B.Entry TimedLabel Code). z.step.time) gave.2 in let b : time x < 1000000 = le_false 1000000 (time x) rows.time in omega arith);
-    held = are_held g (told x ++ gi ∷ []) fits_now;
+    held = are_held g (transcript x ++ gi ∷ []) fits_now;
   }
 
-  item_ok : (a b : Name) (t : ℕ) → NoteOk g sid log_later (note_of a b (text_to g x (told x) gi t))
+  item_ok : (a b : Name) (t : ℕ) → NoteOk g sid log_later (note_of a b (text_to g x (transcript x) gi t))
   item_ok a b t = record {
     item = λ v from to' label' time' held fits e.
-        let same : SameItem x.cast.version v x.sid sid gi.role from t to' gi.label label' gi.time time' (commitments g (told x ++ gi ∷ [])) held =
-        one_item x.cast.version v x.sid sid gi.role from t to' gi.label label' gi.time time' (commitments g (told x ++ gi ∷ [])) held item_fits fits (sym (note_text a b (text_to g x (told x) gi t)) ∙ e) in
+        let same : SameItem x.cast.version v x.sid sid gi.role from t to' gi.label label' gi.time time' (commitments g (transcript x ++ gi ∷ [])) held =
+        one_item x.cast.version v x.sid sid gi.role from t to' gi.label label' gi.time time' (commitments g (transcript x ++ gi ∷ [])) held item_fits fits (sym (note_text a b (text_to g x (transcript x) gi t)) ∙ e) in
         record {
           made = V.made_by commit st x.role label os;
           there = there_now;
           same = ap V.step_of (sym entry_made) ∙ ap (λ l. record { label = l; time = gi.time }) same.label ∙ ap (λ k. record { label = label'; time = k }) same.time;
           is_held = sym same.held ∙ held_now;
         };
-    frame = λ v f' spelled same e. absurd (kinds_differ.item_frame x.cast.version x.sid gi.role t gi.label gi.time (commitments g (told x ++ gi ∷ [])) v (body f') (sym (note_text a b (text_to g x (told x) gi t)) ∙ e));
+    frame = λ v f' spelled same e. absurd (kinds_differ.item_frame x.cast.version x.sid gi.role t gi.label gi.time (commitments g (transcript x ++ gi ∷ [])) v (body f') (sym (note_text a b (text_to g x (transcript x) gi t)) ∙ e));
   }
 
   frame_ok : HasSpelling f → (a b : Name) → NoteOk g sid log_later (note_of a b (text_of f))
@@ -294,15 +294,15 @@ module _ (sha : Hash) (hash : IsHash sha) (s : Schedule) (sid : List ℕ) (cast 
     item = λ v from to' label' time' held fits e. absurd (kinds_differ.item_frame v sid from to' label' time' held f.version (body f) (sym e ∙ note_text a b (text_of f)));
     frame = λ v f' spelled' same e.
         let u : untagged f' ≡ untagged f = one_frame v f.version f' f spelled' spelled (sym e ∙ note_text a b (text_of f)) in
-        let its : f'.items ≡ shown_to g to (told x ++ oi ∷ []) = ap (λ (z : Frame). z.items) u in
+        let its : f'.items ≡ shown_to g to (transcript x ++ oi ∷ []) = ap (λ (z : Frame). z.items) u in
         let rec : f'.receiver ≡ to = ap (λ (z : Frame). z.receiver) u in
-        let ents : entries (told x ++ oi ∷ []) ≡ told_with_item (V.made_by commit st x.role label os) = map-append entry (told x) (oi ∷ []) ∙ ap (λ z. entries (told x) ++ z ∷ []) (sym gave.2) ∙ sym (map-append entry (told x) (gi ∷ [])) ∙ sym whole_made in
+        let ents : entries (transcript x ++ oi ∷ []) ≡ transcript_with_item (V.made_by commit st x.role label os) = map-append entry (transcript x) (oi ∷ []) ∙ ap (λ z. entries (transcript x) ++ z ∷ []) (sym gave.2) ∙ sym (map-append entry (transcript x) (gi ∷ [])) ∙ sym whole_made in
         record {
           made = V.made_by commit st x.role label os;
           there = there_now;
-          steps = ap (λ l. V.steps_of (entries l)) its ∙ shown-steps g to (told x ++ oi ∷ []) all_roles ∙ ap (λ k. V.steps_of (B.evidence (sender_of (shape g)) (after_last (by (shape g)) k (entries (told x ++ oi ∷ []))))) (sym rec)
+          steps = ap (λ l. V.steps_of (entries l)) its ∙ shown-steps g to (transcript x ++ oi ∷ []) all_roles ∙ ap (λ k. V.steps_of (B.evidence (sender_of (shape g)) (after_last (by (shape g)) k (entries (transcript x ++ oi ∷ []))))) (sym rec)
               ∙ ap (λ l. V.steps_of (B.evidence (sender_of (shape g)) (after_last (by (shape g)) f'.receiver l))) ents;
-          written = λ y h. ap (λ l. com_of (entries l) y) its ∙ shown-com g to (told x ++ oi ∷ []) all_roles y h ∙ ap (λ k. com_of (B.evidence (sender_of (shape g)) (after_last (by (shape g)) k (entries (told x ++ oi ∷ [])))) y) (sym rec)
+          written = λ y h. ap (λ l. com_of (entries l) y) its ∙ shown-com g to (transcript x ++ oi ∷ []) all_roles y h ∙ ap (λ k. com_of (B.evidence (sender_of (shape g)) (after_last (by (shape g)) k (entries (transcript x ++ oi ∷ [])))) y) (sym rec)
               ∙ ap (λ l. com_of (B.evidence (sender_of (shape g)) (after_last (by (shape g)) f'.receiver l)) y) ents;
         };
   }
@@ -313,12 +313,12 @@ module _ (sha : Hash) (hash : IsHash sha) (s : Schedule) (sid : List ℕ) (cast 
     | inr j ↦ elim j [ inl e ↦ subst (NoteOk g sid log_later) (sym e) (frame_ok spelled keys.me (principal x.cast f.receiver)) | inr k ↦ absurd k ]
   ]
     where
-      item_note : (o : Option Item) → o ≡ Some gi → In (option_map_or (λ (i : Item). map (λ t. note_of keys.me (principal x.cast t) (text_to g x (told x) i t)) (targets_of p i.label)) o []) n → NoteOk g sid log_later n
+      item_note : (o : Option Item) → o ≡ Some gi → In (option_map_or (λ (i : Item). map (λ t. note_of keys.me (principal x.cast t) (text_to g x (transcript x) i t)) (targets_of p i.label)) o []) n → NoteOk g sid log_later n
       item_note None e j = absurd j
       item_note (Some i) e j =
           let same : i ≡ gi = cc in
-          let r = of_map (λ t. note_of keys.me (principal x.cast t) (text_to g x (told x) i t)) (targets_of p i.label) n j in
-          subst (NoteOk g sid log_later) (sym (r.1 ∙ ap (λ (z : Item). note_of keys.me (principal x.cast r.0) (text_to g x (told x) z r.0)) same)) (item_ok keys.me (principal x.cast r.0) r.0)
+          let r = of_map (λ t. note_of keys.me (principal x.cast t) (text_to g x (transcript x) i t)) (targets_of p i.label) n j in
+          subst (NoteOk g sid log_later) (sym (r.1 ∙ ap (λ (z : Item). note_of keys.me (principal x.cast r.0) (text_to g x (transcript x) z r.0)) same)) (item_ok keys.me (principal x.cast r.0) r.0)
 
   pub values_typed : list_all (is_typed_or_hidden g) (V.values_of os) ≡ true
   values_typed = ap (list_all (is_typed_or_hidden g)) (opened_values F values) ∙ typed_values g is label values small rows.good

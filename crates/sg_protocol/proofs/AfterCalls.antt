@@ -13,7 +13,7 @@ use Rattle.sg_protocol.specs.Graph.{Graph, shape}
 use Rattle.sg_protocol.specs.Frame.{Cast, Item}
 use Rattle.sg_protocol.specs.Texts.{Hash, commitment}
 use Rattle.sg_protocol.specs.Keyring.{Keyring, Program}
-use Rattle.sg_protocol.specs.Session.{Session, Exchange, principal, items_of, told, own, extended, new_session}
+use Rattle.sg_protocol.specs.Session.{Session, Exchange, principal, items_of, transcript, own_part, extended, new_session}
 use Rattle.sg_protocol.specs.Calls.{Event, Call, Answer, events_of_answer, sid_of}
 use Rattle.sg_protocol.specs.Notes.{Note, Notes}
 use Rattle.sg_protocol.specs.Walk.{acts_of_event}
@@ -33,8 +33,8 @@ use Rattle.sg_protocol.proofs.Paths.{flat_map-append}
 use Rattle.sg_protocol.proofs.Isolation.{of_sid, find-filter, replace-own, still-own, still-other}
 use Rattle.sg_protocol.proofs.KnownSession.{SessionOfCast}
 use Rattle.sg_protocol.proofs.Acts as C
-use Rattle.sg_protocol.proofs.Finding.{one_place, joined_more, joined_now, find_head, find_nil, find_passes}
-use Rattle.sg_protocol.proofs.Calls.{Quiet, quiet_told, quiet_items, quiet_took, Untouched, Fresh, Here, Status, NodeOk, Kept, WasLeft, Out}
+use Rattle.sg_protocol.proofs.Finding.{one_index, joined_more, joined_now, find_head, find_nil, find_passes}
+use Rattle.sg_protocol.proofs.Calls.{Quiet, quiet_transcript, quiet_items, quiet_took, Untouched, Fresh, Here, Status, NodeOk, Kept, WasLeft, Out}
 
 pub still_lengths : (ps : List Program) (x : Session) → length x.sid ≡ 32 → AllByRecursion (λ (x : Session). length x.sid ≡ 32) (still ps x)
 still_lengths ps x l = elim (cases_Bool (is_over ps x)) [ inl e ↦ rw e tt | inr e ↦ rw e (l, tt) ]
@@ -65,17 +65,17 @@ module _ {sha : Hash} {programs : List Program} {sid : List ℕ} {cast : Cast} {
   commit o = commitment sha sid o
 
   pub kept_same : (who : Name) (st : State) → Kept known s LeftBy who st st
-  kept_same who st = record { told = λ h ne. refl; machine = λ h ne. refl }
+  kept_same who st = record { transcript = λ h ne. refl; machine = λ h ne. refl }
 
   pub kept_writes : (who : Name) (st : State) (r e : ℕ) (os : List Opening) → principal cast r ≡ who → Kept known s LeftBy who st (moved commit st (Writes r e os))
   kept_writes who st r e os is = record {
-    told = λ h ne. rw (ne_eqb h r (λ q. ne (ap (principal cast) q ∙ is))) refl;
+    transcript = λ h ne. rw (ne_eqb h r (λ q. ne (ap (principal cast) q ∙ is))) refl;
     machine = λ h ne. rw (ne_eqb h r (λ q. ne (ap (principal cast) q ∙ is))) refl;
   }
 
   pub kept_takes : (who : Name) (st : State) (r k : ℕ) (items : List (B.Entry TimedLabel Code)) (os : List Opening) → principal cast r ≡ who → Kept known s LeftBy who st (moved commit st (Takes r k items os))
   kept_takes who st r k items os is = record {
-    told = λ h ne. rw (ne_eqb h r (λ q. ne (ap (principal cast) q ∙ is))) refl;
+    transcript = λ h ne. rw (ne_eqb h r (λ q. ne (ap (principal cast) q ∙ is))) refl;
     machine = λ h ne. rw (ne_eqb h r (λ q. ne (ap (principal cast) q ∙ is))) refl;
   }
 
@@ -86,14 +86,14 @@ module _ {sha : Hash} {programs : List Program} {sid : List ℕ} {cast : Cast} {
       matches_kept : (x : Session) → Matches g sid cast st me x → Matches g sid cast st' me x
       matches_kept x m =
           let other : principal cast x.role ≡ who → ⊥ = λ q. ne (sym m.is_who ∙ q) in
-          let t : st'.told x.role ≡ st.told x.role = k.told x.role other in
+          let t : st'.transcript x.role ≡ st.transcript x.role = k.transcript x.role other in
           let w : st'.machine.at x.role ≡ st.machine.at x.role = k.machine x.role other in
           record {
             same_sid = m.same_sid;
             same_cast = m.same_cast;
             is_who = m.is_who;
             inside = m.inside;
-            is_told = t ∙ m.is_told;
+            is_transcript = t ∙ m.is_transcript;
             is_own = ap (λ (l : R.Local). l.own) w ∙ m.is_own;
             turns = λ e. ap (λ (l : R.Local). l.turn) w ∙ m.turns e;
             waits = λ e. ap (λ (l : R.Local). l.turn) w ∙ m.waits e;
@@ -103,7 +103,7 @@ module _ {sha : Hash} {programs : List Program} {sid : List ℕ} {cast : Cast} {
           }
 
       go : Status known s LeftBy st me n → Status known s LeftBy st' me n
-      go (inl f) = inl record { alone = f.alone; all = λ h is l. let u = f.all h is l in record { none = k.told h (λ q. ne (sym is ∙ q)) ∙ u.none; start = k.machine h (λ q. ne (sym is ∙ q)) ∙ u.start } }
+      go (inl f) = inl record { alone = f.alone; all = λ h is l. let u = f.all h is l in record { none = k.transcript h (λ q. ne (sym is ∙ q)) ∙ u.none; start = k.machine h (λ q. ne (sym is ∙ q)) ∙ u.start } }
       go (inr (inl h)) = inr (inl record { x = h.x; alone = h.alone; was_joined = h.was_joined; matches = matches_kept h.x h.matches })
       go (inr (inr h)) = inr (inr record { x = h.x; alone = h.alone; was_joined = h.was_joined; matches = matches_kept h.x h.matches; why = h.why })
 
@@ -114,7 +114,7 @@ module _ {sha : Hash} {programs : List Program} {sid : List ℕ} {cast : Cast} {
     same_cast = d;
     is_who = p;
     inside = l;
-    is_told = u.none;
+    is_transcript = u.none;
     is_own = ap (λ (z : R.Local). z.own) u.start;
     turns = λ t. ap (λ (z : R.Local). z.turn) u.start ∙ rw t refl;
     waits = λ t. ap (λ (z : R.Local). z.turn) u.start ∙ rw t refl;
@@ -135,10 +135,10 @@ module _ {sha : Hash} {programs : List Program} {sid : List ℕ} {cast : Cast} {
   roles_right (x ∷ xs) ys h = roles_right xs ys h.1
 
   -- what an exchange adds to what was told
-  pub told_step : (st st' : State) (who : Name) (x : Session) (e : Exchange) → Matches g sid cast st who x → Matches g sid cast st' who (extended x e) → (st'.told x.role ≡ st.told x.role ++ entries (items_of e)) × Roles (shape g) (items_of e)
-  told_step st st' who x e m m' =
-      let more : told (extended x e) ≡ told x ++ items_of e = flat_map-append items_of x.exchanges (e ∷ []) ∙ ap (λ l. told x ++ l) (append-nil (items_of e)) in
-      (m'.is_told ∙ ap entries more ∙ map-append entry (told x) (items_of e) ∙ ap (λ l. l ++ entries (items_of e)) (sym m.is_told), roles_right (told x) (items_of e) (subst (Roles (shape g)) more m'.roles))
+  pub transcript_step : (st st' : State) (who : Name) (x : Session) (e : Exchange) → Matches g sid cast st who x → Matches g sid cast st' who (extended x e) → (st'.transcript x.role ≡ st.transcript x.role ++ entries (items_of e)) × Roles (shape g) (items_of e)
+  transcript_step st st' who x e m m' =
+      let more : transcript (extended x e) ≡ transcript x ++ items_of e = flat_map-append items_of x.exchanges (e ∷ []) ∙ ap (λ l. transcript x ++ l) (append-nil (items_of e)) in
+      (m'.is_transcript ∙ ap entries more ∙ map-append entry (transcript x) (items_of e) ∙ ap (λ l. l ++ entries (items_of e)) (sym m.is_transcript), roles_right (transcript x) (items_of e) (subst (Roles (shape g)) more m'.roles))
 
   is_sid : (x : Session) → x.sid ≡ sid → bytes_eq x.sid sid ≡ true
   is_sid x e = (bytes_eq-Decides x.sid sid).1 e
@@ -182,7 +182,7 @@ module _ {sha : Hash} {programs : List Program} {sid : List ℕ} {cast : Cast} {
     used = tt;
     made = md;
     log = λ mk i. i;
-    told = λ r e l. rw (quiet_told sid r c a q) (sym (append-nil (st.told r)), tt);
+    transcript = λ r e l. rw (quiet_transcript sid r c a q) (sym (append-nil (st.transcript r)), tt);
     sent = rw (quiet_items sid a q) (sym (append-nil st.machine.sent), tt);
     took = λ f t. absurd (quiet_took sid c a f q t);
     views = λ f t. absurd (quiet_took sid c a f q t);
@@ -193,10 +193,10 @@ module _ {sha : Hash} {programs : List Program} {sid : List ℕ} {cast : Cast} {
   pub no_two : (st : State) (who : Name) (n : Node) (r : ℕ) → Status known s LeftBy st who n → principal cast r ≡ who → r < length cast.names → has_joined n.joins sid r ≡ false → Fresh known s LeftBy st who n
   no_two st who n r (inl f) p l j = f
   no_two st who n r (inr (inl h)) p l j =
-      let same : (h.x).role ≡ r = one_place cast.names (h.x).role r differ h.matches.inside l (h.matches.is_who ∙ sym p) in
+      let same : (h.x).role ≡ r = one_index cast.names (h.x).role r differ h.matches.inside l (h.matches.is_who ∙ sym p) in
       absurd (clash (has_joined n.joins sid r) (subst (λ z. has_joined n.joins sid z ≡ true) same h.was_joined) j)
   no_two st who n r (inr (inr h)) p l j =
-      let same : (h.x).role ≡ r = one_place cast.names (h.x).role r differ h.matches.inside l (h.matches.is_who ∙ sym p) in
+      let same : (h.x).role ≡ r = one_index cast.names (h.x).role r differ h.matches.inside l (h.matches.is_who ∙ sym p) in
       absurd (clash (has_joined n.joins sid r) (subst (λ z. has_joined n.joins sid z ≡ true) same h.was_joined) j)
 
   module _ (st : State) (who : Name) (n : Node) (ok : NodeOk known s LeftBy st who n) where

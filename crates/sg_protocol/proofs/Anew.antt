@@ -11,7 +11,7 @@ use Rattle.sg_protocol.specs.Calls.{Call, Answer, Start, Act, Abandon, Deliver, 
 use Rattle.sg_protocol.specs.Node.{Node, session_with, is_for}
 use Rattle.sg_protocol.specs.Acting.{answer}
 use Rattle.sg_protocol.specs.NodeAfter.{node_after, takes_read, joined, goes_on, replace, still}
-use Rattle.sg_protocol.specs.Past.{Called, Past, node_of, new_node, node_after_all, past_after, answers}
+use Rattle.sg_protocol.specs.Past.{AnsweredCall, Past, node_of, new_node, node_after_all, past_after, answers}
 use Rattle.sg_protocol.specs.Restarts.{begun_anew, past_after_all, abandonments, RestartsAbandon}
 use Rattle.sg_protocol.proofs.Course.{node_more}
 use Rattle.sg_protocol.proofs.First.{programs_after}
@@ -33,11 +33,11 @@ keys_after n (Abandon sid) Abandoned = refl
 keys_after n (Deliver bs) (Happened (Received sid r label time values joins)) = read_keys n (read bs)
 keys_after n c other = refl
 
-pub keys_stay : (n : Node) (cs : List Called) → (node_after_all n cs).keys ≡ n.keys
+pub keys_stay : (n : Node) (cs : List AnsweredCall) → (node_after_all n cs).keys ≡ n.keys
 keys_stay n [] = refl
 keys_stay n (c ∷ cs) = keys_stay (node_after n c.call c.answer) cs ∙ keys_after n c.call c.answer
 
-pub programs_stay : (n : Node) (cs : List Called) → (node_after_all n cs).programs ≡ n.programs
+pub programs_stay : (n : Node) (cs : List AnsweredCall) → (node_after_all n cs).programs ≡ n.programs
 programs_stay n [] = refl
 programs_stay n (c ∷ cs) = programs_stay (node_after n c.call c.answer) cs ∙ programs_after n c.call c.answer
 

@@ -27,7 +27,7 @@ use Rattle.sg_protocol.specs.Node.{Node, is_for, is_cast, stranger, session_with
 use Rattle.sg_protocol.specs.NodeAfter.{is_over}
 use Rattle.sg_protocol.specs.Acting.{answer, acted, sent, is_bad, leaves, rows_of_act}
 use Rattle.sg_protocol.specs.Verdict.{row, seen, rows_of_session, rows_of_join, rows_of_next, join_rows, next_rows, rows, receipt, decided, verdict_on}
-use Rattle.sg_protocol.specs.Past.{Past, Called, node_of, new_node, node_after_all}
+use Rattle.sg_protocol.specs.Past.{Past, AnsweredCall, node_of, new_node, node_after_all}
 use Rattle.sg_protocol.specs.Schedule.{Schedule, PairKey, Step, DeliverStep, Whole, is_honest, honest_role, graph_with}
 use Rattle.sg_protocol.specs.World.{World, Logged, Outcome, Answered, Crafted, NoFrame, frames, frame_at, keyring_of, past_of, new_world}
 use Rattle.sg_protocol.specs.Run.{run, world_after, world_after_all, frame_in, called_if, events_of, cast_in, cast_of_session}
@@ -42,7 +42,7 @@ use Rattle.sg_law.proofs.Take.{contains_from_in}
 use Rattle.sg_law.proofs.Lists.{last-append}
 use Rattle.sg_protocol.proofs.Isolation.{of_sid, find-filter}
 use Rattle.sg_protocol.proofs.ReadLaws.{read-spelling}
-use Rattle.sg_protocol.proofs.Finding.{find_passes, find_all, one_place}
+use Rattle.sg_protocol.proofs.Finding.{find_passes, find_all, one_index}
 use Rattle.sg_protocol.proofs.Whole.{FirstCast, found_in, find_some, program_graph, first_past}
 use Rattle.sg_protocol.proofs.Whole as W
 use Rattle.sg_protocol.proofs.First.{first_cast}
@@ -501,7 +501,7 @@ module _ (sha : Hash) (hash : IsHash sha) (programs : List Program) (s : Schedul
     ]
 
     role_of_ : (x : Session) → SessOk known_of_session (run sha programs s).log who x → x.role ≡ f.receiver
-    role_of_ x ok = one_place first.cast.names x.role f.receiver first.differ ok.inside_ r_in (ok.is_who ∙ sym who_is)
+    role_of_ x ok = one_index first.cast.names x.role f.receiver first.differ ok.inside_ r_in (ok.is_who ∙ sym who_is)
 
     program_n : program_for n.programs first.cast.graph f.receiver ≡ Some the_p.0
     program_n = ap (λ ps. program_for ps first.cast.graph f.receiver) n_programs ∙ the_p.1
@@ -565,7 +565,7 @@ module _ (sha : Hash) (hash : IsHash sha) (programs : List Program) (s : Schedul
     keys_of_past : n.keys ≡ past.keys
     keys_of_past = go (new_node past.keys past.programs past.first) past.calls
       where
-        go : (m : Node) (cs : List Called) → (node_after_all m cs).keys ≡ m.keys
+        go : (m : Node) (cs : List AnsweredCall) → (node_after_all m cs).keys ≡ m.keys
         go m [] = refl
         go m (c ∷ cs) = go (NodeAfter'.node_after m c.call c.answer) cs ∙ keys_kept m c.call c.answer
 

@@ -20,11 +20,11 @@ use Rattle.sg_model.specs.Shape.{source, receiver}
 use Rattle.sg_model.proofs.Small.{take_most, length_map}
 use Rattle.sg_protocol.specs.Texts.{Hash, IsHash}
 use Rattle.sg_protocol.specs.Keyring.{Keyring, Program}
-use Rattle.sg_protocol.specs.Session.{Session, told, place, time, at_turn}
+use Rattle.sg_protocol.specs.Session.{Session, transcript, place, time, at_turn}
 use Rattle.sg_protocol.specs.IsSchedule.{IsProgram}
 use Rattle.sg_protocol.specs.Bounds.{ShownOnce, ShownAreFew, FramesAreShort, IsSession, IsShortFrame, SentAreShort}
 use Rattle.sg_protocol.proofs.Entries.{has-after_last}
-use Rattle.sg_protocol.proofs.Sent.{Ent, Dist, sent_spelled, all_told, dist_ev, has-ev, len_left, roles_below, evidence_fit, after_fit, ents_fit, pigeon, len_concat, flat33, flat1046, opening_len, join_len, item_len, flat1527}
+use Rattle.sg_protocol.proofs.Sent.{Ent, Dist, sent_spelled, all_transcript, dist_ev, has-ev, len_left, roles_below, evidence_fit, after_fit, ents_fit, pigeon, len_concat, flat33, flat1046, opening_len, join_len, item_len, flat1527}
 
 -- ---- items
 
@@ -162,7 +162,7 @@ pub sent_is_short : (sha : Hash) → IsHash sha → (p : Program) → IsProgram 
 sent_is_short sha hash p ip keys x fx label os turn edge leaves_place early names opens =
     let sp : HasSpelling (frame_sent sha keys p x label os) = sent_spelled sha hash p ip keys x fx label os turn edge leaves_place early names opens in
     let few : length (frame_sent sha keys p x label os).items ≤ 15 =
-    shown_are_few p.graph x.cast.version (receiver (shape p.graph) label) (told x ++ own_item sha keys p x label os ∷ []) sp.fields.roles.1 (all_told sha hash p ip keys x fx label os turn edge leaves_place early names opens) in
+    shown_are_few p.graph x.cast.version (receiver (shape p.graph) label) (transcript x ++ own_item sha keys p x label os ∷ []) sp.fields.roles.1 (all_transcript sha hash p ip keys x fx label os turn edge leaves_place early names opens) in
     record { spelled = sp; items = few; bytes = frames_are_short (frame_sent sha keys p x label os) sp.fields few }
 
 pub sent_are_short : (sha : Hash) → IsHash sha → SentAreShort sha

@@ -25,7 +25,7 @@ use Rattle.sg_protocol.specs.Schedule.{Schedule, honest_role}
 use Rattle.sg_protocol.specs.World.{Answered}
 use Rattle.sg_protocol.specs.LastSteps.{exchanges_of, sent_item}
 use Rattle.sg_law.specs.Run as R
-use Rattle.sg_law.specs.Values.{State, Made, Move, Commit}
+use Rattle.sg_law.specs.Values.{State, SentItem, Move, Commit}
 use Rattle.sg_law.specs.Values.Move.{Takes}
 use Rattle.sg_law.proofs.Upto.{In}
 use Rattle.sg_protocol.proofs.Entries.{entry, entries, Roles}
@@ -50,8 +50,8 @@ of_quiet false h = refl
 
 module _ (sid : List ℕ) where
   -- the items of the session that role r took or gave in a call
-  abbrev pub told_in : ℕ → Call → Answer → List Item
-  told_in r c a = flat_map items_of (exchanges_of sid r (record { call = c; answer = a } ∷ []))
+  abbrev pub transcript_in : ℕ → Call → Answer → List Item
+  transcript_in r c a = flat_map items_of (exchanges_of sid r (record { call = c; answer = a } ∷ []))
 
   -- the own item that was sent in a call
   abbrev pub sent_in : Answer → List Item
@@ -64,10 +64,10 @@ module _ (sid : List ℕ) where
   pub quiet_event : (e : Event) → bytes_eq (sid_of e) sid ≡ false → (bytes_eq (sid_of e) sid || false) ≡ false
   quiet_event e h = rw h refl
 
-  pub quiet_told : (r : ℕ) (c : Call) (a : Answer) → Quiet a → told_in r c a ≡ []
-  quiet_told r c (Happened e) q = rw (of_quiet (bytes_eq (sid_of e) sid) q) refl
-  quiet_told r c (Sends e to f) q = rw (of_quiet (bytes_eq (sid_of e) sid) q) refl
-  quiet_told r c other q = refl
+  pub quiet_transcript : (r : ℕ) (c : Call) (a : Answer) → Quiet a → transcript_in r c a ≡ []
+  quiet_transcript r c (Happened e) q = rw (of_quiet (bytes_eq (sid_of e) sid) q) refl
+  quiet_transcript r c (Sends e to f) q = rw (of_quiet (bytes_eq (sid_of e) sid) q) refl
+  quiet_transcript r c other q = refl
 
   pub quiet_items : (a : Answer) → Quiet a → sent_in a ≡ []
   quiet_items (Sends e to f) q = rw (of_quiet (bytes_eq (sid_of e) sid) q) refl
@@ -99,7 +99,7 @@ module _ {sha : Hash} {programs : List Program} {sid : List ℕ} {cast : Cast} {
 
   -- the law has nothing of the role yet
   pub record Untouched (st : State) (h : ℕ) : Type 0 where
-    pub none : st.told h ≡ []
+    pub none : st.transcript h ≡ []
     pub start : st.machine.at h ≡ (R.start (shape g)).at h
 
   pub record Fresh (st : State) (who : Name) (n : Node) : Type 0 where
@@ -132,7 +132,7 @@ module _ {sha : Hash} {programs : List Program} {sid : List ℕ} {cast : Cast} {
 
   -- only roles of who have changed
   pub record Kept (who : Name) (st st' : State) : Type 0 where
-    pub told : (h : ℕ) → (principal cast h ≡ who → ⊥) → st'.told h ≡ st.told h
+    pub transcript : (h : ℕ) → (principal cast h ≡ who → ⊥) → st'.transcript h ≡ st.transcript h
     pub machine : (h : ℕ) → (principal cast h ≡ who → ⊥) → st'.machine.at h ≡ st.machine.at h
 
   -- the law's role takes the frame
@@ -224,8 +224,8 @@ module _ {sha : Hash} {programs : List Program} {sid : List ℕ} {cast : Cast} {
     pub typed : AllByRecursion (TypedDeed g honest) (map deed_of moves)
     pub used : AllByRecursion (λ (o : Opening). In nts.hashed (commitment_text_of sid o) × OpeningFits o) (all_openings moves)
     pub made : (nt : Note) → In nts.made nt → NoteOk g sid (moved_all commit st moves).log nt
-    pub log : (mk : Made) → In st.log mk → In (moved_all commit st moves).log mk
-    pub told : (r : ℕ) → principal cast r ≡ who → r < length cast.names → ((moved_all commit st moves).told r ≡ st.told r ++ entries (told_in sid r c a)) × Roles (shape g) (told_in sid r c a)
+    pub log : (mk : SentItem) → In st.log mk → In (moved_all commit st moves).log mk
+    pub transcript : (r : ℕ) → principal cast r ≡ who → r < length cast.names → ((moved_all commit st moves).transcript r ≡ st.transcript r ++ entries (transcript_in sid r c a)) × Roles (shape g) (transcript_in sid r c a)
     pub sent : ((moved_all commit st moves).machine.sent ≡ st.machine.sent ++ map step (sent_in sid a)) × Roles (shape g) (sent_in sid a)
     pub took : (f : Frame) → TookFrame sid c a f → TakesFrame who moves f
     pub views : (f : Frame) → TookFrame sid c a f → IsView g f.receiver (record { origin = option_map (λ (t : TimedLabel). t.label) (st.machine.at f.receiver).own; items = map seen f.items })

@@ -24,28 +24,28 @@ use Rattle.sg_protocol.proofs.Fits.{sessions_follow_walks}
 -- ---- lists
 
 -- an element of two lists in a row stands in the first or in the second
-split_two : {A : Type 0} (xs ys front : List A) (a : A) (rest : List A) → xs ++ ys ≡ front ++ a ∷ rest
-    → ((r : List A) × (xs ≡ front ++ a ∷ r) × (rest ≡ r ++ ys)) ⊎ ((f : List A) × (front ≡ xs ++ f) × (ys ≡ f ++ a ∷ rest))
-split_two [] ys front a rest e = inr (front, refl, e)
+split_two : {A : Type 0} (xs ys prefix : List A) (a : A) (rest : List A) → xs ++ ys ≡ prefix ++ a ∷ rest
+    → ((r : List A) × (xs ≡ prefix ++ a ∷ r) × (rest ≡ r ++ ys)) ⊎ ((f : List A) × (prefix ≡ xs ++ f) × (ys ≡ f ++ a ∷ rest))
+split_two [] ys prefix a rest e = inr (prefix, refl, e)
 split_two (x ∷ xs) ys [] a rest e = inl (let h : x ≡ a = cc in let t : xs ++ ys ≡ rest = cc in (xs, ap (λ z. z ∷ xs) h, sym t))
-split_two (x ∷ xs) ys (f ∷ front) a rest e =
+split_two (x ∷ xs) ys (f ∷ prefix) a rest e =
     let h : x ≡ f = cc in
-    let t : xs ++ ys ≡ front ++ a ∷ rest = cc in
-    elim (split_two xs ys front a rest t) [
+    let t : xs ++ ys ≡ prefix ++ a ∷ rest = cc in
+    elim (split_two xs ys prefix a rest t) [
       | inl r ↦ inl (r.0, ap (λ z. z ∷ xs) h ∙ ap (λ z. f ∷ z) r.1, r.2)
-      | inr r ↦ inr (r.0, ap (λ z. z ∷ front) (sym h) ∙ ap (λ z. x ∷ z) r.1, r.2)
+      | inr r ↦ inr (r.0, ap (λ z. z ∷ prefix) (sym h) ∙ ap (λ z. x ∷ z) r.1, r.2)
     ]
 
 -- what a list is mapped to is split as the list is
-split_map : {A B : Type 0} (f : A → B) (xs : List A) (front : List B) (b : B) (rest : List B) → map f xs ≡ front ++ b ∷ rest
-    → (u : List A) × (x : A) × (v : List A) × (xs ≡ u ++ x ∷ v) × (map f u ≡ front) × (f x ≡ b) × (map f v ≡ rest)
+split_map : {A B : Type 0} (f : A → B) (xs : List A) (prefix : List B) (b : B) (rest : List B) → map f xs ≡ prefix ++ b ∷ rest
+    → (u : List A) × (x : A) × (v : List A) × (xs ≡ u ++ x ∷ v) × (map f u ≡ prefix) × (f x ≡ b) × (map f v ≡ rest)
 split_map f [] [] b rest e = absurd (cc)
-split_map f [] (g ∷ front) b rest e = absurd (cc)
+split_map f [] (g ∷ prefix) b rest e = absurd (cc)
 split_map f (x ∷ xs) [] b rest e = ([], x, xs, refl, refl, (let h : f x ≡ b = cc in h), (let t : map f xs ≡ rest = cc in t))
-split_map f (x ∷ xs) (g ∷ front) b rest e =
+split_map f (x ∷ xs) (g ∷ prefix) b rest e =
     let h : f x ≡ g = cc in
-    let t : map f xs ≡ front ++ b ∷ rest = cc in
-    let r = split_map f xs front b rest t in
+    let t : map f xs ≡ prefix ++ b ∷ rest = cc in
+    let r = split_map f xs prefix b rest t in
     (x ∷ r.0, r.1, r.2, ap (λ z. x ∷ z) r.3, ap (λ z. z ∷ map f r.0) h ∙ ap (λ z. g ∷ z) r.4, r.5, r.6)
 
 -- one of a list is the one that is asked for
@@ -59,28 +59,28 @@ split_any p f (x ∷ xs) e = elim (cases_Bool (p (f x))) [
 -- ---- acts
 
 -- an act of a list is that of an event
-event_of : (events : List Event) (front : List Act) (a : Act) (rest : List Act) → flat_map acts_of_event events ≡ front ++ a ∷ rest
-    → (before : List Event) × (e : Event) × (after : List Event) × (events ≡ before ++ e ∷ after) × (flat_map acts_of_event before ≡ front) × (acts_of_event e ≡ a ∷ []) × (flat_map acts_of_event after ≡ rest)
+event_of : (events : List Event) (prefix : List Act) (a : Act) (rest : List Act) → flat_map acts_of_event events ≡ prefix ++ a ∷ rest
+    → (before : List Event) × (e : Event) × (after : List Event) × (events ≡ before ++ e ∷ after) × (flat_map acts_of_event before ≡ prefix) × (acts_of_event e ≡ a ∷ []) × (flat_map acts_of_event after ≡ rest)
 event_of [] [] a rest e = absurd (cc)
-event_of [] (f ∷ front) a rest e = absurd (cc)
-event_of (Started sid r ∷ es) front a rest e = let q = event_of es front a rest e in (Started sid r ∷ q.0, q.1, q.2, ap (λ z. Started sid r ∷ z) q.3, q.4, q.5, q.6)
+event_of [] (f ∷ prefix) a rest e = absurd (cc)
+event_of (Started sid r ∷ es) prefix a rest e = let q = event_of es prefix a rest e in (Started sid r ∷ q.0, q.1, q.2, ap (λ z. Started sid r ∷ z) q.3, q.4, q.5, q.6)
 event_of (Sent sid r l t vs ∷ es) [] a rest e =
     let h : Sends r l (shown vs) ≡ a = cc in
     let t' : flat_map acts_of_event es ≡ rest = cc in
     ([], Sent sid r l t vs, es, refl, refl, ap (λ z. z ∷ []) h, t')
-event_of (Sent sid r l t vs ∷ es) (f ∷ front) a rest e =
+event_of (Sent sid r l t vs ∷ es) (f ∷ prefix) a rest e =
     let h : Sends r l (shown vs) ≡ f = cc in
-    let t' : flat_map acts_of_event es ≡ front ++ a ∷ rest = cc in
-    let q = event_of es front a rest t' in
+    let t' : flat_map acts_of_event es ≡ prefix ++ a ∷ rest = cc in
+    let q = event_of es prefix a rest t' in
     (Sent sid r l t vs ∷ q.0, q.1, q.2, ap (λ z. Sent sid r l t vs ∷ z) q.3, ap (λ z. z ∷ flat_map acts_of_event q.0) h ∙ ap (λ z. f ∷ z) q.4, q.5, q.6)
 event_of (Received sid r l t vs j ∷ es) [] a rest e =
     let h : Receives r l (shown vs) ≡ a = cc in
     let t' : flat_map acts_of_event es ≡ rest = cc in
     ([], Received sid r l t vs j, es, refl, refl, ap (λ z. z ∷ []) h, t')
-event_of (Received sid r l t vs j ∷ es) (f ∷ front) a rest e =
+event_of (Received sid r l t vs j ∷ es) (f ∷ prefix) a rest e =
     let h : Receives r l (shown vs) ≡ f = cc in
-    let t' : flat_map acts_of_event es ≡ front ++ a ∷ rest = cc in
-    let q = event_of es front a rest t' in
+    let t' : flat_map acts_of_event es ≡ prefix ++ a ∷ rest = cc in
+    let q = event_of es prefix a rest t' in
     (Received sid r l t vs j ∷ q.0, q.1, q.2, ap (λ z. Received sid r l t vs j ∷ z) q.3, ap (λ z. z ∷ flat_map acts_of_event q.0) h ∙ ap (λ z. f ∷ z) q.4, q.5, q.6)
 
 -- an event with a label is one act
@@ -90,12 +90,12 @@ one_act_of (Sent sid r l' t vs) l e = (Sends r l' (shown vs), refl)
 one_act_of (Received sid r l' t vs j) l e = (Receives r l' (shown vs), refl)
 
 -- the act that may be there is
-act_there : (b : Bool) (x : Act) (front : List Act) (a : Act) (rest : List Act) → act_if b x ≡ front ++ a ∷ rest → (b ≡ true) × (a ≡ x) × (front ≡ [])
+act_there : (b : Bool) (x : Act) (prefix : List Act) (a : Act) (rest : List Act) → act_if b x ≡ prefix ++ a ∷ rest → (b ≡ true) × (a ≡ x) × (prefix ≡ [])
 act_there false x [] a rest e = absurd (cc)
-act_there false x (f ∷ front) a rest e = absurd (cc)
+act_there false x (f ∷ prefix) a rest e = absurd (cc)
 act_there true x [] a rest e = (refl, (let h : x ≡ a = cc in sym h), refl)
 act_there true x (f ∷ []) a rest e = absurd (cc)
-act_there true x (f ∷ g ∷ front) a rest e = absurd (cc)
+act_there true x (f ∷ g ∷ prefix) a rest e = absurd (cc)
 
 counts_true : (ss : List StoredStep) → counts true ss ≡ true
 counts_true [] = refl
@@ -121,8 +121,8 @@ module _ (g : Graph) (h : ℕ → Bool) where
   abbrev acts : Map (Option Value) → List StoredStep → List Act
   acts store ss = honest_acts g h true store ss
 
-  acts-append : (taken : Bool) (store : Map (Option Value)) (front : List StoredStep) (s : StoredStep) (rest : List StoredStep)
-      → honest_acts g h taken store (front ++ s ∷ rest) ≡ acts store front ++ honest_acts g h taken (store_after store front) (s ∷ rest)
+  acts-append : (taken : Bool) (store : Map (Option Value)) (prefix : List StoredStep) (s : StoredStep) (rest : List StoredStep)
+      → honest_acts g h taken store (prefix ++ s ∷ rest) ≡ acts store prefix ++ honest_acts g h taken (store_after store prefix) (s ∷ rest)
   acts-append taken store [] s rest = refl
   acts-append taken store (f ∷ fs) s rest =
       let one = act_if (h (sender (shape g) f.label)) (sending f) in
@@ -133,26 +133,26 @@ module _ (g : Graph) (h : ℕ → Bool) where
 
   -- an act of the list: that of a sender, before which all earlier steps were done, or that of a receiver, before which its sender's came too
   abbrev How : Map (Option Value) → List StoredStep → StoredStep → List Act → Act → Type 0
-  How store front s before a =
-      ((a ≡ sending s) × (h (sender (shape g) s.label) ≡ true) × (before ≡ acts store front))
-      ⊎ ((a ≡ receiving (store_after store front) s) × (h (receiver (shape g) s.label) ≡ true) × (before ≡ acts store front ++ act_if (h (sender (shape g) s.label)) (sending s)))
+  How store prefix s before a =
+      ((a ≡ sending s) × (h (sender (shape g) s.label) ≡ true) × (before ≡ acts store prefix))
+      ⊎ ((a ≡ receiving (store_after store prefix) s) × (h (receiver (shape g) s.label) ≡ true) × (before ≡ acts store prefix ++ act_if (h (sender (shape g) s.label)) (sending s)))
 
-  record ActPlace (taken : Bool) (store : Map (Option Value)) (ss : List StoredStep) (before : List Act) (a : Act) (after : List Act) : Type 0 where
-    front : List StoredStep
+  record ActPosition (taken : Bool) (store : Map (Option Value)) (ss : List StoredStep) (before : List Act) (a : Act) (after : List Act) : Type 0 where
+    prefix : List StoredStep
     step : StoredStep
     rest : List StoredStep
-    there : ss ≡ front ++ step ∷ rest
-    how : How store front step before a
+    there : ss ≡ prefix ++ step ∷ rest
+    how : How store prefix step before a
     own : List Act
-    later : after ≡ own ++ honest_acts g h taken (merge (store_after store front) step.writes) rest
-    whole : before ++ a ∷ own ≡ acts store front ++ (act_if (h (sender (shape g) step.label)) (sending step) ++ act_if (h (receiver (shape g) step.label) && counts taken rest) (receiving (store_after store front) step))
+    later : after ≡ own ++ honest_acts g h taken (merge (store_after store prefix) step.writes) rest
+    whole : before ++ a ∷ own ≡ acts store prefix ++ (act_if (h (sender (shape g) step.label)) (sending step) ++ act_if (h (receiver (shape g) step.label) && counts taken rest) (receiving (store_after store prefix) step))
 
-  act_place : (taken : Bool) (store : Map (Option Value)) (ss : List StoredStep) (before : List Act) (a : Act) (after : List Act) → honest_acts g h taken store ss ≡ before ++ a ∷ after → ActPlace taken store ss before a after
-  act_place taken store [] [] a after e = absurd (cc)
-  act_place taken store [] (b ∷ before) a after e = absurd (cc)
-  act_place taken store (s ∷ ss) before a after e = elim (split_two (one ++ two) more before a after e) [
+  act_position : (taken : Bool) (store : Map (Option Value)) (ss : List StoredStep) (before : List Act) (a : Act) (after : List Act) → honest_acts g h taken store ss ≡ before ++ a ∷ after → ActPosition taken store ss before a after
+  act_position taken store [] [] a after e = absurd (cc)
+  act_position taken store [] (b ∷ before) a after e = absurd (cc)
+  act_position taken store (s ∷ ss) before a after e = elim (split_two (one ++ two) more before a after e) [
     | inl p ↦ here p.0 p.1 p.2
-    | inr p ↦ there_ p.0 p.1 (act_place taken (merge store s.writes) ss p.0 a after p.2)
+    | inr p ↦ there_ p.0 p.1 (act_position taken (merge store s.writes) ss p.0 a after p.2)
   ]
     where
       one : List Act
@@ -164,93 +164,93 @@ module _ (g : Graph) (h : ℕ → Bool) where
       more : List Act
       more = honest_acts g h taken (merge store s.writes) ss
 
-      here : (r : List Act) → one ++ two ≡ before ++ a ∷ r → after ≡ r ++ more → ActPlace taken store (s ∷ ss) before a after
+      here : (r : List Act) → one ++ two ≡ before ++ a ∷ r → after ≡ r ++ more → ActPosition taken store (s ∷ ss) before a after
       here r q l = elim (split_two one two before a r q) [
         | inl p ↦ (let t = act_there (h (sender (shape g) s.label)) (sending s) before a p.0 p.1 in
-            record { front = []; step = s; rest = ss; there = refl; how = inl (t.1, t.0, t.2); own = r; later = l; whole = sym q })
+            record { prefix = []; step = s; rest = ss; there = refl; how = inl (t.1, t.0, t.2); own = r; later = l; whole = sym q })
         | inr p ↦ (let t = act_there (h (receiver (shape g) s.label) && counts taken ss) (receiving store s) p.0 a r p.2 in
-            record { front = []; step = s; rest = ss; there = refl; how = inr (t.1, and_left (h (receiver (shape g) s.label)) (counts taken ss) t.0, p.1 ∙ ap (λ l. one ++ l) t.2 ∙ append-nil one); own = r; later = l; whole = sym q })
+            record { prefix = []; step = s; rest = ss; there = refl; how = inr (t.1, and_left (h (receiver (shape g) s.label)) (counts taken ss) t.0, p.1 ∙ ap (λ l. one ++ l) t.2 ∙ append-nil one); own = r; later = l; whole = sym q })
       ]
 
-      there_ : (f : List Act) → before ≡ (one ++ two) ++ f → ActPlace taken (merge store s.writes) ss f a after → ActPlace taken store (s ∷ ss) before a after
+      there_ : (f : List Act) → before ≡ (one ++ two) ++ f → ActPosition taken (merge store s.writes) ss f a after → ActPosition taken store (s ∷ ss) before a after
       there_ f q p = record {
-        front = s ∷ p.front;
+        prefix = s ∷ p.prefix;
         step = p.step;
         rest = p.rest;
         there = ap (λ z. s ∷ z) p.there;
         how = elim p.how [
-          | inl y ↦ inl (y.0, y.1, before_is ∙ ap (λ l. front_acts ++ l) y.2)
-          | inr y ↦ inr (y.0, y.1, before_is ∙ ap (λ l. front_acts ++ l) y.2 ∙ sym (append_assoc front_acts (acts (merge store s.writes) p.front) (act_if (h (sender (shape g) p.step.label)) (sending p.step))))
+          | inl y ↦ inl (y.0, y.1, before_is ∙ ap (λ l. prefix_acts ++ l) y.2)
+          | inr y ↦ inr (y.0, y.1, before_is ∙ ap (λ l. prefix_acts ++ l) y.2 ∙ sym (append_assoc prefix_acts (acts (merge store s.writes) p.prefix) (act_if (h (sender (shape g) p.step.label)) (sending p.step))))
         ];
         own = p.own;
         later = p.later;
-        whole = ap (λ l. l ++ a ∷ p.own) before_is ∙ append_assoc front_acts f (a ∷ p.own) ∙ ap (λ l. front_acts ++ l) p.whole ∙ sym (append_assoc front_acts (acts (merge store s.writes) p.front) step_acts);
+        whole = ap (λ l. l ++ a ∷ p.own) before_is ∙ append_assoc prefix_acts f (a ∷ p.own) ∙ ap (λ l. prefix_acts ++ l) p.whole ∙ sym (append_assoc prefix_acts (acts (merge store s.writes) p.prefix) step_acts);
       }
         where
           step_acts : List Act
-          step_acts = act_if (h (sender (shape g) p.step.label)) (sending p.step) ++ act_if (h (receiver (shape g) p.step.label) && counts taken p.rest) (receiving (store_after (merge store s.writes) p.front) p.step)
+          step_acts = act_if (h (sender (shape g) p.step.label)) (sending p.step) ++ act_if (h (receiver (shape g) p.step.label) && counts taken p.rest) (receiving (store_after (merge store s.writes) p.prefix) p.step)
 
-          front_acts : List Act
-          front_acts = one ++ act_if (h (receiver (shape g) s.label) && counts true p.front) (receiving store s)
+          prefix_acts : List Act
+          prefix_acts = one ++ act_if (h (receiver (shape g) s.label) && counts true p.prefix) (receiving store s)
 
-          before_is : before ≡ front_acts ++ f
-          before_is = q ∙ ap (λ (b : Bool). (one ++ act_if (h (receiver (shape g) s.label) && b) (receiving store s)) ++ f) (ap (counts taken) p.there ∙ counts_more taken p.front p.step p.rest ∙ sym (counts_true p.front))
+          before_is : before ≡ prefix_acts ++ f
+          before_is = q ∙ ap (λ (b : Bool). (one ++ act_if (h (receiver (shape g) s.label) && b) (receiving store s)) ++ f) (ap (counts taken) p.there ∙ counts_more taken p.prefix p.step p.rest ∙ sym (counts_true p.prefix))
 
   -- ---- events
 
-  of_sending : (front : List StoredStep) (s : StoredStep) (e : Event) (a : Act) → acts_of_event e ≡ a ∷ [] → a ≡ sending s → (does_send e ≡ true) × IsOfStep g front s e
-  of_sending front s (Started sid r) a q w = absurd (cc)
-  of_sending front s (Sent sid r l t vs) a q w =
+  of_sending : (prefix : List StoredStep) (s : StoredStep) (e : Event) (a : Act) → acts_of_event e ≡ a ∷ [] → a ≡ sending s → (does_send e ≡ true) × IsOfStep g prefix s e
+  of_sending prefix s (Started sid r) a q w = absurd (cc)
+  of_sending prefix s (Sent sid r l t vs) a q w =
       let z : Sends r l (shown vs) ≡ sending s = cc in
       let i : l ≡ s.label = cc in
       let j : r ≡ sender (shape g) s.label = cc in
       let k : shown vs ≡ s.writes = cc in
       (refl, (i, j, k))
-  of_sending front s (Received sid r l t vs j) a q w = absurd (let z : Receives r l (shown vs) ≡ sending s = cc in cc)
+  of_sending prefix s (Received sid r l t vs j) a q w = absurd (let z : Receives r l (shown vs) ≡ sending s = cc in cc)
 
-  of_receiving : (front : List StoredStep) (s : StoredStep) (e : Event) (a : Act) → acts_of_event e ≡ a ∷ [] → a ≡ receiving (store_after [] front) s → (does_send e ≡ false) × IsOfStep g front s e
-  of_receiving front s (Started sid r) a q w = absurd (cc)
-  of_receiving front s (Received sid r l t vs j) a q w =
-      let z : Receives r l (shown vs) ≡ receiving (store_after [] front) s = cc in
+  of_receiving : (prefix : List StoredStep) (s : StoredStep) (e : Event) (a : Act) → acts_of_event e ≡ a ∷ [] → a ≡ receiving (store_after [] prefix) s → (does_send e ≡ false) × IsOfStep g prefix s e
+  of_receiving prefix s (Started sid r) a q w = absurd (cc)
+  of_receiving prefix s (Received sid r l t vs j) a q w =
+      let z : Receives r l (shown vs) ≡ receiving (store_after [] prefix) s = cc in
       let i : l ≡ s.label = cc in
       let j : r ≡ receiver (shape g) s.label = cc in
-      let k : shown vs ≡ stored (merge (store_after [] front) s.writes) (reads g s.label) = cc in
+      let k : shown vs ≡ stored (merge (store_after [] prefix) s.writes) (reads g s.label) = cc in
       (refl, (i, j, k))
-  of_receiving front s (Sent sid r l t vs) a q w = absurd (let z : Sends r l (shown vs) ≡ receiving (store_after [] front) s = cc in cc)
+  of_receiving prefix s (Sent sid r l t vs) a q w = absurd (let z : Sends r l (shown vs) ≡ receiving (store_after [] prefix) s = cc in cc)
 
-  sends_as : (front : List StoredStep) (s : StoredStep) (e : Event) → does_send e ≡ true → IsOfStep g front s e → role_of e ≡ sender (shape g) s.label
-  sends_as front s (Started sid r) d o = absurd o
-  sends_as front s (Sent sid r l t vs) d o = o.1
-  sends_as front s (Received sid r l t vs j) d o = absurd (let z : false ≡ true = d in cc)
+  sends_as : (prefix : List StoredStep) (s : StoredStep) (e : Event) → does_send e ≡ true → IsOfStep g prefix s e → role_of e ≡ sender (shape g) s.label
+  sends_as prefix s (Started sid r) d o = absurd o
+  sends_as prefix s (Sent sid r l t vs) d o = o.1
+  sends_as prefix s (Received sid r l t vs j) d o = absurd (let z : false ≡ true = d in cc)
 
-  receives_as : (front : List StoredStep) (s : StoredStep) (e : Event) → does_send e ≡ false → IsOfStep g front s e → role_of e ≡ receiver (shape g) s.label
-  receives_as front s (Started sid r) d o = absurd o
-  receives_as front s (Sent sid r l t vs) d o = absurd (let z : true ≡ false = d in cc)
-  receives_as front s (Received sid r l t vs j) d o = o.1
+  receives_as : (prefix : List StoredStep) (s : StoredStep) (e : Event) → does_send e ≡ false → IsOfStep g prefix s e → role_of e ≡ receiver (shape g) s.label
+  receives_as prefix s (Started sid r) d o = absurd o
+  receives_as prefix s (Sent sid r l t vs) d o = absurd (let z : true ≡ false = d in cc)
+  receives_as prefix s (Received sid r l t vs j) d o = o.1
 
-  at_sending : (front : List StoredStep) (s : StoredStep) (before : List Event) (e : Event) → does_send e ≡ true → IsOfStep g front s e → h (sender (shape g) s.label) ≡ true → flat_map acts_of_event before ≡ acts [] front → IsAtStep g h front s before e
-  at_sending front s before e d o y x = record { is_of = o; by_honest = ap h (sends_as front s e d o) ∙ y; earlier = x ∙ ap (acts_before g h front s) (sym d) }
+  at_sending : (prefix : List StoredStep) (s : StoredStep) (before : List Event) (e : Event) → does_send e ≡ true → IsOfStep g prefix s e → h (sender (shape g) s.label) ≡ true → flat_map acts_of_event before ≡ acts [] prefix → IsAtStep g h prefix s before e
+  at_sending prefix s before e d o y x = record { is_of = o; by_honest = ap h (sends_as prefix s e d o) ∙ y; earlier = x ∙ ap (acts_before g h prefix s) (sym d) }
 
-  at_receiving : (front : List StoredStep) (s : StoredStep) (before : List Event) (e : Event) → does_send e ≡ false → IsOfStep g front s e → h (receiver (shape g) s.label) ≡ true → flat_map acts_of_event before ≡ acts [] front ++ act_if (h (sender (shape g) s.label)) (sending s) → IsAtStep g h front s before e
-  at_receiving front s before e d o y x = record { is_of = o; by_honest = ap h (receives_as front s e d o) ∙ y; earlier = x ∙ ap (acts_before g h front s) (sym d) }
+  at_receiving : (prefix : List StoredStep) (s : StoredStep) (before : List Event) (e : Event) → does_send e ≡ false → IsOfStep g prefix s e → h (receiver (shape g) s.label) ≡ true → flat_map acts_of_event before ≡ acts [] prefix ++ act_if (h (sender (shape g) s.label)) (sending s) → IsAtStep g h prefix s before e
+  at_receiving prefix s before e d o y x = record { is_of = o; by_honest = ap h (receives_as prefix s e d o) ∙ y; earlier = x ∙ ap (acts_before g h prefix s) (sym d) }
 
   -- among events with these acts is the sending of an honest sender's step
-  has_sent : (past events : List Event) (own : List Act) (store : Map (Option Value)) (up : List StoredStep) (s : StoredStep) (rest : List Act) (front : List StoredStep)
-      → h (sender (shape g) s.label) ≡ true → flat_map acts_of_event past ++ (own ++ acts store up) ≡ acts [] front → flat_map acts_of_event events ≡ (own ++ acts store up) ++ sending s ∷ rest → HasSent g h front s past events
-  has_sent past events own store up s rest front y link e =
+  has_sent : (past events : List Event) (own : List Act) (store : Map (Option Value)) (up : List StoredStep) (s : StoredStep) (rest : List Act) (prefix : List StoredStep)
+      → h (sender (shape g) s.label) ≡ true → flat_map acts_of_event past ++ (own ++ acts store up) ≡ acts [] prefix → flat_map acts_of_event events ≡ (own ++ acts store up) ++ sending s ∷ rest → HasSent g h prefix s past events
+  has_sent past events own store up s rest prefix y link e =
       let q = event_of events (own ++ acts store up) (sending s) rest e in
-      let o = of_sending front s q.1 (sending s) q.5 refl in
+      let o = of_sending prefix s q.1 (sending s) q.5 refl in
       record {
-        front = q.0;
+        prefix = q.0;
         event = q.1;
         rest = q.2;
         there = q.3;
         sends = o.0;
-        is_at = at_sending front s (past ++ q.0) q.1 o.0 o.1 y (flat_map-append acts_of_event past q.0 ∙ ap (λ l. flat_map acts_of_event past ++ l) q.4 ∙ link);
+        is_at = at_sending prefix s (past ++ q.0) q.1 o.0 o.1 y (flat_map-append acts_of_event past q.0 ∙ ap (λ l. flat_map acts_of_event past ++ l) q.4 ∙ link);
       }
 
-  module _ (past events : List Event) (own : List Act) (store : Map (Option Value)) (up : List StoredStep) (s : StoredStep) (down : List StoredStep) (tail : List Act) (front : List StoredStep)
-      (link : flat_map acts_of_event past ++ (own ++ acts store up) ≡ acts [] front) (are : flat_map acts_of_event events ≡ own ++ (acts store (up ++ s ∷ down) ++ tail)) where
+  module _ (past events : List Event) (own : List Act) (store : Map (Option Value)) (up : List StoredStep) (s : StoredStep) (down : List StoredStep) (tail : List Act) (prefix : List StoredStep)
+      (link : flat_map acts_of_event past ++ (own ++ acts store up) ≡ acts [] prefix) (are : flat_map acts_of_event events ≡ own ++ (acts store (up ++ s ∷ down) ++ tail)) where
     abbrev one_ : List Act
     one_ = act_if (h (sender (shape g) s.label)) (sending s)
 
@@ -265,24 +265,24 @@ module _ (g : Graph) (h : ℕ → Bool) where
         ∙ ap (λ l. own ++ l) (append_assoc (acts store up) ((one_ ++ two_) ++ more_) tail)
         ∙ sym (append_assoc own (acts store up) (((one_ ++ two_) ++ more_) ++ tail))
 
-    was_sent : h (sender (shape g) s.label) ≡ true → HasSent g h front s past events
-    was_sent y = has_sent past events own store up s ((two_ ++ more_) ++ tail) front y link
+    was_sent : h (sender (shape g) s.label) ≡ true → HasSent g h prefix s past events
+    was_sent y = has_sent past events own store up s ((two_ ++ more_) ++ tail) prefix y link
         (parts ∙ ap (λ (b : Bool). (own ++ acts store up) ++ (((act_if b (sending s) ++ two_) ++ more_) ++ tail)) y)
 
-    was_received : store_after [] front ≡ store_after store up → h (receiver (shape g) s.label) ≡ true → HasReceived g h front s past events
+    was_received : store_after [] prefix ≡ store_after store up → h (receiver (shape g) s.label) ≡ true → HasReceived g h prefix s past events
     was_received st y =
         let all = own ++ acts store up in
         let q = event_of events (all ++ one_) (receiving (store_after store up) s) (more_ ++ tail) at in
-        let o = of_receiving front s q.1 (receiving (store_after store up) s) q.5 (ap (λ z. receiving z s) (sym st)) in
+        let o = of_receiving prefix s q.1 (receiving (store_after store up) s) q.5 (ap (λ z. receiving z s) (sym st)) in
         record {
-          front = q.0;
+          prefix = q.0;
           event = q.1;
           rest = q.2;
           there = q.3;
           receives = o.0;
-          is_at = at_receiving front s (past ++ q.0) q.1 o.0 o.1 y
+          is_at = at_receiving prefix s (past ++ q.0) q.1 o.0 o.1 y
               (flat_map-append acts_of_event past q.0 ∙ ap (λ l. flat_map acts_of_event past ++ l) q.4 ∙ sym (append_assoc (flat_map acts_of_event past) all one_) ∙ ap (λ l. l ++ one_) link);
-          sent = λ z. has_sent past q.0 own store up s [] front z link (q.4 ∙ ap (λ (b : Bool). all ++ act_if b (sending s)) z);
+          sent = λ z. has_sent past q.0 own store up s [] prefix z link (q.4 ∙ ap (λ (b : Bool). all ++ act_if b (sending s)) z);
         }
       where
         at : flat_map acts_of_event events ≡ ((own ++ acts store up) ++ one_) ++ receiving (store_after store up) s ∷ (more_ ++ tail)
@@ -293,44 +293,44 @@ module _ (g : Graph) (h : ℕ → Bool) where
             ∙ sym (append_assoc (own ++ acts store up) one_ (receiving (store_after store up) s ∷ (more_ ++ tail)))
 
   -- where an event stands: the steps before, its own, and what honest roles did before
-  record Place (taken : Bool) (steps : List StoredStep) (before : List Act) (e : Event) (after : List Act) : Type 0 where
-    front : List StoredStep
+  record Position (taken : Bool) (steps : List StoredStep) (before : List Act) (e : Event) (after : List Act) : Type 0 where
+    prefix : List StoredStep
     step : StoredStep
     rest : List StoredStep
-    there : steps ≡ front ++ step ∷ rest
-    is_of : IsOfStep g front step e
+    there : steps ≡ prefix ++ step ∷ rest
+    is_of : IsOfStep g prefix step e
     tail : List Act
-    earlier : before ≡ acts [] front ++ tail
+    earlier : before ≡ acts [] prefix ++ tail
     which : ((does_send e ≡ true) × (tail ≡ [])) ⊎ ((does_send e ≡ false) × (tail ≡ act_if (h (sender (shape g) step.label)) (sending step)))
-    at : before ≡ acts_before g h front step (does_send e)
+    at : before ≡ acts_before g h prefix step (does_send e)
     by_honest : h (role_of e) ≡ true
     own : List Act
-    later : after ≡ own ++ honest_acts g h taken (merge (store_after [] front) step.writes) rest
-    whole : before ++ (acts_of_event e ++ own) ≡ acts [] front ++ (act_if (h (sender (shape g) step.label)) (sending step) ++ act_if (h (receiver (shape g) step.label) && counts taken rest) (receiving (store_after [] front) step))
+    later : after ≡ own ++ honest_acts g h taken (merge (store_after [] prefix) step.writes) rest
+    whole : before ++ (acts_of_event e ++ own) ≡ acts [] prefix ++ (act_if (h (sender (shape g) step.label)) (sending step) ++ act_if (h (receiver (shape g) step.label) && counts taken rest) (receiving (store_after [] prefix) step))
 
-  place : (taken : Bool) (steps : List StoredStep) (before : List Act) (a : Act) (after : List Act) (e : Event) → honest_acts g h taken [] steps ≡ before ++ a ∷ after → acts_of_event e ≡ a ∷ [] → Place taken steps before e after
-  place taken steps before a after e q w = from (act_place taken [] steps before a after q)
+  position : (taken : Bool) (steps : List StoredStep) (before : List Act) (a : Act) (after : List Act) (e : Event) → honest_acts g h taken [] steps ≡ before ++ a ∷ after → acts_of_event e ≡ a ∷ [] → Position taken steps before e after
+  position taken steps before a after e q w = from (act_position taken [] steps before a after q)
     where
-      from : ActPlace taken [] steps before a after → Place taken steps before e after
+      from : ActPosition taken [] steps before a after → Position taken steps before e after
       from p = elim p.how [
-        | inl y ↦ (let o = of_sending p.front p.step e a w y.0 in
-            record { front = p.front; step = p.step; rest = p.rest; there = p.there; is_of = o.1; tail = []; earlier = y.2 ∙ sym (append-nil (acts [] p.front)); which = inl (o.0, refl); at = y.2 ∙ ap (acts_before g h p.front p.step) (sym o.0); by_honest = ap h (sends_as p.front p.step e o.0 o.1) ∙ y.1; own = p.own; later = p.later; whole = ap (λ z. before ++ (z ++ p.own)) w ∙ p.whole })
-        | inr y ↦ (let o = of_receiving p.front p.step e a w y.0 in
-            record { front = p.front; step = p.step; rest = p.rest; there = p.there; is_of = o.1; tail = act_if (h (sender (shape g) p.step.label)) (sending p.step); earlier = y.2; which = inr (o.0, refl); at = y.2 ∙ ap (acts_before g h p.front p.step) (sym o.0); by_honest = ap h (receives_as p.front p.step e o.0 o.1) ∙ y.1; own = p.own; later = p.later; whole = ap (λ z. before ++ (z ++ p.own)) w ∙ p.whole })
+        | inl y ↦ (let o = of_sending p.prefix p.step e a w y.0 in
+            record { prefix = p.prefix; step = p.step; rest = p.rest; there = p.there; is_of = o.1; tail = []; earlier = y.2 ∙ sym (append-nil (acts [] p.prefix)); which = inl (o.0, refl); at = y.2 ∙ ap (acts_before g h p.prefix p.step) (sym o.0); by_honest = ap h (sends_as p.prefix p.step e o.0 o.1) ∙ y.1; own = p.own; later = p.later; whole = ap (λ z. before ++ (z ++ p.own)) w ∙ p.whole })
+        | inr y ↦ (let o = of_receiving p.prefix p.step e a w y.0 in
+            record { prefix = p.prefix; step = p.step; rest = p.rest; there = p.there; is_of = o.1; tail = act_if (h (sender (shape g) p.step.label)) (sending p.step); earlier = y.2; which = inr (o.0, refl); at = y.2 ∙ ap (acts_before g h p.prefix p.step) (sym o.0); by_honest = ap h (receives_as p.prefix p.step e o.0 o.1) ∙ y.1; own = p.own; later = p.later; whole = ap (λ z. before ++ (z ++ p.own)) w ∙ p.whole })
       ]
 
-  its_label : (front : List StoredStep) (s : StoredStep) (e : Event) (l : ℕ) → IsOfStep g front s e → label_of e ≡ Some l → l ≡ s.label
-  its_label front s (Started sid r) l o q = absurd o
-  its_label front s (Sent sid r l' t vs) l o q = let z : l' ≡ l = cc in sym z ∙ o.0
-  its_label front s (Received sid r l' t vs j) l o q = let z : l' ≡ l = cc in sym z ∙ o.0
+  its_label : (prefix : List StoredStep) (s : StoredStep) (e : Event) (l : ℕ) → IsOfStep g prefix s e → label_of e ≡ Some l → l ≡ s.label
+  its_label prefix s (Started sid r) l o q = absurd o
+  its_label prefix s (Sent sid r l' t vs) l o q = let z : l' ≡ l = cc in sym z ∙ o.0
+  its_label prefix s (Received sid r l' t vs j) l o q = let z : l' ≡ l = cc in sym z ∙ o.0
 
   -- two events stand for one step or for two
   module _ (taken : Bool) (steps : List StoredStep) (events : List Event) (explained : flat_map acts_of_event events ≡ honest_acts g h taken [] steps) where
     -- where an event of the list stands
-    stands : (before : List Event) (e : Event) (after : List Event) (l : ℕ) → events ≡ before ++ e ∷ after → label_of e ≡ Some l → Place taken steps (flat_map acts_of_event before) e (flat_map acts_of_event after)
+    stands : (before : List Event) (e : Event) (after : List Event) (l : ℕ) → events ≡ before ++ e ∷ after → label_of e ≡ Some l → Position taken steps (flat_map acts_of_event before) e (flat_map acts_of_event after)
     stands before e after l q n =
         let a = one_act_of e l n in
-        place taken steps (flat_map acts_of_event before) a.0 (flat_map acts_of_event after) e
+        position taken steps (flat_map acts_of_event before) a.0 (flat_map acts_of_event after) e
         (sym explained ∙ ap (flat_map acts_of_event) q ∙ flat_map-append acts_of_event before (e ∷ after) ∙ ap (λ z. flat_map acts_of_event before ++ (z ++ flat_map acts_of_event after)) a.1) a.1
 
     two_events : (before : List Event) (d : Event) (between : List Event) (e : Event) (after : List Event) (k l : ℕ) → events ≡ before ++ d ∷ between ++ e ∷ after → label_of d ≡ Some k → label_of e ≡ Some l
@@ -349,13 +349,13 @@ module _ (g : Graph) (h : ℕ → Bool) where
         c : List Act
         c = flat_map acts_of_event between
 
-        from : Place taken steps (flat_map acts_of_event (before ++ d ∷ between)) e (flat_map acts_of_event after) → AreOfOneStep g h steps before d between e ⊎ AreOfTwoSteps g h steps before d between e
-        from p = elim (split_two (acts [] p.front) p.tail b ad c (sym p.earlier ∙ flat_map-append acts_of_event before (d ∷ between) ∙ ap (λ z. b ++ (z ++ c)) ad_is)) [
-          | inl r ↦ inr (apart r.0 (place true p.front b ad r.0 d r.1 ad_is) r.2)
+        from : Position taken steps (flat_map acts_of_event (before ++ d ∷ between)) e (flat_map acts_of_event after) → AreOfOneStep g h steps before d between e ⊎ AreOfTwoSteps g h steps before d between e
+        from p = elim (split_two (acts [] p.prefix) p.tail b ad c (sym p.earlier ∙ flat_map-append acts_of_event before (d ∷ between) ∙ ap (λ z. b ++ (z ++ c)) ad_is)) [
+          | inl r ↦ inr (apart r.0 (position true p.prefix b ad r.0 d r.1 ad_is) r.2)
           | inr r ↦ inl (one r.0 p.which r.1 r.2)
         ]
           where
-            one : (f : List Act) → ((does_send e ≡ true) × (p.tail ≡ [])) ⊎ ((does_send e ≡ false) × (p.tail ≡ act_if (h (sender (shape g) p.step.label)) (sending p.step))) → b ≡ acts [] p.front ++ f → p.tail ≡ f ++ ad ∷ c → AreOfOneStep g h steps before d between e
+            one : (f : List Act) → ((does_send e ≡ true) × (p.tail ≡ [])) ⊎ ((does_send e ≡ false) × (p.tail ≡ act_if (h (sender (shape g) p.step.label)) (sending p.step))) → b ≡ acts [] p.prefix ++ f → p.tail ≡ f ++ ad ∷ c → AreOfOneStep g h steps before d between e
             one f (inl y) z t = absurd (none f (sym y.1 ∙ t))
               where
                 none : (f : List Act) → [] ≡ f ++ ad ∷ c → ⊥
@@ -363,21 +363,21 @@ module _ (g : Graph) (h : ℕ → Bool) where
                 none (x ∷ f) z = cc
             one f (inr y) z t =
                 let a = act_there (h (sender (shape g) p.step.label)) (sending p.step) f ad c (sym y.1 ∙ t) in
-                let o = of_sending p.front p.step d ad ad_is a.1 in
+                let o = of_sending p.prefix p.step d ad ad_is a.1 in
                 record {
-                  front = p.front;
+                  prefix = p.prefix;
                   step = p.step;
                   rest = p.rest;
                   there = p.there;
                   sends = o.0;
                   receives = y.0;
-                  is_sent = at_sending p.front p.step before d o.0 o.1 a.0 (z ∙ ap (λ l. acts [] p.front ++ l) a.2 ∙ append-nil (acts [] p.front));
+                  is_sent = at_sending p.prefix p.step before d o.0 o.1 a.0 (z ∙ ap (λ l. acts [] p.prefix ++ l) a.2 ∙ append-nil (acts [] p.prefix));
                   is_received = record { is_of = p.is_of; by_honest = p.by_honest; earlier = p.at };
                 }
 
-            apart : (r : List Act) → Place true p.front b d r → c ≡ r ++ p.tail → AreOfTwoSteps g h steps before d between e
+            apart : (r : List Act) → Position true p.prefix b d r → c ≡ r ++ p.tail → AreOfTwoSteps g h steps before d between e
             apart r o t = record {
-              front = o.front;
+              prefix = o.prefix;
               first = o.step;
               between = o.rest;
               second = p.step;
@@ -385,28 +385,28 @@ module _ (g : Graph) (h : ℕ → Bool) where
               there = p.there ∙ ap (λ z. z ++ p.step ∷ p.rest) o.there;
               is_first = record { is_of = o.is_of; by_honest = o.by_honest; earlier = o.at };
               is_second = subst (λ z. IsAtStep g h z p.step (before ++ d ∷ between) e) o.there record { is_of = p.is_of; by_honest = p.by_honest; earlier = p.at };
-              sent = λ up s down z y. was_sent (before ++ d ∷ []) between o.own store up s down p.tail (o.front ++ o.step ∷ up) (link up) (are (up ++ s ∷ down) z) y;
-              received = λ up s down z y. was_received (before ++ d ∷ []) between o.own store up s down p.tail (o.front ++ o.step ∷ up) (link up) (are (up ++ s ∷ down) z) (store_after-append [] o.front (o.step ∷ up)) y;
+              sent = λ up s down z y. was_sent (before ++ d ∷ []) between o.own store up s down p.tail (o.prefix ++ o.step ∷ up) (link up) (are (up ++ s ∷ down) z) y;
+              received = λ up s down z y. was_received (before ++ d ∷ []) between o.own store up s down p.tail (o.prefix ++ o.step ∷ up) (link up) (are (up ++ s ∷ down) z) (store_after-append [] o.prefix (o.step ∷ up)) y;
             }
               where
                 store : Map (Option Value)
-                store = merge (store_after [] o.front) o.step.writes
+                store = merge (store_after [] o.prefix) o.step.writes
 
                 first_sends : List Act
                 first_sends = act_if (h (sender (shape g) o.step.label)) (sending o.step)
 
                 first_receives : Bool → List Act
-                first_receives c = act_if (h (receiver (shape g) o.step.label) && c) (receiving (store_after [] o.front) o.step)
+                first_receives c = act_if (h (receiver (shape g) o.step.label) && c) (receiving (store_after [] o.prefix) o.step)
 
                 -- what came before the step, and what is done in it and after
-                link : (up : List StoredStep) → flat_map acts_of_event (before ++ d ∷ []) ++ (o.own ++ acts store up) ≡ acts [] (o.front ++ o.step ∷ up)
+                link : (up : List StoredStep) → flat_map acts_of_event (before ++ d ∷ []) ++ (o.own ++ acts store up) ≡ acts [] (o.prefix ++ o.step ∷ up)
                 link up =
                     ap (λ l. l ++ (o.own ++ acts store up)) (flat_map-append acts_of_event before (d ∷ []) ∙ ap (λ l. b ++ l) (append-nil (acts_of_event d)))
                     ∙ sym (append_assoc (b ++ acts_of_event d) o.own (acts store up))
                     ∙ ap (λ l. l ++ acts store up) (append_assoc b (acts_of_event d) o.own ∙ o.whole)
-                    ∙ append_assoc (acts [] o.front) (first_sends ++ first_receives (counts true o.rest)) (acts store up)
-                    ∙ ap (λ (c : Bool). acts [] o.front ++ ((first_sends ++ first_receives c) ++ acts store up)) (counts_true o.rest ∙ sym (counts_true up))
-                    ∙ sym (acts-append true [] o.front o.step up)
+                    ∙ append_assoc (acts [] o.prefix) (first_sends ++ first_receives (counts true o.rest)) (acts store up)
+                    ∙ ap (λ (c : Bool). acts [] o.prefix ++ ((first_sends ++ first_receives c) ++ acts store up)) (counts_true o.rest ∙ sym (counts_true up))
+                    ∙ sym (acts-append true [] o.prefix o.step up)
 
                 are : (ss : List StoredStep) → o.rest ≡ ss → c ≡ o.own ++ (acts store ss ++ p.tail)
                 are ss z = t ∙ ap (λ l. l ++ p.tail) (o.later ∙ ap (λ w. o.own ++ acts store w) z) ∙ append_assoc o.own (acts store ss) p.tail
@@ -421,16 +421,16 @@ module _ (g : Graph) (h : ℕ → Bool) where
       caused : c.kind ≡ Needs → (before : List Event) (e : Event) (after : List Event) (l : ℕ) → events ≡ before ++ e ∷ after → label_of e ≡ Some l → IsTrue (is_in l c.later) → HasCause g h c steps before e
       caused kind before e after l q n i = from (stands before e after l q n)
         where
-          from : Place taken steps (flat_map acts_of_event before) e (flat_map acts_of_event after) → HasCause g h c steps before e
-          from p = made (split_map (λ (s : StoredStep). s.label) p.front right.front right.label right.rest right.there)
+          from : Position taken steps (flat_map acts_of_event before) e (flat_map acts_of_event after) → HasCause g h c steps before e
+          from p = made (split_map (λ (s : StoredStep). s.label) p.prefix right.prefix right.label right.rest right.there)
             where
-              right : StandsSince c.earlier c.since (labels p.front)
-              right = subst (λ z. IsRight z c.earlier c.since (labels p.front)) kind
-                  (on (labels p.front) p.step.label (labels p.rest) (ap labels p.there ∙ map-append (λ (s : StoredStep). s.label) p.front (p.step ∷ p.rest)) (subst (λ z. IsTrue (is_in z c.later)) (its_label p.front p.step e l p.is_of n) i))
+              right : StandsSince c.earlier c.since (labels p.prefix)
+              right = subst (λ z. IsRight z c.earlier c.since (labels p.prefix)) kind
+                  (on (labels p.prefix) p.step.label (labels p.rest) (ap labels p.there ∙ map-append (λ (s : StoredStep). s.label) p.prefix (p.step ∷ p.rest)) (subst (λ z. IsTrue (is_in z c.later)) (its_label p.prefix p.step e l p.is_of n) i))
 
-              made : (u : List StoredStep) × (x : StoredStep) × (v : List StoredStep) × (p.front ≡ u ++ x ∷ v) × (labels u ≡ right.front) × (x.label ≡ right.label) × (labels v ≡ right.rest) → HasCause g h c steps before e
+              made : (u : List StoredStep) × (x : StoredStep) × (v : List StoredStep) × (p.prefix ≡ u ++ x ∷ v) × (labels u ≡ right.prefix) × (x.label ≡ right.label) × (labels v ≡ right.rest) → HasCause g h c steps before e
               made m = record {
-                front = m.0;
+                prefix = m.0;
                 cause = m.1;
                 between = m.2;
                 step = p.step;
@@ -448,29 +448,29 @@ module _ (g : Graph) (h : ℕ → Bool) where
 
       -- the labels of two steps' walk
       module _ {d e : Event} {before es : List Event} (t : AreOfTwoSteps g h steps before d es e) where
-        their : labels steps ≡ labels (t.front ++ t.first ∷ t.between) ++ t.second.label ∷ labels t.rest
-        their = ap labels t.there ∙ map-append (λ (s : StoredStep). s.label) (t.front ++ t.first ∷ t.between) (t.second ∷ t.rest)
+        their : labels steps ≡ labels (t.prefix ++ t.first ∷ t.between) ++ t.second.label ∷ labels t.rest
+        their = ap labels t.there ∙ map-append (λ (s : StoredStep). s.label) (t.prefix ++ t.first ∷ t.between) (t.second ∷ t.rest)
 
-        first_two : labels (t.front ++ t.first ∷ t.between) ≡ labels t.front ++ t.first.label ∷ labels t.between
-        first_two = map-append (λ (s : StoredStep). s.label) t.front (t.first ∷ t.between)
+        first_two : labels (t.prefix ++ t.first ∷ t.between) ≡ labels t.prefix ++ t.first.label ∷ labels t.between
+        first_two = map-append (λ (s : StoredStep). s.label) t.prefix (t.first ∷ t.between)
 
         its_own : c.kind ≡ Needs → IsTrue (is_in t.first.label c.since) → IsTrue (is_in t.second.label c.later) → HaveCause c (t.first ∷ t.between)
-        its_own kind i j = made (split_map (λ (s : StoredStep). s.label) (t.first ∷ t.between) right.front right.label right.rest right.there)
+        its_own kind i j = made (split_map (λ (s : StoredStep). s.label) (t.first ∷ t.between) right.prefix right.label right.rest right.there)
           where
             right : StandsSince c.earlier c.since (labels (t.first ∷ t.between))
-            right = has_its_own c (labels t.front) t.first.label (labels t.between) t.second.label (labels t.rest) kind (subst (HoldsOn c) (their ∙ ap (λ z. z ++ t.second.label ∷ labels t.rest) first_two) on) i j
+            right = has_its_own c (labels t.prefix) t.first.label (labels t.between) t.second.label (labels t.rest) kind (subst (HoldsOn c) (their ∙ ap (λ z. z ++ t.second.label ∷ labels t.rest) first_two) on) i j
 
-            made : (u : List StoredStep) × (x : StoredStep) × (v : List StoredStep) × (t.first ∷ t.between ≡ u ++ x ∷ v) × (labels u ≡ right.front) × (x.label ≡ right.label) × (labels v ≡ right.rest) → HaveCause c (t.first ∷ t.between)
-            made m = record { front = m.0; cause = m.1; rest = m.2; there = m.3; is_earlier = subst (λ z. IsTrue (is_in z c.earlier)) (sym m.5) right.is_earlier; none_since = ap (list_any (λ l. is_in l c.since)) m.6 ∙ right.none_since }
+            made : (u : List StoredStep) × (x : StoredStep) × (v : List StoredStep) × (t.first ∷ t.between ≡ u ++ x ∷ v) × (labels u ≡ right.prefix) × (x.label ≡ right.label) × (labels v ≡ right.rest) → HaveCause c (t.first ∷ t.between)
+            made m = record { prefix = m.0; cause = m.1; rest = m.2; there = m.3; is_earlier = subst (λ z. IsTrue (is_in z c.earlier)) (sym m.5) right.is_earlier; none_since = ap (list_any (λ l. is_in l c.since)) m.6 ∙ right.none_since }
 
         parted : c.kind ≡ Bars → IsTrue (is_in t.first.label c.earlier) → IsTrue (is_in t.second.label c.later) → HaveSince c t.between
         parted kind i j = elim (cases_Bool (list_any (λ l. is_in l c.since) (labels t.between))) [
-          | inl y ↦ (let m = split_any (λ l. is_in l c.since) (λ (s : StoredStep). s.label) t.between y in record { front = m.0; step = m.1; rest = m.2; there = m.3; is_since = m.4 })
-          | inr n ↦ absurd (bars record { front = labels t.front; label = t.first.label; rest = labels t.between; there = first_two; is_earlier = i; none_since = n })
+          | inl y ↦ (let m = split_any (λ l. is_in l c.since) (λ (s : StoredStep). s.label) t.between y in record { prefix = m.0; step = m.1; rest = m.2; there = m.3; is_since = m.4 })
+          | inr n ↦ absurd (bars record { prefix = labels t.prefix; label = t.first.label; rest = labels t.between; there = first_two; is_earlier = i; none_since = n })
         ]
           where
-            bars : StandsSince c.earlier c.since (labels (t.front ++ t.first ∷ t.between)) → ⊥
-            bars = subst (λ z. IsRight z c.earlier c.since (labels (t.front ++ t.first ∷ t.between))) kind (on (labels (t.front ++ t.first ∷ t.between)) t.second.label (labels t.rest) their j)
+            bars : StandsSince c.earlier c.since (labels (t.prefix ++ t.first ∷ t.between)) → ⊥
+            bars = subst (λ z. IsRight z c.earlier c.since (labels (t.prefix ++ t.first ∷ t.between))) kind (on (labels (t.prefix ++ t.first ∷ t.between)) t.second.label (labels t.rest) their j)
 
       kept : IsClaimKept g h events steps c
       kept = record { on_walk = on; caused = caused; own = own_; barred = barred_; never = never_ }
@@ -479,14 +479,14 @@ module _ (g : Graph) (h : ℕ → Bool) where
               → AreOfOneStep g h steps before d between e ⊎ ((t : AreOfTwoSteps g h steps before d between e) × HaveCause c (t.first ∷ t.between))
           own_ kind before d between e after k l q m n i j = elim (two_events before d between e after k l q m n) [
             | inl o ↦ inl o
-            | inr t ↦ inr (t, its_own t kind (subst (λ z. IsTrue (is_in z c.since)) (its_label t.front t.first d k t.is_first.is_of m) i) (subst (λ z. IsTrue (is_in z c.later)) (its_label (t.front ++ t.first ∷ t.between) t.second e l t.is_second.is_of n) j))
+            | inr t ↦ inr (t, its_own t kind (subst (λ z. IsTrue (is_in z c.since)) (its_label t.prefix t.first d k t.is_first.is_of m) i) (subst (λ z. IsTrue (is_in z c.later)) (its_label (t.prefix ++ t.first ∷ t.between) t.second e l t.is_second.is_of n) j))
           ]
 
           barred_ : c.kind ≡ Bars → (before : List Event) (d : Event) (between : List Event) (e : Event) (after : List Event) (k l : ℕ) → events ≡ before ++ d ∷ between ++ e ∷ after → label_of d ≡ Some k → label_of e ≡ Some l → IsTrue (is_in k c.earlier) → IsTrue (is_in l c.later)
               → AreOfOneStep g h steps before d between e ⊎ ((t : AreOfTwoSteps g h steps before d between e) × HaveSince c t.between)
           barred_ kind before d between e after k l q m n i j = elim (two_events before d between e after k l q m n) [
             | inl o ↦ inl o
-            | inr t ↦ inr (t, parted t kind (subst (λ z. IsTrue (is_in z c.earlier)) (its_label t.front t.first d k t.is_first.is_of m) i) (subst (λ z. IsTrue (is_in z c.later)) (its_label (t.front ++ t.first ∷ t.between) t.second e l t.is_second.is_of n) j))
+            | inr t ↦ inr (t, parted t kind (subst (λ z. IsTrue (is_in z c.earlier)) (its_label t.prefix t.first d k t.is_first.is_of m) i) (subst (λ z. IsTrue (is_in z c.later)) (its_label (t.prefix ++ t.first ∷ t.between) t.second e l t.is_second.is_of n) j))
           ]
 
           no_since : (c.since ≡ []) → {ss : List StoredStep} → HaveSince c ss → ⊥

@@ -21,7 +21,7 @@ use Rattle.sg_protocol.specs.Keyring.{Program}
 use Rattle.sg_protocol.specs.Notes.{Note, notes}
 use Rattle.sg_protocol.specs.Schedule.{Schedule, is_honest, honest_role, Step, StartStep, ActStep, AbandonStep, DeliverStep, CraftStep, What, cast_of, sid_at, confounder}
 use Rattle.sg_law.specs.Values as V
-use Rattle.sg_law.specs.Values.{State, Made, Move, Commit, moved}
+use Rattle.sg_law.specs.Values.{State, SentItem, Move, Commit, moved}
 use Rattle.sg_law.proofs.Upto.{In}
 use Rattle.sg_law.proofs.Take.{contains_from_in}
 use Rattle.sg_protocol.proofs.Paths.{flat_map-append}
@@ -42,7 +42,7 @@ use Rattle.std.proofs.lemmas.List.Elements.{filter-append, filter_map-append}
 use Rattle.sg_model.specs.Values.{IntValue, TextValue}
 use Rattle.sg_model.proofs.Small.{same_bytes, all-append, all_weaker}
 use Rattle.sg_law.proofs.Members.{in_left, in_right, in_flat, in_parts}
-use Rattle.sg_protocol.specs.Past.{Past, Called, node_of, new_node, node_after_all, past_after}
+use Rattle.sg_protocol.specs.Past.{Past, AnsweredCall, node_of, new_node, node_after_all, past_after}
 use Rattle.sg_protocol.specs.World.{World, Logged, Outcome, Answered, Crafted, NoFrame, past_of, call_of, bytes_of}
 use Rattle.sg_protocol.specs.Run.{called, called_if, uncalled, world_after, world_after_all, frame_in, events_of, events_of_outcome}
 use Rattle.sg_protocol.specs.Premises.{hashed}
@@ -66,7 +66,7 @@ find_map q f e (x ∷ xs) = elim (cases_Bool (q x)) [
   | inr h ↦ rw (e x, h) (find_map q f e xs)
 ]
 
-pub node_more : (n : Node) (cs : List Called) (c : Called) → node_after_all n (cs ++ c ∷ []) ≡ node_after (node_after_all n cs) c.call c.answer
+pub node_more : (n : Node) (cs : List AnsweredCall) (c : AnsweredCall) → node_after_all n (cs ++ c ∷ []) ≡ node_after (node_after_all n cs) c.call c.answer
 node_more n [] c = refl
 node_more n (d ∷ cs) c = node_more (node_after n d.call d.answer) cs c
 
@@ -156,7 +156,7 @@ events-append sid xs ys =
     ∙ ap (flat_map acts_of_event) (filter-append (λ e. bytes_eq (sid_of e) sid) (flat_map (λ (l : Logged). events_of_outcome l.outcome) xs) (flat_map (λ (l : Logged). events_of_outcome l.outcome) ys))
     ∙ flat_map-append acts_of_event (events_of sid xs) (events_of sid ys)
 
-note_more : (g : Graph) (sid : List ℕ) (log log' : List Made) → ((mk : Made) → In log mk → In log' mk) → (nt : Note) → NoteOk g sid log nt → NoteOk g sid log' nt
+note_more : (g : Graph) (sid : List ℕ) (log log' : List SentItem) → ((mk : SentItem) → In log mk → In log' mk) → (nt : Note) → NoteOk g sid log nt → NoteOk g sid log' nt
 note_more g sid log log' f nt ok = record {
   item = λ v from to label time held fits e. let r = ok.item v from to label time held fits e in record { made = r.made; there = contains_from_in log' r.made (f r.made (in_from_Contains log r.made r.there)); same = r.same; is_held = r.is_held };
   frame = λ v fr spelled same e. let r = ok.frame v fr spelled same e in record { made = r.made; there = contains_from_in log' r.made (f r.made (in_from_Contains log r.made r.there)); steps = r.steps; written = r.written };
@@ -198,17 +198,17 @@ module _ {sha : Hash} {s : Schedule} {programs : List Program} {sid : List ℕ} 
   Ok_ st who n = NodeOk known.of_cast s LeftBy st who n
 
   -- the items of the session that role r took or gave
-  abbrev pub told_by : ℕ → List Called → List Item
-  told_by r calls = flat_map items_of (exchanges_of sid r calls)
+  abbrev pub transcript_by : ℕ → List AnsweredCall → List Item
+  transcript_by r calls = flat_map items_of (exchanges_of sid r calls)
 
   -- the law has been told what the role took and gave
-  abbrev pub Told : State → ℕ → List Called → Type 0
-  Told st r calls = (st.told r ≡ entries (told_by r calls)) × Roles (shape g) (told_by r calls)
+  abbrev pub IsTranscript : State → ℕ → List AnsweredCall → Type 0
+  IsTranscript st r calls = (st.transcript r ≡ entries (transcript_by r calls)) × Roles (shape g) (transcript_by r calls)
 
-  told_by-append : (r : ℕ) (cs : List Called) (c : Called) → told_by r (cs ++ c ∷ []) ≡ told_by r cs ++ told_by r (c ∷ [])
-  told_by-append r cs c =
-      ap (λ l. flat_map items_of (flat_map (λ (c : Called). exchanges_in c.call c.answer) l)) (filter-append (is_of sid r) cs (c ∷ []))
-      ∙ ap (flat_map items_of) (flat_map-append (λ (c : Called). exchanges_in c.call c.answer) (filter (is_of sid r) cs) (filter (is_of sid r) (c ∷ [])))
+  transcript_by-append : (r : ℕ) (cs : List AnsweredCall) (c : AnsweredCall) → transcript_by r (cs ++ c ∷ []) ≡ transcript_by r cs ++ transcript_by r (c ∷ [])
+  transcript_by-append r cs c =
+      ap (λ l. flat_map items_of (flat_map (λ (c : AnsweredCall). exchanges_in c.call c.answer) l)) (filter-append (is_of sid r) cs (c ∷ []))
+      ∙ ap (flat_map items_of) (flat_map-append (λ (c : AnsweredCall). exchanges_in c.call c.answer) (filter (is_of sid r) cs) (filter (is_of sid r) (c ∷ [])))
       ∙ flat_map-append items_of (exchanges_of sid r cs) (exchanges_of sid r (c ∷ []))
 
   pub honest_items-append : (xs ys : List Logged) → honest_items sid (xs ++ ys) ≡ honest_items sid xs ++ honest_items sid ys
@@ -222,7 +222,7 @@ module _ {sha : Hash} {s : Schedule} {programs : List Program} {sid : List ℕ} 
     pub events : flat_map acts_of_event (events_of sid w.log) ≡ flat_map (acts_of g) (map deed_of moves)
     pub typed : AllByRecursion (TypedDeed g honest) (map deed_of moves)
     pub used : AllByRecursion (λ (o : Opening). Hashed (commitment_text_of sid o) × OpeningFits o) (all_openings moves)
-    pub told : (who : Name) (p : Past) → past_of w who ≡ Some p → (r : ℕ) → principal cast r ≡ who → r < length cast.names → Told (moved_all commit (V.at_first (shape g)) moves) r p.calls
+    pub transcript : (who : Name) (p : Past) → past_of w who ≡ Some p → (r : ℕ) → principal cast r ≡ who → r < length cast.names → IsTranscript (moved_all commit (V.at_first (shape g)) moves) r p.calls
     pub sent : ((moved_all commit (V.at_first (shape g)) moves).machine.sent ≡ map step (honest_items sid w.log)) × Roles (shape g) (honest_items sid w.log)
     pub pasts : (who : Name) → is_honest s who ≡ true → (p : Past) × (past_of w who ≡ Some p)
 
@@ -239,7 +239,7 @@ module _ {sha : Hash} {s : Schedule} {programs : List Program} {sid : List ℕ} 
     events = events-append sid w.log _ ∙ ap (λ l. flat_map acts_of_event (events_of sid w.log) ++ flat_map acts_of_event (filter (λ e. bytes_eq (sid_of e) sid) (l ++ []))) e ∙ append-nil _ ∙ p.events;
     typed = p.typed;
     used = p.used;
-    told = p.told;
+    transcript = p.transcript;
     pasts = p.pasts;
     sent = subst (λ l. ((moved_all commit (V.at_first (shape g)) p.moves).machine.sent ≡ map step l) × Roles (shape g) l) (sym (honest_items-append w.log _ ∙ ap (λ z. honest_items sid w.log ++ cons_option z []) (no_item o e) ∙ append-nil (honest_items sid w.log))) p.sent;
   }
@@ -331,12 +331,12 @@ module _ {sha : Hash} {s : Schedule} {programs : List Program} {sid : List ℕ} 
       typed = subst (AllByRecursion (TypedDeed g honest)) (sym (map-append deed_of p.moves out.moves)) (all-append (TypedDeed g honest) (map deed_of p.moves) (map deed_of out.moves) p.typed out.typed);
       used = subst (AllByRecursion (λ (o : Opening). Hashed (commitment_text_of sid o) × OpeningFits o)) (sym (openings-append p.moves out.moves)) (all-append (λ (o : Opening). Hashed (commitment_text_of sid o) × OpeningFits o) (all_openings p.moves) (all_openings out.moves) p.used (all_weaker _ _ (λ o h. (hs_of c after (commitment_text_of sid o) h.0, h.1)) (all_openings out.moves) out.used));
       pasts = λ me is. (let o = p.pasts me is in (next_past sha who c o.0, past_called sha w k who c past me ∙ ap (option_map (next_past sha who c)) o.1));
-      told = λ me p' e r is l. subst (λ (z : State). Told z r p'.calls) (sym (moved-append commit (V.at_first (shape g)) p.moves out.moves)) (told_ me p' (past_of w me) refl (sym (past_called sha w k who c past me) ∙ e) r is l);
+      transcript = λ me p' e r is l. subst (λ (z : State). IsTranscript z r p'.calls) (sym (moved-append commit (V.at_first (shape g)) p.moves out.moves)) (told_ me p' (past_of w me) refl (sym (past_called sha w k who c past me) ∙ e) r is l);
       sent = subst (λ l. ((moved_all commit (V.at_first (shape g)) (p.moves ++ out.moves)).machine.sent ≡ map step l) × Roles (shape g) l) (sym (honest_items-append w.log (entry_ c ∷ [])))
           (ap (λ (z : State). z.machine.sent) (moved-append commit (V.at_first (shape g)) p.moves out.moves) ∙ out.sent.0 ∙ ap (λ l. l ++ map step (honest_items sid (entry_ c ∷ []))) p.sent.0 ∙ sym (map-append step (honest_items sid w.log) (honest_items sid (entry_ c ∷ []))), roles-append (shape g) (honest_items sid w.log) (honest_items sid (entry_ c ∷ [])) p.sent.1 out.sent.1);
     }
       where
-        told_ : (me : Name) (p' : Past) (o : Option Past) → past_of w me ≡ o → option_map (next_past sha who c) o ≡ Some p' → (r : ℕ) → principal cast r ≡ me → r < length cast.names → Told (moved_all commit st out.moves) r p'.calls
+        told_ : (me : Name) (p' : Past) (o : Option Past) → past_of w me ≡ o → option_map (next_past sha who c) o ≡ Some p' → (r : ℕ) → principal cast r ≡ me → r < length cast.names → IsTranscript (moved_all commit st out.moves) r p'.calls
         told_ me p' None q e r is l = absurd (cc)
         told_ me p' (Some y) q e r is l =
             let nx : next_past sha who c y ≡ p' = cc in
@@ -348,16 +348,16 @@ module _ {sha : Hash} {s : Schedule} {programs : List Program} {sid : List ℕ} 
                   let y_past : y ≡ past = cc in
                   let after_ : past_after sha past c ≡ p' = ap (λ z. past_after sha z c) (sym y_past) ∙ (rw h at nx) in
                   let calls_are : p'.calls ≡ past.calls ++ record { call = c; answer = answer sha (node_of past) c } ∷ [] = ap (λ (z : Past). z.calls) (sym after_) in
-                  let old : Told st r past.calls = p.told who past its_past r (is ∙ same) l in
-                  let new = out.told r (is ∙ same) l in
-                  subst (Told (moved_all commit st out.moves) r) (sym calls_are) (subst (λ l. ((moved_all commit st out.moves).told r ≡ entries l) × Roles (shape g) l) (sym (told_by-append r past.calls (record { call = c; answer = answer sha (node_of past) c })))
-                  (new.0 ∙ ap (λ l. l ++ entries (told_by r (record { call = c; answer = answer sha (node_of past) c } ∷ []))) old.0 ∙ sym (map-append entry (told_by r past.calls) (told_by r (record { call = c; answer = answer sha (node_of past) c } ∷ []))), roles-append (shape g) (told_by r past.calls) (told_by r (record { call = c; answer = answer sha (node_of past) c } ∷ [])) old.1 new.1))
+                  let old : IsTranscript st r past.calls = p.transcript who past its_past r (is ∙ same) l in
+                  let new = out.transcript r (is ∙ same) l in
+                  subst (IsTranscript (moved_all commit st out.moves) r) (sym calls_are) (subst (λ l. ((moved_all commit st out.moves).transcript r ≡ entries l) × Roles (shape g) l) (sym (transcript_by-append r past.calls (record { call = c; answer = answer sha (node_of past) c })))
+                  (new.0 ∙ ap (λ l. l ++ entries (transcript_by r (record { call = c; answer = answer sha (node_of past) c } ∷ []))) old.0 ∙ sym (map-append entry (transcript_by r past.calls) (transcript_by r (record { call = c; answer = answer sha (node_of past) c } ∷ []))), roles-append (shape g) (transcript_by r past.calls) (transcript_by r (record { call = c; answer = answer sha (node_of past) c } ∷ [])) old.1 new.1))
               | inr h ↦
                   let r' : y ≡ p' = rw h at nx in
                   let ne : me ≡ who → ⊥ = λ z. no_clash (bytes_eq y.keys.me who) ((bytes_eq-Decides y.keys.me who).1 (is_me ∙ z)) h in
-                  let old : Told st r y.calls = p.told me y q r is l in
-                  let same : (moved_all commit st out.moves).told r ≡ st.told r = out.kept.told r (λ z. ne (sym is ∙ z)) in
-                  subst (λ (z : Past). Told (moved_all commit st out.moves) r z.calls) r' (same ∙ old.0, old.1)
+                  let old : IsTranscript st r y.calls = p.transcript me y q r is l in
+                  let same : (moved_all commit st out.moves).transcript r ≡ st.transcript r = out.kept.transcript r (λ z. ne (sym is ∙ z)) in
+                  subst (λ (z : Past). IsTranscript (moved_all commit st out.moves) r z.calls) r' (same ∙ old.0, old.1)
             ]
           where
             no_clash : (b : Bool) → b ≡ true → b ≡ false → ⊥

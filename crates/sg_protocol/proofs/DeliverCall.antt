@@ -18,7 +18,7 @@ use Rattle.sg_protocol.specs.Spelling.{HasSpelling}
 use Rattle.sg_protocol.specs.Texts.{Hash, commitment, commitment_text_of, session_id, session_text_of}
 use Rattle.sg_protocol.specs.TextLaws.{IsVersion, CastFits, OpeningFits}
 use Rattle.sg_protocol.specs.Keyring.{Program}
-use Rattle.sg_protocol.specs.Session.{Session, Took, principal, items_of, own, origin, place, at_turn, last_label, extended, new_session}
+use Rattle.sg_protocol.specs.Session.{Session, Took, principal, items_of, own_part, origin, place, at_turn, last_label, extended, new_session}
 use Rattle.sg_protocol.specs.Calls.{Refusal, Deliver, Happened, NotDelivered, UnknownGraph, UnknownSession, NotWaiting, BadCast, BadSession, UnknownPeer, Joined, CacheFull, SessionsFull, Malformed}
 use Rattle.sg_protocol.specs.Verdict.{row, rows_of_session, is_right, seen, decided, receipt, verdict_on, rows_of_join, rows_of_next, join_rows, next_rows, rows}
 use Rattle.sg_protocol.specs.Notes.{Note, notes_in_session, Notes, notes, no_notes, notes_of_read, session_of_frame, hashed_of_join, hashed_openings, row_number}
@@ -53,9 +53,9 @@ use Rattle.sg_protocol.proofs.ReadBack.{read-SpellsFrame}
 use Rattle.sg_protocol.proofs.Entries.{not_start}
 use Rattle.sg_protocol.proofs.KnownSession.{SessionOfCast}
 use Rattle.sg_protocol.proofs.Takes as T
-use Rattle.sg_protocol.proofs.Finding.{one_place, joined_more, joined_less, joined_now, find_passes}
-use Rattle.sg_protocol.proofs.Calls.{told_in, quiet_event, Fresh, NodeOk, TakesFrame, Out}
-use Rattle.sg_protocol.proofs.AfterCalls.{still_lengths, replace_lengths, cast_parts, event_other, joined_other, kept_takes, new_matches, told_step, join_now, goes_now, join_status, goes_status, other_status, nothing, no_two, joined_ok, other_joined, the_session}
+use Rattle.sg_protocol.proofs.Finding.{one_index, joined_more, joined_less, joined_now, find_passes}
+use Rattle.sg_protocol.proofs.Calls.{transcript_in, quiet_event, Fresh, NodeOk, TakesFrame, Out}
+use Rattle.sg_protocol.proofs.AfterCalls.{still_lengths, replace_lengths, cast_parts, event_other, joined_other, kept_takes, new_matches, transcript_step, join_now, goes_now, join_status, goes_status, other_status, nothing, no_two, joined_ok, other_joined, the_session}
 
 ok_same : (r : Result Frame ℕ) (f f' : Frame) → r ≡ Ok f → r ≡ Ok f' → f ≡ f'
 ok_same r f f' a b = cc
@@ -163,9 +163,9 @@ module _ {sha : Hash} {programs : List Program} {sid : List ℕ} {cast : Cast} {
       used = used_in f.openings (fit_openings f.openings spelled.fields.openings) (λ o i. i);
       made = λ nt i. absurd (no_made 16 (Some (p, x)) nt i);
       log = λ mk i. i;
-      told = λ r e l. subst (λ k. ((moved commit st (Takes x.role t.node (entries f.items) f.openings)).told k ≡ st.told k ++ entries (told_in sid k (Deliver bs) (Happened (receipt f)))) × Roles (shape g) (told_in sid k (Deliver bs) (Happened (receipt f))))
-          (one_place cast.names x.role r differ m.inside l (m.is_who ∙ sym e))
-          (rw took_told (told_step known s LeftBy st (moved commit st (Takes x.role t.node (entries f.items) f.openings)) who x (Took f) m t.matches));
+      transcript = λ r e l. subst (λ k. ((moved commit st (Takes x.role t.node (entries f.items) f.openings)).transcript k ≡ st.transcript k ++ entries (transcript_in sid k (Deliver bs) (Happened (receipt f)))) × Roles (shape g) (transcript_in sid k (Deliver bs) (Happened (receipt f))))
+          (one_index cast.names x.role r differ m.inside l (m.is_who ∙ sym e))
+          (rw took_transcript (transcript_step known s LeftBy st (moved commit st (Takes x.role t.node (entries f.items) f.openings)) who x (Took f) m t.matches));
       sent = (sym (append-nil st.machine.sent), tt);
       took = λ f' q. (
           let same : Deliver bs ≡ Deliver q.bs = q.is_call in
@@ -177,7 +177,7 @@ module _ {sha : Hash} {programs : List Program} {sid : List ℕ} {cast : Cast} {
             is_who = ap (principal cast) fr ∙ m.is_who;
             inside = subst (λ r. r < length cast.names) (sym fr) m.inside;
             no_own = subst (λ r. has (λ (i : Item). i.role) r f.items ≡ false) (sym fr) t.no_own;
-            roles = (told_step known s LeftBy st (moved commit st (Takes x.role t.node (entries f.items) f.openings)) who x (Took f) m t.matches).1;
+            roles = (transcript_step known s LeftBy st (moved commit st (Takes x.role t.node (entries f.items) f.openings)) who x (Took f) m t.matches).1;
           }
           );
       views = λ f' q. (
@@ -213,8 +213,8 @@ module _ {sha : Hash} {programs : List Program} {sid : List ℕ} {cast : Cast} {
         turn_now (inl a) = a
         turn_now (inr b) = absurd (none_some (record { node = t.node; time = R.time_after (R.time_of_own (st.machine.at x.role).own) (V.steps_of (entries f.items)) }) (sym (rw (eq-eqb x.role x.role refl) at (t.matches.waits b))))
 
-        took_told : told_in sid x.role (Deliver bs) (Happened (receipt f)) ≡ f.items
-        took_told = rw ((bytes_eq-Decides f.sid sid).1 fs, eq-eqb f.receiver x.role fr, is_read) (append-nil f.items)
+        took_transcript : transcript_in sid x.role (Deliver bs) (Happened (receipt f)) ≡ f.items
+        took_transcript = rw ((bytes_eq-Decides f.sid sid).1 fs, eq-eqb f.receiver x.role fr, is_read) (append-nil f.items)
 
         used_in : (zs : List Opening) → AllByRecursion OpeningFits zs → ((o : Opening) → In zs o → In f.openings o) → AllByRecursion (λ (o : Opening). In (nts_of 16 (Some (p, x))).hashed (commitment_text_of sid o) × OpeningFits o) (zs ++ [])
         used_in [] a w = tt

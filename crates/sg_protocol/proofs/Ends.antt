@@ -9,7 +9,7 @@ use Rattle.sg_model.specs.Shape.{end_of, target}
 use Rattle.sg_model.specs.Values.{Opening}
 use Rattle.sg_protocol.specs.Graph.{Graph, shape}
 use Rattle.sg_protocol.specs.Frame.{Item}
-use Rattle.sg_protocol.specs.Session.{Session, Exchange, openings_of, told, time, place, last_label, last_time, committed, commitments, opening_in, last_opening}
+use Rattle.sg_protocol.specs.Session.{Session, Exchange, openings_of, transcript, time, place, last_label, last_time, committed, commitments, opening_in, last_opening}
 use Rattle.sg_protocol.specs.LastSteps.{Bare, bare}
 use Rattle.sg_model.specs.Last as Last'
 use Rattle.sg_model.proofs.Evidence as Evid
@@ -105,11 +105,11 @@ module _ (g : Graph) where
       go i (j ∷ is) = go j is
 
   -- a session's place is where the steps that it holds end
-  pub place_is : (x : Session) (past : List Item) → reduced g (told x) ≡ reduced g past → place g x ≡ end_of (shape g) 0 (labels past)
-  place_is x past e = led_place (told x) ∙ ap led_to (same_last (told x) past e) ∙ sym (led_place past) ∙ end_place past
+  pub place_is : (x : Session) (past : List Item) → reduced g (transcript x) ≡ reduced g past → place g x ≡ end_of (shape g) 0 (labels past)
+  place_is x past e = led_place (transcript x) ∙ ap led_to (same_last (transcript x) past e) ∙ sym (led_place past) ∙ end_place past
 
-  pub time_is : (x : Session) (past : List Item) → reduced g (told x) ≡ reduced g past → time x ≡ last_time past
-  time_is x past e = go (told x) ∙ ap (λ (o : Option Bare). unwrap_or (option_map (λ (b : Bare). b.time) o) 0) (same_last (told x) past e) ∙ sym (go past)
+  pub time_is : (x : Session) (past : List Item) → reduced g (transcript x) ≡ reduced g past → time x ≡ last_time past
+  time_is x past e = go (transcript x) ∙ ap (λ (o : Option Bare). unwrap_or (option_map (λ (b : Bare). b.time) o) 0) (same_last (transcript x) past e) ∙ sym (go past)
     where
       at : (o : Option Item) → unwrap_or (option_map (λ (i : Item). i.time) o) 0 ≡ unwrap_or (option_map (λ (b : Bare). b.time) (option_map bare o)) 0
       at None = refl

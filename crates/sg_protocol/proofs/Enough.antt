@@ -17,10 +17,10 @@ use Rattle.sg_protocol.specs.Evidence.{has_view}
 use Rattle.sg_protocol.specs.Frame.{Cast, Item, Frame}
 use Rattle.sg_protocol.specs.Texts.{Hash, item_text_of, commitment, commitment_text_of}
 use Rattle.sg_protocol.specs.Keyring.{Keyring, Program, targets_of, may_return}
-use Rattle.sg_protocol.specs.Session.{Session, Exchange, principal, items_of, openings_of, told, own, own_time, time, place, origin, last_label, committed, commitments, opening_in, last_opening, known, extended}
+use Rattle.sg_protocol.specs.Session.{Session, Exchange, principal, items_of, openings_of, transcript, own_part, own_time, time, place, origin, last_label, committed, commitments, opening_in, last_opening, known, extended}
 use Rattle.sg_protocol.specs.Sending.{entry_of, item_of, shown_to, tag_for, plain_item, text_to, opening_of, text_of, frame_sent}
 use Rattle.sg_protocol.specs.Checks.{checked_texts, texts_checked}
-use Rattle.sg_protocol.specs.Kept.{Kept, kept_items}
+use Rattle.sg_protocol.specs.Kept.{KeptState, kept_items}
 use Rattle.sg_protocol.specs.Calls.{Refusal, BadFrameTag, NoSuchView, BadEvidence, BadOpening, ActFault, Send, NoSuchLabel, BadValues, TimeSpent}
 use Rattle.sg_protocol.specs.Verdict.{row, seen, is_shown, has_right_tags, bad_time, has_kind, is_right, rows_of_session}
 use Rattle.sg_protocol.specs.Acting.{is_bad, rows_of_act}
@@ -124,31 +124,31 @@ module _ (g : Graph) (s t : Session) (k : KeepsSame g s t) where
   by i = i.role
 
   same_time : time s ≡ time t
-  same_time = ap (λ (z : Kept). z.time) k.kept
+  same_time = ap (λ (z : KeptState). z.time) k.kept
 
   same_place : place g s ≡ place g t
-  same_place = ap (λ (z : Kept). z.place) k.kept
+  same_place = ap (λ (z : KeptState). z.place) k.kept
 
   same_origin_ : origin s ≡ origin t
-  same_origin_ = ap (λ (z : Kept). z.origin) k.kept
+  same_origin_ = ap (λ (z : KeptState). z.origin) k.kept
 
   same_own_time : own_time s ≡ own_time t
-  same_own_time = ap (λ (z : Kept). z.own_time) k.kept
+  same_own_time = ap (λ (z : KeptState). z.own_time) k.kept
 
-  same_items : kept_items g (told s) ≡ kept_items g (told t)
-  same_items = ap (λ (z : Kept). z.items) k.kept
+  same_items : kept_items g (transcript s) ≡ kept_items g (transcript t)
+  same_items = ap (λ (z : KeptState). z.items) k.kept
 
-  same_committed : (x : ℕ) → x < n → committed x (told s) ≡ committed x (told t)
-  same_committed x h = range_at (λ x. committed x (told s)) (λ x. committed x (told t)) 0 n (ap (λ (z : Kept). z.commitments) k.kept) x (omega arith) (omega (arith, h))
+  same_committed : (x : ℕ) → x < n → committed x (transcript s) ≡ committed x (transcript t)
+  same_committed x h = range_at (λ x. committed x (transcript s)) (λ x. committed x (transcript t)) 0 n (ap (λ (z : KeptState). z.commitments) k.kept) x (omega arith) (omega (arith, h))
 
   same_known : (x : ℕ) → x < n → known s x ≡ known t x
-  same_known x h = range_at (known s) (known t) 0 n (ap (λ (z : Kept). z.openings) k.kept) x (omega arith) (omega (arith, h))
+  same_known x h = range_at (known s) (known t) 0 n (ap (λ (z : KeptState). z.openings) k.kept) x (omega arith) (omega (arith, h))
 
-  committed_more : (more : List Item) (x : ℕ) → x < n → committed x (told s ++ more) ≡ committed x (told t ++ more)
-  committed_more more x h = committed-append x (told s) more ∙ ap (option_or (committed x more)) (same_committed x h) ∙ sym (committed-append x (told t) more)
+  committed_more : (more : List Item) (x : ℕ) → x < n → committed x (transcript s ++ more) ≡ committed x (transcript t ++ more)
+  committed_more more x h = committed-append x (transcript s) more ∙ ap (option_or (committed x more)) (same_committed x h) ∙ sym (committed-append x (transcript t) more)
 
-  commitments_more : (more : List Item) → commitments g (told s ++ more) ≡ commitments g (told t ++ more)
-  commitments_more more = range_same (λ x. committed x (told s ++ more)) (λ x. committed x (told t ++ more)) 0 n (λ x h. committed_more more x (omega (arith, h)))
+  commitments_more : (more : List Item) → commitments g (transcript s ++ more) ≡ commitments g (transcript t ++ more)
+  commitments_more more = range_same (λ x. committed x (transcript s ++ more)) (λ x. committed x (transcript t ++ more)) 0 n (λ x h. committed_more more x (omega (arith, h)))
 
   said_same : (xs ys : List Item) (i : Item) (r : ℕ) → commitments g (xs ++ i ∷ []) ≡ commitments g (ys ++ i ∷ []) → text_to g s xs i r ≡ text_to g t ys i r
   said_same xs ys i r e =
@@ -168,7 +168,7 @@ module _ (g : Graph) (s t : Session) (k : KeepsSame g s t) where
 
   module _ (sha : Hash) (keys : Keyring) (p : Program) (at : p.graph ≡ g) (is : IsGraph g) (label : ℕ) (written : List Opening) where
     abbrev tagged : Session → Item → Item
-    tagged u i = record i { tags = map (λ r. (r, tag_for sha keys u.cast r (text_to g u (told u) i r))) (targets_of p label) }
+    tagged u i = record i { tags = map (λ r. (r, tag_for sha keys u.cast r (text_to g u (transcript u) i r))) (targets_of p label) }
 
     same_plain : plain_item sha s label written ≡ plain_item sha t label written
     same_plain =
@@ -178,19 +178,19 @@ module _ (g : Graph) (s t : Session) (k : KeepsSame g s t) where
 
     same_tagged : (i : Item) → tagged s i ≡ tagged t i
     same_tagged i = ap (λ ts. record i { tags = ts }) (map_all _ _ (targets_of p label) (λ r.
-        ap (λ (c : Cast). (r, tag_for sha keys c r (text_to g s (told s) i r))) k.cast ∙ ap (λ z. (r, tag_for sha keys t.cast r z)) (said_same (told s) (told t) i r (commitments_more (i ∷ [])))))
+        ap (λ (c : Cast). (r, tag_for sha keys c r (text_to g s (transcript s) i r))) k.cast ∙ ap (λ z. (r, tag_for sha keys t.cast r z)) (said_same (transcript s) (transcript t) i r (commitments_more (i ∷ [])))))
 
     pub same_own : tagged s (plain_item sha s label written) ≡ tagged t (plain_item sha t label written)
     same_own = same_tagged (plain_item sha s label written) ∙ ap (tagged t) same_plain
 
-    same_shown : (r : ℕ) (more : List Item) → shown_to g r (told s ++ more) ≡ shown_to g r (told t ++ more)
+    same_shown : (r : ℕ) (more : List Item) → shown_to g r (transcript s ++ more) ≡ shown_to g r (transcript t ++ more)
     same_shown r more =
-        sym (shown_to-kept (evidence_again (λ (i : Item). i.role)) (evidence_since (λ (i : Item). i.role)) g (told s) more r)
+        sym (shown_to-kept (evidence_again (λ (i : Item). i.role)) (evidence_since (λ (i : Item). i.role)) g (transcript s) more r)
         ∙ ap (λ l. shown_to g r (l ++ more)) same_items
-        ∙ shown_to-kept (evidence_again (λ (i : Item). i.role)) (evidence_since (λ (i : Item). i.role)) g (told t) more r
+        ∙ shown_to-kept (evidence_again (λ (i : Item). i.role)) (evidence_since (λ (i : Item). i.role)) g (transcript t) more r
 
-    same_has : (r : ℕ) → has by r (told s) ≡ has by r (told t)
-    same_has r = sym (has-kept g r (told s)) ∙ ap (has by r) same_items ∙ has-kept g r (told t)
+    same_has : (r : ℕ) → has by r (transcript s) ≡ has by r (transcript t)
+    same_has r = sym (has-kept g r (transcript s)) ∙ ap (has by r) same_items ∙ has-kept g r (transcript t)
 
     -- the frame, from its parts
     abbrev made : ℕ → Cast → List ℕ → ℕ → Bool → List Item → List Opening → Frame
@@ -200,16 +200,16 @@ module _ (g : Graph) (s t : Session) (k : KeepsSame g s t) where
     to i = receiver (shape g) i.label
 
     abbrev plain : Session → Item → Frame
-    plain u i = made (to i) u.cast u.sid u.role (has by (to i) (told u)) (shown_to g (to i) (told u ++ i ∷ [])) (filter_map (opening_of u written) (reads g i.label))
+    plain u i = made (to i) u.cast u.sid u.role (has by (to i) (transcript u)) (shown_to g (to i) (transcript u ++ i ∷ [])) (filter_map (opening_of u written) (reads g i.label))
 
     same_frame : (i : Item) → plain s i ≡ plain t i
     same_frame i =
-        ap (λ c. made (to i) c s.sid s.role (has by (to i) (told s)) (shown_to g (to i) (told s ++ i ∷ [])) (filter_map (opening_of s written) (reads g i.label))) k.cast
-        ∙ ap (λ z. made (to i) t.cast z s.role (has by (to i) (told s)) (shown_to g (to i) (told s ++ i ∷ [])) (filter_map (opening_of s written) (reads g i.label))) k.sid
-        ∙ ap (λ r. made (to i) t.cast t.sid r (has by (to i) (told s)) (shown_to g (to i) (told s ++ i ∷ [])) (filter_map (opening_of s written) (reads g i.label))) k.role
-        ∙ ap (λ b. made (to i) t.cast t.sid t.role b (shown_to g (to i) (told s ++ i ∷ [])) (filter_map (opening_of s written) (reads g i.label))) (same_has (to i))
-        ∙ ap (λ l. made (to i) t.cast t.sid t.role (has by (to i) (told t)) l (filter_map (opening_of s written) (reads g i.label))) (same_shown (to i) (i ∷ []))
-        ∙ ap (made (to i) t.cast t.sid t.role (has by (to i) (told t)) (shown_to g (to i) (told t ++ i ∷ [])))
+        ap (λ c. made (to i) c s.sid s.role (has by (to i) (transcript s)) (shown_to g (to i) (transcript s ++ i ∷ [])) (filter_map (opening_of s written) (reads g i.label))) k.cast
+        ∙ ap (λ z. made (to i) t.cast z s.role (has by (to i) (transcript s)) (shown_to g (to i) (transcript s ++ i ∷ [])) (filter_map (opening_of s written) (reads g i.label))) k.sid
+        ∙ ap (λ r. made (to i) t.cast t.sid r (has by (to i) (transcript s)) (shown_to g (to i) (transcript s ++ i ∷ [])) (filter_map (opening_of s written) (reads g i.label))) k.role
+        ∙ ap (λ b. made (to i) t.cast t.sid t.role b (shown_to g (to i) (transcript s ++ i ∷ [])) (filter_map (opening_of s written) (reads g i.label))) (same_has (to i))
+        ∙ ap (λ l. made (to i) t.cast t.sid t.role (has by (to i) (transcript t)) l (filter_map (opening_of s written) (reads g i.label))) (same_shown (to i) (i ∷ []))
+        ∙ ap (made (to i) t.cast t.sid t.role (has by (to i) (transcript t)) (shown_to g (to i) (transcript t ++ i ∷ [])))
         (filter_map_below n (opening_of s written) (opening_of t written) (reads g i.label) (reads_in n g.edges is.variables i.label).1 (λ x h. ap (option_or (opening_in written x)) (same_known x h)))
 
     abbrev sealed : Cast → Frame → Frame
@@ -270,7 +270,7 @@ late_view true y c d e h = absurd (let n : false ≡ true = h in cc)
 late_view false true c d e h = absurd (let n : false ≡ true = h in cc)
 late_view false false c d e h = refl
 
-module _ (sha : Hash) (keys : Keyring) (p : Program) (s t : Session) (f : Frame) (is : IsGraph p.graph) (k : KeepsSame p.graph s t) (ws : own s ≡ told s) (wt : own t ≡ told t) where
+module _ (sha : Hash) (keys : Keyring) (p : Program) (s t : Session) (f : Frame) (is : IsGraph p.graph) (k : KeepsSame p.graph s t) (ws : own_part s ≡ transcript s) (wt : own_part t ≡ transcript t) where
   abbrev tag_row : Cast → Option Refusal
   tag_row c = row (not (nat_lt f.sender (length c.names) && bytes_eq (tag_for sha keys c f.sender (text_of f)) f.tag)) BadFrameTag
 
@@ -288,13 +288,13 @@ module _ (sha : Hash) (keys : Keyring) (p : Program) (s t : Session) (f : Frame)
   opening_row u = option_map (λ o. BadOpening o.variable) (find (λ o. not (is_right sha p.graph u f o)) f.openings)
 
   texts_same : texts_checked p.graph s f ≡ texts_checked p.graph t f
-  texts_same = ap (λ l. checked_texts p.graph s l f.items) ws ∙ same_checked p.graph s t k (told s) (told t) f.items (commitments_more p.graph s t k) ∙ sym (ap (λ l. checked_texts p.graph t l f.items) wt)
+  texts_same = ap (λ l. checked_texts p.graph s l f.items) ws ∙ same_checked p.graph s t k (transcript s) (transcript t) f.items (commitments_more p.graph s t k) ∙ sym (ap (λ l. checked_texts p.graph t l f.items) wt)
 
   right_same : (o : Opening) → o.variable < length p.graph.variables → not (is_right sha p.graph s f o) ≡ not (is_right sha p.graph t f o)
   right_same o h =
       ap (λ l. not (has_kind p.graph o && same_text (committed o.variable (l ++ f.items)) (commitment sha s.sid o))) ws
       ∙ ap (λ c. not (has_kind p.graph o && same_text c (commitment sha s.sid o))) (committed_more p.graph s t k f.items o.variable h)
-      ∙ ap (λ z. not (has_kind p.graph o && same_text (committed o.variable (told t ++ f.items)) (commitment sha z o))) k.sid
+      ∙ ap (λ z. not (has_kind p.graph o && same_text (committed o.variable (transcript t ++ f.items)) (commitment sha z o))) k.sid
       ∙ sym (ap (λ l. not (has_kind p.graph o && same_text (committed o.variable (l ++ f.items)) (commitment sha t.sid o))) wt)
 
   reads_below : (o : Option ℕ) → AllByRecursion (λ x. x < length p.graph.variables) (option_map_or (reads p.graph) o [])
@@ -370,7 +370,7 @@ keeps_noting_sent keys p s t f written k =
     ap (λ l. parts l s.cast s.sid) (items_ (last f.items)) ∙ ap (λ c. parts (tagged_ t (last f.items)) c s.sid) k.cast ∙ ap (parts (tagged_ t (last f.items)) t.cast) k.sid
   where
     tagged_ : Session → Option Item → List Note
-    tagged_ u o = option_map_or (λ i. map (λ r. note_of keys.me (principal u.cast r) (text_to p.graph u (told u) i r)) (targets_of p i.label)) o []
+    tagged_ u o = option_map_or (λ i. map (λ r. note_of keys.me (principal u.cast r) (text_to p.graph u (transcript u) i r)) (targets_of p i.label)) o []
 
     parts : List Note → Cast → List ℕ → Notes
     parts l c sid = record { made = l ++ note_of keys.me (principal c f.receiver) (text_of f) ∷ []; found = []; hashed = map (commitment_text_of sid) written }
@@ -378,8 +378,8 @@ keeps_noting_sent keys p s t f written k =
     items_ : (o : Option Item) → tagged_ s o ≡ tagged_ t o
     items_ None = refl
     items_ (Some i) = map_all _ _ (targets_of p i.label) (λ r.
-        ap (λ (c : Cast). note_of keys.me (principal c r) (text_to p.graph s (told s) i r)) k.cast
-        ∙ ap (note_of keys.me (principal t.cast r)) (said_same p.graph s t k (told s) (told t) i r (commitments_more p.graph s t k (i ∷ []))))
+        ap (λ (c : Cast). note_of keys.me (principal c r) (text_to p.graph s (transcript s) i r)) k.cast
+        ∙ ap (note_of keys.me (principal t.cast r)) (said_same p.graph s t k (transcript s) (transcript t) i r (commitments_more p.graph s t k (i ∷ []))))
 
 -- ---- whether it is over
 
@@ -397,10 +397,10 @@ keeps_ending programs p s t found k =
 
 -- ---- what is kept after an exchange
 
-told-extended : (s : Session) (e : Exchange) → told (extended s e) ≡ told s ++ items_of e
-told-extended s e = flat_map-append items_of s.exchanges (e ∷ []) ∙ ap (λ l. told s ++ l) (append-nil (items_of e))
+transcript-extended : (s : Session) (e : Exchange) → transcript (extended s e) ≡ transcript s ++ items_of e
+transcript-extended s e = flat_map-append items_of s.exchanges (e ∷ []) ∙ ap (λ l. transcript s ++ l) (append-nil (items_of e))
 
-abbrev kept_of : Option ℕ → ℕ → ℕ → ℕ → List Item → List (Option (List ℕ)) → List (Option Opening) → Kept
+abbrev kept_of : Option ℕ → ℕ → ℕ → ℕ → List Item → List (Option (List ℕ)) → List (Option Opening) → KeptState
 kept_of o a b c d e f = record { origin = o; own_time = a; time = b; place = c; items = d; commitments = e; openings = f }
 
 same_kept : {o o' : Option ℕ} {a a' b b' c c' : ℕ} {d d' : List Item} {e e' : List (Option (List ℕ))} {f f' : List (Option Opening)} → o ≡ o' → a ≡ a' → b ≡ b' → c ≡ c' → d ≡ d' → e ≡ e' → f ≡ f' → kept_of o a b c d e f ≡ kept_of o' a' b' c' d' e' f'
@@ -411,7 +411,7 @@ keeps_going g s t e k = record {
   sid = k.sid;
   cast = k.cast;
   role = k.role;
-  kept = same_kept (later_own (λ o. option_map (λ (i : Item). i.label) o) (same_origin_ g s t k)) (later_own (λ o. unwrap_or (option_map (λ (i : Item). i.time) o) 0) (same_own_time g s t k))
+  kept = same_kept (later_own_part (λ o. option_map (λ (i : Item). i.label) o) (same_origin_ g s t k)) (later_own_part (λ o. unwrap_or (option_map (λ (i : Item). i.time) o) 0) (same_own_time g s t k))
       (later (λ o. unwrap_or (option_map (λ (i : Item). i.time) o) 0) (same_time g s t k)) (later (λ o. unwrap_or (option_map (target (shape g)) (option_map (λ (i : Item). i.label) o)) 0) (same_place g s t k))
       later_items later_commitments later_openings;
 }
@@ -419,26 +419,26 @@ keeps_going g s t e k = record {
     more : List Item
     more = items_of e
 
-    later : {X : Type 0} (F : Option Item → X) → F (last (told s)) ≡ F (last (told t)) → F (last (told (extended s e))) ≡ F (last (told (extended t e)))
-    later F h = ap (λ l. F (last l)) (told-extended s e) ∙ last_same F (told s) (told t) more h ∙ sym (ap (λ l. F (last l)) (told-extended t e))
+    later : {X : Type 0} (F : Option Item → X) → F (last (transcript s)) ≡ F (last (transcript t)) → F (last (transcript (extended s e))) ≡ F (last (transcript (extended t e)))
+    later F h = ap (λ l. F (last l)) (transcript-extended s e) ∙ last_same F (transcript s) (transcript t) more h ∙ sym (ap (λ l. F (last l)) (transcript-extended t e))
 
-    later_own : {X : Type 0} (F : Option Item → X) → F (last (own s)) ≡ F (last (own t)) → F (last (own (extended s e))) ≡ F (last (own (extended t e)))
-    later_own F h =
-        ap (λ r. F (last (up_to_last (λ (i : Item). i.role) r (told (extended s e))))) k.role
-        ∙ ap (λ l. F (last (up_to_last (λ (i : Item). i.role) t.role l))) (told-extended s e)
-        ∙ up_same F (λ (i : Item). i.role) t.role (told s) (told t) more (sym (ap (λ r. F (last (up_to_last (λ (i : Item). i.role) r (told s)))) k.role) ∙ h)
-        ∙ sym (ap (λ l. F (last (up_to_last (λ (i : Item). i.role) t.role l))) (told-extended t e))
+    later_own_part : {X : Type 0} (F : Option Item → X) → F (last (own_part s)) ≡ F (last (own_part t)) → F (last (own_part (extended s e))) ≡ F (last (own_part (extended t e)))
+    later_own_part F h =
+        ap (λ r. F (last (up_to_last (λ (i : Item). i.role) r (transcript (extended s e))))) k.role
+        ∙ ap (λ l. F (last (up_to_last (λ (i : Item). i.role) t.role l))) (transcript-extended s e)
+        ∙ up_same F (λ (i : Item). i.role) t.role (transcript s) (transcript t) more (sym (ap (λ r. F (last (up_to_last (λ (i : Item). i.role) r (transcript s)))) k.role) ∙ h)
+        ∙ sym (ap (λ l. F (last (up_to_last (λ (i : Item). i.role) t.role l))) (transcript-extended t e))
 
-    later_items : kept_items g (told (extended s e)) ≡ kept_items g (told (extended t e))
+    later_items : kept_items g (transcript (extended s e)) ≡ kept_items g (transcript (extended t e))
     later_items =
-        ap (kept_items g) (told-extended s e)
-        ∙ sym (kept-kept (evidence_again (λ (i : Item). i.role)) (evidence_since (λ (i : Item). i.role)) g (told s) more)
+        ap (kept_items g) (transcript-extended s e)
+        ∙ sym (kept-kept (evidence_again (λ (i : Item). i.role)) (evidence_since (λ (i : Item). i.role)) g (transcript s) more)
         ∙ ap (λ l. kept_items g (l ++ more)) (same_items g s t k)
-        ∙ kept-kept (evidence_again (λ (i : Item). i.role)) (evidence_since (λ (i : Item). i.role)) g (told t) more
-        ∙ sym (ap (kept_items g) (told-extended t e))
+        ∙ kept-kept (evidence_again (λ (i : Item). i.role)) (evidence_since (λ (i : Item). i.role)) g (transcript t) more
+        ∙ sym (ap (kept_items g) (transcript-extended t e))
 
-    later_commitments : commitments g (told (extended s e)) ≡ commitments g (told (extended t e))
-    later_commitments = ap (commitments g) (told-extended s e) ∙ commitments_more g s t k more ∙ sym (ap (commitments g) (told-extended t e))
+    later_commitments : commitments g (transcript (extended s e)) ≡ commitments g (transcript (extended t e))
+    later_commitments = ap (commitments g) (transcript-extended s e) ∙ commitments_more g s t k more ∙ sym (ap (commitments g) (transcript-extended t e))
 
     later_openings : map (known (extended s e)) (below (length g.variables)) ≡ map (known (extended t e)) (below (length g.variables))
     later_openings = range_same (known (extended s e)) (known (extended t e)) 0 (length g.variables) (λ x h.

@@ -74,13 +74,13 @@ abbrev meets : Shape → ℕ → ℕ → ℕ → ℕ → Bool
 meets g m a b r = nat_lt 0 (length (filter (λ n. role_at g n == r) (reach g (λ k. if k == a then true else k == b) (length g.roles) (m ∷ []))))
 
 -- the nodes and pairs of roles, of so many, for which blinding holds
-abbrev blind_places : Shape → ℕ → List (List ℕ)
-blind_places g k = flat_map (λ m. flat_map (λ a. flat_map (λ b.
+abbrev blind_triples : Shape → ℕ → List (List ℕ)
+blind_triples g k = flat_map (λ m. flat_map (λ a. flat_map (λ b.
     if nat_lt a b && not (role_at g m == a) && not (role_at g m == b) && meets g m a b a && meets g m a b b then (m ∷ a ∷ b ∷ []) ∷ [] else [])
     (below k)) (below k)) (below (length g.roles))
 
-places : map (λ g. blind_places g 4) (fork ∷ late_fork ∷ shape shop ∷ shape pair ∷ shape relay ∷ []) ≡ ((0 ∷ 1 ∷ 2 ∷ []) ∷ []) ∷ ((0 ∷ 2 ∷ 3 ∷ []) ∷ []) ∷ [] ∷ [] ∷ [] ∷ []
-places = refl
+triples : map (λ g. blind_triples g 4) (fork ∷ late_fork ∷ shape shop ∷ shape pair ∷ shape relay ∷ []) ≡ ((0 ∷ 1 ∷ 2 ∷ []) ∷ []) ∷ ((0 ∷ 2 ∷ 3 ∷ []) ∷ []) ∷ [] ∷ [] ∷ [] ∷ []
+triples = refl
 
 targets_relay : map (targets relay) (below 3) ≡ (2 ∷ 3 ∷ []) ∷ (3 ∷ []) ∷ [] ∷ []
 targets_relay = refl

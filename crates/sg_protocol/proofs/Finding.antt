@@ -15,12 +15,12 @@ text_there t (u ∷ us) zero l e = rw ((bytes_eq-Decides t u).1 e) refl
 text_there t (u ∷ us) (suc k) l e = elim (cases_Bool (bytes_eq t u)) [ inl f ↦ rw f refl | inr f ↦ rw f (text_there t us k (omega arith) e) ]
 
 -- names that all differ stand at one place each
-pub one_place : (ts : List (List ℕ)) (h k : ℕ) → all_differ ts ≡ true → h < length ts → k < length ts → get_or ts h [] ≡ get_or ts k [] → h ≡ k
-one_place [] h k d l m e = absurd (omega arith)
-one_place (t ∷ ts) zero zero d l m e = refl
-one_place (t ∷ ts) zero (suc k) d l m e = absurd (clash (has_text t ts) (text_there t ts k (omega arith) e) (not-true (has_text t ts) (and_parts (not (has_text t ts)) (all_differ ts) d).0))
-one_place (t ∷ ts) (suc h) zero d l m e = absurd (clash (has_text t ts) (text_there t ts h (omega arith) (sym e)) (not-true (has_text t ts) (and_parts (not (has_text t ts)) (all_differ ts) d).0))
-one_place (t ∷ ts) (suc h) (suc k) d l m e = ap suc (one_place ts h k (and_parts (not (has_text t ts)) (all_differ ts) d).1 (omega arith) (omega arith) e)
+pub one_index : (ts : List (List ℕ)) (h k : ℕ) → all_differ ts ≡ true → h < length ts → k < length ts → get_or ts h [] ≡ get_or ts k [] → h ≡ k
+one_index [] h k d l m e = absurd (omega arith)
+one_index (t ∷ ts) zero zero d l m e = refl
+one_index (t ∷ ts) zero (suc k) d l m e = absurd (clash (has_text t ts) (text_there t ts k (omega arith) e) (not-true (has_text t ts) (and_parts (not (has_text t ts)) (all_differ ts) d).0))
+one_index (t ∷ ts) (suc h) zero d l m e = absurd (clash (has_text t ts) (text_there t ts h (omega arith) (sym e)) (not-true (has_text t ts) (and_parts (not (has_text t ts)) (all_differ ts) d).0))
+one_index (t ∷ ts) (suc h) (suc k) d l m e = ap suc (one_index ts h k (and_parts (not (has_text t ts)) (all_differ ts) d).1 (omega arith) (omega arith) e)
 
 -- pairs that are joined later
 pub joined_more : (js : List (List ℕ × ℕ)) (j : List ℕ × ℕ) (sid : List ℕ) (r : ℕ) → has_joined js sid r ≡ true → has_joined (js ++ j ∷ []) sid r ≡ true

@@ -16,7 +16,7 @@ use Rattle.sg_protocol.specs.Spelling.{HasSpelling}
 use Rattle.sg_protocol.specs.Texts.{Hash, IsHash, session_id, session_text_of, graph_text_of}
 use Rattle.sg_protocol.specs.TextLaws.{IsVersion, CastFits}
 use Rattle.sg_protocol.specs.Keyring.{Keyring, Program}
-use Rattle.sg_protocol.specs.Session.{Session, Took, Gave, principal, own, time, extended, new_session}
+use Rattle.sg_protocol.specs.Session.{Session, Took, Gave, principal, own_part, time, extended, new_session}
 use Rattle.sg_protocol.specs.Calls.{Refusal, ActFault, Started, Received, Call, Start, Act, Abandon, Deliver, Answer, Happened, Sends, Abandoned, NotStarted, NotActed, NotAbandoned, StartFault, UnknownGraph, UnknownSession, BadCast, BadSession, UnknownPeer, Joined, CacheFull, SessionsFull, events_of_answer, sid_of}
 use Rattle.sg_protocol.specs.Verdict.{row, rows_of_session, decided, receipt, verdict_on, rows_of_join, rows_of_next, join_rows, next_rows, rows}
 use Rattle.sg_protocol.specs.Schedule.{Schedule, Step, StartStep, ActStep, AbandonStep, DeliverStep, CraftStep, What, cast_of, sid_at, confounder}

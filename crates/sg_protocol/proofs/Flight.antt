@@ -54,7 +54,7 @@ use Rattle.sg_protocol.proofs.Entries as Entries'
 use Rattle.sg_protocol.proofs.Keys as Keys'
 use Rattle.std.specs.Option.{option_map_or}
 use Rattle.std.proofs.lemmas.List.Elements.{filter-append, filter_map-append}
-use Rattle.sg_protocol.proofs.Finding.{one_place, find_passes}
+use Rattle.sg_protocol.proofs.Finding.{one_index, find_passes}
 use Rattle.sg_protocol.proofs.Calls.{Unmoved, WasLeft, HasStarted, HasTaken, HasGiven, TakesFrame}
 use Rattle.sg_protocol.proofs.KnownSession.{SessionOfRun}
 use Rattle.sg_protocol.proofs.Course.{Progress, LeftBy, keep_all, Suffix, Outs, past_called, next_past, node_more, in_after, in_before, suffix_trans, suffix_one}
@@ -651,7 +651,7 @@ module _ {sha : Hash} {s : Schedule} {programs : List Program} {sid : List ℕ} 
     unjoined_new : (r : ℕ) → principal cast r ≡ who → r < length cast.names → filter (of_sid sid) n.live ≡ [] → has_joined n.joins sid r ≡ false → Track w.log who n → Starting r
     unjoined_new r q l none j (inl t) = fresh_sess r q l (t.none r q l)
     unjoined_new r q l none j (inr (inl t)) = absurd (let z : [] ≡ t.x ∷ [] = sym none ∙ t.alone in cc)
-    unjoined_new r q l none j (inr (inr t)) = absurd (clash (has_joined n.joins sid r) (subst (λ z. has_joined n.joins sid z ≡ true) (one_place cast.names (t.x).role r known.of_run.of_cast.names_differ t.ok.inside_ l (t.ok.is_who ∙ sym q)) t.was_joined) j)
+    unjoined_new r q l none j (inr (inr t)) = absurd (clash (has_joined n.joins sid r) (subst (λ z. has_joined n.joins sid z ≡ true) (one_index cast.names (t.x).role r known.of_run.of_cast.names_differ t.ok.inside_ l (t.ok.is_who ∙ sym q)) t.was_joined) j)
 
     on_started : HasStarted_ who n n' a → Flight (called sha w k who c past)
     on_started h =

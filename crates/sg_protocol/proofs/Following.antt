@@ -22,7 +22,7 @@ use Rattle.sg_protocol.specs.Evidence.{Seen, View, IsView, IsViewTable, walked, 
 use Rattle.sg_protocol.specs.Frame.{Cast, Item, Frame}
 use Rattle.sg_protocol.specs.Texts.{Hash, commitment}
 use Rattle.sg_protocol.specs.Keyring.{Keyring, Program}
-use Rattle.sg_protocol.specs.Session.{Session, Took, Gave, new_session, items_of, told, own, origin, place, at_turn, last_label, committed, opening_in, known, extended}
+use Rattle.sg_protocol.specs.Session.{Session, Took, Gave, new_session, items_of, transcript, own_part, origin, place, at_turn, last_label, committed, opening_in, known, extended}
 use Rattle.sg_protocol.specs.Sending.{own_item}
 use Rattle.sg_protocol.specs.Kept.{kept}
 use Rattle.sg_protocol.specs.Verdict.{seen, has_kind, is_right}
@@ -69,14 +69,14 @@ pub record Opened (sha : Hash) (s : Session) (x : ℕ) : Type 0 where
   pub opening : Opening
   pub variable : opening.variable ≡ x
   pub is_known : known s x ≡ Some opening
-  pub current : committed x (told s) ≡ Some (commitment sha s.sid opening)
+  pub current : committed x (transcript s) ≡ Some (commitment sha s.sid opening)
 
 pub to_kept : (sha : Hash) (g : Graph) (s : Session) (x : ℕ) → x < length g.variables → Opened sha s x → IsOpened sha s.sid (kept g s) x
 to_kept sha g s x l o = record {
   opening = o.opening;
   variable = o.variable;
   is_kept = get_below (known s) None (length g.variables) x l ∙ o.is_known;
-  current = get_below (λ x. committed x (told s)) None (length g.variables) x l ∙ o.current;
+  current = get_below (λ x. committed x (transcript s)) None (length g.variables) x l ∙ o.current;
 }
 
 pub of_kept : (sha : Hash) (g : Graph) (s : Session) (x : ℕ) → x < length g.variables → IsOpened sha s.sid (kept g s) x → Opened sha s x
@@ -84,7 +84,7 @@ of_kept sha g s x l o = record {
   opening = o.opening;
   variable = o.variable;
   is_known = sym (get_below (known s) None (length g.variables) x l) ∙ o.is_kept;
-  current = sym (get_below (λ x. committed x (told s)) None (length g.variables) x l) ∙ o.current;
+  current = sym (get_below (λ x. committed x (transcript s)) None (length g.variables) x l) ∙ o.current;
 }
 
 -- ---- a new session
@@ -118,20 +118,20 @@ module _ (sha : Hash) (g : Graph) (acc : Accepted g) (s : Session) (label : ℕ)
     abbrev now : Session
     now = extended s (Gave i written)
 
-    told_now : told now ≡ told s ++ i ∷ []
-    told_now = flat_map-append items_of s.exchanges (Gave i written ∷ [])
+    transcript_now : transcript now ≡ transcript s ++ i ∷ []
+    transcript_now = flat_map-append items_of s.exchanges (Gave i written ∷ [])
 
-    upto_now : own now ≡ told s ++ i ∷ []
-    upto_now = ap (up_to_last (λ (i : Item). i.role) s.role) told_now ∙ upto-at (λ (i : Item). i.role) s.role (told s) i [] role refl
+    upto_now : own_part now ≡ transcript s ++ i ∷ []
+    upto_now = ap (up_to_last (λ (i : Item). i.role) s.role) transcript_now ∙ upto-at (λ (i : Item). i.role) s.role (transcript s) i [] role refl
 
-    pub own_now : own now ≡ told now
-    own_now = upto_now ∙ sym told_now
+    pub own_part_now : own_part now ≡ transcript now
+    own_part_now = upto_now ∙ sym transcript_now
 
     origin_now : origin now ≡ Some label
-    origin_now = ap last_label upto_now ∙ ap (option_map (λ (i : Item). i.label)) (last-append (told s) i []) ∙ ap (λ l. Some l) lab
+    origin_now = ap last_label upto_now ∙ ap (option_map (λ (i : Item). i.label)) (last-append (transcript s) i []) ∙ ap (λ l. Some l) lab
 
     place_now : place g now ≡ target (shape g) label
-    place_now = ap (λ l. unwrap_or (option_map (target (shape g)) (last_label l)) 0) told_now ∙ ap (λ o. unwrap_or (option_map (target (shape g)) (option_map (λ (i : Item). i.label) o)) 0) (last-append (told s) i []) ∙ ap (target (shape g)) lab
+    place_now = ap (λ l. unwrap_or (option_map (target (shape g)) (last_label l)) 0) transcript_now ∙ ap (λ o. unwrap_or (option_map (target (shape g)) (option_map (λ (i : Item). i.label) o)) 0) (last-append (transcript s) i []) ∙ ap (target (shape g)) lab
 
     pub waits_now : at_turn g now ≡ false
     waits_now = ap (λ n. role_at (shape g) n == s.role) place_now ∙ apart
@@ -154,20 +154,20 @@ module _ (sha : Hash) (g : Graph) (acc : Accepted g) (s : Session) (label : ℕ)
       value_now : (x : ℕ) → value_at i.delta x ≡ option_map (commitment sha s.sid) (opening_in written x)
       value_now x = ap (λ m. value_at m x) delta ∙ value_of_opening (commitment sha s.sid) written x
 
-      committed_now : (x : ℕ) → committed x (told s ++ i ∷ []) ≡ option_or (option_map (commitment sha s.sid) (opening_in written x)) (committed x (told s))
-      committed_now x = committed-append x (told s) (i ∷ []) ∙ ap (λ c. option_or c (committed x (told s))) (value_now x)
+      committed_now : (x : ℕ) → committed x (transcript s ++ i ∷ []) ≡ option_or (option_map (commitment sha s.sid) (opening_in written x)) (committed x (transcript s))
+      committed_now x = committed-append x (transcript s) (i ∷ []) ∙ ap (λ c. option_or c (committed x (transcript s))) (value_now x)
 
       -- a written variable
-      written_now : (x : ℕ) → is_in x (writes g label) ≡ true → (o : Opening) × (opening_in written x ≡ Some o) × (o.variable ≡ x) × (committed x (told s ++ i ∷ []) ≡ Some (commitment sha s.sid o))
+      written_now : (x : ℕ) → is_in x (writes g label) ≡ true → (o : Opening) × (opening_in written x ≡ Some o) × (o.variable ≡ x) × (committed x (transcript s ++ i ∷ []) ≡ Some (commitment sha s.sid o))
       written_now x h =
           let o = opening_there written x (ap (is_in x) names ∙ h) in
-          (o.0, o.1, o.2, committed_now x ∙ ap (λ z. option_or (option_map (commitment sha s.sid) z) (committed x (told s))) o.1)
+          (o.0, o.1, o.2, committed_now x ∙ ap (λ z. option_or (option_map (commitment sha s.sid) z) (committed x (transcript s))) o.1)
 
       -- another variable
-      other_now : (x : ℕ) → is_in x (writes g label) ≡ false → (opening_in written x ≡ None) × (committed x (told s ++ i ∷ []) ≡ committed x (told s))
+      other_now : (x : ℕ) → is_in x (writes g label) ≡ false → (opening_in written x ≡ None) × (committed x (transcript s ++ i ∷ []) ≡ committed x (transcript s))
       other_now x h =
           let n = opening_not written x (ap (is_in x) names ∙ h) in
-          (n, committed_now x ∙ ap (λ z. option_or (option_map (commitment sha s.sid) z) (committed x (told s))) n)
+          (n, committed_now x ∙ ap (λ z. option_or (option_map (commitment sha s.sid) z) (committed x (transcript s))) n)
 
       opened_now : (x : ℕ) → knows g s.role x (fo.walk ++ label ∷ []) ≡ true → Opened sha (extended s (Gave i written)) x
       opened_now x k = elim (cases_Bool (is_in x (writes g label))) [
@@ -175,7 +175,7 @@ module _ (sha : Hash) (g : Graph) (acc : Accepted g) (s : Session) (label : ℕ)
           opening = w.0;
           variable = w.2;
           is_known = last_opening-append x s.exchanges (Gave i written) ∙ ap (λ o. option_or o (known s x)) w.1;
-          current = ap (committed x) (told_now written i role lab) ∙ w.3;
+          current = ap (committed x) (transcript_now written i role lab) ∙ w.3;
         })
         | inr h ↦ (
             let n = other_now x h in
@@ -185,7 +185,7 @@ module _ (sha : Hash) (g : Graph) (acc : Accepted g) (s : Session) (label : ℕ)
               opening = old.opening;
               variable = old.variable;
               is_known = last_opening-append x s.exchanges (Gave i written) ∙ ap (λ o. option_or o (known s x)) n.0 ∙ old.is_known;
-              current = ap (committed x) (told_now written i role lab) ∙ n.1 ∙ old.current;
+              current = ap (committed x) (transcript_now written i role lab) ∙ n.1 ∙ old.current;
             })
       ]
 
@@ -199,7 +199,7 @@ module _ (sha : Hash) (g : Graph) (acc : Accepted g) (s : Session) (label : ℕ)
         opened = λ x k. to_kept sha g (extended s (Gave i written)) x (knows_below g is s.role x (fo.walk ++ label ∷ []) k) (opened_now x k);
       }
 
-      opens_reads : (x : ℕ) → is_in x (reads g label) ≡ true → IsOpenedIn sha s written (told s ++ i ∷ []) x
+      opens_reads : (x : ℕ) → is_in x (reads g label) ≡ true → IsOpenedIn sha s written (transcript s ++ i ∷ []) x
       opens_reads x r = elim (cases_Bool (is_in x (writes g label))) [
         | inl h ↦ (let w = written_now x h in record { opening = w.0; variable = w.2; is_sent = ap (λ o. option_or o (known s x)) w.1; current = w.3 })
         | inr h ↦ (
@@ -265,13 +265,13 @@ module _ (sha : Hash) (keys : Keyring) (p : Program) (ip : IsProgram sha p) (s :
   abbrev viewed : IsView g' s.role v
   viewed = (views.each v).0 (has_view-Contains p.views v rows.viewed)
 
-  abbrev front : List ℕ
-  front = up_to_last (sender (shape g')) s.role viewed.walk
+  abbrev prefix : List ℕ
+  prefix = up_to_last (sender (shape g')) s.role viewed.walk
 
   abbrev since : List ℕ
   since = after_last (sender (shape g')) s.role viewed.walk
 
-  parts : front ++ since ≡ viewed.walk
+  parts : prefix ++ since ≡ viewed.walk
   parts = up_to_last-after (sender (shape g')) s.role viewed.walk
 
   no_own : has (sender (shape g')) s.role since ≡ false
@@ -300,16 +300,16 @@ module _ (sha : Hash) (keys : Keyring) (p : Program) (ip : IsProgram sha p) (s :
   abbrev later : Session
   later = extended s (Took f)
 
-  told_later : told later ≡ told s ++ f.items
-  told_later = flat_map-append items_of s.exchanges (Took f ∷ []) ∙ ap (λ l. told s ++ l) (append-nil f.items)
+  transcript_later : transcript later ≡ transcript s ++ f.items
+  transcript_later = flat_map-append items_of s.exchanges (Took f ∷ []) ∙ ap (λ l. transcript s ++ l) (append-nil f.items)
 
   origin_later : origin later ≡ origin s
-  origin_later = ap last_label (ap (up_to_last (λ (i : Item). i.role) s.role) told_later ∙ upto-more (λ (i : Item). i.role) s.role (told s) f.items none_own)
+  origin_later = ap last_label (ap (up_to_last (λ (i : Item). i.role) s.role) transcript_later ∙ upto-more (λ (i : Item). i.role) s.role (transcript s) f.items none_own)
 
-  last_later : last (told later) ≡ Some last_item.0
-  last_later = ap last told_later ∙ last-append_some (told s) f.items last_item.0 last_item.1
+  last_later : last (transcript later) ≡ Some last_item.0
+  last_later = ap last transcript_later ∙ last-append_some (transcript s) f.items last_item.0 last_item.1
 
-  pub other_later : IfSome (last (told later)) (λ (i : Item). i.role ≢ s.role)
+  pub other_later : IfSome (last (transcript later)) (λ (i : Item). i.role ≢ s.role)
   other_later = subst (λ o. IfSome o (λ (i : Item). i.role ≢ s.role)) (sym last_later) (last_free s.role f.items last_item.0 none_own last_item.1)
 
   place_later : place g' later ≡ end_of (shape g') 0 viewed.walk
@@ -321,8 +321,8 @@ module _ (sha : Hash) (keys : Keyring) (p : Program) (ip : IsProgram sha p) (s :
   variables_are : map (λ (o : Opening). o.variable) f.openings ≡ reads g' (last_item.0).label
   variables_are = same_bytes _ _ rows.variables ∙ ap (λ o. option_map_or (reads g') (option_map (λ (i : Item). i.label) o) []) last_item.1
 
-  committed_later : (x : ℕ) → committed x (told later) ≡ option_or (committed x f.items) (committed x (told s))
-  committed_later x = ap (committed x) told_later ∙ committed-append x (told s) f.items
+  committed_later : (x : ℕ) → committed x (transcript later) ≡ option_or (committed x f.items) (committed x (transcript s))
+  committed_later x = ap (committed x) transcript_later ∙ committed-append x (transcript s) f.items
 
   known_later : (x : ℕ) → known later x ≡ option_or (opening_in f.openings x) (known s x)
   known_later x = last_opening-append x s.exchanges (Took f)
@@ -331,16 +331,16 @@ module _ (sha : Hash) (keys : Keyring) (p : Program) (ip : IsProgram sha p) (s :
   unseen x l h = none_seen (length g'.variables) x l f.items (evidence_for (sender (shape g')) s.role (walked g' viewed.walk)) (ap (λ (z : View). z.items) (sym viewed.seen))
       (subst (λ es. AllByRecursion (Unwritten x) (evidence (sender (shape g')) es)) (sym (walked_after g' s.role viewed.walk)) (evidence_unwritten x (sender (shape g')) (walked g' since) (walked_unwritten g' x since h)))
 
-  module _ (waits : own s ≡ told s) (fo : FollowsWalk sha p.graph s.sid s.role false (kept p.graph s)) where
+  module _ (waits : own_part s ≡ transcript s) (fo : FollowsWalk sha p.graph s.sid s.role false (kept p.graph s)) where
     -- the view's walk and the role's own come to one node by the role's own last step
-    same_end : end_of (shape g') 0 front ≡ end_of (shape g') 0 fo.walk
-    same_end = end_of_same (shape g') 0 front fo.walk (ap (λ (z : View). z.origin) viewed.seen ∙ sym (fo.at_own refl))
+    same_end : end_of (shape g') 0 prefix ≡ end_of (shape g') 0 fo.walk
+    same_end = end_of_same (shape g') 0 prefix fo.walk (ap (λ (z : View). z.origin) viewed.seen ∙ sym (fo.at_own refl))
 
     since_walk : Walk (shape g') (end_of (shape g') 0 fo.walk) since
-    since_walk = subst (λ n. Walk (shape g') n since) same_end (walk-append (shape g') 0 front since (subst (Walk (shape g') 0) (sym parts) viewed.follows)).1
+    since_walk = subst (λ n. Walk (shape g') n since) same_end (walk-append (shape g') 0 prefix since (subst (Walk (shape g') 0) (sym parts) viewed.follows)).1
 
     end_now : end_of (shape g') 0 (fo.walk ++ since) ≡ end_of (shape g') 0 viewed.walk
-    end_now = end_of-append (shape g') 0 fo.walk since ∙ ap (λ n. end_of (shape g') n since) (sym same_end) ∙ sym (end_of-append (shape g') 0 front since) ∙ ap (end_of (shape g') 0) parts
+    end_now = end_of-append (shape g') 0 fo.walk since ∙ ap (λ n. end_of (shape g') n since) (sym same_end) ∙ sym (end_of-append (shape g') 0 prefix since) ∙ ap (end_of (shape g') 0) parts
 
     opened_later : (x : ℕ) → knows g' s.role x (fo.walk ++ since) ≡ true → Opened sha later x
     opened_later x k = elim (cases_Bool (is_in x (reads g' (last_item.0).label))) [
@@ -352,7 +352,7 @@ module _ (sha : Hash) (keys : Keyring) (p : Program) (ip : IsProgram sha p) (s :
             opening = o.0;
             variable = o.2;
             is_known = known_later x ∙ ap (λ z. option_or z (known s x)) o.1;
-            current = ap (committed x) told_later ∙ ap (λ l. committed x (l ++ f.items)) (sym waits) ∙ ap (λ z. committed z (own s ++ f.items)) (sym o.2) ∙ opens;
+            current = ap (committed x) transcript_later ∙ ap (λ l. committed x (l ++ f.items)) (sym waits) ∙ ap (λ z. committed z (own_part s ++ f.items)) (sym o.2) ∙ opens;
           })
       | inr h ↦ (
           let none = unlearned g' s.role x (end_of (shape g') 0 fo.walk) since since_walk no_own (subst (λ o. IfSome o (λ e. is_in x (reads g' e) ≡ false)) (sym since_last) h) in
@@ -363,7 +363,7 @@ module _ (sha : Hash) (keys : Keyring) (p : Program) (ip : IsProgram sha p) (s :
             opening = old.opening;
             variable = old.variable;
             is_known = known_later x ∙ ap (λ z. option_or z (known s x)) (opening_not f.openings x (ap (is_in x) variables_are ∙ h)) ∙ old.is_known;
-            current = committed_later x ∙ ap (λ z. option_or z (committed x (told s))) (unseen x l kp.1) ∙ old.current;
+            current = committed_later x ∙ ap (λ z. option_or z (committed x (transcript s))) (unseen x l kp.1) ∙ old.current;
           })
     ]
 

@@ -13,7 +13,7 @@ use Rattle.sg_protocol.specs.Frame.{Frame}
 use Rattle.sg_protocol.specs.Texts.{item_text_of, frame_text_of}
 use Rattle.sg_protocol.specs.Walk.{is_typed_or_hidden, shown}
 use Rattle.sg_law.specs.Values as V
-use Rattle.sg_law.specs.Values.{State, Made, told_with_item, com_of, Move, Commit, moved, MayTake, Tagged, Framed, Opened, own_of, is_variable, put}
+use Rattle.sg_law.specs.Values.{State, SentItem, transcript_with_item, com_of, Move, Commit, moved, MayTake, Tagged, Framed, Opened, own_part_of, is_variable, put}
 use Rattle.sg_law.specs.Values.Move.{Writes, Takes}
 use Rattle.sg_protocol.proofs.Moves.{writes_below}
 use Rattle.sg_model.specs.Lists.{rises_from, keys_of, in_order}

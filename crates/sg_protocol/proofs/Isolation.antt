@@ -19,7 +19,7 @@ use Rattle.sg_protocol.specs.Calls.{Event, Received, Call, Start, Act, Abandon, 
 use Rattle.sg_protocol.specs.Verdict.{row, decided, rows_of_join, join_rows, next_rows, rows_of_session, rows, receipt, verdict_on}
 use Rattle.sg_protocol.specs.Acting.{started, rows_of_start, answer, openings_for}
 use Rattle.sg_protocol.specs.NodeAfter.{node_after, takes_read, joined, goes_on, replace, still, is_over}
-use Rattle.sg_protocol.specs.Past.{Called, AreAnswers, calls_of_session, is_call_of, is_frame_of, answers, new_node}
+use Rattle.sg_protocol.specs.Past.{AnsweredCall, AreAnswers, calls_of_session, is_call_of, is_frame_of, answers, new_node}
 use Rattle.sg_protocol.specs.Isolation.{is_for_room, SessionsAreIsolated}
 
 -- ---- look-ups in a part of a list
@@ -343,7 +343,7 @@ module _ (sha : Hash) (sid : List ℕ) (n n' : Node) (b : Beside sid n n') where
 
 -- ---- whole pasts
 
-isolated : (sha : Hash) (sid : List ℕ) (n n' : Node) (cs : List Called) → Beside sid n n' → AreAnswers sha n cs → All (λ c. is_for_room c.answer ≡ false) cs →
+isolated : (sha : Hash) (sid : List ℕ) (n n' : Node) (cs : List AnsweredCall) → Beside sid n n' → AreAnswers sha n cs → All (λ c. is_for_room c.answer ≡ false) cs →
     map (λ c. c.answer) (calls_of_session sha sid cs) ≡ answers sha n' (map (λ c. c.call) (calls_of_session sha sid cs))
 isolated sha sid n n' [] b right free = refl
 isolated sha sid n n' (c ∷ cs) b right free = elim (cases_Bool (is_call_of sha sid c.call)) [

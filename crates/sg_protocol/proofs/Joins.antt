@@ -17,7 +17,7 @@ use Rattle.sg_protocol.specs.Calls.{Event, Started, Received, Call, Start, Act, 
 use Rattle.sg_protocol.specs.Verdict.{decided, rows_of_join, rows_of_next, join_rows, next_rows, rows, receipt, verdict_on}
 use Rattle.sg_protocol.specs.Acting.{started, acted, sent, rows_of_start, rows_of_act, answer, openings_for}
 use Rattle.sg_protocol.specs.NodeAfter.{node_after, takes_read, joined, goes_on, replace, still, is_over}
-use Rattle.sg_protocol.specs.Past.{Called, Past, AreAnswers, joins_once, pairs_differ, JoinedOnce, new_node, node_after_all, past_after}
+use Rattle.sg_protocol.specs.Past.{AnsweredCall, Past, AreAnswers, joins_once, pairs_differ, JoinedOnce, new_node, node_after_all, past_after}
 use Rattle.sg_model.specs.Names.{Name}
 use Rattle.sg_model.proofs.Small.{and_left, and_right, same_bytes, bytes_refl, none_parts}
 use Rattle.sg_protocol.specs.Schedule.{Schedule, PairKey, Step, StartStep, ActStep, AbandonStep, DeliverStep, CraftStep}
@@ -193,7 +193,7 @@ module _ (sha : Hash) (n : Node) (h : Owns n.joins n.live) (es : List Event) whe
   call_step (Abandon sid) k = abandon_step sid (session_with n.live sid) k
   call_step (Deliver bs) k = deliver_step bs (read bs) refl k
 
-once : (sha : Hash) (n : Node) (cs : List Called) → Owns n.joins n.live → AreAnswers sha n cs → joins_once n.joins (flat_map (λ c. events_of_answer c.answer) cs) ≡ true
+once : (sha : Hash) (n : Node) (cs : List AnsweredCall) → Owns n.joins n.live → AreAnswers sha n cs → joins_once n.joins (flat_map (λ c. events_of_answer c.answer) cs) ≡ true
 once sha n [] h a = refl
 once sha n (c ∷ cs) h a =
     subst (λ x. joins_once n.joins (events_of_answer x ++ flat_map (λ c. events_of_answer c.answer) cs) ≡ true) (sym a.0)
@@ -209,7 +209,7 @@ nodes_join_once sha past d a = record { first = d; events = once sha (new_node p
 abbrev pub Right : Hash → Past → Type 0
 Right sha past = AreAnswers sha (new_node past.keys past.programs past.first) past.calls × (past.first ≡ [])
 
-answers_more : (sha : Hash) (n : Node) (cs : List Called) (c : Call) → AreAnswers sha n cs → AreAnswers sha n (cs ++ record { call = c; answer = answer sha (node_after_all n cs) c } ∷ [])
+answers_more : (sha : Hash) (n : Node) (cs : List AnsweredCall) (c : Call) → AreAnswers sha n cs → AreAnswers sha n (cs ++ record { call = c; answer = answer sha (node_after_all n cs) c } ∷ [])
 answers_more sha n [] c a = (refl, tt)
 answers_more sha n (d ∷ cs) c a = (a.0, answers_more sha (node_after n d.call d.answer) cs c a.1)
 

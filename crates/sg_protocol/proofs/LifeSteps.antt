@@ -20,7 +20,7 @@ use Rattle.sg_protocol.specs.Calls.{Call, Deliver, Happened, Abandoned}
 use Rattle.sg_protocol.specs.Verdict.{receipt}
 use Rattle.sg_protocol.specs.Acting.{answer}
 use Rattle.sg_protocol.specs.Notes.{notes}
-use Rattle.sg_protocol.specs.Past.{Called, Past, node_of, past_after}
+use Rattle.sg_protocol.specs.Past.{AnsweredCall, Past, node_of, past_after}
 use Rattle.sg_protocol.specs.Schedule.{Schedule, Declared, Step, StartStep, ActStep, AbandonStep, DeliverStep, CraftStep}
 use Rattle.sg_protocol.specs.World.{Outcome, Logged, World, Answered, Crafted, NoFrame, past_of, new_world, call_of}
 use Rattle.sg_protocol.specs.Run.{called, called_if, uncalled, world_after, world_after_all, run, frame_in}
@@ -113,12 +113,12 @@ module _ (sha : Hash) (me : Name) where
   run_calls : (programs : List Program) (s : Schedule) → HasCalls (run sha programs s).log (past_of (run sha programs s) me)
   run_calls programs s = calls_all s (new_world programs s) 1 s.steps (calls_new programs s)
 
-in_calls : (me : Name) (log : List Logged) (l : Logged) (c : Called) → In log l → called_by me l ≡ Some c → calls_at me log ≡ [] → ⊥
+in_calls : (me : Name) (log : List Logged) (l : Logged) (c : AnsweredCall) → In log l → called_by me l ≡ Some c → calls_at me log ≡ [] → ⊥
 in_calls me [] l c i e n = i
 in_calls me (x ∷ xs) l c (inl q) e n = (let z : cons_option (Some c) (calls_at me xs) ≡ [] = ap (λ o. cons_option o (calls_at me xs)) (sym (ap (called_by me) (sym q) ∙ e)) ∙ n in absurd (cc))
 in_calls me (x ∷ xs) l c (inr i) e n = in_calls me xs l c i e (tail (called_by me x) (calls_at me xs) n)
   where
-    tail : (o : Option Called) (cs : List Called) → cons_option o cs ≡ [] → cs ≡ []
+    tail : (o : Option AnsweredCall) (cs : List AnsweredCall) → cons_option o cs ≡ [] → cs ≡ []
     tail None cs n = n
     tail (Some c) cs n = absurd (cc)
 
@@ -131,12 +131,12 @@ module _ (sid : List ℕ) where
   items_more (l ∷ ls) log (inr h) = ap (cons_option (sent_item sid l.outcome)) (items_more ls h.0 h.2) ∙ ap (honest_items sid) (sym h.1)
 
   module _ (r : ℕ) (who : Name) where
-    silent_call : (b : Bool) (c : Option Call) (cs : List Called) → exchanges_of sid r (cons_option (cond b (answered_call c (Answered Abandoned)) None) cs) ≡ exchanges_of sid r cs
+    silent_call : (b : Bool) (c : Option Call) (cs : List AnsweredCall) → exchanges_of sid r (cons_option (cond b (answered_call c (Answered Abandoned)) None) cs) ≡ exchanges_of sid r cs
     silent_call false c cs = refl
     silent_call true None cs = refl
     silent_call true (Some c) cs = refl
 
-    same_rest : (o : Option Called) (cs cs' : List Called) → exchanges_of sid r cs ≡ exchanges_of sid r cs' → exchanges_of sid r (cons_option o cs) ≡ exchanges_of sid r (cons_option o cs')
+    same_rest : (o : Option AnsweredCall) (cs cs' : List AnsweredCall) → exchanges_of sid r cs ≡ exchanges_of sid r cs' → exchanges_of sid r (cons_option o cs) ≡ exchanges_of sid r (cons_option o cs')
     same_rest None cs cs' h = h
     same_rest (Some c) cs cs' h = elim (cases_Bool (is_of sid r c)) [ inl b ↦ rw b (ap (λ z. exchanges_in c.call c.answer ++ z) h) | inr b ↦ rw b h ]
 
@@ -251,7 +251,7 @@ frames_show_last_steps_over_restarts sha hash programs s xs x ys who bs f l cast
     let mine : exchanges_of f.sid f.receiver (its_past.0).calls ≡ exchanges_of f.sid f.receiver (calls_at who w.log) = ap (exchanges_of f.sid f.receiver) (calls_are sha w' who its_past.0 its_past.1 (run_calls sha who programs p)) ∙ exchanges_more f.sid f.receiver who w'.log w.log same.log in
     subst (λ e. ShowsLastStepsInLife s w g cast f (up_to_last (λ (i : Item). i.role) f.receiver (flat_map items_of e))) mine record {
       items = r.items ∙ ap (λ is. map bare (last_of (λ (i : Item). i.role) (after_last (λ (i : Item). i.role) f.receiver is))) (items_more f.sid w'.log w.log same.log);
-      held = λ front i rest e h. in_life w w' same i (commitments g (up_to_last (λ (i : Item). i.role) f.receiver (flat_map items_of (exchanges_of f.sid f.receiver (its_past.0).calls)) ++ front ++ i ∷ [])) (run_calls sha (principal cast i.role) programs p) (r.held front i rest e h);
+      held = λ prefix i rest e h. in_life w w' same i (commitments g (up_to_last (λ (i : Item). i.role) f.receiver (flat_map items_of (exchanges_of f.sid f.receiver (its_past.0).calls)) ++ prefix ++ i ∷ [])) (run_calls sha (principal cast i.role) programs p) (r.held prefix i rest e h);
     }
   where
     the_last : (before now other : List Logged) → now ≡ before ++ l ∷ [] → AddsSame before now other → last other ≡ Some l

@@ -23,12 +23,12 @@ use Rattle.sg_protocol.specs.Node.{Node, program_for, is_for}
 use Rattle.sg_protocol.specs.Verdict.{seen, rows_of_session}
 use Rattle.sg_protocol.specs.Acting.{openings_for, rows_of_act, leaves, answer}
 use Rattle.sg_protocol.specs.NodeAfter.{node_after}
-use Rattle.sg_protocol.specs.Past.{Called, node_after_all, new_node, node_of, AreAnswers}
+use Rattle.sg_protocol.specs.Past.{AnsweredCall, node_after_all, new_node, node_of, AreAnswers}
 use Rattle.sg_protocol.specs.IsSchedule.{IsProgram}
 use Rattle.sg_protocol.specs.Bounds.{IsSession, IsShortFrame}
 use Rattle.sg_protocol.specs.Following.{FollowsWalk}
 use Rattle.sg_protocol.specs.Ranges.{IsCast, AreValues, IsCallInRange}
-use Rattle.sg_protocol.specs.Standing.{EndsWithOwn, EndsWithOther}
+use Rattle.sg_protocol.specs.Representation.{EndsWithOwn, EndsWithOther}
 use Rattle.sg_protocol.specs.Live.{IsSound, IsLive, SessionsAreSound, NodesAreSound}
 use Rattle.sg_protocol.proofs.Acts as C
 use Rattle.sg_protocol.proofs.Bridge.{has_view-Contains}
@@ -36,7 +36,7 @@ use Rattle.sg_protocol.proofs.Finding.{find_passes, find_all}
 use Rattle.sg_protocol.proofs.Entries.{not_start}
 use Rattle.sg_protocol.proofs.Enough.{below_reads}
 use Rattle.sg_protocol.proofs.First.{programs_after}
-use Rattle.sg_protocol.proofs.Following.{new_follows, not_me, own_now, waits_now, gives_follows, turn_later, other_later, takes_follows}
+use Rattle.sg_protocol.proofs.Following.{new_follows, not_me, own_part_now, waits_now, gives_follows, turn_later, other_later, takes_follows}
 use Rattle.sg_protocol.proofs.Moves.{writes_below}
 use Rattle.sg_protocol.proofs.Nodes.{Begun, ActSent, NextTaken, JoinTaken, start_all, abandon_all, act_all, deliver_all}
 use Rattle.sg_protocol.proofs.OwnItem.{own_item_is_last}
@@ -82,7 +82,7 @@ gives_sound sha hash keys p s label values confounders ip so none good =
         in_range = extended_in_range s (Gave i written) so.in_range (r.own, tt) r.openings;
         follows = gives_follows sha p.graph ip.accepted s label rs.turn leave ip.is_graph so.follows written r.names i refl refl refl;
         ends_at_turn = λ t. clash (at_turn p.graph (extended s (Gave i written))) t wait;
-        ends_waiting = λ _. own_now sha p.graph ip.accepted s label rs.turn leave written i refl refl;
+        ends_waiting = λ _. own_part_now sha p.graph ip.accepted s label rs.turn leave written i refl refl;
       };
       waits = wait;
     }
@@ -209,7 +209,7 @@ module _ (sha : Hash) (hash : IsHash sha) (n : Node) (programs : AllByRecursion 
     node_sound (Abandon sid0) h = abandon_all sha n (IsLive sha n.programs) live sid0
     node_sound (Deliver bs) h = deliver_all sha n (IsLive sha n.programs) live bs (λ f s rd. next_sound f s (read-SpellsFrame bs f h rd).is_frame) (λ f c rd. join_sound f c (read-SpellsFrame bs f h rd).is_frame)
 
-pub all_sound : (sha : Hash) → IsHash sha → (ps : List Program) → AllByRecursion (IsProgram sha) ps → (n : Node) → n.programs ≡ ps → AllByRecursion (IsLive sha ps) n.live → (cs : List Called) → AllByRecursion (λ (c : Called). IsCallInRange c.call) cs → AreAnswers sha n cs →
+pub all_sound : (sha : Hash) → IsHash sha → (ps : List Program) → AllByRecursion (IsProgram sha) ps → (n : Node) → n.programs ≡ ps → AllByRecursion (IsLive sha ps) n.live → (cs : List AnsweredCall) → AllByRecursion (λ (c : AnsweredCall). IsCallInRange c.call) cs → AreAnswers sha n cs →
     AllByRecursion (IsLive sha ps) (node_after_all n cs).live
 all_sound sha hash ps ip n e live [] good its = live
 all_sound sha hash ps ip n e live (c ∷ cs) good its =
@@ -223,5 +223,5 @@ pub nodes_are_sound : (sha : Hash) → IsHash sha → NodesAreSound sha
 nodes_are_sound sha hash = record {
   after_call = λ n c programs live h. All-from_recursion (IsLive sha n.programs) (node_after n c (answer sha n c)).live (node_sound sha hash n (recursion_from_All (IsProgram sha) n.programs programs) (recursion_from_All (IsLive sha n.programs) n.live live) c h);
   in_pasts = λ past programs good its. All-from_recursion (IsLive sha past.programs) (node_of past).live
-      (all_sound sha hash past.programs (recursion_from_All (IsProgram sha) past.programs programs) (new_node past.keys past.programs past.first) refl tt past.calls (recursion_from_All (λ (c : Called). IsCallInRange c.call) past.calls good) its);
+      (all_sound sha hash past.programs (recursion_from_All (IsProgram sha) past.programs programs) (new_node past.keys past.programs past.first) refl tt past.calls (recursion_from_All (λ (c : AnsweredCall). IsCallInRange c.call) past.calls good) its);
 }

@@ -13,7 +13,7 @@ use Rattle.sg_protocol.specs.Node.{Node}
 use Rattle.sg_protocol.specs.Acting.{answer}
 use Rattle.sg_protocol.specs.Notes.{notes}
 use Rattle.sg_protocol.specs.NodeAfter.{node_after}
-use Rattle.sg_protocol.specs.Past.{Called, Past, new_node, node_of, node_after_all, past_after, joins_once, AreAnswers}
+use Rattle.sg_protocol.specs.Past.{AnsweredCall, Past, new_node, node_of, node_after_all, past_after, joins_once, AreAnswers}
 use Rattle.sg_protocol.specs.Schedule.{Schedule, Step, StartStep, ActStep, AbandonStep, DeliverStep, CraftStep}
 use Rattle.sg_protocol.specs.World.{Outcome, Logged, World, Answered, Crafted, NoFrame, past_of, new_world, call_of}
 use Rattle.sg_protocol.specs.Run.{called, called_if, uncalled, world_after, world_after_all, frame_in, events_of_outcome}
@@ -144,10 +144,10 @@ no_restarts_no_change sha programs s = steps_alone sha s (new_world programs s) 
 -- ---- lives, one after another
 
 -- what is joined once after these calls is so with their events before
-life_once : (sha : Hash) (n : Node) (cs : List Called) (es : List Event) → Owns n.joins n.live → AreAnswers sha n cs → joins_once (node_after_all n cs).joins es ≡ true → joins_once n.joins (flat_map (λ (c : Called). events_of_answer c.answer) cs ++ es) ≡ true
+life_once : (sha : Hash) (n : Node) (cs : List AnsweredCall) (es : List Event) → Owns n.joins n.live → AreAnswers sha n cs → joins_once (node_after_all n cs).joins es ≡ true → joins_once n.joins (flat_map (λ (c : AnsweredCall). events_of_answer c.answer) cs ++ es) ≡ true
 life_once sha n [] es h a j = j
 life_once sha n (c ∷ cs) es h a j =
-    let rest : List Event = flat_map (λ (c : Called). events_of_answer c.answer) cs in
+    let rest : List Event = flat_map (λ (c : AnsweredCall). events_of_answer c.answer) cs in
     subst (λ z. joins_once n.joins z ≡ true) (sym (append_assoc (events_of_answer c.answer) rest es))
     (subst (λ x. joins_once n.joins (events_of_answer x ++ (rest ++ es)) ≡ true) (sym a.0)
     (call_step sha n h (rest ++ es) c.call

@@ -36,13 +36,13 @@ module _ (sha : Hash) (s : Schedule) (es : List Declared) (ys : List Step) where
   abbrev pub more : Schedule
   more = record s { sessions = s.sessions ++ es; steps = ys }
 
-  abbrev pub place_of : ℕ → ℕ
-  place_of n = moved_to s.sessions (length es) n
+  abbrev pub index_of : ℕ → ℕ
+  index_of n = moved_to s.sessions (length es) n
 
-  pub cast_moved : (n : ℕ) → cast_of more (place_of n) ≡ cast_of s n
+  pub cast_moved : (n : ℕ) → cast_of more (index_of n) ≡ cast_of s n
   cast_moved n = ap (option_map (λ (d : Declared). d.cast)) (at_moved s.sessions es n)
 
-  pub sid_moved : (n : ℕ) → sid_at sha more (place_of n) ≡ sid_at sha s n
+  pub sid_moved : (n : ℕ) → sid_at sha more (index_of n) ≡ sid_at sha s n
   sid_moved n = ap (λ o. option_map_or (session_id sha) o []) (cast_moved n)
 
   module _ (w w' : World) (e : frames w ≡ frames w') where
@@ -96,7 +96,7 @@ module _ (sha : Hash) (s : Schedule) (es : List Declared) (ys : List Step) where
         finish is = record (plain is) { tag = cut x.cast.version (tag_by sha s w (text_of (plain is)) c.seal) }
 
     -- what a craft makes
-    pub crafted_moved : (c : Craft) → crafted sha s w c ≡ crafted sha more w' (record c { session = place_of c.session })
+    pub crafted_moved : (c : Craft) → crafted sha s w c ≡ crafted sha more w' (record c { session = index_of c.session })
     crafted_moved c = by_cast (cast_of s c.session) ∙ ap (option_and_then by) (sym (cast_moved c.session))
       where
         by : Cast → Option Frame

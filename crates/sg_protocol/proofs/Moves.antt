@@ -18,7 +18,7 @@ use Rattle.sg_protocol.specs.Frame.{Cast, Item, Frame}
 use Rattle.sg_protocol.specs.Spelling.{HasSpelling, body}
 use Rattle.sg_protocol.specs.Texts.{item_text_of, frame_text_of}
 use Rattle.sg_protocol.specs.TextLaws.{ItemFits, AreHeld}
-use Rattle.sg_protocol.specs.Session.{Session, principal, told, own, time, place, at_turn, committed, commitments}
+use Rattle.sg_protocol.specs.Session.{Session, principal, transcript, own_part, time, place, at_turn, committed, commitments}
 use Rattle.sg_protocol.specs.Sending.{text_to}
 use Rattle.sg_protocol.specs.Checks.{checked_texts}
 use Rattle.sg_protocol.specs.Verdict.{row, bad_time}
@@ -27,7 +27,7 @@ use Rattle.sg_law.specs.Last as B
 use Rattle.sg_law.specs.Accept.{sender_of, TimedLabel}
 use Rattle.sg_law.specs.Run.{RisesFrom}
 use Rattle.sg_law.specs.Values as V
-use Rattle.sg_law.specs.Values.{State, Made, told_with_item, com_of, Move, Commit, moved, MayTake, Tagged, Framed, Opened, own_of, is_variable, put}
+use Rattle.sg_law.specs.Values.{State, SentItem, transcript_with_item, com_of, Move, Commit, moved, MayTake, Tagged, Framed, Opened, own_part_of, is_variable, put}
 use Rattle.sg_law.specs.Values.Move.{Writes, Takes}
 use Rattle.sg_law.proofs.Upto.{In}
 use Rattle.sg_protocol.proofs.Entries.{entry, entries, by, Roles}
@@ -45,21 +45,21 @@ FitItems is = AllByRecursion FitItem is
 
 module _ (g : Graph) where
   -- an item that was made is one of the law's log, with what was held then
-  pub record MadeItem (log : List Made) (label time : ℕ) (held : List (Option (List ℕ))) : Type 0 where
-    pub made : Made
+  pub record MadeItem (log : List SentItem) (label time : ℕ) (held : List (Option (List ℕ))) : Type 0 where
+    pub made : SentItem
     pub there : Contains log made
     pub same : V.step_of made.item ≡ record { label = label; time = time }
-    pub is_held : held ≡ map (λ x. com_of (told_with_item made) x) (below (length g.variables))
+    pub is_held : held ≡ map (λ x. com_of (transcript_with_item made) x) (below (length g.variables))
 
   -- a frame that was made shows what one of the law's log shows
-  pub record MadeFrame (log : List Made) (f : Frame) : Type 0 where
-    pub made : Made
+  pub record MadeFrame (log : List SentItem) (f : Frame) : Type 0 where
+    pub made : SentItem
     pub there : Contains log made
-    pub steps : V.steps_of (entries f.items) ≡ V.steps_of (B.evidence (sender_of (shape g)) (after_last (by (shape g)) f.receiver (told_with_item made)))
-    pub written : (x : ℕ) → x < length g.variables → com_of (entries f.items) x ≡ com_of (B.evidence (sender_of (shape g)) (after_last (by (shape g)) f.receiver (told_with_item made))) x
+    pub steps : V.steps_of (entries f.items) ≡ V.steps_of (B.evidence (sender_of (shape g)) (after_last (by (shape g)) f.receiver (transcript_with_item made)))
+    pub written : (x : ℕ) → x < length g.variables → com_of (entries f.items) x ≡ com_of (B.evidence (sender_of (shape g)) (after_last (by (shape g)) f.receiver (transcript_with_item made))) x
 
   -- what a note says of the session was made in it
-  pub record NoteOk (sid : List ℕ) (log : List Made) (n : Note) : Type 0 where
+  pub record NoteOk (sid : List ℕ) (log : List SentItem) (n : Note) : Type 0 where
     pub item : (v from to label time : ℕ) (held : List (Option (List ℕ))) → ItemFits v sid label time held → n.text ≡ item_text_of v sid from to label time held → MadeItem log label time held
     pub frame : (v : ℕ) (f : Frame) → HasSpelling f → f.sid ≡ sid → n.text ≡ frame_text_of v (body f) → MadeFrame log f
 
@@ -69,13 +69,13 @@ module _ (g : Graph) where
     pub same_cast : x.cast ≡ cast
     pub is_who : principal cast x.role ≡ who
     pub inside : x.role < length cast.names
-    pub is_told : st.told x.role ≡ entries (told x)
-    pub is_own : (st.machine.at x.role).own ≡ option_map step (last (own x))
+    pub is_transcript : st.transcript x.role ≡ entries (transcript x)
+    pub is_own : (st.machine.at x.role).own ≡ option_map step (last (own_part x))
     pub turns : at_turn g x ≡ true → (st.machine.at x.role).turn ≡ Some (record { node = place g x; time = time x })
     pub waits : at_turn g x ≡ false → (st.machine.at x.role).turn ≡ None
-    pub roles : Roles (shape g) (told x)
-    pub fits : FitItems (told x)
-    pub last_edge : IfSome (last (told x)) (λ (i : Item). i.label < length g.edges)
+    pub roles : Roles (shape g) (transcript x)
+    pub fits : FitItems (transcript x)
+    pub last_edge : IfSome (last (transcript x)) (λ (i : Item). i.label < length g.edges)
 
 -- ---- small lemmas
 
@@ -164,23 +164,23 @@ are_held g is h = go (below (length g.variables))
 
 -- a list of entries that is split
 pub record Split (is : List Item) (a : List (B.Entry TimedLabel Code)) (i : B.Entry TimedLabel Code) (b : List (B.Entry TimedLabel Code)) : Type 0 where
-  pub front : List Item
+  pub prefix : List Item
   pub mid : Item
   pub rest : List Item
-  pub parts : is ≡ front ++ mid ∷ rest
-  pub same_front : a ≡ entries front
+  pub parts : is ≡ prefix ++ mid ∷ rest
+  pub same_prefix : a ≡ entries prefix
   pub same_mid : i ≡ entry mid
   pub same_rest : b ≡ entries rest
 
 pub split : (is : List Item) (a : List (B.Entry TimedLabel Code)) (i : B.Entry TimedLabel Code) (b : List (B.Entry TimedLabel Code)) → entries is ≡ a ++ i ∷ b → Split is a i b
 split [] [] i b e = absurd (cc)
 split [] (c ∷ a) i b e = absurd (cc)
-split (x ∷ is) [] i b e = record { front = []; mid = x; rest = is; parts = refl; same_front = refl; same_mid = (let s : entry x ≡ i = cc in sym s); same_rest = (let s : entries is ≡ b = cc in sym s) }
+split (x ∷ is) [] i b e = record { prefix = []; mid = x; rest = is; parts = refl; same_prefix = refl; same_mid = (let s : entry x ≡ i = cc in sym s); same_rest = (let s : entries is ≡ b = cc in sym s) }
 split (x ∷ is) (c ∷ a) i b e =
     let s : entry x ≡ c = cc in
     let t : entries is ≡ a ++ i ∷ b = cc in
     let r : Split is a i b = split is a i b t in
-    record { front = x ∷ r.front; mid = r.mid; rest = r.rest; parts = ap (λ l. x ∷ l) r.parts; same_front = ap (λ z. z ∷ a) (sym s) ∙ ap (λ l. entry x ∷ l) r.same_front; same_mid = r.same_mid; same_rest = r.same_rest }
+    record { prefix = x ∷ r.prefix; mid = r.mid; rest = r.rest; parts = ap (λ l. x ∷ l) r.parts; same_prefix = ap (λ z. z ∷ a) (sym s) ∙ ap (λ l. entry x ∷ l) r.same_prefix; same_mid = r.same_mid; same_rest = r.same_rest }
 
 -- each item but the last is checked
 pub checked_in : (g : Graph) (x : Session) (before a : List Item) (i j : Item) (b : List Item) → In (checked_texts g x before (a ++ i ∷ j ∷ b)) (i, text_to g x (before ++ a) i x.role)

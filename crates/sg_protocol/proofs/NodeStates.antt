@@ -1,4 +1,4 @@
--- What a node's state stands for, before and after a call.
+-- What a node's state represents, before and after a call.
 use Rattle.std.specs.Prelude.{◌≡◌, ℕ, ◌⊎◌, Bool, true, false, if◌then◌else◌, List, [], ◌∷◌, ◌++◌, find, bytes_eq, refl, Option, Some, None, Result, Ok, Err, IsSomeAnd, ⊤}
 use Rattle.std.specs.List.{AllByRecursion}
 use Rattle.std.specs.Option.{option_map_or}
@@ -16,18 +16,18 @@ use Rattle.sg_protocol.specs.Calls.{Call, Answer, Start, Act, Abandon, Deliver, 
 use Rattle.sg_protocol.specs.Node.{Node, program_for, is_for}
 use Rattle.sg_protocol.specs.Acting.{openings_for, answer}
 use Rattle.sg_protocol.specs.NodeAfter.{is_over, still, replace, joined, goes_on, takes_read, node_after}
-use Rattle.sg_protocol.specs.Past.{Past, Called, new_node, node_of, past_after, AreAnswers}
+use Rattle.sg_protocol.specs.Past.{Past, AnsweredCall, new_node, node_of, past_after, AreAnswers}
 use Rattle.sg_protocol.specs.Past as Past'
 use Rattle.sg_protocol.specs.IsSchedule.{IsProgram}
 use Rattle.sg_protocol.specs.Ranges.{IsCallInRange}
-use Rattle.sg_protocol.specs.Standing.{Held, held, StandsWaiting, StandsAtTurn, nothing_kept, held_after}
+use Rattle.sg_protocol.specs.Representation.{Held, held, RepresentsWaiting, RepresentsAtTurn, nothing_kept, held_after}
 use Rattle.sg_protocol.specs.Live.{IsSound, IsLive}
-use Rattle.sg_protocol.specs.NodeStates.{NodeState, IsBackedLive, StandsLive, StandEach, StandsIf, StandsForNode, has_sid, is_held_for, is_spent, unless_spent, still_held, begun, joined_by, replace_held, with_join, with_live, state_taking, state_after, NodeStatesStand}
+use Rattle.sg_protocol.specs.NodeStates.{NodeState, IsBackedLive, RepresentsLive, RepresentEach, RepresentsIf, RepresentsNode, has_sid, is_held_for, is_spent, unless_spent, still_held, begun, joined_by, replace_held, with_join, with_live, state_taking, state_after, NodeStatesRepresent}
 use Rattle.sg_protocol.proofs.Course.{node_more}
 use Rattle.sg_protocol.proofs.First.{programs_after}
 use Rattle.sg_protocol.proofs.Live.{node_sound, all_sound}
 use Rattle.sg_protocol.proofs.Reached.{Reached, ReachedIn, each_reached, node_reached}
-use Rattle.sg_protocol.proofs.Standing.{held_more}
+use Rattle.sg_protocol.proofs.Representation.{held_more}
 
 module _ (ps : List Program) where
   -- what is held is what the role of the session holds under its program
@@ -50,31 +50,31 @@ module _ (ps : List Program) where
   if_both P Q R None f h k = absurd h
   if_both P Q R (Some x) f h k = f x h k
 
-  one_holds : (h : Held) (s : Session) (p : Program) → StandsAtTurn p.graph h s ⊎ StandsWaiting p.graph h s → h ≡ held p.graph s
+  one_holds : (h : Held) (s : Session) (p : Program) → RepresentsAtTurn p.graph h s ⊎ RepresentsWaiting p.graph h s → h ≡ held p.graph s
   one_holds h s p (inl t) = t.holds
   one_holds h s p (inr w) = w.before.holds
 
-  to_holds : (h : Held) (s : Session) → StandsLive ps h s → HoldsLive h s
-  to_holds h s = if_some (λ p. StandsAtTurn p.graph h s ⊎ StandsWaiting p.graph h s) (λ p. h ≡ held p.graph s) (program_for ps (s.cast).graph s.role) (one_holds h s)
+  to_holds : (h : Held) (s : Session) → RepresentsLive ps h s → HoldsLive h s
+  to_holds h s = if_some (λ p. RepresentsAtTurn p.graph h s ⊎ RepresentsWaiting p.graph h s) (λ p. h ≡ held p.graph s) (program_for ps (s.cast).graph s.role) (one_holds h s)
 
-  each_holds : (hs : List Held) (ss : List Session) → StandEach ps hs ss → HoldEach hs ss
+  each_holds : (hs : List Held) (ss : List Session) → RepresentEach ps hs ss → HoldEach hs ss
   each_holds [] [] e = tt
   each_holds [] (s ∷ ss) e = absurd e
   each_holds (h ∷ hs) [] e = absurd e
   each_holds (h ∷ hs) (s ∷ ss) e = (to_holds h s e.0, each_holds hs ss e.1)
 
   module _ (sha : Hash) where
-    one_stands : (h : Held) (s : Session) (p : Program) → h ≡ held p.graph s → IsSound sha p s → StandsAtTurn p.graph h s ⊎ StandsWaiting p.graph h s
-    one_stands h s p q so = elim (cases_Bool (at_turn p.graph s)) [
+    one_represents : (h : Held) (s : Session) (p : Program) → h ≡ held p.graph s → IsSound sha p s → RepresentsAtTurn p.graph h s ⊎ RepresentsWaiting p.graph h s
+    one_represents h s p q so = elim (cases_Bool (at_turn p.graph s)) [
       | inl t ↦ inl (record { holds = q; ends = so.ends_at_turn t; turn = t })
       | inr w ↦ inr (record { before = record { holds = q; ends = so.ends_waiting w }; waits = w })
     ]
 
-    each_stands : (hs : List Held) (ss : List Session) → HoldEach hs ss → AllByRecursion (IsLive sha ps) ss → StandEach ps hs ss
-    each_stands [] [] e a = tt
-    each_stands [] (s ∷ ss) e a = absurd e
-    each_stands (h ∷ hs) [] e a = absurd e
-    each_stands (h ∷ hs) (s ∷ ss) e a = (if_both (λ p. h ≡ held p.graph s) (λ p. IsSound sha p s) (λ p. StandsAtTurn p.graph h s ⊎ StandsWaiting p.graph h s) (program_for ps (s.cast).graph s.role) (one_stands h s) e.0 a.0, each_stands hs ss e.1 a.1)
+    each_represents : (hs : List Held) (ss : List Session) → HoldEach hs ss → AllByRecursion (IsLive sha ps) ss → RepresentEach ps hs ss
+    each_represents [] [] e a = tt
+    each_represents [] (s ∷ ss) e a = absurd e
+    each_represents (h ∷ hs) [] e a = absurd e
+    each_represents (h ∷ hs) (s ∷ ss) e a = (if_both (λ p. h ≡ held p.graph s) (λ p. IsSound sha p s) (λ p. RepresentsAtTurn p.graph h s ⊎ RepresentsWaiting p.graph h s) (program_for ps (s.cast).graph s.role) (one_represents h s) e.0 a.0, each_represents hs ss e.1 a.1)
 
   -- ---- the parts of what is held
 
@@ -103,7 +103,7 @@ module _ (ps : List Program) where
     | inr d ↦ rw (e h s a.0 ∙ d, d) (a.0, hold-replace which which' now now' e f hs ss a.1)
   ]
 
-  found : (which : Held → Bool) (which' : Session → Bool) → ((h : Held) (s : Session) → HoldsLive h s → which h ≡ which' s) → (hs : List Held) (ss : List Session) → StandEach ps hs ss → StandsIf ps (find which hs) (find which' ss)
+  found : (which : Held → Bool) (which' : Session → Bool) → ((h : Held) (s : Session) → HoldsLive h s → which h ≡ which' s) → (hs : List Held) (ss : List Session) → RepresentEach ps hs ss → RepresentsIf ps (find which hs) (find which' ss)
   found which which' e [] [] a = tt
   found which which' e [] (s ∷ ss) a = absurd a
   found which which' e (h ∷ hs) [] a = absurd a
@@ -217,7 +217,7 @@ module _ (st : NodeState) (n : Node) (h : HoldsNode st n) where
   holds_after (Deliver bytes) (Happened (Received sid r label time values joins)) = taking (read bytes)
   holds_after (Deliver bytes) other = h
 
-after_call : (sha : Hash) → IsHash sha → (st : NodeState) (n : Node) (c : Call) → AllByRecursion (IsProgram sha) n.programs → AllByRecursion (IsLive sha n.programs) n.live → IsCallInRange c → StandsForNode st n → StandsForNode (state_after st c (answer sha n c)) (node_after n c (answer sha n c))
+after_call : (sha : Hash) → IsHash sha → (st : NodeState) (n : Node) (c : Call) → AllByRecursion (IsProgram sha) n.programs → AllByRecursion (IsLive sha n.programs) n.live → IsCallInRange c → RepresentsNode st n → RepresentsNode (state_after st c (answer sha n c)) (node_after n c (answer sha n c))
 after_call sha hash st n c programs live good s =
     let a : Answer = answer sha n c in
     let h : HoldsNode st n = record { keys = s.keys; programs = s.programs; joins = s.joins; live = each_holds n.programs st.live n.live s.live } in
@@ -228,54 +228,54 @@ after_call sha hash st n c programs live good s =
       keys = r.keys;
       programs = r.programs;
       joins = r.joins;
-      live = each_stands (node_after n c a).programs sha (state_after st c a).live (node_after n c a).live r.live (subst (λ ps. AllByRecursion (IsLive sha ps) (node_after n c a).live) (sym same) sound);
+      live = each_represents (node_after n c a).programs sha (state_after st c a).live (node_after n c a).live r.live (subst (λ ps. AllByRecursion (IsLive sha ps) (node_after n c a).live) (sym same) sound);
     }
 
 -- the same, by what stands behind the things held
 module _ (sha : Hash) (hash : IsHash sha) (ps : List Program) where
-  one_stands' : (h : Held) (s : Session) (p : Program) → h ≡ held p.graph s → Reached sha hash p s → StandsAtTurn p.graph h s ⊎ StandsWaiting p.graph h s
-  one_stands' h s p q (inl t) = inl (subst (λ z. StandsAtTurn p.graph z s) (sym q) t.0)
-  one_stands' h s p q (inr w) = inr (subst (λ z. StandsWaiting p.graph z s) (sym q) w.0)
+  one_represents' : (h : Held) (s : Session) (p : Program) → h ≡ held p.graph s → Reached sha hash p s → RepresentsAtTurn p.graph h s ⊎ RepresentsWaiting p.graph h s
+  one_represents' h s p q (inl t) = inl (subst (λ z. RepresentsAtTurn p.graph z s) (sym q) t.0)
+  one_represents' h s p q (inr w) = inr (subst (λ z. RepresentsWaiting p.graph z s) (sym q) w.0)
 
-  each_stands' : (hs : List Held) (ss : List Session) → HoldEach ps hs ss → AllByRecursion (ReachedIn sha hash ps) ss → StandEach ps hs ss
-  each_stands' [] [] e a = tt
-  each_stands' [] (s ∷ ss) e a = absurd e
-  each_stands' (h ∷ hs) [] e a = absurd e
-  each_stands' (h ∷ hs) (s ∷ ss) e a = (
-    if_both ps (λ p. h ≡ held p.graph s) (λ p. Reached sha hash p s) (λ p. StandsAtTurn p.graph h s ⊎ StandsWaiting p.graph h s) (program_for ps (s.cast).graph s.role) (one_stands' h s) e.0 a.0,
-    each_stands' hs ss e.1 a.1,
+  each_represents' : (hs : List Held) (ss : List Session) → HoldEach ps hs ss → AllByRecursion (ReachedIn sha hash ps) ss → RepresentEach ps hs ss
+  each_represents' [] [] e a = tt
+  each_represents' [] (s ∷ ss) e a = absurd e
+  each_represents' (h ∷ hs) [] e a = absurd e
+  each_represents' (h ∷ hs) (s ∷ ss) e a = (
+    if_both ps (λ p. h ≡ held p.graph s) (λ p. Reached sha hash p s) (λ p. RepresentsAtTurn p.graph h s ⊎ RepresentsWaiting p.graph h s) (program_for ps (s.cast).graph s.role) (one_represents' h s) e.0 a.0,
+    each_represents' hs ss e.1 a.1,
   )
 
-after_backed : (sha : Hash) → IsHash sha → (st : NodeState) (n : Node) (c : Call) → AllByRecursion (IsProgram sha) n.programs → AllByRecursion (IsBackedLive sha n.programs) st.live → IsCallInRange c → StandsForNode st n → StandsForNode (state_after st c (answer sha n c)) (node_after n c (answer sha n c))
-after_backed sha hash st n c programs backed good s =
+after_backed : (sha : Hash) → IsHash sha → (st : NodeState) (n : Node) (c : Call) → AllByRecursion (IsProgram sha) n.programs → AllByRecursion (IsBackedLive sha n.programs) st.live → IsCallInRange c → RepresentsNode st n → RepresentsNode (state_after st c (answer sha n c)) (node_after n c (answer sha n c))
+after_backed sha hash st n c programs reachable good s =
     let a : Answer = answer sha n c in
     let h : HoldsNode st n = record { keys = s.keys; programs = s.programs; joins = s.joins; live = each_holds n.programs st.live n.live s.live } in
     let r : HoldsNode (state_after st c a) (node_after n c a) = holds_after st n h c a in
     let same : (node_after n c a).programs ≡ n.programs = programs_after n c a in
-    let reached : AllByRecursion (ReachedIn sha hash n.programs) (node_after n c a).live = node_reached sha hash n programs (each_reached sha hash n.programs st.live n.live s.live backed) c good in
+    let reached : AllByRecursion (ReachedIn sha hash n.programs) (node_after n c a).live = node_reached sha hash n programs (each_reached sha hash n.programs st.live n.live s.live reachable) c good in
     record {
       keys = r.keys;
       programs = r.programs;
       joins = r.joins;
-      live = each_stands' sha hash (node_after n c a).programs (state_after st c a).live (node_after n c a).live r.live (subst (λ ps. AllByRecursion (ReachedIn sha hash ps) (node_after n c a).live) (sym same) reached);
+      live = each_represents' sha hash (node_after n c a).programs (state_after st c a).live (node_after n c a).live r.live (subst (λ ps. AllByRecursion (ReachedIn sha hash ps) (node_after n c a).live) (sym same) reached);
     }
 
-programs_past : (n : Node) (cs : List Called) → (Past'.node_after_all n cs).programs ≡ n.programs
+programs_past : (n : Node) (cs : List AnsweredCall) → (Past'.node_after_all n cs).programs ≡ n.programs
 programs_past n [] = refl
 programs_past n (c ∷ cs) = programs_past (node_after n c.call c.answer) cs ∙ programs_after n c.call c.answer
 
-pub node_states_stand : (sha : Hash) → IsHash sha → NodeStatesStand sha
-node_states_stand sha hash = record {
+pub node_states_represent : (sha : Hash) → IsHash sha → NodeStatesRepresent sha
+node_states_represent sha hash = record {
   is_new = λ keys programs first. record { keys = refl; programs = refl; joins = refl; live = tt };
   finds_session = λ ps hs ss sid a. found ps (has_sid sid) (λ s. bytes_eq s.sid sid) (same_sid ps sid) hs ss a;
   finds_for_frame = λ ps hs ss f a. found ps (is_held_for f) (is_for f) (same_for ps f) hs ss a;
   after_call = λ st n c programs live good s. after_call sha hash st n c (recursion_from_All (IsProgram sha) n.programs programs) (recursion_from_All (IsLive sha n.programs) n.live live) good s;
-  after_backed = λ st n c programs backed good s. after_backed sha hash st n c (recursion_from_All (IsProgram sha) n.programs programs) (recursion_from_All (IsBackedLive sha n.programs) st.live backed) good s;
+  after_backed = λ st n c programs reachable good s. after_backed sha hash st n c (recursion_from_All (IsProgram sha) n.programs programs) (recursion_from_All (IsBackedLive sha n.programs) st.live reachable) good s;
   after_past = λ st past c programs good its now s.
       let first : Node = new_node past.keys past.programs past.first in
       let same : (node_of past).programs ≡ past.programs = programs_past first past.calls in
       let ip : AllByRecursion (IsProgram sha) past.programs = recursion_from_All (IsProgram sha) past.programs programs in
-      let live : AllByRecursion (IsLive sha past.programs) (node_of past).live = all_sound sha hash past.programs ip first refl tt past.calls (recursion_from_All (λ (c : Called). IsCallInRange c.call) past.calls good) its in
-      subst (StandsForNode (state_after st c (answer sha (node_of past) c))) (sym (node_more first past.calls (record { call = c; answer = answer sha (node_of past) c })))
+      let live : AllByRecursion (IsLive sha past.programs) (node_of past).live = all_sound sha hash past.programs ip first refl tt past.calls (recursion_from_All (λ (c : AnsweredCall). IsCallInRange c.call) past.calls good) its in
+      subst (RepresentsNode (state_after st c (answer sha (node_of past) c))) (sym (node_more first past.calls (record { call = c; answer = answer sha (node_of past) c })))
       (after_call sha hash st (node_of past) c (subst (AllByRecursion (IsProgram sha)) (sym same) ip) (subst (λ ps. AllByRecursion (IsLive sha ps) (node_of past).live) (sym same) live) now s);
 }

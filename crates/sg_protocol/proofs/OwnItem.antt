@@ -16,7 +16,7 @@ use Rattle.sg_protocol.specs.Graph.{Graph, shape}
 use Rattle.sg_protocol.specs.Frame.{Item}
 use Rattle.sg_protocol.specs.Texts.{Hash}
 use Rattle.sg_protocol.specs.Keyring.{Keyring, Program}
-use Rattle.sg_protocol.specs.Session.{Session, told}
+use Rattle.sg_protocol.specs.Session.{Session, transcript}
 use Rattle.sg_protocol.specs.Sending.{entry_of, item_of, tags_left, own_item}
 use Rattle.sg_protocol.specs.Enough.{OwnItemIsLast}
 use Rattle.sg_protocol.proofs.Gives.{in_order-all}
@@ -84,7 +84,7 @@ map_below : (n : ℕ) (os : List Opening) → AllByRecursion (λ (o : Opening). 
 map_below n [] a = tt
 map_below n (o ∷ os) a = (a.0, map_below n os a.1)
 
-module _ (sha : Hash) (keys : Keyring) (p : Program) (s : Session) (label : ℕ) (written : List Opening) (other : receiver (shape p.graph) label ≢ s.role) (before : IfSome (last (told s)) (λ (i : Item). i.role ≢ s.role)) where
+module _ (sha : Hash) (keys : Keyring) (p : Program) (s : Session) (label : ℕ) (written : List Opening) (other : receiver (shape p.graph) label ≢ s.role) (before : IfSome (last (transcript s)) (λ (i : Item). i.role ≢ s.role)) where
   abbrev g : Graph
   g = p.graph
 
@@ -95,7 +95,7 @@ module _ (sha : Hash) (keys : Keyring) (p : Program) (s : Session) (label : ℕ)
   role x = x.step.role
 
   abbrev since : List (Entry Item (List ℕ))
-  since = after_last role (receiver (shape g) label) (map entry_of (told s))
+  since = after_last role (receiver (shape g) label) (map entry_of (transcript s))
 
   -- what was told last is of another role, also since the receiver's last item
   before_since : IfSome (last since) (λ (x : Entry Item (List ℕ)). role x ≢ s.role)
@@ -107,12 +107,12 @@ module _ (sha : Hash) (keys : Keyring) (p : Program) (s : Session) (label : ℕ)
 
       go : (xs : List (Entry Item (List ℕ))) → since ≡ xs → IfSome (last xs) (λ (x : Entry Item (List ℕ)). role x ≢ s.role)
       go [] e = tt
-      go (y ∷ ys) e = subst (λ o. IfSome o (λ (x : Entry Item (List ℕ)). role x ≢ s.role)) (sym (last-option_map entry_of (told s)) ∙ last-after role (receiver (shape g) label) (map entry_of (told s)) y ys e) (one (last (told s)) before)
+      go (y ∷ ys) e = subst (λ o. IfSome o (λ (x : Entry Item (List ℕ)). role x ≢ s.role)) (sym (last-option_map entry_of (transcript s)) ∙ last-after role (receiver (shape g) label) (map entry_of (transcript s)) y ys e) (one (last (transcript s)) before)
 
-  shown_last : last (evidence_for (λ (i : Item). i.role) (receiver (shape g) label) (map entry_of (told s ++ oi ∷ []))) ≡ Some (entry_of oi)
+  shown_last : last (evidence_for (λ (i : Item). i.role) (receiver (shape g) label) (map entry_of (transcript s ++ oi ∷ []))) ≡ Some (entry_of oi)
   shown_last =
-      ap (λ l. last (evidence (λ (i : Item). i.role) (after_last role (receiver (shape g) label) l))) (map-append entry_of (told s) (oi ∷ []))
-      ∙ ap (λ l. last (evidence (λ (i : Item). i.role) l)) (after-more role (receiver (shape g) label) (map entry_of (told s)) (entry_of oi ∷ []) (rw (ne_eqb s.role (receiver (shape g) label) (λ q. other (sym q))) refl))
+      ap (λ l. last (evidence (λ (i : Item). i.role) (after_last role (receiver (shape g) label) l))) (map-append entry_of (transcript s) (oi ∷ []))
+      ∙ ap (λ l. last (evidence (λ (i : Item). i.role) l)) (after-more role (receiver (shape g) label) (map entry_of (transcript s)) (entry_of oi ∷ []) (rw (ne_eqb s.role (receiver (shape g) label) (λ q. other (sym q))) refl))
       ∙ evidence_last (λ (i : Item). i.role) (entry_of oi) since before_since
 
 pub own_item_is_last : (sha : Hash) → OwnItemIsLast sha

@@ -15,7 +15,7 @@ use Rattle.sg_protocol.specs.Spelling.{HasSpelling}
 use Rattle.sg_protocol.specs.Texts.{Hash, IsHash, session_id, session_text_of}
 use Rattle.sg_protocol.specs.TextLaws.{IsVersion}
 use Rattle.sg_protocol.specs.Keyring.{Keyring, Program}
-use Rattle.sg_protocol.specs.Session.{Session, Exchange, Took, Gave, items_of, openings_of, told, extended, new_session}
+use Rattle.sg_protocol.specs.Session.{Session, Exchange, Took, Gave, items_of, openings_of, transcript, extended, new_session}
 use Rattle.sg_protocol.specs.Sending.{own_item, frame_sent}
 use Rattle.sg_protocol.specs.Calls.{Event, Call, Start, Act, Abandon, Deliver, Sends}
 use Rattle.sg_model.specs.Names.{Name}
@@ -34,7 +34,7 @@ use Rattle.sg_protocol.proofs.Moves.{writes_below}
 use Rattle.sg_protocol.proofs.Nodes.{Begun, ActSent, act_sends, start_sends, abandon_sends, deliver_sends, start_all, abandon_all, act_all, deliver_all}
 use Rattle.sg_protocol.proofs.Paths.{flat_map-append}
 use Rattle.sg_protocol.proofs.ReadBack.{read-SpellsFrame}
-use Rattle.sg_protocol.proofs.Sent.{all_told}
+use Rattle.sg_protocol.proofs.Sent.{all_transcript}
 use Rattle.sg_protocol.proofs.Course.{small_values}
 
 -- ---- lists
@@ -58,7 +58,7 @@ extended_in_range x e h a b = record {
   version = h.version;
   cast = h.cast;
   role = h.role;
-  items = subst (AllByRecursion (IsItem x.cast.version)) (sym (flat_map-append items_of x.exchanges (e ∷ []))) (all-append (IsItem x.cast.version) (told x) (items_of e ++ []) h.items (all-append (IsItem x.cast.version) (items_of e) [] a tt));
+  items = subst (AllByRecursion (IsItem x.cast.version)) (sym (flat_map-append items_of x.exchanges (e ∷ []))) (all-append (IsItem x.cast.version) (transcript x) (items_of e ++ []) h.items (all-append (IsItem x.cast.version) (items_of e) [] a tt));
   openings = subst (AllByRecursion IsOpening) (sym (flat_map-append openings_of x.exchanges (e ∷ []))) (all-append IsOpening (flat_map openings_of x.exchanges) (openings_of e ++ []) h.openings (all-append IsOpening (openings_of e) [] b tt));
 }
 
@@ -109,7 +109,7 @@ gives_in_range sha hash keys p s label values confounders ip fx none good =
       names = names;
       short = sent_is_short sha hash p ip keys s fx label written rs.turn rs.edge rs.leaves rs.time names opens;
       openings = opens;
-      own = all_end (IsItem s.cast.version) (told s) (own_item sha keys p s label written) (all_told sha hash p ip keys s fx label written rs.turn rs.edge rs.leaves rs.time names opens);
+      own = all_end (IsItem s.cast.version) (transcript s) (own_item sha keys p s label written) (all_transcript sha hash p ip keys s fx label written rs.turn rs.edge rs.leaves rs.time names opens);
     }
 
 pub sessions_stay_in_range : (sha : Hash) → IsHash sha → SessionsStayInRange sha

@@ -22,17 +22,17 @@ use Rattle.sg_protocol.specs.Acting.{openings_for, rows_of_act, leaves, answer}
 use Rattle.sg_protocol.specs.NodeAfter.{node_after}
 use Rattle.sg_protocol.specs.IsSchedule.{IsProgram}
 use Rattle.sg_protocol.specs.Ranges.{AreValues, IsCallInRange}
-use Rattle.sg_protocol.specs.Standing.{Held, held, StandsWaiting, StandsAtTurn, held_after}
-use Rattle.sg_protocol.specs.Backed.{IsBackedWaiting, IsBackedAtTurn}
+use Rattle.sg_protocol.specs.Representation.{Held, held, RepresentsWaiting, RepresentsAtTurn, held_after}
+use Rattle.sg_protocol.specs.Reachable.{IsReachableWaiting, IsReachableAtTurn}
 use Rattle.sg_protocol.specs.Live.{IsSound, IsLive}
-use Rattle.sg_protocol.specs.NodeStates.{StandsLive, StandEach, IsBackedLive}
+use Rattle.sg_protocol.specs.NodeStates.{RepresentsLive, RepresentEach, IsBackedLive}
 use Rattle.sg_protocol.proofs.Acts as C
-use Rattle.sg_protocol.proofs.Backed.{states_are_backed}
+use Rattle.sg_protocol.proofs.Reachable.{states_are_reachable}
 use Rattle.sg_protocol.proofs.Finding.{find_passes}
 use Rattle.sg_protocol.proofs.Live.{found, start_sound, join_sound}
 use Rattle.sg_protocol.proofs.Nodes.{ActSent, NextTaken, start_all, abandon_all, act_all, deliver_all}
 use Rattle.sg_protocol.proofs.ReadBack.{read-SpellsFrame}
-use Rattle.sg_protocol.proofs.Standing.{states_stand, after}
+use Rattle.sg_protocol.proofs.Representation.{states_represent, after}
 
 eq_same : (n : ℕ) → (n == n) ≡ true
 eq_same n = eq-eqb n n refl
@@ -42,9 +42,9 @@ in_some P Q None f h = absurd h
 in_some P Q (Some x) f h = f x h
 
 module _ (sha : Hash) (hash : IsHash sha) where
-  -- what is held of the session stands for it, and a sound session stands behind it
+  -- what is held of the session represents it, and a sound session stands behind it
   abbrev pub Reached : Program → Session → Type 0
-  Reached p s = (StandsAtTurn p.graph (held p.graph s) s × IsBackedAtTurn sha p (held p.graph s)) ⊎ (StandsWaiting p.graph (held p.graph s) s × IsBackedWaiting sha p (held p.graph s))
+  Reached p s = (RepresentsAtTurn p.graph (held p.graph s) s × IsReachableAtTurn sha p (held p.graph s)) ⊎ (RepresentsWaiting p.graph (held p.graph s) s × IsReachableWaiting sha p (held p.graph s))
 
   -- so it is under the program for its graph and role
   abbrev pub ReachedIn : List Program → Session → Type 0
@@ -52,10 +52,10 @@ module _ (sha : Hash) (hash : IsHash sha) where
 
   of_sound : (p : Program) (s : Session) → IsSound sha p s → Reached p s
   of_sound p s so = elim (cases_Bool (at_turn p.graph s)) [
-    | inl t ↦ (let st : StandsAtTurn p.graph (held p.graph s) s = record { holds = refl; ends = so.ends_at_turn t; turn = t } in
-        inl (st, record { session = s; stands = st; sound = so }))
-    | inr w ↦ (let st : StandsWaiting p.graph (held p.graph s) s = record { before = record { holds = refl; ends = so.ends_waiting w }; waits = w } in
-        inr (st, record { session = s; stands = st; sound = so }))
+    | inl t ↦ (let st : RepresentsAtTurn p.graph (held p.graph s) s = record { holds = refl; ends = so.ends_at_turn t; turn = t } in
+        inl (st, record { session = s; represents = st; sound = so }))
+    | inr w ↦ (let st : RepresentsWaiting p.graph (held p.graph s) s = record { before = record { holds = refl; ends = so.ends_waiting w }; waits = w } in
+        inr (st, record { session = s; represents = st; sound = so }))
   ]
 
   -- ---- a step, and a frame
@@ -71,18 +71,18 @@ module _ (sha : Hash) (hash : IsHash sha) where
       let rs : C.ActRows p.graph s label values = C.act_rows p s label values none in
       let leave : leaves p.graph s label ≡ true = rw (rs.edge, rs.leaves) (eq_same _) in
       let i : Item = own_item sha keys p s label written in
-      let b = (states_are_backed sha hash).gives keys p (held p.graph s) s label values confs ip t.1 t.0 none good in
-      let st : StandsWaiting p.graph (held_after p.graph (held p.graph s) (Gave i written)) (extended s (Gave i written)) = (states_stand sha).gives keys p (held p.graph s) s label written ip.accepted t.0 leave in
+      let b = (states_are_reachable sha hash).gives keys p (held p.graph s) s label values confs ip t.1 t.0 none good in
+      let st : RepresentsWaiting p.graph (held_after p.graph (held p.graph s) (Gave i written)) (extended s (Gave i written)) = (states_represent sha).gives keys p (held p.graph s) s label written ip.accepted t.0 leave in
       let same : held_after p.graph (held p.graph s) (Gave i written) ≡ held p.graph (extended s (Gave i written)) = after p.graph (held p.graph s) s (Gave i written) refl in
-      (b.0, inr (subst (λ z. StandsWaiting p.graph z (extended s (Gave i written))) same st, subst (IsBackedWaiting sha p) same b.2))
+      (b.0, inr (subst (λ z. RepresentsWaiting p.graph z (extended s (Gave i written))) same st, subst (IsReachableWaiting sha p) same b.2))
 
   takes : (keys : Keyring) (p : Program) (s : Session) (f : Frame) → IsProgram sha p → p.role ≡ s.role → Reached p s → at_turn p.graph s ≡ false → HasSpelling f → f.version ≡ (s.cast).version → first_some (rows_of_session sha keys p s f) ≡ None → Reached p (extended s (Took f))
   takes keys p s f ip r (inl t) wait sp v none = absurd (clash (at_turn p.graph s) (t.0).turn wait)
   takes keys p s f ip r (inr w) wait sp v none =
-      let b = (states_are_backed sha hash).takes keys p (held p.graph s) s f ip ((states_are_backed sha hash).before p (held p.graph s) w.1) (w.0).before sp v none in
-      let st : StandsAtTurn p.graph (held_after p.graph (held p.graph s) (Took f)) (extended s (Took f)) = (states_stand sha).takes keys p (held p.graph s) s f ip r (w.0).before none in
+      let b = (states_are_reachable sha hash).takes keys p (held p.graph s) s f ip ((states_are_reachable sha hash).before p (held p.graph s) w.1) (w.0).before sp v none in
+      let st : RepresentsAtTurn p.graph (held_after p.graph (held p.graph s) (Took f)) (extended s (Took f)) = (states_represent sha).takes keys p (held p.graph s) s f ip r (w.0).before none in
       let same : held_after p.graph (held p.graph s) (Took f) ≡ held p.graph (extended s (Took f)) = after p.graph (held p.graph s) s (Took f) refl in
-      inl (subst (λ z. StandsAtTurn p.graph z (extended s (Took f))) same st, subst (IsBackedAtTurn sha p) same b)
+      inl (subst (λ z. RepresentsAtTurn p.graph z (extended s (Took f))) same st, subst (IsReachableAtTurn sha p) same b)
 
   -- ---- a node
 
@@ -121,27 +121,27 @@ module _ (sha : Hash) (hash : IsHash sha) where
 
   module _ (ps : List Program) where
     module _ (h : Held) (s : Session) where
-      holds : (p : Program) → StandsAtTurn p.graph h s ⊎ StandsWaiting p.graph h s → h ≡ held p.graph s
+      holds : (p : Program) → RepresentsAtTurn p.graph h s ⊎ RepresentsWaiting p.graph h s → h ≡ held p.graph s
       holds p (inl t) = t.holds
       holds p (inr w) = (w.before).holds
 
       same_turn : (p : Program) (t : Session) → h ≡ held p.graph s → h ≡ held p.graph t → at_turn p.graph s ≡ at_turn p.graph t
       same_turn p t a b = ap (λ (z : Held). role_at (shape p.graph) (z.kept).place == z.role) (sym a ∙ b)
 
-      both : (p : Program) → StandsAtTurn p.graph h s ⊎ StandsWaiting p.graph h s → IsBackedAtTurn sha p h ⊎ IsBackedWaiting sha p h → Reached p s
-      both p (inl t) (inl b) = inl (subst (λ z. StandsAtTurn p.graph z s) t.holds t, subst (IsBackedAtTurn sha p) t.holds b)
-      both p (inl t) (inr b) = absurd (clash (at_turn p.graph s) t.turn (same_turn p b.session t.holds ((b.stands).before).holds ∙ (b.stands).waits))
-      both p (inr w) (inl b) = absurd (clash (at_turn p.graph s) (same_turn p b.session (w.before).holds (b.stands).holds ∙ (b.stands).turn) w.waits)
-      both p (inr w) (inr b) = inr (subst (λ z. StandsWaiting p.graph z s) (w.before).holds w, subst (IsBackedWaiting sha p) (w.before).holds b)
+      both : (p : Program) → RepresentsAtTurn p.graph h s ⊎ RepresentsWaiting p.graph h s → IsReachableAtTurn sha p h ⊎ IsReachableWaiting sha p h → Reached p s
+      both p (inl t) (inl b) = inl (subst (λ z. RepresentsAtTurn p.graph z s) t.holds t, subst (IsReachableAtTurn sha p) t.holds b)
+      both p (inl t) (inr b) = absurd (clash (at_turn p.graph s) t.turn (same_turn p b.session t.holds ((b.represents).before).holds ∙ (b.represents).waits))
+      both p (inr w) (inl b) = absurd (clash (at_turn p.graph s) (same_turn p b.session (w.before).holds (b.represents).holds ∙ (b.represents).turn) w.waits)
+      both p (inr w) (inr b) = inr (subst (λ z. RepresentsWaiting p.graph z s) (w.before).holds w, subst (IsReachableWaiting sha p) (w.before).holds b)
 
-      one_reached : StandsLive ps h s → IsBackedLive sha ps h → ReachedIn ps s
+      one_reached : RepresentsLive ps h s → IsBackedLive sha ps h → ReachedIn ps s
       one_reached st b = go (program_for ps (s.cast).graph s.role) refl st
         where
-          go : (o : Option Program) → program_for ps (s.cast).graph s.role ≡ o → IsSomeAnd o (λ p. StandsAtTurn p.graph h s ⊎ StandsWaiting p.graph h s) → IsSomeAnd o (λ p. Reached p s)
+          go : (o : Option Program) → program_for ps (s.cast).graph s.role ≡ o → IsSomeAnd o (λ p. RepresentsAtTurn p.graph h s ⊎ RepresentsWaiting p.graph h s) → IsSomeAnd o (λ p. Reached p s)
           go None e k = absurd k
-          go (Some p) e k = both p k (subst (λ o. IsSomeAnd o (λ p. IsBackedAtTurn sha p h ⊎ IsBackedWaiting sha p h)) (ap (λ (z : Held). program_for ps (z.cast).graph z.role) (holds p k) ∙ e) b)
+          go (Some p) e k = both p k (subst (λ o. IsSomeAnd o (λ p. IsReachableAtTurn sha p h ⊎ IsReachableWaiting sha p h)) (ap (λ (z : Held). program_for ps (z.cast).graph z.role) (holds p k) ∙ e) b)
 
-    pub each_reached : (hs : List Held) (ss : List Session) → StandEach ps hs ss → AllByRecursion (IsBackedLive sha ps) hs → AllByRecursion (ReachedIn ps) ss
+    pub each_reached : (hs : List Held) (ss : List Session) → RepresentEach ps hs ss → AllByRecursion (IsBackedLive sha ps) hs → AllByRecursion (ReachedIn ps) ss
     each_reached [] [] e b = tt
     each_reached [] (s ∷ ss) e b = absurd e
     each_reached (h ∷ hs) [] e b = absurd e

@@ -16,7 +16,7 @@ use Rattle.sg_protocol.specs.Frame.{Cast, Item, Frame}
 use Rattle.sg_protocol.specs.Texts.{Hash, commitment, item_text_of}
 use Rattle.sg_protocol.specs.Schedule.{PairKey}
 use Rattle.sg_protocol.specs.World.{keyring_of}
-use Rattle.sg_protocol.specs.Session.{Session, Took, principal, items_of, told, own, place, at_turn, committed, commitments, opening_in, known, extended}
+use Rattle.sg_protocol.specs.Session.{Session, Took, principal, items_of, transcript, own_part, place, at_turn, committed, commitments, opening_in, known, extended}
 use Rattle.sg_protocol.specs.Sending.{tag_for}
 use Rattle.sg_protocol.specs.Verdict.{has_kind}
 use Rattle.sg_law.specs.Run as R
@@ -71,8 +71,8 @@ module _ (sha : Hash) (keys : List PairKey) (sid : List ℕ) (cast : Cast) (targ
       pub since : List Item
       pub parts : done ≡ past ++ since
       pub none : has by_role x.role since ≡ false
-      pub held : reduced g (told x) ≡ reduced g past
-      pub last_own : last (own x) ≡ last (up_to_last by_role x.role past)
+      pub held : reduced g (transcript x) ≡ reduced g past
+      pub last_own : last (own_part x) ≡ last (up_to_last by_role x.role past)
       pub turn : at_turn g x ≡ true → since ≡ []
       pub waits : at_turn g x ≡ false → IfSome (last past) (λ (i : Item). i.role ≡ x.role)
       pub opens : (v : ℕ) → knows g x.role v (labels past) ≡ true → Opens past x v
@@ -107,15 +107,15 @@ module _ (sha : Hash) (keys : List PairKey) (sid : List ℕ) (cast : Cast) (targ
       since = [];
       parts = sym (append-nil done);
       none = refl;
-      held = ap (reduced g) told_later ∙ ap (λ l. reduced g (told x ++ l)) (items ∙ ap (reduced g) since_is) ∙ reduced_after g (told x) k.since ∙ sym (reduced_again g (told x) k.since) ∙ ap (λ l. reduced g (l ++ k.since)) k.held ∙ reduced_again g k.past k.since ∙ ap (reduced g) (sym k.parts);
-      last_own = ap (λ l. last (up_to_last by_role x.role l)) told_later ∙ ap last (Upto'.upto-more by_role x.role (told x) f.items no_own) ∙ k.last_own ∙ ap last (sym (Upto'.upto-more by_role x.role k.past k.since k.none)) ∙ ap (λ l. last (up_to_last by_role x.role l)) (sym k.parts);
+      held = ap (reduced g) transcript_later ∙ ap (λ l. reduced g (transcript x ++ l)) (items ∙ ap (reduced g) since_is) ∙ reduced_after g (transcript x) k.since ∙ sym (reduced_again g (transcript x) k.since) ∙ ap (λ l. reduced g (l ++ k.since)) k.held ∙ reduced_again g k.past k.since ∙ ap (reduced g) (sym k.parts);
+      last_own = ap (λ l. last (up_to_last by_role x.role l)) transcript_later ∙ ap last (Upto'.upto-more by_role x.role (transcript x) f.items no_own) ∙ k.last_own ∙ ap last (sym (Upto'.upto-more by_role x.role k.past k.since k.none)) ∙ ap (λ l. last (up_to_last by_role x.role l)) (sym k.parts);
       turn = λ e. refl;
       waits = λ e. absurd (clash (at_turn g (extended x (Took f))) tn e);
       opens = opens_;
     }
       where
-        told_later : told (extended x (Took f)) ≡ told x ++ f.items
-        told_later = flat_map-append items_of x.exchanges (Took f ∷ []) ∙ ap (λ l. told x ++ l) (append-nil f.items)
+        transcript_later : transcript (extended x (Took f)) ≡ transcript x ++ f.items
+        transcript_later = flat_map-append items_of x.exchanges (Took f ∷ []) ∙ ap (λ l. transcript x ++ l) (append-nil f.items)
 
         since_is : after_last by_role x.role done ≡ k.since
         since_is = ap (after_last by_role x.role) k.parts ∙ after_all x.role k.past k.since (k.waits wt) k.none

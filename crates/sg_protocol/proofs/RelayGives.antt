@@ -17,7 +17,7 @@ use Rattle.sg_protocol.specs.Texts.{Hash, commitment, item_text_of}
 use Rattle.sg_protocol.specs.Keyring.{Keyring, Program, targets_of}
 use Rattle.sg_protocol.specs.Schedule.{PairKey}
 use Rattle.sg_protocol.specs.World.{keyring_of}
-use Rattle.sg_protocol.specs.Session.{Session, Gave, principal, items_of, told, time, place, at_turn, last_time, committed, commitments, opening_in, known, extended}
+use Rattle.sg_protocol.specs.Session.{Session, Gave, principal, items_of, transcript, time, place, at_turn, last_time, committed, commitments, opening_in, known, extended}
 use Rattle.sg_protocol.specs.Sending.{tag_for, text_of, plain_item, own_item, opening_of, shown_to, frame_sent}
 use Rattle.sg_protocol.specs.Verdict.{has_kind}
 use Rattle.sg_law.specs.Run as R
@@ -105,15 +105,15 @@ module _ (sha : Hash) (keys : List PairKey) (sid : List ℕ) (cast : Cast) (targ
   past_is : k.past ≡ done
   past_is = sym (k.parts ∙ ap (λ l. k.past ++ l) none_since ∙ append-nil k.past)
 
-  held_is : reduced p.graph (told x) ≡ reduced p.graph done
+  held_is : reduced p.graph (transcript x) ≡ reduced p.graph done
   held_is = k.held ∙ ap (reduced p.graph) past_is
 
-  held_more : (i : Item) → reduced p.graph (told x ++ i ∷ []) ≡ reduced p.graph (done ++ i ∷ [])
-  held_more i = sym (reduced_again p.graph (told x) (i ∷ [])) ∙ ap (λ l. reduced p.graph (l ++ i ∷ [])) held_is ∙ reduced_again p.graph done (i ∷ [])
+  held_more : (i : Item) → reduced p.graph (transcript x ++ i ∷ []) ≡ reduced p.graph (done ++ i ∷ [])
+  held_more i = sym (reduced_again p.graph (transcript x) (i ∷ [])) ∙ ap (λ l. reduced p.graph (l ++ i ∷ [])) held_is ∙ reduced_again p.graph done (i ∷ [])
 
   -- the frame's items are those since the receiver's last one
-  items_are : (i : Item) → shown_to p.graph to (told x ++ i ∷ []) ≡ reduced p.graph (after_last by_role to (done ++ i ∷ []))
-  items_are i = shown_reduced p.graph to (told x ++ i ∷ []) ∙ sym (after_reduced p.graph to (told x ++ i ∷ [])) ∙ ap (after_last by_role to) (held_more i) ∙ after_reduced p.graph to (done ++ i ∷ [])
+  items_are : (i : Item) → shown_to p.graph to (transcript x ++ i ∷ []) ≡ reduced p.graph (after_last by_role to (done ++ i ∷ []))
+  items_are i = shown_reduced p.graph to (transcript x ++ i ∷ []) ∙ sym (after_reduced p.graph to (transcript x ++ i ∷ [])) ∙ ap (after_last by_role to) (held_more i) ∙ after_reduced p.graph to (done ++ i ∷ [])
 
   pub item_is : item ≡ oi
   item_is =
@@ -142,10 +142,10 @@ module _ (sha : Hash) (keys : List PairKey) (sid : List ℕ) (cast : Cast) (targ
 
   tags_are : item.tags ≡ map (λ t. (t, tag_said sha keys sid cast targets p.graph done item t)) (targets item.label)
   tags_are =
-      let held : commitments p.graph (told x ++ plain_item sha x label os ∷ []) ≡ commitments p.graph (done ++ item ∷ []) = commitments_same p.graph (told x) done held_is (plain_item sha x label os) item (sym delta_is) in
+      let held : commitments p.graph (transcript x ++ plain_item sha x label os ∷ []) ≡ commitments p.graph (done ++ item ∷ []) = commitments_same p.graph (transcript x) done held_is (plain_item sha x label os) item (sym delta_is) in
       ap (λ (z : Item). z.tags) item_is
-      ∙ ap (λ (c : Cast). map (λ t. (t, tag_for sha me c t (item_text_of c.version x.sid x.role t label (time x + 1) (commitments p.graph (told x ++ plain_item sha x label os ∷ []))))) (targets_of p label)) same_cast
-      ∙ ap (λ z. map (λ t. (t, tag_for sha me cast t (item_text_of cast.version z x.role t label (time x + 1) (commitments p.graph (told x ++ plain_item sha x label os ∷ []))))) (targets_of p label)) same_sid
+      ∙ ap (λ (c : Cast). map (λ t. (t, tag_for sha me c t (item_text_of c.version x.sid x.role t label (time x + 1) (commitments p.graph (transcript x ++ plain_item sha x label os ∷ []))))) (targets_of p label)) same_cast
+      ∙ ap (λ z. map (λ t. (t, tag_for sha me cast t (item_text_of cast.version z x.role t label (time x + 1) (commitments p.graph (transcript x ++ plain_item sha x label os ∷ []))))) (targets_of p label)) same_sid
       ∙ ap (λ z. map (λ t. (t, tag_for sha me cast t (item_text_of cast.version sid x.role t label (time x + 1) z))) (targets_of p label)) held
       ∙ ap (λ l. map (λ t. (t, tag_for sha me cast t (item_text_of cast.version sid x.role t label (time x + 1) (commitments p.graph (done ++ item ∷ []))))) l) same_targets
       ∙ ap (λ (z : Item). map (λ t. (t, tag_for sha (keyring_of keys (principal cast z.role)) cast t (item_text_of cast.version sid z.role t z.label z.time (commitments p.graph (done ++ item ∷ []))))) (targets z.label)) (sym item_is)
@@ -215,8 +215,8 @@ module _ (sha : Hash) (keys : List PairKey) (sid : List ℕ) (cast : Cast) (targ
     since = [];
     parts = sym (append-nil (done ++ item ∷ []));
     none = refl;
-    held = ap (reduced p.graph) told_later ∙ held_more item;
-    last_own = ap (λ l. last (up_to_last by_role x.role l)) told_later ∙ ap last (Upto'.upto-at by_role x.role (told x) item [] role refl) ∙ last-append (told x) item [] ∙ sym (ap last (Upto'.upto-at by_role x.role done item [] role refl) ∙ last-append done item []);
+    held = ap (reduced p.graph) transcript_later ∙ held_more item;
+    last_own = ap (λ l. last (up_to_last by_role x.role l)) transcript_later ∙ ap last (Upto'.upto-at by_role x.role (transcript x) item [] role refl) ∙ last-append (transcript x) item [] ∙ sym (ap last (Upto'.upto-at by_role x.role done item [] role refl) ∙ last-append done item []);
     turn = λ e. refl;
     waits = λ e. subst (λ o. IfSome o (λ (i : Item). i.role ≡ x.role)) (sym (last-append done item [])) role;
     opens = λ v kn. let o = new_opens v (subst (λ l. knows p.graph x.role v l ≡ true) labels_after kn) in record { opening = o.0; is_known = last_opening-append v x.exchanges (Gave item os) ∙ o.1; variable = o.2; opens = o.3 };
@@ -225,8 +225,8 @@ module _ (sha : Hash) (keys : List PairKey) (sid : List ℕ) (cast : Cast) (targ
       role : item.role ≡ x.role
       role = ap (λ (z : Item). z.role) item_is
 
-      told_later : told (extended x (Gave item os)) ≡ told x ++ item ∷ []
-      told_later = flat_map-append items_of x.exchanges (Gave item os ∷ [])
+      transcript_later : transcript (extended x (Gave item os)) ≡ transcript x ++ item ∷ []
+      transcript_later = flat_map-append items_of x.exchanges (Gave item os ∷ [])
 
   -- ---- the frame that is sent
 
@@ -234,7 +234,7 @@ module _ (sha : Hash) (keys : List PairKey) (sid : List ℕ) (cast : Cast) (targ
   frame_items = items_are oi ∙ ap (λ i. reduced p.graph (after_last by_role to (done ++ i ∷ []))) (sym item_is)
 
   pub frame_join : fr.join ≡ (if has by_role to done then None else Some cast)
-  frame_join = ap (λ b. if b then None else Some x.cast) (has_same p.graph (told x) done held_is to) ∙ ap (λ c. if has by_role to done then None else Some c) same_cast
+  frame_join = ap (λ b. if b then None else Some x.cast) (has_same p.graph (transcript x) done held_is to) ∙ ap (λ c. if has by_role to done then None else Some c) same_cast
 
   pub frame_opened : (map (λ (o : Opening). o.variable) fr.openings ≡ reads p.graph label) × AllByRecursion (OpensAt sha keys sid cast targets p.graph (done ++ item ∷ [])) fr.openings
   frame_opened = openings_there (OpensAt sha keys sid cast targets p.graph (done ++ item ∷ [])) (opening_of x os) (reads p.graph label) (λ v i. new_opens v (subst (λ r. knows p.graph r v (labels done ++ label ∷ []) ≡ true) by_x (acc.reads_known (labels done) label v (subst (Walk (shape p.graph) 0) labels_after steps_ok.walk) i)))

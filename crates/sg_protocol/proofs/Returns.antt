@@ -71,13 +71,13 @@ module _ (sha : Hash) (p : Program) (e : ℕ) (is : IsProgram sha p) (edge : e <
   -- a view from e is of a walk that goes on after e
   seen_returns : (v : View) → IsView p.graph p.role v → v.origin ≡ Some e → Returns p.graph p.role e
   seen_returns v i o =
-      let front : List ℕ = up_to_last (sender g) p.role i.walk in
+      let prefix : List ℕ = up_to_last (sender g) p.role i.walk in
       let rest : List ℕ = after_last (sender g) p.role i.walk in
-      let parts : front ++ rest ≡ i.walk = up_to_last-after (sender g) p.role i.walk in
-      let at : last front ≡ Some e = ap (λ (x : View). x.origin) i.seen ∙ o in
-      let here : end_of g 0 front ≡ target g e = end_of_same g 0 front (e ∷ []) at in
-      let both : Walk g 0 front × Walk g (end_of g 0 front) rest = walk-append g 0 front rest (subst (λ z. Walk g 0 z) (sym parts) i.follows) in
-      (rest, subst (λ n. Walk g n rest) here both.1, ap (λ n. role_at g (end_of g n rest)) (sym here) ∙ ap (role_at g) (sym (end_of-append g 0 front rest)) ∙ ap (λ z. role_at g (end_of g 0 z)) parts ∙ i.ends)
+      let parts : prefix ++ rest ≡ i.walk = up_to_last-after (sender g) p.role i.walk in
+      let at : last prefix ≡ Some e = ap (λ (x : View). x.origin) i.seen ∙ o in
+      let here : end_of g 0 prefix ≡ target g e = end_of_same g 0 prefix (e ∷ []) at in
+      let both : Walk g 0 prefix × Walk g (end_of g 0 prefix) rest = walk-append g 0 prefix rest (subst (λ z. Walk g 0 z) (sym parts) i.follows) in
+      (rest, subst (λ n. Walk g n rest) here both.1, ap (λ n. role_at g (end_of g n rest)) (sym here) ∙ ap (role_at g) (sym (end_of-append g 0 prefix rest)) ∙ ap (λ z. role_at g (end_of g 0 z)) parts ∙ i.ends)
 
   -- a walk to e that goes on to the role's next node has a view from e
   return_seen : Returns p.graph p.role e → (v : View) × IsView p.graph p.role v × (v.origin ≡ Some e)

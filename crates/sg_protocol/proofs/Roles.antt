@@ -38,7 +38,7 @@ use Rattle.sg_protocol.proofs.TextLaws as TL
 use Rattle.sg_protocol.proofs.ReadBack.{read-SpellsFrame}
 use Rattle.sg_protocol.proofs.Moves.{row_none}
 use Rattle.sg_protocol.proofs.Sent.{FitSession}
-use Rattle.sg_protocol.proofs.Finding.{one_place, find_all}
+use Rattle.sg_protocol.proofs.Finding.{one_index, find_all}
 use Rattle.sg_protocol.proofs.First.{first_cast}
 use Rattle.sg_protocol.proofs.Fits.{fit_new, ActSent, act_sends, fit_steps}
 use Rattle.sg_protocol.proofs.Sendings.{Known, Origin, LogsOk, took, all_logs, new_logs, me_is, act_event}
@@ -229,4 +229,4 @@ none_takes_two_roles sha hash programs s compiled sched free l l' who e e' had h
     let b = sessions_have_one_cast sha hash programs s compiled sched free l' who e' had' in
     let two : Some a.cast ≡ Some b.cast = sym a.is_cast ∙ ap (λ z. cast_of_session z (run sha programs s).log) same ∙ b.is_cast in
     let one : a.cast ≡ b.cast = cc in
-    one_place (a.cast).names (role_of e) (role_of e') a.differ a.role (subst (λ c. role_of e' < length c.names) (sym one) b.role) (a.principal ∙ sym b.principal ∙ ap (λ c. principal c (role_of e')) (sym one))
+    one_index (a.cast).names (role_of e) (role_of e') a.differ a.role (subst (λ c. role_of e' < length c.names) (sym one) b.role) (a.principal ∙ sym b.principal ∙ ap (λ c. principal c (role_of e')) (sym one))

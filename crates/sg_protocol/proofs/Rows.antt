@@ -20,7 +20,7 @@ use Rattle.sg_protocol.specs.Texts.{Hash, commitment, cut, hmac, item_text_of}
 use Rattle.sg_protocol.specs.Keyring.{Keyring, Program, targets_of}
 use Rattle.sg_protocol.specs.Schedule.{PairKey}
 use Rattle.sg_protocol.specs.World.{keyring_of}
-use Rattle.sg_protocol.specs.Session.{Session, principal, told, own, own_time, origin, at_turn, last_label, committed, commitments}
+use Rattle.sg_protocol.specs.Session.{Session, principal, transcript, own_part, own_time, origin, at_turn, last_label, committed, commitments}
 use Rattle.sg_protocol.specs.Sending.{tag_for, text_to, text_of}
 use Rattle.sg_protocol.specs.Checks.{checked_texts, texts_checked, shown_commitments}
 use Rattle.sg_protocol.specs.Calls.{BadFrameTag, NoSuchView, BadEvidence, BadOpening}
@@ -86,15 +86,15 @@ module _ (sha : Hash) (keys : List PairKey) (sid : List ℕ) (cast : Cast) (targ
       go b (i ∷ xs) ys h = subst (λ l. TagsOk sha keys sid cast targets g l ys) (append_assoc b (i ∷ []) xs) (go (b ++ i ∷ []) xs ys h.1)
 
   -- what the role holds of its own is all that it was told
-  own_is : own x ≡ told x
-  own_is = last_of_role x.role (told x) (same (last (told x)) refl)
+  own_part_is : own_part x ≡ transcript x
+  own_part_is = last_of_role x.role (transcript x) (same (last (transcript x)) refl)
     where
-      same : (o : Option Item) → last (told x) ≡ o → IfSome o (λ (i : Item). i.role ≡ x.role)
+      same : (o : Option Item) → last (transcript x) ≡ o → IfSome o (λ (i : Item). i.role ≡ x.role)
       same None e = tt
       same (Some i) e = go (cases_Option (last k.past))
         where
           bares : option_map bare (last k.past) ≡ Some (bare i)
-          bares = sym (same_last g (told x) k.past k.held) ∙ ap (option_map bare) e
+          bares = sym (same_last g (transcript x) k.past k.held) ∙ ap (option_map bare) e
 
           go : (last k.past ≡ None) ⊎ ((j : Item) × (last k.past ≡ Some j)) → i.role ≡ x.role
           go (inl q) = absurd (let z : None ≡ Some (bare i) = sym (ap (option_map bare) q) ∙ bares in cc)
@@ -103,8 +103,8 @@ module _ (sha : Hash) (keys : List PairKey) (sid : List ℕ) (cast : Cast) (targ
               let z' : bare q.0 ≡ bare i = cc in
               sym (ap (λ b. b.role) z') ∙ subst (λ o. IfSome o (λ (j : Item). j.role ≡ x.role)) q.1 (k.waits wait)
 
-  own_committed : (v : ℕ) → v < length g.variables → committed v (own x) ≡ committed v k.past
-  own_committed v l = ap (committed v) own_is ∙ committed_same g (told x) k.past k.held v l
+  own_committed : (v : ℕ) → v < length g.variables → committed v (own_part x) ≡ committed v k.past
+  own_committed v l = ap (committed v) own_part_is ∙ committed_same g (transcript x) k.past k.held v l
 
   -- ---- the frame's tag
 
@@ -202,7 +202,7 @@ module _ (sha : Hash) (keys : List PairKey) (sid : List ℕ) (cast : Cast) (targ
 
   shown_committed : (v : ℕ) → v < length g.variables → shown_commitments x f v ≡ committed v done
   shown_committed v l =
-      committed-append v (own x) f.items ∙ ap (λ z. option_or (committed v z) (committed v (own x))) items_since ∙ ap (λ o. option_or o (committed v (own x))) (committed_reduced g v l k.since)
+      committed-append v (own_part x) f.items ∙ ap (λ z. option_or (committed v z) (committed v (own_part x))) items_since ∙ ap (λ o. option_or o (committed v (own_part x))) (committed_reduced g v l k.since)
       ∙ ap (option_or (committed v k.since)) (own_committed v l) ∙ sym (committed-append v k.past k.since) ∙ ap (committed v) (sym k.parts)
 
   opening_ok : (o : Opening) → o.variable < length g.variables → OpensAt sha keys sid cast targets g done o → is_right sha p.graph x f o ≡ true
@@ -250,60 +250,60 @@ module _ (sha : Hash) (keys : List PairKey) (sid : List ℕ) (cast : Cast) (targ
   assoc (Some a) b c = refl
 
   -- the tag of an item, where what was held before it is the same
-  tag_right : (b front : List Item) (i j : Item) (xs : List Item) → i.tags ≡ map (λ t. (t, tag_said sha keys sid cast targets g b i t)) (targets i.label) → has by_role x.role xs ≡ false → is_in x.role (targets i.label) ≡ true → commitments g (front ++ j ∷ []) ≡ commitments g (b ++ i ∷ []) → j.role ≡ i.role → j.label ≡ i.label → j.time ≡ i.time → j.tags ≡ tags_but xs i.tags
-      → has_item_tag sha me x (j, text_to g x front j x.role) ≡ true
-  tag_right b front i j xs tg n target held jr jl jt jg =
+  tag_right : (b prefix : List Item) (i j : Item) (xs : List Item) → i.tags ≡ map (λ t. (t, tag_said sha keys sid cast targets g b i t)) (targets i.label) → has by_role x.role xs ≡ false → is_in x.role (targets i.label) ≡ true → commitments g (prefix ++ j ∷ []) ≡ commitments g (b ++ i ∷ []) → j.role ≡ i.role → j.label ≡ i.label → j.time ≡ i.time → j.tags ≡ tags_but xs i.tags
+      → has_item_tag sha me x (j, text_to g x prefix j x.role) ≡ true
+  tag_right b prefix i j xs tg n target held jr jl jt jg =
       let T : ℕ → List ℕ = tag_said sha keys sid cast targets g b i in
       let found : value_at j.tags x.role ≡ Some (tag_said sha keys sid cast targets g b i x.role) = ap (λ m. value_at m x.role) jg ∙ tag_kept xs i.tags x.role n ∙ ap (λ m. value_at m x.role) tg ∙ tag_there (tag_said sha keys sid cast targets g b i) (targets i.label) x.role target in
-      let text : text_to g x front j x.role ≡ item_text_of cast.version sid i.role x.role i.label i.time (commitments g (b ++ i ∷ [])) =
-      ap (λ (c : Cast). item_text_of c.version x.sid j.role x.role j.label j.time (commitments g (front ++ j ∷ []))) same_cast
-      ∙ ap (λ z. item_text_of cast.version z j.role x.role j.label j.time (commitments g (front ++ j ∷ []))) same_sid
-      ∙ ap (λ z. item_text_of cast.version sid z x.role j.label j.time (commitments g (front ++ j ∷ []))) jr
-      ∙ ap (λ z. item_text_of cast.version sid i.role x.role z j.time (commitments g (front ++ j ∷ []))) jl
-      ∙ ap (λ z. item_text_of cast.version sid i.role x.role i.label z (commitments g (front ++ j ∷ []))) jt
+      let text : text_to g x prefix j x.role ≡ item_text_of cast.version sid i.role x.role i.label i.time (commitments g (b ++ i ∷ [])) =
+      ap (λ (c : Cast). item_text_of c.version x.sid j.role x.role j.label j.time (commitments g (prefix ++ j ∷ []))) same_cast
+      ∙ ap (λ z. item_text_of cast.version z j.role x.role j.label j.time (commitments g (prefix ++ j ∷ []))) same_sid
+      ∙ ap (λ z. item_text_of cast.version sid z x.role j.label j.time (commitments g (prefix ++ j ∷ []))) jr
+      ∙ ap (λ z. item_text_of cast.version sid i.role x.role z j.time (commitments g (prefix ++ j ∷ []))) jl
+      ∙ ap (λ z. item_text_of cast.version sid i.role x.role i.label z (commitments g (prefix ++ j ∷ []))) jt
       ∙ ap (λ z. item_text_of cast.version sid i.role x.role i.label i.time z) held in
-      ap (λ o. same_text o (tag_for sha me x.cast j.role (text_to g x front j x.role))) found
-      ∙ (bytes_eq-Decides (tag_said sha keys sid cast targets g b i x.role) (tag_for sha me x.cast j.role (text_to g x front j x.role))).1 (sym (
-      ap (λ c. tag_for sha me c j.role (text_to g x front j x.role)) same_cast ∙ ap (λ z. tag_for sha me cast z (text_to g x front j x.role)) jr ∙ ap (tag_for sha me cast i.role) text ∙ key_pair i.role (item_text_of cast.version sid i.role x.role i.label i.time (commitments g (b ++ i ∷ [])))))
+      ap (λ o. same_text o (tag_for sha me x.cast j.role (text_to g x prefix j x.role))) found
+      ∙ (bytes_eq-Decides (tag_said sha keys sid cast targets g b i x.role) (tag_for sha me x.cast j.role (text_to g x prefix j x.role))).1 (sym (
+      ap (λ c. tag_for sha me c j.role (text_to g x prefix j x.role)) same_cast ∙ ap (λ z. tag_for sha me cast z (text_to g x prefix j x.role)) jr ∙ ap (tag_for sha me cast i.role) text ∙ key_pair i.role (item_text_of cast.version sid i.role x.role i.label i.time (commitments g (b ++ i ∷ [])))))
 
-  checks : (xs : List Item) (d : Map (List ℕ)) (front b : List Item) (m : ℕ) → ((v : ℕ) → v < length g.variables → option_or (value_at d v) (committed v front) ≡ committed v b) → TagsOk sha keys sid cast targets g b xs → Roles (shape g) xs → has by_role x.role xs ≡ false → Walk (shape g) m (labels xs) → role_at (shape g) (end_of (shape g) m (labels xs)) ≡ x.role
-      → list_all (has_item_tag sha me x) (checked_texts g x front (lead g d (reduced g xs))) ≡ true
-  checks [] d front b m held tg r n w e = refl
-  checks (i ∷ xs) d front b m held tg r n w e = elim (cases_Bool (has by_role i.role xs)) [
+  checks : (xs : List Item) (d : Map (List ℕ)) (prefix b : List Item) (m : ℕ) → ((v : ℕ) → v < length g.variables → option_or (value_at d v) (committed v prefix) ≡ committed v b) → TagsOk sha keys sid cast targets g b xs → Roles (shape g) xs → has by_role x.role xs ≡ false → Walk (shape g) m (labels xs) → role_at (shape g) (end_of (shape g) m (labels xs)) ≡ x.role
+      → list_all (has_item_tag sha me x) (checked_texts g x prefix (lead g d (reduced g xs))) ≡ true
+  checks [] d prefix b m held tg r n w e = refl
+  checks (i ∷ xs) d prefix b m held tg r n w e = elim (cases_Bool (has by_role i.role xs)) [
     | inl h ↦
-        let held' : (v : ℕ) → v < length g.variables → option_or (value_at (in_order (length g.variables) (merge d i.delta)) v) (committed v front) ≡ committed v (b ++ i ∷ []) = λ v l.
-        ap (λ o. option_or o (committed v front)) (value_at-in_order (length g.variables) (merge d i.delta) v l ∙ value_at-merge d i.delta v) ∙ assoc (value_at i.delta v) (value_at d v) (committed v front) ∙ ap (option_or (value_at i.delta v)) (held v l) ∙ sym (committed-append v b (i ∷ [])) in
-        rw h (subst (λ l. list_all (has_item_tag sha me x) (checked_texts g x front l) ≡ true) (lead-lead g d i.delta (reduced g xs))
-        (checks xs (in_order (length g.variables) (merge d i.delta)) front (b ++ i ∷ []) (target (shape g) i.label) held' tg.1 r.1 (rest (i.role == x.role) (has by_role x.role xs) n) w.2 e))
+        let held' : (v : ℕ) → v < length g.variables → option_or (value_at (in_order (length g.variables) (merge d i.delta)) v) (committed v prefix) ≡ committed v (b ++ i ∷ []) = λ v l.
+        ap (λ o. option_or o (committed v prefix)) (value_at-in_order (length g.variables) (merge d i.delta) v l ∙ value_at-merge d i.delta v) ∙ assoc (value_at i.delta v) (value_at d v) (committed v prefix) ∙ ap (option_or (value_at i.delta v)) (held v l) ∙ sym (committed-append v b (i ∷ [])) in
+        rw h (subst (λ l. list_all (has_item_tag sha me x) (checked_texts g x prefix l) ≡ true) (lead-lead g d i.delta (reduced g xs))
+        (checks xs (in_order (length g.variables) (merge d i.delta)) prefix (b ++ i ∷ []) (target (shape g) i.label) held' tg.1 r.1 (rest (i.role == x.role) (has by_role x.role xs) n) w.2 e))
     | inr h ↦
         let j : Item = record (left_by g xs i) { delta = in_order (length g.variables) (merge d (in_order (length g.variables) i.delta)) } in
-        let held' : (v : ℕ) → v < length g.variables → committed v (front ++ record (left_by g xs i) { delta = in_order (length g.variables) (merge d (in_order (length g.variables) i.delta)) } ∷ []) ≡ committed v (b ++ i ∷ []) = λ v l.
-        committed-append v front (record (left_by g xs i) { delta = in_order (length g.variables) (merge d (in_order (length g.variables) i.delta)) } ∷ [])
-        ∙ ap (λ o. option_or o (committed v front)) (value_at-in_order (length g.variables) (merge d (in_order (length g.variables) i.delta)) v l ∙ value_at-merge d (in_order (length g.variables) i.delta) v ∙ ap (λ o. option_or o (value_at d v)) (value_at-in_order (length g.variables) i.delta v l))
-        ∙ assoc (value_at i.delta v) (value_at d v) (committed v front) ∙ ap (option_or (value_at i.delta v)) (held v l) ∙ sym (committed-append v b (i ∷ [])) in
+        let held' : (v : ℕ) → v < length g.variables → committed v (prefix ++ record (left_by g xs i) { delta = in_order (length g.variables) (merge d (in_order (length g.variables) i.delta)) } ∷ []) ≡ committed v (b ++ i ∷ []) = λ v l.
+        committed-append v prefix (record (left_by g xs i) { delta = in_order (length g.variables) (merge d (in_order (length g.variables) i.delta)) } ∷ [])
+        ∙ ap (λ o. option_or o (committed v prefix)) (value_at-in_order (length g.variables) (merge d (in_order (length g.variables) i.delta)) v l ∙ value_at-merge d (in_order (length g.variables) i.delta) v ∙ ap (λ o. option_or o (value_at d v)) (value_at-in_order (length g.variables) i.delta v l))
+        ∙ assoc (value_at i.delta v) (value_at d v) (committed v prefix) ∙ ap (option_or (value_at i.delta v)) (held v l) ∙ sym (committed-append v b (i ∷ [])) in
         let n' : has by_role x.role xs ≡ false = rest (i.role == x.role) (has by_role x.role xs) n in
-        let later : list_all (has_item_tag sha me x) (checked_texts g x (front ++ record (left_by g xs i) { delta = in_order (length g.variables) (merge d (in_order (length g.variables) i.delta)) } ∷ []) (reduced g xs)) ≡ true =
-        subst (λ l. list_all (has_item_tag sha me x) (checked_texts g x (front ++ record (left_by g xs i) { delta = in_order (length g.variables) (merge d (in_order (length g.variables) i.delta)) } ∷ []) l) ≡ true) (lead_nil g xs)
-        (checks xs [] (front ++ record (left_by g xs i) { delta = in_order (length g.variables) (merge d (in_order (length g.variables) i.delta)) } ∷ []) (b ++ i ∷ []) (target (shape g) i.label) held' tg.1 r.1 n' w.2 e) in
-        rw h (one front (record (left_by g xs i) { delta = in_order (length g.variables) (merge d (in_order (length g.variables) i.delta)) }) (reduced g xs) later (λ some. tag_right b front i (record (left_by g xs i) { delta = in_order (length g.variables) (merge d (in_order (length g.variables) i.delta)) }) xs tg.0 n' (target_of xs some h n' r w e n)
-        (below_same (λ v. committed v (front ++ record (left_by g xs i) { delta = in_order (length g.variables) (merge d (in_order (length g.variables) i.delta)) } ∷ [])) (λ v. committed v (b ++ i ∷ [])) (length g.variables) held') refl refl refl refl))
+        let later : list_all (has_item_tag sha me x) (checked_texts g x (prefix ++ record (left_by g xs i) { delta = in_order (length g.variables) (merge d (in_order (length g.variables) i.delta)) } ∷ []) (reduced g xs)) ≡ true =
+        subst (λ l. list_all (has_item_tag sha me x) (checked_texts g x (prefix ++ record (left_by g xs i) { delta = in_order (length g.variables) (merge d (in_order (length g.variables) i.delta)) } ∷ []) l) ≡ true) (lead_nil g xs)
+        (checks xs [] (prefix ++ record (left_by g xs i) { delta = in_order (length g.variables) (merge d (in_order (length g.variables) i.delta)) } ∷ []) (b ++ i ∷ []) (target (shape g) i.label) held' tg.1 r.1 n' w.2 e) in
+        rw h (one prefix (record (left_by g xs i) { delta = in_order (length g.variables) (merge d (in_order (length g.variables) i.delta)) }) (reduced g xs) later (λ some. tag_right b prefix i (record (left_by g xs i) { delta = in_order (length g.variables) (merge d (in_order (length g.variables) i.delta)) }) xs tg.0 n' (target_of xs some h n' r w e n)
+        (below_same (λ v. committed v (prefix ++ record (left_by g xs i) { delta = in_order (length g.variables) (merge d (in_order (length g.variables) i.delta)) } ∷ [])) (λ v. committed v (b ++ i ∷ [])) (length g.variables) held') refl refl refl refl))
   ]
     where
       rest : (a b : Bool) → (a || b) ≡ false → b ≡ false
       rest true b h = absurd (cc)
       rest false b h = h
 
-      one : (front : List Item) (j : Item) (zs : List Item) → list_all (has_item_tag sha me x) (checked_texts g x (front ++ j ∷ []) zs) ≡ true → (zs ≢ [] → has_item_tag sha me x (j, text_to g x front j x.role) ≡ true) → list_all (has_item_tag sha me x) (checked_texts g x front (j ∷ zs)) ≡ true
-      one front j [] l h = refl
-      one front j (z ∷ zs) l h = and_from (has_item_tag sha me x (j, text_to g x front j x.role)) (list_all (has_item_tag sha me x) (checked_texts g x (front ++ j ∷ []) (z ∷ zs))) (h (λ q. (let y : z ∷ zs ≡ [] = q in absurd (cc)))) l
+      one : (prefix : List Item) (j : Item) (zs : List Item) → list_all (has_item_tag sha me x) (checked_texts g x (prefix ++ j ∷ []) zs) ≡ true → (zs ≢ [] → has_item_tag sha me x (j, text_to g x prefix j x.role) ≡ true) → list_all (has_item_tag sha me x) (checked_texts g x prefix (j ∷ zs)) ≡ true
+      one prefix j [] l h = refl
+      one prefix j (z ∷ zs) l h = and_from (has_item_tag sha me x (j, text_to g x prefix j x.role)) (list_all (has_item_tag sha me x) (checked_texts g x (prefix ++ j ∷ []) (z ∷ zs))) (h (λ q. (let y : z ∷ zs ≡ [] = q in absurd (cc)))) l
 
       target_of : (ys : List Item) → reduced g ys ≢ [] → has by_role i.role ys ≡ false → has by_role x.role ys ≡ false → Roles (shape g) (i ∷ ys) → Walk (shape g) m (labels (i ∷ ys)) → role_at (shape g) (end_of (shape g) m (labels (i ∷ ys))) ≡ x.role → has by_role x.role (i ∷ ys) ≡ false → is_in x.role (targets i.label) ≡ true
       target_of [] some h n' r w e n = absurd (some refl)
       target_of (y ∷ ys) some h n' r w e n = is_target m i y ys w r n h e
 
   tags_ok : list_all (has_item_tag sha me x) (texts_checked p.graph x f) ≡ true
-  tags_ok = subst (λ l. list_all (has_item_tag sha me x) (checked_texts g x (own x) l) ≡ true) (lead_nil g k.since ∙ sym items_since)
-      (checks k.since [] (own x) k.past (end_of (shape g) 0 (labels k.past)) own_committed tags_since roles_since k.none
+  tags_ok = subst (λ l. list_all (has_item_tag sha me x) (checked_texts g x (own_part x) l) ≡ true) (lead_nil g k.since ∙ sym items_since)
+      (checks k.since [] (own_part x) k.past (end_of (shape g) 0 (labels k.past)) own_committed tags_since roles_since k.none
       (walk-append (shape g) 0 (labels k.past) (labels k.since) (subst (Walk (shape g) 0) (ap labels k.parts ∙ map-append (λ (i : Item). i.label) k.past k.since) so.walk)).1
       (ap (role_at (shape g)) (sym (end_of-append (shape g) 0 (labels k.past) (labels k.since)) ∙ ap (end_of (shape g) 0) (sym (ap labels k.parts ∙ map-append (λ (i : Item). i.label) k.past k.since))) ∙ ends_there))
 

@@ -14,7 +14,7 @@ use Rattle.sg_protocol.specs.Spelling.{spelling, HasSpelling, body}
 use Rattle.sg_protocol.specs.Texts.{Hash, IsHash, frame_text_of, session_id, session_text_of, cut, graph_text_of, hmac}
 use Rattle.sg_protocol.specs.TextLaws.{IsVersion, untagged, CastFits}
 use Rattle.sg_protocol.specs.Keyring.{Keyring, Program, targets_of, key_of}
-use Rattle.sg_protocol.specs.Session.{Session, Exchange, Took, Gave, principal, told, own_time, time, at_turn, commitments, extended, new_session}
+use Rattle.sg_protocol.specs.Session.{Session, Exchange, Took, Gave, principal, transcript, own_time, time, at_turn, commitments, extended, new_session}
 use Rattle.sg_protocol.specs.Sending.{text_of, text_to, frame_sent, tag_for}
 use Rattle.sg_protocol.specs.Checks.{texts_checked}
 use Rattle.sg_protocol.specs.Calls.{Refusal, BadFrameTag, NoSuchView, BadEvidence, BadOpening, ActFault, Event, Started, Sent, Received, Call, Start, Act, Abandon, Deliver, Answer, Happened, Sends, Abandoned, NotStarted, NotActed, StartFault, UnknownGraph, UnknownSession, NotWaiting, BadCast, BadSession, UnknownPeer, Joined, CacheFull, SessionsFull, sid_of, role_of}
@@ -514,10 +514,10 @@ module _ (sha : Hash) (hash : IsHash sha) (programs : List Program) (s : Schedul
             | inr j ↦ elim j [ inl e ↦ ap (λ (z : Note). z.text) e ∙ note_text n.keys.me (principal x.cast f.receiver) (text_of f) | inr k ↦ absurd k ]
           ]
             where
-              items_ : (o : Option Item) → In (option_map_or (λ (i : Item). map (λ t. note_of n.keys.me (principal x.cast t) (text_to p.graph x (told x) i t)) (targets_of p i.label)) o []) nt → ⊥
+              items_ : (o : Option Item) → In (option_map_or (λ (i : Item). map (λ t. note_of n.keys.me (principal x.cast t) (text_to p.graph x (transcript x) i t)) (targets_of p i.label)) o []) nt → ⊥
               items_ None j = j
-              items_ (Some i) j = let r = C.of_map (λ t. note_of n.keys.me (principal x.cast t) (text_to p.graph x (told x) i t)) (targets_of p i.label) nt j in
-                  absurd (kinds_differ.item_frame x.cast.version x.sid i.role r.0 i.label i.time (commitments p.graph (told x ++ i ∷ [])) v b (sym (note_text n.keys.me (principal x.cast r.0) (text_to p.graph x (told x) i r.0)) ∙ ap (λ (z : Note). z.text) (sym r.1) ∙ t))
+              items_ (Some i) j = let r = C.of_map (λ t. note_of n.keys.me (principal x.cast t) (text_to p.graph x (transcript x) i t)) (targets_of p i.label) nt j in
+                  absurd (kinds_differ.item_frame x.cast.version x.sid i.role r.0 i.label i.time (commitments p.graph (transcript x ++ i ∷ [])) v b (sym (note_text n.keys.me (principal x.cast r.0) (text_to p.graph x (transcript x) i r.0)) ∙ ap (λ (z : Note). z.text) (sym r.1) ∙ t))
       by_answer other q i = absurd i
 
   rec_in : {A : Type 0} (P : A → Type 0) (xs : List A) (x : A) → AllByRecursion P xs → In xs x → P x

@@ -20,7 +20,7 @@ use Rattle.sg_protocol.specs.Texts.{Hash, IsHash, commitment, cut}
 use Rattle.sg_protocol.specs.TextLaws.{IsVersion}
 pub use Rattle.sg_protocol.specs.Bounds.{IsSession as FitSession}
 use Rattle.sg_protocol.specs.Keyring.{Keyring, Program, targets_of}
-use Rattle.sg_protocol.specs.Session.{Session, Exchange, told, time, place, at_turn, openings_of, opening_in, last_opening, known}
+use Rattle.sg_protocol.specs.Session.{Session, Exchange, transcript, time, place, at_turn, openings_of, opening_in, last_opening, known}
 use Rattle.sg_protocol.specs.Sending.{text_to, plain_item, own_item, frame_sent, item_of, entry_of, tags_left, shown_to, opening_of, tag_for}
 use Rattle.sg_law.proofs.Lists.{has-map}
 use Rattle.sg_law.proofs.Lists.{in_same}
@@ -562,21 +562,21 @@ module _ (sha : Hash) (hash : IsHash sha) (p : Program) (ip : IsProgram sha p) (
     time = ((omega arith), (let a = C.le_false 1000000 (time x) early in omega (arith, a)));
     variables = (oi_len, ap (rises_from 0) (oi_keys ∙ names_os) ∙ writes_rise g ip.is_graph label);
     delta = oi_delta os open_os;
-    roles = ((let a = length_map {B = ℕ × List ℕ} (λ t. (t, tag_for sha keys x.cast t (text_to g x (told x) (plain_item sha x label os) t))) (targets_of p label) in let b = ts_few in omega (arith, a, b)), ap (rises_from 0) (keys_tags (λ t. tag_for sha keys x.cast t (text_to g x (told x) (plain_item sha x label os) t)) (targets_of p label)) ∙ ts_rise);
-    tags = tags_of (λ t. tag_for sha keys x.cast t (text_to g x (told x) (plain_item sha x label os) t)) (λ t. tag_ok t _) (targets_of p label) (below_weak (length g.roles) 16 (targets_of p label) few_roles ts_below);
+    roles = ((let a = length_map {B = ℕ × List ℕ} (λ t. (t, tag_for sha keys x.cast t (text_to g x (transcript x) (plain_item sha x label os) t))) (targets_of p label) in let b = ts_few in omega (arith, a, b)), ap (rises_from 0) (keys_tags (λ t. tag_for sha keys x.cast t (text_to g x (transcript x) (plain_item sha x label os) t)) (targets_of p label)) ∙ ts_rise);
+    tags = tags_of (λ t. tag_for sha keys x.cast t (text_to g x (transcript x) (plain_item sha x label os) t)) (λ t. tag_ok t _) (targets_of p label) (below_weak (length g.roles) 16 (targets_of p label) few_roles ts_below);
   }
 
-  pub all_told : AllByRecursion (IsItem v) (told x ++ oi ∷ [])
-  all_told = all-append (IsItem v) (told x) (oi ∷ []) fx.items (oi_ok, tt)
+  pub all_transcript : AllByRecursion (IsItem v) (transcript x ++ oi ∷ [])
+  all_transcript = all-append (IsItem v) (transcript x) (oi ∷ []) fx.items (oi_ok, tt)
 
   items_ok : AllByRecursion (IsItem v) sent_frame.items
-  items_ok = shown_fit g few_variables v (receiver (shape g) label) (told x ++ oi ∷ []) all_told
+  items_ok = shown_fit g few_variables v (receiver (shape g) label) (transcript x ++ oi ∷ []) all_transcript
 
   items_few : length sent_frame.items ≤ 16
-  items_few = shown_few g v (receiver (shape g) label) (told x ++ oi ∷ []) all_told
+  items_few = shown_few g v (receiver (shape g) label) (transcript x ++ oi ∷ []) all_transcript
 
   items_some : 1 ≤ length sent_frame.items
-  items_some = shown_some g (receiver (shape g) label) (told x) oi (λ e. apart (by_x ∙ e))
+  items_some = shown_some g (receiver (shape g) label) (transcript x) oi (λ e. apart (by_x ∙ e))
 
   reads_ : (rises_from 0 (reads g label) ≡ true) × Below (length g.variables) (reads g label)
   reads_ = reads_in (length g.variables) g.edges ip.is_graph.variables label
@@ -591,7 +591,7 @@ module _ (sha : Hash) (hash : IsHash sha) (p : Program) (ip : IsProgram sha p) (
   opens_few = (let a = opens_ok.size in let b = pigeon (length g.variables) (reads g label) (rise_dist (reads g label) 0 reads_.0) reads_.1 in let c = few_variables in omega (arith, a, b, c))
 
   join_ok : IfSome sent_frame.join (IsCastOf v)
-  join_ok = elim (cases_Bool (has (λ (j : Item). j.role) (receiver (shape g) label) (told x))) [ inl e ↦ rw e tt | inr e ↦ rw e fx.cast ]
+  join_ok = elim (cases_Bool (has (λ (j : Item). j.role) (receiver (shape g) label) (transcript x))) [ inl e ↦ rw e tt | inr e ↦ rw e fx.cast ]
 
   pub sent_spelled : HasSpelling (frame_sent sha keys p x label os)
   sent_spelled = record {

@@ -13,7 +13,7 @@ use Rattle.sg_protocol.specs.Graph.{Graph, shape}
 use Rattle.sg_protocol.specs.Frame.{Cast, Frame, Item}
 use Rattle.sg_protocol.specs.Texts.{Hash, commitment}
 use Rattle.sg_protocol.specs.Keyring.{Program}
-use Rattle.sg_protocol.specs.Session.{Session, principal, items_of, told, own, committed, commitments}
+use Rattle.sg_protocol.specs.Session.{Session, principal, items_of, transcript, own_part, committed, commitments}
 use Rattle.sg_protocol.specs.Calls.{Call, Deliver, Happened}
 use Rattle.sg_protocol.specs.Node.{Node}
 use Rattle.sg_protocol.specs.Acting.{answer}
@@ -30,7 +30,7 @@ use Rattle.sg_law.specs.Accept.{honest_part}
 use Rattle.sg_law.specs.Accept as A
 use Rattle.sg_law.specs.Run as R
 use Rattle.sg_law.specs.Values as V
-use Rattle.sg_law.specs.Values.{State, com_of, Move, Commit, moved, own_of, AllMay, moved_all, Agreed}
+use Rattle.sg_law.specs.Values.{State, com_of, Move, Commit, moved, own_part_of, AllMay, moved_all, Agreed}
 use Rattle.sg_law.specs.Values.Move.{Takes}
 use Rattle.sg_law.proofs.Upto.{upto-more}
 use Rattle.sg_law.proofs.Cut.{last-option_map, split_end}
@@ -40,7 +40,7 @@ use Rattle.sg_protocol.proofs.Bridge.{up_to_last-after}
 use Rattle.sg_protocol.proofs.Entries.{entry, entries, entries-com, by, Roles, has-entries, up_to-entries}
 use Rattle.sg_protocol.proofs.Moves.{step, Matches}
 use Rattle.sg_protocol.proofs.Keys.{last_of-keys, after_last-keys, last_of-map, after_last-map, all-filter, all-last_of, all-after_last, all-up_to_last, all-mid, has-mid}
-use Rattle.sg_protocol.proofs.Finding.{one_place}
+use Rattle.sg_protocol.proofs.Finding.{one_index}
 use Rattle.sg_protocol.proofs.Calls.{Status, TakesFrame}
 use Rattle.sg_protocol.proofs.KnownSession.{SessionOfRun}
 use Rattle.sg_protocol.proofs.Course.{Progress, LeftBy, progress_called, progress_moves, keep_all, Suffix, may-append, moved-append, Outs, Ok_}
@@ -84,17 +84,17 @@ module _ (g : Graph) (honest : ℕ → Bool) where
         ∙ sym (bare_steps (last_of (λ (i : Item). i.role) (after_last (λ (i : Item). i.role) f.receiver done)) (all-last_of P (λ (i : Item). i.role) (after_last (λ (i : Item). i.role) f.receiver done) (all-after_last P (λ (i : Item). i.role) f.receiver done r)))
 
     -- what is held after an item is what its sender held
-    pub same_held : (before front : List Item) (i : Item) (rest its : List Item) → own_of (shape g) st f.receiver ≡ entries before → f.items ≡ front ++ i ∷ rest → honest i.role ≡ true → own_of (shape g) st i.role ≡ entries its → commitments g (before ++ front ++ i ∷ []) ≡ commitments g its
-    same_held before front i rest its ob e h oi =
-        let role : i.role ≡ sender (shape g) i.label = all-mid (λ (i : Item). i.role ≡ sender (shape g) i.label) front i rest (subst (Roles (shape g)) e roles) in
-        let parts : entries f.items ≡ entries front ++ entry i ∷ entries rest = ap entries e ∙ map-append entry front (i ∷ rest) in
-        let joined : own_of (shape g) st f.receiver ++ (entries front ++ entry i ∷ []) ≡ entries (before ++ front ++ i ∷ []) = ap (λ l. l ++ (entries front ++ entry i ∷ [])) ob ∙ ap (λ l. entries before ++ l) (sym (map-append entry front (i ∷ []))) ∙ sym (map-append entry before (front ++ i ∷ [])) ∙ ap entries (sym (append_assoc before front (i ∷ []))) in
-        map_same (λ x. committed x (before ++ front ++ i ∷ [])) (λ x. committed x its) (below (length g.variables)) (λ x.
-        sym (entries-com (before ++ front ++ i ∷ []) x) ∙ ap (λ l. com_of l x) (sym joined)
-        ∙ agreed.held (entries front) (entries rest) (entry i) parts (ap honest (sym role) ∙ h) x
-        ∙ ap (λ k. com_of (own_of (shape g) st k) x) (sym role) ∙ ap (λ l. com_of l x) oi ∙ entries-com its x)
+    pub same_held : (before prefix : List Item) (i : Item) (rest its : List Item) → own_part_of (shape g) st f.receiver ≡ entries before → f.items ≡ prefix ++ i ∷ rest → honest i.role ≡ true → own_part_of (shape g) st i.role ≡ entries its → commitments g (before ++ prefix ++ i ∷ []) ≡ commitments g its
+    same_held before prefix i rest its ob e h oi =
+        let role : i.role ≡ sender (shape g) i.label = all-mid (λ (i : Item). i.role ≡ sender (shape g) i.label) prefix i rest (subst (Roles (shape g)) e roles) in
+        let parts : entries f.items ≡ entries prefix ++ entry i ∷ entries rest = ap entries e ∙ map-append entry prefix (i ∷ rest) in
+        let joined : own_part_of (shape g) st f.receiver ++ (entries prefix ++ entry i ∷ []) ≡ entries (before ++ prefix ++ i ∷ []) = ap (λ l. l ++ (entries prefix ++ entry i ∷ [])) ob ∙ ap (λ l. entries before ++ l) (sym (map-append entry prefix (i ∷ []))) ∙ sym (map-append entry before (prefix ++ i ∷ [])) ∙ ap entries (sym (append_assoc before prefix (i ∷ []))) in
+        map_same (λ x. committed x (before ++ prefix ++ i ∷ [])) (λ x. committed x its) (below (length g.variables)) (λ x.
+        sym (entries-com (before ++ prefix ++ i ∷ []) x) ∙ ap (λ l. com_of l x) (sym joined)
+        ∙ agreed.held (entries prefix) (entries rest) (entry i) parts (ap honest (sym role) ∙ h) x
+        ∙ ap (λ k. com_of (own_part_of (shape g) st k) x) (sym role) ∙ ap (λ l. com_of l x) oi ∙ entries-com its x)
 
-  own_entries : (st : State) (k : ℕ) (is : List Item) → st.told k ≡ entries is → Roles (shape g) is → own_of (shape g) st k ≡ entries (up_to_last (λ (i : Item). i.role) k is)
+  own_entries : (st : State) (k : ℕ) (is : List Item) → st.transcript k ≡ entries is → Roles (shape g) is → own_part_of (shape g) st k ≡ entries (up_to_last (λ (i : Item). i.role) k is)
   own_entries st k is e r = ap (up_to_last (by (shape g)) k) e ∙ up_to-entries (shape g) k is r
 
 -- ---- a run
@@ -124,20 +124,20 @@ module _ {sha : Hash} {s : Schedule} {programs : List Program} {sid : List ℕ} 
   Ok' st who n = Ok_ known st who n
 
   -- a role's own last step, in the law's words
-  own_last : (st : State) (k : ℕ) (n : Node) → Ok' st (principal cast k) n → k < length cast.names → (st.machine.at k).own ≡ last (V.steps_of (own_of (shape g) st k))
+  own_last : (st : State) (k : ℕ) (n : Node) → Ok' st (principal cast k) n → k < length cast.names → (st.machine.at k).own ≡ last (V.steps_of (own_part_of (shape g) st k))
   own_last st k n ok l = go ok.status
     where
-      of_session : (x : Session) → Matches g sid cast st (principal cast k) x → x.role ≡ k → (st.machine.at k).own ≡ last (V.steps_of (own_of (shape g) st k))
-      of_session x m e = subst (λ r. (st.machine.at r).own ≡ last (V.steps_of (own_of (shape g) st r))) e
-          (m.is_own ∙ sym (steps_entries (own x)) ∙ ap (λ l. last (V.steps_of l)) (sym (own_entries g honest st x.role (told x) m.is_told m.roles)))
+      of_session : (x : Session) → Matches g sid cast st (principal cast k) x → x.role ≡ k → (st.machine.at k).own ≡ last (V.steps_of (own_part_of (shape g) st k))
+      of_session x m e = subst (λ r. (st.machine.at r).own ≡ last (V.steps_of (own_part_of (shape g) st r))) e
+          (m.is_own ∙ sym (steps_entries (own_part x)) ∙ ap (λ l. last (V.steps_of l)) (sym (own_entries g honest st x.role (transcript x) m.is_transcript m.roles)))
 
-      place_of : (x : Session) → Matches g sid cast st (principal cast k) x → x.role ≡ k
-      place_of x m = one_place cast.names x.role k known.of_cast.names_differ m.inside l m.is_who
+      index_of : (x : Session) → Matches g sid cast st (principal cast k) x → x.role ≡ k
+      index_of x m = one_index cast.names x.role k known.of_cast.names_differ m.inside l m.is_who
 
-      go : Status known.of_cast s (LeftBy known) st (principal cast k) n → (st.machine.at k).own ≡ last (V.steps_of (own_of (shape g) st k))
+      go : Status known.of_cast s (LeftBy known) st (principal cast k) n → (st.machine.at k).own ≡ last (V.steps_of (own_part_of (shape g) st k))
       go (inl f) = (let u = f.all k refl l in ap (λ (z : R.Local). z.own) u.start ∙ sym (ap (λ l. last (V.steps_of (up_to_last (by (shape g)) k l))) u.none))
-      go (inr (inl h)) = of_session h.x h.matches (place_of h.x h.matches)
-      go (inr (inr h)) = of_session h.x h.matches (place_of h.x h.matches)
+      go (inr (inl h)) = of_session h.x h.matches (index_of h.x h.matches)
+      go (inr (inr h)) = of_session h.x h.matches (index_of h.x h.matches)
 
   abbrev Shows : World → Type 0
   Shows w = (l : Logged) (who : Name) (bs : List ℕ) (f : Frame) (past : Past) → last w.log ≡ Some l → IsTaken w l who bs f → f.sid ≡ sid → past_of w who ≡ Some past → ShowsLastSteps s w g cast f (up_to_last (λ (i : Item). i.role) f.receiver (flat_map items_of (exchanges_of f.sid f.receiver past.calls)))
@@ -179,36 +179,36 @@ module _ {sha : Hash} {s : Schedule} {programs : List Program} {sid : List ℕ} 
       sent_is = ap (λ (z : State). z.machine.sent) (sym st_is) ∙ next.sent.0
 
       -- what a role was told until the frame
-      told_before : (r : ℕ) (pk : Past) → past_of (called sha w k who c past) (principal cast r) ≡ Some pk → r < length cast.names → (r == f.receiver) ≡ false → st.told r ≡ entries (flat_map items_of (exchanges_of sid r pk.calls))
-      told_before r pk e l ne = sym (rw ne refl) ∙ ap (λ (z : State). z.told r) (sym st_is) ∙ (next.told (principal cast r) pk e r refl l).0
+      transcript_before : (r : ℕ) (pk : Past) → past_of (called sha w k who c past) (principal cast r) ≡ Some pk → r < length cast.names → (r == f.receiver) ≡ false → st.transcript r ≡ entries (flat_map items_of (exchanges_of sid r pk.calls))
+      transcript_before r pk e l ne = sym (rw ne refl) ∙ ap (λ (z : State). z.transcript r) (sym st_is) ∙ (next.transcript (principal cast r) pk e r refl l).0
 
-      own_receiver : (pk : Past) → past_of (called sha w k who c past) who ≡ Some pk → own_of (shape g) st f.receiver ≡ entries (up_to_last (λ (i : Item). i.role) f.receiver (flat_map items_of (exchanges_of sid f.receiver pk.calls)))
+      own_receiver : (pk : Past) → past_of (called sha w k who c past) who ≡ Some pk → own_part_of (shape g) st f.receiver ≡ entries (up_to_last (λ (i : Item). i.role) f.receiver (flat_map items_of (exchanges_of sid f.receiver pk.calls)))
       own_receiver pk e =
-          let told_r = next.told who pk e f.receiver t.is_who t.inside in
-          sym (upto-more (by (shape g)) f.receiver (st.told f.receiver) (entries f.items) (has-entries (shape g) f.receiver f.items t.roles ∙ t.no_own))
+          let transcript_r = next.transcript who pk e f.receiver t.is_who t.inside in
+          sym (upto-more (by (shape g)) f.receiver (st.transcript f.receiver) (entries f.items) (has-entries (shape g) f.receiver f.items t.roles ∙ t.no_own))
           ∙ ap (up_to_last (by (shape g)) f.receiver) (sym (rw (eqb_same f.receiver) refl))
-          ∙ own_entries g honest st' f.receiver (flat_map items_of (exchanges_of sid f.receiver pk.calls)) (ap (λ (z : State). z.told f.receiver) (sym st_is) ∙ told_r.0) told_r.1
+          ∙ own_entries g honest st' f.receiver (flat_map items_of (exchanges_of sid f.receiver pk.calls)) (ap (λ (z : State). z.transcript f.receiver) (sym st_is) ∙ transcript_r.0) transcript_r.1
 
-      last_of_own : (r : ℕ) (us : List Item) (t : A.TimedLabel) → (st.machine.at r).own ≡ Some t → (st.machine.at r).own ≡ last (V.steps_of (own_of (shape g) st r)) → own_of (shape g) st r ≡ entries us → (i : Item) × (last us ≡ Some i) × (step i ≡ t)
+      last_of_own : (r : ℕ) (us : List Item) (t : A.TimedLabel) → (st.machine.at r).own ≡ Some t → (st.machine.at r).own ≡ last (V.steps_of (own_part_of (shape g) st r)) → own_part_of (shape g) st r ≡ entries us → (i : Item) × (last us ≡ Some i) × (step i ≡ t)
       last_of_own r us t e o u = split_some step (last us) t (sym (steps_entries us) ∙ ap (λ l. last (V.steps_of l)) (sym u) ∙ sym o ∙ e)
 
       -- the sender of an item held the commitments that its receiver holds
-      held_by : (pr : Past) → past_of (called sha w k who c past) who ≡ Some pr → (front : List Item) (i : Item) (rest : List Item) → f.items ≡ front ++ i ∷ rest → honest i.role ≡ true
-          → HeldBySender (called sha w k who c past) g cast sid i (commitments g (up_to_last (λ (i : Item). i.role) f.receiver (flat_map items_of (exchanges_of sid f.receiver pr.calls)) ++ front ++ i ∷ []))
-      held_by pr pr_is front i rest e h =
-          let ne : (i.role == f.receiver) ≡ false = has-mid (λ (i : Item). i.role) f.receiver front i rest (subst (λ l. has (λ (i : Item). i.role) f.receiver l ≡ false) e t.no_own) in
+      held_by : (pr : Past) → past_of (called sha w k who c past) who ≡ Some pr → (prefix : List Item) (i : Item) (rest : List Item) → f.items ≡ prefix ++ i ∷ rest → honest i.role ≡ true
+          → HeldBySender (called sha w k who c past) g cast sid i (commitments g (up_to_last (λ (i : Item). i.role) f.receiver (flat_map items_of (exchanges_of sid f.receiver pr.calls)) ++ prefix ++ i ∷ []))
+      held_by pr pr_is prefix i rest e h =
+          let ne : (i.role == f.receiver) ≡ false = has-mid (λ (i : Item). i.role) f.receiver prefix i rest (subst (λ l. has (λ (i : Item). i.role) f.receiver l ≡ false) e t.no_own) in
           let l : i.role < length cast.names = known.inside i.role h in
           let pk = next.pasts (principal cast i.role) h in
           let pk0 = p.pasts (principal cast i.role) h in
-          let role : i.role ≡ sender (shape g) i.label = all-mid (λ (i : Item). i.role ≡ sender (shape g) i.label) front i rest (subst (Roles (shape g)) e t.roles) in
+          let role : i.role ≡ sender (shape g) i.label = all-mid (λ (i : Item). i.role ≡ sender (shape g) i.label) prefix i rest (subst (Roles (shape g)) e t.roles) in
           let ok : Ok' st (principal cast i.role) (node_of pk0.0) = (p.nodes (principal cast i.role) pk0.0 pk0.1).0 in
           let all : List Item = flat_map items_of (exchanges_of sid i.role (pk.0).calls) in
-          let told_i = next.told (principal cast i.role) pk.0 pk.1 i.role refl l in
-          let own_i : own_of (shape g) st i.role ≡ entries (up_to_last (λ (i : Item). i.role) i.role (flat_map items_of (exchanges_of sid i.role (pk.0).calls))) = own_entries g honest st i.role (flat_map items_of (exchanges_of sid i.role (pk.0).calls)) (told_before i.role pk.0 pk.1 l ne) told_i.1 in
-          let current : (st.machine.at i.role).own ≡ Some (step i) = ap (λ r. (st.machine.at r).own) role ∙ agreed.current (entries front) (entries rest) (entry i) (ap entries e ∙ map-append entry front (i ∷ rest)) (ap honest (sym role) ∙ h) in
+          let transcript_i = next.transcript (principal cast i.role) pk.0 pk.1 i.role refl l in
+          let own_i : own_part_of (shape g) st i.role ≡ entries (up_to_last (λ (i : Item). i.role) i.role (flat_map items_of (exchanges_of sid i.role (pk.0).calls))) = own_entries g honest st i.role (flat_map items_of (exchanges_of sid i.role (pk.0).calls)) (transcript_before i.role pk.0 pk.1 l ne) transcript_i.1 in
+          let current : (st.machine.at i.role).own ≡ Some (step i) = ap (λ r. (st.machine.at r).own) role ∙ agreed.current (entries prefix) (entries rest) (entry i) (ap entries e ∙ map-append entry prefix (i ∷ rest)) (ap honest (sym role) ∙ h) in
           let found = last_of_own i.role (up_to_last (λ (i : Item). i.role) i.role (flat_map items_of (exchanges_of sid i.role (pk.0).calls))) (step i) current (own_last st i.role (node_of pk0.0) ok l) own_i in
           let cut = split_end (up_to_last (λ (i : Item). i.role) i.role (flat_map items_of (exchanges_of sid i.role (pk.0).calls))) found.0 found.1 in
-          let role' : (found.0).role ≡ sender (shape g) (found.0).label = all-mid (λ (i : Item). i.role ≡ sender (shape g) i.label) cut.0 found.0 [] (subst (Roles (shape g)) cut.1 (all-up_to_last (λ (i : Item). i.role ≡ sender (shape g) i.label) (λ (i : Item). i.role) i.role (flat_map items_of (exchanges_of sid i.role (pk.0).calls)) told_i.1)) in (
+          let role' : (found.0).role ≡ sender (shape g) (found.0).label = all-mid (λ (i : Item). i.role ≡ sender (shape g) i.label) cut.0 found.0 [] (subst (Roles (shape g)) cut.1 (all-up_to_last (λ (i : Item). i.role ≡ sender (shape g) i.label) (λ (i : Item). i.role) i.role (flat_map items_of (exchanges_of sid i.role (pk.0).calls)) transcript_i.1)) in (
             pk.0,
             cut.0,
             found.0,
@@ -216,7 +216,7 @@ module _ {sha : Hash} {s : Schedule} {programs : List Program} {sid : List ℕ} 
             pk.1,
             sym (up_to_last-after (λ (i : Item). i.role) i.role (flat_map items_of (exchanges_of sid i.role (pk.0).calls))) ∙ ap (λ l. l ++ after_last (λ (i : Item). i.role) i.role (flat_map items_of (exchanges_of sid i.role (pk.0).calls))) cut.1 ∙ append_assoc cut.0 (found.0 ∷ []) (after_last (λ (i : Item). i.role) i.role (flat_map items_of (exchanges_of sid i.role (pk.0).calls))),
             ap (λ r. record { role = r; label = (found.0).label; time = (found.0).time }) (role' ∙ ap (λ (z : A.TimedLabel). sender (shape g) z.label) found.2 ∙ sym role) ∙ ap (λ (z : A.TimedLabel). record { role = i.role; label = z.label; time = z.time }) found.2,
-            same_held g honest st f t.roles agreed (up_to_last (λ (i : Item). i.role) f.receiver (flat_map items_of (exchanges_of sid f.receiver pr.calls))) front i rest (up_to_last (λ (i : Item). i.role) i.role (flat_map items_of (exchanges_of sid i.role (pk.0).calls))) (own_receiver pr pr_is) e h own_i
+            same_held g honest st f t.roles agreed (up_to_last (λ (i : Item). i.role) f.receiver (flat_map items_of (exchanges_of sid f.receiver pr.calls))) prefix i rest (up_to_last (λ (i : Item). i.role) i.role (flat_map items_of (exchanges_of sid i.role (pk.0).calls))) (own_receiver pr pr_is) e h own_i
                 ∙ ap (commitments g) cut.1,
           )
 
@@ -224,7 +224,7 @@ module _ {sha : Hash} {s : Schedule} {programs : List Program} {sid : List ℕ} 
       shows_last pr pr_is q = record {
         items = subst (λ z. map bare (filter (λ (i : Item). honest_role s cast i.role) f.items) ≡ map bare (last_of (λ (i : Item). i.role) (after_last (λ (i : Item). i.role) f.receiver (honest_items z (called sha w k who c past).log)))) (sym q)
             (shown_items g honest st f t.roles agreed (honest_items sid (called sha w k who c past).log) next.sent.1 sent_is);
-        held = λ front i rest e h. subst (λ z. HeldBySender (called sha w k who c past) g cast z i (commitments g (up_to_last (λ (i : Item). i.role) f.receiver (flat_map items_of (exchanges_of z f.receiver pr.calls)) ++ front ++ i ∷ []))) (sym q) (held_by pr pr_is front i rest e h);
+        held = λ prefix i rest e h. subst (λ z. HeldBySender (called sha w k who c past) g cast z i (commitments g (up_to_last (λ (i : Item). i.role) f.receiver (flat_map items_of (exchanges_of z f.receiver pr.calls)) ++ prefix ++ i ∷ []))) (sym q) (held_by pr pr_is prefix i rest e h);
       }
 
     pub shows_called : Shows (called sha w k who c past)

@@ -19,7 +19,7 @@ use Rattle.sg_protocol.specs.Graph.{Graph, IsGraph, writes}
 use Rattle.sg_protocol.specs.Frame.{Cast, Item, Frame, IsValue, IsItem, IsTag, IsOpening, IsCastOf, tag_len}
 use Rattle.sg_protocol.specs.Spelling.{spelling, body, u8, u16, u32, short_text, item_bytes, map_bytes, pair_bytes, opening_bytes, join_bytes, join_code, magic, HasSpelling}
 use Rattle.sg_protocol.specs.Texts.{Hash, IsHash, cut, session_id, graph_text_of, session_text_of, commitment_text_of, maybe_commitment}
-use Rattle.sg_protocol.specs.Session.{Session, new_session, told, own, committed, commitments, principal}
+use Rattle.sg_protocol.specs.Session.{Session, new_session, transcript, own_part, committed, commitments, principal}
 use Rattle.sg_protocol.specs.Keyring.{Keyring, Program, targets_of}
 use Rattle.sg_protocol.specs.Sending.{text_to, text_of}
 use Rattle.sg_protocol.specs.Verdict.{has_item_tag, is_right, has_kind, rows}
@@ -266,7 +266,7 @@ notes_bytes nt = note_bytes nt.made + note_bytes nt.found + text_bytes nt.hashed
 record Bounded (p : Program) (x : Session) : Type 0 where
   few : length p.graph.variables ≤ 32
   long : length x.sid ≡ 32
-  held : AllByRecursion Sized (own x)
+  held : AllByRecursion Sized (own_part x)
 
 items_bytes : (f : Frame) → HasSpelling f → length (flat_map (item_bytes f.version) f.items) ≤ 60000
 items_bytes f h =
@@ -286,7 +286,7 @@ in_session_bytes sha keys p x f k h b =
     let five = ap (λ t. length t) (note_text keys.me (principal x.cast f.sender) (text_of f)) in
     let six = frame_len f h in
     let seven = notes_sum (λ (c : Item × List ℕ). note_of keys.me (principal x.cast (c.0).role) c.1) (λ (c : Item × List ℕ). c.1) (λ c. note_text keys.me (principal x.cast (c.0).role) c.1) (take_while (has_item_tag sha keys x) (texts_checked p.graph x f)) in
-    let eight = seen_len sha keys p.graph b.few x b.long f.version (own x) f.items b.held h.fields.items in
+    let eight = seen_len sha keys p.graph b.few x b.long f.version (own_part x) f.items b.held h.fields.items in
     let nine = items_bytes f h in
     let ten = if_texts (nat_lt 14 k) (map (commitment_text_of x.sid) (hashed_openings sha p.graph x f f.openings)) in
     let eleven = opens_bytes sha p.graph x f b.long f.openings h.fields.openings in
@@ -334,12 +334,12 @@ targets_few sha p ip e =
 
 -- ---- what is noted of a step that was sent
 
-made_bytes : (me : Name) (g : Graph) → length g.variables ≤ 32 → (x : Session) → length x.sid ≡ 32 → (i : Item) → AllByRecursion Sized (told x ++ i ∷ []) → (ts : List ℕ) → note_bytes (map (λ t. note_of me (principal x.cast t) (text_to g x (told x) i t)) ts) ≤ 1105 * length ts
+made_bytes : (me : Name) (g : Graph) → length g.variables ≤ 32 → (x : Session) → length x.sid ≡ 32 → (i : Item) → AllByRecursion Sized (transcript x ++ i ∷ []) → (ts : List ℕ) → note_bytes (map (λ t. note_of me (principal x.cast t) (text_to g x (transcript x) i t)) ts) ≤ 1105 * length ts
 made_bytes me g few x long i a [] = omega arith
 made_bytes me g few x long i a (t ∷ ts) =
-    let c = note_cons (note_of me (principal x.cast t) (text_to g x (told x) i t)) (map (λ t. note_of me (principal x.cast t) (text_to g x (told x) i t)) ts) in
-    let d = ap (λ z. length z) (note_text me (principal x.cast t) (text_to g x (told x) i t)) in
-    let e = text_len g few x long (told x) i t a in
+    let c = note_cons (note_of me (principal x.cast t) (text_to g x (transcript x) i t)) (map (λ t. note_of me (principal x.cast t) (text_to g x (transcript x) i t)) ts) in
+    let d = ap (λ z. length z) (note_text me (principal x.cast t) (text_to g x (transcript x) i t)) in
+    let e = text_len g few x long (transcript x) i t a in
     let r = made_bytes me g few x long i a ts in
     omega (arith, c, d, e, r)
 
@@ -362,7 +362,7 @@ last_fits P (x ∷ xs) i a e = (let z : last_or x xs ≡ i = cc in subst P z (go
 sent_bytes : (sha : Hash) (keys : Keyring) (p : Program) → IsProgram sha p → (x : Session) → FitSession x → (f : Frame) → HasSpelling f → (os : List Opening) → AllByRecursion IsOpening os → length os ≤ 32 → notes_bytes (notes_of_sent keys p x f os) ≤ 200000
 sent_bytes sha keys p ip x fx f h os a few_ =
     let fr : Note = note_of keys.me (principal x.cast f.receiver) (text_of f) in
-    let one = sum_by-append (λ (n : Note). length n.text) (option_map_or (λ i. map (λ t. note_of keys.me (principal x.cast t) (text_to p.graph x (told x) i t)) (targets_of p i.label)) (last f.items) []) (fr ∷ []) in
+    let one = sum_by-append (λ (n : Note). length n.text) (option_map_or (λ i. map (λ t. note_of keys.me (principal x.cast t) (text_to p.graph x (transcript x) i t)) (targets_of p i.label)) (last f.items) []) (fr ∷ []) in
     let two = by_last (last f.items) refl in
     let three = note_cons fr [] in
     let four = ap (λ t. length t) (note_text keys.me (principal x.cast f.receiver) (text_of f)) in
@@ -370,11 +370,11 @@ sent_bytes sha keys p ip x fx f h os a few_ =
     let six = written_bytes x.sid fx.sid.0 os a in
     omega (arith, one, two, three, four, five, six, few_)
   where
-    by_last : (o : Option Item) → last f.items ≡ o → note_bytes (option_map_or (λ i. map (λ t. note_of keys.me (principal x.cast t) (text_to p.graph x (told x) i t)) (targets_of p i.label)) o []) ≤ 17680
+    by_last : (o : Option Item) → last f.items ≡ o → note_bytes (option_map_or (λ i. map (λ t. note_of keys.me (principal x.cast t) (text_to p.graph x (transcript x) i t)) (targets_of p i.label)) o []) ≤ 17680
     by_last None e = omega arith
     by_last (Some i) e =
         let z : Sized i = sized_item f.version i (last_fits (IsItem f.version) f.items i h.fields.items e) in
-        let m = made_bytes keys.me p.graph ip.is_graph.sizes.1 x fx.sid.0 i (all-append Sized (told x) (i ∷ []) (sized_items x.cast.version (told x) fx.items) (z, tt)) (targets_of p i.label) in
+        let m = made_bytes keys.me p.graph ip.is_graph.sizes.1 x fx.sid.0 i (all-append Sized (transcript x) (i ∷ []) (sized_items x.cast.version (transcript x) fx.items) (z, tt)) (targets_of p i.label) in
         let t = targets_few sha p ip i.label in
         omega (arith, m, t)
 
@@ -405,7 +405,7 @@ module _ (sha : Hash) (hash : IsHash sha) (programs : List Program) (s : Schedul
         by_found k None g = omega arith
         by_found k (Some x) g = in_session_bytes sha n.keys x.0 x.1 f k sp g
 
-        by_program : (x : Session) → length x.sid ≡ 32 → AllByRecursion Sized (own x) → (o : Option Program) → program_for n.programs x.cast.graph x.role ≡ o → IfSome (option_map (λ p. (p, x)) o) (λ (x : Program × Session). Bounded x.0 x.1)
+        by_program : (x : Session) → length x.sid ≡ 32 → AllByRecursion Sized (own_part x) → (o : Option Program) → program_for n.programs x.cast.graph x.role ≡ o → IfSome (option_map (λ p. (p, x)) o) (λ (x : Program × Session). Bounded x.0 x.1)
         by_program x l a None e = tt
         by_program x l a (Some p) e = record { few = (its_program x.cast.graph x.role p e).is_graph.sizes.1; long = l; held = a }
 
@@ -413,7 +413,7 @@ module _ (sha : Hash) (hash : IsHash sha) (programs : List Program) (s : Schedul
         by_session None e = tt
         by_session (Some x) e =
             let fx : FitSession x = find_all (is_for f) FitSession n.live x live e in
-            by_program x fx.sid.0 (up_to_fits Sized x.role (told x) (sized_items x.cast.version (told x) fx.items)) (program_for n.programs x.cast.graph x.role) refl
+            by_program x fx.sid.0 (up_to_fits Sized x.role (transcript x) (sized_items x.cast.version (transcript x) fx.items)) (program_for n.programs x.cast.graph x.role) refl
 
         by_join : (o : Option Cast) → IfSome (option_and_then (λ s. option_map (λ p. (p, s)) (program_for n.programs s.cast.graph s.role)) (option_map_or (λ c. Some (new_session f.sid c f.receiver)) o (session_for n.live f))) (λ (x : Program × Session). Bounded x.0 x.1)
         by_join None = by_session (session_for n.live f) refl

@@ -25,7 +25,7 @@ use Rattle.sg_protocol.specs.Node.{Node, is_cast, stranger, has_joined, starter}
 use Rattle.sg_protocol.specs.NodeAfter.{still}
 use Rattle.sg_protocol.proofs.KnownSession.{SessionOfCast}
 use Rattle.sg_protocol.proofs.Finding.{joined_more, joined_less, joined_now}
-use Rattle.sg_protocol.proofs.Calls.{told_in, quiet_event, Fresh, NodeOk, Out}
+use Rattle.sg_protocol.proofs.Calls.{transcript_in, quiet_event, Fresh, NodeOk, Out}
 use Rattle.sg_protocol.proofs.AfterCalls.{cast_parts, event_other, joined_other, kept_same, new_matches, join_now, join_status, nothing, no_two, joined_ok, other_joined}
 
 start_made : (c : Cast) (a : Answer) (nt : Note) → In (notes_of_start c a).made nt → ⊥
@@ -72,7 +72,7 @@ module _ {sha : Hash} {programs : List Program} {sid : List ℕ} {cast : Cast} {
               used = tt;
               made = λ nt i. absurd i;
               log = λ mk i. i;
-              told = λ r e l. start_told r;
+              transcript = λ r e l. start_transcript r;
               sent = (sym (append-nil st.machine.sent), tt);
               took = λ f t. (let e = t.is_call in absurd (cc));
               views = λ f t. (let e = t.is_call in absurd (cc));
@@ -92,8 +92,8 @@ module _ {sha : Hash} {programs : List Program} {sid : List ℕ} {cast : Cast} {
               more_joins = λ r j. joined_more n.joins (session_id sha c, p.role) sid r j;
             }
           where
-            start_told : (r : ℕ) → (st.told r ≡ st.told r ++ entries (told_in sid r (Start c) (Happened (Started (session_id sha c) p.role)))) × Roles (shape g) (told_in sid r (Start c) (Happened (Started (session_id sha c) p.role)))
-            start_told r = elim (cases_Bool (bytes_eq (session_id sha c) sid && (p.role == r))) [ inl k ↦ rw k (sym (append-nil (st.told r)), tt) | inr k ↦ rw k (sym (append-nil (st.told r)), tt) ]
+            start_transcript : (r : ℕ) → (st.transcript r ≡ st.transcript r ++ entries (transcript_in sid r (Start c) (Happened (Started (session_id sha c) p.role)))) × Roles (shape g) (transcript_in sid r (Start c) (Happened (Started (session_id sha c) p.role)))
+            start_transcript r = elim (cases_Bool (bytes_eq (session_id sha c) sid && (p.role == r))) [ inl k ↦ rw k (sym (append-nil (st.transcript r)), tt) | inr k ↦ rw k (sym (append-nil (st.transcript r)), tt) ]
 
     start_rows : (p : Program) → starter n.programs c.graph ≡ Some p → (o : Option StartFault) → first_some (rows_of_start n p (session_id sha c) c) ≡ o → ((t : List ℕ) → In (notes_of_start c (started (session_id sha c) p.role o)).hashed t → Hashed t)
         → Out known s LeftBy st who n (Start c) (started (session_id sha c) p.role o) (notes_of_start c (started (session_id sha c) p.role o))

@@ -20,7 +20,7 @@ use Rattle.sg_law.proofs.Members.{in_left, in_right, in_map}
 use Rattle.sg_protocol.specs.Texts.{Hash, commitment, item_text_of}
 use Rattle.sg_protocol.specs.TextLaws.{IsVersion}
 use Rattle.sg_protocol.specs.Keyring.{Keyring, Program}
-use Rattle.sg_protocol.specs.Session.{Session, Took, principal, items_of, told, own, own_time, time, origin, place, at_turn, last_label, committed, commitments, extended}
+use Rattle.sg_protocol.specs.Session.{Session, Took, principal, items_of, transcript, own_part, own_time, time, origin, place, at_turn, last_label, committed, commitments, extended}
 use Rattle.sg_protocol.specs.Checks.{shown_commitments, checked_texts, texts_checked}
 use Rattle.sg_protocol.specs.Sending.{text_of, text_to}
 use Rattle.sg_protocol.specs.Calls.{Refusal, BadFrameTag, NoSuchView, BadEvidence, BadOpening}
@@ -33,7 +33,7 @@ use Rattle.sg_law.specs.Accept.{sender_of, TimedLabel}
 use Rattle.sg_law.specs.Run.{RisesFrom, Turn}
 use Rattle.sg_law.specs.Run as R
 use Rattle.sg_law.specs.Values as V
-use Rattle.sg_law.specs.Values.{State, Made, told_with_item, com_of, Move, Commit, moved, MayTake, Tagged, Framed, Opened, own_of, is_variable, put}
+use Rattle.sg_law.specs.Values.{State, SentItem, transcript_with_item, com_of, Move, Commit, moved, MayTake, Tagged, Framed, Opened, own_part_of, is_variable, put}
 use Rattle.sg_law.specs.Values.Move.{Writes, Takes}
 use Rattle.sg_law.proofs.Lists.{has-map, has-last_of, eqb_same, last-append_some}
 use Rattle.sg_law.proofs.Upto.{In, upto-more}
@@ -131,11 +131,11 @@ module _ (sha : Hash) (s : Schedule) (sid : List ℕ) (cast : Cast) (keys : Keyr
   f_fits : FitItems f.items
   f_fits = items_fit f.version f.items spelled.fields.items
 
-  own_same : own_of (shape g) st x.role ≡ entries (own x)
-  own_same = ap (up_to_last (by (shape g)) x.role) m.is_told ∙ up_to-entries (shape g) x.role (told x) m.roles
+  own_part_same : own_part_of (shape g) st x.role ≡ entries (own_part x)
+  own_part_same = ap (up_to_last (by (shape g)) x.role) m.is_transcript ∙ up_to-entries (shape g) x.role (transcript x) m.roles
 
-  own_fits : FitItems (own x)
-  own_fits = fit_up_to x.role (told x) m.fits
+  own_part_fits : FitItems (own_part x)
+  own_part_fits = fit_up_to x.role (transcript x) m.fits
 
   honest_role_is : honest_role s cast x.role ≡ true
   honest_role_is = ap (is_honest s) m.is_who ∙ hon
@@ -146,7 +146,7 @@ module _ (sha : Hash) (s : Schedule) (sid : List ℕ) (cast : Cast) (keys : Keyr
 
   -- what it is shown, from the law's own last step on
   pub law_view : IsView g x.role (record { origin = option_map (λ (t : TimedLabel). t.label) (st.machine.at x.role).own; items = map seen f.items })
-  law_view = subst (λ o. IsView g x.role (record { origin = o; items = map seen f.items })) (own_label (last (own x)) ∙ ap (option_map (λ (t : TimedLabel). t.label)) (sym m.is_own)) viewed
+  law_view = subst (λ o. IsView g x.role (record { origin = o; items = map seen f.items })) (own_label (last (own_part x)) ∙ ap (option_map (λ (t : TimedLabel). t.label)) (sym m.is_own)) viewed
 
   own_times : (o : Option Item) → unwrap_or (option_map (λ (i : Item). i.time) o) 0 ≡ R.time_of_own (option_map step o)
   own_times None = refl
@@ -160,37 +160,37 @@ module _ (sha : Hash) (s : Schedule) (sid : List ℕ) (cast : Cast) (keys : Keyr
       found note (in_right (note_of keys.me (principal x.cast f.sender) (text_of f) ∷ []) _ note (subst (λ l. In (map (λ (c : Item × List ℕ). note_of keys.me (principal x.cast (c.0).role) c.1) l) note) (sym (take_all (has_item_tag sha keys x) (texts_checked g x f) rows.tags))
       (in_map (λ (c : Item × List ℕ). note_of keys.me (principal x.cast (c.0).role) c.1) (texts_checked g x f) c i))) both.0 both.1
 
-  tagged : (a : List Item) (i j : Item) (b : List Item) → f.items ≡ a ++ i ∷ j ∷ b → honest_role s cast (sender (shape g) i.label) ≡ true → MadeItem g st.log i.label i.time (commitments g ((own x ++ a) ++ i ∷ []))
+  tagged : (a : List Item) (i j : Item) (b : List Item) → f.items ≡ a ++ i ∷ j ∷ b → honest_role s cast (sender (shape g) i.label) ≡ true → MadeItem g st.log i.label i.time (commitments g ((own_part x ++ a) ++ i ∷ []))
   tagged a i j b e h =
       let role : i.role ≡ sender (shape g) i.label = roles_mid (shape g) a i (j ∷ b) (subst (Roles (shape g)) e f_roles) in
       let it : IsItem f.version i = items_mid f.version a i (j ∷ b) (subst (AllByRecursion (IsItem f.version)) e spelled.fields.items) in
-      let fits : FitItems ((own x ++ a) ++ i ∷ []) = subst FitItems (sym (append_assoc (own x) a (i ∷ []))) (fit-append (own x) (a ++ i ∷ []) own_fits (fit-left (a ++ i ∷ []) (j ∷ b) (subst FitItems (e ∙ sym (append_assoc a (i ∷ []) (j ∷ b))) f_fits))) in
-      let t : List ℕ = text_to g x (own x ++ a) i x.role in
+      let fits : FitItems ((own_part x ++ a) ++ i ∷ []) = subst FitItems (sym (append_assoc (own_part x) a (i ∷ []))) (fit-append (own_part x) (a ++ i ∷ []) own_part_fits (fit-left (a ++ i ∷ []) (j ∷ b) (subst FitItems (e ∙ sym (append_assoc a (i ∷ []) (j ∷ b))) f_fits))) in
+      let t : List ℕ = text_to g x (own_part x ++ a) i x.role in
       let hon' : is_honest s (principal x.cast i.role) ≡ true = ap (λ c. is_honest s (principal c i.role)) m.same_cast ∙ ap (honest_role s cast) role ∙ h in
-      let ok = texts_found (i, t) (subst (λ l. In (checked_texts g x (own x) l) (i, t)) (sym e) (checked_in g x (own x) a i j b)) hon' in
-      ok.item x.cast.version i.role x.role i.label i.time (commitments g ((own x ++ a) ++ i ∷ []))
-      (record { version = subst (λ (c : Cast). IsVersion c.version) (sym m.same_cast) version; sid = long; label = (let l = it.label in omega arith); time = (let l = it.time.1 in omega arith); held = are_held g ((own x ++ a) ++ i ∷ []) fits })
-      (note_text keys.me (principal x.cast i.role) t ∙ ap (λ z. item_text_of x.cast.version z i.role x.role i.label i.time (commitments g ((own x ++ a) ++ i ∷ []))) m.same_sid)
+      let ok = texts_found (i, t) (subst (λ l. In (checked_texts g x (own_part x) l) (i, t)) (sym e) (checked_in g x (own_part x) a i j b)) hon' in
+      ok.item x.cast.version i.role x.role i.label i.time (commitments g ((own_part x ++ a) ++ i ∷ []))
+      (record { version = subst (λ (c : Cast). IsVersion c.version) (sym m.same_cast) version; sid = long; label = (let l = it.label in omega arith); time = (let l = it.time.1 in omega arith); held = are_held g ((own_part x ++ a) ++ i ∷ []) fits })
+      (note_text keys.me (principal x.cast i.role) t ∙ ap (λ z. item_text_of x.cast.version z i.role x.role i.label i.time (commitments g ((own_part x ++ a) ++ i ∷ []))) m.same_sid)
 
-  law_tag : (a b : List (B.Entry TimedLabel Code)) (i j : B.Entry TimedLabel Code) → entries f.items ≡ a ++ i ∷ j ∷ b → honest_role s cast (sender (shape g) i.step.label) ≡ true → Tagged (shape g) st.log (own_of (shape g) st x.role ++ (a ++ i ∷ [])) i
+  law_tag : (a b : List (B.Entry TimedLabel Code)) (i j : B.Entry TimedLabel Code) → entries f.items ≡ a ++ i ∷ j ∷ b → honest_role s cast (sender (shape g) i.step.label) ≡ true → Tagged (shape g) st.log (own_part_of (shape g) st x.role ++ (a ++ i ∷ [])) i
   law_tag a b i j e h = go (split f.items a i (j ∷ b) e)
     where
-      go : Split f.items a i (j ∷ b) → Tagged (shape g) st.log (own_of (shape g) st x.role ++ (a ++ i ∷ [])) i
+      go : Split f.items a i (j ∷ b) → Tagged (shape g) st.log (own_part_of (shape g) st x.role ++ (a ++ i ∷ [])) i
       go r = more r.rest r.same_rest r.parts
         where
-          more : (rest : List Item) → j ∷ b ≡ entries rest → f.items ≡ r.front ++ r.mid ∷ rest → Tagged (shape g) st.log (own_of (shape g) st x.role ++ (a ++ i ∷ [])) i
+          more : (rest : List Item) → j ∷ b ≡ entries rest → f.items ≡ r.prefix ++ r.mid ∷ rest → Tagged (shape g) st.log (own_part_of (shape g) st x.role ++ (a ++ i ∷ [])) i
           more [] q w = absurd (cc)
           more (j' ∷ b') q w =
-              let t = tagged r.front r.mid j' b' w (ap (λ (z : B.Entry TimedLabel Code). honest_role s cast (sender (shape g) z.step.label)) (sym r.same_mid) ∙ h) in
-              let whole_list : own_of (shape g) st x.role ++ (a ++ i ∷ []) ≡ entries ((own x ++ r.front) ++ r.mid ∷ []) =
-              ap (λ l. l ++ (a ++ i ∷ [])) own_same ∙ ap (λ l. entries (own x) ++ (l ++ i ∷ [])) r.same_front ∙ ap (λ z. entries (own x) ++ (entries r.front ++ z ∷ [])) r.same_mid
-              ∙ ap (λ l. entries (own x) ++ l) (sym (map-append entry r.front (r.mid ∷ []))) ∙ sym (map-append entry (own x) (r.front ++ r.mid ∷ [])) ∙ ap entries (sym (append_assoc (own x) r.front (r.mid ∷ []))) in
+              let t = tagged r.prefix r.mid j' b' w (ap (λ (z : B.Entry TimedLabel Code). honest_role s cast (sender (shape g) z.step.label)) (sym r.same_mid) ∙ h) in
+              let whole_list : own_part_of (shape g) st x.role ++ (a ++ i ∷ []) ≡ entries ((own_part x ++ r.prefix) ++ r.mid ∷ []) =
+              ap (λ l. l ++ (a ++ i ∷ [])) own_part_same ∙ ap (λ l. entries (own_part x) ++ (l ++ i ∷ [])) r.same_prefix ∙ ap (λ z. entries (own_part x) ++ (entries r.prefix ++ z ∷ [])) r.same_mid
+              ∙ ap (λ l. entries (own_part x) ++ l) (sym (map-append entry r.prefix (r.mid ∷ []))) ∙ sym (map-append entry (own_part x) (r.prefix ++ r.mid ∷ [])) ∙ ap entries (sym (append_assoc (own_part x) r.prefix (r.mid ∷ []))) in
               record {
                 made = t.made;
                 there = t.there;
                 same = t.same ∙ ap V.step_of (sym r.same_mid);
-                held = λ y var. sym (range_at (λ z. committed z ((own x ++ r.front) ++ r.mid ∷ [])) (λ z. com_of (told_with_item t.made) z) 0 (length g.variables) t.is_held y (omega arith) (let l = variable_below g is y var in omega arith))
-                    ∙ sym (entries-com ((own x ++ r.front) ++ r.mid ∷ []) y) ∙ ap (λ l. com_of l y) (sym whole_list);
+                held = λ y var. sym (range_at (λ z. committed z ((own_part x ++ r.prefix) ++ r.mid ∷ [])) (λ z. com_of (transcript_with_item t.made) z) 0 (length g.variables) t.is_held y (omega arith) (let l = variable_below g is y var in omega arith))
+                    ∙ sym (entries-com ((own_part x ++ r.prefix) ++ r.mid ∷ []) y) ∙ ap (λ l. com_of l y) (sym whole_list);
               }
 
   frame_made : honest_role s cast f.sender ≡ true → MadeFrame g st.log f
@@ -212,8 +212,8 @@ module _ (sha : Hash) (s : Schedule) (sid : List ℕ) (cast : Cast) (keys : Keyr
           record {
             made = t.made;
             there = t.there;
-            steps = t.steps ∙ ap (λ k. V.steps_of (B.evidence (sender_of (shape g)) (after_last (by (shape g)) k (told_with_item t.made)))) its_role;
-            written = λ y var. t.written y (variable_below g is y var) ∙ ap (λ k. com_of (B.evidence (sender_of (shape g)) (after_last (by (shape g)) k (told_with_item t.made))) y) its_role;
+            steps = t.steps ∙ ap (λ k. V.steps_of (B.evidence (sender_of (shape g)) (after_last (by (shape g)) k (transcript_with_item t.made)))) its_role;
+            written = λ y var. t.written y (variable_below g is y var) ∙ ap (λ k. com_of (B.evidence (sender_of (shape g)) (after_last (by (shape g)) k (transcript_with_item t.made))) y) its_role;
           }
         where
           last_role : (is' : List Item) (i : Item) → last is' ≡ Some i → Roles (shape g) is' → i.role ≡ sender (shape g) i.label
@@ -225,12 +225,12 @@ module _ (sha : Hash) (s : Schedule) (sid : List ℕ) (cast : Cast) (keys : Keyr
               step_ y (z ∷ zs) e r = step_ z zs e r.1
 
   -- the openings
-  opening_right : (o : Opening) → is_right sha g x f o ≡ true → com_of (own_of (shape g) st x.role ++ entries f.items) o.variable ≡ Some (commit o)
+  opening_right : (o : Opening) → is_right sha g x f o ≡ true → com_of (own_part_of (shape g) st x.role ++ entries f.items) o.variable ≡ Some (commit o)
   opening_right o h =
       let same : shown_commitments x f o.variable ≡ Some (commitment sha x.sid o) = same_some _ _ (and_parts (has_kind g o) _ h).1 in
-      ap (λ l. com_of (l ++ entries f.items) o.variable) own_same ∙ ap (λ l. com_of l o.variable) (sym (map-append entry (own x) f.items)) ∙ entries-com (own x ++ f.items) o.variable ∙ same ∙ ap (λ z. Some (commitment sha z o)) m.same_sid
+      ap (λ l. com_of (l ++ entries f.items) o.variable) own_part_same ∙ ap (λ l. com_of l o.variable) (sym (map-append entry (own_part x) f.items)) ∙ entries-com (own_part x ++ f.items) o.variable ∙ same ∙ ap (λ z. Some (commitment sha z o)) m.same_sid
 
-  all_right : (os : List Opening) → list_all (is_right sha g x f) os ≡ true → AllByRecursion (λ (o : Opening). com_of (own_of (shape g) st x.role ++ entries f.items) o.variable ≡ Some (commit o)) os
+  all_right : (os : List Opening) → list_all (is_right sha g x f) os ≡ true → AllByRecursion (λ (o : Opening). com_of (own_part_of (shape g) st x.role ++ entries f.items) o.variable ≡ Some (commit o)) os
   all_right [] h = tt
   all_right (o ∷ os) h = let ps = and_parts (is_right sha g x f o) (list_all (is_right sha g x f) os) h in (opening_right o ps.0, all_right os ps.1)
 
@@ -238,9 +238,9 @@ module _ (sha : Hash) (s : Schedule) (sid : List ℕ) (cast : Cast) (keys : Keyr
   all_typed [] h = refl
   all_typed (o ∷ os) h = let ps = and_parts (is_right sha g x f o) (list_all (is_right sha g x f) os) h in let k = and_parts (has_kind g o) _ ps.0 in rw k.0 (all_typed os ps.1)
 
-  opened : Opened (shape g) commit (own_of (shape g) st x.role ++ entries f.items) f.openings
+  opened : Opened (shape g) commit (own_part_of (shape g) st x.role ++ entries f.items) f.openings
   opened = record {
-    reads = same_bytes _ _ rows.variables ∙ reads_last (last f.items) last_item.1 ∙ ap (V.last_reads (shape g)) (sym (last_two (own_of (shape g) st x.role) (entries f.items) (entry (last_item.0)) (last-option_map entry f.items ∙ ap (option_map entry) last_item.1)));
+    reads = same_bytes _ _ rows.variables ∙ reads_last (last f.items) last_item.1 ∙ ap (V.last_reads (shape g)) (sym (last_two (own_part_of (shape g) st x.role) (entries f.items) (entry (last_item.0)) (last-option_map entry f.items ∙ ap (option_map entry) last_item.1)));
     fit = all_right f.openings rows.openings;
   }
     where
@@ -258,8 +258,8 @@ module _ (sha : Hash) (s : Schedule) (sid : List ℕ) (cast : Cast) (keys : Keyr
     is_honest = honest_role_is;
     waits = m.waits wait;
     some = not_empty;
-    sight = sight g (writes_below g is) x.role (record { origin = origin x; items = map seen f.items }) viewed (st.machine.at x.role).own f.items (own_label (last (own x)) ∙ ap (option_map (λ (t : TimedLabel). t.label)) (sym m.is_own)) refl
-        (subst (λ t. RisesFrom t (V.steps_of (entries f.items))) (own_times (last (own x)) ∙ ap R.time_of_own (sym m.is_own)) (rising_times 1 (own_time x) f.items rows.times));
+    sight = sight g (writes_below g is) x.role (record { origin = origin x; items = map seen f.items }) viewed (st.machine.at x.role).own f.items (own_label (last (own_part x)) ∙ ap (option_map (λ (t : TimedLabel). t.label)) (sym m.is_own)) refl
+        (subst (λ t. RisesFrom t (V.steps_of (entries f.items))) (own_times (last (own_part x)) ∙ ap R.time_of_own (sym m.is_own)) (rising_times 1 (own_time x) f.items rows.times));
     tags = law_tag;
     frame = law_frame;
     opened = opened;
@@ -276,11 +276,11 @@ module _ (sha : Hash) (s : Schedule) (sid : List ℕ) (cast : Cast) (keys : Keyr
   abbrev later : Session
   later = extended x (Took f)
 
-  told_later : told later ≡ told x ++ f.items
-  told_later = flat_map-append items_of x.exchanges (Took f ∷ []) ∙ ap (λ l. told x ++ l) (append-nil f.items)
+  transcript_later : transcript later ≡ transcript x ++ f.items
+  transcript_later = flat_map-append items_of x.exchanges (Took f ∷ []) ∙ ap (λ l. transcript x ++ l) (append-nil f.items)
 
-  last_later : last (told later) ≡ Some (last_item.0)
-  last_later = ap last told_later ∙ last-append_some (told x) f.items (last_item.0) last_item.1
+  last_later : last (transcript later) ≡ Some (last_item.0)
+  last_later = ap last transcript_later ∙ last-append_some (transcript x) f.items (last_item.0) last_item.1
 
   place_later : place g later ≡ n
   place_later = ap (λ o. unwrap_or (option_map (target (shape g)) (option_map (λ (i : Item). i.label) o)) 0) last_later ∙ sym (view_ends g x.role (record { origin = origin x; items = map seen f.items }) viewed f.items (last_item.0) refl last_item.1)
@@ -288,8 +288,8 @@ module _ (sha : Hash) (s : Schedule) (sid : List ℕ) (cast : Cast) (keys : Keyr
   time_later : time later ≡ (last_item.0).time
   time_later = ap (λ o. unwrap_or (option_map (λ (i : Item). i.time) o) 0) last_later
 
-  own_later : own later ≡ own x
-  own_later = ap (up_to_last (λ (i : Item). i.role) x.role) told_later ∙ upto-more (λ (i : Item). i.role) x.role (told x) f.items no_own
+  own_part_later : own_part later ≡ own_part x
+  own_part_later = ap (up_to_last (λ (i : Item). i.role) x.role) transcript_later ∙ upto-more (λ (i : Item). i.role) x.role (transcript x) f.items no_own
 
   turn_later : at_turn g later ≡ true
   turn_later = eq-eqb (role_at (shape g) (place g later)) x.role (ap (role_at (shape g)) place_later ∙ viewed.ends)
@@ -303,13 +303,13 @@ module _ (sha : Hash) (s : Schedule) (sid : List ℕ) (cast : Cast) (keys : Keyr
     same_cast = m.same_cast;
     is_who = m.is_who;
     inside = m.inside;
-    is_told = rw (eqb_same x.role) (ap (λ l. l ++ entries f.items) m.is_told ∙ sym (map-append entry (told x) f.items) ∙ ap entries (sym told_later));
-    is_own = rw (eqb_same x.role) (m.is_own ∙ ap (λ l. option_map step (last l)) (sym own_later));
+    is_transcript = rw (eqb_same x.role) (ap (λ l. l ++ entries f.items) m.is_transcript ∙ sym (map-append entry (transcript x) f.items) ∙ ap entries (sym transcript_later));
+    is_own = rw (eqb_same x.role) (m.is_own ∙ ap (λ l. option_map step (last l)) (sym own_part_later));
     turns = λ _. rw (eqb_same x.role) (ap (λ k. Some (record { node = k; time = R.time_after (R.time_of_own (st.machine.at x.role).own) (V.steps_of (entries f.items)) })) (sym place_later)
         ∙ ap (λ t. Some (record { node = place g later; time = t })) (time_after-last (R.time_of_own (st.machine.at x.role).own) (V.steps_of (entries f.items)) (step (last_item.0)) last_step ∙ sym time_later));
     waits = λ e. (let t = turn_later in absurd (cc));
-    roles = subst (Roles (shape g)) (sym told_later) (roles-append (shape g) (told x) f.items m.roles f_roles);
-    fits = subst FitItems (sym told_later) (fit-append (told x) f.items m.fits f_fits);
+    roles = subst (Roles (shape g)) (sym transcript_later) (roles-append (shape g) (transcript x) f.items m.roles f_roles);
+    fits = subst FitItems (sym transcript_later) (fit-append (transcript x) f.items m.fits f_fits);
     last_edge = subst (λ o. IfSome o (λ (i : Item). i.label < length g.edges)) (sym last_later) last_in;
   }
     where

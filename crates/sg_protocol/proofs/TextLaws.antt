@@ -18,7 +18,7 @@ use Rattle.sg_protocol.proofs.ReadLaws.{read-spelling}
 
 -- ---- fields, one after another
 
--- two fronts of one length
+-- two prefixes of one length
 pub parts : (a b s t : List ℕ) → length a ≡ length b → a ++ s ≡ b ++ t → (a ≡ b) × (s ≡ t)
 parts [] [] s t l e = (refl, e)
 parts [] (y ∷ b) s t l e = absurd (omega arith)

@@ -8,7 +8,7 @@ use Rattle.sg_model.proofs.Small.{same_bytes}
 use Rattle.sg_protocol.specs.Texts.{Hash}
 use Rattle.sg_protocol.specs.Calls.{Event, sid_of, role_of, does_join, events_of_answer}
 use Rattle.sg_protocol.specs.Node.{has_joined}
-use Rattle.sg_protocol.specs.Past.{Called, Past, joins_once, pairs_differ}
+use Rattle.sg_protocol.specs.Past.{AnsweredCall, Past, joins_once, pairs_differ}
 use Rattle.sg_protocol.specs.Restarts.{events_of_lives, told_in_lives, joined_by, ToldJoinOnce}
 use Rattle.sg_protocol.proofs.Finding.{joined_more, joined_now}
 use Rattle.sg_protocol.proofs.Lives.{lives_join_once}
@@ -18,8 +18,8 @@ abbrev IsPart : List Event → List Event → Type 0
 IsPart told [] = told ≡ []
 IsPart told (e ∷ es) = IsPart told es ⊎ ((rest : List Event) × (told ≡ e ∷ rest) × IsPart rest es)
 
-abbrev evs : List Called → List Event
-evs cs = flat_map (λ (c : Called). events_of_answer c.answer) cs
+abbrev evs : List AnsweredCall → List Event
+evs cs = flat_map (λ (c : AnsweredCall). events_of_answer c.answer) cs
 
 part_refl : (es : List Event) → IsPart es es
 part_refl [] = refl
@@ -34,7 +34,7 @@ part_both a [] b bs h k = subst (λ z. IsPart (z ++ b) bs) (sym h) k
 part_both a (e ∷ es) b bs (inl h) k = inl (part_both a es b bs h k)
 part_both a (e ∷ es) b bs (inr h) k = inr (h.0 ++ b, ap (λ z. z ++ b) h.1, part_both h.0 es b bs h.2 k)
 
-part_take : (n : ℕ) (cs : List Called) → IsPart (evs (take n cs)) (evs cs)
+part_take : (n : ℕ) (cs : List AnsweredCall) → IsPart (evs (take n cs)) (evs cs)
 part_take zero cs = part_none (evs cs)
 part_take (suc n) [] = refl
 part_take (suc n) (c ∷ cs) = part_both (events_of_answer c.answer) (events_of_answer c.answer) (evs (take n cs)) (evs cs) (part_refl (events_of_answer c.answer)) (part_take n cs)

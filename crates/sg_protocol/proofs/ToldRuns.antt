@@ -149,9 +149,9 @@ same_past sha programs s l c r a =
 
 -- ---- what is known of the node before a step
 
-all_front : (P : Step → Type 0) (xs ys : List Step) → AllByRecursion P (xs ++ ys) → AllByRecursion P xs
-all_front P [] ys a = tt
-all_front P (x ∷ xs) ys a = (a.0, all_front P xs ys a.1)
+all_prefix : (P : Step → Type 0) (xs ys : List Step) → AllByRecursion P (xs ++ ys) → AllByRecursion P xs
+all_prefix P [] ys a = tt
+all_prefix P (x ∷ xs) ys a = (a.0, all_prefix P xs ys a.1)
 
 all_mid : (P : Step → Type 0) (xs : List Step) (y : Step) (ys : List Step) → AllByRecursion P (xs ++ y ∷ ys) → P y
 all_mid P [] y ys a = a.0
@@ -190,7 +190,7 @@ module _ (sha : Hash) (hash : IsHash sha) (programs : List Program) (s : Schedul
     good_step = all_mid (IsStep sha s) r.before r.step r.after (subst (AllByRecursion (IsStep sha s)) r.parts steps_are)
 
     logs_before : LogsOk sha hash programs s compiled sched (run sha programs s) at
-    logs_before = logs_at (run sha programs s) (new_world programs s) 1 r.before (r.step ∷ r.after) (all_front (IsStep sha s) r.before (r.step ∷ r.after) (subst (AllByRecursion (IsStep sha s)) r.parts steps_are))
+    logs_before = logs_at (run sha programs s) (new_world programs s) 1 r.before (r.step ∷ r.after) (all_prefix (IsStep sha s) r.before (r.step ∷ r.after) (subst (AllByRecursion (IsStep sha s)) r.parts steps_are))
         (new_logs sha hash programs s compiled sched (run sha programs s)) (ap (world_after_all sha s (new_world programs s) 1) (sym r.parts))
 
     abbrev n : Node
@@ -298,7 +298,7 @@ module _ (sha : Hash) (hash : IsHash sha) (programs : List Program) (s : Schedul
       is_live same j =
           let good = subst (AllByRecursion (IsStep sha s)) r.parts (steps_are sha hash programs s compiled sched) in
           let f0 : FirstCast sha s programs u.session.sid (world_after_all sha s (new_world programs s) 1 (r.before ++ r.step ∷ r.after)) = first_of_live sha hash s programs u.session.sid (fit_steps sha hash programs s compiled sched)
-          r.before (r.step ∷ r.after) (all_front (IsStep sha s) r.before (r.step ∷ r.after) good) (fit_new sha hash programs s compiled sched) r.one.who r.one.past r.one.is_past u.session j (bytes_same u.session.sid u.session.sid refl) in
+          r.before (r.step ∷ r.after) (all_prefix (IsStep sha s) r.before (r.step ∷ r.after) good) (fit_new sha hash programs s compiled sched) r.one.who r.one.past r.one.is_past u.session j (bytes_same u.session.sid u.session.sid refl) in
           let f : FirstCast sha s programs u.session.sid w = subst (λ xs. FirstCast sha s programs u.session.sid (world_after_all sha s (new_world programs s) 1 xs)) (sym r.parts) f0 in
           f.is_cast ∙ ap (λ z. Some z) (sym (same f.cast f.is_cast))
 

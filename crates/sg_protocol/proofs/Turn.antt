@@ -22,7 +22,7 @@ use Rattle.sg_protocol.specs.NodeAfter.{node_after, joined, goes_on, replace, st
 use Rattle.sg_protocol.specs.NodeAfter as NodeAfter'
 use Rattle.sg_protocol.specs.Acting.{answer, started, rows_of_start, openings_for}
 use Rattle.sg_protocol.specs.Verdict.{row, rows, receipt, decided, verdict_on, rows_of_join, rows_of_session, join_rows, next_rows}
-use Rattle.sg_protocol.specs.Past.{Past, Called, node_of, new_node, node_after_all, AreAnswers}
+use Rattle.sg_protocol.specs.Past.{Past, AnsweredCall, node_of, new_node, node_after_all, AreAnswers}
 use Rattle.sg_protocol.specs.Schedule.{is_honest}
 use Rattle.sg_protocol.specs.World.{World, new_world}
 use Rattle.sg_protocol.specs.Run.{run}
@@ -34,7 +34,7 @@ use Rattle.sg_law.proofs.Upto.{In}
 use Rattle.sg_law.proofs.Take.{contains_from_in}
 use Rattle.sg_protocol.proofs.Isolation.{of_sid, find-filter}
 use Rattle.sg_protocol.proofs.Joins.{Owns, owns_after, third, fourth, Right, right_all, right_new}
-use Rattle.sg_protocol.proofs.Finding.{one_place}
+use Rattle.sg_protocol.proofs.Finding.{one_index}
 use Rattle.sg_protocol.proofs.Whole.{found_in, honest_inside}
 use Rattle.sg_protocol.proofs.Sent.{FitSession}
 use Rattle.sg_protocol.proofs.Sendings.{Known, LogsOk, all_logs, new_logs}
@@ -228,7 +228,7 @@ module _ (sha : Hash) (n : Node) (t : Tidy n) where
   tidy_after (Abandon sid) = tidy_abandon sid (answer sha n (Abandon sid))
   tidy_after (Deliver bs) = tidy_deliver bs
 
-tidy_all : (sha : Hash) (n : Node) (cs : List Called) → Tidy n → AreAnswers sha n cs → Tidy (node_after_all n cs)
+tidy_all : (sha : Hash) (n : Node) (cs : List AnsweredCall) → Tidy n → AreAnswers sha n cs → Tidy (node_after_all n cs)
 tidy_all sha n [] t a = t
 tidy_all sha n (c ∷ cs) t a = tidy_all sha (node_after n c.call c.answer) cs (subst (λ x. Tidy (node_after n c.call x)) (sym a.0) (tidy_after sha n t c.call)) a.1
 
@@ -270,7 +270,7 @@ turn_is_of_session sha hash programs s compiled sched free who past sid its =
         let differ : all_differ x.cast.names ≡ true = all_at differs (node_of past).live x tidy.differ i.0 in
         let in_x : x.role < length x.cast.names = honest_inside sha s sched x.cast x.role (ap (is_honest s) kx.me ∙ hon) in
         let in_y : y.role < length y.cast.names = honest_inside sha s sched y.cast y.role (ap (is_honest s) ky.me ∙ hon) in
-        let roles : x.role ≡ y.role = one_place x.cast.names x.role y.role differ in_x (subst (λ (c : Cast). y.role < length c.names) (sym cast) in_y) (kx.me ∙ sym ky.me ∙ ap (λ (c : Cast). principal c y.role) (sym cast)) in
+        let roles : x.role ≡ y.role = one_index x.cast.names x.role y.role differ in_x (subst (λ (c : Cast). y.role < length c.names) (sym cast) in_y) (kx.me ∙ sym ky.me ∙ ap (λ (c : Cast). principal c y.role) (sym cast)) in
         let two : filter (pair sid x.role) (node_of past).live ≡ filter (pair sid x.role) (x ∷ y ∷ rest) = sym (filter-filter (pair sid x.role) (of_sid sid) (λ z h. (and_parts (bytes_eq z.sid sid) (z.role == x.role) h).0) (node_of past).live) ∙ ap (filter (pair sid x.role)) e in
         let three : filter (pair sid x.role) (x ∷ y ∷ rest) ≡ x ∷ y ∷ filter (pair sid x.role) rest = both (pair sid x.role) x y rest (and_from (bytes_eq x.sid sid) (x.role == x.role) i.1 (eq-eqb x.role x.role refl)) (and_from (bytes_eq y.sid sid) (y.role == x.role) j.1 (eq-eqb y.role x.role (sym roles))) in
         let many = ap (λ l. length l) (two ∙ three) in

@@ -90,8 +90,8 @@ graph_name_free g is =
     let b = and_parts (is_name g.name && not (has_text g.name reserved)) true a.0 in
     name_free g.name (and_parts (is_name g.name) (not (has_text g.name reserved)) b.0).0
 
-front : (g : Graph) → (rest : List ℕ) × (canonical g ≡ codes "graph " ++ (g.name ++ 59 ∷ rest))
-front g =
+prefix : (g : Graph) → (rest : List ℕ) × (canonical g ≡ codes "graph " ++ (g.name ++ 59 ∷ rest))
+prefix g =
     let A : List ℕ = flat_map (λ r. ended (codes "role " ++ r)) g.roles in
     let B' : List ℕ = flat_map (variable_line g) g.variables in
     let C' : List ℕ = flat_map (node_line g) g.nodes in
@@ -103,8 +103,8 @@ front g =
 
 pub same_name : (g g' : Graph) → IsGraph g → IsGraph g' → canonical g ≡ canonical g' → g.name ≡ g'.name
 same_name g g' is is' e =
-    let f = front g in
-    let f' = front g' in
+    let f = prefix g in
+    let f' = prefix g' in
     let t = TL.parts (codes "graph ") (codes "graph ") (g.name ++ 59 ∷ f.0) (g'.name ++ 59 ∷ f'.0) refl (sym f.1 ∙ e ∙ f'.1) in
     cut_at g.name g'.name f.0 f'.0 (graph_name_free g is) (graph_name_free g' is') t.1
 
@@ -291,7 +291,7 @@ module _ (sha : Hash) (hash : IsHash sha) (programs : List Program) (s : Schedul
     events = refl;
     typed = tt;
     used = tt;
-    told = λ who p e r is l. let f = first_past s.keys programs s.honest who p e in subst (λ (z : Past). ((V.at_first (shape g)).told r ≡ entries (flat_map items_of (exchanges_of sid r z.calls))) × Roles (shape g) (flat_map items_of (exchanges_of sid r z.calls))) (sym f.0) (refl, tt);
+    transcript = λ who p e r is l. let f = first_past s.keys programs s.honest who p e in subst (λ (z : Past). ((V.at_first (shape g)).transcript r ≡ entries (flat_map items_of (exchanges_of sid r z.calls))) × Roles (shape g) (flat_map items_of (exchanges_of sid r z.calls))) (sym f.0) (refl, tt);
     sent = (refl, tt);
     pasts = λ who is. has_past s.honest who is;
   }

@@ -10,7 +10,7 @@ use Rattle.sg_protocol.specs.Frame.{Item, Frame, IsItem, IsCastOf, IsOpening}
 use Rattle.sg_protocol.specs.Spelling.{IsInRange, HasSpelling, spelling}
 use Rattle.sg_protocol.specs.Texts.{Hash}
 use Rattle.sg_protocol.specs.Keyring.{Keyring, Program}
-use Rattle.sg_protocol.specs.Session.{Session, told, openings_of, time, at_turn}
+use Rattle.sg_protocol.specs.Session.{Session, transcript, openings_of, time, at_turn}
 use Rattle.sg_protocol.specs.Sending.{shown_to, frame_sent}
 use Rattle.sg_protocol.specs.Calls.{Event, Sends}
 use Rattle.sg_protocol.specs.Acting.{leaves}
@@ -47,7 +47,7 @@ pub record IsSession (s : Session) : Type 0 where
   pub version : (s.cast.version ≡ 1) ⊎ (s.cast.version ≡ 2)
   pub cast : IsCastOf s.cast.version s.cast
   pub role : s.role < most_roles
-  pub items : AllByRecursion (IsItem s.cast.version) (told s)
+  pub items : AllByRecursion (IsItem s.cast.version) (transcript s)
   pub openings : AllByRecursion IsOpening (flat_map openings_of s.exchanges)
 
 -- a frame that has a spelling, at most 15 items and few bytes

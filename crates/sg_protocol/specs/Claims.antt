@@ -54,83 +54,83 @@ pub record IsAtStep (g : Graph) (honest : ℕ → Bool) (steps : List StoredStep
 
 -- An event stands at no more than one step of a walk
 abbrev pub EventsStandOnce : Type 0
-EventsStandOnce = (g : Graph) (honest : ℕ → Bool) (front : List StoredStep) (s : StoredStep) (rest front' : List StoredStep) (s' : StoredStep) (rest' : List StoredStep) (before : List Event) (e : Event) →
-    front ++ s ∷ rest ≡ front' ++ s' ∷ rest' → IsAtStep g honest front s before e → IsAtStep g honest front' s' before e → front ≡ front'
+EventsStandOnce = (g : Graph) (honest : ℕ → Bool) (prefix : List StoredStep) (s : StoredStep) (rest prefix' : List StoredStep) (s' : StoredStep) (rest' : List StoredStep) (before : List Event) (e : Event) →
+    prefix ++ s ∷ rest ≡ prefix' ++ s' ∷ rest' → IsAtStep g honest prefix s before e → IsAtStep g honest prefix' s' before e → prefix ≡ prefix'
 
 -- among the events, which come after those of the past, is the sending of the step
 pub record HasSent (g : Graph) (honest : ℕ → Bool) (steps : List StoredStep) (s : StoredStep) (past events : List Event) : Type 0 where
-  pub front : List Event
+  pub prefix : List Event
   pub event : Event
   pub rest : List Event
-  pub there : events ≡ front ++ event ∷ rest
+  pub there : events ≡ prefix ++ event ∷ rest
   pub sends : IsTrue (does_send event)
-  pub is_at : IsAtStep g honest steps s (past ++ front) event
+  pub is_at : IsAtStep g honest steps s (past ++ prefix) event
 
 -- among the events is the receipt of the step, and before it the sending, where its sender is honest
 pub record HasReceived (g : Graph) (honest : ℕ → Bool) (steps : List StoredStep) (s : StoredStep) (past events : List Event) : Type 0 where
-  pub front : List Event
+  pub prefix : List Event
   pub event : Event
   pub rest : List Event
-  pub there : events ≡ front ++ event ∷ rest
+  pub there : events ≡ prefix ++ event ∷ rest
   pub receives : does_send event ≡ false
-  pub is_at : IsAtStep g honest steps s (past ++ front) event
-  pub sent : IsTrue (honest (sender (shape g) s.label)) → HasSent g honest steps s past front
+  pub is_at : IsAtStep g honest steps s (past ++ prefix) event
+  pub sent : IsTrue (honest (sender (shape g) s.label)) → HasSent g honest steps s past prefix
 
 -- ---- what claims say of events
 
 -- The event, after the events before it, stands at a step before which a step with a label of `earlier` was taken, and none of `since` between. What honest roles had to do with that step they did before the event
 pub record HasCause (g : Graph) (honest : ℕ → Bool) (c : Claim) (steps : List StoredStep) (before : List Event) (e : Event) : Type 0 where
-  pub front : List StoredStep
+  pub prefix : List StoredStep
   pub cause : StoredStep
   pub between : List StoredStep
   pub step : StoredStep
   pub rest : List StoredStep
-  pub there : steps ≡ front ++ cause ∷ between ++ step ∷ rest
-  pub is_at : IsAtStep g honest (front ++ cause ∷ between) step before e
+  pub there : steps ≡ prefix ++ cause ∷ between ++ step ∷ rest
+  pub is_at : IsAtStep g honest (prefix ++ cause ∷ between) step before e
   pub is_earlier : IsTrue (is_in cause.label c.earlier)
   pub none_since : list_any (λ l. is_in l c.since) (labels between) ≡ false
-  pub sent : IsTrue (honest (sender (shape g) cause.label)) → HasSent g honest front cause [] before
-  pub received : IsTrue (honest (receiver (shape g) cause.label)) → HasReceived g honest front cause [] before
+  pub sent : IsTrue (honest (sender (shape g) cause.label)) → HasSent g honest prefix cause [] before
+  pub received : IsTrue (honest (receiver (shape g) cause.label)) → HasReceived g honest prefix cause [] before
 
 -- the first event sends a step and the second, with these events between, receives it
 pub record AreOfOneStep (g : Graph) (honest : ℕ → Bool) (steps : List StoredStep) (before : List Event) (d : Event) (events : List Event) (e : Event) : Type 0 where
-  pub front : List StoredStep
+  pub prefix : List StoredStep
   pub step : StoredStep
   pub rest : List StoredStep
-  pub there : steps ≡ front ++ step ∷ rest
+  pub there : steps ≡ prefix ++ step ∷ rest
   pub sends : IsTrue (does_send d)
   pub receives : does_send e ≡ false
-  pub is_sent : IsAtStep g honest front step before d
-  pub is_received : IsAtStep g honest front step (before ++ d ∷ events) e
+  pub is_sent : IsAtStep g honest prefix step before d
+  pub is_received : IsAtStep g honest prefix step (before ++ d ∷ events) e
 
 -- the events stand at two steps, one after the other, and what honest roles had to do with the steps between they did between the events
 pub record AreOfTwoSteps (g : Graph) (honest : ℕ → Bool) (steps : List StoredStep) (before : List Event) (d : Event) (events : List Event) (e : Event) : Type 0 where
-  pub front : List StoredStep
+  pub prefix : List StoredStep
   pub first : StoredStep
   pub between : List StoredStep
   pub second : StoredStep
   pub rest : List StoredStep
-  pub there : steps ≡ front ++ first ∷ between ++ second ∷ rest
-  pub is_first : IsAtStep g honest front first before d
-  pub is_second : IsAtStep g honest (front ++ first ∷ between) second (before ++ d ∷ events) e
-  pub sent : (up : List StoredStep) (s : StoredStep) (down : List StoredStep) → between ≡ up ++ s ∷ down → IsTrue (honest (sender (shape g) s.label)) → HasSent g honest (front ++ first ∷ up) s (before ++ d ∷ []) events
-  pub received : (up : List StoredStep) (s : StoredStep) (down : List StoredStep) → between ≡ up ++ s ∷ down → IsTrue (honest (receiver (shape g) s.label)) → HasReceived g honest (front ++ first ∷ up) s (before ++ d ∷ []) events
+  pub there : steps ≡ prefix ++ first ∷ between ++ second ∷ rest
+  pub is_first : IsAtStep g honest prefix first before d
+  pub is_second : IsAtStep g honest (prefix ++ first ∷ between) second (before ++ d ∷ events) e
+  pub sent : (up : List StoredStep) (s : StoredStep) (down : List StoredStep) → between ≡ up ++ s ∷ down → IsTrue (honest (sender (shape g) s.label)) → HasSent g honest (prefix ++ first ∷ up) s (before ++ d ∷ []) events
+  pub received : (up : List StoredStep) (s : StoredStep) (down : List StoredStep) → between ≡ up ++ s ∷ down → IsTrue (honest (receiver (shape g) s.label)) → HasReceived g honest (prefix ++ first ∷ up) s (before ++ d ∷ []) events
 
 -- one of the steps has a label of `earlier`, and none after it one of `since`
 pub record HaveCause (c : Claim) (steps : List StoredStep) : Type 0 where
-  pub front : List StoredStep
+  pub prefix : List StoredStep
   pub cause : StoredStep
   pub rest : List StoredStep
-  pub there : steps ≡ front ++ cause ∷ rest
+  pub there : steps ≡ prefix ++ cause ∷ rest
   pub is_earlier : IsTrue (is_in cause.label c.earlier)
   pub none_since : list_any (λ l. is_in l c.since) (labels rest) ≡ false
 
 -- one of the steps has a label of `since`
 pub record HaveSince (c : Claim) (steps : List StoredStep) : Type 0 where
-  pub front : List StoredStep
+  pub prefix : List StoredStep
   pub step : StoredStep
   pub rest : List StoredStep
-  pub there : steps ≡ front ++ step ∷ rest
+  pub there : steps ≡ prefix ++ step ∷ rest
   pub is_since : IsTrue (is_in step.label c.since)
 
 -- A claim keeps its word on a session's walk and events

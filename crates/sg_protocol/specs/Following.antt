@@ -10,22 +10,22 @@ use Rattle.sg_protocol.specs.Accepted.{Accepted}
 use Rattle.sg_protocol.specs.Frame.{Cast, Item, Frame}
 use Rattle.sg_protocol.specs.Texts.{Hash, commitment}
 use Rattle.sg_protocol.specs.Keyring.{Keyring, Program}
-use Rattle.sg_protocol.specs.Session.{Session, new_session, extended, told, own, at_turn, committed, Took, Gave}
+use Rattle.sg_protocol.specs.Session.{Session, new_session, extended, transcript, own_part, at_turn, committed, Took, Gave}
 use Rattle.sg_protocol.specs.Sending.{own_item, opening_of}
-use Rattle.sg_protocol.specs.Kept.{Kept, kept}
+use Rattle.sg_protocol.specs.Kept.{KeptState, kept}
 use Rattle.sg_protocol.specs.Verdict.{rows_of_session}
 use Rattle.sg_protocol.specs.Acting.{leaves}
 use Rattle.sg_protocol.specs.IsSchedule.{IsProgram}
 
 -- an opening of x is kept, and its commitment is the current one
-pub record IsOpened (sha : Hash) (sid : List ℕ) (k : Kept) (x : ℕ) : Type 0 where
+pub record IsOpened (sha : Hash) (sid : List ℕ) (k : KeptState) (x : ℕ) : Type 0 where
   pub opening : Opening
   pub variable : opening.variable ≡ x
   pub is_kept : get_or k.openings x None ≡ Some opening
   pub current : get_or k.commitments x None ≡ Some (commitment sha sid opening)
 
 -- on some walk from the start the last own label of role r is the kept one, and what r knows on it is kept
-pub record FollowsWalk (sha : Hash) (g : Graph) (sid : List ℕ) (r : ℕ) (turn : Bool) (k : Kept) : Type 0 where
+pub record FollowsWalk (sha : Hash) (g : Graph) (sid : List ℕ) (r : ℕ) (turn : Bool) (k : KeptState) : Type 0 where
   pub walk : List ℕ
   pub follows : Walk (shape g) 0 walk
   pub own_last : last (up_to_last (sender (shape g)) r walk) ≡ k.origin
@@ -57,7 +57,7 @@ pub record KeptFollowsWalks (sha : Hash) : Type 0 where
       IsFollowed sha p.graph now × (at_turn p.graph now ≡ false)
   -- a session that waits, since the last item that it was told is its own, is at its turn after a frame on which no row holds
   pub takes : (keys : Keyring) (p : Program) (s : Session) (f : Frame) → IsProgram sha p → p.role ≡ s.role →
-      own s ≡ told s → FollowsWalk sha p.graph s.sid s.role false (kept p.graph s) → first_some (rows_of_session sha keys p s f) ≡ None →
+      own_part s ≡ transcript s → FollowsWalk sha p.graph s.sid s.role false (kept p.graph s) → first_some (rows_of_session sha keys p s f) ≡ None →
       let now = extended s (Took f) in
       IsFollowed sha p.graph now × (at_turn p.graph now ≡ true)
   -- at its turn, what an edge from the place reads is written by the edge or kept
@@ -67,4 +67,4 @@ pub record KeptFollowsWalks (sha : Hash) : Type 0 where
   -- and so a step can send an opening of each variable that it reads, whose commitment is the one after the step
   pub opens_reads : (keys : Keyring) (p : Program) (s : Session) (label : ℕ) (written : List Opening) (x : ℕ) → IsGraph p.graph → Accepted p.graph →
       at_turn p.graph s ≡ true → leaves p.graph s label ≡ true → map (λ o. o.variable) written ≡ writes p.graph label → IsFollowed sha p.graph s → IsTrue (is_in x (reads p.graph label)) →
-      IsOpenedIn sha s written (told s ++ own_item sha keys p s label written ∷ []) x
+      IsOpenedIn sha s written (transcript s ++ own_item sha keys p s label written ∷ []) x

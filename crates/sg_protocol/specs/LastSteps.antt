@@ -13,7 +13,7 @@ use Rattle.sg_protocol.specs.Keyring.{Program}
 use Rattle.sg_protocol.specs.Session.{Exchange, principal, items_of, commitments, Took, Gave}
 use Rattle.sg_protocol.specs.Calls.{sid_of, role_of, Call, Answer, events_of_answer, Act, Deliver, Happened, Sends}
 use Rattle.sg_protocol.specs.Acting.{openings_for}
-use Rattle.sg_protocol.specs.Past.{Called, Past}
+use Rattle.sg_protocol.specs.Past.{AnsweredCall, Past}
 use Rattle.sg_protocol.specs.Schedule.{Schedule, graph_with, honest_role}
 use Rattle.sg_protocol.specs.World.{Outcome, Logged, World, past_of, Answered}
 use Rattle.sg_protocol.specs.Run.{run, cast_of_session}
@@ -29,11 +29,11 @@ exchanges_in (Act sid label values confounders) (Sends e to f) = option_map_or (
 exchanges_in call other = []
 
 -- the call had an event of this pair of sid and role
-abbrev pub is_of : List ℕ → ℕ → Called → Bool
+abbrev pub is_of : List ℕ → ℕ → AnsweredCall → Bool
 is_of sid r c = list_any (λ e. bytes_eq (sid_of e) sid && (role_of e == r)) (events_of_answer c.answer)
 
 -- all exchanges of a pair of sid and role, those of sessions that are over among them
-abbrev pub exchanges_of : List ℕ → ℕ → List Called → List Exchange
+abbrev pub exchanges_of : List ℕ → ℕ → List AnsweredCall → List Exchange
 exchanges_of sid r calls = flat_map (λ c. exchanges_in c.call c.answer) (filter (is_of sid r) calls)
 
 -- the own item that a step sent
@@ -63,7 +63,7 @@ HeldBySender w g cast sid i held = (past : Past) × (before : List Item) × (i' 
 -- the frame's items of honest senders are their last steps in the log since the receiver's own last one, and after each of them the receiver, who held the items before, holds the commitments that its sender held
 pub record ShowsLastSteps (s : Schedule) (w : World) (g : Graph) (cast : Cast) (f : Frame) (before : List Item) : Type 0 where
   pub items : map bare (filter (λ i. honest_role s cast i.role) f.items) ≡ map bare (last_of (λ i. i.role) (after_last (λ i. i.role) f.receiver (honest_items f.sid w.log)))
-  pub held : (front : List Item) (i : Item) (rest : List Item) → f.items ≡ front ++ i ∷ rest → honest_role s cast i.role ≡ true → HeldBySender w g cast f.sid i (commitments g (before ++ front ++ i ∷ []))
+  pub held : (prefix : List Item) (i : Item) (rest : List Item) → f.items ≡ prefix ++ i ∷ rest → honest_role s cast i.role ≡ true → HeldBySender w g cast f.sid i (commitments g (before ++ prefix ++ i ∷ []))
 
 -- Where the premises hold, what an accepted frame shows of honest senders is what they last did up to that step, and the receiver holds what they held
 abbrev pub FramesShowLastSteps : Hash → Type 0

@@ -22,7 +22,7 @@ use Rattle.sg_protocol.specs.IsSchedule.{IsProgram}
 use Rattle.sg_protocol.specs.Bounds.{IsSession, IsShortFrame}
 use Rattle.sg_protocol.specs.Following.{IsFollowed}
 use Rattle.sg_protocol.specs.Ranges.{IsCast, AreValues, IsCallInRange}
-use Rattle.sg_protocol.specs.Standing.{EndsWithOwn, EndsWithOther}
+use Rattle.sg_protocol.specs.Representation.{EndsWithOwn, EndsWithOther}
 
 -- the session is of the program's graph and role and in range, and what is kept of it follows a walk
 pub record IsSound (sha : Hash) (p : Program) (s : Session) : Type 0 where

@@ -1,4 +1,4 @@
--- What a state of a node stands for: pasts whose live sessions its parts stand for.
+-- What a state of a node represents: pasts whose live sessions its parts represent.
 use Rattle.std.specs.Prelude.{◌≡◌, ℕ, List, [], ◌∷◌, ◌==◌, Bool, true, ◌&&◌, if◌then◌else◌, ◌⊎◌, ◌++◌, bytes_eq, not, Result, Ok, Err, All, IsSomeAnd, Option, None, Some, find, ⊤}
 use Rattle.std.specs.List.{list_any}
 use Rattle.std.specs.Option.{option_map_or}
@@ -17,9 +17,9 @@ use Rattle.sg_protocol.specs.NodeAfter.{node_after}
 use Rattle.sg_protocol.specs.Past.{Past, node_of, past_after, new_node, AreAnswers}
 use Rattle.sg_protocol.specs.IsSchedule.{IsProgram}
 use Rattle.sg_protocol.specs.Ranges.{IsCallInRange}
-use Rattle.sg_protocol.specs.Standing.{Held, StandsWaiting, StandsAtTurn, nothing_kept, held_after}
+use Rattle.sg_protocol.specs.Representation.{Held, RepresentsWaiting, RepresentsAtTurn, nothing_kept, held_after}
 use Rattle.sg_protocol.specs.Live.{IsLive}
-use Rattle.sg_protocol.specs.Backed.{IsBackedAtTurn, IsBackedWaiting}
+use Rattle.sg_protocol.specs.Reachable.{IsReachableAtTurn, IsReachableWaiting}
 
 -- a node's keys, programs and joins, and what it holds of each live session in the order of joining
 pub record NodeState : Type 0 where
@@ -28,34 +28,34 @@ pub record NodeState : Type 0 where
   pub joins : List (List ℕ × ℕ)
   pub live : List Held
 
--- what is held stands for the session, at its turn or waiting, under the program for its graph and role
-abbrev pub StandsLive : List Program → Held → Session → Type 0
-StandsLive programs h s = IsSomeAnd (program_for programs (s.cast).graph s.role) (λ p. StandsAtTurn p.graph h s ⊎ StandsWaiting p.graph h s)
+-- what is held represents the session, at its turn or waiting, under the program for its graph and role
+abbrev pub RepresentsLive : List Program → Held → Session → Type 0
+RepresentsLive programs h s = IsSomeAnd (program_for programs (s.cast).graph s.role) (λ p. RepresentsAtTurn p.graph h s ⊎ RepresentsWaiting p.graph h s)
 
--- each stands for the session in its place
-abbrev pub StandEach : List Program → List Held → List Session → Type 0
-StandEach programs [] [] = ⊤
-StandEach programs [] (s ∷ ss) = ⊥
-StandEach programs (h ∷ hs) [] = ⊥
-StandEach programs (h ∷ hs) (s ∷ ss) = StandsLive programs h s × StandEach programs hs ss
+-- each represents the session in its place
+abbrev pub RepresentEach : List Program → List Held → List Session → Type 0
+RepresentEach programs [] [] = ⊤
+RepresentEach programs [] (s ∷ ss) = ⊥
+RepresentEach programs (h ∷ hs) [] = ⊥
+RepresentEach programs (h ∷ hs) (s ∷ ss) = RepresentsLive programs h s × RepresentEach programs hs ss
 
--- none is there, or the one stands for the other
-abbrev pub StandsIf : List Program → Option Held → Option Session → Type 0
-StandsIf programs None None = ⊤
-StandsIf programs None (Some s) = ⊥
-StandsIf programs (Some h) None = ⊥
-StandsIf programs (Some h) (Some s) = StandsLive programs h s
+-- none is there, or the one represents the other
+abbrev pub RepresentsIf : List Program → Option Held → Option Session → Type 0
+RepresentsIf programs None None = ⊤
+RepresentsIf programs None (Some s) = ⊥
+RepresentsIf programs (Some h) None = ⊥
+RepresentsIf programs (Some h) (Some s) = RepresentsLive programs h s
 
--- the state has the node's keys, programs and joins, and stands for each of its live sessions
-pub record StandsForNode (st : NodeState) (n : Node) : Type 0 where
+-- the state has the node's keys, programs and joins, and represents each of its live sessions
+pub record RepresentsNode (st : NodeState) (n : Node) : Type 0 where
   pub keys : st.keys ≡ n.keys
   pub programs : st.programs ≡ n.programs
   pub joins : st.joins ≡ n.joins
-  pub live : StandEach n.programs st.live n.live
+  pub live : RepresentEach n.programs st.live n.live
 
--- the state stands for the node after the calls of the past
-abbrev pub StandsForPast : NodeState → Past → Type 0
-StandsForPast st past = StandsForNode st (node_of past)
+-- the state represents the node after the calls of the past
+abbrev pub RepresentsPast : NodeState → Past → Type 0
+RepresentsPast st past = RepresentsNode st (node_of past)
 
 -- ---- the state after a call
 
@@ -123,18 +123,18 @@ state_after st call other = st
 
 -- some sound session stands behind what is held, under the program for its graph and role
 abbrev pub IsBackedLive : Hash → List Program → Held → Type 0
-IsBackedLive sha programs h = IsSomeAnd (program_for programs (h.cast).graph h.role) (λ p. IsBackedAtTurn sha p h ⊎ IsBackedWaiting sha p h)
+IsBackedLive sha programs h = IsSomeAnd (program_for programs (h.cast).graph h.role) (λ p. IsReachableAtTurn sha p h ⊎ IsReachableWaiting sha p h)
 
 -- ---- the laws
 
--- A state that stands for a node of sound sessions, after a call in range and its answer stands for the node after them
-pub record NodeStatesStand (sha : Hash) : Type 0 where
-  pub is_new : (keys : Keyring) (programs : List Program) (first : List (List ℕ × ℕ)) → StandsForNode (new_state keys programs first) (new_node keys programs first)
-  pub finds_session : (programs : List Program) (hs : List Held) (ss : List Session) (sid : List ℕ) → StandEach programs hs ss → StandsIf programs (find (has_sid sid) hs) (session_with ss sid)
-  pub finds_for_frame : (programs : List Program) (hs : List Held) (ss : List Session) (f : Frame) → StandEach programs hs ss → StandsIf programs (find (is_held_for f) hs) (session_for ss f)
-  pub after_call : (st : NodeState) (n : Node) (c : Call) → All (IsProgram sha) n.programs → All (IsLive sha n.programs) n.live → IsCallInRange c → StandsForNode st n → StandsForNode (state_after st c (answer sha n c)) (node_after n c (answer sha n c))
+-- A state that represents a node of sound sessions, after a call in range and its answer represents the node after them
+pub record NodeStatesRepresent (sha : Hash) : Type 0 where
+  pub is_new : (keys : Keyring) (programs : List Program) (first : List (List ℕ × ℕ)) → RepresentsNode (new_state keys programs first) (new_node keys programs first)
+  pub finds_session : (programs : List Program) (hs : List Held) (ss : List Session) (sid : List ℕ) → RepresentEach programs hs ss → RepresentsIf programs (find (has_sid sid) hs) (session_with ss sid)
+  pub finds_for_frame : (programs : List Program) (hs : List Held) (ss : List Session) (f : Frame) → RepresentEach programs hs ss → RepresentsIf programs (find (is_held_for f) hs) (session_for ss f)
+  pub after_call : (st : NodeState) (n : Node) (c : Call) → All (IsProgram sha) n.programs → All (IsLive sha n.programs) n.live → IsCallInRange c → RepresentsNode st n → RepresentsNode (state_after st c (answer sha n c)) (node_after n c (answer sha n c))
   -- so does it where some sound session stands behind each thing held, whatever the sessions of the node are
-  pub after_backed : (st : NodeState) (n : Node) (c : Call) → All (IsProgram sha) n.programs → All (IsBackedLive sha n.programs) st.live → IsCallInRange c → StandsForNode st n → StandsForNode (state_after st c (answer sha n c)) (node_after n c (answer sha n c))
+  pub after_backed : (st : NodeState) (n : Node) (c : Call) → All (IsProgram sha) n.programs → All (IsBackedLive sha n.programs) st.live → IsCallInRange c → RepresentsNode st n → RepresentsNode (state_after st c (answer sha n c)) (node_after n c (answer sha n c))
   -- and so for each past whose answers are those of the node
   pub after_past : (st : NodeState) (past : Past) (c : Call) → All (IsProgram sha) past.programs → All (λ c. IsCallInRange c.call) past.calls → AreAnswers sha (new_node past.keys past.programs past.first) past.calls → IsCallInRange c →
-      StandsForPast st past → StandsForPast (state_after st c (answer sha (node_of past) c)) (past_after sha past c)
+      RepresentsPast st past → RepresentsPast (state_after st c (answer sha (node_of past) c)) (past_after sha past c)

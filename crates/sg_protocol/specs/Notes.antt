@@ -10,7 +10,7 @@ use Rattle.sg_protocol.specs.Frame.{Cast, Item, Frame}
 use Rattle.sg_protocol.specs.Reading.{read}
 use Rattle.sg_protocol.specs.Texts.{Hash, session_text_of, commitment_text_of}
 use Rattle.sg_protocol.specs.Keyring.{Keyring, Program, targets_of}
-use Rattle.sg_protocol.specs.Session.{Session, new_session, principal, told}
+use Rattle.sg_protocol.specs.Session.{Session, new_session, principal, transcript}
 use Rattle.sg_protocol.specs.Sending.{text_to, text_of}
 use Rattle.sg_protocol.specs.Checks.{texts_checked}
 use Rattle.sg_protocol.specs.Calls.{Refusal, Call, Answer, Act, Malformed, UnknownGraph, BadCast, UnknownPeer, BadSession, Joined, CacheFull, SessionsFull, UnknownSession, NotWaiting, BadFrameTag, NoSuchView, BadTime, BadEvidence, BadOpening, Start, Abandon, Deliver, Sends, NotStarted}
@@ -103,7 +103,7 @@ notes_of_read sha n (Ok f) =
 -- what is noted of a step that was sent: the text of each tag, and the commitment texts
 abbrev pub notes_of_sent : Keyring → Program → Session → Frame → List Opening → Notes
 notes_of_sent keys p s f written = record {
-  made = option_map_or (λ i. map (λ t. note_of keys.me (principal s.cast t) (text_to p.graph s (told s) i t)) (targets_of p i.label)) (last f.items) []
+  made = option_map_or (λ i. map (λ t. note_of keys.me (principal s.cast t) (text_to p.graph s (transcript s) i t)) (targets_of p i.label)) (last f.items) []
       ++ note_of keys.me (principal s.cast f.receiver) (text_of f) ∷ [];
   found = [];
   hashed = map (commitment_text_of s.sid) written;

@@ -10,7 +10,7 @@ use Rattle.sg_protocol.specs.Acting.{answer}
 use Rattle.sg_protocol.specs.NodeAfter.{node_after}
 
 -- a call and its answer
-pub record Called : Type 0 where
+pub record AnsweredCall : Type 0 where
   pub call : Call
   pub answer : Answer
 
@@ -19,10 +19,10 @@ pub record Past : Type 0 where
   pub keys : Keyring
   pub programs : List Program
   pub first : List (List ℕ × ℕ)
-  pub calls : List Called
+  pub calls : List AnsweredCall
 
 -- the node after these calls
-abbrev pub node_after_all : Node → List Called → Node
+abbrev pub node_after_all : Node → List AnsweredCall → Node
 node_after_all n [] = n
 node_after_all n (c ∷ cs) = node_after_all (node_after n c.call c.answer) cs
 
@@ -39,7 +39,7 @@ abbrev pub past_after : Hash → Past → Call → Past
 past_after sha past call = record past { calls = past.calls ++ record { call = call; answer = answer sha (node_of past) call } ∷ [] }
 
 -- each answer is the one that the node gives
-abbrev pub AreAnswers : Hash → Node → List Called → Type 0
+abbrev pub AreAnswers : Hash → Node → List AnsweredCall → Type 0
 AreAnswers sha n [] = ⊤
 AreAnswers sha n (c ∷ cs) = (c.answer ≡ answer sha n c.call) × AreAnswers sha (node_after n c.call c.answer) cs
 
@@ -63,7 +63,7 @@ is_call_of sha sid (Abandon sid') = bytes_eq sid' sid
 is_call_of sha sid (Deliver bytes) = is_frame_of sid (read bytes)
 
 -- the calls that belong to the session
-abbrev pub calls_of_session : Hash → List ℕ → List Called → List Called
+abbrev pub calls_of_session : Hash → List ℕ → List AnsweredCall → List AnsweredCall
 calls_of_session sha sid calls = filter (λ c. is_call_of sha sid c.call) calls
 
 -- ---- joined once

@@ -11,7 +11,7 @@ use Rattle.sg_protocol.specs.Session.{Session, principal, items_of, commitments}
 use Rattle.sg_protocol.specs.Calls.{Event, sid_of, role_of, does_join, Call, Abandon, Abandoned, events_of_answer}
 use Rattle.sg_protocol.specs.Node.{has_joined}
 use Rattle.sg_protocol.specs.Notes.{no_notes}
-use Rattle.sg_protocol.specs.Past.{Called, Past, joins_once, pairs_differ, new_node, node_of, past_after, AreAnswers, answers}
+use Rattle.sg_protocol.specs.Past.{AnsweredCall, Past, joins_once, pairs_differ, new_node, node_of, past_after, AreAnswers, answers}
 use Rattle.sg_protocol.specs.Schedule.{Schedule, Declared, Step, StartStep, ActStep, AbandonStep, DeliverStep, CraftStep, graph_with, honest_role}
 use Rattle.sg_protocol.specs.World.{Outcome, Logged, World, Answered, frames, past_of, new_world}
 use Rattle.sg_protocol.specs.Run.{world_after, run, events_of_outcome, events_of, cast_of_session}
@@ -217,16 +217,16 @@ NoneTakesTwoRolesOverRestarts sha = (programs : List Program) (s : Schedule) (xs
 -- ---- last steps
 
 -- the call of an entry, with its answer
-abbrev pub answered_call : Option Call → Outcome → Option Called
+abbrev pub answered_call : Option Call → Outcome → Option AnsweredCall
 answered_call (Some c) (Answered a) = Some (record { call = c; answer = a })
 answered_call call outcome = None
 
 -- the entry's call, if it is the principal's
-abbrev pub called_by : Name → Logged → Option Called
+abbrev pub called_by : Name → Logged → Option AnsweredCall
 called_by who l = if option_map_or (bytes_eq who) l.who false then answered_call l.call l.outcome else None
 
 -- the calls of a principal in its whole life, with their answers
-abbrev pub calls_at : Name → List Logged → List Called
+abbrev pub calls_at : Name → List Logged → List AnsweredCall
 calls_at who log = filter_map (called_by who) log
 
 -- the sender of an item, when it had sent it in its life, held these commitments
@@ -237,7 +237,7 @@ HeldInLife w g cast sid i held = (before : List Item) × (i' : Item) × (after :
 -- the frame's items of honest senders are their last steps in the log since the receiver's own last one, and after each of them the receiver, who held the items before, holds the commitments that its sender held
 pub record ShowsLastStepsInLife (s : Schedule) (w : World) (g : Graph) (cast : Cast) (f : Frame) (before : List Item) : Type 0 where
   pub items : map bare (filter (λ i. honest_role s cast i.role) f.items) ≡ map bare (last_of (λ i. i.role) (after_last (λ i. i.role) f.receiver (honest_items f.sid w.log)))
-  pub held : (front : List Item) (i : Item) (rest : List Item) → f.items ≡ front ++ i ∷ rest → honest_role s cast i.role ≡ true → HeldInLife w g cast f.sid i (commitments g (before ++ front ++ i ∷ []))
+  pub held : (prefix : List Item) (i : Item) (rest : List Item) → f.items ≡ prefix ++ i ∷ rest → honest_role s cast i.role ≡ true → HeldInLife w g cast f.sid i (commitments g (before ++ prefix ++ i ∷ []))
 
 -- Where the premises hold of a run with restarts, what a frame shows of honest senders that a step of it accepts is what they last did up to that step, and the receiver holds what they held
 abbrev pub FramesShowLastStepsOverRestarts : Hash → Type 0

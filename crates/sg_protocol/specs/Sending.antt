@@ -10,7 +10,7 @@ use Rattle.sg_protocol.specs.Frame.{Cast, Item, Frame}
 use Rattle.sg_protocol.specs.Spelling.{body}
 use Rattle.sg_protocol.specs.Texts.{Hash, hmac, cut, item_text_of, frame_text_of, commitment}
 use Rattle.sg_protocol.specs.Keyring.{Keyring, key_of, Program, targets_of}
-use Rattle.sg_protocol.specs.Session.{Session, principal, told, time, commitments, opening_in, known}
+use Rattle.sg_protocol.specs.Session.{Session, principal, transcript, time, commitments, opening_in, known}
 
 -- ---- evidence, as a frame carries it
 
@@ -55,7 +55,7 @@ text_to g s before i t = item_text_of s.cast.version s.sid i.role t i.label i.ti
 abbrev pub own_item : Hash → Keyring → Program → Session → ℕ → List Opening → Item
 own_item sha keys p s label written =
     let i = plain_item sha s label written in
-    record i { tags = map (λ t. (t, tag_for sha keys s.cast t (text_to p.graph s (told s) i t))) (targets_of p label) }
+    record i { tags = map (λ t. (t, tag_for sha keys s.cast t (text_to p.graph s (transcript s) i t))) (targets_of p label) }
 
 -- ---- the frame
 
@@ -72,8 +72,8 @@ plain_frame p s i written =
       sid = s.sid;
       sender = s.role;
       receiver = to;
-      join = if has (λ j. j.role) to (told s) then None else Some s.cast;
-      items = shown_to p.graph to (told s ++ i ∷ []);
+      join = if has (λ j. j.role) to (transcript s) then None else Some s.cast;
+      items = shown_to p.graph to (transcript s ++ i ∷ []);
       openings = filter_map (opening_of s written) (reads p.graph i.label);
       tag = [];
     }

@@ -33,7 +33,7 @@ extended s e = record s { exchanges = s.exchanges ++ e ∷ [] }
 abbrev pub principal : Cast → ℕ → Name
 principal c r = get_or c.names r []
 
--- ---- what it was told
+-- ---- its transcript
 
 -- the items of an exchange
 abbrev pub items_of : Exchange → List Item
@@ -45,13 +45,13 @@ abbrev pub openings_of : Exchange → List Opening
 openings_of (Took f) = f.openings
 openings_of (Gave i os) = os
 
--- all items that the role was told or sent, in order
-abbrev pub told : Session → List Item
-told s = flat_map items_of s.exchanges
+-- the transcript: all items that the role received or sent, in order
+abbrev pub transcript : Session → List Item
+transcript s = flat_map items_of s.exchanges
 
--- the told items up to the role's own last one
-abbrev pub own : Session → List Item
-own s = up_to_last (λ i. i.role) s.role (told s)
+-- the own part: the transcript up to the role's own last item
+abbrev pub own_part : Session → List Item
+own_part s = up_to_last (λ i. i.role) s.role (transcript s)
 
 -- the label of the last item
 abbrev pub last_label : List Item → Option ℕ
@@ -63,19 +63,19 @@ last_time items = unwrap_or (option_map (λ i. i.time) (last items)) 0
 
 -- the role's own last label, or None at the start
 abbrev pub origin : Session → Option ℕ
-origin s = last_label (own s)
+origin s = last_label (own_part s)
 
 -- the time of the role's own last item
 abbrev pub own_time : Session → ℕ
-own_time s = last_time (own s)
+own_time s = last_time (own_part s)
 
--- the time of the last item that was told
+-- the time of the transcript's last item
 abbrev pub time : Session → ℕ
-time s = last_time (told s)
+time s = last_time (transcript s)
 
 -- the node to which the last item led, or the start
 abbrev pub place : Graph → Session → ℕ
-place g s = unwrap_or (option_map (target (shape g)) (last_label (told s))) 0
+place g s = unwrap_or (option_map (target (shape g)) (last_label (transcript s))) 0
 
 -- the role has the turn at the place
 abbrev pub at_turn : Graph → Session → Bool

@@ -7,7 +7,7 @@
 //! Reading order, shortest way first. What the headline says: `Graph`, `Targets`, `Knowledge`, `Evidence`, `Accepted`, `Frame`,
 //! `Spelling`, `Reading`, `Texts`, `Keyring`, `Session`, `Sending`, `Checks`, `Calls`, `Node`, `Verdict`, `Acting`, `NodeAfter`,
 //! `Past`, `Notes`, `Schedule`, `World`, `Crafted`, `Run`, `Premises`, `Walk`, `IsSchedule`, `Headline`. What code keeps and may
-//! rely on: `Kept`, `Standing`, `Following`, `Live`, `Backed`, `NodeStates`, `Ranges`. What a replay tells: `Grown`, `Steps`,
+//! rely on: `Kept`, `Representation`, `Following`, `Live`, `Reachable`, `NodeStates`, `Ranges`. What a replay tells: `Grown`, `Steps`,
 //! `Broken`, `Turn`, `Told`. What else holds: `Isolation`, `Receipts`, `LastSteps`, `Completeness`, `GoesOn`, `Claims`, `Restarts`. Examples
 //! are computed in `proofs/Example*.antt`; of the proofs read `proofs/Whole.antt` first, which puts the headline together.
 #![tactic(auto)]
@@ -22,12 +22,12 @@ ghost use Rattle.sg_protocol.specs.TextLaws.{OneCast, OneOpening, OneItem, OneTe
 ghost use Rattle.sg_protocol.specs.Bounds.{ShownOnce, ShownAreFew, FramesAreShort, SentAreShort, RunsSendShort};
 ghost use Rattle.sg_protocol.specs.Ranges.{SessionsStayInRange, NodesStayInRange};
 ghost use Rattle.sg_protocol.specs.Live.{SessionsAreSound, NodesAreSound};
-ghost use Rattle.sg_protocol.specs.NodeStates.{NodeStatesStand};
-ghost use Rattle.sg_protocol.specs.Backed.{StatesAreBacked};
+ghost use Rattle.sg_protocol.specs.NodeStates.{NodeStatesRepresent};
+ghost use Rattle.sg_protocol.specs.Reachable.{StatesAreReachable};
 ghost use Rattle.sg_protocol.specs.Enough.{KeptIsEnough, OwnItemIsLast};
 ghost use Rattle.sg_protocol.specs.Returns.{TablesShowReturns};
 ghost use Rattle.sg_protocol.specs.Following.{KeptFollowsWalks};
-ghost use Rattle.sg_protocol.specs.Standing.{StatesStand};
+ghost use Rattle.sg_protocol.specs.Representation.{StatesRepresent};
 ghost use Rattle.sg_protocol.specs.Headline.{Headline, SessionsFollowWalks, NoneJoinsTwice, NodesJoinOnce, SessionsHaveOneCast, NoneTakesTwoRoles};
 ghost use Rattle.sg_protocol.specs.Grown.{WalksAreGrown, FramesShowViews};
 ghost use Rattle.sg_protocol.specs.Isolation.{SessionsAreIsolated, AnswersAreOfSessions, CallsKeepAlike, CallsLeaveOthers};
@@ -89,13 +89,13 @@ pub fn kept_follows()
     ensures { (sha : List ℕ → List ℕ) → KeptFollowsWalks sha }
 {}
 
-/// What a role holds stands for each session of which it keeps the same. A new state stands for a new session, which begins
-/// where its role starts the graph, and otherwise waits. At its turn in an accepted graph it stands, after a step of its own along an
-/// edge from its place, for each such session with the step, and waits. Where all that was told is up to its own last item, it
-/// stands, under the program of its role and after a frame on which no row holds, for each such session with the frame, at its
+/// What a role holds represents each session of which it keeps the same. A new state represents a new session, which begins
+/// where its role starts the graph, and otherwise waits. At its turn in an accepted graph it represents, after a step of its own
+/// along an edge from its place, each such session with the step, and waits. Where all that was told is up to its own last item, it
+/// represents, under the program of its role and after a frame on which no row holds, each such session with the frame, at its
 /// turn. The kept items afterwards are what is kept of the kept and the new ones.
-pub fn states_stand()
-    ensures { (sha : List ℕ → List ℕ) → StatesStand sha }
+pub fn states_represent()
+    ensures { (sha : List ℕ → List ℕ) → StatesRepresent sha }
 {}
 
 /// The frame that a step sends to another role ends with the step's own item, with a tag for each of its targets: where
@@ -143,21 +143,21 @@ pub fn live_are_sound()
     ensures at_nodes { (sha : List ℕ → List ℕ) → IsHash sha → NodesAreSound sha }
 {}
 
-/// A state of a role keeps its invariant: some sound session, for which it stands, is behind it. So has a new state of a
-/// program and a cast in range, and so has what is held after a step or a frame on which no row holds, in any session for
-/// which the state stands: with values in range, and with a frame of the cast's version that was read. By it what a state
+/// A state of a role keeps its invariant: it is reachable, as it represents some sound session. So has a new state of a
+/// program and a cast in range, and so has what is held after a step or a frame on which no row holds, in any session that
+/// the state represents: with values in range, and with a frame of the cast's version that was read. By it what a state
 /// keeps follows a walk, and at a turn what an edge from the kept place reads is written by the edge or has a kept opening,
 /// whose commitment is the current one.
-pub fn states_are_backed()
-    ensures { (sha : List ℕ → List ℕ) → IsHash sha → StatesAreBacked sha }
+pub fn states_are_reachable()
+    ensures { (sha : List ℕ → List ℕ) → IsHash sha → StatesAreReachable sha }
 {}
 
-/// A node's state stands for each past of which it has the keys, the programs and the joins, and of whose live sessions it
-/// holds what their roles keep. A new state stands for the past without calls. After a call in range with the node's answer
-/// it stands for the past with this call, where its programs are programs, and the past's calls were in range and answered as
+/// A node's state represents each past of which it has the keys, the programs and the joins, and of whose live sessions it
+/// holds what their roles keep. A new state represents the past without calls. After a call in range with the node's answer
+/// it represents the past with this call, where its programs are programs, and the past's calls were in range and answered as
 /// the node answers.
-pub fn node_states_stand()
-    ensures { (sha : List ℕ → List ℕ) → IsHash sha → NodeStatesStand sha }
+pub fn node_states_represent()
+    ensures { (sha : List ℕ → List ℕ) → IsHash sha → NodeStatesRepresent sha }
 {}
 
 /// A program's table has a view from a label that its role sends, which keeps a waiting session live, exactly where some

@@ -2,22 +2,22 @@
 use Rattle.std.proofs.Common.{◌≡◌, ℕ, zero, suc, ◌<◌, ◌≤◌, true, List, [], ◌∷◌, refl, sym, subst, inl, inr, arith}
 use Rattle.std.specs.Prelude.{Option, Some, None, is_some, option_map}
 use Rattle.sg_model.specs.Shape.{Shape, source, target}
-use Rattle.sg_reach.specs.Found.{found_at, IsFound, edges_to, IsFoundBy, AreWalks, IsSearch}
+use Rattle.sg_reach.specs.WalkEnd.{found_at, IsFound, edges_to, IsFoundBy, AreWalks, IsSearch}
 use Rattle.sg_reach.specs.Reaches.{LeadsPast, Reaches}
-use Rattle.sg_reach.specs.declared.search.Found.{Found}
+use Rattle.sg_reach.specs.declared.search.WalkEnd.{WalkEnd}
 use Rattle.sg_reach.specs.declared.search.Search.{Search}
 use Rattle.sg_reach.proofs.Leads.{leads_nowhere, leads_by, first_free, first_off}
 
 -- how a node was found to which a walk has some edges
-pub found_with : (found : List (Option Found)) (n k : ℕ) → edges_to found n ≡ Some k → (f : Found) × (found_at found n ≡ Some f) × (f.edges ≡ k)
+pub found_with : (found : List (Option WalkEnd)) (n k : ℕ) → edges_to found n ≡ Some k → (f : WalkEnd) × (found_at found n ≡ Some f) × (f.edges ≡ k)
 found_with found n k h = of (found_at found n) refl h
   where
-    of : (o : Option Found) → found_at found n ≡ o → option_map (λ (f : Found). f.edges) o ≡ Some k → (f : Found) × (found_at found n ≡ Some f) × (f.edges ≡ k)
+    of : (o : Option WalkEnd) → found_at found n ≡ o → option_map (λ (f : WalkEnd). f.edges) o ≡ Some k → (f : WalkEnd) × (found_at found n ≡ Some f) × (f.edges ≡ k)
     of (Some f) is h = (f, is, cc)
     of None is h = absurd (cc)
 
 -- what leads on from a node that was found leads on from the beginning too
-pub leads_from : (g : Shape) (m : ℕ) (past : List ℕ) (found : List (Option Found)) (t k n last : ℕ) (es : List ℕ) → AreWalks g m past found → IsFoundBy g m past found n k last → LeadsPast g n past t es → Reaches g m past t
+pub leads_from : (g : Shape) (m : ℕ) (past : List ℕ) (found : List (Option WalkEnd)) (t k n last : ℕ) (es : List ℕ) → AreWalks g m past found → IsFoundBy g m past found n k last → LeadsPast g n past t es → Reaches g m past t
 leads_from g m past found t zero n last es walks by x = (es, subst (λ j. LeadsPast g j past t es) by x)
 leads_from g m past found t (suc k) n last es walks by x =
     let before = found_with found (source g last) k by.3 in
@@ -31,7 +31,7 @@ leads_from g m past found t (suc k) n last es walks by x =
 pub is_reached : (g : Shape) (left : ℕ → Type 0) (s : Search) (n : ℕ) → IsSearch g left s → IsFound s.found n → Reaches g s.from s.past n
 is_reached g left s n x f = of (found_at s.found n) refl f
   where
-    of : (o : Option Found) → found_at s.found n ≡ o → is_some o ≡ true → Reaches g s.from s.past n
+    of : (o : Option WalkEnd) → found_at s.found n ≡ o → is_some o ≡ true → Reaches g s.from s.past n
     of (Some w) is h = leads_from g s.from s.past s.found n w.edges n w.last [] x.walks (x.walks n w is) (leads_nowhere g n s.past)
     of None is h = absurd (cc)
 
@@ -46,7 +46,7 @@ found_at_end g s m n (e ∷ es) x over f w =
     ]
 
 -- the last edge of a walk that has one
-pub last_edge : (g : Shape) (m : ℕ) (past : List ℕ) (found : List (Option Found)) (n : ℕ) (f : Found) → AreWalks g m past found → found_at found n ≡ Some f → 0 < f.edges
+pub last_edge : (g : Shape) (m : ℕ) (past : List ℕ) (found : List (Option WalkEnd)) (n : ℕ) (f : WalkEnd) → AreWalks g m past found → found_at found n ≡ Some f → 0 < f.edges
     → (k : ℕ) × (f.edges ≡ suc k) × IsFoundBy g m past found n (suc k) f.last
 last_edge g m past found n f walks is some = of f.edges refl some (walks n f is)
   where
@@ -55,7 +55,7 @@ last_edge g m past found n f walks is some = of f.edges refl some (walks n f is)
     of (suc k) same h by = (k, same, by)
 
 -- a walk without edges stays at m
-pub no_edge : (g : Shape) (m : ℕ) (past : List ℕ) (found : List (Option Found)) (n : ℕ) (f : Found) → AreWalks g m past found → found_at found n ≡ Some f → f.edges ≤ 0 → n ≡ m
+pub no_edge : (g : Shape) (m : ℕ) (past : List ℕ) (found : List (Option WalkEnd)) (n : ℕ) (f : WalkEnd) → AreWalks g m past found → found_at found n ≡ Some f → f.edges ≤ 0 → n ≡ m
 no_edge g m past found n f walks is none = of f.edges none (walks n f is)
   where
     of : (e : ℕ) → e ≤ 0 → IsFoundBy g m past found n e f.last → n ≡ m

@@ -8,23 +8,23 @@ use Rattle.std.proofs.lemmas.List.{get_or-set_same, get_or-set_other, get_or-rep
 use Rattle.sg_model.specs.Lists.{is_in}
 use Rattle.sg_model.specs.Shape.{Shape, source, target, sender, role_at}
 use Rattle.sg_model.proofs.Small.{same_or_not}
-use Rattle.sg_reach.specs.Found.{found_at, IsFound, edges_to, IsFoundBy, Waits, IsSearch}
-use Rattle.sg_reach.specs.declared.search.Found.{Found}
+use Rattle.sg_reach.specs.WalkEnd.{found_at, IsFound, edges_to, IsFoundBy, Waits, IsSearch}
+use Rattle.sg_reach.specs.declared.search.WalkEnd.{WalkEnd}
 use Rattle.sg_reach.specs.declared.search.Search.{Search}
 use Rattle.sg_reach.proofs.Cases.{less_or}
 
--- what a place of a list counts
+-- what an index of a list counts
 abbrev one_if_there : {A : Type 0} → Option A → ℕ
 one_if_there o = cond (is_some o) 1 0
 
--- one more is there where an entry is put in a place that had none
+-- one more is there where an entry is put in an index that had none
 pub count-set : {A : Type 0} (xs : List (Option A)) (i : ℕ) (x : A) → i < length xs → get_or xs i None ≡ None → count_by is_some (set xs i (Some x)) ≡ suc (count_by is_some xs)
 count-set {A} xs i x h n =
     let e : sum_by (one_if_there {A = A}) (set xs i (Some x)) + one_if_there (get_or xs i None) ≡ sum_by one_if_there xs + 1 = sum_by-set one_if_there xs i (Some x) None h in
     let e' : sum_by (one_if_there {A = A}) (set xs i (Some x)) + 0 ≡ sum_by one_if_there xs + 1 = rw n at e in
     omega arith
 
--- not all places are taken where one is free
+-- not all indices are taken where one is free
 pub count_free : {A : Type 0} (xs : List (Option A)) (i : ℕ) (x : A) → i < length xs → get_or xs i None ≡ None → count_by is_some xs < length xs
 count_free xs i x h n =
     let more = count-set xs i x h n in
@@ -49,15 +49,15 @@ get_or-none size i none same =
     ]
 
 -- a node that is entered is found by its walk
-pub found_here : (found : List (Option Found)) (n : ℕ) (w : Found) → n < length found → found_at (set found n (Some w)) n ≡ Some w
+pub found_here : (found : List (Option WalkEnd)) (n : ℕ) (w : WalkEnd) → n < length found → found_at (set found n (Some w)) n ≡ Some w
 found_here found n w h = get_or-set_same found n (Some w) None h
 
 -- another node stays as it was
-pub found_other : (found : List (Option Found)) (n k : ℕ) (w : Found) → k ≢ n → found_at (set found n (Some w)) k ≡ found_at found k
+pub found_other : (found : List (Option WalkEnd)) (n k : ℕ) (w : WalkEnd) → k ≢ n → found_at (set found n (Some w)) k ≡ found_at found k
 found_other found n k w d = get_or-set_other found n k (Some w) None d
 
 -- what was found stays found
-pub found_still : (found : List (Option Found)) (n k : ℕ) (w : Found) → n < length found → IsFound found k → IsFound (set found n (Some w)) k
+pub found_still : (found : List (Option WalkEnd)) (n k : ℕ) (w : WalkEnd) → n < length found → IsFound found k → IsFound (set found n (Some w)) k
 found_still found n k w h f =
     elim (same_or_not k n) [
       | inl s ↦ rw (s, found_here found n w h) refl
@@ -65,21 +65,21 @@ found_still found n k w h f =
     ]
 
 -- a node that was found and one that wasn't differ
-pub found_differs : (found : List (Option Found)) (n k : ℕ) → found_at found n ≡ None → IsFound found k → k ≢ n
+pub found_differs : (found : List (Option WalkEnd)) (n k : ℕ) → found_at found n ≡ None → IsFound found k → k ≢ n
 found_differs found n k none f same =
     let e : is_some (found_at found n) ≡ true = subst (λ x. IsFound found x) same f in
     let e' : false ≡ true = rw none at e in absurd (cc)
 
 -- a node to which a walk has some edges was found
-pub found_of_edges : (found : List (Option Found)) (n k : ℕ) → edges_to found n ≡ Some k → IsFound found n
+pub found_of_edges : (found : List (Option WalkEnd)) (n k : ℕ) → edges_to found n ≡ Some k → IsFound found n
 found_of_edges found n k h = of (found_at found n) h
   where
-    of : (o : Option Found) → option_map (λ (f : Found). f.edges) o ≡ Some k → is_some o ≡ true
+    of : (o : Option WalkEnd) → option_map (λ (f : WalkEnd). f.edges) o ≡ Some k → is_some o ≡ true
     of (Some f) h = refl
     of None h = absurd (cc)
 
 -- a walk stays one when another node is entered
-pub walk_still : (g : Shape) (m : ℕ) (past : List ℕ) (found : List (Option Found)) (n : ℕ) (w : Found) (k edges last : ℕ) → found_at found n ≡ None → IsFoundBy g m past found k edges last → IsFoundBy g m past (set found n (Some w)) k edges last
+pub walk_still : (g : Shape) (m : ℕ) (past : List ℕ) (found : List (Option WalkEnd)) (n : ℕ) (w : WalkEnd) (k edges last : ℕ) → found_at found n ≡ None → IsFoundBy g m past found k edges last → IsFoundBy g m past (set found n (Some w)) k edges last
 walk_still g m past found n w k zero last none x = x
 walk_still g m past found n w k (suc i) last none x =
     (x.0, x.1, x.2, rw (found_other found n (source g last) w (found_differs found n (source g last) none (found_of_edges found (source g last) i x.3))) (x.3))
@@ -121,7 +121,7 @@ taken g s at x h next = record {
         ]
 
 -- a node that wasn't found is entered by an edge
-pub entered : (g : Shape) (left left' : ℕ → Type 0) (s : Search) (n k : ℕ) (w : Found) (count : ℕ) → IsSearch g left s → found_at s.found n ≡ None → n < length g.roles → n < 256
+pub entered : (g : Shape) (left left' : ℕ → Type 0) (s : Search) (n k : ℕ) (w : WalkEnd) (count : ℕ) → IsSearch g left s → found_at s.found n ≡ None → n < length g.roles → n < 256
     → w.edges ≡ suc k → w.last < length g.edges → target g w.last ≡ n → is_in (sender g w.last) s.past ≡ false → edges_to s.found (source g w.last) ≡ Some k → count ≡ s.count + 1
     → ((e : ℕ) → e < length g.edges → left e → (e ≡ w.last) ⊎ left' e)
     → IsSearch g left' (record s { found = set s.found n (Some w); queue = set s.queue s.count n; count = count })
@@ -134,7 +134,7 @@ entered g left left' s n k w count x none role small edges there to free before 
   ];
   short = λ i f h. elim (same_or_not i n) [
     | inl same ↦ (let e : Some w ≡ Some f = sym (found_here s.found n w fits) ∙ subst (λ j. found_at (set s.found n (Some w)) j ≡ Some f) same h in
-        let e' : w ≡ f = cc in let e'' : w.edges ≡ f.edges = ap (λ (v : Found). v.edges) e' in omega (arith, shorter (found_at s.found (source g w.last)) refl before))
+        let e' : w ≡ f = cc in let e'' : w.edges ≡ f.edges = ap (λ (v : WalkEnd). v.edges) e' in omega (arith, shorter (found_at s.found (source g w.last)) refl before))
     | inr d ↦ omega (arith, x.short i f (sym (found_other s.found n i w d) ∙ h))
   ];
   queued = λ i h. elim (same_or_not i s.count) [
@@ -165,38 +165,38 @@ entered g left left' s n k w count x none role small edges there to free before 
     fits : n < length s.found
     fits = omega (arith, x.sizes.0)
 
-    free_places : count_by is_some s.found < length s.found
-    free_places = count_free s.found n w fits none
+    free_indices : count_by is_some s.found < length s.found
+    free_indices = count_free s.found n w fits none
 
     room : s.count < length s.queue
-    room = omega (arith, x.sizes.0, x.sizes.1, x.counted, free_places)
+    room = omega (arith, x.sizes.0, x.sizes.1, x.counted, free_indices)
 
     apart : (i : ℕ) → i < s.count → i ≢ s.count
     apart i l = omega arith
 
-    shorter : (o : Option Found) → found_at s.found (source g w.last) ≡ o → option_map (λ (f : Found). f.edges) o ≡ Some k → k < s.count
+    shorter : (o : Option WalkEnd) → found_at s.found (source g w.last) ≡ o → option_map (λ (f : WalkEnd). f.edges) o ≡ Some k → k < s.count
     shorter (Some f) is h = (let e : f.edges ≡ k = cc in omega (arith, x.short (source g w.last) f is, e))
     shorter None is h = absurd (cc)
 
-    new : (i : ℕ) (f : Found) → i ≡ n → found_at (set s.found n (Some w)) i ≡ Some f → IsFoundBy g s.from s.past (set s.found n (Some w)) i f.edges f.last
+    new : (i : ℕ) (f : WalkEnd) → i ≡ n → found_at (set s.found n (Some w)) i ≡ Some f → IsFoundBy g s.from s.past (set s.found n (Some w)) i f.edges f.last
     new i f same h =
         let e : Some w ≡ Some f = sym (found_here s.found n w fits) ∙ subst (λ j. found_at (set s.found n (Some w)) j ≡ Some f) same h in
         let e' : w ≡ f = cc in
         let old : IsFoundBy g s.from s.past s.found n (suc k) w.last = (there, to, free, before) in
         let now : IsFoundBy g s.from s.past (set s.found n (Some w)) n (suc k) w.last = walk_still g s.from s.past s.found n w n (suc k) w.last none old in
         let now' : IsFoundBy g s.from s.past (set s.found n (Some w)) n w.edges w.last = subst (λ j. IsFoundBy g s.from s.past (set s.found n (Some w)) n j w.last) (sym edges) now in
-        let now'' : IsFoundBy g s.from s.past (set s.found n (Some w)) n f.edges f.last = subst (λ (v : Found). IsFoundBy g s.from s.past (set s.found n (Some w)) n v.edges v.last) e' now' in
+        let now'' : IsFoundBy g s.from s.past (set s.found n (Some w)) n f.edges f.last = subst (λ (v : WalkEnd). IsFoundBy g s.from s.past (set s.found n (Some w)) n v.edges v.last) e' now' in
         subst (λ j. IsFoundBy g s.from s.past (set s.found n (Some w)) j f.edges f.last) (sym same) now''
 
 -- a search begins with one node, which waits
-pub begins : (g : Shape) (s : Search) (at : ℕ) (blank : List (Option Found)) (first : Found) → at ≡ s.from → length blank ≡ 256 → ((i : ℕ) → get_or blank i None ≡ None) → first.edges ≡ 0
+pub begins : (g : Shape) (s : Search) (at : ℕ) (blank : List (Option WalkEnd)) (first : WalkEnd) → at ≡ s.from → length blank ≡ 256 → ((i : ℕ) → get_or blank i None ≡ None) → first.edges ≡ 0
     → s.found ≡ set blank at (Some first) → s.queue ≡ replicate 256 s.from → s.count ≡ 1 → s.at ≡ 0 → s.from < 256 → s.from < length g.roles → IsSearch g (λ _. ⊥) s
 begins g s at blank first begun size empty short found' queue count at' small role = record {
   sizes = (ap length found ∙ length-set blank s.from (Some first) ∙ size, ap length queue ∙ length-replicate 256 s.from);
   begun = rw (here s.from refl) refl;
-  walks = λ n f h. (let alone = only n f h in subst (λ (v : Found). IsFoundBy g s.from s.past s.found n v.edges v.last) alone.1
+  walks = λ n f h. (let alone = only n f h in subst (λ (v : WalkEnd). IsFoundBy g s.from s.past s.found n v.edges v.last) alone.1
       (subst (λ k. IsFoundBy g s.from s.past s.found n k first.last) (sym short) alone.0));
-  short = λ n f h. (let alone = only n f h in let none : f.edges ≡ 0 = sym (ap (λ (v : Found). v.edges) alone.1) ∙ short in omega (arith, count, none));
+  short = λ n f h. (let alone = only n f h in let none : f.edges ≡ 0 = sym (ap (λ (v : WalkEnd). v.edges) alone.1) ∙ short in omega (arith, count, none));
   queued = λ i h. rw (waiting i h) (rw (here s.from refl) refl);
   there = λ i h. rw (waiting i h) role;
   counted = rw found (omega (arith, count, count-set blank s.from first room (empty s.from), count-none blank empty));
@@ -216,19 +216,19 @@ begins g s at blank first begun size empty short found' queue count at' small ro
     here : (n : ℕ) → n ≡ s.from → found_at s.found n ≡ Some first
     here n same = rw (found, same) (get_or-set_same blank s.from (Some first) None room)
 
-    only : (n : ℕ) (f : Found) → found_at s.found n ≡ Some f → (n ≡ s.from) × (first ≡ f)
+    only : (n : ℕ) (f : WalkEnd) → found_at s.found n ≡ Some f → (n ≡ s.from) × (first ≡ f)
     only n f h =
         elim (same_or_not n s.from) [
           | inl same ↦ (same, (let e : Some first ≡ Some f = sym (here n same) ∙ h in cc))
           | inr d ↦ (let e : None ≡ Some f = sym (empty n) ∙ sym (get_or-set_other blank s.from n (Some first) None d) ∙ (rw found at h) in absurd (cc))
         ]
 
-    from : (e : ℕ) (p : Option Found) → found_at s.found (source g e) ≡ p → is_some p ≡ true → source g e ≡ s.from
+    from : (e : ℕ) (p : Option WalkEnd) → found_at s.found (source g e) ≡ p → is_some p ≡ true → source g e ≡ s.from
     from e (Some f) is h = (only (source g e) f is).0
     from e None is h = absurd (cc)
 
 -- one more edge that leaves a node is followed
-pub followed : (g : Shape) (s s' : Search) (n l t k : ℕ) (w : Found) (left left' : ℕ → Type 0) → IsSearch g left s → l < length g.edges → source g l ≡ n → target g l ≡ t → t < length g.roles → t < 256
+pub followed : (g : Shape) (s s' : Search) (n l t k : ℕ) (w : WalkEnd) (left left' : ℕ → Type 0) → IsSearch g left s → l < length g.edges → source g l ≡ n → target g l ≡ t → t < length g.roles → t < 256
     → is_in (role_at g n) s.past ≡ false → edges_to s.found n ≡ Some k → w.edges ≡ suc k → w.last ≡ l → ((e : ℕ) → left e → (e ≡ l) ⊎ left' e)
     → (IsFound s.found t → s' ≡ s) → (found_at s.found t ≡ None → s' ≡ record s { found = set s.found t (Some w); queue = set s.queue s.count t; count = s.count + 1 })
     → IsSearch g left' s' × (edges_to s'.found n ≡ Some k) × (s'.from ≡ s.from) × (s'.past ≡ s.past) × (s'.at ≡ s.at)
@@ -237,7 +237,7 @@ followed g s s' n l t k w left left' x there leaves to role small free before ed
     Good : Search → Type 0
     Good v = IsSearch g left' v × (edges_to v.found n ≡ Some k) × (v.from ≡ s.from) × (v.past ≡ s.past) × (v.at ≡ s.at)
 
-    by : (p : Option Found) → found_at s.found t ≡ p → Good s'
+    by : (p : Option WalkEnd) → found_at s.found t ≡ p → Good s'
     by (Some f) is =
         let f : IsFound s.found t = rw is refl in
         let same : IsSearch g left' s = search_with g left left' s x (λ e h p y. elim (rest e y) [ inl same ↦ inl (rw (same, to) f) | inr z ↦ inr z ]) in

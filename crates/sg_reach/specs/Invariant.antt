@@ -1,7 +1,7 @@
 -- What a closure keeps true.
 use Rattle.std.specs.Prelude.{◌<◌, ◌≤◌, length}
 use Rattle.sg_protocol.specs.Graph.{IsGraph, shape}
-use Rattle.sg_reach.specs.Found.{IsSearch}
+use Rattle.sg_reach.specs.WalkEnd.{IsSearch}
 use Rattle.sg_reach.specs.declared.reach.Reach.TheInside.{Inside as Reach}
 
 -- a search that has no node left to follow

@@ -1,4 +1,4 @@
-pub mod Found
+pub mod WalkEnd
 pub mod Model
 pub mod Invariant
 pub mod Reaches

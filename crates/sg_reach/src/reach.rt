@@ -3,10 +3,10 @@ ghost use Rattle.std.specs.Prelude.{◌≡◌, ◌<◌, ◌≤◌, ◌↔◌, fa
 ghost use Rattle.sg_model.specs.Lists.{is_in};
 ghost use Rattle.sg_model.specs.Shape.{role_at, source};
 ghost use Rattle.sg_protocol.specs.Graph.{IsGraph, shape};
-ghost use Rattle.sg_reach.specs.Found.{IsFound, IsSearch};
+ghost use Rattle.sg_reach.specs.WalkEnd.{IsFound, IsSearch};
 ghost use Rattle.sg_reach.specs.Reaches.{IsFirstOf, IsWithin, LeadsPast};
 
-use crate::search::{Found, Search};
+use crate::search::{Search, WalkEnd};
 use sg_base::{Label, NodeId, OutOfMemory, Role, RoleSet};
 use sg_graph::Graph;
 use std::alloc::Global;
@@ -135,7 +135,7 @@ fn follow(graph: &Graph, node: NodeId, search: &mut Search)
     };
     let edges = found.edges + 1;
     for label in graph.edges_from(node) {
-        let walk = Found {
+        let walk = WalkEnd {
             edges,
             last: *label,
         };

@@ -5,7 +5,7 @@ use sg_base::{Label, NodeId, RoleSet};
 
 /// A walk to a node: the number of its edges, and its last label, which means nothing where it has none.
 #[derive(Debug, Clone, Copy)]
-pub struct Found {
+pub struct WalkEnd {
     pub edges: u16,
     pub last: Label,
 }
@@ -16,7 +16,7 @@ pub struct Found {
 pub struct Search {
     pub from: NodeId,
     pub past: RoleSet,
-    pub found: [Option<Found>; 256],
+    pub found: [Option<WalkEnd>; 256],
     pub queue: [NodeId; 256],
     pub count: usize,
     pub at: usize,
@@ -24,7 +24,7 @@ pub struct Search {
 
 impl Search {
     ghost use Rattle.sg_model.specs.Shape.{Shape};
-    ghost use Rattle.sg_reach.specs.Found.{found_at, IsFound, IsSearch};
+    ghost use Rattle.sg_reach.specs.WalkEnd.{found_at, IsFound, IsSearch};
 
     /// The search that has found one node, which waits.
     pub fn new(from: NodeId, past: RoleSet) -> Search
@@ -35,7 +35,7 @@ impl Search {
         ensures at { result.at ≡ 0 }
     {
         let mut found = nowhere();
-        found[from.0 as usize] = Some(Found {
+        found[from.0 as usize] = Some(WalkEnd {
             edges: 0,
             last: Label(0),
         });
@@ -50,7 +50,7 @@ impl Search {
     }
 
     /// Enters a node with the walk to it, if it wasn't found yet.
-    pub fn enter(&mut self, node: NodeId, walk: Found)
+    pub fn enter(&mut self, node: NodeId, walk: WalkEnd)
         requires there { node < 256 }
         requires room { found_at self.old.found node ≡ None → self.old.count < 256 }
         ensures known { IsFound self.old.found node → self.new ≡ self.old }
@@ -65,7 +65,7 @@ impl Search {
 }
 
 // No node was found.
-fn nowhere() -> [Option<Found>; 256]
+fn nowhere() -> [Option<WalkEnd>; 256]
     ensures size { length result ≡ 256 }
     ensures none { (n : ℕ) → get_or result n None ≡ None }
 {

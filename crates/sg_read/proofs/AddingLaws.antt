@@ -12,13 +12,13 @@ use Rattle.sg_protocol.specs.Schedule.{Step, StartStep, ActStep, AbandonStep, De
 use Rattle.sg_sched.specs.Pair.{edge, labels}
 use Rattle.sg_sched.specs.Format.Said.{Word, Given, Delivered, SaidEdge, SaidHonest, SaidKey, SaidSession, SaidStart, SaidAct, SaidAbandon, SaidDeliver}
 use Rattle.sg_sched.specs.Format.Values.{bytes_of}
-use Rattle.sg_sched.specs.Format.Items.{Item, EdgeItem, HonestItem, KeyItem, SessionItem, StepItem, SoFar, graphs_of_past, graph_names, session_names, place, graph_for, labels_of, is_key_of}
+use Rattle.sg_sched.specs.Format.Items.{Item, EdgeItem, HonestItem, KeyItem, SessionItem, StepItem, SoFar, graphs_of_past, graph_names, session_names, index, graph_for, labels_of, is_key_of}
 use Rattle.sg_sched.specs.Format.Made.{values, what_of}
 use Rattle.sg_sched.specs.Format.Kinds.{Form, TooManySteps, TooManySessions, Unknown, Twice, NotHonest}
 use Rattle.sg_sched.specs.Format.Faults.{where', fits_graph, is_like, knows_variable}
 use Rattle.sg_read.specs.Plus.{plus}
 use Rattle.sg_read.specs.Adding.{Added, added, after_line, add_edge, add_honest, add_key, add_session, session_at, fits_at, add_step, start_step, abandon_step, act_step, act_of, known_values, is_twice}
-use Rattle.sg_read.proofs.Places.{known_place, then_place, or_place}
+use Rattle.sg_read.proofs.Indices.{known_index, then_index, or_index}
 
 -- ---- declarations
 
@@ -64,21 +64,21 @@ session_tests past false true false true false true item = refl
 session_tests past false true false true false false item = refl
 
 fits_is : (past : SoFar) (graph : Name) (names : List Name) → fits_at past (position (bytes_eq graph) (graph_names (graphs_of_past past))) names ≡ fits_graph past graph names
-fits_is past graph names = ap (λ o. option_map_or (λ g. length names == length g.roles) o true) (then_place (slice_get (graphs_of_past past)) graph (graph_names (graphs_of_past past)))
+fits_is past graph names = ap (λ o. option_map_or (λ g. length names == length g.roles) o true) (then_index (slice_get (graphs_of_past past)) graph (graph_names (graphs_of_past past)))
 
 pub session_added : (past : SoFar) (name graph : Name) (nonce : ℕ) (names : List Name) (version : ℕ)
     → add_session past name graph nonce names version ≡ after_line past (SaidSession name graph nonce names version)
 unfolding add_session after_line
 session_added past name graph nonce names version =
     let gs = graph_names (graphs_of_past past) in
-    let one : ℕ → Added = λ place.
+    let one : ℕ → Added = λ index.
     if has_text name (session_names past) then Err Twice
-    else if list_any (is_like place nonce names version) past.sessions then Err Twice
-    else Ok (plus past (SessionItem (session_at name nonce names version place))) in
+    else if list_any (is_like index nonce names version) past.sessions then Err Twice
+    else Ok (plus past (SessionItem (session_at name nonce names version index))) in
     (λ i. if nat_lt 3 past.group then Err Form else if not (fits_is past graph names i) then Err Form else if nat_le 100000 (length past.sessions) then Err TooManySessions
-    else or_place one (Err Unknown) graph gs i)
+    else or_index one (Err Unknown) graph gs i)
     ∙ sym (session_tests past (nat_lt 3 past.group) (fits_graph past graph names) (nat_le 100000 (length past.sessions)) (has_text graph gs) (has_text name (session_names past))
-    (list_any (is_like (place graph gs) nonce names version) past.sessions) (SessionItem (session_at name nonce names version (place graph gs))))
+    (list_any (is_like (index graph gs) nonce names version) past.sessions) (SessionItem (session_at name nonce names version (index graph gs))))
 
 -- ---- steps
 
@@ -111,14 +111,14 @@ module _ (past : SoFar) (h : past.group ≤ 4) where
   pub start_added : (who session : Name) → add_step past false (has_text who past.honest) (start_step past who session) ≡ after_line past (SaidStart who session)
   unfolding after_line
   start_added who session =
-      after_step false (has_text who past.honest) (has_text session (session_names past)) (StartStep who (place session (session_names past))) (start_step past who session)
-      (known_place (StartStep who) session (session_names past))
+      after_step false (has_text who past.honest) (has_text session (session_names past)) (StartStep who (index session (session_names past))) (start_step past who session)
+      (known_index (StartStep who) session (session_names past))
 
   pub abandon_added : (who session : Name) → add_step past false (has_text who past.honest) (abandon_step past who session) ≡ after_line past (SaidAbandon who session)
   unfolding after_line
   abandon_added who session =
-      after_step false (has_text who past.honest) (has_text session (session_names past)) (AbandonStep who (place session (session_names past))) (abandon_step past who session)
-      (known_place (AbandonStep who) session (session_names past))
+      after_step false (has_text who past.honest) (has_text session (session_names past)) (AbandonStep who (index session (session_names past))) (abandon_step past who session)
+      (known_index (AbandonStep who) session (session_names past))
 
   pub deliver_added : (who : Name) (what : Delivered) → add_step past false (has_text who past.honest) (Some (DeliverStep who (what_of what))) ≡ after_line past (SaidDeliver who what)
   unfolding after_line
@@ -142,13 +142,13 @@ module _ (past : SoFar) (h : past.group ≤ 4) where
   unfolding after_line
   act_added who session label vs =
       let g = graph_for session past in
-      let s = place session (session_names past) in
-      let l = place label (labels_of g) in
+      let s = index session (session_names past) in
+      let l = index label (labels_of g) in
       let made = ActStep who s l (values g vs) in
       let all = list_all (λ v. knows_variable g v.variable) vs in
       let step : act_step past who session label vs ≡ (if has_text session (session_names past) && has_text label (labels_of g) && all then Some made else None) =
-      then_place (act_of g who label vs) session (session_names past)
-      ∙ ap (λ o. if has_text session (session_names past) then o else None) (then_place (λ n. option_map (ActStep who s n) (known_values g vs)) label (labels_of g)
+      then_index (act_of g who label vs) session (session_names past)
+      ∙ ap (λ o. if has_text session (session_names past) then o else None) (then_index (λ n. option_map (ActStep who s n) (known_values g vs)) label (labels_of g)
       ∙ ap (λ o. if has_text label (labels_of g) then o else None) (act_known g who label vs s l))
       ∙ act_tests (has_text session (session_names past)) (has_text label (labels_of g)) all made in
       after_step (is_twice vs) (has_text who past.honest) (has_text session (session_names past) && has_text label (labels_of g) && all) made (act_step past who session label vs) step

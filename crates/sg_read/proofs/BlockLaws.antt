@@ -24,9 +24,9 @@ concat_append : (xs ys : List Line) → concat (xs ++ ys) ≡ concat xs ++ conca
 concat_append [] ys = refl
 concat_append (x ∷ xs) ys = ap (λ zs. x ++ zs) (concat_append xs ys) ∙ sym (append_assoc x (concat xs) (concat ys))
 
-take_front : (xs ys : List ℕ) → take (length xs) (xs ++ ys) ≡ xs
-take_front [] ys = refl
-take_front (x ∷ xs) ys = ap (λ zs. x ∷ zs) (take_front xs ys)
+take_prefix : (xs ys : List ℕ) → take (length xs) (xs ++ ys) ≡ xs
+take_prefix [] ys = refl
+take_prefix (x ∷ xs) ys = ap (λ zs. x ∷ zs) (take_prefix xs ys)
 
 open_more : (c d e : Bool) → (c && d) ≡ true → (d ≡ true → e ≡ true) → (c && e) ≡ true
 open_more true d e h next = next h
@@ -69,7 +69,7 @@ module _ (bytes rest line after : List ℕ) (at count : ℕ) (s : Searched bytes
   pub text_is : take at bytes ≡ concat s.inner
   text_is =
       let whole : bytes ≡ concat s.inner ++ concat (lines rest) = sym (joined bytes) ∙ ap concat s.all ∙ concat_append s.inner (lines rest) in
-      ap (λ n. take n bytes) s.at_is ∙ ap (take (length (concat s.inner))) whole ∙ take_front (concat s.inner) (concat (lines rest))
+      ap (λ n. take n bytes) s.at_is ∙ ap (take (length (concat s.inner))) whole ∙ take_prefix (concat s.inner) (concat (lines rest))
 
   pub found : closes line ≡ true → IsClosed (lines bytes) (take at bytes) count (lines after)
   found is = record {

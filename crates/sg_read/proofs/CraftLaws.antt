@@ -10,8 +10,8 @@ use Rattle.sg_model.specs.Lists.{has_text, first_some}
 use Rattle.sg_model.specs.Values.{Opening}
 use Rattle.sg_protocol.specs.Graph.{Graph}
 use Rattle.sg_protocol.specs.Schedule.{Source, CopyItem, CraftItem, Step, CraftStep}
-use Rattle.sg_sched.specs.Format.Said.{Committed, From, FromKey, FromItem, FromSeal, FromZero, SaidItem, SaidCraft, SaidMake}
-use Rattle.sg_sched.specs.Format.Items.{SoFar, StepItem, Item, session_names, session_named, place, graph_for, roles_of, labels_of, variables_of}
+use Rattle.sg_sched.specs.Format.Said.{Committed, From, FromKey, FromItem, FromSeal, FromZero, ItemContent, CraftContent, SaidMake}
+use Rattle.sg_sched.specs.Format.Items.{SoFar, StepItem, Item, session_names, session_named, index, graph_for, roles_of, labels_of, variables_of}
 use Rattle.sg_sched.specs.Format.Made.{opening, source, craft_item, craft}
 use Rattle.sg_sched.specs.Format.Kinds.{Kind, Form, TooManySteps, Unknown, Twice, NotHonest}
 use Rattle.sg_sched.specs.Format.Faults.{where', knows_variable, knows_source, knows_item, variables, rises, is_short}
@@ -19,12 +19,12 @@ use Rattle.sg_read.specs.Plus.{plus}
 use Rattle.sg_read.specs.Adding.{added, after_line, add_step}
 use Rattle.sg_read.specs.Numbers.{all_made}
 use Rattle.sg_read.specs.Crafting.{opening_of, known_opening, known_role, known_source, tag_of, known_tag, known_item, item_of, Lists, lists_of, known_lists, ends_of, known_ends, craft_of, craft_step}
-use Rattle.sg_read.proofs.Places.{known_place, then_place}
+use Rattle.sg_read.proofs.Indices.{known_index, then_index}
 use Rattle.sg_read.proofs.ValueLaws.{all_is}
 
 module _ (past : SoFar) (g : Option Graph) where
   opening_is : (c : Committed) → known_opening g c ≡ (if knows_variable g c.variable then Some (opening g c) else None)
-  opening_is c = known_place (opening_of c) c.variable (variables_of g)
+  opening_is c = known_index (opening_of c) c.variable (variables_of g)
 
   openings_are : (cs : List Committed) → all_made (known_opening g) cs ≡ (if list_all (knows_variable g) (variables cs) then Some (map (opening g) cs) else None)
   openings_are cs =
@@ -33,7 +33,7 @@ module _ (past : SoFar) (g : Option Graph) where
 
   source_is : (f : From) → known_source past g f ≡ (if knows_source past g f then Some (source g f) else None)
   source_is (FromKey one two) = refl
-  source_is (FromItem frame item role) = known_place (CopyItem frame item) role (roles_of g)
+  source_is (FromItem frame item role) = known_index (CopyItem frame item) role (roles_of g)
   source_is (FromSeal frame) = refl
   source_is FromZero = refl
 
@@ -42,15 +42,15 @@ module _ (past : SoFar) (g : Option Graph) where
   tag_tests true false r s = refl
   tag_tests false b r s = refl
 
-  tag_is : (t : Name × From) → known_tag past g t ≡ (if has_text t.0 (roles_of g) && knows_source past g t.1 then Some (tag_of (place t.0 (roles_of g)) (source g t.1)) else None)
+  tag_is : (t : Name × From) → known_tag past g t ≡ (if has_text t.0 (roles_of g) && knows_source past g t.1 then Some (tag_of (index t.0 (roles_of g)) (source g t.1)) else None)
   tag_is t =
-      then_place (λ r. option_map (tag_of r) (known_source past g t.1)) t.0 (roles_of g)
-      ∙ ap (λ o. if has_text t.0 (roles_of g) then option_map (tag_of (place t.0 (roles_of g))) o else None) (source_is t.1)
-      ∙ tag_tests (has_text t.0 (roles_of g)) (knows_source past g t.1) (place t.0 (roles_of g)) (source g t.1)
+      then_index (λ r. option_map (tag_of r) (known_source past g t.1)) t.0 (roles_of g)
+      ∙ ap (λ o. if has_text t.0 (roles_of g) then option_map (tag_of (index t.0 (roles_of g))) o else None) (source_is t.1)
+      ∙ tag_tests (has_text t.0 (roles_of g)) (knows_source past g t.1) (index t.0 (roles_of g)) (source g t.1)
 
   tags_are : (ts : List (Name × From)) → all_made (known_tag past g) ts
-      ≡ (if list_all (λ (t : Name × From). has_text t.0 (roles_of g) && knows_source past g t.1) ts then Some (map (λ (t : Name × From). (place t.0 (roles_of g), source g t.1)) ts) else None)
-  tags_are ts = all_is (known_tag past g) (λ (t : Name × From). has_text t.0 (roles_of g) && knows_source past g t.1) (λ (t : Name × From). (place t.0 (roles_of g), source g t.1)) tag_is ts
+      ≡ (if list_all (λ (t : Name × From). has_text t.0 (roles_of g) && knows_source past g t.1) ts then Some (map (λ (t : Name × From). (index t.0 (roles_of g), source g t.1)) ts) else None)
+  tags_are ts = all_is (known_tag past g) (λ (t : Name × From). has_text t.0 (roles_of g) && knows_source past g t.1) (λ (t : Name × From). (index t.0 (roles_of g), source g t.1)) tag_is ts
 
   three : {A B C : Type 0} (a b c : Bool) (x : A) (y : B) (make : A → B → C)
       → (if a then option_and_then (λ x. option_map (make x) (if c then Some y else None)) (if b then Some x else None) else None) ≡ (if a && b && c then Some (make x y) else None)
@@ -59,15 +59,15 @@ module _ (past : SoFar) (g : Option Graph) where
   three true false c x y make = refl
   three false b c x y make = refl
 
-  item_is : (i : SaidItem) → known_item past g i ≡ (if knows_item past g i then Some (craft_item g i) else None)
+  item_is : (i : ItemContent) → known_item past g i ≡ (if knows_item past g i then Some (craft_item g i) else None)
   item_is i =
-      let l = place i.label (labels_of g) in
-      then_place (λ l. option_and_then (λ ds. option_map (item_of i l ds) (all_made (known_tag past g) i.tags)) (all_made (known_opening g) i.delta)) i.label (labels_of g)
+      let l = index i.label (labels_of g) in
+      then_index (λ l. option_and_then (λ ds. option_map (item_of i l ds) (all_made (known_tag past g) i.tags)) (all_made (known_opening g) i.delta)) i.label (labels_of g)
       ∙ (λ k. if has_text i.label (labels_of g) then option_and_then (λ ds. option_map (item_of i l ds) (tags_are i.tags k)) (openings_are i.delta k) else None)
       ∙ three (has_text i.label (labels_of g)) (list_all (knows_variable g) (variables i.delta)) (list_all (λ (t : Name × From). has_text t.0 (roles_of g) && knows_source past g t.1) i.tags)
-      (map (opening g) i.delta) (map (λ (t : Name × From). (place t.0 (roles_of g), source g t.1)) i.tags) (item_of i l)
+      (map (opening g) i.delta) (map (λ (t : Name × From). (index t.0 (roles_of g), source g t.1)) i.tags) (item_of i l)
 
-  items_are : (is : List SaidItem) → all_made (known_item past g) is ≡ (if list_all (knows_item past g) is then Some (map (craft_item g) is) else None)
+  items_are : (is : List ItemContent) → all_made (known_item past g) is ≡ (if list_all (knows_item past g) is then Some (map (craft_item g) is) else None)
   items_are is = all_is (known_item past g) (knows_item past g) (craft_item g) item_is is
 
   lists_tests : (a b c : Bool) (ks os : List Opening) (is : List CraftItem)
@@ -78,7 +78,7 @@ module _ (past : SoFar) (g : Option Graph) where
   lists_tests true false c ks os is = refl
   lists_tests false b c ks os is = refl
 
-  lists_are : (c : SaidCraft) → known_lists past g c
+  lists_are : (c : CraftContent) → known_lists past g c
       ≡ (if list_all (knows_variable g) (variables c.know) && list_all (knows_item past g) c.items && list_all (knows_variable g) (variables c.openings)
       then Some (lists_of (map (opening g) c.know) (map (craft_item g) c.items) (map (opening g) c.openings)) else None)
   lists_are c =
@@ -92,17 +92,17 @@ module _ (past : SoFar) (g : Option Graph) where
   ends_tests true false c s f t = refl
   ends_tests false b c s f t = refl
 
-  ends_are : (c : SaidCraft) → known_ends past g c
+  ends_are : (c : CraftContent) → known_ends past g c
       ≡ (if has_text c.session (session_names past) && has_text c.from (roles_of g) && has_text c.to (roles_of g)
-      then Some (ends_of (place c.session (session_names past)) (place c.from (roles_of g)) (place c.to (roles_of g))) else None)
+      then Some (ends_of (index c.session (session_names past)) (index c.from (roles_of g)) (index c.to (roles_of g))) else None)
   ends_are c =
-      let s = place c.session (session_names past) in
-      let f = place c.from (roles_of g) in
-      let t = place c.to (roles_of g) in
-      then_place (λ s. option_and_then (λ f. option_map (ends_of s f) (known_role g c.to)) (known_role g c.from)) c.session (session_names past)
+      let s = index c.session (session_names past) in
+      let f = index c.from (roles_of g) in
+      let t = index c.to (roles_of g) in
+      then_index (λ s. option_and_then (λ f. option_map (ends_of s f) (known_role g c.to)) (known_role g c.from)) c.session (session_names past)
       ∙ ap (λ o. if has_text c.session (session_names past) then o else None)
-      (then_place (λ f. option_map (ends_of s f) (known_role g c.to)) c.from (roles_of g)
-      ∙ ap (λ o. if has_text c.from (roles_of g) then o else None) (known_place (ends_of s f) c.to (roles_of g)))
+      (then_index (λ f. option_map (ends_of s f) (known_role g c.to)) c.from (roles_of g)
+      ∙ ap (λ o. if has_text c.from (roles_of g) then o else None) (known_index (ends_of s f) c.to (roles_of g)))
       ∙ ends_tests (has_text c.session (session_names past)) (has_text c.from (roles_of g)) (has_text c.to (roles_of g)) s f t
 
   whole_tests : (a b c d e h k : Bool) (ends : ℕ × (ℕ × ℕ)) (lists : Lists) (seal : Source) (make : ℕ × (ℕ × ℕ) → Lists → Source → Step)
@@ -117,7 +117,7 @@ module _ (past : SoFar) (g : Option Graph) where
   whole_tests true false c d e h k ends lists seal make = refl
   whole_tests false b c d e h k ends lists seal make = refl
 
-  pub craft_is : (c : SaidCraft) → craft_step past g c
+  pub craft_is : (c : CraftContent) → craft_step past g c
       ≡ (if has_text c.session (session_names past) && has_text c.from (roles_of g) && has_text c.to (roles_of g) && list_all (knows_variable g) (variables c.know)
       && list_all (knows_item past g) c.items && list_all (knows_variable g) (variables c.openings) && knows_source past g c.seal
       then Some (CraftStep (craft past g c)) else None)
@@ -125,7 +125,7 @@ module _ (past : SoFar) (g : Option Graph) where
       (λ i. option_and_then (λ ends. option_and_then (λ lists. option_map (craft_of c ends lists) (source_is c.seal i)) (lists_are c i)) (ends_are c i))
       ∙ whole_tests (has_text c.session (session_names past)) (has_text c.from (roles_of g)) (has_text c.to (roles_of g)) (list_all (knows_variable g) (variables c.know))
       (list_all (knows_item past g) c.items) (list_all (knows_variable g) (variables c.openings)) (knows_source past g c.seal)
-      (ends_of (place c.session (session_names past)) (place c.from (roles_of g)) (place c.to (roles_of g)))
+      (ends_of (index c.session (session_names past)) (index c.from (roles_of g)) (index c.to (roles_of g)))
       (lists_of (map (opening g) c.know) (map (craft_item g) c.items) (map (opening g) c.openings)) (source g c.seal) (craft_of c)
 
 -- ---- what is taken
@@ -142,7 +142,7 @@ craft_tests past true true known made h = refl
 craft_tests past true false false made h = refl
 craft_tests past true false true made h = refl
 
-module _ (past : SoFar) (c : SaidCraft) where
+module _ (past : SoFar) (c : CraftContent) where
   -- what rises rises, and the frame isn't too long
   abbrev pub is_fine : Bool
   is_fine = rises (graph_for c.session past) c && is_short (graph_for c.session past) (session_named c.session past) c
@@ -162,7 +162,7 @@ module _ (past : SoFar) (c : SaidCraft) where
 
 -- ---- part by part
 
-module _ (past : SoFar) (g : Option Graph) (k : SaidCraft) where
+module _ (past : SoFar) (g : Option Graph) (k : CraftContent) where
   pub no_ends : None ≡ known_ends past g k → None ≡ craft_step past g k
   no_ends e = ap (λ (o : Option (ℕ × (ℕ × ℕ))). option_and_then (λ ends. option_and_then (λ lists. option_map (craft_of k ends lists) (known_source past g k.seal)) (known_lists past g k)) o) e
 

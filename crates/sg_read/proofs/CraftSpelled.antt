@@ -28,52 +28,52 @@ use Rattle.sg_protocol.specs.Crafted.{committed_to, crafted_item, crafted_items,
 use Rattle.sg_protocol.proofs.RealHash.{real_hash}
 use Rattle.sg_protocol.proofs.Sent.{len_concat, cut_tag}
 use Rattle.sg_protocol.proofs.Spelled.{to_bytes, bytes-append, bytes-zeros, u64_bytes}
-use Rattle.sg_sched.specs.Format.Said.{Committed, From, SaidItem, SaidCraft}
+use Rattle.sg_sched.specs.Format.Said.{Committed, From, ItemContent, CraftContent}
 use Rattle.sg_sched.specs.Format.Forms.{is_committed, are_committed, is_item, is_join, is_craft, is_source, are_names, is_wide}
-use Rattle.sg_sched.specs.Format.Items.{Session, SoFar, place, roles_of, variables_of, labels_of}
+use Rattle.sg_sched.specs.Format.Items.{Session, SoFar, index, roles_of, variables_of, labels_of}
 use Rattle.sg_sched.specs.Format.Made.{opening, source, craft_item, craft}
 use Rattle.sg_sched.specs.Format.Faults.{rise, variables, tag_roles, knows_variable, knows_source, knows_item}
 use Rattle.sg_sched.specs.Format.Values.{is_value, value_of}
 use Rattle.sg_read.specs.Crafting.{lens, opening_len, item_len, join_len, frame_len}
 use Rattle.sg_read.proofs.FormParts.{ItemParts, item_parts, committed_value}
 use Rattle.sg_read.proofs.LengthLaws.{map_len, four, opening_is, names_are, flat_len}
-use Rattle.sg_read.proofs.Places.{some_place}
+use Rattle.sg_read.proofs.Indices.{some_index}
 use Rattle.sg_read.proofs.Tags.{cut_taken, tag_has}
 
--- ---- places
+-- ---- indices
 
-place_at : (n : Name) (ns : List Name) → has_text n ns ≡ true → (place n ns < length ns) × (get_or ns (place n ns) [] ≡ n)
-place_at n ns h = by (position (bytes_eq n) ns) refl (some_place (bytes_eq n) ns ∙ h)
+index_at : (n : Name) (ns : List Name) → has_text n ns ≡ true → (index n ns < length ns) × (get_or ns (index n ns) [] ≡ n)
+index_at n ns h = by (position (bytes_eq n) ns) refl (some_index (bytes_eq n) ns ∙ h)
   where
-    by : (o : Option ℕ) → position (bytes_eq n) ns ≡ o → is_some (position (bytes_eq n) ns) ≡ true → (place n ns < length ns) × (get_or ns (place n ns) [] ≡ n)
+    by : (o : Option ℕ) → position (bytes_eq n) ns ≡ o → is_some (position (bytes_eq n) ns) ≡ true → (index n ns < length ns) × (get_or ns (index n ns) [] ≡ n)
     by None e s = absurd (let no = ap is_some e in cc)
     by (Some i) e s =
         let w = position-Some (bytes_eq n) ns i [] e in
-        let at : place n ns ≡ i = ap (λ (o : Option ℕ). unwrap_or o 0) e in
+        let at : index n ns ≡ i = ap (λ (o : Option ℕ). unwrap_or o 0) e in
         (subst (λ k. k < length ns) (sym at) w.0, ap (λ k. get_or ns k []) at ∙ sym (same_bytes n (get_or ns i []) w.1))
 
-pub place_below : (n : Name) (ns : List Name) (most : ℕ) → length ns ≤ most → has_text n ns ≡ true → place n ns < most
-place_below n ns most few h = let w = (place_at n ns h).0 in omega (arith, w, few)
+pub index_below : (n : Name) (ns : List Name) (most : ℕ) → length ns ≤ most → has_text n ns ≡ true → index n ns < most
+index_below n ns most few h = let w = (index_at n ns h).0 in omega (arith, w, few)
 
-places_differ : (m n : Name) (ns : List Name) → has_text m ns ≡ true → has_text n ns ≡ true → not (bytes_eq m n) ≡ true → place n ns ≢ place m ns
-places_differ m n ns hm hn other e =
-    let same : m ≡ n = sym (place_at m ns hm).1 ∙ ap (λ k. get_or ns k []) (sym e) ∙ (place_at n ns hn).1 in
+indices_differ : (m n : Name) (ns : List Name) → has_text m ns ≡ true → has_text n ns ≡ true → not (bytes_eq m n) ≡ true → index n ns ≢ index m ns
+indices_differ m n ns hm hn other e =
+    let same : m ≡ n = sym (index_at m ns hm).1 ∙ ap (λ k. get_or ns k []) (sym e) ∙ (index_at n ns hn).1 in
     let yes : bytes_eq m n ≡ true = ap (bytes_eq m) (sym same) ∙ bytes_refl m in
     absurd (let z = ap not yes in cc)
 
 -- what rises rises, where it is declared
-risen : (ns ds : List Name) → rise ns ds ≡ true → list_all (λ n. has_text n ds) ns ≡ true → rises_from 0 (map (λ n. place n ds) ns) ≡ true
-risen ns ds r h = sym (ap (λ b. if b then rises_from 0 (map (λ n. place n ds) ns) else true) h) ∙ r
+risen : (ns ds : List Name) → rise ns ds ≡ true → list_all (λ n. has_text n ds) ns ≡ true → rises_from 0 (map (λ n. index n ds) ns) ≡ true
+risen ns ds r h = sym (ap (λ b. if b then rises_from 0 (map (λ n. index n ds) ns) else true) h) ∙ r
 
 -- ---- openings
 
-keys_are : (g : Option Graph) (sid : List ℕ) (cs : List Committed) → keys_of (committed_to real sid (map (opening g) cs)) ≡ map (λ n. place n (variables_of g)) (variables cs)
+keys_are : (g : Option Graph) (sid : List ℕ) (cs : List Committed) → keys_of (committed_to real sid (map (opening g) cs)) ≡ map (λ n. index n (variables_of g)) (variables cs)
 keys_are g sid [] = refl
-keys_are g sid (c ∷ cs) = ap (λ ks. place c.variable (variables_of g) ∷ ks) (keys_are g sid cs)
+keys_are g sid (c ∷ cs) = ap (λ ks. index c.variable (variables_of g) ∷ ks) (keys_are g sid cs)
 
-names_of : (g : Option Graph) (cs : List Committed) → map (λ (o : Opening). o.variable) (map (opening g) cs) ≡ map (λ n. place n (variables_of g)) (variables cs)
+names_of : (g : Option Graph) (cs : List Committed) → map (λ (o : Opening). o.variable) (map (opening g) cs) ≡ map (λ n. index n (variables_of g)) (variables cs)
 names_of g [] = refl
-names_of g (c ∷ cs) = ap (λ ks. place c.variable (variables_of g) ∷ ks) (names_of g cs)
+names_of g (c ∷ cs) = ap (λ ks. index c.variable (variables_of g) ∷ ks) (names_of g cs)
 
 confounder_has : (k x : ℕ) → AreBytes 16 (confounder k x)
 confounder_has k x = (refl, to_bytes (confounder k x) (bytes-append (u64 k) (u64 x) (u64_bytes k) (u64_bytes x)))
@@ -87,7 +87,7 @@ committed_are : (g : Option Graph) (few : length (variables_of g) ≤ 32) (sid :
 committed_are g few sid [] h = tt
 committed_are g few sid (c ∷ cs) h =
     let k = and_parts (knows_variable g c.variable) (list_all (knows_variable g) (variables cs)) h in
-    ((place_below c.variable (variables_of g) 32 few k.0, real_hash _), committed_are g few sid cs k.1)
+    ((index_below c.variable (variables_of g) 32 few k.0, real_hash _), committed_are g few sid cs k.1)
 
 openings_are : (values : (w : List ℕ) → is_value w ≡ true → IsValue (value_of w)) (g : Option Graph) (few : length (variables_of g) ≤ 32) (cs : List Committed)
     → list_all (knows_variable g) (variables cs) ≡ true → list_all is_committed cs ≡ true → AllByRecursion IsOpening (map (opening g) cs)
@@ -95,15 +95,15 @@ openings_are values g few [] h f = tt
 openings_are values g few (c ∷ cs) h f =
     let k = and_parts (knows_variable g c.variable) (list_all (knows_variable g) (variables cs)) h in
     let m = and_parts (is_committed c) (list_all is_committed cs) f in
-    let confounder = confounder_has c.step (place c.variable (variables_of g)) in
-    (record { variable = place_below c.variable (variables_of g) 32 few k.0; confounder = confounder; value = values c.value (committed_value c m.0) }, openings_are values g few cs k.1 m.1)
+    let confounder = confounder_has c.step (index c.variable (variables_of g)) in
+    (record { variable = index_below c.variable (variables_of g) 32 few k.0; confounder = confounder; value = values c.value (committed_value c m.0) }, openings_are values g few cs k.1 m.1)
 
 -- ---- tags
 
 tag_keys : (g : Option Graph) (T : ℕ × Source → List ℕ) (ts : List (Name × From))
-    → keys_of (map (λ (t : ℕ × Source). (t.0, T t)) (map (λ (t : Name × From). (place t.0 (roles_of g), source g t.1)) ts)) ≡ map (λ n. place n (roles_of g)) (tag_roles ts)
+    → keys_of (map (λ (t : ℕ × Source). (t.0, T t)) (map (λ (t : Name × From). (index t.0 (roles_of g), source g t.1)) ts)) ≡ map (λ n. index n (roles_of g)) (tag_roles ts)
 tag_keys g T [] = refl
-tag_keys g T (t ∷ ts) = ap (λ ks. place t.0 (roles_of g) ∷ ks) (tag_keys g T ts)
+tag_keys g T (t ∷ ts) = ap (λ ks. index t.0 (roles_of g) ∷ ks) (tag_keys g T ts)
 
 roles_known : (p : SoFar) (g : Option Graph) (ts : List (Name × From)) → list_all (λ (t : Name × From). has_text t.0 (roles_of g) && knows_source p g t.1) ts ≡ true
     → list_all (λ n. has_text n (roles_of g)) (tag_roles ts) ≡ true
@@ -114,11 +114,11 @@ roles_known p g (t ∷ ts) h =
     rw m.0 (roles_known p g ts k.1)
 
 tags_are : (g : Option Graph) (few : length (roles_of g) ≤ 16) (v : ℕ) (T : ℕ × Source → List ℕ) → ((t : ℕ × Source) → IsTag v (T t)) → (ts : List (Name × From))
-    → list_all (λ n. has_text n (roles_of g)) (tag_roles ts) ≡ true → AllByRecursion (λ (t : ℕ × List ℕ). (t.0 < 16) × IsTag v t.1) (map (λ (t : ℕ × Source). (t.0, T t)) (map (λ (t : Name × From). (place t.0 (roles_of g), source g t.1)) ts))
+    → list_all (λ n. has_text n (roles_of g)) (tag_roles ts) ≡ true → AllByRecursion (λ (t : ℕ × List ℕ). (t.0 < 16) × IsTag v t.1) (map (λ (t : ℕ × Source). (t.0, T t)) (map (λ (t : Name × From). (index t.0 (roles_of g), source g t.1)) ts))
 tags_are g few v T is [] h = tt
 tags_are g few v T is (t ∷ ts) h =
     let k = and_parts (has_text t.0 (roles_of g)) _ h in
-    ((place_below t.0 (roles_of g) 16 few k.0, is (place t.0 (roles_of g), source g t.1)), tags_are g few v T is ts k.1)
+    ((index_below t.0 (roles_of g) 16 few k.0, is (index t.0 (roles_of g), source g t.1)), tags_are g few v T is ts k.1)
 
 -- ---- items
 
@@ -134,7 +134,7 @@ sender_below g is label = by g.nodes (recursion_from_All (λ (n : Node). n.role 
     by (n ∷ ns) a (suc k) = by ns a.1 k
 
 -- what is known of an item
-pub record KnownItem (p : SoFar) (g : Option Graph) (i : SaidItem) : Type 0 where
+pub record KnownItem (p : SoFar) (g : Option Graph) (i : ItemContent) : Type 0 where
   pub form : is_item i ≡ true
   pub known : knows_item p g i ≡ true
   pub rises : (rise (variables i.delta) (variables_of g) && rise (tag_roles i.tags) (roles_of g)) ≡ true
@@ -153,7 +153,7 @@ module _ (p : SoFar) (g : Graph) (is_graph : IsGraph g) (ps : List Program) (s :
   tag_of : (text : List ℕ) (t : Source) → IsTag v (cut v (tag_by real s (new_world ps s) text t))
   tag_of text t = cut_tag v version _ (tag_has ps s text t)
 
-  item_fits : (before : List Item) (i : SaidItem) → KnownItem p (Some g) i → IsItem v (crafted_item real s (new_world ps s) h x before (craft_item (Some g) i))
+  item_fits : (before : List Item) (i : ItemContent) → KnownItem p (Some g) i → IsItem v (crafted_item real s (new_world ps s) h x before (craft_item (Some g) i))
   item_fits before i k =
       let parts : ItemParts i = item_parts i k.form in
       let label_and = and_parts (has_text i.label (labels_of (Some g)) && list_all (knows_variable (Some g)) (variables i.delta)) _ k.known in
@@ -166,12 +166,12 @@ module _ (p : SoFar) (g : Graph) (is_graph : IsGraph g) (ps : List Program) (s :
       let few = parts.few in
       let few_tags = parts.tags in
       let T : ℕ × Source → List ℕ = λ t. cut v (tag_by real s (new_world ps s) (text_to h x before (bare before i) t.0) t.1) in
-      let made : Map Source = map (λ (t : Name × From). (place t.0 (roles_of (Some g)), source (Some g) t.1)) i.tags in
-      let few_made = length-map {B = ℕ × Source} i.tags (λ (t : Name × From). (place t.0 (roles_of (Some g)), source (Some g) t.1)) in
+      let made : Map Source = map (λ (t : Name × From). (index t.0 (roles_of (Some g)), source (Some g) t.1)) i.tags in
+      let few_made = length-map {B = ℕ × Source} i.tags (λ (t : Name × From). (index t.0 (roles_of (Some g)), source (Some g) t.1)) in
       let few_all = length-map {B = ℕ × List ℕ} made (λ (t : ℕ × Source). (t.0, T t)) in
       record {
-        role = sender_below h is_other (place i.label (labels_of (Some g)));
-        label = place_below i.label (labels_of (Some g)) 512 labels_few names.0;
+        role = sender_below h is_other (index i.label (labels_of (Some g)));
+        label = index_below i.label (labels_of (Some g)) 512 labels_few names.0;
         time = times;
         variables = (omega (arith, few_delta, few_delta_2, few), ap (rises_from 0) (keys_are (Some g) x.sid i.delta) ∙ risen (variables i.delta) (variables_of (Some g)) rise_both.0 names.1);
         delta = committed_are (Some g) variables_few x.sid i.delta names.1;
@@ -179,12 +179,12 @@ module _ (p : SoFar) (g : Graph) (is_graph : IsGraph g) (ps : List Program) (s :
         tags = tags_are (Some g) is_graph.sizes.0 v T (λ t. tag_of _ t.1) i.tags roles;
       }
     where
-      bare : List Item → SaidItem → Item
+      bare : List Item → ItemContent → Item
       bare before i =
-          let label = place i.label (labels_of (Some g)) in
+          let label = index i.label (labels_of (Some g)) in
           record { role = sender (shape h) label; label = label; time = i.time; delta = committed_to real x.sid (map (opening (Some g)) i.delta); tags = [] }
 
-      time_of : (i : SaidItem) → is_item i ≡ true → (1 ≤ i.time) × (i.time ≤ 1000000)
+      time_of : (i : ItemContent) → is_item i ≡ true → (1 ≤ i.time) × (i.time ≤ 1000000)
       time_of i f =
           let a = (and_parts (is_name i.label && nat_le 1 i.time && nat_le i.time 1000000 && are_committed i.delta && nat_le (length i.tags) 14) _ f).0 in
           let b = (and_parts (is_name i.label && nat_le 1 i.time && nat_le i.time 1000000 && are_committed i.delta) _ a).0 in
@@ -193,7 +193,7 @@ module _ (p : SoFar) (g : Graph) (is_graph : IsGraph g) (ps : List Program) (s :
           let e = and_parts (is_name i.label) (nat_le 1 i.time) d.0 in
           (leb-true 1 i.time e.1, leb-true i.time 1000000 d.1)
 
-  items_fit : (before : List Item) (is : List SaidItem) → AllByRecursion (KnownItem p (Some g)) is → AllByRecursion (IsItem v) (crafted_items real s (new_world ps s) h x before (map (craft_item (Some g)) is))
+  items_fit : (before : List Item) (is : List ItemContent) → AllByRecursion (KnownItem p (Some g)) is → AllByRecursion (IsItem v) (crafted_items real s (new_world ps s) h x before (map (craft_item (Some g)) is))
   items_fit before [] a = tt
   items_fit before (i ∷ is) a = (item_fits before i a.0, items_fit (before ++ crafted_item real s (new_world ps s) h x before (craft_item (Some g) i) ∷ []) is a.1)
 
@@ -203,21 +203,21 @@ module _ (p : SoFar) (g : Graph) (is_graph : IsGraph g) (ps : List Program) (s :
   items_many before [] = refl
   items_many before (c ∷ cs) = let k = items_many (before ++ crafted_item real s (new_world ps s) h x before c ∷ []) cs in omega (arith, k)
 
-  item_long : (before : List Item) (i : SaidItem) → length (item_bytes v (crafted_item real s (new_world ps s) h x before (craft_item (Some g) i))) ≡ item_len v i
+  item_long : (before : List Item) (i : ItemContent) → length (item_bytes v (crafted_item real s (new_world ps s) h x before (craft_item (Some g) i))) ≡ item_len v i
   item_long before i =
       let b : Item = crafted_item real s (new_world ps s) h x before (craft_item (Some g) i) in
       let c = len_concat (u8 b.role ∷ u16 b.label ∷ u32 b.time ∷ map_bytes (λ c. c) b.delta ∷ map_bytes (take (tag_len v)) b.tags ∷ []) in
       let os = map (opening (Some g)) i.delta in
-      let made : Map Source = map (λ (t : Name × From). (place t.0 (roles_of (Some g)), source (Some g) t.1)) i.tags in
+      let made : Map Source = map (λ (t : Name × From). (index t.0 (roles_of (Some g)), source (Some g) t.1)) i.tags in
       let d = map_len (λ c. c) (λ (o : Opening). (o.variable, commitment real x.sid o)) 33 os (λ o. let l = (real_hash (commitment_text_of x.sid o)).0 in omega (arith, l)) in
       let e = map_len (take (tag_len v)) (λ (t : ℕ × Source). (t.0, cut v (tag_by real s (new_world ps s) (text_to h x before (record b { tags = [] }) t.0) t.1))) (1 + tag_len v) made
       (λ t. let k = cut_taken v version _ (tag_has ps s (text_to h x before (record b { tags = [] }) t.0) t.1) in omega (arith, k)) in
       let m = length-map i.delta (opening (Some g)) in
-      let n = length-map {B = ℕ × Source} i.tags (λ (t : Name × From). (place t.0 (roles_of (Some g)), source (Some g) t.1)) in
+      let n = length-map {B = ℕ × Source} i.tags (λ (t : Name × From). (index t.0 (roles_of (Some g)), source (Some g) t.1)) in
       let q : (1 + tag_len v) * length made ≡ (1 + tag_len v) * length i.tags = ap (λ k. (1 + tag_len v) * k) n in
       omega (arith, c, d, e, m, q)
 
-  items_long : (before : List Item) (is : List SaidItem) → length (flat_map (item_bytes v) (crafted_items real s (new_world ps s) h x before (map (craft_item (Some g)) is))) ≡ lens (item_len v) is
+  items_long : (before : List Item) (is : List ItemContent) → length (flat_map (item_bytes v) (crafted_items real s (new_world ps s) h x before (map (craft_item (Some g)) is))) ≡ lens (item_len v) is
   items_long before [] = refl
   items_long before (i ∷ is) =
       let b : Item = crafted_item real s (new_world ps s) h x before (craft_item (Some g) i) in
@@ -266,7 +266,7 @@ module _ (p : SoFar) (g : Graph) (is_graph : IsGraph g) (ps : List Program) (s :
 
     -- ---- the frame
 
-    module _ (values : (w : List ℕ) → is_value w ≡ true → IsValue (value_of w)) (sid : AreBytes 32 x.sid) (c : SaidCraft) (form : is_craft c ≡ true)
+    module _ (values : (w : List ℕ) → is_value w ≡ true → IsValue (value_of w)) (sid : AreBytes 32 x.sid) (c : CraftContent) (form : is_craft c ≡ true)
         (from_known : has_text c.from (roles_of (Some g)) ≡ true) (to_known : has_text c.to (roles_of (Some g)) ≡ true)
         (items_known : AllByRecursion (KnownItem p (Some g)) c.items)
         (openings_known : list_all (knows_variable (Some g)) (variables c.openings) ≡ true) (openings_rise : rise (variables c.openings) (variables_of (Some g)) ≡ true)
@@ -317,9 +317,9 @@ module _ (p : SoFar) (g : Graph) (is_graph : IsGraph g) (ps : List Program) (s :
             version = version;
             sid = sid;
             roles = (
-              place_below c.from (roles_of (Some g)) 16 is_graph.sizes.0 from_known,
-              place_below c.to (roles_of (Some g)) 16 is_graph.sizes.0 to_known,
-              places_differ c.from c.to (roles_of (Some g)) from_known to_known q.ends,
+              index_below c.from (roles_of (Some g)) 16 is_graph.sizes.0 from_known,
+              index_below c.to (roles_of (Some g)) 16 is_graph.sizes.0 to_known,
+              indices_differ c.from c.to (roles_of (Some g)) from_known to_known q.ends,
             );
             join = join_fits c.join q.join;
             count = (omega (arith, many, same, some), omega (arith, many, same, few));

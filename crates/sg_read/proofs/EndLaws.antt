@@ -11,17 +11,17 @@ use Rattle.sg_sched.specs.declared.fault.LineFault.TheVariants.{Line as AtLine, 
 use Rattle.sg_sched.proofs.FormatNotBoth.{not_both}
 use Rattle.sg_sched.proofs.FormatPairOnce.{no_pair_at}
 use Rattle.sg_read.specs.declared.reader.ScheduleReader.{ScheduleReader}
-use Rattle.sg_read.specs.Standing.{Stands, IsFault}
+use Rattle.sg_read.specs.ReadSoFar.{HasRead, IsFault}
 use Rattle.sg_read.specs.Whole.{schedule_of_past, HaveCasts}
 use Rattle.sg_read.proofs.BlockLaws.{none_left}
 use Rattle.sg_read.proofs.SessionsDeclared.{casts}
 
 -- each session that is kept has a cast
-pub casts_kept : (bytes : List ℕ) (r : ScheduleReader) (rest : List ℕ) → Stands bytes r rest → HaveCasts (length (graphs_of_past r.past)) r.past.sessions
+pub casts_kept : (bytes : List ℕ) (r : ScheduleReader) (rest : List ℕ) → HasRead bytes r rest → HaveCasts (length (graphs_of_past r.past)) r.past.sessions
 casts_kept bytes r rest s = subst (λ (p : SoFar). HaveCasts (length (graphs_of_past p)) p.sessions) (sym s.keeps.past) (casts s.keeps.declared)
 
 -- where nothing is left, the bytes spell the schedule that is kept
-pub spelled : (bytes : List ℕ) (r : ScheduleReader) (rest : List ℕ) → Stands bytes r rest → length rest ≤ 0 → (t : Schedule) → t ≡ schedule_of_past real r.past → SpellsSchedule real bytes t
+pub spelled : (bytes : List ℕ) (r : ScheduleReader) (rest : List ℕ) → HasRead bytes r rest → length rest ≤ 0 → (t : Schedule) → t ≡ schedule_of_past real r.past → SpellsSchedule real bytes t
 spelled bytes r rest s h t e = record {
   items = s.items;
   declared = subst (λ ls. Declare ls s.items) (sym (s.all ∙ ap (λ xs. s.right ++ lines xs) (none_left rest h) ∙ append-nil s.right)) s.keeps.declared;

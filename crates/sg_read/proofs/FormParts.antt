@@ -6,7 +6,7 @@ use Rattle.std.specs.Option.{option_map_or}
 use Rattle.std.proofs.lemmas.Bool.{leb-true}
 use Rattle.std.proofs.lemmas.List.Folds.{list_all_at}
 use Rattle.sg_model.specs.Names.{Name, is_name, is_letter, is_name_byte}
-use Rattle.sg_sched.specs.Format.Said.{Given, Committed, SaidItem, SaidCraft}
+use Rattle.sg_sched.specs.Format.Said.{Given, Committed, ItemContent, CraftContent}
 use Rattle.sg_sched.specs.Format.Forms.{is_given, is_committed, are_committed, is_source, is_tag, is_item, is_join, is_craft, are_names, is_wide}
 use Rattle.sg_sched.specs.Format.Values.{is_value}
 
@@ -36,12 +36,12 @@ few_committed : (cs : List Committed) → are_committed cs ≡ true → (length 
 few_committed cs h = (leb-true (length cs) 32 (left (nat_le (length cs) 32) (list_all is_committed cs) h), right (nat_le (length cs) 32) (list_all is_committed cs) h)
 
 -- the lists of an item
-pub record ItemParts (i : SaidItem) : Type 0 where
+pub record ItemParts (i : ItemContent) : Type 0 where
   pub delta : IsTrue (list_all is_committed i.delta)
   pub few : length i.delta ≤ 32
   pub tags : length i.tags ≤ 14
 
-pub item_parts : (i : SaidItem) → IsTrue (is_item i) → ItemParts i
+pub item_parts : (i : ItemContent) → IsTrue (is_item i) → ItemParts i
 item_parts i h =
     let a = is_name i.label && nat_le 1 i.time && nat_le i.time 1000000 in
     let b = are_committed i.delta in
@@ -52,12 +52,12 @@ item_parts i h =
     record { delta = e.1; few = e.0; tags = leb-true (length i.tags) 14 (right (a && b) c abc) }
 
 -- the lists of a craft
-pub record CraftParts (c : SaidCraft) : Type 0 where
+pub record CraftParts (c : CraftContent) : Type 0 where
   pub know : IsTrue (list_all is_committed c.know)
   pub items : IsTrue (list_all is_item c.items)
   pub openings : IsTrue (list_all is_committed c.openings)
 
-pub craft_parts : (c : SaidCraft) → IsTrue (is_craft c) → CraftParts c
+pub craft_parts : (c : CraftContent) → IsTrue (is_craft c) → CraftParts c
 craft_parts c h =
     let a = are_names (c.session ∷ c.from ∷ c.to ∷ []) && not (bytes_eq c.from c.to) && option_map_or is_join c.join true in
     let k = list_all is_committed c.know in

@@ -3,7 +3,7 @@ use Rattle.std.proofs.Common.{◌≡◌, List, [], ◌∷◌, ◌++◌, max, ref
 use Rattle.std.specs.Prelude.{Option, Some, None, Ok, Err, filter_map, fold}
 use Rattle.std.proofs.lemmas.List.Elements.{filter_map-append}
 use Rattle.std.proofs.lemmas.List.Sums.{fold_push}
-use Rattle.sg_sched.specs.Format.Said.{Said, SaidBlock, SaidEdge, SaidHonest, SaidKey, SaidSession, SaidStart, SaidAct, SaidAbandon, SaidDeliver, SaidMake}
+use Rattle.sg_sched.specs.Format.Said.{LineContent, SaidBlock, SaidEdge, SaidHonest, SaidKey, SaidSession, SaidStart, SaidAct, SaidAbandon, SaidDeliver, SaidMake}
 use Rattle.sg_sched.specs.Format.Items.{Item, GraphItem, EdgeItem, HonestItem, KeyItem, SessionItem, StepItem, SoFar, so_far, group_of, as_block, as_edge, as_honest, as_key, as_session, as_step}
 use Rattle.sg_sched.specs.Format.Kinds.{Kind}
 use Rattle.sg_sched.specs.Format.Made.{made}
@@ -82,13 +82,13 @@ one_more items (StepItem s) = let i = StepItem s in λ k. record {
 -- ---- lines that are taken
 
 -- a line of a form is right, and adds an item
-pub record Taken (items : List Item) (said : Said) (new : SoFar) : Type 0 where
+pub record Taken (items : List Item) (said : LineContent) (new : SoFar) : Type 0 where
   pub item : Item
   pub right : fault items said ≡ None
   pub makes : made items said ≡ Some item
   pub after : new ≡ so_far (items ++ item ∷ [])
 
-only_block : (items : List Item) (said : Said) → made items said ≡ None → said ≡ SaidBlock
+only_block : (items : List Item) (said : LineContent) → made items said ≡ None → said ≡ SaidBlock
 only_block items SaidBlock h = refl
 only_block items (SaidEdge label from to) h = absurd (cc)
 only_block items (SaidHonest who) h = absurd (cc)
@@ -100,7 +100,7 @@ only_block items (SaidAbandon who session) h = absurd (cc)
 only_block items (SaidDeliver who what) h = absurd (cc)
 only_block items (SaidMake c) h = absurd (cc)
 
-pub took : (items : List Item) (said : Said) (new : SoFar) → (said ≡ SaidBlock → ⊥) → after_line (so_far items) said ≡ Ok new → Taken items said new
+pub took : (items : List Item) (said : LineContent) (new : SoFar) → (said ≡ SaidBlock → ⊥) → after_line (so_far items) said ≡ Ok new → Taken items said new
 unfolding after_line
 took items said new other e = by (fault items said) (made items said) refl refl e
   where
@@ -109,7 +109,7 @@ took items said new other e = by (fault items said) (made items said) refl refl 
     by None (Some i) ef em e = let same : plus (so_far items) i ≡ new = cc in record { item = i; right = ef; makes = em; after = sym same ∙ sym (one_more items i) }
     by None None ef em e = absurd (other (only_block items said em))
 
-pub stopped : (items : List Item) (said : Said) (kind : Kind) → after_line (so_far items) said ≡ Err kind → fault items said ≡ Some kind
+pub stopped : (items : List Item) (said : LineContent) (kind : Kind) → after_line (so_far items) said ≡ Err kind → fault items said ≡ Some kind
 unfolding after_line
 stopped items said kind e = by (fault items said) (made items said) refl e
   where

@@ -10,7 +10,7 @@ use Rattle.sg_protocol.specs.Frame.{Item, Frame, tag_len}
 use Rattle.sg_protocol.specs.Spelling.{spelling, body, u8, u16, u32, short_text, sized, value_bytes, kind_code, item_bytes, map_bytes, pair_bytes, opening_bytes, join_bytes, join_code, magic}
 use Rattle.sg_protocol.specs.Schedule.{CraftJoin}
 use Rattle.sg_protocol.proofs.Sent.{len_concat}
-use Rattle.sg_sched.specs.Format.Said.{Committed, From, SaidItem, SaidCraft}
+use Rattle.sg_sched.specs.Format.Said.{Committed, From, ItemContent, CraftContent}
 use Rattle.sg_sched.specs.Format.Items.{Session}
 use Rattle.sg_sched.specs.Format.Made.{opening}
 use Rattle.sg_sched.specs.Format.Faults.{zeros, blank_cast, blank_item, blank_frame, is_short}
@@ -35,7 +35,7 @@ map_len spelled k n xs h =
     let b = flat_same k (pair_bytes spelled) n xs h in
     omega (arith, a, b)
 
-item_is : (v : ℕ) (i : SaidItem) → length (item_bytes v (blank_item i)) ≡ item_len v i
+item_is : (v : ℕ) (i : ItemContent) → length (item_bytes v (blank_item i)) ≡ item_len v i
 item_is v i =
     let b : Item = blank_item i in
     let c = len_concat (u8 b.role ∷ u16 b.label ∷ u32 b.time ∷ map_bytes (λ c. c) b.delta ∷ map_bytes (take (tag_len v)) b.tags ∷ []) in
@@ -65,7 +65,7 @@ join_is s (Some j) =
 pub four : (v : ℕ) → length (magic v) ≡ 4
 four v = elim (cases_Bool (v == 2)) [ inl e ↦ rw e refl | inr e ↦ rw e refl ]
 
-pub frame_is : (g : Option Graph) (s : Session) (c : SaidCraft) → length (spelling (blank_frame g s c)) ≡ frame_len s c
+pub frame_is : (g : Option Graph) (s : Session) (c : CraftContent) → length (spelling (blank_frame g s c)) ≡ frame_len s c
 frame_is g s c =
     let f : Frame = blank_frame g s c in
     let a = len_concat (magic f.version ∷ u8 (join_code f.join) ∷ f.sid ∷ u8 f.sender ∷ u8 f.receiver ∷ join_bytes f.join ∷ u16 (length f.items) ∷ flat_map (item_bytes f.version) f.items ∷ u8 (length f.openings) ∷ flat_map opening_bytes f.openings ∷ []) in
@@ -78,8 +78,8 @@ frame_is g s c =
     omega (arith, a, b, d, e, h, i, k)
 
 -- the frame is short where the session is declared
-pub short_is : (g : Option Graph) (s : Session) (c : SaidCraft) (o : Option Session) → o ≡ Some s → nat_le (frame_len s c) 60000 ≡ is_short g o c
+pub short_is : (g : Option Graph) (s : Session) (c : CraftContent) (o : Option Session) → o ≡ Some s → nat_le (frame_len s c) 60000 ≡ is_short g o c
 short_is g s c o e = ap (λ n. nat_le n 60000) (sym (frame_is g s c)) ∙ ap (λ o. is_short g o c) (sym e)
 
-pub short_none : (g : Option Graph) (c : SaidCraft) (o : Option Session) → o ≡ None → true ≡ is_short g o c
+pub short_none : (g : Option Graph) (c : CraftContent) (o : Option Session) → o ≡ None → true ≡ is_short g o c
 short_none g c o e = ap (λ o. is_short g o c) (sym e)

@@ -1,4 +1,4 @@
-pub mod Places
+pub mod Indices
 pub mod SessionLaws
 pub mod AddingLaws
 pub mod Growing
@@ -11,7 +11,7 @@ pub mod RisingLaws
 pub mod LengthLaws
 pub mod BlockLaws
 pub mod BlockLine
-pub mod StandingLaws
+pub mod ReadSoFarLaws
 pub mod RightLines
 pub mod SessionsDeclared
 pub mod Tags

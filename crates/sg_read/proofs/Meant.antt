@@ -23,16 +23,16 @@ use Rattle.sg_protocol.specs.Crafted.{crafted, crafted_frame}
 use Rattle.sg_protocol.specs.IsSchedule.{IsSchedule, IsDeclared, IsPairKey, IsStep}
 use Rattle.sg_protocol.proofs.RealHash.{real_hash}
 use Rattle.sg_sched.specs.Pair.{edge}
-use Rattle.sg_sched.specs.Format.Said.{Given, Said, SaidBlock, SaidEdge, SaidHonest, SaidKey, SaidSession, SaidStart, SaidAct, SaidAbandon, SaidDeliver, SaidMake}
+use Rattle.sg_sched.specs.Format.Said.{Given, LineContent, SaidBlock, SaidEdge, SaidHonest, SaidKey, SaidSession, SaidStart, SaidAct, SaidAbandon, SaidDeliver, SaidMake}
 use Rattle.sg_sched.specs.Format.Forms.{is_form, is_given, are_names}
-use Rattle.sg_sched.specs.Format.Items.{Session, Item, GraphItem, EdgeItem, HonestItem, KeyItem, SessionItem, StepItem, SoFar, so_far, graphs_of_past, graph_names, place, session_names, graph_for, labels_of, declared, digest_at}
+use Rattle.sg_sched.specs.Format.Items.{Session, Item, GraphItem, EdgeItem, HonestItem, KeyItem, SessionItem, StepItem, SoFar, so_far, graphs_of_past, graph_names, index, session_names, graph_for, labels_of, declared, digest_at}
 use Rattle.sg_sched.specs.Format.Made.{made_after, values, craft, what_of}
 use Rattle.sg_sched.specs.Format.Faults.{knows_variable}
 use Rattle.sg_sched.specs.Format.Spells.{Line, Add, Skip, Say, Show, Declare, Nothing, Next, SpellsSchedule}
 use Rattle.sg_sched.specs.Format.Values.{bytes_of}
 use Rattle.sg_read.specs.Plus.{plus}
 use Rattle.sg_read.specs.Whole.{schedule_of_past}
-use Rattle.sg_read.proofs.CraftSpelled.{nonce_has, place_below}
+use Rattle.sg_read.proofs.CraftSpelled.{nonce_has, index_below}
 use Rattle.sg_read.proofs.Growing.{one_more}
 use Rattle.sg_read.proofs.RightLines.{IsRight, right, in_group}
 use Rattle.sg_read.proofs.SessionsDeclared.{HasFewRoles, IsOf, Sound, sound, said_more, graph_more}
@@ -53,7 +53,7 @@ room n h = by (nat_le most_steps n) refl h
     by true e h = absurd (cc)
     by false e h = leb-false most_steps n e
 
-said_meant : (p : SoFar) (m : Meant p) (said : Said) (i : Item) → is_form said ≡ true → IsRight p said → made_after p said ≡ Some i → Meant (plus p i)
+said_meant : (p : SoFar) (m : Meant p) (said : LineContent) (i : Item) → is_form said ≡ true → IsRight p said → made_after p said ≡ Some i → Meant (plus p i)
 said_meant p m said i form r e = by said form r e (said_more p m.sound said i form r e)
   where
     act_form : (who session label : Name) (vs : List Given) → is_form (SaidAct who session label vs) ≡ true → list_all is_given vs ≡ true
@@ -62,11 +62,11 @@ said_meant p m said i form r e = by said form r e (said_more p m.sound said i fo
     step : (s : Step) → StepItem s ≡ i → (if nat_le most_steps (length p.steps) then Some TooManySteps else None) ≡ None → FitsStep p.sessions s → Sound (plus p i) → Meant (plus p i)
     step s same few fits sound = subst (λ i. Meant (plus p i)) same (step_meant p m s (room (length p.steps) few) fits (subst (λ i. Sound (plus p i)) (sym same) sound))
 
-    -- the place of a session that is declared
-    there : (session : Name) → has_text session (session_names p) ≡ true → place session (session_names p) < length p.sessions
-    there session h = let l = length-map p.sessions (λ (s : Session). s.name) in place_below session (session_names p) (length p.sessions) (omega (arith, l)) h
+    -- the index of a session that is declared
+    there : (session : Name) → has_text session (session_names p) ≡ true → index session (session_names p) < length p.sessions
+    there session h = let l = length-map p.sessions (λ (s : Session). s.name) in index_below session (session_names p) (length p.sessions) (omega (arith, l)) h
 
-    by : (said : Said) → is_form said ≡ true → IsRight p said → made_after p said ≡ Some i → Sound (plus p i) → Meant (plus p i)
+    by : (said : LineContent) → is_form said ≡ true → IsRight p said → made_after p said ≡ Some i → Sound (plus p i) → Meant (plus p i)
     by SaidBlock form r e sound = absurd (cc)
     by (SaidEdge label from to) form r e sound =
         let same : EdgeItem (edge label from to) ≡ i = cc in
@@ -77,17 +77,17 @@ said_meant p m said i form r e = by said form r e (said_more p m.sound said i fo
         let same : KeyItem k ≡ i = cc in
         subst (λ i. Meant (plus p i)) same (key_meant p m one two digits form r k refl (subst (λ i. Sound (plus p i)) (sym same) sound))
     by (SaidSession name graph nonce names version) form r e sound =
-        let s : Session = record { name = name; graph = place graph (graph_names (graphs_of_past p)); nonce = nonce; names = names; version = version } in
+        let s : Session = record { name = name; graph = index graph (graph_names (graphs_of_past p)); nonce = nonce; names = names; version = version } in
         let same : SessionItem s ≡ i = cc in
         let late = (or_parts (nat_lt 3 p.group) _ r.form).0 in
         subst (λ i. Meant (plus p i)) same (session_meant p m s (in_group p 3 late) (subst (λ i. Sound (plus p i)) (sym same) sound))
-    by (SaidStart who session) form r e sound = step (StartStep who (place session (session_names p))) (cc) r.few (there session r.known) sound
+    by (SaidStart who session) form r e sound = step (StartStep who (index session (session_names p))) (cc) r.few (there session r.known) sound
     by (SaidAct who session label vs) form r e sound =
         let g = graph_for session p in
         let known = and_parts (has_text session (session_names p) && has_text label (labels_of g)) (list_all (λ v. knows_variable g v.variable) vs) r.known in
         let session_known = (and_parts (has_text session (session_names p)) (has_text label (labels_of g)) known.0).0 in
-        step (ActStep who (place session (session_names p)) (place label (labels_of g)) (values g vs)) (cc) r.few (there session session_known, values_fit g vs (act_form who session label vs form)) sound
-    by (SaidAbandon who session) form r e sound = step (AbandonStep who (place session (session_names p))) (cc) r.few (there session r.known) sound
+        step (ActStep who (index session (session_names p)) (index label (labels_of g)) (values g vs)) (cc) r.few (there session session_known, values_fit g vs (act_form who session label vs form)) sound
+    by (SaidAbandon who session) form r e sound = step (AbandonStep who (index session (session_names p))) (cc) r.few (there session r.known) sound
     by (SaidDeliver who what) form r e sound = step (DeliverStep who (what_of what)) (cc) r.few (delivered_fits p.sessions who what) sound
     by (SaidMake c) form r e sound = step (CraftStep (craft p (graph_for c.session p) c)) (cc) r.few (craft_fits p m c form r) sound
 

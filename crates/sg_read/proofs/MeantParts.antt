@@ -90,8 +90,8 @@ differ_middle (x ∷ xs) t ys d h =
     let rest = differ_middle xs t ys a.1 k.1 in
     let none : has_text x (xs ++ ys) ≡ false = not-true (has_text x (xs ++ ys)) a.0 in
     let parts = no_text x xs ys none in
-    let front : has_text x (xs ++ t ∷ []) ≡ false = no_text_both x xs (t ∷ []) parts.0 (let e = turned t x k.0 in rw e refl) in
-    let whole : has_text x ((xs ++ t ∷ []) ++ ys) ≡ false = no_text_both x (xs ++ t ∷ []) ys front parts.1 in
+    let prefix : has_text x (xs ++ t ∷ []) ≡ false = no_text_both x xs (t ∷ []) parts.0 (let e = turned t x k.0 in rw e refl) in
+    let whole : has_text x ((xs ++ t ∷ []) ++ ys) ≡ false = no_text_both x (xs ++ t ∷ []) ys prefix parts.1 in
     (λ i. not (whole i) && rest i)
 
 -- ---- one item more

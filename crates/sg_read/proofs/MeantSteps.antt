@@ -16,9 +16,9 @@ use Rattle.sg_protocol.specs.Frame.{IsValue}
 use Rattle.sg_protocol.specs.TextLaws.{IsVersion}
 use Rattle.sg_protocol.specs.Schedule.{DeliverStep}
 use Rattle.sg_sched.specs.Pair.{graphs_of}
-use Rattle.sg_sched.specs.Format.Said.{Given, SaidItem, SaidCraft, Delivered, TheFrame, TheFlipped, TheCut, TheBytes, SaidMake}
+use Rattle.sg_sched.specs.Format.Said.{Given, ItemContent, CraftContent, Delivered, TheFrame, TheFlipped, TheCut, TheBytes, SaidMake}
 use Rattle.sg_sched.specs.Format.Forms.{is_given, is_item, is_craft}
-use Rattle.sg_sched.specs.Format.Items.{Session, SoFar, graphs_of_past, place, session_names, session_named, graph_for, roles_of, variables_of}
+use Rattle.sg_sched.specs.Format.Items.{Session, SoFar, graphs_of_past, index, session_names, session_named, graph_for, roles_of, variables_of}
 use Rattle.sg_sched.specs.Format.Made.{written, values, craft, what_of}
 use Rattle.sg_sched.specs.Format.Faults.{rise, rises, variables, tag_roles, is_short, knows_variable, knows_item, knows_source}
 use Rattle.sg_read.specs.Crafting.{frame_len}
@@ -26,7 +26,7 @@ use Rattle.sg_read.proofs.CraftSpelled.{KnownItem, craft_spelled}
 use Rattle.sg_read.proofs.FormParts.{given_value, craft_parts}
 use Rattle.sg_read.proofs.Graphs.{session_found}
 use Rattle.sg_read.proofs.LengthLaws.{short_is}
-use Rattle.sg_read.proofs.Places.{some_place}
+use Rattle.sg_read.proofs.Indices.{some_index}
 use Rattle.sg_read.proofs.PairGraph.{AreEdges, pair_is_graph}
 use Rattle.sg_read.proofs.RightLines.{IsRight}
 use Rattle.sg_read.proofs.SessionsDeclared.{IsOf}
@@ -68,7 +68,7 @@ delivered_fits ss who (TheBytes digits) = digits_are digits
 
 -- ---- crafts
 
-known_items : (p : SoFar) (g : Option Graph) (is : List SaidItem) → list_all is_item is ≡ true → list_all (knows_item p g) is ≡ true
+known_items : (p : SoFar) (g : Option Graph) (is : List ItemContent) → list_all is_item is ≡ true → list_all (knows_item p g) is ≡ true
     → list_all (λ i. rise (variables i.delta) (variables_of g) && rise (tag_roles i.tags) (roles_of g)) is ≡ true → AllByRecursion (KnownItem p g) is
 known_items p g [] a b c = tt
 known_items p g (i ∷ is) a b c =
@@ -95,11 +95,11 @@ all_graphs p m = all-append IsGraph p.blocks (graphs_of p.edges) m.blocks (pair 
     pair (e ∷ es) h = (pair_is_graph (e ∷ es) h, tt)
 
 -- the session of a name that is there
-pub session_at : (p : SoFar) (n : Name) → has_text n (session_names p) ≡ true → (s : Session) × (session_named n p ≡ Some s) × (slice_get p.sessions (place n (session_names p)) ≡ Some s)
-session_at p n h = by (position (bytes_eq n) (session_names p)) refl (some_place (bytes_eq n) (session_names p) ∙ h)
+pub session_at : (p : SoFar) (n : Name) → has_text n (session_names p) ≡ true → (s : Session) × (session_named n p ≡ Some s) × (slice_get p.sessions (index n (session_names p)) ≡ Some s)
+session_at p n h = by (position (bytes_eq n) (session_names p)) refl (some_index (bytes_eq n) (session_names p) ∙ h)
   where
     by : (o : Option ℕ) → position (bytes_eq n) (session_names p) ≡ o → is_some (position (bytes_eq n) (session_names p)) ≡ true
-        → (s : Session) × (session_named n p ≡ Some s) × (slice_get p.sessions (place n (session_names p)) ≡ Some s)
+        → (s : Session) × (session_named n p ≡ Some s) × (slice_get p.sessions (index n (session_names p)) ≡ Some s)
     by None e s = absurd (let no = ap is_some e in cc)
     by (Some i) e s =
         let w = (position-Some (bytes_eq n) (session_names p) i [] e).0 in
@@ -111,14 +111,14 @@ session_at p n h = by (position (bytes_eq n) (session_names p)) refl (some_place
         (x, session_found n p ∙ ap (option_and_then (slice_get p.sessions)) e ∙ there, ap (slice_get p.sessions) (ap (λ (o : Option ℕ). unwrap_or o 0) e) ∙ there)
 
 -- what a craft uses is declared, in a graph
-record IsKnown (p : SoFar) (c : SaidCraft) (g : Option Graph) : Type 0 where
+record IsKnown (p : SoFar) (c : CraftContent) (g : Option Graph) : Type 0 where
   session : has_text c.session (session_names p) ≡ true
   from : has_text c.from (roles_of g) ≡ true
   to : has_text c.to (roles_of g) ≡ true
   items : list_all (knows_item p g) c.items ≡ true
   openings : list_all (knows_variable g) (variables c.openings) ≡ true
 
-known_craft : (p : SoFar) (c : SaidCraft) (g : Option Graph) → (has_text c.session (session_names p) && has_text c.from (roles_of g) && has_text c.to (roles_of g) && list_all (knows_variable g) (variables c.know)
+known_craft : (p : SoFar) (c : CraftContent) (g : Option Graph) → (has_text c.session (session_names p) && has_text c.from (roles_of g) && has_text c.to (roles_of g) && list_all (knows_variable g) (variables c.know)
     && list_all (knows_item p g) c.items && list_all (knows_variable g) (variables c.openings) && knows_source p g c.seal) ≡ true → IsKnown p c g
 known_craft p c g h =
     let a = has_text c.session (session_names p) in
@@ -135,12 +135,12 @@ known_craft p c g h =
     let h1 = and_parts a b h2.0 in
     record { session = h1.0; from = h1.1; to = h2.1; items = h4.1; openings = h5.1 }
 
-items_form : (c : SaidCraft) → is_craft c ≡ true → list_all is_item c.items ≡ true
+items_form : (c : CraftContent) → is_craft c ≡ true → list_all is_item c.items ≡ true
 items_form c form = (craft_parts c form).items
 
 -- a craft in a graph
-in_graph : (p : SoFar) (c : SaidCraft) (g : Graph) (s : Session) → IsGraph g → is_craft c ≡ true → IsKnown p c (Some g) → rises (Some g) c ≡ true → frame_len s c ≤ 60000 → IsVersion s.version
-    → slice_get p.sessions (place c.session (session_names p)) ≡ Some s → FitsCraft p.sessions (craft p (Some g) c)
+in_graph : (p : SoFar) (c : CraftContent) (g : Graph) (s : Session) → IsGraph g → is_craft c ≡ true → IsKnown p c (Some g) → rises (Some g) c ≡ true → frame_len s c ≤ 60000 → IsVersion s.version
+    → slice_get p.sessions (index c.session (session_names p)) ≡ Some s → FitsCraft p.sessions (craft p (Some g) c)
 in_graph p c g s is form k r short version there =
     let items_rise = list_all (λ i. rise (variables i.delta) (variables_of (Some g)) && rise (tag_roles i.tags) (roles_of (Some g))) c.items in
     let r2 = and_parts (rise (variables c.know) (variables_of (Some g)) && items_rise) (rise (variables c.openings) (variables_of (Some g))) r in
@@ -153,14 +153,14 @@ in_graph p c g s is form k r short version there =
           (known_items p (Some g) c.items (items_form c form) k.items r1.1) k.openings r2.1 s (sym v) (sym n) short;
     }
 
-pub craft_fits : (p : SoFar) (m : Meant p) (c : SaidCraft) → is_craft c ≡ true → IsRight p (SaidMake c) → FitsCraft p.sessions (craft p (graph_for c.session p) c)
+pub craft_fits : (p : SoFar) (m : Meant p) (c : CraftContent) → is_craft c ≡ true → IsRight p (SaidMake c) → FitsCraft p.sessions (craft p (graph_for c.session p) c)
 craft_fits p m c form r =
     let g0 = graph_for c.session p in
     let fine : (rises g0 c && is_short g0 (session_named c.session p) c) ≡ true = not-false (rises g0 c && is_short g0 (session_named c.session p) c) r.form in
     let rs = and_parts (rises g0 c) (is_short g0 (session_named c.session p) c) fine in
     let k = known_craft p c g0 r.known in
     let s = session_at p c.session k.session in
-    let o : IsOf (graphs_of_past p) s.0 = session_in (graphs_of_past p) p.sessions (place c.session (session_names p)) s.0 m.sound.sessions s.2 in
+    let o : IsOf (graphs_of_past p) s.0 = session_in (graphs_of_past p) p.sessions (index c.session (session_names p)) s.0 m.sound.sessions s.2 in
     let g : Graph = o.graph in
     let at : g0 ≡ Some g = ap (option_and_then (λ (s : Session). slice_get (graphs_of_past p) s.graph)) s.1 ∙ o.there in
     let is : IsGraph g = graph_in (graphs_of_past p) s.0.graph g (all_graphs p m) o.there in

@@ -14,7 +14,7 @@ use Rattle.sg_parse.specs.Reading.{read}
 use Rattle.sg_parse.specs.declared.fault.ParseFault.{ParseFault}
 use Rattle.sg_parse.proofs.GivesGraph.{spells-read}
 use Rattle.sg_sched.specs.Text.{lines}
-use Rattle.sg_sched.specs.Format.Said.{Said, SaidBlock, SaidEdge, SaidHonest, SaidKey, SaidSession, SaidStart, SaidAct, SaidAbandon, SaidDeliver, SaidMake}
+use Rattle.sg_sched.specs.Format.Said.{LineContent, SaidBlock, SaidEdge, SaidHonest, SaidKey, SaidSession, SaidStart, SaidAct, SaidAbandon, SaidDeliver, SaidMake}
 use Rattle.sg_sched.specs.Format.Forms.{SaysLine}
 use Rattle.sg_sched.specs.Format.Items.{Item, GraphItem, EdgeItem, HonestItem, KeyItem, SessionItem, StepItem, as_block, as_edge, blocks, edges, graphs, graph_names, so_far}
 use Rattle.sg_sched.specs.Format.Made.{made}
@@ -28,11 +28,11 @@ use Rattle.sg_sched.proofs.FormatApart.{one_text, names_append, never_closed, ok
 use Rattle.sg_sched.proofs.FormatNotBoth.{not_both}
 use Rattle.sg_sched.proofs.FormatPairOnce.{no_pair_at}
 use Rattle.sg_read.proofs.RightLines.{right}
-use Rattle.sg_read.proofs.SamePast.{front, same_past, wrong_ends, edge_ends, some_edges, pair_named, pair_ends}
+use Rattle.sg_read.proofs.SamePast.{prefix, same_past, wrong_ends, edge_ends, some_edges, pair_named, pair_ends}
 
 -- ---- no block of the name `pair` where an edge is declared
 
-no_graph_made : (items : List Item) (said : Said) (g : Graph) → made items said ≡ Some (GraphItem g) → ⊥
+no_graph_made : (items : List Item) (said : LineContent) (g : Graph) → made items said ≡ Some (GraphItem g) → ⊥
 no_graph_made items SaidBlock g e = cc
 no_graph_made items (SaidEdge label from to) g e = cc
 no_graph_made items (SaidHonest who) g e = cc
@@ -48,7 +48,7 @@ no_graph_made items (SaidMake c) g e = cc
 abbrev NoPair : List Item → Type 0
 NoPair items = has_text (codes "pair") (graph_names (blocks items)) ≡ false
 
-edge_right : (items : List Item) (said : Said) (e : Edge) → made items said ≡ Some (EdgeItem e) → fault items said ≡ None → NoPair items
+edge_right : (items : List Item) (said : LineContent) (e : Edge) → made items said ≡ Some (EdgeItem e) → fault items said ≡ None → NoPair items
 edge_right items SaidBlock e m f = absurd (cc)
 edge_right items (SaidEdge label from to) e m f = (or_parts _ _ (right (so_far items) (SaidEdge label from to) f).once).1
 edge_right items (SaidHonest who) e m f = absurd (cc)
@@ -68,7 +68,7 @@ module _ (items : List Item) (i : Item) where
   edges_same : edges (i ∷ []) ≡ [] → edges (items ++ i ∷ []) ≡ edges items
   edges_same none = filter_map-append as_edge items (i ∷ []) ∙ ap (λ es. edges items ++ es) none ∙ append-nil (edges items)
 
-said_no_pair : (items : List Item) (said : Said) (i : Item) → made items said ≡ Some i → fault items said ≡ None → ((edges items ≡ [] → ⊥) → NoPair items) → (edges (items ++ i ∷ []) ≡ [] → ⊥) → NoPair (items ++ i ∷ [])
+said_no_pair : (items : List Item) (said : LineContent) (i : Item) → made items said ≡ Some i → fault items said ≡ None → ((edges items ≡ [] → ⊥) → NoPair items) → (edges (items ++ i ∷ []) ≡ [] → ⊥) → NoPair (items ++ i ∷ [])
 said_no_pair items said (GraphItem g) m f ih some = absurd (no_graph_made items said g m)
 said_no_pair items said (EdgeItem e) m f ih some = blocks_stay items (EdgeItem e) refl refl (edge_right items said e m f)
 said_no_pair items said (HonestItem who) m f ih some = blocks_stay items (HonestItem who) refl refl (ih (λ none. some (edges_same items (HonestItem who) refl ∙ none)))
@@ -107,11 +107,11 @@ no_kind : {k : Kind} → Some k ≡ None → ⊥
 no_kind e = cc
 
 -- a line with which a block begins is of a form
-no_form : (before : List Item) (line opening : Line) (ls ls' : List Line) → ((said : Said) → SaysLine line said → ⊥) → SaysLine opening SaidBlock → line ∷ ls ≡ opening ∷ ls' → ⊥
+no_form : (before : List Item) (line opening : Line) (ls ls' : List Line) → ((said : LineContent) → SaysLine line said → ⊥) → SaysLine opening SaidBlock → line ∷ ls ≡ opening ∷ ls' → ⊥
 no_form before line opening ls ls' none opens e = none SaidBlock (subst (λ l. SaysLine l SaidBlock) (sym (head_same e)) opens)
 
 -- and right by itself
-no_fault : (before : List Item) (line opening : Line) (ls ls' : List Line) (said : Said) (k : Kind) → SaysLine line said → fault before said ≡ Some k → SaysLine opening SaidBlock → fault before SaidBlock ≡ None
+no_fault : (before : List Item) (line opening : Line) (ls ls' : List Line) (said : LineContent) (k : Kind) → SaysLine line said → fault before said ≡ Some k → SaysLine opening SaidBlock → fault before SaidBlock ≡ None
     → line ∷ ls ≡ opening ∷ ls' → ⊥
 no_fault before line opening ls ls' said k says wrong opens in_group e =
     no_kind (sym wrong ∙ ap (fault before) (says_one opening said SaidBlock (subst (λ l. SaysLine l said) (head_same e) says) opens) ∙ in_group)
@@ -197,14 +197,14 @@ module _ (before : List Item) where
 module _ (ls : List Line) where
   two_wrong : (n m : ℕ) (k j : Kind) → IsWrongAt ls n k → IsWrongAt ls m j → (n ≡ m) × (k ≡ j)
   two_wrong n m k j w v =
-      let s = same_past (front w.declared) (front v.declared) (w.these ++ w.rest) (v.these ++ v.rest) (wrong_ends w.items w.these w.rest k w.wrong v.items) (wrong_ends v.items v.these v.rest j v.wrong w.items) (sym w.all ∙ v.all) in
+      let s = same_past (prefix w.declared) (prefix v.declared) (w.these ++ w.rest) (v.these ++ v.rest) (wrong_ends w.items w.these w.rest k w.wrong v.items) (wrong_ends v.items v.these v.rest j v.wrong w.items) (sym w.all ∙ v.all) in
       let f = same_wrong v.items w.these v.these w.rest v.rest k j (subst (λ is. IsWrong is w.these w.rest k) s.items_same w.wrong) v.wrong s.rest_same in
       (w.number ∙ (λ i. length (s.right_same i) + f.count i) ∙ sym v.number, f.kind)
 
   wrong_and_pair : (n m : ℕ) (k : Kind) → IsWrongAt ls n k → IsPairAt ls m → ⊥
   wrong_and_pair n m k w p =
       let some = some_edges p.right p.more p.edge_line p.items p.later p.label p.from p.to p.declared p.declared_later p.is_edge in
-      let s = same_past (front w.declared) (front p.declared_later) (w.these ++ w.rest) (p.block ++ p.rest) (wrong_ends w.items w.these w.rest k w.wrong p.later)
+      let s = same_past (prefix w.declared) (prefix p.declared_later) (w.these ++ w.rest) (p.block ++ p.rest) (wrong_ends w.items w.these w.rest k w.wrong p.later)
       (pair_ends p.later p.block p.rest p.text p.graph some p.is_block p.spelled p.named w.items) (sym w.all ∙ p.all) in
       wrong_or_pair p.later w.these w.rest p.block p.rest k p.text p.graph (subst (λ is. IsWrong is w.these w.rest k) s.items_same w.wrong) p.is_block p.spelled p.named
       (no_pair_block p.declared_later some) s.rest_same
@@ -213,7 +213,7 @@ module _ (ls : List Line) where
   two_pairs n m p q =
       let a = append_assoc p.right (p.edge_line ∷ p.more) (p.block ++ p.rest) in
       let b = append_assoc q.right (q.edge_line ∷ q.more) (q.block ++ q.rest) in
-      let s = same_past (front p.declared) (front q.declared) (p.edge_line ∷ (p.more ++ (p.block ++ p.rest))) (q.edge_line ∷ (q.more ++ (q.block ++ q.rest)))
+      let s = same_past (prefix p.declared) (prefix q.declared) (p.edge_line ∷ (p.more ++ (p.block ++ p.rest))) (q.edge_line ∷ (q.more ++ (q.block ++ q.rest)))
       (edge_ends p.items p.edge_line (p.more ++ (p.block ++ p.rest)) p.label p.from p.to p.is_edge q.items q.no_edge)
       (edge_ends q.items q.edge_line (q.more ++ (q.block ++ q.rest)) q.label q.from q.to q.is_edge p.items p.no_edge) (sym a ∙ sym p.all ∙ q.all ∙ b) in
       p.number ∙ ap (λ ls. suc (length ls)) s.right_same ∙ sym q.number

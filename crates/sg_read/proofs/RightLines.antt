@@ -3,13 +3,13 @@ use Rattle.std.proofs.Common.{◌≡◌, ℕ, ◌≤◌, Bool, true, false, not,
 use Rattle.std.specs.Prelude.{Option, None, nat_lt}
 use Rattle.std.proofs.lemmas.Bool.{ltb-false, not-false}
 use Rattle.sg_model.proofs.Small.{none_parts}
-use Rattle.sg_sched.specs.Format.Said.{Said}
+use Rattle.sg_sched.specs.Format.Said.{LineContent}
 use Rattle.sg_sched.specs.Format.Items.{SoFar}
 use Rattle.sg_sched.specs.Format.Kinds.{Kind, Form, Unknown, Twice, NotHonest}
 use Rattle.sg_sched.specs.Format.Faults.{where', is_wrong, too_many, is_known, is_repeated, is_honest, fault_after}
 
 -- nothing is wrong with it
-pub record IsRight (p : SoFar) (said : Said) : Type 0 where
+pub record IsRight (p : SoFar) (said : LineContent) : Type 0 where
   pub form : is_wrong p said ≡ false
   pub few : too_many p said ≡ None
   pub known : is_known p said ≡ true
@@ -20,7 +20,7 @@ no_kind : (b : Bool) (k : Kind) → where' b k ≡ None → b ≡ false
 no_kind true k h = absurd (cc)
 no_kind false k h = refl
 
-pub right : (p : SoFar) (said : Said) → fault_after p said ≡ None → IsRight p said
+pub right : (p : SoFar) (said : LineContent) → fault_after p said ≡ None → IsRight p said
 right p said h =
     let e : List (Option Kind) = [] in
     let n = where' (not (is_honest p said)) NotHonest in

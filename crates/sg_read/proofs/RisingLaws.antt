@@ -4,10 +4,10 @@ use Rattle.std.specs.Prelude.{nat_lt}
 use Rattle.std.specs.List.{list_all}
 use Rattle.sg_model.specs.Names.{Name}
 use Rattle.sg_model.specs.Lists.{has_text, rises_from}
-use Rattle.sg_sched.specs.Format.Items.{place}
+use Rattle.sg_sched.specs.Format.Items.{index}
 use Rattle.sg_sched.specs.Format.Faults.{rise}
 use Rattle.sg_read.specs.Crafting.{rise_on}
-use Rattle.sg_read.proofs.Places.{or_place}
+use Rattle.sg_read.proofs.Indices.{or_index}
 
 no_more : (r : Bool) → r ≡ r && true
 no_more true = refl
@@ -20,13 +20,13 @@ tests true false r s t = refl
 tests false b r s t = refl
 
 rise_from : (rose : Bool) (least : ℕ) (ns ds : List Name)
-    → rise_on rose least ns ds ≡ (if list_all (λ n. has_text n ds) ns then rose && rises_from least (map (λ n. place n ds) ns) else true)
+    → rise_on rose least ns ds ≡ (if list_all (λ n. has_text n ds) ns then rose && rises_from least (map (λ n. index n ds) ns) else true)
 rise_from rose least [] ds = no_more rose
 rise_from rose least (n ∷ ns) ds =
-    let x = place n ds in
-    or_place (λ x. rise_on (rose && not (nat_lt x least)) (suc x) ns ds) true n ds
+    let x = index n ds in
+    or_index (λ x. rise_on (rose && not (nat_lt x least)) (suc x) ns ds) true n ds
     ∙ ap (λ b. if has_text n ds then b else true) (rise_from (rose && not (nat_lt x least)) (suc x) ns ds)
-    ∙ tests (has_text n ds) (list_all (λ n. has_text n ds) ns) rose (not (nat_lt x least)) (rises_from (suc x) (map (λ n. place n ds) ns))
+    ∙ tests (has_text n ds) (list_all (λ n. has_text n ds) ns) rose (not (nat_lt x least)) (rises_from (suc x) (map (λ n. index n ds) ns))
 
 pub rise_is : (ns ds : List Name) → rise_on true 0 ns ds ≡ rise ns ds
 rise_is ns ds = rise_from true 0 ns ds

@@ -1,4 +1,4 @@
--- Two ways to read the same lines come to the same place, if neither goes on.
+-- Two ways to read the same lines come to the same index, if neither goes on.
 use Rattle.std.proofs.Common.{◌≡◌, ℕ, true, List, [], ◌∷◌, ◌++◌, refl, sym, ap, ◌∙◌, subst, append_assoc, append-nil}
 use Rattle.std.specs.Prelude.{codes}
 use Rattle.std.proofs.lemmas.List.Elements.{filter_map-append}
@@ -20,19 +20,19 @@ use Rattle.sg_sched.specs.Format.Spells.{Line, IsBlock, Add, Skip, Say, Show, De
 use Rattle.sg_sched.proofs.FormatReading.{says_one}
 use Rattle.sg_sched.proofs.FormatOnce.{not_skipped, head_same}
 use Rattle.sg_sched.proofs.FormatPieces.{laid, one_add, say_or_show, skip_or_show, ok_same}
-use Rattle.sg_sched.proofs.FormatOne.{Front, Done, More, of_declare}
+use Rattle.sg_sched.proofs.FormatOne.{Prefix, Done, More, of_declare}
 use Rattle.sg_sched.proofs.FormatApart.{add_or_wrong, one_text, names_append}
 use Rattle.sg_sched.proofs.FormatNotBoth.{behind}
 
 -- lines that declare items, from the front
-pub front : {right : List Line} {items : List Item} → Declare right items → Front [] right items
-front {right = right} {items = items} d = subst (λ ls. Front [] ls items) (append-nil right) (of_declare d [] items Done)
+pub prefix : {right : List Line} {items : List Item} → Declare right items → Prefix [] right items
+prefix {right = right} {items = items} d = subst (λ ls. Prefix [] ls items) (append-nil right) (of_declare d [] items Done)
 
--- ---- the same place
+-- ---- the same index
 
 -- no way to these items goes on from here
 abbrev pub Ends : List Item → List Line → List Item → Type 0
-Ends items rest all = (new : List Item) (more later : List Line) → Add items more new → rest ≡ more ++ later → (ls : List Line) → Front (items ++ new) ls all → ⊥
+Ends items rest all = (new : List Item) (more later : List Line) → Add items more new → rest ≡ more ++ later → (ls : List Line) → Prefix (items ++ new) ls all → ⊥
 
 -- the same lines, the same items, and the same rest
 pub record SamePast (right right' : List Line) (items items' : List Item) (rest rest' : List Line) : Type 0 where
@@ -40,14 +40,14 @@ pub record SamePast (right right' : List Line) (items items' : List Item) (rest 
   pub items_same : items ≡ items'
   pub rest_same : rest ≡ rest'
 
-pub same_past : {before items items' : List Item} {right right' : List Line} → Front before right items → Front before right' items' → (rest rest' : List Line) → Ends items rest items' → Ends items' rest' items
+pub same_past : {before items items' : List Item} {right right' : List Line} → Prefix before right items → Prefix before right' items' → (rest rest' : List Line) → Ends items rest items' → Ends items' rest' items
     → right ++ rest ≡ right' ++ rest' → SamePast right right' items items' rest rest'
 same_past Done Done rest rest' p q e = record { right_same = refl; items_same = refl; rest_same = e }
 same_past Done (More {before = b} {new = n} {more = m} {rest = r} a f) rest rest' p q e = absurd (p n m (r ++ rest') a (e ∙ append_assoc m r rest') r f)
 same_past (More {before = b} {new = n} {more = m} {rest = r} a f) Done rest rest' p q e = absurd (q n m (r ++ rest) a (sym e ∙ append_assoc m r rest) r f)
 same_past (More {before = b} {new = n} {more = m} {rest = r} a f) (More {new = n'} {all = all'} {more = m'} {rest = r'} a' f') rest rest' p q e =
     let k = one_add b m m' n n' (r ++ rest) (r' ++ rest') a a' (sym (append_assoc m r rest) ∙ e ∙ append_assoc m' r' rest') in
-    let s = same_past f (subst (λ x. Front (b ++ x) r' all') (sym k.items) f') rest rest' p q k.behind in
+    let s = same_past f (subst (λ x. Prefix (b ++ x) r' all') (sym k.items) f') rest rest' p q k.behind in
     record { right_same = λ i. k.lines i ++ s.right_same i; items_same = s.items_same; rest_same = s.rest_same }
 
 -- a way ends at wrong lines
@@ -61,7 +61,7 @@ left_empty [] ys e = refl
 left_empty (x ∷ xs) ys e = absurd (cc)
 
 -- an edge stays
-edges_stay : {before all : List Item} {ls : List Line} → Front before ls all → (edges before ≡ [] → ⊥) → edges all ≡ [] → ⊥
+edges_stay : {before all : List Item} {ls : List Line} → Prefix before ls all → (edges before ≡ [] → ⊥) → edges all ≡ [] → ⊥
 edges_stay Done h e = h e
 edges_stay (More {before = b} {new = n} a f) h e = edges_stay f (λ none. h (left_empty (edges b) (edges n) (sym (filter_map-append as_edge b n) ∙ none))) e
 
@@ -71,7 +71,7 @@ edge_ends items line rest label from to says all none new _ later (Skip {line = 
 edge_ends items line rest label from to says all none _ _ later (Say {line = l} {said = t} {item = i} says' right makes) e ls f =
     let same : t ≡ SaidEdge label from to = says_one line t (SaidEdge label from to) (subst (λ l. SaysLine l t) (sym (head_same e)) says') says in
     let item : i ≡ EdgeItem (edge label from to) = some_same (sym makes ∙ ap (made items) same) in
-    edges_stay (subst (λ i. Front (items ++ i ∷ []) ls all) item f) (λ h. right_empty (edges items) (edge label from to) (sym (filter_map-append as_edge items (EdgeItem (edge label from to) ∷ [])) ∙ h)) none
+    edges_stay (subst (λ i. Prefix (items ++ i ∷ []) ls all) item f) (λ h. right_empty (edges items) (edge label from to) (sym (filter_map-append as_edge items (EdgeItem (edge label from to) ∷ [])) ∙ h)) none
 edge_ends items line rest label from to says all none _ more later (Show {text = text} b spells fresh) e ls f =
     absurd (other (says_one line SaidBlock (SaidEdge label from to) (subst (λ l. SaysLine l SaidBlock) (sym (head_same (e ∙ laid items more later text b))) b.opened.opens) says))
   where
@@ -79,7 +79,7 @@ edge_ends items line rest label from to says all none _ more later (Show {text =
     other p = cc
 
 -- an edge is declared by an edge line
-edge_then : (before all : List Item) (ls more : List Line) (line : Line) (label : Name) (from to : ℕ) → Front before ls all → SaysLine line (SaidEdge label from to) → ls ≡ line ∷ more → edges all ≡ [] → ⊥
+edge_then : (before all : List Item) (ls more : List Line) (line : Line) (label : Name) (from to : ℕ) → Prefix before ls all → SaysLine line (SaidEdge label from to) → ls ≡ line ∷ more → edges all ≡ [] → ⊥
 edge_then before all _ more line label from to Done says e none = never e
   where
     never : {x : Line} {xs : List Line} → [] ≡ x ∷ xs → ⊥
@@ -90,7 +90,7 @@ edge_then before all _ more line label from to (More {new = n} {more = m} {rest 
 pub some_edges : (right more : List Line) (line : Line) (items later : List Item) (label : Name) (from to : ℕ) → Declare right items → Declare (right ++ line ∷ more) later → SaysLine line (SaidEdge label from to)
     → edges later ≡ [] → ⊥
 some_edges right more line items later label from to d d' says none =
-    edge_then items later (line ∷ more) more line label from to (behind d (line ∷ more) later (front d')) says refl none
+    edge_then items later (line ∷ more) more line label from to (behind d (line ∷ more) later (prefix d')) says refl none
 
 -- ---- the graph `pair`
 

@@ -34,11 +34,11 @@ one_more [] (k ∷ ls) n l h = absurd (no_suc h)
 one_more (m ∷ ns) [] n l h = absurd (no_suc (sym h))
 one_more (m ∷ ns) (k ∷ ls) n l h = ap (λ ss. session_of m k ∷ ss) (one_more ns ls n l (omega (arith, h)))
 
-pub at_place : (ns : List Name) (ls : List Like) (i : ℕ) (n : Name) (l : Like) → slice_get ns i ≡ Some n → slice_get ls i ≡ Some l → slice_get (sessions_of ns ls) i ≡ Some (session_of n l)
-at_place [] ls i n l p q = absurd (cc)
-at_place (m ∷ ns) [] i n l p q = absurd (cc)
-at_place (m ∷ ns) (k ∷ ls) zero n l p q = let a : m ≡ n = cc in let b : k ≡ l = cc in λ i. Some (session_of (a i) (b i))
-at_place (m ∷ ns) (k ∷ ls) (suc i) n l p q = at_place ns ls i n l p q
+pub at_index : (ns : List Name) (ls : List Like) (i : ℕ) (n : Name) (l : Like) → slice_get ns i ≡ Some n → slice_get ls i ≡ Some l → slice_get (sessions_of ns ls) i ≡ Some (session_of n l)
+at_index [] ls i n l p q = absurd (cc)
+at_index (m ∷ ns) [] i n l p q = absurd (cc)
+at_index (m ∷ ns) (k ∷ ls) zero n l p q = let a : m ≡ n = cc in let b : k ≡ l = cc in λ i. Some (session_of (a i) (b i))
+at_index (m ∷ ns) (k ∷ ls) (suc i) n l p q = at_index ns ls i n l p q
 
 -- ---- alike
 

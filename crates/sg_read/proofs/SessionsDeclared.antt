@@ -13,9 +13,9 @@ use Rattle.sg_model.proofs.Small.{all-append, and_left, and_right}
 use Rattle.sg_protocol.specs.Graph.{Graph, Edge}
 use Rattle.sg_protocol.specs.TextLaws.{IsVersion}
 use Rattle.sg_sched.specs.Pair.{graphs_of, pair_graph, edge}
-use Rattle.sg_sched.specs.Format.Said.{Said, SaidBlock, SaidEdge, SaidHonest, SaidKey, SaidSession, SaidStart, SaidAct, SaidAbandon, SaidDeliver, SaidMake}
+use Rattle.sg_sched.specs.Format.Said.{LineContent, SaidBlock, SaidEdge, SaidHonest, SaidKey, SaidSession, SaidStart, SaidAct, SaidAbandon, SaidDeliver, SaidMake}
 use Rattle.sg_sched.specs.Format.Forms.{is_form, is_wide, are_names}
-use Rattle.sg_sched.specs.Format.Items.{Session, Item, GraphItem, EdgeItem, HonestItem, KeyItem, SessionItem, StepItem, SoFar, so_far, graphs_of_past, graph_names, session_names, graph_for, labels_of, place}
+use Rattle.sg_sched.specs.Format.Items.{Session, Item, GraphItem, EdgeItem, HonestItem, KeyItem, SessionItem, StepItem, SoFar, so_far, graphs_of_past, graph_names, session_names, graph_for, labels_of, index}
 use Rattle.sg_protocol.specs.Schedule.{Step, StartStep, ActStep, AbandonStep, DeliverStep, CraftStep}
 use Rattle.sg_sched.specs.Format.Made.{made_after, values, what_of, craft}
 use Rattle.sg_sched.specs.Format.Values.{bytes_of}
@@ -24,7 +24,7 @@ use Rattle.sg_sched.specs.Format.Spells.{Line, Add, Skip, Say, Show, Declare, No
 use Rattle.sg_read.specs.Plus.{plus}
 use Rattle.sg_read.specs.Whole.{HaveCasts}
 use Rattle.sg_read.proofs.Growing.{one_more}
-use Rattle.sg_read.proofs.Places.{some_place}
+use Rattle.sg_read.proofs.Indices.{some_index}
 use Rattle.sg_read.proofs.RightLines.{IsRight, right, in_group}
 
 -- ---- what is held of graphs and sessions
@@ -66,10 +66,10 @@ two_parts [] hs a = tt
 two_parts (g ∷ gs) hs a = (a.0, two_parts gs hs a.1)
 
 -- the graph of a name that is there
-named : (n : Name) (gs : List Graph) → has_text n (graph_names gs) ≡ true → (g : Graph) × (slice_get gs (place n (graph_names gs)) ≡ Some g)
-named n gs h = by (position (bytes_eq n) (graph_names gs)) refl (some_place (bytes_eq n) (graph_names gs) ∙ h)
+named : (n : Name) (gs : List Graph) → has_text n (graph_names gs) ≡ true → (g : Graph) × (slice_get gs (index n (graph_names gs)) ≡ Some g)
+named n gs h = by (position (bytes_eq n) (graph_names gs)) refl (some_index (bytes_eq n) (graph_names gs) ∙ h)
   where
-    by : (o : Option ℕ) → position (bytes_eq n) (graph_names gs) ≡ o → is_some (position (bytes_eq n) (graph_names gs)) ≡ true → (g : Graph) × (slice_get gs (place n (graph_names gs)) ≡ Some g)
+    by : (o : Option ℕ) → position (bytes_eq n) (graph_names gs) ≡ o → is_some (position (bytes_eq n) (graph_names gs)) ≡ true → (g : Graph) × (slice_get gs (index n (graph_names gs)) ≡ Some g)
     by None e s = absurd (let no = ap is_some e in cc)
     by (Some i) e s =
         let w = (position-Some (bytes_eq n) (graph_names gs) i [] e).0 in
@@ -78,11 +78,11 @@ named n gs h = by (position (bytes_eq n) (graph_names gs)) refl (some_place (byt
         let d : Graph = pair_graph [] in
         (get_or gs i d, ap (slice_get gs) (ap (λ (o : Option ℕ). unwrap_or o 0) e) ∙ slice_get-get_or gs i d within)
 
-fits : (p : SoFar) (graph : Name) (names : List Name) (g : Graph) → has_text graph (graph_names (graphs_of_past p)) ≡ true → slice_get (graphs_of_past p) (place graph (graph_names (graphs_of_past p))) ≡ Some g
+fits : (p : SoFar) (graph : Name) (names : List Name) (g : Graph) → has_text graph (graph_names (graphs_of_past p)) ≡ true → slice_get (graphs_of_past p) (index graph (graph_names (graphs_of_past p))) ≡ Some g
     → fits_graph p graph names ≡ true → length names ≡ length g.roles
 fits p graph names g known there h =
-    let o : Option Graph = if has_text graph (graph_names (graphs_of_past p)) then slice_get (graphs_of_past p) (place graph (graph_names (graphs_of_past p))) else None in
-    let e : o ≡ Some g = ap (λ b. if b then slice_get (graphs_of_past p) (place graph (graph_names (graphs_of_past p))) else None) known ∙ there in
+    let o : Option Graph = if has_text graph (graph_names (graphs_of_past p)) then slice_get (graphs_of_past p) (index graph (graph_names (graphs_of_past p))) else None in
+    let e : o ≡ Some g = ap (λ b. if b then slice_get (graphs_of_past p) (index graph (graph_names (graphs_of_past p))) else None) known ∙ there in
     eqb-true (length names) (length g.roles) (sym (ap (λ o. option_map_or (λ (g : Graph). length names == length g.roles) o true) e) ∙ h)
 
 -- ---- one item more
@@ -119,7 +119,7 @@ module _ (p : SoFar) (s : Sound p) where
       }
 
   session_more : (name graph : Name) (nonce : ℕ) (names : List Name) (version : ℕ) → is_form (SaidSession name graph nonce names version) ≡ true
-      → IsRight p (SaidSession name graph nonce names version) → Sound (plus p (SessionItem (record { name = name; graph = place graph (graph_names (graphs_of_past p)); nonce = nonce; names = names; version = version })))
+      → IsRight p (SaidSession name graph nonce names version) → Sound (plus p (SessionItem (record { name = name; graph = index graph (graph_names (graphs_of_past p)); nonce = nonce; names = names; version = version })))
   session_more name graph nonce names version form r =
       let gs = graphs_of_past p in
       let f = or_parts _ (not (fits_graph p graph names)) r.form in
@@ -136,7 +136,7 @@ module _ (p : SoFar) (s : Sound p) where
           record {
             graph = at.0;
             there = at.1;
-            roles = some_at gs (place graph (graph_names gs)) at.0 s.graphs at.1;
+            roles = some_at gs (index graph (graph_names gs)) at.0 s.graphs at.1;
             count = fits p graph names at.0 r.known at.1 (not-false (fits_graph p graph names) f.1);
             differ = and_right (a && b) c abc;
             names = and_right a b ab;
@@ -159,7 +159,7 @@ module _ (p : SoFar) (s : Sound p) where
   step_more x i same = subst (λ i. Sound (plus p i)) same (other_more (plus p (StepItem x)) refl refl (omega arith))
 
   -- a line that is right
-  pub said_more : (said : Said) (i : Item) → is_form said ≡ true → IsRight p said → made_after p said ≡ Some i → Sound (plus p i)
+  pub said_more : (said : LineContent) (i : Item) → is_form said ≡ true → IsRight p said → made_after p said ≡ Some i → Sound (plus p i)
   said_more SaidBlock i form r m = absurd (cc)
   said_more (SaidEdge label from to) i form r m =
       let same : EdgeItem (edge label from to) ≡ i = cc in
@@ -171,12 +171,12 @@ module _ (p : SoFar) (s : Sound p) where
       let same : k ≡ i = cc in
       subst (λ i. Sound (plus p i)) same (other_more (plus p k) refl refl (omega arith))
   said_more (SaidSession name graph nonce names version) i form r m =
-      let s : Item = SessionItem (record { name = name; graph = place graph (graph_names (graphs_of_past p)); nonce = nonce; names = names; version = version }) in
+      let s : Item = SessionItem (record { name = name; graph = index graph (graph_names (graphs_of_past p)); nonce = nonce; names = names; version = version }) in
       let same : s ≡ i = cc in
       subst (λ i. Sound (plus p i)) same (session_more name graph nonce names version form r)
-  said_more (SaidStart who session) i form r m = step_more (StartStep who (place session (session_names p))) i (cc)
-  said_more (SaidAct who session label vs) i form r m = step_more (ActStep who (place session (session_names p)) (place label (labels_of (graph_for session p))) (values (graph_for session p) vs)) i (cc)
-  said_more (SaidAbandon who session) i form r m = step_more (AbandonStep who (place session (session_names p))) i (cc)
+  said_more (SaidStart who session) i form r m = step_more (StartStep who (index session (session_names p))) i (cc)
+  said_more (SaidAct who session label vs) i form r m = step_more (ActStep who (index session (session_names p)) (index label (labels_of (graph_for session p))) (values (graph_for session p) vs)) i (cc)
+  said_more (SaidAbandon who session) i form r m = step_more (AbandonStep who (index session (session_names p))) i (cc)
   said_more (SaidDeliver who what) i form r m = step_more (DeliverStep who (what_of what)) i (cc)
   said_more (SaidMake c) i form r m = step_more (CraftStep (craft p (graph_for c.session p) c)) i (cc)
 

@@ -13,12 +13,12 @@ use Rattle.sg_model.proofs.Small.{drop_at}
 use Rattle.sg_protocol.specs.Graph.{Graph}
 use Rattle.sg_sched.specs.Format.Said.{Given}
 use Rattle.sg_sched.specs.Format.Values.{value_of}
-use Rattle.sg_sched.specs.Format.Items.{variables_of, place}
+use Rattle.sg_sched.specs.Format.Items.{variables_of, index}
 use Rattle.sg_sched.specs.Format.Made.{written}
 use Rattle.sg_sched.specs.Format.Faults.{knows_variable}
 use Rattle.sg_read.specs.Adding.{known_values}
 use Rattle.sg_read.specs.Numbers.{all_made, number_of, numbers_of, numbered, from_number}
-use Rattle.sg_read.proofs.Places.{known_place}
+use Rattle.sg_read.proofs.Indices.{known_index}
 
 -- ---- in rising number
 
@@ -66,29 +66,29 @@ id_map : {A : Type 0} (o : Option A) → option_map (λ x. x) o ≡ o
 id_map None = refl
 id_map (Some x) = refl
 
-number_is : (names : List Name) (v : Given) → number_of names v ≡ (if has_text v.variable names then Some (place v.variable names) else None)
-number_is names v = sym (id_map (number_of names v)) ∙ known_place (λ n. n) v.variable names
+number_is : (names : List Name) (v : Given) → number_of names v ≡ (if has_text v.variable names then Some (index v.variable names) else None)
+number_is names v = sym (id_map (number_of names v)) ∙ known_index (λ n. n) v.variable names
 
-numbers_are : (names : List Name) (vs : List Given) → numbers_of names vs ≡ (if list_all (λ v. has_text v.variable names) vs then Some (map (λ v. place v.variable names) vs) else None)
-numbers_are names vs = all_is (number_of names) (λ v. has_text v.variable names) (λ v. place v.variable names) (number_is names) vs
+numbers_are : (names : List Name) (vs : List Given) → numbers_of names vs ≡ (if list_all (λ v. has_text v.variable names) vs then Some (map (λ v. index v.variable names) vs) else None)
+numbers_are names vs = all_is (number_of names) (λ v. has_text v.variable names) (λ v. index v.variable names) (number_is names) vs
 
 pub as_many : (names : List Name) (vs : List Given) (ns : List ℕ) → numbers_of names vs ≡ Some ns → length ns ≡ length vs
 as_many names vs ns h = by (list_all (λ v. has_text v.variable names) vs) (sym (numbers_are names vs) ∙ h)
   where
-    by : (b : Bool) → (if b then Some (map (λ v. place v.variable names) vs) else None) ≡ Some ns → length ns ≡ length vs
-    by true e = let same : map (λ v. place v.variable names) vs ≡ ns = cc in ap length (sym same) ∙ length-map vs (λ v. place v.variable names)
+    by : (b : Bool) → (if b then Some (map (λ v. index v.variable names) vs) else None) ≡ Some ns → length ns ≡ length vs
+    by true e = let same : map (λ v. index v.variable names) vs ≡ ns = cc in ap length (sym same) ∙ length-map vs (λ v. index v.variable names)
     by false e = absurd (cc)
 
-pairs_are : (g : Option Graph) (vs : List Given) → numbered (map (λ v. place v.variable (variables_of g)) vs) vs ≡ map (written g) vs
+pairs_are : (g : Option Graph) (vs : List Given) → numbered (map (λ v. index v.variable (variables_of g)) vs) vs ≡ map (written g) vs
 pairs_are g [] = refl
 pairs_are g (v ∷ vs) = ap (λ ws. written g v ∷ ws) (pairs_are g vs)
 
 pub by_numbers : (g : Option Graph) (vs : List Given) → option_map (λ ns. from_number 0 (numbered ns vs)) (numbers_of (variables_of g) vs) ≡ known_values g vs
 by_numbers g vs = ap (option_map (λ ns. from_number 0 (numbered ns vs))) (numbers_are (variables_of g) vs) ∙ by (list_all (λ v. knows_variable g v.variable) vs)
   where
-    by : (b : Bool) → option_map (λ ns. from_number 0 (numbered ns vs)) (if b then Some (map (λ v. place v.variable (variables_of g)) vs) else None)
+    by : (b : Bool) → option_map (λ ns. from_number 0 (numbered ns vs)) (if b then Some (map (λ v. index v.variable (variables_of g)) vs) else None)
         ≡ (if b then Some (in_order 32 (map (written g) vs)) else None)
-    by true = ap (λ x. Some x) (whole (numbered (map (λ v. place v.variable (variables_of g)) vs) vs) ∙ ap (in_order 32) (pairs_are g vs))
+    by true = ap (λ x. Some x) (whole (numbered (map (λ v. index v.variable (variables_of g)) vs) vs) ∙ ap (in_order 32) (pairs_are g vs))
     by false = refl
 
 -- ---- what stands in the place of a number

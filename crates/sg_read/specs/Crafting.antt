@@ -8,10 +8,10 @@ use Rattle.sg_protocol.specs.Graph.{Graph}
 use Rattle.sg_protocol.specs.Frame.{tag_len}
 use Rattle.sg_protocol.specs.Spelling.{value_bytes}
 use Rattle.sg_protocol.specs.Schedule.{confounder, CraftJoin, Source, Key, CopyItem, CopySeal, Zero, CraftItem, Step, CraftStep}
-use Rattle.sg_sched.specs.Format.Said.{Committed, From, FromKey, FromItem, FromSeal, FromZero, SaidItem, SaidCraft}
+use Rattle.sg_sched.specs.Format.Said.{Committed, From, FromKey, FromItem, FromSeal, FromZero, ItemContent, CraftContent}
 use Rattle.sg_sched.specs.Format.Values.{value_of}
 use Rattle.sg_sched.specs.Format.Items.{Session, SoFar, roles_of, variables_of, labels_of, has_key}
-use Rattle.sg_read.specs.Adding.{session_place}
+use Rattle.sg_read.specs.Adding.{session_index}
 use Rattle.sg_read.specs.Numbers.{all_made}
 
 -- ---- what is made
@@ -44,11 +44,11 @@ abbrev pub known_tag : SoFar → Option Graph → Name × From → Option (ℕ �
 known_tag past g t = option_and_then (λ r. option_map (tag_of r) (known_source past g t.1)) (known_role g t.0)
 
 -- an item of these parts
-abbrev pub item_of : SaidItem → ℕ → List Opening → Map Source → CraftItem
+abbrev pub item_of : ItemContent → ℕ → List Opening → Map Source → CraftItem
 item_of i label delta tags = record { label = label; time = i.time; delta = delta; tags = tags }
 
 -- an item
-abbrev pub known_item : SoFar → Option Graph → SaidItem → Option CraftItem
+abbrev pub known_item : SoFar → Option Graph → ItemContent → Option CraftItem
 known_item past g i =
     option_and_then (λ l. option_and_then (λ ds. option_map (item_of i l ds) (all_made (known_tag past g) i.tags)) (all_made (known_opening g) i.delta))
     (position (bytes_eq i.label) (labels_of g))
@@ -64,7 +64,7 @@ abbrev pub lists_of : List Opening → List CraftItem → List Opening → Lists
 lists_of know items openings = record { know = know; items = items; openings = openings }
 
 -- the lists, if all their names are declared
-abbrev pub known_lists : SoFar → Option Graph → SaidCraft → Option Lists
+abbrev pub known_lists : SoFar → Option Graph → CraftContent → Option Lists
 known_lists past g c =
     option_and_then (λ ks. option_and_then (λ is. option_map (lists_of ks is) (all_made (known_opening g) c.openings))
     (all_made (known_item past g) c.items)) (all_made (known_opening g) c.know)
@@ -74,11 +74,11 @@ abbrev pub ends_of : ℕ → ℕ → ℕ → ℕ × (ℕ × ℕ)
 ends_of session from to = (session, (from, to))
 
 -- the session and the roles of a craft, if they are declared
-abbrev pub known_ends : SoFar → Option Graph → SaidCraft → Option (ℕ × (ℕ × ℕ))
-known_ends past g c = option_and_then (λ s. option_and_then (λ f. option_map (ends_of s f) (known_role g c.to)) (known_role g c.from)) (session_place past c.session)
+abbrev pub known_ends : SoFar → Option Graph → CraftContent → Option (ℕ × (ℕ × ℕ))
+known_ends past g c = option_and_then (λ s. option_and_then (λ f. option_map (ends_of s f) (known_role g c.to)) (known_role g c.from)) (session_index past c.session)
 
 -- the craft of these parts
-abbrev pub craft_of : SaidCraft → ℕ × (ℕ × ℕ) → Lists → Source → Step
+abbrev pub craft_of : CraftContent → ℕ × (ℕ × ℕ) → Lists → Source → Step
 craft_of c ends lists seal = CraftStep (record {
   session = ends.0;
   from = ends.1.0;
@@ -91,7 +91,7 @@ craft_of c ends lists seal = CraftStep (record {
 })
 
 -- the step of a craft
-abbrev pub craft_step : SoFar → Option Graph → SaidCraft → Option Step
+abbrev pub craft_step : SoFar → Option Graph → CraftContent → Option Step
 craft_step past g c = option_and_then (λ ends. option_and_then (λ lists. option_map (craft_of c ends lists) (known_source past g c.seal)) (known_lists past g c)) (known_ends past g c)
 
 -- ---- what rises
@@ -113,7 +113,7 @@ abbrev pub opening_len : Committed → ℕ
 opening_len c = 22 + length (value_bytes (value_of c.value))
 
 -- the bytes of an item
-abbrev pub item_len : ℕ → SaidItem → ℕ
+abbrev pub item_len : ℕ → ItemContent → ℕ
 item_len version i = 9 + 33 * length i.delta + (1 + tag_len version) * length i.tags
 
 -- the bytes of a name
@@ -125,5 +125,5 @@ abbrev pub join_len : List Name → Option CraftJoin → ℕ
 join_len names join = option_map_or (λ j. 49 + lens name_len (unwrap_or j.names names)) join 0
 
 -- the bytes of a crafted frame
-abbrev pub frame_len : Session → SaidCraft → ℕ
+abbrev pub frame_len : Session → CraftContent → ℕ
 frame_len s c = 42 + join_len s.names c.join + lens (item_len s.version) c.items + lens opening_len c.openings + tag_len s.version

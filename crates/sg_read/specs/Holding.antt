@@ -8,7 +8,7 @@ use Rattle.sg_sched.specs.Format.Items.{Session}
 abbrev pub HasRoles : Graph → Type 0
 HasRoles g = 2 ≤ length g.roles
 
--- a session has a cast, and the place of its graph is below `graphs`
+-- a session has a cast, and the index of its graph is below `graphs`
 pub record HasCast (graphs : ℕ) (s : Session) : Type 0 where
   pub graph : s.graph < graphs
   pub version : IsVersion s.version

@@ -7,6 +7,6 @@ pub mod Taken
 pub mod Holding
 pub mod Meant
 pub mod Block
-pub mod Standing
+pub mod ReadSoFar
 pub mod Whole
 pub mod Laws

@@ -54,21 +54,21 @@ impl Blocks {
         self.names.has(name)
     }
 
-    /// The place of the graph of this name, if there is one.
-    pub fn place(&self, name: &Name) -> Option<usize>
-        ensures place { result ≡ position (bytes_eq name.now) (map (λ g. g.name) self.now) }
+    /// The index of the graph of this name, if there is one.
+    pub fn index(&self, name: &Name) -> Option<usize>
+        ensures index { result ≡ position (bytes_eq name.now) (map (λ g. g.name) self.now) }
         ensures within { IfSome result (λ i. i < length self.now) }
     {
-        self.names.place(name)
+        self.names.index(name)
     }
 
-    /// The graph at a place.
-    pub fn get(&self, place: usize) -> &Graph
-        requires { place < length self.now }
-        ensures graph { slice_get self.now place ≡ Some result.now }
+    /// The graph at an index.
+    pub fn get(&self, index: usize) -> &Graph
+        requires { index < length self.now }
+        ensures graph { slice_get self.now index ≡ Some result.now }
         ensures roles { HasRoles result.now }
     {
-        self.list.get(place)
+        self.list.get(index)
     }
 
     /// Adds a graph of a new name.

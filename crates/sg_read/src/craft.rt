@@ -16,8 +16,8 @@ use crate::values::spelled_value;
 use byteorder::{BigEndian, ByteOrder};
 use sg_base::{Label, Name, Opening, OutOfMemory, Role, Seq, Time, Var};
 use sg_graph::Graph;
+use sg_sched::index::{label_index, role_index, var_index};
 use sg_sched::line::{Committed, From, ItemLine, TagLine};
-use sg_sched::place::{label_place, role_place, var_place};
 use sg_sched::{CraftItem, Source};
 use std::alloc::Global;
 
@@ -26,7 +26,7 @@ pub(crate) fn variable(graph: Option<&Graph>, name: &Name) -> Option<Var>
     ensures { result ≡ position (bytes_eq name.now) (variables_of (option_copied graph.entry)) }
 {
     match graph {
-        Some(graph) => var_place(graph, name),
+        Some(graph) => var_index(graph, name),
         None => None,
     }
 }
@@ -36,7 +36,7 @@ pub(crate) fn role(graph: Option<&Graph>, name: &Name) -> Option<Role>
     ensures { result ≡ position (bytes_eq name.now) (roles_of (option_copied graph.entry)) }
 {
     match graph {
-        Some(graph) => role_place(graph, name),
+        Some(graph) => role_index(graph, name),
         None => None,
     }
 }
@@ -46,7 +46,7 @@ fn label(graph: Option<&Graph>, name: &Name) -> Option<Label>
     ensures { result ≡ position (bytes_eq name.now) (labels_of (option_copied graph.entry)) }
 {
     match graph {
-        Some(graph) => label_place(graph, name),
+        Some(graph) => label_index(graph, name),
         None => None,
     }
 }

@@ -57,10 +57,10 @@ impl Past {
         requires { IsTrue (is_craft craft.now) }
         ensures { IfOk result (λ b. b ≡ is_short (graph_for craft.now.session self.now) (session_named craft.now.session self.now) craft.now) }
     {
-        let Some(place) = self.sessions.place(&craft.session) else {
+        let Some(index) = self.sessions.index(&craft.session) else {
             return Ok(true);
         };
-        let (_, like) = self.sessions.at(place);
+        let (_, like) = self.sessions.at(index);
         is_short(self.alloc, like.names.as_slice(), like.version, craft)
     }
 
@@ -99,7 +99,7 @@ impl Past {
     fn ends(&self, graph: Option<&Graph>, craft: &CraftLine<'_>) -> Option<(u32, Role, Role)>
         ensures { option_map (λ e. (e.0, (e.1, e.2))) result ≡ known_ends self.now (option_copied graph.entry) craft.now }
     {
-        let session = self.session_place(&craft.session)?;
+        let session = self.session_index(&craft.session)?;
         let from = role(graph, &craft.from)?;
         let to = role(graph, &craft.to)?;
         Some((session, from, to))

@@ -104,21 +104,21 @@ impl Past {
         if self.group > 3 {
             return Err(Stop::Wrong(Kind::Form));
         }
-        let place = self.graph_place(graph);
-        if !self.fits(place, names) {
+        let index = self.graph_index(graph);
+        if !self.fits(index, names) {
             return Err(Stop::Wrong(Kind::Form));
         }
         if self.sessions.len() >= MOST_SESSIONS {
             return Err(Stop::Wrong(Kind::TooManySessions));
         }
-        let Some(place) = place else {
+        let Some(index) = index else {
             return Err(Stop::Wrong(Kind::Unknown));
         };
         if self.sessions.has(&name) {
             return Err(Stop::Wrong(Kind::Twice));
         }
         let like = Like {
-            graph: place,
+            graph: index,
             nonce,
             names: names.to_list(self.alloc)?.into_vec(),
             version,
@@ -131,15 +131,15 @@ impl Past {
         Ok(())
     }
 
-    // Whether there are as many principals as the graph at the place has roles, or no such graph.
-    fn fits(&self, place: Option<usize>, names: &NameSet) -> bool
-        requires { IfSome place (λ i. i < length (graphs_of_past self.now)) }
-        ensures { result ≡ option_map_or (λ g. length names.now == length g.roles) (option_and_then (slice_get (graphs_of_past self.now)) place) true }
+    // Whether there are as many principals as the graph at the index has roles, or no such graph.
+    fn fits(&self, index: Option<usize>, names: &NameSet) -> bool
+        requires { IfSome index (λ i. i < length (graphs_of_past self.now)) }
+        ensures { result ≡ option_map_or (λ g. length names.now == length g.roles) (option_and_then (slice_get (graphs_of_past self.now)) index) true }
     {
-        let Some(place) = place else {
+        let Some(index) = index else {
             return true;
         };
-        match self.graph_at(place) {
+        match self.graph_at(index) {
             Some(graph) => names.as_slice().len() == graph.roles() as usize,
             None => true,
         }

@@ -3,7 +3,7 @@ ghost use Rattle.std.specs.Prelude.{◌≡◌, ◌<◌, ◌≤◌, ◌==◌, len
 ghost use Rattle.sg_model.specs.Lists.{has_text};
 ghost use Rattle.sg_sched.specs.Format.Items.{graphs_of_past, graph_names, graph_for};
 ghost use Rattle.sg_sched.specs.Pair.{graphs_of};
-ghost use Rattle.sg_read.specs.Adding.{session_place};
+ghost use Rattle.sg_read.specs.Adding.{session_index};
 ghost use Rattle.sg_read.specs.Plus.{nothing};
 ghost use Rattle.sg_read.specs.Holding.{HasRoles};
 
@@ -68,13 +68,13 @@ impl Past {
         }
     }
 
-    /// The place of the graph of this name, if it is declared. The graph of the edge lines stands after those of the blocks.
-    pub fn graph_place(&self, name: &Name) -> Option<usize>
-        ensures place { result ≡ position (bytes_eq name.now) (graph_names (graphs_of_past self.now)) }
+    /// The index of the graph of this name, if it is declared. The graph of the edge lines stands after those of the blocks.
+    pub fn graph_index(&self, name: &Name) -> Option<usize>
+        ensures index { result ≡ position (bytes_eq name.now) (graph_names (graphs_of_past self.now)) }
         ensures within { IfSome result (λ i. i < length (graphs_of_past self.now)) }
     {
-        if let Some(place) = self.blocks.place(name) {
-            return Some(place);
+        if let Some(index) = self.blocks.index(name) {
+            return Some(index);
         }
         let graph = self.pair.graph()?;
         if name.as_bytes() == graph.name().as_bytes() {
@@ -84,15 +84,15 @@ impl Past {
         }
     }
 
-    /// The graph at a place.
-    pub fn graph_at(&self, place: usize) -> Option<&Graph>
-        ensures graph { option_copied result ≡ slice_get (graphs_of_past self.now) place }
+    /// The graph at an index.
+    pub fn graph_at(&self, index: usize) -> Option<&Graph>
+        ensures graph { option_copied result ≡ slice_get (graphs_of_past self.now) index }
         ensures roles { IfSome result (λ g. HasRoles g.now) }
     {
         let count = self.blocks.len();
-        if place < count {
-            Some(self.blocks.get(place))
-        } else if place == count {
+        if index < count {
+            Some(self.blocks.get(index))
+        } else if index == count {
             self.pair.graph()
         } else {
             None
@@ -123,21 +123,21 @@ impl Past {
         self.pair.len() == 0
     }
 
-    /// The place of the session of this name, if it is declared.
-    pub fn session_place(&self, name: &Name) -> Option<u32>
-        ensures place { result ≡ session_place self.now name.now }
+    /// The index of the session of this name, if it is declared.
+    pub fn session_index(&self, name: &Name) -> Option<u32>
+        ensures index { result ≡ session_index self.now name.now }
         ensures within { IfSome result (λ i. i < length self.now.sessions) }
     {
-        let place = self.sessions.place(name)?;
-        Some(place as u32)
+        let index = self.sessions.index(name)?;
+        Some(index as u32)
     }
 
     /// The graph of the session of this name, if it is declared.
     pub fn graph_for(&self, session: &Name) -> Option<&Graph>
         ensures { option_copied result ≡ graph_for session.now self.now }
     {
-        let place = self.sessions.place(session)?;
-        let (_, like) = self.sessions.at(place);
+        let index = self.sessions.index(session)?;
+        let (_, like) = self.sessions.at(index);
         self.graph_at(like.graph)
     }
 

@@ -4,7 +4,7 @@ ghost use Rattle.sg_protocol.specs.Schedule.{Schedule};
 ghost use Rattle.sg_protocol.specs.Texts.{real};
 ghost use Rattle.sg_sched.specs.Format.Spells.{SpellsSchedule};
 ghost use Rattle.sg_read.specs.Meant.{IsMeant};
-ghost use Rattle.sg_read.specs.Standing.{IsFault};
+ghost use Rattle.sg_read.specs.ReadSoFar.{IsFault};
 
 use crate::reader::ScheduleReader;
 use sg_sched::{LineFault, Schedule};

@@ -5,7 +5,7 @@ ghost use Rattle.sg_sched.specs.Format.Forms.{is_form};
 ghost use Rattle.sg_sched.specs.Format.Model.{said};
 ghost use Rattle.sg_read.specs.Adding.{after_line};
 ghost use Rattle.sg_read.specs.Plus.{nothing};
-ghost use Rattle.sg_read.specs.Standing.{Stands, Opens, Says, Shows, IsFault};
+ghost use Rattle.sg_read.specs.ReadSoFar.{HasRead, Opens, Says, Shows, IsFault};
 ghost use Rattle.sg_read.specs.Taken.{IsRefused, fault_at};
 
 use crate::block::{count_lines, split_block};
@@ -46,7 +46,7 @@ impl ScheduleReader {
     pub fn next<'a>(&mut self, rest: &'a [u8]) -> Result<&'a [u8], LineFault>
         requires some { 0 < length rest.now }
         requires room { self.old.number + length rest.now < 2 ^ 32 }
-        ensures stands { (bytes : List ℕ) → Stands bytes self.old rest.now → MatchResult result (λ after. Stands bytes self.new after.now) (IsFault bytes) }
+        ensures has_read { (bytes : List ℕ) → HasRead bytes self.old rest.now → MatchResult result (λ after. HasRead bytes self.new after.now) (IsFault bytes) }
         ensures shorter { IfOk result (λ after. (length after.now < length rest.now) × (self.new.number + length after.now ≤ self.old.number + length rest.now)) }
     {
         let (line, after) = split_line(rest);
@@ -88,7 +88,7 @@ impl ScheduleReader {
     // Takes a block, from after the line with which it begins, and gives what follows it.
     fn block<'a>(&mut self, after: &'a [u8]) -> Result<&'a [u8], LineFault>
         requires room { self.old.number + length after.now < 2 ^ 32 }
-        ensures stands { (bytes : List ℕ) → Opens bytes self.old after.now → MatchResult result (λ rest. Stands bytes self.new rest.now) (IsFault bytes) }
+        ensures has_read { (bytes : List ℕ) → Opens bytes self.old after.now → MatchResult result (λ rest. HasRead bytes self.new rest.now) (IsFault bytes) }
         ensures shorter { IfOk result (λ rest. (length rest.now ≤ length after.now) × (self.new.number + length rest.now ≤ self.old.number + length after.now)) }
     {
         match split_block(after) {

@@ -12,7 +12,7 @@ use sg_parse::NameSet;
 use std::alloc::Global;
 use std::marker::Model;
 
-/// What no two sessions have in common: the place of the graph, the nonce, the principals and the version.
+/// What no two sessions have in common: the index of the graph, the nonce, the principals and the version.
 #[derive(PartialEq, Eq, Hash, Drop)]
 pub(crate) struct Like {
     pub graph: usize,
@@ -59,13 +59,13 @@ impl Sessions {
         self.names.as_slice().len()
     }
 
-    /// The place of the session of this name, if it is declared.
-    pub fn place(&self, name: &Name) -> Option<usize>
-        ensures place { result ≡ position (bytes_eq name.now) (map (λ s. s.name) self.now) }
+    /// The index of the session of this name, if it is declared.
+    pub fn index(&self, name: &Name) -> Option<usize>
+        ensures index { result ≡ position (bytes_eq name.now) (map (λ s. s.name) self.now) }
         ensures within { IfSome result (λ i. i < length self.now) }
         ensures few { IfSome result (λ i. i < most_declared) }
     {
-        self.names.place(name)
+        self.names.index(name)
     }
 
     /// Whether a session of this name is declared.
@@ -82,13 +82,13 @@ impl Sessions {
         self.likes.contains(like)
     }
 
-    /// What the session at a place has, and its name.
-    pub fn at(&self, place: usize) -> (Name, &Like)
-        requires { place < length self.now }
-        ensures { slice_get self.now place ≡ Some (session_of result.0 result.1.now) }
+    /// What the session at an index has, and its name.
+    pub fn at(&self, index: usize) -> (Name, &Like)
+        requires { index < length self.now }
+        ensures { slice_get self.now index ≡ Some (session_of result.0 result.1.now) }
     {
-        match self.likes.get_index(place) {
-            Some(like) => (self.names.as_slice()[place], like),
+        match self.likes.get_index(index) {
+            Some(like) => (self.names.as_slice()[index], like),
             None => unreachable!(),
         }
     }

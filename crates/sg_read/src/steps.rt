@@ -14,8 +14,8 @@ use crate::past::Past;
 use crate::stop::Stop;
 use crate::values::{differ, known_values};
 use sg_base::{Name, OutOfMemory};
+use sg_sched::index::label_index;
 use sg_sched::line::Delivered;
-use sg_sched::place::label_place;
 use sg_sched::value::read_hex;
 use sg_sched::{Change, Given, Kind, Step, What};
 use std::alloc::Global;
@@ -60,7 +60,7 @@ impl Past {
     fn start_step(&self, who: Name, session: &Name) -> Option<Step>
         ensures { option_map step_of result ≡ start_step self.now who session.now }
     {
-        let session = self.session_place(session)?;
+        let session = self.session_index(session)?;
         Some(Step::Start { who, session })
     }
 
@@ -77,7 +77,7 @@ impl Past {
     fn abandon_step(&self, who: Name, session: &Name) -> Option<Step>
         ensures { option_map step_of result ≡ abandon_step self.now who session.now }
     {
-        let session = self.session_place(session)?;
+        let session = self.session_index(session)?;
         Some(Step::Abandon { who, session })
     }
 
@@ -121,10 +121,10 @@ impl Past {
         let Some(graph) = self.graph_for(session) else {
             return Ok(None);
         };
-        let Some(session) = self.session_place(session) else {
+        let Some(session) = self.session_index(session) else {
             return Ok(None);
         };
-        let Some(label) = label_place(graph, label) else {
+        let Some(label) = label_index(graph, label) else {
             return Ok(None);
         };
         match known_values(self.alloc, graph, values)? {

@@ -13,7 +13,7 @@ ghost use Rattle.sg_read.specs.Numbers.{numbers_of, numbered, from_number};
 use sg_base::{OutOfMemory, Seq, Value, Var};
 use sg_graph::Graph;
 use sg_parse::NameSet;
-use sg_sched::place::var_place;
+use sg_sched::index::var_index;
 use sg_sched::{Given, read_value};
 use std::alloc::Global;
 
@@ -43,7 +43,7 @@ fn numbers(
 {
     let mut found = Seq::new(alloc);
     for given in values {
-        match var_place(graph, &given.variable) {
+        match var_index(graph, &given.variable) {
             Some(var) => found.push(var)?,
             None => return Ok(None),
         }
@@ -84,7 +84,7 @@ fn put_value(
     ensures { OnOk result (map (λ (w : ℕ × Value). (w.0, value_of w.1)) found.old ++ from_number number (numbered numbers.now values.now)
         ≡ map (λ (w : ℕ × Value). (w.0, value_of w.1)) found.new ++ from_number (number + 1) (numbered numbers.now values.now)) }
 {
-    let Some(at) = place_of(numbers, values, number) else {
+    let Some(at) = index_of(numbers, values, number) else {
         return Ok(());
     };
     let given = &values[at];
@@ -93,8 +93,8 @@ fn put_value(
     Ok(())
 }
 
-// The place of a number, if it is there.
-fn place_of(numbers: &[Var], values: &[Given<'_>], number: u8) -> Option<usize>
+// The index of a number, if it is there.
+fn index_of(numbers: &[Var], values: &[Given<'_>], number: u8) -> Option<usize>
     requires { length numbers.now ≡ length values.now }
     ensures { MatchOption result (value_at (numbered numbers.now values.now) number ≡ None)
         (λ i. (i < length values.now) × (value_at (numbered numbers.now values.now) number ≡ option_map (λ v. spelled v.value) (slice_get values.now i))) }

@@ -114,8 +114,8 @@ fn with_casts(
     ensures { IfOk result (λ found. found ≡ map (declared_by digests.now) sessions.now) }
 {
     let mut found = Seq::new(alloc);
-    for place in 0..sessions.len() {
-        let (name, like) = sessions.at(place);
+    for index in 0..sessions.len() {
+        let (name, like) = sessions.at(index);
         found.push(with_cast(name, like, digests))?;
     }
     Ok(found)

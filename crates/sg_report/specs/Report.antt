@@ -6,7 +6,7 @@ use Rattle.sg_model.specs.Names.{Name}
 use Rattle.sg_protocol.specs.Calls.{Event, sid_of}
 use Rattle.sg_protocol.specs.Graph.{Graph}
 use Rattle.sg_protocol.specs.Walk.{StoredStep, OnePath}
-use Rattle.sg_lines.specs.Sessions.{Met, session_name, sids_met}
+use Rattle.sg_lines.specs.Sessions.{KnownSessions, session_name, sids_met}
 use Rattle.sg_lines.specs.Walks.{walk_line}
 use Rattle.sg_report.specs.Lines.{graph_or_none, line_text}
 use Rattle.sg_report.specs.Told.{Told}
@@ -37,21 +37,21 @@ pub record Account : Type 0 where
   pub collision_free : Bool
 
 -- the declared sessions, and the sids of the events
-abbrev pub met : Account → Met
+abbrev pub met : Account → KnownSessions
 met a = record { declared = a.declared; events = map sid_of a.events }
 
 -- what a session is called: its first declared name, or x and its number among the others
-abbrev pub name_in : Met → List ℕ → Name
+abbrev pub name_in : KnownSessions → List ℕ → Name
 name_in m sid = session_name 120 m sid
 
 -- ---- the steps
 
 -- the line of step k
-abbrev pub line : Met → ℕ → StepLine → List ℕ
+abbrev pub line : KnownSessions → ℕ → StepLine → List ℕ
 line m k l = line_text (option_map_or (name_in m) l.session []) (graph_or_none l.graph) k (unwrap_or l.who []) l.told
 
 -- the lines of these steps, the first of number k
-abbrev pub lines_from : Met → ℕ → List StepLine → List ℕ
+abbrev pub lines_from : KnownSessions → ℕ → List StepLine → List ℕ
 lines_from m k [] = []
 lines_from m k (l ∷ ls) = line m k l ++ lines_from m (k + 1) ls
 

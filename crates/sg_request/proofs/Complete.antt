@@ -19,14 +19,14 @@ use Rattle.sg_request.proofs.WordLaws.{is_version, session_ok, version_ok, cast_
 start_complete : (graph : Name) (v : ℕ) (names : List Name) → is_request (Start graph v names) ≡ true → start_form (graph ∷ decimal v ∷ joined_names names ∷ []) ≡ Some (Start graph v names)
 unfolding start_form word
 start_complete graph v names h =
-    let front = and_left (is_name graph && is_version v) (is_cast names) h in
-    rw (name_ok graph (and_left (is_name graph) (is_version v) front), version_ok v (and_right (is_name graph) (is_version v) front), cast_ok names (and_right (is_name graph && is_version v) (is_cast names) h)) refl
+    let prefix = and_left (is_name graph && is_version v) (is_cast names) h in
+    rw (name_ok graph (and_left (is_name graph) (is_version v) prefix), version_ok v (and_right (is_name graph) (is_version v) prefix), cast_ok names (and_right (is_name graph && is_version v) (is_cast names) h)) refl
 
 act_complete : (n : ℕ) (label : Name) (vs : List Given) → is_request (Act n label vs) ≡ true → act_form (session_word n ∷ label ∷ map given_word vs) ≡ Some (Act n label vs)
 unfolding act_form word
 act_complete n label vs h =
-    let front = and_left (is_session n && is_name label) (list_all is_given vs) h in
-    rw (session_ok n (and_left (is_session n) (is_name label) front), name_ok label (and_right (is_session n) (is_name label) front), givens_ok vs (and_right (is_session n && is_name label) (list_all is_given vs) h)) refl
+    let prefix = and_left (is_session n && is_name label) (list_all is_given vs) h in
+    rw (session_ok n (and_left (is_session n) (is_name label) prefix), name_ok label (and_right (is_session n) (is_name label) prefix), givens_ok vs (and_right (is_session n && is_name label) (list_all is_given vs) h)) refl
 
 receive_complete : (ms : ℕ) → nat_le ms 86400000 ≡ true → receive_form (decimal ms ∷ []) ≡ Some (Receive (Some ms))
 unfolding receive_form word

@@ -6,7 +6,7 @@ use Rattle.sg_model.specs.Names.{Name, is_name}
 use Rattle.sg_model.proofs.Small.{some_same}
 use Rattle.sg_base.specs.Words.{name, number}
 use Rattle.sg_sched.specs.Format.Said.{Word, Given, given_word}
-use Rattle.sg_sched.specs.Format.Reading.{Left, word, after, ended, givens}
+use Rattle.sg_sched.specs.Format.Reading.{WordsLeft, word, after, ended, givens}
 use Rattle.sg_sched.specs.Format.CraftReading.{cast}
 use Rattle.sg_sched.proofs.FormatWords.{both}
 use Rattle.sg_sched.proofs.FormLaws.{none_some, step, ended_is, line_up, name_is}
@@ -18,14 +18,14 @@ use Rattle.sg_request.specs.Request.{session, version, start_form, act_form, rec
 use Rattle.sg_request.proofs.WordLaws.{session_is, version_is, cast_is}
 
 -- the words are those of the request, and each place holds what it may hold
-pub record Says (ws : Left) (r : Request) : Type 0 where
+pub record Says (ws : WordsLeft) (r : Request) : Type 0 where
   pub words : ws ≡ request_words r
-  pub places : is_request r ≡ true
+  pub indices : is_request r ≡ true
 
-says : {ws : Left} {r s : Request} → ws ≡ request_words r → is_request r ≡ true → Some r ≡ Some s → Says ws s
-says {ws} w p h = subst (λ r. Says ws r) (some_same h) (record { words = w; places = p })
+says : {ws : WordsLeft} {r s : Request} → ws ≡ request_words r → is_request r ≡ true → Some r ≡ Some s → Says ws s
+says {ws} w p h = subst (λ r. Says ws r) (some_same h) (record { words = w; indices = p })
 
-start_sound : (ws : Left) (r : Request) → start_form ws ≡ Some r → Says (codes "start" ∷ ws) r
+start_sound : (ws : WordsLeft) (r : Request) → start_form ws ≡ Some r → Says (codes "start" ∷ ws) r
 unfolding start_form
 start_sound ws r h =
     let a = step name (λ graph. after (word version) λ version. after (word cast) λ names. ended (Some (Start graph version names))) ws r h in
@@ -38,21 +38,21 @@ start_sound ws r h =
     says {r = Start a.value b.value d.value} (ap (λ t. codes "start" ∷ t) (line_up a.all g.same (line_up b.all v.0 (line_up d.all n.0 e.0))))
     (both (both g.name v.1) n.1) e.1
 
-act_sound : (ws : Left) (r : Request) → act_form ws ≡ Some r → Says (codes "act" ∷ ws) r
+act_sound : (ws : WordsLeft) (r : Request) → act_form ws ≡ Some r → Says (codes "act" ∷ ws) r
 unfolding act_form
 act_sound ws r h =
     let a = step session (λ n. after (word name) λ label. λ ws. option_map (Act n label) (givens ws)) ws r h in
     let b = step name (λ label. λ ws. option_map (Act a.value label) (givens ws)) a.rest r a.more in
     let s = session_is a.first a.value a.was in
     let l = name_is b.first b.value b.was in
-    by a.value b.value b.rest (λ (t : Left) e. ap (λ t. codes "act" ∷ t) (line_up a.all s.0 (line_up b.all l.same e))) (both s.1 l.name) (givens b.rest) refl b.more
+    by a.value b.value b.rest (λ (t : WordsLeft) e. ap (λ t. codes "act" ∷ t) (line_up a.all s.0 (line_up b.all l.same e))) (both s.1 l.name) (givens b.rest) refl b.more
   where
-    by : (n : ℕ) (label : Name) (rest : Left) → ((t : Left) → rest ≡ t → (codes "act" ∷ ws) ≡ codes "act" ∷ session_word n ∷ label ∷ t) → (is_session n && is_name label) ≡ true
+    by : (n : ℕ) (label : Name) (rest : WordsLeft) → ((t : WordsLeft) → rest ≡ t → (codes "act" ∷ ws) ≡ codes "act" ∷ session_word n ∷ label ∷ t) → (is_session n && is_name label) ≡ true
         → (o : Option (List Given)) → givens rest ≡ o → option_map (Act n label) o ≡ Some r → Says (codes "act" ∷ ws) r
     by n label rest w p None e h = none_some h
     by n label rest w p (Some vs) e h = let g = givens_are rest vs e in says {r = Act n label vs} (w (map given_word vs) g.0) (both p g.1) h
 
-receive_sound : (ws : Left) (r : Request) → receive_form ws ≡ Some r → Says (codes "recv" ∷ ws) r
+receive_sound : (ws : WordsLeft) (r : Request) → receive_form ws ≡ Some r → Says (codes "recv" ∷ ws) r
 unfolding receive_form
 receive_sound [] r h = says {r = Receive None} refl refl h
 receive_sound (w ∷ ws) r h =
@@ -61,7 +61,7 @@ receive_sound (w ∷ ws) r h =
     let n = number_is 86400000 a.first a.value (omega arith) a.was in
     says {r = Receive (Some a.value)} (ap (λ t. codes "recv" ∷ t) (line_up a.all n.same e.0)) n.within e.1
 
-session_form_is : (ws : Left) (n : ℕ) → session_form ws ≡ Some n → (ws ≡ session_word n ∷ []) × (is_session n ≡ true)
+session_form_is : (ws : WordsLeft) (n : ℕ) → session_form ws ≡ Some n → (ws ≡ session_word n ∷ []) × (is_session n ≡ true)
 unfolding session_form
 session_form_is ws n h =
     let a = step session (λ n. ended (Some n)) ws n h in
@@ -71,21 +71,21 @@ session_form_is ws n h =
 
 -- a request that names a session alone
 of_session : (first : Word) (ask : ℕ → Request) → ((n : ℕ) → request_words (ask n) ≡ first ∷ session_word n ∷ []) → ((n : ℕ) → is_request (ask n) ≡ is_session n)
-    → (ws : Left) (r : Request) → option_map ask (session_form ws) ≡ Some r → Says (first ∷ ws) r
-of_session first ask spelled places ws r h = by (session_form ws) refl h
+    → (ws : WordsLeft) (r : Request) → option_map ask (session_form ws) ≡ Some r → Says (first ∷ ws) r
+of_session first ask spelled indices ws r h = by (session_form ws) refl h
   where
     by : (o : Option ℕ) → session_form ws ≡ o → option_map ask o ≡ Some r → Says (first ∷ ws) r
     by None e h = none_some h
     by (Some n) e h =
         let s = session_form_is ws n e in
-        says {r = ask n} (ap (λ t. first ∷ t) s.0 ∙ sym (spelled n)) (places n ∙ s.1) h
+        says {r = ask n} (ap (λ t. first ∷ t) s.0 ∙ sym (spelled n)) (indices n ∙ s.1) h
 
-quit_sound : (ws : Left) (r : Request) → quit_form ws ≡ Some r → Says (codes "quit" ∷ ws) r
+quit_sound : (ws : WordsLeft) (r : Request) → quit_form ws ≡ Some r → Says (codes "quit" ∷ ws) r
 unfolding quit_form
 quit_sound ws r h = let e = ended_is (Some Quit) ws r h in says {r = Quit} (ap (λ t. codes "quit" ∷ t) e.0) refl e.1
 
 -- the first word, which is this one
-with_first : {w first : Word} {ws : Left} {r : Request} → bytes_eq w first ≡ true → Says (first ∷ ws) r → Says (w ∷ ws) r
+with_first : {w first : Word} {ws : WordsLeft} {r : Request} → bytes_eq w first ≡ true → Says (first ∷ ws) r → Says (w ∷ ws) r
 with_first {w} {first} {ws} {r} e s = subst (λ v. Says (v ∷ ws) r) (sym ((bytes_eq-Decides w first).0 e)) s
 
 -- one of two forms
@@ -93,7 +93,7 @@ either : {A : Type 0} {P : Type 0} (b : Bool) (here there : Option A) (x : A) �
 either true here there x h f g = f refl h
 either false here there x h f g = g h
 
-short_sound : (w : Word) (ws : Left) (r : Request) → short_form w ws ≡ Some r → Says (w ∷ ws) r
+short_sound : (w : Word) (ws : WordsLeft) (r : Request) → short_form w ws ≡ Some r → Says (w ∷ ws) r
 unfolding short_form
 short_sound w ws r h =
     either (bytes_eq w (codes "recv")) _ _ r h (λ e k. with_first e (receive_sound ws r k)) λ h.
@@ -104,7 +104,7 @@ short_sound w ws r h =
     either (bytes_eq w (codes "quit")) _ _ r h (λ e k. with_first e (quit_sound ws r k)) λ h.
     none_some h
 
-pub form_sound : (ws : Left) (r : Request) → form ws ≡ Some r → Says ws r
+pub form_sound : (ws : WordsLeft) (r : Request) → form ws ≡ Some r → Says ws r
 unfolding form
 form_sound [] r h = none_some h
 form_sound (w ∷ ws) r h =

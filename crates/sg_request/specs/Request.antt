@@ -8,7 +8,7 @@ use Rattle.sg_base.specs.Words.{name, number, from_one}
 use Rattle.sg_sched.specs.Text.{words, without_last}
 use Rattle.sg_sched.specs.Format.Said.{Word, given_word, joined_names}
 use Rattle.sg_sched.specs.Format.Forms.{are_names, is_given}
-use Rattle.sg_sched.specs.Format.Reading.{Left, word, after, ended, givens}
+use Rattle.sg_sched.specs.Format.Reading.{WordsLeft, word, after, ended, givens}
 use Rattle.sg_sched.specs.Format.CraftReading.{cast}
 use Rattle.sg_request.specs.declared.request.Request.{Request}
 use Rattle.sg_request.specs.declared.request.Request.TheVariants.{Start, Act, Abandon, Receive, Again, Turn, Id, Quit}
@@ -31,7 +31,7 @@ milliseconds = number 86400000
 -- ---- forms, each after its first word
 
 -- GRAPH VERSION NAME,..,NAME
-unfoldable pub start_form : Left → Option Request
+unfoldable pub start_form : WordsLeft → Option Request
 start_form =
     after (word name) λ graph.
     after (word version) λ version.
@@ -39,29 +39,29 @@ start_form =
     ended (Some (Start graph version names))
 
 -- sN LABEL VAR=VALUE ..
-unfoldable pub act_form : Left → Option Request
+unfoldable pub act_form : WordsLeft → Option Request
 act_form =
     after (word session) λ n.
     after (word name) λ label.
     λ ws. option_map (Act n label) (givens ws)
 
 -- MS, or nothing
-unfoldable pub receive_form : Left → Option Request
+unfoldable pub receive_form : WordsLeft → Option Request
 receive_form [] = Some (Receive None)
 receive_form (w ∷ ws) = after (word milliseconds) (λ ms. ended (Some (Receive (Some ms)))) (w ∷ ws)
 
 -- sN
-unfoldable pub session_form : Left → Option ℕ
+unfoldable pub session_form : WordsLeft → Option ℕ
 session_form =
     after (word session) λ n.
     ended (Some n)
 
 -- nothing
-unfoldable pub quit_form : Left → Option Request
+unfoldable pub quit_form : WordsLeft → Option Request
 quit_form = ended (Some Quit)
 
 -- the forms of one word or two, by the first
-unfoldable pub short_form : Word → Left → Option Request
+unfoldable pub short_form : Word → WordsLeft → Option Request
 short_form w ws =
     if bytes_eq w (codes "recv") then receive_form ws
     else if bytes_eq w (codes "turn") then option_map Turn (session_form ws)
@@ -72,7 +72,7 @@ short_form w ws =
     else None
 
 -- the forms by their first word
-unfoldable pub form : Left → Option Request
+unfoldable pub form : WordsLeft → Option Request
 form [] = None
 form (w ∷ ws) =
     if bytes_eq w (codes "start") then start_form ws
@@ -130,4 +130,4 @@ is_request Quit = true
 -- the words of the line are those of the request, and each place holds what it may hold
 pub record Asks (line : List ℕ) (r : Request) : Type 0 where
   pub spelled : words (content line) ≡ request_words r
-  pub places : IsTrue (is_request r)
+  pub indices : IsTrue (is_request r)

@@ -25,7 +25,7 @@ fn content(line: &[u8]) -> &[u8]
     ensures { result.now ≡ content line.now }
 {
     match line {
-        [front @ .., b'\r'] => front,
+        [prefix @ .., b'\r'] => prefix,
         _ => line,
     }
 }

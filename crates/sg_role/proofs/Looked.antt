@@ -11,7 +11,7 @@ use Rattle.sg_protocol.specs.Graph.{Graph}
 use Rattle.sg_protocol.specs.Keyring.{Keyring}
 use Rattle.sg_protocol.specs.Notes.{Note, Notes, note_of}
 use Rattle.sg_protocol.specs.Session.{principal}
-use Rattle.sg_protocol.specs.Standing.{Held}
+use Rattle.sg_protocol.specs.Representation.{Held}
 use Rattle.sg_protocol.specs.Texts.{real}
 use Rattle.sg_protocol.specs.Verdict.{has_item_tag, has_kind}
 use Rattle.sg_role.specs.Looking.{bare, overwritten, overwritten_by, text_for, texts_from, found_items, evidence_row, opens, opening_row, hashed_from, KeepsNotes}

@@ -11,17 +11,17 @@ use Rattle.sg_model.specs.Values.{Value, Opening}
 use Rattle.sg_model.proofs.Small.{length_map}
 use Rattle.sg_model.proofs.Numbers.{length-range_from}
 use Rattle.sg_protocol.specs.Acting.{openings_for}
-use Rattle.sg_protocol.specs.Backed.{IsBackedAtTurn, IsBackedWaiting}
+use Rattle.sg_protocol.specs.Reachable.{IsReachableAtTurn, IsReachableWaiting}
 use Rattle.sg_protocol.specs.Calls.{SendFault, NoSuchLabel, BadValues, TimeSpent}
 use Rattle.sg_protocol.specs.Frame.{Item}
 use Rattle.sg_protocol.specs.Graph.{Graph, shape}
 use Rattle.sg_protocol.specs.IsSchedule.{IsProgram}
-use Rattle.sg_protocol.specs.Kept.{Kept}
+use Rattle.sg_protocol.specs.Kept.{KeptState}
 use Rattle.sg_protocol.specs.Keyring.{Keyring, Program, may_return}
 use Rattle.sg_protocol.specs.Ranges.{AreValues}
 use Rattle.sg_protocol.specs.Sending.{own_item}
 use Rattle.sg_protocol.specs.Session.{Session, Gave, opening_in, known}
-use Rattle.sg_protocol.specs.Standing.{Held, StandsAtTurn, held, kept_with, held_after}
+use Rattle.sg_protocol.specs.Representation.{Held, RepresentsAtTurn, held, kept_with, held_after}
 use Rattle.sg_protocol.specs.Texts.{real}
 use Rattle.sg_protocol.specs.Verdict.{row}
 use Rattle.sg_role.specs.Sending.{WaitsOrEnds}
@@ -32,9 +32,9 @@ use Rattle.sg_role.proofs.SendLaws.{waits_after}
 use Rattle.sg_role.proofs.StepLaws.{item_held}
 
 -- the kept openings are of all variables
-pub openings_counted : (p : Program) (h : Held) → IsBackedAtTurn real p h → length h.kept.openings ≡ length p.graph.variables
+pub openings_counted : (p : Program) (h : Held) → IsReachableAtTurn real p h → length h.kept.openings ≡ length p.graph.variables
 openings_counted p h b =
-    ap (λ (z : Held). length z.kept.openings) b.stands.holds
+    ap (λ (z : Held). length z.kept.openings) b.represents.holds
     ∙ length_map (known b.session) (below (length p.graph.variables))
     ∙ length-range_from 0 (length p.graph.variables)
 
@@ -69,16 +69,16 @@ module _ (keys : Keyring) (p : Program) (h : Held) (label : ℕ) (written : List
     };
   }
 
-module _ (keys : Keyring) (p : Program) (h : Held) (label : ℕ) (values : Map Value) (confounders : List (List ℕ)) (ip : IsProgram real p) (turn : IsBackedAtTurn real p h) where
+module _ (keys : Keyring) (p : Program) (h : Held) (label : ℕ) (values : Map Value) (confounders : List (List ℕ)) (ip : IsProgram real p) (turn : IsReachableAtTurn real p h) where
   abbrev written : List Opening
   written = openings_for values confounders
 
   -- the state goes on, waiting
-  pub next_waits : first_some (send_rows p h label values) ≡ None → AreValues values confounders → IsBackedWaiting real p (step_held keys p h label written)
-  next_waits none are = subst (IsBackedWaiting real p) (sym (next_held keys p h label written (openings_counted p h turn))) (waits_after keys p h label values confounders ip turn none are)
+  pub next_waits : first_some (send_rows p h label values) ≡ None → AreValues values confounders → IsReachableWaiting real p (step_held keys p h label written)
+  next_waits none are = subst (IsReachableWaiting real p) (sym (next_held keys p h label written (openings_counted p h turn))) (waits_after keys p h label values confounders ip turn none are)
 
-  -- it is what is held after the step, in each session for which the turn stands
-  pub next_stands : (s : Session) → StandsAtTurn p.graph h s → (sent : Sent) → WaitsOrEnds (may_return p label) (record { program = p; held = step_held keys p h label written }) sent →
+  -- it is what is held after the step, in each session that the turn represents
+  pub next_represents : (s : Session) → RepresentsAtTurn p.graph h s → (sent : Sent) → WaitsOrEnds (may_return p label) (record { program = p; held = step_held keys p h label written }) sent →
       WaitsOrEnds (may_return p label) (record { program = p; held = held_after p.graph h (Gave (own_item real keys p s label written) written) }) sent
-  next_stands s stands sent = subst (λ (z : Held). WaitsOrEnds (may_return p label) (record { program = p; held = z }) sent)
-      (next_held keys p h label written (openings_counted p h turn) ∙ ap (λ (i : Item). held_after p.graph h (Gave i written)) (item_held keys p h s stands.holds label written))
+  next_represents s represents sent = subst (λ (z : Held). WaitsOrEnds (may_return p label) (record { program = p; held = z }) sent)
+      (next_held keys p h label written (openings_counted p h turn) ∙ ap (λ (i : Item). held_after p.graph h (Gave i written)) (item_held keys p h s represents.holds label written))

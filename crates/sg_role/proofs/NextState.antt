@@ -11,11 +11,11 @@ use Rattle.sg_protocol.specs.Graph.{shape}
 use Rattle.sg_protocol.specs.IsSchedule.{IsProgram}
 use Rattle.sg_protocol.specs.Kept.{kept_items}
 use Rattle.sg_protocol.specs.Keyring.{Keyring, Program}
-use Rattle.sg_protocol.specs.Session.{Session, Took, told, committed, commitments, last_label, last_time, opening_in}
+use Rattle.sg_protocol.specs.Session.{Session, Took, transcript, committed, commitments, last_label, last_time, opening_in}
 use Rattle.sg_protocol.specs.Spelling.{HasSpelling}
-use Rattle.sg_protocol.specs.Standing.{Held, held_after}
+use Rattle.sg_protocol.specs.Representation.{Held, held_after}
 use Rattle.sg_protocol.specs.Texts.{real}
-use Rattle.sg_protocol.proofs.Backed.{states_are_backed}
+use Rattle.sg_protocol.proofs.Reachable.{states_are_reachable}
 use Rattle.sg_protocol.proofs.Ends.{below_same, committed-append}
 use Rattle.sg_protocol.proofs.Enough.{up_free}
 use Rattle.sg_protocol.proofs.Following.{get_below}
@@ -38,24 +38,24 @@ last_small v (i ∷ is) a = times_small v i is a
 
 pub own_time_small : (p : Program) (h : Held) → HoldsBefore (record { program = p; held = h }) → h.kept.own_time ≤ 1000000
 own_time_small p h b =
-    let s = b.backed.session in
-    subst (λ (z : Held). z.kept.own_time ≤ 1000000) (sym b.backed.stands.holds)
-    (subst (λ is. last_time is ≤ 1000000) (sym b.backed.stands.ends) (last_small s.cast.version (told s) b.backed.sound.in_range.items))
+    let s = b.reachable.session in
+    subst (λ (z : Held). z.kept.own_time ≤ 1000000) (sym b.reachable.represents.holds)
+    (subst (λ is. last_time is ≤ 1000000) (sym b.reachable.represents.ends) (last_small s.cast.version (transcript s) b.reachable.sound.in_range.items))
 
 module _ (p : Program) (ip : IsProgram real p) (h : Held) (mine : h.role ≡ p.role) (f : Frame) where
   -- ---- the commitments
 
-  commitments_held : (s : Session) → HasSpelling f → overwritten_by (commitments p.graph (told s)) f.items ≡ map (λ x. option_or (committed x f.items) (get_or (commitments p.graph (told s)) x None)) (below (length p.graph.variables))
+  commitments_held : (s : Session) → HasSpelling f → overwritten_by (commitments p.graph (transcript s)) f.items ≡ map (λ x. option_or (committed x f.items) (get_or (commitments p.graph (transcript s)) x None)) (below (length p.graph.variables))
   commitments_held s sp =
-      all_more p.graph (told s) f.items (rising_items f.version f.items sp.fields.items)
-      ∙ below_same (λ x. committed x (told s ++ f.items)) (λ x. option_or (committed x f.items) (get_or (commitments p.graph (told s)) x None)) (length p.graph.variables) (λ x l.
-      committed-append x (told s) f.items ∙ ap (option_or (committed x f.items)) (sym (get_below (λ x. committed x (told s)) None (length p.graph.variables) x l)))
+      all_more p.graph (transcript s) f.items (rising_items f.version f.items sp.fields.items)
+      ∙ below_same (λ x. committed x (transcript s ++ f.items)) (λ x. option_or (committed x f.items) (get_or (commitments p.graph (transcript s)) x None)) (length p.graph.variables) (λ x l.
+      committed-append x (transcript s) f.items ∙ ap (option_or (committed x f.items)) (sym (get_below (λ x. committed x (transcript s)) None (length p.graph.variables) x l)))
 
   pub commitments_next : HoldsBefore (record { program = p; held = h }) → HasSpelling f
       → overwritten_by h.kept.commitments f.items ≡ map (λ x. option_or (committed x f.items) (get_or h.kept.commitments x None)) (below (length p.graph.variables))
   commitments_next b sp =
-      let s = b.backed.session in
-      subst (λ (z : Held). overwritten_by z.kept.commitments f.items ≡ map (λ x. option_or (committed x f.items) (get_or z.kept.commitments x None)) (below (length p.graph.variables))) (sym b.backed.stands.holds) (commitments_held s sp)
+      let s = b.reachable.session in
+      subst (λ (z : Held). overwritten_by z.kept.commitments f.items ≡ map (λ x. option_or (committed x f.items) (get_or z.kept.commitments x None)) (below (length p.graph.variables))) (sym b.reachable.represents.holds) (commitments_held s sp)
 
   -- ---- the role's own last step stays as it is
 
@@ -96,11 +96,11 @@ module _ (p : Program) (ip : IsProgram real p) (h : Held) (mine : h.role ≡ p.r
     -- where no row holds, the next state is one at the role's turn
     pub turn_next : (keys : Keyring) → f.version ≡ h.cast.version → first_some (rows_from keys p h f) ≡ None → HoldsTurn (record { program = p; held = held_after p.graph h (Took f) })
     turn_next keys v none =
-        let s = b.backed.session in
-        let holds = b.backed.stands.holds in
+        let s = b.reachable.session in
+        let holds = b.reachable.represents.holds in
         let its : p.role ≡ s.role = sym mine ∙ ap (λ (z : Held). z.role) holds in
-        let rows = sym (rows_same keys p ip s f its b.backed.stands.ends sp) ∙ sym (ap (λ (z : Held). first_some (rows_from keys p z f)) holds) ∙ none in
+        let rows = sym (rows_same keys p ip s f its b.reachable.represents.ends sp) ∙ sym (ap (λ (z : Held). first_some (rows_from keys p z f)) holds) ∙ none in
         record {
           counted = b.counted;
-          backed = (states_are_backed real real_hash).takes keys p h s f ip b.backed b.backed.stands sp v rows;
+          reachable = (states_are_reachable real real_hash).takes keys p h s f ip b.reachable b.reachable.represents sp v rows;
         }

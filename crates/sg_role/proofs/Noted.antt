@@ -11,7 +11,7 @@ use Rattle.sg_protocol.specs.Keyring.{Keyring, Program}
 use Rattle.sg_protocol.specs.Notes.{Note, Notes, note_of, row_number}
 use Rattle.sg_protocol.specs.Sending.{text_of}
 use Rattle.sg_protocol.specs.Session.{principal}
-use Rattle.sg_protocol.specs.Standing.{Held}
+use Rattle.sg_protocol.specs.Representation.{Held}
 use Rattle.sg_protocol.specs.Texts.{real, commitment_text_of}
 use Rattle.sg_protocol.specs.Verdict.{row, bad_time, has_frame_tag}
 use Rattle.sg_role.specs.declared.fault.Refusal.{Refusal as Told}

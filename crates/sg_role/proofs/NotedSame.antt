@@ -1,4 +1,4 @@
--- What is noted by what is kept is what the definition notes, in each session for which the state stands.
+-- What is noted by what is kept is what the definition notes, in each session that the state represents.
 use Rattle.std.proofs.Common.{◌≡◌, ℕ, ◌<◌, ◌⊎◌, nat_lt, if◌then◌else◌, Bool, true, false, not, List, [], ◌∷◌, ◌++◌, map, length, take_while, refl, sym, ap, ◌∙◌, Option, Some, None, inl, inr}
 use Rattle.std.specs.List.{AllByRecursion}
 use Rattle.std.proofs.lemmas.Bool.{cases_Bool}
@@ -10,21 +10,21 @@ use Rattle.sg_protocol.specs.IsSchedule.{IsProgram}
 use Rattle.sg_protocol.specs.Keyring.{Keyring, Program}
 use Rattle.sg_protocol.specs.Notes.{note_of, row_number, hashed_openings, notes_in_session}
 use Rattle.sg_protocol.specs.Sending.{text_of}
-use Rattle.sg_protocol.specs.Session.{Session, told, own, origin, principal, commitments}
+use Rattle.sg_protocol.specs.Session.{Session, transcript, own_part, origin, principal, commitments}
 use Rattle.sg_protocol.specs.Spelling.{HasSpelling}
-use Rattle.sg_protocol.specs.Standing.{Held, held, StandsBefore}
+use Rattle.sg_protocol.specs.Representation.{Held, held, RepresentsBefore}
 use Rattle.sg_protocol.specs.Texts.{real, commitment_text_of}
 use Rattle.sg_protocol.specs.Verdict.{row, has_frame_tag, has_item_tag, has_kind, is_right, rows_of_session}
 use Rattle.sg_role.specs.Looking.{is_seen, overwritten_by, hashed_from, rows_from, notes_from}
 use Rattle.sg_role.proofs.Shown.{seen_frame}
 use Rattle.sg_role.proofs.Translated.{texts_now, opens_same, rows_same}
 
-module _ (keys : Keyring) (p : Program) (ip : IsProgram real p) (s : Session) (f : Frame) (mine : p.role ≡ s.role) (ends : own s ≡ told s) (sp : HasSpelling f) where
+module _ (keys : Keyring) (p : Program) (ip : IsProgram real p) (s : Session) (f : Frame) (mine : p.role ≡ s.role) (ends : own_part s ≡ transcript s) (sp : HasSpelling f) where
   abbrev h : Held
   h = held p.graph s
 
   abbrev hashed : List Opening → List Opening
-  hashed os = hashed_from p.graph s.sid (overwritten_by (commitments p.graph (told s)) f.items) os
+  hashed os = hashed_from p.graph s.sid (overwritten_by (commitments p.graph (transcript s)) f.items) os
 
   hashed_same : (os : List Opening) → AllByRecursion (λ (o : Opening). o.variable < length p.graph.variables) os → hashed os ≡ hashed_openings real p.graph s f os
   hashed_same [] a = refl
@@ -68,7 +68,7 @@ module _ (keys : Keyring) (p : Program) (ip : IsProgram real p) (s : Session) (f
 
 -- ---- by the state
 
-module _ (keys : Keyring) (p : Program) (ip : IsProgram real p) (h : Held) (mine : h.role ≡ p.role) (s : Session) (b : StandsBefore p.graph h s) (f : Frame) (sp : HasSpelling f) where
+module _ (keys : Keyring) (p : Program) (ip : IsProgram real p) (h : Held) (mine : h.role ≡ p.role) (s : Session) (b : RepresentsBefore p.graph h s) (f : Frame) (sp : HasSpelling f) where
   its_role : p.role ≡ s.role
   its_role = sym mine ∙ ap (λ (z : Held). z.role) b.holds
 

@@ -1,6 +1,6 @@
 -- What is held is the same where its parts are.
 use Rattle.std.proofs.Common.{◌≡◌}
-use Rattle.sg_protocol.specs.Standing.{Held}
+use Rattle.sg_protocol.specs.Representation.{Held}
 
 pub same_held : (a b : Held) → ((a.sid ≡ b.sid) × (a.cast ≡ b.cast) × (a.role ≡ b.role))
     → ((a.kept.origin ≡ b.kept.origin) × (a.kept.own_time ≡ b.kept.own_time) × (a.kept.time ≡ b.kept.time) × (a.kept.place ≡ b.kept.place))

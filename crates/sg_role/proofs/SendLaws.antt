@@ -4,7 +4,7 @@ use Rattle.sg_model.specs.Last.{Map, last}
 use Rattle.sg_model.specs.Lists.{below, first_some}
 use Rattle.sg_model.specs.Values.{Value, Opening}
 use Rattle.sg_protocol.specs.Acting.{is_bad, openings_for, rows_of_send, rows_of_act}
-use Rattle.sg_protocol.specs.Backed.{IsBackedAtTurn, IsBackedWaiting}
+use Rattle.sg_protocol.specs.Reachable.{IsReachableAtTurn, IsReachableWaiting}
 use Rattle.sg_protocol.specs.Bounds.{IsShortFrame}
 use Rattle.sg_protocol.specs.Calls.{SendFault, ActFault, NotYourTurn, Send}
 use Rattle.sg_protocol.specs.IsSchedule.{IsProgram}
@@ -12,9 +12,9 @@ use Rattle.sg_protocol.specs.Keyring.{Keyring, Program}
 use Rattle.sg_protocol.specs.Ranges.{AreValues}
 use Rattle.sg_protocol.specs.Sending.{own_item, frame_sent}
 use Rattle.sg_protocol.specs.Session.{Session, Gave, at_turn}
-use Rattle.sg_protocol.specs.Standing.{Held, StandsAtTurn, held_after}
+use Rattle.sg_protocol.specs.Representation.{Held, RepresentsAtTurn, held_after}
 use Rattle.sg_protocol.specs.Texts.{real}
-use Rattle.sg_protocol.proofs.Backed.{states_are_backed}
+use Rattle.sg_protocol.proofs.Reachable.{states_are_reachable}
 use Rattle.sg_protocol.proofs.RealHash.{real_hash}
 use Rattle.sg_role.specs.Stepping.{send_rows, step_item, step_frame}
 use Rattle.sg_role.proofs.StepLaws.{rows_held, item_held, frame_held}
@@ -28,26 +28,26 @@ none_mapped (Some f ∷ os) e = absurd (cc)
 
 -- ---- by the session behind the state
 
-module _ (keys : Keyring) (p : Program) (h : Held) (label : ℕ) (values : Map Value) (confounders : List (List ℕ)) (ip : IsProgram real p) (turn : IsBackedAtTurn real p h)
+module _ (keys : Keyring) (p : Program) (h : Held) (label : ℕ) (values : Map Value) (confounders : List (List ℕ)) (ip : IsProgram real p) (turn : IsReachableAtTurn real p h)
     (none : first_some (send_rows p h label values) ≡ None) (are : AreValues values confounders) where
   abbrev written : List Opening
   written = openings_for values confounders
 
-  module _ (s : Session) (stands : StandsAtTurn p.graph h s) where
+  module _ (s : Session) (represents : RepresentsAtTurn p.graph h s) where
     rows : first_some (rows_of_send p s label values) ≡ None
-    rows = ap first_some (sym (rows_held keys p h s stands.holds label values)) ∙ none
+    rows = ap first_some (sym (rows_held keys p h s represents.holds label values)) ∙ none
 
     acts : first_some (rows_of_act p s label values) ≡ None
-    acts = rw stands.turn (none_mapped (rows_of_send p s label values) rows)
+    acts = rw represents.turn (none_mapped (rows_of_send p s label values) rows)
 
-    given : (last (frame_sent real keys p s label written).items ≡ Some (own_item real keys p s label written)) × IsShortFrame (frame_sent real keys p s label written) × IsBackedWaiting real p (held_after p.graph h (Gave (own_item real keys p s label written) written))
-    given = (states_are_backed real real_hash).gives keys p h s label values confounders ip turn stands acts are
+    given : (last (frame_sent real keys p s label written).items ≡ Some (own_item real keys p s label written)) × IsShortFrame (frame_sent real keys p s label written) × IsReachableWaiting real p (held_after p.graph h (Gave (own_item real keys p s label written) written))
+    given = (states_are_reachable real real_hash).gives keys p h s label values confounders ip turn represents acts are
 
     pub shows_own : last (frame_sent real keys p s label written).items ≡ Some (own_item real keys p s label written)
     shows_own = given.0
 
   pub sends_short : IsShortFrame (step_frame keys p h label written)
-  sends_short = subst IsShortFrame (sym (frame_held keys p h turn.session turn.stands.holds label written ip.is_graph)) (given turn.session turn.stands).1
+  sends_short = subst IsShortFrame (sym (frame_held keys p h turn.session turn.represents.holds label written ip.is_graph)) (given turn.session turn.represents).1
 
-  pub waits_after : IsBackedWaiting real p (held_after p.graph h (Gave (step_item keys p h label written) written))
-  waits_after = subst (λ i. IsBackedWaiting real p (held_after p.graph h (Gave i written))) (sym (item_held keys p h turn.session turn.stands.holds label written)) (given turn.session turn.stands).2
+  pub waits_after : IsReachableWaiting real p (held_after p.graph h (Gave (step_item keys p h label written) written))
+  waits_after = subst (λ i. IsReachableWaiting real p (held_after p.graph h (Gave i written))) (sym (item_held keys p h turn.session turn.represents.holds label written)) (given turn.session turn.represents).2

@@ -28,12 +28,12 @@ after_none (y ∷ ys) k h = let p = or_parts (y.role == k) (has (λ (i : Item). 
 pub after_step : (x : Item) (rest : List Item) (k : ℕ) → has (λ (i : Item). i.role) k (x ∷ rest) ≡ true → after_last (λ (i : Item). i.role) k (x ∷ rest) ≡ after_last (λ (i : Item). i.role) k rest
 after_step x rest k h = elim (cases_Bool (has (λ (i : Item). i.role) k rest)) [
   | inl q ↦ rw q refl
-  | inr q ↦ (let r : (x.role == k) ≡ true = front (x.role == k) (has (λ (i : Item). i.role) k rest) h q in rw (q, r) (after_none rest k q))
+  | inr q ↦ (let r : (x.role == k) ≡ true = prefix (x.role == k) (has (λ (i : Item). i.role) k rest) h q in rw (q, r) (after_none rest k q))
 ]
   where
-    front : (a b : Bool) → (a || b) ≡ true → b ≡ false → a ≡ true
-    front true b h q = refl
-    front false b h q = absurd (let z : false ≡ true = sym q ∙ h in cc)
+    prefix : (a b : Bool) → (a || b) ≡ true → b ≡ false → a ≡ true
+    prefix true b h q = refl
+    prefix false b h q = absurd (let z : false ≡ true = sym q ∙ h in cc)
 
 after_suc : (xs : List Item) (k at : ℕ) → at < length xs → has (λ (i : Item). i.role) k (drop at xs) ≡ true → after_last (λ (i : Item). i.role) k (drop (suc at) xs) ≡ after_last (λ (i : Item). i.role) k (drop at xs)
 after_suc [] k at l h = absurd (omega (arith, l))

@@ -1,4 +1,4 @@
--- What a step makes by what is held is what it makes in each session for which the state stands.
+-- What a step makes by what is held is what it makes in each session that the state represents.
 use Rattle.std.proofs.Common.{◌≡◌, ℕ, zero, suc, ◌+◌, ◌<◌, ◌≤◌, ◌==◌, ◌||◌, Bool, true, false, if◌then◌else◌, List, [], ◌∷◌, ◌++◌, map, filter_map, length, get_or, refl, sym, ◌∙◌, ap, subst, Option, Some, None, arith, inl, inr, append-nil, IsTrue}
 use Rattle.std.specs.List.{AllByRecursion, cons_option, list_all}
 use Rattle.std.specs.Option.{option_or}
@@ -12,12 +12,12 @@ use Rattle.sg_law.proofs.Lists.{has-map}
 use Rattle.sg_protocol.specs.Acting.{rows_of_send}
 use Rattle.sg_protocol.specs.Frame.{Cast, Item, Frame}
 use Rattle.sg_protocol.specs.Graph.{Graph, IsGraph, shape, reads}
-use Rattle.sg_protocol.specs.Kept.{Kept, kept, kept_items}
+use Rattle.sg_protocol.specs.Kept.{KeptState, kept, kept_items}
 use Rattle.sg_protocol.specs.Keyring.{Keyring, Program, targets_of}
 use Rattle.sg_protocol.specs.Notes.{Notes, note_of, notes_of_sent}
 use Rattle.sg_protocol.specs.Sending.{entry_of, item_of, shown_to, tags_left, tag_for, plain_item, own_item, text_to, text_of, opening_of, frame_sent, plain_frame}
-use Rattle.sg_protocol.specs.Session.{Session, principal, told, committed, commitments, known, opening_in}
-use Rattle.sg_protocol.specs.Standing.{Held, held}
+use Rattle.sg_protocol.specs.Session.{Session, principal, transcript, committed, commitments, known, opening_in}
+use Rattle.sg_protocol.specs.Representation.{Held, held}
 use Rattle.sg_protocol.specs.Texts.{real, item_text_of, commitment_text_of}
 use Rattle.sg_protocol.proofs.Ends.{below_same, committed-append}
 use Rattle.sg_protocol.proofs.Following.{get_below}
@@ -49,17 +49,17 @@ module _ (keys : Keyring) (p : Program) (s : Session) (label : ℕ) (written : L
   abbrev plain : Item
   plain = plain_item real s label written
 
-  commitments_same : (i : Item) → i.delta ≡ delta_of s.sid written → commitments p.graph (told s ++ i ∷ []) ≡ step_commitments p h written
-  commitments_same i d = below_same (λ x. committed x (told s ++ i ∷ [])) (λ x. option_or (value_at (delta_of s.sid written) x) (get_or (commitments p.graph (told s)) x None)) (length p.graph.variables) (λ x l.
-      committed-append x (told s) (i ∷ []) ∙ ap (λ m. option_or (value_at m x) (committed x (told s))) d
-      ∙ ap (option_or (value_at (delta_of s.sid written) x)) (sym (get_below (λ x. committed x (told s)) None (length p.graph.variables) x l)))
+  commitments_same : (i : Item) → i.delta ≡ delta_of s.sid written → commitments p.graph (transcript s ++ i ∷ []) ≡ step_commitments p h written
+  commitments_same i d = below_same (λ x. committed x (transcript s ++ i ∷ [])) (λ x. option_or (value_at (delta_of s.sid written) x) (get_or (commitments p.graph (transcript s)) x None)) (length p.graph.variables) (λ x l.
+      committed-append x (transcript s) (i ∷ []) ∙ ap (λ m. option_or (value_at m x) (committed x (transcript s))) d
+      ∙ ap (option_or (value_at (delta_of s.sid written) x)) (sym (get_below (λ x. committed x (transcript s)) None (length p.graph.variables) x l)))
 
-  text_same : (i : Item) (t : ℕ) → i.role ≡ s.role → i.label ≡ label → i.time ≡ plain.time → i.delta ≡ delta_of s.sid written → own_text h label (step_commitments p h written) t ≡ text_to p.graph s (told s) i t
+  text_same : (i : Item) (t : ℕ) → i.role ≡ s.role → i.label ≡ label → i.time ≡ plain.time → i.delta ≡ delta_of s.sid written → own_text h label (step_commitments p h written) t ≡ text_to p.graph s (transcript s) i t
   text_same i t a b c d =
       ap (item_text_of s.cast.version s.sid s.role t label plain.time) (sym (commitments_same i d))
-      ∙ ap (λ z. item_text_of s.cast.version s.sid z t label plain.time (commitments p.graph (told s ++ i ∷ []))) (sym a)
-      ∙ ap (λ z. item_text_of s.cast.version s.sid i.role t z plain.time (commitments p.graph (told s ++ i ∷ []))) (sym b)
-      ∙ ap (λ z. item_text_of s.cast.version s.sid i.role t i.label z (commitments p.graph (told s ++ i ∷ []))) (sym c)
+      ∙ ap (λ z. item_text_of s.cast.version s.sid z t label plain.time (commitments p.graph (transcript s ++ i ∷ []))) (sym a)
+      ∙ ap (λ z. item_text_of s.cast.version s.sid i.role t z plain.time (commitments p.graph (transcript s ++ i ∷ []))) (sym b)
+      ∙ ap (λ z. item_text_of s.cast.version s.sid i.role t i.label z (commitments p.graph (transcript s ++ i ∷ []))) (sym c)
 
   mapped : {A : Type 0} (f k : ℕ → A) (xs : List ℕ) → ((x : ℕ) → f x ≡ k x) → map f xs ≡ map k xs
   mapped f k [] e = refl
@@ -68,8 +68,8 @@ module _ (keys : Keyring) (p : Program) (s : Session) (label : ℕ) (written : L
   item_same : step_item keys p h label written ≡ own_item real keys p s label written
   item_same = ap (λ ts. record plain { tags = ts }) (mapped _ _ (targets_of p label) (λ t. ap (λ z. (t, tag_for real keys s.cast t z)) (text_same plain t refl refl refl refl)))
 
-  items_same : items_after p.graph h (own_item real keys p s label written) ≡ kept_items p.graph (told s ++ own_item real keys p s label written ∷ [])
-  items_same = kept-kept (evidence_again (λ (i : Item). i.role)) (evidence_since (λ (i : Item). i.role)) p.graph (told s) (own_item real keys p s label written ∷ [])
+  items_same : items_after p.graph h (own_item real keys p s label written) ≡ kept_items p.graph (transcript s ++ own_item real keys p s label written ∷ [])
+  items_same = kept-kept (evidence_again (λ (i : Item). i.role)) (evidence_since (λ (i : Item). i.role)) p.graph (transcript s) (own_item real keys p s label written ∷ [])
 
   openings_same : IsGraph p.graph → filter_map (λ x. option_or (opening_in written x) (get_or h.kept.openings x None)) (reads p.graph label) ≡ filter_map (opening_of s written) (reads p.graph label)
   openings_same g = picked_same (length p.graph.variables) (λ x. option_or (opening_in written x) (get_or h.kept.openings x None)) (opening_of s written) (reads p.graph label)
@@ -85,10 +85,10 @@ module _ (keys : Keyring) (p : Program) (s : Session) (label : ℕ) (written : L
     sid = s.sid;
     sender = s.role;
     receiver = to;
-    join = if has-kept p.graph to (told s) j then None else Some s.cast;
+    join = if has-kept p.graph to (transcript s) j then None else Some s.cast;
     items = ((ap (λ i. tags_left (after_last (λ (k : Item). k.role) to (items_after p.graph h i))) item_same)
         ∙ (ap (λ l. tags_left (after_last (λ (k : Item). k.role) to l)) items_same)
-        ∙ shown_left p.graph to (told s ++ own_item real keys p s label written ∷ [])) j;
+        ∙ shown_left p.graph to (transcript s ++ own_item real keys p s label written ∷ [])) j;
     openings = openings_same g j;
     tag = [];
   }
@@ -98,7 +98,7 @@ module _ (keys : Keyring) (p : Program) (s : Session) (label : ℕ) (written : L
 
   notes_same : IsGraph p.graph → last (frame_sent real keys p s label written).items ≡ Some (own_item real keys p s label written) → step_notes keys p h label written ≡ notes_of_sent keys p s (frame_sent real keys p s label written) written
   notes_same g l = rw l (λ j. record {
-    made = mapped (λ t. note_of keys.me (principal s.cast t) (own_text h label (step_commitments p h written) t)) (λ t. note_of keys.me (principal s.cast t) (text_to p.graph s (told s) (own_item real keys p s label written) t)) (targets_of p label)
+    made = mapped (λ t. note_of keys.me (principal s.cast t) (own_text h label (step_commitments p h written) t)) (λ t. note_of keys.me (principal s.cast t) (text_to p.graph s (transcript s) (own_item real keys p s label written) t)) (targets_of p label)
         (λ t. ap (note_of keys.me (principal s.cast t)) (text_same (own_item real keys p s label written) t refl refl refl refl)) j
         ++ note_of keys.me (principal s.cast to) (text_of (plain_same g j)) ∷ [];
     found = [];

@@ -1,4 +1,4 @@
--- What a role looks at by what it keeps is what the definition looks at, in each session for which its state stands.
+-- What a role looks at by what it keeps is what the definition looks at, in each session that its state represents.
 use Rattle.std.proofs.Common.{◌≡◌, ℕ, zero, suc, ◌+◌, ◌<◌, ◌==◌, ◌&&◌, Bool, true, false, not, if◌then◌else◌, List, [], ◌∷◌, ◌++◌, map, length, slice_set, refl, sym, ap, ◌∙◌, arith, inl, inr, Option, Some, None, option_map, find, position, append_assoc, append-nil}
 use Rattle.std.specs.List.{AllByRecursion}
 use Rattle.std.specs.Option.{option_or, option_map_or}
@@ -13,9 +13,9 @@ use Rattle.sg_protocol.specs.Graph.{Graph}
 use Rattle.sg_protocol.specs.IsSchedule.{IsProgram}
 use Rattle.sg_protocol.specs.Keyring.{Keyring, Program}
 use Rattle.sg_protocol.specs.Sending.{text_to}
-use Rattle.sg_protocol.specs.Session.{Session, told, own, origin, own_time, committed, commitments}
+use Rattle.sg_protocol.specs.Session.{Session, transcript, own_part, origin, own_time, committed, commitments}
 use Rattle.sg_protocol.specs.Spelling.{HasSpelling}
-use Rattle.sg_protocol.specs.Standing.{Held, held}
+use Rattle.sg_protocol.specs.Representation.{Held, held}
 use Rattle.sg_protocol.specs.Texts.{real, commitment}
 use Rattle.sg_protocol.specs.Verdict.{row, bad_time, has_frame_tag, has_item_tag, has_kind, is_right, is_shown, rows_of_session}
 use Rattle.sg_protocol.proofs.Ends.{below_same, committed-append}
@@ -93,7 +93,7 @@ find_same : (p q : Opening → Bool) (n : ℕ) (os : List Opening) → AllByRecu
 find_same p q n [] a e = refl
 find_same p q n (o ∷ os) a e = elim (cases_Bool (q o)) [ inl h ↦ rw (e o a.0 ∙ h, h) refl | inr h ↦ rw (e o a.0 ∙ h, h) (find_same p q n os a.1 e) ]
 
-module _ (keys : Keyring) (p : Program) (ip : IsProgram real p) (s : Session) (f : Frame) (mine : p.role ≡ s.role) (ends : own s ≡ told s) (sp : HasSpelling f) where
+module _ (keys : Keyring) (p : Program) (ip : IsProgram real p) (s : Session) (f : Frame) (mine : p.role ≡ s.role) (ends : own_part s ≡ transcript s) (sp : HasSpelling f) where
   abbrev h : Held
   h = held p.graph s
 
@@ -101,24 +101,24 @@ module _ (keys : Keyring) (p : Program) (ip : IsProgram real p) (s : Session) (f
   rise = rising_items f.version f.items sp.fields.items
 
   pub texts_now : texts_from h h.kept.commitments f.items ≡ texts_checked p.graph s f
-  texts_now = texts_same p.graph s (told s) f.items rise ∙ ap (λ l. checked_texts p.graph s l f.items) (sym ends)
+  texts_now = texts_same p.graph s (transcript s) f.items rise ∙ ap (λ l. checked_texts p.graph s l f.items) (sym ends)
 
   evidence_same : evidence_row keys h f.items ≡ option_map (λ n. BadEvidence (n + 1)) (position (λ c. not (has_item_tag real keys s c)) (texts_checked p.graph s f))
   evidence_same = ap (λ l. option_map (λ n. BadEvidence (n + 1)) (position (λ c. not (has_item_tag real keys s c)) l)) texts_now
 
-  pub opens_same : (o : Opening) → o.variable < length p.graph.variables → opens p.graph s.sid (overwritten_by (commitments p.graph (told s)) f.items) o ≡ is_right real p.graph s f o
+  pub opens_same : (o : Opening) → o.variable < length p.graph.variables → opens p.graph s.sid (overwritten_by (commitments p.graph (transcript s)) f.items) o ≡ is_right real p.graph s f o
   opens_same o l =
-      ap (λ cs. opens p.graph s.sid cs o) (all_more p.graph (told s) f.items rise)
-      ∙ ap (λ c. has_kind p.graph o && same_text c (commitment real s.sid o)) (get_below (λ x. committed x (told s ++ f.items)) None (length p.graph.variables) o.variable l)
+      ap (λ cs. opens p.graph s.sid cs o) (all_more p.graph (transcript s) f.items rise)
+      ∙ ap (λ c. has_kind p.graph o && same_text c (commitment real s.sid o)) (get_below (λ x. committed x (transcript s ++ f.items)) None (length p.graph.variables) o.variable l)
       ∙ ap (λ t. has_kind p.graph o && same_text (committed o.variable (t ++ f.items)) (commitment real s.sid o)) (sym ends)
 
-  opening_same : is_seen p (origin s) f ≡ true → opening_row p.graph s.sid (overwritten_by (commitments p.graph (told s)) f.items) f.openings ≡ option_map (λ o. BadOpening o.variable) (find (λ o. not (is_right real p.graph s f o)) f.openings)
+  opening_same : is_seen p (origin s) f ≡ true → opening_row p.graph s.sid (overwritten_by (commitments p.graph (transcript s)) f.items) f.openings ≡ option_map (λ o. BadOpening o.variable) (find (λ o. not (is_right real p.graph s f o)) f.openings)
   opening_same seen = ap (option_map (λ (o : Opening). BadOpening o.variable)) (find_same _ _ (length p.graph.variables) f.openings (seen_frame p ip (origin s) f seen).variables (λ o l. ap not (opens_same o l)))
 
   pub rows_same : first_some (rows_from keys p h f) ≡ first_some (rows_of_session real keys p s f)
   rows_same = elim (cases_Bool (is_seen p (origin s) f)) [
     | inl e ↦ (
-        ap (λ r. first_some (row (not (has_frame_tag real keys s f)) BadFrameTag ∷ row (not (is_shown p s f)) NoSuchView ∷ bad_time 1 (own_time s) f.items ∷ r ∷ opening_row p.graph s.sid (overwritten_by (commitments p.graph (told s)) f.items) f.openings ∷ [])) evidence_same
+        ap (λ r. first_some (row (not (has_frame_tag real keys s f)) BadFrameTag ∷ row (not (is_shown p s f)) NoSuchView ∷ bad_time 1 (own_time s) f.items ∷ r ∷ opening_row p.graph s.sid (overwritten_by (commitments p.graph (transcript s)) f.items) f.openings ∷ [])) evidence_same
         ∙ ap (λ r. first_some (row (not (has_frame_tag real keys s f)) BadFrameTag ∷ row (not (is_shown p s f)) NoSuchView ∷ bad_time 1 (own_time s) f.items ∷ option_map (λ n. BadEvidence (n + 1)) (position (λ c. not (has_item_tag real keys s c)) (texts_checked p.graph s f)) ∷ r ∷ [])) (opening_same e))
     | inr e ↦ unseen (row (not (has_frame_tag real keys s f)) BadFrameTag) (is_seen p (origin s) f) e _ _
   ]

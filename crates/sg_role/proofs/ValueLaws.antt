@@ -11,7 +11,7 @@ use Rattle.sg_protocol.specs.Acting.{is_bad, is_typed, is_out_of_order}
 use Rattle.sg_protocol.specs.Calls.{SendFault}
 use Rattle.sg_protocol.specs.Graph.{Graph, writes, AreNumbers}
 use Rattle.sg_protocol.specs.Keyring.{Program}
-use Rattle.sg_protocol.specs.Standing.{Held}
+use Rattle.sg_protocol.specs.Representation.{Held}
 use Rattle.sg_protocol.proofs.Told.{out_of_order_in, untyped_in}
 use Rattle.sg_role.specs.Stepping.{first_bad}
 

@@ -4,7 +4,7 @@ use Rattle.std.specs.List.{list_any}
 use Rattle.sg_protocol.specs.Graph.{Graph}
 use Rattle.sg_protocol.specs.Keyring.{Program}
 use Rattle.sg_protocol.specs.Calls.{Event}
-use Rattle.sg_protocol.specs.Standing.{Held}
+use Rattle.sg_protocol.specs.Representation.{Held}
 use Rattle.sg_walk.specs.Model.{event_of}
 use Rattle.sg_role.specs.declared.accepted.Accepted.TheInside.{Inside}
 use Rattle.sg_role.specs.Model.{RoleState, state_of}

@@ -1,6 +1,6 @@
 -- What each state of a role keeps true.
 use Rattle.std.specs.Prelude.{◌≡◌, length}
-use Rattle.sg_protocol.specs.Backed.{IsBackedBefore, IsBackedWaiting, IsBackedAtTurn}
+use Rattle.sg_protocol.specs.Reachable.{IsReachableBefore, IsReachableWaiting, IsReachableAtTurn}
 use Rattle.sg_protocol.specs.Texts.{real}
 use Rattle.sg_role.specs.Model.{RoleState}
 
@@ -8,17 +8,17 @@ use Rattle.sg_role.specs.Model.{RoleState}
 abbrev pub IsCounted : RoleState → Type 0
 IsCounted s = length s.held.cast.names ≡ length s.program.graph.roles
 
--- some sound session stands behind the state, which is new or ends with an own item
+-- the state represents some sound session, which is new or ends with an own item
 pub record HoldsBefore (s : RoleState) : Type 0 where
   pub counted : IsCounted s
-  pub backed : IsBackedBefore real s.program s.held
+  pub reachable : IsReachableBefore real s.program s.held
 
--- some sound session stands behind the state, at whose place another role has the turn
+-- the state represents some sound session, at whose place another role has the turn
 pub record HoldsWaiting (s : RoleState) : Type 0 where
   pub counted : IsCounted s
-  pub backed : IsBackedWaiting real s.program s.held
+  pub reachable : IsReachableWaiting real s.program s.held
 
--- some sound session stands behind the state, at whose place the role has the turn
+-- the state represents some sound session, at whose place the role has the turn
 pub record HoldsTurn (s : RoleState) : Type 0 where
   pub counted : IsCounted s
-  pub backed : IsBackedAtTurn real s.program s.held
+  pub reachable : IsReachableAtTurn real s.program s.held

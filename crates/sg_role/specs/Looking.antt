@@ -14,7 +14,7 @@ use Rattle.sg_protocol.specs.Keyring.{Keyring, Program}
 use Rattle.sg_protocol.specs.Notes.{Note, Notes, note_of}
 use Rattle.sg_protocol.specs.Sending.{text_of}
 use Rattle.sg_protocol.specs.Session.{Session, new_session, principal, last_label}
-use Rattle.sg_protocol.specs.Standing.{Held}
+use Rattle.sg_protocol.specs.Representation.{Held}
 use Rattle.sg_protocol.specs.Texts.{real, commitment, commitment_text_of, item_text_of}
 use Rattle.sg_protocol.specs.Verdict.{row, seen, has_right_tags, has_frame_tag, bad_time, has_item_tag, has_kind}
 

@@ -1,8 +1,8 @@
 -- What the states of a role hold.
 use Rattle.sg_vis.specs.Model.{origin_of}
 use Rattle.sg_protocol.specs.Keyring.{Program}
-use Rattle.sg_protocol.specs.Standing.{Held}
-use Rattle.sg_role.specs.declared.kept.Kept.{Kept}
+use Rattle.sg_protocol.specs.Representation.{Held}
+use Rattle.sg_role.specs.declared.kept.KeptState.{KeptState}
 
 -- the program of a role, and what the role holds of a session
 pub record RoleState : Type 0 where
@@ -10,7 +10,7 @@ pub record RoleState : Type 0 where
   pub held : Held
 
 -- the state whose parts are kept
-abbrev pub state_of : Kept → RoleState
+abbrev pub state_of : KeptState → RoleState
 state_of k = record {
   program = k.program.now;
   held = record {

@@ -5,7 +5,7 @@ use Rattle.sg_model.specs.Last.{Map}
 use Rattle.sg_model.specs.Values.{Value}
 use Rattle.sg_protocol.specs.Calls as Protocol
 use Rattle.sg_protocol.specs.Calls.{Event}
-use Rattle.sg_protocol.specs.Standing.{Held}
+use Rattle.sg_protocol.specs.Representation.{Held}
 use Rattle.sg_protocol.specs.Notes.{Notes}
 use Rattle.sg_walk.specs.Model.{event_of}
 use Rattle.sg_role.specs.Model.{RoleState}

@@ -2,7 +2,7 @@
 ghost use Rattle.std.specs.Prelude.{◌≡◌};
 ghost use Rattle.sg_walk.specs.Model.{event_of};
 
-use crate::kept::Kept;
+use crate::kept::KeptState;
 use sg_vis::ViewId;
 use sg_walk::Event;
 use std::marker::Model;
@@ -12,8 +12,8 @@ use std::rc::Rc;
 /// received.
 #[derive(Drop)]
 pub struct Accepted<'p> {
-    pub(crate) before: Rc<Kept<'p>>,
-    pub(crate) after: Rc<Kept<'p>>,
+    pub(crate) before: Rc<KeptState<'p>>,
+    pub(crate) after: Rc<KeptState<'p>>,
     pub(crate) event: Event,
     pub(crate) view: ViewId,
 }

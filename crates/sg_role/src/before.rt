@@ -2,14 +2,14 @@
 ghost use Rattle.std.specs.Prelude.{◌≡◌, ◌+◌, length, get_or, IfOk, IsTrue, None, ◌↔◌};
 ghost use Rattle.std.specs.Option.{option_copied};
 ghost use Rattle.sg_vis.specs.Model.{origin_of};
-ghost use Rattle.sg_protocol.specs.Backed.{IsBackedBefore};
+ghost use Rattle.sg_protocol.specs.Reachable.{IsReachableBefore};
 ghost use Rattle.sg_protocol.specs.Frame.{IsCastOf};
 ghost use Rattle.sg_protocol.specs.IsSchedule.{IsProgram};
-ghost use Rattle.sg_protocol.specs.Standing.{nothing_kept};
+ghost use Rattle.sg_protocol.specs.Representation.{nothing_kept};
 ghost use Rattle.sg_protocol.specs.TextLaws.{IsVersion};
 ghost use Rattle.sg_protocol.specs.Texts.{real, session_id};
 
-use crate::kept::{Kept, shared};
+use crate::kept::{KeptState, shared};
 use sg_base::{OutOfMemory, Role, Sid, Time, Var};
 use sg_cache::Ticket;
 use sg_crypt::{Cast, session_id};
@@ -22,7 +22,7 @@ use std::rc::Rc;
 /// What a role keeps of a session that is new, or that ends with its own step. A clause sees its program and what it holds.
 #[derive(Drop)]
 pub struct Before<'p> {
-    pub(crate) kept: Rc<Kept<'p>>,
+    pub(crate) kept: Rc<KeptState<'p>>,
 }
 
 impl<'p> Model for Before<'p> {
@@ -68,7 +68,7 @@ impl<'p> Before<'p> {
         }) }
     {
         tell(program, &cast);
-        let new = Kept::new(alloc, program, cast, sid)?;
+        let new = KeptState::new(alloc, program, cast, sid)?;
         let kept = shared(alloc, new)?;
         Ok(Before { kept })
     }
@@ -83,7 +83,7 @@ impl<'p> Before<'p> {
     /// The role. It takes no memory.
     pub fn role(&self) -> Role
         ensures role { result ≡ self.now.held.role }
-        ensures backed { IsBackedBefore real self.now.program self.now.held }
+        ensures reachable { IsReachableBefore real self.now.program self.now.held }
     {
         self.kept.program.role()
     }

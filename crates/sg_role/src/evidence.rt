@@ -32,7 +32,7 @@ pub(crate) fn shown_to(alloc: Global, items: &[Item], to: Role) -> Result<Seq<It
     ensures { IfOk result (λ s. s ≡ tags_left (after_last (λ i. i.role) to items.now)) }
 {
     let mut list = Seq::new(alloc);
-    let start = place_after(items, to);
+    let start = index_after(items, to);
     for at in start..items.len() {
         list.push(shown_item(alloc, &items[at], &items[at + 1..])?)?;
     }
@@ -41,7 +41,7 @@ pub(crate) fn shown_to(alloc: Global, items: &[Item], to: Role) -> Result<Seq<It
 
 // The place after the last item of a role.
 #[tactic(auto, using(crate::proofs::Showing::after_none, crate::proofs::Showing::after_step))]
-fn place_after(items: &[Item], role: Role) -> usize
+fn index_after(items: &[Item], role: Role) -> usize
     ensures there { result ≤ length items.now }
     ensures after { drop result items.now ≡ after_last (λ i. i.role) role items.now }
 {
@@ -131,8 +131,8 @@ pub(crate) fn take_over(openings: &mut Vec<Option<Opening>>, mut written: Vec<Op
 fn put(openings: &mut Vec<Option<Opening>>, opening: Opening)
     ensures { openings.new.items ≡ slice_set openings.old.items opening.variable (Some opening) }
 {
-    let place = opening.var.0 as usize;
-    if place < openings.len() {
-        openings[place] = Some(opening);
+    let index = opening.var.0 as usize;
+    if index < openings.len() {
+        openings[index] = Some(opening);
     }
 }

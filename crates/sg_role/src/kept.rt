@@ -4,7 +4,7 @@ ghost use Rattle.sg_model.specs.Lists.{below};
 ghost use Rattle.sg_model.specs.Shape.{role_at};
 ghost use Rattle.sg_protocol.specs.Graph.{shape};
 ghost use Rattle.sg_protocol.specs.Session.{principal};
-ghost use Rattle.sg_protocol.specs.Standing.{nothing_kept};
+ghost use Rattle.sg_protocol.specs.Representation.{nothing_kept};
 ghost use Rattle.sg_protocol.specs.Texts.{real, session_id};
 ghost use Rattle.sg_role.specs.Accepting.{goes_on};
 ghost use Rattle.sg_role.specs.Model.{state_of};
@@ -19,7 +19,7 @@ use std::rc::Rc;
 
 /// What a role keeps of a session: no history, so its size is bounded by the graph's.
 #[derive(Drop)]
-pub(crate) struct Kept<'p> {
+pub(crate) struct KeptState<'p> {
     pub program: &'p Program,
     pub sid: Sid,
     pub cast: SharedCast,
@@ -40,20 +40,23 @@ pub(crate) struct Kept<'p> {
 }
 
 /// The same on the heap, for several to hold: neither moving nor sharing it copies it.
-pub(crate) fn shared<'p>(alloc: Global, kept: Kept<'p>) -> Result<Rc<Kept<'p>>, OutOfMemory>
+pub(crate) fn shared<'p>(
+    alloc: Global,
+    kept: KeptState<'p>,
+) -> Result<Rc<KeptState<'p>>, OutOfMemory>
     ensures { IfOk result (λ k. k.value ≡ kept.entry) }
 {
     Ok(Rc::new(alloc, kept)?)
 }
 
-impl<'p> Kept<'p> {
+impl<'p> KeptState<'p> {
     /// What the program's role keeps of a new session of the cast, which has this identifier.
     pub fn new(
         alloc: Global,
         program: &'p Program,
         cast: Cast,
         sid: Sid,
-    ) -> Result<Kept<'p>, OutOfMemory>
+    ) -> Result<KeptState<'p>, OutOfMemory>
         requires { sid ≡ session_id real cast }
         ensures { IfOk result (λ k. state_of k ≡ record {
           program = program.entry.now;
@@ -61,7 +64,7 @@ impl<'p> Kept<'p> {
         }) }
     {
         let count = program.graph().vars();
-        Ok(Kept {
+        Ok(KeptState {
             program,
             sid,
             cast: SharedCast::new(alloc, cast)?,

@@ -7,7 +7,7 @@
 //! refused comes back unchanged.
 //!
 //! No state has a history. A clause sees its program and what it holds (`Held` of the core), and speaks of every session of the definitions
-//! for which that stands. The invariant of each type is that there is such a session, and that what is kept follows a walk from the start;
+//! that that represents. The invariant of each type is that there is such a session, and that what is kept follows a walk from the start;
 //! so each variable that a step reads has an opening.
 #![tactic(auto)]
 

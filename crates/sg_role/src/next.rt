@@ -8,7 +8,7 @@ ghost use Rattle.sg_protocol.specs.Graph.{Graph, shape};
 ghost use Rattle.sg_protocol.specs.Kept.{kept_items};
 ghost use Rattle.sg_protocol.specs.Session.{last_label, opening_in, Took};
 ghost use Rattle.sg_protocol.specs.Spelling.{HasSpelling};
-ghost use Rattle.sg_protocol.specs.Standing.{held_after};
+ghost use Rattle.sg_protocol.specs.Representation.{held_after};
 ghost use Rattle.sg_protocol.specs.Verdict.{receipt};
 ghost use Rattle.sg_walk.specs.Model.{event_of, values_of};
 ghost use Rattle.sg_role.specs.Looking.{is_seen, overwritten_by};
@@ -16,7 +16,7 @@ ghost use Rattle.sg_role.specs.Model.{state_of};
 ghost use Rattle.sg_role.specs.Invariant.{HoldsBefore};
 ghost use Rattle.sg_role.specs.Keeping.{kept_from};
 
-use crate::kept::{Kept, shared};
+use crate::kept::{KeptState, shared};
 use crate::own::commitment_in;
 use crate::view::last_of;
 use sg_base::{Label, NodeId, Opening, OutOfMemory, Role, Seq, Time, Value, Var};
@@ -28,10 +28,10 @@ use std::rc::Rc;
 /// What is kept after a frame that shows what the role can be shown, where these are the commitments with its items.
 pub(crate) fn after_frame<'p>(
     alloc: Global,
-    kept: &Kept<'p>,
+    kept: &KeptState<'p>,
     frame: &Frame,
     commitments: Vec<Option<[u8; 32]>>,
-) -> Result<Rc<Kept<'p>>, OutOfMemory>
+) -> Result<Rc<KeptState<'p>>, OutOfMemory>
     requires holds { HoldsBefore (state_of kept.now) }
     requires spelled { HasSpelling frame.now }
     requires commitments { commitments.items ≡ overwritten_by kept.now.commitments.items frame.now.items }
@@ -48,7 +48,7 @@ pub(crate) fn after_frame<'p>(
     let openings = openings_with(alloc, count, kept.openings.as_slice(), opened)?;
     let cast = kept.cast.share()?;
     let (time, place) = ended(kept, shown);
-    let next = Kept {
+    let next = KeptState {
         program: kept.program,
         sid: kept.sid,
         cast,
@@ -65,7 +65,7 @@ pub(crate) fn after_frame<'p>(
 }
 
 // The time and the place after these items.
-fn ended(kept: &Kept, items: &[Item]) -> (Time, NodeId)
+fn ended(kept: &KeptState, items: &[Item]) -> (Time, NodeId)
     requires { All (λ i. i.label < length (state_of kept.now).program.graph.edges) items.now }
     ensures time { result.0 ≡ unwrap_or (option_map (λ i. i.time) (last items.now)) kept.now.time }
     ensures place { result.1 ≡ unwrap_or (option_map (target (shape (state_of kept.now).program.graph)) (last_label items.now)) kept.now.place }

@@ -16,7 +16,7 @@ ghost use Rattle.sg_role.specs.Stepping.{delta_of, commitments_after, own_text, 
 ghost use Rattle.sg_model.specs.Lists.{value_at, is_in, below};
 ghost use Rattle.std.specs.Option.{option_or};
 
-use crate::kept::Kept;
+use crate::kept::KeptState;
 use crate::tags::note_for;
 use sg_base::{Label, Name, Opening, OutOfMemory, Role, RoleSet, Seq, Sid, Tag, Time, Value, Var};
 use sg_crypt::{Hashed, Notes, Pair, SharedCast, commit_text, cut, item_text, tag};
@@ -176,7 +176,7 @@ pub(crate) fn roles_of(alloc: Global, set: RoleSet) -> Result<Vec<Role>, OutOfMe
 #[tactic(auto, using(crate::proofs::Walked::extends_made))]
 pub(crate) fn tags_for(
     alloc: Global,
-    kept: &Kept,
+    kept: &KeptState,
     keys: &Keyring,
     label: Label,
     commitments: &[Option<[u8; 32]>],
@@ -203,7 +203,7 @@ pub(crate) fn tags_for(
 // The tag of the own item for a target. Its text is noted.
 fn tag_target(
     alloc: Global,
-    kept: &Kept,
+    kept: &KeptState,
     keys: &Keyring,
     label: Label,
     commitments: &[Option<[u8; 32]>],

@@ -2,21 +2,21 @@
 ghost use Rattle.std.specs.Prelude.{◌≡◌, ◌↔◌, IsTrue};
 ghost use Rattle.sg_role.specs.Model.{state_of};
 
-use crate::kept::Kept;
+use crate::kept::KeptState;
 use sg_base::{Name, Opening, Role, Tag, Var};
 use sg_crypt::Cast;
 use sg_frame::Item;
 
 /// Whether both keep the same of a session. It takes no memory.
 #[tactic(auto, using(crate::proofs::SameHeld::same_held))]
-pub(crate) fn same(one: &Kept, other: &Kept) -> bool
+pub(crate) fn same(one: &KeptState, other: &KeptState) -> bool
     ensures { IsTrue result ↔ ((state_of one.now).held ≡ (state_of other.now).held) }
 {
     same_session(one, other) && same_step(one, other) && same_lists(one, other)
 }
 
 // Whether both are of one session and role.
-fn same_session(one: &Kept, other: &Kept) -> bool
+fn same_session(one: &KeptState, other: &KeptState) -> bool
     ensures { IsTrue result ↔ ((one.now.sid ≡ other.now.sid) × (one.now.cast ≡ other.now.cast) × ((state_of one.now).held.role ≡ (state_of other.now).held.role)) }
 {
     one.sid == other.sid
@@ -54,7 +54,7 @@ fn same_name(one: &Name, other: &Name) -> bool
 }
 
 // Whether both are at one step.
-fn same_step(one: &Kept, other: &Kept) -> bool
+fn same_step(one: &KeptState, other: &KeptState) -> bool
     ensures { IsTrue result ↔ (((state_of one.now).held.kept.origin ≡ (state_of other.now).held.kept.origin)
         × (one.now.own_time ≡ other.now.own_time) × (one.now.time ≡ other.now.time) × (one.now.place ≡ other.now.place)) }
 {
@@ -65,7 +65,7 @@ fn same_step(one: &Kept, other: &Kept) -> bool
 }
 
 // Whether the items, commitments and openings are the same.
-fn same_lists(one: &Kept, other: &Kept) -> bool
+fn same_lists(one: &KeptState, other: &KeptState) -> bool
     ensures { IsTrue result ↔ ((one.now.items.items ≡ other.now.items.items) × (one.now.commitments.items ≡ other.now.commitments.items)
         × (one.now.openings.items ≡ other.now.openings.items)) }
 {

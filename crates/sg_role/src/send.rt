@@ -16,13 +16,13 @@ ghost use Rattle.sg_protocol.specs.Notes.{notes_of_sent};
 ghost use Rattle.sg_protocol.specs.Sending.{own_item, frame_sent};
 ghost use Rattle.sg_protocol.specs.Session.{Session, Gave, principal};
 ghost use Rattle.sg_protocol.specs.Spelling.{spelling};
-ghost use Rattle.sg_protocol.specs.Standing.{StandsAtTurn, held_after};
+ghost use Rattle.sg_protocol.specs.Representation.{RepresentsAtTurn, held_after};
 ghost use Rattle.sg_protocol.specs.Texts.{real};
 ghost use Rattle.sg_walk.specs.Model.{event_of, values_of};
 ghost use Rattle.sg_role.specs.Faults.{RefusesToSend};
 ghost use Rattle.sg_role.specs.Sending.{event_sent, frame_made, with_notes, WaitsOrEnds, step_of};
 
-use crate::kept::Kept;
+use crate::kept::KeptState;
 use crate::step::{MadeStep, make_step};
 use crate::values::{check_step, tell_values};
 use crate::{Await, Before, Done, SendFault, Sent, Turn};
@@ -45,27 +45,27 @@ impl<'p> Turn<'p> {
         notes: &mut Notes,
     ) -> Result<Sent<'p>, (Turn<'p>, SendFault)>
         requires { length confounders.now ≡ length values.now }
-        ensures refused { (s : Session) → StandsAtTurn self.entry.program.graph self.entry.held s
+        ensures refused { (s : Session) → RepresentsAtTurn self.entry.program.graph self.entry.held s
             → IfErr result (λ e. RefusesToSend (first_some (rows_of_send self.entry.program s label (values_of values.now))) e.1) }
         // Memory runs out only for a step that would be sent.
-        ensures memory { (s : Session) → StandsAtTurn self.entry.program.graph self.entry.held s
+        ensures memory { (s : Session) → RepresentsAtTurn self.entry.program.graph self.entry.held s
             → IfErr result (λ e. e.1 ≡ SendFault.OutOfMemory → first_some (rows_of_send self.entry.program s label (values_of values.now)) ≡ None) }
         ensures back { IfErr result (λ e. (e.0 ≡ self.entry) × (notes.new ≡ notes.old)) }
-        ensures accepted { (s : Session) → StandsAtTurn self.entry.program.graph self.entry.held s
+        ensures accepted { (s : Session) → RepresentsAtTurn self.entry.program.graph self.entry.held s
             → IfOk result (λ sent. first_some (rows_of_send self.entry.program s label (values_of values.now)) ≡ None) }
         ensures event { IfOk result (λ sent. event_sent sent ≡ step_of self.entry.held label (values_of values.now)) }
-        ensures frame { (s : Session) → StandsAtTurn self.entry.program.graph self.entry.held s
+        ensures frame { (s : Session) → RepresentsAtTurn self.entry.program.graph self.entry.held s
             → IfOk result (λ sent. frame_made sent ≡ (
               principal s.cast (receiver (shape self.entry.program.graph) label),
               spelling (frame_sent real keys.now self.entry.program s label (openings_for (values_of values.now) confounders.now)),
             )) }
-        ensures state { (s : Session) → StandsAtTurn self.entry.program.graph self.entry.held s
+        ensures state { (s : Session) → RepresentsAtTurn self.entry.program.graph self.entry.held s
             → IfOk result (WaitsOrEnds (may_return self.entry.program label) (record {
               program = self.entry.program;
               held = held_after self.entry.program.graph self.entry.held
                   (Gave (own_item real keys.now self.entry.program s label (openings_for (values_of values.now) confounders.now)) (openings_for (values_of values.now) confounders.now));
             })) }
-        ensures notes { (s : Session) → StandsAtTurn self.entry.program.graph self.entry.held s
+        ensures notes { (s : Session) → RepresentsAtTurn self.entry.program.graph self.entry.held s
             → IfOk result (λ sent. notes.new ≡ with_notes notes.old (notes_of_sent keys.now self.entry.program s
             (frame_sent real keys.now self.entry.program s label (openings_for (values_of values.now) confounders.now)) (openings_for (values_of values.now) confounders.now))) }
     {
@@ -86,7 +86,7 @@ impl<'p> Turn<'p> {
 }
 
 // What the types say of the program, of the values and of the bytes that hide them.
-fn tell(kept: &Kept, values: &[(Var, Value)], confounders: &[[u8; 16]])
+fn tell(kept: &KeptState, values: &[(Var, Value)], confounders: &[[u8; 16]])
     requires { length confounders.now ≡ length values.now }
     ensures program { IsProgram real (state_of kept.now).program }
     ensures values { AreValues (values_of values.now) confounders.now }

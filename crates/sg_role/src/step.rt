@@ -21,7 +21,7 @@ ghost use Rattle.sg_role.specs.Invariant.{HoldsTurn};
 ghost use Rattle.sg_role.specs.Stepping.{send_rows, own_text, step_commitments, step_item, step_frame, step_held, step_notes, frame_with, held_next, Extends};
 
 use crate::evidence::{items_with, openings_of, shown_to, take_over, vars_of};
-use crate::kept::{Kept, shared};
+use crate::kept::{KeptState, shared};
 use crate::next::{copied_openings, has_role};
 use crate::own::{
     commit_each, commitments_with, copy_values, name_of, roles_of, tag_to, tags_for,
@@ -42,13 +42,13 @@ use std::rc::Rc;
 pub(crate) struct MadeStep<'p> {
     pub event: Event,
     pub sealed: Sealed,
-    pub kept: Rc<Kept<'p>>,
+    pub kept: Rc<KeptState<'p>>,
 }
 
 /// Makes a step along the label, on which no refusal holds. What is tagged and hashed is noted.
 pub(crate) fn make_step<'p>(
     alloc: Global,
-    kept: &Kept<'p>,
+    kept: &KeptState<'p>,
     keys: &Keyring,
     label: Label,
     values: &[(Var, Value)],
@@ -89,12 +89,12 @@ pub(crate) fn make_step<'p>(
 // What is kept after a step.
 fn next_kept<'p>(
     alloc: Global,
-    kept: &Kept<'p>,
+    kept: &KeptState<'p>,
     label: Label,
     items: Vec<Item>,
     commitments: Vec<Option<[u8; 32]>>,
     written: Vec<Opening>,
-) -> Result<Rc<Kept<'p>>, OutOfMemory>
+) -> Result<Rc<KeptState<'p>>, OutOfMemory>
     requires label { label < length (state_of kept.now).program.graph.edges }
     requires time { kept.now.time < most_time }
     ensures { IfOk result (λ k. state_of k.value ≡ record {
@@ -106,7 +106,7 @@ fn next_kept<'p>(
     take_over(&mut openings, written);
     let cast = kept.cast.share()?;
     let time = next_time(kept);
-    let next = Kept {
+    let next = KeptState {
         program: kept.program,
         sid: kept.sid,
         cast,
@@ -125,7 +125,7 @@ fn next_kept<'p>(
 // What the role does.
 fn step_event(
     alloc: Global,
-    kept: &Kept,
+    kept: &KeptState,
     label: Label,
     values: &[(Var, Value)],
 ) -> Result<Event, OutOfMemory>
@@ -142,7 +142,7 @@ fn step_event(
 }
 
 // The time of the step.
-fn next_time(kept: &Kept) -> Time
+fn next_time(kept: &KeptState) -> Time
     requires { kept.now.time < most_time }
     ensures { result ≡ kept.now.time + 1 }
 {
@@ -150,7 +150,7 @@ fn next_time(kept: &Kept) -> Time
 }
 
 // The targets of the step.
-fn step_targets(alloc: Global, kept: &Kept, label: Label) -> Result<Vec<Role>, OutOfMemory>
+fn step_targets(alloc: Global, kept: &KeptState, label: Label) -> Result<Vec<Role>, OutOfMemory>
     requires { label < length (state_of kept.now).program.graph.edges }
     ensures value { IfOk result (λ v. v.items ≡ targets_of (state_of kept.now).program label) }
     ensures there { IfOk result (λ v. AllByRecursion (λ t. t < length (state_of kept.now).program.graph.roles) v.items) }
@@ -162,7 +162,7 @@ fn step_targets(alloc: Global, kept: &Kept, label: Label) -> Result<Vec<Role>, O
 // The own item, and the commitments with it. What is tagged and hashed is noted.
 fn own_item(
     alloc: Global,
-    kept: &Kept,
+    kept: &KeptState,
     keys: &Keyring,
     label: Label,
     written: &[Opening],
@@ -211,7 +211,7 @@ fn own_item(
 // The frame that shows these kept items, with zeros for its tag.
 fn untagged(
     alloc: Global,
-    kept: &Kept,
+    kept: &KeptState,
     label: Label,
     items: &[Item],
     written: &[Opening],
@@ -238,7 +238,7 @@ fn untagged(
 }
 
 // The cast, where the role has no item yet.
-fn join_for(kept: &Kept, to: Role) -> Result<Option<SharedCast>, OutOfMemory>
+fn join_for(kept: &KeptState, to: Role) -> Result<Option<SharedCast>, OutOfMemory>
     ensures { IfOk result (λ join. join ≡ (if has (λ j. j.role) to kept.now.items.items then None else Some kept.now.cast)) }
 {
     if has_role(kept.items.as_slice(), to) {
@@ -249,7 +249,7 @@ fn join_for(kept: &Kept, to: Role) -> Result<Option<SharedCast>, OutOfMemory>
 }
 
 // What the step's edge reads.
-fn step_reads(alloc: Global, kept: &Kept, label: Label) -> Result<Vec<Var>, OutOfMemory>
+fn step_reads(alloc: Global, kept: &KeptState, label: Label) -> Result<Vec<Var>, OutOfMemory>
     requires { label < length (state_of kept.now).program.graph.edges }
     ensures { IfOk result (λ v. v.items ≡ reads (state_of kept.now).program.graph label) }
 {
@@ -260,7 +260,7 @@ fn step_reads(alloc: Global, kept: &Kept, label: Label) -> Result<Vec<Var>, OutO
 // The frame with its tag, for the receiver's principal. Its text is noted.
 fn seal(
     alloc: Global,
-    kept: &Kept,
+    kept: &KeptState,
     keys: &Keyring,
     frame: &Frame,
     notes: &mut Notes,
@@ -288,7 +288,7 @@ fn seal(
     Ok(Sealed::seal(peer, with_tag(bytes, len, &made)))
 }
 
-// The bytes with the front of a tag in the place of what stands from there on.
+// The bytes with the prefix of a tag in the place of what stands from there on.
 fn with_tag(mut bytes: Vec<u8>, from: usize, tag: &Tag) -> Vec<u8>
     requires from { from ≤ length bytes.items }
     requires fits { length bytes.items ≤ from + 32 }
@@ -299,7 +299,7 @@ fn with_tag(mut bytes: Vec<u8>, from: usize, tag: &Tag) -> Vec<u8>
     bytes
 }
 
-// Puts the front of a tag in the place of what stands from there on.
+// Puts the prefix of a tag in the place of what stands from there on.
 fn put_tag(bytes: &mut [u8], from: usize, tag: &Tag)
     requires from { from ≤ length bytes.old }
     requires fits { length bytes.old ≤ from + 32 }

@@ -16,7 +16,7 @@ ghost use Rattle.sg_role.specs.Looking.{bare, evidence_row, found_items, overwri
 ghost use Rattle.sg_role.specs.Model.{state_of};
 
 use crate::Refusal;
-use crate::kept::{Kept, copied};
+use crate::kept::{KeptState, copied};
 use sg_base::{Name, OutOfMemory, Role, Tag, Var};
 use sg_crypt::{Note, Notes, Pair, cut_matches, frame_text, item_text};
 use sg_frame::{Frame, Item, body_len};
@@ -26,7 +26,7 @@ use std::alloc::Global;
 /// Whether the sender is a role of the cast and the frame's tag is right, which is then noted.
 pub(crate) fn check_frame_tag(
     alloc: Global,
-    kept: &Kept,
+    kept: &KeptState,
     keys: &Keyring,
     frame: &Frame,
     bytes: &[u8],
@@ -104,7 +104,7 @@ pub(crate) fn note_for(
 /// the commitments after all items.
 pub(crate) fn check_items(
     alloc: Global,
-    kept: &Kept,
+    kept: &KeptState,
     keys: &Keyring,
     items: &[Item],
     notes: &mut Notes,
@@ -140,7 +140,7 @@ pub(crate) fn check_items(
 // Whether an item of this number has a right tag for the role, which is then noted.
 fn check_item(
     alloc: Global,
-    kept: &Kept,
+    kept: &KeptState,
     keys: &Keyring,
     item: &Item,
     number: u32,
@@ -202,9 +202,9 @@ pub(crate) fn overwrite(commitments: &mut Vec<Option<[u8; 32]>>, delta: &[(Var, 
 {
     for at in 0..delta.len() {
         let (var, commitment) = delta[at];
-        let place = var.0 as usize;
-        if place < commitments.len() {
-            commitments[place] = Some(commitment);
+        let index = var.0 as usize;
+        if index < commitments.len() {
+            commitments[index] = Some(commitment);
         }
     }
 }

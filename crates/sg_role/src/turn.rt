@@ -1,12 +1,12 @@
 //! A role at its turn.
 ghost use Rattle.std.specs.Prelude.{◌≡◌, ◌==◌, ◌↔◌, ◌&&◌, nat_lt, length, None, IfOk, IfErr, IsErr};
 ghost use Rattle.sg_model.specs.Shape.{role_at, source};
-ghost use Rattle.sg_protocol.specs.Backed.{IsBackedAtTurn};
+ghost use Rattle.sg_protocol.specs.Reachable.{IsReachableAtTurn};
 ghost use Rattle.sg_protocol.specs.Graph.{shape};
 ghost use Rattle.sg_protocol.specs.Texts.{real};
 
 use crate::before::fits;
-use crate::kept::Kept;
+use crate::kept::KeptState;
 use crate::{Before, Done};
 use sg_base::{Label, NodeId, Time};
 use sg_cache::Ticket;
@@ -18,7 +18,7 @@ use std::rc::Rc;
 /// clause sees its program and what it holds.
 #[derive(Drop)]
 pub struct Turn<'p> {
-    pub(crate) kept: Rc<Kept<'p>>,
+    pub(crate) kept: Rc<KeptState<'p>>,
 }
 
 impl<'p> Model for Turn<'p> {
@@ -54,7 +54,7 @@ impl<'p> Turn<'p> {
     /// The node at which it is the role's turn. It takes no memory.
     pub fn node(&self) -> NodeId
         ensures node { result ≡ self.now.held.kept.place }
-        ensures backed { IsBackedAtTurn real self.now.program self.now.held }
+        ensures reachable { IsReachableAtTurn real self.now.program self.now.held }
     {
         self.kept.place
     }

@@ -15,7 +15,7 @@ ghost use Rattle.sg_role.specs.Model.{state_of};
 ghost use Rattle.sg_role.specs.Stepping.{first_bad, send_rows};
 
 use crate::SendFault;
-use crate::kept::Kept;
+use crate::kept::KeptState;
 use sg_base::{Label, Value, Var, tell_bytes};
 use sg_graph::Graph;
 
@@ -23,7 +23,7 @@ const LAST: u32 = 1_000_000;
 
 /// Whether a step along the label can be sent with these values. It takes no memory.
 pub(crate) fn check_step(
-    kept: &Kept,
+    kept: &KeptState,
     label: Label,
     values: &[(Var, Value)],
 ) -> Result<(), SendFault>
@@ -44,7 +44,7 @@ pub(crate) fn check_step(
 }
 
 // The label leaves the place.
-fn leaves(kept: &Kept, label: Label) -> bool
+fn leaves(kept: &KeptState, label: Label) -> bool
     ensures leaves { result ≡ (nat_lt label (length (state_of kept.now).program.graph.edges) && source (shape (state_of kept.now).program.graph) label == kept.now.place) }
     ensures there { IsTrue result → label < length (state_of kept.now).program.graph.edges }
 {
@@ -133,7 +133,7 @@ fn is_out_of_order(values: &[(Var, Value)], var: Var) -> bool
     ensures { result ≡ is_out_of_order var (keys_of (values_of values.now)) }
 {
     for at in 0..values.len() {
-        if stands_after(values, at, var) {
+        if represents_after(values, at, var) {
             return true;
         }
     }
@@ -141,7 +141,7 @@ fn is_out_of_order(values: &[(Var, Value)], var: Var) -> bool
 }
 
 // The variable stands after the place, at which one stands that is not less.
-fn stands_after(values: &[(Var, Value)], at: usize, var: Var) -> bool
+fn represents_after(values: &[(Var, Value)], at: usize, var: Var) -> bool
     requires { at < length values.now }
     ensures { is_out_of_order var (keys_of (values_of (drop at values.now))) ≡ (result || is_out_of_order var (keys_of (values_of (drop (at + 1) values.now)))) }
 {

@@ -5,7 +5,7 @@ ghost use Rattle.sg_protocol.specs.IsSchedule.{IsProgram};
 ghost use Rattle.sg_protocol.specs.Notes.{notes_in_session, row_number};
 ghost use Rattle.sg_protocol.specs.Session.{Session, Took};
 ghost use Rattle.sg_protocol.specs.Spelling.{HasSpelling, SpellsFrame};
-ghost use Rattle.sg_protocol.specs.Standing.{StandsBefore, held_after};
+ghost use Rattle.sg_protocol.specs.Representation.{RepresentsBefore, held_after};
 ghost use Rattle.sg_protocol.specs.Texts.{real};
 ghost use Rattle.sg_protocol.specs.Verdict.{receipt, rows_of_session, seen};
 ghost use Rattle.sg_role.specs.Faults.{Refuses};
@@ -14,7 +14,7 @@ ghost use Rattle.sg_role.specs.Sending.{with_notes};
 ghost use Rattle.sg_role.specs.Model.{state_of};
 ghost use Rattle.sg_role.specs.Invariant.{HoldsBefore, HoldsTurn};
 
-use crate::kept::Kept;
+use crate::kept::KeptState;
 use crate::next::{after_frame, receipt_of};
 use crate::openings::check_openings;
 use crate::tags::{check_frame_tag, check_items};
@@ -41,9 +41,9 @@ pub fn examine<'p>(
 ) -> Result<Accepted<'p>, Refusal>
     requires spelled { SpellsFrame bytes.now frame.now }
     requires version { frame.now.version ≡ before.now.held.cast.version }
-    ensures refused { (s : Session) → StandsBefore before.now.program.graph before.now.held s
+    ensures refused { (s : Session) → RepresentsBefore before.now.program.graph before.now.held s
         → IfErr result (Refuses (first_some (rows_of_session real keys.now before.now.program s frame.now))) }
-    ensures accepted { (s : Session) → StandsBefore before.now.program.graph before.now.held s
+    ensures accepted { (s : Session) → RepresentsBefore before.now.program.graph before.now.held s
         → IfOk result (λ a. first_some (rows_of_session real keys.now before.now.program s frame.now) ≡ None) }
     ensures program { IfOk result (λ a. a.program ≡ before.now.program) }
     ensures before { IfOk result (λ a. a.before ≡ before.now.held) }
@@ -51,7 +51,7 @@ pub fn examine<'p>(
     ensures event { IfOk result (λ a. a.event ≡ receipt frame.now) }
     ensures view { IfOk result (λ a. slice_get before.now.program.views a.view
         ≡ Some (record { origin = before.now.held.kept.origin; items = map seen frame.now.items })) }
-    ensures notes { (s : Session) → StandsBefore before.now.program.graph before.now.held s → result ≢ Err Refusal.OutOfMemory
+    ensures notes { (s : Session) → RepresentsBefore before.now.program.graph before.now.held s → result ≢ Err Refusal.OutOfMemory
         → notes.new ≡ with_notes notes.old (notes_in_session real keys.now before.now.program s frame.now
         (row_number (first_some (rows_of_session real keys.now before.now.program s frame.now)))) }
     ensures memory { result ≡ Err Refusal.OutOfMemory → notes.new ≡ notes.old }
@@ -77,8 +77,8 @@ fn is_memory(looked: &Result<Accepted, Refusal>) -> bool
 // Looks at the rows in order. What is kept comes twice: to look at, and to go with what is accepted.
 fn look<'p>(
     alloc: Global,
-    kept: &Kept<'p>,
-    same: Rc<Kept<'p>>,
+    kept: &KeptState<'p>,
+    same: Rc<KeptState<'p>>,
     keys: &Keyring,
     frame: &Frame,
     bytes: &[u8],
@@ -122,8 +122,8 @@ fn look<'p>(
 // What is accepted.
 fn accept<'p>(
     alloc: Global,
-    kept: &Kept<'p>,
-    same: Rc<Kept<'p>>,
+    kept: &KeptState<'p>,
+    same: Rc<KeptState<'p>>,
     frame: &Frame,
     commitments: Vec<Option<[u8; 32]>>,
     view: ViewId,

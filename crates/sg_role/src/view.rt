@@ -15,7 +15,7 @@ ghost use Rattle.sg_role.specs.Looking.{HasRisingVars, is_seen};
 ghost use Rattle.sg_role.specs.Model.{state_of};
 
 use crate::Refusal;
-use crate::kept::Kept;
+use crate::kept::KeptState;
 use sg_base::{Label, Opening, OutOfMemory, Role, RoleSet, Tag, Var, VarSet};
 use sg_frame::{Frame, Item};
 use sg_program::Program;
@@ -23,7 +23,7 @@ use sg_vis::{Seen, ViewId};
 use std::alloc::Global;
 
 /// The number of the view that a frame shows, where its items have the roles and tags, and its openings the variables, that go with it.
-pub(crate) fn find_view(alloc: Global, kept: &Kept, frame: &Frame) -> Result<ViewId, Refusal>
+pub(crate) fn find_view(alloc: Global, kept: &KeptState, frame: &Frame) -> Result<ViewId, Refusal>
     requires { HasSpelling frame.now }
     ensures found { IfOk result (λ id. slice_get (state_of kept.now).program.views id
         ≡ Some (record { origin = (state_of kept.now).held.kept.origin; items = map seen frame.now.items })) }

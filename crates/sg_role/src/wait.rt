@@ -1,7 +1,7 @@
 //! A role that waits for its turn.
 ghost use Rattle.std.specs.Prelude.{◌≡◌, ◌≢◌, ◌↔◌, None, IfOk, IfErr, IsErr};
 ghost use Rattle.sg_model.specs.Shape.{role_at};
-ghost use Rattle.sg_protocol.specs.Backed.{IsBackedWaiting};
+ghost use Rattle.sg_protocol.specs.Reachable.{IsReachableWaiting};
 ghost use Rattle.sg_protocol.specs.Graph.{shape};
 ghost use Rattle.sg_protocol.specs.Texts.{real};
 ghost use Rattle.sg_walk.specs.Model.{event_of};
@@ -53,7 +53,7 @@ impl<'p> Await<'p> {
     /// What the role keeps. It takes no memory.
     pub fn before(&self) -> &Before<'p>
         ensures before { result.now ≡ self.now }
-        ensures backed { IsBackedWaiting real self.now.program self.now.held }
+        ensures reachable { IsReachableWaiting real self.now.program self.now.held }
     {
         &self.before
     }

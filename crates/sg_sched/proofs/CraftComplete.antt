@@ -12,10 +12,10 @@ use Rattle.sg_model.proofs.Small.{and_left, and_right}
 use Rattle.sg_protocol.specs.Schedule.{CraftJoin}
 use Rattle.sg_base.specs.Words.{name, number}
 use Rattle.sg_sched.specs.Words.{frame}
-use Rattle.sg_sched.specs.Format.Said.{Word, Committed, From, FromKey, FromItem, FromSeal, FromZero, SaidItem, SaidCraft, Said, SaidMake, committed_word, from_words, tag_words, item_words, join_words, list_words, option_words, joined_names}
+use Rattle.sg_sched.specs.Format.Said.{Word, Committed, From, FromKey, FromItem, FromSeal, FromZero, ItemContent, CraftContent, LineContent, SaidMake, committed_word, from_words, tag_words, item_words, join_words, list_words, option_words, joined_names}
 use Rattle.sg_sched.specs.Format.Forms.{is_committed, is_source, is_tag, is_item, are_committed, is_join, is_wide, is_short, is_frame, are_names, is_craft, is_form}
 use Rattle.sg_sched.specs.Format.Values.{is_value}
-use Rattle.sg_sched.specs.Format.Reading.{Left, Taker, word, after, ended, split_at}
+use Rattle.sg_sched.specs.Format.Reading.{WordsLeft, Taker, word, after, ended, split_at}
 use Rattle.sg_sched.specs.Format.CraftReading.{split_last, last_step, committed, behind_equal, time, run, run_step, few, some_of, listed, copy_source, source, repeated, more_after, tag, item, is_next, all_names, name_list, sixteen, cast, optional, join_parts, join, opened, exactly, ends, seal_form, some_items, craft_form}
 use Rattle.sg_sched.proofs.FormatWords.{both, same_self, name_lacks, name_list as pieces, name_list-joined, wide}
 use Rattle.sg_sched.proofs.FormatCraftReading.{hash_split, hash_step, hash_split-at, digits_lack, digits_no_seal}
@@ -30,14 +30,14 @@ use Rattle.sg_sched.proofs.ItemLaws.{tag_print, item_print}
 -- ---- commitments
 
 -- nothing before a byte
-abbrev front : Word → Option (Word × Word)
-front cs = Some ([], cs)
+abbrev prefix : Word → Option (Word × Word)
+prefix cs = Some ([], cs)
 
 one_step : (c : ℕ) (cs : Word) (o : Option (Word × Word)) → last_step 35 c cs o ≡ hash_step c cs (c == 35) o
 one_step c cs (Some p) = refl
 one_step c cs None = by (c == 35)
   where
-    by : (b : Bool) → (if b then front cs else None) ≡ hash_step c cs b None
+    by : (b : Bool) → (if b then prefix cs else None) ≡ hash_step c cs b None
     by true = refl
     by false = refl
 
@@ -48,31 +48,31 @@ same_split (c ∷ cs) = ap (last_step 35 c cs) (same_split cs) ∙ one_step c cs
 committed_ok : (c : Committed) → is_committed c ≡ true → committed (committed_word c) ≡ Some c
 unfolding committed
 committed_ok c h =
-    let front = and_left (is_name c.variable && is_value c.value) (is_wide c.step) h in
+    let prefix = and_left (is_name c.variable && is_value c.value) (is_wide c.step) h in
     let low = and_right (is_name c.variable && is_value c.value) (is_wide c.step) h in
     let digits = digits_lack (decimal c.step) (decimal_is_IsNumeral c.step (wide c.step low)).0.1 in
     let last : split_last 35 (c.value ++ 35 ∷ decimal c.step) ≡ Some (c.value, decimal c.step) = same_split (c.value ++ 35 ∷ decimal c.step) ∙ hash_split-at c.value (decimal c.step) digits in
-    ap (option_and_then (λ (p : Word × Word). option_and_then (behind_equal p.0) (split_last 35 p.1))) (split_ok 61 c.variable (c.value ++ 35 ∷ decimal c.step) (name_lacks 61 c.variable refl (and_left (is_name c.variable) (is_value c.value) front)))
+    ap (option_and_then (λ (p : Word × Word). option_and_then (behind_equal p.0) (split_last 35 p.1))) (split_ok 61 c.variable (c.value ++ 35 ∷ decimal c.step) (name_lacks 61 c.variable refl (and_left (is_name c.variable) (is_value c.value) prefix)))
     ∙ ap (option_and_then (behind_equal c.variable)) last
-    ∙ rw (front, number_ok 18446744073709551615 c.step (omega arith) (is_wide_of c.step low)) refl
+    ∙ rw (prefix, number_ok 18446744073709551615 c.step (omega arith) (is_wide_of c.step low)) refl
 
-pub run_ok : (cs : List Committed) (rest : Left) → list_all is_committed cs ≡ true → run rest ≡ ([], rest) → run (run_words cs ++ rest) ≡ (cs, rest)
+pub run_ok : (cs : List Committed) (rest : WordsLeft) → list_all is_committed cs ≡ true → run rest ≡ ([], rest) → run (run_words cs ++ rest) ≡ (cs, rest)
 run_ok [] rest h e = e
 run_ok (c ∷ cs) rest h e = rw (committed_ok c (and_left (is_committed c) (list_all is_committed cs) h), run_ok cs rest (and_right (is_committed c) (list_all is_committed cs) h) e) refl
 
 -- ---- sources
 
-pub source_ok : (s : From) (rest : Left) → is_source s ≡ true → source (from_words s ++ rest) ≡ Some (s, rest)
+pub source_ok : (s : From) (rest : WordsLeft) → is_source s ≡ true → source (from_words s ++ rest) ≡ Some (s, rest)
 unfolding source copy_source word
 source_ok FromZero rest h = refl
 source_ok (FromKey one two) rest h = rw (name_ok one (and_left (is_name one) (is_name two) h), name_ok two (and_right (is_name one) (is_name two) h)) refl
 source_ok (FromSeal n) rest h = rw (frame_ok n h) refl
 source_ok (FromItem n i role) rest h =
-    let front = and_left (is_frame n && is_short i) (is_name role) h in
-    let short = and_right (is_frame n) (is_short i) front in
+    let prefix = and_left (is_frame n && is_short i) (is_name role) h in
+    let short = and_right (is_frame n) (is_short i) prefix in
     let small : i < 2 ^ 64 = omega (arith, ltb-true i 4294967296 short) in
     rw (
-      frame_ok n (and_left (is_frame n) (is_short i) front),
+      frame_ok n (and_left (is_frame n) (is_short i) prefix),
       digits_no_seal (decimal i) (decimal_is_IsNumeral i small).0.1,
       number_ok 4294967295 i (omega arith) (is_short_of i short),
       name_ok role (and_right (is_frame n && is_short i) (is_name role) h),
@@ -80,17 +80,17 @@ source_ok (FromItem n i role) rest h =
 
 -- ---- what is repeated
 
-pub record Repeats {A : Type 0} (first : List ℕ) (take : Taker A) (print : A → Left) (ok : A → Bool) (Guard : Left → Type 0) : Type 0 where
-  pub takes : (x : A) (rest : Left) → ok x ≡ true → Guard rest → take (print x ++ rest) ≡ Some (x, rest)
-  pub first_guards : (ws : Left) → Guard (first ∷ ws)
+pub record Repeats {A : Type 0} (first : List ℕ) (take : Taker A) (print : A → WordsLeft) (ok : A → Bool) (Guard : WordsLeft → Type 0) : Type 0 where
+  pub takes : (x : A) (rest : WordsLeft) → ok x ≡ true → Guard rest → take (print x ++ rest) ≡ Some (x, rest)
+  pub first_guards : (ws : WordsLeft) → Guard (first ∷ ws)
 
-repeated_stop : {A : Type 0} (first : List ℕ) (take : Taker A) (n : ℕ) (rest : Left) → is_next first rest ≡ false → repeated first take n rest ≡ Some ([], rest)
+repeated_stop : {A : Type 0} (first : List ℕ) (take : Taker A) (n : ℕ) (rest : WordsLeft) → is_next first rest ≡ false → repeated first take n rest ≡ Some ([], rest)
 repeated_stop first take zero rest e = refl
 repeated_stop first take (suc n) [] e = refl
 repeated_stop first take (suc n) (w ∷ ws) e = rw e refl
 
-pub repeated_ok : {A : Type 0} (first : List ℕ) (take : Taker A) (print : A → Left) (ok : A → Bool) (Guard : Left → Type 0) → Repeats first take print ok Guard
-    → (n : ℕ) (xs : List A) (rest : Left) → length xs ≤ n → list_all ok xs ≡ true → Guard rest → is_next first rest ≡ false → repeated first take n (printed first print xs ++ rest) ≡ Some (xs, rest)
+pub repeated_ok : {A : Type 0} (first : List ℕ) (take : Taker A) (print : A → WordsLeft) (ok : A → Bool) (Guard : WordsLeft → Type 0) → Repeats first take print ok Guard
+    → (n : ℕ) (xs : List A) (rest : WordsLeft) → length xs ≤ n → list_all ok xs ≡ true → Guard rest → is_next first rest ≡ false → repeated first take n (printed first print xs ++ rest) ≡ Some (xs, rest)
 repeated_ok first take print ok Guard r n [] rest l h g e = repeated_stop first take n rest e
 repeated_ok first take print ok Guard r zero (x ∷ xs) rest l h g e = absurd (omega arith)
 repeated_ok first take print ok Guard r (suc n) (x ∷ xs) rest l h g e =
@@ -107,7 +107,7 @@ repeated_ok first take print ok Guard r (suc n) (x ∷ xs) rest l h g e =
 
 -- ---- tags and items
 
-tag_ok : (t : Name × From) (rest : Left) → is_tag t ≡ true → tag (tag_print t ++ rest) ≡ Some (t, rest)
+tag_ok : (t : Name × From) (rest : WordsLeft) → is_tag t ≡ true → tag (tag_print t ++ rest) ≡ Some (t, rest)
 unfolding tag word
 tag_ok t rest h = rw (name_ok t.0 (and_left (is_name t.0) (is_source t.1) h), source_ok t.1 rest (and_right (is_name t.0) (is_source t.1) h)) refl
 
@@ -119,16 +119,16 @@ unfolding time
 time_ok t a b = rw (number_ok 1000000 t (omega arith) b, a) refl
 
 -- no commitment and no tag is next
-pub record Behind (rest : Left) : Type 0 where
+pub record Behind (rest : WordsLeft) : Type 0 where
   pub no_run : run rest ≡ ([], rest)
   pub no_tag : is_next (codes "tag") rest ≡ false
 
-tags_run : (ts : List (Name × From)) (rest : Left) → run rest ≡ ([], rest) → run (flat_map tag_words ts ++ rest) ≡ ([], flat_map tag_words ts ++ rest)
+tags_run : (ts : List (Name × From)) (rest : WordsLeft) → run rest ≡ ([], rest) → run (flat_map tag_words ts ++ rest) ≡ ([], flat_map tag_words ts ++ rest)
 unfolding committed
 tags_run [] rest e = e
 tags_run (t ∷ ts) rest e = refl
 
-item_ok : (i : SaidItem) (rest : Left) → is_item i ≡ true → Behind rest → item (item_print i ++ rest) ≡ Some (i, rest)
+item_ok : (i : ItemContent) (rest : WordsLeft) → is_item i ≡ true → Behind rest → item (item_print i ++ rest) ≡ Some (i, rest)
 unfolding item word
 item_ok i rest h b =
     let a1 = is_name i.label && nat_le 1 i.time in
@@ -149,7 +149,7 @@ item_ok i rest h b =
       repeated_ok (codes "tag") tag tag_print is_tag (λ ws. Unit {0}) tag_repeats 14 i.tags rest (leb-true (length i.tags) 14 (and_right a3 (nat_le (length i.tags) 14) h4)) (and_right a4 (list_all is_tag i.tags) h) tt b.no_tag,
     ) refl
 
-pub item_behind : (ws : Left) → Behind (codes "item" ∷ ws)
+pub item_behind : (ws : WordsLeft) → Behind (codes "item" ∷ ws)
 unfolding committed
 item_behind ws = record { no_run = refl; no_tag = refl }
 

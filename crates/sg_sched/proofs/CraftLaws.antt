@@ -12,9 +12,9 @@ use Rattle.sg_model.proofs.Small.{some_same}
 use Rattle.sg_protocol.specs.Schedule.{CraftJoin}
 use Rattle.sg_base.specs.Words.{name, number}
 use Rattle.sg_sched.specs.Words.{frame}
-use Rattle.sg_sched.specs.Format.Said.{Word, Committed, From, SaidItem, SaidCraft, Said, SaidMake, committed_word, from_words, item_words, join_words, list_words, option_words, joined_names, craft_words}
+use Rattle.sg_sched.specs.Format.Said.{Word, Committed, From, ItemContent, CraftContent, LineContent, SaidMake, committed_word, from_words, item_words, join_words, list_words, option_words, joined_names, craft_words}
 use Rattle.sg_sched.specs.Format.Forms.{is_committed, is_source, is_item, are_committed, is_join, is_wide, are_names, is_craft, is_form}
-use Rattle.sg_sched.specs.Format.Reading.{Left, Taker, word, after, ended}
+use Rattle.sg_sched.specs.Format.Reading.{WordsLeft, Taker, word, after, ended}
 use Rattle.sg_sched.specs.Format.CraftReading.{run, few, some_of, listed, source, repeated, item, all_names, name_list, sixteen, cast, optional, join_parts, join, opened, exactly, ends, ends_of, seal_form, some_items, craft_form}
 use Rattle.sg_sched.proofs.FormatWords.{both, name_list as pieces}
 use Rattle.sg_sched.proofs.FormLaws.{none_some, step, ended_is, line_up, name_is, Fits, fits}
@@ -25,7 +25,7 @@ use Rattle.sg_sched.proofs.ItemLaws.{few_is, item_print, item_is}
 
 -- ---- lists behind a word
 
-some_of_is : (r q : List Committed × Left) → some_of r ≡ Some q → (r ≡ q) × ((length r.0 == 0) ≡ false)
+some_of_is : (r q : List Committed × WordsLeft) → some_of r ≡ Some q → (r ≡ q) × ((length r.0 == 0) ≡ false)
 some_of_is r q h = by (length r.0 == 0) refl h
   where
     by : (b : Bool) → (length r.0 == 0) ≡ b → (if b then None else Some r) ≡ Some q → (r ≡ q) × ((length r.0 == 0) ≡ false)
@@ -36,7 +36,7 @@ list_some : (first : List ℕ) (cs : List Committed) → (length cs == 0) ≡ fa
 list_some first [] e = absurd (cc e)
 list_some first (c ∷ cs) e = refl
 
-pub listed_is : (first : List ℕ) (ws : Left) (cs : List Committed) (rest : Left) → listed first ws ≡ taken_of cs rest → Took (list_words first) (list_all is_committed) ws cs rest
+pub listed_is : (first : List ℕ) (ws : WordsLeft) (cs : List Committed) (rest : WordsLeft) → listed first ws ≡ taken_of cs rest → Took (list_words first) (list_all is_committed) ws cs rest
 unfolding listed
 listed_is first [] cs rest h = took (list_words first) (list_all is_committed) {x = []} {r = []} refl refl h
 listed_is first (w ∷ ws) cs rest h = by (bytes_eq w first) refl h
@@ -45,14 +45,14 @@ listed_is first (w ∷ ws) cs rest h = by (bytes_eq w first) refl h
     by true e h =
         let s = some_of_is (run ws) (cs, rest) h in
         let r = run_is ws in
-        let words : (w ∷ ws) ≡ list_words first (run ws).0 ++ (run ws).1 = (λ i. (bytes_eq-Decides w first).0 e i ∷ r.words i) ∙ ap (λ (xs : Left). xs ++ (run ws).1) (sym (list_some first (run ws).0 s.1)) in
+        let words : (w ∷ ws) ≡ list_words first (run ws).0 ++ (run ws).1 = (λ i. (bytes_eq-Decides w first).0 e i ∷ r.words i) ∙ ap (λ (xs : WordsLeft). xs ++ (run ws).1) (sym (list_some first (run ws).0 s.1)) in
         took (list_words first) (list_all is_committed) {x = (run ws).0} {r = (run ws).1} words r.form (ap Some s.0)
     by false e h = took (list_words first) (list_all is_committed) {x = []} {r = w ∷ ws} refl refl h
 
-pub opened_is : (ws : Left) (cs : List Committed) (rest : Left) → opened ws ≡ taken_of cs rest → Took (list_words (codes "open")) are_committed ws cs rest
+pub opened_is : (ws : WordsLeft) (cs : List Committed) (rest : WordsLeft) → opened ws ≡ taken_of cs rest → Took (list_words (codes "open")) are_committed ws cs rest
 opened_is ws cs rest h = first (listed (codes "open") ws) refl h
   where
-    first : (o : Option (List Committed × Left)) → listed (codes "open") ws ≡ o → option_and_then few o ≡ taken_of cs rest → Took (list_words (codes "open")) are_committed ws cs rest
+    first : (o : Option (List Committed × WordsLeft)) → listed (codes "open") ws ≡ o → option_and_then few o ≡ taken_of cs rest → Took (list_words (codes "open")) are_committed ws cs rest
     first None e h = none_some h
     first (Some p) e h =
         let f = few_is p (cs, rest) h in
@@ -65,7 +65,7 @@ abbrev option_ok : {A : Type 0} → (A → Bool) → Option A → Bool
 option_ok ok o = option_map_or ok o true
 
 optional_is : {A : Type 0} (first : List ℕ) (read : Word → Option A) (print : A → Word) (ok : A → Bool) → ((w : Word) (x : A) → read w ≡ Some x → (w ≡ print x) × (ok x ≡ true))
-    → (ws : Left) (o : Option A) (rest : Left) → optional first read ws ≡ taken_of o rest → Took (λ o. option_words first (option_map print o)) (option_ok ok) ws o rest
+    → (ws : WordsLeft) (o : Option A) (rest : WordsLeft) → optional first read ws ≡ taken_of o rest → Took (λ o. option_words first (option_map print o)) (option_ok ok) ws o rest
 optional_is first read print ok is [] o rest h = took (λ o. option_words first (option_map print o)) (option_ok ok) {x = None} {r = []} refl refl h
 optional_is {A} first read print ok is (w ∷ ws) o rest h = by (bytes_eq w first) refl h
   where
@@ -110,7 +110,7 @@ join_of nonce names = Some (record { nonce = nonce; names = names })
 abbrev join_ok : Option CraftJoin → Bool
 join_ok j = option_map_or is_join j true
 
-join_is : (ws : Left) (j : Option CraftJoin) (rest : Left) → join ws ≡ taken_of j rest → Took join_words join_ok ws j rest
+join_is : (ws : WordsLeft) (j : Option CraftJoin) (rest : WordsLeft) → join ws ≡ taken_of j rest → Took join_words join_ok ws j rest
 unfolding join join_parts
 join_is [] j rest h = took join_words join_ok {x = None} {r = []} refl refl h
 join_is (w ∷ ws) j rest h = by (bytes_eq w (codes "join")) refl h
@@ -123,9 +123,9 @@ join_is (w ∷ ws) j rest h = by (bytes_eq w (codes "join")) refl h
         let b = taken_is (optional (codes "cast") cast) (λ names rest. taken_of (join_of a.value names) rest) a.rest (j, rest) a.more in
         let m = optional_is (codes "nonce") (number 18446744073709551615) decimal is_wide wide_of ws a.value a.rest a.was in
         let n = optional_is (codes "cast") cast joined_names are_cast cast_is a.rest b.value b.rest b.was in
-        let front = option_words (codes "nonce") (option_map decimal a.value) in
+        let prefix = option_words (codes "nonce") (option_map decimal a.value) in
         let back = option_words (codes "cast") (option_map joined_names b.value) in
-        let words : ws ≡ (front ++ back) ++ b.rest = m.words ∙ ap (λ (r : Left). front ++ r) n.words ∙ sym (append_assoc front back b.rest) in
+        let words : ws ≡ (prefix ++ back) ++ b.rest = m.words ∙ ap (λ (r : WordsLeft). prefix ++ r) n.words ∙ sym (append_assoc prefix back b.rest) in
         took join_words join_ok {x = join_of a.value b.value} {r = b.rest} (λ i. (bytes_eq-Decides w (codes "join")).0 e i ∷ words i) (both m.form n.form) b.more
     by false e h = took join_words join_ok {x = None} {r = w ∷ ws} refl refl h
 
@@ -141,13 +141,13 @@ exactly_is first w u h = by (bytes_eq w first) refl h
 abbrev Ends : Type 0
 Ends = Name × Name × Name
 
-abbrev ends_print : Ends → Left
+abbrev ends_print : Ends → WordsLeft
 ends_print e = e.0 ∷ codes "from" ∷ e.1 ∷ codes "to" ∷ e.2 ∷ []
 
 abbrev ends_ok : Ends → Bool
 ends_ok e = are_names (e.0 ∷ e.1 ∷ e.2 ∷ []) && not (bytes_eq e.1 e.2)
 
-ends_are : (ws : Left) (e : Ends) (rest : Left) → ends ws ≡ taken_of e rest → Took ends_print ends_ok ws e rest
+ends_are : (ws : WordsLeft) (e : Ends) (rest : WordsLeft) → ends ws ≡ taken_of e rest → Took ends_print ends_ok ws e rest
 unfolding ends
 ends_are ws e rest h =
     let a = step name (λ session. after (word (exactly (codes "from"))) λ _. after (word name) λ from. after (word (exactly (codes "to"))) λ _. after (word name) λ to. ends_of session from to) ws (e, rest) h in
@@ -162,49 +162,49 @@ ends_are ws e rest h =
     (line_up a.all l.same (line_up b.all (exactly_is (codes "from") b.first b.value b.was) (line_up c.all m.same (line_up d.all (exactly_is (codes "to") d.first d.value d.was) (line_up f.all n.same refl)))))
     (both l.name (both m.name (both n.name refl))) (bytes_eq c.value f.value) refl f.more
   where
-    by : (session from to : Name) (r : Left) → ws ≡ ends_print (session, from, to) ++ r → are_names (session ∷ from ∷ to ∷ []) ≡ true → (b : Bool) → bytes_eq from to ≡ b
+    by : (session from to : Name) (r : WordsLeft) → ws ≡ ends_print (session, from, to) ++ r → are_names (session ∷ from ∷ to ∷ []) ≡ true → (b : Bool) → bytes_eq from to ≡ b
         → (if b then None else taken_of (session, from, to) r) ≡ taken_of e rest → Took ends_print ends_ok ws e rest
     by session from to r w n true q h = none_some h
     by session from to r w n false q h = took ends_print ends_ok {x = (session, from, to)} {r = r} w (both n (ap not q)) h
 
-record SealIs (ws : Left) (s : From) : Type 0 where
+record SealIs (ws : WordsLeft) (s : From) : Type 0 where
   pub words : ws ≡ codes "seal" ∷ from_words s
   pub form : is_source s ≡ true
 
-seal_is : (ws : Left) (s : From) → seal_form ws ≡ Some s → SealIs ws s
+seal_is : (ws : WordsLeft) (s : From) → seal_form ws ≡ Some s → SealIs ws s
 unfolding seal_form
 seal_is ws s h =
     let a = step (exactly (codes "seal")) (λ _. after source λ seal. ended (Some seal)) ws s h in
     let b = taken_is source (λ seal. ended (Some seal)) a.rest s a.more in
     let e = ended_is (Some b.value) b.rest s b.more in
     let t = source_is a.rest b.value b.rest b.was in
-    subst (λ s. SealIs ws s) (some_same e.1) (record { words = line_up a.all (exactly_is (codes "seal") a.first a.value a.was) (t.words ∙ ap (λ (r : Left). from_words b.value ++ r) e.0 ∙ append-nil (from_words b.value)); form = t.form })
+    subst (λ s. SealIs ws s) (some_same e.1) (record { words = line_up a.all (exactly_is (codes "seal") a.first a.value a.was) (t.words ∙ ap (λ (r : WordsLeft). from_words b.value ++ r) e.0 ∙ append-nil (from_words b.value)); form = t.form })
 
 -- a craft of its parts
-abbrev made : Ends → Option CraftJoin → List Committed → List SaidItem → List Committed → From → SaidCraft
+abbrev made : Ends → Option CraftJoin → List Committed → List ItemContent → List Committed → From → CraftContent
 made e j know items openings seal = record { session = e.0; from = e.1; to = e.2; join = j; know = know; items = items; openings = openings; seal = seal }
 
 -- the openings and the seal, behind the items
-abbrev ending : Ends → Option CraftJoin → List Committed → List SaidItem → Left → Option Said
+abbrev ending : Ends → Option CraftJoin → List Committed → List ItemContent → WordsLeft → Option LineContent
 ending e j know items = after opened λ openings. λ ws. option_map (λ seal. SaidMake (made e j know items openings seal)) (seal_form ws)
 
-record Sealed (e : Ends) (j : Option CraftJoin) (know : List Committed) (items : List SaidItem) (openings : List Committed) (ws : Left) (s : Said) : Type 0 where
+record Sealed (e : Ends) (j : Option CraftJoin) (know : List Committed) (items : List ItemContent) (openings : List Committed) (ws : WordsLeft) (s : LineContent) : Type 0 where
   pub seal : From
   pub is : SealIs ws seal
   pub said : Some (SaidMake (made e j know items openings seal)) ≡ Some s
 
-sealed : (e : Ends) (j : Option CraftJoin) (know : List Committed) (items : List SaidItem) (openings : List Committed) (ws : Left) (s : Said) → option_map (λ seal. SaidMake (made e j know items openings seal)) (seal_form ws) ≡ Some s → Sealed e j know items openings ws s
+sealed : (e : Ends) (j : Option CraftJoin) (know : List Committed) (items : List ItemContent) (openings : List Committed) (ws : WordsLeft) (s : LineContent) → option_map (λ seal. SaidMake (made e j know items openings seal)) (seal_form ws) ≡ Some s → Sealed e j know items openings ws s
 sealed e j know items openings ws s h = by (seal_form ws) refl h
   where
     by : (o : Option From) → seal_form ws ≡ o → option_map (λ seal. SaidMake (made e j know items openings seal)) o ≡ Some s → Sealed e j know items openings ws s
     by None q h = none_some h
     by (Some seal) q h = record { seal = seal; is = seal_is ws seal q; said = h }
 
-some_there : (items : List SaidItem) (next : Left → Option Said) (ws : Left) (s : Said) → some_items items next ws ≡ Some s → (nat_le 1 (length items) ≡ true) × (next ws ≡ Some s)
+some_there : (items : List ItemContent) (next : WordsLeft → Option LineContent) (ws : WordsLeft) (s : LineContent) → some_items items next ws ≡ Some s → (nat_le 1 (length items) ≡ true) × (next ws ≡ Some s)
 some_there [] next ws s h = none_some h
 some_there (i ∷ is) next ws s h = let some : (length (i ∷ is) == 0) ≡ false = grind (arith, common_steps) in (le-leb 1 (length (i ∷ is)) (omega arith), sym (ap (λ b. if b then None else next ws) some) ∙ h)
 
-pub craft_sound : (ws : Left) (s : Said) → craft_form ws ≡ Some s → Fits (codes "craft" ∷ ws) s
+pub craft_sound : (ws : WordsLeft) (s : LineContent) → craft_form ws ≡ Some s → Fits (codes "craft" ∷ ws) s
 unfolding craft_form
 craft_sound ws s h =
     let a = taken_is ends (λ e. after join λ j. after (listed (codes "know")) λ know. after (repeated (codes "item") item 65535) λ is. some_items is (ending e j know is)) ws s h in
@@ -220,7 +220,7 @@ craft_sound ws s h =
     let id = repeated_is (codes "item") item item_print is_item item_is 65535 c.rest d.value d.rest d.was in
     let of = opened_is d.rest f.value f.rest f.was in
     let tail : b.rest ≡ list_words (codes "know") c.value ++ (flat_map item_words d.value ++ (list_words (codes "open") f.value ++ codes "seal" ∷ from_words g.seal)) =
-    kc.words ∙ ap (λ (r : Left). list_words (codes "know") c.value ++ r) (id.words ∙ ap (λ (r : Left). flat_map item_words d.value ++ r) (of.words ∙ ap (λ (r : Left). list_words (codes "open") f.value ++ r) g.is.words)) in
+    kc.words ∙ ap (λ (r : WordsLeft). list_words (codes "know") c.value ++ r) (id.words ∙ ap (λ (r : WordsLeft). flat_map item_words d.value ++ r) (of.words ∙ ap (λ (r : WordsLeft). list_words (codes "open") f.value ++ r) g.is.words)) in
     fits {s = SaidMake (made a.value b.value c.value d.value f.value g.seal)}
-    (ap (λ (r : Left). codes "craft" ∷ r) (ea.words ∙ ap (λ (r : Left). ends_print a.value ++ r) (jb.words ∙ ap (λ (r : Left). join_words b.value ++ r) tail)))
+    (ap (λ (r : WordsLeft). codes "craft" ∷ r) (ea.words ∙ ap (λ (r : WordsLeft). ends_print a.value ++ r) (jb.words ∙ ap (λ (r : WordsLeft). join_words b.value ++ r) tail)))
     (both (both (both (both (both (both (both ea.form jb.form) kc.form) n.0) (le-leb (length d.value) 65535 id.few)) id.form) of.form) g.is.form) g.said

@@ -7,26 +7,26 @@ use Rattle.sg_model.specs.Names.{Name, is_name}
 use Rattle.sg_model.proofs.Small.{and_left, and_right, some_same}
 use Rattle.sg_base.specs.Words.{name, number}
 use Rattle.sg_sched.specs.Words.{frame}
-use Rattle.sg_sched.specs.Format.Said.{Word, Delivered, Said, SaidDeliver, TheFrame, TheFlipped, TheCut, TheBytes, line_words, delivered_words, frame_word}
+use Rattle.sg_sched.specs.Format.Said.{Word, Delivered, LineContent, SaidDeliver, TheFrame, TheFlipped, TheCut, TheBytes, line_words, delivered_words, frame_word}
 use Rattle.sg_sched.specs.Format.Forms.{is_form, is_delivered, is_frame, is_short}
 use Rattle.sg_sched.specs.Format.Values.{is_hex}
-use Rattle.sg_sched.specs.Format.Reading.{Left, word, after, ended, hex, short, frame_form, what_form, deliver_form}
+use Rattle.sg_sched.specs.Format.Reading.{WordsLeft, word, after, ended, hex, short, frame_form, what_form, deliver_form}
 use Rattle.sg_sched.proofs.FormatWords.{both, same_self}
 use Rattle.sg_sched.proofs.FormLaws.{none_some, step, ended_is, line_up, name_is, name_ok, Fits, fits}
 use Rattle.sg_sched.proofs.NumberLaws.{number_is, number_ok, frame_is, frame_ok, short_is, is_short_of}
 
 -- the words behind the name
-record Gives (who : Name) (ws : Left) (s : Said) : Type 0 where
+record Gives (who : Name) (ws : WordsLeft) (s : LineContent) : Type 0 where
   pub what : Delivered
   pub words : ws ≡ delivered_words what
   pub form : is_delivered what ≡ true
   pub said : SaidDeliver who what ≡ s
 
-gives : {who : Name} {ws : Left} {s : Said} (what : Delivered) → ws ≡ delivered_words what → is_delivered what ≡ true → Some (SaidDeliver who what) ≡ Some s → Gives who ws s
+gives : {who : Name} {ws : WordsLeft} {s : LineContent} (what : Delivered) → ws ≡ delivered_words what → is_delivered what ≡ true → Some (SaidDeliver who what) ≡ Some s → Gives who ws s
 gives what w f h = record { what = what; words = w; form = f; said = some_same h }
 
 -- flip I and cut I
-change_is : (who : Name) (n : ℕ) (make : ℕ → Delivered) (w mark : Word) (ws : Left) (s : Said) → ((i : ℕ) → frame_word n ∷ mark ∷ decimal i ∷ [] ≡ delivered_words (make i)) → ((i : ℕ) → is_short i ≡ true → is_delivered (make i) ≡ true) → w ≡ mark
+change_is : (who : Name) (n : ℕ) (make : ℕ → Delivered) (w mark : Word) (ws : WordsLeft) (s : LineContent) → ((i : ℕ) → frame_word n ∷ mark ∷ decimal i ∷ [] ≡ delivered_words (make i)) → ((i : ℕ) → is_short i ≡ true → is_delivered (make i) ≡ true) → w ≡ mark
     → after short (λ i. ended (Some (SaidDeliver who (make i)))) ws ≡ Some s → Gives who (frame_word n ∷ w ∷ ws) s
 change_is who n make w mark ws s spell ok e h =
     let a = step (number 4294967295) (λ i. ended (Some (SaidDeliver who (make i)))) ws s h in
@@ -34,7 +34,7 @@ change_is who n make w mark ws s spell ok e h =
     let k = number_is 4294967295 a.first a.value (omega arith) a.was in
     gives (make a.value) ((λ i. frame_word n ∷ e i ∷ line_up a.all k.same end.0 i) ∙ spell a.value) (ok a.value (short_is a.value k.within)) end.1
 
-frame_gives : (who : Name) (n : ℕ) (ws : Left) (s : Said) → is_frame n ≡ true → frame_form who n ws ≡ Some s → Gives who (frame_word n ∷ ws) s
+frame_gives : (who : Name) (n : ℕ) (ws : WordsLeft) (s : LineContent) → is_frame n ≡ true → frame_form who n ws ≡ Some s → Gives who (frame_word n ∷ ws) s
 unfolding frame_form
 frame_gives who n [] s f h = gives (TheFrame n) refl f h
 frame_gives who n (w ∷ ws) s f h = by (bytes_eq w (codes "flip")) (bytes_eq w (codes "cut")) refl refl h
@@ -57,7 +57,7 @@ digits_ok : (d : Word) → is_hex d ≡ true → hex d ≡ Some d
 unfolding hex
 digits_ok d h = rw h refl
 
-what_gives : (who : Name) (ws : Left) (s : Said) → what_form who ws ≡ Some s → Gives who ws s
+what_gives : (who : Name) (ws : WordsLeft) (s : LineContent) → what_form who ws ≡ Some s → Gives who ws s
 unfolding what_form
 what_gives who [] s h = none_some h
 what_gives who (w ∷ ws) s h = by (bytes_eq w (codes "hex")) refl h
@@ -74,7 +74,7 @@ what_gives who (w ∷ ws) s h = by (bytes_eq w (codes "hex")) refl h
         gives (TheBytes a.value) (λ i. (bytes_eq-Decides w (codes "hex")).0 e i ∷ line_up a.all d.0 end.0 i) d.1 end.1
     by false e h = framed (frame w) refl h
 
-pub deliver_sound : (ws : Left) (s : Said) → deliver_form ws ≡ Some s → Fits (codes "deliver" ∷ ws) s
+pub deliver_sound : (ws : WordsLeft) (s : LineContent) → deliver_form ws ≡ Some s → Fits (codes "deliver" ∷ ws) s
 unfolding deliver_form
 deliver_sound ws s h =
     let a = step name what_form ws s h in

@@ -12,10 +12,10 @@ use Rattle.sg_model.specs.Lists.{has_text, all_differ}
 use Rattle.sg_model.proofs.Small.{and_left, and_right, some_same}
 use Rattle.sg_base.specs.Words.{name, number, up_to}
 use Rattle.sg_sched.specs.Words.{frame}
-use Rattle.sg_sched.specs.Format.Said.{Word, Said, SaidBlock, SaidEdge, SaidHonest, SaidKey, SaidStart, SaidAbandon, line_words}
+use Rattle.sg_sched.specs.Format.Said.{Word, LineContent, SaidBlock, SaidEdge, SaidHonest, SaidKey, SaidStart, SaidAbandon, line_words}
 use Rattle.sg_sched.specs.Format.Forms.{is_form, are_names}
 use Rattle.sg_sched.specs.Format.Values.{is_hex_of}
-use Rattle.sg_sched.specs.Format.Reading.{Left, Taker, word, after, ended, hex_of, block_form, honest_form, key_form, key_of, start_form, abandon_form}
+use Rattle.sg_sched.specs.Format.Reading.{WordsLeft, Taker, word, after, ended, hex_of, block_form, honest_form, key_form, key_of, start_form, abandon_form}
 use Rattle.sg_sched.proofs.FormatWords.{both, same_self}
 
 -- ---- steps
@@ -25,30 +25,30 @@ pub none_some : {A : Type 0} {P : Type 0} {x : A} → None ≡ Some x → P
 none_some h = absurd (cc h)
 
 -- a word was read, and then the words behind it
-pub record Step {A B : Type 0} (read : Word → Option A) (next : A → Left → Option B) (ws : Left) (y : B) : Type 0 where
+pub record Step {A B : Type 0} (read : Word → Option A) (next : A → WordsLeft → Option B) (ws : WordsLeft) (y : B) : Type 0 where
   pub first : Word
   pub value : A
-  pub rest : Left
+  pub rest : WordsLeft
   pub all : ws ≡ first ∷ rest
   pub was : read first ≡ Some value
   pub more : next value rest ≡ Some y
 
-pub step : {A B : Type 0} (read : Word → Option A) (next : A → Left → Option B) (ws : Left) (y : B) → after (word read) next ws ≡ Some y → Step read next ws y
+pub step : {A B : Type 0} (read : Word → Option A) (next : A → WordsLeft → Option B) (ws : WordsLeft) (y : B) → after (word read) next ws ≡ Some y → Step read next ws y
 unfolding word
 step read next [] y h = none_some h
 step {A} {B} read next (w ∷ ws) y h = by (read w) refl h
   where
-    by : (o : Option A) → read w ≡ o → option_and_then (λ (p : A × Left). next p.0 p.1) (option_map (λ x. (x, ws)) o) ≡ Some y → Step read next (w ∷ ws) y
+    by : (o : Option A) → read w ≡ o → option_and_then (λ (p : A × WordsLeft). next p.0 p.1) (option_map (λ x. (x, ws)) o) ≡ Some y → Step read next (w ∷ ws) y
     by None e h = none_some h
     by (Some x) e h = record { first = w; value = x; rest = ws; all = refl; was = e; more = h }
 
 -- no word was left
-pub ended_is : {A : Type 0} (said : Option A) (ws : Left) (y : A) → ended said ws ≡ Some y → (ws ≡ []) × (said ≡ Some y)
+pub ended_is : {A : Type 0} (said : Option A) (ws : WordsLeft) (y : A) → ended said ws ≡ Some y → (ws ≡ []) × (said ≡ Some y)
 ended_is said [] y h = (refl, h)
 ended_is said (w ∷ ws) y h = let some : (length (w ∷ ws) == 0) ≡ false = grind (arith, common_steps) in none_some (sym (ap (λ b. if b then said else None) some) ∙ h)
 
 -- the words, one more in front
-pub line_up : {w x : Word} {ws rest others : Left} → ws ≡ w ∷ rest → w ≡ x → rest ≡ others → ws ≡ x ∷ others
+pub line_up : {w x : Word} {ws rest others : WordsLeft} → ws ≡ w ∷ rest → w ≡ x → rest ≡ others → ws ≡ x ∷ others
 line_up a b c = a ∙ (λ i. b i ∷ c i)
 
 -- ---- words
@@ -72,14 +72,14 @@ name_ok n h = rw h refl
 -- ---- forms
 
 -- the words of the line are those of what it says, and each place holds what it may hold
-pub record Fits (ws : Left) (s : Said) : Type 0 where
+pub record Fits (ws : WordsLeft) (s : LineContent) : Type 0 where
   pub words : ws ≡ line_words s
   pub form : is_form s ≡ true
 
-pub fits : {ws : Left} {s t : Said} → ws ≡ line_words s → is_form s ≡ true → Some s ≡ Some t → Fits ws t
+pub fits : {ws : WordsLeft} {s t : LineContent} → ws ≡ line_words s → is_form s ≡ true → Some s ≡ Some t → Fits ws t
 fits {ws} w f h = subst (λ s. Fits ws s) (some_same h) (record { words = w; form = f })
 
-pub honest_sound : (ws : Left) (s : Said) → honest_form ws ≡ Some s → Fits (codes "honest" ∷ ws) s
+pub honest_sound : (ws : WordsLeft) (s : LineContent) → honest_form ws ≡ Some s → Fits (codes "honest" ∷ ws) s
 unfolding honest_form
 honest_sound ws s h =
     let a = step name (λ who. ended (Some (SaidHonest who))) ws s h in
@@ -91,7 +91,7 @@ pub honest_complete : (who : Name) → is_form (SaidHonest who) ≡ true → hon
 unfolding honest_form word
 honest_complete who h = rw (name_ok who h) refl
 
-pub start_sound : (ws : Left) (s : Said) → start_form ws ≡ Some s → Fits (codes "start" ∷ ws) s
+pub start_sound : (ws : WordsLeft) (s : LineContent) → start_form ws ≡ Some s → Fits (codes "start" ∷ ws) s
 unfolding start_form
 start_sound ws s h =
     let a = step name (λ who. after (word name) λ session. ended (Some (SaidStart who session))) ws s h in
@@ -101,7 +101,7 @@ start_sound ws s h =
     let n = name_is b.first b.value b.was in
     fits {s = SaidStart a.value b.value} (ap (λ r. codes "start" ∷ r) (line_up a.all m.same (line_up b.all n.same e.0))) (both m.name (both n.name refl)) e.1
 
-pub abandon_sound : (ws : Left) (s : Said) → abandon_form ws ≡ Some s → Fits (codes "abandon" ∷ ws) s
+pub abandon_sound : (ws : WordsLeft) (s : LineContent) → abandon_form ws ≡ Some s → Fits (codes "abandon" ∷ ws) s
 unfolding abandon_form
 abandon_sound ws s h =
     let a = step name (λ who. after (word name) λ session. ended (Some (SaidAbandon who session))) ws s h in
@@ -119,7 +119,7 @@ pub abandon_complete : (who session : Name) → is_form (SaidAbandon who session
 unfolding abandon_form word
 abandon_complete who session h = rw (name_ok who (and_left (is_name who) (is_name session && true) h), name_ok session (and_left (is_name session) true (and_right (is_name who) (is_name session && true) h))) refl
 
-pub block_sound : (ws : Left) (s : Said) → block_form ws ≡ Some s → Fits (codes "graph" ∷ ws) s
+pub block_sound : (ws : WordsLeft) (s : LineContent) → block_form ws ≡ Some s → Fits (codes "graph" ∷ ws) s
 unfolding block_form
 block_sound [] s h = none_some h
 block_sound (w ∷ ws) s h = by (bytes_eq w (codes "{")) refl h
@@ -144,7 +144,7 @@ pub hex_ok : (n : ℕ) (d : Word) → is_hex_of n d ≡ true → hex_of n d ≡ 
 unfolding hex_of
 hex_ok n d h = rw h refl
 
-pub key_sound : (ws : Left) (s : Said) → key_form ws ≡ Some s → Fits (codes "key" ∷ ws) s
+pub key_sound : (ws : WordsLeft) (s : LineContent) → key_form ws ≡ Some s → Fits (codes "key" ∷ ws) s
 unfolding key_form
 key_sound ws s h =
     let a = step name (λ one. after (word name) λ two. after (word (hex_of 32)) λ digits. ended (key_of one two digits)) ws s h in

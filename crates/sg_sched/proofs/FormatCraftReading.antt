@@ -112,9 +112,9 @@ source_complete FromZero rest h = refl
 source_complete (FromKey one two) rest h = refl
 source_complete (FromSeal n) rest h = rw (number_decimal n (frame_is_wide n h))
 source_complete (FromItem n i role) rest h =
-    let front = and_left (is_frame n && is_short i) (is_name role) h in
-    let small = short_is_wide i (and_right (is_frame n) (is_short i) front) in
-    rw (number_decimal n (frame_is_wide n (and_left (is_frame n) (is_short i) front)), digits_no_seal (decimal i) (decimal_is_IsNumeral i small).0.1, number_decimal i small)
+    let prefix = and_left (is_frame n && is_short i) (is_name role) h in
+    let small = short_is_wide i (and_right (is_frame n) (is_short i) prefix) in
+    rw (number_decimal n (frame_is_wide n (and_left (is_frame n) (is_short i) prefix)), digits_no_seal (decimal i) (decimal_is_IsNumeral i small).0.1, number_decimal i small)
 
 -- ---- tag ROLE SOURCE ..
 

@@ -27,7 +27,7 @@ key_item one two b = KeyItem (record { one = one; two = two; key = replicate 32 
 abbrev pub honest_items : List (List ℕ) → List Item
 honest_items names = map HonestItem names
 
--- a session of the graph at place 0
+-- a session of the graph at index 0
 abbrev pub session_item : List ℕ → ℕ → List (List ℕ) → Item
 session_item name nonce names = SessionItem (record { name = name; graph = 0; nonce = nonce; names = names; version = 1 })
 

@@ -5,23 +5,23 @@ use Rattle.std.proofs.Common.{arith, append_assoc}
 use Rattle.std.proofs.lemmas.Bool.{leb-true}
 use Rattle.sg_model.specs.Names.{Name, is_name}
 use Rattle.sg_model.proofs.Small.{and_left, and_right}
-use Rattle.sg_sched.specs.Format.Said.{Word, Committed, From, SaidItem, committed_word, tag_words, item_words}
+use Rattle.sg_sched.specs.Format.Said.{Word, Committed, From, ItemContent, committed_word, tag_words, item_words}
 use Rattle.sg_sched.specs.Format.Forms.{is_committed, are_committed, is_tag, is_item}
 use Rattle.sg_sched.proofs.FormatWords.{number_word, number_decimal, time_is_wide}
 use Rattle.sg_sched.proofs.FormatCraftReading.{committed_said, run, run_complete, tags_said, tags_complete}
 
 -- an item with its tags, and the items that follow
-abbrev pub item_behind : (List Word → Option (List SaidItem × List Word)) → Name → ℕ → List Committed × List Word → Option (List SaidItem × List Word)
-item_behind more label time r = option_and_then (λ (ts : List (Name × From) × List Word). option_map (λ (is : List SaidItem × List Word).
+abbrev pub item_behind : (List Word → Option (List ItemContent × List Word)) → Name → ℕ → List Committed × List Word → Option (List ItemContent × List Word)
+item_behind more label time r = option_and_then (λ (ts : List (Name × From) × List Word). option_map (λ (is : List ItemContent × List Word).
     (record { label = label; time = time; delta = r.0; tags = ts.0 } ∷ is.0, is.1)) (more ts.1)) (tags_said 14 r.1)
 
 -- LABEL TIME and what follows
-abbrev pub item_then : (List Word → Option (List SaidItem × List Word)) → List Word → Option (List SaidItem × List Word)
+abbrev pub item_then : (List Word → Option (List ItemContent × List Word)) → List Word → Option (List ItemContent × List Word)
 item_then more (label ∷ t ∷ ws) = option_and_then (λ time. item_behind more label time (run ws)) (number_word t)
 item_then more other = None
 
 -- up to n items, and the words behind them
-abbrev pub items_said : ℕ → List Word → Option (List SaidItem × List Word)
+abbrev pub items_said : ℕ → List Word → Option (List ItemContent × List Word)
 items_said zero ws = Some ([], ws)
 items_said (suc n) [] = Some ([], [])
 items_said (suc n) (w ∷ ws) = if bytes_eq w (codes "item") then item_then (items_said n) ws else Some ([], w ∷ ws)
@@ -36,23 +36,23 @@ run_tags : (ts : List (Name × From)) (rest : List Word) → run rest ≡ ([], r
 run_tags [] rest e = e
 run_tags ((r, s) ∷ ts) rest e = refl
 
-run_items : (is : List SaidItem) (k : Word) (ks : List Word) → Stops k → run (flat_map item_words is ++ k ∷ ks) ≡ ([], flat_map item_words is ++ k ∷ ks)
+run_items : (is : List ItemContent) (k : Word) (ks : List Word) → Stops k → run (flat_map item_words is ++ k ∷ ks) ≡ ([], flat_map item_words is ++ k ∷ ks)
 run_items [] k ks e = rw e.no_commitment
 run_items (i ∷ is) k ks e = refl
 
-tags_items : (is : List SaidItem) (k : Word) (ks : List Word) → Stops k → (m : ℕ) → tags_said m (flat_map item_words is ++ k ∷ ks) ≡ Some ([], flat_map item_words is ++ k ∷ ks)
+tags_items : (is : List ItemContent) (k : Word) (ks : List Word) → Stops k → (m : ℕ) → tags_said m (flat_map item_words is ++ k ∷ ks) ≡ Some ([], flat_map item_words is ++ k ∷ ks)
 tags_items is k ks e zero = refl
 tags_items [] k ks e (suc m) = rw e.no_tag
 tags_items (i ∷ is) k ks e (suc m) = refl
 
 -- what an item of a form has
-pub record ItemFacts (i : SaidItem) : Type 0 where
+pub record ItemFacts (i : ItemContent) : Type 0 where
   pub time : i.time < 2 ^ 64
   pub delta : list_all is_committed i.delta ≡ true
   pub count : length i.tags ≤ 14
   pub tags : list_all is_tag i.tags ≡ true
 
-item_facts : (i : SaidItem) → is_item i ≡ true → ItemFacts i
+item_facts : (i : ItemContent) → is_item i ≡ true → ItemFacts i
 item_facts i h =
     let tags = and_right (is_name i.label && nat_le 1 i.time && nat_le i.time 1000000 && are_committed i.delta && nat_le (length i.tags) 14) (list_all is_tag i.tags) h in
     let h1 = and_left (is_name i.label && nat_le 1 i.time && nat_le i.time 1000000 && are_committed i.delta && nat_le (length i.tags) 14) (list_all is_tag i.tags) h in
@@ -62,7 +62,7 @@ item_facts i h =
     let time = and_right (is_name i.label && nat_le 1 i.time) (nat_le i.time 1000000) (and_left (is_name i.label && nat_le 1 i.time && nat_le i.time 1000000) (are_committed i.delta) h2) in
     record { time = time_is_wide i.time time; delta = and_right (nat_le (length i.delta) 32) (list_all is_committed i.delta) delta; count = leb-true (length i.tags) 14 count; tags = tags }
 
-pub items_complete : (n : ℕ) (is : List SaidItem) (k : Word) (ks : List Word) → length is ≤ n → list_all is_item is ≡ true → Stops k
+pub items_complete : (n : ℕ) (is : List ItemContent) (k : Word) (ks : List Word) → length is ≤ n → list_all is_item is ≡ true → Stops k
     → items_said n (flat_map item_words is ++ k ∷ ks) ≡ Some (is, k ∷ ks)
 items_complete zero [] k ks l h e = refl
 items_complete (suc n) [] k ks l h e = rw e.no_item

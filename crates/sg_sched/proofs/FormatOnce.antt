@@ -5,7 +5,7 @@ use Rattle.std.proofs.Common.{sym, ◌∙◌, ap, subst, arith}
 use Rattle.std.proofs.lemmas.Bool.{eqb-true}
 use Rattle.sg_model.proofs.Small.{and_left, and_right, contradicts, zero_less}
 use Rattle.sg_sched.specs.Text.{content, words}
-use Rattle.sg_sched.specs.Format.Said.{Word, Said, SaidBlock, SaidEdge, SaidHonest, SaidKey, SaidSession, SaidStart, SaidAct, SaidAbandon, SaidDeliver, SaidMake, line_words}
+use Rattle.sg_sched.specs.Format.Said.{Word, LineContent, SaidBlock, SaidEdge, SaidHonest, SaidKey, SaidSession, SaidStart, SaidAct, SaidAbandon, SaidDeliver, SaidMake, line_words}
 use Rattle.sg_sched.specs.Format.Forms.{SaysLine, is_comment, is_skipped}
 use Rattle.sg_sched.specs.Format.Spells.{Line, closes}
 
@@ -20,7 +20,7 @@ first_hash [] = false
 first_hash ([] ∷ ws) = false
 first_hash ((c ∷ cs) ∷ ws) = c == 35
 
-no_hash : (said : Said) → first_hash (line_words said) ≡ false
+no_hash : (said : LineContent) → first_hash (line_words said) ≡ false
 no_hash SaidBlock = refl
 no_hash (SaidEdge label from to) = refl
 no_hash (SaidHonest who) = refl
@@ -48,7 +48,7 @@ empty_is : (ws : List Word) → (length ws == 0) ≡ true → is_empty ws ≡ tr
 empty_is [] e = refl
 empty_is (w ∷ ws) e = absurd (contradicts e (suc_zero (length ws)))
 
-some_word : (said : Said) → is_empty (line_words said) ≡ false
+some_word : (said : LineContent) → is_empty (line_words said) ≡ false
 some_word SaidBlock = refl
 some_word (SaidEdge label from to) = refl
 some_word (SaidHonest who) = refl
@@ -68,7 +68,7 @@ hash_first (c ∷ cs) h = subst (λ (b : ℕ). first_hash (words (b ∷ cs)) ≡
     by [] = refl
     by (p ∷ ps) = rw (zero_less (length p))
 
-pub not_skipped : (line : Line) (said : Said) → SaysLine line said → is_skipped line ≡ true → ⊥
+pub not_skipped : (line : Line) (said : LineContent) → SaysLine line said → is_skipped line ≡ true → ⊥
 not_skipped line said says skipped = by (is_comment (content line)) refl
   where
     comment_or_blank : (is_comment (content line) || length (words (content line)) == 0) ≡ true

@@ -22,7 +22,7 @@ use Rattle.sg_sched.specs.Format.Spells.{Line, IsBlock, Skip, Say, Show, SpellsS
 use Rattle.sg_sched.proofs.FormatReading.{says_one}
 use Rattle.sg_sched.proofs.FormatOnce.{not_skipped, head_same}
 use Rattle.sg_sched.proofs.FormatPieces.{laid, say_or_show, skip_or_show}
-use Rattle.sg_sched.proofs.FormatOne.{Front, Done, More, of_declare}
+use Rattle.sg_sched.proofs.FormatOne.{Prefix, Done, More, of_declare}
 use Rattle.sg_sched.proofs.FormatApart.{one_text, names_append}
 use Rattle.sg_sched.proofs.FormatNotBoth.{behind}
 
@@ -54,9 +54,9 @@ edge_last (KeyItem k ∷ is) e = edge_last is e
 edge_last (SessionItem s ∷ is) e = edge_last is e
 edge_last (StepItem s ∷ is) e = edge_last is e
 
-front_edge : {before all : List Item} {ls : List Line} → Front before ls all → some_edge before ≡ true → some_edge all ≡ true
-front_edge Done h = h
-front_edge (More {before = b} {new = n} a f) h = front_edge f (edge_kept b n h)
+prefix_edge : {before all : List Item} {ls : List Line} → Prefix before ls all → some_edge before ≡ true → some_edge all ≡ true
+prefix_edge Done h = h
+prefix_edge (More {before = b} {new = n} a f) h = prefix_edge f (edge_kept b n h)
 
 -- where an edge is declared, the edges make the graph `pair`
 pair_of : (is : List Item) → some_edge is ≡ true → has_text (codes "pair") (graph_names (graphs_of (edges is))) ≡ true
@@ -73,7 +73,7 @@ pair_named is h = ap (has_text (codes "pair")) (names_append (blocks is) (graphs
     ∙ later_text (codes "pair") (graph_names (blocks is)) (graph_names (graphs_of (edges is))) (pair_of is h)
 
 -- the item of an edge line
-edge_then : (before all : List Item) (ls more : List Line) (line : Line) (label : Name) (from to : ℕ) → Front before ls all → SaysLine line (SaidEdge label from to) → ls ≡ line ∷ more → some_edge all ≡ true
+edge_then : (before all : List Item) (ls more : List Line) (line : Line) (label : Name) (from to : ℕ) → Prefix before ls all → SaysLine line (SaidEdge label from to) → ls ≡ line ∷ more → some_edge all ≡ true
 edge_then before all _ more line label from to Done says e = absurd (never e)
   where
     never : {x : Line} {xs : List Line} → [] ≡ x ∷ xs → ⊥
@@ -84,14 +84,14 @@ edge_then before all _ more line label from to (More {rest = r} (Show {block = b
 edge_then before all _ more line label from to (More {rest = r} (Say {line = l} {said = t} {item = i} says' right makes) f) says e =
     let same : t ≡ SaidEdge label from to = says_one line t (SaidEdge label from to) (subst (λ l. SaysLine l t) (head_same e) says') says in
     let item : Some i ≡ Some (EdgeItem (edge label from to)) = sym makes ∙ ap (made before) same in
-    front_edge f (ap (λ o. some_edge (before ++ inside i o ∷ [])) item ∙ edge_last before (edge label from to))
+    prefix_edge f (ap (λ o. some_edge (before ++ inside i o ∷ [])) item ∙ edge_last before (edge label from to))
   where
     inside : Item → Option Item → Item
     inside i None = i
     inside i (Some x) = x
 
 -- no block of a graph named `pair` is right where an edge is declared
-no_pair : (before all : List Item) (ls block rest : List Line) (text : List ℕ) (g : Graph) → Front before ls all → some_edge before ≡ true → IsBlock before block text → SpellsGraph text g → g.name ≡ codes "pair" → ls ≡ block ++ rest → ⊥
+no_pair : (before all : List Item) (ls block rest : List Line) (text : List ℕ) (g : Graph) → Prefix before ls all → some_edge before ≡ true → IsBlock before block text → SpellsGraph text g → g.name ≡ codes "pair" → ls ≡ block ++ rest → ⊥
 no_pair before all _ block rest text g Done h b spells named e = never (e ∙ laid before block rest text b)
   where
     never : {x : Line} {xs : List Line} → [] ≡ x ∷ xs → ⊥
@@ -112,8 +112,8 @@ no_pair before all _ block rest text g (More {rest = r} (Show {block = block'} {
 -- bytes that spell a schedule have no block of a graph named `pair` beside edge lines
 pub no_pair_at : (sha : Hash) (bytes : List ℕ) (s : Schedule) (n : ℕ) → SpellsSchedule sha bytes s → IsPairAt (lines bytes) n → ⊥
 no_pair_at sha bytes s n p w =
-    let whole : Front [] (lines bytes) p.items = subst (λ ls. Front [] ls p.items) (append-nil (lines bytes)) (of_declare p.declared [] p.items Done) in
-    let cut : Front w.later (w.block ++ w.rest) p.items = behind w.declared_later (w.block ++ w.rest) p.items (subst (λ ls. Front [] ls p.items) w.all whole) in
-    let first : Front [] (w.right ++ w.edge_line ∷ w.more) w.later = subst (λ ls. Front [] ls w.later) (append-nil (w.right ++ w.edge_line ∷ w.more)) (of_declare w.declared_later [] w.later Done) in
+    let whole : Prefix [] (lines bytes) p.items = subst (λ ls. Prefix [] ls p.items) (append-nil (lines bytes)) (of_declare p.declared [] p.items Done) in
+    let cut : Prefix w.later (w.block ++ w.rest) p.items = behind w.declared_later (w.block ++ w.rest) p.items (subst (λ ls. Prefix [] ls p.items) w.all whole) in
+    let first : Prefix [] (w.right ++ w.edge_line ∷ w.more) w.later = subst (λ ls. Prefix [] ls w.later) (append-nil (w.right ++ w.edge_line ∷ w.more)) (of_declare w.declared_later [] w.later Done) in
     let edged : some_edge w.later ≡ true = edge_then w.items w.later (w.edge_line ∷ w.more) w.more w.edge_line w.label w.from w.to (behind w.declared (w.edge_line ∷ w.more) w.later first) w.is_edge refl in
     no_pair w.later p.items (w.block ++ w.rest) w.block w.rest w.text w.graph cut edged w.is_block w.spelled w.named refl

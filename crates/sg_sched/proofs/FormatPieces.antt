@@ -8,7 +8,7 @@ use Rattle.sg_parse.specs.Grammar.{SpellsGraph}
 use Rattle.sg_parse.specs.Reading.{read}
 use Rattle.sg_parse.specs.declared.fault.ParseFault.{ParseFault}
 use Rattle.sg_parse.proofs.GivesGraph.{spells-read}
-use Rattle.sg_sched.specs.Format.Said.{Said, SaidBlock}
+use Rattle.sg_sched.specs.Format.Said.{LineContent, SaidBlock}
 use Rattle.sg_sched.specs.Format.Forms.{SaysLine, is_skipped}
 use Rattle.sg_sched.specs.Format.Items.{Item, GraphItem}
 use Rattle.sg_sched.specs.Format.Made.{made}
@@ -50,7 +50,7 @@ two_blocks before block block' rest rest' text text' g g' b b' s s' e =
     }
 
 -- a line of a form that isn't `graph {` doesn't open a block
-pub say_or_show : (before : List Item) (line : Line) (said : Said) (item : Item) (block rest rest' : List Line) (text : List ℕ) → SaysLine line said → made before said ≡ Some item → IsBlock before block text
+pub say_or_show : (before : List Item) (line : Line) (said : LineContent) (item : Item) (block rest rest' : List Line) (text : List ℕ) → SaysLine line said → made before said ≡ Some item → IsBlock before block text
     → line ∷ rest ≡ block ++ rest' → ⊥
 say_or_show before line said item block rest rest' text says makes b e =
     let opens : line ≡ b.opening = head_same (e ∙ laid before block rest' text b) in

@@ -8,7 +8,7 @@ use Rattle.sg_model.specs.Lists.{has_text, all_differ}
 use Rattle.sg_model.specs.Names.{Name, is_name, reserved}
 use Rattle.sg_model.proofs.Small.{and_left, and_right}
 use Rattle.sg_sched.specs.Text.{content, words}
-use Rattle.sg_sched.specs.Format.Said.{Word, Said, SaidBlock, SaidEdge, SaidHonest, SaidKey, SaidSession, SaidStart, SaidAct, SaidAbandon, SaidDeliver, SaidMake, Delivered, TheFrame, TheFlipped, TheCut, TheBytes, line_words, joined_names, delivered_words, version_words}
+use Rattle.sg_sched.specs.Format.Said.{Word, LineContent, SaidBlock, SaidEdge, SaidHonest, SaidKey, SaidSession, SaidStart, SaidAct, SaidAbandon, SaidDeliver, SaidMake, Delivered, TheFrame, TheFlipped, TheCut, TheBytes, line_words, joined_names, delivered_words, version_words}
 use Rattle.sg_sched.specs.Format.Forms.{is_form, SaysLine, is_wide, is_short, is_frame, is_given, is_delivered, are_names}
 use Rattle.sg_sched.proofs.FormatWholeCraft.{craft_said, craft_complete}
 use Rattle.sg_sched.proofs.FormatWords.{number_word, number_decimal, name_list, name_list-joined, givens_said, givens_complete, frame_number, short_is_wide, frame_is_wide, byte_is_wide, wide}
@@ -16,62 +16,62 @@ use Rattle.sg_sched.proofs.FormatWords.{number_word, number_decimal, name_list, 
 -- ---- the forms, from behind the first word
 
 -- graph {
-abbrev pub block_said : List Word → Option Said
+abbrev pub block_said : List Word → Option LineContent
 block_said (b ∷ []) = if bytes_eq b (codes "{") then Some SaidBlock else None
 block_said other = None
 
 -- edge LABEL FROM TO
-abbrev pub edge_said : List Word → Option Said
+abbrev pub edge_said : List Word → Option LineContent
 edge_said (label ∷ a ∷ b ∷ []) = option_and_then (λ x. option_map (λ y. SaidEdge label x y) (number_word b)) (number_word a)
 edge_said other = None
 
 -- honest NAME
-abbrev pub honest_said : List Word → Option Said
+abbrev pub honest_said : List Word → Option LineContent
 honest_said (who ∷ []) = Some (SaidHonest who)
 honest_said other = None
 
 -- key NAME NAME HEX
-abbrev pub key_said : List Word → Option Said
+abbrev pub key_said : List Word → Option LineContent
 key_said (one ∷ two ∷ ds ∷ []) = Some (SaidKey one two ds)
 key_said other = None
 
 -- session NAME GRAPH NONCE NAME,NAME,.. and v2
-abbrev pub session_said : List Word → Option Said
+abbrev pub session_said : List Word → Option LineContent
 session_said (name ∷ graph ∷ n ∷ names ∷ []) = option_map (λ n. SaidSession name graph n (name_list names) 1) (number_word n)
 session_said (name ∷ graph ∷ n ∷ names ∷ v ∷ []) = if bytes_eq v (codes "v2") then option_map (λ n. SaidSession name graph n (name_list names) 2) (number_word n) else None
 session_said other = None
 
 -- start NAME SESSION
-abbrev pub start_said : List Word → Option Said
+abbrev pub start_said : List Word → Option LineContent
 start_said (who ∷ session ∷ []) = Some (SaidStart who session)
 start_said other = None
 
 -- act NAME SESSION LABEL VAR=VALUE ..
-abbrev pub act_said : List Word → Option Said
+abbrev pub act_said : List Word → Option LineContent
 act_said (who ∷ session ∷ label ∷ ws) = option_map (λ vs. SaidAct who session label vs) (givens_said ws)
 act_said other = None
 
 -- abandon NAME SESSION
-abbrev pub abandon_said : List Word → Option Said
+abbrev pub abandon_said : List Word → Option LineContent
 abandon_said (who ∷ session ∷ []) = Some (SaidAbandon who session)
 abandon_said other = None
 
 -- a frame that is changed
-abbrev pub changed_said : Name → Word → ℕ → ℕ → Option Said
+abbrev pub changed_said : Name → Word → ℕ → ℕ → Option LineContent
 changed_said who change n i =
     if bytes_eq change (codes "flip") then Some (SaidDeliver who (TheFlipped n i))
     else if bytes_eq change (codes "cut") then Some (SaidDeliver who (TheCut n i))
     else None
 
 -- deliver NAME fN, deliver NAME fN flip I, deliver NAME fN cut I, deliver NAME hex HEX
-abbrev pub deliver_said : List Word → Option Said
+abbrev pub deliver_said : List Word → Option LineContent
 deliver_said (who ∷ f ∷ []) = option_map (λ n. SaidDeliver who (TheFrame n)) (frame_number f)
 deliver_said (who ∷ f ∷ ds ∷ []) = if bytes_eq f (codes "hex") then Some (SaidDeliver who (TheBytes ds)) else None
 deliver_said (who ∷ f ∷ change ∷ i ∷ []) = option_and_then (λ n. option_and_then (λ i. changed_said who change n i) (number_word i)) (frame_number f)
 deliver_said other = None
 
 -- the forms by their first word
-abbrev pub said_by : Word → List Word → Option Said
+abbrev pub said_by : Word → List Word → Option LineContent
 said_by w ws =
     if bytes_eq w (codes "graph") then block_said ws
     else if bytes_eq w (codes "edge") then edge_said ws
@@ -86,7 +86,7 @@ said_by w ws =
     else None
 
 -- what the words of a line say
-abbrev pub said_of : List Word → Option Said
+abbrev pub said_of : List Word → Option LineContent
 said_of [] = None
 said_of (w ∷ ws) = said_by w ws
 
@@ -112,7 +112,7 @@ deliver_complete who (TheCut n i) h = rw (number_decimal n (frame_is_wide n (and
 deliver_complete who (TheBytes ds) h = refl
 
 -- a line of a form is found by its words
-pub complete : (said : Said) → is_form said ≡ true → said_of (line_words said) ≡ Some said
+pub complete : (said : LineContent) → is_form said ≡ true → said_of (line_words said) ≡ Some said
 complete SaidBlock h = refl
 complete (SaidEdge label a b) h =
     let ends = and_left (is_name label && not (has_text label reserved) && nat_le a 255 && nat_le b 255) (not (a % 2 == b % 2)) h in
@@ -137,12 +137,12 @@ complete (SaidDeliver who what) h = deliver_complete who what (and_right (is_nam
 complete (SaidMake c) h = craft_complete c h
 
 -- the words say nothing that is of a form
-abbrev pub rejects : Option Said → Bool
+abbrev pub rejects : Option LineContent → Bool
 rejects None = true
 rejects (Some said) = not (is_form said)
 
 -- a line whose words say nothing that is of a form is of no form
-pub no_form : (line : List ℕ) → rejects (said_of (words (content line))) ≡ true → (said : Said) → SaysLine line said → ⊥
+pub no_form : (line : List ℕ) → rejects (said_of (words (content line))) ≡ true → (said : LineContent) → SaysLine line said → ⊥
 no_form line bad said says = formless (ap rejects (sym (complete said says.form)) ∙ ap (λ ws. rejects (said_of ws)) (sym says.spelled) ∙ bad)
   where
     clash : {b : Bool} → b ≡ false → b ≡ true → ⊥
@@ -155,10 +155,10 @@ no_form line bad said says = formless (ap rejects (sym (complete said says.form)
     formless e = clash (not-true (is_form said) e) says.form
 
 -- a line says one thing at most
-pub says_one : (line : List ℕ) (s t : Said) → SaysLine line s → SaysLine line t → s ≡ t
+pub says_one : (line : List ℕ) (s t : LineContent) → SaysLine line s → SaysLine line t → s ≡ t
 says_one line s t p q = same (sym (complete s p.form) ∙ ap said_of (sym p.spelled) ∙ ap said_of q.spelled ∙ complete t q.form)
   where
-    inside : Option Said → Said
+    inside : Option LineContent → LineContent
     inside None = s
     inside (Some x) = x
 

@@ -8,7 +8,7 @@ use Rattle.std.proofs.lemmas.Bool.{leb-true}
 use Rattle.sg_model.specs.Names.{Name}
 use Rattle.sg_model.proofs.Small.{and_left, and_right}
 use Rattle.sg_protocol.specs.Schedule.{CraftJoin}
-use Rattle.sg_sched.specs.Format.Said.{Word, Committed, From, SaidItem, SaidCraft, Said, SaidMake, committed_word, from_words, item_words, join_words, list_words, option_words, joined_names}
+use Rattle.sg_sched.specs.Format.Said.{Word, Committed, From, ItemContent, CraftContent, LineContent, SaidMake, committed_word, from_words, item_words, join_words, list_words, option_words, joined_names}
 use Rattle.sg_sched.specs.Format.Forms.{is_committed, are_committed, is_source, is_item, is_join, is_wide, are_names, is_craft}
 use Rattle.sg_sched.proofs.FormatWords.{same_self, number_word, number_decimal, name_list, name_list-joined, wide}
 use Rattle.sg_sched.proofs.FormatCraftReading.{committed_said, run, run_complete, source_said, source_complete}
@@ -95,44 +95,44 @@ join_complete (Some j) k l ks e h = nonce_complete j.nonce j.names k l ks e
 -- ---- the whole
 
 -- what stands behind the join, with up to n items
-abbrev pub behind_join : ℕ → Name → Name → Name → Option CraftJoin → List Word → Option Said
+abbrev pub behind_join : ℕ → Name → Name → Name → Option CraftJoin → List Word → Option LineContent
 behind_join n session from to join ws =
     option_and_then (λ (know : List Committed × List Word).
-    option_and_then (λ (is : List SaidItem × List Word).
+    option_and_then (λ (is : List ItemContent × List Word).
     option_and_then (λ (opened : List Committed × List Word).
     option_map (λ seal. SaidMake (record { session = session; from = from; to = to; join = join; know = know.0; items = is.0; openings = opened.0; seal = seal }))
     (end_said opened.1)) (list_said (codes "open") is.1)) (items_said n know.1)) (list_said (codes "know") ws)
 
 -- SESSION from ROLE to ROLE and what follows, with up to n items
-abbrev pub craft_said : ℕ → List Word → Option Said
+abbrev pub craft_said : ℕ → List Word → Option LineContent
 craft_said n (session ∷ f ∷ from ∷ t ∷ to ∷ ws) = if bytes_eq f (codes "from") && bytes_eq t (codes "to")
     then option_and_then (λ (j : Option CraftJoin × List Word). behind_join n session from to j.0 j.1) (join_said ws) else None
 craft_said n other = None
 
 -- behind the items: the openings and the seal
-after_items : (n : ℕ) (is : List SaidItem) (cs : List Committed) (seal : List Word) → length is ≤ n → list_all is_item is ≡ true
+after_items : (n : ℕ) (is : List ItemContent) (cs : List Committed) (seal : List Word) → length is ≤ n → list_all is_item is ≡ true
     → items_said n (flat_map item_words is ++ (list_words (codes "open") cs ++ codes "seal" ∷ seal)) ≡ Some (is, list_words (codes "open") cs ++ codes "seal" ∷ seal)
 after_items n is [] seal l h = items_complete n is (codes "seal") seal l h (record { no_commitment = refl; no_tag = refl; no_item = refl })
 after_items n is (c ∷ cs) seal l h = items_complete n is (codes "open") (map committed_word (c ∷ cs) ++ codes "seal" ∷ seal) l h (record { no_commitment = refl; no_tag = refl; no_item = refl })
 
 -- what is known, before at least one item
-after_know : (know : List Committed) (i : SaidItem) (is : List SaidItem) (rest : List Word) → list_all is_committed know ≡ true
+after_know : (know : List Committed) (i : ItemContent) (is : List ItemContent) (rest : List Word) → list_all is_committed know ≡ true
     → list_said (codes "know") (list_words (codes "know") know ++ (flat_map item_words (i ∷ is) ++ rest)) ≡ Some (know, flat_map item_words (i ∷ is) ++ rest)
 after_know know i is rest h = list_complete (codes "know") know (codes "item") _ h refl refl
 
 -- the join, before what is known and at least one item
-after_join : (j : Option CraftJoin) (know : List Committed) (i : SaidItem) (is : List SaidItem) (rest : List Word) → option_map_or is_join j true ≡ true
+after_join : (j : Option CraftJoin) (know : List Committed) (i : ItemContent) (is : List ItemContent) (rest : List Word) → option_map_or is_join j true ≡ true
     → join_said (join_words j ++ (list_words (codes "know") know ++ (flat_map item_words (i ∷ is) ++ rest))) ≡ Some (j, list_words (codes "know") know ++ (flat_map item_words (i ∷ is) ++ rest))
 after_join j [] i is rest h = join_complete j (codes "item") i.label _ (record { no_join = refl; no_nonce = refl; no_cast = refl }) h
 after_join j (c ∷ cs) i is rest h = join_complete j (codes "know") (committed_word c) _ (record { no_join = refl; no_nonce = refl; no_cast = refl }) h
 
 -- the words from behind craft
-abbrev pub craft_rest : SaidCraft → List Word
+abbrev pub craft_rest : CraftContent → List Word
 craft_rest c = c.session ∷ codes "from" ∷ c.from ∷ codes "to" ∷ c.to ∷ (join_words c.join ++ (list_words (codes "know") c.know
     ++ (flat_map item_words c.items ++ (list_words (codes "open") c.openings ++ codes "seal" ∷ from_words c.seal))))
 
 -- what a craft of a form has
-pub record CraftFacts (c : SaidCraft) : Type 0 where
+pub record CraftFacts (c : CraftContent) : Type 0 where
   pub join : option_map_or is_join c.join true ≡ true
   pub know : list_all is_committed c.know ≡ true
   pub some : nat_le 1 (length c.items) ≡ true
@@ -142,7 +142,7 @@ pub record CraftFacts (c : SaidCraft) : Type 0 where
   pub openings : list_all is_committed c.openings ≡ true
   pub seal : is_source c.seal ≡ true
 
-pub craft_facts : (c : SaidCraft) → is_craft c ≡ true → CraftFacts c
+pub craft_facts : (c : CraftContent) → is_craft c ≡ true → CraftFacts c
 craft_facts c h =
     let t0 = are_names (c.session ∷ c.from ∷ c.to ∷ []) && not (bytes_eq c.from c.to) in
     let t1 = t0 && option_map_or is_join c.join true in
@@ -169,7 +169,7 @@ craft_facts c h =
     }
 
 -- a craft of a form, with up to n items, is found by its words
-found_of : (n : ℕ) (c : SaidCraft) (is : List SaidItem) → CraftFacts c → nat_le 1 (length is) ≡ true → length is ≤ n → list_all is_item is ≡ true
+found_of : (n : ℕ) (c : CraftContent) (is : List ItemContent) → CraftFacts c → nat_le 1 (length is) ≡ true → length is ≤ n → list_all is_item is ≡ true
     → craft_said n (craft_rest (record c { items = is })) ≡ Some (SaidMake (record c { items = is }))
 found_of n c [] f s l a = absurd (cc)
 found_of n c (i ∷ is) f s l a =
@@ -182,5 +182,5 @@ found_of n c (i ∷ is) f s l a =
     )
 
 -- a craft of a form is found by its words
-pub craft_complete : (c : SaidCraft) → is_craft c ≡ true → craft_said 65535 (craft_rest c) ≡ Some (SaidMake c)
+pub craft_complete : (c : CraftContent) → is_craft c ≡ true → craft_said 65535 (craft_rest c) ≡ Some (SaidMake c)
 craft_complete c h = let f = craft_facts c h in found_of 65535 c c.items f f.some f.count f.items

@@ -58,9 +58,9 @@ lacks_other test x (c ∷ cs) lack h = both (other_byte test x c lack (and_left 
 
 pub name_bytes : (n : Name) → is_name n ≡ true → list_all is_name_byte n ≡ true
 name_bytes [] h = refl
-name_bytes (c ∷ cs) h = let front = and_left (is_letter c && list_all is_name_byte cs) (nat_le (length cs) 31) h in
-    both (letter_byte (nat_le 48 c && nat_le c 57) (nat_le 95 c && nat_le c 95) (is_letter c) (and_left (is_letter c) (list_all is_name_byte cs) front))
-    (and_right (is_letter c) (list_all is_name_byte cs) front)
+name_bytes (c ∷ cs) h = let prefix = and_left (is_letter c && list_all is_name_byte cs) (nat_le (length cs) 31) h in
+    both (letter_byte (nat_le 48 c && nat_le c 57) (nat_le 95 c && nat_le c 95) (is_letter c) (and_left (is_letter c) (list_all is_name_byte cs) prefix))
+    (and_right (is_letter c) (list_all is_name_byte cs) prefix)
 
 pub name_lacks : (x : ℕ) (n : Name) → is_name_byte x ≡ false → is_name n ≡ true → lacks x n ≡ true
 name_lacks x n lack h = lacks_other is_name_byte x n lack (name_bytes n h)

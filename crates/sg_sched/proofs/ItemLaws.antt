@@ -12,9 +12,9 @@ use Rattle.sg_model.proofs.Small.{some_same}
 use Rattle.sg_protocol.specs.Schedule.{CraftJoin}
 use Rattle.sg_base.specs.Words.{name, number}
 use Rattle.sg_sched.specs.Words.{frame}
-use Rattle.sg_sched.specs.Format.Said.{Word, Committed, From, SaidItem, SaidCraft, Said, SaidMake, committed_word, from_words, tag_words, item_words, join_words, list_words, option_words, joined_names, craft_words}
+use Rattle.sg_sched.specs.Format.Said.{Word, Committed, From, ItemContent, CraftContent, LineContent, SaidMake, committed_word, from_words, tag_words, item_words, join_words, list_words, option_words, joined_names, craft_words}
 use Rattle.sg_sched.specs.Format.Forms.{is_committed, is_source, is_tag, is_item, are_committed, is_join, is_wide, are_names, is_craft, is_form}
-use Rattle.sg_sched.specs.Format.Reading.{Left, Taker, word, after, ended}
+use Rattle.sg_sched.specs.Format.Reading.{WordsLeft, Taker, word, after, ended}
 use Rattle.sg_sched.specs.Format.CraftReading.{time, run, few, some_of, listed, source, repeated, tag, item, is_next, all_names, name_list, sixteen, cast, optional, join_parts, join, opened, exactly, ends, ends_of, seal_form, some_items, craft_form}
 use Rattle.sg_sched.proofs.FormatWords.{both}
 use Rattle.sg_sched.proofs.FormLaws.{none_some, step, ended_is, line_up, name_is, Fits, fits}
@@ -24,13 +24,13 @@ use Rattle.sg_sched.proofs.TakerLaws.{Taken, taken_is, taken_of, Took, took, run
 
 -- ---- tags
 
-abbrev pub tag_print : Name × From → Left
+abbrev pub tag_print : Name × From → WordsLeft
 tag_print t = t.0 ∷ from_words t.1
 
-abbrev tag_with : Name → From → Left → Option ((Name × From) × Left)
+abbrev tag_with : Name → From → WordsLeft → Option ((Name × From) × WordsLeft)
 tag_with role s rest = Some ((role, s), rest)
 
-pub tag_is : (ws : Left) (t : Name × From) (rest : Left) → tag ws ≡ Some (t, rest) → Took tag_print is_tag ws t rest
+pub tag_is : (ws : WordsLeft) (t : Name × From) (rest : WordsLeft) → tag ws ≡ Some (t, rest) → Took tag_print is_tag ws t rest
 unfolding tag
 tag_is ws t rest h =
     let a = step name (λ role. after source λ s rest. tag_with role s rest) ws (t, rest) h in
@@ -58,30 +58,30 @@ time_is w t h = first (number 1000000 w) refl h
     first None e h = none_some h
     first (Some k) e h = by k e (nat_le 1 k) refl h
 
-pub few_is : (r q : List Committed × Left) → few r ≡ Some q → (r ≡ q) × (nat_le (length r.0) 32 ≡ true)
+pub few_is : (r q : List Committed × WordsLeft) → few r ≡ Some q → (r ≡ q) × (nat_le (length r.0) 32 ≡ true)
 few_is r q h = by (nat_le (length r.0) 32) refl h
   where
     by : (b : Bool) → nat_le (length r.0) 32 ≡ b → (if b then Some r else None) ≡ Some q → (r ≡ q) × (nat_le (length r.0) 32 ≡ true)
     by true e h = (some_same h, e)
     by false e h = none_some h
 
-record Few (ws : Left) (cs : List Committed) (rest : Left) : Type 0 where
+record Few (ws : WordsLeft) (cs : List Committed) (rest : WordsLeft) : Type 0 where
   pub words : ws ≡ run_words cs ++ rest
   pub form : are_committed cs ≡ true
 
-few_run : (ws : Left) (cs : List Committed) (rest : Left) → few (run ws) ≡ taken_of cs rest → Few ws cs rest
+few_run : (ws : WordsLeft) (cs : List Committed) (rest : WordsLeft) → few (run ws) ≡ taken_of cs rest → Few ws cs rest
 few_run ws cs rest h =
     let f = few_is (run ws) (cs, rest) h in
     let r = run_is ws in
-    subst (λ (q : List Committed × Left). Few ws q.0 q.1) f.0 (record { words = r.words; form = both f.1 r.form })
+    subst (λ (q : List Committed × WordsLeft). Few ws q.0 q.1) f.0 (record { words = r.words; form = both f.1 r.form })
 
-abbrev pub item_print : SaidItem → Left
+abbrev pub item_print : ItemContent → WordsLeft
 item_print i = i.label ∷ decimal i.time ∷ (map committed_word i.delta ++ flat_map tag_words i.tags)
 
-abbrev pub item_of : Name → ℕ → List Committed → List (Name × From) → SaidItem
+abbrev pub item_of : Name → ℕ → List Committed → List (Name × From) → ItemContent
 item_of label t delta tags = record { label = label; time = t; delta = delta; tags = tags }
 
-pub item_is : (ws : Left) (i : SaidItem) (rest : Left) → item ws ≡ Some (i, rest) → Took item_print is_item ws i rest
+pub item_is : (ws : WordsLeft) (i : ItemContent) (rest : WordsLeft) → item ws ≡ Some (i, rest) → Took item_print is_item ws i rest
 unfolding item
 item_is ws i rest h =
     let a = step name (λ label. after (word time) λ t. after (λ ws. few (run ws)) λ delta. after (repeated (codes "tag") tag 14) λ tags rest. taken_of (item_of label t delta tags) rest) ws (i, rest) h in
@@ -93,5 +93,5 @@ item_is ws i rest h =
     let f = few_run b.rest d.value d.rest d.was in
     let g = repeated_is (codes "tag") tag tag_print is_tag tag_is 14 d.rest e.value e.rest e.was in
     took item_print is_item {x = item_of a.value b.value d.value e.value} {r = e.rest}
-    (line_up a.all n.same (line_up b.all t.same (f.words ∙ ap (λ (r : Left). run_words d.value ++ r) g.words ∙ sym (append_assoc (run_words d.value) (flat_map tag_words e.value) e.rest))))
+    (line_up a.all n.same (line_up b.all t.same (f.words ∙ ap (λ (r : WordsLeft). run_words d.value ++ r) g.words ∙ sym (append_assoc (run_words d.value) (flat_map tag_words e.value) e.rest))))
     (both (both (both (both (both n.name t.low) t.high) f.form) (le-leb (length e.value) 14 g.few)) g.form) e.more

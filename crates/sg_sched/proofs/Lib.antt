@@ -36,5 +36,5 @@ pub mod CraftLaws
 pub mod CraftComplete
 pub mod WholeCraft
 pub mod LineLaws
-pub mod PlaceLaws
+pub mod IndexLaws
 pub mod KeyAmong

@@ -2,12 +2,12 @@
 use Rattle.std.specs.Prelude.{◌≡◌, ℕ, Bool, true, false, if◌then◌else◌, List, [], ◌∷◌, ◌++◌, map, codes, bytes_eq, refl, Option, Some, None, option_map, MatchOption}
 use Rattle.std.proofs.Common.{sym, ◌∙◌, ap}
 use Rattle.std.proofs.lemmas.Slice.Eq.{bytes_eq-Decides}
-use Rattle.sg_sched.specs.Format.Said.{Word, Said, SaidBlock, SaidEdge, SaidHonest, SaidKey, SaidSession, SaidStart, SaidAct, SaidAbandon, SaidDeliver, SaidMake, line_words}
+use Rattle.sg_sched.specs.Format.Said.{Word, LineContent, SaidBlock, SaidEdge, SaidHonest, SaidKey, SaidSession, SaidStart, SaidAct, SaidAbandon, SaidDeliver, SaidMake, line_words}
 use Rattle.sg_sched.specs.Format.Forms.{is_form, SaysLine}
 use Rattle.sg_sched.specs.Format.Model.{said}
 use Rattle.sg_sched.specs.declared.line.Line.{Line}
 use Rattle.sg_sched.specs.Text.{words, content}
-use Rattle.sg_sched.specs.Format.Reading.{Left, block_form, edge_form, honest_form, key_form, session_form, start_form, act_form, abandon_form, deliver_form}
+use Rattle.sg_sched.specs.Format.Reading.{WordsLeft, block_form, edge_form, honest_form, key_form, session_form, start_form, act_form, abandon_form, deliver_form}
 use Rattle.sg_sched.specs.Format.CraftReading.{craft_form}
 use Rattle.sg_sched.specs.Format.Form.{form}
 use Rattle.sg_sched.proofs.FormLaws.{none_some, Fits, honest_sound, honest_complete, start_sound, start_complete, abandon_sound, abandon_complete, block_sound, key_sound}
@@ -18,10 +18,10 @@ use Rattle.sg_sched.proofs.CraftLaws.{craft_sound}
 use Rattle.sg_sched.proofs.WholeCraft.{craft_reads}
 
 -- a form's words behind its first word
-first_is : {first w : Word} {ws : Left} {s : Said} → bytes_eq w first ≡ true → Fits (first ∷ ws) s → Fits (w ∷ ws) s
+first_is : {first w : Word} {ws : WordsLeft} {s : LineContent} → bytes_eq w first ≡ true → Fits (first ∷ ws) s → Fits (w ∷ ws) s
 first_is {first} {w} {ws} e f = record { words = ap (λ x. x ∷ ws) ((bytes_eq-Decides w first).0 e) ∙ f.words; form = f.form }
 
-pub form_sound : (ws : Left) (s : Said) → form ws ≡ Some s → Fits ws s
+pub form_sound : (ws : WordsLeft) (s : LineContent) → form ws ≡ Some s → Fits ws s
 unfolding form
 form_sound [] s h = none_some h
 form_sound (w ∷ ws) s h =
@@ -44,7 +44,7 @@ form_sound (w ∷ ws) s h =
     by false false false false false false false false false true e1 e2 e3 e4 e5 e6 e7 e8 e9 e10 h = first_is e10 (block_sound ws s h)
     by false false false false false false false false false false e1 e2 e3 e4 e5 e6 e7 e8 e9 e10 h = none_some h
 
-pub form_complete : (s : Said) → is_form s ≡ true → form (line_words s) ≡ Some s
+pub form_complete : (s : LineContent) → is_form s ≡ true → form (line_words s) ≡ Some s
 unfolding form block_form
 form_complete SaidBlock h = refl
 form_complete (SaidEdge label from to) h = edge_complete label from to h
@@ -60,14 +60,14 @@ form_complete (SaidMake c) h = craft_reads c h
 -- ---- lines
 
 -- nothing is of a form
-pub says_none : (line : List ℕ) → form (words (content line)) ≡ None → (s : Said) → SaysLine line s → ⊥
+pub says_none : (line : List ℕ) → form (words (content line)) ≡ None → (s : LineContent) → SaysLine line s → ⊥
 says_none line h s says = none_some {P = ⊥} (sym h ∙ ap form says.spelled ∙ form_complete s says.form)
 
 -- what is read is said
-pub says_some : (line : List ℕ) (s : Said) → form (words (content line)) ≡ Some s → SaysLine line s
+pub says_some : (line : List ℕ) (s : LineContent) → form (words (content line)) ≡ Some s → SaysLine line s
 says_some line s h = let f = form_sound (words (content line)) s h in record { spelled = f.words; form = f.form }
 
 -- what the reader of a line answers, in either case
-pub says : (line : List ℕ) (o : Option Line) → option_map said o ≡ form (words (content line)) → MatchOption o ((s : Said) → SaysLine line s → ⊥) (λ l. SaysLine line (said l))
+pub says : (line : List ℕ) (o : Option Line) → option_map said o ≡ form (words (content line)) → MatchOption o ((s : LineContent) → SaysLine line s → ⊥) (λ l. SaysLine line (said l))
 says line None h = says_none line (sym h)
 says line (Some l) h = says_some line (said l) (sym h)

@@ -12,7 +12,7 @@ use Rattle.sg_model.specs.Lists.{has_text, all_differ}
 use Rattle.sg_model.proofs.Small.{bytes_eq-swap}
 
 -- a text of the list after it
-pub has_text-middle : (t : List ℕ) (front rest : List (List ℕ)) → has_text t (front ++ t ∷ rest) ≡ true
+pub has_text-middle : (t : List ℕ) (prefix rest : List (List ℕ)) → has_text t (prefix ++ t ∷ rest) ≡ true
 has_text-middle t [] rest = ap (λ b. b || has_text t rest) ((bytes_eq-Decides t t).1 refl)
 has_text-middle t (f ∷ fs) rest = let ih = has_text-middle t fs rest in by (bytes_eq t f) refl ih
   where
@@ -21,7 +21,7 @@ has_text-middle t (f ∷ fs) rest = let ih = has_text-middle t fs rest in by (by
     by false e ih = ap (λ b. b || has_text t (fs ++ t ∷ rest)) e ∙ ih
 
 -- a text that stands before
-pub differ_twice : (t : List ℕ) (front rest : List (List ℕ)) → has_text t front ≡ true → all_differ (front ++ t ∷ rest) ≡ false
+pub differ_twice : (t : List ℕ) (prefix rest : List (List ℕ)) → has_text t prefix ≡ true → all_differ (prefix ++ t ∷ rest) ≡ false
 differ_twice t [] rest h = absurd (cc)
 differ_twice t (f ∷ fs) rest h = by (bytes_eq t f) refl (differ_twice t fs rest)
   where
@@ -35,7 +35,7 @@ differ_twice t (f ∷ fs) rest h = by (bytes_eq t f) refl (differ_twice t fs res
         grind (arith, common_steps, ih later)
 
 -- a text that does not stand before
-pub differ_push : (t : List ℕ) (front : List (List ℕ)) → has_text t front ≡ false → all_differ front ≡ true → all_differ (front ++ t ∷ []) ≡ true
+pub differ_push : (t : List ℕ) (prefix : List (List ℕ)) → has_text t prefix ≡ false → all_differ prefix ≡ true → all_differ (prefix ++ t ∷ []) ≡ true
 differ_push t [] h d = refl
 differ_push t (f ∷ fs) h d = step (bytes_eq t f) (has_text t fs) (has_text f fs) (all_differ fs) refl refl refl refl h d (differ_push t fs)
   where
@@ -56,37 +56,37 @@ differ_push t (f ∷ fs) h d = step (bytes_eq t f) (has_text t fs) (has_text f f
 
 -- the names so far, and those that parts spell
 abbrev pub names_with : List (List ℕ) → List (List ℕ) → Option (List (List ℕ))
-names_with front parts = if list_all is_name parts && all_differ (front ++ parts) then Some (front ++ parts) else None
+names_with prefix parts = if list_all is_name parts && all_differ (prefix ++ parts) then Some (prefix ++ parts) else None
 
-pub names_twice : (front : List (List ℕ)) (t : List ℕ) (parts : List (List ℕ)) → has_text t front ≡ true → names_with front (t ∷ parts) ≡ None
-names_twice front t parts h = by (list_all is_name (t ∷ parts)) (all_differ (front ++ t ∷ parts)) (differ_twice t front parts h)
+pub names_twice : (prefix : List (List ℕ)) (t : List ℕ) (parts : List (List ℕ)) → has_text t prefix ≡ true → names_with prefix (t ∷ parts) ≡ None
+names_twice prefix t parts h = by (list_all is_name (t ∷ parts)) (all_differ (prefix ++ t ∷ parts)) (differ_twice t prefix parts h)
   where
-    by : (a d : Bool) → d ≡ false → (if a && d then Some (front ++ t ∷ parts) else None) ≡ None
-    by true d e = ap (λ b. if b then Some (front ++ t ∷ parts) else None) e
+    by : (a d : Bool) → d ≡ false → (if a && d then Some (prefix ++ t ∷ parts) else None) ≡ None
+    by true d e = ap (λ b. if b then Some (prefix ++ t ∷ parts) else None) e
     by false d e = refl
 
-pub names_more : (front : List (List ℕ)) (t : List ℕ) (parts : List (List ℕ)) → is_name t ≡ true → names_with front (t ∷ parts) ≡ names_with (front ++ t ∷ []) parts
-names_more front t parts h =
-    ap (λ b. if b && list_all is_name parts && all_differ (front ++ t ∷ parts) then Some (front ++ t ∷ parts) else None) h
-    ∙ ap (λ l. if list_all is_name parts && all_differ l then Some l else None) (sym (append_assoc front (t ∷ []) parts))
+pub names_more : (prefix : List (List ℕ)) (t : List ℕ) (parts : List (List ℕ)) → is_name t ≡ true → names_with prefix (t ∷ parts) ≡ names_with (prefix ++ t ∷ []) parts
+names_more prefix t parts h =
+    ap (λ b. if b && list_all is_name parts && all_differ (prefix ++ t ∷ parts) then Some (prefix ++ t ∷ parts) else None) h
+    ∙ ap (λ l. if list_all is_name parts && all_differ l then Some l else None) (sym (append_assoc prefix (t ∷ []) parts))
 
-pub names_end : (front : List (List ℕ)) → all_differ front ≡ true → names_with front [] ≡ Some front
-names_end front h = ap (λ l. if all_differ l then Some l else None) (append-nil front) ∙ ap (λ b. if b then Some front else None) h
+pub names_end : (prefix : List (List ℕ)) → all_differ prefix ≡ true → names_with prefix [] ≡ Some prefix
+names_end prefix h = ap (λ l. if all_differ l then Some l else None) (append-nil prefix) ∙ ap (λ b. if b then Some prefix else None) h
 
 -- the same, where a name was read from the first part
-pub read_twice : (all : Option (List (List ℕ))) (front parts rest : List (List ℕ)) (t name : List ℕ) → all ≡ names_with front parts → parts ≡ t ∷ rest → name ≡ t → has_text name front ≡ true → None ≡ all
-read_twice all front parts rest t name a p n h =
-    sym (a ∙ ap (names_with front) p ∙ names_twice front t rest (subst (λ x. has_text x front ≡ true) n h))
+pub read_twice : (all : Option (List (List ℕ))) (prefix parts rest : List (List ℕ)) (t name : List ℕ) → all ≡ names_with prefix parts → parts ≡ t ∷ rest → name ≡ t → has_text name prefix ≡ true → None ≡ all
+read_twice all prefix parts rest t name a p n h =
+    sym (a ∙ ap (names_with prefix) p ∙ names_twice prefix t rest (subst (λ x. has_text x prefix ≡ true) n h))
 
-pub read_more : (all : Option (List (List ℕ))) (front parts rest : List (List ℕ)) (t name : List ℕ) → all ≡ names_with front parts → parts ≡ t ∷ rest → name ≡ t → is_name t ≡ true → all ≡ names_with (front ++ name ∷ []) rest
-read_more all front parts rest t name a p n h =
-    a ∙ ap (names_with front) p ∙ names_more front t rest h ∙ ap (λ x. names_with (front ++ x ∷ []) rest) (sym n)
+pub read_more : (all : Option (List (List ℕ))) (prefix parts rest : List (List ℕ)) (t name : List ℕ) → all ≡ names_with prefix parts → parts ≡ t ∷ rest → name ≡ t → is_name t ≡ true → all ≡ names_with (prefix ++ name ∷ []) rest
+read_more all prefix parts rest t name a p n h =
+    a ∙ ap (names_with prefix) p ∙ names_more prefix t rest h ∙ ap (λ x. names_with (prefix ++ x ∷ []) rest) (sym n)
 
--- in a list of different names each stands at its place
-place_in : (names : List (List ℕ)) (i : ℕ) → all_differ names ≡ true → i < length names → position_or_len (bytes_eq (get_or names i [])) names ≡ i
-place_in [] i d h = absurd (omega arith)
-place_in (n ∷ ns) zero d h = let e : bytes_eq n n ≡ true = (bytes_eq-Decides n n).1 refl in grind (arith, common_steps)
-place_in (n ∷ ns) (suc i) d h = step (has_text n ns) (bytes_eq (get_or ns i []) n) refl refl d (λ k. place_in ns i k (omega arith))
+-- in a list of different names each stands at its index
+index_in : (names : List (List ℕ)) (i : ℕ) → all_differ names ≡ true → i < length names → position_or_len (bytes_eq (get_or names i [])) names ≡ i
+index_in [] i d h = absurd (omega arith)
+index_in (n ∷ ns) zero d h = let e : bytes_eq n n ≡ true = (bytes_eq-Decides n n).1 refl in grind (arith, common_steps)
+index_in (n ∷ ns) (suc i) d h = step (has_text n ns) (bytes_eq (get_or ns i []) n) refl refl d (λ k. index_in ns i k (omega arith))
   where
     step : (u v : Bool) → has_text n ns ≡ u → bytes_eq (get_or ns i []) n ≡ v → all_differ (n ∷ ns) ≡ true → (all_differ ns ≡ true → position_or_len (bytes_eq (get_or ns i [])) ns ≡ i) →
         position_or_len (bytes_eq (get_or ns i [])) (n ∷ ns) ≡ suc i
@@ -98,13 +98,13 @@ place_in (n ∷ ns) (suc i) d h = step (has_text n ns) (bytes_eq (get_or ns i []
         let rest = ih (ap (λ b. not b && all_differ ns) (sym eu) ∙ d) in
         grind (arith, common_steps)
 
--- so the place of a name that stands at i is i
+-- so the index of a name that stands at i is i
 pub position_in : (names : List (List ℕ)) (i : ℕ) (name : List ℕ) → all_differ names ≡ true → i < length names → get_or names i [] ≡ name → position (bytes_eq name) names ≡ Some i
 position_in names i name d h e =
-    let p : position_or_len (bytes_eq name) names ≡ i = subst (λ x. position_or_len (bytes_eq x) names ≡ i) e (place_in names i d h) in
+    let p : position_or_len (bytes_eq name) names ≡ i = subst (λ x. position_or_len (bytes_eq x) names ≡ i) e (index_in names i d h) in
     grind (arith, common_steps)
 
--- a name that is not there has no place
+-- a name that is not there has no index
 pub position_out : (names : List (List ℕ)) (name : List ℕ) → has_text name names ≡ false → position (bytes_eq name) names ≡ None
 position_out names name h = by (nat_lt (position_or_len (bytes_eq name) names) (length names)) refl
   where

@@ -12,13 +12,13 @@ decimal_one n h = decimal_digit n h
 pub decimal_two : (n : ℕ) → 10 ≤ n → n < 100 → decimal n ≡ (48 + n / 10) ∷ (48 + n % 10) ∷ []
 decimal_two n l h =
     let big : n < 2 ^ 64 = omega arith in
-    decimal_step n l big ∙ ap (λ front. front ++ (48 + n % 10) ∷ []) (decimal_digit (n / 10) (omega arith))
+    decimal_step n l big ∙ ap (λ prefix. prefix ++ (48 + n % 10) ∷ []) (decimal_digit (n / 10) (omega arith))
 
 pub decimal_three : (n : ℕ) → 100 ≤ n → n < 1000 → decimal n ≡ (48 + n / 100) ∷ (48 + n / 10 % 10) ∷ (48 + n % 10) ∷ []
 decimal_three n l h =
     let big : n < 2 ^ 64 = omega arith in
     let same : n / 10 / 10 ≡ n / 100 = omega arith in
-    decimal_step n (omega arith) big ∙ ap (λ front. front ++ (48 + n % 10) ∷ []) (decimal_two (n / 10) (omega arith) (omega arith) ∙ ap (λ k. (48 + k) ∷ (48 + n / 10 % 10) ∷ []) same)
+    decimal_step n (omega arith) big ∙ ap (λ prefix. prefix ++ (48 + n % 10) ∷ []) (decimal_two (n / 10) (omega arith) (omega arith) ∙ ap (λ k. (48 + k) ∷ (48 + n / 10 % 10) ∷ []) same)
 
 -- n and a digit begin no reserved word
 pub digit_plain : (d : ℕ) (ds : List ℕ) → d < 10 → has_text (110 ∷ (48 + d) ∷ ds) reserved ≡ false

@@ -49,9 +49,9 @@ number_is most w n l h = by (nat_lt 0 (length w) && not (has_needless_zero w) &&
     by false e h = none_some h
     by true e h =
         let r = in_range (nat_le (value w) most) refl h in
-        let front = and_left (nat_lt 0 (length w) && not (has_needless_zero w)) (list_all is_digit w) e in
-        let some = ltb-true 0 (length w) (and_left (nat_lt 0 (length w)) (not (has_needless_zero w)) front) in
-        let plain = and_right (nat_lt 0 (length w)) (not (has_needless_zero w)) front in
+        let prefix = and_left (nat_lt 0 (length w) && not (has_needless_zero w)) (list_all is_digit w) e in
+        let some = ltb-true 0 (length w) (and_left (nat_lt 0 (length w)) (not (has_needless_zero w)) prefix) in
+        let plain = and_right (nat_lt 0 (length w)) (not (has_needless_zero w)) prefix in
         let digits = and_right (nat_lt 0 (length w) && not (has_needless_zero w)) (list_all is_digit w) e in
         let small : value w < 2 ^ 64 = omega (arith, leb-true (value w) most r.1, l) in
         record { same = sym (ap decimal (sym r.0) ∙ decimal-digits_value own w digits some (no_zero w plain some) small); within = subst (λ m. nat_le m most ≡ true) r.0 r.1 }

@@ -12,23 +12,23 @@ use Rattle.sg_model.specs.Lists.{has_text, all_differ}
 use Rattle.sg_model.proofs.Small.{and_left, and_right, some_same}
 use Rattle.sg_base.specs.Words.{name, number}
 use Rattle.sg_sched.specs.Words.{names, frame}
-use Rattle.sg_sched.specs.Format.Said.{Word, Given, Said, SaidEdge, SaidSession, SaidAct, SaidDeliver, TheFrame, TheFlipped, TheCut, TheBytes, line_words, joined_names, given_word, version_words}
+use Rattle.sg_sched.specs.Format.Said.{Word, Given, LineContent, SaidEdge, SaidSession, SaidAct, SaidDeliver, TheFrame, TheFlipped, TheCut, TheBytes, line_words, joined_names, given_word, version_words}
 use Rattle.sg_sched.specs.Format.Forms.{is_form, is_given, is_wide, is_short, are_names}
 use Rattle.sg_sched.specs.Format.Values.{is_value, is_hex}
-use Rattle.sg_sched.specs.Format.Reading.{Left, Taker, word, after, ended, edge_form, edge_of, session_form, version, act_form, given, given_of, givens, split_at, split_step, hex, short, frame_form, what_form, deliver_form}
+use Rattle.sg_sched.specs.Format.Reading.{WordsLeft, Taker, word, after, ended, edge_form, edge_of, session_form, version, act_form, given, given_of, givens, split_at, split_step, hex, short, frame_form, what_form, deliver_form}
 use Rattle.sg_sched.proofs.FormatWords.{both, same_self, lacks, name_lacks, name_list, name_list-joined}
 use Rattle.sg_sched.proofs.FormLaws.{none_some, step, ended_is, line_up, name_is, name_ok, Fits, fits}
 use Rattle.sg_sched.proofs.NumberLaws.{number_is, number_ok, frame_is, frame_ok, short_is, is_short_of, wide_is, is_wide_of}
 
 -- ---- edges
 
-edge_by : (ws : Left) (label : Name) (from to : ℕ) (s : Said) → ws ≡ label ∷ decimal from ∷ decimal to ∷ [] → is_name label ≡ true → nat_le from 255 ≡ true → nat_le to 255 ≡ true
+edge_by : (ws : WordsLeft) (label : Name) (from to : ℕ) (s : LineContent) → ws ≡ label ∷ decimal from ∷ decimal to ∷ [] → is_name label ≡ true → nat_le from 255 ≡ true → nat_le to 255 ≡ true
     → (taken same : Bool) → has_text label reserved ≡ taken → (from % 2 == to % 2) ≡ same → (if taken then None else if same then None else Some (SaidEdge label from to)) ≡ Some s → Fits (codes "edge" ∷ ws) s
 edge_by ws label from to s w n f t true same p q h = none_some h
 edge_by ws label from to s w n f t false true p q h = none_some h
 edge_by ws label from to s w n f t false false p q h = fits {s = SaidEdge label from to} (ap (λ r. codes "edge" ∷ r) w) (both (both (both (both n (ap not p)) f) t) (ap not q)) h
 
-pub edge_sound : (ws : Left) (s : Said) → edge_form ws ≡ Some s → Fits (codes "edge" ∷ ws) s
+pub edge_sound : (ws : WordsLeft) (s : LineContent) → edge_form ws ≡ Some s → Fits (codes "edge" ∷ ws) s
 unfolding edge_form
 edge_sound ws s h =
     let a = step name (λ label. after (word (number 255)) λ from. after (word (number 255)) λ to. ended (edge_of label from to)) ws s h in
@@ -88,41 +88,41 @@ names_are w ns h = by (list_all is_name (name_list w) && all_differ (name_list w
 
 -- ---- sessions
 
-record VersionIs (ws : Left) (v : ℕ) (rest : Left) : Type 0 where
+record VersionIs (ws : WordsLeft) (v : ℕ) (rest : WordsLeft) : Type 0 where
   pub all : ws ≡ version_words v ++ rest
   pub known : (v == 1 || v == 2) ≡ true
 
 -- version 2, and the words that are left
-abbrev second : Left → Option (ℕ × Left)
+abbrev second : WordsLeft → Option (ℕ × WordsLeft)
 second ws = Some (2, ws)
 
-version_is : (ws rest : Left) (v : ℕ) → version ws ≡ Some (v, rest) → VersionIs ws v rest
+version_is : (ws rest : WordsLeft) (v : ℕ) → version ws ≡ Some (v, rest) → VersionIs ws v rest
 unfolding version
-version_is [] rest v h = let e = some_same h in subst (λ (p : ℕ × Left). VersionIs [] p.0 p.1) e (record { all = refl; known = refl })
+version_is [] rest v h = let e = some_same h in subst (λ (p : ℕ × WordsLeft). VersionIs [] p.0 p.1) e (record { all = refl; known = refl })
 version_is (w ∷ ws) rest v h = by (bytes_eq w (codes "v2")) refl h
   where
     by : (b : Bool) → bytes_eq w (codes "v2") ≡ b → (if b then second ws else None) ≡ Some (v, rest) → VersionIs (w ∷ ws) v rest
-    by true e h = subst (λ (p : ℕ × Left). VersionIs (w ∷ ws) p.0 p.1) (some_same h) (record { all = ap (λ x. x ∷ ws) ((bytes_eq-Decides w (codes "v2")).0 e); known = refl })
+    by true e h = subst (λ (p : ℕ × WordsLeft). VersionIs (w ∷ ws) p.0 p.1) (some_same h) (record { all = ap (λ x. x ∷ ws) ((bytes_eq-Decides w (codes "v2")).0 e); known = refl })
     by false e h = none_some h
 
 -- after a version, the words behind it
-record Versioned (next : ℕ → Left → Option Said) (ws : Left) (s : Said) : Type 0 where
+record Versioned (next : ℕ → WordsLeft → Option LineContent) (ws : WordsLeft) (s : LineContent) : Type 0 where
   pub version : ℕ
-  pub rest : Left
+  pub rest : WordsLeft
   pub is : VersionIs ws version rest
   pub more : next version rest ≡ Some s
 
-versioned : (next : ℕ → Left → Option Said) (ws : Left) (s : Said) → after version next ws ≡ Some s → Versioned next ws s
+versioned : (next : ℕ → WordsLeft → Option LineContent) (ws : WordsLeft) (s : LineContent) → after version next ws ≡ Some s → Versioned next ws s
 versioned next ws s h = by (version ws) refl h
   where
-    by : (o : Option (ℕ × Left)) → version ws ≡ o → option_and_then (λ (p : ℕ × Left). next p.0 p.1) o ≡ Some s → Versioned next ws s
+    by : (o : Option (ℕ × WordsLeft)) → version ws ≡ o → option_and_then (λ (p : ℕ × WordsLeft). next p.0 p.1) o ≡ Some s → Versioned next ws s
     by None e h = none_some h
     by (Some p) e h = record { version = p.0; rest = p.1; is = version_is ws p.1 p.0 e; more = h }
 
-nothing_behind : (xs : Left) {ws rest : Left} → ws ≡ xs ++ rest → rest ≡ [] → ws ≡ xs
-nothing_behind xs e h = e ∙ ap (λ (r : Left). xs ++ r) h ∙ append-nil xs
+nothing_behind : (xs : WordsLeft) {ws rest : WordsLeft} → ws ≡ xs ++ rest → rest ≡ [] → ws ≡ xs
+nothing_behind xs e h = e ∙ ap (λ (r : WordsLeft). xs ++ r) h ∙ append-nil xs
 
-pub session_sound : (ws : Left) (s : Said) → session_form ws ≡ Some s → Fits (codes "session" ∷ ws) s
+pub session_sound : (ws : WordsLeft) (s : LineContent) → session_form ws ≡ Some s → Fits (codes "session" ∷ ws) s
 unfolding session_form
 session_sound ws s h =
     let a = step name (λ session. after (word name) λ graph. after (word (number 18446744073709551615)) λ nonce. after (word names) λ cast. after version λ version. ended (Some (SaidSession session graph nonce cast version))) ws s h in
@@ -185,7 +185,7 @@ pub given_ok : (v : Given) → is_given v ≡ true → given (given_word v) ≡ 
 unfolding given
 given_ok v h = ap (option_and_then given_of) (split_ok 61 v.variable v.value (name_lacks 61 v.variable refl (and_left (is_name v.variable) (is_value v.value) h))) ∙ ap (λ b. if b then Some v else None) h
 
-pub givens_are : (ws : Left) (vs : List Given) → givens ws ≡ Some vs → (ws ≡ map given_word vs) × (list_all is_given vs ≡ true)
+pub givens_are : (ws : WordsLeft) (vs : List Given) → givens ws ≡ Some vs → (ws ≡ map given_word vs) × (list_all is_given vs ≡ true)
 givens_are [] vs h = subst (λ (vs : List Given). ([] ≡ map given_word vs) × (list_all is_given vs ≡ true)) (some_same h) (refl, refl)
 givens_are (w ∷ ws) vs h = first (given w) refl (λ us f. givens_are ws us f) h
   where
@@ -204,7 +204,7 @@ pub givens_ok : (vs : List Given) → list_all is_given vs ≡ true → givens (
 givens_ok [] h = refl
 givens_ok (v ∷ vs) h = rw (given_ok v (and_left (is_given v) (list_all is_given vs) h), givens_ok vs (and_right (is_given v) (list_all is_given vs) h)) refl
 
-pub act_sound : (ws : Left) (s : Said) → act_form ws ≡ Some s → Fits (codes "act" ∷ ws) s
+pub act_sound : (ws : WordsLeft) (s : LineContent) → act_form ws ≡ Some s → Fits (codes "act" ∷ ws) s
 unfolding act_form
 act_sound ws s h =
     let a = step name (λ who. after (word name) λ session. after (word name) λ label. λ ws. option_map (SaidAct who session label) (givens ws)) ws s h in
@@ -213,9 +213,9 @@ act_sound ws s h =
     let l = name_is a.first a.value a.was in
     let m = name_is b.first b.value b.was in
     let n = name_is d.first d.value d.was in
-    by a.value b.value d.value d.rest (λ (r : Left) e. ap (λ r. codes "act" ∷ r) (line_up a.all l.same (line_up b.all m.same (line_up d.all n.same e)))) (both l.name (both m.name (both n.name refl))) (givens d.rest) refl d.more
+    by a.value b.value d.value d.rest (λ (r : WordsLeft) e. ap (λ r. codes "act" ∷ r) (line_up a.all l.same (line_up b.all m.same (line_up d.all n.same e)))) (both l.name (both m.name (both n.name refl))) (givens d.rest) refl d.more
   where
-    by : (who session label : Name) (rest : Left) → ((r : Left) → rest ≡ r → (codes "act" ∷ ws) ≡ codes "act" ∷ who ∷ session ∷ label ∷ r) → are_names (who ∷ session ∷ label ∷ []) ≡ true
+    by : (who session label : Name) (rest : WordsLeft) → ((r : WordsLeft) → rest ≡ r → (codes "act" ∷ ws) ≡ codes "act" ∷ who ∷ session ∷ label ∷ r) → are_names (who ∷ session ∷ label ∷ []) ≡ true
         → (o : Option (List Given)) → givens rest ≡ o → option_map (SaidAct who session label) o ≡ Some s → Fits (codes "act" ∷ ws) s
     by who session label rest w n None e h = none_some h
     by who session label rest w n (Some vs) e h = let g = givens_are rest vs e in fits {s = SaidAct who session label vs} (w (map given_word vs) g.0) (both n g.1) h

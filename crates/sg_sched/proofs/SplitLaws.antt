@@ -4,9 +4,9 @@ use Rattle.std.proofs.lemmas.Grind.{common_steps}
 use Rattle.std.proofs.lemmas.List.{take_all}
 use Rattle.sg_sched.specs.Format.Said.{Word}
 use Rattle.sg_sched.specs.Format.Reading.{split_at, split_step}
-use Rattle.sg_sched.proofs.TextLaws.{place, place_yes, place_no}
+use Rattle.sg_sched.proofs.TextLaws.{index, index_yes, index_no}
 
--- what stands before place n and behind it, where there is such a place
+-- what stands before index n and behind it, where there is such an index
 abbrev pub split_there : ℕ → Word → Option (Word × Word)
 split_there n w = if nat_lt n (length w) then Some (take n w, drop (n + 1) w) else None
 
@@ -20,7 +20,7 @@ there_no c cs n m e = by (nat_lt n (length cs)) refl
     by true h = let there : nat_lt (suc n) (length (c ∷ cs)) ≡ true = grind (arith, common_steps) in let next : suc n + 1 ≡ suc (n + 1) = omega arith in rw (h, e, there, next) refl
     by false h = let there : nat_lt (suc n) (length (c ∷ cs)) ≡ false = grind (arith, common_steps) in rw (h, e, there) refl
 
-pub splits : (mark : ℕ) (w : Word) → split_at mark w ≡ split_there (place mark w) w
+pub splits : (mark : ℕ) (w : Word) → split_at mark w ≡ split_there (index mark w) w
 splits mark [] = refl
 splits mark (c ∷ cs) = by (c == mark) refl (splits mark cs)
   where
@@ -30,9 +30,9 @@ splits mark (c ∷ cs) = by (c == mark) refl (splits mark cs)
     before : (b : Bool) → (c == mark) ≡ b → b ≡ false → split_at mark (c ∷ cs) ≡ option_map (λ (p : Word × Word). (c ∷ p.0, p.1)) (split_at mark cs)
     before b e t = rw (e, t) refl
 
-    by : (b : Bool) → (c == mark) ≡ b → split_at mark cs ≡ split_there (place mark cs) cs → split_at mark (c ∷ cs) ≡ split_there (place mark (c ∷ cs)) (c ∷ cs)
-    by true e ih = at_mark true e refl ∙ there_yes c cs _ (place_yes mark c cs e)
-    by false e ih = before false e refl ∙ ap (option_map (λ (p : Word × Word). (c ∷ p.0, p.1))) ih ∙ there_no c cs _ _ (place_no mark c cs e)
+    by : (b : Bool) → (c == mark) ≡ b → split_at mark cs ≡ split_there (index mark cs) cs → split_at mark (c ∷ cs) ≡ split_there (index mark (c ∷ cs)) (c ∷ cs)
+    by true e ih = at_mark true e refl ∙ there_yes c cs _ (index_yes mark c cs e)
+    by false e ih = before false e refl ∙ ap (option_map (λ (p : Word × Word). (c ∷ p.0, p.1))) ih ∙ there_no c cs _ _ (index_no mark c cs e)
 
 drop_twice : (n : ℕ) (w : Word) → drop 1 (drop n w) ≡ drop (n + 1) w
 drop_twice zero w = refl
@@ -40,13 +40,13 @@ drop_twice (suc n) [] = let next : suc n + 1 ≡ suc (n + 1) = omega arith in rw
 drop_twice (suc n) (c ∷ cs) = let next : suc n + 1 ≡ suc (n + 1) = omega arith in rw next (drop_twice n cs)
 
 -- where there is no mark
-pub split_none : (mark n : ℕ) (w : Word) → n ≡ place mark w → length (drop n w) < 1 → split_at mark w ≡ None
+pub split_none : (mark n : ℕ) (w : Word) → n ≡ index mark w → length (drop n w) < 1 → split_at mark w ≡ None
 split_none mark n w e h =
     let there : nat_lt n (length w) ≡ false = grind (arith, common_steps) in
     splits mark w ∙ ap (λ m. split_there m w) (sym e) ∙ ap (λ b. if b then Some (take n w, drop (n + 1) w) else None) there
 
 -- where there is one
-pub split_some : (mark n : ℕ) (w : Word) → n ≡ place mark w → 1 ≤ length (drop n w) → split_at mark w ≡ Some (take n w, take (length (drop n w) - 1) (drop 1 (drop n w)))
+pub split_some : (mark n : ℕ) (w : Word) → n ≡ index mark w → 1 ≤ length (drop n w) → split_at mark w ≡ Some (take n w, take (length (drop n w) - 1) (drop 1 (drop n w)))
 split_some mark n w e h =
     let there : nat_lt n (length w) ≡ true = grind (arith, common_steps) in
     let behind : drop 1 (drop n w) ≡ drop (n + 1) w = drop_twice n w in

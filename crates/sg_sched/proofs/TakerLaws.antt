@@ -9,10 +9,10 @@ use Rattle.sg_model.specs.Names.{Name, is_name}
 use Rattle.sg_model.proofs.Small.{some_same}
 use Rattle.sg_base.specs.Words.{name, number}
 use Rattle.sg_sched.specs.Words.{frame}
-use Rattle.sg_sched.specs.Format.Said.{Word, Committed, From, FromKey, FromItem, FromSeal, FromZero, SaidItem, committed_word, from_words, tag_words, item_words}
+use Rattle.sg_sched.specs.Format.Said.{Word, Committed, From, FromKey, FromItem, FromSeal, FromZero, ItemContent, committed_word, from_words, tag_words, item_words}
 use Rattle.sg_sched.specs.Format.Forms.{is_committed, is_source, is_tag, is_item, is_wide, is_short, is_frame, are_committed}
 use Rattle.sg_sched.specs.Format.Values.{is_value}
-use Rattle.sg_sched.specs.Format.Reading.{Left, Taker, word, after, ended, split_at}
+use Rattle.sg_sched.specs.Format.Reading.{WordsLeft, Taker, word, after, ended, split_at}
 use Rattle.sg_sched.specs.Format.CraftReading.{split_last, last_step, committed, behind_equal, time, run, run_step, few, copy_source, source, repeated, more_after, tag, item, is_next}
 use Rattle.sg_sched.proofs.FormatWords.{both, same_self}
 use Rattle.sg_sched.proofs.FormLaws.{none_some, step, Step, line_up, name_is, name_ok}
@@ -22,30 +22,30 @@ use Rattle.sg_sched.proofs.PartLaws.{split_is}
 -- ---- steps
 
 -- something was taken, and then what is behind it
-pub record Taken {A B : Type 0} (take : Taker A) (next : A → Left → Option B) (ws : Left) (y : B) : Type 0 where
+pub record Taken {A B : Type 0} (take : Taker A) (next : A → WordsLeft → Option B) (ws : WordsLeft) (y : B) : Type 0 where
   pub value : A
-  pub rest : Left
+  pub rest : WordsLeft
   pub was : take ws ≡ Some (value, rest)
   pub more : next value rest ≡ Some y
 
-pub taken_is : {A B : Type 0} (take : Taker A) (next : A → Left → Option B) (ws : Left) (y : B) → after take next ws ≡ Some y → Taken take next ws y
+pub taken_is : {A B : Type 0} (take : Taker A) (next : A → WordsLeft → Option B) (ws : WordsLeft) (y : B) → after take next ws ≡ Some y → Taken take next ws y
 taken_is {A} {B} take next ws y h = by (take ws) refl h
   where
-    by : (o : Option (A × Left)) → take ws ≡ o → option_and_then (λ (p : A × Left). next p.0 p.1) o ≡ Some y → Taken take next ws y
+    by : (o : Option (A × WordsLeft)) → take ws ≡ o → option_and_then (λ (p : A × WordsLeft). next p.0 p.1) o ≡ Some y → Taken take next ws y
     by None e h = none_some h
     by (Some p) e h = record { value = p.0; rest = p.1; was = e; more = h }
 
 -- what was taken, and the words behind it
-abbrev pub taken_of : {A : Type 0} → A → Left → Option (A × Left)
+abbrev pub taken_of : {A : Type 0} → A → WordsLeft → Option (A × WordsLeft)
 taken_of x r = Some (x, r)
 
 -- the words in front are those of what was taken, which is as it may be
-pub record Took {A : Type 0} (print : A → Left) (ok : A → Bool) (ws : Left) (x : A) (rest : Left) : Type 0 where
+pub record Took {A : Type 0} (print : A → WordsLeft) (ok : A → Bool) (ws : WordsLeft) (x : A) (rest : WordsLeft) : Type 0 where
   pub words : ws ≡ print x ++ rest
   pub form : ok x ≡ true
 
-pub took : {A : Type 0} (print : A → Left) (ok : A → Bool) {ws : Left} {x y : A} {r rest : Left} → ws ≡ print x ++ r → ok x ≡ true → taken_of x r ≡ taken_of y rest → Took print ok ws y rest
-took {A} print ok {ws = ws} w f h = subst (λ (p : A × Left). Took print ok ws p.0 p.1) (some_same h) (record { words = w; form = f })
+pub took : {A : Type 0} (print : A → WordsLeft) (ok : A → Bool) {ws : WordsLeft} {x y : A} {r rest : WordsLeft} → ws ≡ print x ++ r → ok x ≡ true → taken_of x r ≡ taken_of y rest → Took print ok ws y rest
+took {A} print ok {ws = ws} w f h = subst (λ (p : A × WordsLeft). Took print ok ws p.0 p.1) (some_same h) (record { words = w; form = f })
 
 -- ---- commitments
 
@@ -90,10 +90,10 @@ committed_is w c h = first (split_at 61 w) refl h
     first (Some p) e h = second p.0 p.1 (split_is 61 w p.0 p.1 e) (split_last 35 p.1) refl h
 
 -- the words of commitments
-abbrev pub run_words : List Committed → Left
+abbrev pub run_words : List Committed → WordsLeft
 run_words cs = map committed_word cs
 
-pub run_is : (ws : Left) → Took run_words (list_all is_committed) ws (run ws).0 (run ws).1
+pub run_is : (ws : WordsLeft) → Took run_words (list_all is_committed) ws (run ws).0 (run ws).1
 run_is [] = record { words = refl; form = refl }
 run_is (w ∷ ws) = by (committed w) refl (run_is ws)
   where
@@ -104,14 +104,14 @@ run_is (w ∷ ws) = by (committed w) refl (run_is ws)
 -- ---- sources
 
 -- the item's number, and the role behind it
-abbrev copy_role : ℕ → ℕ → Left → Option (From × Left)
+abbrev copy_role : ℕ → ℕ → WordsLeft → Option (From × WordsLeft)
 copy_role n item ws = after (word name) (λ role rest. Some (FromItem n item role, rest)) ws
 
 -- the frame's tag
-abbrev copy_seal : ℕ → Left → Option (From × Left)
+abbrev copy_seal : ℕ → WordsLeft → Option (From × WordsLeft)
 copy_seal n ws = Some (FromSeal n, ws)
 
-copy_is : (n : ℕ) (f : Word) (ws : Left) (s : From) (rest : Left) → f ≡ 102 ∷ decimal n → is_frame n ≡ true → copy_source n ws ≡ Some (s, rest) → Took from_words is_source (codes "copy" ∷ f ∷ ws) s rest
+copy_is : (n : ℕ) (f : Word) (ws : WordsLeft) (s : From) (rest : WordsLeft) → f ≡ 102 ∷ decimal n → is_frame n ≡ true → copy_source n ws ≡ Some (s, rest) → Took from_words is_source (codes "copy" ∷ f ∷ ws) s rest
 unfolding copy_source
 copy_is n f [] s rest e k h = none_some h
 copy_is n f (w ∷ ws) s rest e k h = by (bytes_eq w (codes "seal")) refl h
@@ -129,13 +129,13 @@ copy_is n f (w ∷ ws) s rest e k h = by (bytes_eq w (codes "seal")) refl h
     by false q h = numbered (number 4294967295 w) refl h
 
 -- NAME NAME, and no more
-abbrev key_source : Left → Option (From × Left)
+abbrev key_source : WordsLeft → Option (From × WordsLeft)
 key_source ws = after (word name) (λ one. after (word name) (λ two rest. Some (FromKey one two, rest))) ws
 
-abbrev zero_source : Left → Option (From × Left)
+abbrev zero_source : WordsLeft → Option (From × WordsLeft)
 zero_source ws = Some (FromZero, ws)
 
-pub source_is : (ws : Left) (s : From) (rest : Left) → source ws ≡ Some (s, rest) → Took from_words is_source ws s rest
+pub source_is : (ws : WordsLeft) (s : From) (rest : WordsLeft) → source ws ≡ Some (s, rest) → Took from_words is_source ws s rest
 unfolding source
 source_is [] s rest h = none_some h
 source_is (w ∷ ws) s rest h = by (bytes_eq w (codes "key")) (bytes_eq w (codes "copy")) (bytes_eq w (codes "zero")) refl refl refl h
@@ -159,36 +159,36 @@ source_is (w ∷ ws) s rest h = by (bytes_eq w (codes "key")) (bytes_eq w (codes
 -- ---- what is repeated
 
 -- the word and what is printed behind it, for each
-abbrev pub printed : {A : Type 0} → List ℕ → (A → Left) → List A → Left
+abbrev pub printed : {A : Type 0} → List ℕ → (A → WordsLeft) → List A → WordsLeft
 printed first print xs = flat_map (λ x. first ∷ print x) xs
 
-pub record TookAll {A : Type 0} (first : List ℕ) (print : A → Left) (ok : A → Bool) (n : ℕ) (ws : Left) (xs : List A) (rest : Left) : Type 0 where
+pub record TookAll {A : Type 0} (first : List ℕ) (print : A → WordsLeft) (ok : A → Bool) (n : ℕ) (ws : WordsLeft) (xs : List A) (rest : WordsLeft) : Type 0 where
   pub words : ws ≡ printed first print xs ++ rest
   pub form : list_all ok xs ≡ true
   pub few : length xs ≤ n
 
 -- nothing is taken
-abbrev nothing_taken : {A : Type 0} → Left → Option (List A × Left)
+abbrev nothing_taken : {A : Type 0} → WordsLeft → Option (List A × WordsLeft)
 nothing_taken ws = Some ([], ws)
 
-none_taken : {A : Type 0} (first : List ℕ) (print : A → Left) (ok : A → Bool) (n : ℕ) (ws : Left) (xs : List A) (rest : Left) → taken_of [] ws ≡ taken_of xs rest → TookAll first print ok n ws xs rest
-none_taken {A} first print ok n ws xs rest h = subst (λ (p : List A × Left). TookAll first print ok n ws p.0 p.1) (some_same h) (record { words = refl; form = refl; few = omega arith })
+none_taken : {A : Type 0} (first : List ℕ) (print : A → WordsLeft) (ok : A → Bool) (n : ℕ) (ws : WordsLeft) (xs : List A) (rest : WordsLeft) → taken_of [] ws ≡ taken_of xs rest → TookAll first print ok n ws xs rest
+none_taken {A} first print ok n ws xs rest h = subst (λ (p : List A × WordsLeft). TookAll first print ok n ws p.0 p.1) (some_same h) (record { words = refl; form = refl; few = omega arith })
 
-pub repeated_is : {A : Type 0} (first : List ℕ) (take : Taker A) (print : A → Left) (ok : A → Bool) → ((ws : Left) (x : A) (rest : Left) → take ws ≡ Some (x, rest) → Took print ok ws x rest)
-    → (n : ℕ) (ws : Left) (xs : List A) (rest : Left) → repeated first take n ws ≡ Some (xs, rest) → TookAll first print ok n ws xs rest
+pub repeated_is : {A : Type 0} (first : List ℕ) (take : Taker A) (print : A → WordsLeft) (ok : A → Bool) → ((ws : WordsLeft) (x : A) (rest : WordsLeft) → take ws ≡ Some (x, rest) → Took print ok ws x rest)
+    → (n : ℕ) (ws : WordsLeft) (xs : List A) (rest : WordsLeft) → repeated first take n ws ≡ Some (xs, rest) → TookAll first print ok n ws xs rest
 repeated_is first take print ok is zero ws xs rest h = none_taken first print ok zero ws xs rest h
 repeated_is first take print ok is (suc n) [] xs rest h = none_taken first print ok (suc n) [] xs rest h
 repeated_is {A} first take print ok is (suc n) (w ∷ ws) xs rest h = by (bytes_eq w first) refl (λ ws xs e. repeated_is first take print ok is n ws xs rest e) h
   where
-    more : (x : A) (r : Left) → w ≡ first → Took print ok ws x r → (o : Option (List A × Left)) → ((ys : List A) → o ≡ Some (ys, rest) → TookAll first print ok n r ys rest) → more_after x o ≡ Some (xs, rest) → TookAll first print ok (suc n) (w ∷ ws) xs rest
+    more : (x : A) (r : WordsLeft) → w ≡ first → Took print ok ws x r → (o : Option (List A × WordsLeft)) → ((ys : List A) → o ≡ Some (ys, rest) → TookAll first print ok n r ys rest) → more_after x o ≡ Some (xs, rest) → TookAll first print ok (suc n) (w ∷ ws) xs rest
     more x r e t None ih h = none_some h
     more x r e t (Some p) ih h =
         let same = some_same h in
-        let front = ih p.0 (ap (λ (q : List A × Left). taken_of p.0 q.1) same) in
-        let words : (w ∷ ws) ≡ printed first print (x ∷ p.0) ++ rest = (λ i. e i ∷ (t.words ∙ ap (λ (r : Left). print x ++ r) front.words ∙ sym (append_assoc (print x) (printed first print p.0) rest)) i) in
-        subst (λ (ys : List A). TookAll first print ok (suc n) (w ∷ ws) ys rest) (ap (λ (q : List A × Left). q.0) same) (record { words = words; form = both t.form front.form; few = omega (arith, front.few) })
+        let prefix = ih p.0 (ap (λ (q : List A × WordsLeft). taken_of p.0 q.1) same) in
+        let words : (w ∷ ws) ≡ printed first print (x ∷ p.0) ++ rest = (λ i. e i ∷ (t.words ∙ ap (λ (r : WordsLeft). print x ++ r) prefix.words ∙ sym (append_assoc (print x) (printed first print p.0) rest)) i) in
+        subst (λ (ys : List A). TookAll first print ok (suc n) (w ∷ ws) ys rest) (ap (λ (q : List A × WordsLeft). q.0) same) (record { words = words; form = both t.form prefix.form; few = omega (arith, prefix.few) })
 
-    by : (b : Bool) → bytes_eq w first ≡ b → ((ws : Left) (xs : List A) → repeated first take n ws ≡ Some (xs, rest) → TookAll first print ok n ws xs rest)
+    by : (b : Bool) → bytes_eq w first ≡ b → ((ws : WordsLeft) (xs : List A) → repeated first take n ws ≡ Some (xs, rest) → TookAll first print ok n ws xs rest)
         → (if b then after take (λ x rest. more_after x (repeated first take n rest)) ws else nothing_taken (w ∷ ws)) ≡ Some (xs, rest) → TookAll first print ok (suc n) (w ∷ ws) xs rest
     by true e ih h =
         let a = taken_is take (λ x rest. more_after x (repeated first take n rest)) ws (xs, rest) h in

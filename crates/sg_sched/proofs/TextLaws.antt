@@ -6,13 +6,13 @@ use Rattle.std.proofs.lemmas.List.{length-take-le, take_all}
 use Rattle.std.proofs.lemmas.List.Splits.{slice_split-cons_yes, slice_split-cons_no}
 use Rattle.sg_sched.specs.Text.{lines, words}
 
--- the place of the first mark
-abbrev pub place : ℕ → List ℕ → ℕ
-place mark bs = position_or_len (λ b. b == mark) bs
+-- the index of the first mark
+abbrev pub index : ℕ → List ℕ → ℕ
+index mark bs = position_or_len (λ b. b == mark) bs
 
 -- the first line and the lines after it
 abbrev FirstLine : List ℕ → Type 0
-FirstLine bs = lines bs ≡ take (place 10 bs + 1) bs ∷ lines (drop (place 10 bs + 1) bs)
+FirstLine bs = lines bs ≡ take (index 10 bs + 1) bs ∷ lines (drop (index 10 bs + 1) bs)
 
 first_onto : (c : ℕ) (cs : List ℕ) → (0 < length cs → FirstLine cs) → (c == 10) ≡ false → FirstLine (c ∷ cs)
 first_onto c [] ih e = grind (arith, common_steps)
@@ -33,14 +33,14 @@ parts_after mark (c ∷ cs) = slice_split (λ b. b == mark) cs
 
 -- the first part and the parts after it
 abbrev FirstPart : ℕ → List ℕ → Type 0
-FirstPart mark bs = slice_split (λ b. b == mark) bs ≡ take (place mark bs) bs ∷ parts_after mark (drop (place mark bs) bs)
+FirstPart mark bs = slice_split (λ b. b == mark) bs ≡ take (index mark bs) bs ∷ parts_after mark (drop (index mark bs) bs)
 
 -- at a mark, and before the mark
-pub place_yes : (mark c : ℕ) (cs : List ℕ) → (c == mark) ≡ true → place mark (c ∷ cs) ≡ 0
-place_yes mark c cs e = grind (arith, common_steps)
+pub index_yes : (mark c : ℕ) (cs : List ℕ) → (c == mark) ≡ true → index mark (c ∷ cs) ≡ 0
+index_yes mark c cs e = grind (arith, common_steps)
 
-pub place_no : (mark c : ℕ) (cs : List ℕ) → (c == mark) ≡ false → place mark (c ∷ cs) ≡ suc (place mark cs)
-place_no mark c cs e = grind (arith, common_steps)
+pub index_no : (mark c : ℕ) (cs : List ℕ) → (c == mark) ≡ false → index mark (c ∷ cs) ≡ suc (index mark cs)
+index_no mark c cs e = grind (arith, common_steps)
 
 part_more : (mark c : ℕ) (cs : List ℕ) (n m : ℕ) → m ≡ suc n → slice_split (λ b. b == mark) cs ≡ take n cs ∷ parts_after mark (drop n cs) →
     onto_first c (slice_split (λ b. b == mark) cs) ≡ take m (c ∷ cs) ∷ parts_after mark (drop m (c ∷ cs))
@@ -54,8 +54,8 @@ parts_first mark [] = refl
 parts_first mark (c ∷ cs) = by (c == mark) refl (parts_first mark cs)
   where
     by : (b : Bool) → (c == mark) ≡ b → FirstPart mark cs → FirstPart mark (c ∷ cs)
-    by true e ih = part_none mark c cs _ (place_yes mark c cs e) (slice_split-cons_yes (λ b. b == mark) c cs e)
-    by false e ih = slice_split-cons_no (λ b. b == mark) c cs e ∙ part_more mark c cs _ _ (place_no mark c cs e) ih
+    by true e ih = part_none mark c cs _ (index_yes mark c cs e) (slice_split-cons_yes (λ b. b == mark) c cs e)
+    by false e ih = slice_split-cons_no (λ b. b == mark) c cs e ∙ part_more mark c cs _ _ (index_no mark c cs e) ih
 
 -- behind a mark, as a part of what begins with it
 pub parts_behind : (mark : ℕ) (bs : List ℕ) → 1 ≤ length bs → parts_after mark bs ≡ slice_split (λ b. b == mark) (take (length bs - 1) (drop 1 bs))
@@ -68,7 +68,7 @@ full parts = filter (λ w. nat_lt 0 (length w)) parts
 
 -- from a space on, or at the end, the words are those behind it
 abbrev WordsAfter : List ℕ → Type 0
-WordsAfter bs = full (parts_after 32 (drop (place 32 bs) bs)) ≡ words (drop (place 32 bs) bs)
+WordsAfter bs = full (parts_after 32 (drop (index 32 bs) bs)) ≡ words (drop (index 32 bs) bs)
 
 words_yes : (c : ℕ) (cs : List ℕ) (m : ℕ) → m ≡ 0 → words (c ∷ cs) ≡ words cs → full (parts_after 32 (drop m (c ∷ cs))) ≡ words (drop m (c ∷ cs))
 words_yes c cs m e h = rw e (sym h)
@@ -81,12 +81,12 @@ words_after [] = refl
 words_after (c ∷ cs) = by (c == 32) refl (words_after cs)
   where
     by : (b : Bool) → (c == 32) ≡ b → WordsAfter cs → WordsAfter (c ∷ cs)
-    by true e ih = words_yes c cs _ (place_yes 32 c cs e) (ap full (slice_split-cons_yes (λ b. b == 32) c cs e))
-    by false e ih = words_no c cs _ _ (place_no 32 c cs e) ih
+    by true e ih = words_yes c cs _ (index_yes 32 c cs e) (ap full (slice_split-cons_yes (λ b. b == 32) c cs e))
+    by false e ih = words_no c cs _ _ (index_no 32 c cs e) ih
 
 -- the first word and the words after it, where the text begins with no space
-pub words_first : (bs : List ℕ) → place 32 bs ≢ 0 → place 32 bs ≤ length bs → words bs ≡ take (place 32 bs) bs ∷ words (drop (place 32 bs) bs)
-words_first bs h in_range = ap full (parts_first 32 bs) ∙ kept ∙ ap (λ ws. take (place 32 bs) bs ∷ ws) (words_after bs)
+pub words_first : (bs : List ℕ) → index 32 bs ≢ 0 → index 32 bs ≤ length bs → words bs ≡ take (index 32 bs) bs ∷ words (drop (index 32 bs) bs)
+words_first bs h in_range = ap full (parts_first 32 bs) ∙ kept ∙ ap (λ ws. take (index 32 bs) bs ∷ ws) (words_after bs)
   where
-    kept : full (take (place 32 bs) bs ∷ parts_after 32 (drop (place 32 bs) bs)) ≡ take (place 32 bs) bs ∷ full (parts_after 32 (drop (place 32 bs) bs))
-    kept = let l : length (take (place 32 bs) bs) ≡ place 32 bs = length-take-le (place 32 bs) bs in_range in grind (arith, common_steps)
+    kept : full (take (index 32 bs) bs ∷ parts_after 32 (drop (index 32 bs) bs)) ≡ take (index 32 bs) bs ∷ full (parts_after 32 (drop (index 32 bs) bs))
+    kept = let l : length (take (index 32 bs) bs) ≡ index 32 bs = length-take-le (index 32 bs) bs in_range in grind (arith, common_steps)

@@ -55,12 +55,12 @@ pub escape_step : (x h l : ℕ) (cs : List ℕ) → (x == 120) ≡ true → text
 escape_step x h l cs e = rw e refl
 
 -- the bytes before those that are still to be read
-abbrev pub with_front : List ℕ → Option (List ℕ) → Option (List ℕ)
-with_front front o = option_map (λ rest. front ++ rest) o
+abbrev pub with_prefix : List ℕ → Option (List ℕ) → Option (List ℕ)
+with_prefix prefix o = option_map (λ rest. prefix ++ rest) o
 
-pub front_step : (front : List ℕ) (c : ℕ) (o : Option (List ℕ)) → with_front front (put_before (Some c) o) ≡ with_front (front ++ c ∷ []) o
-front_step front c None = refl
-front_step front c (Some bs) = ap Some (sym (append_assoc front (c ∷ []) bs))
+pub prefix_step : (prefix : List ℕ) (c : ℕ) (o : Option (List ℕ)) → with_prefix prefix (put_before (Some c) o) ≡ with_prefix (prefix ++ c ∷ []) o
+prefix_step prefix c None = refl
+prefix_step prefix c (Some bs) = ap Some (sym (append_assoc prefix (c ∷ []) bs))
 
 -- a text of bytes that are one
 pub text_kept : (bs : List ℕ) → IsUtf8 bs × (length bs ≤ 1024) → as_text bs ≡ Some (TextValue bs)

@@ -10,9 +10,9 @@ use Rattle.sg_model.specs.Names.{Name, is_name}
 use Rattle.sg_model.proofs.Small.{and_left, and_right}
 use Rattle.sg_protocol.specs.Schedule.{CraftJoin}
 use Rattle.sg_base.specs.Words.{name, number}
-use Rattle.sg_sched.specs.Format.Said.{Word, Committed, From, SaidItem, SaidCraft, Said, SaidMake, committed_word, from_words, item_words, join_words, list_words, option_words, joined_names}
+use Rattle.sg_sched.specs.Format.Said.{Word, Committed, From, ItemContent, CraftContent, LineContent, SaidMake, committed_word, from_words, item_words, join_words, list_words, option_words, joined_names}
 use Rattle.sg_sched.specs.Format.Forms.{is_committed, is_source, is_item, are_committed, is_join, is_wide, are_names, is_craft}
-use Rattle.sg_sched.specs.Format.Reading.{Left, Taker, word, after, ended}
+use Rattle.sg_sched.specs.Format.Reading.{WordsLeft, Taker, word, after, ended}
 use Rattle.sg_sched.specs.Format.CraftReading.{committed, run, few, some_of, listed, source, repeated, item, is_next, all_names, name_list, sixteen, cast, optional, join_parts, join, opened, exactly, ends, seal_form, some_items, craft_form}
 use Rattle.sg_sched.proofs.FormatWords.{both, same_self, name_list as pieces, name_list-joined}
 use Rattle.sg_sched.proofs.FormatWholeCraft.{CraftFacts, craft_facts, craft_rest}
@@ -25,21 +25,21 @@ use Rattle.sg_sched.proofs.CraftComplete.{source_ok, run_ok, repeated_ok, item_r
 
 -- ---- lists behind a word
 
-listed_ok : (first : List ℕ) (cs : List Committed) (rest : Left) → list_all is_committed cs ≡ true → is_next first rest ≡ false → run rest ≡ ([], rest) → listed first (list_words first cs ++ rest) ≡ Some (cs, rest)
+listed_ok : (first : List ℕ) (cs : List Committed) (rest : WordsLeft) → list_all is_committed cs ≡ true → is_next first rest ≡ false → run rest ≡ ([], rest) → listed first (list_words first cs ++ rest) ≡ Some (cs, rest)
 unfolding listed
 listed_ok first [] rest h e r = listed_other first rest e
 listed_ok first (c ∷ cs) rest h e r =
     let some : (length (c ∷ cs) == 0) ≡ false = grind (arith, common_steps) in
     rw (same_self first) (ap some_of (run_ok (c ∷ cs) rest h r) ∙ ap (λ b. if b then None else Some (c ∷ cs, rest)) some)
 
-opened_ok : (cs : List Committed) (rest : Left) → are_committed cs ≡ true → is_next (codes "open") rest ≡ false → run rest ≡ ([], rest) → opened (list_words (codes "open") cs ++ rest) ≡ Some (cs, rest)
+opened_ok : (cs : List Committed) (rest : WordsLeft) → are_committed cs ≡ true → is_next (codes "open") rest ≡ false → run rest ≡ ([], rest) → opened (list_words (codes "open") cs ++ rest) ≡ Some (cs, rest)
 opened_ok cs rest h e r =
     ap (option_and_then few) (listed_ok (codes "open") cs rest (and_right (nat_le (length cs) 32) (list_all is_committed cs) h) e r)
     ∙ ap (λ b. if b then Some (cs, rest) else None) (and_left (nat_le (length cs) 32) (list_all is_committed cs) h)
 
 -- ---- join
 
-optional_ok : {A : Type 0} (first : List ℕ) (read : Word → Option A) (print : A → Word) (o : Option A) (rest : Left) → ((x : A) → o ≡ Some x → read (print x) ≡ Some x) → is_next first rest ≡ false
+optional_ok : {A : Type 0} (first : List ℕ) (read : Word → Option A) (print : A → Word) (o : Option A) (rest : WordsLeft) → ((x : A) → o ≡ Some x → read (print x) ≡ Some x) → is_next first rest ≡ false
     → optional first read (option_words first (option_map print o) ++ rest) ≡ Some (o, rest)
 unfolding word
 optional_ok first read print None [] r e = refl
@@ -57,12 +57,12 @@ cast_ok (n ∷ ns) h =
     ∙ ap (λ b. if b then Some (n ∷ ns) else None) count
 
 -- no part of a join begins the words
-record After (rest : Left) : Type 0 where
+record After (rest : WordsLeft) : Type 0 where
   pub no_join : is_next (codes "join") rest ≡ false
   pub no_nonce : is_next (codes "nonce") rest ≡ false
   pub no_cast : is_next (codes "cast") rest ≡ false
 
-nonce_next : (names : Option (List Name)) (rest : Left) → After rest → is_next (codes "nonce") (option_words (codes "cast") (option_map joined_names names) ++ rest) ≡ false
+nonce_next : (names : Option (List Name)) (rest : WordsLeft) → After rest → is_next (codes "nonce") (option_words (codes "cast") (option_map joined_names names) ++ rest) ≡ false
 nonce_next None rest a = a.no_nonce
 nonce_next (Some ns) rest a = refl
 
@@ -73,7 +73,7 @@ nonce_read (Some m) h n e = number_ok 18446744073709551615 n (omega arith) (is_w
 cast_read : (o : Option (List Name)) → option_map_or (λ ns. nat_le 2 (length ns) && nat_le (length ns) 16 && are_names ns) o true ≡ true → (ns : List Name) → o ≡ Some ns → cast (joined_names ns) ≡ Some ns
 cast_read o h ns e = cast_ok ns (ap (λ (o : Option (List Name)). option_map_or (λ ns. nat_le 2 (length ns) && nat_le (length ns) 16 && are_names ns) o true) (sym e) ∙ h)
 
-join_ok : (j : Option CraftJoin) (rest : Left) → option_map_or is_join j true ≡ true → After rest → join (join_words j ++ rest) ≡ Some (j, rest)
+join_ok : (j : Option CraftJoin) (rest : WordsLeft) → option_map_or is_join j true ≡ true → After rest → join (join_words j ++ rest) ≡ Some (j, rest)
 unfolding join join_parts
 join_ok None rest h a = join_other rest a.no_join
 join_ok (Some j) rest h a =
@@ -89,9 +89,9 @@ join_ok (Some j) rest h a =
 
 seal_ok : (s : From) → is_source s ≡ true → seal_form (codes "seal" ∷ from_words s) ≡ Some s
 unfolding seal_form word
-seal_ok s h = ap (λ o. option_and_then (λ (p : From × Left). ended (Some p.0) p.1) o) (ap source (sym (append-nil (from_words s))) ∙ source_ok s [] h)
+seal_ok s h = ap (λ o. option_and_then (λ (p : From × WordsLeft). ended (Some p.0) p.1) o) (ap source (sym (append-nil (from_words s))) ∙ source_ok s [] h)
 
-ends_ok : (session from to : Name) (rest : Left) → are_names (session ∷ from ∷ to ∷ []) ≡ true → not (bytes_eq from to) ≡ true → ends (session ∷ codes "from" ∷ from ∷ codes "to" ∷ to ∷ rest) ≡ Some ((session, from, to), rest)
+ends_ok : (session from to : Name) (rest : WordsLeft) → are_names (session ∷ from ∷ to ∷ []) ≡ true → not (bytes_eq from to) ≡ true → ends (session ∷ codes "from" ∷ from ∷ codes "to" ∷ to ∷ rest) ≡ Some ((session, from, to), rest)
 unfolding ends word
 ends_ok session from to rest h d =
     let m = and_right (is_name session) (is_name from && (is_name to && true)) h in
@@ -104,25 +104,25 @@ ends_ok session from to rest h d =
 
 -- ---- the whole
 
-seal_next : (ws : Left) → Behind (codes "seal" ∷ ws)
+seal_next : (ws : WordsLeft) → Behind (codes "seal" ∷ ws)
 unfolding committed
 seal_next ws = record { no_run = refl; no_tag = refl }
 
-open_next : (cs : List Committed) (ws : Left) → Behind (list_words (codes "open") cs ++ codes "seal" ∷ ws)
+open_next : (cs : List Committed) (ws : WordsLeft) → Behind (list_words (codes "open") cs ++ codes "seal" ∷ ws)
 unfolding committed
 open_next [] ws = record { no_run = refl; no_tag = refl }
 open_next (c ∷ cs) ws = record { no_run = refl; no_tag = refl }
 
-open_no_item : (cs : List Committed) (ws : Left) → is_next (codes "item") (list_words (codes "open") cs ++ codes "seal" ∷ ws) ≡ false
+open_no_item : (cs : List Committed) (ws : WordsLeft) → is_next (codes "item") (list_words (codes "open") cs ++ codes "seal" ∷ ws) ≡ false
 open_no_item [] ws = refl
 open_no_item (c ∷ cs) ws = refl
 
-know_after : (cs : List Committed) (ws : Left) → After (list_words (codes "know") cs ++ codes "item" ∷ ws)
+know_after : (cs : List Committed) (ws : WordsLeft) → After (list_words (codes "know") cs ++ codes "item" ∷ ws)
 know_after [] ws = record { no_join = refl; no_nonce = refl; no_cast = refl }
 know_after (c ∷ cs) ws = record { no_join = refl; no_nonce = refl; no_cast = refl }
 
 -- the words of a craft with up to n items
-abbrev craft_up_to : ℕ → Left → Option Said
+abbrev craft_up_to : ℕ → WordsLeft → Option LineContent
 craft_up_to n =
     after ends λ e.
     after join λ j.
@@ -131,7 +131,7 @@ craft_up_to n =
     some_items is (after opened λ openings.
     λ ws. option_map (λ seal. SaidMake (record { session = e.0; from = e.1; to = e.2; join = j; know = know; items = is; openings = openings; seal = seal })) (seal_form ws))
 
-craft_with : (n : ℕ) (c : SaidCraft) (i : SaidItem) (is : List SaidItem) → CraftFacts c → are_names (c.session ∷ c.from ∷ c.to ∷ []) ≡ true → not (bytes_eq c.from c.to) ≡ true → length (i ∷ is) ≤ n → list_all is_item (i ∷ is) ≡ true
+craft_with : (n : ℕ) (c : CraftContent) (i : ItemContent) (is : List ItemContent) → CraftFacts c → are_names (c.session ∷ c.from ∷ c.to ∷ []) ≡ true → not (bytes_eq c.from c.to) ≡ true → length (i ∷ is) ≤ n → list_all is_item (i ∷ is) ≡ true
     → craft_up_to n (craft_rest (record c { items = i ∷ is })) ≡ Some (SaidMake (record c { items = i ∷ is }))
 craft_with n c i is f names d l a =
     let tail = list_words (codes "open") c.openings ++ codes "seal" ∷ from_words c.seal in
@@ -147,14 +147,14 @@ craft_with n c i is f names d l a =
       seal_ok c.seal f.seal,
     ) refl
 
-craft_found : (n : ℕ) (c : SaidCraft) (is : List SaidItem) → CraftFacts c → are_names (c.session ∷ c.from ∷ c.to ∷ []) ≡ true → not (bytes_eq c.from c.to) ≡ true → nat_le 1 (length is) ≡ true → length is ≤ n → list_all is_item is ≡ true
+craft_found : (n : ℕ) (c : CraftContent) (is : List ItemContent) → CraftFacts c → are_names (c.session ∷ c.from ∷ c.to ∷ []) ≡ true → not (bytes_eq c.from c.to) ≡ true → nat_le 1 (length is) ≡ true → length is ≤ n → list_all is_item is ≡ true
     → craft_up_to n (craft_rest (record c { items = is })) ≡ Some (SaidMake (record c { items = is }))
 craft_found n c [] f names d some l a = absurd (cc some)
 craft_found n c (i ∷ is) f names d some l a = craft_with n c i is f names d l a
 
 -- the names of a craft of a form, and that its ends differ
-front : (c : SaidCraft) → is_craft c ≡ true → (are_names (c.session ∷ c.from ∷ c.to ∷ []) && not (bytes_eq c.from c.to)) ≡ true
-front c h =
+prefix : (c : CraftContent) → is_craft c ≡ true → (are_names (c.session ∷ c.from ∷ c.to ∷ []) && not (bytes_eq c.from c.to)) ≡ true
+prefix c h =
     let t0 = are_names (c.session ∷ c.from ∷ c.to ∷ []) && not (bytes_eq c.from c.to) in
     let t1 = t0 && option_map_or is_join c.join true in
     let t2 = t1 && list_all is_committed c.know in
@@ -165,9 +165,9 @@ front c h =
     and_left t0 (option_map_or is_join c.join true) (and_left t1 (list_all is_committed c.know) (and_left t2 (nat_le 1 (length c.items)) (and_left t3 (nat_le (length c.items) 65535)
     (and_left t4 (list_all is_item c.items) (and_left t5 (are_committed c.openings) (and_left t6 (is_source c.seal) h))))))
 
-pub craft_reads : (c : SaidCraft) → is_craft c ≡ true → craft_form (craft_rest c) ≡ Some (SaidMake c)
+pub craft_reads : (c : CraftContent) → is_craft c ≡ true → craft_form (craft_rest c) ≡ Some (SaidMake c)
 unfolding craft_form
 craft_reads c h =
     let f = craft_facts c h in
-    let t = front c h in
+    let t = prefix c h in
     craft_found 65535 c c.items f (and_left (are_names (c.session ∷ c.from ∷ c.to ∷ [])) (not (bytes_eq c.from c.to)) t) (and_right (are_names (c.session ∷ c.from ∷ c.to ∷ [])) (not (bytes_eq c.from c.to)) t) f.some f.count f.items

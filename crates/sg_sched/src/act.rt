@@ -5,7 +5,7 @@ ghost use Rattle.sg_sched.specs.Format.Model.{said};
 
 use crate::form::take_name;
 use crate::line::{Given, Line};
-use crate::text::{Words, place_of};
+use crate::text::{Words, index_of};
 use crate::value::is_value;
 use crate::word::read_name;
 use sg_base::{OutOfMemory, Seq};
@@ -15,10 +15,10 @@ use std::alloc::Global;
 pub fn split_at(mark: u8, word: &[u8]) -> Option<(&[u8], &[u8])>
     ensures { MatchOption result (split_at mark word.now ≡ None) (λ p. split_at mark word.now ≡ Some (p.0.now, p.1.now)) }
 {
-    let at = place_of(mark, word);
-    let (front, rest) = word.split_at(at);
+    let at = index_of(mark, word);
+    let (prefix, rest) = word.split_at(at);
     match rest {
-        [_, rest @ ..] => Some((front, rest)),
+        [_, rest @ ..] => Some((prefix, rest)),
         [] => None,
     }
 }

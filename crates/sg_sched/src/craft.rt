@@ -8,7 +8,7 @@ use std::marker::Model;
 /// A frame to be made, in the words of its line. Commitments are held as the openings that they are made of.
 #[derive(Debug, Drop)]
 pub struct Craft {
-    /// The place of the session in the list of those declared, from 0.
+    /// The index of the session in the list of those declared, from 0.
     pub session: u32,
     /// The sender.
     pub from: Role,

@@ -124,9 +124,9 @@ pub struct ItemLine<'a> {
 }
 
 impl<'a> Model for ItemLine<'a> {
-    ghost use Rattle.sg_sched.specs.Format.Said.{SaidItem};
+    ghost use Rattle.sg_sched.specs.Format.Said.{ItemContent};
 
-    ghost Value = { SaidItem };
+    ghost Value = { ItemContent };
 
     ghost view = { λ i. record { label = i.label; time = i.time; delta = i.delta; tags = i.tags } };
 }
@@ -153,10 +153,10 @@ pub struct CraftLine<'a> {
 }
 
 impl<'a> Model for CraftLine<'a> {
-    ghost use Rattle.sg_sched.specs.Format.Said.{SaidCraft};
+    ghost use Rattle.sg_sched.specs.Format.Said.{CraftContent};
     ghost use Rattle.sg_sched.specs.Format.Sources.{from_of};
 
-    ghost Value = { SaidCraft };
+    ghost Value = { CraftContent };
 
     ghost view = { λ c. record {
       session = c.session;

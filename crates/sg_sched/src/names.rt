@@ -4,7 +4,7 @@ ghost use Rattle.std.specs.Option.{option_map_or};
 ghost use Rattle.std.specs.Prelude.{◌≡◌, ◌<◌, ◌==◌, length, IfOk, IfSome, option_copied, [], ◌∷◌};
 ghost use Rattle.sg_sched.specs.Words.{names};
 
-use crate::text::place_of;
+use crate::text::index_of;
 use sg_base::{Name, OutOfMemory};
 use sg_parse::NameSet;
 use std::alloc::Global;
@@ -38,7 +38,7 @@ pub(crate) fn split_part(text: &[u8]) -> (&[u8], Option<&[u8]>)
         ≡ result.0.now ∷ option_map_or (slice_split (λ b. b == 44)) (option_copied result.1) [] }
     ensures shorter { IfSome result.1 (λ rest. length rest.now < length text.now) }
 {
-    let at = place_of(b',', text);
+    let at = index_of(b',', text);
     let (part, rest) = text.split_at(at);
     match rest {
         [_, rest @ ..] => (part, Some(rest)),

@@ -4,7 +4,7 @@ ghost use Rattle.std.specs.List.{list_all};
 ghost use Rattle.sg_sched.specs.Text.{words};
 ghost use Rattle.sg_sched.specs.Format.Form.{form};
 ghost use Rattle.sg_sched.specs.Format.Model.{said};
-ghost use Rattle.sg_sched.specs.Format.Said.{Said};
+ghost use Rattle.sg_sched.specs.Format.Said.{LineContent};
 ghost use Rattle.sg_sched.specs.Format.Forms.{SaysLine, is_comment};
 
 use crate::act::act;
@@ -70,7 +70,7 @@ pub fn read_line<'a>(alloc: Global, mut words: Words<'a>) -> Result<Option<Line<
 
 /// What a line says, or `None` where it is of no form: there is nothing that its words say, with each place as it may be.
 pub fn read_said<'a>(alloc: Global, line: &'a [u8]) -> Result<Option<Line<'a>>, OutOfMemory>
-    ensures { IfOk result (λ o. MatchOption o ((s : Said) → SaysLine line.now s → ⊥) (λ l. SaysLine line.now (said l))) }
+    ensures { IfOk result (λ o. MatchOption o ((s : LineContent) → SaysLine line.now s → ⊥) (λ l. SaysLine line.now (said l))) }
 {
     read_line(alloc, Words::new(line_content(line)))
 }

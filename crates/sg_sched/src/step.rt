@@ -2,21 +2,21 @@
 use crate::craft::HeldCraft;
 use sg_base::{Label, Name, Seq, Value, Var};
 
-/// A step. A session is its place in the list of those declared, from 0.
+/// A step. A session is its index in the list of those declared, from 0.
 #[derive(Debug, Drop)]
 pub enum Step {
     /// The principal starts the session.
     Start {
         /// The principal, which is honest.
         who: Name,
-        /// The place of the session.
+        /// The index of the session.
         session: u32,
     },
     /// The principal acts in the session: it sends along the label and writes the values.
     Act {
         /// The principal, which is honest.
         who: Name,
-        /// The place of the session.
+        /// The index of the session.
         session: u32,
         /// The label, one of the session's graph.
         label: Label,
@@ -27,7 +27,7 @@ pub enum Step {
     Abandon {
         /// The principal, which is honest.
         who: Name,
-        /// The place of the session.
+        /// The index of the session.
         session: u32,
     },
     /// The principal is given bytes.

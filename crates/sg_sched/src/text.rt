@@ -5,8 +5,8 @@ ghost use Rattle.sg_sched.specs.Text.{lines, content, words};
 
 use std::marker::Model;
 
-/// The place of the first byte `mark`, or the length where there is none.
-pub(crate) fn place_of(mark: u8, bytes: &[u8]) -> usize
+/// The index of the first byte `mark`, or the length where there is none.
+pub(crate) fn index_of(mark: u8, bytes: &[u8]) -> usize
     ensures first { result ≡ position_or_len (λ b. b == mark) bytes.now }
     ensures within { result ≤ length bytes.now }
 {
@@ -24,7 +24,7 @@ pub fn split_line(bytes: &[u8]) -> (&[u8], &[u8])
     ensures split { lines bytes.now ≡ result.0.now ∷ lines result.1.now }
     ensures shorter { length result.1.now < length bytes.now }
 {
-    let at = place_of(b'\n', bytes);
+    let at = index_of(b'\n', bytes);
     bytes.split_at((at + 1).min(bytes.len()))
 }
 
@@ -33,8 +33,8 @@ pub fn line_content(line: &[u8]) -> &[u8]
     ensures { result.now ≡ content line.now }
 {
     match line {
-        [front @ .., b'\r', b'\n'] => front,
-        [front @ .., b'\n'] => front,
+        [prefix @ .., b'\r', b'\n'] => prefix,
+        [prefix @ .., b'\n'] => prefix,
         _ => line,
     }
 }
@@ -101,7 +101,7 @@ fn split_word(text: &[u8]) -> Option<(&[u8], &[u8])>
     if text.is_empty() {
         return None;
     }
-    let at = place_of(b' ', text);
+    let at = index_of(b' ', text);
     Some(text.split_at(at))
 }
 

@@ -37,7 +37,7 @@ fn node_of(graph: &Graph, text: &str) -> Option<NodeId>
     ensures { result ≡ number_of (node_names graph.now) text.now }
 {
     let name = read_name(text)?;
-    // The names of its nodes differ, so the place is this one.
+    // The names of its nodes differ, so the index is this one.
     let _count = graph.nodes();
     graph.find_node(&name)
 }

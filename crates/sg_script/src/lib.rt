@@ -20,7 +20,7 @@
 //! altogether.
 //!
 //! A script is read beside the programs that the principal has: a graph is known by its name there, and nodes, labels and variables by
-//! their names in that graph. What is read has numbers in their place. Of all faults that a script has, the first is told: what stands
+//! their names in that graph. What is read has numbers in their index. Of all faults that a script has, the first is told: what stands
 //! beside `start` and `choice`, or a `start` that is no list of tables; then the starts in order; then a `choice` that is no list of
 //! tables; then the choices in order. `laws` says that bytes spell one script at most.
 #![tactic(auto)]

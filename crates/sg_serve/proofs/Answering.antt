@@ -3,8 +3,8 @@ use Rattle.std.proofs.Common.{◌≡◌, ◌⊎◌, ⊎_elim, inl, inr, ℕ, Boo
 use Rattle.sg_base.specs.declared.address.Addr.{Addr}
 use Rattle.sg_base.specs.Outside.{HasRisen}
 use Rattle.sg_input.specs.Lines.{Line, Whole, TooLong}
-use Rattle.sg_keep.specs.Kept.{AllStandFor}
-use Rattle.sg_ledger.specs.Format.{StandsFor}
+use Rattle.sg_keep.specs.Kept.{AllRepresent}
+use Rattle.sg_ledger.specs.Format.{Represents}
 use Rattle.sg_play.specs.Steps.{Step}
 use Rattle.sg_request.specs.Request.{request_of}
 use Rattle.sg_request.specs.declared.request.Request.{Request}
@@ -14,20 +14,20 @@ use Rattle.sg_wait.specs.declared.coming.Coming.{Coming}
 use Rattle.sg_serve.specs.declared.fault.ServeFault.{ServeFault}
 use Rattle.sg_serve.specs.declared.server.Server.{Server}
 use Rattle.sg_serve.specs.Lines.{Run, asked, asks_quit, given, gives, is_quit, receipt, receives, until_quit, with_line}
-use Rattle.sg_serve.specs.Served.{StandBetween, joins_of}
+use Rattle.sg_serve.specs.Served.{RepresentBetween, joins_of}
 use Rattle.sg_serve.specs.Serving.{Reply, Serving, replies, takes}
-use Rattle.sg_serve.specs.Standing.{CameToAnswer, HasAnswer, HasReceived, HasReplied, Received, Replied, StandEither, some_ok}
+use Rattle.sg_serve.specs.Representation.{CameToAnswer, HasAnswer, HasReceived, HasReplied, Received, Replied, RepresentEither, some_ok}
 use Rattle.sg_serve.proofs.Giving.{goes_behind}
 
 -- all joins so far are kept
-pub between_all : (images : List ℕ → Type 0) (r : Run) (rest : List Line) → AllStandFor images (joins_of r.serving) → StandBetween images r rest
+pub between_all : (images : List ℕ → Type 0) (r : Run) (rest : List Line) → AllRepresent images (joins_of r.serving) → RepresentBetween images r rest
 between_all images r [] all = all
 between_all images r (line ∷ lines) all = λ image left. inl (all image left)
 
 -- the joins of a line that came to this reply
-between_so : (images : List ℕ → Type 0) (r run : Run) (line : Line) (reply : Reply) (t : Bool) (later : List Line) → asks_quit line ≡ false → with_line t r line ≡ gives t run reply → StandEither images r.serving reply → StandBetween images r (until_quit (line ∷ later))
-between_so images r run line reply t later goes e h = subst (StandBetween images r) (sym (goes_behind line later goes)) (λ image left.
-    ⊎_elim (λ x. inl x) (λ x. inr (t, subst (λ (y : Run). StandsFor image (joins_of y.serving)) (sym e) x)) (h image left))
+between_so : (images : List ℕ → Type 0) (r run : Run) (line : Line) (reply : Reply) (t : Bool) (later : List Line) → asks_quit line ≡ false → with_line t r line ≡ gives t run reply → RepresentEither images r.serving reply → RepresentBetween images r (until_quit (line ∷ later))
+between_so images r run line reply t later goes e h = subst (RepresentBetween images r) (sym (goes_behind line later goes)) (λ image left.
+    ⊎_elim (λ x. inl x) (λ x. inr (t, subst (λ (y : Run). Represents image (joins_of y.serving)) (sym e) x)) (h image left))
 
 -- a request that asks nothing of the link but to take a frame
 pub plain : (images : List ℕ → Type 0) (sv : Server) (words : Option (List (List ℕ))) (coming : Option (List Coming)) (old new : ℕ) (r : Run) (line : Line) (reply : Reply) (res : Result Step ServeFault) → asks_quit line ≡ false

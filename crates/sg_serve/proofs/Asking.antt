@@ -3,14 +3,14 @@ use Rattle.std.proofs.Common.{◌≡◌, ◌⊎◌, ⊎_elim, inl, inr, ℕ, Lis
 use Rattle.sg_base.specs.declared.address.Addr.{Addr}
 use Rattle.sg_keep.proofs.NewJoins.{any_call, joins_of_node, joins_with}
 use Rattle.sg_keep.specs.Joins.{IsNew, join_in, join_told, joins_made, with_join}
-use Rattle.sg_keep.specs.Kept.{AllStandFor}
-use Rattle.sg_ledger.specs.Format.{Join, Opened, StandsFor}
+use Rattle.sg_keep.specs.Kept.{AllRepresent}
+use Rattle.sg_ledger.specs.Format.{Join, OpenLedger, Represents}
 use Rattle.sg_model.specs.Names.{Name}
 use Rattle.sg_node.proofs.Life.{pasts_go_on}
 use Rattle.sg_play.proofs.Telling.{asked_quiet}
 use Rattle.sg_play.specs.Asking.{Comes, addressed, sealed_in}
 use Rattle.sg_play.specs.Played.{Play, answer_in, called}
-use Rattle.sg_play.specs.Standing.{HasAsked, KeepsJoins, StandsForPlay}
+use Rattle.sg_play.specs.Representation.{HasAsked, KeepsJoins, RepresentsPlay}
 use Rattle.sg_play.specs.declared.player.Player.{Player}
 use Rattle.sg_protocol.specs.Acting.{answer}
 use Rattle.sg_protocol.specs.Calls as Protocol
@@ -22,10 +22,10 @@ use Rattle.sg_report.specs.Told.{Told, told_answer}
 use Rattle.sg_serve.specs.declared.server.Server.{Server}
 use Rattle.sg_serve.specs.Served.{images_if, joins_kept, joins_of}
 use Rattle.sg_serve.specs.Serving.{Serving, Reply}
-use Rattle.sg_serve.specs.Standing.{HasAskedNode, HasCalled, HoldsJoins, LedgerHas, StandEither, StandsForServing}
+use Rattle.sg_serve.specs.Representation.{HasAskedNode, HasCalled, HoldsJoins, LedgerHas, RepresentEither, RepresentsServing}
 
 -- an opened ledger that works, with these joins
-abbrev pub working : List Join → Opened
+abbrev pub working : List Join → OpenLedger
 working joins = record { joins = joins; failed = false }
 
 -- ---- the node was asked
@@ -37,13 +37,13 @@ asked_node sv pl may_leave c told graph h came = record {
   number = 0;
   range = came.range;
   told_before = h.told;
-  stands = came.goes_on.stands;
+  represents = came.goes_on.represents;
   is_told = came.is_told;
-  ledger = λ l e. h.ledger l e ∙ ap working h.stands.joins;
-  images = subst (AllStandFor (images_if (is_some sv.ledger) may_leave)) h.stands.joins h.images;
+  ledger = λ l e. h.ledger l e ∙ ap working h.represents.joins;
+  images = subst (AllRepresent (images_if (is_some sv.ledger) may_leave)) h.represents.joins h.images;
 }
 
-pub has_called : (sv : Server) (pl : Player) (s : Serving) (c : Call) (told : Option Told) (graph : Option Graph) → StandsForServing sv s → pl ≡ record sv.player { node = pl.node } → ((number : ℕ) → Comes number sv.player.node pl.node s.play.past c told graph None)
+pub has_called : (sv : Server) (pl : Player) (s : Serving) (c : Call) (told : Option Told) (graph : Option Graph) → RepresentsServing sv s → pl ≡ record sv.player { node = pl.node } → ((number : ℕ) → Comes number sv.player.node pl.node s.play.past c told graph None)
     → HasCalled (record sv { player = pl }) s c told graph None
 has_called sv pl s c told graph h is comes = record {
   asked = subst (λ (x : Player). HasAsked x s.play c told graph []) (sym is) (asked_quiet sv.player pl.node s.play c told graph h.player comes);
@@ -55,24 +55,24 @@ has_called sv pl s c told graph h is comes = record {
 }
 
 -- the ledger has the joins from before
-pub ledger_has : (sv : Server) (may_leave : List ℕ → Type 0) (s : Serving) → HoldsJoins sv may_leave → StandsForServing sv s → LedgerHas sv (node_of s.play.past).joins
-ledger_has sv may_leave s h st l e = ap (λ (o : Opened). o.joins) (h.ledger l e) ∙ st.player.node.joins
+pub ledger_has : (sv : Server) (may_leave : List ℕ → Type 0) (s : Serving) → HoldsJoins sv may_leave → RepresentsServing sv s → LedgerHas sv (node_of s.play.past).joins
+ledger_has sv may_leave s h st l e = ap (λ (o : OpenLedger). o.joins) (h.ledger l e) ∙ st.player.node.joins
 
 -- all joins so far are kept
-pub holds_all : (sv : Server) (has : Server) (may_leave : List ℕ → Type 0) (s : Serving) → is_some sv.ledger ≡ is_some has.ledger → HoldsJoins sv may_leave → StandsForServing sv s → AllStandFor (images_if (is_some has.ledger) may_leave) (joins_of s)
+pub holds_all : (sv : Server) (has : Server) (may_leave : List ℕ → Type 0) (s : Serving) → is_some sv.ledger ≡ is_some has.ledger → HoldsJoins sv may_leave → RepresentsServing sv s → AllRepresent (images_if (is_some has.ledger) may_leave) (joins_of s)
 holds_all sv has may_leave s same h st image left =
-    subst (StandsFor image) (st.player.node.joins ∙ joins_of_node s.play.past st.player.told) (h.images image (same ∙ left.0, left.1))
+    subst (Represents image) (st.player.node.joins ∙ joins_of_node s.play.past st.player.told) (h.images image (same ∙ left.0, left.1))
 
 -- the node goes on without a join
 pub holds_on : (old new : Server) (may_leave : List ℕ → Type 0) → HoldsJoins old may_leave → new.ledger ≡ old.ledger → KeepsJoins old.player.node new.player.node → HoldsJoins new may_leave
 holds_on old new may_leave h same keeps =
-    let later = keeps h.past h.stands h.told in
+    let later = keeps h.past h.represents h.told in
     record {
       past = later.0;
-      stands = later.1;
+      represents = later.1;
       told = later.2;
       ledger = λ l e. h.ledger l (sym same ∙ e) ∙ ap working (sym later.3);
-      images = λ image left. subst (StandsFor image) (sym later.3) (h.images image (ap is_some (sym same) ∙ left.0, left.1));
+      images = λ image left. subst (Represents image) (sym later.3) (h.images image (ap is_some (sym same) ∙ left.0, left.1));
     }
 
 -- ---- the join of what came of it
@@ -102,14 +102,14 @@ module _ (sv : Server) (may_leave : List ℕ → Type 0) (told : Option Told) (h
   pub holds_none : sv.ledger ≡ None → HoldsJoins sv may_leave
   holds_none e = record {
     past = past_after real h.past h.call;
-    stands = h.stands;
+    represents = h.represents;
     told = pasts_go_on h.past h.call h.told_before h.range;
     ledger = λ l is. absurd (let z = sym e ∙ is in cc);
     images = λ image left. absurd (let z = ap is_some (sym e) ∙ left.0 in cc);
   }
 
   -- where there is one
-  module _ (l : Opened) (e : sv.ledger ≡ Some l) where
+  module _ (l : OpenLedger) (e : sv.ledger ≡ Some l) where
     has : l ≡ working (node_of h.past).joins
     has = h.ledger l e
 
@@ -119,30 +119,30 @@ module _ (sv : Server) (may_leave : List ℕ → Type 0) (told : Option Told) (h
       where
         by : (o : Option Join) → o ≡ joined → IfSome o (IsNew l.joins)
         by None q = tt
-        by (Some j) q = subst (λ (x : Opened). IsNew x.joins j) (sym has) ((any_call real (node_of h.past) h.call h.range).1 j (sym (q ∙ join_is)))
+        by (Some j) q = subst (λ (x : OpenLedger). IsNew x.joins j) (sym has) ((any_call real (node_of h.past) h.call h.range).1 j (sym (q ∙ join_is)))
 
     pub not_failed : l.failed ≡ false
-    not_failed = ap (λ (o : Opened). o.failed) has
+    not_failed = ap (λ (o : OpenLedger). o.failed) has
 
-    pub stand_now : AllStandFor may_leave l.joins
-    stand_now image left = subst (λ (o : Opened). StandsFor image o.joins) (sym has) (h.images image (ap is_some e, left))
+    pub represent_now : AllRepresent may_leave l.joins
+    represent_now image left = subst (λ (o : OpenLedger). Represents image o.joins) (sym has) (h.images image (ap is_some e, left))
 
     -- the node's joins are the ledger's with it
     pub node_joins : sv.player.node.joins ≡ with_join l.joins joined
-    node_joins = h.stands.joins ∙ joins_with h.past h.call h.range ∙ (λ i. with_join (sym (ap (λ (o : Opened). o.joins) has) i) (sym join_is i))
+    node_joins = h.represents.joins ∙ joins_with h.past h.call h.range ∙ (λ i. with_join (sym (ap (λ (o : OpenLedger). o.joins) has) i) (sym join_is i))
 
     -- it has the pair
-    pub holds_after : (m : Opened) (now_leaves : List ℕ → Type 0) → m ≡ working (with_join l.joins joined) → AllStandFor now_leaves m.joins → HoldsJoins (record sv { ledger = Some m }) now_leaves
+    pub holds_after : (m : OpenLedger) (now_leaves : List ℕ → Type 0) → m ≡ working (with_join l.joins joined) → AllRepresent now_leaves m.joins → HoldsJoins (record sv { ledger = Some m }) now_leaves
     holds_after m now_leaves is all = record {
       past = past_after real h.past h.call;
-      stands = h.stands;
+      represents = h.represents;
       told = pasts_go_on h.past h.call h.told_before h.range;
       ledger = λ k q. (let z : k ≡ m = (cc) in z) ∙ is ∙ ap working (sym node_joins);
-      images = λ image left. subst (StandsFor image) (ap (λ (o : Opened). o.joins) is ∙ sym node_joins) (all image left.1);
+      images = λ image left. subst (Represents image) (ap (λ (o : OpenLedger). o.joins) is ∙ sym node_joins) (all image left.1);
     }
 
     -- it has the pair or not
-    pub unkept : (now_leaves : List ℕ → Type 0) → ((image : List ℕ) → now_leaves image → StandsFor image l.joins ⊎ StandsFor image (with_join l.joins joined))
-        → (image : List ℕ) → images_if (is_some sv.ledger) now_leaves image → StandsFor image (joins_kept sv.ledger) ⊎ StandsFor image sv.player.node.joins
+    pub unkept : (now_leaves : List ℕ → Type 0) → ((image : List ℕ) → now_leaves image → Represents image l.joins ⊎ Represents image (with_join l.joins joined))
+        → (image : List ℕ) → images_if (is_some sv.ledger) now_leaves image → Represents image (joins_kept sv.ledger) ⊎ Represents image sv.player.node.joins
     unkept now_leaves between image left =
-        ⊎_elim (λ x. inl (subst (StandsFor image) (sym (ap joins_kept e)) x)) (λ x. inr (subst (StandsFor image) (sym node_joins) x)) (between image left.1)
+        ⊎_elim (λ x. inl (subst (Represents image) (sym (ap joins_kept e)) x)) (λ x. inr (subst (Represents image) (sym node_joins) x)) (between image left.1)

@@ -1,4 +1,4 @@
--- What a request that calls the node comes to, in each state that the server stands for.
+-- What a request that calls the node comes to, in each state that the server represents.
 use Rattle.std.proofs.Common.{◌≡◌, ℕ, ◌-◌, Bool, true, false, if◌then◌else◌, List, [], map, length, find, position, bytes_eq, Option, Some, None, is_some, IfOk, OnOk, Result, Ok, Err, Bor, refl, sym, ap, ◌∙◌, subst}
 use Rattle.std.specs.Prelude.{not, slice_get, unwrap_or}
 use Rattle.std.specs.Option.{option_copied, option_map_or}
@@ -12,7 +12,7 @@ use Rattle.sg_play.proofs.Called.{is_addressed}
 use Rattle.sg_play.specs.Asking.{addressed, sealed_in}
 use Rattle.sg_play.specs.Played.{Play, answer_in, cast_of_start, next_words, word}
 use Rattle.sg_play.specs.Posting.{frames_made}
-use Rattle.sg_play.specs.Standing.{HasAsked, StandsForPlay}
+use Rattle.sg_play.specs.Representation.{HasAsked, RepresentsPlay}
 use Rattle.sg_play.specs.Steps.{Step}
 use Rattle.sg_play.specs.declared.player.Player.{Player}
 use Rattle.sg_program.specs.Together.{is_named}
@@ -26,12 +26,12 @@ use Rattle.sg_script.specs.Script.{Start as ScriptStart}
 use Rattle.sg_serve.specs.declared.fault.ServeFault.{ServeFault}
 use Rattle.sg_serve.specs.declared.server.Server.{Server}
 use Rattle.sg_serve.specs.Serving.{Reply, Serving, acts, acts_by, acts_if, calls, graph_at, less, of_session, says, sids_of, starts}
-use Rattle.sg_serve.specs.Standing.{HasCalled, HasReplied, StandsForServing}
+use Rattle.sg_serve.specs.Representation.{HasCalled, HasReplied, RepresentsServing}
 use Rattle.sg_serve.proofs.Saying.{of_some}
 
 -- ---- a call that makes its frame
 
-pub called_made : (sv : Server) (pl : Player) (s : Serving) (c : Call) (told : Option Told) (graph : Option Graph) (frame : Option (Addr × (Name × List ℕ))) → StandsForServing sv s → HasAsked pl s.play c told graph (frames_made frame) → frame ≡ addressed s.play.past.keys (sealed_in (answer_in s.play c))
+pub called_made : (sv : Server) (pl : Player) (s : Serving) (c : Call) (told : Option Told) (graph : Option Graph) (frame : Option (Addr × (Name × List ℕ))) → RepresentsServing sv s → HasAsked pl s.play c told graph (frames_made frame) → frame ≡ addressed s.play.past.keys (sealed_in (answer_in s.play c))
     → HasCalled (record sv { player = pl }) s c told graph frame
 called_made sv pl s c told graph frame st asked is = record {
   asked = asked;
@@ -47,23 +47,23 @@ no_frame : (frame : Option (Addr × (Name × List ℕ))) → [] ≡ frames_made 
 no_frame None e = refl
 no_frame (Some f) e = absurd (cc)
 
-pub called_quiet : (sv : Server) (pl : Player) (s : Serving) (c : Call) (told : Option Told) (graph : Option Graph) → StandsForServing sv s → HasAsked pl s.play c told graph [] → HasCalled (record sv { player = pl }) s c told graph None
+pub called_quiet : (sv : Server) (pl : Player) (s : Serving) (c : Call) (told : Option Told) (graph : Option Graph) → RepresentsServing sv s → HasAsked pl s.play c told graph [] → HasCalled (record sv { player = pl }) s c told graph None
 called_quiet sv pl s c told graph st asked =
     called_made sv pl s c told graph None st asked (no_frame (addressed s.play.past.keys (sealed_in (answer_in s.play c))) (asked.is_made ∙ sym (is_addressed s.play.past.keys (answer_in s.play c))))
 
 -- a session was left
-pub abandoned : (sv new : Server) (pl : Player) (n : ℕ) (sid : List ℕ) (told : Option Told) (graph : Option Graph) (r : Result Step ServeFault) → ((p : Play) → StandsForPlay sv.player p → Some sid ≡ slice_get (sids_of p) (n - 1))
-    → ((p : Play) → StandsForPlay sv.player p → HasAsked pl p (Abandon sid) told graph []) → IfOk r (λ step. (s : Serving) (c : Call) → HasCalled (record sv { player = pl }) s c told graph None → Some sid ≡ sid_left c → HasReplied new step (calls s c))
-    → IfOk r (λ step. (s : Serving) → StandsForServing sv s → HasReplied new step (of_session s n (λ x. calls s (Abandon x))))
+pub abandoned : (sv new : Server) (pl : Player) (n : ℕ) (sid : List ℕ) (told : Option Told) (graph : Option Graph) (r : Result Step ServeFault) → ((p : Play) → RepresentsPlay sv.player p → Some sid ≡ slice_get (sids_of p) (n - 1))
+    → ((p : Play) → RepresentsPlay sv.player p → HasAsked pl p (Abandon sid) told graph []) → IfOk r (λ step. (s : Serving) (c : Call) → HasCalled (record sv { player = pl }) s c told graph None → Some sid ≡ sid_left c → HasReplied new step (calls s c))
+    → IfOk r (λ step. (s : Serving) → RepresentsServing sv s → HasReplied new step (of_session s n (λ x. calls s (Abandon x))))
 abandoned sv new pl n sid told graph (Ok step) at asked h =
     λ s st. subst (λ (y : Reply). HasReplied new step y) (of_some s n sid (λ x. calls s (Abandon x)) (sym (at s.play st.player))) (h s (Abandon sid) (called_quiet sv pl s (Abandon sid) told graph st (asked s.play st.player)) refl)
 abandoned sv new pl n sid told graph (Err f) at asked h = tt
 
 -- ---- words
 
--- the words that are left are no part of what is stood for
-pub less_stands : (sv : Server) (n : ℕ) (s : Serving) → StandsForServing sv s → StandsForServing sv (less n s)
-less_stands sv n s st = record {
+-- the words that are left are no part of what is represented
+pub less_represents : (sv : Server) (n : ℕ) (s : Serving) → RepresentsServing sv s → RepresentsServing sv (less n s)
+less_represents sv n s st = record {
   player = record {
     node = st.player.node;
     told = st.player.told;
@@ -82,15 +82,15 @@ less_stands sv n s st = record {
 -- ---- an act
 
 pub acted : (sv new : Server) (pl : Player) (words : Option (List (List ℕ))) (sid : List ℕ) (label n : ℕ) (vs : Map Value) (ws : List (List ℕ)) (told : Option Told) (graph : Option Graph) (frame : Option (Addr × (Name × List ℕ))) (r : Result Step ServeFault) → n ≡ length vs
-    → ((all : List (List ℕ)) → words ≡ Some all → ws ≡ next_words n all) → ((p : Play) → StandsForPlay sv.player p → HasAsked pl p (Act sid label vs ws) told graph (frames_made frame))
-    → ((p : Play) → StandsForPlay sv.player p → frame ≡ addressed p.past.keys (sealed_in (answer_in p (Act sid label vs ws))))
+    → ((all : List (List ℕ)) → words ≡ Some all → ws ≡ next_words n all) → ((p : Play) → RepresentsPlay sv.player p → HasAsked pl p (Act sid label vs ws) told graph (frames_made frame))
+    → ((p : Play) → RepresentsPlay sv.player p → frame ≡ addressed p.past.keys (sealed_in (answer_in p (Act sid label vs ws))))
     → IfOk r (λ step. (s : Serving) (c : Call) → HasCalled (record sv { player = pl }) s c told graph frame → None ≡ sid_left c → HasReplied new step (calls s c))
-    → IfOk r (λ step. (s : Serving) → StandsForServing sv s → words ≡ Some s.play.words → HasReplied new step (acts s sid label vs))
+    → IfOk r (λ step. (s : Serving) → RepresentsServing sv s → words ≡ Some s.play.words → HasReplied new step (acts s sid label vs))
 acted sv new pl words sid label n vs ws told graph frame (Ok step) count drawn asked made h = λ s st w.
     let m = length vs in
     let k = Act sid label vs ws in
     let q = less m s in
-    let lst = less_stands sv m s st in
+    let lst = less_represents sv m s st in
     subst (λ (c : Call). HasReplied new step (calls (less m s) c)) (ap (Act sid label vs) (drawn s.play.words w ∙ ap (λ (i : ℕ). next_words i s.play.words) count))
     (h q k (called_made sv pl q k told graph frame lst (asked q.play lst.player) (made q.play lst.player)) refl)
 acted sv new pl words sid label n vs ws told graph frame (Err f) count drawn asked made h = tt
@@ -102,25 +102,25 @@ not_twice false e = absurd (cc)
 -- an act that is given well
 pub acts_is : (s : Serving) (n : ℕ) (sid : List ℕ) (g : Graph) (name : Name) (given : List Given) (label : ℕ) (vs : Map Value) → Some sid ≡ slice_get (sids_of s.play) (n - 1) → Some g ≡ graph_at s n → Some label ≡ position (bytes_eq name) (map (λ e. e.name) g.edges)
     → Some vs ≡ known_values (Some g) given → false ≡ is_twice given → acts s sid label vs ≡ of_session s n (λ x. acts_by s x (graph_at s n) name given)
-acts_is s n sid g name given label vs at is place known once =
+acts_is s n sid g name given label vs at is index known once =
     ap (λ (b : Bool). if b then says s (wrong_text Twice) else acts s sid label vs) once
     ∙ ap (λ (o : Option (Map Value)). option_map_or (λ values. if is_twice given then says s (wrong_text Twice) else acts s sid label values) o (says s (wrong_text Unknown))) known
-    ∙ ap (λ (o : Option ℕ). option_map_or (acts_if s sid (Some g) given) o (says s (wrong_text Unknown))) place
+    ∙ ap (λ (o : Option ℕ). option_map_or (acts_if s sid (Some g) given) o (says s (wrong_text Unknown))) index
     ∙ ap (λ (o : Option Graph). acts_by s sid o name given) is
     ∙ of_some s n sid (λ x. acts_by s x (graph_at s n) name given) (sym at)
 
 -- the graph of a session
-pub graph_is : (sv : Server) (s : Serving) (n : ℕ) → StandsForServing sv s → unwrap_or (slice_get sv.graphs (n - 1)) None ≡ graph_at s n
+pub graph_is : (sv : Server) (s : Serving) (n : ℕ) → RepresentsServing sv s → unwrap_or (slice_get sv.graphs (n - 1)) None ≡ graph_at s n
 graph_is sv s n st = ap (λ (gs : List (Option Graph)). unwrap_or (slice_get gs (n - 1)) None) st.graphs
 
 -- a reply by another name
-pub replied_by : (sv new : Server) (words : Option (List (List ℕ))) (a b : Serving → Reply) (r : Result Step ServeFault) → ((s : Serving) → StandsForServing sv s → a s ≡ b s)
-    → IfOk r (λ step. (s : Serving) → StandsForServing sv s → words ≡ Some s.play.words → HasReplied new step (a s)) → IfOk r (λ step. (s : Serving) → StandsForServing sv s → words ≡ Some s.play.words → HasReplied new step (b s))
+pub replied_by : (sv new : Server) (words : Option (List (List ℕ))) (a b : Serving → Reply) (r : Result Step ServeFault) → ((s : Serving) → RepresentsServing sv s → a s ≡ b s)
+    → IfOk r (λ step. (s : Serving) → RepresentsServing sv s → words ≡ Some s.play.words → HasReplied new step (a s)) → IfOk r (λ step. (s : Serving) → RepresentsServing sv s → words ≡ Some s.play.words → HasReplied new step (b s))
 replied_by sv new words a b (Ok step) e h = λ s st w. subst (λ (y : Reply). HasReplied new step y) (e s st) (h s st w)
 replied_by sv new words a b (Err f) e h = tt
 
-pub words_by : (sv : Server) (words left : Option (List (List ℕ))) (a b : Serving → Reply) (r : Result Step ServeFault) → ((s : Serving) → StandsForServing sv s → a s ≡ b s)
-    → OnOk r ((s : Serving) → words ≡ Some s.play.words → left ≡ Some (a s).0.play.words) → OnOk r ((s : Serving) → StandsForServing sv s → words ≡ Some s.play.words → left ≡ Some (b s).0.play.words)
+pub words_by : (sv : Server) (words left : Option (List (List ℕ))) (a b : Serving → Reply) (r : Result Step ServeFault) → ((s : Serving) → RepresentsServing sv s → a s ≡ b s)
+    → OnOk r ((s : Serving) → words ≡ Some s.play.words → left ≡ Some (a s).0.play.words) → OnOk r ((s : Serving) → RepresentsServing sv s → words ≡ Some s.play.words → left ≡ Some (b s).0.play.words)
 words_by sv words left a b (Ok step) e h = λ s st w. h s w ∙ ap (λ (y : Reply). Some y.0.play.words) (e s st)
 words_by sv words left a b (Err f) e h = tt
 

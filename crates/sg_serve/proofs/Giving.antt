@@ -2,9 +2,9 @@
 use Rattle.std.proofs.Common.{◌≡◌, ◌≤◌, ◌⊎◌, ⊎_elim, inl, inr, ℕ, ◌+◌, Bool, true, false, if◌then◌else◌, List, [], ◌∷◌, ◌++◌, take, length, Option, Some, Result, Ok, Err, refl, sym, ap, ◌∙◌, subst, append_assoc, le_trans, arith}
 use Rattle.std.proofs.lemmas.List.{append-nil}
 use Rattle.sg_base.specs.declared.address.Addr.{Addr}
-use Rattle.sg_base.specs.Outside.{Appends, AppendsFront, HasRisen}
+use Rattle.sg_base.specs.Outside.{Appends, AppendsPrefix, HasRisen}
 use Rattle.sg_input.specs.Lines.{Line}
-use Rattle.sg_keep.specs.Kept.{AllStandFor}
+use Rattle.sg_keep.specs.Kept.{AllRepresent}
 use Rattle.sg_play.proofs.Endings.{appends_more, frames_more}
 use Rattle.sg_play.proofs.Rising.{risen_last}
 use Rattle.sg_play.specs.Steps.{Step, lines_of, frames_of}
@@ -12,7 +12,7 @@ use Rattle.sg_serve.specs.declared.fault.ServeFault.{ServeFault}
 use Rattle.sg_serve.specs.declared.server.Server.{Server}
 use Rattle.sg_serve.specs.Lines.{Run, asks_quit, failures_after, given, gives, until_quit, with_line}
 use Rattle.sg_serve.specs.Served.{Agrees, Gave, HasBegun, Outside, RoseBy, joins_of}
-use Rattle.sg_serve.specs.Standing.{Given, HasAnswer, StandsForServing}
+use Rattle.sg_serve.specs.Representation.{Given, HasAnswer, RepresentsServing}
 use Rattle.sg_serve.proofs.Rising.{rose_on, rose_more}
 
 lines_more : (ss : List Step) (s : Step) → lines_of (ss ++ s ∷ []) ≡ lines_of ss ++ s.line
@@ -76,10 +76,10 @@ module _ (start old mid new : Outside) (words : Option (List (List ℕ))) (sv : 
   line_so text h = appends_more start.written old.written new.written (lines_of r.answers) text gave.lines (λ before is. h before (written ∙ is))
 
   -- whole
-  pub agrees : Appends mid.written new.written (given g.took step).line → (t : Bool) × StandsForServing sv (with_line t r line).serving × Agrees start new words (with_line t r line)
+  pub agrees : Appends mid.written new.written (given g.took step).line → (t : Bool) × RepresentsServing sv (with_line t r line).serving × Agrees start new words (with_line t r line)
   agrees h = (
     way.0,
-    subst (λ (x : Run). StandsForServing sv x.serving) (sym way.1) a.replied.stands,
+    subst (λ (x : Run). RepresentsServing sv x.serving) (sym way.1) a.replied.represents,
     record {
       gave = record {
         lines = subst (λ (l : List ℕ). Appends start.written new.written l) (sym (ap lines_of answers_so ∙ lines_more r.answers (given g.took step))) (line_so (given g.took step).line h);
@@ -91,8 +91,8 @@ module _ (start old mid new : Outside) (words : Option (List (List ℕ))) (sv : 
     },
   )
 
-  -- a front part of it
-  pub begun : (images : List ℕ → Type 0) → AllStandFor images (joins_of a.reply.0) → (later : List Line) → AppendsFront mid.written new.written (given g.took step).line → HasBegun start new images r (until_quit (line ∷ later))
+  -- a prefix of it
+  pub begun : (images : List ℕ → Type 0) → AllRepresent images (joins_of a.reply.0) → (later : List Line) → AppendsPrefix mid.written new.written (given g.took step).line → HasBegun start new images r (until_quit (line ∷ later))
   begun images all later h = record {
     line = line;
     took = way.0;
@@ -106,5 +106,5 @@ module _ (start old mid new : Outside) (words : Option (List (List ℕ))) (sv : 
       frames = frames_so;
       failed = failed_so;
     };
-    kept = subst (λ (x : Run). AllStandFor images (joins_of x.serving)) (sym way.1) all;
+    kept = subst (λ (x : Run). AllRepresent images (joins_of x.serving)) (sym way.1) all;
   }

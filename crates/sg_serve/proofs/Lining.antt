@@ -7,7 +7,7 @@ use Rattle.sg_answers.specs.Answers.{failed_text, nothing_text, unknown_text, wr
 use Rattle.sg_answers.specs.declared.line.Wrong.TheVariants.{Form}
 use Rattle.sg_base.specs.Outside.{HasRisen}
 use Rattle.sg_input.specs.Lines.{Line, Whole}
-use Rattle.sg_keep.specs.Kept.{AllStandFor}
+use Rattle.sg_keep.specs.Kept.{AllRepresent}
 use Rattle.sg_model.specs.Lists.{first_some}
 use Rattle.sg_play.specs.Steps.{Step, frames_in}
 use Rattle.sg_protocol.specs.Calls.{Abandon, Event, Refusal}
@@ -26,9 +26,9 @@ use Rattle.sg_serve.specs.declared.fault.ServeFault.{ServeFault}
 use Rattle.sg_serve.specs.declared.fault.ServeFault.TheVariants.{DiskFailed}
 use Rattle.sg_serve.specs.declared.server.Server.{Server}
 use Rattle.sg_serve.specs.Lines.{Run, asked, asks_quit, gives, is_quit, receipt, until_quit, with_line}
-use Rattle.sg_serve.specs.Served.{StandBetween, images_if, joins_of}
+use Rattle.sg_serve.specs.Served.{RepresentBetween, images_if, joins_of}
 use Rattle.sg_serve.specs.Serving.{Reply, Serving, calls, of_session, repeats, replies, says, sends_again, sids_of, takes}
-use Rattle.sg_serve.specs.Standing.{CameToAnswer, HasReplied, HoldsJoins, Received, Replied, StandEither, StandsForServing, some_ok}
+use Rattle.sg_serve.specs.Representation.{CameToAnswer, HasReplied, HoldsJoins, Received, Replied, RepresentEither, RepresentsServing, some_ok}
 use Rattle.sg_serve.proofs.Answering.{asked_plain, between_all, not_quit, plain, waited}
 use Rattle.sg_serve.proofs.Asking.{holds_all}
 use Rattle.sg_serve.proofs.Replying.{none_called, replied_so, said}
@@ -63,7 +63,7 @@ mapped_ok (Err e) P Q f h = tt
 -- ---- what failed without a call
 
 -- a request that keeps no join: on Ok it replied, and otherwise the joins are kept
-pub replied_plain : (sv new : Server) (may_leave : List ℕ → Type 0) (s : Serving) (a : Reply) (r : Result Step ServeFault) → HoldsJoins sv may_leave → StandsForServing sv s → IfOk r (λ step. HasReplied new step a) → Replied (images_if (is_some sv.ledger) may_leave) s new a r
+pub replied_plain : (sv new : Server) (may_leave : List ℕ → Type 0) (s : Serving) (a : Reply) (r : Result Step ServeFault) → HoldsJoins sv may_leave → RepresentsServing sv s → IfOk r (λ step. HasReplied new step a) → Replied (images_if (is_some sv.ledger) may_leave) s new a r
 replied_plain sv new may_leave s a r holds st h = replied_so (images_if (is_some sv.ledger) may_leave) s new a r h (none_called (images_if (is_some sv.ledger) may_leave) s a (holds_all sv sv may_leave s refl holds st))
 
 -- ---- a delivery makes no frame
@@ -92,14 +92,14 @@ wait_given images sv coming old new r limited found (Ok step) f c h = record {
   risen = λ e. absurd (cc);
   coming_left = c;
 }
-wait_given images sv coming old new r limited found (Err fault) f c h = subst (λ (o : Option (List ℕ)). StandEither images r.serving (takes r.serving o)) f h
+wait_given images sv coming old new r limited found (Err fault) f c h = subst (λ (o : Option (List ℕ)). RepresentEither images r.serving (takes r.serving o)) f h
 
 -- the link failed, which is said
-pub wait_failed : (images : List ℕ → Type 0) (sv : Server) (coming : Option (List Coming)) (old new : ℕ) (r : Run) (limited : Bool) (res : Result Step ServeFault) → AllStandFor images (joins_of r.serving) → StandsForServing sv r.serving → HasRisen old new → coming ≡ Some r.coming
+pub wait_failed : (images : List ℕ → Type 0) (sv : Server) (coming : Option (List Coming)) (old new : ℕ) (r : Run) (limited : Bool) (res : Result Step ServeFault) → AllRepresent images (joins_of r.serving) → RepresentsServing sv r.serving → HasRisen old new → coming ≡ Some r.coming
     → IfOk res (λ x. x ≡ record { line = failed_text; frames = [] }) → Received images sv coming old new r limited res
 wait_failed images sv coming old new r limited (Ok step) all st risen c h = record {
   got = false;
-  replied = record { stands = st; is_step = h };
+  replied = record { represents = st; is_step = h };
   quiet = ap (λ (s : Step). s.frames) h;
   risen = λ e. risen;
   coming_left = c;
@@ -110,14 +110,14 @@ wait_failed images sv coming old new r limited (Err fault) all st risen c h = no
 
 -- a line whose form is wrong
 pub wrong_form : (images : List ℕ → Type 0) (sv : Server) (words : Option (List (List ℕ))) (coming : Option (List Coming)) (old new : ℕ) (r : Run) (line : Line) (res : Result Step ServeFault) → asks_quit line ≡ false → ((took : Bool) → with_line took r line ≡ gives took r (says r.serving (wrong_text Form)))
-    → AllStandFor images (joins_of r.serving) → StandsForServing sv r.serving → words ≡ Some r.serving.play.words → coming ≡ Some r.coming → IfOk res (λ x. x ≡ record { line = wrong_text Form; frames = [] }) → CameToAnswer images sv words coming old new r line (some_ok res)
+    → AllRepresent images (joins_of r.serving) → RepresentsServing sv r.serving → words ≡ Some r.serving.play.words → coming ≡ Some r.coming → IfOk res (λ x. x ≡ record { line = wrong_text Form; frames = [] }) → CameToAnswer images sv words coming old new r line (some_ok res)
 wrong_form images sv words coming old new r line res goes e all st w c h =
     plain images sv words coming old new r line (says r.serving (wrong_text Form)) res goes e (on_ok res _ w) c
     (replied_so images r.serving sv (says r.serving (wrong_text Form)) res (said sv r.serving (wrong_text Form) res st h) (none_called images r.serving (says r.serving (wrong_text Form)) all))
 
 -- bytes that are no request
 pub no_request : (images : List ℕ → Type 0) (sv : Server) (words : Option (List (List ℕ))) (coming : Option (List Coming)) (old new : ℕ) (r : Run) (bytes : List ℕ) (res : Result Step ServeFault) → None ≡ request_of bytes
-    → AllStandFor images (joins_of r.serving) → StandsForServing sv r.serving → words ≡ Some r.serving.play.words → coming ≡ Some r.coming → IfOk res (λ x. x ≡ record { line = wrong_text Form; frames = [] }) → CameToAnswer images sv words coming old new r (Whole bytes) (some_ok res)
+    → AllRepresent images (joins_of r.serving) → RepresentsServing sv r.serving → words ≡ Some r.serving.play.words → coming ≡ Some r.coming → IfOk res (λ x. x ≡ record { line = wrong_text Form; frames = [] }) → CameToAnswer images sv words coming old new r (Whole bytes) (some_ok res)
 no_request images sv words coming old new r bytes res e all st w c h =
     wrong_form images sv words coming old new r (Whole bytes) res (ap (λ (o : Option Request). option_map_or is_quit o false) (sym e))
     (λ took. ap (λ (o : Option Request). option_map_or (asked took r) o (gives took r (says r.serving (wrong_text Form)))) (sym e)) all st w c h
@@ -137,7 +137,7 @@ asked_other images sv words coming old new r bytes q res e not_end not_wait w c 
     (λ took. ap (λ (o : Option Request). option_map_or (asked took r) o (gives took r (says r.serving (wrong_text Form)))) (sym e) ∙ asked_plain took r q not_wait) w c h
 
 -- the line couldn't be read
-pub unread : (images : List ℕ → Type 0) (r : Run) (line : Line) (later : List Line) → AllStandFor images (joins_of r.serving) → StandBetween images r (until_quit (line ∷ later))
+pub unread : (images : List ℕ → Type 0) (r : Run) (line : Line) (later : List Line) → AllRepresent images (joins_of r.serving) → RepresentBetween images r (until_quit (line ∷ later))
 unread images r line later all = between_all images r (until_quit (line ∷ later)) all
 
 -- ---- an answer that there is

@@ -14,7 +14,7 @@ use Rattle.sg_protocol.specs.Graph.{Graph}
 use Rattle.sg_protocol.specs.Keyring.{Keyring, Program}
 use Rattle.sg_protocol.specs.Node.{Node}
 use Rattle.sg_protocol.specs.NodeAfter.{node_after}
-use Rattle.sg_protocol.specs.Past.{AreAnswers, Called, Past, new_node, node_after_all, node_of, past_after}
+use Rattle.sg_protocol.specs.Past.{AreAnswers, AnsweredCall, Past, new_node, node_after_all, node_of, past_after}
 use Rattle.sg_protocol.specs.Texts.{Hash, real}
 use Rattle.sg_read.specs.Adding.{is_twice, known_values}
 use Rattle.sg_request.specs.Request.{request_of}
@@ -89,7 +89,7 @@ by_line took r (Whole bytes) = run_option took r (request_of bytes) _ (inl refl)
 
 -- ---- answers
 
-answers_more : (sha : Hash) (n : Node) (cs : List Called) (c : Call) → AreAnswers sha n cs → AreAnswers sha n (cs ++ record { call = c; answer = answer sha (node_after_all n cs) c } ∷ [])
+answers_more : (sha : Hash) (n : Node) (cs : List AnsweredCall) (c : Call) → AreAnswers sha n cs → AreAnswers sha n (cs ++ record { call = c; answer = answer sha (node_after_all n cs) c } ∷ [])
 answers_more sha n [] c h = (refl, tt)
 answers_more sha n (d ∷ cs) c h = (h.0, answers_more sha (node_after n d.call d.answer) cs c h.1)
 

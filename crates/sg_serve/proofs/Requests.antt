@@ -5,7 +5,7 @@ use Rattle.sg_base.specs.Words.{name}
 use Rattle.sg_model.specs.Names.{Name, is_name}
 use Rattle.sg_sched.specs.Format.CraftReading.{cast}
 use Rattle.sg_sched.specs.Format.Forms.{is_given}
-use Rattle.sg_sched.specs.Format.Reading.{Left, after, ended, given, given_of, givens, split_at, word}
+use Rattle.sg_sched.specs.Format.Reading.{WordsLeft, after, ended, given, given_of, givens, split_at, word}
 use Rattle.sg_sched.specs.Format.Said.{Given, Word}
 use Rattle.sg_sched.specs.Format.Values.{is_value}
 use Rattle.sg_sched.specs.Text.{words}
@@ -42,7 +42,7 @@ givens_on : (o : Option Given) (later : Option (List Given)) (vs : List Given) �
 givens_on None later vs one more e = absurd (cc)
 givens_on (Some v) later vs one more e = given_more v later vs (one v refl) more e
 
-givens_ok : (ws : Left) (vs : List Given) → givens ws ≡ Some vs → list_all is_given vs ≡ true
+givens_ok : (ws : WordsLeft) (vs : List Given) → givens ws ≡ Some vs → list_all is_given vs ≡ true
 givens_ok [] vs e = subst (λ (xs : List Given). list_all is_given xs ≡ true) (let z : [] ≡ vs = (cc) in z) refl
 givens_ok (w ∷ ws) vs e = givens_on (given w) (givens ws) vs (given_ok w) (givens_ok ws) e
 
@@ -66,10 +66,10 @@ nothing q e = absurd (cc)
 exactly : (x q : Request) → AreGiven x → Some x ≡ Some q → AreGiven q
 exactly x q h e = subst AreGiven (let z : x ≡ q = (cc) in z) h
 
-ends : (x : Request) (ws : Left) (q : Request) → AreGiven x → ended (Some x) ws ≡ Some q → AreGiven q
+ends : (x : Request) (ws : WordsLeft) (q : Request) → AreGiven x → ended (Some x) ws ≡ Some q → AreGiven q
 ends x ws q h e = chosen (length ws == 0) (Some x) None q (exactly x q h) (nothing q) e
 
-start_given : (ws : Left) (q : Request) → start_form ws ≡ Some q → AreGiven q
+start_given : (ws : WordsLeft) (q : Request) → start_form ws ≡ Some q → AreGiven q
 unfolding start_form
 start_given ws q e =
     and_then _ (word name ws) q
@@ -78,7 +78,7 @@ start_given ws q e =
     (λ names. ends (Start graph.0 v.0 names.0) names.1 q tt)))
     e
 
-act_given : (ws : Left) (q : Request) → act_form ws ≡ Some q → AreGiven q
+act_given : (ws : WordsLeft) (q : Request) → act_form ws ≡ Some q → AreGiven q
 unfolding act_form
 act_given ws q e =
     and_then _ (word session ws) q
@@ -86,16 +86,16 @@ act_given ws q e =
     (λ label. mapped (Act n.0 label.0) (givens label.1) q (givens_ok label.1)))
     e
 
-receive_given : (ws : Left) (q : Request) → receive_form ws ≡ Some q → AreGiven q
+receive_given : (ws : WordsLeft) (q : Request) → receive_form ws ≡ Some q → AreGiven q
 unfolding receive_form
 receive_given [] q e = exactly (Receive None) q tt e
 receive_given (w ∷ ws) q e = and_then _ (word milliseconds (w ∷ ws)) q (λ ms. ends (Receive (Some ms.0)) ms.1 q tt) e
 
-quit_given : (ws : Left) (q : Request) → quit_form ws ≡ Some q → AreGiven q
+quit_given : (ws : WordsLeft) (q : Request) → quit_form ws ≡ Some q → AreGiven q
 unfolding quit_form
 quit_given ws q e = ends Quit ws q tt e
 
-short_given : (w : Word) (ws : Left) (q : Request) → short_form w ws ≡ Some q → AreGiven q
+short_given : (w : Word) (ws : WordsLeft) (q : Request) → short_form w ws ≡ Some q → AreGiven q
 unfolding short_form
 short_given w ws q e =
     chosen (bytes_eq w (codes "recv")) _ _ q (receive_given ws q)
@@ -106,7 +106,7 @@ short_given w ws q e =
     (chosen (bytes_eq w (codes "quit")) _ _ q (quit_given ws q) (nothing q))))))
     e
 
-form_given : (ws : Left) (q : Request) → form ws ≡ Some q → AreGiven q
+form_given : (ws : WordsLeft) (q : Request) → form ws ≡ Some q → AreGiven q
 unfolding form
 form_given [] q e = nothing q e
 form_given (w ∷ ws) q e = chosen (bytes_eq w (codes "start")) _ _ q (start_given ws q) (chosen (bytes_eq w (codes "act")) _ _ q (act_given ws q) (short_given w ws q)) e

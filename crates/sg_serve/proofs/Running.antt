@@ -2,8 +2,8 @@
 use Rattle.std.proofs.Common.{◌≡◌, ℕ, Bool, true, false, List, [], ◌∷◌, ◌++◌, map, Option, Some, None, is_some, IfSome, Result, Ok, Err, refl, sym, ap, ◌∙◌, subst, append_assoc}
 use Rattle.std.proofs.lemmas.List.{append-nil, map-append}
 use Rattle.sg_input.specs.Lines.{Line}
-use Rattle.sg_keep.specs.Kept.{AllStandFor}
-use Rattle.sg_ledger.specs.Format.{Join, Opened, StandsFor}
+use Rattle.sg_keep.specs.Kept.{AllRepresent}
+use Rattle.sg_ledger.specs.Format.{Join, OpenLedger, Represents}
 use Rattle.sg_protocol.specs.Keyring.{Keyring, Program}
 use Rattle.sg_wait.specs.declared.coming.Coming.{Coming}
 use Rattle.sg_serve.specs.declared.fault.ServeFault.{ServeFault}
@@ -11,7 +11,7 @@ use Rattle.sg_serve.specs.declared.fault.ServeFault.TheVariants.{OutOfMemory}
 use Rattle.sg_serve.specs.declared.server.Server.{Server}
 use Rattle.sg_serve.specs.Lines.{Run, asks_quit, until_quit, with_line, with_lines}
 use Rattle.sg_serve.specs.Served.{Agrees, EndedAt, Gave, Outside, Served, images_if, joins_kept, joins_of, opening}
-use Rattle.sg_serve.specs.Standing.{HoldsJoins, Serves, StandsForServing}
+use Rattle.sg_serve.specs.Representation.{HoldsJoins, Serves, RepresentsServing}
 use Rattle.sg_serve.proofs.Answering.{between_all}
 use Rattle.sg_serve.proofs.Appending.{kept}
 use Rattle.sg_serve.proofs.Giving.{goes_behind}
@@ -23,51 +23,51 @@ lines_both r [] ys = refl
 lines_both r (x ∷ xs) ys = lines_both (with_line x.1 r x.0) xs ys
 
 pub serves_more : (start old new : Outside) (words0 words : Option (List (List ℕ))) (sv0 sv : Server) (first : Run) (all left : List Line) (line : Line) (h : Serves start old words0 sv0 first all (line ∷ left)) → asks_quit line ≡ false
-    → (t : Bool) × StandsForServing sv (with_line t (with_lines first h.front) line).serving × Agrees start new words (with_line t (with_lines first h.front) line) → Serves start new words sv first all left
+    → (t : Bool) × RepresentsServing sv (with_line t (with_lines first h.prefix) line).serving × Agrees start new words (with_line t (with_lines first h.prefix) line) → Serves start new words sv first all left
 serves_more start old new words0 words sv0 sv first all left line h goes x = record {
-  front = h.front ++ (line, x.0) ∷ [];
-  is = h.is ∙ ap (λ (ls : List Line). map (λ (y : Line × Bool). y.0) h.front ++ ls) (goes_behind line left goes)
-      ∙ sym (append_assoc (map (λ (y : Line × Bool). y.0) h.front) (line ∷ []) (until_quit left))
-      ∙ ap (λ (ls : List Line). ls ++ until_quit left) (sym (map-append (λ (y : Line × Bool). y.0) h.front ((line, x.0) ∷ [])));
-  stands = subst (λ (r : Run). StandsForServing sv r.serving) (sym (lines_both first h.front ((line, x.0) ∷ []))) x.1;
-  agrees = subst (λ (r : Run). Agrees start new words r) (sym (lines_both first h.front ((line, x.0) ∷ []))) x.2;
+  prefix = h.prefix ++ (line, x.0) ∷ [];
+  is = h.is ∙ ap (λ (ls : List Line). map (λ (y : Line × Bool). y.0) h.prefix ++ ls) (goes_behind line left goes)
+      ∙ sym (append_assoc (map (λ (y : Line × Bool). y.0) h.prefix) (line ∷ []) (until_quit left))
+      ∙ ap (λ (ls : List Line). ls ++ until_quit left) (sym (map-append (λ (y : Line × Bool). y.0) h.prefix ((line, x.0) ∷ [])));
+  represents = subst (λ (r : Run). RepresentsServing sv r.serving) (sym (lines_both first h.prefix ((line, x.0) ∷ []))) x.1;
+  agrees = subst (λ (r : Run). Agrees start new words r) (sym (lines_both first h.prefix ((line, x.0) ∷ []))) x.2;
 }
 
 -- the run ended there
 pub served_at : (start old new : Outside) (words0 words : Option (List (List ℕ))) (images : List ℕ → Type 0) (sv : Server) (first : Run) (all left : List Line) (result : Result (Unit {0}) ServeFault) (h : Serves start old words0 sv first all left)
-    → EndedAt start new words images (with_lines first h.front) (until_quit left) result → Served start new words images first all result
-served_at start old new words0 words images sv first all left result h e = record { front = h.front; rest = until_quit left; is = h.is; ended = e }
+    → EndedAt start new words images (with_lines first h.prefix) (until_quit left) result → Served start new words images first all result
+served_at start old new words0 words images sv first all left result h e = record { prefix = h.prefix; rest = until_quit left; is = h.is; ended = e }
 
 -- ---- a run begins
 
-opened_is : (o : Option Opened) (l : Opened) → o ≡ Some l → IfSome o (λ x. x.failed ≡ false) → l ≡ record { joins = joins_kept o; failed = false }
+opened_is : (o : Option OpenLedger) (l : OpenLedger) → o ≡ Some l → IfSome o (λ x. x.failed ≡ false) → l ≡ record { joins = joins_kept o; failed = false }
 opened_is None l e h = absurd (cc)
 opened_is (Some m) l e h = sym (let z : m ≡ l = (cc) in z) ∙ (λ i. record { joins = m.joins; failed = h i })
 
-pub holds_first : (sv : Server) (ledger : Option Opened) (may_leave : List ℕ → Type 0) (keys : Keyring) (programs : List Program) → sv.ledger ≡ ledger → StandsForServing sv (opening keys programs (joins_kept ledger) [] []).serving
-    → IfSome ledger (λ l. l.failed ≡ false) → AllStandFor (images_if (is_some ledger) may_leave) (joins_kept ledger) → HoldsJoins sv may_leave
+pub holds_first : (sv : Server) (ledger : Option OpenLedger) (may_leave : List ℕ → Type 0) (keys : Keyring) (programs : List Program) → sv.ledger ≡ ledger → RepresentsServing sv (opening keys programs (joins_kept ledger) [] []).serving
+    → IfSome ledger (λ l. l.failed ≡ false) → AllRepresent (images_if (is_some ledger) may_leave) (joins_kept ledger) → HoldsJoins sv may_leave
 holds_first sv ledger may_leave keys programs is st works all = record {
   past = record { keys = keys; programs = programs; first = joins_kept ledger; calls = [] };
-  stands = st.player.node;
+  represents = st.player.node;
   told = st.player.told;
   ledger = λ l e. opened_is ledger l (sym is ∙ e) works ∙ ap (λ (js : List Join). record { joins = js; failed = false }) (sym st.player.node.joins);
-  images = λ image left. subst (StandsFor image) (sym st.player.node.joins) (all image (ap is_some (sym is) ∙ left.0, left.1));
+  images = λ image left. subst (Represents image) (sym st.player.node.joins) (all image (ap is_some (sym is) ∙ left.0, left.1));
 }
 
 -- the joins of the ledger are those of a run that begins
-pub stand_first : (images : List ℕ → Type 0) (keys : Keyring) (programs : List Program) (first : List Join) (coming : List Coming) (words : List (List ℕ)) → AllStandFor images first → AllStandFor images (joins_of (opening keys programs first coming words).serving)
-stand_first images keys programs first coming words all = subst (AllStandFor images) (sym (append-nil first)) all
+pub represent_first : (images : List ℕ → Type 0) (keys : Keyring) (programs : List Program) (first : List Join) (coming : List Coming) (words : List (List ℕ)) → AllRepresent images first → AllRepresent images (joins_of (opening keys programs first coming words).serving)
+represent_first images keys programs first coming words all = subst (AllRepresent images) (sym (append-nil first)) all
 
 -- nothing was given
 pub gave_none : (o : Outside) (keys : Keyring) (programs : List Program) (first : List Join) (coming : List Coming) (words : List (List ℕ)) → Gave o o (opening keys programs first coming words)
 gave_none o keys programs first coming words = record { lines = kept o.written o.written refl; frames = kept o.sent o.sent refl; failed = rose_none o.failed }
 
 -- memory ran out before its first line
-pub not_begun : (o : Outside) (left : Option (List (List ℕ))) (images : List ℕ → Type 0) (keys : Keyring) (programs : List Program) (first : List Join) (coming : List Coming) (words : List (List ℕ)) (lines : List Line) (f : ServeFault) → f ≡ OutOfMemory → AllStandFor images first
+pub not_begun : (o : Outside) (left : Option (List (List ℕ))) (images : List ℕ → Type 0) (keys : Keyring) (programs : List Program) (first : List Join) (coming : List Coming) (words : List (List ℕ)) (lines : List Line) (f : ServeFault) → f ≡ OutOfMemory → AllRepresent images first
     → Served o o left images (opening keys programs first coming words) lines (Err f)
 not_begun o left images keys programs first coming words lines f e all = subst (λ (x : ServeFault). Served o o left images (opening keys programs first coming words) lines (Err x)) (sym e) (record {
-  front = [];
+  prefix = [];
   rest = until_quit lines;
   is = refl;
-  ended = record { gave = gave_none o keys programs first coming words; kept = between_all images (opening keys programs first coming words) (until_quit lines) (stand_first images keys programs first coming words all) };
+  ended = record { gave = gave_none o keys programs first coming words; kept = between_all images (opening keys programs first coming words) (until_quit lines) (represent_first images keys programs first coming words all) };
 })

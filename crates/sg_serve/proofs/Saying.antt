@@ -1,4 +1,4 @@
--- What an answer that makes no call comes to, in each state that the server stands for.
+-- What an answer that makes no call comes to, in each state that the server represents.
 use Rattle.std.proofs.Common.{◌≡◌, ℕ, ◌-◌, ◌<◌, ◌≤◌, Bool, true, false, if◌then◌else◌, List, [], ◌++◌, length, map, get_or, Option, Some, None, is_some, option_map, IfOk, OnOk, OnErr, Result, Ok, Err, Bor, refl, sym, ap, ◌∙◌, subst}
 use Rattle.std.specs.Prelude.{IsOk, slice_get, unwrap_or}
 use Rattle.std.specs.Option.{option_copied, option_map_or}
@@ -15,7 +15,7 @@ use Rattle.sg_serve.specs.declared.server.Server.{Server}
 use Rattle.sg_serve.specs.Lines.{given, unsent_line}
 use Rattle.sg_serve.specs.Posted.{posted}
 use Rattle.sg_serve.specs.Serving.{Reply, Serving, graph_at, is_live, of_session, repeats, says, sends_again, sids_of, turn_line}
-use Rattle.sg_serve.specs.Standing.{HasReplied, StandsForServing}
+use Rattle.sg_serve.specs.Representation.{HasReplied, RepresentsServing}
 
 -- ---- a text
 
@@ -95,19 +95,19 @@ is_over s n sid t live = ap (λ (b : Bool). if b then waits_text n else over_tex
 -- ---- in each state
 
 -- a text that is this one
-pub text_each : (sv : Server) (text : List ℕ) (line : Serving → List ℕ) (r : Result Step ServeFault) → ((s : Serving) → StandsForServing sv s → text ≡ line s) → IfOk r (λ x. x ≡ record { line = text; frames = [] })
-    → IfOk r (λ x. (s : Serving) → StandsForServing sv s → x ≡ record { line = line s; frames = [] })
+pub text_each : (sv : Server) (text : List ℕ) (line : Serving → List ℕ) (r : Result Step ServeFault) → ((s : Serving) → RepresentsServing sv s → text ≡ line s) → IfOk r (λ x. x ≡ record { line = text; frames = [] })
+    → IfOk r (λ x. (s : Serving) → RepresentsServing sv s → x ≡ record { line = line s; frames = [] })
 text_each sv text line (Ok step) e h = λ s st. h ∙ ap (λ (l : List ℕ). record { line = l; frames = [] }) (e s st)
 text_each sv text line (Err f) e h = tt
 
 -- an answer that is this one
-pub replied_each : (sv : Server) (step : Step) (reply : Serving → Reply) (r : Result Step ServeFault) → ((s : Serving) → StandsForServing sv s → (s, step) ≡ reply s) → IfOk r (λ x. x ≡ step)
-    → IfOk r (λ x. (s : Serving) → StandsForServing sv s → HasReplied sv x (reply s))
-replied_each sv step reply (Ok x) e h = λ s st. subst (λ (y : Reply). HasReplied sv x y) (e s st) (record { stands = st; is_step = h })
+pub replied_each : (sv : Server) (step : Step) (reply : Serving → Reply) (r : Result Step ServeFault) → ((s : Serving) → RepresentsServing sv s → (s, step) ≡ reply s) → IfOk r (λ x. x ≡ step)
+    → IfOk r (λ x. (s : Serving) → RepresentsServing sv s → HasReplied sv x (reply s))
+replied_each sv step reply (Ok x) e h = λ s st. subst (λ (y : Reply). HasReplied sv x y) (e s st) (record { represents = st; is_step = h })
 replied_each sv step reply (Err f) e h = tt
 
 -- an answer of one text in each state
-pub replied_line : (sv : Server) (line : Serving → List ℕ) (reply : Serving → Reply) (r : Result Step ServeFault) → ((s : Serving) → StandsForServing sv s → says s (line s) ≡ reply s)
-    → IfOk r (λ x. (s : Serving) → StandsForServing sv s → x ≡ record { line = line s; frames = [] }) → IfOk r (λ x. (s : Serving) → StandsForServing sv s → HasReplied sv x (reply s))
-replied_line sv line reply (Ok x) e h = λ s st. subst (λ (y : Reply). HasReplied sv x y) (e s st) (record { stands = st; is_step = h s st })
+pub replied_line : (sv : Server) (line : Serving → List ℕ) (reply : Serving → Reply) (r : Result Step ServeFault) → ((s : Serving) → RepresentsServing sv s → says s (line s) ≡ reply s)
+    → IfOk r (λ x. (s : Serving) → RepresentsServing sv s → x ≡ record { line = line s; frames = [] }) → IfOk r (λ x. (s : Serving) → RepresentsServing sv s → HasReplied sv x (reply s))
+replied_line sv line reply (Ok x) e h = λ s st. subst (λ (y : Reply). HasReplied sv x y) (e s st) (record { represents = st; is_step = h s st })
 replied_line sv line reply (Err f) e h = tt

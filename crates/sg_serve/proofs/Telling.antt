@@ -1,4 +1,4 @@
--- What a server stands for once it has told what came of a call.
+-- What a server represents once it has told what came of a call.
 use Rattle.std.proofs.Common.{◌≡◌, ◌≤◌, ◌<◌, ℕ, ◌+◌, Bool, true, false, if◌then◌else◌, List, [], ◌∷◌, ◌++◌, length, Option, Some, None, option_map, IfSome, refl, sym, ap, ◌∙◌, subst}
 use Rattle.std.proofs.lemmas.Bool.{le-ltb, lt-ltb}
 use Rattle.std.specs.Option.{option_map_or}
@@ -9,7 +9,7 @@ use Rattle.sg_play.proofs.Called.{is_addressed}
 use Rattle.sg_play.specs.Asking.{addressed, sealed_in}
 use Rattle.sg_play.specs.Played.{Play, answer_in, called, step_in}
 use Rattle.sg_play.specs.Posting.{frames_made}
-use Rattle.sg_play.specs.Standing.{StandsForPlay}
+use Rattle.sg_play.specs.Representation.{RepresentsPlay}
 use Rattle.sg_play.specs.Steps.{Step, frames_in, frames_of}
 use Rattle.sg_play.specs.declared.player.Player.{Player}
 use Rattle.sg_protocol.specs.Calls as Protocol
@@ -25,7 +25,7 @@ use Rattle.sg_report.specs.Told.{Told, session_told, sid_left, told_answer}
 use Rattle.sg_serve.specs.declared.server.Server.{Server}
 use Rattle.sg_serve.specs.Posted.{posted}
 use Rattle.sg_serve.specs.Serving.{Serving, as_sent, calls, frame_made, graphs_with, is_live, last_of, last_with, session_in, sids_of}
-use Rattle.sg_serve.specs.Standing.{HasCalled, HasReplied}
+use Rattle.sg_serve.specs.Representation.{HasCalled, HasReplied}
 
 -- ---- graphs
 
@@ -68,10 +68,10 @@ module _ (sv : Server) (pl : Player) (s : Serving) (c : Call) (told : Option Tol
   made_is number is = frame_is s.play.past.keys next number (answer_in s.play c) told frame h.asked.is_told is h.is_frame
 
   -- the line, the frame, the graphs and the last frames make the reply
-  pub replied : (line : List ℕ) (kept copy : Option SentFrame) (gs : List (Option Graph)) (session : Option (List ℕ)) (last : List Kept) (step : Step) → (line ≡ (step_in s.play c).line) × StandsForPlay pl (called s.play c) → kept ≡ frame_made s.play c → copy ≡ kept
+  pub replied : (line : List ℕ) (kept copy : Option SentFrame) (gs : List (Option Graph)) (session : Option (List ℕ)) (last : List Kept) (step : Step) → (line ≡ (step_in s.play c).line) × RepresentsPlay pl (called s.play c) → kept ≡ frame_made s.play c → copy ≡ kept
       → gs ≡ graphs_with (called s.play c) graph sv.graphs → session ≡ session_in s.play c → last ≡ last_of (called s.play c) session kept sv.last → step ≡ record { line = line; frames = posted copy } → (new : Server) → new ≡ record sv { player = pl; graphs = gs; last = last } → HasReplied new step (calls s c)
   replied line kept copy gs session last step t k e g ss l is new new_is = subst (λ (x : Server). HasReplied x step (calls s c)) (sym new_is) (record {
-    stands = record {
+    represents = record {
       player = t.1;
       programs = h.programs;
       graphs = g ∙ (λ i. graphs_with (called s.play c) (h.asked.is_graph i) (h.graphs i));

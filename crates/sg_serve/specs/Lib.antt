@@ -4,5 +4,5 @@ pub mod Serving
 pub mod Lines
 pub mod Served
 pub mod Faults
-pub mod Standing
+pub mod Representation
 pub mod Laws

@@ -5,8 +5,8 @@ use Rattle.sg_base.specs.declared.address.Addr.{Addr}
 use Rattle.sg_base.specs.Outside.{Appends}
 use Rattle.sg_input.specs.Lines.{Line}
 use Rattle.sg_keep.specs.Joins.{joins_made}
-use Rattle.sg_keep.specs.Kept.{AllStandFor}
-use Rattle.sg_ledger.specs.Format.{Join, Opened, StandsFor}
+use Rattle.sg_keep.specs.Kept.{AllRepresent}
+use Rattle.sg_ledger.specs.Format.{Join, OpenLedger, Represents}
 use Rattle.sg_play.specs.Played.{beginning}
 use Rattle.sg_play.specs.Steps.{Step, lines_of, frames_of}
 use Rattle.sg_protocol.specs.Keyring.{Keyring, Program}
@@ -39,7 +39,7 @@ pub record Agrees (old new : Outside) (words : Option (List (List ℕ))) (r : Ru
   pub words_left : words ≡ Some (r.serving).play.words
   pub coming : new.coming ≡ Some r.coming
 
--- so with the next line, of whose answer a front part was written
+-- so with the next line, of whose answer a prefix was written
 pub record Begun (old new : Outside) (r : Run) (line : Line) (took : Bool) : Type 0 where
   pub step : Step
   pub is_step : (with_line took r line).answers ≡ r.answers ++ step ∷ []
@@ -55,24 +55,24 @@ abbrev pub joins_of : Serving → List Join
 joins_of s = s.play.past.first ++ joins_made s.play.past.calls
 
 -- the joins of a ledger, if there is one
-abbrev pub joins_kept : Option Opened → List Join
+abbrev pub joins_kept : Option OpenLedger → List Join
 joins_kept ledger = option_map_or (λ l. l.joins) ledger []
 
 -- the images of a ledger, if there is one: what a crash may leave of the disk
 abbrev pub images_if : (kept : Bool) → (may_leave : List ℕ → Type 0) → List ℕ → Type 0
 images_if kept may_leave image = IsTrue kept × may_leave image
 
--- each image stands for the joins so far, or for those with the next line's
-abbrev pub StandBetween : (images : List ℕ → Type 0) → Run → (rest : List Line) → Type 0
-StandBetween images r [] = AllStandFor images (joins_of r.serving)
-StandBetween images r (line ∷ lines) = (image : List ℕ) → images image → StandsFor image (joins_of r.serving) ⊎ ((took : Bool) × StandsFor image (joins_of (with_line took r line).serving))
+-- each image represents the joins so far, or for those with the next line's
+abbrev pub RepresentBetween : (images : List ℕ → Type 0) → Run → (rest : List Line) → Type 0
+RepresentBetween images r [] = AllRepresent images (joins_of r.serving)
+RepresentBetween images r (line ∷ lines) = (image : List ℕ) → images image → Represents image (joins_of r.serving) ⊎ ((took : Bool) × Represents image (joins_of (with_line took r line).serving))
 
 -- ---- the end
 
 -- whole answers were given, and nothing of the next line's
 pub record HasStopped (old new : Outside) (images : List ℕ → Type 0) (r : Run) (rest : List Line) : Type 0 where
   pub gave : Gave old new r
-  pub kept : StandBetween images r rest
+  pub kept : RepresentBetween images r rest
 
 -- whole answers, and one that was begun, whose join is kept
 pub record HasBegun (old new : Outside) (images : List ℕ → Type 0) (r : Run) (rest : List Line) : Type 0 where
@@ -81,12 +81,12 @@ pub record HasBegun (old new : Outside) (images : List ℕ → Type 0) (r : Run)
   pub later : List Line
   pub is_next : rest ≡ line ∷ later
   pub begun : Begun old new r line took
-  pub kept : AllStandFor images (joins_of (with_line took r line).serving)
+  pub kept : AllRepresent images (joins_of (with_line took r line).serving)
 
 -- a run that has come so far, with these lines before it, ended there
 abbrev pub EndedAt : (old new : Outside) → (words : Option (List (List ℕ))) → (images : List ℕ → Type 0) → Run → (rest : List Line) → Result (Unit {0}) ServeFault → Type 0
-EndedAt old new words images r rest (Ok u) = (rest ≡ []) × Agrees old new words r × AllStandFor images (joins_of r.serving)
-EndedAt old new words images r rest (Err InputFailed) = Gave old new r × AllStandFor images (joins_of r.serving)
+EndedAt old new words images r rest (Ok u) = (rest ≡ []) × Agrees old new words r × AllRepresent images (joins_of r.serving)
+EndedAt old new words images r rest (Err InputFailed) = Gave old new r × AllRepresent images (joins_of r.serving)
 EndedAt old new words images r rest (Err WriteFailed) = HasBegun old new images r rest
 EndedAt old new words images r rest (Err DiskFailed) = HasStopped old new images r rest
 EndedAt old new words images r rest (Err OutOfMemory) = HasStopped old new images r rest
@@ -104,7 +104,7 @@ opening keys programs first coming words = record {
 
 -- a run of these lines: the first of them up to the end that is asked for were answered, where it ended well all of these
 pub record Served (old new : Outside) (words : Option (List (List ℕ))) (images : List ℕ → Type 0) (start : Run) (lines : List Line) (result : Result (Unit {0}) ServeFault) : Type 0 where
-  pub front : List (Line × Bool)
+  pub prefix : List (Line × Bool)
   pub rest : List Line
-  pub is : until_quit lines ≡ map (λ x. x.0) front ++ rest
-  pub ended : EndedAt old new words images (with_lines start front) rest result
+  pub is : until_quit lines ≡ map (λ x. x.0) prefix ++ rest
+  pub ended : EndedAt old new words images (with_lines start prefix) rest result

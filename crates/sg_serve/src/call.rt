@@ -6,8 +6,8 @@ ghost use Rattle.sg_request.specs.declared.request.Request.TheVariants as reques
 ghost use Rattle.sg_sched.specs.Format.Forms.{is_given};
 ghost use Rattle.sg_serve.specs.Served.{images_if};
 ghost use Rattle.sg_serve.specs.Serving.{Serving, acts, acts_by, calls, graph_at, of_session, starts, takes};
-ghost use Rattle.sg_serve.specs.Standing.{HasReplied, HoldsJoins, Replied, StandsForServing};
-ghost use Rattle.sg_play.specs.Standing.{KeepsJoins};
+ghost use Rattle.sg_serve.specs.Representation.{HasReplied, HoldsJoins, Replied, RepresentsServing};
+ghost use Rattle.sg_play.specs.Representation.{KeepsJoins};
 ghost use Rattle.sg_protocol.specs.Calls.{Abandon};
 ghost use Rattle.sg_walk.specs.Model.{values_of};
 
@@ -21,7 +21,7 @@ use sg_ledger::Disk;
 use sg_play::draw;
 use sg_read::{differ, known_values};
 use sg_sched::Given;
-use sg_sched::place::label_place;
+use sg_sched::index::label_index;
 use sg_script::ScriptStart;
 
 impl<'p> Server<'p> {
@@ -40,8 +40,8 @@ impl<'p> Server<'p> {
         ensures causes { IfErr result (λ e. (e ≡ ServeFault.DiskFailed) ⊎ (e ≡ ServeFault.OutOfMemory)) }
         ensures same { OnOk result (is_some self.new.ledger ≡ is_some self.old.ledger) }
         ensures holds { OnOk result (HoldsJoins self.new (D.may_leave disk.new)) }
-        ensures words { OnOk result ((s : Serving) → StandsForServing self.old s → R.words fresh.old ≡ Some s.play.words → R.words fresh.new ≡ Some (starts s start_of.now).0.play.words) }
-        ensures replied { (s : Serving) → StandsForServing self.old s → R.words fresh.old ≡ Some s.play.words
+        ensures words { OnOk result ((s : Serving) → RepresentsServing self.old s → R.words fresh.old ≡ Some s.play.words → R.words fresh.new ≡ Some (starts s start_of.now).0.play.words) }
+        ensures replied { (s : Serving) → RepresentsServing self.old s → R.words fresh.old ≡ Some s.play.words
             → Replied (images_if (is_some self.old.ledger) (D.may_leave disk.new)) s self.new (starts s start_of.now) result }
     {
         if self.programs.by_name(&start_of.graph).is_none() {
@@ -68,7 +68,7 @@ impl<'p> Server<'p> {
         ensures causes { IfErr result (λ e. (e ≡ ServeFault.DiskFailed) ⊎ (e ≡ ServeFault.OutOfMemory)) }
         ensures same { OnOk result (is_some self.new.ledger ≡ is_some self.old.ledger) }
         ensures holds { OnOk result (HoldsJoins self.new (D.may_leave disk.new)) }
-        ensures replied { (s : Serving) → StandsForServing self.old s
+        ensures replied { (s : Serving) → RepresentsServing self.old s
             → Replied (images_if (is_some self.old.ledger) (D.may_leave disk.new)) s self.new (takes s (option_map (λ bytes. bytes.items) found)) result }
     {
         let Some(bytes) = found else {
@@ -84,7 +84,7 @@ impl<'p> Server<'p> {
     pub(crate) fn abandon(&mut self, number: u32) -> Result<Reply, ServeFault>
         ensures joins { OnOk result (KeepsJoins self.old.player.node self.new.player.node) }
         ensures ledger { OnOk result (self.new.ledger ≡ self.old.ledger) }
-        ensures replied { IfOk result (λ step. (s : Serving) → StandsForServing self.old s → HasReplied self.new step (of_session s number (λ sid. calls s (Abandon sid)))) }
+        ensures replied { IfOk result (λ step. (s : Serving) → RepresentsServing self.old s → HasReplied self.new step (of_session s number (λ sid. calls s (Abandon sid)))) }
         ensures memory { IfErr result (λ e. e ≡ ServeFault.OutOfMemory) }
     {
         let Some(sid) = self.sid(number) else {
@@ -105,8 +105,8 @@ impl<'p> Server<'p> {
         requires given { IsTrue (list_all is_given values.now) }
         ensures joins { OnOk result (KeepsJoins self.old.player.node self.new.player.node) }
         ensures ledger { OnOk result (self.new.ledger ≡ self.old.ledger) }
-        ensures replied { IfOk result (λ step. (s : Serving) → StandsForServing self.old s → R.words fresh.old ≡ Some s.play.words → HasReplied self.new step (of_session s number (λ sid. acts_by s sid (graph_at s number) label.now values.now))) }
-        ensures words { OnOk result ((s : Serving) → StandsForServing self.old s → R.words fresh.old ≡ Some s.play.words → R.words fresh.new ≡ Some (of_session s number (λ sid. acts_by s sid (graph_at s number) label.now values.now)).0.play.words) }
+        ensures replied { IfOk result (λ step. (s : Serving) → RepresentsServing self.old s → R.words fresh.old ≡ Some s.play.words → HasReplied self.new step (of_session s number (λ sid. acts_by s sid (graph_at s number) label.now values.now))) }
+        ensures words { OnOk result ((s : Serving) → RepresentsServing self.old s → R.words fresh.old ≡ Some s.play.words → R.words fresh.new ≡ Some (of_session s number (λ sid. acts_by s sid (graph_at s number) label.now values.now)).0.play.words) }
         ensures memory { IfErr result (λ e. e ≡ ServeFault.OutOfMemory) }
     {
         let Some(sid) = self.sid(number) else {
@@ -115,7 +115,7 @@ impl<'p> Server<'p> {
         let Some(graph) = self.graph(number) else {
             return say_wrong(self.alloc, Wrong::Unknown);
         };
-        let Some(label) = label_place(graph, label) else {
+        let Some(label) = label_index(graph, label) else {
             return say_wrong(self.alloc, Wrong::Unknown);
         };
         let known = match known_values(self.alloc, graph, values) {
@@ -140,7 +140,7 @@ impl<'p> Server<'p> {
     ) -> Result<Reply, ServeFault>
         ensures joins { OnOk result (KeepsJoins self.old.player.node self.new.player.node) }
         ensures ledger { OnOk result (self.new.ledger ≡ self.old.ledger) }
-        ensures replied { IfOk result (λ step. (s : Serving) → StandsForServing self.old s → R.words fresh.old ≡ Some s.play.words → HasReplied self.new step (acts s sid label (values_of values.now))) }
+        ensures replied { IfOk result (λ step. (s : Serving) → RepresentsServing self.old s → R.words fresh.old ≡ Some s.play.words → HasReplied self.new step (acts s sid label (values_of values.now))) }
         ensures words { OnOk result ((s : Serving) → R.words fresh.old ≡ Some s.play.words → R.words fresh.new ≡ Some (acts s sid label (values_of values.now)).0.play.words) }
         ensures memory { IfErr result (λ e. e ≡ ServeFault.OutOfMemory) }
     {

@@ -48,11 +48,11 @@ impl<'p> Graphs<'p> {
         Ok(())
     }
 
-    // The graph at a place.
-    pub fn at(&self, place: usize) -> Option<&'p Graph>
-        ensures { option_copied result ≡ unwrap_or (slice_get self.now place) None }
+    // The graph at an index.
+    pub fn at(&self, index: usize) -> Option<&'p Graph>
+        ensures { option_copied result ≡ unwrap_or (slice_get self.now index) None }
     {
-        match self.list.get(place) {
+        match self.list.get(index) {
             Some(graph) => *graph,
             None => None,
         }

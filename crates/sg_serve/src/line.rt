@@ -6,7 +6,7 @@ ghost use Rattle.sg_serve.specs.Lines.{Run};
 ghost use Rattle.sg_serve.specs.Served.{images_if};
 ghost use Rattle.sg_serve.specs.Serving.{Serving, replies};
 ghost use Rattle.sg_serve.specs.Requests.{AreGiven};
-ghost use Rattle.sg_serve.specs.Standing.{CameToAnswer, HoldsJoins, Received, Replied, StandsForServing, found_line, some_ok};
+ghost use Rattle.sg_serve.specs.Representation.{CameToAnswer, HoldsJoins, Received, Replied, RepresentsServing, found_line, some_ok};
 
 use crate::ServeFault;
 use crate::reply::Reply;
@@ -39,7 +39,7 @@ impl<'p> Server<'p> {
         ensures sent { L.sent link.new ≡ L.sent link.old }
         ensures same { OnOk result (is_some self.new.ledger ≡ is_some self.old.ledger) }
         ensures holds { OnOk result (HoldsJoins self.new (D.may_leave disk.new)) }
-        ensures answered { (r : Run) → StandsForServing self.old r.serving → R.words fresh.old ≡ Some r.serving.play.words → L.coming link.old ≡ Some r.coming
+        ensures answered { (r : Run) → RepresentsServing self.old r.serving → R.words fresh.old ≡ Some r.serving.play.words → L.coming link.old ≡ Some r.coming
             → CameToAnswer (images_if (is_some self.old.ledger) (D.may_leave disk.new)) self.new (R.words fresh.new) (L.coming link.new) (L.faults link.old) (L.faults link.new) r (found_line (option_copied line.entry)) result }
     {
         let Some(bytes) = line else {
@@ -72,7 +72,7 @@ impl<'p> Server<'p> {
         ensures sent { L.sent link.new ≡ L.sent link.old }
         ensures same { OnOk result (is_some self.new.ledger ≡ is_some self.old.ledger) }
         ensures holds { OnOk result (HoldsJoins self.new (D.may_leave disk.new)) }
-        ensures received { (r : Run) → StandsForServing self.old r.serving → L.coming link.old ≡ Some r.coming
+        ensures received { (r : Run) → RepresentsServing self.old r.serving → L.coming link.old ≡ Some r.coming
             → Received (images_if (is_some self.old.ledger) (D.may_leave disk.new)) self.new (L.coming link.new) (L.faults link.old) (L.faults link.new) r (is_some within) result }
     {
         match link.recv_within(self.alloc, within) {
@@ -98,8 +98,8 @@ impl<'p> Server<'p> {
         ensures causes { IfErr result (λ e. (e ≡ ServeFault.DiskFailed) ⊎ (e ≡ ServeFault.OutOfMemory)) }
         ensures same { OnOk result (is_some self.new.ledger ≡ is_some self.old.ledger) }
         ensures holds { OnOk result (HoldsJoins self.new (D.may_leave disk.new)) }
-        ensures words { OnOk result ((s : Serving) → StandsForServing self.old s → R.words fresh.old ≡ Some s.play.words → R.words fresh.new ≡ Some (replies s request.entry).0.play.words) }
-        ensures replied { (s : Serving) → StandsForServing self.old s → R.words fresh.old ≡ Some s.play.words
+        ensures words { OnOk result ((s : Serving) → RepresentsServing self.old s → R.words fresh.old ≡ Some s.play.words → R.words fresh.new ≡ Some (replies s request.entry).0.play.words) }
+        ensures replied { (s : Serving) → RepresentsServing self.old s → R.words fresh.old ≡ Some s.play.words
             → Replied (images_if (is_some self.old.ledger) (D.may_leave disk.new)) s self.new (replies s request.entry) result }
     {
         match request {

@@ -1,6 +1,6 @@
 //! What a line is answered, as a value, and how it is given to the outside.
 ghost use Rattle.std.specs.Prelude.{◌≡◌, ◌≤◌, [], true, false, IfErr, OnErr, OnOk};
-ghost use Rattle.sg_base.specs.Outside.{HasRisen, Appends, AppendsFront};
+ghost use Rattle.sg_base.specs.Outside.{HasRisen, Appends, AppendsPrefix};
 ghost use Rattle.sg_serve.specs.Lines.{given};
 ghost use Rattle.sg_serve.specs.Posted.{posted};
 
@@ -27,7 +27,7 @@ impl Model for Reply {
 }
 
 impl Reply {
-    ghost use Rattle.sg_serve.specs.Standing.{Given};
+    ghost use Rattle.sg_serve.specs.Representation.{Given};
 
     // An answer with a frame, or without one.
     pub fn new(text: Vec<u8>, frame: Option<LastFrame>) -> Reply
@@ -74,7 +74,7 @@ impl Reply {
         ensures failed { OnErr result (HasRisen (O.faults out.old) (O.faults out.new)) }
         ensures causes { IfErr result (λ e. e ≡ ServeFault.WriteFailed) }
         ensures whole { OnOk result (Appends (O.written out.old) (O.written out.new) (given took self.now).line) }
-        ensures front { OnErr result (AppendsFront (O.written out.old) (O.written out.new) (given took self.now).line) }
+        ensures prefix { OnErr result (AppendsPrefix (O.written out.old) (O.written out.new) (given took self.now).line) }
     {
         if took || self.frame.is_none() {
             return write_text(self.text.as_slice(), out);
@@ -90,7 +90,7 @@ fn write_text<O: Sink>(text: &[u8], out: &mut O) -> Result<(), ServeFault>
     ensures failed { OnErr result (HasRisen (O.faults out.old) (O.faults out.new)) }
     ensures causes { IfErr result (λ e. e ≡ ServeFault.WriteFailed) }
     ensures whole { OnOk result (Appends (O.written out.old) (O.written out.new) text.now) }
-    ensures front { OnErr result (AppendsFront (O.written out.old) (O.written out.new) text.now) }
+    ensures prefix { OnErr result (AppendsPrefix (O.written out.old) (O.written out.new) text.now) }
 {
     match write_all(out, text) {
         Ok(()) => Ok(()),

@@ -3,12 +3,12 @@ ghost use Rattle.std.specs.Prelude.{◌≡◌, ◌≤◌, ◌≢◌, List, ℕ, 
 ghost use Rattle.std.specs.Option.{option_copied};
 ghost use Rattle.sg_base.specs.Outside.{HasRisen};
 ghost use Rattle.sg_input.specs.Lines.{Line, lines_left, lines_of};
-ghost use Rattle.sg_keep.specs.Kept.{AllStandFor};
+ghost use Rattle.sg_keep.specs.Kept.{AllRepresent};
 ghost use Rattle.sg_protocol.specs.NodeStates.{new_state};
 ghost use Rattle.sg_serve.specs.Faults.{TellsFaults};
 ghost use Rattle.sg_serve.specs.Lines.{Run};
 ghost use Rattle.sg_serve.specs.Served.{Agrees, Outside, Served, images_if, joins_kept, opening};
-ghost use Rattle.sg_serve.specs.Standing.{Answered, HoldsJoins, StandsForServing, found_line};
+ghost use Rattle.sg_serve.specs.Representation.{Answered, HoldsJoins, RepresentsServing, found_line};
 ghost use Rattle.sg_wait.specs.declared.coming.Coming.{Coming};
 
 use crate::ServeFault;
@@ -41,7 +41,7 @@ impl<'p> Server<'p> {
         ensures untouched { IsNone self.old.ledger → disk.new ≡ disk.old }
         ensures input_falls { I.faults input.old ≤ I.faults input.new }
         ensures input_failed { result ≡ Err ServeFault.InputFailed → HasRisen (I.faults input.old) (I.faults input.new) }
-        ensures served { (r : Run) (lines : List Line) → StandsForServing self.old r.serving → lines_left reader.old.unread (I.coming input.old) ≡ Some lines
+        ensures served { (r : Run) (lines : List Line) → RepresentsServing self.old r.serving → lines_left reader.old.unread (I.coming input.old) ≡ Some lines
             → Agrees (record { written = O.written out.old; sent = L.sent link.old; coming = L.coming link.old; failed = L.faults link.old })
             (record { written = O.written out.old; sent = L.sent link.old; coming = L.coming link.old; failed = L.faults link.old }) (R.words fresh.old) r
             → Served (record { written = O.written out.old; sent = L.sent link.old; coming = L.coming link.old; failed = L.faults link.old })
@@ -87,7 +87,7 @@ impl<'p> Server<'p> {
         ensures causes { result ≢ Err ServeFault.InputFailed }
         ensures same { OnOk result (is_some self.new.ledger ≡ is_some self.old.ledger) }
         ensures holds { OnOk result (HoldsJoins self.new (D.may_leave disk.new)) }
-        ensures answered { (r : Run) (start : Outside) → StandsForServing self.old r.serving
+        ensures answered { (r : Run) (start : Outside) → RepresentsServing self.old r.serving
             → Agrees start (record { written = O.written out.old; sent = L.sent link.old; coming = L.coming link.old; failed = L.faults link.old }) (R.words fresh.old) r
             → Answered start (record { written = O.written out.new; sent = L.sent link.new; coming = L.coming link.new; failed = L.faults link.new }) (R.words fresh.new)
             (images_if (is_some self.old.ledger) (D.may_leave disk.new)) self.new r (found_line (option_copied line.entry)) result }
@@ -122,7 +122,7 @@ pub fn serve<'p, I: Input, L: TimedLink, R: Fresh, O: Sink, D: Disk>(
 ) -> Result<(), ServeFault>
     requires node { node ≡ new_state keys.now programs.now (joins_kept ledger) }
     requires working { IfSome ledger (λ l. l.failed ≡ false) }
-    requires stands { AllStandFor (images_if (is_some ledger) (D.may_leave disk.old)) (joins_kept ledger) }
+    requires represents { AllRepresent (images_if (is_some ledger) (D.may_leave disk.old)) (joins_kept ledger) }
     ensures link_bound { L.bound link.new ≡ L.bound link.old }
     ensures disk_bound { D.bound disk.new ≡ D.bound disk.old }
     ensures faults { TellsFaults (record { link = L.faults link.old; out = O.faults out.old; disk = D.faults disk.old })

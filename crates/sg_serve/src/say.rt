@@ -3,7 +3,7 @@ ghost use Rattle.std.specs.Prelude.{◌≡◌, [], Some, IfErr, IfOk, IsOk, OnOk
 ghost use Rattle.sg_answers.specs.Answers.{unknown_text, wrong_text, quiet_text, failed_text, nothing_text, turn_text, waits_text, over_text, id_text, again_text};
 ghost use Rattle.sg_serve.specs.Posted.{posted};
 ghost use Rattle.sg_serve.specs.Serving.{Serving, of_session, says, sends_again, turn_line};
-ghost use Rattle.sg_serve.specs.Standing.{HasReplied, StandsForServing};
+ghost use Rattle.sg_serve.specs.Representation.{HasReplied, RepresentsServing};
 
 use crate::ServeFault;
 use crate::frame::copied;
@@ -128,7 +128,7 @@ pub(crate) fn say_id(alloc: Global, number: u32, sid: &Sid) -> Result<Reply, Ser
 impl<'p> Server<'p> {
     // The last frame of the session of a number once more.
     pub(crate) fn again(&self, number: u32) -> Result<Reply, ServeFault>
-        ensures replied { IfOk result (λ step. (s : Serving) → StandsForServing self.now s → HasReplied self.now step (of_session s number (sends_again s number))) }
+        ensures replied { IfOk result (λ step. (s : Serving) → RepresentsServing self.now s → HasReplied self.now step (of_session s number (sends_again s number))) }
         ensures memory { IfErr result (λ e. e ≡ ServeFault.OutOfMemory) }
     {
         let Some(sid) = self.sid(number) else {
@@ -142,7 +142,7 @@ impl<'p> Server<'p> {
 
     // Where the session of a number stands.
     pub(crate) fn turn(&self, number: u32) -> Result<Reply, ServeFault>
-        ensures replied { IfOk result (λ step. (s : Serving) → StandsForServing self.now s → HasReplied self.now step (of_session s number (λ sid. says s (turn_line s number sid)))) }
+        ensures replied { IfOk result (λ step. (s : Serving) → RepresentsServing self.now s → HasReplied self.now step (of_session s number (λ sid. says s (turn_line s number sid)))) }
         ensures memory { IfErr result (λ e. e ≡ ServeFault.OutOfMemory) }
     {
         match self.sid(number) {
@@ -153,7 +153,7 @@ impl<'p> Server<'p> {
 
     // Where a session stands that has this number.
     fn turn_of(&self, number: u32, sid: Sid) -> Result<Reply, ServeFault>
-        ensures text { IfOk result (λ r. (s : Serving) → StandsForServing self.now s → r ≡ record { line = turn_line s number sid; frames = [] }) }
+        ensures text { IfOk result (λ r. (s : Serving) → RepresentsServing self.now s → r ≡ record { line = turn_line s number sid; frames = [] }) }
         ensures memory { IfErr result (λ e. e ≡ ServeFault.OutOfMemory) }
     {
         if let Some(node) = self.player.turn(sid) {
@@ -171,7 +171,7 @@ impl<'p> Server<'p> {
 
     // The identifier of the session of a number.
     pub(crate) fn id(&self, number: u32) -> Result<Reply, ServeFault>
-        ensures replied { IfOk result (λ step. (s : Serving) → StandsForServing self.now s → HasReplied self.now step (of_session s number (λ sid. says s (id_text number sid)))) }
+        ensures replied { IfOk result (λ step. (s : Serving) → RepresentsServing self.now s → HasReplied self.now step (of_session s number (λ sid. says s (id_text number sid)))) }
         ensures memory { IfErr result (λ e. e ≡ ServeFault.OutOfMemory) }
     {
         match self.sid(number) {

@@ -2,7 +2,7 @@
 ghost use Rattle.std.specs.Prelude.{◌≡◌, ℕ, ◌-◌, List, [], None, IfErr, IfOk, OnOk, is_some, option_map, slice_get, unwrap_or};
 ghost use Rattle.std.specs.Option.{option_copied, option_map_or};
 ghost use Rattle.sg_again.specs.LastFrames.{frame_of};
-ghost use Rattle.sg_ledger.specs.Format.{Join, Opened};
+ghost use Rattle.sg_ledger.specs.Format.{Join, OpenLedger};
 ghost use Rattle.sg_protocol.specs.NodeStates.{new_state};
 
 use crate::ServeFault;
@@ -30,12 +30,12 @@ pub(crate) struct Server<'p> {
 }
 
 impl<'p> Server<'p> {
-    ghost use Rattle.sg_keep.specs.Kept.{AllStandFor};
+    ghost use Rattle.sg_keep.specs.Kept.{AllRepresent};
     ghost use Rattle.sg_play.specs.Played.{Play, beginning};
     ghost use Rattle.sg_serve.specs.Served.{images_if, joins_kept};
     ghost use Rattle.sg_serve.specs.Serving.{Serving, is_live, sids_of};
-    ghost use Rattle.sg_serve.specs.Standing.{HoldsJoins, StandsForServing};
-    ghost use Rattle.sg_play.specs.Standing.{StandsForPlay};
+    ghost use Rattle.sg_serve.specs.Representation.{HoldsJoins, RepresentsServing};
+    ghost use Rattle.sg_play.specs.Representation.{RepresentsPlay};
 
     // A server whose node was made with these keys and programs, and with the ledger's joins, and was not asked anything yet.
     pub fn new(
@@ -46,7 +46,7 @@ impl<'p> Server<'p> {
         ledger: Option<Ledger>,
     ) -> Result<Server<'p>, ServeFault>
         requires { node ≡ new_state keys.now programs.now (joins_kept ledger) }
-        ensures stands { IfOk result (λ sv. (words : List (List ℕ)) → StandsForServing sv (record { play = beginning keys.entry.now programs.entry.now (joins_kept ledger) [] words; graphs = []; last = [] })) }
+        ensures represents { IfOk result (λ sv. (words : List (List ℕ)) → RepresentsServing sv (record { play = beginning keys.entry.now programs.entry.now (joins_kept ledger) [] words; graphs = []; last = [] })) }
         ensures ledger { IfOk result (λ sv. sv.ledger ≡ ledger) }
         ensures memory { IfErr result (λ e. e ≡ ServeFault.OutOfMemory) }
     {
@@ -65,7 +65,7 @@ impl<'p> Server<'p> {
 
     // The session of a number.
     pub fn sid(&self, number: u32) -> Option<Sid>
-        ensures { (p : Play) → StandsForPlay self.now.player p → result ≡ slice_get (sids_of p) (number - 1) }
+        ensures { (p : Play) → RepresentsPlay self.now.player p → result ≡ slice_get (sids_of p) (number - 1) }
     {
         self.player.session_at(number.saturating_sub(1) as usize)
     }
@@ -79,7 +79,7 @@ impl<'p> Server<'p> {
 
     // A session is live.
     pub fn is_live(&self, sid: &Sid) -> bool
-        ensures { (p : Play) → StandsForPlay self.now.player p → result ≡ is_live p sid.now }
+        ensures { (p : Play) → RepresentsPlay self.now.player p → result ≡ is_live p sid.now }
     {
         self.player.graph_of(sid).is_some()
     }

@@ -3,18 +3,18 @@ ghost use Rattle.std.specs.Prelude.{◌≡◌, ◌≤◌, ◌⊎◌, ℕ, List, 
 ghost use Rattle.std.specs.Option.{option_copied, option_map_or};
 ghost use Rattle.sg_again.specs.LastFrames.{sent};
 ghost use Rattle.sg_base.specs.Outside.{HasRisen};
-ghost use Rattle.sg_ledger.specs.Format.{StandsFor};
+ghost use Rattle.sg_ledger.specs.Format.{Represents};
 ghost use Rattle.sg_model.specs.Names.{Name};
 ghost use Rattle.sg_base.specs.declared.address.Addr.{Addr};
 ghost use Rattle.sg_play.specs.Played.{Play, called, step_in};
-ghost use Rattle.sg_play.specs.Standing.{HasAsked, StandsForPlay};
+ghost use Rattle.sg_play.specs.Representation.{HasAsked, RepresentsPlay};
 ghost use Rattle.sg_protocol.specs.Calls.{Call, Event};
 ghost use Rattle.sg_protocol.specs.Past.{node_of};
 ghost use Rattle.sg_report.specs.Outcome.{outcome_of};
 ghost use Rattle.sg_report.specs.Told.{Sends, session_told, sid_left};
 ghost use Rattle.sg_serve.specs.Served.{images_if, joins_kept};
 ghost use Rattle.sg_serve.specs.Serving.{Serving, as_sent, calls, graphs_with, last_of};
-ghost use Rattle.sg_serve.specs.Standing.{HasAskedNode, HasCalled, HasReplied, HoldsJoins, LedgerHas, Replied};
+ghost use Rattle.sg_serve.specs.Representation.{HasAskedNode, HasCalled, HasReplied, HoldsJoins, LedgerHas, Replied};
 
 use crate::ServeFault;
 use crate::frame::copied_if;
@@ -65,7 +65,7 @@ impl<'p> Server<'p> {
         ensures same { is_some self.new.ledger ≡ is_some self.old.ledger }
         ensures holds { OnOk result (HoldsJoins self.new (D.may_leave disk.new)) }
         ensures images { OnErr result ((image : List ℕ) → images_if (is_some self.old.ledger) (D.may_leave disk.new) image
-            → StandsFor image (joins_kept self.old.ledger) ⊎ StandsFor image self.old.player.node.joins) }
+            → Represents image (joins_kept self.old.ledger) ⊎ Represents image self.old.player.node.joins) }
     {
         match &mut self.ledger {
             Some(ledger) => match add_join(ledger, outcome, disk) {
@@ -109,7 +109,7 @@ impl<'p> Server<'p> {
         ensures rest { OnOk result (self.new ≡ record self.old { player = self.new.player }) }
         ensures node { OnOk result (self.new.player.node ≡ self.old.player.node) }
         ensures told { IfOk result (λ line. (p : Play) (c : Call) (made : List (Addr × List ℕ)) → HasAsked self.old.player p c (outcome_of outcome.now) (option_copied graph.entry) made → left.now ≡ sid_left c
-            → (line.items ≡ (step_in p c).line) × StandsForPlay self.new.player (called p c)) }
+            → (line.items ≡ (step_in p c).line) × RepresentsPlay self.new.player (called p c)) }
         ensures memory { IfErr result (λ e. e ≡ ServeFault.OutOfMemory) }
     {
         match self.player.tell(*left, graph, outcome) {
@@ -121,7 +121,7 @@ impl<'p> Server<'p> {
     // Adds the graph of a call, if a session has begun by it.
     fn add_graph(&mut self, graph: Option<&'p Graph>) -> Result<(), ServeFault>
         ensures rest { OnOk result (self.new ≡ record self.old { graphs = self.new.graphs }) }
-        ensures graphs { OnOk result ((p : Play) → StandsForPlay self.old.player p → self.new.graphs ≡ graphs_with p (option_copied graph.entry) self.old.graphs) }
+        ensures graphs { OnOk result ((p : Play) → RepresentsPlay self.old.player p → self.new.graphs ≡ graphs_with p (option_copied graph.entry) self.old.graphs) }
         ensures memory { IfErr result (λ e. e ≡ ServeFault.OutOfMemory) }
     {
         if self.graphs.len() >= self.player.sessions() {
@@ -136,7 +136,7 @@ impl<'p> Server<'p> {
     // Remembers the frame that a session sent, if it sent one, and that the session has ended, if it is not live any more.
     fn remember(&mut self, session: Option<Sid>, frame: Option<LastFrame>) -> Result<(), ServeFault>
         ensures rest { OnOk result (self.new ≡ record self.old { last = self.new.last }) }
-        ensures last { OnOk result ((p : Play) → StandsForPlay self.old.player p → self.new.last ≡ last_of p session frame self.old.last) }
+        ensures last { OnOk result ((p : Play) → RepresentsPlay self.old.player p → self.new.last ≡ last_of p session frame self.old.last) }
         ensures memory { IfErr result (λ e. e ≡ ServeFault.OutOfMemory) }
     {
         let Some(sid) = session else {

@@ -46,32 +46,32 @@ follow-behind (p ∷ before) xs ys left same =
       | inr some ↦ rw some (ap (λ l. frames_of (left p.0 ++ p.1) ++ l) (follow-behind before xs ys (with_left left p.0 (rest_of (left p.0 ++ p.1))) same))
     ]
 
-follow-cut : (conn : ℕ) (front back : List ℕ) (after : List (ℕ × List ℕ)) → 0 < length front → 0 < length back → (left : ℕ → List ℕ)
-    → follow left ((conn, front) ∷ (conn, back) ∷ after) ≡ follow left ((conn, front ++ back) ∷ after)
-follow-cut conn front back after some more left =
+follow-cut : (conn : ℕ) (prefix back : List ℕ) (after : List (ℕ × List ℕ)) → 0 < length prefix → 0 < length back → (left : ℕ → List ℕ)
+    → follow left ((conn, prefix) ∷ (conn, back) ∷ after) ≡ follow left ((conn, prefix ++ back) ∷ after)
+follow-cut conn prefix back after some more left =
     let own : (conn == conn) ≡ true = eq-eqb conn conn refl in
-    let e : (length front == 0) ≡ false = not_empty front some in
+    let e : (length prefix == 0) ≡ false = not_empty prefix some in
     let e' : (length back == 0) ≡ false = not_empty back more in
-    let e'' : (length (front ++ back) == 0) ≡ false = not_empty (front ++ back) (omega (arith, some, length-append front back)) in
-    let two = frames-append (left conn ++ front) back in
-    let joined : (left conn ++ front) ++ back ≡ left conn ++ (front ++ back) = append_assoc (left conn) front back in
-    let once : follow left ((conn, front) ∷ (conn, back) ∷ after) ≡ frames_of (left conn ++ front) ++ follow (with_left left conn (rest_of (left conn ++ front))) ((conn, back) ∷ after) = rw e refl in
-    let here : with_left left conn (rest_of (left conn ++ front)) conn ≡ rest_of (left conn ++ front) = rw own refl in
-    let twice : follow (with_left left conn (rest_of (left conn ++ front))) ((conn, back) ∷ after)
-    ≡ frames_of (rest_of (left conn ++ front) ++ back) ++ follow (with_left (with_left left conn (rest_of (left conn ++ front))) conn (rest_of (rest_of (left conn ++ front) ++ back))) after = rw (e', here) refl in
-    let last : follow left ((conn, front ++ back) ∷ after) ≡ frames_of (left conn ++ (front ++ back)) ++ follow (with_left left conn (rest_of (left conn ++ (front ++ back)))) after = rw e'' refl in
-    let rests : rest_of (rest_of (left conn ++ front) ++ back) ≡ rest_of (left conn ++ (front ++ back)) = sym two.1 ∙ ap rest_of joined in
-    let same = follow-same (with_left (with_left left conn (rest_of (left conn ++ front))) conn (rest_of (rest_of (left conn ++ front) ++ back))) (with_left left conn (rest_of (left conn ++ (front ++ back)))) after (λ c.
+    let e'' : (length (prefix ++ back) == 0) ≡ false = not_empty (prefix ++ back) (omega (arith, some, length-append prefix back)) in
+    let two = frames-append (left conn ++ prefix) back in
+    let joined : (left conn ++ prefix) ++ back ≡ left conn ++ (prefix ++ back) = append_assoc (left conn) prefix back in
+    let once : follow left ((conn, prefix) ∷ (conn, back) ∷ after) ≡ frames_of (left conn ++ prefix) ++ follow (with_left left conn (rest_of (left conn ++ prefix))) ((conn, back) ∷ after) = rw e refl in
+    let here : with_left left conn (rest_of (left conn ++ prefix)) conn ≡ rest_of (left conn ++ prefix) = rw own refl in
+    let twice : follow (with_left left conn (rest_of (left conn ++ prefix))) ((conn, back) ∷ after)
+    ≡ frames_of (rest_of (left conn ++ prefix) ++ back) ++ follow (with_left (with_left left conn (rest_of (left conn ++ prefix))) conn (rest_of (rest_of (left conn ++ prefix) ++ back))) after = rw (e', here) refl in
+    let last : follow left ((conn, prefix ++ back) ∷ after) ≡ frames_of (left conn ++ (prefix ++ back)) ++ follow (with_left left conn (rest_of (left conn ++ (prefix ++ back)))) after = rw e'' refl in
+    let rests : rest_of (rest_of (left conn ++ prefix) ++ back) ≡ rest_of (left conn ++ (prefix ++ back)) = sym two.1 ∙ ap rest_of joined in
+    let same = follow-same (with_left (with_left left conn (rest_of (left conn ++ prefix))) conn (rest_of (rest_of (left conn ++ prefix) ++ back))) (with_left left conn (rest_of (left conn ++ (prefix ++ back)))) after (λ c.
     elim (yes_or_no (conn == c)) [ inl this ↦ rw this rests | inr other ↦ rw other refl ]) in
     once
-    ∙ (ap (λ l. frames_of (left conn ++ front) ++ l) twice
-    ∙ (sym (append_assoc (frames_of (left conn ++ front)) (frames_of (rest_of (left conn ++ front) ++ back)) (follow (with_left (with_left left conn (rest_of (left conn ++ front))) conn (rest_of (rest_of (left conn ++ front) ++ back))) after))
-    ∙ (ap (λ l. l ++ follow (with_left (with_left left conn (rest_of (left conn ++ front))) conn (rest_of (rest_of (left conn ++ front) ++ back))) after) (sym two.0 ∙ ap frames_of joined)
-    ∙ (ap (λ l. frames_of (left conn ++ (front ++ back)) ++ l) same ∙ sym last))))
+    ∙ (ap (λ l. frames_of (left conn ++ prefix) ++ l) twice
+    ∙ (sym (append_assoc (frames_of (left conn ++ prefix)) (frames_of (rest_of (left conn ++ prefix) ++ back)) (follow (with_left (with_left left conn (rest_of (left conn ++ prefix))) conn (rest_of (rest_of (left conn ++ prefix) ++ back))) after))
+    ∙ (ap (λ l. l ++ follow (with_left (with_left left conn (rest_of (left conn ++ prefix))) conn (rest_of (rest_of (left conn ++ prefix) ++ back))) after) (sym two.0 ∙ ap frames_of joined)
+    ∙ (ap (λ l. frames_of (left conn ++ (prefix ++ back)) ++ l) same ∙ sym last))))
 
 -- a piece that is cut in two brings the same frames
-pub cut_in_two : (before after : List (ℕ × List ℕ)) (conn : ℕ) (front back : List ℕ) → 0 < length front → 0 < length back
-    → arrivals (before ++ (conn, front) ∷ (conn, back) ∷ after) ≡ arrivals (before ++ (conn, front ++ back) ∷ after)
-cut_in_two before after conn front back some more =
-    begun (before ++ (conn, front) ∷ (conn, back) ∷ after)
-    ∙ (follow-behind before ((conn, front) ∷ (conn, back) ∷ after) ((conn, front ++ back) ∷ after) (λ c. []) (follow-cut conn front back after some more) ∙ sym (begun (before ++ (conn, front ++ back) ∷ after)))
+pub cut_in_two : (before after : List (ℕ × List ℕ)) (conn : ℕ) (prefix back : List ℕ) → 0 < length prefix → 0 < length back
+    → arrivals (before ++ (conn, prefix) ∷ (conn, back) ∷ after) ≡ arrivals (before ++ (conn, prefix ++ back) ∷ after)
+cut_in_two before after conn prefix back some more =
+    begun (before ++ (conn, prefix) ∷ (conn, back) ∷ after)
+    ∙ (follow-behind before ((conn, prefix) ∷ (conn, back) ∷ after) ((conn, prefix ++ back) ∷ after) (λ c. []) (follow-cut conn prefix back after some more) ∙ sym (begun (before ++ (conn, prefix ++ back) ∷ after)))

@@ -34,11 +34,11 @@ one_message frame rest other more is is' same =
     let lengths : length frame ≡ length other =
     sym (spelled-message frame rest is) ∙ (ap (λ b. from_be_bytes w32 (take 4 b)) same ∙ spelled-message other more is') in
     let behind : frame ++ rest ≡ other ++ more = ap (λ b. drop 4 b) same in
-    let front : frame ≡ other =
+    let prefix : frame ≡ other =
     sym (take_at frame rest (length frame) refl) ∙ (ap (λ b. take (length frame) b) behind ∙ take_at other more (length frame) (sym lengths)) in
     let back : rest ≡ more =
     sym (drop_at frame rest (length frame) refl) ∙ (ap (λ b. drop (length frame) b) behind ∙ drop_at other more (length frame) (sym lengths)) in
-    (front, back)
+    (prefix, back)
 
 -- bytes that begin with a message don't begin with a bad length
 pub not_bad : (bytes : List ℕ) (len : ℕ) → BeginsMessage bytes → ¬ BeginsBad bytes len

@@ -16,9 +16,9 @@ without-piece conn at ps new x last within read this is more gone =
     let empty : (length x.1 == 0) ≡ false = ap (λ y. length y.1 == 0) read ∙ (sym is ∙ more) in
     let step : without conn (x ∷ drop (suc at) ps) ≡ without conn (drop (suc at) ps) = rw (same, empty) refl in
     let long : length (take at ps) ≡ at = length-take-le at ps (omega arith) in
-    let front : take at (take at ps ++ drop (suc at) ps) ≡ take at ps = take_at (take at ps) (drop (suc at) ps) at long in
+    let prefix : take at (take at ps ++ drop (suc at) ps) ≡ take at ps = take_at (take at ps) (drop (suc at) ps) at long in
     let back : drop at (take at ps ++ drop (suc at) ps) ≡ drop (suc at) ps = drop_at (take at ps) (drop (suc at) ps) at long in
-    rw (gone, here, step, front, back) refl
+    rw (gone, here, step, prefix, back) refl
 
 -- a number that no piece has, no piece has after a connection was closed
 pub any-without : (n conn : ℕ) (ps : List (ℕ × List ℕ)) → list_any (λ p. p.0 == n) ps ≡ false → list_any (λ p. p.0 == n) (without conn ps) ≡ false

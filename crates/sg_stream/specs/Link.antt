@@ -59,9 +59,9 @@ sent_of held = option_map (λ t. gone_out t.given) held
 abbrev pub TakenOff : ℕ → Option Traffic → Option Traffic → Type 0
 TakenOff count old new = (t : Traffic) → old ≡ Some t → (after : Traffic) × (new ≡ Some after) × (count + length after.coming ≤ length t.coming)
 
--- a front part of the bytes, and not all of them, was given to a connection
-abbrev pub GivenFront : ℕ → List ℕ → Option Traffic → Option Traffic → Type 0
-GivenFront conn bytes old new = (count : ℕ) × (count < length bytes) × (new ≡ option_map (after_give conn (take count bytes)) old)
+-- a prefix of the bytes, and not all of them, was given to a connection
+abbrev pub GivenPrefix : ℕ → List ℕ → Option Traffic → Option Traffic → Type 0
+GivenPrefix conn bytes old new = (count : ℕ) × (count < length bytes) × (new ≡ option_map (after_give conn (take count bytes)) old)
 
 -- one more connection was made for writing, was given these bytes, and was closed
 pub record Wrote (to : Addr) (bytes : List ℕ) (old new : Traffic) : Type 0 where
@@ -73,6 +73,6 @@ pub record Wrote (to : Addr) (bytes : List ℕ) (old new : Traffic) : Type 0 whe
 abbrev pub WroteTold : Addr → List ℕ → Option Traffic → Option Traffic → Type 0
 WroteTold to bytes old new = WhereTold old (λ t. (after : Traffic) × (new ≡ Some after) × Wrote to bytes t after)
 
--- a front part of the bytes, and not all of them, was written so, or no connection was made
-abbrev pub WroteFront : Addr → List ℕ → Option Traffic → Option Traffic → Type 0
-WroteFront to bytes old new = (new ≡ old) ⊎ ((count : ℕ) × (count < length bytes) × WroteTold to (take count bytes) old new)
+-- a prefix of the bytes, and not all of them, was written so, or no connection was made
+abbrev pub WrotePrefix : Addr → List ℕ → Option Traffic → Option Traffic → Type 0
+WrotePrefix to bytes old new = (new ≡ old) ⊎ ((count : ℕ) × (count < length bytes) × WroteTold to (take count bytes) old new)

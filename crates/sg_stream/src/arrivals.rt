@@ -14,5 +14,5 @@ pub fn frames_are_framed()
 /// in two, and the same frames come in the same order.
 pub fn pieces_may_be_cut_anywhere()
     ensures joined { (conn : ℕ) (pieces : List (ℕ × List ℕ)) → All (λ p. (p.0 ≡ conn) × (0 < length p.1)) pieces → arrivals pieces ≡ frames_of (concat (map (λ p. p.1) pieces)) }
-    ensures cut { (before after : List (ℕ × List ℕ)) (conn : ℕ) (front back : List ℕ) → 0 < length front → 0 < length back → arrivals (before ++ (conn, front) ∷ (conn, back) ∷ after) ≡ arrivals (before ++ (conn, front ++ back) ∷ after) }
+    ensures cut { (before after : List (ℕ × List ℕ)) (conn : ℕ) (prefix back : List ℕ) → 0 < length prefix → 0 < length back → arrivals (before ++ (conn, prefix) ∷ (conn, back) ∷ after) ≡ arrivals (before ++ (conn, prefix ++ back) ∷ after) }
 {}

@@ -4,7 +4,7 @@ ghost use Rattle.sg_stream.specs.Arrivals.{arrivals};
 ghost use Rattle.sg_base.specs.Memory.{one_more};
 ghost use Rattle.sg_base.specs.Outside.{HasRisen, Appends, TakesFirst};
 ghost use Rattle.sg_stream.specs.Framed.{IsFrame, message};
-ghost use Rattle.sg_stream.specs.Link.{Unread, IsIdle, pieces_of, to_come, sent_of, TakenOff, WroteTold, WroteFront};
+ghost use Rattle.sg_stream.specs.Link.{Unread, IsIdle, pieces_of, to_come, sent_of, TakenOff, WroteTold, WrotePrefix};
 ghost use Rattle.sg_stream.specs.Traffic.{WhereTold};
 
 use crate::Conns;
@@ -131,7 +131,7 @@ impl<C: Conns> Link for StreamLink<C> {
         ensures failed { OnErr result (HasRisen (C.faults self.old.conns) (C.faults self.new.conns)) }
         ensures kept_bound { C.bound self.new.conns ≡ C.bound self.old.conns }
         ensures wrote { OnOk result (WroteTold to (message frame.1) (C.held self.old.conns) (C.held self.new.conns)) }
-        ensures front { OnErr result (WroteFront to (message frame.1) (C.held self.old.conns) (C.held self.new.conns)) }
+        ensures prefix { OnErr result (WrotePrefix to (message frame.1) (C.held self.old.conns) (C.held self.new.conns)) }
         ensures posted { OnOk result (Appends (sent_of (C.held self.old.conns)) (sent_of (C.held self.new.conns)) ((to, frame.1) ∷ [])) }
         ensures back { IfErr result (λ e. e.0 ≡ frame) }
         ensures kept { self.new.unread ≡ self.old.unread }

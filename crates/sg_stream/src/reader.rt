@@ -67,7 +67,7 @@ impl StreamReader {
         ensures bad { (len : ℕ) → BeginsBad self.old len → BeginsBad self.new len }
     {
         if self.taken >= self.bytes.len() - self.taken {
-            remove_front(&mut self.bytes, self.taken);
+            remove_prefix(&mut self.bytes, self.taken);
             self.taken = 0;
         }
         match self.bytes.extend_from_slice(piece) {
@@ -109,7 +109,7 @@ impl StreamReader {
 fn first_frame(alloc: Global, bytes: &[u8]) -> Result<Option<Vec<u8>>, StreamFault>
     ensures frame { IfOk result (λ found. IfSome found (λ f. IsFrame f.items)) }
     ensures whole { IfOk result (λ found. IfSome found (λ f. 4 + length f.items ≤ length bytes.now)) }
-    ensures front { IfOk result (λ found. IfSome found (λ f. bytes.now ≡ message f.items ++ drop (4 + length f.items) bytes.now)) }
+    ensures prefix { IfOk result (λ found. IfSome found (λ f. bytes.now ≡ message f.items ++ drop (4 + length f.items) bytes.now)) }
     ensures none { (result ≡ Ok None) ↔ ((¬ BeginsMessage bytes.now) × ((len : ℕ) → ¬ BeginsBad bytes.now len)) }
     ensures bad { (len : ℕ) → (result ≡ Err (StreamFault.BadLength len)) ↔ BeginsBad bytes.now len }
 {
@@ -143,7 +143,7 @@ fn frame_length(bytes: &[u8]) -> Result<Option<usize>, StreamFault>
 }
 
 // Moves the bytes from a place on to the front, and lets go of those before it.
-fn remove_front(bytes: &mut Vec<u8>, count: usize)
+fn remove_prefix(bytes: &mut Vec<u8>, count: usize)
     requires { count ≤ length bytes.old.items }
     ensures { bytes.new.items ≡ drop count bytes.old.items }
 {

@@ -37,11 +37,11 @@ fn spelled(alloc: Global, text: &[u8]) -> Option<Vec<u8>> {
     bytes(alloc, told.ok()?.as_bytes())
 }
 
-// At how many of these places the bytes are a frame with the lowest bit changed of the byte there.
+// At how many of these indices the bytes are a frame with the lowest bit changed of the byte there.
 fn frames_among(alloc: Global, text: &[u8], first: u32, end: u32) -> Option<u32> {
     let mut count = 0u32;
-    for place in first..end {
-        if decode(alloc, &flipped(alloc, text, place).ok()?).is_ok() {
+    for index in first..end {
+        if decode(alloc, &flipped(alloc, text, index).ok()?).is_ok() {
             count = count.wrapping_add(1);
         }
     }

@@ -36,8 +36,8 @@ impl Script for SessionNames {
     }
 
     fn end(&self, out: &mut ByteOut) -> Result<(), OutOfMemory> {
-        for place in 0..self.len() {
-            if let Some((sid, name)) = self.at(place) {
+        for index in 0..self.len() {
+            if let Some((sid, name)) = self.at(index) {
                 out.bytes(&sid.0)?;
                 put_name(out, Some(name))?;
             }

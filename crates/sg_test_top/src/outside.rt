@@ -136,7 +136,7 @@ fn words_of(alloc: Global, line: &[u8]) -> Option<Vec<String>> {
     Some(words)
 }
 
-/// The call `top`, whose arguments are words as above; and `fronts TEXT STEP WORD..`, which answers `yes` where each run that finds room for 0, STEP,
+/// The call `top`, whose arguments are words as above; and `prefixes TEXT STEP WORD..`, which answers `yes` where each run that finds room for 0, STEP,
 /// twice STEP.. bytes of the text, and not for all, ends with 6, has written just these, and says nothing.
 pub struct Top;
 
@@ -153,9 +153,9 @@ impl Calls for Top {
 }
 
 fn leaves_fronts(alloc: Global, text: &[u8], step: u32, words: &[Vec<u8>]) -> Option<bool> {
-    for (place, _) in text.iter().enumerate() {
-        let place = u32::try_from(place).ok()?;
-        if place.checked_rem(step)? == 0 && !leaves_front(alloc, text, place, words)? {
+    for (index, _) in text.iter().enumerate() {
+        let index = u32::try_from(index).ok()?;
+        if index.checked_rem(step)? == 0 && !leaves_front(alloc, text, index, words)? {
             return Some(false);
         }
     }
@@ -166,12 +166,12 @@ fn leaves_front(alloc: Global, text: &[u8], room: u32, words: &[Vec<u8>]) -> Opt
     let mut outside = Outside::new(alloc)?;
     outside.given.room = room;
     let _ = played(alloc, &mut outside, words)?;
-    let (front, _) = text.split_at_checked(room as usize)?;
-    Some(is_front(&outside, front))
+    let (prefix, _) = text.split_at_checked(room as usize)?;
+    Some(is_front(&outside, prefix))
 }
 
-fn is_front(outside: &Outside, front: &[u8]) -> bool {
+fn is_front(outside: &Outside, prefix: &[u8]) -> bool {
     outside.status == 6
-        && outside.around.out.bytes() == front
+        && outside.around.out.bytes() == prefix
         && outside.around.err.bytes().is_empty()
 }

@@ -12,7 +12,7 @@ use Rattle.sg_script.specs.Format.{SpellsScript}
 use Rattle.sg_script.specs.Script.{Script}
 use Rattle.sg_top.specs.Ending.{Ending, Written, NoCommand, NoGraph, NoExpansion, GraphRefused, NoRole, WrongLine, KeysRefused, ScriptRefused, ClaimsRefused, ClaimFails, ProgramRefused, NoLedger, BadSlot, LedgerNotEmpty, FileFailed, WriteFailed, LinkFailed, InputFailed, DiskFailed, NoMemory, NoSuchFile, TooLarge}
 use Rattle.sg_top.specs.Ends.{Told, Has, IsUnread}
-use Rattle.sg_top.specs.Setup.{Named, Principal, Adds, EndsAt, HasPrincipal, HasSetup, HoldPrograms, OneMore, Holds, IsTextOf, LacksPrincipal, AtProgram, LacksSetup, AtScript, RefusesProgram, RefusesScript, StopsAtProgram}
+use Rattle.sg_top.specs.Setup.{RunFiles, Principal, Adds, EndsAt, HasPrincipal, HasSetup, HoldPrograms, OneMore, Holds, IsTextOf, LacksPrincipal, AtProgram, LacksSetup, AtScript, RefusesProgram, RefusesScript, StopsAtProgram}
 
 -- a count that rose at the end rose on the whole, or stands where no rise shows, from a number on
 rises_below : (m f0 f1 f2 : ℕ) → f0 ≤ f1 → f1 ≤ f2 → (f1 < f2) ⊎ (m ≤ f1) → (f0 < f2) ⊎ (m ≤ f0)
@@ -138,7 +138,7 @@ module _ (file : List ℕ) (files : List (List ℕ)) (keys : Keyring) (told told
 
 -- ---- a setup: the principal is read first, then the script
 
-module _ (named : Named) (p : Principal) (told told1 : Told) (same1 : told1 ≡ told) (has : HasPrincipal told named.keys named.programs p) where
+module _ (named : RunFiles) (p : Principal) (told told1 : Told) (same1 : told1 ≡ told) (has : HasPrincipal told named.keys named.programs p) where
   -- it ends at the script
   pub lacks_script : (f0 f1 f2 : ℕ) (e : Ending) → f0 ≤ f1 → f1 ≤ f2 → EndsAt told1 f1 f2 most_script_file named.script (RefusesScript p.programs) e → LacksSetup told f0 f2 named e
   lacks_script f0 f1 f2 e a b h = AtScript has (ends_later most_script_file named.script (RefusesScript p.programs) told told1 f0 f1 f2 e same1 a b h)

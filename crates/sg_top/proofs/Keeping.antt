@@ -3,7 +3,7 @@ use Rattle.std.proofs.Common.{◌≡◌, ℕ, ◌≤◌, List, take, Option, Res
 use Rattle.std.proofs.lemmas.Result.{on_ok_weaker}
 use Rattle.sg_base.specs.declared.address.Addr.{Addr}
 use Rattle.sg_base.specs.Outside.{HasRisen}
-use Rattle.sg_keep.specs.Kept.{AllStandFor, Kept}
+use Rattle.sg_keep.specs.Kept.{AllRepresent, Kept}
 use Rattle.sg_keep.specs.declared.fault.KeepFault.{KeepFault}
 use Rattle.sg_keep.specs.declared.fault.KeepFault.TheVariants as KeepFaults
 use Rattle.sg_keep.proofs.Asking.{not_begun}
@@ -46,7 +46,7 @@ module _ (opened : List Join) (s : Setup) (most : ℕ) (out : Output) (words : O
   }
 
   -- the link was not opened
-  pub without_link : (disk : Disked) → HasRisen link.faults link1.faults → AllStandFor disk.may_leave opened → EndsOver opened s most before opened_link disk disk (Err (KeepFaults.Played PlayFaults.LinkFailed))
+  pub without_link : (disk : Disked) → HasRisen link.faults link1.faults → AllRepresent disk.may_leave opened → EndsOver opened s most before opened_link disk disk (Err (KeepFaults.Played PlayFaults.LinkFailed))
   without_link disk risen all = record {
     plays = λ ds ws d w. subst
         (λ (x : Option (List (Addr × List ℕ))). Kept (record { written = out.bytes; sent = link.sent }) (record { written = out.bytes; sent = x }) disk.may_leave (play_over opened s most ds ws) (Err (KeepFaults.Played PlayFaults.LinkFailed))) (sym kept_sent)

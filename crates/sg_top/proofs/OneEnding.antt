@@ -27,7 +27,7 @@ use Rattle.sg_program.specs.declared.check.CompileFault.TheVariants.{OutOfMemory
 use Rattle.sg_program.proofs.Behind.{role_there}
 use Rattle.sg_program.proofs.Once.{role_once}
 use Rattle.sg_program.proofs.Only.{accepted_not_refused, not_refused}
-use Rattle.sg_program.proofs.Refusals.{all_or_refused, one_compilation, one_place}
+use Rattle.sg_program.proofs.Refusals.{all_or_refused, one_compilation, one_index}
 use Rattle.sg_protocol.specs.Accepted.{Accepted}
 use Rattle.sg_protocol.specs.Graph.{Graph}
 use Rattle.sg_protocol.specs.IsSchedule.{AreCompiled}
@@ -71,8 +71,8 @@ record Determined (Is : Graph → Type 0) (Early : Ending → Type 0) : Type 0 w
 -- a graph isn't accepted and refused
 never_both : (Is : Graph → Type 0) (Early : Ending → Type 0) → Determined Is Early → (g h : Graph) (ps : List Program) (f : CompileFault)
     → Is g → Is h → AreCompiled real (g ∷ []) ps → All IsWhole ps → IsFirstRefused (h ∷ []) h f → ⊥
-never_both Is Early d g h ps f i j c w (place, at, stopped) =
-    all_or_refused (h ∷ []) ps place f (subst (λ (k : Graph). AreCompiled real (k ∷ []) ps) (d.graph g h i j) c) w stopped
+never_both Is Early d g h ps f i j c w (index, at, stopped) =
+    all_or_refused (h ∷ []) ps index f (subst (λ (k : Graph). AreCompiled real (k ∷ []) ps) (d.graph g h i j) c) w stopped
 
 one_cause : (Is : Graph → Type 0) (Early : Ending → Type 0) → Determined Is Early → (x y : Ending) → Cause Is Early x → Cause Is Early y → x ≡ y
 one_cause Is Early d _ _ (Taken i c w) (Taken j b v) = refl
@@ -327,8 +327,8 @@ data ReplayCause (bytes : List ℕ) : Ending → Type 0 where
 -- a schedule isn't compiled and refused
 compiled_in : (bytes : List ℕ) (s t : Schedule) (ps : List Program) (g : Graph) (f : CompileFault) → SpellsSchedule real bytes s → SpellsSchedule real bytes t
     → AreCompiled real s.graphs ps → All IsWhole ps → IsFirstRefused t.graphs g f → ⊥
-compiled_in bytes s t ps g f a b c w (place, at, stopped) =
-    all_or_refused t.graphs ps place f (subst (λ (q : Schedule). AreCompiled real q.graphs ps) (one_schedule real bytes s t a b) c) w stopped
+compiled_in bytes s t ps g f a b c w (index, at, stopped) =
+    all_or_refused t.graphs ps index f (subst (λ (q : Schedule). AreCompiled real q.graphs ps) (one_schedule real bytes s t a b) c) w stopped
 
 -- nor spelled and wrong
 wrong_in : (bytes : List ℕ) (s : Schedule) (e : Ending) → SpellsSchedule real bytes s → IsNoSchedule bytes e → ⊥
@@ -343,14 +343,14 @@ full_in bytes text t o =
     let moved : IsOverfull t.programs t.schedule = subst (λ ps. IsOverfull ps t.schedule) (sym programs) (subst (λ (q : Schedule). IsOverfull o.programs q) (sym same) o.overfull) in
     t.reports.room moved.before moved.begins moved.full
 
-at_one_place : (gs : List Graph) (i j : ℕ) (g h : Graph) → slice_get gs i ≡ Some g → slice_get gs j ≡ Some h → i ≡ j → g ≡ h
-at_one_place gs i j g h a b e = let both : Some g ≡ Some h = sym a ∙ ap (slice_get gs) e ∙ b in cc
+at_one_index : (gs : List Graph) (i j : ℕ) (g h : Graph) → slice_get gs i ≡ Some g → slice_get gs j ≡ Some h → i ≡ j → g ≡ h
+at_one_index gs i j g h a b e = let both : Some g ≡ Some h = sym a ∙ ap (slice_get gs) e ∙ b in cc
 
 -- one graph is refused
 refused_in : (bytes : List ℕ) (s t : Schedule) (g h : Graph) (f k : CompileFault) → SpellsSchedule real bytes s → SpellsSchedule real bytes t → IsFirstRefused s.graphs g f → IsFirstRefused t.graphs h k → g ≡ h
 refused_in bytes s t g h f k a b (i, at, stopped) r =
     let (j, there, other) = subst (λ (q : Schedule). IsFirstRefused q.graphs h k) (sym (one_schedule real bytes s t a b)) r in
-    at_one_place s.graphs i j g h at there (one_place s.graphs i j f k stopped other)
+    at_one_index s.graphs i j g h at there (one_index s.graphs i j f k stopped other)
 
 one_wrong : (bytes : List ℕ) (d e : Ending) → IsNoSchedule bytes d → IsNoSchedule bytes e → d ≡ e
 one_wrong bytes d e (n, k, first, is) (m, j, other, has) =

@@ -19,14 +19,14 @@ use Rattle.sg_protocol.specs.Steps.{is_taken}
 use Rattle.sg_protocol.specs.Texts.{Hash}
 use Rattle.sg_sched.specs.Pair.{edge}
 use Rattle.sg_sched.specs.Format.Values.{bytes_of}
-use Rattle.sg_sched.specs.Format.Said.{Given, Said, SaidBlock, SaidEdge, SaidHonest, SaidKey, SaidSession, SaidStart, SaidAct, SaidAbandon, SaidDeliver, SaidMake}
-use Rattle.sg_sched.specs.Format.Items.{Session, Item, GraphItem, EdgeItem, HonestItem, KeyItem, SessionItem, StepItem, SoFar, so_far, schedule_of, graphs, declared, graphs_of_past, graph_names, session_names, session_named, graph_for, labels_of, variables_of, place}
+use Rattle.sg_sched.specs.Format.Said.{Given, LineContent, SaidBlock, SaidEdge, SaidHonest, SaidKey, SaidSession, SaidStart, SaidAct, SaidAbandon, SaidDeliver, SaidMake}
+use Rattle.sg_sched.specs.Format.Items.{Session, Item, GraphItem, EdgeItem, HonestItem, KeyItem, SessionItem, StepItem, SoFar, so_far, schedule_of, graphs, declared, graphs_of_past, graph_names, session_names, session_named, graph_for, labels_of, variables_of, index}
 use Rattle.sg_sched.specs.Format.Made.{made_after, written, values, what_of, craft}
 use Rattle.sg_sched.specs.Format.Faults.{knows_variable}
 use Rattle.sg_sched.specs.Format.Spells.{Line, Add, Skip, Say, Show, Declare, Nothing, Next, SpellsSchedule}
 use Rattle.sg_read.specs.Plus.{plus}
 use Rattle.sg_read.proofs.Growing.{one_more}
-use Rattle.sg_read.proofs.Places.{some_place}
+use Rattle.sg_read.proofs.Indices.{some_index}
 use Rattle.sg_read.proofs.RightLines.{IsRight, right, in_group}
 use Rattle.sg_world.specs.Account.{CanBeNamed}
 
@@ -53,8 +53,8 @@ record AllFit (p : SoFar) : Type 0 where
 
 -- ---- names
 
-known_place : (n : Name) (ns : List Name) → has_text n ns ≡ true → place n ns < length ns
-known_place n ns h = by (position (bytes_eq n) ns) refl (some_place (bytes_eq n) ns ∙ h)
+known_index : (n : Name) (ns : List Name) → has_text n ns ≡ true → index n ns < length ns
+known_index n ns h = by (position (bytes_eq n) ns) refl (some_index (bytes_eq n) ns ∙ h)
   where
     by : (o : Option ℕ) → position (bytes_eq n) ns ≡ o → is_some (position (bytes_eq n) ns) ≡ true → unwrap_or (position (bytes_eq n) ns) 0 < length ns
     by None e s = absurd (let no = ap is_some e in cc)
@@ -77,7 +77,7 @@ written_known : (g : Graph) (vs : List Given) → list_all (λ v. knows_variable
 written_known g [] h = tt
 written_known g (v ∷ vs) h =
     let k = and_parts (knows_variable (Some g) v.variable) (list_all (λ v. knows_variable (Some g) v.variable) vs) h in
-    let l = known_place v.variable (variables_of (Some g)) k.0 in
+    let l = known_index v.variable (variables_of (Some g)) k.0 in
     let m = length-map g.variables (λ v. v.name) in
     (omega (arith, l, m), written_known g vs k.1)
 
@@ -120,7 +120,7 @@ module _ (p : SoFar) (a : AllFit p) where
   })
 
   act_names : (who session label : Name) (vs : List Given) (g : Option Graph) → graph_for session p ≡ g → has_text label (labels_of g) ≡ true → list_all (λ v. knows_variable g v.variable) vs ≡ true
-      → Names (graphs_of_past p) (length p.sessions) (ActStep who (place session (session_names p)) (place label (labels_of g)) (values g vs))
+      → Names (graphs_of_past p) (length p.sessions) (ActStep who (index session (session_names p)) (index label (labels_of g)) (values g vs))
   act_names who session label vs None e l h = absurd (cc)
   act_names who session label vs (Some g) e l h = (g, graph_there p session g e, values_known g vs h)
 
@@ -133,22 +133,22 @@ module _ (p : SoFar) (a : AllFit p) where
   early_more : (j i : Item) (n : ℕ) → n ≤ 3 → p.group ≤ n → (plus p j).steps ≡ p.steps → j ≡ i → AllFit (plus p i)
   early_more j i n l h none same = subst (λ i. AllFit (plus p i)) same (early j none (omega (arith, l, h)))
 
-  said_more : (said : Said) (i : Item) → IsRight p said → made_after p said ≡ Some i → AllFit (plus p i)
+  said_more : (said : LineContent) (i : Item) → IsRight p said → made_after p said ≡ Some i → AllFit (plus p i)
   said_more SaidBlock i r m = absurd (cc)
   said_more (SaidEdge label from to) i r m = early_more (EdgeItem (edge label from to)) i 0 (omega arith) (in_group p 0 (or_parts (nat_lt 0 p.group) _ r.form).0) refl (cc)
   said_more (SaidHonest who) i r m = early_more (HonestItem who) i 1 (omega arith) (in_group p 1 r.form) refl (cc)
   said_more (SaidKey one two digits) i r m = let k : PairKey = record { one = one; two = two; key = bytes_of digits } in early_more (KeyItem k) i 2 (omega arith) (in_group p 2 r.form) refl (cc)
   said_more (SaidSession name graph nonce names version) i r m =
-      let s : Session = record { name = name; graph = place graph (graph_names (graphs_of_past p)); nonce = nonce; names = names; version = version } in
+      let s : Session = record { name = name; graph = index graph (graph_names (graphs_of_past p)); nonce = nonce; names = names; version = version } in
       early_more (SessionItem s) i 3 (omega arith) (in_group p 3 (or_parts (nat_lt 3 p.group) _ r.form).0) refl (cc)
-  said_more (SaidStart who session) i r m = step_more (StartStep who (place session (session_names p))) i (record { of = r.honest; names = tt }) (cc)
+  said_more (SaidStart who session) i r m = step_more (StartStep who (index session (session_names p))) i (record { of = r.honest; names = tt }) (cc)
   said_more (SaidAct who session label vs) i r m =
       let k = known_act session label vs (graph_for session p) r.known in
-      step_more (ActStep who (place session (session_names p)) (place label (labels_of (graph_for session p))) (values (graph_for session p) vs)) i
+      step_more (ActStep who (index session (session_names p)) (index label (labels_of (graph_for session p))) (values (graph_for session p) vs)) i
       (record { of = r.honest; names = act_names who session label vs (graph_for session p) refl k.0 k.1 }) (cc)
   said_more (SaidAbandon who session) i r m =
-      step_more (AbandonStep who (place session (session_names p))) i
-      (record { of = r.honest; names = (let k = known_place session (session_names p) r.known in let l = length-map p.sessions (λ (s : Session). s.name) in omega (arith, k, l)) }) (cc)
+      step_more (AbandonStep who (index session (session_names p))) i
+      (record { of = r.honest; names = (let k = known_index session (session_names p) r.known in let l = length-map p.sessions (λ (s : Session). s.name) in omega (arith, k, l)) }) (cc)
   said_more (SaidDeliver who what) i r m = step_more (DeliverStep who (what_of what)) i (record { of = r.honest; names = tt }) (cc)
   said_more (SaidMake c) i r m = step_more (CraftStep (craft p (graph_for c.session p) c)) i (record { of = refl; names = tt }) (cc)
 

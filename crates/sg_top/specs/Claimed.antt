@@ -94,7 +94,7 @@ RefusesClaims g bytes ending = ⊥
 abbrev pub IsDecision : Graph → (bytes text : List ℕ) → Bool → Type 0
 IsDecision g bytes text all = (cs : List NamedClaim) × SpellsClaims g bytes cs × AreAnswered g cs text all
 
--- the text is written whole, and the program ends by whether all claims hold; or a front part of it is written, and a write failed
+-- the text is written whole, and the program ends by whether all claims hold; or a prefix of it is written, and a write failed
 abbrev pub WritesAnswers : (old new : Output) → List ℕ → (all : Bool) → Ending → Type 0
 WritesAnswers old new text all WriteFailed = Writes old new text WriteFailed
 WritesAnswers old new text all ending = Writes old new text Written × (ending ≡ (if all then Written else ClaimFails))

@@ -1,6 +1,6 @@
 -- What a command on one file leaves, and why it ends as it does.
 use Rattle.std.specs.Prelude.{◌≡◌, ◌≢◌, ℕ, ◌≤◌, ◌<◌, ◌⊎◌, List, [], ◌∷◌, All, Option, Some, None, Ok, Err, codes, length, slice_get, IsSomeAnd, IsTrue, ⊤}
-use Rattle.sg_base.specs.Outside.{HasRisen, Appends, AppendsFront, file_at}
+use Rattle.sg_base.specs.Outside.{HasRisen, Appends, AppendsPrefix, file_at}
 use Rattle.sg_protocol.specs.Accepted.{Accepted}
 use Rattle.sg_model.specs.Lists.{has_text}
 use Rattle.sg_protocol.specs.Graph.{Graph, canonical, role_name}
@@ -46,10 +46,10 @@ pub record Output : Type 0 where
   pub bytes : Option (List ℕ)
   pub faults : ℕ
 
--- the text is written whole, and no write failed, or a front part of it where one did, which the count of faults shows
+-- the text is written whole, and no write failed, or a prefix of it where one did, which the count of faults shows
 abbrev pub Writes : (old new : Output) → List ℕ → Ending → Type 0
 Writes old new text Written = Appends old.bytes new.bytes text × (new.faults ≡ old.faults)
-Writes old new text WriteFailed = AppendsFront old.bytes new.bytes text × HasRisen old.faults new.faults
+Writes old new text WriteFailed = AppendsPrefix old.bytes new.bytes text × HasRisen old.faults new.faults
 Writes old new text ending = ⊥
 
 -- ---- graphs
@@ -62,7 +62,7 @@ IsNoGraph bytes ending = ⊥
 
 -- of the graphs, this is the first that isn't compiled for each of its roles, with the fault of the first such role
 abbrev pub IsFirstRefused : List Graph → Graph → CompileFault → Type 0
-IsFirstRefused graphs g fault = (place : ℕ) × (slice_get graphs place ≡ Some g) × IsAllFault graphs (Refused place fault)
+IsFirstRefused graphs g fault = (index : ℕ) × (slice_get graphs index ≡ Some g) × IsAllFault graphs (Refused index fault)
 
 -- a graph was refused, or memory ran out
 abbrev pub Refuses : List Graph → Ending → Type 0

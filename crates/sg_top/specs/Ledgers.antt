@@ -2,17 +2,17 @@
 use Rattle.std.specs.Prelude.{◌≡◌, ◌≢◌, ℕ, ◌⊎◌, List, [], take, codes, Option, Some, Result, Ok, Err, OnOk, ⊤}
 use Rattle.sg_base.specs.Outside.{HasRisen}
 use Rattle.sg_keep.specs.Faults.{Counts, TellsFaults}
-use Rattle.sg_keep.specs.Kept.{AllStandFor, Kept}
+use Rattle.sg_keep.specs.Kept.{AllRepresent, Kept}
 use Rattle.sg_keep.specs.declared.fault.KeepFault.{KeepFault}
 use Rattle.sg_keep.specs.declared.fault.KeepFault.TheVariants as KeepFaults
 use Rattle.sg_ledger.specs.Disk.{Keeps, WhereTold}
-use Rattle.sg_ledger.specs.Format.{Join, IsLedger, IsFirstBadSlot, StandsFor}
+use Rattle.sg_ledger.specs.Format.{Join, IsLedger, IsFirstBadSlot, Represents}
 use Rattle.sg_play.specs.Played.{Play, played}
 use Rattle.sg_play.specs.declared.fault.PlayFault.TheVariants as PlayFaults
 use Rattle.sg_top.specs.Ending.{Ending, Written, NoLedger, BadSlot, LedgerNotEmpty, WriteFailed, LinkFailed, DiskFailed, NoMemory}
 use Rattle.sg_top.specs.Ends.{Told, Output, Writes}
 use Rattle.sg_top.specs.Runs.{Outside, IsUntouched, Takes, TakesAtMost, WaitsAt, CanHavePlayed}
-use Rattle.sg_top.specs.Setup.{Named, Setup, HasSetup, LacksSetup}
+use Rattle.sg_top.specs.Setup.{RunFiles, Setup, HasSetup, LacksSetup}
 
 -- a disk: the name of the file that it is bound to, if it is bound to one, the bytes of this file, where they are told, the images, which are what a crash may leave of it, and its count of faults
 pub record Disked : Type 1 where
@@ -35,9 +35,9 @@ IsBound file disk disk' ending = (disk'.bound ≡ Some file) ⊎ ((ending ≡ Di
 
 -- ---- a ledger is made
 
--- the file had no bytes, and each image stands for no joins
+-- the file had no bytes, and each image represents no joins
 abbrev pub IsMade : (disk disk' : Disked) → Type 0
-IsMade disk disk' = WhereTold disk.seen (λ file. file ≡ []) × AllStandFor disk'.may_leave []
+IsMade disk disk' = WhereTold disk.seen (λ file. file ≡ []) × AllRepresent disk'.may_leave []
 
 -- none is made: the file has bytes already, or the disk failed, which its count shows, or memory ran out; a file that has bytes is left
 abbrev pub LacksRoom : (disk disk' : Disked) → Ending → Type 0
@@ -95,11 +95,11 @@ pub record EndsOver (opened : List Join) (s : Setup) (most : ℕ) (old new : Out
 -- a setup is played over the ledger that the file of this name is, and over the link at the address of its keys; or the file is none, and nothing is touched
 abbrev pub KeepsSetup : (file : List ℕ) → Setup → (most : ℕ) → (old new : Outside) → (disk disk' : Disked) → Ending → Type 0
 KeepsSetup file s most old new disk disk' ending =
-    ((opened : List Join) × (result : Result (Unit {0}) KeepFault) × (disk'.bound ≡ Some file) × WhereTold disk.seen (λ bytes. StandsFor bytes opened) × WaitsAt s.keys old new ending × EndsOver opened s most old new disk disk' result × (ending ≡ ending_of_play result))
+    ((opened : List Join) × (result : Result (Unit {0}) KeepFault) × (disk'.bound ≡ Some file) × WhereTold disk.seen (λ bytes. Represents bytes opened) × WaitsAt s.keys old new ending × EndsOver opened s most old new disk disk' result × (ending ≡ ending_of_play result))
     ⊎ (IsUntouched old new × IsLeft disk disk' × IsBound file disk disk' ending × LacksLedger disk disk' ending)
 
 -- a run over the ledger of a file ends so: the files hold a setup, which is played over the ledger, if there is one; or they hold none, and nothing is touched, nor the disk asked
-abbrev pub KeepsRun : (file : List ℕ) → Named → (most : ℕ) → Told → (faults faults' : ℕ) → (old new : Outside) → (disk disk' : Disked) → Ending → Type 0
+abbrev pub KeepsRun : (file : List ℕ) → RunFiles → (most : ℕ) → Told → (faults faults' : ℕ) → (old new : Outside) → (disk disk' : Disked) → Ending → Type 0
 KeepsRun file named most told faults faults' old new disk disk' ending =
     ((s : Setup) × HasSetup told named s × KeepsSetup file s most old new disk disk' ending)
     ⊎ (IsUntouched old new × IsNotAsked disk disk' × LacksSetup told faults faults' named ending)

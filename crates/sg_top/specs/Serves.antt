@@ -4,7 +4,7 @@ use Rattle.sg_base.specs.Outside.{HasRisen}
 use Rattle.sg_base.specs.declared.address.Addr.{Addr}
 use Rattle.sg_input.specs.Lines.{lines_of}
 use Rattle.sg_ledger.specs.Disk.{WhereTold}
-use Rattle.sg_ledger.specs.Format.{Join, StandsFor}
+use Rattle.sg_ledger.specs.Format.{Join, Represents}
 use Rattle.sg_serve.specs.Faults.{Counts, TellsFaults}
 use Rattle.sg_serve.specs.Served.{Outside as Given, Served, images_if, opening}
 use Rattle.sg_serve.specs.declared.fault.ServeFault.{ServeFault}
@@ -100,7 +100,7 @@ ServesOver kept opened p old new disk disk' ending =
 abbrev pub ServesPrincipal : (ledger : Option (List ℕ)) → Principal → (old new : Application) → (disk disk' : Disked) → Ending → Type 0
 ServesPrincipal None p old new disk disk' ending = ServesOver false [] p old new disk disk' ending × IsNotAsked disk disk'
 ServesPrincipal (Some file) p old new disk disk' ending =
-    ((opened : List Join) × (disk'.bound ≡ Some file) × WhereTold disk.seen (λ bytes. StandsFor bytes opened) × ServesOver true opened p old new disk disk' ending)
+    ((opened : List Join) × (disk'.bound ≡ Some file) × WhereTold disk.seen (λ bytes. Represents bytes opened) × ServesOver true opened p old new disk disk' ending)
     ⊎ (IsUnasked old new × IsLeft disk disk' × IsBound file disk disk' ending × LacksLedger disk disk' ending)
 
 -- a run for an application ends so: the files hold a principal, which serves; or they hold none, and nothing is touched, nor the disk asked

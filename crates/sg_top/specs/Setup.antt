@@ -20,7 +20,7 @@ use Rattle.sg_top.specs.declared.ending.BadProgram.{BadProgram}
 use Rattle.sg_top.specs.declared.ending.BadProgram.TheVariants.{Malformed, NotTheTable, Twice}
 
 -- the files that a run names
-pub record Named : Type 0 where
+pub record RunFiles : Type 0 where
   pub keys : List ℕ
   pub programs : List (List ℕ)
   pub script : List ℕ
@@ -69,7 +69,7 @@ pub record HasPrincipal (told : Told) (keys : List ℕ) (programs : List (List �
   pub has_programs : HoldPrograms told programs p.programs
 
 -- the files hold the setup
-pub record HasSetup (told : Told) (named : Named) (s : Setup) : Type 0 where
+pub record HasSetup (told : Told) (named : RunFiles) (s : Setup) : Type 0 where
   pub principal : HasPrincipal told named.keys named.programs (record { keys = s.keys; programs = s.programs })
   pub script : Holds told most_script_file named.script (λ bytes. SpellsScript s.programs bytes s.script)
 
@@ -121,7 +121,7 @@ pub data LacksPrincipal (told : Told) (faults faults' : ℕ) (keys : List ℕ) (
       → LacksPrincipal told faults faults' keys programs ending
 
 -- there is no setup, by the first cause: the principal is looked at first, then the script
-pub data LacksSetup (told : Told) (faults faults' : ℕ) (named : Named) (ending : Ending) : Type 0 where
+pub data LacksSetup (told : Told) (faults faults' : ℕ) (named : RunFiles) (ending : Ending) : Type 0 where
   AtPrincipal : LacksPrincipal told faults faults' named.keys named.programs ending → LacksSetup told faults faults' named ending
   AtScript : {p : Principal} → HasPrincipal told named.keys named.programs p → EndsAt told faults faults' most_script_file named.script (RefusesScript p.programs) ending
       → LacksSetup told faults faults' named ending

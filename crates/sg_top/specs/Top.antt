@@ -1,6 +1,6 @@
 -- What the program leaves, and how it says why it ends.
 use Rattle.std.specs.Prelude.{◌≡◌, ◌≢◌, ℕ, ◌+◌, ◌⊎◌, Bool, true, false, if◌then◌else◌, List, [], Option, Some, None, ⊤}
-use Rattle.sg_base.specs.Outside.{HasRisen, Appends, AppendsFront}
+use Rattle.sg_base.specs.Outside.{HasRisen, Appends, AppendsPrefix}
 use Rattle.sg_base.specs.declared.address.Addr.{Addr}
 use Rattle.sg_model.specs.Limits.{most_graph_file, most_logs_file, most_schedule_file}
 use Rattle.sg_stream.specs.Link.{StreamHeld, sent_of, to_come}
@@ -60,7 +60,7 @@ Does words told faults faults' old new stream stream' disk disk' beside beside' 
 abbrev pub Puts : (old new : Output) → (line : List ℕ) → (wanted status : ℕ) → Type 0
 Puts old new line wanted status =
     ((status ≡ wanted) × Appends old.bytes new.bytes line × (new.faults ≡ old.faults))
-    ⊎ ((status ≡ 6) × HasRisen old.faults new.faults × AppendsFront old.bytes new.bytes line)
+    ⊎ ((status ≡ 6) × HasRisen old.faults new.faults × AppendsPrefix old.bytes new.bytes line)
 
 -- how the program says how its work ended: by the ending's line and status, or, where memory ran out for a line, by saying this
 abbrev pub Says : Ending → (old new : Output) → (status : ℕ) → Type 0

@@ -1,8 +1,8 @@
 //! The ledger in which a run keeps its joins.
 ghost use Rattle.std.specs.Prelude.{◌≡◌, ◌≤◌, ◌⊎◌, [], IfErr, IfOk, OnOk, Some, false, is_some, option_map};
-ghost use Rattle.sg_keep.specs.Kept.{AllStandFor};
+ghost use Rattle.sg_keep.specs.Kept.{AllRepresent};
 ghost use Rattle.sg_ledger.specs.Disk.{WhereTold};
-ghost use Rattle.sg_ledger.specs.Format.{StandsFor};
+ghost use Rattle.sg_ledger.specs.Format.{Represents};
 ghost use Rattle.sg_top.specs.Ledgers.{IsBound, IsLeft, LacksLedger};
 ghost use Rattle.sg_top.specs.Model.{ending_held};
 
@@ -17,8 +17,8 @@ pub fn open_ledger<D: Disk>(
     disk: &mut D,
 ) -> Result<Ledger, Ending<'static>>
     ensures working { IfOk result (λ ledger. ledger.failed ≡ false) }
-    ensures opened { IfOk result (λ ledger. WhereTold (D.seen disk.old) (λ bytes. StandsFor bytes ledger.joins)) }
-    ensures stands { IfOk result (λ ledger. AllStandFor (D.may_leave disk.new) ledger.joins) }
+    ensures opened { IfOk result (λ ledger. WhereTold (D.seen disk.old) (λ bytes. Represents bytes ledger.joins)) }
+    ensures represents { IfOk result (λ ledger. AllRepresent (D.may_leave disk.new) ledger.joins) }
     ensures bound { OnOk result (D.bound disk.new ≡ Some file.now) }
     ensures tried { IfErr result (λ ending. IsBound file.now (record { bound = D.bound disk.old; seen = D.seen disk.old; may_leave = D.may_leave disk.old; faults = D.faults disk.old }) (record { bound = D.bound disk.new; seen = D.seen disk.new; may_leave = D.may_leave disk.new; faults = D.faults disk.new }) (ending_held ending)) }
     ensures lacks { IfErr result (λ ending. LacksLedger (record { bound = D.bound disk.old; seen = D.seen disk.old; may_leave = D.may_leave disk.old; faults = D.faults disk.old }) (record { bound = D.bound disk.new; seen = D.seen disk.new; may_leave = D.may_leave disk.new; faults = D.faults disk.new }) (ending_held ending)) }

@@ -1,7 +1,7 @@
 //! The command `keep`: a run over a ledger. It reads keys, programs and a script, opens the ledger and then the link, and plays the script as
 //! one principal whose joins are kept (`sg_keep`).
 ghost use Rattle.std.specs.Prelude.{◌≡◌, ◌⊎◌, Err, Some, false, map};
-ghost use Rattle.sg_keep.specs.Kept.{AllStandFor};
+ghost use Rattle.sg_keep.specs.Kept.{AllRepresent};
 ghost use Rattle.sg_top.specs.Ledgers.{CanHaveKept, EndsOver, KeepsRun, KeepsSetup, ending_of_play};
 ghost use Rattle.sg_top.specs.Model.{ending_held};
 ghost use Rattle.sg_top.specs.Runs.{LacksLink};
@@ -83,7 +83,7 @@ fn play_over<O: Sink, L: Link, R: Fresh, D: Disk>(
 ) -> Result<(), KeepFault>
     requires keys { setup.keys_of_node ≡ setup.keys }
     requires working { ledger.failed ≡ false }
-    requires stands { AllStandFor (D.may_leave disk.old) ledger.joins }
+    requires represents { AllRepresent (D.may_leave disk.old) ledger.joins }
     ensures bound { D.bound disk.new ≡ D.bound disk.old }
     ensures waits { (L.bound link.new ≡ Some (waits_at setup.keys)) ⊎ ((result ≡ Err (KeepFault.Played PlayFault.LinkFailed)) × LacksLink
         (record { out = record { bytes = O.written out.old; faults = O.faults out.old }; link = record { bound = L.bound link.old; deliveries = L.deliveries link.old; sent = L.sent link.old; faults = L.faults link.old }; words = R.words fresh.old })

@@ -127,10 +127,10 @@ fn refused_graph(alloc: Global, graphs: &[Graph], fault: AllFault) -> Ending<'st
     requires { IsAllFault graphs.now fault }
     ensures { Refuses graphs.now (ending_held result) }
 {
-    let AllFault::Refused { place, fault } = fault else {
+    let AllFault::Refused { index, fault } = fault else {
         return Ending::NoMemory;
     };
-    match graphs[place as usize].copy(alloc) {
+    match graphs[index as usize].copy(alloc) {
         Ok(graph) => Ending::GraphRefused { graph, fault },
         Err(_) => Ending::NoMemory,
     }

@@ -1,7 +1,7 @@
 //! The command `serve`: a principal for an application. It reads keys and programs, opens the ledger, if it has one, and then the link, and
 //! answers the lines of standard input (`sg_serve`).
 ghost use Rattle.std.specs.Prelude.{◌≡◌, ◌⊎◌, false, IfSome, IsNone, IsSome, is_some, map, option_map};
-ghost use Rattle.sg_keep.specs.Kept.{AllStandFor};
+ghost use Rattle.sg_keep.specs.Kept.{AllRepresent};
 ghost use Rattle.sg_serve.specs.Served.{images_if, joins_kept};
 ghost use Rattle.sg_top.specs.Model.{ending_held};
 ghost use Rattle.sg_top.specs.Serves.{CanHaveServed, EndsServing, ServesOver, ServesPrincipal, ServesRun, ending_of_serve};
@@ -97,7 +97,7 @@ fn serve_over<O: Sink, I: Input, L: TimedLink, R: Fresh, D: Disk>(
 ) -> Ending<'static>
     requires keys { principal.keys_of_node ≡ principal.keys }
     requires working { IfSome ledger (λ l. l.failed ≡ false) }
-    requires stands { AllStandFor (images_if (is_some ledger) (D.may_leave disk.old)) (joins_kept ledger) }
+    requires represents { AllRepresent (images_if (is_some ledger) (D.may_leave disk.old)) (joins_kept ledger) }
     ensures serves { ServesOver (is_some ledger) (joins_kept ledger) (record { keys = principal.keys; programs = principal.programs })
         (record { out = record { bytes = O.written out.old; faults = O.faults out.old }; link = record { bound = L.bound link.old; coming = L.coming link.old; sent = L.sent link.old; faults = L.faults link.old }; words = R.words fresh.old; input = record { bytes = I.coming input.old; faults = I.faults input.old } })
         (record { out = record { bytes = O.written out.new; faults = O.faults out.new }; link = record { bound = L.bound link.new; coming = L.coming link.new; sent = L.sent link.new; faults = L.faults link.new }; words = R.words fresh.new; input = record { bytes = I.coming input.new; faults = I.faults input.new } })
@@ -126,7 +126,7 @@ fn answer_all<O: Sink, I: Input, L: TimedLink, R: Fresh, D: Disk>(
 ) -> Result<(), ServeFault>
     requires keys { principal.keys_of_node ≡ principal.keys }
     requires working { IfSome ledger (λ l. l.failed ≡ false) }
-    requires stands { AllStandFor (images_if (is_some ledger) (D.may_leave disk.old)) (joins_kept ledger) }
+    requires represents { AllRepresent (images_if (is_some ledger) (D.may_leave disk.old)) (joins_kept ledger) }
     ensures bound { D.bound disk.new ≡ D.bound disk.old }
     ensures ends { EndsServing (is_some ledger) (joins_kept ledger) (record { keys = principal.keys; programs = principal.programs })
         (record { out = record { bytes = O.written out.old; faults = O.faults out.old }; link = record { bound = L.bound link.old; coming = L.coming link.old; sent = L.sent link.old; faults = L.faults link.old }; words = R.words fresh.old; input = record { bytes = I.coming input.old; faults = I.faults input.old } })

@@ -13,8 +13,8 @@ use Rattle.sg_base.specs.Sets.{members}
 use Rattle.sg_protocol.specs.Evidence.{Seen, View, mask}
 use Rattle.sg_vis.specs.Keys.{key_of, AreSets, AreKeyed}
 use Rattle.sg_vis.specs.Order.{origin_number}
-use Rattle.sg_vis.specs.Search.{HasPlace}
-use Rattle.sg_vis.specs.declared.places.Place.{Place}
+use Rattle.sg_vis.specs.Search.{HasState}
+use Rattle.sg_vis.specs.declared.states.State.{State}
 
 same_origin : (o p : Option ℕ) → origin_number o ≡ origin_number p → o ≡ p
 same_origin None None e = refl
@@ -70,33 +70,33 @@ missed test (e ∷ es) k d h l =
 abbrev pub same_as : Vec ℕ Global → Vec ℕ Global → Bool
 same_as a b = pointwise nat_eq a.items b.items
 
-module _ (entries : List (Vec ℕ Global × Place)) (key : Vec ℕ Global) (n : ℕ) (v : View) (keyed : AreKeyed entries) (is : key.items ≡ key_of n v) (sets : AreSets v.items) (d : Vec ℕ Global × Place) where
-  -- a key that is found is that of a place with the node and the view
-  pub there : is_some (lookup (same_as key) entries) ≡ true → HasPlace (map (λ (e : Vec ℕ Global × Place). e.1) entries) n v
+module _ (entries : List (Vec ℕ Global × State)) (key : Vec ℕ Global) (n : ℕ) (v : View) (keyed : AreKeyed entries) (is : key.items ≡ key_of n v) (sets : AreSets v.items) (d : Vec ℕ Global × State) where
+  -- a key that is found is that of a state with the node and the view
+  pub there : is_some (lookup (same_as key) entries) ≡ true → HasState (map (λ (e : Vec ℕ Global × State). e.1) entries) n v
   there h =
       let r = looked_up (same_as key) entries d h in
       let e = get_or entries r.0 d in
       let keys : key.items ≡ e.0.items = (slice_eq-Decides Decides-eqb key.items e.0.items _ refl).0 r.2 in
       let k = keyed r.0 d r.1 in
       let same = same_key e.1.node n e.1.view v (sym k.0 ∙ sym keys ∙ is) k.1 sets in
-      let long : r.0 < length (map (λ (e : Vec ℕ Global × Place). e.1) entries) = subst (λ m. r.0 < m) (sym (length-map entries (λ (e : Vec ℕ Global × Place). e.1))) r.1 in
+      let long : r.0 < length (map (λ (e : Vec ℕ Global × State). e.1) entries) = subst (λ m. r.0 < m) (sym (length-map entries (λ (e : Vec ℕ Global × State). e.1))) r.1 in
       record {
-        place = e.1;
-        there = (r.0, long, get_or-map (λ (e : Vec ℕ Global × Place). e.1) entries r.0 d e.1 r.1);
+        state = e.1;
+        there = (r.0, long, get_or-map (λ (e : Vec ℕ Global × State). e.1) entries r.0 d e.1 r.1);
         node = same.0;
         view = same.1;
       }
 
-  -- a key that isn't is that of no place
-  pub away : is_some (lookup (same_as key) entries) ≡ false → HasPlace (map (λ (e : Vec ℕ Global × Place). e.1) entries) n v → ⊥
+  -- a key that isn't is that of no state
+  pub away : is_some (lookup (same_as key) entries) ≡ false → HasState (map (λ (e : Vec ℕ Global × State). e.1) entries) n v → ⊥
   away h p =
       let t = p.there in
-      let l : t.0 < length entries = subst (λ m. t.0 < m) (length-map entries (λ (e : Vec ℕ Global × Place). e.1)) t.1 in
+      let l : t.0 < length entries = subst (λ m. t.0 < m) (length-map entries (λ (e : Vec ℕ Global × State). e.1)) t.1 in
       let e = get_or entries t.0 d in
-      let place : e.1 ≡ p.place = sym (get_or-map (λ (e : Vec ℕ Global × Place). e.1) entries t.0 d p.place l) ∙ t.2 in
+      let state : e.1 ≡ p.state = sym (get_or-map (λ (e : Vec ℕ Global × State). e.1) entries t.0 d p.state l) ∙ t.2 in
       let k = keyed t.0 d l in
-      let node : e.1.node ≡ n = ap (λ (q : Place). q.node) place ∙ p.node in
-      let view : e.1.view ≡ v = ap (λ (q : Place). q.view) place ∙ p.view in
+      let node : e.1.node ≡ n = ap (λ (q : State). q.node) state ∙ p.node in
+      let view : e.1.view ≡ v = ap (λ (q : State). q.view) state ∙ p.view in
       let keys : key.items ≡ e.0.items = is ∙ (λ i. key_of (sym node i) (sym view i)) ∙ sym k.0 in
       let hit : same_as key e.0 ≡ true = (slice_eq-Decides Decides-eqb key.items e.0.items _ refl).1 keys in
       let miss = missed (same_as key) entries t.0 d h l in

@@ -1,4 +1,4 @@
--- Walks to the places of a search, and what a search that has followed each edge has found.
+-- Walks to the states of a search, and what a search that has followed each edge has found.
 use Rattle.std.proofs.Common.{◌≡◌, ◌≢◌, ℕ, zero, suc, ◌+◌, ◌<◌, ◌≤◌, ◌==◌, nat_lt, Bool, true, false, ◌||◌, List, [], ◌∷◌, ◌++◌, map, filter, length, get_or, refl, sym, ap, ◌∙◌, subst, inl, inr, arith, append_assoc, append-nil, All, AllPairs, Contains}
 use Rattle.std.specs.Option.{is_some}
 use Rattle.std.proofs.lemmas.Bool.{cases_Bool, eqb-true, eq-eqb}
@@ -10,10 +10,10 @@ use Rattle.sg_model.specs.Shape.{Shape, Walk, end_of, role_at, source, target, s
 use Rattle.sg_protocol.specs.Graph.{Graph, IsGraph, shape}
 use Rattle.sg_protocol.specs.Evidence.{Seen, View, view_of, IsView, IsOpenView, IsViewTable}
 use Rattle.sg_protocol.proofs.Entries.{edges_same}
-use Rattle.sg_vis.specs.declared.places.Place.{Place}
+use Rattle.sg_vis.specs.declared.states.State.{State}
 use Rattle.sg_vis.specs.declared.view.OpenView.{OpenView}
 use Rattle.sg_vis.specs.Limits.{FewOpen, ManyOpen}
-use Rattle.sg_vis.specs.Search.{nothing, is_open, open_view, settled, next_place, HasPlace, Arrives, Searched, open_places, Followed, FollowedBelow, ShowsNext, ShownBelow, AreRows}
+use Rattle.sg_vis.specs.Search.{nothing, is_open, open_view, settled, next_state, HasState, Arrives, Searched, open_states, Followed, FollowedBelow, ShowsNext, ShownBelow, AreRows}
 use Rattle.sg_vis.specs.Steps.{items_after, joined, next_view}
 use Rattle.sg_vis.specs.Table.{ShownView, Shows, views_of}
 use Rattle.sg_graph.proofs.Leaving.{Contains-filter}
@@ -21,8 +21,8 @@ use Rattle.sg_vis.proofs.Next.{view_of-snoc}
 use Rattle.sg_vis.proofs.Ordered.{ordered}
 
 -- a place where none is asked for
-abbrev pub no_place : Place
-no_place = record { node = 0; view = nothing; before = 0; label = 0 }
+abbrev pub no_state : State
+no_state = record { node = 0; view = nothing; before = 0; label = 0 }
 
 -- ---- walks with one edge more
 
@@ -36,31 +36,31 @@ Walk-snoc g m (x ∷ xs) e w l s = (w.0, w.1, Walk-snoc g (target g x) xs e w.2 
 
 -- a walk that has an edge, as the edges before its last one, and the last
 record Parts (es : List ℕ) : Type 0 where
-  front : List ℕ
+  prefix : List ℕ
   final : ℕ
-  whole : es ≡ front ++ final ∷ []
+  whole : es ≡ prefix ++ final ∷ []
 
 parts : (es : List ℕ) → es ≢ [] → Parts es
 parts [] h = absurd (h refl)
 parts (x ∷ xs) h = by x xs
   where
     by : (x : ℕ) (xs : List ℕ) → Parts (x ∷ xs)
-    by x [] = record { front = []; final = x; whole = refl }
-    by x (y ∷ ys) = let p = by y ys in record { front = x ∷ p.front; final = p.final; whole = ap (λ l. x ∷ l) p.whole }
+    by x [] = record { prefix = []; final = x; whole = refl }
+    by x (y ∷ ys) = let p = by y ys in record { prefix = x ∷ p.prefix; final = p.final; whole = ap (λ l. x ∷ l) p.whole }
 
 record WalkParts (g : Graph) (es : List ℕ) : Type 0 where
-  front : List ℕ
+  prefix : List ℕ
   final : ℕ
-  whole : es ≡ front ++ final ∷ []
-  follows : Walk (shape g) 0 front
+  whole : es ≡ prefix ++ final ∷ []
+  follows : Walk (shape g) 0 prefix
   label : final < length g.edges
-  leaves : source (shape g) final ≡ end_of (shape g) 0 front
+  leaves : source (shape g) final ≡ end_of (shape g) 0 prefix
 
 Walk-parts : (g : Graph) (es : List ℕ) → Walk (shape g) 0 es → es ≢ [] → WalkParts g es
 Walk-parts g es w h =
     let p = parts es h in
-    let cut = back (shape g) 0 p.front p.final (subst (Walk (shape g) 0) p.whole w) in
-    record { front = p.front; final = p.final; whole = p.whole; follows = cut.0; label = subst (λ n. p.final < n) (edges_same g) cut.1; leaves = cut.2 }
+    let cut = back (shape g) 0 p.prefix p.final (subst (Walk (shape g) 0) p.whole w) in
+    record { prefix = p.prefix; final = p.final; whole = p.whole; follows = cut.0; label = subst (λ n. p.final < n) (edges_same g) cut.1; leaves = cut.2 }
   where
     back : (s : Shape) (m : ℕ) (es : List ℕ) (e : ℕ) → Walk s m (es ++ e ∷ []) → Walk s m es × (e < length s.edges) × (source s e ≡ end_of s m es)
     back s m [] e w = (tt, w.0, w.1)
@@ -75,9 +75,9 @@ settled-next g r n v e s =
       | inr z ↦ rw z refl
     ]
 
--- a walk to a place goes on along an edge to the next place
-pub arrives_on : (g : Graph) (r : ℕ) (p : Place) (walk : List ℕ) (i e : ℕ) → IsGraph g → Arrives g r p walk → e < length g.edges → source (shape g) e ≡ p.node
-    → Arrives g r (next_place g r p i e) (walk ++ e ∷ [])
+-- a walk to a state goes on along an edge to the next state
+pub arrives_on : (g : Graph) (r : ℕ) (p : State) (walk : List ℕ) (i e : ℕ) → IsGraph g → Arrives g r p walk → e < length g.edges → source (shape g) e ≡ p.node
+    → Arrives g r (next_state g r p i e) (walk ++ e ∷ [])
 arrives_on g r p walk i e h a l s =
     let seen : view_of g r (walk ++ e ∷ []) ≡ next_view g r p.view e =
     view_of-snoc g r walk e h l ∙ sym (settled-next g r p.node (view_of g r walk) e s) ∙ ap (λ v. next_view g r v e) a.seen in
@@ -87,8 +87,8 @@ arrives_on g r p walk i e h a l s =
       seen = ap (settled g r (target (shape g) e)) seen;
     }
 
--- a walk shows what the place before its last edge and that edge say
-pub shown_on : (g : Graph) (r : ℕ) (p : Place) (walk : List ℕ) (e : ℕ) → IsGraph g → Arrives g r p walk → e < length g.edges → source (shape g) e ≡ p.node → receiver (shape g) e ≡ r
+-- a walk shows what the state before its last edge and that edge say
+pub shown_on : (g : Graph) (r : ℕ) (p : State) (walk : List ℕ) (e : ℕ) → IsGraph g → Arrives g r p walk → e < length g.edges → source (shape g) e ≡ p.node → receiver (shape g) e ≡ r
     → Shows g r (walk ++ e ∷ []) (next_view g r p.view e)
 shown_on g r p walk e h a l s t = record {
   follows = Walk-snoc (shape g) 0 walk e a.follows (subst (λ n. e < n) (sym (edges_same g)) l) (s ∙ sym a.ends);
@@ -104,66 +104,66 @@ shown_on g r p walk e h a l s t = record {
 settled-nothing : (g : Graph) (r n : ℕ) → settled g r n nothing ≡ nothing
 settled-nothing g r n = elim (cases_Bool (role_at (shape g) n == r)) [ inl y ↦ rw y refl | inr z ↦ rw z refl ]
 
--- a walk without edges is at the first place
-pub arrives_first : (g : Graph) (r : ℕ) (places : List Place) (d : Place) → Searched g r places → Arrives g r (get_or places 0 d) []
-arrives_first g r places d s = record {
+-- a walk without edges is at the first state
+pub arrives_first : (g : Graph) (r : ℕ) (states : List State) (d : State) → Searched g r states → Arrives g r (get_or states 0 d) []
+arrives_first g r states d s = record {
   follows = tt;
   ends = sym (s.first d).0;
-  seen = settled-nothing g r (get_or places 0 d).node ∙ sym (s.first d).1;
+  seen = settled-nothing g r (get_or states 0 d).node ∙ sym (s.first d).1;
 }
 
--- a walk to the place before another goes on to that
-pub arrives_linked : (g : Graph) (r : ℕ) (places : List Place) (i : ℕ) (d : Place) (walk : List ℕ) → Searched g r places → 0 < i → i < length places
-    → Arrives g r (get_or places (get_or places i d).before d) walk → Arrives g r (get_or places i d) (walk ++ (get_or places i d).label ∷ [])
-arrives_linked g r places i d walk s l m a =
-    let p = get_or places i d in
+-- a walk to the state before another goes on to that
+pub arrives_linked : (g : Graph) (r : ℕ) (states : List State) (i : ℕ) (d : State) (walk : List ℕ) → Searched g r states → 0 < i → i < length states
+    → Arrives g r (get_or states (get_or states i d).before d) walk → Arrives g r (get_or states i d) (walk ++ (get_or states i d).label ∷ [])
+arrives_linked g r states i d walk s l m a =
+    let p = get_or states i d in
     let link = s.linked i d l m in
     subst (λ q. Arrives g r q (walk ++ p.label ∷ [])) (sym link.next)
-    (arrives_on g r (get_or places p.before d) walk p.before p.label s.graph a link.label link.source)
+    (arrives_on g r (get_or states p.before d) walk p.before p.label s.graph a link.label link.source)
 
 -- some walk leads to each place
-pub arrives : (g : Graph) (r : ℕ) (places : List Place) (d : Place) → Searched g r places → (i : ℕ) → i < length places → (walk : List ℕ) × Arrives g r (get_or places i d) walk
-arrives g r places d s i l = upto (suc i) i (omega arith) l
+pub arrives : (g : Graph) (r : ℕ) (states : List State) (d : State) → Searched g r states → (i : ℕ) → i < length states → (walk : List ℕ) × Arrives g r (get_or states i d) walk
+arrives g r states d s i l = upto (suc i) i (omega arith) l
   where
-    upto : (n i : ℕ) → i < n → i < length places → (walk : List ℕ) × Arrives g r (get_or places i d) walk
+    upto : (n i : ℕ) → i < n → i < length states → (walk : List ℕ) × Arrives g r (get_or states i d) walk
     upto zero i m l = absurd (omega arith)
-    upto (suc n) zero m l = ([], arrives_first g r places d s)
+    upto (suc n) zero m l = ([], arrives_first g r states d s)
     upto (suc n) (suc i) m l =
-        let p = get_or places (suc i) d in
+        let p = get_or states (suc i) d in
         let back : p.before < suc i = s.back (suc i) d (omega arith) l in
         let before = upto n p.before (omega arith) (omega arith) in
-        (before.0 ++ p.label ∷ [], arrives_linked g r places (suc i) d before.0 s (omega arith) l before.1)
+        (before.0 ++ p.label ∷ [], arrives_linked g r states (suc i) d before.0 s (omega arith) l before.1)
 
 -- ---- a search that has followed each edge from each place has found a place for each walk
 
-pub found : (g : Graph) (r : ℕ) (places : List Place) (d : Place) → Searched g r places → FollowedBelow g r places (length places)
-    → (walk : List ℕ) → Walk (shape g) 0 walk → HasPlace places (end_of (shape g) 0 walk) (settled g r (end_of (shape g) 0 walk) (view_of g r walk))
-found g r places d s f walk w =
-    let start : HasPlace places 0 (settled g r 0 (view_of g r [])) = record {
-      place = get_or places 0 d;
-      there = Contains-get_or places 0 d s.some;
+pub found : (g : Graph) (r : ℕ) (states : List State) (d : State) → Searched g r states → FollowedBelow g r states (length states)
+    → (walk : List ℕ) → Walk (shape g) 0 walk → HasState states (end_of (shape g) 0 walk) (settled g r (end_of (shape g) 0 walk) (view_of g r walk))
+found g r states d s f walk w =
+    let start : HasState states 0 (settled g r 0 (view_of g r [])) = record {
+      state = get_or states 0 d;
+      there = Contains-get_or states 0 d s.some;
       node = (s.first d).0;
       view = (s.first d).1 ∙ sym (settled-nothing g r 0);
     } in
     on [] walk start w
   where
-    on : (pre es : List ℕ) → HasPlace places (end_of (shape g) 0 pre) (settled g r (end_of (shape g) 0 pre) (view_of g r pre)) → Walk (shape g) (end_of (shape g) 0 pre) es
-        → HasPlace places (end_of (shape g) 0 (pre ++ es)) (settled g r (end_of (shape g) 0 (pre ++ es)) (view_of g r (pre ++ es)))
-    on pre [] h w = subst (λ l. HasPlace places (end_of (shape g) 0 l) (settled g r (end_of (shape g) 0 l) (view_of g r l))) (sym (append-nil pre)) h
+    on : (pre es : List ℕ) → HasState states (end_of (shape g) 0 pre) (settled g r (end_of (shape g) 0 pre) (view_of g r pre)) → Walk (shape g) (end_of (shape g) 0 pre) es
+        → HasState states (end_of (shape g) 0 (pre ++ es)) (settled g r (end_of (shape g) 0 (pre ++ es)) (view_of g r (pre ++ es)))
+    on pre [] h w = subst (λ l. HasState states (end_of (shape g) 0 l) (settled g r (end_of (shape g) 0 l) (view_of g r l))) (sym (append-nil pre)) h
     on pre (e ∷ es) h w =
         let label : e < length g.edges = subst (λ n. e < n) (edges_same g) w.0 in
         let there = h.there in
-        let followed : Followed g r places h.place = subst (Followed g r places) there.2 (f there.0 h.place there.1 there.1) in
+        let followed : Followed g r states h.state = subst (Followed g r states) there.2 (f there.0 h.state there.1 there.1) in
         let into = followed e label (w.1 ∙ sym h.node) in
-        let seen : next_view g r h.place.view e ≡ view_of g r (pre ++ e ∷ []) =
+        let seen : next_view g r h.state.view e ≡ view_of g r (pre ++ e ∷ []) =
         ap (λ v. next_view g r v e) h.view ∙ settled-next g r (end_of (shape g) 0 pre) (view_of g r pre) e w.1 ∙ sym (view_of-snoc g r pre e s.graph label) in
         let node : target (shape g) e ≡ end_of (shape g) 0 (pre ++ e ∷ []) = sym (end_of-snoc (shape g) 0 pre e) in
-        let next : HasPlace places (end_of (shape g) 0 (pre ++ e ∷ [])) (settled g r (end_of (shape g) 0 (pre ++ e ∷ [])) (view_of g r (pre ++ e ∷ []))) =
-        record { place = into.place; there = into.there; node = into.node ∙ node; view = into.view ∙ (λ i. settled g r (node i) (seen i)) } in
-        subst (λ l. HasPlace places (end_of (shape g) 0 l) (settled g r (end_of (shape g) 0 l) (view_of g r l))) (append_assoc pre (e ∷ []) es)
+        let next : HasState states (end_of (shape g) 0 (pre ++ e ∷ [])) (settled g r (end_of (shape g) 0 (pre ++ e ∷ [])) (view_of g r (pre ++ e ∷ []))) =
+        record { state = into.state; there = into.there; node = into.node ∙ node; view = into.view ∙ (λ i. settled g r (node i) (seen i)) } in
+        subst (λ l. HasState states (end_of (shape g) 0 l) (settled g r (end_of (shape g) 0 l) (view_of g r l))) (append_assoc pre (e ∷ []) es)
         (on (pre ++ e ∷ []) es next (subst (λ m. Walk (shape g) m es) node w.2))
 
--- ---- which places are open views
+-- ---- which states are open views
 
 -- after a step something is seen
 open_after : (g : Graph) (r : ℕ) (v : View) (e : ℕ) → is_open (next_view g r v e) ≡ true
@@ -197,29 +197,29 @@ Contains-map : {A B : Type 0} (f : A → B) (xs : List A) (x : A) → Contains x
 Contains-map f xs x h = (h.0, subst (λ n. h.0 < n) (sym (length-map xs f)) h.1, get_or-map f xs h.0 x (f x) h.1 ∙ ap f h.2)
 
 -- a complete search has each open view, so they are few where it has few
-pub few_open : (g : Graph) (r : ℕ) (places : List Place) → Searched g r places → FollowedBelow g r places (length places) → length (open_places places) ≤ 65536 → FewOpen g r
-few_open g r places s f few = record {
-  list = map open_view (open_places places);
-  few = subst (λ n. n ≤ 65536) (sym (length-map (open_places places) open_view)) few;
+pub few_open : (g : Graph) (r : ℕ) (states : List State) → Searched g r states → FollowedBelow g r states (length states) → length (open_states states) ≤ 65536 → FewOpen g r
+few_open g r states s f few = record {
+  list = map open_view (open_states states);
+  few = subst (λ n. n ≤ 65536) (sym (length-map (open_states states) open_view)) few;
   each = each;
 }
   where
-    each : (o : OpenView) → IsOpenView g r o.node o.view → Contains (map open_view (open_places places)) o
+    each : (o : OpenView) → IsOpenView g r o.node o.view → Contains (map open_view (open_states states)) o
     each o i =
-        let d : Place = no_place in
-        let h = found g r places d s f i.walk i.follows in
+        let d : State = no_state in
+        let h = found g r states d s f i.walk i.follows in
         let p = Walk-parts g i.walk i.follows i.moves in
         let others : role_at (shape g) (end_of (shape g) 0 i.walk) ≢ r = subst (λ n. role_at (shape g) n ≢ r) (sym i.ends) i.others in
-        let view : h.place.view ≡ o.view = h.view ∙ settled-other g r (end_of (shape g) 0 i.walk) (view_of g r i.walk) others ∙ i.seen in
-        let node : h.place.node ≡ o.node = h.node ∙ i.ends in
-        let same : open_view h.place ≡ o = λ j. record { node = node j; view = view j } in
-        let open' : is_open h.place.view ≡ true =
-        ap is_open (view ∙ sym i.seen ∙ ap (view_of g r) p.whole ∙ view_of-snoc g r p.front p.final s.graph p.label) ∙ open_after g r (view_of g r p.front) p.final in
-        subst (Contains (map open_view (open_places places))) same
-        (Contains-map open_view (open_places places) h.place (Contains-filter (λ (q : Place). is_open q.view) places h.place h.there open'))
+        let view : h.state.view ≡ o.view = h.view ∙ settled-other g r (end_of (shape g) 0 i.walk) (view_of g r i.walk) others ∙ i.seen in
+        let node : h.state.node ≡ o.node = h.node ∙ i.ends in
+        let same : open_view h.state ≡ o = λ j. record { node = node j; view = view j } in
+        let open' : is_open h.state.view ≡ true =
+        ap is_open (view ∙ sym i.seen ∙ ap (view_of g r) p.whole ∙ view_of-snoc g r p.prefix p.final s.graph p.label) ∙ open_after g r (view_of g r p.prefix) p.final in
+        subst (Contains (map open_view (open_states states))) same
+        (Contains-map open_view (open_states states) h.state (Contains-filter (λ (q : State). is_open q.view) states h.state h.there open'))
 
--- a place at which something is seen is an open view
-is_open_view : (g : Graph) (r : ℕ) (p : Place) (walk : List ℕ) → Arrives g r p walk → is_open p.view ≡ true → IsOpenView g r p.node p.view
+-- a state at which something is seen is an open view
+is_open_view : (g : Graph) (r : ℕ) (p : State) (walk : List ℕ) → Arrives g r p walk → is_open p.view ≡ true → IsOpenView g r p.node p.view
 is_open_view g r p walk a o =
     let others : role_at (shape g) p.node ≢ r =
     λ e. (let own : (role_at (shape g) p.node == r) ≡ true = eq-eqb (role_at (shape g) p.node) r e in
@@ -243,30 +243,30 @@ AllPairs-map f R (x ∷ xs) h = λ i j d l m.
     let two : get_or (map f (x ∷ xs)) j d ≡ f (get_or (x ∷ xs) j x) = get_or-map f (x ∷ xs) j x d m' in
     subst (λ b. R b (get_or (map f (x ∷ xs)) j d)) (sym one) (subst (R (f (get_or (x ∷ xs) i x))) (sym two) (h i j x l m')))
 
--- a search with 65,537 open views among its places shows that there are as many
-pub many_open : (g : Graph) (r : ℕ) (places : List Place) → Searched g r places → length (open_places places) ≡ 65537 → ManyOpen g r (map open_view (open_places places))
-many_open g r places s n = record {
-  many = length-map (open_places places) open_view ∙ n;
-  different = AllPairs-map open_view (λ a b. a ≢ b) (open_places places)
-      (AllPairs-filter (λ a b. open_view a ≢ open_view b) (λ (p : Place). is_open p.view) places
+-- a search with 65,537 open views among its states shows that there are as many
+pub many_open : (g : Graph) (r : ℕ) (states : List State) → Searched g r states → length (open_states states) ≡ 65537 → ManyOpen g r (map open_view (open_states states))
+many_open g r states s n = record {
+  many = length-map (open_states states) open_view ∙ n;
+  different = AllPairs-map open_view (λ a b. a ≢ b) (open_states states)
+      (AllPairs-filter (λ a b. open_view a ≢ open_view b) (λ (p : State). is_open p.view) states
       (λ i j d l m e. s.differ i j d l m (ap (λ (o : OpenView). o.node) e) (ap (λ (o : OpenView). o.view) e)));
-  each = All-map (λ (o : OpenView). IsOpenView g r o.node o.view) open_view (open_places places) each;
+  each = All-map (λ (o : OpenView). IsOpenView g r o.node o.view) open_view (open_states states) each;
 }
   where
-    all : (k : ℕ) (d : Place) → k < length places → is_open (get_or places k d).view ≡ true → IsOpenView g r (get_or places k d).node (get_or places k d).view
-    all k d l o = let a = arrives g r places d s k l in is_open_view g r (get_or places k d) a.0 a.1 o
+    all : (k : ℕ) (d : State) → k < length states → is_open (get_or states k d).view ≡ true → IsOpenView g r (get_or states k d).node (get_or states k d).view
+    all k d l o = let a = arrives g r states d s k l in is_open_view g r (get_or states k d) a.0 a.1 o
 
-    each : All (λ (p : Place). IsOpenView g r p.node p.view) (open_places places)
+    each : All (λ (p : State). IsOpenView g r p.node p.view) (open_states states)
     each = λ k d l.
-        (let passes : is_open (get_or (open_places places) k d).view ≡ true = filter_passes (λ (p : Place). is_open p.view) places k d l in
-        All-filter (λ (p : Place). is_open p.view) (λ (p : Place). is_open p.view ≡ true → IsOpenView g r p.node p.view) places (λ k d l. all k d l) k d l passes)
+        (let passes : is_open (get_or (open_states states) k d).view ≡ true = filter_passes (λ (p : State). is_open p.view) states k d l in
+        All-filter (λ (p : State). is_open p.view) (λ (p : State). is_open p.view ≡ true → IsOpenView g r p.node p.view) states (λ k d l. all k d l) k d l passes)
 
 -- ---- the table
 
 -- rows that are shown and have what each edge from each place shows are the table of views
-pub is_table : (g : Graph) (r : ℕ) (places : List Place) (table : List ShownView) → Searched g r places → FollowedBelow g r places (length places)
-    → AreRows g r table → ShownBelow g r (views_of table) places (length places) → IsViewTable g r (views_of table)
-is_table g r places table s f rows shown = record { ordered = ordered table rows.holds.ordered; each = λ v. (from v, to v) }
+pub is_table : (g : Graph) (r : ℕ) (states : List State) (table : List ShownView) → Searched g r states → FollowedBelow g r states (length states)
+    → AreRows g r table → ShownBelow g r (views_of table) states (length states) → IsViewTable g r (views_of table)
+is_table g r states table s f rows shown = record { ordered = ordered table rows.holds.ordered; each = λ v. (from v, to v) }
   where
     from : (v : View) → Contains (views_of table) v → IsView g r v
     from v h =
@@ -278,12 +278,12 @@ is_table g r places table s f rows shown = record { ordered = ordered table rows
 
     to : (v : View) → IsView g r v → Contains (views_of table) v
     to v i =
-        let d : Place = no_place in
+        let d : State = no_state in
         let p = Walk-parts g i.walk i.follows i.moves in
-        let h = found g r places d s f p.front p.follows in
-        let place : ShowsNext g r (views_of table) h.place = subst (ShowsNext g r (views_of table)) h.there.2 (shown h.there.0 h.place h.there.1 h.there.1) in
-        let turn : receiver (shape g) p.final ≡ r = ap (role_at (shape g)) (sym (end_of-snoc (shape g) 0 p.front p.final) ∙ ap (end_of (shape g) 0) (sym p.whole)) ∙ i.ends in
-        let seen : next_view g r h.place.view p.final ≡ v =
-        ap (λ w. next_view g r w p.final) h.view ∙ settled-next g r (end_of (shape g) 0 p.front) (view_of g r p.front) p.final p.leaves
-        ∙ sym (view_of-snoc g r p.front p.final s.graph p.label) ∙ ap (view_of g r) (sym p.whole) ∙ i.seen in
-        subst (Contains (views_of table)) seen (place p.final p.label (p.leaves ∙ sym h.node) turn)
+        let h = found g r states d s f p.prefix p.follows in
+        let state : ShowsNext g r (views_of table) h.state = subst (ShowsNext g r (views_of table)) h.there.2 (shown h.there.0 h.state h.there.1 h.there.1) in
+        let turn : receiver (shape g) p.final ≡ r = ap (role_at (shape g)) (sym (end_of-snoc (shape g) 0 p.prefix p.final) ∙ ap (end_of (shape g) 0) (sym p.whole)) ∙ i.ends in
+        let seen : next_view g r h.state.view p.final ≡ v =
+        ap (λ w. next_view g r w p.final) h.view ∙ settled-next g r (end_of (shape g) 0 p.prefix) (view_of g r p.prefix) p.final p.leaves
+        ∙ sym (view_of-snoc g r p.prefix p.final s.graph p.label) ∙ ap (view_of g r) (sym p.whole) ∙ i.seen in
+        subst (Contains (views_of table)) seen (state p.final p.label (p.leaves ∙ sym h.node) turn)

@@ -16,7 +16,7 @@ use Rattle.sg_model.specs.Shape.{source, receiver}
 use Rattle.sg_model.proofs.Small.{same_at, upto}
 use Rattle.sg_protocol.specs.Graph.{Graph, shape}
 use Rattle.sg_protocol.specs.Evidence.{View, IsView}
-use Rattle.sg_vis.specs.declared.places.Place.{Place}
+use Rattle.sg_vis.specs.declared.states.State.{State}
 use Rattle.sg_vis.specs.declared.fault.ViewFault.{ViewFault}
 use Rattle.sg_vis.specs.declared.fault.ViewFault.TheVariants.{TooManyOpen, TooManyViews, OutOfMemory}
 use Rattle.sg_vis.specs.Limits.{Explains, FewOpen, ManyViews, IsFull}
@@ -26,7 +26,7 @@ use Rattle.sg_vis.specs.Steps.{next_view}
 use Rattle.sg_vis.specs.Table.{ShownView, Shows, views_of}
 use Rattle.sg_vis.proofs.Ordered.{compared_total, absent}
 
--- the places of a list with one element put in: before it, at it, behind it
+-- the indices of a list with one element put in: before it, at it, behind it
 data Spot (xs : ℕ) (p : ℕ) : ℕ → Type 0 where
   Before : (k : ℕ) → k < p → Spot xs p k
   Here : Spot xs p p
@@ -159,40 +159,40 @@ pub if_err : {T E : Type 0} (r : Result T E) (P Q : E → Type 0) → IfErr r P 
 if_err (Ok x) P Q h f = tt
 if_err (Err e) P Q h f = f e h
 
--- the view behind one edge more from a place is there, if the edge leads to a node of r
-pub shown-more : (g : Graph) (r : ℕ) (places : List Place) (before after : List View) (at i : ℕ) (labels : List ℕ) (e : ℕ) → at < length places → Keeps before after → i < length labels → e ≡ get_or labels i e
-    → (receiver (shape g) e ≡ r → IfSome (slice_get places at) (λ p. Contains after (next_view g r p.view e)))
-    → ((k : ℕ) (d : Place) → k < i → receiver (shape g) (get_or labels k 0) ≡ r → Contains before (next_view g r (get_or places at d).view (get_or labels k 0)))
-    → (k : ℕ) (d : Place) → k < i + 1 → receiver (shape g) (get_or labels k 0) ≡ r → Contains after (next_view g r (get_or places at d).view (get_or labels k 0))
-shown-more g r places before after at i labels e l keeps m is here inv k d u t =
+-- the view behind one edge more from an index is there, if the edge leads to a node of r
+pub shown-more : (g : Graph) (r : ℕ) (states : List State) (before after : List View) (at i : ℕ) (labels : List ℕ) (e : ℕ) → at < length states → Keeps before after → i < length labels → e ≡ get_or labels i e
+    → (receiver (shape g) e ≡ r → IfSome (slice_get states at) (λ p. Contains after (next_view g r p.view e)))
+    → ((k : ℕ) (d : State) → k < i → receiver (shape g) (get_or labels k 0) ≡ r → Contains before (next_view g r (get_or states at d).view (get_or labels k 0)))
+    → (k : ℕ) (d : State) → k < i + 1 → receiver (shape g) (get_or labels k 0) ≡ r → Contains after (next_view g r (get_or states at d).view (get_or labels k 0))
+shown-more g r states before after at i labels e l keeps m is here inv k d u t =
     elim (upto k i u) [
-      | inl b ↦ keeps (next_view g r (get_or places at d).view (get_or labels k 0)) (inv k d b t)
+      | inl b ↦ keeps (next_view g r (get_or states at d).view (get_or labels k 0)) (inv k d b t)
       | inr b ↦
           (let label : get_or labels k 0 ≡ e = ap (λ j. get_or labels j 0) b ∙ same_at labels i 0 e m ∙ sym is in
-          let there = subst (λ o. IfSome o (λ p. Contains after (next_view g r p.view e))) (slice_get-get_or places at d l) (here (ap (receiver (shape g)) (sym label) ∙ t)) in
-          subst (λ f. Contains after (next_view g r (get_or places at d).view f)) (sym label) there)
+          let there = subst (λ o. IfSome o (λ p. Contains after (next_view g r p.view e))) (slice_get-get_or states at d l) (here (ap (receiver (shape g)) (sym label) ∙ t)) in
+          subst (λ f. Contains after (next_view g r (get_or states at d).view f)) (sym label) there)
     ]
 
--- where each label of an edge from a place is looked at, all that it shows is there
-pub shown-all : (g : Graph) (r : ℕ) (places : List Place) (vs : List View) (at i : ℕ) (p : Place) (labels : List ℕ) → slice_get places at ≡ Some p
+-- where each label of an edge from an index is looked at, all that it shows is there
+pub shown-all : (g : Graph) (r : ℕ) (states : List State) (vs : List View) (at i : ℕ) (p : State) (labels : List ℕ) → slice_get states at ≡ Some p
     → ((e : ℕ) → e < length g.edges → source (shape g) e ≡ p.node → Contains labels e) → length labels ≤ i
-    → ((k : ℕ) (d : Place) → k < i → receiver (shape g) (get_or labels k 0) ≡ r → Contains vs (next_view g r (get_or places at d).view (get_or labels k 0)))
-    → IfSome (slice_get places at) (ShowsNext g r vs)
-shown-all g r places vs at i p labels is all m inv =
+    → ((k : ℕ) (d : State) → k < i → receiver (shape g) (get_or labels k 0) ≡ r → Contains vs (next_view g r (get_or states at d).view (get_or labels k 0)))
+    → IfSome (slice_get states at) (ShowsNext g r vs)
+shown-all g r states vs at i p labels is all m inv =
     subst (λ o. IfSome o (ShowsNext g r vs)) (sym is)
     (λ e l s t.
     (let c = all e l s in
     let label : get_or labels c.0 0 ≡ e = same_at labels c.0 0 e c.1 ∙ c.2 in
-    let place : get_or places at p ≡ p = get_or_from_slice_get places at p p is in
+    let state : get_or states at p ≡ p = get_or_from_slice_get states at p p is in
     let there = inv c.0 p (omega (arith, c.1, m)) (ap (receiver (shape g)) label ∙ t) in
-    subst (λ (q : Place). Contains vs (next_view g r q.view e)) place (subst (λ f. Contains vs (next_view g r (get_or places at p).view f)) label there)))
+    subst (λ (q : State). Contains vs (next_view g r q.view e)) state (subst (λ f. Contains vs (next_view g r (get_or states at p).view f)) label there)))
 
--- what the places below a number show is there, and what one more does
-pub shown-next : (g : Graph) (r : ℕ) (places : List Place) (before after : List View) (n : ℕ) → Keeps before after → IfSome (slice_get places n) (ShowsNext g r after) → ShownBelow g r before places n → ShownBelow g r after places (n + 1)
-shown-next g r places before after n keeps more inv i d u m =
+-- what the indices below a number show is there, and what one more does
+pub shown-next : (g : Graph) (r : ℕ) (states : List State) (before after : List View) (n : ℕ) → Keeps before after → IfSome (slice_get states n) (ShowsNext g r after) → ShownBelow g r before states n → ShownBelow g r after states (n + 1)
+shown-next g r states before after n keeps more inv i d u m =
     elim (upto i n u) [
-      | inl b ↦ λ e l s t. keeps (next_view g r (get_or places i d).view e) (inv i d b m e l s t)
+      | inl b ↦ λ e l s t. keeps (next_view g r (get_or states i d).view e) (inv i d b m e l s t)
       | inr b ↦
-          (let here = subst (λ o. IfSome o (ShowsNext g r after)) (slice_get-get_or places n d (subst (λ k. k < length places) b m)) more in
-          subst (λ k. ShowsNext g r after (get_or places k d)) (sym b) here)
+          (let here = subst (λ o. IfSome o (ShowsNext g r after)) (slice_get-get_or states n d (subst (λ k. k < length states) b m)) more in
+          subst (λ k. ShowsNext g r after (get_or states k d)) (sym b) here)
     ]

@@ -1,12 +1,12 @@
--- How the places of a search are kept: each under its node and view as a list of numbers.
+-- How the states of a search are kept: each under its node and view as a list of numbers.
 use Rattle.std.specs.Prelude.{◌≡◌, ℕ, List, [], ◌∷◌, map, length, flat_map, All, Vec}
 use Rattle.std.specs.declared.alloc.Global.{Global}
 use Rattle.sg_base.specs.Sets.{members}
 use Rattle.sg_protocol.specs.Evidence.{Seen, View, mask}
 use Rattle.sg_vis.specs.Order.{origin_number}
-use Rattle.sg_vis.specs.Search.{open_places}
-use Rattle.sg_vis.specs.declared.places.Place.{Place}
-use Rattle.sg_vis.specs.declared.places.Places.TheInside.{Inside}
+use Rattle.sg_vis.specs.Search.{open_states}
+use Rattle.sg_vis.specs.declared.states.State.{State}
+use Rattle.sg_vis.specs.declared.states.States.TheInside.{Inside}
 
 -- a node and a view as one list of numbers
 abbrev pub key_of : ℕ → View → List ℕ
@@ -16,15 +16,15 @@ key_of n v = n ∷ origin_number v.origin ∷ flat_map (λ s. s.label ∷ mask s
 abbrev pub AreSets : List Seen → Type 0
 AreSets items = All (λ s. members 32 (mask s.delta) ≡ s.delta) items
 
--- the places that are kept
-abbrev pub places_of : Inside → List Place
-places_of p = map (λ e. e.1) p.found.entries
+-- the states that are kept
+abbrev pub states_of : Inside → List State
+states_of p = map (λ e. e.1) p.found.entries
 
 -- each place stands under its key, and its deltas are sets
-abbrev pub AreKeyed : List (Vec ℕ Global × Place) → Type 0
-AreKeyed entries = All (λ (e : Vec ℕ Global × Place). (e.0.items ≡ key_of e.1.node e.1.view) × AreSets e.1.view.items) entries
+abbrev pub AreKeyed : List (Vec ℕ Global × State) → Type 0
+AreKeyed entries = All (λ (e : Vec ℕ Global × State). (e.0.items ≡ key_of e.1.node e.1.view) × AreSets e.1.view.items) entries
 
--- the places are keyed, and the open views among them are counted
-pub record HoldsPlaces (p : Inside) : Type 0 where
+-- the states are keyed, and the open views among them are counted
+pub record HoldsStates (p : Inside) : Type 0 where
   pub keyed : AreKeyed p.found.entries
-  pub counted : p.open ≡ length (open_places (places_of p))
+  pub counted : p.open ≡ length (open_states (states_of p))

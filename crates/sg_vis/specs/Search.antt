@@ -6,7 +6,7 @@ use Rattle.sg_protocol.specs.Evidence.{View, view_of}
 use Rattle.sg_vis.specs.Order.{HoldsTable}
 use Rattle.sg_vis.specs.Table.{ShownView, Shows}
 use Rattle.sg_vis.specs.Steps.{next_view, HasLabels}
-use Rattle.sg_vis.specs.declared.places.Place.{Place}
+use Rattle.sg_vis.specs.declared.states.State.{State}
 use Rattle.sg_vis.specs.declared.view.OpenView.{OpenView}
 
 -- what is seen before the first step
@@ -17,92 +17,92 @@ nothing = record { origin = None; items = [] }
 abbrev pub is_open : View → Bool
 is_open v = is_some v.origin || nat_lt 0 (length v.items)
 
--- the open view of a place
-abbrev pub open_view : Place → OpenView
+-- the open view of a state
+abbrev pub open_view : State → OpenView
 open_view p = record { node = p.node; view = p.view }
 
 -- what is kept of a view at a node: nothing where r acts
 abbrev pub settled : Graph → ℕ → ℕ → View → View
 settled g r n v = if role_at (shape g) n == r then nothing else v
 
--- the place that edge e leads to from the place of number i
-abbrev pub next_place : Graph → ℕ → Place → ℕ → ℕ → Place
-next_place g r p i e = record {
+-- the state that edge e leads to from the state of number i
+abbrev pub next_state : Graph → ℕ → State → ℕ → ℕ → State
+next_state g r p i e = record {
   node = target (shape g) e;
   view = settled g r (target (shape g) e) (next_view g r p.view e);
   before = i;
   label = e;
 }
 
--- one of the places has this node and this view
-pub record HasPlace (places : List Place) (n : ℕ) (v : View) : Type 0 where
-  pub place : Place
-  pub there : Contains places place
-  pub node : place.node ≡ n
-  pub view : place.view ≡ v
+-- one of the states has this node and this view
+pub record HasState (states : List State) (n : ℕ) (v : View) : Type 0 where
+  pub state : State
+  pub there : Contains states state
+  pub node : state.node ≡ n
+  pub view : state.view ≡ v
 
--- the place is there already and nothing changes, or it is new and comes last
-abbrev pub Puts : List Place → List Place → Place → Bool → Type 0
-Puts old new p true = (HasPlace old p.node p.view → ⊥) × (new ≡ old ++ p ∷ [])
-Puts old new p false = HasPlace old p.node p.view × (new ≡ old)
+-- the state is there already and nothing changes, or it is new and comes last
+abbrev pub Puts : List State → List State → State → Bool → Type 0
+Puts old new p true = (HasState old p.node p.view → ⊥) × (new ≡ old ++ p ∷ [])
+Puts old new p false = HasState old p.node p.view × (new ≡ old)
 
 -- it is one of these
-abbrev pub Adds : List Place → List Place → Place → Type 0
+abbrev pub Adds : List State → List State → State → Type 0
 Adds old new p = (b : Bool) × Puts old new p b
 
--- the walk leads from the start to the place
-pub record Arrives (g : Graph) (r : ℕ) (p : Place) (walk : List ℕ) : Type 0 where
+-- the walk leads from the start to the state
+pub record Arrives (g : Graph) (r : ℕ) (p : State) (walk : List ℕ) : Type 0 where
   pub follows : Walk (shape g) 0 walk
   pub ends : end_of (shape g) 0 walk ≡ p.node
   pub seen : settled g r p.node (view_of g r walk) ≡ p.view
 
--- the place is where an edge leads to from the place before it
-pub record IsLinked (g : Graph) (r : ℕ) (p : Place) (before : Place) : Type 0 where
+-- the state is where an edge leads to from the state before it
+pub record IsLinked (g : Graph) (r : ℕ) (p : State) (before : State) : Type 0 where
   pub label : p.label < length g.edges
   pub source : source (shape g) p.label ≡ before.node
-  pub next : p ≡ next_place g r before p.before p.label
+  pub next : p ≡ next_state g r before p.before p.label
 
--- the place before each but the first stands before it
-abbrev pub LeadBack : List Place → Type 0
-LeadBack places = (i : ℕ) (d : Place) → 0 < i → i < length places → (get_or places i d).before < i
+-- the state before each but the first stands before it
+abbrev pub LeadBack : List State → Type 0
+LeadBack states = (i : ℕ) (d : State) → 0 < i → i < length states → (get_or states i d).before < i
 
--- the first place is the start, and each other one is where an edge leads to from one before it; all are different
-pub record Searched (g : Graph) (r : ℕ) (places : List Place) : Type 0 where
+-- the first state is the start, and each other one is where an edge leads to from one before it; all are different
+pub record Searched (g : Graph) (r : ℕ) (states : List State) : Type 0 where
   pub graph : IsGraph g
-  pub some : 0 < length places
-  pub first : (d : Place) → ((get_or places 0 d).node ≡ 0) × ((get_or places 0 d).view ≡ nothing)
-  pub back : LeadBack places
-  pub linked : (i : ℕ) (d : Place) → 0 < i → i < length places → IsLinked g r (get_or places i d) (get_or places (get_or places i d).before d)
-  pub labels : All (λ p. HasLabels g p.view) places
-  pub differ : AllPairs (λ a b. a.node ≡ b.node → a.view ≡ b.view → ⊥) places
+  pub some : 0 < length states
+  pub first : (d : State) → ((get_or states 0 d).node ≡ 0) × ((get_or states 0 d).view ≡ nothing)
+  pub back : LeadBack states
+  pub linked : (i : ℕ) (d : State) → 0 < i → i < length states → IsLinked g r (get_or states i d) (get_or states (get_or states i d).before d)
+  pub labels : All (λ p. HasLabels g p.view) states
+  pub differ : AllPairs (λ a b. a.node ≡ b.node → a.view ≡ b.view → ⊥) states
 
--- the open views among the places
-abbrev pub open_places : List Place → List Place
-open_places places = filter (λ p. is_open p.view) places
+-- the open views among the states
+abbrev pub open_states : List State → List State
+open_states states = filter (λ p. is_open p.view) states
 
--- where edge e leads to from the place is one of the places
-abbrev pub LeadsInto : Graph → ℕ → List Place → Place → ℕ → Type 0
-LeadsInto g r places p e = HasPlace places (target (shape g) e) (settled g r (target (shape g) e) (next_view g r p.view e))
+-- where edge e leads to from the state is one of the states
+abbrev pub LeadsInto : Graph → ℕ → List State → State → ℕ → Type 0
+LeadsInto g r states p e = HasState states (target (shape g) e) (settled g r (target (shape g) e) (next_view g r p.view e))
 
--- each edge from the place leads to one of the places
-abbrev pub Followed : Graph → ℕ → List Place → Place → Type 0
-Followed g r places p = (e : ℕ) → e < length g.edges → source (shape g) e ≡ p.node → LeadsInto g r places p e
+-- each edge from the state leads to one of the states
+abbrev pub Followed : Graph → ℕ → List State → State → Type 0
+Followed g r states p = (e : ℕ) → e < length g.edges → source (shape g) e ≡ p.node → LeadsInto g r states p e
 
--- the places below a number are followed
-abbrev pub FollowedBelow : Graph → ℕ → List Place → ℕ → Type 0
-FollowedBelow g r places n = (i : ℕ) (d : Place) → i < n → i < length places → Followed g r places (get_or places i d)
+-- the states below a number are followed
+abbrev pub FollowedBelow : Graph → ℕ → List State → ℕ → Type 0
+FollowedBelow g r states n = (i : ℕ) (d : State) → i < n → i < length states → Followed g r states (get_or states i d)
 
 -- the second list begins with the first
 abbrev pub Extends : {A : Type 0} → List A → List A → Type 0
 Extends {A} old new = (more : List A) × (new ≡ old ++ more)
 
--- the views have what r sees after each edge from the place to a node of r
-abbrev pub ShowsNext : Graph → ℕ → List View → Place → Type 0
+-- the views have what r sees after each edge from the state to a node of r
+abbrev pub ShowsNext : Graph → ℕ → List View → State → Type 0
 ShowsNext g r vs p = (e : ℕ) → e < length g.edges → source (shape g) e ≡ p.node → receiver (shape g) e ≡ r → Contains vs (next_view g r p.view e)
 
--- they have it for the places below a number
-abbrev pub ShownBelow : Graph → ℕ → List View → List Place → ℕ → Type 0
-ShownBelow g r vs places n = (i : ℕ) (d : Place) → i < n → i < length places → ShowsNext g r vs (get_or places i d)
+-- they have it for the states below a number
+abbrev pub ShownBelow : Graph → ℕ → List View → List State → ℕ → Type 0
+ShownBelow g r vs states n = (i : ℕ) (d : State) → i < n → i < length states → ShowsNext g r vs (get_or states i d)
 
 -- what stands in the first list stands in the second
 abbrev pub Keeps : List View → List View → Type 0

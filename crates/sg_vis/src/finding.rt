@@ -6,14 +6,14 @@ ghost use Rattle.sg_protocol.specs.Evidence.{IsViewTable};
 ghost use Rattle.sg_protocol.specs.Graph.{Graph, shape};
 ghost use Rattle.sg_vis.specs.Limits.{Explains, FewOpen, IsFull, MatchViews};
 ghost use Rattle.sg_vis.specs.Order.{HoldsTable, StandsAt};
-ghost use Rattle.sg_vis.specs.Search.{AreRows, FollowedBelow, Keeps, LeadBack, Searched, ShowsNext, ShownBelow, open_places};
+ghost use Rattle.sg_vis.specs.Search.{AreRows, FollowedBelow, Keeps, LeadBack, Searched, ShowsNext, ShownBelow, open_states};
 ghost use Rattle.sg_vis.specs.Steps.{next_view};
 ghost use Rattle.sg_vis.specs.Table.{Shows, views_of};
 
-use crate::places::Places;
-use crate::search::{all_places, walk_to};
+use crate::search::{all_states, walk_to};
+use crate::states::States;
 use crate::step::next_view;
-use crate::table::{Row, ViewTable, place_of};
+use crate::table::{Row, ViewTable, index_of};
 use crate::{View, ViewFault};
 use sg_base::{Label, OutOfMemory, Role, Seq};
 use sg_graph::Graph;
@@ -30,127 +30,127 @@ pub fn views(alloc: Global, graph: &Graph, role: Role) -> Result<ViewTable, View
     ensures few_open { IfOk result (λ t. FewOpen graph.now role) }
     ensures refused { IfErr result (Explains graph.now role) }
 {
-    let places = all_places(alloc, graph, role)?;
-    let rows = all_rows(alloc, graph, role, &places)?;
+    let states = all_states(alloc, graph, role)?;
+    let rows = all_rows(alloc, graph, role, &states)?;
     Ok(ViewTable { rows })
 }
 
-// The rows of all views, from the places before their last edges.
+// The rows of all views, from the states before their last edges.
 fn all_rows(
     alloc: Global,
     graph: &Graph,
     role: Role,
-    places: &Places,
+    states: &States,
 ) -> Result<Vec<Row>, ViewFault>
-    requires searched { Searched graph.now role places.now }
-    requires followed { FollowedBelow graph.now role places.now (length places.now) }
-    requires few { length (open_places places.now) ≤ most_open_views }
+    requires searched { Searched graph.now role states.now }
+    requires followed { FollowedBelow graph.now role states.now (length states.now) }
+    requires few { length (open_states states.now) ≤ most_open_views }
     ensures rows { IfOk result (λ rows. AreRows graph.now role rows.items) }
-    ensures shown { IfOk result (λ rows. ShownBelow graph.now role (views_of rows.items) places.now (length places.now)) }
+    ensures shown { IfOk result (λ rows. ShownBelow graph.now role (views_of rows.items) states.now (length states.now)) }
     ensures refused { IfErr result (Explains graph.now role) }
 {
     let mut rows = Vec::new(alloc);
-    for at in 0..places.len() {
-        add_rows(alloc, graph, role, places, at, &mut rows)?;
+    for at in 0..states.len() {
+        add_rows(alloc, graph, role, states, at, &mut rows)?;
     }
     Ok(rows)
 }
 
-// Adds the views that the edges from a place lead to.
+// Adds the views that the edges from a state lead to.
 fn add_rows(
     alloc: Global,
     graph: &Graph,
     role: Role,
-    places: &Places,
+    states: &States,
     at: usize,
     rows: &mut Vec<Row>,
 ) -> Result<(), ViewFault>
-    requires searched { Searched graph.now role places.now }
-    requires followed { FollowedBelow graph.now role places.now (length places.now) }
-    requires few { length (open_places places.now) ≤ most_open_views }
-    requires there { at < length places.now }
+    requires searched { Searched graph.now role states.now }
+    requires followed { FollowedBelow graph.now role states.now (length states.now) }
+    requires few { length (open_states states.now) ≤ most_open_views }
+    requires there { at < length states.now }
     requires rows { AreRows graph.now role rows.old.items }
     ensures rows { OnOk result (AreRows graph.now role rows.new.items) }
     ensures keeps { OnOk result (Keeps (views_of rows.old.items) (views_of rows.new.items)) }
-    ensures shown { OnOk result (IfSome (slice_get places.now at) (ShowsNext graph.now role (views_of rows.new.items))) }
+    ensures shown { OnOk result (IfSome (slice_get states.now at) (ShowsNext graph.now role (views_of rows.new.items))) }
     ensures refused { IfErr result (Explains graph.now role) }
 {
-    let node = places.get(at).node;
+    let node = states.get(at).node;
     for label in graph.edges_from(node) {
         if graph.receiver(*label) == role {
-            add_row(alloc, graph, role, places, at, *label, rows)?;
+            add_row(alloc, graph, role, states, at, *label, rows)?;
         }
     }
     Ok(())
 }
 
-// Adds the view that an edge from a place leads to, if it is new.
+// Adds the view that an edge from a state leads to, if it is new.
 fn add_row(
     alloc: Global,
     graph: &Graph,
     role: Role,
-    places: &Places,
+    states: &States,
     at: usize,
     label: Label,
     rows: &mut Vec<Row>,
 ) -> Result<(), ViewFault>
-    requires searched { Searched graph.now role places.now }
-    requires followed { FollowedBelow graph.now role places.now (length places.now) }
-    requires few { length (open_places places.now) ≤ most_open_views }
-    requires there { at < length places.now }
+    requires searched { Searched graph.now role states.now }
+    requires followed { FollowedBelow graph.now role states.now (length states.now) }
+    requires few { length (open_states states.now) ≤ most_open_views }
+    requires there { at < length states.now }
     requires label { label < length graph.now.edges }
-    requires source { IfSome (slice_get places.now at) (λ p. source (shape graph.now) label ≡ p.node) }
+    requires source { IfSome (slice_get states.now at) (λ p. source (shape graph.now) label ≡ p.node) }
     requires receiver { receiver (shape graph.now) label ≡ role }
     requires rows { AreRows graph.now role rows.old.items }
     ensures rows { OnOk result (AreRows graph.now role rows.new.items) }
     ensures keeps { OnOk result (Keeps (views_of rows.old.items) (views_of rows.new.items)) }
-    ensures shown { OnOk result (IfSome (slice_get places.now at) (λ p. Contains (views_of rows.new.items) (next_view graph.now role p.view label))) }
+    ensures shown { OnOk result (IfSome (slice_get states.now at) (λ p. Contains (views_of rows.new.items) (next_view graph.now role p.view label))) }
     ensures refused { IfErr result (Explains graph.now role) }
 {
-    let view = match next_view(alloc, graph, role, &places.get(at).view, label) {
+    let view = match next_view(alloc, graph, role, &states.get(at).view, label) {
         Ok(view) => view,
         Err(_) => return Err(ViewFault::OutOfMemory),
     };
-    let Err(place) = place_of(rows.as_slice(), view.from, view.items.as_slice()) else {
+    let Err(index) = index_of(rows.as_slice(), view.from, view.items.as_slice()) else {
         return Ok(());
     };
-    let walk = match walk_on(alloc, places, at, label) {
+    let walk = match walk_on(alloc, states, at, label) {
         Ok(walk) => walk,
         Err(_) => return Err(ViewFault::OutOfMemory),
     };
-    put_row(alloc, rows, place, Row { view, walk })
+    put_row(alloc, rows, index, Row { view, walk })
 }
 
-// A walk to a place and one edge further.
+// A walk to a state and one edge further.
 fn walk_on(
     alloc: Global,
-    places: &Places,
+    states: &States,
     at: usize,
     label: Label,
 ) -> Result<Seq<Label>, OutOfMemory>
-    requires there { at < length places.now }
-    requires back { LeadBack places.now }
-    ensures { (g : Graph) (r : ℕ) → Searched g r places.now → label < length g.edges → receiver (shape g) label ≡ r
-        → IfSome (slice_get places.now at) (λ p. source (shape g) label ≡ p.node)
-        → IfOk result (λ walk. IfSome (slice_get places.now at) (λ p. Shows g r walk (next_view g r p.view label))) }
+    requires there { at < length states.now }
+    requires back { LeadBack states.now }
+    ensures { (g : Graph) (r : ℕ) → Searched g r states.now → label < length g.edges → receiver (shape g) label ≡ r
+        → IfSome (slice_get states.now at) (λ p. source (shape g) label ≡ p.node)
+        → IfOk result (λ walk. IfSome (slice_get states.now at) (λ p. Shows g r walk (next_view g r p.view label))) }
 {
-    let mut walk = walk_to(alloc, places, at)?;
+    let mut walk = walk_to(alloc, states, at)?;
     walk.push(label)?;
     Ok(Seq::from_vec(walk))
 }
 
-// Puts a row in its place, if there aren't as many as there may be.
-fn put_row(alloc: Global, rows: &mut Vec<Row>, place: usize, row: Row) -> Result<(), ViewFault>
+// Puts a row at its index, if there aren't as many as there may be.
+fn put_row(alloc: Global, rows: &mut Vec<Row>, index: usize, row: Row) -> Result<(), ViewFault>
     requires table { HoldsTable rows.old.items }
-    requires place { StandsAt rows.old.items row.view place }
+    requires index { StandsAt rows.old.items row.view index }
     ensures table { OnOk result (HoldsTable rows.new.items) }
-    ensures put { OnOk result (rows.new.items ≡ insert rows.old.items place row) }
+    ensures put { OnOk result (rows.new.items ≡ insert rows.old.items index row) }
     ensures full { IfErr result (IsFull rows.old.items row.view) }
 {
     if rows.len() == MOST_VIEWS {
         return Err(too_many(alloc, rows.as_slice(), row.view));
     }
-    match rows.insert(place, row) {
+    match rows.insert(index, row) {
         Ok(()) => Ok(()),
         Err(_) => Err(ViewFault::OutOfMemory),
     }

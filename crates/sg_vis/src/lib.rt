@@ -13,8 +13,8 @@
 mod fault;
 mod finding;
 mod order;
-mod places;
 mod search;
+mod states;
 mod step;
 mod table;
 mod view;

@@ -1,13 +1,13 @@
-//! The search for all places, and the walk to each.
+//! The search for all states, and the walk to each.
 ghost use Rattle.std.specs.Prelude.{◌≡◌, ℕ, ◌+◌, ◌<◌, ◌≤◌, [], length, slice_get, IfErr, IfOk, IfSome, OnErr, OnOk};
 ghost use Rattle.sg_model.specs.Limits.{most_open_views};
 ghost use Rattle.sg_model.specs.Shape.{source};
 ghost use Rattle.sg_protocol.specs.Graph.{Graph, shape};
 ghost use Rattle.sg_vis.specs.Limits.{Explains};
-ghost use Rattle.sg_vis.specs.Search.{Arrives, Extends, Followed, FollowedBelow, LeadBack, LeadsInto, Searched, next_place, nothing, open_places};
+ghost use Rattle.sg_vis.specs.Search.{Arrives, Extends, Followed, FollowedBelow, LeadBack, LeadsInto, Searched, next_state, nothing, open_states};
 ghost use Rattle.sg_vis.specs.Steps.{HasLabels};
 
-use crate::places::{Place, Places};
+use crate::states::{State, States};
 use crate::step::next_view;
 use crate::{Origin, View, ViewFault};
 use sg_base::{Label, NodeId, OutOfMemory, Role, Seq};
@@ -16,39 +16,39 @@ use std::alloc::Global;
 
 const MOST_OPEN: usize = 65_536;
 
-/// All places that walks from the start lead to. Among them are all open views.
-pub(crate) fn all_places(alloc: Global, graph: &Graph, role: Role) -> Result<Places, ViewFault>
+/// All states that walks from the start lead to. Among them are all open views.
+pub(crate) fn all_states(alloc: Global, graph: &Graph, role: Role) -> Result<States, ViewFault>
     ensures searched { IfOk result (Searched graph.now role) }
-    ensures followed { IfOk result (λ places. FollowedBelow graph.now role places (length places)) }
-    ensures few { IfOk result (λ places. length (open_places places) ≤ most_open_views) }
+    ensures followed { IfOk result (λ states. FollowedBelow graph.now role states (length states)) }
+    ensures few { IfOk result (λ states. length (open_states states) ≤ most_open_views) }
     ensures refused { IfErr result (Explains graph.now role) }
 {
-    let mut places = first_place(alloc, graph)?;
+    let mut states = first_state(alloc, graph)?;
     let mut at = 0;
-    while at < places.len() {
-        follow(alloc, graph, role, &mut places, at)?;
+    while at < states.len() {
+        follow(alloc, graph, role, &mut states, at)?;
         at += 1;
     }
-    Ok(places)
+    Ok(states)
 }
 
 // The start, where nothing is seen.
-fn first_place(alloc: Global, graph: &Graph) -> Result<Places, ViewFault>
+fn first_state(alloc: Global, graph: &Graph) -> Result<States, ViewFault>
     ensures searched { (r : ℕ) → IfOk result (Searched graph.now r) }
-    ensures few { IfOk result (λ places. length (open_places places) ≤ most_open_views) }
+    ensures few { IfOk result (λ states. length (open_states states) ≤ most_open_views) }
     ensures refused { IfErr result (λ e. e ≡ ViewFault.OutOfMemory) }
 {
     // A graph's numbers are there, whatever is asked of it.
     let _nodes = graph.nodes();
-    let mut places = Places::new(alloc);
-    let start = Place {
+    let mut states = States::new(alloc);
+    let start = State {
         node: NodeId(0),
         view: nothing(alloc),
         before: 0,
         label: Label(0),
     };
-    match places.add(start) {
-        Ok(()) => Ok(places),
+    match states.add(start) {
+        Ok(()) => Ok(states),
         Err(_) => Err(ViewFault::OutOfMemory),
     }
 }
@@ -63,113 +63,113 @@ fn nothing(alloc: Global) -> View
     }
 }
 
-// Follows each edge that leaves the node of a place.
+// Follows each edge that leaves the node of a state.
 fn follow(
     alloc: Global,
     graph: &Graph,
     role: Role,
-    places: &mut Places,
+    states: &mut States,
     at: usize,
 ) -> Result<(), ViewFault>
-    requires there { at < length places.old }
-    requires searched { Searched graph.now role places.old }
-    requires few { length (open_places places.old) ≤ most_open_views }
-    ensures searched { OnOk result (Searched graph.now role places.new) }
-    ensures few { OnOk result (length (open_places places.new) ≤ most_open_views) }
-    ensures extends { OnOk result (Extends places.old places.new) }
-    ensures followed { OnOk result (IfSome (slice_get places.old at) (Followed graph.now role places.new)) }
+    requires there { at < length states.old }
+    requires searched { Searched graph.now role states.old }
+    requires few { length (open_states states.old) ≤ most_open_views }
+    ensures searched { OnOk result (Searched graph.now role states.new) }
+    ensures few { OnOk result (length (open_states states.new) ≤ most_open_views) }
+    ensures extends { OnOk result (Extends states.old states.new) }
+    ensures followed { OnOk result (IfSome (slice_get states.old at) (Followed graph.now role states.new)) }
     ensures refused { IfErr result (Explains graph.now role) }
 {
-    let node = places.get(at).node;
+    let node = states.get(at).node;
     for label in graph.edges_from(node) {
-        follow_edge(alloc, graph, role, places, at, *label)?;
+        follow_edge(alloc, graph, role, states, at, *label)?;
     }
     Ok(())
 }
 
-// Adds the place that an edge leads to, if it is new.
+// Adds the state that an edge leads to, if it is new.
 fn follow_edge(
     alloc: Global,
     graph: &Graph,
     role: Role,
-    places: &mut Places,
+    states: &mut States,
     at: usize,
     label: Label,
 ) -> Result<(), ViewFault>
-    requires there { at < length places.old }
+    requires there { at < length states.old }
     requires label { label < length graph.now.edges }
-    requires source { IfSome (slice_get places.old at) (λ p. source (shape graph.now) label ≡ p.node) }
-    requires searched { Searched graph.now role places.old }
-    requires few { length (open_places places.old) ≤ most_open_views }
-    ensures searched { OnOk result (Searched graph.now role places.new) }
-    ensures few { OnOk result (length (open_places places.new) ≤ most_open_views) }
-    ensures extends { OnOk result (Extends places.old places.new) }
-    ensures leads { OnOk result (IfSome (slice_get places.old at) (λ p. LeadsInto graph.now role places.new p label)) }
+    requires source { IfSome (slice_get states.old at) (λ p. source (shape graph.now) label ≡ p.node) }
+    requires searched { Searched graph.now role states.old }
+    requires few { length (open_states states.old) ≤ most_open_views }
+    ensures searched { OnOk result (Searched graph.now role states.new) }
+    ensures few { OnOk result (length (open_states states.new) ≤ most_open_views) }
+    ensures extends { OnOk result (Extends states.old states.new) }
+    ensures leads { OnOk result (IfSome (slice_get states.old at) (λ p. LeadsInto graph.now role states.new p label)) }
     ensures refused { IfErr result (Explains graph.now role) }
 {
-    let Ok(()) = add_next(alloc, graph, role, places, at, label) else {
+    let Ok(()) = add_next(alloc, graph, role, states, at, label) else {
         return Err(ViewFault::OutOfMemory);
     };
-    check_open(places)
+    check_open(states)
 }
 
 // Refuses more open views than there may be, of which there is at most one more.
-fn check_open(places: &Places) -> Result<(), ViewFault>
-    ensures few { OnOk result (length (open_places places.now) ≤ most_open_views) }
-    ensures refused { (g : Graph) (r : ℕ) → Searched g r places.now → length (open_places places.now) ≤ 65537 → IfErr result (Explains g r) }
+fn check_open(states: &States) -> Result<(), ViewFault>
+    ensures few { OnOk result (length (open_states states.now) ≤ most_open_views) }
+    ensures refused { (g : Graph) (r : ℕ) → Searched g r states.now → length (open_states states.now) ≤ 65537 → IfErr result (Explains g r) }
 {
-    if places.open() <= MOST_OPEN {
+    if states.open() <= MOST_OPEN {
         return Ok(());
     }
-    match places.open_views() {
+    match states.open_views() {
         Ok(list) => Err(ViewFault::TooManyOpen { list }),
         Err(_) => Err(ViewFault::OutOfMemory),
     }
 }
 
-// Adds the place that an edge leads to, if it is new. The open views may be one more.
+// Adds the state that an edge leads to, if it is new. The open views may be one more.
 fn add_next(
     alloc: Global,
     graph: &Graph,
     role: Role,
-    places: &mut Places,
+    states: &mut States,
     at: usize,
     label: Label,
 ) -> Result<(), OutOfMemory>
-    requires there { at < length places.old }
+    requires there { at < length states.old }
     requires label { label < length graph.now.edges }
-    requires source { IfSome (slice_get places.old at) (λ p. source (shape graph.now) label ≡ p.node) }
-    requires searched { Searched graph.now role places.old }
-    requires few { length (open_places places.old) ≤ most_open_views }
-    ensures searched { OnOk result (Searched graph.now role places.new) }
-    ensures one_more { OnOk result (length (open_places places.new) ≤ length (open_places places.old) + 1) }
-    ensures extends { OnOk result (Extends places.old places.new) }
-    ensures leads { OnOk result (IfSome (slice_get places.old at) (λ p. LeadsInto graph.now role places.new p label)) }
+    requires source { IfSome (slice_get states.old at) (λ p. source (shape graph.now) label ≡ p.node) }
+    requires searched { Searched graph.now role states.old }
+    requires few { length (open_states states.old) ≤ most_open_views }
+    ensures searched { OnOk result (Searched graph.now role states.new) }
+    ensures one_more { OnOk result (length (open_states states.new) ≤ length (open_states states.old) + 1) }
+    ensures extends { OnOk result (Extends states.old states.new) }
+    ensures leads { OnOk result (IfSome (slice_get states.old at) (λ p. LeadsInto graph.now role states.new p label)) }
 {
-    let next = next_place(alloc, graph, role, places.get(at), at, label)?;
-    places.add(next)
+    let next = next_state(alloc, graph, role, states.get(at), at, label)?;
+    states.add(next)
 }
 
-// The place that an edge leads to.
-fn next_place(
+// The state that an edge leads to.
+fn next_state(
     alloc: Global,
     graph: &Graph,
     role: Role,
-    place: &Place,
+    state: &State,
     at: usize,
     label: Label,
-) -> Result<Place, OutOfMemory>
+) -> Result<State, OutOfMemory>
     requires label { label < length graph.now.edges }
-    requires labels { HasLabels graph.now place.now.view }
-    ensures { IfOk result (λ p. p ≡ next_place graph.now role place.now at label) }
+    requires labels { HasLabels graph.now state.now.view }
+    ensures { IfOk result (λ p. p ≡ next_state graph.now role state.now at label) }
 {
     let node = graph.edge(label).target;
     let view = if graph.node_role(node) == role {
         nothing(alloc)
     } else {
-        next_view(alloc, graph, role, &place.view, label)?
+        next_view(alloc, graph, role, &state.view, label)?
     };
-    Ok(Place {
+    Ok(State {
         node,
         view,
         before: at,
@@ -177,19 +177,19 @@ fn next_place(
     })
 }
 
-/// A walk from the start to a place.
-pub(crate) fn walk_to(alloc: Global, places: &Places, at: usize) -> Result<Vec<Label>, OutOfMemory>
-    requires there { at < length places.now }
-    requires back { LeadBack places.now }
-    ensures { (g : Graph) (r : ℕ) → Searched g r places.now →
-        IfOk result (λ walk. IfSome (slice_get places.now at) (λ p. Arrives g r p walk.items)) }
+/// A walk from the start to a state.
+pub(crate) fn walk_to(alloc: Global, states: &States, at: usize) -> Result<Vec<Label>, OutOfMemory>
+    requires there { at < length states.now }
+    requires back { LeadBack states.now }
+    ensures { (g : Graph) (r : ℕ) → Searched g r states.now →
+        IfOk result (λ walk. IfSome (slice_get states.now at) (λ p. Arrives g r p walk.items)) }
 {
     let mut labels = Vec::new(alloc);
-    let mut place = at;
-    while place > 0 {
-        let last = places.get(place);
+    let mut index = at;
+    while index > 0 {
+        let last = states.get(index);
         labels.push(last.label)?;
-        place = last.before;
+        index = last.before;
     }
     labels.reverse();
     Ok(labels)

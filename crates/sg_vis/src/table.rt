@@ -12,7 +12,7 @@ use sg_base::{Label, Seq};
 use std::cmp::Ordering;
 use std::marker::Model;
 
-/// A view of a table, by its place in the table's order.
+/// A view of a table, by its index in the table's order.
 #[derive(Debug, Clone, Copy, PartialEq, Eq)]
 pub struct ViewId(pub u16);
 
@@ -82,8 +82,8 @@ impl ViewTable {
         ensures { MatchOption result (¬ Contains (views_of self.now) (view_from (origin_of from) items.now))
             (λ id. slice_get (views_of self.now) id ≡ Some (view_from (origin_of from) items.now)) }
     {
-        match place_of(self.rows.as_slice(), from, items) {
-            Ok(place) => Some(ViewId(place as u16)),
+        match index_of(self.rows.as_slice(), from, items) {
+            Ok(index) => Some(ViewId(index as u16)),
             Err(_) => None,
         }
     }
@@ -97,8 +97,8 @@ impl ViewTable {
     }
 }
 
-/// The place of the view with this origin and these items among rows in order, or where it would stand. It takes no memory.
-pub(crate) fn place_of(rows: &[Row], from: Origin, items: &[Seen]) -> Result<usize, usize>
+/// The index of the view with this origin and these items among rows in order, or where it would stand. It takes no memory.
+pub(crate) fn index_of(rows: &[Row], from: Origin, items: &[Seen]) -> Result<usize, usize>
     requires { AllPairs (λ a b. compared a.view b.view ≡ Less) rows.now }
     ensures found { IfOk result (λ i. slice_get (views_of rows.now) i ≡ Some (view_from (origin_of from) items.now)) }
     ensures between { IfErr result (StandsAt rows.now (view_from (origin_of from) items.now)) }

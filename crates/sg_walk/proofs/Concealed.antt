@@ -18,7 +18,7 @@ use Rattle.sg_walk.specs.declared.stored.StoredStep.{StoredStep as Step}
 use Rattle.sg_walk.proofs.Explained.{counts_as}
 use Rattle.sg_walk.proofs.Steps.{keys_writes}
 
--- what is hidden on the steps from a place on is right, and the variables that honest roles receive there are carried
+-- what is hidden on the steps from an index on is right, and the variables that honest roles receive there are carried
 pub record Hiding (g : Graph) (honest : ℕ → Bool) (taken : Bool) (steps : List Step) (left : ℕ) (carried : List Bool) : Type 0 where
   pub wide : length carried ≡ 32
   pub within : left ≤ length steps

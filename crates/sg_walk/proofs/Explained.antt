@@ -31,7 +31,7 @@ one_act (Started sid r) h = absurd (cc)
 one_act (Sent sid r label time values) h = (_, refl)
 one_act (Received sid r label time values joins) h = (_, refl)
 
--- what is done from a place on, with the event of the place in front
+-- what is done from an index on, with the event of the index in front
 acts_next : (events : List Told) (at : ℕ) (e : Told) → at < length events → e ≡ get_or events at e → acts_from events at ≡ acts_of_event (event_of e) ++ acts_from events (suc at)
 acts_next events at e l is = ap (λ l. flat_map acts_of_event (map event_of l)) (drop_from events at e l is)
 
@@ -56,20 +56,20 @@ found : {A : Type 0} (m : Map A) (x : ℕ) → is_in x (keys_of m) ≡ true → 
 found [] x h = absurd (cc)
 found (w ∷ ws) x h = elim (cases_Bool (w.0 == x)) [ inl e ↦ (w.1, rw e refl) | inr e ↦ (let h' : is_in x (keys_of ws) ≡ true = rw e at h in let r = found ws x h' in (r.0, rw e r.1)) ]
 
--- the places are those of the last writes of the store
-abbrev pub ArePlaces : List StoredStep → List (Option ℕ) → Map (Option Value) → Type 0
-ArePlaces steps places store = (x : ℕ) → x < 32 → value_from steps (get_or places x None) x ≡ unwrap_or (value_at store x) None
+-- the indices are those of the last writes of the store
+abbrev pub AreIndices : List StoredStep → List (Option ℕ) → Map (Option Value) → Type 0
+AreIndices steps indices store = (x : ℕ) → x < 32 → value_from steps (get_or indices x None) x ≡ unwrap_or (value_at store x) None
 
 step_there : (steps : List Step) (i : ℕ) (s : Step) (d : StoredStep) → i < length steps → s ≡ get_or steps i s → get_or (map step_of steps) i d ≡ step_of s
 step_there [] i s d l e = absurd (omega arith)
 step_there (x ∷ xs) zero s d l e = ap step_of (sym e)
 step_there (x ∷ xs) (suc i) s d l e = step_there xs i s d (omega arith) e
 
--- a step's writes put its number at their places
-places_on : (steps : List Step) (i : ℕ) (s : Step) (places places' : List (Option ℕ)) (store : Map (Option Value)) → i < length steps → s ≡ get_or steps i s
-    → ((x : ℕ) → x < 32 → get_or places' x None ≡ (if is_in x (keys_of s.writes) then Some i else get_or places x None))
-    → ArePlaces (map step_of steps) places store → ArePlaces (map step_of steps) places' (merge store (writes_of s.writes))
-places_on steps i s places places' store l is new h x b =
+-- a step's writes put its number at their indices
+indices_on : (steps : List Step) (i : ℕ) (s : Step) (indices indices' : List (Option ℕ)) (store : Map (Option Value)) → i < length steps → s ≡ get_or steps i s
+    → ((x : ℕ) → x < 32 → get_or indices' x None ≡ (if is_in x (keys_of s.writes) then Some i else get_or indices x None))
+    → AreIndices (map step_of steps) indices store → AreIndices (map step_of steps) indices' (merge store (writes_of s.writes))
+indices_on steps i s indices indices' store l is new h x b =
     rw (new x b, value_at-merge store (writes_of s.writes) x)
     (elim (cases_Bool (is_in x (keys_of s.writes))) [
       | inl y ↦
@@ -81,14 +81,14 @@ places_on steps i s places places' store l is new h x b =
           rw (n, value_none (writes_of s.writes) x n') (h x b))
     ])
 
--- what the places give is what is stored
-kept_stored : (steps : List StoredStep) (places : List (Option ℕ)) (store : Map (Option Value)) (xs : List ℕ) → list_all (λ x. nat_lt x 32) xs ≡ true
-    → ArePlaces steps places store → kept steps places xs ≡ stored store xs
-kept_stored steps places store [] b h = refl
-kept_stored steps places store (x ∷ xs) b h =
+-- what the indices give is what is stored
+kept_stored : (steps : List StoredStep) (indices : List (Option ℕ)) (store : Map (Option Value)) (xs : List ℕ) → list_all (λ x. nat_lt x 32) xs ≡ true
+    → AreIndices steps indices store → kept steps indices xs ≡ stored store xs
+kept_stored steps indices store [] b h = refl
+kept_stored steps indices store (x ∷ xs) b h =
     let parts = and_parts (nat_lt x 32) (list_all (λ x. nat_lt x 32) xs) b in
     let less : x < 32 = (let a = parts.0 in grind (arith, nat_tests, a)) in
-    rw (h x less) (ap (λ l. (x, unwrap_or (value_at store x) None) ∷ l) (kept_stored steps places store xs parts.1 h))
+    rw (h x less) (ap (λ l. (x, unwrap_or (value_at store x) None) ∷ l) (kept_stored steps indices store xs parts.1 h))
 
 -- the receipt of a step counts if it isn't the last one or is taken
 pub counts_as : (taken : Bool) (steps : List Step) (i : ℕ) → i < length steps → counts taken (map step_of (drop (suc i) steps)) ≡ (taken || not (i + 1 == length steps))
@@ -109,10 +109,10 @@ counts_as taken (x ∷ xs) (suc i) l =
 
 -- ---- the loop over the steps
 
--- the events explain what the honest roles do on the steps before a place, and the rest is to be what they do from a store on
-pub record Explaining (W : Type 0) (g : Graph) (honest : ℕ → Bool) (taken : Bool) (events : List Told) (steps : List Step) (number at : ℕ) (places : List (Option ℕ)) : Type 0 where
+-- the events explain what the honest roles do on the steps before an index, and the rest is to be what they do from a store on
+pub record Explaining (W : Type 0) (g : Graph) (honest : ℕ → Bool) (taken : Bool) (events : List Told) (steps : List Step) (number at : ℕ) (indices : List (Option ℕ)) : Type 0 where
   pub store : Map (Option Value)
-  pub noted : ArePlaces (map step_of steps) places store
+  pub noted : AreIndices (map step_of steps) indices store
   pub rest : W ↔ (acts_from events at ≡ honest_acts g honest taken store (map step_of (drop number steps)))
 
 -- what follows equal beginnings is equal
@@ -136,17 +136,17 @@ acts_of_step : (g : Graph) (honest : ℕ → Bool) (taken : Bool) (store : Map (
 acts_of_step g honest taken store s ss = regroup (sending g honest s) (receiving g honest taken (merge store (writes_of s.writes)) s ss) (honest_acts g honest taken (merge store (writes_of s.writes)) ss)
 
 -- the receipt after it isn't there
-pub refuse_receipt : (W : Type 0) (g : Graph) (honest : ℕ → Bool) (taken : Bool) (events : List Told) (steps : List Step) (i at sent : ℕ) (places places' : List (Option ℕ)) (s : Step) (hears : Bool) (xs : List ℕ)
+pub refuse_receipt : (W : Type 0) (g : Graph) (honest : ℕ → Bool) (taken : Bool) (events : List Told) (steps : List Step) (i at sent : ℕ) (indices indices' : List (Option ℕ)) (s : Step) (hears : Bool) (xs : List ℕ)
     → i < length steps → s ≡ get_or steps i s → Takes events at (sending g honest s) (Some sent)
-    → ((x : ℕ) → x < 32 → get_or places' x None ≡ (if is_in x (keys_of s.writes) then Some i else get_or places x None))
+    → ((x : ℕ) → x < 32 → get_or indices' x None ≡ (if is_in x (keys_of s.writes) then Some i else get_or indices x None))
     → hears ≡ (honest (receiver (shape g) s.label) && (taken || not (i + 1 == length steps)))
     → xs ≡ reads g s.label → list_all (λ x. nat_lt x 32) xs ≡ true
-    → Takes events sent (act_if hears (Receives (receiver (shape g) s.label) s.label (kept (map step_of steps) places' xs))) None
-    → Explaining W g honest taken events steps i at places → W → ⊥
-refuse_receipt W g honest taken events steps i at sent places places' s hears xs l is t new he xe small t' k w =
+    → Takes events sent (act_if hears (Receives (receiver (shape g) s.label) s.label (kept (map step_of steps) indices' xs))) None
+    → Explaining W g honest taken events steps i at indices → W → ⊥
+refuse_receipt W g honest taken events steps i at sent indices indices' s hears xs l is t new he xe small t' k w =
     let now = merge k.store (writes_of s.writes) in
-    let at_places = places_on steps i s places places' k.store l is new k.noted in
-    let same : kept (map step_of steps) places' xs ≡ stored now (reads g s.label) = kept_stored (map step_of steps) places' now xs small at_places ∙ ap (stored now) xe in
+    let at_indices = indices_on steps i s indices indices' k.store l is new k.noted in
+    let same : kept (map step_of steps) indices' xs ≡ stored now (reads g s.label) = kept_stored (map step_of steps) indices' now xs small at_indices ∙ ap (stored now) xe in
     let cut = subst (λ ss. acts_from events at ≡ honest_acts g honest taken k.store (map step_of ss)) (drop_from steps i s l is) (k.rest.0 w) ∙ acts_of_step g honest taken k.store s (map step_of (drop (suc i) steps)) in
     let rest = after_same (honest (sender (shape g) s.label)) _ _ _ (sym t ∙ cut) in
     let hears' : hears ≡ (honest (receiver (shape g) s.label) && counts taken (map step_of (drop (suc i) steps))) = he ∙ ap (λ b. honest (receiver (shape g) s.label) && b) (sym (counts_as taken steps i l)) in
@@ -154,27 +154,27 @@ refuse_receipt W g honest taken events steps i at sent places places' s hears xs
     ∙ ap (λ m. act_if hears (Receives (receiver (shape g) s.label) s.label m) ++ honest_acts g honest taken now (map step_of (drop (suc i) steps))) (sym same))
 
 -- both are there
-pub explain_step : (W : Type 0) (g : Graph) (honest : ℕ → Bool) (taken : Bool) (events : List Told) (steps : List Step) (i at sent received : ℕ) (places places' : List (Option ℕ)) (s : Step) (hears : Bool) (xs : List ℕ)
+pub explain_step : (W : Type 0) (g : Graph) (honest : ℕ → Bool) (taken : Bool) (events : List Told) (steps : List Step) (i at sent received : ℕ) (indices indices' : List (Option ℕ)) (s : Step) (hears : Bool) (xs : List ℕ)
     → i < length steps → s ≡ get_or steps i s → Takes events at (sending g honest s) (Some sent)
-    → ((x : ℕ) → x < 32 → get_or places' x None ≡ (if is_in x (keys_of s.writes) then Some i else get_or places x None))
+    → ((x : ℕ) → x < 32 → get_or indices' x None ≡ (if is_in x (keys_of s.writes) then Some i else get_or indices x None))
     → hears ≡ (honest (receiver (shape g) s.label) && (taken || not (i + 1 == length steps)))
     → xs ≡ reads g s.label → list_all (λ x. nat_lt x 32) xs ≡ true
-    → Takes events sent (act_if hears (Receives (receiver (shape g) s.label) s.label (kept (map step_of steps) places' xs))) (Some received)
-    → Explaining W g honest taken events steps i at places → Explaining W g honest taken events steps (i + 1) received places'
-explain_step W g honest taken events steps i at sent received places places' s hears xs l is t new he xe small t' k =
+    → Takes events sent (act_if hears (Receives (receiver (shape g) s.label) s.label (kept (map step_of steps) indices' xs))) (Some received)
+    → Explaining W g honest taken events steps i at indices → Explaining W g honest taken events steps (i + 1) received indices'
+explain_step W g honest taken events steps i at sent received indices indices' s hears xs l is t new he xe small t' k =
     let now = merge k.store (writes_of s.writes) in
-    let at_places = places_on steps i s places places' k.store l is new k.noted in
-    let same : kept (map step_of steps) places' xs ≡ stored now (reads g s.label) = kept_stored (map step_of steps) places' now xs small at_places ∙ ap (stored now) xe in
+    let at_indices = indices_on steps i s indices indices' k.store l is new k.noted in
+    let same : kept (map step_of steps) indices' xs ≡ stored now (reads g s.label) = kept_stored (map step_of steps) indices' now xs small at_indices ∙ ap (stored now) xe in
     let rest' = honest_acts g honest taken now (map step_of (drop (suc i) steps)) in
     let hears' : hears ≡ (honest (receiver (shape g) s.label) && counts taken (map step_of (drop (suc i) steps))) = he ∙ ap (λ b. honest (receiver (shape g) s.label) && b) (sym (counts_as taken steps i l)) in
-    let act : List Act = act_if hears (Receives (receiver (shape g) s.label) s.label (kept (map step_of steps) places' xs)) in
+    let act : List Act = act_if hears (Receives (receiver (shape g) s.label) s.label (kept (map step_of steps) indices' xs)) in
     let acts : act ++ rest' ≡ act_if (honest (receiver (shape g) s.label) && counts taken (map step_of (drop (suc i) steps))) (Receives (receiver (shape g) s.label) s.label (stored now (reads g s.label))) ++ rest' =
     ap (λ m. act_if hears (Receives (receiver (shape g) s.label) s.label m) ++ rest') same ∙ ap (λ b. act_if b (Receives (receiver (shape g) s.label) s.label (stored now (reads g s.label))) ++ rest') hears' in
     let cut = drop_from steps i s l is in
     let up : suc i ≡ i + 1 = omega arith in
     record {
       store = now;
-      noted = at_places;
+      noted = at_indices;
       rest = subst (λ n. W ↔ (acts_from events received ≡ honest_acts g honest taken now (map step_of (drop n steps)))) up (
         λ w. (let whole = subst (λ ss. acts_from events at ≡ honest_acts g honest taken k.store (map step_of ss)) cut (k.rest.0 w) ∙ acts_of_step g honest taken k.store s (map step_of (drop (suc i) steps)) in
             let one = after_same (honest (sender (shape g) s.label)) _ _ _ (sym t ∙ whole) in
@@ -185,9 +185,9 @@ explain_step W g honest taken events steps i at sent received places places' s h
     }
 
 -- at the end no act is to be left
-pub explain_end : (W : Type 0) (g : Graph) (honest : ℕ → Bool) (taken : Bool) (events : List Told) (steps : List Step) (i at : ℕ) (places : List (Option ℕ))
-    → length steps ≤ i → Explaining W g honest taken events steps i at places → W ↔ (acts_from events at ≡ [])
-explain_end W g honest taken events steps i at places l k =
+pub explain_end : (W : Type 0) (g : Graph) (honest : ℕ → Bool) (taken : Bool) (events : List Told) (steps : List Step) (i at : ℕ) (indices : List (Option ℕ))
+    → length steps ≤ i → Explaining W g honest taken events steps i at indices → W ↔ (acts_from events at ≡ [])
+explain_end W g honest taken events steps i at indices l k =
     subst (λ ss. W ↔ (acts_from events at ≡ honest_acts g honest taken k.store (map step_of ss))) (drop_end steps i l) k.rest
 
 -- where an act is next, some act is left
@@ -201,7 +201,7 @@ some_left events from at n e = left events at n.0 n.2 (sym n.1 ∙ e)
         let z : one.0 ∷ acts_from xs 0 ≡ [] = sym (ap (λ l. l ++ acts_from xs 0) one.1) ∙ e in absurd (cc)
     left (x ∷ xs) (suc at) l s e = left xs at (omega arith) s e
 
--- no place is noted, and nothing is stored
+-- no index is noted, and nothing is stored
 pub Explaining-init : (W : Type 0) (g : Graph) (honest : ℕ → Bool) (taken : Bool) (events : List Told) (steps : List Step)
     → (W ↔ (acts_from events 0 ≡ honest_acts g honest taken [] (map step_of steps))) → Explaining W g honest taken events steps 0 0 (replicate 32 None)
 Explaining-init W g honest taken events steps w = record {
@@ -215,14 +215,14 @@ keys_shown : (vs : Map Held) → keys_of (shown (values_of vs)) ≡ map (λ w. w
 keys_shown [] = refl
 keys_shown (v ∷ vs) = ap (λ l. v.0 ∷ l) (keys_shown vs)
 
--- the variables of what the places give
-keys_kept : (steps : List StoredStep) (places : List (Option ℕ)) (xs : List ℕ) → keys_of (kept steps places xs) ≡ xs
-keys_kept steps places [] = refl
-keys_kept steps places (x ∷ xs) = ap (λ l. x ∷ l) (keys_kept steps places xs)
+-- the variables of what the indices give
+keys_kept : (steps : List StoredStep) (indices : List (Option ℕ)) (xs : List ℕ) → keys_of (kept steps indices xs) ≡ xs
+keys_kept steps indices [] = refl
+keys_kept steps indices (x ∷ xs) = ap (λ l. x ∷ l) (keys_kept steps indices xs)
 
--- values that are what the places give have its variables
-pub kept_keys : (steps : List StoredStep) (places : List (Option ℕ)) (xs : List ℕ) (vs : Map Held) → shown (values_of vs) ≡ kept steps places xs → map (λ w. w.0) vs ≡ xs
-kept_keys steps places xs vs e = sym (keys_shown vs) ∙ ap keys_of e ∙ keys_kept steps places xs
+-- values that are what the indices give have its variables
+pub kept_keys : (steps : List StoredStep) (indices : List (Option ℕ)) (xs : List ℕ) (vs : Map Held) → shown (values_of vs) ≡ kept steps indices xs → map (λ w. w.0) vs ≡ xs
+kept_keys steps indices xs vs e = sym (keys_shown vs) ∙ ap keys_of e ∙ keys_kept steps indices xs
 
 -- no act is left exactly where the events explain the whole
 pub explains_whole : (W : Type 0) (events : List Told) (at : ℕ) (next : Option ℕ) (b : Bool) → b ≡ is_none next → MatchOption next (acts_from events at ≡ []) (IsNextAct events at)

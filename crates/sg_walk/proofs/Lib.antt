@@ -1,6 +1,6 @@
 pub mod Explained
 pub mod Concealed
 pub mod Pairs
-pub mod Places
+pub mod Indices
 pub mod Steps
 pub mod Whole

@@ -1,4 +1,4 @@
--- Lists of pairs, cut at a place.
+-- Lists of pairs, cut at an index.
 use Rattle.std.proofs.Common.{◌≡◌, ℕ, zero, suc, ◌+◌, ◌<◌, ◌≤◌, ◌==◌, nat_lt, true, false, not, List, [], ◌∷◌, map, filter, drop, length, get_or, refl, ap, sym, ◌∙◌, subst, inl, inr, arith, add-one, ◌↔◌}
 use Rattle.std.specs.List.{list_all}
 use Rattle.std.proofs.lemmas.Bool.Decides.{nat_tests}
@@ -11,7 +11,7 @@ use Rattle.sg_walk.specs.Matching.{is_next}
 
 -- ---- cutting
 
--- where nothing stands behind a place, the list is at its end
+-- where nothing stands behind an index, the list is at its end
 pub end_drop : {A : Type 0} (xs : List A) (i : ℕ) → drop i xs ≡ [] → length xs ≤ i
 end_drop [] i h = omega arith
 end_drop (x ∷ xs) zero h = absurd (cc)
@@ -91,9 +91,9 @@ from_no i (x ∷ xs) t =
 -- ---- the variables of pairs against a set
 
 -- the loop over the numbers has found the set's numbers below a bound in front
-pub record Keyed {A : Type 0} (pairs : List (ℕ × A)) (vars : List ℕ) (place number : ℕ) : Type 0 where
-  pub within : place ≤ length pairs
-  pub rest : (map (λ w. w.0) pairs ≡ vars) ↔ (map (λ w. w.0) (drop place pairs) ≡ from number vars)
+pub record Keyed {A : Type 0} (pairs : List (ℕ × A)) (vars : List ℕ) (index number : ℕ) : Type 0 where
+  pub within : index ≤ length pairs
+  pub rest : (map (λ w. w.0) pairs ≡ vars) ↔ (map (λ w. w.0) (drop index pairs) ≡ from number vars)
 
 pub Keyed-init : {A : Type 0} (pairs : List (ℕ × A)) (vars : List ℕ) → Keyed pairs vars 0 0
 Keyed-init pairs vars = record { within = omega arith; rest = (λ e. e ∙ sym (from_zero vars), λ e. e ∙ from_zero vars) }

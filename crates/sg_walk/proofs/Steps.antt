@@ -44,7 +44,7 @@ named_from g m (s ∷ ss) h = ((h.0.0, h.0.2.0), named_from g (target (shape g) 
 pub named : (g : Graph) (ss : List StoredStep) → IsStoredWalk g ss → AllByRecursion (IsNamed g) ss
 named g ss w = named_from g 0 ss ((whole g ss).0 w)
 
--- what holds of all holds of the one at a place
+-- what holds of all holds of the one at an index
 pub all_at : {A B : Type 0} (P : B → Type 0) (f : A → B) (xs : List A) (i : ℕ) (x : A) → AllByRecursion P (map f xs) → i < length xs → x ≡ get_or xs i x → P (f x)
 all_at P f [] i x h l e = absurd (omega arith)
 all_at P f (y ∷ ys) zero x h l e = subst (λ z. P (f z)) (sym e) h.0

@@ -29,15 +29,15 @@ is_start (Started sid r) = true
 is_start (Sent sid r label time values) = false
 is_start (Received sid r label time values joins) = false
 
--- what the events from a place on did
+-- what the events from an index on did
 abbrev pub acts_from : List Told → ℕ → List Act
 acts_from events at = flat_map acts_of_event (map event_of (drop at events))
 
--- the event at this place isn't a start, and those before it, from the other place on, are starts
+-- the event at this index isn't a start, and those before it, from the other index on, are starts
 abbrev pub IsNextAct : List Told → ℕ → ℕ → Type 0
 IsNextAct events from at = (at < length events) × (acts_from events from ≡ acts_from events at) × IfSome (slice_get events at) (λ e. is_start e ≡ false)
 
--- the acts come next, and the answer is the place after them; or they don't come next
+-- the acts come next, and the answer is the index after them; or they don't come next
 abbrev pub Takes : List Told → ℕ → List Act → Option ℕ → Type 0
 Takes events at acts result = MatchOption result ((rest : List Act) → acts_from events at ≡ acts ++ rest → ⊥) (λ next. acts_from events at ≡ acts ++ acts_from events next)
 
@@ -46,9 +46,9 @@ abbrev pub value_from : List StoredStep → Option ℕ → ℕ → Option Value
 value_from steps None x = None
 value_from steps (Some i) x = unwrap_or (value_at (get_or steps i (record { label = 0; writes = [] })).writes x) None
 
--- the variables with the values that the steps of their places wrote
+-- the variables with the values that the steps of their indices wrote
 abbrev pub kept : List StoredStep → List (Option ℕ) → List ℕ → Map (Option Value)
-kept steps places xs = map (λ x. (x, value_from steps (get_or places x None) x)) xs
+kept steps indices xs = map (λ x. (x, value_from steps (get_or indices x None) x)) xs
 
 -- an honest role receives x on the steps before it is written again
 abbrev pub is_still_carried : Graph → (ℕ → Bool) → Bool → ℕ → List StoredStep → Bool

@@ -2,7 +2,7 @@
 use Rattle.std.proofs.Common.{◌≡◌, ℕ, List, [], map, Option, Some, All, refl, sym, ◌∙◌, ap, subst}
 use Rattle.std.specs.List.{AllByRecursion}
 use Rattle.std.proofs.lemmas.List.Elements.{All-from_recursion, recursion_from_All}
-use Rattle.sg_lines.specs.Sessions.{Met, naming}
+use Rattle.sg_lines.specs.Sessions.{KnownSessions, naming}
 use Rattle.sg_protocol.specs.IsSchedule.{AreCompiled, IsSchedule}
 use Rattle.sg_protocol.specs.Run.{run}
 use Rattle.sg_protocol.specs.Texts.{real}
@@ -32,7 +32,7 @@ module _ (rep : Replay) (d : Setting) (nodes : List Named) (r : Recorded) (is : 
   pub names_met : naming 120 (met_in d.sessions es) ≡ naming 120 (met (account rep))
   names_met =
       ap (λ (z : List Taken). naming 120 (met_in d.sessions z)) same
-      ∙ ap (λ (z : List (List ℕ)). let m : Met = record { declared = (met_in d.sessions r.entries).declared; events = z } in naming 120 m) (events_alike r.entries [] (run real d.programs (schedule_of d nodes r)).log h.run.told)
+      ∙ ap (λ (z : List (List ℕ)). let m : KnownSessions = record { declared = (met_in d.sessions r.entries).declared; events = z } in naming 120 m) (events_alike r.entries [] (run real d.programs (schedule_of d nodes r)).log h.run.told)
       ∙ ap (λ (z : Replay). naming 120 (met (account z))) is
 
   module _ (named : All (CanBeNamed rep.schedule) rep.schedule.steps) where

@@ -12,7 +12,7 @@ use Rattle.sg_node.proofs.Life.{new_nodes}
 use Rattle.sg_world.specs.Holds.{Holds, schedule_of}
 use Rattle.sg_world.specs.Kept.{Recorded}
 use Rattle.sg_world.specs.Setting.{Setting}
-use Rattle.sg_world.specs.Stand.{StandForPasts}
+use Rattle.sg_world.specs.Representation.{RepresentPasts}
 use Rattle.sg_world.proofs.Pasts.{Named, names}
 
 -- a new node with its name
@@ -27,11 +27,11 @@ pub names_new : (keys : List PairKey) (programs : List Program) (ms : List Name)
 names_new keys programs [] = refl
 names_new keys programs (m ∷ ms) = ap (λ (z : List Name). m ∷ z) (names_new keys programs ms)
 
-stand_new : (keys : List PairKey) (programs : List Program) (ms : List Name) → StandForPasts (map (new_named keys programs) ms) (map (past_of_new keys programs) ms)
-stand_new keys programs [] = tt
-stand_new keys programs (m ∷ ms) =
+represent_new : (keys : List PairKey) (programs : List Program) (ms : List Name) → RepresentPasts (map (new_named keys programs) ms) (map (past_of_new keys programs) ms)
+represent_new keys programs [] = tt
+represent_new keys programs (m ∷ ms) =
     let n = new_nodes (keyring_of keys m) programs [] in
-    (record { me = refl; stands = n.0; told = n.1 }, stand_new keys programs ms)
+    (record { me = refl; represents = n.0; told = n.1 }, represent_new keys programs ms)
 
 -- the record of no step
 abbrev pub nothing : ℕ → Recorded
@@ -52,7 +52,7 @@ module _ (d : Setting) (honest : List Name) (size : ℕ) where
     taken = refl;
     few = omega arith;
     run = record {
-      stand = subst (λ (ms : List Name). StandForPasts (map (new_named d.keys d.programs) honest) (map (past_of_new d.keys d.programs) ms)) (sym (names_new d.keys d.programs honest)) (stand_new d.keys d.programs honest);
+      stand = subst (λ (ms : List Name). RepresentPasts (map (new_named d.keys d.programs) honest) (map (past_of_new d.keys d.programs) ms)) (sym (names_new d.keys d.programs honest)) (represent_new d.keys d.programs honest);
       told = refl;
       graphs = refl;
       notes = refl;

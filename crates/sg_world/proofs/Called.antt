@@ -63,7 +63,7 @@ pub comes_start : (s : Schedule) (w : World) (k number : ℕ) (who : Name) (n : 
 comes_start s w k number who n ds cast old new past c same at h =
     subst (λ (o : Option Call). Comes number old new past o c) (sym (ap (option_map Start) (ap (λ (ds : List Declared). option_map (λ (d : Declared). d.cast) (slice_get ds n)) (sym same) ∙ at))) h
 
--- the identifier at a place
+-- the identifier at an index
 sid_is : (s : Schedule) (n : ℕ) (ds : List Declared) (sid : List ℕ) → ds ≡ s.sessions → option_map (λ (d : Declared). session_id real d.cast) (slice_get ds n) ≡ Some sid → sid ≡ sid_at real s n
 sid_is s n ds sid same at = by (slice_get ds n) at ∙ ap (λ (ds : List Declared). option_map_or (session_id real) (option_map (λ (d : Declared). d.cast) (slice_get ds n)) []) same
   where

@@ -13,17 +13,17 @@ use Rattle.sg_protocol.specs.Keyring.{Keyring, Program}
 use Rattle.sg_protocol.specs.NodeStates.{NodeState, new_state}
 use Rattle.sg_protocol.specs.Schedule.{PairKey, Step, who_of}
 use Rattle.sg_protocol.specs.World.{keyring_of}
-use Rattle.sg_world.specs.Places.{IsPlaceOf, names_of}
+use Rattle.sg_world.specs.Indices.{IsIndexOf, names_of}
 use Rattle.sg_world.proofs.Begins.{new_named, names_new}
 use Rattle.sg_world.proofs.Pasts.{Named, names, in_names}
 
--- the node at a place, by its name
+-- the node at an index, by its name
 name_at : (ns : List Named) (i : ℕ) (who : Name) → i < length (names ns) → who ≡ get_or (names ns) i [] → (state : NodeState) × (slice_get ns i ≡ Some (who, state))
 name_at [] i who h e = absurd (omega arith)
 name_at (n ∷ ns) zero who h e = (n.1, ap (λ (z : Name). Some (z, n.1)) (sym e))
 name_at (n ∷ ns) (suc i) who h e = name_at ns i who (omega arith) e
 
--- the place at which a name is found
+-- the index at which a name is found
 pub found_name : (who : Name) (ns : List Named) (o : Option ℕ) → o ≡ position (same who) (names ns) → MatchOption o (has_text who (names_of ns) ≡ false) (λ i. (state : NodeState) × (slice_get ns i ≡ Some (who, state)))
 found_name who ns None e = sym (any_same who (names ns)) ∙ none_passes (same who) (names ns) (sym e)
 found_name who ns (Some i) e =
@@ -57,13 +57,13 @@ lookup_absent {X} who (e ∷ es) h =
     let parts = or_parts (bytes_eq who e.0) (has_text who (map (λ (e : Name × X). e.0) es)) h in
     rw (same-bytes_eq who e.0, parts.0) (lookup_absent who es parts.1)
 
--- the entry of a value at a place
+-- the entry of a value at an index
 pub entry_at : (ns : List Named) (i : ℕ) (v : NodeState) → slice_get (map (λ (n : Named). n.1) ns) i ≡ Some v → (who : Name) × (slice_get ns i ≡ Some (who, v))
 entry_at [] i v e = absurd (cc)
 entry_at (n ∷ ns) zero v e = let q : n.1 ≡ v = cc in (n.0, ap (λ (z : NodeState). Some (n.0, z)) q)
 entry_at (n ∷ ns) (suc i) v e = entry_at ns i v e
 
--- a principal with a place has a node
-pub placed : (nodes : List Named) (x : Step) (place : Option ℕ) → IsPlaceOf nodes x place → option_map_or (λ who. has_text who (names_of nodes)) (who_of x) true ≡ true
-placed nodes x None e = subst (λ (o : Option Name). option_map_or (λ n. has_text n (names_of nodes)) o true ≡ true) (sym e) refl
-placed nodes x (Some i) e = subst (λ (o : Option Name). option_map_or (λ n. has_text n (names_of nodes)) o true ≡ true) (sym e.2) (in_names nodes i e.0.0 e.0.1 e.1)
+-- a principal with an index has a node
+pub indexed : (nodes : List Named) (x : Step) (index : Option ℕ) → IsIndexOf nodes x index → option_map_or (λ who. has_text who (names_of nodes)) (who_of x) true ≡ true
+indexed nodes x None e = subst (λ (o : Option Name). option_map_or (λ n. has_text n (names_of nodes)) o true ≡ true) (sym e) refl
+indexed nodes x (Some i) e = subst (λ (o : Option Name). option_map_or (λ n. has_text n (names_of nodes)) o true ≡ true) (sym e.2) (in_names nodes i e.0.0 e.0.1 e.1)

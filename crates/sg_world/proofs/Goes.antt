@@ -10,7 +10,7 @@ use Rattle.sg_model.specs.Names.{Name}
 use Rattle.sg_protocol.specs.Calls.{Call}
 use Rattle.sg_protocol.specs.Crafted.{crafted}
 use Rattle.sg_protocol.specs.Keyring.{Program}
-use Rattle.sg_protocol.specs.NodeStates.{NodeState, StandsForPast}
+use Rattle.sg_protocol.specs.NodeStates.{NodeState, RepresentsPast}
 use Rattle.sg_protocol.specs.Notes.{Notes, no_notes}
 use Rattle.sg_protocol.specs.Past.{Past, past_after}
 use Rattle.sg_protocol.specs.Run.{called_if, world_after}
@@ -25,7 +25,7 @@ use Rattle.sg_node.specs.Answers.{IsTold}
 use Rattle.sg_world.specs.Comes.{Comes, ComesOfCall}
 use Rattle.sg_world.specs.Entries.{graph_of_entry}
 use Rattle.sg_world.specs.Kept.{Came, Taken, Recorded, HoldsRun, with_came}
-use Rattle.sg_world.specs.Stand.{StandsAs, StandForPasts}
+use Rattle.sg_world.specs.Representation.{RepresentsAs, RepresentPasts}
 use Rattle.sg_report.specs.Told.{Crafted, Told, told_after, told_log, told_outcome}
 use Rattle.sg_world.proofs.EntryGraphs.{IsBefore, graph_of_called}
 use Rattle.sg_world.proofs.Pasts.{Named, names, Found, found, after}
@@ -80,40 +80,40 @@ entered programs s ps w nodes l r k x c b h told graph frame notes = record {
     both : Option (List ℕ) → Notes → ℕ
     both o n = option_map_or (λ (bs : List ℕ). length bs) o 0 + sum_by (λ n. length n.text) n.made + sum_by (λ n. length n.text) n.found + sum_by (λ t. length t) n.hashed
 
-held : (programs : List Program) (s : Schedule) (ps : List Past) (w : World) (nodes : List Named) (l : Logged) (r : Recorded) (x : Step) (c : Came) → StandForPasts nodes ps → Entered programs s ps w l r x c
+held : (programs : List Program) (s : Schedule) (ps : List Past) (w : World) (nodes : List Named) (l : Logged) (r : Recorded) (x : Step) (c : Came) → RepresentPasts nodes ps → Entered programs s ps w l r x c
     → HoldsRun programs (with_step s x) (record { pasts = ps; log = w.log ++ l ∷ [] }) nodes (with_came r x c)
 held programs s ps w nodes l r x c stand e = record { stand = stand; told = e.told; graphs = e.graphs; notes = e.notes; frames = e.frames; size = e.size }
 
--- the value at a place put there again
+-- the value at an index put there again
 pub same_value : (ns : List Named) (i : ℕ) (who : Name) (old : NodeState) → slice_get ns i ≡ Some (who, old) → set_value_at ns i old ≡ ns
 same_value [] i who old e = refl
 same_value (n ∷ ns) zero who old e = let q : n ≡ (who, old) = cc in ap (λ (z : Named). (n.0, z.1) ∷ ns) (sym q)
 same_value (n ∷ ns) (suc i) who old e = ap (λ (z : List Named). n ∷ z) (same_value ns i who old e)
 
--- the node stands for its past with the call
-stands_after : (number : ℕ) (who : Name) (old new : NodeState) (call : Call) (c : Came) → ((past : Past) → StandsForPast old past → ComesOfCall number old new past call c)
-    → (past : Past) → past.keys.me ≡ who → StandsForPast old past → IsTold past → StandsAs (who, new) (past_after real past call)
-stands_after number who old new call c come past me stands told =
-    let came = come past stands in
-    record { me = me; stands = came.goes_on.stands; told = pasts_go_on past call told came.range }
+-- the node represents its past with the call
+represents_after : (number : ℕ) (who : Name) (old new : NodeState) (call : Call) (c : Came) → ((past : Past) → RepresentsPast old past → ComesOfCall number old new past call c)
+    → (past : Past) → past.keys.me ≡ who → RepresentsPast old past → IsTold past → RepresentsAs (who, new) (past_after real past call)
+represents_after number who old new call c come past me represents told =
+    let came = come past represents in
+    record { me = me; represents = came.goes_on.represents; told = pasts_go_on past call told came.range }
 
 -- a principal's step, with the call that it makes
 call_held : (programs : List Program) (s : Schedule) (w : World) (nodes : List Named) (r : Recorded) (k : ℕ) (x : Step) (c : Came) (who : Name) (i : ℕ) (old new : NodeState) (o : Option Call) (f : Found old who w.pasts)
-    → IsBefore programs s w k x → HoldsRun programs s w nodes r → all_differ (names nodes) ≡ true → slice_get nodes i ≡ Some (who, old) → ((past : Past) → StandsForPast old past → Comes (length r.frames + 1) old new past o c)
+    → IsBefore programs s w k x → HoldsRun programs s w nodes r → all_differ (names nodes) ≡ true → slice_get nodes i ≡ Some (who, old) → ((past : Past) → RepresentsPast old past → Comes (length r.frames + 1) old new past o c)
     → HoldsRun programs (with_step s x) (called_if real w k who o f.past) (set_value_at nodes i new) (with_came r x c)
 call_held programs s w nodes r k x c who i old new None f b h d at come =
-    let came = come f.past f.stands in
+    let came = come f.past f.represents in
     held programs s w.pasts w (set_value_at nodes i new) _ r x c
-    (subst (λ (z : List Named). StandForPasts z w.pasts) (sym (ap (λ z. set_value_at nodes i z) came.1 ∙ same_value nodes i who old at)) h.stand)
+    (subst (λ (z : List Named). RepresentPasts z w.pasts) (sym (ap (λ z. set_value_at nodes i z) came.1 ∙ same_value nodes i who old at)) h.stand)
     (entered programs s w.pasts w nodes _ r k x c b h (ap (λ (z : Came). z.told) came.0) (ap (λ (z : Came). z.graph) came.0) (ap (λ (z : Came). z.frame) came.0) (ap (λ (z : Came). z.notes) came.0))
 call_held programs s w nodes r k x c who i old new (Some call) f b h d at come =
-    let came = come f.past f.stands in
+    let came = come f.past f.represents in
     held programs s _ w (set_value_at nodes i new) _ r x c
-    (after nodes w.pasts i who old new call h.stand d at (stands_after (length r.frames + 1) who old new call c come))
+    (after nodes w.pasts i who old new call h.stand d at (represents_after (length r.frames + 1) who old new call c come))
     (entered programs s _ w nodes _ r k x c b h came.told (came.graph ∙ sym (graph_of_called programs s w k x who call f.past b f.is_past)) came.frame came.notes)
 
 who_held : (programs : List Program) (s : Schedule) (w : World) (nodes : List Named) (r : Recorded) (k : ℕ) (x : Step) (c : Came) (who me : Name) (i : ℕ) (old new : NodeState) (o : Option Call) → me ≡ who
-    → IsBefore programs s w k x → HoldsRun programs s w nodes r → all_differ (names nodes) ≡ true → slice_get nodes i ≡ Some (who, old) → ((past : Past) → StandsForPast old past → Comes (length r.frames + 1) old new past o c)
+    → IsBefore programs s w k x → HoldsRun programs s w nodes r → all_differ (names nodes) ≡ true → slice_get nodes i ≡ Some (who, old) → ((past : Past) → RepresentsPast old past → Comes (length r.frames + 1) old new past o c)
     → HoldsRun programs (with_step s x) (option_map_or (called_if real w k me o) (past_of w me) w) (set_value_at nodes i new) (with_came r x c)
 who_held programs s w nodes r k x c who me i old new o e b h d at come =
     let f = found nodes w.pasts i who old h.stand d at in
@@ -123,7 +123,7 @@ who_held programs s w nodes r k x c who me i old new o e b h d at come =
 
 -- a principal's step at its node
 pub step_held : (programs : List Program) (s : Schedule) (w : World) (nodes : List Named) (r : Recorded) (k : ℕ) (x : Step) (c : Came) (who : Name) (i : ℕ) (old new : NodeState) → who_of x ≡ Some who
-    → IsBefore programs s w k x → HoldsRun programs s w nodes r → all_differ (names nodes) ≡ true → slice_get nodes i ≡ Some (who, old) → ((past : Past) → StandsForPast old past → Comes (length r.frames + 1) old new past (call_of real s w k x) c)
+    → IsBefore programs s w k x → HoldsRun programs s w nodes r → all_differ (names nodes) ≡ true → slice_get nodes i ≡ Some (who, old) → ((past : Past) → RepresentsPast old past → Comes (length r.frames + 1) old new past (call_of real s w k x) c)
     → HoldsRun programs (with_step s x) (world_after real s w k x) (set_value_at nodes i new) (with_came r x c)
 step_held programs s w nodes r k (CraftStep cr) c who i old new e b h d at come = absurd (cc)
 step_held programs s w nodes r k (StartStep me n) c who i old new e b h d at come = who_held programs s w nodes r k (StartStep me n) c who me i old new (call_of real s w k (StartStep me n)) (cc) b h d at come

@@ -2,7 +2,7 @@
 use Rattle.std.proofs.Common.{◌≡◌, suc, ◌-◌, List, [], ◌∷◌, length, slice_get, refl, ◌∙◌, ap, arith}
 use Rattle.sg_model.specs.Last.{last}
 
--- it stands at the last place
+-- it stands at the last index
 pub last_got : {A : Type 0} (xs : List A) → slice_get xs (length xs - 1) ≡ last xs
 last_got [] = refl
 last_got (x ∷ []) = refl

@@ -7,7 +7,7 @@ use Rattle.std.proofs.lemmas.Bool.{or_right}
 use Rattle.std.proofs.lemmas.List.Folds.{list_any-append}
 use Rattle.std.proofs.lemmas.List.{get_or-map, map-append, take_more}
 use Rattle.std.proofs.lemmas.List.Elements.{filter_map-append}
-use Rattle.sg_lines.specs.Sessions.{Met, with_declared}
+use Rattle.sg_lines.specs.Sessions.{KnownSessions, with_declared}
 use Rattle.sg_model.specs.Lists.{has_text}
 use Rattle.sg_protocol.specs.Schedule.{Declared}
 use Rattle.sg_protocol.specs.Texts.{real, session_id}
@@ -19,7 +19,7 @@ use Rattle.sg_world.specs.KeptLines.{met_in, sid_kept}
 pub declared_next : (ss : List Declared) (i : ℕ) (d : Declared) → i < length ss → d ≡ get_or ss i d → with_declared (met_in (take i ss) []) d.name (session_id real d.cast) ≡ met_in (take (i + 1) ss) []
 declared_next ss i d l at =
     let more : take (i + 1) ss ≡ take i ss ++ d ∷ [] = take_more ss i d l ∙ ap (λ y. take i ss ++ y ∷ []) (sym at) in
-    ap (λ (z : List (List ℕ × List ℕ)). let m : Met = record { declared = z; events = [] } in m) (sym (ap declared_in more ∙ map-append (λ (d : Declared). (d.name, session_id real d.cast)) (take i ss) (d ∷ [])))
+    ap (λ (z : List (List ℕ × List ℕ)). let m : KnownSessions = record { declared = z; events = [] } in m) (sym (ap declared_in more ∙ map-append (λ (d : Declared). (d.name, session_id real d.cast)) (take i ss) (d ∷ [])))
 
 pub declared_step : (ss : List Declared) (sids : List (List ℕ)) (i : ℕ) (d : Declared) (sid : List ℕ) → sids ≡ map (λ (d : Declared). session_id real d.cast) ss → i < length ss → d ≡ get_or ss i d → sid ≡ get_or sids i sid
     → with_declared (met_in (take i ss) []) d.name sid ≡ met_in (take (i + 1) ss) []
@@ -27,7 +27,7 @@ declared_step ss sids i d sid are l at sid_at =
     let is : sid ≡ session_id real d.cast = sid_at ∙ ap (λ (z : List (List ℕ)). get_or z i sid) are ∙ get_or-map (λ (d : Declared). session_id real d.cast) ss i d sid l ∙ ap (λ (d : Declared). session_id real d.cast) (sym at) in
     ap (with_declared (met_in (take i ss) []) d.name) is ∙ declared_next ss i d l at
 
-abbrev pub met_with : Met → List (List ℕ) → Met
+abbrev pub met_with : KnownSessions → List (List ℕ) → KnownSessions
 met_with m sids = record m { events = m.events ++ sids }
 
 one : (o : Option (List ℕ)) → cons_option o [] ≡ option_to_list o
@@ -41,9 +41,9 @@ sids_next es i e l at =
     ap (filter_map sid_kept) more ∙ filter_map-append sid_kept (take i es) (e ∷ []) ∙ ap (λ z. filter_map sid_kept (take i es) ++ z) (one (sid_kept e))
 
 -- one more step
-pub met_next : (m : Met) (es : List Taken) (i : ℕ) (e : Taken) → i < length es → e ≡ get_or es i e → met_with (met_with m (filter_map sid_kept (take i es))) (option_to_list (sid_kept e)) ≡ met_with m (filter_map sid_kept (take (i + 1) es))
+pub met_next : (m : KnownSessions) (es : List Taken) (i : ℕ) (e : Taken) → i < length es → e ≡ get_or es i e → met_with (met_with m (filter_map sid_kept (take i es))) (option_to_list (sid_kept e)) ≡ met_with m (filter_map sid_kept (take (i + 1) es))
 met_next m es i e l at =
-    ap (λ (z : List (List ℕ)). let n : Met = record { declared = m.declared; events = z } in n)
+    ap (λ (z : List (List ℕ)). let n : KnownSessions = record { declared = m.declared; events = z } in n)
     (append_assoc m.events (filter_map sid_kept (take i es)) (option_to_list (sid_kept e)) ∙ ap (λ z. m.events ++ z) (sym (sids_next es i e l at)))
 
 -- a sid that is not met so far is not met with a step of another session

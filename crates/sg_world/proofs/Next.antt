@@ -25,7 +25,7 @@ use Rattle.sg_world.specs.Comes.{ComesAt}
 use Rattle.sg_world.specs.Entries.{graph_of_entry}
 use Rattle.sg_world.specs.Holds.{Holds, schedule_of}
 use Rattle.sg_world.specs.Kept.{Came, Taken, Recorded, HoldsRun, with_came, added_size}
-use Rattle.sg_world.specs.Places.{IsPlaceOf}
+use Rattle.sg_world.specs.Indices.{IsIndexOf}
 use Rattle.sg_world.specs.Setting.{Setting}
 use Rattle.sg_world.proofs.EntryGraphs.{is_before}
 use Rattle.sg_world.proofs.Goes.{step_held}
@@ -56,9 +56,9 @@ names_same [] i new = refl
 names_same (n ∷ ns) zero new = refl
 names_same (n ∷ ns) (suc i) new = ap (λ (z : List Name). n.0 ∷ z) (names_same ns i new)
 
-module _ (d : Setting) (nodes now : List Named) (r : Recorded) (x : Step) (c : Came) (place k : ℕ)
-    (h : Holds d nodes r) (at : IsPlaceOf nodes x (Some place)) (room : length r.entries < most_steps) (step : IsStep real (schedule_of d nodes r) x) (number : k ≡ length r.entries + 1)
-    (came : ComesAt d.sessions r.frames k x place nodes now c) where
+module _ (d : Setting) (nodes now : List Named) (r : Recorded) (x : Step) (c : Came) (index k : ℕ)
+    (h : Holds d nodes r) (at : IsIndexOf nodes x (Some index)) (room : length r.entries < most_steps) (step : IsStep real (schedule_of d nodes r) x) (number : k ≡ length r.entries + 1)
+    (came : ComesAt d.sessions r.frames k x index nodes now c) where
   abbrev S : Schedule
   S = schedule_of d nodes r
 
@@ -71,21 +71,21 @@ module _ (d : Setting) (nodes now : List Named) (r : Recorded) (x : Step) (c : C
   at_end : k ≡ length (schedule_of d nodes r).steps + 1
   at_end = let e = length-map r.entries (λ (e : Taken). e.step) in omega (arith, e, number)
 
-  held : HoldsRun d.programs (with_step (schedule_of d nodes r) x) (world_after real (schedule_of d nodes r) (run real d.programs (schedule_of d nodes r)) k x) (set_value_at nodes place came.new) (with_came r x c)
-  held = step_held d.programs S W nodes r k x c came.who place came.old came.new who (is_before d.programs S k x at_end) h.run (and_parts (all_differ (names nodes)) (list_all is_name (names nodes)) h.schedule.honest_names).0 came.is_old
-      (λ past stands. came.comes S W past refl (sym h.run.frames) stands)
+  held : HoldsRun d.programs (with_step (schedule_of d nodes r) x) (world_after real (schedule_of d nodes r) (run real d.programs (schedule_of d nodes r)) k x) (set_value_at nodes index came.new) (with_came r x c)
+  held = step_held d.programs S W nodes r k x c came.who index came.old came.new who (is_before d.programs S k x at_end) h.run (and_parts (all_differ (names nodes)) (list_all is_name (names nodes)) h.schedule.honest_names).0 came.is_old
+      (λ past represents. came.comes S W past refl (sym h.run.frames) represents)
 
   run_is : run real d.programs (with_step (schedule_of d nodes r) x) ≡ world_after real (schedule_of d nodes r) (run real d.programs (schedule_of d nodes r)) k x
   run_is = runs_go_by_step real d.programs S x ∙ ap (λ n. world_after real S W n x) (sym at_end)
 
   same : schedule_of d now (with_came r x c) ≡ with_step (schedule_of d nodes r) x
   same =
-      let honest : names now ≡ names nodes = ap names came.is_new ∙ names_same nodes place came.new in
+      let honest : names now ≡ names nodes = ap names came.is_new ∙ names_same nodes index came.new in
       let steps : map (λ (e : Taken). e.step) (with_came r x c).entries ≡ map (λ (e : Taken). e.step) r.entries ++ x ∷ [] = map-append (λ (e : Taken). e.step) r.entries (record { step = x; told = c.told; graph = c.graph } ∷ []) in
       (λ i. record { graphs = d.graphs; honest = honest i; keys = d.keys; sessions = d.sessions; steps = steps i })
 
   is_one : is_taken (schedule_of d nodes r) x ≡ true
-  is_one = subst (λ (o : Option Name). option_map_or (λ n. has_text n (names nodes)) o true ≡ true) (sym who) (in_names nodes place came.who came.old came.is_old)
+  is_one = subst (λ (o : Option Name). option_map_or (λ n. has_text n (names nodes)) o true ≡ true) (sym who) (in_names nodes index came.who came.old came.is_old)
 
   all_taken : list_all (is_taken (with_step (schedule_of d nodes r) x)) (with_step (schedule_of d nodes r) x).steps ≡ true
   all_taken = list_all-append (is_taken S) S.steps (x ∷ []) ∙ (λ i. h.taken i && (is_one i && true))

@@ -42,7 +42,7 @@ events_told l n told e is of = told_event n l.outcome ∙ ap option_to_list (sym
 
 -- ---- entries
 
--- what is told of a log, at a place
+-- what is told of a log, at an index
 told_at : (before xs : List Logged) (i : ℕ) (l : Logged) → slice_get xs i ≡ Some l → slice_get (told_after before xs) i ≡ Some (told_outcome (frame_number (before ++ take i xs)) l.outcome)
 told_at before [] i l e = absurd (cc)
 told_at before (x ∷ xs) zero l e = (let same : x ≡ l = cc in ap (λ (z : Logged). Some (told_outcome (frame_number before) z.outcome)) same ∙ ap (λ (ls : List Logged). Some (told_outcome (frame_number ls) l.outcome)) (sym (append-nil before)))
@@ -57,7 +57,7 @@ map_at f [] i x e = absurd (cc)
 map_at f (y ∷ ys) zero x e = (let same : y ≡ x = cc in ap (λ z. Some (f z)) same)
 map_at f (y ∷ ys) (suc i) x e = map_at f ys i x e
 
--- a list parted at a place
+-- a list parted at an index
 parted : (xs : List Logged) (i : ℕ) → i < length xs → (l : Logged) × (slice_get xs i ≡ Some l) × (xs ≡ take i xs ++ l ∷ drop (suc i) xs)
 parted [] i h = absurd (omega (arith, h))
 parted (x ∷ xs) zero h = (x, refl, refl)
@@ -81,7 +81,7 @@ take_whole [] i e = ap (λ n. take n []) e
 take_whole (x ∷ xs) zero e = absurd (omega (arith, e))
 take_whole (x ∷ xs) (suc i) e = ap (λ ls. x ∷ ls) (take_whole xs i (omega (arith, e)))
 
--- the entry at a place is of the log's step there
+-- the entry at an index is of the log's step there
 pub record IsAt (programs : List Program) (s : Schedule) (recorded : List (List ℕ)) (i : ℕ) (e : Taken) : Type 0 where
   pub entry : Logged
   pub after : List Logged

@@ -1,4 +1,4 @@
--- The nodes stand for their pasts, also after a call at one of them.
+-- The nodes represent their pasts, also after a call at one of them.
 use Rattle.std.proofs.Common.{◌≡◌, ℕ, zero, suc, Bool, true, false, not, List, [], ◌∷◌, map, find, bytes_eq, if◌then◌else◌, Some, slice_get, refl, sym, ◌∙◌, ap, subst}
 use Rattle.indexmap.specs.IndexMap.{set_value_at}
 use Rattle.std.proofs.lemmas.Bool.{and_parts, not-true, or_right, or_parts}
@@ -6,11 +6,11 @@ use Rattle.sg_model.proofs.Small.{same_bytes, bytes_same, clash}
 use Rattle.sg_model.specs.Lists.{has_text, all_differ}
 use Rattle.sg_model.specs.Names.{Name}
 use Rattle.sg_protocol.specs.Calls.{Call}
-use Rattle.sg_protocol.specs.NodeStates.{NodeState, StandsForPast}
+use Rattle.sg_protocol.specs.NodeStates.{NodeState, RepresentsPast}
 use Rattle.sg_protocol.specs.Past.{Past, past_after}
 use Rattle.sg_protocol.specs.Texts.{real}
 use Rattle.sg_node.specs.Answers.{IsTold}
-use Rattle.sg_world.specs.Stand.{StandsAs, StandForPasts}
+use Rattle.sg_world.specs.Representation.{RepresentsAs, RepresentPasts}
 
 abbrev pub Named : Type 0
 Named = Name × NodeState
@@ -27,7 +27,7 @@ next who call p = if bytes_eq p.keys.me who then past_after real p call else p
 pub record Found (old : NodeState) (who : Name) (ps : List Past) : Type 0 where
   pub past : Past
   pub is_past : find (λ (p : Past). bytes_eq p.keys.me who) ps ≡ Some past
-  pub stands : StandsForPast old past
+  pub represents : RepresentsPast old past
   pub told : IsTold past
 
 pub in_names : (ns : List Named) (i : ℕ) (who : Name) (old : NodeState) → slice_get ns i ≡ Some (who, old) → has_text who (names ns) ≡ true
@@ -43,7 +43,7 @@ first_differs n ns who d h = by (bytes_eq n.0 who) refl
     by false e = e
     by true e = clash (has_text n.0 (names ns)) (subst (λ (z : Name). has_text z (names ns) ≡ true) (sym (same_bytes n.0 who e)) h) (not-true (has_text n.0 (names ns)) (and_parts (not (has_text n.0 (names ns))) (all_differ (names ns)) d).0)
 
-pub found : (ns : List Named) (ps : List Past) (i : ℕ) (who : Name) (old : NodeState) → StandForPasts ns ps → all_differ (names ns) ≡ true → slice_get ns i ≡ Some (who, old) → Found old who ps
+pub found : (ns : List Named) (ps : List Past) (i : ℕ) (who : Name) (old : NodeState) → RepresentPasts ns ps → all_differ (names ns) ≡ true → slice_get ns i ≡ Some (who, old) → Found old who ps
 found [] ps i who old h d e = absurd (cc)
 found (n ∷ ns) [] i who old h d e = absurd h
 found (n ∷ ns) (p ∷ ps) zero who old h d e =
@@ -51,16 +51,16 @@ found (n ∷ ns) (p ∷ ps) zero who old h d e =
     record {
       past = p;
       is_past = rw (bytes_same p.keys.me who (h.0.me ∙ ap (λ (z : Named). z.0) q)) refl;
-      stands = subst (λ (z : Named). StandsForPast z.1 p) q h.0.stands;
+      represents = subst (λ (z : Named). RepresentsPast z.1 p) q h.0.represents;
       told = h.0.told;
     }
 found (n ∷ ns) (p ∷ ps) (suc i) who old h d e =
     let later = found ns ps i who old h.1 (and_parts (not (has_text n.0 (names ns))) (all_differ (names ns)) d).1 e in
     let other : bytes_eq p.keys.me who ≡ false = subst (λ (z : Name). bytes_eq z who ≡ false) (sym h.0.me) (first_differs n ns who d (in_names ns i who old e)) in
-    record { past = later.past; is_past = rw other later.is_past; stands = later.stands; told = later.told }
+    record { past = later.past; is_past = rw other later.is_past; represents = later.represents; told = later.told }
 
 -- a call at one node leaves the pasts of the others
-others : (ns : List Named) (ps : List Past) (who : Name) (call : Call) → StandForPasts ns ps → has_text who (names ns) ≡ false → map (next who call) ps ≡ ps
+others : (ns : List Named) (ps : List Past) (who : Name) (call : Call) → RepresentPasts ns ps → has_text who (names ns) ≡ false → map (next who call) ps ≡ ps
 others [] [] who call h a = refl
 others [] (p ∷ ps) who call h a = absurd h
 others (n ∷ ns) [] who call h a = refl
@@ -76,8 +76,8 @@ others (n ∷ ns) (p ∷ ps) who call h a =
         by false q = q
         by true q = clash (bytes_eq a b) (bytes_same a b (sym (same_bytes b a q))) e
 
-pub after : (ns : List Named) (ps : List Past) (i : ℕ) (who : Name) (old new : NodeState) (call : Call) → StandForPasts ns ps → all_differ (names ns) ≡ true → slice_get ns i ≡ Some (who, old)
-    → ((past : Past) → past.keys.me ≡ who → StandsForPast old past → IsTold past → StandsAs (who, new) (past_after real past call)) → StandForPasts (set_value_at ns i new) (map (next who call) ps)
+pub after : (ns : List Named) (ps : List Past) (i : ℕ) (who : Name) (old new : NodeState) (call : Call) → RepresentPasts ns ps → all_differ (names ns) ≡ true → slice_get ns i ≡ Some (who, old)
+    → ((past : Past) → past.keys.me ≡ who → RepresentsPast old past → IsTold past → RepresentsAs (who, new) (past_after real past call)) → RepresentPasts (set_value_at ns i new) (map (next who call) ps)
 after [] ps i who old new call h d e go = absurd (cc)
 after (n ∷ ns) [] i who old new call h d e go = absurd h
 after (n ∷ ns) (p ∷ ps) zero who old new call h d e go =
@@ -85,10 +85,10 @@ after (n ∷ ns) (p ∷ ps) zero who old new call h d e go =
     let named : n.0 ≡ who = ap (λ (z : Named). z.0) q in
     let me : p.keys.me ≡ who = h.0.me ∙ named in
     let apart = not-true (has_text n.0 (names ns)) (and_parts (not (has_text n.0 (names ns))) (all_differ (names ns)) d).0 in
-    let now : StandsAs (n.0, new) (past_after real p call) = subst (λ (z : Name). StandsAs (z, new) (past_after real p call)) (sym named) (go p me (subst (λ (z : Named). StandsForPast z.1 p) q h.0.stands) h.0.told) in
+    let now : RepresentsAs (n.0, new) (past_after real p call) = subst (λ (z : Name). RepresentsAs (z, new) (past_after real p call)) (sym named) (go p me (subst (λ (z : Named). RepresentsPast z.1 p) q h.0.represents) h.0.told) in
     let first : next who call p ≡ past_after real p call = (rw (bytes_same p.keys.me who me) refl) in
-    (subst (StandsAs (n.0, new)) (sym first) now, subst (StandForPasts ns) (sym (others ns ps who call h.1 (subst (λ (z : Name). has_text z (names ns) ≡ false) named apart))) h.1)
+    (subst (RepresentsAs (n.0, new)) (sym first) now, subst (RepresentPasts ns) (sym (others ns ps who call h.1 (subst (λ (z : Name). has_text z (names ns) ≡ false) named apart))) h.1)
 after (n ∷ ns) (p ∷ ps) (suc i) who old new call h d e go =
     let other : bytes_eq p.keys.me who ≡ false = subst (λ (z : Name). bytes_eq z who ≡ false) (sym h.0.me) (first_differs n ns who d (in_names ns i who old e)) in
     let first : next who call p ≡ p = (rw other refl) in
-    (subst (StandsAs n) (sym first) h.0, after ns ps i who old new call h.1 (and_parts (not (has_text n.0 (names ns))) (all_differ (names ns)) d).1 e go)
+    (subst (RepresentsAs n) (sym first) h.0, after ns ps i who old new call h.1 (and_parts (not (has_text n.0 (names ns))) (all_differ (names ns)) d).1 e go)

@@ -17,7 +17,7 @@ use Rattle.sg_grown.specs.Events.{grown_along}
 use Rattle.sg_law.proofs.Members.{all_in}
 use Rattle.sg_lines.proofs.Firsts.{has_text-firsts}
 use Rattle.sg_lines.proofs.Steps.{HasSteps-IsStoredWalk}
-use Rattle.sg_lines.specs.Sessions.{Met, all_sids, naming, session_name, sids_met}
+use Rattle.sg_lines.specs.Sessions.{KnownSessions, all_sids, naming, session_name, sids_met}
 use Rattle.sg_lines.specs.Walks.{HasSteps}
 use Rattle.sg_model.specs.Lists.{has_text}
 use Rattle.sg_protocol.proofs.RealHash.{real_hash}
@@ -115,7 +115,7 @@ module _ {X : Type 0} (path_of : List ℕ × X → Path) (is_of : (sid : List �
       by (Some w) false q rest = absurd (cc)
 
   -- where each session with an event has a walk, and no other, these are the sessions that are met
-  pub told_met : (es : List (List ℕ × X)) (m : Met) → ((sid : List ℕ) → has_text sid (map (λ (e : List ℕ × X). e.0) es) ≡ has_text sid m.events) → map (λ (p : Path). p.sid) (filter_map (at es) (all_sids m)) ≡ sids_met m
+  pub told_met : (es : List (List ℕ × X)) (m : KnownSessions) → ((sid : List ℕ) → has_text sid (map (λ (e : List ℕ × X). e.0) es) ≡ has_text sid m.events) → map (λ (p : Path). p.sid) (filter_map (at es) (all_sids m)) ≡ sids_met m
   told_met es m h = told_sids es (all_sids m) ∙ (λ i. filter (λ sid. h sid i) (all_sids m))
 
 -- ---- the steps of a walk
@@ -251,6 +251,6 @@ walk_more f g xs i old mid new before more =
     ∙ flat_map-append f (filter_map g (take i xs)) (filter_map g (option_to_list (slice_get xs i)))))
 
 -- all walks are written
-pub all_walks : (m : Met) (f : Path → List ℕ) (g : List ℕ → Option Path) (i : ℕ) (old new : List ℕ) → new ≡ old ++ flat_map f (filter_map g (take i (all_sids m))) → i ≡ length (naming 120 m).names → new ≡ old ++ flat_map f (filter_map g (all_sids m))
+pub all_walks : (m : KnownSessions) (f : Path → List ℕ) (g : List ℕ → Option Path) (i : ℕ) (old new : List ℕ) → new ≡ old ++ flat_map f (filter_map g (take i (all_sids m))) → i ≡ length (naming 120 m).names → new ≡ old ++ flat_map f (filter_map g (all_sids m))
 all_walks m f g i old new h l =
     h ∙ ap (λ n. old ++ flat_map f (filter_map g (take n (all_sids m)))) (l ∙ length-map (all_sids m) (λ (sid : List ℕ). (sid, session_name 120 m sid))) ∙ ap (λ z. old ++ flat_map f (filter_map g z)) (take-length (all_sids m))

@@ -18,11 +18,11 @@ use Rattle.sg_protocol.specs.World.{Logged, World}
 use Rattle.sg_world.specs.Faults.{IsAdmitted, IsFull}
 use Rattle.sg_world.specs.Holds.{Holds, schedule_of}
 use Rattle.sg_world.specs.Kept.{Recorded, Taken}
-use Rattle.sg_world.specs.Places.{IsPlaceOf}
+use Rattle.sg_world.specs.Indices.{IsIndexOf}
 use Rattle.sg_world.specs.Replay.{Replay, without_steps, with_taken, run_of, size_of, stepped}
 use Rattle.sg_world.specs.Setting.{Setting}
 use Rattle.sg_report.specs.Told.{Told, told_log}
-use Rattle.sg_world.proofs.Found.{placed}
+use Rattle.sg_world.proofs.Found.{indexed}
 use Rattle.sg_world.proofs.Begins.{begins, is_declared, new_named, nothing}
 use Rattle.sg_world.proofs.Pasts.{Named}
 
@@ -56,12 +56,12 @@ taken_is rep d nodes now r r2 x is h = ap (λ (z : Schedule). record { programs 
 pub run_is : (rep new : Replay) (x : Step) → new ≡ with_taken rep x → run_of new ≡ stepped rep x
 run_is rep new x h = ap run_of h ∙ runs_go_by_step real rep.programs rep.schedule x
 
--- a step that has its place, where the record is not full, is admitted
-pub is_admitted : (rep : Replay) (d : Setting) (nodes : List Named) (r : Recorded) (x : Step) (place : Option ℕ) → replay d nodes r ≡ rep → Holds d nodes r → IsPlaceOf nodes x place → r.size ≤ most_record_before
+-- a step that has its index, where the record is not full, is admitted
+pub is_admitted : (rep : Replay) (d : Setting) (nodes : List Named) (r : Recorded) (x : Step) (index : Option ℕ) → replay d nodes r ≡ rep → Holds d nodes r → IsIndexOf nodes x index → r.size ≤ most_record_before
     → IsAdmitted rep x
-is_admitted rep d nodes r x place is h at small =
+is_admitted rep d nodes r x index is h at small =
     let sized : r.size ≡ size_of (replay d nodes r) = h.run.size in
-    subst (λ (z : Replay). IsAdmitted z x) is (placed nodes x place at, λ (full : IsFull (replay d nodes r)). omega (arith, small, sized, full))
+    subst (λ (z : Replay). IsAdmitted z x) is (indexed nodes x index at, λ (full : IsFull (replay d nodes r)). omega (arith, small, sized, full))
 
 -- what a step adds has room
 pub size_after : (rep new : Replay) (d : Setting) (nodes : List Named) (r : Recorded) (x : Step) → replay d nodes r ≡ rep → Holds d nodes r → IsStep real rep.schedule x → new ≡ with_taken rep x → r.size ≤ 264241152 → size_of new < 268435456
@@ -91,7 +91,7 @@ told_many rep d nodes r is h =
     sym (length-map r.entries (λ (e : Taken). e.told)) ∙ ap (λ (z : List (Option Told)). length z) h.run.told ∙ length-map (told_log (run_of (replay d nodes r)).log) (λ (t : Told). Some t)
     ∙ ap (λ (z : Replay). length (told_log (run_of z).log)) is
 
--- what is told of the step at a place
+-- what is told of the step at an index
 same_at : (es : List Taken) (ts : List Told) (i : ℕ) (e : Taken) → map (λ (e : Taken). e.told) es ≡ map Some ts → slice_get es i ≡ Some e → e.told ≡ slice_get ts i
 same_at [] ts i e h q = absurd (cc)
 same_at (x ∷ es) [] i e h q = absurd (cc)

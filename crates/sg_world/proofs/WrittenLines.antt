@@ -3,7 +3,7 @@ use Rattle.std.proofs.Common.{◌≡◌, ℕ, zero, suc, ◌+◌, ◌<◌, List,
 use Rattle.std.specs.Prelude.{IfSome, IsSomeAnd, OnOk, Result, Ok, Err, find, nat_lt, unwrap_or}
 use Rattle.std.specs.List.{AllByRecursion}
 use Rattle.std.specs.Option.{option_map_or, option_to_list}
-use Rattle.sg_lines.specs.Sessions.{Met}
+use Rattle.sg_lines.specs.Sessions.{KnownSessions}
 use Rattle.sg_protocol.specs.Graph.{Graph}
 use Rattle.sg_protocol.specs.Schedule.{who_of}
 use Rattle.sg_report.specs.Lines.{graph_or_none, line_text}
@@ -15,14 +15,14 @@ use Rattle.sg_world.specs.KeptLines.{CanBeWritten, left_by, line_kept}
 use Rattle.sg_world.specs.Setting.{Setting}
 
 -- one more line
-lines_push : (m : Met) (k : ℕ) (ls : List StepLine) (l : StepLine) → lines_from m k (ls ++ l ∷ []) ≡ lines_from m k ls ++ line m (k + length ls) l
+lines_push : (m : KnownSessions) (k : ℕ) (ls : List StepLine) (l : StepLine) → lines_from m k (ls ++ l ∷ []) ≡ lines_from m k ls ++ line m (k + length ls) l
 lines_push m k [] l = append-nil (line m k l) ∙ ap (λ n. line m n l) (let e : k ≡ k + 0 = omega arith in e)
 lines_push m k (x ∷ xs) l =
-    let place : (k + 1) + length xs ≡ k + suc (length xs) = omega arith in
-    ap (λ t. line m k x ++ t) (lines_push m (k + 1) xs l ∙ ap (λ n. lines_from m (k + 1) xs ++ line m n l) place)
+    let index : (k + 1) + length xs ≡ k + suc (length xs) = omega arith in
+    ap (λ t. line m k x ++ t) (lines_push m (k + 1) xs l ∙ ap (λ n. lines_from m (k + 1) xs ++ line m n l) index)
     ∙ sym (append_assoc (line m k x) (lines_from m (k + 1) xs) (line m (k + suc (length xs)) l))
 
--- the line at a place
+-- the line at an index
 record LineAt (d : Setting) (e : Taken) (ls : List StepLine) (i : ℕ) : Type 0 where
   line : StepLine
   is : line_kept d e ≡ Some line
@@ -41,14 +41,14 @@ line_at d (x ∷ es) (y ∷ ls) (suc i) e h l at =
     record { line = r.line; is = r.is; first = (let q : suc i + 1 ≡ suc (i + 1) = omega arith in ap (λ n. take n (y ∷ ls)) q) ∙ ap (λ (z : List StepLine). y ∷ z) r.first; many = ap suc r.many }
 
 -- one more line is written
-pub line_more : (m : Met) (d : Setting) (es : List Taken) (ls : List StepLine) (i : ℕ) (e : Taken) (old mid new : List ℕ) → map (line_kept d) es ≡ map {B = Option StepLine} Some ls → i < length es → e ≡ get_or es i e
+pub line_more : (m : KnownSessions) (d : Setting) (es : List Taken) (ls : List StepLine) (i : ℕ) (e : Taken) (old mid new : List ℕ) → map (line_kept d) es ≡ map {B = Option StepLine} Some ls → i < length es → e ≡ get_or es i e
     → mid ≡ old ++ lines_from m 1 (take i ls) → IsSomeAnd (line_kept d e) (λ l. new ≡ mid ++ line m (i + 1) l) → new ≡ old ++ lines_from m 1 (take (i + 1) ls)
 line_more m d es ls i e old mid new h l at before more =
     let r : LineAt d e ls i = line_at d es ls i e h l at in
     let written : new ≡ mid ++ line m (i + 1) r.line = subst (λ (o : Option StepLine). IsSomeAnd o (λ l. new ≡ mid ++ line m (i + 1) l)) r.is more in
     let many = r.many in
-    let place : i + 1 ≡ 1 + length (take i ls) = omega (arith, many) in
-    written ∙ (λ j. before j ++ line m (place j) r.line) ∙ append_assoc old (lines_from m 1 (take i ls)) (line m (1 + length (take i ls)) r.line)
+    let index : i + 1 ≡ 1 + length (take i ls) = omega (arith, many) in
+    written ∙ (λ j. before j ++ line m (index j) r.line) ∙ append_assoc old (lines_from m 1 (take i ls)) (line m (1 + length (take i ls)) r.line)
     ∙ ap (λ t. old ++ t) (sym (lines_push m 1 (take i ls) r.line) ∙ sym (ap (lines_from m 1) r.first))
 
 -- all lines
@@ -77,7 +77,7 @@ refused_graph gs g (Some told) res x found is h e =
     e ∙ ap (λ (v : Option ℕ). option_map_or (λ y. find (λ h. nat_lt y (length h.variables)) (option_to_list g ++ gs)) v g) (sym is ∙ h)
 
 -- what is written of a step is its line
-pub entry_written : {A E : Type 0} (res : Result A E) (m : Met) (d : Setting) (k : ℕ) (e : Taken) (who : Option (List ℕ)) (sid : Option (List ℕ)) (name session : List ℕ) (graph : Option Graph) (old new : List ℕ)
+pub entry_written : {A E : Type 0} (res : Result A E) (m : KnownSessions) (d : Setting) (k : ℕ) (e : Taken) (who : Option (List ℕ)) (sid : Option (List ℕ)) (name session : List ℕ) (graph : Option Graph) (old new : List ℕ)
     → who ≡ who_of e.step → name ≡ unwrap_or who [] → IfSome e.told (λ told. sid ≡ session_told (left_by d.sessions e.step) told) → session ≡ option_map_or (name_in m) sid []
     → IfSome e.told (λ told. graph ≡ graph_told d.graphs e.graph told) → OnOk res (IsSomeAnd e.told (λ told. new ≡ old ++ line_text session (graph_or_none graph) k name told))
     → OnOk res (IsSomeAnd (line_kept d e) (λ l. new ≡ old ++ line m k l))

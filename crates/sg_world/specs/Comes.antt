@@ -7,7 +7,7 @@ use Rattle.sg_model.specs.Values.{Value}
 use Rattle.sg_protocol.specs.Acting.{answer}
 use Rattle.sg_protocol.specs.Calls.{Call}
 use Rattle.sg_protocol.specs.Frame.{IsValue}
-use Rattle.sg_protocol.specs.NodeStates.{NodeState, StandsForPast}
+use Rattle.sg_protocol.specs.NodeStates.{NodeState, RepresentsPast}
 use Rattle.sg_protocol.specs.Notes.{notes as noted_of}
 use Rattle.sg_protocol.specs.Past.{Past, node_of}
 use Rattle.sg_protocol.specs.Ranges.{IsCallInRange}
@@ -55,14 +55,14 @@ changed_to (Cut len) bs = take len bs
 -- for each schedule of these sessions and each run that recorded these frames, this comes of the call of step k
 abbrev pub ComesOfStep : List Declared → List (List ℕ) → ℕ → Step → NodeState → NodeState → Came → Type 0
 ComesOfStep sessions recorded k x old new c =
-    (s : Schedule) (w : World) (past : Past) → sessions ≡ s.sessions → frames w ≡ recorded → StandsForPast old past
+    (s : Schedule) (w : World) (past : Past) → sessions ≡ s.sessions → frames w ≡ recorded → RepresentsPast old past
     → Comes (length recorded + 1) old new past (call_of real s w k x) c
 
 -- so it does at the node of the principal, and the others are as before
-pub record ComesAt (sessions : List Declared) (recorded : List (List ℕ)) (k : ℕ) (x : Step) (place : ℕ) (nodes now : List (Name × NodeState)) (c : Came) : Type 0 where
+pub record ComesAt (sessions : List Declared) (recorded : List (List ℕ)) (k : ℕ) (x : Step) (index : ℕ) (nodes now : List (Name × NodeState)) (c : Came) : Type 0 where
   pub who : Name
   pub old : NodeState
   pub new : NodeState
-  pub is_old : slice_get nodes place ≡ Some (who, old)
-  pub is_new : now ≡ set_value_at nodes place new
+  pub is_old : slice_get nodes index ≡ Some (who, old)
+  pub is_new : now ≡ set_value_at nodes index new
   pub comes : ComesOfStep sessions recorded k x old new c

@@ -49,7 +49,7 @@ pub record ComesOfCrafting (d : Setting) (recorded : List (List ℕ)) (x : Step)
   pub is_craft : x ≡ CraftStep craft
   pub comes : (s : Schedule) (w : World) → Declares s d → frames w ≡ recorded → ComesOfCraft (length recorded + 1) s w craft c
 
--- what comes of step k: at the node at its place; or, where it has none, of a craft, which leaves the nodes as they are
-abbrev pub ComesOfPlace : Setting → List (List ℕ) → ℕ → Step → Option ℕ → List (Name × NodeState) → List (Name × NodeState) → Came → Type 0
-ComesOfPlace d recorded k x None nodes now c = (now ≡ nodes) × ComesOfCrafting d recorded x c
-ComesOfPlace d recorded k x (Some place) nodes now c = ComesAt d.sessions recorded k x place nodes now c
+-- what comes of step k: at the node at its index; or, where it has none, of a craft, which leaves the nodes as they are
+abbrev pub ComesOfIndex : Setting → List (List ℕ) → ℕ → Step → Option ℕ → List (Name × NodeState) → List (Name × NodeState) → Came → Type 0
+ComesOfIndex d recorded k x None nodes now c = (now ≡ nodes) × ComesOfCrafting d recorded x c
+ComesOfIndex d recorded k x (Some index) nodes now c = ComesAt d.sessions recorded k x index nodes now c

@@ -10,7 +10,7 @@ use Rattle.sg_protocol.specs.Schedule.{Schedule, Step}
 use Rattle.sg_protocol.specs.Steps.{record_size}
 use Rattle.sg_protocol.specs.World.{World, frames}
 use Rattle.sg_world.specs.Entries.{graph_of_entry}
-use Rattle.sg_world.specs.Stand.{StandForPasts}
+use Rattle.sg_world.specs.Representation.{RepresentPasts}
 use Rattle.sg_report.specs.Told.{Told, NoFrame, told_log}
 
 -- what came of a step: what is told of it, the graph by which its numbers have names, the frame that it records, and what was noted
@@ -55,7 +55,7 @@ with_came r x c = record {
 
 -- the nodes and the record are those of a run of these programs
 pub record HoldsRun (programs : List Program) (s : Schedule) (w : World) (nodes : List (Name × NodeState)) (r : Recorded) : Type 0 where
-  pub stand : StandForPasts nodes w.pasts
+  pub stand : RepresentPasts nodes w.pasts
   pub told : map (λ e. e.told) r.entries ≡ map Some (told_log w.log)
   pub graphs : map (λ e. e.graph) r.entries ≡ map (graph_of_entry programs s) w.log
   pub notes : r.notes ≡ map (λ l. l.notes) w.log

@@ -3,7 +3,7 @@ use Rattle.std.specs.Prelude.{ℕ, List, filter_map, Option, None, option_map, o
 use Rattle.sg_protocol.specs.Calls.{sid_of}
 use Rattle.sg_protocol.specs.Schedule.{Declared, Step, AbandonStep, who_of}
 use Rattle.sg_protocol.specs.Texts.{real, session_id}
-use Rattle.sg_lines.specs.Sessions.{Met}
+use Rattle.sg_lines.specs.Sessions.{KnownSessions}
 use Rattle.sg_report.specs.Report.{StepLine}
 use Rattle.sg_report.specs.Told.{CanBeTold, event_told, session_told}
 use Rattle.sg_world.specs.Account.{declared_in, graph_told}
@@ -15,7 +15,7 @@ abbrev pub sid_kept : Taken → Option (List ℕ)
 sid_kept e = option_map sid_of (option_and_then event_told e.told)
 
 -- the sessions that are declared, and those of the events of these steps
-abbrev pub met_in : List Declared → List Taken → Met
+abbrev pub met_in : List Declared → List Taken → KnownSessions
 met_in sessions entries = record { declared = declared_in sessions; events = filter_map sid_kept entries }
 
 -- the sid that a step gives up

@@ -1,13 +1,13 @@
 pub mod Replay
 pub mod Entries
 pub mod Faults
-pub mod Stand
+pub mod Representation
 pub mod Kept
 pub mod Comes
 pub mod Setting
 pub mod Crafts
 pub mod Recording
-pub mod Places
+pub mod Indices
 pub mod Holds
 pub mod SettingHeld
 pub mod Model

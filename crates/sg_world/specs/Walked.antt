@@ -4,7 +4,7 @@ use Rattle.std.specs.List.{AllByRecursion}
 use Rattle.sg_courses.specs.Courses.{Course, Courses}
 use Rattle.sg_courses.specs.Runs.{course_at}
 use Rattle.sg_grown.specs.Events.{grown_along}
-use Rattle.sg_lines.specs.Sessions.{Met, firsts, sids_met}
+use Rattle.sg_lines.specs.Sessions.{KnownSessions, firsts, sids_met}
 use Rattle.sg_lines.specs.Walks.{HasSteps, walk_line}
 use Rattle.sg_model.specs.Lists.{is_in}
 use Rattle.sg_protocol.specs.Calls.{sid_of}
@@ -47,7 +47,7 @@ pub record IsPath (r : Replay) (p : Path) : Type 0 where
   pub path : OnePath (graph_of r p.sid) (honest_in r p.sid) (events_of p.sid (run_of r).log) p.steps
 
 -- the line of a session's walk
-abbrev pub path_line : Met → Path → List ℕ
+abbrev pub path_line : KnownSessions → Path → List ℕ
 path_line m p = walk_line (name_in m p.sid) p.graph (λ role. is_in role p.honest) p.steps
 
 -- the lines of the walks of all sessions with an event are written, in their order, and each walk explains its session

@@ -7,7 +7,7 @@ ghost use Rattle.std.specs.List.{AllByRecursion};
 ghost use Rattle.sg_model.specs.Bytes.{AreBytes};
 ghost use Rattle.sg_protocol.specs.Calls.{Start, Act, Abandon, Deliver};
 ghost use Rattle.sg_protocol.specs.Frame.{IsValue};
-ghost use Rattle.sg_protocol.specs.NodeStates.{StandsForPast};
+ghost use Rattle.sg_protocol.specs.NodeStates.{RepresentsPast};
 ghost use Rattle.sg_protocol.specs.Past.{Past};
 ghost use Rattle.sg_protocol.specs.Ranges.{IsCast};
 ghost use Rattle.sg_protocol.specs.Reading.{read};
@@ -88,7 +88,7 @@ pub(crate) fn next_frame(recorded: &[Seq<u8>]) -> u32
 #[cold]
 fn start<'p>(node: &mut Node<'p>, cast: Cast, came: &mut Came<'p>) -> Result<(), OutOfMemory>
     requires blank { came.old ≡ no_frame }
-    ensures comes { (number : ℕ) (past : Past) → StandsForPast node.old past → OnOk result (ComesOfCall number node.old node.new past (Start cast) came.new) }
+    ensures comes { (number : ℕ) (past : Past) → RepresentsPast node.old past → OnOk result (ComesOfCall number node.old node.new past (Start cast) came.new) }
     ensures back { OnErr result (node.new ≡ node.old) }
 {
     tell_cast(&cast);
@@ -127,7 +127,7 @@ fn act<'p>(
     requires count { length confounders.now ≡ length values.now }
     requires bytes { AllByRecursion (AreBytes 16) confounders.now }
     requires blank { came.old ≡ no_frame }
-    ensures comes { (past : Past) → StandsForPast node.old past
+    ensures comes { (past : Past) → RepresentsPast node.old past
         → OnOk result (ComesOfCall frame node.old node.new past (Act sid label (values_of values.now) confounders.now) came.new) }
     ensures back { OnErr result (node.new ≡ node.old) }
 {
@@ -172,7 +172,7 @@ fn is_act_memory(fault: &ActFault) -> bool
 #[cold]
 fn abandon<'p>(node: &mut Node<'p>, sid: Sid, came: &mut Came<'p>)
     requires { came.old ≡ no_frame }
-    ensures { (number : ℕ) (past : Past) → StandsForPast node.old past → ComesOfCall number node.old node.new past (Abandon sid) came.new }
+    ensures { (number : ℕ) (past : Past) → RepresentsPast node.old past → ComesOfCall number node.old node.new past (Abandon sid) came.new }
 {
     came.graph = node.graph_of(&sid);
     match node.abandon(sid) {
@@ -190,7 +190,7 @@ fn deliver_what<'p>(
     came: &mut Came<'p>,
 ) -> Result<(), OutOfMemory>
     requires blank { came.old ≡ no_frame }
-    ensures comes { (number : ℕ) (w : World) (past : Past) → frames w ≡ recorded.now → StandsForPast node.old past
+    ensures comes { (number : ℕ) (w : World) (past : Past) → frames w ≡ recorded.now → RepresentsPast node.old past
         → OnOk result (Comes number node.old node.new past (option_map Deliver (bytes_of w (what_of what.now))) came.new) }
     ensures back { OnErr result (node.new ≡ node.old) }
 {
@@ -212,7 +212,7 @@ fn deliver_frame<'p>(
     came: &mut Came<'p>,
 ) -> Result<(), OutOfMemory>
     requires blank { came.old ≡ no_frame }
-    ensures comes { (number : ℕ) (past : Past) → StandsForPast node.old past
+    ensures comes { (number : ℕ) (past : Past) → RepresentsPast node.old past
         → OnOk result (ComesOfCall number node.old node.new past (Deliver (changed_to change frame.now)) came.new) }
     ensures back { OnErr result (node.new ≡ node.old) }
 {
@@ -234,7 +234,7 @@ fn deliver<'p>(
     came: &mut Came<'p>,
 ) -> Result<(), OutOfMemory>
     requires blank { came.old ≡ no_frame }
-    ensures comes { (number : ℕ) (past : Past) → StandsForPast node.old past → OnOk result (ComesOfCall number node.old node.new past (Deliver bytes.now) came.new) }
+    ensures comes { (number : ℕ) (past : Past) → RepresentsPast node.old past → OnOk result (ComesOfCall number node.old node.new past (Deliver bytes.now) came.new) }
     ensures back { OnErr result (node.new ≡ node.old) }
 {
     match decode(alloc, bytes) {
@@ -254,7 +254,7 @@ fn deliver_read<'p>(
     requires spelled { SpellsFrame bytes.now frame.now }
     requires read { read bytes.now ≡ Ok frame.now }
     requires blank { came.old ≡ no_frame }
-    ensures comes { (number : ℕ) (past : Past) → StandsForPast node.old past → OnOk result (ComesOfCall number node.old node.new past (Deliver bytes.now) came.new) }
+    ensures comes { (number : ℕ) (past : Past) → RepresentsPast node.old past → OnOk result (ComesOfCall number node.old node.new past (Deliver bytes.now) came.new) }
     ensures back { OnErr result (node.new ≡ node.old) }
 {
     tell_bytes(bytes);
@@ -281,7 +281,7 @@ fn deliver_malformed<'p>(
 ) -> Result<(), OutOfMemory>
     requires malformed { IsErr (read bytes.now) }
     requires blank { came.old ≡ no_frame }
-    ensures comes { (number : ℕ) (past : Past) → StandsForPast node.old past → OnOk result (ComesOfCall number node.old node.new past (Deliver bytes.now) came.new) }
+    ensures comes { (number : ℕ) (past : Past) → RepresentsPast node.old past → OnOk result (ComesOfCall number node.old node.new past (Deliver bytes.now) came.new) }
     ensures back { OnErr result (node.new ≡ node.old) }
 {
     tell_bytes(bytes);

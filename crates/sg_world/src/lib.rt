@@ -9,7 +9,7 @@
 //! digests of the graphs, and the keys by their pairs. The nodes stand in the order of the honest principals, and the one whose step it is
 //! is one look-up away. `Record` has each step with what came of it and the graph by which its numbers have names, what was noted of tags
 //! and hashes at each, and each frame once, found by its number. `specs/Holds.antt` says what holds of these parts between steps: each
-//! node stands for its principal's past in the run, and what is recorded is what the run's log says.
+//! node represents its principal's past in the run, and what is recorded is what the run's log says.
 //!
 //! A step is taken in this order. Its principal has a node, and the record isn't full. The step is copied, and room is made for it. The
 //! graph of its call is looked up, since the call may end the session. The call is made at the node, or the frame of a craft. The step is

@@ -1,7 +1,7 @@
 //! The lines of the steps of a replay.
 ghost use Rattle.std.specs.Prelude.{◌≡◌, ◌<◌, ◌^◌, ◌++◌, [], All, IfSome, IsSomeAnd, List, OnOk, Option, Some, find, length, map, nat_lt, unwrap_or};
 ghost use Rattle.std.specs.Option.{option_copied, option_map_or, option_to_list};
-ghost use Rattle.sg_lines.specs.Sessions.{Met, naming};
+ghost use Rattle.sg_lines.specs.Sessions.{KnownSessions, naming};
 ghost use Rattle.sg_report.specs.Outcome.{outcome_of};
 ghost use Rattle.sg_report.specs.Report.{StepLine, line, lines_from, name_in};
 ghost use Rattle.sg_report.specs.Told.{session_told};
@@ -29,7 +29,7 @@ pub(crate) fn put_lines<'p>(
 ) -> Result<(), OutOfMemory>
     requires few { length entries.now < 2 ^ 32 }
     requires told { All (CanBeWritten setting.now) entries.now }
-    ensures { (m : Met) (ls : List StepLine) → names.now ≡ naming 120 m → map (line_kept setting.now) entries.now ≡ map {B = Option StepLine} Some ls → OnOk result (out.new ≡ out.old ++ lines_from m 1 ls) }
+    ensures { (m : KnownSessions) (ls : List StepLine) → names.now ≡ naming 120 m → map (line_kept setting.now) entries.now ≡ map {B = Option StepLine} Some ls → OnOk result (out.new ≡ out.old ++ lines_from m 1 ls) }
 {
     let mut number: u32 = 0;
     for entry in entries {
@@ -48,7 +48,7 @@ fn put_entry<'p>(
     entry: &TakenStep<'p>,
 ) -> Result<(), OutOfMemory>
     requires { CanBeWritten setting.now entry.now }
-    ensures { (m : Met) → names.now ≡ naming 120 m → OnOk result (IsSomeAnd (line_kept setting.now entry.now) (λ l. out.new ≡ out.old ++ line m number l)) }
+    ensures { (m : KnownSessions) → names.now ≡ naming 120 m → OnOk result (IsSomeAnd (line_kept setting.now entry.now) (λ l. out.new ≡ out.old ++ line m number l)) }
 {
     let who = who(&entry.step);
     let sid = session_for(setting, &entry.step, &entry.outcome);
@@ -75,7 +75,7 @@ fn bytes_of(name: &Option<Name>) -> &[u8]
 
 // The name of a session, where a session is given.
 fn name_in(names: &SessionNames, session: &Option<Sid>) -> Option<Name>
-    ensures { (m : Met) → names.now ≡ naming 120 m → unwrap_or result [] ≡ option_map_or (name_in m) session.now [] }
+    ensures { (m : KnownSessions) → names.now ≡ naming 120 m → unwrap_or result [] ≡ option_map_or (name_in m) session.now [] }
 {
     match session {
         Some(sid) => names.name_of(sid),

@@ -1,7 +1,7 @@
 //! What the sessions of a replay are called.
 ghost use Rattle.std.specs.Prelude.{◌≡◌, ◌++◌, [], filter_map, map, IfOk, OnOk};
 ghost use Rattle.std.specs.Option.{option_to_list};
-ghost use Rattle.sg_lines.specs.Sessions.{Met, naming};
+ghost use Rattle.sg_lines.specs.Sessions.{KnownSessions, naming};
 ghost use Rattle.sg_protocol.specs.Texts.{real, session_id};
 ghost use Rattle.sg_world.specs.Account.{declared_in};
 ghost use Rattle.sg_world.specs.KeptLines.{met_in, sid_kept};
@@ -38,9 +38,9 @@ fn declare_all(
     requires { sids.now ≡ map (λ d. session_id real d.cast) sessions.now }
     ensures { names.old ≡ naming 120 (met_in [] []) → OnOk result (names.new ≡ naming 120 (met_in sessions.now [])) }
 {
-    for place in 0..sessions.len() {
-        let session = &sessions[place];
-        names.declare(session.name, sids[place])?;
+    for index in 0..sessions.len() {
+        let session = &sessions[index];
+        names.declare(session.name, sids[index])?;
     }
     Ok(())
 }
@@ -51,7 +51,7 @@ fn meet_all<'p>(
     names: &mut SessionNames,
     entries: &[TakenStep<'p>],
 ) -> Result<(), OutOfMemory>
-    ensures { (m : Met) → names.old ≡ naming 120 m → OnOk result (names.new ≡ naming 120 (record m { events = m.events ++ filter_map sid_kept entries.now })) }
+    ensures { (m : KnownSessions) → names.old ≡ naming 120 m → OnOk result (names.new ≡ naming 120 (record m { events = m.events ++ filter_map sid_kept entries.now })) }
 {
     for entry in entries {
         meet(alloc, names, entry)?;
@@ -65,7 +65,7 @@ fn meet<'p>(
     names: &mut SessionNames,
     entry: &TakenStep<'p>,
 ) -> Result<(), OutOfMemory>
-    ensures { (m : Met) → names.old ≡ naming 120 m → OnOk result (names.new ≡ naming 120 (record m { events = m.events ++ option_to_list (sid_kept entry.now) })) }
+    ensures { (m : KnownSessions) → names.old ≡ naming 120 m → OnOk result (names.new ≡ naming 120 (record m { events = m.events ++ option_to_list (sid_kept entry.now) })) }
 {
     match sid_told(&entry.outcome) {
         Some(sid) => names.meet(alloc, sid),

@@ -52,8 +52,8 @@ fn put_last<'p>(
     Ok(())
 }
 
-/// The place of a principal's node. It takes no memory.
-pub(crate) fn place_of<'p>(nodes: &IndexMap<Name, Node<'p>>, who: &Name) -> Option<usize>
+/// The index of a principal's node. It takes no memory.
+pub(crate) fn index_of<'p>(nodes: &IndexMap<Name, Node<'p>>, who: &Name) -> Option<usize>
     ensures { MatchOption result
         (has_text who.now (map (λ n. n.0) nodes.now.entries) ≡ false)
         (λ i. (state : NodeState) × (slice_get nodes.now.entries i ≡ Some (who.now, state))) }
@@ -61,28 +61,28 @@ pub(crate) fn place_of<'p>(nodes: &IndexMap<Name, Node<'p>>, who: &Name) -> Opti
     nodes.get_index_of(who)
 }
 
-/// Makes the call of a step of this number at the node at a place, and writes what comes of it over `came`. If memory runs out, the nodes are as
+/// Makes the call of a step of this number at the node at an index, and writes what comes of it over `came`. If memory runs out, the nodes are as
 /// before.
 pub(crate) fn call_at<'p>(
     alloc: Global,
     nodes: &mut IndexMap<Name, Node<'p>>,
-    place: usize,
+    index: usize,
     setting: &Setting<'_>,
     recorded: &[Seq<u8>],
     number: u32,
     step: &Step,
     came: &mut Came<'p>,
 ) -> Result<(), OutOfMemory>
-    requires within { place < length nodes.old.entries }
+    requires within { index < length nodes.old.entries }
     requires named { IsNamed (length setting.now.sessions) (step_of step.now) }
     requires few { length recorded.now + 1 < 2 ^ 32 }
     requires blank { came.old ≡ no_frame }
-    ensures comes { OnOk result (ComesAt setting.now.sessions recorded.now number (step_of step.now) place nodes.old.entries nodes.new.entries came.new) }
+    ensures comes { OnOk result (ComesAt setting.now.sessions recorded.now number (step_of step.now) index nodes.old.entries nodes.new.entries came.new) }
     ensures back { OnErr result (nodes.new.entries ≡ nodes.old.entries) }
 {
     call(
         alloc,
-        &mut nodes[place],
+        &mut nodes[index],
         setting,
         recorded,
         number,

@@ -8,7 +8,7 @@ ghost use Rattle.sg_world.specs.PremiseFaults.{IsCollisionAs, IsCollisionFault, 
 ghost use Rattle.sg_world.specs.Replay.{run_of};
 
 use crate::World;
-use crate::nodes::place_of;
+use crate::nodes::index_of;
 use indexmap::IndexMap;
 use sg_base::{Name, OutOfMemory, Seq};
 use sg_node::Node;
@@ -66,7 +66,7 @@ impl<'n, 'p> Honest for Principals<'n, 'p> {
     ghost names = { λ p. map (λ n. n.0) p.nodes.now.entries };
 
     fn is_honest(&self, name: &Name) -> bool {
-        place_of(self.nodes, name).is_some()
+        index_of(self.nodes, name).is_some()
     }
 }
 

@@ -2,7 +2,7 @@
 ghost use Rattle.std.specs.Prelude.{◌≡◌, ◌≤◌, ◌++◌, All, IfOk, IfSome, OnOk, filter_map, flat_map, slice_get};
 ghost use Rattle.std.specs.Option.{option_map, option_to_list};
 ghost use Rattle.sg_model.specs.Limits.{most_steps};
-ghost use Rattle.sg_lines.specs.Sessions.{Met, all_sids, naming};
+ghost use Rattle.sg_lines.specs.Sessions.{KnownSessions, all_sids, naming};
 ghost use Rattle.sg_lines.specs.Walks.{HasSteps, walk_line};
 ghost use Rattle.sg_model.specs.Lists.{is_in};
 ghost use Rattle.sg_report.specs.Model.{forgery_of};
@@ -98,26 +98,26 @@ fn put_walks<'r>(
     courses: &Courses<'r>,
 ) -> Result<(), OutOfMemory>
     requires { CanWalkAll courses.now }
-    ensures { (m : Met) → names.now ≡ naming 120 m → OnOk result (out.new ≡ out.old ++ flat_map (path_line m) (filter_map (path_at courses.now) (all_sids m))) }
+    ensures { (m : KnownSessions) → names.now ≡ naming 120 m → OnOk result (out.new ≡ out.old ++ flat_map (path_line m) (filter_map (path_at courses.now) (all_sids m))) }
 {
-    for place in 0..names.len() {
-        put_walk_at(alloc, out, names, courses, place)?;
+    for index in 0..names.len() {
+        put_walk_at(alloc, out, names, courses, index)?;
     }
     Ok(())
 }
 
-// Writes the walk of the session at a place, if it has a course.
+// Writes the walk of the session at an index, if it has a course.
 fn put_walk_at<'r>(
     alloc: Global,
     out: &mut ByteOut,
     names: &SessionNames,
     courses: &Courses<'r>,
-    place: usize,
+    index: usize,
 ) -> Result<(), OutOfMemory>
     requires { CanWalkAll courses.now }
-    ensures { (m : Met) → names.now ≡ naming 120 m → OnOk result (out.new ≡ out.old ++ flat_map (path_line m) (filter_map (path_at courses.now) (option_to_list (slice_get (all_sids m) place)))) }
+    ensures { (m : KnownSessions) → names.now ≡ naming 120 m → OnOk result (out.new ≡ out.old ++ flat_map (path_line m) (filter_map (path_at courses.now) (option_to_list (slice_get (all_sids m) index)))) }
 {
-    match names.at(place) {
+    match names.at(index) {
         Some((sid, name)) => put_walk_of(alloc, out, courses, &sid, &name),
         None => Ok(()),
     }

@@ -119,8 +119,8 @@ impl<'p> World<'p> {
 fn make_walks<'r>(alloc: Global, courses: &Courses<'r>) -> Result<usize, OutOfMemory>
     ensures { IfOk result (λ count. count ≡ length courses.now.courses) }
 {
-    for place in 0..courses.len() {
-        if let Some((_, course)) = courses.at(place) {
+    for index in 0..courses.len() {
+        if let Some((_, course)) = courses.at(index) {
             let _walk = course.walk(alloc)?;
         }
     }

@@ -111,7 +111,7 @@ impl<'p> Setting<'p> {
         self.texts.as_slice()
     }
 
-    /// The cast of the session at a place. It takes no memory.
+    /// The cast of the session at an index. It takes no memory.
     pub fn cast(&self, session: u32) -> Cast
         requires { session < length self.now.sessions }
         ensures { option_map (λ d. d.cast) (slice_get self.now.sessions session) ≡ Some result }
@@ -119,7 +119,7 @@ impl<'p> Setting<'p> {
         self.sessions.get(session as usize).cast
     }
 
-    /// The identifier of the session at a place. It takes no memory.
+    /// The identifier of the session at an index. It takes no memory.
     pub fn sid(&self, session: u32) -> Sid
         requires { session < length self.now.sessions }
         ensures { option_map (λ d. session_id real d.cast) (slice_get self.now.sessions session) ≡ Some result }

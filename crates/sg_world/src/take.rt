@@ -5,15 +5,15 @@ ghost use Rattle.sg_protocol.specs.Schedule.{who_of};
 ghost use Rattle.sg_protocol.specs.Steps.{with_step};
 ghost use Rattle.sg_sched.specs.Format.StepsHeld.{step_of};
 ghost use Rattle.sg_world.specs.Comes.{IsNamed};
-ghost use Rattle.sg_world.specs.Crafts.{ComesOfPlace, IsCraftable};
+ghost use Rattle.sg_world.specs.Crafts.{ComesOfIndex, IsCraftable};
 ghost use Rattle.sg_world.specs.Holds.{schedule_of, Holds};
 ghost use Rattle.sg_world.specs.Kept.{no_frame};
 ghost use Rattle.sg_sched.specs.Steps.{CanBeTaken};
-ghost use Rattle.sg_world.specs.Places.{IsFaultOf, IsPlaceOf, names_of};
+ghost use Rattle.sg_world.specs.Indices.{IsFaultOf, IsIndexOf, names_of};
 
 use crate::StepFault;
 use crate::craft::craft;
-use crate::nodes::{call_at, place_of};
+use crate::nodes::{call_at, index_of};
 use crate::record::{Came, Record};
 use crate::setting::Setting;
 use indexmap::IndexMap;
@@ -26,49 +26,49 @@ use std::alloc::Global;
 // The most bytes that the record may hold as a step begins.
 const MOST_BYTES: u64 = 264_241_152;
 
-/// The place of the node whose step it is, or `None` for a craft. The principal has a node, and the record has room.
+/// The index of the node whose step it is, or `None` for a craft. The principal has a node, and the record has room.
 pub(crate) fn admit<'p>(
     nodes: &IndexMap<Name, Node<'p>>,
     history: &Record<'p>,
     step: &Step,
 ) -> Result<Option<usize>, StepFault>
-    ensures place { IfOk result (IsPlaceOf nodes.now.entries (step_of step.now)) }
+    ensures index { IfOk result (IsIndexOf nodes.now.entries (step_of step.now)) }
     ensures size { IfOk result (λ p. history.now.done.size ≤ most_record_before) }
     ensures refused { IfErr result (IsFaultOf (names_of nodes.now.entries) history.now.done.size (step_of step.now)) }
 {
-    let place = place_for(nodes, step)?;
+    let index = index_for(nodes, step)?;
     let bytes = history.size();
     if bytes > MOST_BYTES {
         return Err(StepFault::RecordFull { bytes });
     }
-    Ok(place)
+    Ok(index)
 }
 
-// The place of the node whose step it is, or `None` for a craft.
-fn place_for<'p>(nodes: &IndexMap<Name, Node<'p>>, step: &Step) -> Result<Option<usize>, StepFault>
-    ensures place { IfOk result (IsPlaceOf nodes.now.entries (step_of step.now)) }
+// The index of the node whose step it is, or `None` for a craft.
+fn index_for<'p>(nodes: &IndexMap<Name, Node<'p>>, step: &Step) -> Result<Option<usize>, StepFault>
+    ensures index { IfOk result (IsIndexOf nodes.now.entries (step_of step.now)) }
     ensures refused { (size : ℕ) → IfErr result (IsFaultOf (names_of nodes.now.entries) size (step_of step.now)) }
 {
     let Some(name) = who(step) else {
         return Ok(None);
     };
-    let Some(place) = place_of(nodes, &name) else {
+    let Some(index) = index_of(nodes, &name) else {
         return Err(StepFault::NotHonest { name });
     };
-    Ok(Some(place))
+    Ok(Some(index))
 }
 
-/// Takes a step at the node at its place, and records it. If memory runs out, the nodes and the record are as before.
+/// Takes a step at the node at its index, and records it. If memory runs out, the nodes and the record are as before.
 pub(crate) fn take_step<'p>(
     alloc: Global,
     setting: &Setting<'p>,
     nodes: &mut IndexMap<Name, Node<'p>>,
-    place: Option<usize>,
+    index: Option<usize>,
     history: &mut Record<'p>,
     step: &Step,
 ) -> Result<(), OutOfMemory>
     requires holds { Holds setting.now nodes.old.entries history.old.done }
-    requires place { IsPlaceOf nodes.old.entries (step_of step.now) place }
+    requires index { IsIndexOf nodes.old.entries (step_of step.now) index }
     requires room { length history.old.done.entries < most_steps }
     requires size { history.old.done.size ≤ most_record_before }
     requires step { CanBeTaken (schedule_of setting.now nodes.old.entries history.old.done) (step_of step.now) }
@@ -85,7 +85,7 @@ pub(crate) fn take_step<'p>(
         alloc,
         setting,
         nodes,
-        place,
+        index,
         history.frames(),
         number,
         step,
@@ -95,27 +95,27 @@ pub(crate) fn take_step<'p>(
     Ok(())
 }
 
-// Writes what comes of a step of this number over `came`: at the node at its place, or of the craft.
+// Writes what comes of a step of this number over `came`: at the node at its index, or of the craft.
 fn come<'p>(
     alloc: Global,
     setting: &Setting<'p>,
     nodes: &mut IndexMap<Name, Node<'p>>,
-    place: Option<usize>,
+    index: Option<usize>,
     recorded: &[Seq<u8>],
     number: u32,
     step: &Step,
     came: &mut Came<'p>,
 ) -> Result<(), OutOfMemory>
-    requires place { IsPlaceOf nodes.old.entries (step_of step.now) place }
+    requires index { IsIndexOf nodes.old.entries (step_of step.now) index }
     requires named { IsNamed (length setting.now.sessions) (step_of step.now) }
     requires can { IsCraftable setting.now (step_of step.now) }
     requires few { length recorded.now + 1 < 2 ^ 32 }
     requires blank { came.old ≡ no_frame }
-    ensures comes { OnOk result (ComesOfPlace setting.now recorded.now number (step_of step.now) place nodes.old.entries nodes.new.entries came.new) }
+    ensures comes { OnOk result (ComesOfIndex setting.now recorded.now number (step_of step.now) index nodes.old.entries nodes.new.entries came.new) }
     ensures back { OnErr result (nodes.new.entries ≡ nodes.old.entries) }
 {
-    match place {
-        Some(place) => call_at(alloc, nodes, place, setting, recorded, number, step, came),
+    match index {
+        Some(index) => call_at(alloc, nodes, index, setting, recorded, number, step, came),
         None => craft(alloc, setting, recorded, step, came),
     }
 }

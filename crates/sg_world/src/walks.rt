@@ -83,7 +83,7 @@ fn event_in<'e>(outcome: &'e Outcome) -> Option<&'e Event>
     }
 }
 
-// Goes on by the start of the session at a place.
+// Goes on by the start of the session at an index.
 fn start<'r, H: Honest>(
     alloc: Global,
     courses: &mut Courses<'r>,

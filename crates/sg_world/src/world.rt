@@ -97,12 +97,12 @@ impl<'p> World<'p> {
         let _ = self.history.count();
     }
 
-    /// What came of the step at a place, counted from 0. It takes no memory.
-    pub fn outcome(&self, place: usize) -> &Outcome
-        requires { place < length self.now.schedule.steps }
-        ensures { outcome_of result.now ≡ slice_get (told_log (run_of self.now).log) place }
+    /// What came of the step at an index, counted from 0. It takes no memory.
+    pub fn outcome(&self, index: usize) -> &Outcome
+        requires { index < length self.now.schedule.steps }
+        ensures { outcome_of result.now ≡ slice_get (told_log (run_of self.now).log) index }
     {
-        let entry = &self.history.entries()[place];
+        let entry = &self.history.entries()[index];
         &entry.outcome
     }
 
@@ -132,12 +132,12 @@ impl<'p> World<'p> {
         ensures refused { IfErr result (IsStepFault self.old (step_of step.now)) }
         ensures back { OnErr result (self.new ≡ self.old) }
     {
-        let place = admit(&self.nodes, &self.history, step)?;
+        let index = admit(&self.nodes, &self.history, step)?;
         let Ok(()) = take_step(
             self.alloc,
             &self.setting,
             &mut self.nodes,
-            place,
+            index,
             &mut self.history,
             step,
         ) else {

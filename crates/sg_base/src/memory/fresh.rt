@@ -42,7 +42,7 @@ impl MemFresh {
 fn draw(rng: &mut ChaCha20Rng) -> [u8; 16]
     requires { rng.old.word_pos + 4 < 2 ^ 68 }
     ensures word { result ≡ stream_word rng.old.key rng.old.stream rng.old.word_pos }
-    ensures place { rng.new ≡ record rng.old { word_pos = rng.old.word_pos + 4 } }
+    ensures position { rng.new ≡ record rng.old { word_pos = rng.old.word_pos + 4 } }
 {
     let mut word = [0u8; 16];
     fill_bytes_via_u32(rng, &mut word);

@@ -11,37 +11,37 @@ impl Graph {
     /// The role of this name, if there is one. It takes no memory.
     pub fn find_role(&self, name: &Name) -> Option<Role>
         ensures found { IsSome result ↔ IsTrue (has_text name.now self.now.roles) }
-        ensures place { IfSome result (λ r. (r < length self.now.roles) × (role_name self.now r ≡ name.now)) }
+        ensures index { IfSome result (λ r. (r < length self.now.roles) × (role_name self.now r ≡ name.now)) }
     {
-        let place = place_of_role(&self.roles, name)?;
-        Some(Role(place as u8))
+        let index = index_of_role(&self.roles, name)?;
+        Some(Role(index as u8))
     }
 
     /// The variable of this name, if there is one. It takes no memory.
     pub fn find_var(&self, name: &Name) -> Option<Var>
         ensures found { IsSome result ↔ IsTrue (has_text name.now (variable_names self.now)) }
-        ensures place { IfSome result (λ x. (x < length self.now.variables) × (variable_name self.now x ≡ name.now)) }
+        ensures index { IfSome result (λ x. (x < length self.now.variables) × (variable_name self.now x ≡ name.now)) }
     {
-        let place = place_of_var(&self.vars, name)?;
-        Some(Var(place as u8))
+        let index = index_of_var(&self.vars, name)?;
+        Some(Var(index as u8))
     }
 
     /// The node of this name, if there is one. It takes no memory.
     pub fn find_node(&self, name: &Name) -> Option<NodeId>
         ensures found { IsSome result ↔ IsTrue (has_text name.now (node_names self.now)) }
-        ensures place { IfSome result (λ n. (n < length self.now.nodes) × (node_name self.now n ≡ name.now)) }
+        ensures index { IfSome result (λ n. (n < length self.now.nodes) × (node_name self.now n ≡ name.now)) }
     {
-        let place = place_of_node(&self.nodes, name)?;
-        Some(NodeId(place as u16))
+        let index = index_of_node(&self.nodes, name)?;
+        Some(NodeId(index as u16))
     }
 
     /// The label of this name, if there is one. It takes no memory.
     pub fn find_edge(&self, name: &Name) -> Option<Label>
         ensures found { IsSome result ↔ IsTrue (has_text name.now (edge_names self.now)) }
-        ensures place { IfSome result (λ e. (e < length self.now.edges) × (edge_name self.now e ≡ name.now)) }
+        ensures index { IfSome result (λ e. (e < length self.now.edges) × (edge_name self.now e ≡ name.now)) }
     {
-        let place = place_of_edge(&self.edges, name)?;
-        Some(Label(place as u16))
+        let index = index_of_edge(&self.edges, name)?;
+        Some(Label(index as u16))
     }
 }
 
@@ -51,25 +51,25 @@ fn same(one: &Name, other: &Name) -> bool
     one.as_bytes() == other.as_bytes()
 }
 
-fn place_of_role(roles: &[Name], name: &Name) -> Option<usize>
+fn index_of_role(roles: &[Name], name: &Name) -> Option<usize>
     ensures { result ≡ position (bytes_eq name.now) roles.now }
 {
     roles.iter().position(|role| same(name, role))
 }
 
-fn place_of_var(vars: &[Variable], name: &Name) -> Option<usize>
+fn index_of_var(vars: &[Variable], name: &Name) -> Option<usize>
     ensures { result ≡ position (λ v. bytes_eq name.now v.name) vars.now }
 {
     vars.iter().position(|var| same(name, &var.name))
 }
 
-fn place_of_node(nodes: &[Node], name: &Name) -> Option<usize>
+fn index_of_node(nodes: &[Node], name: &Name) -> Option<usize>
     ensures { result ≡ position (λ n. bytes_eq name.now n.name) nodes.now }
 {
     nodes.iter().position(|node| same(name, &node.name))
 }
 
-fn place_of_edge(edges: &[NamedEdge], name: &Name) -> Option<usize>
+fn index_of_edge(edges: &[NamedEdge], name: &Name) -> Option<usize>
     ensures { result ≡ position (λ e. bytes_eq name.now e.name) edges.now }
 {
     edges.iter().position(|edge| same(name, &edge.name))

@@ -6,9 +6,9 @@ use Rattle.sg_model.specs.Limits.{most_roles, most_time, most_variables}
 use Rattle.sg_protocol.specs.Schedule.{CraftJoin}
 use Rattle.sg_base.specs.Words.{name, number}
 use Rattle.sg_sched.specs.Words.{frame}
-use Rattle.sg_sched.specs.Format.Said.{Word, Committed, From, FromKey, FromItem, FromSeal, FromZero, SaidItem, Said, SaidMake}
+use Rattle.sg_sched.specs.Format.Said.{Word, Committed, From, FromKey, FromItem, FromSeal, FromZero, ItemContent, LineContent, SaidMake}
 use Rattle.sg_sched.specs.Format.Values.{is_value}
-use Rattle.sg_sched.specs.Format.Reading.{Left, Taker, word, after, ended, short, split_at}
+use Rattle.sg_sched.specs.Format.Reading.{WordsLeft, Taker, word, after, ended, short, split_at}
 
 -- ---- words
 
@@ -55,28 +55,28 @@ unfoldable pub time : Word → Option ℕ
 time w = option_and_then (λ t. if nat_le 1 t then Some t else None) (number most_time w)
 
 -- the next word is this one
-abbrev pub is_next : List ℕ → Left → Bool
+abbrev pub is_next : List ℕ → WordsLeft → Bool
 is_next first [] = false
 is_next first (w ∷ ws) = bytes_eq w first
 
 -- ---- commitments
 
 -- a commitment before those that follow, or none
-abbrev pub run_step : Word → Left → Option Committed → List Committed × Left → List Committed × Left
+abbrev pub run_step : Word → WordsLeft → Option Committed → List Committed × WordsLeft → List Committed × WordsLeft
 run_step w ws None r = ([], w ∷ ws)
 run_step w ws (Some c) r = (c ∷ r.0, r.1)
 
 -- the commitments that stand first, and the words after them
-abbrev pub run : Left → List Committed × Left
+abbrev pub run : WordsLeft → List Committed × WordsLeft
 run [] = ([], [])
 run (w ∷ ws) = run_step w ws (committed w) (run ws)
 
 -- at most 32 of them
-abbrev pub few : List Committed × Left → Option (List Committed × Left)
+abbrev pub few : List Committed × WordsLeft → Option (List Committed × WordsLeft)
 few r = if nat_le (length r.0) most_variables then Some r else None
 
 -- one commitment or more
-abbrev pub some_of : List Committed × Left → Option (List Committed × Left)
+abbrev pub some_of : List Committed × WordsLeft → Option (List Committed × WordsLeft)
 some_of r = if length r.0 == 0 then None else Some r
 
 -- the word and one commitment or more after it, or nothing
@@ -104,8 +104,8 @@ source (w ∷ ws) =
 -- ---- items
 
 -- what was found, before what more there is
-abbrev pub more_after : {A : Type 0} → A → Option (List A × Left) → Option (List A × Left)
-more_after {A} x o = option_map (λ (p : List A × Left). (x ∷ p.0, p.1)) o
+abbrev pub more_after : {A : Type 0} → A → Option (List A × WordsLeft) → Option (List A × WordsLeft)
+more_after {A} x o = option_map (λ (p : List A × WordsLeft). (x ∷ p.0, p.1)) o
 
 -- the word and what is after it, up to n times
 abbrev pub repeated : {A : Type 0} → List ℕ → Taker A → ℕ → Taker (List A)
@@ -121,7 +121,7 @@ tag =
     Some ((role, s), rest)
 
 -- an item, after its first word
-unfoldable pub item : Taker SaidItem
+unfoldable pub item : Taker ItemContent
 item =
     after (word name) λ label.
     after (word time) λ t.
@@ -155,7 +155,7 @@ abbrev pub opened : Taker (List Committed)
 opened ws = option_and_then few (listed (codes "open") ws)
 
 -- the ends, where they differ
-abbrev pub ends_of : Name → Name → Name → Left → Option ((Name × Name × Name) × Left)
+abbrev pub ends_of : Name → Name → Name → WordsLeft → Option ((Name × Name × Name) × WordsLeft)
 ends_of session from to rest = if bytes_eq from to then None else Some ((session, from, to), rest)
 
 -- SESSION from ROLE to ROLE, two different ones
@@ -169,18 +169,18 @@ ends =
     ends_of session from to
 
 -- seal SOURCE, and no more
-unfoldable pub seal_form : Left → Option From
+unfoldable pub seal_form : WordsLeft → Option From
 seal_form =
     after (word (exactly (codes "seal"))) λ _.
     after source λ seal.
     ended (Some seal)
 
 -- at least one item, before what follows
-abbrev pub some_items : List SaidItem → (Left → Option Said) → Left → Option Said
+abbrev pub some_items : List ItemContent → (WordsLeft → Option LineContent) → WordsLeft → Option LineContent
 some_items items next ws = if length items == 0 then None else next ws
 
 -- SESSION from ROLE to ROLE [join ..] [know ..] item .. [open ..] seal SOURCE
-unfoldable pub craft_form : Left → Option Said
+unfoldable pub craft_form : WordsLeft → Option LineContent
 craft_form =
     after ends λ e.
     after join λ j.

@@ -9,15 +9,15 @@ use Rattle.sg_protocol.specs.Graph.{Graph}
 use Rattle.sg_protocol.specs.Frame.{Cast, Item as FrameItem, Frame}
 use Rattle.sg_protocol.specs.Spelling.{spelling}
 use Rattle.sg_protocol.specs.Schedule.{CraftJoin}
-use Rattle.sg_sched.specs.Format.Said.{Committed, From, FromKey, FromItem, FromSeal, FromZero, SaidItem, SaidCraft, Said, SaidBlock, SaidEdge, SaidHonest, SaidKey, SaidSession, SaidStart, SaidAct, SaidAbandon, SaidDeliver, SaidMake}
-use Rattle.sg_sched.specs.Format.Items.{Session, Item, SoFar, so_far, graphs_of_past, graph_names, session_names, place, session_named, graph_for, roles_of, variables_of, labels_of, has_key}
+use Rattle.sg_sched.specs.Format.Said.{Committed, From, FromKey, FromItem, FromSeal, FromZero, ItemContent, CraftContent, LineContent, SaidBlock, SaidEdge, SaidHonest, SaidKey, SaidSession, SaidStart, SaidAct, SaidAbandon, SaidDeliver, SaidMake}
+use Rattle.sg_sched.specs.Format.Items.{Session, Item, SoFar, so_far, graphs_of_past, graph_names, session_names, index, session_named, graph_for, roles_of, variables_of, labels_of, has_key}
 use Rattle.sg_sched.specs.Format.Made.{opening}
 use Rattle.sg_sched.specs.Format.Kinds.{Kind, Form, TooManySteps, TooManySessions, Unknown, Twice, NotHonest}
 
 -- ---- form: the group
 
 -- the group in which a line stands: graphs, honest principals, keys, sessions, steps
-abbrev pub group : Said → ℕ
+abbrev pub group : LineContent → ℕ
 group SaidBlock = 0
 group (SaidEdge label from to) = 0
 group (SaidHonest who) = 1
@@ -26,7 +26,7 @@ group (SaidSession name graph nonce names version) = 3
 group step = 4
 
 -- a line of a later group stands before it
-abbrev pub is_late : SoFar → Said → Bool
+abbrev pub is_late : SoFar → LineContent → Bool
 is_late past l = nat_lt (group l) past.group
 
 -- ---- form: a session's number of names, where its graph is declared
@@ -34,13 +34,13 @@ is_late past l = nat_lt (group l) past.group
 -- there are as many names as the graph has roles
 abbrev pub fits_graph : SoFar → Name → List Name → Bool
 fits_graph past graph names =
-    option_map_or (λ g. length names == length g.roles) (if has_text graph (graph_names (graphs_of_past past)) then slice_get (graphs_of_past past) (place graph (graph_names (graphs_of_past past))) else None) true
+    option_map_or (λ g. length names == length g.roles) (if has_text graph (graph_names (graphs_of_past past)) then slice_get (graphs_of_past past) (index graph (graph_names (graphs_of_past past))) else None) true
 
 -- ---- form: what rises in a craft, where its names are declared
 
 -- the names rise by their numbers, where all of them are declared
 abbrev pub rise : List Name → List Name → Bool
-rise names declared = if list_all (λ n. has_text n declared) names then rises_from 0 (map (λ n. place n declared) names) else true
+rise names declared = if list_all (λ n. has_text n declared) names then rises_from 0 (map (λ n. index n declared) names) else true
 
 -- the variables of commitments
 abbrev pub variables : List Committed → List Name
@@ -51,7 +51,7 @@ abbrev pub tag_roles : List (Name × From) → List Name
 tag_roles ts = map (λ (t : Name × From). t.0) ts
 
 -- the variables of each list rise, and the roles of each item's tags
-abbrev pub rises : Option Graph → SaidCraft → Bool
+abbrev pub rises : Option Graph → CraftContent → Bool
 rises g c = rise (variables c.know) (variables_of g) && list_all (λ i. rise (variables i.delta) (variables_of g) && rise (tag_roles i.tags) (roles_of g)) c.items
     && rise (variables c.openings) (variables_of g)
 
@@ -66,11 +66,11 @@ abbrev pub blank_cast : Session → CraftJoin → Cast
 blank_cast s j = record { version = s.version; graph = zeros 32; nonce = zeros 16; names = unwrap_or j.names s.names }
 
 -- an item with zeros for its commitments and tags
-abbrev pub blank_item : SaidItem → FrameItem
+abbrev pub blank_item : ItemContent → FrameItem
 blank_item i = record { role = 0; label = 0; time = i.time; delta = map (λ c. (0, zeros 32)) i.delta; tags = map (λ (t : Name × From). (0, zeros 32)) i.tags }
 
 -- the frame that a craft makes, with zeros for what is hashed or tagged, which doesn't change its length
-abbrev pub blank_frame : Option Graph → Session → SaidCraft → Frame
+abbrev pub blank_frame : Option Graph → Session → CraftContent → Frame
 blank_frame g s c = record {
   version = s.version;
   sid = zeros 32;
@@ -83,13 +83,13 @@ blank_frame g s c = record {
 }
 
 -- the frame has at most 60,000 bytes
-abbrev pub is_short : Option Graph → Option Session → SaidCraft → Bool
+abbrev pub is_short : Option Graph → Option Session → CraftContent → Bool
 is_short g s c = option_map_or (λ s. nat_le (length (spelling (blank_frame g s c))) most_frame_bytes) s true
 
 -- ---- form
 
 -- the line is out of its group, one edge too many, or of a number, an order or a length that its form doesn't allow
-abbrev pub is_wrong : SoFar → Said → Bool
+abbrev pub is_wrong : SoFar → LineContent → Bool
 is_wrong past (SaidEdge label from to) = is_late past (SaidEdge label from to) || nat_le most_edges (length past.edges)
 is_wrong past (SaidSession name graph nonce names version) = is_late past (SaidSession name graph nonce names version) || not (fits_graph past graph names)
 is_wrong past (SaidMake c) = not (rises (graph_for c.session past) c && is_short (graph_for c.session past) (session_named c.session past) c)
@@ -98,7 +98,7 @@ is_wrong past other = is_late past other
 -- ---- too many
 
 -- the session 100,001, or the step 200,001
-abbrev pub too_many : SoFar → Said → Option Kind
+abbrev pub too_many : SoFar → LineContent → Option Kind
 too_many past SaidBlock = None
 too_many past (SaidEdge label from to) = None
 too_many past (SaidHonest who) = None
@@ -120,12 +120,12 @@ knows_source past g (FromSeal frame) = true
 knows_source past g FromZero = true
 
 -- the label, the variables, the roles and the sources of an item are declared
-abbrev pub knows_item : SoFar → Option Graph → SaidItem → Bool
+abbrev pub knows_item : SoFar → Option Graph → ItemContent → Bool
 knows_item past g i = has_text i.label (labels_of g) && list_all (knows_variable g) (variables i.delta)
     && list_all (λ (t : Name × From). has_text t.0 (roles_of g) && knows_source past g t.1) i.tags
 
 -- each name of a graph, role, label, variable, session or key pair is declared
-abbrev pub is_known : SoFar → Said → Bool
+abbrev pub is_known : SoFar → LineContent → Bool
 is_known past SaidBlock = true
 is_known past (SaidEdge label from to) = true
 is_known past (SaidHonest who) = true
@@ -154,19 +154,19 @@ is_like graph nonce names version s = graph == s.graph && nonce == s.nonce && sa
 
 -- the line declares what is declared: a label, an honest principal, a pair, a session's name, or its graph, nonce, cast and version; or an act names a variable twice.
 -- The first edge line declares the graph `pair`
-abbrev pub is_repeated : SoFar → Said → Bool
+abbrev pub is_repeated : SoFar → LineContent → Bool
 is_repeated past (SaidEdge label from to) = has_text label (map (λ e. e.name) past.edges) || has_text (codes "pair") (graph_names past.blocks)
 is_repeated past (SaidHonest who) = has_text who past.honest
 is_repeated past (SaidKey one two digits) = has_key past one two
 is_repeated past (SaidSession name graph nonce names version) =
-    has_text name (session_names past) || list_any (is_like (place graph (graph_names (graphs_of_past past))) nonce names version) past.sessions
+    has_text name (session_names past) || list_any (is_like (index graph (graph_names (graphs_of_past past))) nonce names version) past.sessions
 is_repeated past (SaidAct who session label values) = not (all_differ (map (λ v. v.variable) values))
 is_repeated past other = false
 
 -- ---- not honest
 
 -- the step's principal is honest. A craft has none
-abbrev pub is_honest : SoFar → Said → Bool
+abbrev pub is_honest : SoFar → LineContent → Bool
 is_honest past (SaidStart who session) = has_text who past.honest
 is_honest past (SaidAct who session label values) = has_text who past.honest
 is_honest past (SaidAbandon who session) = has_text who past.honest
@@ -180,10 +180,10 @@ abbrev pub where' : Bool → Kind → Option Kind
 where' b kind = if b then Some kind else None
 
 -- what is wrong with a line of a form, the first in this order
-abbrev pub fault_after : SoFar → Said → Option Kind
+abbrev pub fault_after : SoFar → LineContent → Option Kind
 fault_after past l = first_some (where' (is_wrong past l) Form ∷ too_many past l ∷ where' (not (is_known past l)) Unknown
     ∷ where' (is_repeated past l) Twice ∷ where' (not (is_honest past l)) NotHonest ∷ [])
 
 -- what is wrong with a line of a form, after what the items before it declare
-abbrev pub fault : List Item → Said → Option Kind
+abbrev pub fault : List Item → LineContent → Option Kind
 fault items said = fault_after (so_far items) said

@@ -1,11 +1,11 @@
 -- What a line says, by its first word.
 use Rattle.std.specs.Prelude.{if◌then◌else◌, [], ◌∷◌, codes, bytes_eq, Option, None}
-use Rattle.sg_sched.specs.Format.Said.{Said}
-use Rattle.sg_sched.specs.Format.Reading.{Left, block_form, edge_form, honest_form, key_form, session_form, start_form, act_form, abandon_form, deliver_form}
+use Rattle.sg_sched.specs.Format.Said.{LineContent}
+use Rattle.sg_sched.specs.Format.Reading.{WordsLeft, block_form, edge_form, honest_form, key_form, session_form, start_form, act_form, abandon_form, deliver_form}
 use Rattle.sg_sched.specs.Format.CraftReading.{craft_form}
 
 -- the forms by their first word
-unfoldable pub form : Left → Option Said
+unfoldable pub form : WordsLeft → Option LineContent
 form [] = None
 form (w ∷ ws) =
     if bytes_eq w (codes "start") then start_form ws

@@ -7,7 +7,7 @@ use Rattle.sg_model.specs.Lists.{has_text, all_differ}
 use Rattle.sg_model.specs.Limits.{most_roles, most_time, most_variables}
 use Rattle.sg_protocol.specs.Schedule.{CraftJoin}
 use Rattle.sg_sched.specs.Text.{content, words}
-use Rattle.sg_sched.specs.Format.Said.{Given, Committed, From, FromKey, FromItem, FromSeal, FromZero, SaidItem, SaidCraft, Delivered, TheFrame, TheFlipped, TheCut, TheBytes, Said, SaidBlock, SaidEdge, SaidHonest, SaidKey, SaidSession, SaidStart, SaidAct, SaidAbandon, SaidDeliver, SaidMake, line_words}
+use Rattle.sg_sched.specs.Format.Said.{Given, Committed, From, FromKey, FromItem, FromSeal, FromZero, ItemContent, CraftContent, Delivered, TheFrame, TheFlipped, TheCut, TheBytes, LineContent, SaidBlock, SaidEdge, SaidHonest, SaidKey, SaidSession, SaidStart, SaidAct, SaidAbandon, SaidDeliver, SaidMake, line_words}
 use Rattle.sg_sched.specs.Format.Values.{is_value, is_hex_of, is_hex}
 
 -- all are names
@@ -50,7 +50,7 @@ abbrev pub is_tag : Name × From → Bool
 is_tag t = is_name t.0 && is_source t.1
 
 -- a time from 1 to 1,000,000, at most 32 commitments and at most 14 tags
-abbrev pub is_item : SaidItem → Bool
+abbrev pub is_item : ItemContent → Bool
 is_item i = is_name i.label && nat_le 1 i.time && nat_le i.time most_time && are_committed i.delta && nat_le (length i.tags) 14 && list_all is_tag i.tags
 
 -- a nonce below 2 ^ 64, and 2 to 16 names, equal ones allowed
@@ -58,7 +58,7 @@ abbrev pub is_join : CraftJoin → Bool
 is_join j = option_map_or is_wide j.nonce true && option_map_or (λ ns. nat_le 2 (length ns) && nat_le (length ns) most_roles && are_names ns) j.names true
 
 -- two different roles, at least one item and no more than a frame can count
-abbrev pub is_craft : SaidCraft → Bool
+abbrev pub is_craft : CraftContent → Bool
 is_craft c =
     are_names (c.session ∷ c.from ∷ c.to ∷ []) && not (bytes_eq c.from c.to) && option_map_or is_join c.join true
     && list_all is_committed c.know && nat_le 1 (length c.items) && nat_le (length c.items) 65535 && list_all is_item c.items
@@ -72,7 +72,7 @@ is_delivered (TheCut n i) = is_frame n && is_short i
 is_delivered (TheBytes digits) = is_hex digits
 
 -- each place of a line holds what it may hold: names, numbers in their ranges, values, digits
-abbrev pub is_form : Said → Bool
+abbrev pub is_form : LineContent → Bool
 is_form SaidBlock = true
 is_form (SaidEdge label from to) = is_name label && not (has_text label reserved) && nat_le from 255 && nat_le to 255 && not (from % 2 == to % 2)
 is_form (SaidHonest who) = is_name who
@@ -96,6 +96,6 @@ abbrev pub is_skipped : List ℕ → Bool
 is_skipped line = list_all (λ b. nat_lt b 128) (content line) && (is_comment (content line) || length (words (content line)) == 0)
 
 -- the words of the line are those of what it says, and each place holds what it may hold
-pub record SaysLine (line : List ℕ) (said : Said) : Type 0 where
+pub record SaysLine (line : List ℕ) (said : LineContent) : Type 0 where
   pub spelled : words (content line) ≡ line_words said
   pub form : IsTrue (is_form said)

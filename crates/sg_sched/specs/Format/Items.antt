@@ -9,7 +9,7 @@ use Rattle.sg_protocol.specs.Schedule.{PairKey, Declared, Step, Schedule}
 use Rattle.sg_protocol.specs.Crafted.{nonce_of}
 use Rattle.sg_sched.specs.Pair.{graphs_of}
 
--- a session as its line declares it: its name, the place of its graph, and its nonce, principals and version
+-- a session as its line declares it: its name, the index of its graph, and its nonce, principals and version
 pub record Session : Type 0 where
   pub name : Name
   pub graph : ℕ
@@ -97,7 +97,7 @@ graphs items = blocks items ++ graphs_of (edges items)
 
 -- ---- the schedule
 
--- the digest of the graph at a place
+-- the digest of the graph at an index
 abbrev pub digest_at : Hash → List Graph → ℕ → List ℕ
 digest_at sha gs n = option_map_or (graph_digest sha) (slice_get gs n) []
 
@@ -150,9 +150,9 @@ graph_names gs = map (λ g. g.name) gs
 abbrev pub session_names : SoFar → List Name
 session_names past = map (λ s. s.name) past.sessions
 
--- the place of a name among those declared, which it is one of
-abbrev pub place : Name → List Name → ℕ
-place n names = unwrap_or (position (bytes_eq n) names) 0
+-- the index of a name among those declared, which it is one of
+abbrev pub index : Name → List Name → ℕ
+index n names = unwrap_or (position (bytes_eq n) names) 0
 
 -- the session of a name
 abbrev pub session_named : Name → SoFar → Option Session

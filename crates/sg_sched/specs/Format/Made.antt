@@ -7,13 +7,13 @@ use Rattle.sg_model.specs.Values.{Value, Opening}
 use Rattle.sg_protocol.specs.Graph.{Graph}
 use Rattle.sg_protocol.specs.Schedule.{confounder, What, Whole, Flipped, Cut, Bytes, Source, Key, CopyItem, CopySeal, Zero, CraftItem, Craft, StartStep, ActStep, AbandonStep, DeliverStep, CraftStep}
 use Rattle.sg_sched.specs.Pair.{edge}
-use Rattle.sg_sched.specs.Format.Said.{Given, Committed, From, FromKey, FromItem, FromSeal, FromZero, SaidItem, SaidCraft, Delivered, TheFrame, TheFlipped, TheCut, TheBytes, Said, SaidBlock, SaidEdge, SaidHonest, SaidKey, SaidSession, SaidStart, SaidAct, SaidAbandon, SaidDeliver, SaidMake}
+use Rattle.sg_sched.specs.Format.Said.{Given, Committed, From, FromKey, FromItem, FromSeal, FromZero, ItemContent, CraftContent, Delivered, TheFrame, TheFlipped, TheCut, TheBytes, LineContent, SaidBlock, SaidEdge, SaidHonest, SaidKey, SaidSession, SaidStart, SaidAct, SaidAbandon, SaidDeliver, SaidMake}
 use Rattle.sg_sched.specs.Format.Values.{value_of, bytes_of}
-use Rattle.sg_sched.specs.Format.Items.{Item, EdgeItem, HonestItem, KeyItem, SessionItem, StepItem, SoFar, so_far, graphs_of_past, graph_names, session_names, place, graph_for, roles_of, variables_of, labels_of}
+use Rattle.sg_sched.specs.Format.Items.{Item, EdgeItem, HonestItem, KeyItem, SessionItem, StepItem, SoFar, so_far, graphs_of_past, graph_names, session_names, index, graph_for, roles_of, variables_of, labels_of}
 
 -- the number of a variable of the graph, and its value
 abbrev pub written : Option Graph → Given → ℕ × Value
-written g v = (place v.variable (variables_of g), value_of v.value)
+written g v = (index v.variable (variables_of g), value_of v.value)
 
 -- the values of an act, handed on in rising number
 abbrev pub values : Option Graph → List Given → Map Value
@@ -21,30 +21,30 @@ values g vs = in_order 32 (map (written g) vs)
 
 -- the opening of a variable of the graph, with the confounder of the step
 abbrev pub opening : Option Graph → Committed → Opening
-opening g c = let x = place c.variable (variables_of g) in record { variable = x; confounder = confounder c.step x; value = value_of c.value }
+opening g c = let x = index c.variable (variables_of g) in record { variable = x; confounder = confounder c.step x; value = value_of c.value }
 
 -- where a tag comes from
 abbrev pub source : Option Graph → From → Source
 source g (FromKey one two) = Key one two
-source g (FromItem frame item role) = CopyItem frame item (place role (roles_of g))
+source g (FromItem frame item role) = CopyItem frame item (index role (roles_of g))
 source g (FromSeal frame) = CopySeal frame
 source g FromZero = Zero
 
 -- an item of a crafted frame
-abbrev pub craft_item : Option Graph → SaidItem → CraftItem
+abbrev pub craft_item : Option Graph → ItemContent → CraftItem
 craft_item g i = record {
-  label = place i.label (labels_of g);
+  label = index i.label (labels_of g);
   time = i.time;
   delta = map (opening g) i.delta;
-  tags = map (λ (t : Name × From). (place t.0 (roles_of g), source g t.1)) i.tags;
+  tags = map (λ (t : Name × From). (index t.0 (roles_of g), source g t.1)) i.tags;
 }
 
 -- a craft
-abbrev pub craft : SoFar → Option Graph → SaidCraft → Craft
+abbrev pub craft : SoFar → Option Graph → CraftContent → Craft
 craft past g c = record {
-  session = place c.session (session_names past);
-  from = place c.from (roles_of g);
-  to = place c.to (roles_of g);
+  session = index c.session (session_names past);
+  from = index c.from (roles_of g);
+  to = index c.to (roles_of g);
   join = c.join;
   know = map (opening g) c.know;
   items = map (craft_item g) c.items;
@@ -60,21 +60,21 @@ what_of (TheCut n i) = Cut n i
 what_of (TheBytes digits) = Bytes (bytes_of digits)
 
 -- what a line adds to what the lines before it declare; a line that begins a block adds nothing by itself
-abbrev pub made_after : SoFar → Said → Option Item
+abbrev pub made_after : SoFar → LineContent → Option Item
 made_after past SaidBlock = None
 made_after past (SaidEdge label from to) = Some (EdgeItem (edge label from to))
 made_after past (SaidHonest who) = Some (HonestItem who)
 made_after past (SaidKey one two digits) = Some (KeyItem (record { one = one; two = two; key = bytes_of digits }))
 made_after past (SaidSession name graph nonce names version) =
-    Some (SessionItem (record { name = name; graph = place graph (graph_names (graphs_of_past past)); nonce = nonce; names = names; version = version }))
-made_after past (SaidStart who session) = Some (StepItem (StartStep who (place session (session_names past))))
+    Some (SessionItem (record { name = name; graph = index graph (graph_names (graphs_of_past past)); nonce = nonce; names = names; version = version }))
+made_after past (SaidStart who session) = Some (StepItem (StartStep who (index session (session_names past))))
 made_after past (SaidAct who session label vs) =
     let g = graph_for session past in
-    Some (StepItem (ActStep who (place session (session_names past)) (place label (labels_of g)) (values g vs)))
-made_after past (SaidAbandon who session) = Some (StepItem (AbandonStep who (place session (session_names past))))
+    Some (StepItem (ActStep who (index session (session_names past)) (index label (labels_of g)) (values g vs)))
+made_after past (SaidAbandon who session) = Some (StepItem (AbandonStep who (index session (session_names past))))
 made_after past (SaidDeliver who what) = Some (StepItem (DeliverStep who (what_of what)))
 made_after past (SaidMake c) = Some (StepItem (CraftStep (craft past (graph_for c.session past) c)))
 
 -- what a line adds to what the items before it declare
-abbrev pub made : List Item → Said → Option Item
+abbrev pub made : List Item → LineContent → Option Item
 made items said = made_after (so_far items) said

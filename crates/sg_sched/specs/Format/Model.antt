@@ -5,8 +5,8 @@ use Rattle.sg_sched.specs.declared.line.Line.TheVariants.{Block, Edge, Honest, K
 use Rattle.sg_sched.specs.declared.line.Delivered.{Delivered}
 use Rattle.sg_sched.specs.declared.line.Delivered.TheVariants.{Frame, Flipped, Cut, Bytes}
 use Rattle.sg_sched.specs.Format.Said as Format
-use Rattle.sg_sched.specs.Format.Said.{Said, SaidBlock, SaidEdge, SaidHonest, SaidKey, SaidSession, SaidStart, SaidAct, SaidAbandon, SaidDeliver, SaidMake, TheFrame, TheFlipped, TheCut, TheBytes}
-use Rattle.sg_sched.specs.Format.Reading.{Left}
+use Rattle.sg_sched.specs.Format.Said.{LineContent, SaidBlock, SaidEdge, SaidHonest, SaidKey, SaidSession, SaidStart, SaidAct, SaidAbandon, SaidDeliver, SaidMake, TheFrame, TheFlipped, TheCut, TheBytes}
+use Rattle.sg_sched.specs.Format.Reading.{WordsLeft}
 
 -- what is delivered
 abbrev pub delivered : Delivered → Format.Delivered
@@ -16,7 +16,7 @@ delivered (Cut number len) = TheCut number len
 delivered (Bytes digits) = TheBytes digits.now
 
 -- what a line that is held says
-abbrev pub said : Line → Said
+abbrev pub said : Line → LineContent
 said Block = SaidBlock
 said (Edge label from to) = SaidEdge label from to
 said (Honest who) = SaidHonest who
@@ -29,5 +29,5 @@ said (Deliver who what) = SaidDeliver who (delivered what)
 said (Craft c) = SaidMake c
 
 -- what was taken, and the words that are left
-abbrev pub taken : {A : Type 0} → Option A → Left → Option (A × Left)
+abbrev pub taken : {A : Type 0} → Option A → WordsLeft → Option (A × WordsLeft)
 taken o ws = option_map (λ x. (x, ws)) o

@@ -4,18 +4,18 @@ use Rattle.sg_model.specs.Names.{Name, reserved, is_name}
 use Rattle.sg_model.specs.Lists.{has_text}
 use Rattle.sg_base.specs.Words.{name, number}
 use Rattle.sg_sched.specs.Words.{names, frame}
-use Rattle.sg_sched.specs.Format.Said.{Word, Given, TheFrame, TheFlipped, TheCut, TheBytes, Said, SaidBlock, SaidEdge, SaidHonest, SaidKey, SaidSession, SaidStart, SaidAct, SaidAbandon, SaidDeliver}
+use Rattle.sg_sched.specs.Format.Said.{Word, Given, TheFrame, TheFlipped, TheCut, TheBytes, LineContent, SaidBlock, SaidEdge, SaidHonest, SaidKey, SaidSession, SaidStart, SaidAct, SaidAbandon, SaidDeliver}
 use Rattle.sg_sched.specs.Format.Values.{is_value, is_hex_of, is_hex}
 
 -- ---- readers
 
 -- the words of a line that are left
-abbrev pub Left : Type 0
-Left = List Word
+abbrev pub WordsLeft : Type 0
+WordsLeft = List Word
 
 -- takes words off a line, or finds that they are of another form
 abbrev pub Taker : Type 0 → Type 0
-Taker A = Left → Option (A × Left)
+Taker A = WordsLeft → Option (A × WordsLeft)
 
 -- one word
 unfoldable pub word : {A : Type 0} → (Word → Option A) → Taker A
@@ -23,11 +23,11 @@ word read [] = None
 word read (w ∷ ws) = option_map (λ x. (x, ws)) (read w)
 
 -- the words are of this form, and then of a form that depends on what they spell
-abbrev pub after : {A B : Type 0} → Taker A → (A → Left → Option B) → Left → Option B
-after {A} take next ws = option_and_then (λ (p : A × Left). next p.0 p.1) (take ws)
+abbrev pub after : {A B : Type 0} → Taker A → (A → WordsLeft → Option B) → WordsLeft → Option B
+after {A} take next ws = option_and_then (λ (p : A × WordsLeft). next p.0 p.1) (take ws)
 
 -- no word is left
-abbrev pub ended : {A : Type 0} → Option A → Left → Option A
+abbrev pub ended : {A : Type 0} → Option A → WordsLeft → Option A
 ended said ws = if length ws == 0 then said else None
 
 -- ---- words
@@ -58,23 +58,23 @@ unfoldable pub given : Word → Option Given
 given w = option_and_then given_of (split_at 61 w)
 
 -- each word is VAR=VALUE
-abbrev pub givens : Left → Option (List Given)
+abbrev pub givens : WordsLeft → Option (List Given)
 givens [] = Some []
 givens (w ∷ ws) = option_and_then (λ v. option_map (λ vs. v ∷ vs) (givens ws)) (given w)
 
 -- ---- forms, each after its first word
 
 -- {
-unfoldable pub block_form : Left → Option Said
+unfoldable pub block_form : WordsLeft → Option LineContent
 block_form [] = None
 block_form (w ∷ ws) = if bytes_eq w (codes "{") then ended (Some SaidBlock) ws else None
 
 -- an edge from an even node to an odd one, or back
-abbrev pub edge_of : Name → ℕ → ℕ → Option Said
+abbrev pub edge_of : Name → ℕ → ℕ → Option LineContent
 edge_of label from to = if has_text label reserved then None else if from % 2 == to % 2 then None else Some (SaidEdge label from to)
 
 -- LABEL FROM TO
-unfoldable pub edge_form : Left → Option Said
+unfoldable pub edge_form : WordsLeft → Option LineContent
 edge_form =
     after (word name) λ label.
     after (word (number 255)) λ from.
@@ -82,17 +82,17 @@ edge_form =
     ended (edge_of label from to)
 
 -- NAME
-unfoldable pub honest_form : Left → Option Said
+unfoldable pub honest_form : WordsLeft → Option LineContent
 honest_form =
     after (word name) λ who.
     ended (Some (SaidHonest who))
 
 -- a key of two different principals
-abbrev pub key_of : Name → Name → Word → Option Said
+abbrev pub key_of : Name → Name → Word → Option LineContent
 key_of one two digits = if bytes_eq one two then None else Some (SaidKey one two digits)
 
 -- NAME NAME HEX
-unfoldable pub key_form : Left → Option Said
+unfoldable pub key_form : WordsLeft → Option LineContent
 key_form =
     after (word name) λ one.
     after (word name) λ two.
@@ -105,7 +105,7 @@ version [] = Some (1, [])
 version (w ∷ ws) = if bytes_eq w (codes "v2") then Some (2, ws) else None
 
 -- NAME GRAPH NONCE NAME,NAME,.. and v2 after it for version 2
-unfoldable pub session_form : Left → Option Said
+unfoldable pub session_form : WordsLeft → Option LineContent
 session_form =
     after (word name) λ session.
     after (word name) λ graph.
@@ -115,14 +115,14 @@ session_form =
     ended (Some (SaidSession session graph nonce cast version))
 
 -- NAME SESSION
-unfoldable pub start_form : Left → Option Said
+unfoldable pub start_form : WordsLeft → Option LineContent
 start_form =
     after (word name) λ who.
     after (word name) λ session.
     ended (Some (SaidStart who session))
 
 -- NAME SESSION LABEL VAR=VALUE ..
-unfoldable pub act_form : Left → Option Said
+unfoldable pub act_form : WordsLeft → Option LineContent
 act_form =
     after (word name) λ who.
     after (word name) λ session.
@@ -130,7 +130,7 @@ act_form =
     λ ws. option_map (SaidAct who session label) (givens ws)
 
 -- NAME SESSION
-unfoldable pub abandon_form : Left → Option Said
+unfoldable pub abandon_form : WordsLeft → Option LineContent
 abandon_form =
     after (word name) λ who.
     after (word name) λ session.
@@ -141,7 +141,7 @@ abbrev pub short : Taker ℕ
 short = word (number 4294967295)
 
 -- what becomes of frame n: nothing, flip I, cut I
-unfoldable pub frame_form : Name → ℕ → Left → Option Said
+unfoldable pub frame_form : Name → ℕ → WordsLeft → Option LineContent
 frame_form who n [] = Some (SaidDeliver who (TheFrame n))
 frame_form who n (w ∷ ws) =
     if bytes_eq w (codes "flip") then after short (λ at. ended (Some (SaidDeliver who (TheFlipped n at)))) ws
@@ -149,12 +149,12 @@ frame_form who n (w ∷ ws) =
     else None
 
 -- hex HEX, or fN and what becomes of it
-unfoldable pub what_form : Name → Left → Option Said
+unfoldable pub what_form : Name → WordsLeft → Option LineContent
 what_form who [] = None
 what_form who (w ∷ ws) =
     if bytes_eq w (codes "hex") then after (word hex) (λ digits. ended (Some (SaidDeliver who (TheBytes digits)))) ws
     else option_and_then (λ n. frame_form who n ws) (frame w)
 
 -- NAME and what is delivered
-unfoldable pub deliver_form : Left → Option Said
+unfoldable pub deliver_form : WordsLeft → Option LineContent
 deliver_form = after (word name) what_form

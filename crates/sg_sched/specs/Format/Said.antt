@@ -27,20 +27,20 @@ pub data From : Type 0 where
   FromZero : From
 
 -- item LABEL TIME [COMMITTED ..] [tag ROLE SOURCE ..]
-pub record SaidItem : Type 0 where
+pub record ItemContent : Type 0 where
   pub label : Name
   pub time : ℕ
   pub delta : List Committed
   pub tags : List (Name × From)
 
 -- the words of a craft
-pub record SaidCraft : Type 0 where
+pub record CraftContent : Type 0 where
   pub session : Name
   pub from : Name
   pub to : Name
   pub join : Option CraftJoin
   pub know : List Committed
-  pub items : List SaidItem
+  pub items : List ItemContent
   pub openings : List Committed
   pub seal : From
 
@@ -52,17 +52,17 @@ pub data Delivered : Type 0 where
   TheBytes : Word → Delivered
 
 -- what a line says: a block of graph text begins, a declaration, or a step
-pub data Said : Type 0 where
-  SaidBlock : Said
-  SaidEdge : (label : Name) (from to : ℕ) → Said
-  SaidHonest : Name → Said
-  SaidKey : (one two : Name) (digits : Word) → Said
-  SaidSession : (name graph : Name) (nonce : ℕ) (names : List Name) (version : ℕ) → Said
-  SaidStart : (who session : Name) → Said
-  SaidAct : (who session label : Name) (values : List Given) → Said
-  SaidAbandon : (who session : Name) → Said
-  SaidDeliver : (who : Name) → Delivered → Said
-  SaidMake : SaidCraft → Said
+pub data LineContent : Type 0 where
+  SaidBlock : LineContent
+  SaidEdge : (label : Name) (from to : ℕ) → LineContent
+  SaidHonest : Name → LineContent
+  SaidKey : (one two : Name) (digits : Word) → LineContent
+  SaidSession : (name graph : Name) (nonce : ℕ) (names : List Name) (version : ℕ) → LineContent
+  SaidStart : (who session : Name) → LineContent
+  SaidAct : (who session label : Name) (values : List Given) → LineContent
+  SaidAbandon : (who session : Name) → LineContent
+  SaidDeliver : (who : Name) → Delivered → LineContent
+  SaidMake : CraftContent → LineContent
 
 -- ---- the words
 
@@ -96,7 +96,7 @@ abbrev pub tag_words : Name × From → List Word
 tag_words t = codes "tag" ∷ t.0 ∷ from_words t.1
 
 -- item LABEL TIME [COMMITTED ..] [tag ROLE SOURCE ..]
-abbrev pub item_words : SaidItem → List Word
+abbrev pub item_words : ItemContent → List Word
 item_words i = codes "item" ∷ i.label ∷ decimal i.time ∷ (map committed_word i.delta ++ flat_map tag_words i.tags)
 
 -- the word and its argument, or nothing
@@ -115,7 +115,7 @@ list_words first [] = []
 list_words first (c ∷ cs) = first ∷ map committed_word (c ∷ cs)
 
 -- craft SESSION from ROLE to ROLE [join ..] [know ..] item .. [open ..] seal SOURCE
-abbrev pub craft_words : SaidCraft → List Word
+abbrev pub craft_words : CraftContent → List Word
 craft_words c =
     codes "craft" ∷ c.session ∷ codes "from" ∷ c.from ∷ codes "to" ∷ c.to
     ∷ (join_words c.join ++ (list_words (codes "know") c.know ++ (flat_map item_words c.items ++ (list_words (codes "open") c.openings
@@ -133,7 +133,7 @@ abbrev pub version_words : ℕ → List Word
 version_words version = if version == 2 then codes "v2" ∷ [] else []
 
 -- the words of a line
-abbrev pub line_words : Said → List Word
+abbrev pub line_words : LineContent → List Word
 line_words SaidBlock = codes "graph" ∷ codes "{" ∷ []
 line_words (SaidEdge label from to) = codes "edge" ∷ label ∷ decimal from ∷ decimal to ∷ []
 line_words (SaidHonest who) = codes "honest" ∷ who ∷ []

@@ -8,7 +8,7 @@ ghost use Rattle.sg_walk.specs.Matching.{IsNamed, IsNextAct, Takes, acts_from, i
 ghost use Rattle.sg_base.specs.Model.{value_of};
 ghost use Rattle.sg_walk.specs.Model.{event_of, step_of, steps_of, values_of, writes_of};
 
-use super::pairs::{are_shown, counts, edge_of, has_keys, place_of, writes_value};
+use super::pairs::{are_shown, counts, edge_of, has_keys, index_of, writes_value};
 use crate::{Event, StoredStep, StoredWalk};
 use sg_base::{Label, Role, RoleSet, Value, Var, VarSet};
 use sg_graph::Graph;
@@ -26,7 +26,7 @@ pub(super) fn explains(
         ↔ (flat_map acts_of_event (map event_of events.now) ≡ honest_acts graph.now (λ r. is_in r honest) taken [] (steps_of walk.now)) }
 {
     let steps = walk.steps.as_slice();
-    let mut places: [Option<usize>; 32] = [None; 32];
+    let mut indices: [Option<usize>; 32] = [None; 32];
     let mut at: usize = 0;
     for number in 0..steps.len() {
         let step = &steps[number];
@@ -35,7 +35,7 @@ pub(super) fn explains(
         let Some(sent) = after_sending(events, at, sends, graph.sender(step.label), step) else {
             return false;
         };
-        note_writes(&mut places, number, step);
+        note_writes(&mut indices, number, step);
         let hears = counts(
             honest,
             graph.receiver(step.label),
@@ -47,7 +47,7 @@ pub(super) fn explains(
             label: step.label,
             reads: edge.reads,
         };
-        let Some(received) = after_receiving(events, sent, hears, receipt, steps, &places) else {
+        let Some(received) = after_receiving(events, sent, hears, receipt, steps, &indices) else {
             return false;
         };
         at = received;
@@ -64,16 +64,16 @@ struct Receipt {
 }
 
 /// Puts the step's number at each variable that it writes.
-fn note_writes(places: &mut [Option<usize>; 32], number: usize, step: &StoredStep)
+fn note_writes(indices: &mut [Option<usize>; 32], number: usize, step: &StoredStep)
     requires { list_all (λ x. nat_lt x 32) (keys_of step.now.writes) ≡ true }
-    ensures { (x : ℕ) → x < 32 → get_or places.new x None ≡ (if is_in x (keys_of step.now.writes) then Some number else get_or places.old x None) }
+    ensures { (x : ℕ) → x < 32 → get_or indices.new x None ≡ (if is_in x (keys_of step.now.writes) then Some number else get_or indices.old x None) }
 {
     for write in step.writes.as_slice() {
-        places[place_of(write.0)] = Some(number);
+        indices[index_of(write.0)] = Some(number);
     }
 }
 
-/// The place after the role's sending of the step, where it comes next or the role isn't honest.
+/// The index after the role's sending of the step, where it comes next or the role isn't honest.
 fn after_sending(
     events: &[Event],
     from: usize,
@@ -96,17 +96,17 @@ fn after_sending(
     }
 }
 
-/// The place after the receipt, where it comes next or doesn't count.
+/// The index after the receipt, where it comes next or doesn't count.
 fn after_receiving(
     events: &[Event],
     from: usize,
     counts: bool,
     receipt: Receipt,
     steps: &[StoredStep],
-    places: &[Option<usize>; 32],
+    indices: &[Option<usize>; 32],
 ) -> Option<usize>
     requires { AreNumbers 32 receipt.reads }
-    ensures { Takes events.now from (act_if counts (Receives receipt.role receipt.label (kept (map step_of steps.now) places.now receipt.reads))) result }
+    ensures { Takes events.now from (act_if counts (Receives receipt.role receipt.label (kept (map step_of steps.now) indices.now receipt.reads))) result }
 {
     if !counts {
         return Some(from);
@@ -114,14 +114,14 @@ fn after_receiving(
     let Some(at) = next_act(events, from) else {
         return None;
     };
-    if is_receipt(&events[at], receipt, steps, places) {
+    if is_receipt(&events[at], receipt, steps, indices) {
         Some(at + 1)
     } else {
         None
     }
 }
 
-/// The place of the first event from a place on that isn't a start.
+/// The index of the first event from an index on that isn't a start.
 fn next_act(events: &[Event], from: usize) -> Option<usize>
     ensures { MatchOption result (acts_from events.now from ≡ []) (IsNextAct events.now from) }
 {
@@ -158,16 +158,16 @@ fn is_sending(event: &Event, role: Role, step: &StoredStep) -> bool
     }
 }
 
-/// Whether the event is the receipt, with the values that the places give.
+/// Whether the event is the receipt, with the values that the indices give.
 fn is_receipt(
     event: &Event,
     receipt: Receipt,
     steps: &[StoredStep],
-    places: &[Option<usize>; 32],
+    indices: &[Option<usize>; 32],
 ) -> bool
     requires { AreNumbers 32 receipt.reads }
     ensures { IsTrue result
-        ↔ (acts_of_event (event_of event.now) ≡ Receives receipt.role receipt.label (kept (map step_of steps.now) places.now receipt.reads) ∷ []) }
+        ↔ (acts_of_event (event_of event.now) ≡ Receives receipt.role receipt.label (kept (map step_of steps.now) indices.now receipt.reads) ∷ []) }
 {
     match event {
         Event::Received {
@@ -178,43 +178,43 @@ fn is_receipt(
         } => {
             *role == receipt.role
                 && *label == receipt.label
-                && are_kept(receipt.reads, values.as_slice(), steps, places)
+                && are_kept(receipt.reads, values.as_slice(), steps, indices)
         }
         _ => false,
     }
 }
 
-/// Whether the values are those that the places give to the variables of the set.
+/// Whether the values are those that the indices give to the variables of the set.
 fn are_kept(
     vars: VarSet,
     values: &[(Var, Value)],
     steps: &[StoredStep],
-    places: &[Option<usize>; 32],
+    indices: &[Option<usize>; 32],
 ) -> bool
     requires { AreNumbers 32 vars }
-    ensures { IsTrue result ↔ (shown (values_of values.now) ≡ kept (map step_of steps.now) places.now vars) }
+    ensures { IsTrue result ↔ (shown (values_of values.now) ≡ kept (map step_of steps.now) indices.now vars) }
 {
-    has_keys(vars, values) && hold(values, steps, places)
+    has_keys(vars, values) && hold(values, steps, indices)
 }
 
-/// Whether each value is the one that its variable's place gives.
-fn hold(values: &[(Var, Value)], steps: &[StoredStep], places: &[Option<usize>; 32]) -> bool
+/// Whether each value is the one that its variable's index gives.
+fn hold(values: &[(Var, Value)], steps: &[StoredStep], indices: &[Option<usize>; 32]) -> bool
     requires { list_all (λ x. nat_lt x 32) (map (λ w. w.0) values.now) ≡ true }
-    ensures { IsTrue result ↔ (shown (values_of values.now) ≡ kept (map step_of steps.now) places.now (map (λ w. w.0) values.now)) }
+    ensures { IsTrue result ↔ (shown (values_of values.now) ≡ kept (map step_of steps.now) indices.now (map (λ w. w.0) values.now)) }
 {
     for value in values {
-        if !is_kept(steps, places[place_of(value.0)], value.0, &value.1) {
+        if !is_kept(steps, indices[index_of(value.0)], value.0, &value.1) {
             return false;
         }
     }
     true
 }
 
-/// Whether the step of this place wrote the value.
-fn is_kept(steps: &[StoredStep], place: Option<usize>, var: Var, value: &Value) -> bool
-    ensures { IsTrue result ↔ (Some (value_of value.now) ≡ value_from (map step_of steps.now) place var) }
+/// Whether the step of this index wrote the value.
+fn is_kept(steps: &[StoredStep], index: Option<usize>, var: Var, value: &Value) -> bool
+    ensures { IsTrue result ↔ (Some (value_of value.now) ≡ value_from (map step_of steps.now) index var) }
 {
-    match place {
+    match index {
         Some(number) => number < steps.len()
             && writes_value(steps[number].writes.as_slice(), var, value),
         None => false,

@@ -8,7 +8,7 @@ ghost use Rattle.sg_base.specs.Model.{value_of};
 ghost use Rattle.sg_walk.specs.Matching.{IsNamed};
 ghost use Rattle.sg_walk.specs.Model.{steps_of, writes_of};
 
-use super::pairs::{counts, edge_of, place_of};
+use super::pairs::{counts, edge_of, index_of};
 use crate::{StoredStep, StoredWalk};
 use sg_base::{RoleSet, Value, Var, VarSet};
 use sg_graph::Graph;
@@ -56,7 +56,7 @@ fn drop_written(carried: &mut [bool; 32], step: &StoredStep)
     ensures { (x : ℕ) → x < 32 → get_or carried.new x false ≡ (if is_in x (keys_of step.now.writes) then false else get_or carried.old x false) }
 {
     for write in step.writes.as_slice() {
-        carried[place_of(write.0)] = false;
+        carried[index_of(write.0)] = false;
     }
 }
 
@@ -66,7 +66,7 @@ fn hides_all(step: &StoredStep, honest: bool, carried: &[bool; 32]) -> bool
     ensures { result ≡ list_all (λ w. beq (is_none w.1) (not honest && not (get_or carried.now w.0 false))) (writes_of step.now.writes) }
 {
     for write in step.writes.as_slice() {
-        if !hides_one(&write.1, honest || carried[place_of(write.0)]) {
+        if !hides_one(&write.1, honest || carried[index_of(write.0)]) {
             return false;
         }
     }

@@ -34,23 +34,23 @@ pub(super) fn has_keys<T>(vars: VarSet, pairs: &[(Var, T)]) -> bool
     requires { AreNumbers 32 vars }
     ensures { IsTrue result ↔ (map (λ w. w.0) pairs.now ≡ vars) }
 {
-    let mut place: usize = 0;
+    let mut index: usize = 0;
     for number in 0..32u8 {
         if vars.has(Var(number)) {
-            if !has_key(pairs, place, Var(number)) {
+            if !has_key(pairs, index, Var(number)) {
                 return false;
             }
-            place += 1;
+            index += 1;
         }
     }
-    place == pairs.len()
+    index == pairs.len()
 }
 
-fn has_key<T>(pairs: &[(Var, T)], place: usize, var: Var) -> bool
-    ensures key { result ≡ is_next (map (λ w. w.0) (drop place pairs.now)) var }
-    ensures there { IsTrue result → place < length pairs.now }
+fn has_key<T>(pairs: &[(Var, T)], index: usize, var: Var) -> bool
+    ensures key { result ≡ is_next (map (λ w. w.0) (drop index pairs.now)) var }
+    ensures there { IsTrue result → index < length pairs.now }
 {
-    place < pairs.len() && pairs[place].0 == var
+    index < pairs.len() && pairs[index].0 == var
 }
 
 /// Whether the values are what is written, and nothing of it is hidden.
@@ -60,9 +60,9 @@ pub(super) fn are_shown(values: &[(Var, Value)], writes: &[(Var, Option<Value>)]
     if values.len() != writes.len() {
         return false;
     }
-    for place in 0..values.len() {
-        let value = &values[place];
-        let write = &writes[place];
+    for index in 0..values.len() {
+        let value = &values[index];
+        let write = &writes[index];
         if value.0 != write.0 || !is_value(&write.1, &value.1) {
             return false;
         }
@@ -92,8 +92,8 @@ pub(super) fn writes_value(writes: &[(Var, Option<Value>)], var: Var, value: &Va
     false
 }
 
-/// The variable's place among all.
-pub(super) fn place_of(var: Var) -> usize
+/// The variable's index among all.
+pub(super) fn index_of(var: Var) -> usize
     ensures { result ≡ var }
 {
     var.0 as usize

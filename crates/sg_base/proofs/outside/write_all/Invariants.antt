@@ -6,7 +6,7 @@ abbrev pub invariant-loop-at : goal.invariant-loop-at
 invariant-loop-at g l = record {
   within : l.at ≤ length l.text;
   no_fault : g.O.Sink.faults l.out ≡ g.O.Sink.faults l.initial.out;
-  front : Appends (g.O.Sink.written l.initial.out) (g.O.Sink.written l.out) (take l.at l.text);
+  prefix : Appends (g.O.Sink.written l.initial.out) (g.O.Sink.written l.out) (take l.at l.text);
 }
 
 abbrev pub decreases-loop-at : goal.decreases-loop-at

@@ -4,10 +4,10 @@ use Rattle.sg_protocol.specs.Graph.{shape}
 use Rattle.sg_check.proofs.Blinded.{fault_of_pair, blind_there}
 use Rattle.sg_check.proofs.blinding.check_pairs.Goals as goal
 
-pub returns-in_err-check_place-clause-refused : goal.returns-in_err-check_place-clause-refused
-returns-in_err-check_place-clause-refused c =
+pub returns-in_err-check_roles-clause-refused : goal.returns-in_err-check_roles-clause-refused
+returns-in_err-check_roles-clause-refused c =
     let p = err_from_is_err_and c.from_residual.result c.from_residual.ensures.1 in
-    rw (p.1, p.2) (fault_of_pair (shape c.args.graph.now) c.args.node c.args.a c.loop-number.number c.in_err-check_place.field-0.0 c.loop-number.invariant c.in_err-check_place.ensures.refused)
+    rw (p.1, p.2) (fault_of_pair (shape c.args.graph.now) c.args.node c.args.a c.loop-number.number c.in_err-check_roles.field-0.0 c.loop-number.invariant c.in_err-check_roles.ensures.refused)
 
 pub returns-clause-ok : goal.returns-clause-ok
 returns-clause-ok c = λ p at blind.

@@ -6,7 +6,7 @@ use Rattle.sg_model.specs.Claims.{bit_after}
 use Rattle.sg_protocol.specs.Graph.{shape}
 use Rattle.sg_claims.specs.Search.{Any, IsSound, entry_at}
 use Rattle.sg_claims.specs.declared.search.Entry.{Entry}
-use Rattle.sg_claims.proofs.Following.{at_place, followed}
+use Rattle.sg_claims.proofs.Following.{at_index, followed}
 use Rattle.sg_claims.proofs.Rising.{IsLeft, leaving_rise, left_at_first, left_on, left_before, left_greater, none_left}
 use Rattle.sg_claims.proofs.Searching.{search_with, goes_on}
 use Rattle.sg_claims.proofs.decision.follow.Goals as goal
@@ -33,7 +33,7 @@ loop-label-preserved c =
     let node : ℕ = c.index-entry.result.now.node in
     let labels = c.edges_from-label-items.result.now in
     let at = c.loop-label.label-index in
-    let here = at_place (λ e. (e < length c.args.graph.now.edges) × (source g e ≡ node)) labels at l c.edges_from-label-items.ensures.each c.loop-label-test.true c.label-item.is in
+    let here = at_index (λ e. (e < length c.args.graph.now.edges) × (source g e ≡ node)) labels at l c.edges_from-label-items.ensures.each c.loop-label-test.true c.label-item.is in
     let inner : l < length g.edges = rw length-map here.0.0 in
     let to : c.edge.result.now.target ≡ target g l = ap (λ (e : Edge). e.target) c.edge.ensures.edge in
     let small : c.edge.result.now.target < 256 = omega (arith, c.edge.ensures.ends.1, c.nodes-nodes.ensures.graph.sizes.2) in

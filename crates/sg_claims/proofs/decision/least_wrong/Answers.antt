@@ -6,7 +6,7 @@ use Rattle.sg_model.specs.Claims.{Claim, right_bit}
 use Rattle.sg_model.proofs.Small.{clash}
 use Rattle.sg_protocol.specs.Graph.{shape}
 use Rattle.sg_claims.proofs.Cases.{less_or, told_apart}
-use Rattle.sg_claims.proofs.Following.{at_place}
+use Rattle.sg_claims.proofs.Following.{at_index}
 use Rattle.sg_claims.proofs.Rising.{leaving_rise, left_at_first, left_at_least}
 use Rattle.sg_claims.proofs.decision.least_wrong.Goals as goal
 
@@ -18,7 +18,7 @@ returns-then-is_later-clause-some c =
     let node : ℕ = c.args.node in
     let labels = c.edges_from-label-items.result.now in
     let at = c.loop-label.label-index in
-    let here = at_place (λ e. (e < length c.args.graph.now.edges) × (source g e ≡ node)) labels at l c.edges_from-label-items.ensures.each c.loop-label-test.true c.label-item.is in
+    let here = at_index (λ e. (e < length c.args.graph.now.edges) × (source g e ≡ node)) labels at l c.edges_from-label-items.ensures.each c.loop-label-test.true c.label-item.is in
     let rises : (i j : ℕ) → i < j → j < length labels → get_or labels i 0 < get_or labels j 0 =
     subst (λ ls. (i j : ℕ) → i < j → j < length ls → get_or ls i 0 < get_or ls j 0) (sym c.edges_from-label-items.ensures.labels) (λ i j b d. leaving_rise c.args.graph.now node i j b d) in
     record {

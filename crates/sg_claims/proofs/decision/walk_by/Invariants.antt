@@ -2,11 +2,11 @@ use Rattle.std.proofs.Common.{◌≡◌, ℕ, ◌<◌, ◌++◌, ◌∷◌, [], 
 use Rattle.sg_claims.specs.Search.{AreWalks}
 use Rattle.sg_claims.proofs.decision.walk_by.Given as goal
 
-abbrev pub invariant-loop-place : goal.invariant-loop-place
-invariant-loop-place l = record {
-  there : l.place < length l.entries;
-  walk : (walks : ℕ → List ℕ) → AreWalks l.entries walks → walks l.place ++ reverse l.walk.items ≡ walks l.at ++ l.fn.label ∷ [];
+abbrev pub invariant-loop-index : goal.invariant-loop-index
+invariant-loop-index l = record {
+  there : l.index < length l.entries;
+  walk : (walks : ℕ → List ℕ) → AreWalks l.entries walks → walks l.index ++ reverse l.walk.items ≡ walks l.at ++ l.fn.label ∷ [];
 }
 
-abbrev pub decreases-loop-place : goal.decreases-loop-place
-decreases-loop-place l = l.place
+abbrev pub decreases-loop-index : goal.decreases-loop-index
+decreases-loop-index l = l.index

@@ -3,7 +3,7 @@ use Rattle.std.proofs.lemmas.Result.{err_from_is_err_and}
 use Rattle.sg_claims_text.specs.Reading.{read_claim}
 use Rattle.sg_parse.specs.PartsReading.{repeat}
 use Rattle.sg_parse.specs.Tokens.{is_word}
-use Rattle.sg_parse.proofs.Places.{repeat_more, repeat_stop, repeat_done, repeat_full}
+use Rattle.sg_parse.proofs.Indices.{repeat_more, repeat_stop, repeat_done, repeat_full}
 use Rattle.sg_claims_text.proofs.text.read_some.Goals as goal
 
 pub returns-then-not-at_word : goal.returns-then-not-at_word

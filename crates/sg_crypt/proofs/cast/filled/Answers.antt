@@ -1,5 +1,5 @@
 use Rattle.std.proofs.Common.{arith}
-use Rattle.sg_crypt.proofs.Places.{filled_up}
+use Rattle.sg_crypt.proofs.Slots.{filled_up}
 use Rattle.sg_crypt.proofs.cast.filled.Goals as goal
 
 pub returns : goal.returns

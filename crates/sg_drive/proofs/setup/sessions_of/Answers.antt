@@ -14,7 +14,7 @@ session-requires-clause-names c =
     let most = c.requires.many in
     (omega (arith, many, two), omega (arith, many, most))
 
-pub loop-place-preserved : goal.loop-place-preserved
-loop-place-preserved c =
-    let made : c.in_ok-session.field-0 ≡ _ = c.in_ok-session.ensures ∙ (λ i. let cast : Cast = record { version = 1; graph = c.in_ok-digest.ensures i; nonce = nonce_of (c.loop-place.place + 1); names = c.requires.names i } in let d : Declared = record { name = 115 ∷ decimal (c.loop-place.place + 1); cast = cast } in d) in
-    c.in_ok-push.ensures.ok ∙ (λ i. c.loop-place.invariant i ++ made i ∷ []) ∙ sym (sessions_more c.args.graph.now c.loop-place.place)
+pub loop-index-preserved : goal.loop-index-preserved
+loop-index-preserved c =
+    let made : c.in_ok-session.field-0 ≡ _ = c.in_ok-session.ensures ∙ (λ i. let cast : Cast = record { version = 1; graph = c.in_ok-digest.ensures i; nonce = nonce_of (c.loop-index.index + 1); names = c.requires.names i } in let d : Declared = record { name = 115 ∷ decimal (c.loop-index.index + 1); cast = cast } in d) in
+    c.in_ok-push.ensures.ok ∙ (λ i. c.loop-index.invariant i ++ made i ∷ []) ∙ sym (sessions_more c.args.graph.now c.loop-index.index)

@@ -9,11 +9,11 @@ returns-then-start-eq0-clause-same c =
 pub returns-clause-no_feed : goal.returns-clause-no_feed
 returns-clause-no_feed c =
     let all : c.kept_bytes-count.result - 0 ≡ c.kept_bytes-count.result = omega arith in
-    let front : slice_range c.move_front.new.buffer.items 0 c.kept_bytes-count.result ≡ slice_range c.args.buffer.now.items c.args.start (c.args.start + c.kept_bytes-count.result) = ap (λ k. take k c.move_front.new.buffer.items) all ∙ c.move_front.ensures.moved in
-    (kept_part c.args.buffer.now.items c.args.start c.args.end c.kept_bytes-count.result (slice_range c.move_front.new.buffer.items 0 c.kept_bytes-count.result) c.requires.within c.requires.fits c.requires.no_feed c.kept_bytes-count.ensures.within c.kept_bytes-count.ensures.enough front).0
+    let prefix : slice_range c.move_prefix.new.buffer.items 0 c.kept_bytes-count.result ≡ slice_range c.args.buffer.now.items c.args.start (c.args.start + c.kept_bytes-count.result) = ap (λ k. take k c.move_prefix.new.buffer.items) all ∙ c.move_prefix.ensures.moved in
+    (kept_part c.args.buffer.now.items c.args.start c.args.end c.kept_bytes-count.result (slice_range c.move_prefix.new.buffer.items 0 c.kept_bytes-count.result) c.requires.within c.requires.fits c.requires.no_feed c.kept_bytes-count.ensures.within c.kept_bytes-count.ensures.enough prefix).0
 
 pub returns-clause-same : goal.returns-clause-same
 returns-clause-same c =
     let all : c.kept_bytes-count.result - 0 ≡ c.kept_bytes-count.result = omega arith in
-    let front : slice_range c.move_front.new.buffer.items 0 c.kept_bytes-count.result ≡ slice_range c.args.buffer.now.items c.args.start (c.args.start + c.kept_bytes-count.result) = ap (λ k. take k c.move_front.new.buffer.items) all ∙ c.move_front.ensures.moved in
-    (kept_part c.args.buffer.now.items c.args.start c.args.end c.kept_bytes-count.result (slice_range c.move_front.new.buffer.items 0 c.kept_bytes-count.result) c.requires.within c.requires.fits c.requires.no_feed c.kept_bytes-count.ensures.within c.kept_bytes-count.ensures.enough front).1
+    let prefix : slice_range c.move_prefix.new.buffer.items 0 c.kept_bytes-count.result ≡ slice_range c.args.buffer.now.items c.args.start (c.args.start + c.kept_bytes-count.result) = ap (λ k. take k c.move_prefix.new.buffer.items) all ∙ c.move_prefix.ensures.moved in
+    (kept_part c.args.buffer.now.items c.args.start c.args.end c.kept_bytes-count.result (slice_range c.move_prefix.new.buffer.items 0 c.kept_bytes-count.result) c.requires.within c.requires.fits c.requires.no_feed c.kept_bytes-count.ensures.within c.kept_bytes-count.ensures.enough prefix).1

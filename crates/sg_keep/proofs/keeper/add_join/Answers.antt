@@ -1,6 +1,6 @@
 use Rattle.std.proofs.Common.{inl, inr, ⊎_elim, Err, ap, ◌∙◌, subst, arith}
 use Rattle.std.specs.Prelude.{option_and_then}
-use Rattle.sg_ledger.specs.Format.{StandsFor}
+use Rattle.sg_ledger.specs.Format.{Represents}
 use Rattle.sg_ledger.specs.declared.ledger.AddJoinFault.{AddJoinFault}
 use Rattle.sg_report.specs.Outcome.{outcome_of}
 use Rattle.sg_keep.specs.Joins.{join_told}
@@ -31,5 +31,5 @@ returns-in-Ok-clause-added g c = c.in-Ok.ensures.added ∙ ap working (with_one 
 pub returns-in-Err-Failed-clause-between : goal.returns-in-Err-Failed-clause-between
 returns-in-Err-Failed-clause-between g c = λ image left.
     let more = with_one c.args.ledger.now.joins (option_and_then join_told (outcome_of c.args.outcome.now)) c.join_in.result c.join_in.ensures c.in-Some.join c.in-Some.is in
-    ⊎_elim (λ s. inl s) (λ s. inr (subst (StandsFor image) more s))
+    ⊎_elim (λ s. inl s) (λ s. inr (subst (Represents image) more s))
     (c.add.ensures.any_moment.each image (g.met.D.Disk.counts_now c.add.new.disk (g.D.Disk.moment c.args.disk.now) image c.add.ensures.any_moment.later left))

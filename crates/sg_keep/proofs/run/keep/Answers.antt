@@ -8,7 +8,7 @@ use Rattle.sg_play.specs.Played.{all_starts, beginning, played}
 use Rattle.sg_keep.specs.Faults.{Counts}
 use Rattle.sg_keep.specs.Kept.{Kept}
 use Rattle.sg_keep.specs.declared.keeper.Keeper.{Keeper}
-use Rattle.sg_keep.proofs.Asking.{came_kept, holds_first, not_begun, stands_first, starts_ended}
+use Rattle.sg_keep.proofs.Asking.{came_kept, holds_first, not_begun, represents_first, starts_ended}
 use Rattle.sg_keep.proofs.Counting.{falls_of, later_tells, memory_tells, none_for_memory}
 use Rattle.sg_keep.proofs.run.keep.Goals as goal
 
@@ -17,21 +17,21 @@ returns-in_default-clause-faults g c = none_for_memory (record { link = g.L.Link
 
 pub returns-in_default-clause-kept : goal.returns-in_default-clause-kept
 returns-in_default-clause-kept g c = λ deliveries words told drawn.
-    not_begun (record { written = g.O.Sink.written c.args.out.now; sent = g.L.Link.sent c.args.link.now }) (g.D.Disk.may_leave c.args.disk.now) c.args.keys.now c.args.programs.now c.args.ledger.joins c.args.script (take c.args.most deliveries) words c.requires.stands _ refl
+    not_begun (record { written = g.O.Sink.written c.args.out.now; sent = g.L.Link.sent c.args.link.now }) (g.D.Disk.may_leave c.args.disk.now) c.args.keys.now c.args.programs.now c.args.ledger.joins c.args.script (take c.args.most deliveries) words c.requires.represents _ refl
 
 pub returns-in-Err-clause-faults : goal.returns-in-Err-clause-faults
 returns-in-Err-clause-faults g c = memory_tells (record { link = g.L.Link.faults c.args.link.now; out = g.O.Sink.faults c.args.out.now; disk = g.D.Disk.faults c.args.disk.now }) c.in-Err.fault c.in-Err.ensures.memory
 
 pub returns-in-Err-clause-kept : goal.returns-in-Err-clause-kept
 returns-in-Err-clause-kept g c = λ deliveries words told drawn.
-    not_begun (record { written = g.O.Sink.written c.args.out.now; sent = g.L.Link.sent c.args.link.now }) (g.D.Disk.may_leave c.args.disk.now) c.args.keys.now c.args.programs.now c.args.ledger.joins c.args.script (take c.args.most deliveries) words c.requires.stands c.in-Err.fault c.in-Err.ensures.memory
+    not_begun (record { written = g.O.Sink.written c.args.out.now; sent = g.L.Link.sent c.args.link.now }) (g.D.Disk.may_leave c.args.disk.now) c.args.keys.now c.args.programs.now c.args.ledger.joins c.args.script (take c.args.most deliveries) words c.requires.represents c.in-Err.fault c.in-Err.ensures.memory
 
 pub start_all-requires : goal.start_all-requires
 start_all-requires g c =
     let new = c.in-Ok.ensures.made ∙ (λ i. new_state (c.requires.keys i) c.args.programs.now (c.joins.ensures.joins i)) in
     record {
       holds = holds_first (record { player = c.in-Ok-new.player; ledger = c.args.ledger }) (g.D.Disk.may_leave c.args.disk.now) c.args.keys.now c.args.programs.now c.args.ledger.joins c.script.inside.choices
-          (c.in-Ok-new.ensures.stands c.args.ledger.joins [] new) (λ i. record { joins = c.args.ledger.joins; failed = c.requires.working i }) c.requires.stands;
+          (c.in-Ok-new.ensures.represents c.args.ledger.joins [] new) (λ i. record { joins = c.args.ledger.joins; failed = c.requires.working i }) c.requires.represents;
     }
 
 pub returns-in-Err-start_all-clause-kept : goal.returns-in-Err-start_all-clause-kept
@@ -47,7 +47,7 @@ returns-in-Err-start_all-clause-kept g c = λ deliveries words told drawn.
     let begun = beginning c.args.keys.now c.args.programs.now first script.choices words in
     subst (λ (z : Script). Kept start now leaves (played c.args.keys.now c.args.programs.now first z (take c.args.most deliveries) words) (Err c.in-Err-start_all.fault)) is
     (starts_ended start now leaves c.args.keys.now c.args.programs.now first script (take c.args.most deliveries) words c.in-Err-start_all.fault
-    (c.in-Err-start_all.ensures.came begun start (stands_first keeper c.args.keys.now c.args.programs.now first script.choices words (c.in-Ok-new.ensures.stands first words new)) drawn (whole_none start)))
+    (c.in-Err-start_all.ensures.came begun start (represents_first keeper c.args.keys.now c.args.programs.now first script.choices words (c.in-Ok-new.ensures.represents first words new)) drawn (whole_none start)))
 
 pub returns-in-Err-start_all-clause-at_most : goal.returns-in-Err-start_all-clause-at_most
 returns-in-Err-start_all-clause-at_most g c = λ deliveries told. (0, omega arith, c.start_all.ensures.deliveries ∙ told)
@@ -73,7 +73,7 @@ returns-clause-kept g c = λ deliveries words told drawn.
     let script : Script = record { starts = c.as_slice.result.now; choices = c.script.inside.choices } in
     let is : script ≡ c.args.script = ap (λ (ss : List ScriptStart). record { starts = ss; choices = c.script.inside.choices }) c.as_slice.ensures ∙ c.script.view_is in
     let begun = beginning c.args.keys.now c.args.programs.now first script.choices words in
-    let started = c.in-Ok-start_all.ensures.came begun start (stands_first keeper c.args.keys.now c.args.programs.now first script.choices words (c.in-Ok-new.ensures.stands first words new)) drawn (whole_none start) in
+    let started = c.in-Ok-start_all.ensures.came begun start (represents_first keeper c.args.keys.now c.args.programs.now first script.choices words (c.in-Ok-new.ensures.represents first words new)) drawn (whole_none start) in
     subst (λ (z : Script). Kept start now leaves (played c.args.keys.now c.args.programs.now first z (take c.args.most deliveries) words) c.take_all.result) is
     (came_kept start now leaves c.take_all.new.self (g.R.Fresh.words c.take_all.new.fresh) (played c.args.keys.now c.args.programs.now first script (take c.args.most deliveries) words) c.take_all.result c.take_all.ensures.holds
     (c.take_all.ensures.came (all_starts begun script.starts) start deliveries (c.in-Ok-start_all.ensures.deliveries ∙ told) started.0 started.2 started.1))

@@ -9,5 +9,5 @@ returns-in_default c e y b =
 
 pub returns : goal.returns
 returns c =
-    first_bad c.args.graph.now c.args.role c.args.var c.in_ok-states.states c.in-Some.unknown.label c.in-Some.unknown.place c.in_ok-walk.walk.items c.from_vec.result
+    first_bad c.args.graph.now c.args.role c.args.var c.in_ok-states.states c.in-Some.unknown.label c.in-Some.unknown.index c.in_ok-walk.walk.items c.from_vec.result
     c.in_ok-states.ensures c.in-Some.ensures.0 c.in-Some.ensures.1 c.in_ok-walk.ensures (c.from_vec.ensures ∙ c.in_ok-push.ensures.items)

@@ -5,7 +5,7 @@ use Rattle.sg_model.specs.Lists.{is_in}
 use Rattle.sg_model.specs.Shape.{source}
 use Rattle.sg_protocol.specs.Graph.{shape}
 use Rattle.sg_know.specs.declared.states.WalkState.{WalkState}
-use Rattle.sg_know.specs.declared.states.Reached.{Reached}
+use Rattle.sg_know.specs.declared.states.ReachedState.{ReachedState}
 use Rattle.sg_graph.specs.Edges.{leaving_from}
 use Rattle.sg_know.specs.States.{Has, Enters, state_along, state_at}
 use Rattle.sg_know.proofs.Outgoing.{leaves_in, listed_leaves, taken_more}
@@ -34,7 +34,7 @@ loop-label-preserved c =
     let edge = listed_leaves g labels c.state-state.result.node c.loop-label.label-index e is c.loop-label-test.true c.label-item.is in
     let same : state_at old at ≡ state_at first at = state_stays first old at held.grows c.requires.there in
     let here : c.state-state.result ≡ state_at old at = c.state-state.ensures.state ∙ sym same in
-    let t : Reached = record { state = c.along.result; by = Some (record { from = at; label = e }) } in
+    let t : ReachedState = record { state = c.along.result; by = Some (record { from = at; label = e }) } in
     let enters : Enters old t new = c.in_ok-enter.ensures.ok in
     let enters' = subst (λ (s : WalkState). Enters old (record { state = s; by = Some (record { from = at; label = e }) }) new) (c.along.ensures.state ∙ ap (state_along g r x e) here) enters in
     let goes_on = Extends-enters old new t enters in

@@ -1,7 +1,7 @@
 use Rattle.sg_node.proofs.sessions.tell_backed.Goals as goal
 
 pub returns-in-AtTurn : goal.returns-in-AtTurn
-returns-in-AtTurn c = rw c.in-AtTurn.is c.node.ensures.backed
+returns-in-AtTurn c = rw c.in-AtTurn.is c.node.ensures.reachable
 
 pub returns-in-Waiting : goal.returns-in-Waiting
-returns-in-Waiting c = rw c.in-Waiting.is c.before-in-Waiting.ensures.backed
+returns-in-Waiting c = rw c.in-Waiting.is c.before-in-Waiting.ensures.reachable

@@ -2,7 +2,7 @@ use Rattle.std.proofs.Common.{◌-◌, codes, sym, ◌∙◌}
 use Rattle.std.proofs.lemmas.Result.{err_from_is_err_and}
 use Rattle.sg_parse.specs.PartsReading.{read_part, repeat}
 use Rattle.sg_parse.specs.Tokens.{is_word}
-use Rattle.sg_parse.proofs.Places.{repeat_more, repeat_stop, repeat_done, repeat_full}
+use Rattle.sg_parse.proofs.Indices.{repeat_more, repeat_stop, repeat_done, repeat_full}
 use Rattle.sg_parse.proofs.parts.read_more.Goals as goal
 
 pub returns-then-not-at_word : goal.returns-then-not-at_word

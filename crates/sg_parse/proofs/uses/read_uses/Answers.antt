@@ -3,7 +3,7 @@ use Rattle.std.proofs.lemmas.Result.{err_from_is_err_and}
 use Rattle.sg_parse.specs.Parts.{part_names}
 use Rattle.sg_parse.specs.PartsReading.{read_use, read_uses}
 use Rattle.sg_parse.specs.Tokens.{is_use}
-use Rattle.sg_parse.proofs.Places.{repeat_more, repeat_stop, repeat_done, repeat_full}
+use Rattle.sg_parse.proofs.Indices.{repeat_more, repeat_stop, repeat_done, repeat_full}
 use Rattle.sg_parse.proofs.uses.read_uses.Goals as goal
 
 pub returns-then-not-at_use : goal.returns-then-not-at_use

@@ -6,7 +6,7 @@ use Rattle.sg_port.proofs.accepted.quietest.Given as goal
 
 abbrev pub invariant-loop-at : goal.invariant-loop-at
 invariant-loop-at l =
-    MatchOption l.found (AllWithin (λ place. silent_since place ≡ None) l.places 0 l.at) (λ f.
-    (f.0 < length l.places)
-    × HoldsAt (λ place. silent_since place ≡ Some (instant_nanos f.1)) l.places f.0
-    × AllWithin (λ place. IfSome (silent_since place) (λ time. instant_nanos f.1 ≤ time)) l.places 0 l.at)
+    MatchOption l.found (AllWithin (λ slot. silent_since slot ≡ None) l.slots 0 l.at) (λ f.
+    (f.0 < length l.slots)
+    × HoldsAt (λ slot. silent_since slot ≡ Some (instant_nanos f.1)) l.slots f.0
+    × AllWithin (λ slot. IfSome (silent_since slot) (λ time. instant_nanos f.1 ≤ time)) l.slots 0 l.at)

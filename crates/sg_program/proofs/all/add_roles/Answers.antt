@@ -6,8 +6,8 @@ use Rattle.sg_program.proofs.all.add_roles.Goals as goal
 
 pub returns-in-Err-clause-refused : goal.returns-in-Err-clause-refused
 returns-in-Err-clause-refused c =
-    subst (IsGraphFault c.args.programs.now c.args.place c.args.graph.now) (sym c.fault_at.ensures)
-    (stopped_first c.args.programs.now c.args.place c.args.graph.now c.in-Err.fault c.requires.two c.requires.each c.in-Err.ensures.refused)
+    subst (IsGraphFault c.args.programs.now c.args.index c.args.graph.now) (sym c.fault_at.ensures)
+    (stopped_first c.args.programs.now c.args.index c.args.graph.now c.in-Err.fault c.requires.two c.requires.each c.in-Err.ensures.refused)
 
 pub push-requires : goal.push-requires
 push-requires c = no_clash c.args.graph.now c.loop-number.number c.in-Ok.program c.loop-number.programs c.in-Ok.ensures.compiled c.loop-number.invariant.each c.loop-number.invariant.apart

@@ -5,5 +5,5 @@ use Rattle.sg_program.proofs.all.compile_all.Goals as goal
 
 pub add_roles-requires-clause-new : goal.add_roles-requires-clause-new
 add_roles-requires-clause-new c =
-    others_compiled c.args.graphs.now c.loop-place.place c.index-graphs-place.result c.loop-place.programs c.requires.names
-    (slice_get-get_or c.args.graphs.now c.loop-place.place c.index-graphs-place.result c.loop-place-test.true ∙ ap Some (sym c.index-graphs-place.is)) c.loop-place.invariant.all
+    others_compiled c.args.graphs.now c.loop-index.index c.index-graphs-index.result c.loop-index.programs c.requires.names
+    (slice_get-get_or c.args.graphs.now c.loop-index.index c.index-graphs-index.result c.loop-index-test.true ∙ ap Some (sym c.index-graphs-index.is)) c.loop-index.invariant.all

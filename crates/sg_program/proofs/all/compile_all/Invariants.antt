@@ -5,8 +5,8 @@ use Rattle.sg_program.specs.All.{pairs_of}
 use Rattle.sg_program.specs.Compiled.{IsWhole}
 use Rattle.sg_program.proofs.all.compile_all.Given as goal
 
-abbrev pub invariant-loop-place : goal.invariant-loop-place
-invariant-loop-place l = record {
+abbrev pub invariant-loop-index : goal.invariant-loop-index
+invariant-loop-index l = record {
   each : All IsWhole l.programs;
-  all : pairs_of l.programs ≡ parts (take l.place l.graphs);
+  all : pairs_of l.programs ≡ parts (take l.index l.graphs);
 }

@@ -5,9 +5,9 @@ use Rattle.sg_graph.specs.declared.edge.Edge.{Edge}
 use Rattle.sg_model.specs.Lists.{is_in}
 use Rattle.sg_model.specs.Shape.{source, target, role_at}
 use Rattle.sg_protocol.specs.Graph.{shape}
-use Rattle.sg_reach.specs.Found.{found_at}
-use Rattle.sg_reach.specs.declared.search.Found.{Found}
-use Rattle.sg_reach.proofs.Leaving.{IsLeft, left_at_first, left_on, none_left, at_place}
+use Rattle.sg_reach.specs.WalkEnd.{found_at}
+use Rattle.sg_reach.specs.declared.search.WalkEnd.{WalkEnd}
+use Rattle.sg_reach.proofs.Leaving.{IsLeft, left_at_first, left_on, none_left, at_index}
 use Rattle.sg_reach.proofs.Searching.{search_with, followed, count_free}
 use Rattle.sg_reach.proofs.reach.follow.Goals as goal
 
@@ -22,7 +22,7 @@ loop-label-init c =
     ap (found_at c.args.search.now.found) (sym c.node.view_is) ∙ get_or_default c.args.search.now.found c.node.inside.0 None _ inner ∙ c.in-Some.is in
     record {
       search = search_with g (λ e. source g e ≡ n) (IsLeft labels 0) c.args.search.now c.requires.search (λ e l p leaves. inr (left_at_first labels e (c.edges_from-label-items.ensures.all e (rw length-map at l) leaves)));
-      walk = (c.in-Some.found.edges, omega arith, ap (option_map (λ (f : Found). f.edges)) found);
+      walk = (c.in-Some.found.edges, omega arith, ap (option_map (λ (f : WalkEnd). f.edges)) found);
       from = refl;
       past = refl;
       at = refl;
@@ -30,7 +30,7 @@ loop-label-init c =
 
 pub edge-requires : goal.edge-requires
 edge-requires c =
-    (at_place (λ e. (e < length c.args.graph.now.edges) × (source (shape c.args.graph.now) e ≡ c.args.node)) c.edges_from-label-items.result.now c.loop-label.label-index c.label-item.result c.edges_from-label-items.ensures.each c.loop-label-test.true
+    (at_index (λ e. (e < length c.args.graph.now.edges) × (source (shape c.args.graph.now) e ≡ c.args.node)) c.edges_from-label-items.result.now c.loop-label.label-index c.label-item.result c.edges_from-label-items.ensures.each c.loop-label-test.true
     c.label-item.is).0.0
 
 pub enter-requires-clause-room : goal.enter-requires-clause-room
@@ -49,7 +49,7 @@ loop-label-preserved c =
     let s = c.loop-label.search in
     let labels = c.edges_from-label-items.result.now in
     let at = c.loop-label.label-index in
-    let here = at_place (λ e. (e < length c.args.graph.now.edges) × (source (shape c.args.graph.now) e ≡ c.args.node)) labels at l c.edges_from-label-items.ensures.each c.loop-label-test.true c.label-item.is in
+    let here = at_index (λ e. (e < length c.args.graph.now.edges) × (source (shape c.args.graph.now) e ≡ c.args.node)) labels at l c.edges_from-label-items.ensures.each c.loop-label-test.true c.label-item.is in
     let inner : l < length g.edges = rw length-map here.0.0 in
     let to : target g l ≡ t = sym (ap (λ (e : Edge). e.target) c.edge.ensures.edge) in
     let there : t < length g.roles = rw length-map c.edge.ensures.ends.1 in

@@ -1,10 +1,10 @@
 use Rattle.std.proofs.Common.{◌≤◌, ◌+◌, length}
-use Rattle.sg_read.specs.Standing.{Stands}
+use Rattle.sg_read.specs.ReadSoFar.{HasRead}
 use Rattle.sg_read.proofs.read.read_schedule.Given as goal
 
 abbrev pub invariant-lines : goal.invariant-lines
 invariant-lines l = record {
-  stands : Stands l.bytes l.reader l.rest;
+  has_read : HasRead l.bytes l.reader l.rest;
   few : l.reader.number + length l.rest ≤ length l.bytes;
 }
 

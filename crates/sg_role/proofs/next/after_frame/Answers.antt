@@ -8,7 +8,7 @@ use Rattle.sg_protocol.specs.Frame.{Item, Frame}
 use Rattle.sg_protocol.specs.Graph.{Graph, shape}
 use Rattle.sg_protocol.specs.Kept.{kept_items}
 use Rattle.sg_protocol.specs.Session.{last_label, opening_in}
-use Rattle.sg_protocol.specs.Standing.{Held}
+use Rattle.sg_protocol.specs.Representation.{Held}
 use Rattle.sg_role.specs.Model.{state_of}
 use Rattle.sg_role.proofs.NextState.{labels_there, next_is}
 use Rattle.sg_role.proofs.next.after_frame.Goals as goal

@@ -9,6 +9,6 @@ returns c = λ g n.
     ∙ c.in_ok-keep_each.ensures
     ∙ ap (λ more. c.keep_each.new.list.items ++ kept_from c.args.count c.in_ok-earlier.earlier more) (append-nil c.args.more.now)
     ∙ c.in_ok-earlier.ensures
-    ∙ ap (λ front. front ++ kept_from c.args.count c.new.result (c.args.items.now ++ c.args.more.now)) c.new-list.ensures.items
+    ∙ ap (λ prefix. prefix ++ kept_from c.args.count c.new.result (c.args.items.now ++ c.args.more.now)) c.new-list.ensures.items
     ∙ ap (λ e. kept_from c.args.count e (c.args.items.now ++ c.args.more.now)) c.new.ensures
     ∙ kept_made g c.args.count (c.args.items.now ++ c.args.more.now) n

@@ -3,7 +3,7 @@ use Rattle.sg_model.specs.Lists.{first_some}
 use Rattle.sg_protocol.specs.Calls.{Refusal}
 use Rattle.sg_protocol.specs.Notes.{notes_in_session, row_number}
 use Rattle.sg_protocol.specs.Session.{Took}
-use Rattle.sg_protocol.specs.Standing.{StandsBefore, held_after}
+use Rattle.sg_protocol.specs.Representation.{RepresentsBefore, held_after}
 use Rattle.sg_protocol.specs.Texts.{real}
 use Rattle.sg_protocol.specs.Verdict.{rows_of_session}
 use Rattle.sg_role.specs.Faults.{Refuses}
@@ -19,9 +19,9 @@ returns-else-is_memory-clause-refused c = λ s b.
     let f = c.args.frame.now in
     let st : RoleState = state_of c.as_ref.result.now in
     let e : st ≡ c.args.before.now = ap state_of c.as_ref.ensures ∙ c.before-2.view_is in
-    let stands : StandsBefore st.program.graph st.held s = subst (λ (z : RoleState). StandsBefore z.program.graph z.held s) (sym e) b in
+    let represents : RepresentsBefore st.program.graph st.held s = subst (λ (z : RoleState). RepresentsBefore z.program.graph z.held s) (sym e) b in
     let rows : first_some (rows_from keys st.program st.held f) ≡ first_some (rows_of_session real keys c.args.before.now.program s f) =
-    rows_held keys st.program c.look-result.ensures.is_program st.held refl s stands f c.requires.spelled.is_frame ∙ ap (λ (z : RoleState). first_some (rows_of_session real keys z.program s f)) e in
+    rows_held keys st.program c.look-result.ensures.is_program st.held refl s represents f c.requires.spelled.is_frame ∙ ap (λ (z : RoleState). first_some (rows_of_session real keys z.program s f)) e in
     subst (λ (o : Option Refusal). IfErr c.look-result.result (Refuses o)) rows c.look-result.ensures.refused
 
 pub returns-else-is_memory-clause-accepted : goal.returns-else-is_memory-clause-accepted
@@ -30,9 +30,9 @@ returns-else-is_memory-clause-accepted c = λ s b.
     let f = c.args.frame.now in
     let st : RoleState = state_of c.as_ref.result.now in
     let e : st ≡ c.args.before.now = ap state_of c.as_ref.ensures ∙ c.before-2.view_is in
-    let stands : StandsBefore st.program.graph st.held s = subst (λ (z : RoleState). StandsBefore z.program.graph z.held s) (sym e) b in
+    let represents : RepresentsBefore st.program.graph st.held s = subst (λ (z : RoleState). RepresentsBefore z.program.graph z.held s) (sym e) b in
     let rows : first_some (rows_from keys st.program st.held f) ≡ first_some (rows_of_session real keys c.args.before.now.program s f) =
-    rows_held keys st.program c.look-result.ensures.is_program st.held refl s stands f c.requires.spelled.is_frame ∙ ap (λ (z : RoleState). first_some (rows_of_session real keys z.program s f)) e in
+    rows_held keys st.program c.look-result.ensures.is_program st.held refl s represents f c.requires.spelled.is_frame ∙ ap (λ (z : RoleState). first_some (rows_of_session real keys z.program s f)) e in
     subst (λ (o : Option Refusal). IfOk c.look-result.result (λ a. o ≡ None)) rows c.look-result.ensures.accepted
 
 pub returns-else-is_memory-clause-notes : goal.returns-else-is_memory-clause-notes
@@ -41,9 +41,9 @@ returns-else-is_memory-clause-notes c = λ s b n.
     let f = c.args.frame.now in
     let st : RoleState = state_of c.as_ref.result.now in
     let e : st ≡ c.args.before.now = ap state_of c.as_ref.ensures ∙ c.before-2.view_is in
-    let stands : StandsBefore st.program.graph st.held s = subst (λ (z : RoleState). StandsBefore z.program.graph z.held s) (sym e) b in
+    let represents : RepresentsBefore st.program.graph st.held s = subst (λ (z : RoleState). RepresentsBefore z.program.graph z.held s) (sym e) b in
     c.look-result.ensures.noted n
-    ∙ ap (with_notes c.args.notes.now) (notes_held keys st.program c.look-result.ensures.is_program st.held refl s stands f c.requires.spelled.is_frame
+    ∙ ap (with_notes c.args.notes.now) (notes_held keys st.program c.look-result.ensures.is_program st.held refl s represents f c.requires.spelled.is_frame
     ∙ ap (λ (z : RoleState). notes_in_session real keys z.program s f (row_number (first_some (rows_of_session real keys z.program s f)))) e)
 
 pub returns-else-is_memory-clause-after : goal.returns-else-is_memory-clause-after

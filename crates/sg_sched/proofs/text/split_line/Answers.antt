@@ -4,4 +4,4 @@ use Rattle.sg_sched.proofs.text.split_line.Goals as goal
 
 pub returns-clause-split : goal.returns-clause-split
 returns-clause-split c =
-    rw (c.split_at.ensures.front, c.split_at.ensures.back, c.min.ensures, take_min, drop_min, c.place_of-at.ensures.first) (lines_first c.args.bytes.now c.requires)
+    rw (c.split_at.ensures.front, c.split_at.ensures.back, c.min.ensures, take_min, drop_min, c.index_of-at.ensures.first) (lines_first c.args.bytes.now c.requires)

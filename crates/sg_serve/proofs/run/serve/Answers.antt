@@ -2,7 +2,7 @@ use Rattle.std.proofs.Common.{rules, ◌≡◌, ℕ, List, [], Bool, Some, Err, 
 use Rattle.std.specs.Prelude.{is_some}
 use Rattle.sg_input.specs.Lines.{lines_left, lines_of}
 use Rattle.sg_input.specs.Model.{Reading}
-use Rattle.sg_ledger.specs.Format.{Opened}
+use Rattle.sg_ledger.specs.Format.{OpenLedger}
 use Rattle.sg_serve.specs.Served.{Outside, Served, images_if, joins_kept, opening}
 use Rattle.sg_serve.proofs.Running.{gave_none, holds_first, not_begun}
 use Rattle.sg_serve.proofs.run.serve.Goals as goal
@@ -10,18 +10,18 @@ use Rattle.sg_serve.proofs.run.serve.Goals as goal
 pub returns-in_default-clause-served : goal.returns-in_default-clause-served
 returns-in_default-clause-served g c = λ bytes coming words told comes drawn.
     not_begun (record { written = g.O.Sink.written c.args.out.now; sent = g.L.Link.sent c.args.link.now; coming = g.L.TimedLink.coming c.args.link.now; failed = g.L.Link.faults c.args.link.now }) (g.R.Fresh.words c.args.fresh.now)
-    (images_if (is_some c.args.ledger) (g.D.Disk.may_leave c.args.disk.now)) c.args.keys.now c.args.programs.now (joins_kept c.args.ledger) coming words (lines_of bytes) _ refl c.requires.stands
+    (images_if (is_some c.args.ledger) (g.D.Disk.may_leave c.args.disk.now)) c.args.keys.now c.args.programs.now (joins_kept c.args.ledger) coming words (lines_of bytes) _ refl c.requires.represents
 
 pub returns-in_err-server-clause-served : goal.returns-in_err-server-clause-served
 returns-in_err-server-clause-served g c = let same : c.from_residual.result ≡ Err c.in_err-server.field-0.0 = search rules in λ bytes coming words told comes drawn.
     let start : Outside = record { written = g.O.Sink.written c.args.out.now; sent = g.L.Link.sent c.args.link.now; coming = g.L.TimedLink.coming c.args.link.now; failed = g.L.Link.faults c.args.link.now } in
     let images = images_if (is_some c.args.ledger) (g.D.Disk.may_leave c.args.disk.now) in
     subst (λ x. Served start start (g.R.Fresh.words c.args.fresh.now) images (opening c.args.keys.now c.args.programs.now (joins_kept c.args.ledger) coming words) (lines_of bytes) x) (sym same)
-    (not_begun start (g.R.Fresh.words c.args.fresh.now) images c.args.keys.now c.args.programs.now (joins_kept c.args.ledger) coming words (lines_of bytes) c.in_err-server.field-0.0 c.in_err-server.ensures.memory c.requires.stands)
+    (not_begun start (g.R.Fresh.words c.args.fresh.now) images c.args.keys.now c.args.programs.now (joins_kept c.args.ledger) coming words (lines_of bytes) c.in_err-server.field-0.0 c.in_err-server.ensures.memory c.requires.represents)
 
 pub serve_all-requires : goal.serve_all-requires
 serve_all-requires g c = record {
-  holds = holds_first c.in_ok-server.server c.args.ledger (g.D.Disk.may_leave c.args.disk.now) c.args.keys.now c.args.programs.now c.in_ok-server.ensures.ledger (c.in_ok-server.ensures.stands []) c.requires.working c.requires.stands;
+  holds = holds_first c.in_ok-server.server c.args.ledger (g.D.Disk.may_leave c.args.disk.now) c.args.keys.now c.args.programs.now c.in_ok-server.ensures.ledger (c.in_ok-server.ensures.represents []) c.requires.working c.requires.represents;
 }
 
 pub returns-clause-served : goal.returns-clause-served
@@ -31,7 +31,7 @@ returns-clause-served g c = λ bytes coming words told comes drawn.
     let first = opening c.args.keys.now c.args.programs.now (joins_kept c.args.ledger) coming words in
     subst (λ (b : Bool). Served start now (g.R.Fresh.words c.serve_all.new.fresh) (images_if b (g.D.Disk.may_leave c.serve_all.new.disk)) first (lines_of bytes) c.serve_all.result)
     (ap is_some c.in_ok-server.ensures.ledger)
-    (c.serve_all.ensures.served first (lines_of bytes) (c.in_ok-server.ensures.stands words)
+    (c.serve_all.ensures.served first (lines_of bytes) (c.in_ok-server.ensures.represents words)
     (ap (λ (r : Reading). lines_left r.unread (g.I.Input.coming c.args.input.now)) c.in-Ok.ensures ∙ ap (λ o. lines_left [] o) told)
     (record { gave = gave_none start c.args.keys.now c.args.programs.now (joins_kept c.args.ledger) coming words; words_left = drawn; coming = comes }))
 

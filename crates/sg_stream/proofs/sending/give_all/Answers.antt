@@ -10,7 +10,7 @@ loop-at-init g c = record {
   within = omega arith;
   bound = refl;
   never_falls = omega arith;
-  front = sym (traffic-none c.args.conn (g.C.Conns.held c.args.conns.now));
+  prefix = sym (traffic-none c.args.conn (g.C.Conns.held c.args.conns.now));
 }
 
 pub loop-at-preserved : goal.loop-at-preserved
@@ -18,9 +18,9 @@ loop-at-preserved g c = record {
   within = let fits = simp (length-take, length-drop) at c.in_ok-at.ensures.fits in omega arith;
   bound = c.in_ok-at.ensures.kept_bound ∙ c.loop-at.invariant.bound;
   never_falls = omega (arith, c.in_ok-at.ensures.never_falls, c.loop-at.invariant.never_falls);
-  front =
+  prefix =
       c.in_ok-at.ensures.given
-      ∙ (ap (option_map (after_give c.args.conn _)) c.loop-at.invariant.front
+      ∙ (ap (option_map (after_give c.args.conn _)) c.loop-at.invariant.prefix
       ∙ (traffic-more c.args.conn _ _ (g.C.Conns.held c.args.conns.now)
       ∙ ap (λ b. option_map (after_give c.args.conn b) (g.C.Conns.held c.args.conns.now)) (pieces_joined c.args.bytes.now c.loop-at.at c.in_ok-at.field-0)));
 }

@@ -8,7 +8,7 @@ invariant-loop-at g l = record {
   within : l.at ≤ length l.bytes;
   bound : g.C.Conns.bound l.conns ≡ g.C.Conns.bound l.initial.conns;
   never_falls : g.C.Conns.faults l.initial.conns ≤ g.C.Conns.faults l.conns;
-  front : g.C.Conns.held l.conns ≡ option_map (after_give l.conn (take l.at l.bytes)) (g.C.Conns.held l.initial.conns);
+  prefix : g.C.Conns.held l.conns ≡ option_map (after_give l.conn (take l.at l.bytes)) (g.C.Conns.held l.initial.conns);
 }
 
 abbrev pub decreases-loop-at : goal.decreases-loop-at

@@ -9,7 +9,7 @@ use Rattle.sg_stream.proofs.sending.post.Goals as goal
 
 pub returns-clause-kept : goal.returns-clause-kept
 returns-clause-kept g c = λ u.
-    let some = some_bytes c.give_message-given.result c.in_ok-conn.conn (message c.args.frame.now) _ _ c.give_message-given.ensures.whole c.give_message-given.ensures.front in
+    let some = some_bytes c.give_message-given.result c.in_ok-conn.conn (message c.args.frame.now) _ _ c.give_message-given.ensures.whole c.give_message-given.ensures.prefix in
     ap (to_come u) (c.close.ensures.closed ∙ ap (option_map (after_close c.in_ok-conn.conn)) (some.1 ∙ ap (option_map (after_give c.in_ok-conn.conn some.0)) c.in_ok-conn.ensures.made))
     ∙ ended-come c.in_ok-conn.conn c.args.to some.0 (g.C.Conns.held c.args.conns.now) c.in_ok-conn.ensures.apart u
 
@@ -20,12 +20,12 @@ returns-clause-wrote g c =
     c.close.ensures.closed ∙ ap (option_map (after_close c.in_ok-conn.conn)) (h ∙ ap (option_map (after_give c.in_ok-conn.conn (message c.args.frame.now))) c.in_ok-conn.ensures.made) in
     rw is (ended-wrote c.in_ok-conn.conn c.args.to (message c.args.frame.now) (g.C.Conns.held c.args.conns.now) c.in_ok-conn.ensures.apart)) c.give_message-given.ensures.whole
 
-pub returns-clause-front : goal.returns-clause-front
-returns-clause-front g c =
+pub returns-clause-prefix : goal.returns-clause-prefix
+returns-clause-prefix g c =
     on_err_weaker c.give_message-given.result (λ (count, less, h).
     let is : g.C.Conns.held c.close.new.self ≡ ended c.in_ok-conn.conn c.args.to (take count (message c.args.frame.now)) (g.C.Conns.held c.args.conns.now) =
     c.close.ensures.closed ∙ ap (option_map (after_close c.in_ok-conn.conn)) (h ∙ ap (option_map (after_give c.in_ok-conn.conn (take count (message c.args.frame.now)))) c.in_ok-conn.ensures.made) in
-    inr (count, less, rw is (ended-wrote c.in_ok-conn.conn c.args.to (take count (message c.args.frame.now)) (g.C.Conns.held c.args.conns.now) c.in_ok-conn.ensures.apart))) c.give_message-given.ensures.front
+    inr (count, less, rw is (ended-wrote c.in_ok-conn.conn c.args.to (take count (message c.args.frame.now)) (g.C.Conns.held c.args.conns.now) c.in_ok-conn.ensures.apart))) c.give_message-given.ensures.prefix
 
 pub returns-clause-posted : goal.returns-clause-posted
 returns-clause-posted g c =
@@ -38,4 +38,4 @@ pub returns-clause-kept_sent : goal.returns-clause-kept_sent
 returns-clause-kept_sent g c =
     on_err_weaker c.give_message-given.result (λ (count, less, h).
     ap sent_of (c.close.ensures.closed ∙ ap (option_map (after_close c.in_ok-conn.conn)) (h ∙ ap (option_map (after_give c.in_ok-conn.conn (take count (message c.args.frame.now)))) c.in_ok-conn.ensures.made))
-    ∙ ended-kept c.in_ok-conn.conn c.args.to c.args.frame.now count (g.C.Conns.held c.args.conns.now) c.in_ok-conn.ensures.apart c.requires less) c.give_message-given.ensures.front
+    ∙ ended-kept c.in_ok-conn.conn c.args.to c.args.frame.now count (g.C.Conns.held c.args.conns.now) c.in_ok-conn.ensures.apart c.requires less) c.give_message-given.ensures.prefix

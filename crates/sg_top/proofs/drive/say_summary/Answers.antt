@@ -17,7 +17,7 @@ returns-in-Ok g c = (
   c.as_slice.result.now,
   is_driving c.args.seed c.args.sessions c.args.graph.now c.args.programs.now c.args.bytes.now c.requires.spelled c.requires.compiled c.requires.few c.as_slice.result.now
       (subst (Sums c.args.seed c.args.sessions c.args.graph.now c.args.programs.now) (sym c.as_slice.ensures.value) c.in-Ok.ensures.sums),
-  (c.in-Err-write_all.ensures.front, c.in-Err-write_all.ensures.failed),
+  (c.in-Err-write_all.ensures.prefix, c.in-Err-write_all.ensures.failed),
 )
 
 pub returns : goal.returns

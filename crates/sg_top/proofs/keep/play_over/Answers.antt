@@ -14,7 +14,7 @@ returns-in-Err-clause-ends g c =
     let link : Linked = record { bound = g.L.Link.bound c.args.link.now; deliveries = g.L.Link.deliveries c.args.link.now; sent = g.L.Link.sent c.args.link.now; faults = g.L.Link.faults c.args.link.now } in
     let link1 : Linked = record { bound = g.L.Link.bound c.open.new.self; deliveries = g.L.Link.deliveries c.open.new.self; sent = g.L.Link.sent c.open.new.self; faults = g.L.Link.faults c.open.new.self } in
     let disk : Disked = record { bound = g.D.Disk.bound c.args.disk.now; seen = g.D.Disk.seen c.args.disk.now; may_leave = g.D.Disk.may_leave c.args.disk.now; faults = g.D.Disk.faults c.args.disk.now } in
-    without_link c.args.ledger.joins setup c.args.most out (g.R.Fresh.words c.args.fresh.now) link link1 c.open.ensures.kept c.open.ensures.kept_sent c.open.ensures.never_falls disk c.in-Err.ensures.failed c.requires.stands
+    without_link c.args.ledger.joins setup c.args.most out (g.R.Fresh.words c.args.fresh.now) link link1 c.open.ensures.kept c.open.ensures.kept_sent c.open.ensures.never_falls disk c.in-Err.ensures.failed c.requires.represents
 
 pub returns-clause-ends : goal.returns-clause-ends
 returns-clause-ends g c =

@@ -17,7 +17,7 @@ returns-in-Ok g c = (
   c.as_slice.result.now,
   is_replay c.args.programs.now c.args.schedule.now c.args.bytes.now c.requires.spelled c.requires.can c.requires.compiled c.requires.few c.as_slice.result.now
       (subst (Reports c.args.programs.now c.args.schedule.now) (sym c.as_slice.ensures.value) c.in-Ok.ensures.reports),
-  (c.in-Err-write_all.ensures.front, c.in-Err-write_all.ensures.failed),
+  (c.in-Err-write_all.ensures.prefix, c.in-Err-write_all.ensures.failed),
 )
 
 pub returns : goal.returns

@@ -1,11 +1,11 @@
 use Rattle.std.proofs.Common.{map, Bor, List, ℕ}
 use Rattle.std.proofs.lemmas.Result.{err_from_is_err_and}
 use Rattle.sg_top.specs.Model.{ending_held}
-use Rattle.sg_top.specs.Setup.{Named, AtPrincipal}
+use Rattle.sg_top.specs.Setup.{RunFiles, AtPrincipal}
 use Rattle.sg_top.proofs.InOrder.{has_setup, lacks_script}
 use Rattle.sg_top.proofs.setup.read_setup.Goals as goal
 
-abbrev named : Bor (List ℕ) → Bor (List ℕ) → Bor (List (Bor (List ℕ))) → Named
+abbrev named : Bor (List ℕ) → Bor (List ℕ) → Bor (List (Bor (List ℕ))) → RunFiles
 named keys script programs = record { keys = keys.now; programs = map (λ (p : Bor (List ℕ)). p.now) programs.now; script = script.now }
 
 pub returns-in_err-principal-clause-lacks : goal.returns-in_err-principal-clause-lacks

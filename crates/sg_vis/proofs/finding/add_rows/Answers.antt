@@ -3,7 +3,7 @@ use Rattle.std.proofs.lemmas.Bool.{eq-eqb}
 use Rattle.sg_model.specs.Shape.{receiver}
 use Rattle.sg_protocol.specs.Evidence.{View}
 use Rattle.sg_protocol.specs.Graph.{shape}
-use Rattle.sg_vis.specs.declared.places.Place.{Place}
+use Rattle.sg_vis.specs.declared.states.State.{State}
 use Rattle.sg_vis.specs.Search.{AreRows, Keeps}
 use Rattle.sg_vis.specs.Steps.{next_view}
 use Rattle.sg_vis.specs.Table.{ShownView, views_of}
@@ -15,7 +15,7 @@ pub loop-label-preserved : goal.loop-label-preserved
 loop-label-preserved c =
     let g = c.args.graph.now in
     let r = c.args.role in
-    let places = c.args.places.now in
+    let states = c.args.states.now in
     let labels = c.edges_from-label-items.result.now in
     let before = c.loop-label.rows.items in
     elim c.if-eq.branch [
@@ -26,12 +26,12 @@ loop-label-preserved c =
           subst (λ (table : List ShownView). record {
             rows : AreRows g r table;
             keeps : Keeps (views_of c.args.rows.now.items) (views_of table);
-            shown : (k : ℕ) (d : Place) → k < c.loop-label.label-index + 1 → receiver (shape g) (get_or labels k 0) ≡ r → Contains (views_of table) (next_view g r (get_or places c.args.at d).view (get_or labels k 0));
+            shown : (k : ℕ) (d : State) → k < c.loop-label.label-index + 1 → receiver (shape g) (get_or labels k 0) ≡ r → Contains (views_of table) (next_view g r (get_or states c.args.at d).view (get_or labels k 0));
           }) (sym is)
           (record {
             rows = done.rows;
             keeps = λ v h. done.keeps v (c.loop-label.invariant.keeps v h);
-            shown = shown-more g r places (views_of before) (views_of after) c.args.at c.loop-label.label-index labels c.label-item.result c.requires.there done.keeps c.loop-label-test.true c.label-item.is
+            shown = shown-more g r states (views_of before) (views_of after) c.args.at c.loop-label.label-index labels c.label-item.result c.requires.there done.keeps c.loop-label-test.true c.label-item.is
                 (λ t. done.shown) c.loop-label.invariant.shown;
           }))
       | else-eq w ↦
@@ -40,17 +40,17 @@ loop-label-preserved c =
           subst (λ (table : List ShownView). record {
             rows : AreRows g r table;
             keeps : Keeps (views_of c.args.rows.now.items) (views_of table);
-            shown : (k : ℕ) (d : Place) → k < c.loop-label.label-index + 1 → receiver (shape g) (get_or labels k 0) ≡ r → Contains (views_of table) (next_view g r (get_or places c.args.at d).view (get_or labels k 0));
+            shown : (k : ℕ) (d : State) → k < c.loop-label.label-index + 1 → receiver (shape g) (get_or labels k 0) ≡ r → Contains (views_of table) (next_view g r (get_or states c.args.at d).view (get_or labels k 0));
           }) (sym is)
           (record {
             rows = c.loop-label.invariant.rows;
             keeps = c.loop-label.invariant.keeps;
-            shown = shown-more g r places (views_of before) (views_of before) c.args.at c.loop-label.label-index labels c.label-item.result c.requires.there (λ v h. h) c.loop-label-test.true c.label-item.is
+            shown = shown-more g r states (views_of before) (views_of before) c.args.at c.loop-label.label-index labels c.label-item.result c.requires.there (λ v h. h) c.loop-label-test.true c.label-item.is
                 (λ t. absurd (true≢false (sym (eq-eqb (receiver (shape g) c.label-item.result) r t) ∙ other))) c.loop-label.invariant.shown;
           }))
     ]
 
 pub returns-clause-shown : goal.returns-clause-shown
 returns-clause-shown c =
-    shown-all c.args.graph.now c.args.role c.args.places.now (views_of c.loop-label.rows.items) c.args.at c.loop-label.label-index c.get.result.now c.edges_from-label-items.result.now
+    shown-all c.args.graph.now c.args.role c.args.states.now (views_of c.loop-label.rows.items) c.args.at c.loop-label.label-index c.get.result.now c.edges_from-label-items.result.now
     c.get.ensures c.edges_from-label-items.ensures.all c.loop-label-test.false c.loop-label.invariant.shown

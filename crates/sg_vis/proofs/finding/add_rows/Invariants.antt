@@ -4,13 +4,13 @@ use Rattle.sg_protocol.specs.Graph.{shape}
 use Rattle.sg_vis.specs.Search.{AreRows, Keeps}
 use Rattle.sg_vis.specs.Steps.{next_view}
 use Rattle.sg_vis.specs.Table.{views_of}
-use Rattle.sg_vis.specs.declared.places.Place.{Place}
+use Rattle.sg_vis.specs.declared.states.State.{State}
 use Rattle.sg_vis.proofs.finding.add_rows.Given as goal
 
 abbrev pub invariant-loop-label : goal.invariant-loop-label
 invariant-loop-label l = record {
   rows : AreRows l.graph l.role l.rows.items;
   keeps : Keeps (views_of l.fn.rows.items) (views_of l.rows.items);
-  shown : (k : ℕ) (d : Place) → k < l.label-index → receiver (shape l.graph) (get_or l.label-items k 0) ≡ l.role
-      → Contains (views_of l.rows.items) (next_view l.graph l.role (get_or l.places l.at d).view (get_or l.label-items k 0));
+  shown : (k : ℕ) (d : State) → k < l.label-index → receiver (shape l.graph) (get_or l.label-items k 0) ≡ l.role
+      → Contains (views_of l.rows.items) (next_view l.graph l.role (get_or l.states l.at d).view (get_or l.label-items k 0));
 }

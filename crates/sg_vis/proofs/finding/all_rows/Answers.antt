@@ -7,5 +7,5 @@ loop-at-preserved c =
     let done = c.in_ok-add_rows.ensures in
     record {
       rows = done.rows;
-      shown = shown-next c.args.graph.now c.args.role c.args.places.now (views_of c.loop-at.rows.items) (views_of c.add_rows.new.rows.items) c.loop-at.at done.keeps done.shown c.loop-at.invariant.shown;
+      shown = shown-next c.args.graph.now c.args.role c.args.states.now (views_of c.loop-at.rows.items) (views_of c.add_rows.new.rows.items) c.loop-at.at done.keeps done.shown c.loop-at.invariant.shown;
     }

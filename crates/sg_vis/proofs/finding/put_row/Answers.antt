@@ -12,6 +12,6 @@ returns-clause-table c =
       | in-Ok w ↦
           subst (λ (r : Result (Unit {0}) ViewFault). OnOk r (HoldsTable c.insert.new.self.items)) (sym w.result-is)
           (subst HoldsTable (sym w.in-Ok.ensures.items)
-          (holds-insert c.args.rows.now.items c.args.place c.args.row c.requires.table (λ e. c.if-len-eq-MOST_VIEWS.false (omega (arith, e, c.len.ensures, c.args.rows.now.ok))) c.requires.place))
+          (holds-insert c.args.rows.now.items c.args.index c.args.row c.requires.table (λ e. c.if-len-eq-MOST_VIEWS.false (omega (arith, e, c.len.ensures, c.args.rows.now.ok))) c.requires.index))
       | in-Err w ↦ subst (λ (r : Result (Unit {0}) ViewFault). OnOk r (HoldsTable c.insert.new.self.items)) (sym w.result-is) tt
     ]

@@ -7,15 +7,15 @@ use Rattle.sg_protocol.specs.Graph.{shape}
 use Rattle.sg_vis.specs.Search.{Arrives}
 use Rattle.sg_vis.specs.Steps.{next_view}
 use Rattle.sg_vis.specs.Table.{Shows}
-use Rattle.sg_vis.specs.declared.places.Place.{Place}
-use Rattle.sg_vis.proofs.Reached.{no_place, shown_on}
+use Rattle.sg_vis.specs.declared.states.State.{State}
+use Rattle.sg_vis.proofs.Reached.{no_state, shown_on}
 use Rattle.sg_vis.proofs.finding.walk_on.Goals as goal
 
 pub returns : goal.returns
 returns c = λ g r s l t leaves.
-    (let places = c.args.places.now in
-    let p : Place = get_or places c.args.at no_place in
-    let at : slice_get places c.args.at ≡ Some p = slice_get-get_or places c.args.at no_place c.requires.there in
+    (let states = c.args.states.now in
+    let p : State = get_or states c.args.at no_state in
+    let at : slice_get states c.args.at ≡ Some p = slice_get-get_or states c.args.at no_state c.requires.there in
     let arrives : Arrives g r p c.in_ok-walk.walk.items = subst (λ o. IfSome o (λ q. Arrives g r q c.in_ok-walk.walk.items)) at (c.in_ok-walk.ensures g r s) in
     let from : source (shape g) c.args.label ≡ p.node = subst (λ o. IfSome o (λ q. source (shape g) c.args.label ≡ q.node)) at leaves in
     let whole : c.from_vec.result ≡ c.in_ok-walk.walk.items ++ c.args.label ∷ [] = c.from_vec.ensures ∙ c.in_ok-push.ensures.items in

@@ -5,9 +5,9 @@ use Rattle.sg_world.specs.KeptLines.{met_in}
 use Rattle.sg_world.proofs.NamesMore.{declared_step}
 use Rattle.sg_world.proofs.names.declare_all.Goals as goal
 
-pub loop-place-preserved : goal.loop-place-preserved
-loop-place-preserved c = λ start.
-    let m = met_in (take c.loop-place.place c.args.sessions.now) [] in
-    c.in_ok-declare.ensures.ok 120 m refl (c.loop-place.invariant start)
-    ∙ ap (naming 120) (ap (λ (d : Declared). with_declared m d.name c.index-sids-place.result) c.session.view_is
-    ∙ declared_step c.args.sessions.now c.args.sids.now c.loop-place.place c.index-sessions-place.result c.index-sids-place.result c.requires c.loop-place-test.true c.index-sessions-place.is c.index-sids-place.is)
+pub loop-index-preserved : goal.loop-index-preserved
+loop-index-preserved c = λ start.
+    let m = met_in (take c.loop-index.index c.args.sessions.now) [] in
+    c.in_ok-declare.ensures.ok 120 m refl (c.loop-index.invariant start)
+    ∙ ap (naming 120) (ap (λ (d : Declared). with_declared m d.name c.index-sids-index.result) c.session.view_is
+    ∙ declared_step c.args.sessions.now c.args.sids.now c.loop-index.index c.index-sessions-index.result c.index-sids-index.result c.requires c.loop-index-test.true c.index-sessions-index.is c.index-sids-index.is)

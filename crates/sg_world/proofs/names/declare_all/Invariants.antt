@@ -4,5 +4,5 @@ use Rattle.sg_world.specs.KeptLines.{met_in}
 use Rattle.sg_world.proofs.names.declare_all.Given as goal
 
 -- the sessions so far are declared
-abbrev pub invariant-loop-place : goal.invariant-loop-place
-invariant-loop-place l = l.initial.names ≡ naming 120 (met_in [] []) → l.names ≡ naming 120 (met_in (take l.place l.sessions) [])
+abbrev pub invariant-loop-index : goal.invariant-loop-index
+invariant-loop-index l = l.initial.names ≡ naming 120 (met_in [] []) → l.names ≡ naming 120 (met_in (take l.index l.sessions) [])

@@ -11,9 +11,9 @@ use Rattle.sg_courses.proofs.Taking.{on_err}
 use Rattle.sg_world.proofs.nodes.call_at.Goals as goal
 
 pub returns-clause-comes : goal.returns-clause-comes
-returns-clause-comes c = if_is_ok (ComesAt c.args.setting.now.sessions c.args.recorded.now c.args.number (step_of c.args.step.now) c.args.place c.args.nodes.now.entries (set_value_at c.args.nodes.now.entries c.args.place c.call.new.node) c.call.new.came) c.call.result
+returns-clause-comes c = if_is_ok (ComesAt c.args.setting.now.sessions c.args.recorded.now c.args.number (step_of c.args.step.now) c.args.index c.args.nodes.now.entries (set_value_at c.args.nodes.now.entries c.args.index c.call.new.node) c.call.new.came) c.call.result
     (λ x e.
-    let entry = entry_at c.args.nodes.now.entries c.args.place c.index_mut.result.now c.index_mut.ensures.value in
+    let entry = entry_at c.args.nodes.now.entries c.args.index c.index_mut.result.now c.index_mut.ensures.value in
     record {
       who = entry.0;
       old = c.index_mut.result.now;
@@ -24,8 +24,8 @@ returns-clause-comes c = if_is_ok (ComesAt c.args.setting.now.sessions c.args.re
     })
 
 pub returns-clause-back : goal.returns-clause-back
-returns-clause-back c = on_err (c.call.new.node ≡ c.index_mut.result.now) (set_value_at c.args.nodes.now.entries c.args.place c.call.new.node ≡ c.args.nodes.now.entries) c.call.result
+returns-clause-back c = on_err (c.call.new.node ≡ c.index_mut.result.now) (set_value_at c.args.nodes.now.entries c.args.index c.call.new.node ≡ c.args.nodes.now.entries) c.call.result
     (λ same.
-    let entry = entry_at c.args.nodes.now.entries c.args.place c.index_mut.result.now c.index_mut.ensures.value in
-    ap (λ (z : NodeState). set_value_at c.args.nodes.now.entries c.args.place z) same ∙ same_value c.args.nodes.now.entries c.args.place entry.0 c.index_mut.result.now entry.1)
+    let entry = entry_at c.args.nodes.now.entries c.args.index c.index_mut.result.now c.index_mut.ensures.value in
+    ap (λ (z : NodeState). set_value_at c.args.nodes.now.entries c.args.index z) same ∙ same_value c.args.nodes.now.entries c.args.index entry.0 c.index_mut.result.now entry.1)
     c.call.ensures.back

@@ -5,16 +5,16 @@ use Rattle.sg_again.proofs.frames.LastFrames.of.Goals as goal
 
 pub returns-in_default : goal.returns-in_default
 returns-in_default c =
-    frame_missing c.self.inside.frames.entries c.self.inside.over.keys c.self.inside.places.entries c.args.sid.now c.self.invariant.0 (sym c.find_place.ensures ∙ c.in_default.is)
+    frame_missing c.self.inside.frames.entries c.self.inside.over.keys c.self.inside.indices.entries c.args.sid.now c.self.invariant.0 (sym c.find_index.ensures ∙ c.in_default.is)
     ∙ ap (λ (v : List Kept). frame_of v c.args.sid.now) c.self.view_is
 
 pub returns-in-Some-get : goal.returns-in-Some-get
 returns-in-Some-get c =
     ap (λ (f : SentFrame). Some f) c.frame.ensures
-    ∙ frame_found c.self.inside.frames.entries c.self.inside.over.keys c.self.inside.places.entries c.args.sid.now c.in-Some.place (Some c.in-Some-get.kept.now) c.self.invariant.0 (sym c.find_place.ensures ∙ c.in-Some.is) (sym c.in-Some-get.ensures.value)
+    ∙ frame_found c.self.inside.frames.entries c.self.inside.over.keys c.self.inside.indices.entries c.args.sid.now c.in-Some.index (Some c.in-Some-get.kept.now) c.self.invariant.0 (sym c.find_index.ensures ∙ c.in-Some.is) (sym c.in-Some-get.ensures.value)
     ∙ ap (λ (v : List Kept). frame_of v c.args.sid.now) c.self.view_is
 
 pub returns-in-None : goal.returns-in-None
 returns-in-None c =
-    frame_found c.self.inside.frames.entries c.self.inside.over.keys c.self.inside.places.entries c.args.sid.now c.in-Some.place None c.self.invariant.0 (sym c.find_place.ensures ∙ c.in-Some.is) (sym c.in-None.ensures.value)
+    frame_found c.self.inside.frames.entries c.self.inside.over.keys c.self.inside.indices.entries c.args.sid.now c.in-Some.index None c.self.invariant.0 (sym c.find_index.ensures ∙ c.in-Some.is) (sym c.in-None.ensures.value)
     ∙ ap (λ (v : List Kept). frame_of v c.args.sid.now) c.self.view_is

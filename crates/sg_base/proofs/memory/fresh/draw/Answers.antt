@@ -5,5 +5,5 @@ use Rattle.sg_base.proofs.memory.fresh.draw.Goals as goal
 pub returns-clause-word : goal.returns-clause-word
 returns-clause-word c = ap (λ p. p.0) (c.fill_bytes_via_u32.ensures ∙ next_four _ c.requires)
 
-pub returns-clause-place : goal.returns-clause-place
-returns-clause-place c = ap (λ p. p.1) (c.fill_bytes_via_u32.ensures ∙ next_four _ c.requires)
+pub returns-clause-position : goal.returns-clause-position
+returns-clause-position c = ap (λ p. p.1) (c.fill_bytes_via_u32.ensures ∙ next_four _ c.requires)

@@ -10,7 +10,7 @@ invariant_of-result c =
     let named : is_name c.args.bytes.now ≡ true = sym c.spells_name.ensures ∙ c.if-not-spells_name.false in
     record {
       fits = search rules;
-      whole = rw c.put_front.ensures (grind (arith, common_steps));
-      zeros = rw (c.put_front.ensures, drop-replicate, drop-append_seam);
-      name = rw (c.put_front.ensures, take-append_seam) (search rules);
+      whole = rw c.put_prefix.ensures (grind (arith, common_steps));
+      zeros = rw (c.put_prefix.ensures, drop-replicate, drop-append_seam);
+      name = rw (c.put_prefix.ensures, take-append_seam) (search rules);
     }

@@ -18,9 +18,9 @@ returns-in-Some-clause-goes_on g c s before l bs honest call reads one =
     let now = c.take_at.new.table.entries in
     let e = event_of c.args.event.now in
     let f = c.args.frame.now in
-    on_ok (GoesAt (λ old new. Takes programs old new e f) es now c.in-Some.place) (GoOn s before l c.args.self.now (with_table programs now)) c.take_at.result
+    on_ok (GoesAt (λ old new. Takes programs old new e f) es now c.in-Some.index) (GoOn s before l c.args.self.now (with_table programs now)) c.take_at.result
     (λ h. subst (λ (old : Courses). GoOn s before l old (with_table programs now)) c.self.view_is
-    (received_at programs s before l e f bs es now call reads one c.in-Some.place c.in-Some.ensures.1 (c.in-Some.ensures.2 ∙ ap (λ (z : Frame). Some (z.sid, c.in-Some.ensures.1)) c.frame.view_is) h))
+    (received_at programs s before l e f bs es now call reads one c.in-Some.index c.in-Some.ensures.1 (c.in-Some.ensures.2 ∙ ap (λ (z : Frame). Some (z.sid, c.in-Some.ensures.1)) c.frame.view_is) h))
     c.take_at.ensures.ok
 
 pub returns-in-None-clause-goes_on : goal.returns-in-None-clause-goes_on

@@ -16,9 +16,9 @@ returns-in-Some-clause-goes_on c s before l sid label values confounders call on
     let es = c.self.inside.table.entries in
     let now = c.add_at.new.table.entries in
     let e = event_of c.args.event.now in
-    on_ok (GoesAt (λ old new. Adds old new e []) es now c.in-Some.place) (GoOn s before l c.args.self.now (with_table programs now)) c.add_at.result
+    on_ok (GoesAt (λ old new. Adds old new e []) es now c.in-Some.index) (GoOn s before l c.args.self.now (with_table programs now)) c.add_at.result
     (λ g. subst (λ (old : Courses). GoOn s before l old (with_table programs now)) c.self.view_is
-    (sent_at programs s before l e sid label values confounders es call one now c.in-Some.place c.in-Some.ensures.1 (c.in-Some.ensures.2 ∙ ap (λ (k : List ℕ). Some (k, c.in-Some.ensures.1)) c.sid_of.ensures) g))
+    (sent_at programs s before l e sid label values confounders es call one now c.in-Some.index c.in-Some.ensures.1 (c.in-Some.ensures.2 ∙ ap (λ (k : List ℕ). Some (k, c.in-Some.ensures.1)) c.sid_of.ensures) g))
     c.add_at.ensures.ok
 
 pub returns-in-None-clause-goes_on : goal.returns-in-None-clause-goes_on

@@ -1,5 +1,5 @@
 use Rattle.std.proofs.Common.{arith, rules}
-use Rattle.sg_crypt.proofs.Places.{holds_cast}
+use Rattle.sg_crypt.proofs.Slots.{holds_cast}
 use Rattle.sg_crypt.proofs.cast.Cast.new.Goals as goal
 
 pub invariant_of-result : goal.invariant_of-result

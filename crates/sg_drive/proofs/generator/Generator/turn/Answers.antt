@@ -1,23 +1,23 @@
-use Rattle.sg_drive.proofs.Turned.{frame_there, place_there, room_turned, turn_is, turn_stops}
+use Rattle.sg_drive.proofs.Turned.{frame_there, index_there, room_turned, turn_is, turn_stops}
 use Rattle.sg_drive.specs.Held.{fate_held}
 use Rattle.sg_drive.proofs.generator.Generator.turn.Goals as goal
 
 pub take_out-frame-requires : goal.take_out-frame-requires
-take_out-frame-requires c = place_there c.args.self.now c.draw_place-place.new.self c.draw-drawn.new.self c.draw_place-place.result c.draw_place-place.ensures.going c.draw-drawn.ensures.going c.draw_place-place.ensures.there
+take_out-frame-requires c = index_there c.args.self.now c.draw_index-index.new.self c.draw-drawn.new.self c.draw_index-index.result c.draw_index-index.ensures.going c.draw-drawn.ensures.going c.draw_index-index.ensures.there
 
 pub meet-requires-clause-room : goal.meet-requires-clause-room
-meet-requires-clause-room c = room_turned c.args.self.now c.draw_place-place.new.self c.draw-drawn.new.self c.take_out-frame.new.self c.draw_place-place.result c.requires.room c.draw_place-place.ensures.going c.draw-drawn.ensures.going c.take_out-frame.ensures.going
+meet-requires-clause-room c = room_turned c.args.self.now c.draw_index-index.new.self c.draw-drawn.new.self c.take_out-frame.new.self c.draw_index-index.result c.requires.room c.draw_index-index.ensures.going c.draw-drawn.ensures.going c.take_out-frame.ensures.going
 
 pub meet-requires-clause-there : goal.meet-requires-clause-there
 meet-requires-clause-there c =
-    frame_there c.args.self.now c.draw_place-place.new.self c.draw-drawn.new.self c.take_out-frame.new.self c.draw_place-place.result c.take_out-frame.result c.requires.there c.draw_place-place.ensures.going c.draw-drawn.ensures.going c.take_out-frame.ensures.going c.take_out-frame.ensures.taken
+    frame_there c.args.self.now c.draw_index-index.new.self c.draw-drawn.new.self c.take_out-frame.new.self c.draw_index-index.result c.take_out-frame.result c.requires.there c.draw_index-index.ensures.going c.draw-drawn.ensures.going c.take_out-frame.ensures.going c.take_out-frame.ensures.taken
 
 pub returns-clause-going : goal.returns-clause-going
 returns-clause-going c =
-    turn_is c.args.self.now c.draw_place-place.new.self c.draw-drawn.new.self c.take_out-frame.new.self c.draw_place-place.result c.draw-drawn.result c.take_out-frame.result (fate_held c.fate-fate.result) c.draw_place-place.ensures.place c.draw-drawn.ensures.value c.draw_place-place.ensures.going
+    turn_is c.args.self.now c.draw_index-index.new.self c.draw-drawn.new.self c.take_out-frame.new.self c.draw_index-index.result c.draw-drawn.result c.take_out-frame.result (fate_held c.fate-fate.result) c.draw_index-index.ensures.index c.draw-drawn.ensures.value c.draw_index-index.ensures.going
     c.draw-drawn.ensures.going c.take_out-frame.ensures.going c.take_out-frame.ensures.taken c.fate-fate.ensures c.meet.new.self c.meet.result c.meet.ensures.going
 
 pub returns-clause-stopped : goal.returns-clause-stopped
 returns-clause-stopped c =
-    turn_stops c.args.self.now c.draw_place-place.new.self c.draw-drawn.new.self c.take_out-frame.new.self c.draw_place-place.result c.draw-drawn.result c.take_out-frame.result (fate_held c.fate-fate.result) c.draw_place-place.ensures.place c.draw-drawn.ensures.value c.draw_place-place.ensures.going
+    turn_stops c.args.self.now c.draw_index-index.new.self c.draw-drawn.new.self c.take_out-frame.new.self c.draw_index-index.result c.draw-drawn.result c.take_out-frame.result (fate_held c.fate-fate.result) c.draw_index-index.ensures.index c.draw-drawn.ensures.value c.draw_index-index.ensures.going
     c.draw-drawn.ensures.going c.take_out-frame.ensures.going c.take_out-frame.ensures.taken c.fate-fate.ensures c.meet.result c.meet.ensures.stopped

@@ -4,6 +4,6 @@ use Rattle.sg_world.specs.Replay.{run_of}
 use Rattle.sg_drive.specs.Summary.{counts}
 use Rattle.sg_drive.proofs.tally.Tally.of.Given as goal
 
--- the counts of the steps before the place
-abbrev pub invariant-loop-place : goal.invariant-loop-place
-invariant-loop-place l = l.tally ≡ counts l.graph (take l.place (told_log (run_of l.world).log))
+-- the counts of the steps before the index
+abbrev pub invariant-loop-index : goal.invariant-loop-index
+invariant-loop-index l = l.tally ≡ counts l.graph (take l.index (told_log (run_of l.world).log))

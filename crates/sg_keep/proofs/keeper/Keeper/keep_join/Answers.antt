@@ -1,19 +1,19 @@
 use Rattle.std.proofs.Common.{◌≡◌, ◌⊎◌, ℕ, List, inl, inr, ⊎_elim, refl, sym, subst}
 use Rattle.std.specs.Prelude.{option_and_then}
-use Rattle.sg_ledger.specs.Format.{StandsFor}
+use Rattle.sg_ledger.specs.Format.{Represents}
 use Rattle.sg_report.specs.Outcome.{outcome_of}
 use Rattle.sg_keep.specs.Joins.{join_told, with_join}
-use Rattle.sg_keep.specs.Kept.{AllStandFor}
-use Rattle.sg_keep.specs.Standing.{HoldsJoins}
+use Rattle.sg_keep.specs.Kept.{AllRepresent}
+use Rattle.sg_keep.specs.Representation.{HoldsJoins}
 use Rattle.sg_keep.proofs.Adding.{on_err, on_ok_both}
-use Rattle.sg_keep.proofs.Asking.{holds_after, is_new, node_joins, not_failed, stand_now, working}
+use Rattle.sg_keep.proofs.Asking.{holds_after, is_new, node_joins, not_failed, represent_now, working}
 use Rattle.sg_keep.proofs.keeper.Keeper.keep_join.Goals as goal
 
 pub add_join-requires-clause-working : goal.add_join-requires-clause-working
 add_join-requires-clause-working g c = not_failed c.args.self.now (g.D.Disk.may_leave c.args.disk.now) (outcome_of c.args.outcome.now) c.requires.asked
 
 pub add_join-requires-clause-images : goal.add_join-requires-clause-images
-add_join-requires-clause-images g c = stand_now c.args.self.now (g.D.Disk.may_leave c.args.disk.now) (outcome_of c.args.outcome.now) c.requires.asked
+add_join-requires-clause-images g c = represent_now c.args.self.now (g.D.Disk.may_leave c.args.disk.now) (outcome_of c.args.outcome.now) c.requires.asked
 
 pub add_join-requires-clause-new : goal.add_join-requires-clause-new
 add_join-requires-clause-new g c = is_new c.args.self.now (g.D.Disk.may_leave c.args.disk.now) (outcome_of c.args.outcome.now) c.requires.asked
@@ -26,7 +26,7 @@ returns-clause-holds g c =
     let join = option_and_then join_told told in
     let k = c.args.self.now in
     let ledger = c.add_join.new.ledger in
-    on_ok_both c.add_join.result (ledger ≡ working (with_join k.ledger.joins join)) (AllStandFor after ledger.joins) (HoldsJoins (record k { ledger = ledger }) after)
+    on_ok_both c.add_join.result (ledger ≡ working (with_join k.ledger.joins join)) (AllRepresent after ledger.joins) (HoldsJoins (record k { ledger = ledger }) after)
     (λ is all. holds_after k before told c.requires.asked ledger after join refl is all) c.add_join.ensures.added c.add_join.ensures.images
 
 pub returns-clause-images : goal.returns-clause-images
@@ -36,5 +36,5 @@ returns-clause-images g c =
     let told = outcome_of c.args.outcome.now in
     let join = option_and_then join_told told in
     let k = c.args.self.now in
-    on_err c.add_join.result ((image : List ℕ) → after image → StandsFor image k.ledger.joins ⊎ StandsFor image (with_join k.ledger.joins join)) ((image : List ℕ) → after image → StandsFor image k.ledger.joins ⊎ StandsFor image k.player.node.joins)
-    (λ h image left. ⊎_elim (λ s. inl s) (λ s. inr (subst (StandsFor image) (sym (node_joins k before told c.requires.asked join refl)) s)) (h image left)) c.add_join.ensures.between
+    on_err c.add_join.result ((image : List ℕ) → after image → Represents image k.ledger.joins ⊎ Represents image (with_join k.ledger.joins join)) ((image : List ℕ) → after image → Represents image k.ledger.joins ⊎ Represents image k.player.node.joins)
+    (λ h image left. ⊎_elim (λ s. inl s) (λ s. inr (subst (Represents image) (sym (node_joins k before told c.requires.asked join refl)) s)) (h image left)) c.add_join.ensures.between

@@ -6,7 +6,7 @@ use Rattle.sg_play.specs.Played.{Play, all_starts, starts}
 use Rattle.sg_play.proofs.Looping.{start_next}
 use Rattle.sg_keep.specs.Faults.{Counts}
 use Rattle.sg_keep.specs.Kept.{Kept}
-use Rattle.sg_keep.specs.Standing.{CameTo}
+use Rattle.sg_keep.specs.Representation.{CameTo}
 use Rattle.sg_keep.proofs.Counting.{falls_of, falls_on, later_tells, no_fall, went}
 use Rattle.sg_keep.proofs.Ending.{end_on, to_same}
 use Rattle.sg_keep.proofs.Going.{starts_on}

@@ -14,7 +14,7 @@ use Rattle.sg_keep.proofs.keeper.Keeper.start_one.Goals as goal
 pub tell-requires : goal.tell-requires
 tell-requires g c =
     let h = c.requires.holds in
-    record { asked = asked_node c.args.self.now c.ask_start.new.self (g.D.Disk.may_leave c.args.disk.now) (Start (cast_of_start c.args.self.now.player.programs.now c.args.start_of.now c.next-nonce.result)) (outcome_of c.in-Ok.outcome) (option_copied c.in-Ok.graph) h (c.in-Ok.ensures.comes 0 h.past h.stands) }
+    record { asked = asked_node c.args.self.now c.ask_start.new.self (g.D.Disk.may_leave c.args.disk.now) (Start (cast_of_start c.args.self.now.player.programs.now c.args.start_of.now c.next-nonce.result)) (outcome_of c.in-Ok.outcome) (option_copied c.in-Ok.graph) h (c.in-Ok.ensures.comes 0 h.past h.represents) }
 
 pub returns-in-Ok-clause-came : goal.returns-in-Ok-clause-came
 returns-in-Ok-clause-came g c = λ p start s w h.

@@ -6,7 +6,7 @@ use Rattle.sg_play.proofs.Looping.{delivery_next, left_next, left_none, taken_al
 use Rattle.sg_play.proofs.Running.{nothing_sent}
 use Rattle.sg_keep.specs.Faults.{Counts}
 use Rattle.sg_keep.specs.Kept.{Kept}
-use Rattle.sg_keep.specs.Standing.{CameTo}
+use Rattle.sg_keep.specs.Representation.{CameTo}
 use Rattle.sg_keep.proofs.Asking.{link_end, memory_end}
 use Rattle.sg_keep.proofs.Counting.{falls_of, falls_on, later_tells, link_full, link_tells, link_took, no_fall, went}
 use Rattle.sg_keep.proofs.Ending.{end_on, to_same}

@@ -7,7 +7,7 @@ use Rattle.sg_play.specs.Played.{answer_in, called}
 use Rattle.sg_play.proofs.Keeping.{keeps_same, keeps_then}
 use Rattle.sg_play.proofs.Running.{turn_given}
 use Rattle.sg_play.proofs.Telling.{told_given}
-use Rattle.sg_keep.proofs.Asking.{asked_then, holds_on, stands_kept, unkept, unplayed, untold}
+use Rattle.sg_keep.proofs.Asking.{asked_then, holds_on, represents_kept, unkept, unplayed, untold}
 use Rattle.sg_keep.proofs.Counting.{disk_falls_only, later_tells, of_play, play_went, unkept_tells}
 use Rattle.sg_keep.proofs.keeper.Keeper.tell.Goals as goal
 
@@ -71,7 +71,7 @@ returns-in-Ok-play_if-clause-came g c = λ p k start a w h.
     let given = c.in-Ok-give.ensures.came p k start (asked_then start now leaves c.args.self.now p k told graph a m c.keep_join.ensures.player c.in-Ok.ensures.holds) a.stays h in
     let sid = c.sid_told.ensures.told ∙ ap (option_and_then sid_told) a.asked.is_told ∙ told_given _ (answer_in p k) in
     let turn = turn_given start now c.play_if.new.self (g.R.Fresh.words c.play_if.new.fresh) p k c.sid_told.result (Ok tt) sid (c.in-Ok-play_if.ensures.came (called p k) start given.0 w given.1) in
-    (stands_kept start now leaves c.args.self.now p k told graph a m c.keep_join.ensures.player c.in-Ok.ensures.holds (record m { player = c.play_if.new.self }) turn.0.0, turn.0.1, turn.1)
+    (represents_kept start now leaves c.args.self.now p k told graph a m c.keep_join.ensures.player c.in-Ok.ensures.holds (record m { player = c.play_if.new.self }) turn.0.0, turn.0.1, turn.1)
 
 pub returns-in-Err-play_if-clause-faults : goal.returns-in-Err-play_if-clause-faults
 returns-in-Err-play_if-clause-faults g c =

@@ -16,7 +16,7 @@ loop-step-preserved c =
       joins = λ before p.
           (let turned : reverse c.push.new.self.items ≡ label ∷ reverse labels = ap reverse c.in_ok-push.ensures.items ∙ reverse-append labels (label ∷ []) in
           let joined : (before ++ label ∷ []) ++ reverse labels ≡ before ++ reverse c.push.new.self.items = append_assoc before (label ∷ []) (reverse labels) ∙ ap (λ (l : List ℕ). before ++ l) (sym turned) in
-          subst (IsPath states c.args.place) joined (held.joins (before ++ label ∷ []) (Goes (sym c.step.ensures.step ∙ c.in-Some.is) p)));
+          subst (IsPath states c.args.index) joined (held.joins (before ++ label ∷ []) (Goes (sym c.step.ensures.step ∙ c.in-Some.is) p)));
     }
 
 pub returns : goal.returns

@@ -6,7 +6,7 @@ use Rattle.sg_know.proofs.states.States.path.Given as goal
 abbrev pub invariant-loop-step : goal.invariant-loop-step
 invariant-loop-step l = record {
   within : l.at < length l.self;
-  joins : (before : List ℕ) → IsPath l.self l.at before → IsPath l.self l.place (before ++ reverse l.labels.items);
+  joins : (before : List ℕ) → IsPath l.self l.at before → IsPath l.self l.index (before ++ reverse l.labels.items);
 }
 
 abbrev pub decreases-loop-step : goal.decreases-loop-step

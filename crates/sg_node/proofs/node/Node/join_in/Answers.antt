@@ -4,9 +4,9 @@ use Rattle.std.specs.List.{AllByRecursion}
 use Rattle.sg_model.proofs.Small.{clash}
 use Rattle.sg_model.specs.Lists.{first_some}
 use Rattle.sg_protocol.specs.Notes.{row_number, notes_in_session}
-use Rattle.sg_protocol.specs.NodeStates.{NodeState, StandsForNode, state_taking}
+use Rattle.sg_protocol.specs.NodeStates.{NodeState, RepresentsNode, state_taking}
 use Rattle.sg_protocol.specs.Session.{Session}
-use Rattle.sg_protocol.specs.Standing.{StandsBefore}
+use Rattle.sg_protocol.specs.Representation.{RepresentsBefore}
 use Rattle.sg_protocol.specs.Texts.{real, session_id}
 use Rattle.sg_protocol.specs.Verdict.{rows_of_session, receipt, verdict_on}
 use Rattle.sg_walk.specs.Model.{event_of}
@@ -30,7 +30,7 @@ use Rattle.sg_node.specs.Slots.{Slot, slot_of, left_after}
 use Rattle.sg_node.proofs.Starts.{with_text}
 use Rattle.sg_node.proofs.Receipts.{ok_gives}
 use Rattle.sg_node.proofs.Continuing.{AcceptedBy}
-use Rattle.sg_node.proofs.Entering.{other_session, hindered, free_pair, no_place_yet, its_graph, its_count, its_version, its_bound, not_starter, refused, taken, noted_taken, noted_refused, join_slots, join_state}
+use Rattle.sg_node.proofs.Entering.{other_session, hindered, free_pair, no_slot_yet, its_graph, its_count, its_version, its_bound, not_starter, refused, taken, noted_taken, noted_refused, join_slots, join_state}
 use Rattle.sg_node.proofs.node.Node.join_in.Goals as goal
 
 pub returns-then-not-is_session-clause-answer : goal.returns-then-not-is_session-clause-answer
@@ -40,10 +40,10 @@ pub returns-then-not-is_session-clause-notes : goal.returns-then-not-is_session-
 returns-then-not-is_session-clause-notes c = λ m first st e k. e ∙ with_text first c.args.cast ∙ ap (with_notes first) (sym (other_session c.args.self.now c.args.frame.now c.args.cast c.requires.joins c.args.program.now c.requires.program c.requires.cast c.requires.covered m st (λ q. clash true refl (sym (c.if-not-is_session.ensures.1 (ap (λ (f : Frame). f.sid) c.frame.view_is ∙ q ∙ sym c.requires.session))))).1)
 
 pub returns-in-Some-clause-answer : goal.returns-in-Some-clause-answer
-returns-in-Some-clause-answer c = λ m st. subst (λ r. IsAnswer (verdict_on real m (Ok c.args.frame.now)) (option_map NotDelivered (refusal r))) (sym c.refusal_of.ensures) (hindered c.self.inside c.self.invariant c.args.frame.now c.args.cast c.requires.joins c.args.program.now (subst (λ (z : NodeState). program_for z.programs c.args.cast.graph c.args.frame.now.receiver ≡ Some c.args.program.now) (sym c.self.view_is) c.requires.program) (subst (λ (z : NodeState). (is_cast z.keys c.args.program.now.graph c.args.cast c.args.frame.now.receiver && nat_lt c.args.frame.now.sender (length c.args.cast.names)) ≡ true) (sym c.self.view_is) c.requires.cast) (subst (λ (z : NodeState). stranger z.keys c.args.cast ≡ None) (sym c.self.view_is) c.requires.covered) m (subst (λ (z : NodeState). StandsForNode z m) (sym c.self.view_is) st) (subst (λ (f : Frame). f.sid ≡ session_id real c.args.cast) c.frame.view_is (c.if-not-is_session.ensures.0 refl ∙ c.requires.session)) c.in-Some.obstacle (ap (λ (f : Frame). obstacle_to c.self.inside.joins.pairs (length (held_in c.self.inside.sessions.slots)) f.sid f.receiver) (sym c.frame.view_is) ∙ sym c.first_obstacle.ensures ∙ c.in-Some.is)).0
+returns-in-Some-clause-answer c = λ m st. subst (λ r. IsAnswer (verdict_on real m (Ok c.args.frame.now)) (option_map NotDelivered (refusal r))) (sym c.refusal_of.ensures) (hindered c.self.inside c.self.invariant c.args.frame.now c.args.cast c.requires.joins c.args.program.now (subst (λ (z : NodeState). program_for z.programs c.args.cast.graph c.args.frame.now.receiver ≡ Some c.args.program.now) (sym c.self.view_is) c.requires.program) (subst (λ (z : NodeState). (is_cast z.keys c.args.program.now.graph c.args.cast c.args.frame.now.receiver && nat_lt c.args.frame.now.sender (length c.args.cast.names)) ≡ true) (sym c.self.view_is) c.requires.cast) (subst (λ (z : NodeState). stranger z.keys c.args.cast ≡ None) (sym c.self.view_is) c.requires.covered) m (subst (λ (z : NodeState). RepresentsNode z m) (sym c.self.view_is) st) (subst (λ (f : Frame). f.sid ≡ session_id real c.args.cast) c.frame.view_is (c.if-not-is_session.ensures.0 refl ∙ c.requires.session)) c.in-Some.obstacle (ap (λ (f : Frame). obstacle_to c.self.inside.joins.pairs (length (held_in c.self.inside.sessions.slots)) f.sid f.receiver) (sym c.frame.view_is) ∙ sym c.first_obstacle.ensures ∙ c.in-Some.is)).0
 
 pub returns-in-Some-clause-notes : goal.returns-in-Some-clause-notes
-returns-in-Some-clause-notes c = λ m first st e k. e ∙ with_text first c.args.cast ∙ ap (with_notes first) (sym (hindered c.self.inside c.self.invariant c.args.frame.now c.args.cast c.requires.joins c.args.program.now (subst (λ (z : NodeState). program_for z.programs c.args.cast.graph c.args.frame.now.receiver ≡ Some c.args.program.now) (sym c.self.view_is) c.requires.program) (subst (λ (z : NodeState). (is_cast z.keys c.args.program.now.graph c.args.cast c.args.frame.now.receiver && nat_lt c.args.frame.now.sender (length c.args.cast.names)) ≡ true) (sym c.self.view_is) c.requires.cast) (subst (λ (z : NodeState). stranger z.keys c.args.cast ≡ None) (sym c.self.view_is) c.requires.covered) m (subst (λ (z : NodeState). StandsForNode z m) (sym c.self.view_is) st) (subst (λ (f : Frame). f.sid ≡ session_id real c.args.cast) c.frame.view_is (c.if-not-is_session.ensures.0 refl ∙ c.requires.session)) c.in-Some.obstacle (ap (λ (f : Frame). obstacle_to c.self.inside.joins.pairs (length (held_in c.self.inside.sessions.slots)) f.sid f.receiver) (sym c.frame.view_is) ∙ sym c.first_obstacle.ensures ∙ c.in-Some.is)).1)
+returns-in-Some-clause-notes c = λ m first st e k. e ∙ with_text first c.args.cast ∙ ap (with_notes first) (sym (hindered c.self.inside c.self.invariant c.args.frame.now c.args.cast c.requires.joins c.args.program.now (subst (λ (z : NodeState). program_for z.programs c.args.cast.graph c.args.frame.now.receiver ≡ Some c.args.program.now) (sym c.self.view_is) c.requires.program) (subst (λ (z : NodeState). (is_cast z.keys c.args.program.now.graph c.args.cast c.args.frame.now.receiver && nat_lt c.args.frame.now.sender (length c.args.cast.names)) ≡ true) (sym c.self.view_is) c.requires.cast) (subst (λ (z : NodeState). stranger z.keys c.args.cast ≡ None) (sym c.self.view_is) c.requires.covered) m (subst (λ (z : NodeState). RepresentsNode z m) (sym c.self.view_is) st) (subst (λ (f : Frame). f.sid ≡ session_id real c.args.cast) c.frame.view_is (c.if-not-is_session.ensures.0 refl ∙ c.requires.session)) c.in-Some.obstacle (ap (λ (f : Frame). obstacle_to c.self.inside.joins.pairs (length (held_in c.self.inside.sessions.slots)) f.sid f.receiver) (sym c.frame.view_is) ∙ sym c.first_obstacle.ensures ∙ c.in-Some.is)).1)
 
 pub make_room-requires : goal.make_room-requires
 make_room-requires c = (free_pair c.self.inside c.self.invariant c.args.frame.now c.args.cast c.requires.joins c.args.program.now (subst (λ (z : NodeState). program_for z.programs c.args.cast.graph c.args.frame.now.receiver ≡ Some c.args.program.now) (sym c.self.view_is) c.requires.program) (subst (λ (z : NodeState). (is_cast z.keys c.args.program.now.graph c.args.cast c.args.frame.now.receiver && nat_lt c.args.frame.now.sender (length c.args.cast.names)) ≡ true) (sym c.self.view_is) c.requires.cast) (subst (λ (z : NodeState). stranger z.keys c.args.cast ≡ None) (sym c.self.view_is) c.requires.covered) (subst (λ (f : Frame). f.sid ≡ session_id real c.args.cast) c.frame.view_is (c.if-not-is_session.ensures.0 refl ∙ c.requires.session)) (ap (λ (f : Frame). obstacle_to c.self.inside.joins.pairs (length (held_in c.self.inside.sessions.slots)) f.sid f.receiver) (sym c.frame.view_is) ∙ sym c.first_obstacle.ensures ∙ c.in_default.is)).1
@@ -66,11 +66,11 @@ join_session-requires-clause-count c = subst (λ js. length js < 65536) (sym c.m
 pub join_session-requires-clause-room : goal.join_session-requires-clause-room
 join_session-requires-clause-room c = let r : (0 < c.make_room.new.joins.spare) × (0 < c.make_room.new.sessions.spare) = (ok_gives _ c.make_room.result c.if-is_err.ensures.negation c.make_room.ensures.room) in r.0
 
-pub join_session-requires-clause-place : goal.join_session-requires-clause-place
-join_session-requires-clause-place c = let r : (0 < c.make_room.new.joins.spare) × (0 < c.make_room.new.sessions.spare) = (ok_gives _ c.make_room.result c.if-is_err.ensures.negation c.make_room.ensures.room) in r.1
+pub join_session-requires-clause-slot : goal.join_session-requires-clause-slot
+join_session-requires-clause-slot c = let r : (0 < c.make_room.new.joins.spare) × (0 < c.make_room.new.sessions.spare) = (ok_gives _ c.make_room.result c.if-is_err.ensures.negation c.make_room.ensures.room) in r.1
 
 pub join_session-requires-clause-free : goal.join_session-requires-clause-free
-join_session-requires-clause-free c = subst (λ (s : RoleState). ¬ Contains (map (λ (s : Slot). s.0) c.make_room.new.sessions.slots) (s.held.sid, s.held.role)) (sym c.in-Ok.ensures) (subst (λ ss. ¬ Contains (map (λ (s : Slot). s.0) ss) (session_id real c.args.cast, c.args.program.now.role)) (sym c.make_room.ensures.sessions) (no_place_yet c.self.inside c.self.invariant c.args.frame.now c.args.cast c.requires.joins c.args.program.now (subst (λ (z : NodeState). program_for z.programs c.args.cast.graph c.args.frame.now.receiver ≡ Some c.args.program.now) (sym c.self.view_is) c.requires.program) (subst (λ (z : NodeState). (is_cast z.keys c.args.program.now.graph c.args.cast c.args.frame.now.receiver && nat_lt c.args.frame.now.sender (length c.args.cast.names)) ≡ true) (sym c.self.view_is) c.requires.cast) (subst (λ (z : NodeState). stranger z.keys c.args.cast ≡ None) (sym c.self.view_is) c.requires.covered) (subst (λ (f : Frame). f.sid ≡ session_id real c.args.cast) c.frame.view_is (c.if-not-is_session.ensures.0 refl ∙ c.requires.session)) (ap (λ (f : Frame). obstacle_to c.self.inside.joins.pairs (length (held_in c.self.inside.sessions.slots)) f.sid f.receiver) (sym c.frame.view_is) ∙ sym c.first_obstacle.ensures ∙ c.in_default.is)))
+join_session-requires-clause-free c = subst (λ (s : RoleState). ¬ Contains (map (λ (s : Slot). s.0) c.make_room.new.sessions.slots) (s.held.sid, s.held.role)) (sym c.in-Ok.ensures) (subst (λ ss. ¬ Contains (map (λ (s : Slot). s.0) ss) (session_id real c.args.cast, c.args.program.now.role)) (sym c.make_room.ensures.sessions) (no_slot_yet c.self.inside c.self.invariant c.args.frame.now c.args.cast c.requires.joins c.args.program.now (subst (λ (z : NodeState). program_for z.programs c.args.cast.graph c.args.frame.now.receiver ≡ Some c.args.program.now) (sym c.self.view_is) c.requires.program) (subst (λ (z : NodeState). (is_cast z.keys c.args.program.now.graph c.args.cast c.args.frame.now.receiver && nat_lt c.args.frame.now.sender (length c.args.cast.names)) ≡ true) (sym c.self.view_is) c.requires.cast) (subst (λ (z : NodeState). stranger z.keys c.args.cast ≡ None) (sym c.self.view_is) c.requires.covered) (subst (λ (f : Frame). f.sid ≡ session_id real c.args.cast) c.frame.view_is (c.if-not-is_session.ensures.0 refl ∙ c.requires.session)) (ap (λ (f : Frame). obstacle_to c.self.inside.joins.pairs (length (held_in c.self.inside.sessions.slots)) f.sid f.receiver) (sym c.frame.view_is) ∙ sym c.first_obstacle.ensures ∙ c.in_default.is)))
 
 pub join_session-requires-clause-role : goal.join_session-requires-clause-role
 join_session-requires-clause-role c = subst (λ (s : RoleState). s.held.role < 16) (sym c.in-Ok.ensures) (its_bound c.self.inside c.self.invariant c.args.frame.now c.args.cast c.requires.joins c.args.program.now (subst (λ (z : NodeState). program_for z.programs c.args.cast.graph c.args.frame.now.receiver ≡ Some c.args.program.now) (sym c.self.view_is) c.requires.program) (subst (λ (z : NodeState). (is_cast z.keys c.args.program.now.graph c.args.cast c.args.frame.now.receiver && nat_lt c.args.frame.now.sender (length c.args.cast.names)) ≡ true) (sym c.self.view_is) c.requires.cast) (subst (λ (z : NodeState). stranger z.keys c.args.cast ≡ None) (sym c.self.view_is) c.requires.covered) c.requires.spelled.is_frame)
@@ -106,7 +106,7 @@ pub returns-in-Err-clause-back : goal.returns-in-Err-clause-back
 returns-in-Err-clause-back c = ap (λ js. record { keys = c.self.inside.keys; programs = c.self.inside.programs.now; joins = js; live = held_in c.make_room.new.sessions.slots }) c.make_room.ensures.joins ∙ ap (λ ss. record { keys = c.self.inside.keys; programs = c.self.inside.programs.now; joins = c.self.inside.joins.pairs; live = held_in ss }) c.make_room.ensures.sessions ∙ c.self.view_is
 
 pub returns-in-Ok-examine-clause-answer : goal.returns-in-Ok-examine-clause-answer
-returns-in-Ok-examine-clause-answer c = λ m st. received (verdict_on real m (Ok c.args.frame.now)) (receipt c.args.frame.now) c.join_session.result c.join_session.ensures.ok (IfOk-weaker c.join_session.result (λ x. event_of x ≡ c.in-Ok-examine.accepted.event) (λ x. event_of x ≡ receipt c.args.frame.now) (λ x q. q ∙ c.in-Ok-examine.ensures.event) c.join_session.ensures.event) (taken c.self.inside c.self.invariant c.args.frame.now c.args.cast c.requires.joins c.args.program.now (subst (λ (z : NodeState). program_for z.programs c.args.cast.graph c.args.frame.now.receiver ≡ Some c.args.program.now) (sym c.self.view_is) c.requires.program) (subst (λ (z : NodeState). (is_cast z.keys c.args.program.now.graph c.args.cast c.args.frame.now.receiver && nat_lt c.args.frame.now.sender (length c.args.cast.names)) ≡ true) (sym c.self.view_is) c.requires.cast) (subst (λ (z : NodeState). stranger z.keys c.args.cast ≡ None) (sym c.self.view_is) c.requires.covered) (subst (λ (f : Frame). f.sid ≡ session_id real c.args.cast) c.frame.view_is (c.if-not-is_session.ensures.0 refl ∙ c.requires.session)) m (subst (λ (z : NodeState). StandsForNode z m) (sym c.self.view_is) st) (ap (λ (f : Frame). obstacle_to c.self.inside.joins.pairs (length (held_in c.self.inside.sessions.slots)) f.sid f.receiver) (sym c.frame.view_is) ∙ sym c.first_obstacle.ensures ∙ c.in_default.is) c.in-Ok-examine.accepted (subst (λ (s : RoleState). AcceptedBy c.self.inside.keys s c.args.frame.now c.in-Ok-examine.accepted) c.in-Ok.ensures (record { rows = c.in-Ok-examine.ensures.accepted; program = c.in-Ok-examine.ensures.program; before = c.in-Ok-examine.ensures.before; after = c.in-Ok-examine.ensures.after; event = c.in-Ok-examine.ensures.event })))
+returns-in-Ok-examine-clause-answer c = λ m st. received (verdict_on real m (Ok c.args.frame.now)) (receipt c.args.frame.now) c.join_session.result c.join_session.ensures.ok (IfOk-weaker c.join_session.result (λ x. event_of x ≡ c.in-Ok-examine.accepted.event) (λ x. event_of x ≡ receipt c.args.frame.now) (λ x q. q ∙ c.in-Ok-examine.ensures.event) c.join_session.ensures.event) (taken c.self.inside c.self.invariant c.args.frame.now c.args.cast c.requires.joins c.args.program.now (subst (λ (z : NodeState). program_for z.programs c.args.cast.graph c.args.frame.now.receiver ≡ Some c.args.program.now) (sym c.self.view_is) c.requires.program) (subst (λ (z : NodeState). (is_cast z.keys c.args.program.now.graph c.args.cast c.args.frame.now.receiver && nat_lt c.args.frame.now.sender (length c.args.cast.names)) ≡ true) (sym c.self.view_is) c.requires.cast) (subst (λ (z : NodeState). stranger z.keys c.args.cast ≡ None) (sym c.self.view_is) c.requires.covered) (subst (λ (f : Frame). f.sid ≡ session_id real c.args.cast) c.frame.view_is (c.if-not-is_session.ensures.0 refl ∙ c.requires.session)) m (subst (λ (z : NodeState). RepresentsNode z m) (sym c.self.view_is) st) (ap (λ (f : Frame). obstacle_to c.self.inside.joins.pairs (length (held_in c.self.inside.sessions.slots)) f.sid f.receiver) (sym c.frame.view_is) ∙ sym c.first_obstacle.ensures ∙ c.in_default.is) c.in-Ok-examine.accepted (subst (λ (s : RoleState). AcceptedBy c.self.inside.keys s c.args.frame.now c.in-Ok-examine.accepted) c.in-Ok.ensures (record { rows = c.in-Ok-examine.ensures.accepted; program = c.in-Ok-examine.ensures.program; before = c.in-Ok-examine.ensures.before; after = c.in-Ok-examine.ensures.after; event = c.in-Ok-examine.ensures.event })))
 
 pub returns-in-Ok-examine-clause-taken : goal.returns-in-Ok-examine-clause-taken
 returns-in-Ok-examine-clause-taken c = let js = (c.join_session.ensures.joins ∙ ap (λ z. z ++ (c.in-Ok.before.held.sid, c.in-Ok.before.held.role) ∷ []) c.make_room.ensures.joins ∙ ap (λ (s : RoleState). c.self.inside.joins.pairs ++ (s.held.sid, s.held.role) ∷ []) c.in-Ok.ensures) in let ss = (c.join_session.ensures.slots ∙ ap (λ z. z ++ slot_of (c.in-Ok.before.held.sid, c.in-Ok.before.held.role) (left_after c.in-Ok-examine.accepted)) c.make_room.ensures.sessions ∙ ap (λ (s : RoleState). c.self.inside.sessions.slots ++ slot_of (s.held.sid, s.held.role) (left_after c.in-Ok-examine.accepted)) c.in-Ok.ensures) in in_ok _ c.join_session.result (subst (λ (z : NodeState). record { keys = c.self.inside.keys; programs = c.self.inside.programs.now; joins = c.join_session.new.joins.pairs; live = held_in c.join_session.new.sessions.slots } ≡ state_taking z (Ok c.args.frame.now)) c.self.view_is (ap (λ z. record { keys = c.self.inside.keys; programs = c.self.inside.programs.now; joins = z; live = held_in c.join_session.new.sessions.slots }) js ∙ ap (λ z. record { keys = c.self.inside.keys; programs = c.self.inside.programs.now; joins = c.self.inside.joins.pairs ++ (session_id real c.args.cast, c.args.program.now.role) ∷ []; live = held_in z }) ss ∙ join_state c.self.inside c.self.invariant c.args.frame.now c.args.cast c.requires.joins c.args.program.now (subst (λ (z : NodeState). program_for z.programs c.args.cast.graph c.args.frame.now.receiver ≡ Some c.args.program.now) (sym c.self.view_is) c.requires.program) (subst (λ (z : NodeState). (is_cast z.keys c.args.program.now.graph c.args.cast c.args.frame.now.receiver && nat_lt c.args.frame.now.sender (length c.args.cast.names)) ≡ true) (sym c.self.view_is) c.requires.cast) (subst (λ (z : NodeState). stranger z.keys c.args.cast ≡ None) (sym c.self.view_is) c.requires.covered) (subst (λ (f : Frame). f.sid ≡ session_id real c.args.cast) c.frame.view_is (c.if-not-is_session.ensures.0 refl ∙ c.requires.session)) c.requires.spelled.is_frame c.in-Ok-examine.accepted (subst (λ (s : RoleState). AcceptedBy c.self.inside.keys s c.args.frame.now c.in-Ok-examine.accepted) c.in-Ok.ensures (record { rows = c.in-Ok-examine.ensures.accepted; program = c.in-Ok-examine.ensures.program; before = c.in-Ok-examine.ensures.before; after = c.in-Ok-examine.ensures.after; event = c.in-Ok-examine.ensures.event }))))
@@ -115,13 +115,13 @@ pub returns-in-Ok-examine-clause-back : goal.returns-in-Ok-examine-clause-back
 returns-in-Ok-examine-clause-back c = not_err _ c.join_session.result c.join_session.ensures.ok
 
 pub returns-in-Ok-examine-clause-notes : goal.returns-in-Ok-examine-clause-notes
-returns-in-Ok-examine-clause-notes c = λ m first st e k. noted_taken c.self.inside c.self.invariant c.args.frame.now c.args.cast c.requires.joins c.args.program.now (subst (λ (z : NodeState). program_for z.programs c.args.cast.graph c.args.frame.now.receiver ≡ Some c.args.program.now) (sym c.self.view_is) c.requires.program) (subst (λ (z : NodeState). (is_cast z.keys c.args.program.now.graph c.args.cast c.args.frame.now.receiver && nat_lt c.args.frame.now.sender (length c.args.cast.names)) ≡ true) (sym c.self.view_is) c.requires.cast) (subst (λ (z : NodeState). stranger z.keys c.args.cast ≡ None) (sym c.self.view_is) c.requires.covered) (subst (λ (f : Frame). f.sid ≡ session_id real c.args.cast) c.frame.view_is (c.if-not-is_session.ensures.0 refl ∙ c.requires.session)) m (subst (λ (z : NodeState). StandsForNode z m) (sym c.self.view_is) st) (ap (λ (f : Frame). obstacle_to c.self.inside.joins.pairs (length (held_in c.self.inside.sessions.slots)) f.sid f.receiver) (sym c.frame.view_is) ∙ sym c.first_obstacle.ensures ∙ c.in_default.is) first c.args.notes.now c.examine.new.notes e (subst (λ (s : RoleState). (x : Session) → StandsBefore s.program.graph s.held x → c.examine.new.notes ≡ with_notes c.args.notes.now (notes_in_session real c.self.inside.keys s.program x c.args.frame.now (row_number (first_some (rows_of_session real c.self.inside.keys s.program x c.args.frame.now))))) c.in-Ok.ensures (λ x b. c.in-Ok-examine.ensures.notes x b (λ q. clash true refl (ap is_ok q)))) c.in-Ok-examine.accepted (subst (λ (s : RoleState). AcceptedBy c.self.inside.keys s c.args.frame.now c.in-Ok-examine.accepted) c.in-Ok.ensures (record { rows = c.in-Ok-examine.ensures.accepted; program = c.in-Ok-examine.ensures.program; before = c.in-Ok-examine.ensures.before; after = c.in-Ok-examine.ensures.after; event = c.in-Ok-examine.ensures.event }))
+returns-in-Ok-examine-clause-notes c = λ m first st e k. noted_taken c.self.inside c.self.invariant c.args.frame.now c.args.cast c.requires.joins c.args.program.now (subst (λ (z : NodeState). program_for z.programs c.args.cast.graph c.args.frame.now.receiver ≡ Some c.args.program.now) (sym c.self.view_is) c.requires.program) (subst (λ (z : NodeState). (is_cast z.keys c.args.program.now.graph c.args.cast c.args.frame.now.receiver && nat_lt c.args.frame.now.sender (length c.args.cast.names)) ≡ true) (sym c.self.view_is) c.requires.cast) (subst (λ (z : NodeState). stranger z.keys c.args.cast ≡ None) (sym c.self.view_is) c.requires.covered) (subst (λ (f : Frame). f.sid ≡ session_id real c.args.cast) c.frame.view_is (c.if-not-is_session.ensures.0 refl ∙ c.requires.session)) m (subst (λ (z : NodeState). RepresentsNode z m) (sym c.self.view_is) st) (ap (λ (f : Frame). obstacle_to c.self.inside.joins.pairs (length (held_in c.self.inside.sessions.slots)) f.sid f.receiver) (sym c.frame.view_is) ∙ sym c.first_obstacle.ensures ∙ c.in_default.is) first c.args.notes.now c.examine.new.notes e (subst (λ (s : RoleState). (x : Session) → RepresentsBefore s.program.graph s.held x → c.examine.new.notes ≡ with_notes c.args.notes.now (notes_in_session real c.self.inside.keys s.program x c.args.frame.now (row_number (first_some (rows_of_session real c.self.inside.keys s.program x c.args.frame.now))))) c.in-Ok.ensures (λ x b. c.in-Ok-examine.ensures.notes x b (λ q. clash true refl (ap is_ok q)))) c.in-Ok-examine.accepted (subst (λ (s : RoleState). AcceptedBy c.self.inside.keys s c.args.frame.now c.in-Ok-examine.accepted) c.in-Ok.ensures (record { rows = c.in-Ok-examine.ensures.accepted; program = c.in-Ok-examine.ensures.program; before = c.in-Ok-examine.ensures.before; after = c.in-Ok-examine.ensures.after; event = c.in-Ok-examine.ensures.event }))
 
 pub returns-in-Ok-examine-clause-memory : goal.returns-in-Ok-examine-clause-memory
 returns-in-Ok-examine-clause-memory c = λ q. no_err c.join_session.result refusals.OutOfMemory c.join_session.ensures.ok q
 
 pub returns-in-Err-clause-answer : goal.returns-in-Err-clause-answer
-returns-in-Err-clause-answer c = λ m st. refused_by (verdict_on real m (Ok c.args.frame.now)) c.in-Err.refusal c.refused.result c.refused.ensures (refused c.self.inside c.self.invariant c.args.frame.now c.args.cast c.requires.joins c.args.program.now (subst (λ (z : NodeState). program_for z.programs c.args.cast.graph c.args.frame.now.receiver ≡ Some c.args.program.now) (sym c.self.view_is) c.requires.program) (subst (λ (z : NodeState). (is_cast z.keys c.args.program.now.graph c.args.cast c.args.frame.now.receiver && nat_lt c.args.frame.now.sender (length c.args.cast.names)) ≡ true) (sym c.self.view_is) c.requires.cast) (subst (λ (z : NodeState). stranger z.keys c.args.cast ≡ None) (sym c.self.view_is) c.requires.covered) (subst (λ (f : Frame). f.sid ≡ session_id real c.args.cast) c.frame.view_is (c.if-not-is_session.ensures.0 refl ∙ c.requires.session)) m (subst (λ (z : NodeState). StandsForNode z m) (sym c.self.view_is) st) (ap (λ (f : Frame). obstacle_to c.self.inside.joins.pairs (length (held_in c.self.inside.sessions.slots)) f.sid f.receiver) (sym c.frame.view_is) ∙ sym c.first_obstacle.ensures ∙ c.in_default.is) c.in-Err.refusal (subst (λ (s : RoleState). (x : Session) → StandsBefore s.program.graph s.held x → Refuses (first_some (rows_of_session real c.self.inside.keys s.program x c.args.frame.now)) c.in-Err.refusal) c.in-Ok.ensures c.in-Err.ensures.refused))
+returns-in-Err-clause-answer c = λ m st. refused_by (verdict_on real m (Ok c.args.frame.now)) c.in-Err.refusal c.refused.result c.refused.ensures (refused c.self.inside c.self.invariant c.args.frame.now c.args.cast c.requires.joins c.args.program.now (subst (λ (z : NodeState). program_for z.programs c.args.cast.graph c.args.frame.now.receiver ≡ Some c.args.program.now) (sym c.self.view_is) c.requires.program) (subst (λ (z : NodeState). (is_cast z.keys c.args.program.now.graph c.args.cast c.args.frame.now.receiver && nat_lt c.args.frame.now.sender (length c.args.cast.names)) ≡ true) (sym c.self.view_is) c.requires.cast) (subst (λ (z : NodeState). stranger z.keys c.args.cast ≡ None) (sym c.self.view_is) c.requires.covered) (subst (λ (f : Frame). f.sid ≡ session_id real c.args.cast) c.frame.view_is (c.if-not-is_session.ensures.0 refl ∙ c.requires.session)) m (subst (λ (z : NodeState). RepresentsNode z m) (sym c.self.view_is) st) (ap (λ (f : Frame). obstacle_to c.self.inside.joins.pairs (length (held_in c.self.inside.sessions.slots)) f.sid f.receiver) (sym c.frame.view_is) ∙ sym c.first_obstacle.ensures ∙ c.in_default.is) c.in-Err.refusal (subst (λ (s : RoleState). (x : Session) → RepresentsBefore s.program.graph s.held x → Refuses (first_some (rows_of_session real c.self.inside.keys s.program x c.args.frame.now)) c.in-Err.refusal) c.in-Ok.ensures c.in-Err.ensures.refused))
 
 pub returns-in-Err-clause-notes : goal.returns-in-Err-clause-notes
-returns-in-Err-clause-notes c = λ m first st e k. noted_refused c.self.inside c.self.invariant c.args.frame.now c.args.cast c.requires.joins c.args.program.now (subst (λ (z : NodeState). program_for z.programs c.args.cast.graph c.args.frame.now.receiver ≡ Some c.args.program.now) (sym c.self.view_is) c.requires.program) (subst (λ (z : NodeState). (is_cast z.keys c.args.program.now.graph c.args.cast c.args.frame.now.receiver && nat_lt c.args.frame.now.sender (length c.args.cast.names)) ≡ true) (sym c.self.view_is) c.requires.cast) (subst (λ (z : NodeState). stranger z.keys c.args.cast ≡ None) (sym c.self.view_is) c.requires.covered) (subst (λ (f : Frame). f.sid ≡ session_id real c.args.cast) c.frame.view_is (c.if-not-is_session.ensures.0 refl ∙ c.requires.session)) m (subst (λ (z : NodeState). StandsForNode z m) (sym c.self.view_is) st) (ap (λ (f : Frame). obstacle_to c.self.inside.joins.pairs (length (held_in c.self.inside.sessions.slots)) f.sid f.receiver) (sym c.frame.view_is) ∙ sym c.first_obstacle.ensures ∙ c.in_default.is) first c.args.notes.now c.examine.new.notes e (subst (λ (s : RoleState). (x : Session) → StandsBefore s.program.graph s.held x → c.examine.new.notes ≡ with_notes c.args.notes.now (notes_in_session real c.self.inside.keys s.program x c.args.frame.now (row_number (first_some (rows_of_session real c.self.inside.keys s.program x c.args.frame.now))))) c.in-Ok.ensures (λ x b. c.in-Err.ensures.notes x b (λ q. k (ap Err (c.refused.ensures ∙ ap of_role (ap (λ z. err_or z c.in-Err.refusal) q)))))) c.in-Err.refusal (subst (λ (s : RoleState). (x : Session) → StandsBefore s.program.graph s.held x → Refuses (first_some (rows_of_session real c.self.inside.keys s.program x c.args.frame.now)) c.in-Err.refusal) c.in-Ok.ensures c.in-Err.ensures.refused) (λ x. k (ap Err (c.refused.ensures ∙ ap of_role x)))
+returns-in-Err-clause-notes c = λ m first st e k. noted_refused c.self.inside c.self.invariant c.args.frame.now c.args.cast c.requires.joins c.args.program.now (subst (λ (z : NodeState). program_for z.programs c.args.cast.graph c.args.frame.now.receiver ≡ Some c.args.program.now) (sym c.self.view_is) c.requires.program) (subst (λ (z : NodeState). (is_cast z.keys c.args.program.now.graph c.args.cast c.args.frame.now.receiver && nat_lt c.args.frame.now.sender (length c.args.cast.names)) ≡ true) (sym c.self.view_is) c.requires.cast) (subst (λ (z : NodeState). stranger z.keys c.args.cast ≡ None) (sym c.self.view_is) c.requires.covered) (subst (λ (f : Frame). f.sid ≡ session_id real c.args.cast) c.frame.view_is (c.if-not-is_session.ensures.0 refl ∙ c.requires.session)) m (subst (λ (z : NodeState). RepresentsNode z m) (sym c.self.view_is) st) (ap (λ (f : Frame). obstacle_to c.self.inside.joins.pairs (length (held_in c.self.inside.sessions.slots)) f.sid f.receiver) (sym c.frame.view_is) ∙ sym c.first_obstacle.ensures ∙ c.in_default.is) first c.args.notes.now c.examine.new.notes e (subst (λ (s : RoleState). (x : Session) → RepresentsBefore s.program.graph s.held x → c.examine.new.notes ≡ with_notes c.args.notes.now (notes_in_session real c.self.inside.keys s.program x c.args.frame.now (row_number (first_some (rows_of_session real c.self.inside.keys s.program x c.args.frame.now))))) c.in-Ok.ensures (λ x b. c.in-Err.ensures.notes x b (λ q. k (ap Err (c.refused.ensures ∙ ap of_role (ap (λ z. err_or z c.in-Err.refusal) q)))))) c.in-Err.refusal (subst (λ (s : RoleState). (x : Session) → RepresentsBefore s.program.graph s.held x → Refuses (first_some (rows_of_session real c.self.inside.keys s.program x c.args.frame.now)) c.in-Err.refusal) c.in-Ok.ensures c.in-Err.ensures.refused) (λ x. k (ap Err (c.refused.ensures ∙ ap of_role x)))

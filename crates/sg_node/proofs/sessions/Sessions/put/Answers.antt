@@ -1,6 +1,6 @@
 use Rattle.std.proofs.Common.{◌≡◌, ◌+◌, ◌<◌, length, None, sym, subst, arith}
 use Rattle.sg_node.specs.Slots.{Table, HoldsTable}
-use Rattle.sg_node.proofs.Places.{live_at}
+use Rattle.sg_node.proofs.Indices.{live_at}
 use Rattle.sg_node.proofs.Counts.{few_held, holds_put}
 use Rattle.sg_node.proofs.sessions.Sessions.put.Goals as goal
 

@@ -2,14 +2,14 @@ use Rattle.std.proofs.Common.{◌≡◌, ◌∙◌, ap, sym}
 use Rattle.std.specs.Option.{option_copied}
 use Rattle.sg_protocol.specs.Calls.{Act}
 use Rattle.sg_protocol.specs.Keyring.{Keyring}
-use Rattle.sg_protocol.specs.NodeStates.{StandsForPast}
+use Rattle.sg_protocol.specs.NodeStates.{RepresentsPast}
 use Rattle.sg_protocol.specs.Past.{Past}
 use Rattle.sg_report.specs.Outcome.{outcome_of}
 use Rattle.sg_walk.specs.Model.{values_of}
 use Rattle.sg_play.specs.Asking.{ComesMade, addressed, sealed_in}
 use Rattle.sg_play.specs.Played.{Play, answer_in}
 use Rattle.sg_play.specs.Posting.{frames_made}
-use Rattle.sg_play.specs.Standing.{HasAsked, KeepsJoins, StandsForPlay}
+use Rattle.sg_play.specs.Representation.{HasAsked, KeepsJoins, RepresentsPlay}
 use Rattle.sg_play.proofs.Keeping.{keeps_by_act}
 use Rattle.sg_play.proofs.Results.{each_ok, then_ok}
 use Rattle.sg_play.proofs.Telling.{asked_made}
@@ -21,7 +21,7 @@ returns-clause-asked c =
     let node = c.ask_act.new.node in
     let frames = c.ask_act.new.frames in
     let act = Act c.args.sid c.args.label (values_of c.args.values.now) c.args.words.now in
-    each_ok c.ask_act.result (λ (p : Play). StandsForPlay old p)
+    each_ok c.ask_act.result (λ (p : Play). RepresentsPlay old p)
     (λ (p : Play) r. ComesMade old.keys.now old.frames frames old.node node p.past act (outcome_of r.0) (option_copied r.1) r.2)
     (λ (p : Play) r. HasAsked (record old { node = node; frames = frames }) p act (outcome_of r.0) (option_copied r.1) (frames_made r.2))
     (λ p r s h. asked_made old node frames p act (outcome_of r.0) (option_copied r.1) r.2 s h)
@@ -33,7 +33,7 @@ returns-clause-frame c =
     let node = c.ask_act.new.node in
     let frames = c.ask_act.new.frames in
     let act = Act c.args.sid c.args.label (values_of c.args.values.now) c.args.words.now in
-    each_ok c.ask_act.result (λ (p : Play). StandsForPlay old p)
+    each_ok c.ask_act.result (λ (p : Play). RepresentsPlay old p)
     (λ (p : Play) r. ComesMade old.keys.now old.frames frames old.node node p.past act (outcome_of r.0) (option_copied r.1) r.2)
     (λ (p : Play) r. r.2 ≡ addressed p.past.keys (sealed_in (answer_in p act)))
     (λ p r s h. h.is_frame ∙ ap (λ (k : Keyring). addressed k (sealed_in (answer_in p act))) (sym s.keys))
@@ -45,7 +45,7 @@ returns-clause-joins c =
     let node = c.ask_act.new.node in
     let frames = c.ask_act.new.frames in
     let values = values_of c.args.values.now in
-    then_ok c.ask_act.result (λ (past : Past). StandsForPast old.node past)
+    then_ok c.ask_act.result (λ (past : Past). RepresentsPast old.node past)
     (λ (past : Past) r. ComesMade old.keys.now old.frames frames old.node node past (Act c.args.sid c.args.label values c.args.words.now) (outcome_of r.0) (option_copied r.1) r.2) (KeepsJoins old.node node)
     (λ r h. keeps_by_act old.keys.now old.frames frames old.node node c.args.sid c.args.label values c.args.words.now (outcome_of r.0) (option_copied r.1) r.2 h)
     c.ask_act.ensures.comes

@@ -7,5 +7,5 @@ use Rattle.sg_play.specs.Asking.{Comes}
 use Rattle.sg_play.proofs.player.Player.ask_start.Goals as goal
 
 pub returns-clause-comes : goal.returns-clause-comes
-returns-clause-comes c = λ number past stands.
-    subst (λ (x : Cast). IfOk c.ask_start.result (λ r. Comes number c.args.self.now.node c.ask_start.new.node past (Start x) (outcome_of r.0) (option_copied r.1) None)) c.in_ok-cast.ensures.cast (c.ask_start.ensures.comes number past stands)
+returns-clause-comes c = λ number past represents.
+    subst (λ (x : Cast). IfOk c.ask_start.result (λ r. Comes number c.args.self.now.node c.ask_start.new.node past (Start x) (outcome_of r.0) (option_copied r.1) None)) c.in_ok-cast.ensures.cast (c.ask_start.ensures.comes number past represents)

@@ -13,7 +13,7 @@ returns-in-Ok-clause-came g c = λ p k start asked left w.
     let told = c.in-Ok.ensures.told p k (frames_made c.args.frame) asked left in
     came_after start (record { written = g.O.Sink.written c.args.out.now; sent = g.L.Link.sent c.args.link.now }) (record { written = g.O.Sink.written c.post.new.out; sent = g.L.Link.sent c.post.new.link }) c.tell.new.self p k
     c.in-Ok.line.items (frames_made c.args.frame) c.post.result w told.1 told.0
-    asked.is_made c.post.ensures.no_memory c.post.ensures.line c.post.ensures.frame c.post.ensures.front c.post.ensures.no_frame c.post.ensures.no_line
+    asked.is_made c.post.ensures.no_memory c.post.ensures.line c.post.ensures.frame c.post.ensures.prefix c.post.ensures.no_frame c.post.ensures.no_line
 
 pub returns-in-Err-clause-link_failed : goal.returns-in-Err-clause-link_failed
 returns-in-Err-clause-link_failed g c = λ e.

@@ -1,12 +1,12 @@
 use Rattle.std.proofs.Common.{◌≡◌, refl}
 use Rattle.sg_protocol.specs.Calls.{Abandon}
-use Rattle.sg_play.specs.Standing.{KeepsJoins}
+use Rattle.sg_play.specs.Representation.{KeepsJoins}
 use Rattle.sg_play.proofs.Keeping.{keeps_same, keeps_then}
 use Rattle.sg_play.proofs.Results.{mapped}
 use Rattle.sg_play.proofs.player.Player.leave.Goals as goal
 
 pub returns-clause-came : goal.returns-clause-came
-returns-clause-came g c = λ p start stands w. c.give.ensures.came p (Abandon c.args.sid) start (c.ask_abandon-outcome.ensures.asked p stands) refl w
+returns-clause-came g c = λ p start represents w. c.give.ensures.came p (Abandon c.args.sid) start (c.ask_abandon-outcome.ensures.asked p represents) refl w
 
 pub returns-clause-joins : goal.returns-clause-joins
 returns-clause-joins g c =

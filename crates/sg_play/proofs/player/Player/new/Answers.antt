@@ -1,12 +1,12 @@
 use Rattle.std.proofs.Common.{List, refl, subst}
-use Rattle.sg_node.proofs.Life.{new_nodes, stands_new}
+use Rattle.sg_node.proofs.Life.{new_nodes, represents_new}
 use Rattle.sg_script.specs.Script.{Choice}
 use Rattle.sg_play.specs.Queues.{HoldsChoices}
 use Rattle.sg_play.proofs.player.Player.new.Goals as goal
 
-pub returns-in-Ok-clause-stands : goal.returns-in-Ok-clause-stands
-returns-in-Ok-clause-stands c = λ first words is. record {
-  node = stands_new c.args.node c.args.keys.now c.args.programs.now first is;
+pub returns-in-Ok-clause-represents : goal.returns-in-Ok-clause-represents
+returns-in-Ok-clause-represents c = λ first words is. record {
+  node = represents_new c.args.node c.args.keys.now c.args.programs.now first is;
   told = (new_nodes c.args.keys.now c.args.programs.now first).1;
   keys = refl;
   programs = refl;

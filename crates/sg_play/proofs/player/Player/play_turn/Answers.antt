@@ -1,4 +1,4 @@
-use Rattle.sg_play.specs.Standing.{KeepsJoins}
+use Rattle.sg_play.specs.Representation.{KeepsJoins}
 use Rattle.sg_play.proofs.Results.{mapped}
 use Rattle.sg_play.proofs.Keeping.{keeps_same, keeps_then}
 use Rattle.std.proofs.Common.{rules, ◌≡◌, Err, Some, sym, ◌∙◌, refl}

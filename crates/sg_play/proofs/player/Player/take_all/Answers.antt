@@ -1,7 +1,7 @@
 use Rattle.std.proofs.Common.{rules, ◌≡◌, ◌≤◌, ◌+◌, ℕ, List, [], ◌∷◌, take, drop, Some, Err, Ok, refl, sym, ap, ◌∙◌, subst, arith}
 use Rattle.sg_play.specs.Ends.{Outside}
 use Rattle.sg_play.specs.Played.{Play, all_deliveries}
-use Rattle.sg_play.specs.Standing.{CameTo}
+use Rattle.sg_play.specs.Representation.{CameTo}
 use Rattle.sg_play.proofs.Looping.{left_next, left_none}
 use Rattle.sg_play.proofs.Running.{delivery_failed, delivery_more, link_ended, link_failed, link_full, nothing_sent}
 use Rattle.sg_play.proofs.player.Player.take_all.Goals as goal

@@ -7,7 +7,7 @@ use Rattle.sg_report.specs.Told.{Told, session_told}
 use Rattle.sg_play.specs.declared.player.Player.{Player}
 use Rattle.sg_play.specs.Meeting.{met_more}
 use Rattle.sg_play.specs.Steps.{met_in}
-use Rattle.sg_play.proofs.Telling.{line_is, stands_told, told_in, told_rest}
+use Rattle.sg_play.proofs.Telling.{line_is, represents_told, told_in, told_rest}
 use Rattle.sg_play.proofs.player.Player.tell.Goals as goal
 
 pub returns-clause-rest : goal.returns-clause-rest
@@ -27,5 +27,5 @@ returns-clause-told c = λ p k made asked left.
     let me : c.meet.new.self.keys.now.me ≡ old.keys.now.me = ap (λ (pl : Player). pl.keys.now.me) c.in_ok-meet.ensures.rest in
     let text = c.in_ok-line.ensures.text met t asked.is_told named ∙ (λ i. line_text (option_map_or (session_name 115 met) (session i) []) (graph_or_none graph) (number i) (me i) t) in (
       line_is old p k told c.args.left graph made c.in_ok-line.line.items asked left text,
-      stands_told old (record c.meet.new.self { steps = c.in_ok-number.number }) p k told graph made asked rest named,
+      represents_told old (record c.meet.new.self { steps = c.in_ok-number.number }) p k told graph made asked rest named,
     )

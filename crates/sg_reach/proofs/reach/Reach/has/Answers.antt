@@ -2,7 +2,7 @@ use Rattle.std.proofs.Common.{length, arith, ◌≡◌, ◌<◌, sym, ap, ◌∙
 use Rattle.std.specs.Prelude.{None, IsTrue, is_some}
 use Rattle.std.proofs.lemmas.List.{get_or_default}
 use Rattle.sg_protocol.specs.Graph.{shape}
-use Rattle.sg_reach.specs.Found.{found_at}
+use Rattle.sg_reach.specs.WalkEnd.{found_at}
 use Rattle.sg_reach.specs.Reaches.{Closure, IsWithin}
 use Rattle.sg_reach.proofs.Reached.{is_reached, found_at_end}
 use Rattle.sg_reach.proofs.reach.Reach.has.Goals as goal

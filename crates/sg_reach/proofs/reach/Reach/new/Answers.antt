@@ -3,7 +3,7 @@ use Rattle.std.proofs.lemmas.List.{length-map, get_or_default}
 use Rattle.std.proofs.lemmas.List.Sums.{count_by-le-length}
 use Rattle.std.specs.Prelude.{is_some}
 use Rattle.sg_protocol.specs.Graph.{shape}
-use Rattle.sg_reach.specs.Found.{IsSearch}
+use Rattle.sg_reach.specs.WalkEnd.{IsSearch}
 use Rattle.sg_reach.proofs.Searching.{taken}
 use Rattle.sg_reach.proofs.reach.Reach.new.Goals as goal
 

@@ -1,6 +1,6 @@
 use Rattle.std.proofs.Common.{◌≡◌, ◌-◌}
 use Rattle.sg_protocol.specs.Graph.{shape}
-use Rattle.sg_reach.specs.Found.{IsSearch}
+use Rattle.sg_reach.specs.WalkEnd.{IsSearch}
 use Rattle.sg_reach.proofs.reach.Reach.new.Given as goal
 
 abbrev pub invariant-loop-search : goal.invariant-loop-search

@@ -4,9 +4,9 @@ use Rattle.std.proofs.lemmas.List.{length-map, get_or_default, reverse-append}
 use Rattle.sg_graph.specs.declared.edge.Edge.{Edge}
 use Rattle.sg_model.specs.Shape.{source, target}
 use Rattle.sg_protocol.specs.Graph.{Graph, IsGraph, shape}
-use Rattle.sg_reach.specs.Found.{found_at, edges_to}
+use Rattle.sg_reach.specs.WalkEnd.{found_at, edges_to}
 use Rattle.sg_reach.specs.Reaches.{Closure, LeadsPast, IsWithin}
-use Rattle.sg_reach.specs.declared.search.Found.{Found}
+use Rattle.sg_reach.specs.declared.search.WalkEnd.{WalkEnd}
 use Rattle.sg_reach.proofs.Leads.{leads_nowhere, leads_by}
 use Rattle.sg_reach.proofs.Reached.{found_at_end, found_with, last_edge, no_edge}
 use Rattle.sg_reach.proofs.Searching.{found_of_edges}
@@ -25,18 +25,18 @@ loop-at-init c =
       walk = rw c.new-walk.ensures.items (leads_nowhere g c.args.node c.args.self.now.past);
     }
 
--- the place of a node that is there is within what was found
-inner : (g : Graph) (k : Closure) (found : List (Option Found)) (at i : ℕ) → IsGraph g → g ≡ k.graph → at < length (shape k.graph).roles → i ≡ at → length found ≡ 256 → i < length found
+-- the index of a node that is there is within what was found
+inner : (g : Graph) (k : Closure) (found : List (Option WalkEnd)) (at i : ℕ) → IsGraph g → g ≡ k.graph → at < length (shape k.graph).roles → i ≡ at → length found ≡ 256 → i < length found
 inner g k found at i x same there is size =
     let there' : at < length (shape g).roles = rw same there in
     omega (arith, x.sizes.2, rw length-map at there', is, size)
 
--- the entry that is read at a place is the one of the node
-entry : (found : List (Option Found)) (at i : ℕ) (d : Option Found) (f : Found) → i < length found → i ≡ at → get_or found i d ≡ Some f → found_at found at ≡ Some f
+-- the entry that is read at an index is the one of the node
+entry : (found : List (Option WalkEnd)) (at i : ℕ) (d : Option WalkEnd) (f : WalkEnd) → i < length found → i ≡ at → get_or found i d ≡ Some f → found_at found at ≡ Some f
 entry found at i d f within is h = ap (found_at found) (sym is) ∙ get_or_default found i None d within ∙ h
 
 -- a walk to the node that an edge leaves is shorter than the one to its target
-shorter : (found : List (Option Found)) (n m k : ℕ) (f : Found) → found_at found n ≡ Some f → f.edges ≡ suc k → edges_to found m ≡ Some k → edges_of (found_at found m) < edges_of (found_at found n)
+shorter : (found : List (Option WalkEnd)) (n m k : ℕ) (f : WalkEnd) → found_at found n ≡ Some f → f.edges ≡ suc k → edges_to found m ≡ Some k → edges_of (found_at found m) < edges_of (found_at found n)
 shorter found n m k f is edges before =
     let b = found_with found m k before in
     rw (is, b.1) (omega (arith, b.2, edges))
@@ -91,7 +91,7 @@ returns c =
     λ e. rw (c.reverse.ensures.items, ← ap (λ (k : Closure). k.from) c.self.view_is, ← e) c.loop-at.invariant.walk in
     elim c.match-found-at.branch [
       | in-None-1 w ↦
-          (let read : (d : Option Found) → get_or s.found c.at.inside.0 d ≡ found_at s.found c.loop-at.at = λ d. get_or_default s.found c.at.inside.0 d None within ∙ ap (found_at s.found) c.at.view_is in
+          (let read : (d : Option WalkEnd) → get_or s.found c.at.inside.0 d ≡ found_at s.found c.loop-at.at = λ d. get_or_default s.found c.at.inside.0 d None within ∙ ap (found_at s.found) c.at.view_is in
           let there : is_some (found_at s.found c.loop-at.at) ≡ true = c.loop-at.invariant.found in
           absurd (grind (arith, read, there)))
       | in-Some+else-way-gt0 w ↦

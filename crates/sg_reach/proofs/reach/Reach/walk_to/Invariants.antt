@@ -1,13 +1,13 @@
 use Rattle.std.proofs.Common.{◌<◌, length, ℕ, reverse}
 use Rattle.std.specs.Prelude.{Option, Some, None}
 use Rattle.sg_protocol.specs.Graph.{shape}
-use Rattle.sg_reach.specs.Found.{IsFound, found_at}
+use Rattle.sg_reach.specs.WalkEnd.{IsFound, found_at}
 use Rattle.sg_reach.specs.Reaches.{LeadsPast}
-use Rattle.sg_reach.specs.declared.search.Found.{Found}
+use Rattle.sg_reach.specs.declared.search.WalkEnd.{WalkEnd}
 use Rattle.sg_reach.proofs.reach.Reach.walk_to.Given as goal
 
 -- the edges of the walk to a node that was found
-abbrev pub edges_of : Option Found → ℕ
+abbrev pub edges_of : Option WalkEnd → ℕ
 edges_of None = 0
 edges_of (Some f) = f.edges
 

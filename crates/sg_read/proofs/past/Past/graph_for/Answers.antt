@@ -1,20 +1,20 @@
 use Rattle.std.proofs.Common.{◌≡◌, ◌∙◌, ap, sym, Some, None, slice_get}
 use Rattle.std.specs.Prelude.{option_copied}
 use Rattle.sg_sched.specs.Format.Items.{SoFar}
-use Rattle.sg_read.specs.Adding.{session_place}
+use Rattle.sg_read.specs.Adding.{session_index}
 use Rattle.sg_read.specs.Sessions.{session_of}
 use Rattle.sg_read.proofs.Graphs.{graph_by, no_graph}
 use Rattle.sg_read.proofs.past.Past.graph_for.Goals as goal
 
-pub returns-in_err-place : goal.returns-in_err-place
-returns-in_err-place c =
-    let p : session_place c.args.self.now c.args.session.now ≡ None = ap (λ (past : SoFar). session_place past c.args.session.now) (sym c.self.view_is) ∙ sym c.in_err-place.ensures.place in
+pub returns-in_err-index : goal.returns-in_err-index
+returns-in_err-index c =
+    let p : session_index c.args.self.now c.args.session.now ≡ None = ap (λ (past : SoFar). session_index past c.args.session.now) (sym c.self.view_is) ∙ sym c.in_err-index.ensures.index in
     ap option_copied c.from_residual.ensures ∙ no_graph c.args.self.now c.args.session.now p
 
 pub returns : goal.returns
 returns c =
-    let i = c.in_ok-place.place in
+    let i = c.in_ok-index.index in
     let s = session_of c.at.result.0 c.at.result.1.now in
-    let p : session_place c.args.self.now c.args.session.now ≡ Some i = ap (λ (past : SoFar). session_place past c.args.session.now) (sym c.self.view_is) ∙ sym c.in_ok-place.ensures.place in
+    let p : session_index c.args.self.now c.args.session.now ≡ Some i = ap (λ (past : SoFar). session_index past c.args.session.now) (sym c.self.view_is) ∙ sym c.in_ok-index.ensures.index in
     let q : slice_get c.args.self.now.sessions i ≡ Some s = ap (λ (past : SoFar). slice_get past.sessions i) (sym c.self.view_is) ∙ c.at.ensures in
     c.graph_at.ensures.graph ∙ graph_by c.args.self.now c.args.session.now i s p q

@@ -3,10 +3,10 @@ use Rattle.sg_model.specs.Lists.{has_text}
 use Rattle.sg_protocol.specs.Graph.{Graph as AGraph}
 use Rattle.sg_sched.specs.Pair.{graphs_of}
 use Rattle.sg_sched.specs.Format.Items.{graph_names}
-use Rattle.sg_read.specs.Standing.{IsBadAt, Again, AsPair}
+use Rattle.sg_read.specs.ReadSoFar.{IsBadAt, Again, AsPair}
 use Rattle.sg_read.specs.Taken.{fault_at}
 use Rattle.sg_read.specs.declared.reader.ScheduleReader.{ScheduleReader}
-use Rattle.sg_read.proofs.StandingLaws.{refused_bad, pair_named, fresh_name}
+use Rattle.sg_read.proofs.ReadSoFarLaws.{refused_bad, pair_named, fresh_name}
 use Rattle.sg_read.proofs.reader.ScheduleReader.show.Goals as goal
 
 pub returns-in-Err : goal.returns-in-Err

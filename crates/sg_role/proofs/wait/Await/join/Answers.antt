@@ -1,7 +1,7 @@
 use Rattle.std.proofs.Common.{◌≡◌, ◌≢◌, None, ap, ◌∙◌, subst}
 use Rattle.sg_model.proofs.Small.{clash}
 use Rattle.sg_model.specs.Shape.{role_at}
-use Rattle.sg_protocol.proofs.Backed.{states_are_backed}
+use Rattle.sg_protocol.proofs.Reachable.{states_are_reachable}
 use Rattle.sg_protocol.proofs.RealHash.{real_hash}
 use Rattle.sg_protocol.specs.Graph.{shape}
 use Rattle.sg_protocol.specs.Texts.{real}
@@ -14,4 +14,4 @@ invariant_of-result c =
     let s = state_of c.before-2.inside.kept.value in
     let new : s.held.kept.origin ≡ None = ap (λ (z : RoleState). z.held.kept.origin) c.before-2.view_is ∙ (c.fits.ensures.0 c.if-not-fits.false).1 in
     let waits : role_at (shape s.program.graph) 0 ≢ s.held.role = subst (λ (z : RoleState). role_at (shape z.program.graph) 0 ≢ z.held.role) (ap state_of c.deref.ensures) (λ e. clash c.starts.result (c.starts.ensures.1 e) c.if-starts.false) in
-    subst HoldsWaiting c.before-2.view_is (record { counted = c.before-2.invariant.counted; backed = (states_are_backed real real_hash).joins s.program s.held c.before-2.invariant.backed new waits })
+    subst HoldsWaiting c.before-2.view_is (record { counted = c.before-2.invariant.counted; reachable = (states_are_reachable real real_hash).joins s.program s.held c.before-2.invariant.reachable new waits })

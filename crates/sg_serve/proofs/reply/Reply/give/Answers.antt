@@ -9,5 +9,5 @@ returns-clause-given g c = record {
   coming = c.send-took.ensures.coming;
   frames = c.send-took.ensures.frames;
   whole = c.write.ensures.whole;
-  front = c.write.ensures.front;
+  prefix = c.write.ensures.prefix;
 }

@@ -2,7 +2,7 @@ use Rattle.std.proofs.Common.{◌∙◌, ℕ, List, Option, Some, is_some, Bor, 
 use Rattle.std.specs.Option.{option_copied}
 use Rattle.sg_input.specs.Lines.{Whole, TooLong}
 use Rattle.sg_serve.specs.Served.{images_if}
-use Rattle.sg_serve.specs.Standing.{found_line, some_ok}
+use Rattle.sg_serve.specs.Representation.{found_line, some_ok}
 use Rattle.sg_serve.proofs.Asking.{holds_all}
 use Rattle.sg_serve.proofs.Lining.{asked_other, asked_wait, came_as, mapped_ok, no_request, same_falls, some_failed, some_if_err, some_on_ok, unread, wrong_form}
 use Rattle.sg_serve.proofs.Requests.{given_read}

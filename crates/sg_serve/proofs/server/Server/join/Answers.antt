@@ -4,7 +4,7 @@ use Rattle.sg_play.specs.Steps.{Step}
 use Rattle.sg_report.specs.Outcome.{outcome_of}
 use Rattle.sg_serve.specs.Served.{images_if}
 use Rattle.sg_serve.specs.Serving.{calls}
-use Rattle.sg_serve.specs.Standing.{HasReplied}
+use Rattle.sg_serve.specs.Representation.{HasReplied}
 use Rattle.sg_serve.proofs.Replying.{called_with, join_kept, join_unkept, replied_so}
 use Rattle.sg_serve.proofs.Results.{applied}
 use Rattle.sg_serve.proofs.server.Server.join.Goals as goal

@@ -1,5 +1,5 @@
 use Rattle.std.proofs.Common.{◌≡◌, ◌⊎◌, ◌∙◌, ℕ, List, Some, is_some, option_and_then, inl, inr, ⊎_elim, sym, ap, subst}
-use Rattle.sg_ledger.specs.Format.{Opened, StandsFor}
+use Rattle.sg_ledger.specs.Format.{OpenLedger, Represents}
 use Rattle.sg_report.specs.Outcome.{outcome_of}
 use Rattle.sg_keep.specs.Joins.{join_told}
 use Rattle.sg_serve.specs.Served.{joins_kept}

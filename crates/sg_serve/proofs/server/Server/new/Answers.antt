@@ -1,13 +1,13 @@
 use Rattle.std.proofs.Common.{List, refl, subst}
 use Rattle.sg_play.specs.Played.{beginning}
-use Rattle.sg_play.specs.Standing.{StandsForPlay}
+use Rattle.sg_play.specs.Representation.{RepresentsPlay}
 use Rattle.sg_script.specs.Script.{Choice}
 use Rattle.sg_serve.specs.Served.{joins_kept}
 use Rattle.sg_serve.proofs.server.Server.new.Goals as goal
 
-pub returns-clause-stands : goal.returns-clause-stands
-returns-clause-stands c = λ words. record {
-  player = subst (λ (l : List Choice). StandsForPlay c.in-Ok.player (beginning c.args.keys.now c.args.programs.now (joins_kept c.args.ledger) l words)) c.new.ensures (c.in-Ok.ensures.stands (joins_kept c.args.ledger) words c.requires);
+pub returns-clause-represents : goal.returns-clause-represents
+returns-clause-represents c = λ words. record {
+  player = subst (λ (l : List Choice). RepresentsPlay c.in-Ok.player (beginning c.args.keys.now c.args.programs.now (joins_kept c.args.ledger) l words)) c.new.ensures (c.in-Ok.ensures.represents (joins_kept c.args.ledger) words c.requires);
   programs = refl;
   graphs = c.new-3.ensures;
   last = c.new-4.ensures;

@@ -7,7 +7,7 @@ use Rattle.sg_request.specs.declared.request.Request.TheVariants as request
 use Rattle.sg_sched.specs.Format.Said.{Given}
 use Rattle.sg_serve.specs.Served.{images_if}
 use Rattle.sg_serve.specs.Serving.{acts_by, calls, graph_at, of_session, replies, says, sends_again, turn_line}
-use Rattle.sg_serve.specs.Standing.{HasReplied, Replied}
+use Rattle.sg_serve.specs.Representation.{HasReplied, Replied}
 use Rattle.sg_serve.proofs.Lining.{of_again, of_says, on_ok, replied_plain}
 use Rattle.sg_serve.proofs.Results.{applied}
 use Rattle.sg_serve.proofs.server.Server.reply.Goals as goal

@@ -4,7 +4,7 @@ use Rattle.sg_input.specs.Lines.{Line, Whole, TooLong}
 use Rattle.sg_input.specs.declared.reader.Found.TheVariants as found
 use Rattle.sg_serve.specs.declared.fault.ServeFault.TheVariants.{InputFailed, OutOfMemory}
 use Rattle.sg_serve.specs.Served.{Outside, Served, images_if}
-use Rattle.sg_serve.specs.Standing.{Answered}
+use Rattle.sg_serve.specs.Representation.{Answered}
 use Rattle.sg_serve.specs.Faults.{Counts}
 use Rattle.sg_serve.proofs.Counting.{falls_of, falls_on}
 use Rattle.sg_serve.proofs.Ending.{failed_line, input_ended, last_line, memory_ended, next_line, no_line}

@@ -3,7 +3,7 @@ use Rattle.std.specs.Prelude.{IsNone, is_some}
 use Rattle.sg_input.specs.Lines.{Line, lines_left}
 use Rattle.sg_serve.specs.Lines.{Run}
 use Rattle.sg_serve.specs.Served.{Agrees, Outside}
-use Rattle.sg_serve.specs.Standing.{HoldsJoins, Serves, StandsForServing}
+use Rattle.sg_serve.specs.Representation.{HoldsJoins, Serves, RepresentsServing}
 use Rattle.sg_serve.proofs.Counting.{NoFall}
 use Rattle.sg_serve.proofs.server.Server.serve_all.Given as goal
 
@@ -16,7 +16,7 @@ invariant-loop-line g l = record {
   same : is_some l.self.ledger ≡ is_some l.initial.self.ledger;
   untouched : IsNone l.initial.self.ledger → l.disk ≡ l.initial.disk;
   holds : HoldsJoins l.self (g.D.Disk.may_leave l.disk);
-  served : (r : Run) (lines : List Line) → StandsForServing l.initial.self r.serving → lines_left l.initial.reader.unread (g.I.Input.coming l.initial.input) ≡ Some lines
+  served : (r : Run) (lines : List Line) → RepresentsServing l.initial.self r.serving → lines_left l.initial.reader.unread (g.I.Input.coming l.initial.input) ≡ Some lines
       → Agrees (record { written = g.O.Sink.written l.initial.out; sent = g.L.Link.sent l.initial.link; coming = g.L.TimedLink.coming l.initial.link; failed = g.L.Link.faults l.initial.link })
       (record { written = g.O.Sink.written l.initial.out; sent = g.L.Link.sent l.initial.link; coming = g.L.TimedLink.coming l.initial.link; failed = g.L.Link.faults l.initial.link }) (g.R.Fresh.words l.initial.fresh) r
       → (left : List Line) × (lines_left l.reader.unread (g.I.Input.coming l.input) ≡ Some left)

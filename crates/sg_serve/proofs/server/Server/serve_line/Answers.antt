@@ -2,7 +2,7 @@ use Rattle.std.proofs.Common.{◌≡◌, refl}
 use Rattle.std.specs.Prelude.{is_some}
 use Rattle.std.specs.Option.{option_copied}
 use Rattle.sg_serve.specs.Served.{Outside, images_if}
-use Rattle.sg_serve.specs.Standing.{HasAnswer, found_line}
+use Rattle.sg_serve.specs.Representation.{HasAnswer, found_line}
 use Rattle.sg_serve.proofs.Asking.{holds_all}
 use Rattle.sg_serve.proofs.Ending.{went_on, wrote_part}
 use Rattle.sg_serve.proofs.server.Server.serve_line.Goals as goal
@@ -26,4 +26,4 @@ returns-in-Ok-Some-clause-answered g c = λ r start st a.
     let line = found_line (option_copied c.args.line) in
     let came : HasAnswer c.answer.new.self words mid.coming old.failed mid.failed r line c.in-Ok-Some.reply = (rw c.in-Ok-Some.field-0-is at c.in-Ok-Some.ensures.answered) r st a.words_left a.coming in
     wrote_part start old mid _ words (images_if (is_some c.args.self.now.ledger) leaves) c.answer.new.self r line c.in-Ok-Some.reply a.gave refl c.answer.ensures.sent c.answer.ensures.link_falls came c.in-Err-give.fault c.in-Err-give.ensures.causes
-    (holds_all c.answer.new.self c.args.self.now leaves came.reply.0 c.in-Ok-Some.ensures.same c.in-Ok-Some.ensures.holds came.replied.stands) c.in-Err-give.ensures.given
+    (holds_all c.answer.new.self c.args.self.now leaves came.reply.0 c.in-Ok-Some.ensures.same c.in-Ok-Some.ensures.holds came.replied.represents) c.in-Err-give.ensures.given

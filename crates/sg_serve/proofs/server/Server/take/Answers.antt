@@ -22,7 +22,7 @@ returns-in_default-clause-replied g c = λ s st.
 pub join-requires : goal.join-requires
 join-requires g c =
     let sv = c.args.self.now in
-    record { asked = asked_node sv c.ask_deliver.new.self (g.D.Disk.may_leave c.args.disk.now) (Deliver c.as_slice.result.now) (outcome_of c.in-Ok.outcome) (option_copied c.in-Ok.graph) c.requires.holds (c.in-Ok.ensures.comes 0 c.requires.holds.past c.requires.holds.stands) }
+    record { asked = asked_node sv c.ask_deliver.new.self (g.D.Disk.may_leave c.args.disk.now) (Deliver c.as_slice.result.now) (outcome_of c.in-Ok.outcome) (option_copied c.in-Ok.graph) c.requires.holds (c.in-Ok.ensures.comes 0 c.requires.holds.past c.requires.holds.represents) }
 
 pub returns-in-Ok-clause-replied : goal.returns-in-Ok-clause-replied
 returns-in-Ok-clause-replied g c = λ s st.

@@ -8,5 +8,5 @@ use Rattle.sg_walk.proofs.part.explained.after_receiving.Goals as goal
 pub returns-else-is_receipt : goal.returns-else-is_receipt
 returns-else-is_receipt c =
     takes_other c.args.events.now c.args.from c.in-Some.at c.index-events-at.result c.args.counts
-    (Receives c.args.receipt.role c.args.receipt.label (kept (map step_of c.args.steps.now) c.args.places.now c.args.receipt.reads))
+    (Receives c.args.receipt.role c.args.receipt.label (kept (map step_of c.args.steps.now) c.args.indices.now c.args.receipt.reads))
     c.if-not-counts.false c.index-events-at.is c.in-Some.ensures (λ e. let t = c.is_receipt.ensures.1 e in absurd (cc))

@@ -9,4 +9,4 @@ use Rattle.sg_walk.proofs.part.explained.explains.Given as goal
 abbrev pub invariant-loop-number : goal.invariant-loop-number
 invariant-loop-number l =
     Explaining (flat_map acts_of_event (map event_of l.events) ≡ honest_acts l.graph (λ r. is_in r l.honest) l.taken [] (steps_of l.walk))
-    l.graph (λ r. is_in r l.honest) l.taken l.events l.steps l.number l.at l.places
+    l.graph (λ r. is_in r l.honest) l.taken l.events l.steps l.number l.at l.indices

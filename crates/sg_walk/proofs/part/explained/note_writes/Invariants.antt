@@ -6,8 +6,8 @@ use Rattle.sg_walk.proofs.part.explained.note_writes.Given as goal
 
 abbrev pub invariant-loop-write : goal.invariant-loop-write
 invariant-loop-write l = record {
-  wide : length l.places ≡ 32;
+  wide : length l.indices ≡ 32;
   small : list_all (λ x. nat_lt x 32) (keys_of (drop l.write-index l.write-items)) ≡ true;
-  noted : (x : ℕ) → x < 32 → (if is_in x (keys_of (drop l.write-index l.write-items)) then Some l.number else get_or l.places x None)
-      ≡ (if is_in x (keys_of l.step.writes) then Some l.number else get_or l.initial.places x None);
+  noted : (x : ℕ) → x < 32 → (if is_in x (keys_of (drop l.write-index l.write-items)) then Some l.number else get_or l.indices x None)
+      ≡ (if is_in x (keys_of l.step.writes) then Some l.number else get_or l.initial.indices x None);
 }

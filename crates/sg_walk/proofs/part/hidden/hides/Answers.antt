@@ -4,7 +4,7 @@ use Rattle.sg_model.specs.Lists.{is_in}
 use Rattle.sg_protocol.specs.Walk.{are_hidden}
 use Rattle.sg_walk.specs.Model.{step_of}
 use Rattle.sg_walk.proofs.Concealed.{Hiding-init, hide_wrong, hide_on}
-use Rattle.sg_walk.proofs.Places.{small_keys}
+use Rattle.sg_walk.proofs.Indices.{small_keys}
 use Rattle.sg_walk.proofs.Steps.{named_at}
 use Rattle.sg_walk.proofs.part.hidden.hides.Goals as goal
 

@@ -2,4 +2,4 @@ use Rattle.sg_walk.proofs.Pairs.{Keyed}
 use Rattle.sg_walk.proofs.part.pairs.has_keys.Given as goal
 
 abbrev pub invariant-loop-number : goal.invariant-loop-number
-invariant-loop-number g l = Keyed l.pairs l.vars l.place l.number
+invariant-loop-number g l = Keyed l.pairs l.vars l.index l.number

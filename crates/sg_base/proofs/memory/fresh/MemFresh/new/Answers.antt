@@ -9,8 +9,8 @@ loop-preserved c =
     let more = seeded_words-suc c.args.seed c.loop.counter in
     let step : 4 * c.loop.counter + 4 ≡ 4 * (c.loop.counter + 1) = omega arith in
     let word : c.draw.result ≡ stream_word (key_of c.args.seed) 0 (4 * c.loop.counter) =
-    rw c.loop.invariant.place at c.draw.ensures.word in
+    rw c.loop.invariant.position at c.draw.ensures.word in
     record {
-      place = rw (c.draw.ensures.place, c.loop.invariant.place) (λ i. record { key = key_of c.args.seed; stream = 0; word_pos = step i });
+      position = rw (c.draw.ensures.position, c.loop.invariant.position) (λ i. record { key = key_of c.args.seed; stream = 0; word_pos = step i });
       drawn = rw (c.in_ok-push_back.ensures.items, c.loop.invariant.drawn, word, more) refl;
     }

@@ -5,6 +5,6 @@ use Rattle.sg_base.proofs.memory.fresh.MemFresh.new.Given as goal
 
 abbrev pub invariant-loop : goal.invariant-loop
 invariant-loop l = record {
-  place : l.rng ≡ record { key = key_of l.fn.seed; stream = 0; word_pos = 4 * l.counter };
+  position : l.rng ≡ record { key = key_of l.fn.seed; stream = 0; word_pos = 4 * l.counter };
   drawn : l.drawn.items ≡ seeded_words l.fn.seed l.counter;
 }

@@ -1,0 +1,59 @@
+-- What a keeper represents: a play, and a ledger with the joins of its node.
+use Rattle.std.specs.Prelude.{◌≡◌, ℕ, List, [], false, length, Option, Some, None, Result, Ok, Err}
+use Rattle.sg_node.specs.Answers.{IsTold}
+use Rattle.sg_play.specs.Ends.{Outside, Whole}
+use Rattle.sg_play.specs.Played.{Play}
+use Rattle.sg_play.specs.Representation.{HasAsked, RepresentsPlay}
+use Rattle.sg_play.specs.Steps.{frames_of}
+use Rattle.sg_protocol.specs.Acting.{answer}
+use Rattle.sg_protocol.specs.Calls.{Call}
+use Rattle.sg_protocol.specs.Graph.{Graph}
+use Rattle.sg_protocol.specs.NodeStates.{RepresentsPast}
+use Rattle.sg_protocol.specs.Past.{Past, node_of, past_after}
+use Rattle.sg_protocol.specs.Ranges.{IsCallInRange}
+use Rattle.sg_protocol.specs.Texts.{real}
+use Rattle.sg_report.specs.Told.{Told, told_answer, sid_left}
+use Rattle.sg_keep.specs.Joins.{joins_made}
+use Rattle.sg_keep.specs.Kept.{AllRepresent, AreOfJoins, Kept}
+use Rattle.sg_keep.specs.declared.fault.KeepFault.{KeepFault}
+use Rattle.sg_keep.specs.declared.keeper.Keeper.{Keeper}
+
+-- the node represents a past that was told; the ledger works and has the node's joins, and each image represents them
+pub record HoldsJoins (k : Keeper) (may_leave : List ℕ → Type 0) : Type 0 where
+  pub past : Past
+  pub represents : RepresentsPast k.player.node past
+  pub told : IsTold past
+  pub ledger : k.ledger ≡ record { joins = k.player.node.joins; failed = false }
+  pub images : AllRepresent may_leave k.player.node.joins
+
+-- the node has been asked one more call, and this came of it; the ledger has the joins from before
+pub record HasAskedNode (k : Keeper) (may_leave : List ℕ → Type 0) (told : Option Told) : Type 0 where
+  pub past : Past
+  pub call : Call
+  pub number : ℕ
+  pub range : IsCallInRange call
+  pub told_before : IsTold past
+  pub represents : RepresentsPast k.player.node (past_after real past call)
+  pub is_told : told ≡ Some (told_answer number (answer real (node_of past) call))
+  pub ledger : k.ledger ≡ record { joins = (node_of past).joins; failed = false }
+  pub images : AllRepresent may_leave (node_of past).joins
+
+-- the player represents the play, which has as many steps as calls, and whose frames are of the joins that the calls made
+pub record RepresentsKept (k : Keeper) (p : Play) : Type 0 where
+  pub player : RepresentsPlay k.player p
+  pub in_step : length p.steps ≡ length p.past.calls
+  pub sent : AreOfJoins (joins_made p.past.calls) (frames_of p.steps)
+
+-- the player has asked a call that leaves no session, and this came of it, which is not told yet
+pub record IsAsked (k : Keeper) (p : Play) (c : Call) (told : Option Told) (graph : Option Graph) : Type 0 where
+  pub asked : HasAsked k.player p c told graph []
+  pub stays : None ≡ sid_left c
+  pub told_before : IsTold p.past
+  pub in_step : length p.steps ≡ length p.past.calls
+  pub sent : AreOfJoins (joins_made p.past.calls) (frames_of p.steps)
+  pub ledger : k.ledger.joins ≡ (node_of p.past).joins
+
+-- a play came to this one, all that it gave the outside since the start being whole, and the words that are left are the source's; or it ended early on the way
+abbrev pub CameTo : (start now : Outside) → (may_leave : List ℕ → Type 0) → Keeper → (words : Option (List (List ℕ))) → Play → Result (Unit {0}) KeepFault → Type 0
+CameTo start now may_leave k words p (Ok u) = RepresentsKept k p × Whole start now p.steps × (words ≡ Some p.words)
+CameTo start now may_leave k words p (Err f) = Kept start now may_leave p (Err f)

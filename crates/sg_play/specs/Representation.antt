@@ -1,0 +1,77 @@
+-- What a player represents: a play.
+use Rattle.std.specs.Prelude.{◌≡◌, ℕ, ◌+◌, List, length, drop, find, Bool, Option, Some, Result, Ok, Err}
+use Rattle.sg_base.specs.declared.address.Addr.{Addr}
+use Rattle.sg_lines.specs.Sessions.{naming}
+use Rattle.sg_model.specs.Names.{Name}
+use Rattle.sg_node.specs.Answers.{IsTold}
+use Rattle.sg_protocol.specs.Calls.{Call}
+use Rattle.sg_protocol.specs.Graph.{Graph}
+use Rattle.sg_protocol.specs.NodeStates.{NodeState, RepresentsPast}
+use Rattle.sg_protocol.specs.Past.{Past, node_of, past_after}
+use Rattle.sg_protocol.specs.Texts.{real}
+use Rattle.sg_protocol.specs.Told.{graph_of_call}
+use Rattle.sg_report.specs.Told.{Told, told_answer}
+use Rattle.sg_script.specs.Script.{Choice}
+use Rattle.sg_play.specs.Choosing.{is_ready}
+use Rattle.sg_play.specs.declared.fault.PlayFault.{PlayFault}
+use Rattle.sg_play.specs.declared.player.Player.{Player}
+use Rattle.sg_play.specs.Ends.{Outside, Whole, Ended}
+use Rattle.sg_play.specs.Played.{Play, answer_in, act_by, chosen}
+use Rattle.sg_play.specs.Queues.{HoldsChoices}
+use Rattle.sg_play.specs.Steps.{met_in, frames_in, frames_of}
+
+-- the player has the play's node, keys and programs, its choices, and what its lines are told by
+pub record RepresentsPlay (pl : Player) (p : Play) : Type 0 where
+  pub node : RepresentsPast pl.node p.past
+  pub told : IsTold p.past
+  pub keys : p.past.keys ≡ pl.keys.now
+  pub programs : p.past.programs ≡ pl.programs.now
+  pub choices : HoldsChoices pl.choices p.choices
+  pub names : pl.names ≡ naming 115 (met_in p.past.calls)
+  pub steps : pl.steps ≡ length p.past.calls
+  pub frames : pl.frames ≡ length (frames_of p.steps)
+
+-- the player has asked its node this call, and this came of it, which is not told yet. These frames are counted
+pub record HasAsked (pl : Player) (p : Play) (c : Call) (told : Option Told) (graph : Option Graph) (made : List (Addr × List ℕ)) : Type 0 where
+  pub node : RepresentsPast pl.node (past_after real p.past c)
+  pub told_past : IsTold (past_after real p.past c)
+  pub keys : p.past.keys ≡ pl.keys.now
+  pub programs : p.past.programs ≡ pl.programs.now
+  pub choices : HoldsChoices pl.choices p.choices
+  pub names : pl.names ≡ naming 115 (met_in p.past.calls)
+  pub steps : pl.steps ≡ length p.past.calls
+  pub frames : pl.frames ≡ length (frames_of p.steps) + length made
+  pub is_told : told ≡ Some (told_answer (length (frames_of p.steps) + 1) (answer_in p c))
+  pub is_graph : graph ≡ graph_of_call real (node_of p.past) c
+  pub is_made : made ≡ frames_in p.past.keys (answer_in p c)
+
+-- whether a call succeeded
+abbrev pub done : {A : Type 0} → Result A PlayFault → Result (Unit {0}) PlayFault
+done (Ok a) = Ok tt
+done (Err fault) = Err fault
+
+-- a play came to this one, all that it gave the outside since the start being whole; or it ended early on the way
+abbrev pub Came : (start now : Outside) → Player → Play → Result (Unit {0}) PlayFault → Type 0
+Came start now pl p (Ok u) = RepresentsPlay pl p × Whole start now p.steps
+Came start now pl p (Err fault) = Ended start now p.steps (Err fault)
+
+-- and the words that are left are the source's
+abbrev pub CameTo : (start now : Outside) → Player → (words : Option (List (List ℕ))) → Play → Result (Unit {0}) PlayFault → Type 0
+CameTo start now pl words p (Ok u) = Came start now pl p (Ok u) × (words ≡ Some p.words)
+CameTo start now pl words p (Err fault) = Came start now pl p (Err fault)
+
+-- so with the answer whether a frame was sent
+abbrev pub CameActing : (start now : Outside) → Player → (words : Option (List (List ℕ))) → Play × Bool → Result Bool PlayFault → Type 0
+CameActing start now pl words x (Ok sent) = CameTo start now pl words x.0 (Ok tt) × (sent ≡ x.1)
+CameActing start now pl words x (Err fault) = CameTo start now pl words x.0 (Err fault)
+
+-- the player has asked for the act by the first choice that can be taken, and this came of it
+pub record HasActed (pl : Player) (words : Option (List (List ℕ))) (sid : List ℕ) (graph : Name) (node : ℕ) (p : Play) (told : Option Told) (by : Option Graph) (made : List (Addr × List ℕ)) : Type 0 where
+  pub choice : Choice
+  pub is_first : find (is_ready graph node) p.choices ≡ Some choice
+  pub asked : HasAsked pl (chosen graph node choice p) (act_by sid choice p.words) told by made
+  pub words_left : words ≡ Some (drop (length choice.values) p.words)
+
+-- where the old state of a node represented a past that was told, the new one represents such a past too, and has the same joins
+abbrev pub KeepsJoins : (old new : NodeState) → Type 0
+KeepsJoins old new = (past : Past) → RepresentsPast old past → IsTold past → (later : Past) × RepresentsPast new later × IsTold later × (new.joins ≡ old.joins)
