@@ -5,12 +5,12 @@
 # The program is made in a folder of its own, over this repository's crates. Needs python3; no part of the gate.
 set -eu
 source "$(dirname "${BASH_SOURCE[0]}")/common.sh"
-program texts sg_base sg_read sg_sched
+program texts sg_base sg_sched_text sg_sched
 cat >"$bench/src/main.rt" <<'RATTLE'
 //! Reads one schedule, and prints how many steps it has.
 #![tactic(auto)]
 
-use sg_read::read_schedule;
+use sg_sched_text::read_schedule;
 use std::{fs, io};
 
 fn main(rt: HostRuntime) -> Result<(), io::Error> {

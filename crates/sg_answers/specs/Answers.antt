@@ -5,8 +5,8 @@ use Rattle.sg_model.specs.Names.{Name}
 use Rattle.sg_protocol.specs.Graph.{Graph, kind_of, kind_text, node_name, variable_name, writes}
 use Rattle.sg_graph.specs.Edges.{leaving_from}
 use Rattle.sg_graph.specs.Parts.{edge_name}
-use Rattle.sg_lines.specs.Sessions.{numbered}
-use Rattle.sg_lines.specs.Walks.{with_commas}
+use Rattle.sg_text.specs.Sessions.{numbered}
+use Rattle.sg_text.specs.Walks.{with_commas}
 use Rattle.sg_answers.specs.declared.line.Wrong.{Wrong}
 use Rattle.sg_answers.specs.declared.line.Wrong.TheVariants.{Form, Unknown, Twice}
 

@@ -1,7 +1,7 @@
 //! Answers of a few words.
 ghost use Rattle.std.specs.Prelude.{◌≡◌, ◌<◌, ◌++◌, ◌∷◌, [], false, OnOk, codes};
 ghost use Rattle.std.specs.Fmt.{digit_glyph};
-ghost use Rattle.sg_lines.specs.Sessions.{numbered};
+ghost use Rattle.sg_text.specs.Sessions.{numbered};
 ghost use Rattle.sg_answers.specs.Answers.{again_text, failed_text, hex_text, id_text, nothing_text, over_text, quiet_text, unknown_text, unsent_text, waits_text, wrong_text};
 
 use sg_base::{ByteOut, Name, OutOfMemory, Sid};

@@ -5,9 +5,9 @@ use Rattle.std.specs.Option.{option_map_or}
 use Rattle.std.proofs.lemmas.Bool.{cases_Bool}
 use Rattle.std.proofs.lemmas.List.Elements.{filter-append, filter_map-append}
 use Rattle.indexmap.specs.IndexSet.{insert_key}
-use Rattle.sg_lines.proofs.Firsts.{firsts-again, firsts-new, has_text-firsts}
-use Rattle.sg_lines.proofs.SameSid.{same, same-bytes_eq}
-use Rattle.sg_lines.specs.Sessions.{firsts}
+use Rattle.sg_text.proofs.Firsts.{firsts-again, firsts-new, has_text-firsts}
+use Rattle.sg_text.proofs.SameSid.{same, same-bytes_eq}
+use Rattle.sg_text.specs.Sessions.{firsts}
 use Rattle.sg_model.specs.Lists.{has_text}
 use Rattle.std.specs.Prelude.{OnOk, Result}
 use Rattle.sg_model.specs.Limits.{most_steps}

@@ -3,7 +3,7 @@ use Rattle.std.proofs.Common.{◌≡◌, ℕ, zero, suc, ◌+◌, ◌<◌, ◌�
 use Rattle.std.specs.Prelude.{IsTrue}
 use Rattle.std.specs.List.{AllByRecursion}
 use Rattle.std.proofs.lemmas.List.Elements.{recursion_from_All}
-use Rattle.sg_lines.proofs.Numbered.{is_name-numbered}
+use Rattle.sg_text.proofs.Numbered.{is_name-numbered}
 use Rattle.sg_model.specs.Bytes.{AreBytes}
 use Rattle.sg_model.specs.Lists.{below, has_text, range_from}
 use Rattle.sg_model.specs.Names.{is_name}

@@ -10,7 +10,7 @@ use Rattle.std.proofs.lemmas.List.Elements.{All-from_recursion}
 use Rattle.std.proofs.lemmas.List.Kept.{AllPairs-cons}
 use Rattle.std.proofs.lemmas.Slice.Eq.{bytes_eq-Decides}
 use Rattle.sg_craft.specs.Invariant.{AreApart}
-use Rattle.sg_lines.proofs.Numbered.{is_name-numbered}
+use Rattle.sg_text.proofs.Numbered.{is_name-numbered}
 use Rattle.sg_model.proofs.Numbers.{length-range_from}
 use Rattle.sg_model.specs.Bytes.{AreBytes}
 use Rattle.sg_model.specs.Lists.{all_differ, below, has_text, range_from}

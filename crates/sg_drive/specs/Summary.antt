@@ -2,7 +2,7 @@
 use Rattle.std.specs.Prelude.{◌≡◌, ◌==◌, ℕ, Bool, true, false, if◌then◌else◌, List, [], ◌∷◌, ◌++◌, filter, filter_map, length, codes, Option, Some, None}
 use Rattle.std.specs.Fmt.{decimal}
 use Rattle.sg_graph.specs.Edges.{leaving_from}
-use Rattle.sg_lines.specs.Sessions.{firsts}
+use Rattle.sg_text.specs.Sessions.{firsts}
 use Rattle.sg_model.specs.Shape.{target}
 use Rattle.sg_protocol.specs.Calls.{Event, Sent, Received}
 use Rattle.sg_protocol.specs.Graph.{Graph, shape}

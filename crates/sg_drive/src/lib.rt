@@ -27,15 +27,15 @@ mod fault;
 mod generator;
 mod groups;
 pub mod laws;
-mod lines;
 mod network;
 mod pending;
 mod play;
 mod setup;
 mod sids;
+mod summary_text;
 mod tally;
 
 pub use drive::Driven;
 pub use fault::GenerateFault;
 pub use groups::generate;
-pub use lines::summary;
+pub use summary_text::summary;

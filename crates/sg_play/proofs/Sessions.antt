@@ -3,8 +3,8 @@ use Rattle.std.proofs.Common.{◌≡◌, ℕ, ◌||◌, Bool, true, false, List,
 use Rattle.std.specs.List.{slice_get}
 use Rattle.std.proofs.lemmas.List.{length-map}
 use Rattle.std.proofs.lemmas.Option.{slice_get-map}
-use Rattle.sg_lines.specs.Sessions.{Naming, all_sids, naming, session_name, sids_met}
-use Rattle.sg_lines.proofs.Naming.{has_text-all_sids}
+use Rattle.sg_text.specs.Sessions.{Naming, all_sids, naming, session_name, sids_met}
+use Rattle.sg_text.proofs.Naming.{has_text-all_sids}
 use Rattle.sg_model.specs.Lists.{has_text}
 use Rattle.sg_model.specs.Names.{Name}
 use Rattle.sg_model.proofs.Small.{bytes_refl}

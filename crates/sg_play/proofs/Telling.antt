@@ -4,7 +4,7 @@ use Rattle.std.specs.Option.{option_map_or}
 use Rattle.std.proofs.lemmas.List.{append-nil, length-append, map-append}
 use Rattle.std.proofs.lemmas.List.Concat.{flat_map-append}
 use Rattle.sg_base.specs.declared.address.Addr.{Addr}
-use Rattle.sg_lines.specs.Sessions.{KnownSessions, Naming, naming, session_name}
+use Rattle.sg_text.specs.Sessions.{KnownSessions, Naming, naming, session_name}
 use Rattle.sg_node.proofs.Life.{pasts_go_on}
 use Rattle.sg_model.specs.Names.{Name}
 use Rattle.sg_protocol.specs.Calls as Protocol

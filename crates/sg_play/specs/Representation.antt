@@ -1,7 +1,7 @@
 -- What a player represents: a play.
 use Rattle.std.specs.Prelude.{◌≡◌, ℕ, ◌+◌, List, length, drop, find, Bool, Option, Some, Result, Ok, Err}
 use Rattle.sg_base.specs.declared.address.Addr.{Addr}
-use Rattle.sg_lines.specs.Sessions.{naming}
+use Rattle.sg_text.specs.Sessions.{naming}
 use Rattle.sg_model.specs.Names.{Name}
 use Rattle.sg_node.specs.Answers.{IsTold}
 use Rattle.sg_protocol.specs.Calls.{Call}

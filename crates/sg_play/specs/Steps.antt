@@ -11,7 +11,7 @@ use Rattle.sg_protocol.specs.Spelling.{spelling}
 use Rattle.sg_protocol.specs.Texts.{real}
 use Rattle.sg_protocol.specs.Told.{graph_of_call}
 use Rattle.sg_keys.specs.Names.{addr_of}
-use Rattle.sg_lines.specs.Sessions.{KnownSessions, session_name}
+use Rattle.sg_text.specs.Sessions.{KnownSessions, session_name}
 use Rattle.sg_report.specs.Lines.{graph_or_none, line_text}
 use Rattle.sg_report.specs.Told.{told_answer, session_told, sid_left}
 

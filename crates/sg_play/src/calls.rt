@@ -1,7 +1,7 @@
 //! Calls that a caller of a player makes one by one, and what it looks up between them.
 ghost use Rattle.std.specs.Prelude.{◌≡◌, [], length, slice_get, option_map, IfOk, IfErr, OnOk};
 ghost use Rattle.std.specs.Option.{option_copied};
-ghost use Rattle.sg_lines.specs.Sessions.{sids_met};
+ghost use Rattle.sg_text.specs.Sessions.{sids_met};
 ghost use Rattle.sg_protocol.specs.Calls.{Abandon, Act};
 ghost use Rattle.sg_protocol.specs.Past.{node_of};
 ghost use Rattle.sg_protocol.specs.Told.{live_with};

@@ -3,7 +3,7 @@ ghost use Rattle.std.specs.Prelude.{◌≡◌, ◌≤◌, ◌+◌, ℕ, List, []
 ghost use Rattle.std.specs.Option.{option_copied, option_map_or};
 ghost use Rattle.sg_base.specs.Outside.{HasRisen};
 ghost use Rattle.sg_base.specs.declared.address.Addr.{Addr};
-ghost use Rattle.sg_lines.specs.Sessions.{KnownSessions, naming, session_name};
+ghost use Rattle.sg_text.specs.Sessions.{KnownSessions, naming, session_name};
 ghost use Rattle.sg_protocol.specs.Calls.{Call, Start, Deliver};
 ghost use Rattle.sg_report.specs.Lines.{graph_or_none, line_text};
 ghost use Rattle.sg_report.specs.Outcome.{outcome_of};
@@ -21,11 +21,11 @@ use sg_base::{Addr, Link, Name, Sealed, Seq, Sid, Sink};
 use sg_crypt::Cast;
 use sg_graph::Graph;
 use sg_keys::Keyring;
-use sg_lines::SessionNames;
 use sg_node::Node;
 use sg_program::Programs;
 use sg_report::{Outcome, sid_told};
 use sg_script::{ScriptChoice, ScriptStart};
+use sg_text::SessionNames;
 use std::alloc::Global;
 
 /// One principal who plays a script: its node, the keys and programs that the node was made with, the choices with the uses that are

@@ -3,7 +3,7 @@ use Rattle.std.specs.Prelude.{ℕ, List, [], ◌∷◌, ◌++◌, codes, Option,
 use Rattle.std.specs.Fmt.{decimal}
 use Rattle.sg_model.specs.Names.{Name}
 use Rattle.sg_protocol.specs.Graph.{Graph}
-use Rattle.sg_lines.specs.Events.{event_text, event_values, sent_to}
+use Rattle.sg_text.specs.Events.{event_text, event_values, sent_to}
 use Rattle.sg_report.specs.Reasons.{refusal_text, start_text, act_text}
 use Rattle.sg_report.specs.Told.{Told, Happened, Sends, Abandoned, Crafted, NotStarted, NotActed, NotAbandoned, NotDelivered, NoFrame}
 

@@ -6,8 +6,8 @@ use Rattle.sg_model.specs.Names.{Name}
 use Rattle.sg_protocol.specs.Calls.{Event, sid_of}
 use Rattle.sg_protocol.specs.Graph.{Graph}
 use Rattle.sg_protocol.specs.Walk.{StoredStep, OnePath}
-use Rattle.sg_lines.specs.Sessions.{KnownSessions, session_name, sids_met}
-use Rattle.sg_lines.specs.Walks.{walk_line}
+use Rattle.sg_text.specs.Sessions.{KnownSessions, session_name, sids_met}
+use Rattle.sg_text.specs.Walks.{walk_line}
 use Rattle.sg_report.specs.Lines.{graph_or_none, line_text}
 use Rattle.sg_report.specs.Told.{Told}
 

@@ -1,7 +1,7 @@
 //! The line of a step.
 ghost use Rattle.std.specs.Prelude.{◌≡◌, ◌++◌, IfOk, IfSome, IsSomeAnd, OnOk, codes};
 ghost use Rattle.std.specs.Option.{option_copied};
-ghost use Rattle.sg_lines.specs.Events.{event_text, event_values, sent_to};
+ghost use Rattle.sg_text.specs.Events.{event_text, event_values, sent_to};
 ghost use Rattle.sg_protocol.specs.Told.{HasEvent};
 ghost use Rattle.sg_walk.specs.Model.{event_of};
 ghost use Rattle.sg_report.specs.Lines.{by_whom, graph_or_none, line_text, told_text};
@@ -12,7 +12,7 @@ use crate::Outcome;
 use crate::reason::{put_act_fault, put_refusal, put_start_fault};
 use sg_base::{ByteOut, Name, OutOfMemory};
 use sg_graph::Graph;
-use sg_lines::{put_event, put_event_values, put_sent_to};
+use sg_text::{put_event, put_event_values, put_sent_to};
 use sg_walk::Event;
 use std::alloc::Global;
 

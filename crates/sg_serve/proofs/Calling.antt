@@ -19,7 +19,7 @@ use Rattle.sg_program.specs.Together.{is_named}
 use Rattle.sg_protocol.specs.Calls.{Abandon, Act, Call, Start}
 use Rattle.sg_protocol.specs.Graph.{Graph}
 use Rattle.sg_protocol.specs.Keyring.{Program}
-use Rattle.sg_read.specs.Adding.{is_twice, known_values}
+use Rattle.sg_sched_text.specs.Adding.{is_twice, known_values}
 use Rattle.sg_report.specs.Told.{Told, sid_left}
 use Rattle.sg_sched.specs.Format.Said.{Given}
 use Rattle.sg_script.specs.Script.{Start as ScriptStart}

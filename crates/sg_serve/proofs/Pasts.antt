@@ -16,7 +16,7 @@ use Rattle.sg_protocol.specs.Node.{Node}
 use Rattle.sg_protocol.specs.NodeAfter.{node_after}
 use Rattle.sg_protocol.specs.Past.{AreAnswers, AnsweredCall, Past, new_node, node_after_all, node_of, past_after}
 use Rattle.sg_protocol.specs.Texts.{Hash, real}
-use Rattle.sg_read.specs.Adding.{is_twice, known_values}
+use Rattle.sg_sched_text.specs.Adding.{is_twice, known_values}
 use Rattle.sg_request.specs.Request.{request_of}
 use Rattle.sg_request.specs.declared.request.Request.{Request}
 use Rattle.sg_request.specs.declared.request.Request.TheVariants as request

@@ -5,7 +5,7 @@ use Rattle.sg_again.specs.LastFrames.{Kept, SentFrame, sent, ended, frame_of}
 use Rattle.sg_base.specs.declared.address.Addr.{Addr}
 use Rattle.sg_answers.specs.Answers.{unknown_text, wrong_text, quiet_text, again_text, nothing_text, turn_text, waits_text, over_text, id_text}
 use Rattle.sg_answers.specs.declared.line.Wrong.TheVariants.{Unknown, Twice}
-use Rattle.sg_lines.specs.Sessions.{sids_met}
+use Rattle.sg_text.specs.Sessions.{sids_met}
 use Rattle.sg_model.specs.Last.{Map}
 use Rattle.sg_model.specs.Names.{Name}
 use Rattle.sg_model.specs.Values.{Value}
@@ -19,7 +19,7 @@ use Rattle.sg_protocol.specs.Past.{node_of}
 use Rattle.sg_protocol.specs.Texts.{real}
 use Rattle.sg_protocol.specs.Told.{graph_of_call, live_with}
 use Rattle.sg_protocol.specs.Turn.{turn_of}
-use Rattle.sg_read.specs.Adding.{known_values, is_twice}
+use Rattle.sg_sched_text.specs.Adding.{known_values, is_twice}
 use Rattle.sg_report.specs.Lines.{graph_or_none}
 use Rattle.sg_report.specs.Told.{session_told, sid_left, told_answer}
 use Rattle.sg_request.specs.declared.request.Request.{Request}

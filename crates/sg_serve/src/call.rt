@@ -19,9 +19,9 @@ use sg_answers::Wrong;
 use sg_base::{Fresh, Label, Name, Seq, Sid, Value, Var};
 use sg_ledger::Disk;
 use sg_play::draw;
-use sg_read::{differ, known_values};
 use sg_sched::Given;
 use sg_sched::index::label_index;
+use sg_sched_text::{differ, known_values};
 use sg_script::ScriptStart;
 
 impl<'p> Server<'p> {

@@ -2,12 +2,12 @@
 ghost use Rattle.std.specs.Prelude.{IfOk};
 ghost use Rattle.sg_protocol.specs.IsSchedule.{AreCompiled};
 ghost use Rattle.sg_protocol.specs.Texts.{real};
-ghost use Rattle.sg_read.specs.Meant.{IsMeant};
+ghost use Rattle.sg_sched_text.specs.Meant.{IsMeant};
 
 use sg_base::{ByteOut, OutOfMemory, Sid};
 use sg_program::{Programs, compile_all};
-use sg_read::read_schedule;
 use sg_sched::Schedule;
+use sg_sched_text::read_schedule;
 use sg_table::{Calls, fixed, hold};
 use sg_walk::StoredWalk;
 use sg_world::{ForgedFault, WalkFault, World};

@@ -2,8 +2,8 @@
 use crate::crypt::texts::typed;
 use crate::script::{Script, played};
 use sg_base::{ByteOut, Name, OutOfMemory, Sid};
-use sg_lines::{SessionNames, put_value};
 use sg_table::{Calls, hold};
+use sg_text::{SessionNames, put_value};
 use std::alloc::Global;
 
 struct Values;

@@ -34,7 +34,7 @@ use Rattle.sg_protocol.specs.IsSchedule.{AreCompiled}
 use Rattle.sg_protocol.specs.Keyring.{Program}
 use Rattle.sg_protocol.specs.Schedule.{Schedule}
 use Rattle.sg_protocol.specs.Texts.{real}
-use Rattle.sg_read.proofs.OneFault.{one_fault, no_schedule}
+use Rattle.sg_sched_text.proofs.OneFault.{one_fault, no_schedule}
 use Rattle.sg_sched.specs.Format.Spells.{SpellsSchedule}
 use Rattle.sg_sched.proofs.FormatOne.{one_schedule}
 use Rattle.sg_top.specs.Claimed.{Suggests}

@@ -1,6 +1,6 @@
 -- How a replay ends whose bytes are no schedule.
 use Rattle.std.proofs.Common.{◌≡◌, List, ℕ, inl, refl, sym, subst}
-use Rattle.sg_read.specs.ReadSoFar.{IsFault as IsFirst}
+use Rattle.sg_sched_text.specs.ReadSoFar.{IsFault as IsFirst}
 use Rattle.sg_sched.specs.Format.Kinds as Format
 use Rattle.sg_sched.specs.declared.fault.Kind.TheVariants as kind
 use Rattle.sg_sched.specs.declared.fault.LineFault.{LineFault}

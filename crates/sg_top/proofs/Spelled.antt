@@ -24,10 +24,10 @@ use Rattle.sg_sched.specs.Format.Items.{Session, Item, GraphItem, EdgeItem, Hone
 use Rattle.sg_sched.specs.Format.Made.{made_after, written, values, what_of, craft}
 use Rattle.sg_sched.specs.Format.Faults.{knows_variable}
 use Rattle.sg_sched.specs.Format.Spells.{Line, Add, Skip, Say, Show, Declare, Nothing, Next, SpellsSchedule}
-use Rattle.sg_read.specs.Plus.{plus}
-use Rattle.sg_read.proofs.Growing.{one_more}
-use Rattle.sg_read.proofs.Indices.{some_index}
-use Rattle.sg_read.proofs.RightLines.{IsRight, right, in_group}
+use Rattle.sg_sched_text.specs.Plus.{plus}
+use Rattle.sg_sched_text.proofs.Growing.{one_more}
+use Rattle.sg_sched_text.proofs.Indices.{some_index}
+use Rattle.sg_sched_text.proofs.RightLines.{IsRight, right, in_group}
 use Rattle.sg_world.specs.Account.{CanBeNamed}
 
 -- ---- what is known of a step

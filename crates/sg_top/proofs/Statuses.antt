@@ -5,7 +5,7 @@ use Rattle.sg_top.specs.Ends.{Output}
 use Rattle.sg_top.specs.Ledgers.{CanHaveKept}
 use Rattle.sg_top.specs.Runs.{CanHavePlayed}
 use Rattle.sg_top.specs.Serves.{CanHaveServed}
-use Rattle.sg_words.specs.Command.{Command, Check, Compile, Run, Replay, Drive, Ledger, Keep, Stream, Audit, Compose, Suggest, Claims, Serve, command_of}
+use Rattle.sg_args.specs.Command.{Command, Check, Compile, Run, Replay, Drive, Ledger, Keep, Stream, Audit, Compose, Suggest, Claims, Serve, command_of}
 use Rattle.sg_top.specs.Top.{HasPlayed, IsOfKeep, IsOfPlay, IsOfServe, MayPlay, PlaysWith, Puts, Says}
 
 -- the statuses of endings after a play

@@ -11,7 +11,7 @@ use Rattle.sg_audit.specs.Sessions.{Session}
 use Rattle.sg_audit.specs.Answers.{IsAnswer}
 use Rattle.sg_audit.specs.declared.answer.Audit.{Audit}
 use Rattle.sg_audit.specs.declared.answer.Audit.TheVariants.{Yes, Clash, No}
-use Rattle.sg_lines.specs.Walks.{walk_line}
+use Rattle.sg_text.specs.Walks.{walk_line}
 
 -- the role has a log in the session, and so counts as honest
 abbrev pub has_log : Session → ℕ → Bool

@@ -12,12 +12,12 @@ use Rattle.sg_script.specs.declared.fault.ScriptFault.{ScriptFault}
 use Rattle.sg_sched.specs.Format.Kinds as Format
 use Rattle.sg_sched.specs.declared.fault.LineFault.{LineFault}
 use Rattle.sg_sched.specs.declared.fault.LineFault.TheVariants.{Line, OutOfMemory}
-use Rattle.sg_read.specs.Taken.{kind_of}
+use Rattle.sg_sched_text.specs.Taken.{kind_of}
 use Rattle.sg_audit.specs.declared.fault.LogFault.{LogFault}
 use Rattle.sg_audit.specs.declared.fault.LogFault.TheVariants.{Form as FormOfLogs, Unknown as UnknownInLogs, Twice as TwiceInLogs, Graph as GraphOfLogs, TooManyEvents, OutOfMemory as NoMemoryForLogs}
 use Rattle.sg_parse.specs.FaultText.{parse_text}
 use Rattle.sg_compose.specs.FaultText.{compose_text}
-use Rattle.sg_lines.specs.Values.{escaped_byte}
+use Rattle.sg_text.specs.Values.{escaped_byte}
 use Rattle.sg_program.specs.FaultText.{refusal_text}
 use Rattle.sg_keys.specs.FaultText.{keys_text}
 use Rattle.sg_script.specs.FaultText.{script_text}

@@ -5,7 +5,7 @@ use Rattle.sg_protocol.specs.Keyring.{Program}
 use Rattle.sg_protocol.specs.Past.{JoinedOnce}
 use Rattle.sg_protocol.specs.Schedule.{Schedule}
 use Rattle.sg_protocol.specs.Steps.{is_taken}
-use Rattle.sg_read.specs.Meant.{IsMeant}
+use Rattle.sg_sched_text.specs.Meant.{IsMeant}
 use Rattle.sg_report.specs.Report.{IsReport}
 use Rattle.sg_world.specs.Account.{CanBeNamed, account}
 use Rattle.sg_world.specs.Faults.{IsFull, NeverFull}

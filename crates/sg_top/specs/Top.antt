@@ -5,7 +5,7 @@ use Rattle.sg_base.specs.declared.address.Addr.{Addr}
 use Rattle.sg_model.specs.Limits.{most_graph_file, most_logs_file, most_schedule_file}
 use Rattle.sg_stream.specs.Link.{StreamHeld, sent_of, to_come}
 use Rattle.sg_stream.specs.Traffic.{Traffic}
-use Rattle.sg_words.specs.Command.{Command, Check, Compile, Run, Replay, Drive, Ledger, Keep, Stream, Audit, Compose, Suggest, Claims, Serve, command_of}
+use Rattle.sg_args.specs.Command.{Command, Check, Compile, Run, Replay, Drive, Ledger, Keep, Stream, Audit, Compose, Suggest, Claims, Serve, command_of}
 use Rattle.sg_top.specs.Claimed.{DecidesClaims, Suggests}
 use Rattle.sg_top.specs.Ending.{Ending, NoCommand, NoMemory, status_of, line_of}
 use Rattle.sg_top.specs.Ends.{Told, Output, OnFile, Checks, Compiles, Replays, Drives, Audits, Composes}

@@ -11,7 +11,7 @@ ghost use Rattle.sg_top.specs.Audited.{AllAnswered, Answered, answer_text, clash
 use sg_audit::{Audit, SessionLog, audit, roles_of};
 use sg_base::{ByteOut, Name, OutOfMemory, Time};
 use sg_graph::Graph;
-use sg_lines::put_walk;
+use sg_text::put_walk;
 use sg_walk::StoredWalk;
 use std::alloc::Global;
 

@@ -9,10 +9,10 @@ use sg_claims_text::ClaimsFault;
 use sg_compose::ComposeFault;
 use sg_graph::Graph;
 use sg_keys::KeyFault;
-use sg_lines::put_escaped;
 use sg_parse::ParseFault;
 use sg_program::CompileFault;
 use sg_script::ScriptFault;
+use sg_text::put_escaped;
 use std::alloc::Global;
 use std::fmt;
 

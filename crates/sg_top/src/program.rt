@@ -1,7 +1,7 @@
 //! The program without the real objects.
 ghost use Rattle.std.specs.Prelude.{◌≡◌, ◌⊎◌, map, option_map, string_bytes};
-ghost use Rattle.sg_words.specs.Command.{CanBeDriven, command_of};
-ghost use Rattle.sg_words.specs.Model.{command_held};
+ghost use Rattle.sg_args.specs.Command.{CanBeDriven, command_of};
+ghost use Rattle.sg_args.specs.Model.{command_held};
 ghost use Rattle.sg_top.specs.Model.{ending_held};
 ghost use Rattle.sg_top.specs.Top.{Ends, HasPlayed, IsOnDisk, IsOnInput, IsOverLink, IsOverPort, IsOverStream, MayPlay, Puts, Says, Works, streamed};
 
@@ -18,12 +18,12 @@ use crate::replay::replay;
 use crate::run::run;
 use crate::serve::serve;
 use crate::suggest::suggest;
+use sg_args::{Command, CommandLine, Given};
 use sg_base::{Files, Fresh, Link, Sink, write_all};
 use sg_input::Input;
 use sg_ledger::Disk;
 use sg_stream::{Conns, StreamLink};
 use sg_wait::TimedLink;
-use sg_words::{Command, CommandLine, Given};
 use std::alloc::Global;
 
 /// Does what the words ask for, those after the program's name, and gives the exit status.

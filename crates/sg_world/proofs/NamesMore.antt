@@ -7,7 +7,7 @@ use Rattle.std.proofs.lemmas.Bool.{or_right}
 use Rattle.std.proofs.lemmas.List.Folds.{list_any-append}
 use Rattle.std.proofs.lemmas.List.{get_or-map, map-append, take_more}
 use Rattle.std.proofs.lemmas.List.Elements.{filter_map-append}
-use Rattle.sg_lines.specs.Sessions.{KnownSessions, with_declared}
+use Rattle.sg_text.specs.Sessions.{KnownSessions, with_declared}
 use Rattle.sg_model.specs.Lists.{has_text}
 use Rattle.sg_protocol.specs.Schedule.{Declared}
 use Rattle.sg_protocol.specs.Texts.{real, session_id}

@@ -3,8 +3,8 @@ use Rattle.std.proofs.Common.{◌≡◌, ◌≢◌, ℕ, Bool, true, false, ◌&
 use Rattle.std.specs.List.{AllByRecursion}
 use Rattle.std.proofs.lemmas.Bool.{and_parts}
 use Rattle.std.proofs.lemmas.List.Elements.{All-from_recursion}
-use Rattle.sg_lines.proofs.Steps.{walk_line-same}
-use Rattle.sg_lines.specs.Walks.{walk_line}
+use Rattle.sg_text.proofs.Steps.{walk_line-same}
+use Rattle.sg_text.specs.Walks.{walk_line}
 use Rattle.sg_model.specs.Lists.{has_text, is_in}
 use Rattle.sg_protocol.proofs.Broken.{collision_is_first, forged_is_first}
 use Rattle.sg_protocol.specs.Broken.{first_collision, first_forged}

@@ -10,15 +10,15 @@ use Rattle.std.proofs.lemmas.Option.{same_Some}
 use Rattle.std.proofs.Math.Seq.{take-length}
 use Rattle.std.proofs.lemmas.Slice.Eq.{bytes_eq-Decides}
 use Rattle.std.proofs.lemmas.List.Elements.{filter_map-append}
-use Rattle.sg_courses.specs.Courses.{Course, Courses}
-use Rattle.sg_courses.specs.Runs.{AreCourses, IsCourseOf, IsExplainedBy, IsUnbroken, sids_of}
-use Rattle.sg_grown.proofs.Coursed.{courses_are_grown}
-use Rattle.sg_grown.specs.Events.{grown_along}
+use Rattle.sg_traces.specs.Courses.{Course, Courses}
+use Rattle.sg_traces.specs.Runs.{AreCourses, IsCourseOf, IsExplainedBy, IsUnbroken, sids_of}
+use Rattle.sg_explain.proofs.Coursed.{courses_are_grown}
+use Rattle.sg_explain.specs.Events.{grown_along}
 use Rattle.sg_law.proofs.Members.{all_in}
-use Rattle.sg_lines.proofs.Firsts.{has_text-firsts}
-use Rattle.sg_lines.proofs.Steps.{HasSteps-IsStoredWalk}
-use Rattle.sg_lines.specs.Sessions.{KnownSessions, all_sids, naming, session_name, sids_met}
-use Rattle.sg_lines.specs.Walks.{HasSteps}
+use Rattle.sg_text.proofs.Firsts.{has_text-firsts}
+use Rattle.sg_text.proofs.Steps.{HasSteps-IsStoredWalk}
+use Rattle.sg_text.specs.Sessions.{KnownSessions, all_sids, naming, session_name, sids_met}
+use Rattle.sg_text.specs.Walks.{HasSteps}
 use Rattle.sg_model.specs.Lists.{has_text}
 use Rattle.sg_protocol.proofs.RealHash.{real_hash}
 use Rattle.sg_protocol.proofs.Whole.{found_in}

@@ -3,7 +3,7 @@ use Rattle.std.specs.Prelude.{ℕ, List, filter_map, Option, None, option_map, o
 use Rattle.sg_protocol.specs.Calls.{sid_of}
 use Rattle.sg_protocol.specs.Schedule.{Declared, Step, AbandonStep, who_of}
 use Rattle.sg_protocol.specs.Texts.{real, session_id}
-use Rattle.sg_lines.specs.Sessions.{KnownSessions}
+use Rattle.sg_text.specs.Sessions.{KnownSessions}
 use Rattle.sg_report.specs.Report.{StepLine}
 use Rattle.sg_report.specs.Told.{CanBeTold, event_told, session_told}
 use Rattle.sg_world.specs.Account.{declared_in, graph_told}

@@ -1,11 +1,11 @@
 -- The walks of the sessions of a replay, and why a session has none.
 use Rattle.std.specs.Prelude.{◌≡◌, ◌≢◌, ℕ, List, [], ◌++◌, map, flat_map, length, Option, option_map}
 use Rattle.std.specs.List.{AllByRecursion}
-use Rattle.sg_courses.specs.Courses.{Course, Courses}
-use Rattle.sg_courses.specs.Runs.{course_at}
-use Rattle.sg_grown.specs.Events.{grown_along}
-use Rattle.sg_lines.specs.Sessions.{KnownSessions, firsts, sids_met}
-use Rattle.sg_lines.specs.Walks.{HasSteps, walk_line}
+use Rattle.sg_traces.specs.Courses.{Course, Courses}
+use Rattle.sg_traces.specs.Runs.{course_at}
+use Rattle.sg_explain.specs.Events.{grown_along}
+use Rattle.sg_text.specs.Sessions.{KnownSessions, firsts, sids_met}
+use Rattle.sg_text.specs.Walks.{HasSteps, walk_line}
 use Rattle.sg_model.specs.Lists.{is_in}
 use Rattle.sg_protocol.specs.Calls.{sid_of}
 use Rattle.sg_protocol.specs.Graph.{Graph}

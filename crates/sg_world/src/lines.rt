@@ -1,7 +1,7 @@
 //! The lines of the steps of a replay.
 ghost use Rattle.std.specs.Prelude.{◌≡◌, ◌<◌, ◌^◌, ◌++◌, [], All, IfSome, IsSomeAnd, List, OnOk, Option, Some, find, length, map, nat_lt, unwrap_or};
 ghost use Rattle.std.specs.Option.{option_copied, option_map_or, option_to_list};
-ghost use Rattle.sg_lines.specs.Sessions.{KnownSessions, naming};
+ghost use Rattle.sg_text.specs.Sessions.{KnownSessions, naming};
 ghost use Rattle.sg_report.specs.Outcome.{outcome_of};
 ghost use Rattle.sg_report.specs.Report.{StepLine, line, lines_from, name_in};
 ghost use Rattle.sg_report.specs.Told.{session_told};
@@ -14,11 +14,11 @@ use crate::setting::Setting;
 use crate::take::who;
 use sg_base::{ByteOut, Name, OutOfMemory, Sid, Var};
 use sg_graph::Graph;
-use sg_lines::SessionNames;
 use sg_node::ActFault;
 use sg_report::{Outcome, put_line, sid_told};
 use sg_role::SendFault;
 use sg_sched::Step;
+use sg_text::SessionNames;
 
 /// Writes a line for each step that was taken, the first of number 1.
 pub(crate) fn put_lines<'p>(

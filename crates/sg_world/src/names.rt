@@ -1,7 +1,7 @@
 //! What the sessions of a replay are called.
 ghost use Rattle.std.specs.Prelude.{◌≡◌, ◌++◌, [], filter_map, map, IfOk, OnOk};
 ghost use Rattle.std.specs.Option.{option_to_list};
-ghost use Rattle.sg_lines.specs.Sessions.{KnownSessions, naming};
+ghost use Rattle.sg_text.specs.Sessions.{KnownSessions, naming};
 ghost use Rattle.sg_protocol.specs.Texts.{real, session_id};
 ghost use Rattle.sg_world.specs.Account.{declared_in};
 ghost use Rattle.sg_world.specs.KeptLines.{met_in, sid_kept};
@@ -9,9 +9,9 @@ ghost use Rattle.sg_world.specs.KeptLines.{met_in, sid_kept};
 use crate::record::TakenStep;
 use crate::setting::Setting;
 use sg_base::{OutOfMemory, Sid};
-use sg_lines::SessionNames;
 use sg_report::sid_told;
 use sg_sched::Declared;
+use sg_text::SessionNames;
 use std::alloc::Global;
 
 /// What the sessions are called: the declared ones by their first names, and the others by `x` and a number in the order of their

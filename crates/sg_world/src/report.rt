@@ -2,8 +2,8 @@
 ghost use Rattle.std.specs.Prelude.{◌≡◌, ◌≤◌, ◌++◌, All, IfOk, IfSome, OnOk, filter_map, flat_map, slice_get};
 ghost use Rattle.std.specs.Option.{option_map, option_to_list};
 ghost use Rattle.sg_model.specs.Limits.{most_steps};
-ghost use Rattle.sg_lines.specs.Sessions.{KnownSessions, all_sids, naming};
-ghost use Rattle.sg_lines.specs.Walks.{HasSteps, walk_line};
+ghost use Rattle.sg_text.specs.Sessions.{KnownSessions, all_sids, naming};
+ghost use Rattle.sg_text.specs.Walks.{HasSteps, walk_line};
 ghost use Rattle.sg_model.specs.Lists.{is_in};
 ghost use Rattle.sg_report.specs.Model.{forgery_of};
 ghost use Rattle.sg_report.specs.Report.{IsReport, lines_from, met, premise_lines, premises_hold};
@@ -14,10 +14,10 @@ use crate::World;
 use crate::lines::put_lines;
 use crate::names::session_names;
 use sg_base::{ByteOut, Name, OutOfMemory, Sid};
-use sg_courses::{Course, Courses};
-use sg_lines::{SessionNames, put_walk};
 use sg_premises::Forged;
 use sg_report::{Forgery, put_premises};
+use sg_text::{SessionNames, put_walk};
+use sg_traces::{Course, Courses};
 use std::alloc::Global;
 
 impl<'p> World<'p> {

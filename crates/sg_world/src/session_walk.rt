@@ -1,7 +1,7 @@
 //! The walk that explains a session.
 ghost use Rattle.std.specs.Prelude.{◌≡◌, ◌≢◌, [], bytes_eq, filter_map, length, IfErr, IfOk, MatchBool, OnOk};
 ghost use Rattle.std.specs.Option.{option_to_list};
-ghost use Rattle.sg_courses.specs.Runs.{AreCourses, IsUnbroken};
+ghost use Rattle.sg_traces.specs.Runs.{AreCourses, IsUnbroken};
 ghost use Rattle.sg_model.specs.Lists.{has_text};
 ghost use Rattle.sg_protocol.specs.Run.{events_of};
 ghost use Rattle.sg_protocol.specs.Walk.{OnePath};
@@ -16,8 +16,8 @@ use crate::premises::Principals;
 use crate::record::TakenStep;
 use crate::walks::courses;
 use sg_base::{OutOfMemory, Sid};
-use sg_courses::Courses;
 use sg_report::sid_told;
+use sg_traces::Courses;
 use sg_walk::StoredWalk;
 use std::alloc::Global;
 use thiserror::Error;

@@ -1,7 +1,7 @@
 use Rattle.std.proofs.Common.{◌≡◌, List, ℕ, ◌++◌, ◌∷◌, [], ap, refl, subst, sym, ◌∙◌, arith}
 use Rattle.std.specs.Prelude.{IsTrue}
 use Rattle.std.specs.Fmt.{decimal}
-use Rattle.sg_lines.proofs.Numbered.{is_name-numbered}
+use Rattle.sg_text.proofs.Numbered.{is_name-numbered}
 use Rattle.sg_model.specs.Names.{is_name}
 use Rattle.sg_drive.proofs.setup.session_name.Goals as goal
 

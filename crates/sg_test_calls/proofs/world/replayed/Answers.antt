@@ -4,7 +4,7 @@ use Rattle.std.proofs.lemmas.List.{length-append, length-map}
 use Rattle.sg_model.specs.Limits.{most_steps}
 use Rattle.sg_protocol.specs.Schedule as Protocol
 use Rattle.sg_protocol.specs.Schedule.{Schedule}
-use Rattle.sg_read.specs.Meant.{IsMeant, SameDeclared}
+use Rattle.sg_sched_text.specs.Meant.{IsMeant, SameDeclared}
 use Rattle.sg_sched.specs.Format.StepsHeld.{step_of}
 use Rattle.sg_sched.specs.declared.step.Step.{Step}
 use Rattle.sg_sched.specs.Steps.{CanBeTaken}

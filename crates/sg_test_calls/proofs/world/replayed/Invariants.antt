@@ -1,5 +1,5 @@
 use Rattle.std.proofs.Common.{◌≡◌, map, length}
-use Rattle.sg_read.specs.Meant.{SameDeclared}
+use Rattle.sg_sched_text.specs.Meant.{SameDeclared}
 use Rattle.sg_sched.specs.Format.StepsHeld.{step_of}
 use Rattle.sg_test_calls.proofs.world.replayed.Given as goal
 

@@ -1,8 +1,8 @@
 use Rattle.std.proofs.Common.{ℕ, Bool, codes, map, ap, ◌∙◌}
 use Rattle.sg_model.specs.Lists.{is_in}
 use Rattle.sg_walk.specs.Model.{steps_of}
-use Rattle.sg_lines.specs.Walks.{walk_line}
-use Rattle.sg_lines.proofs.Steps.{HasSteps-IsStoredWalk, walk_line-same}
+use Rattle.sg_text.specs.Walks.{walk_line}
+use Rattle.sg_text.proofs.Steps.{HasSteps-IsStoredWalk, walk_line-same}
 use Rattle.sg_audit.specs.Model.{log_of}
 use Rattle.sg_audit.specs.Merged.{roles_of}
 use Rattle.sg_audit.specs.Taken.{session_of}

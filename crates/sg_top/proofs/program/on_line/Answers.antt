@@ -1,8 +1,8 @@
 use Rattle.std.proofs.Common.{◌≡◌, refl, sym, ap, ◌∙◌, subst, inl, inr}
 use Rattle.std.specs.Option.{option_map}
-use Rattle.sg_words.specs.Command.{CanBeDriven, command_of}
-use Rattle.sg_words.specs.Model.{command_held}
-use Rattle.sg_words.proofs.Driven.{can_be_driven}
+use Rattle.sg_args.specs.Command.{CanBeDriven, command_of}
+use Rattle.sg_args.specs.Model.{command_held}
+use Rattle.sg_args.proofs.Driven.{can_be_driven}
 use Rattle.sg_top.specs.Ending.{NoMemory}
 use Rattle.sg_top.specs.Model.{ending_held}
 use Rattle.sg_top.proofs.Statuses.{may_play}

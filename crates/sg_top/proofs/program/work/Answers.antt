@@ -1,5 +1,5 @@
 use Rattle.std.proofs.Common.{◌≡◌, ◌∙◌, true, false, inl, refl, sym}
-use Rattle.sg_words.specs.declared.command.Command.TheVariants.{Run, Drive, Ledger, Keep, Serve, Stream}
+use Rattle.sg_args.specs.declared.command.Command.TheVariants.{Run, Drive, Ledger, Keep, Serve, Stream}
 use Rattle.sg_top.proofs.Statuses.{over_link, over_stream}
 use Rattle.sg_top.proofs.program.work.Goals as goal
 

@@ -1,5 +1,5 @@
 use Rattle.std.proofs.Common.{◌≡◌, List, ◌++◌, map, take, Option, Some}
-use Rattle.sg_lines.specs.Sessions.{KnownSessions, naming}
+use Rattle.sg_text.specs.Sessions.{KnownSessions, naming}
 use Rattle.sg_report.specs.Report.{StepLine, lines_from}
 use Rattle.sg_world.specs.KeptLines.{line_kept}
 use Rattle.sg_world.proofs.lines.put_lines.Given as goal

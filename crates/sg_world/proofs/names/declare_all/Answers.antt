@@ -1,5 +1,5 @@
 use Rattle.std.proofs.Common.{[], take, refl, ap, ◌∙◌}
-use Rattle.sg_lines.specs.Sessions.{naming, with_declared}
+use Rattle.sg_text.specs.Sessions.{naming, with_declared}
 use Rattle.sg_protocol.specs.Schedule.{Declared}
 use Rattle.sg_world.specs.KeptLines.{met_in}
 use Rattle.sg_world.proofs.NamesMore.{declared_step}

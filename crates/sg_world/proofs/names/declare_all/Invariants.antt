@@ -1,5 +1,5 @@
 use Rattle.std.proofs.Common.{◌≡◌, [], take}
-use Rattle.sg_lines.specs.Sessions.{naming}
+use Rattle.sg_text.specs.Sessions.{naming}
 use Rattle.sg_world.specs.KeptLines.{met_in}
 use Rattle.sg_world.proofs.names.declare_all.Given as goal
 

@@ -1,6 +1,6 @@
 use Rattle.std.proofs.Common.{take, ap, ◌∙◌}
 use Rattle.std.specs.Prelude.{filter_map}
-use Rattle.sg_lines.specs.Sessions.{naming}
+use Rattle.sg_text.specs.Sessions.{naming}
 use Rattle.sg_world.specs.KeptLines.{sid_kept}
 use Rattle.sg_world.proofs.NamesMore.{met_next, met_with}
 use Rattle.sg_world.proofs.names.meet_all.Goals as goal

@@ -1,6 +1,6 @@
 use Rattle.std.proofs.Common.{◌≡◌, take}
 use Rattle.std.specs.Prelude.{filter_map}
-use Rattle.sg_lines.specs.Sessions.{KnownSessions, naming}
+use Rattle.sg_text.specs.Sessions.{KnownSessions, naming}
 use Rattle.sg_world.specs.KeptLines.{sid_kept}
 use Rattle.sg_world.proofs.NamesMore.{met_with}
 use Rattle.sg_world.proofs.names.meet_all.Given as goal

@@ -1,5 +1,5 @@
 use Rattle.std.proofs.Common.{[], ap, ◌∙◌}
-use Rattle.sg_lines.specs.Sessions.{naming}
+use Rattle.sg_text.specs.Sessions.{naming}
 use Rattle.sg_world.specs.KeptLines.{met_in}
 use Rattle.sg_world.proofs.names.session_names.Goals as goal
 

@@ -1,6 +1,6 @@
 use Rattle.std.proofs.Common.{◌≡◌, ◌++◌, take}
 use Rattle.std.specs.Prelude.{filter_map, flat_map}
-use Rattle.sg_lines.specs.Sessions.{KnownSessions, all_sids, naming}
+use Rattle.sg_text.specs.Sessions.{KnownSessions, all_sids, naming}
 use Rattle.sg_world.specs.Walked.{path_at, path_line}
 use Rattle.sg_world.proofs.report.put_walks.Given as goal
 

@@ -1,6 +1,6 @@
 use Rattle.std.proofs.Common.{◌≡◌, ◌∙◌, ℕ, List, Option, Some, None, ap, sym}
 use Rattle.std.specs.Option.{option_and_then, option_map_or}
-use Rattle.sg_lines.specs.Sessions.{naming, with_event}
+use Rattle.sg_text.specs.Sessions.{naming, with_event}
 use Rattle.sg_play.proofs.player.Player.meet.Goals as goal
 use Rattle.sg_report.specs.Told.{sid_told}
 

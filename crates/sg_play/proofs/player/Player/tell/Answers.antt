@@ -1,6 +1,6 @@
 use Rattle.std.proofs.Common.{◌≡◌, ◌∙◌, ◌+◌, [], IfSome, Option, ap, subst}
 use Rattle.std.specs.Option.{option_copied, option_map_or}
-use Rattle.sg_lines.specs.Sessions.{session_name}
+use Rattle.sg_text.specs.Sessions.{session_name}
 use Rattle.sg_report.specs.Lines.{graph_or_none, line_text}
 use Rattle.sg_report.specs.Outcome.{outcome_of}
 use Rattle.sg_report.specs.Told.{Told, session_told}

@@ -1,5 +1,5 @@
 use Rattle.std.proofs.Common.{refl}
-use Rattle.sg_courses.specs.Runs.{IsUnbroken}
+use Rattle.sg_traces.specs.Runs.{IsUnbroken}
 use Rattle.sg_world.proofs.Accounts.{compiled_is, schedule_is}
 use Rattle.sg_world.proofs.WalkLaws.{grown_path}
 use Rattle.sg_world.proofs.world.World.grown.Goals as goal

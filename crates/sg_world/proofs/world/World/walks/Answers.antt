@@ -1,5 +1,5 @@
 use Rattle.std.proofs.Common.{refl}
-use Rattle.sg_courses.specs.Runs.{AreCourses, IsUnbroken}
+use Rattle.sg_traces.specs.Runs.{AreCourses, IsUnbroken}
 use Rattle.sg_world.specs.Replay.{run_of}
 use Rattle.sg_world.proofs.Accounts.{compiled_is, schedule_is}
 use Rattle.sg_world.proofs.WalkLaws.{walks_made, made_ok}

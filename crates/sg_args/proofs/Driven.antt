@@ -1,0 +1,151 @@
+-- A command that drives asks for 1 to 2,000 sessions.
+use Rattle.std.specs.Prelude.{◌≡◌, ℕ, ◌<◌, ◌≤◌, nat_lt, nat_le, Bool, true, false, not, ◌&&◌, if◌then◌else◌, List, [], ◌∷◌, codes, length, Option, Some, None, option_map, option_and_then, bytes_eq, refl, ⊤}
+use Rattle.std.specs.List.{list_all, list_any}
+use Rattle.std.proofs.Common.{arith}
+use Rattle.std.proofs.lemmas.Bool.{ltb-true, leb-true}
+use Rattle.sg_base.specs.Words.{number, from_one, up_to, value, is_digit, has_needless_zero}
+use Rattle.sg_model.specs.Limits.{most_deliveries, most_driven, most_seed}
+use Rattle.sg_args.specs.Command.{Command, Check, Compile, Run, Replay, Drive, Ledger, Keep, Stream, Audit, Compose, Suggest, Claims, Serve, CanBeDriven, command_of, driving, few, is_option, keeping, ledger_or, named, on_file, on_ledger, on_two, plain, running, serving, serving_over, sessions_of, streaming, tcp_or}
+
+-- a number, if any, of at most `most`
+abbrev AtMost : ℕ → Option ℕ → Type 0
+AtMost most None = ⊤
+AtMost most (Some n) = n ≤ most
+
+-- a number of sessions, if any
+abbrev AreSessions : Option ℕ → Type 0
+AreSessions None = ⊤
+AreSessions (Some n) = (1 ≤ n) × (n ≤ most_driven)
+
+number_at_most : (most : ℕ) (word : List ℕ) → AtMost most (number most word)
+unfolding number
+number_at_most most word = spelled (nat_lt 0 (length word) && not (has_needless_zero word) && list_all is_digit word)
+  where
+    within : (b : Bool) → nat_le (value word) most ≡ b → AtMost most (if b then Some (value word) else None)
+    within true e = leb-true (value word) most e
+    within false e = tt
+
+    spelled : (b : Bool) → AtMost most (if b then up_to most (value word) else None)
+    spelled true = within (nat_le (value word) most) refl
+    spelled false = tt
+
+sessions : (word : List ℕ) → AreSessions (sessions_of word)
+sessions word = found (number most_driven word) (number_at_most most_driven word)
+  where
+    positive : (n : ℕ) → n ≤ most_driven → (b : Bool) → nat_lt 0 n ≡ b → AreSessions (if b then Some n else None)
+    positive n h true e = let l : 0 < n = ltb-true 0 n e in (omega arith, h)
+    positive n h false e = tt
+
+    found : (o : Option ℕ) → AtMost most_driven o → AreSessions (option_and_then from_one o)
+    found None h = tt
+    found (Some n) h = positive n h (nat_lt 0 n) refl
+
+-- ---- commands
+
+-- one or the other
+either : (b : Bool) (x y : Option Command) → CanBeDriven x → CanBeDriven y → CanBeDriven (if b then x else y)
+either true x y h k = h
+either false x y h k = k
+
+driven : (file : List ℕ) (seed n : Option ℕ) → AreSessions n → CanBeDriven (option_and_then (λ s. option_map (λ k. Drive s k file) n) seed)
+driven file None n h = tt
+driven file (Some s) None h = tt
+driven file (Some s) (Some k) h = h
+
+drives : (words : List (List ℕ)) → CanBeDriven (driving words)
+drives [] = tt
+drives (seed ∷ []) = tt
+drives (seed ∷ count ∷ []) = tt
+drives (seed ∷ count ∷ file ∷ []) = driven file (number most_seed seed) (sessions_of count) (sessions count)
+drives (seed ∷ count ∷ file ∷ other ∷ more) = tt
+
+runs : (words : List (List ℕ)) → CanBeDriven (running words)
+runs [] = tt
+runs (keys ∷ []) = tt
+runs (keys ∷ script ∷ []) = tt
+runs (keys ∷ script ∷ n ∷ []) = tt
+runs (keys ∷ script ∷ n ∷ program ∷ more) = found (number most_deliveries n)
+  where
+    found : (o : Option ℕ) → CanBeDriven (option_map (λ d. Run keys script d (program ∷ more)) o)
+    found None = tt
+    found (Some d) = tt
+
+keeps : (words : List (List ℕ)) → CanBeDriven (keeping words)
+keeps [] = tt
+keeps (file ∷ []) = tt
+keeps (file ∷ keys ∷ []) = tt
+keeps (file ∷ keys ∷ script ∷ []) = tt
+keeps (file ∷ keys ∷ script ∷ n ∷ []) = tt
+keeps (file ∷ keys ∷ script ∷ n ∷ program ∷ more) = found (number most_deliveries n)
+  where
+    found : (o : Option ℕ) → CanBeDriven (option_map (λ d. Keep file keys script d (program ∷ more)) o)
+    found None = tt
+    found (Some d) = tt
+
+streams : (words : List (List ℕ)) → CanBeDriven (streaming words)
+streams [] = tt
+streams (keys ∷ []) = tt
+streams (keys ∷ script ∷ []) = tt
+streams (keys ∷ script ∷ n ∷ []) = tt
+streams (keys ∷ script ∷ n ∷ program ∷ more) = found (number most_deliveries n)
+  where
+    found : (o : Option ℕ) → CanBeDriven (option_map (λ d. Stream keys script d (program ∷ more)) o)
+    found None = tt
+    found (Some d) = tt
+
+file_alone : (name file : List ℕ) → CanBeDriven (on_file name file)
+file_alone name file =
+    either (bytes_eq name (codes "check")) (Some (Check file)) _ tt
+    (either (bytes_eq name (codes "replay")) (Some (Replay file)) _ tt
+    (either (bytes_eq name (codes "ledger")) (Some (Ledger file)) _ tt
+    (either (bytes_eq name (codes "audit")) (Some (Audit file)) _ tt
+    (either (bytes_eq name (codes "compose")) (Some (Compose file)) _ tt
+    (either (bytes_eq name (codes "claims")) (Some (Suggest file)) None tt tt)))))
+
+two : (name first second : List ℕ) → CanBeDriven (on_two name first second)
+two name first second =
+    either (bytes_eq name (codes "compile")) (Some (Compile first second)) _ tt
+    (either (bytes_eq name (codes "claims")) (Some (Claims first second)) None tt tt)
+
+others : (name : List ℕ) (words : List (List ℕ)) → CanBeDriven (few name words)
+others name [] = tt
+others name (file ∷ []) = file_alone name file
+others name (first ∷ second ∷ []) = two name first second
+others name (first ∷ second ∷ other ∷ more) = tt
+
+serves_over : (over_tcp : Bool) (ledger : Option (List ℕ)) (words : List (List ℕ)) → CanBeDriven (serving_over over_tcp ledger words)
+serves_over over_tcp ledger [] = tt
+serves_over over_tcp ledger (keys ∷ []) = tt
+serves_over over_tcp ledger (keys ∷ program ∷ more) = either (list_any is_option (keys ∷ program ∷ more)) None _ tt tt
+
+serves_tcp : (file : List ℕ) (words : List (List ℕ)) → CanBeDriven (tcp_or file words)
+serves_tcp file [] = tt
+serves_tcp file (word ∷ words) = either (bytes_eq word (codes "--tcp")) (serving_over true (Some file) words) _ (serves_over true (Some file) words) (serves_over false (Some file) (word ∷ words))
+
+serves_on : (over_tcp : Bool) (words : List (List ℕ)) → CanBeDriven (on_ledger over_tcp words)
+serves_on over_tcp [] = tt
+serves_on over_tcp (file ∷ words) =
+    either (is_option file) None _ tt
+    (either over_tcp (serving_over true (Some file) words) (tcp_or file words) (serves_over true (Some file) words) (serves_tcp file words))
+
+serves_or : (over_tcp : Bool) (words : List (List ℕ)) → CanBeDriven (ledger_or over_tcp words)
+serves_or over_tcp [] = tt
+serves_or over_tcp (word ∷ words) = either (bytes_eq word (codes "--ledger")) (on_ledger over_tcp words) _ (serves_on over_tcp words) (serves_over over_tcp None (word ∷ words))
+
+serves : (words : List (List ℕ)) → CanBeDriven (serving words)
+serves [] = tt
+serves (word ∷ words) = either (bytes_eq word (codes "--tcp")) (ledger_or true words) _ (serves_or true words) (serves_or false (word ∷ words))
+
+plainly : (words : List (List ℕ)) → CanBeDriven (plain words)
+plainly [] = tt
+plainly (name ∷ words) =
+    either (list_any is_option (name ∷ words)) None (named name words) tt
+    (either (bytes_eq name (codes "run")) (running words) _ (runs words)
+    (either (bytes_eq name (codes "drive")) (driving words) _ (drives words)
+    (either (bytes_eq name (codes "keep")) (keeping words) _ (keeps words)
+    (either (bytes_eq name (codes "stream")) (streaming words) (few name words) (streams words) (others name words)))))
+
+-- whatever the words
+pub can_be_driven : (words : List (List ℕ)) → CanBeDriven (command_of words)
+can_be_driven [] = tt
+can_be_driven (name ∷ words) = either (bytes_eq name (codes "serve")) (serving words) _ (serves words) (plainly (name ∷ words))

@@ -1,0 +1,93 @@
+//! The words, as `clap` gives them back.
+ghost use Rattle.std.specs.Prelude.{◌≡◌, IfErr, IfOk, drop, map, option_map, string_bytes};
+ghost use Rattle.clap.specs.Words.{kind_of};
+ghost use Rattle.sg_args.specs.Command.{command_of};
+ghost use Rattle.sg_args.specs.Model.{command_held};
+ghost use Rattle.sg_args.specs.Given.{IsBehindDashes, words_found};
+
+use crate::command::{Command, read_command};
+use clap::error::ErrorKind;
+use clap::{Arg, ArgAction, ArgMatches, Error};
+use sg_base::OutOfMemory;
+use std::alloc::{AllocError, Global};
+use std::marker::Model;
+
+/// A command line: words after the program's name and `--`. A clause sees it as the words.
+#[derive(Drop)]
+pub struct CommandLine<'w> {
+    all: Vec<&'w str>,
+}
+
+impl<'w> Model for CommandLine<'w> {
+    ghost use Rattle.std.specs.Prelude.{ℕ, List, drop, map};
+
+    ghost Value = { List (List ℕ) };
+
+    ghost use Rattle.sg_args.specs.Given.{IsBehindDashes};
+
+    ghost view = { λ l. drop 2 (map (λ s. s.now) l.all.items) };
+
+    ghost invariant = { λ l. IsBehindDashes (map (λ s. s.now) l.all.items) };
+}
+
+impl<'w> CommandLine<'w> {
+    /// The command line of these words.
+    pub fn new(alloc: Global, words: &'w [String]) -> Result<CommandLine<'w>, OutOfMemory>
+        ensures { IfOk result (λ l. l ≡ map string_bytes words.now) }
+    {
+        let mut all = Vec::new(alloc);
+        all.push("sessiongraph")?;
+        all.push("--")?;
+        for word in words {
+            all.push(word.as_str())?;
+        }
+        Ok(CommandLine { all })
+    }
+}
+
+/// The words of a command line, as `clap` reads them. A clause sees them as a list.
+#[derive(Drop)]
+pub struct Given<'w> {
+    matches: ArgMatches<'w>,
+}
+
+impl<'w> Model for Given<'w> {
+    ghost use Rattle.std.specs.Prelude.{ℕ, List};
+
+    ghost Value = { List (List ℕ) };
+
+    ghost use Rattle.sg_args.specs.Given.{words_found};
+
+    ghost view = { λ g. words_found g.matches };
+}
+
+impl<'g> Given<'g> {
+    /// What `clap` reads of a command line, which are its words, whatever they are.
+    pub fn read<'w>(alloc: Global, line: &'g CommandLine<'w>) -> Result<Given<'g>, OutOfMemory>
+        ensures { IfOk result (λ g. g ≡ line.now) }
+    {
+        let matches = matches(alloc, line.all.as_slice()).map_err(|_| AllocError)?;
+        Ok(Given { matches })
+    }
+
+    /// The command that the words ask for, or `None` where they are not in the table of commands. It takes no memory.
+    pub fn command(&self) -> Option<Command<'_>>
+        ensures { option_map command_held result ≡ command_of self.now }
+    {
+        match self.matches.get_strs("WORD") {
+            Some(words) => read_command(words),
+            None => None,
+        }
+    }
+}
+
+// What `clap` makes of words after `--`: it refuses none.
+fn matches<'w>(alloc: Global, words: &'w [&'w str]) -> Result<ArgMatches<'w>, Error>
+    requires { IsBehindDashes (map (λ s. s.now) words.now) }
+    ensures err { IfErr result (λ e. kind_of e ≡ ErrorKind.OutOfMemory) }
+    ensures words { IfOk result (λ m. words_found m ≡ drop 2 (map (λ s. s.now) words.now)) }
+{
+    let word = Arg::new(alloc, "WORD").action(ArgAction::Append);
+    let command = clap::Command::new(alloc, "sessiongraph").arg(word)?;
+    command.try_get_matches_from(words)
+}

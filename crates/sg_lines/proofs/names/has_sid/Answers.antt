@@ -1,6 +1,0 @@
-use Rattle.std.proofs.Common.{◌∙◌}
-use Rattle.sg_lines.proofs.SameSid.{is_some-lookup}
-use Rattle.sg_lines.proofs.names.has_sid.Goals as goal
-
-pub returns : goal.returns
-returns c = c.contains_key.ensures ∙ is_some-lookup c.args.sid.now c.args.names.now.entries

@@ -1,6 +1,0 @@
--- What bytes spell is meant.
-use Rattle.sg_read.proofs.Meant.{spelled_is_meant}
-use Rattle.sg_read.proofs.laws.spelled_is_meant.Goals as goal
-
-pub returns : goal.returns
-returns c = spelled_is_meant

@@ -1,9 +1,0 @@
-use Rattle.std.proofs.Common.{◌≡◌, ◌≤◌, ◌+◌, drop}
-use Rattle.sg_read.specs.Crafting.{lens, name_len}
-use Rattle.sg_read.proofs.length.names_len.Given as goal
-
-abbrev pub invariant-loop-name : goal.invariant-loop-name
-invariant-loop-name l = record {
-  sum : l.len + lens name_len (drop l.name-index l.names) ≡ lens name_len l.names;
-  few : l.len ≤ 60000;
-}

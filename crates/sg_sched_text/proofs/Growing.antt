@@ -1,0 +1,128 @@
+-- What is declared after one item more, and what a line of a form that is taken adds.
+use Rattle.std.proofs.Common.{◌≡◌, List, [], ◌∷◌, ◌++◌, max, refl, sym, ap, ◌∙◌, append-nil}
+use Rattle.std.specs.Prelude.{Option, Some, None, Ok, Err, filter_map, fold}
+use Rattle.std.proofs.lemmas.List.Elements.{filter_map-append}
+use Rattle.std.proofs.lemmas.List.Sums.{fold_push}
+use Rattle.sg_sched.specs.Format.Said.{LineContent, SaidBlock, SaidEdge, SaidHonest, SaidKey, SaidSession, SaidStart, SaidAct, SaidAbandon, SaidDeliver, SaidMake}
+use Rattle.sg_sched.specs.Format.Items.{Item, GraphItem, EdgeItem, HonestItem, KeyItem, SessionItem, StepItem, SoFar, so_far, group_of, as_block, as_edge, as_honest, as_key, as_session, as_step}
+use Rattle.sg_sched.specs.Format.Kinds.{Kind}
+use Rattle.sg_sched.specs.Format.Made.{made}
+use Rattle.sg_sched.specs.Format.Faults.{fault}
+use Rattle.sg_sched_text.specs.Plus.{plus}
+use Rattle.sg_sched_text.specs.Adding.{added, after_line}
+
+-- ---- one item more
+
+module _ (items : List Item) (i : Item) where
+  none : {B : Type 0} (pick : Item → Option B) → filter_map pick (i ∷ []) ≡ [] → filter_map pick (items ++ i ∷ []) ≡ filter_map pick items
+  none pick e = filter_map-append pick items (i ∷ []) ∙ ap (λ xs. filter_map pick items ++ xs) e ∙ append-nil (filter_map pick items)
+
+  some : {B : Type 0} (pick : Item → Option B) (b : B) → filter_map pick (i ∷ []) ≡ b ∷ [] → filter_map pick (items ++ i ∷ []) ≡ filter_map pick items ++ b ∷ []
+  some pick b e = filter_map-append pick items (i ∷ []) ∙ ap (λ xs. filter_map pick items ++ xs) e
+
+  group : fold (λ n i. max n (group_of i)) 0 (items ++ i ∷ []) ≡ max (fold (λ n i. max n (group_of i)) 0 items) (group_of i)
+  group = fold_push (λ n i. max n (group_of i)) 0 items i
+
+pub one_more : (items : List Item) (i : Item) → so_far (items ++ i ∷ []) ≡ plus (so_far items) i
+one_more items (GraphItem g) = let i = GraphItem g in λ k. record {
+  group = group items i k;
+  blocks = some items i as_block g refl k;
+  edges = none items i as_edge refl k;
+  honest = none items i as_honest refl k;
+  keys = none items i as_key refl k;
+  sessions = none items i as_session refl k;
+  steps = none items i as_step refl k;
+}
+one_more items (EdgeItem e) = let i = EdgeItem e in λ k. record {
+  group = group items i k;
+  blocks = none items i as_block refl k;
+  edges = some items i as_edge e refl k;
+  honest = none items i as_honest refl k;
+  keys = none items i as_key refl k;
+  sessions = none items i as_session refl k;
+  steps = none items i as_step refl k;
+}
+one_more items (HonestItem who) = let i = HonestItem who in λ k. record {
+  group = group items i k;
+  blocks = none items i as_block refl k;
+  edges = none items i as_edge refl k;
+  honest = some items i as_honest who refl k;
+  keys = none items i as_key refl k;
+  sessions = none items i as_session refl k;
+  steps = none items i as_step refl k;
+}
+one_more items (KeyItem key) = let i = KeyItem key in λ k. record {
+  group = group items i k;
+  blocks = none items i as_block refl k;
+  edges = none items i as_edge refl k;
+  honest = none items i as_honest refl k;
+  keys = some items i as_key key refl k;
+  sessions = none items i as_session refl k;
+  steps = none items i as_step refl k;
+}
+one_more items (SessionItem s) = let i = SessionItem s in λ k. record {
+  group = group items i k;
+  blocks = none items i as_block refl k;
+  edges = none items i as_edge refl k;
+  honest = none items i as_honest refl k;
+  keys = none items i as_key refl k;
+  sessions = some items i as_session s refl k;
+  steps = none items i as_step refl k;
+}
+one_more items (StepItem s) = let i = StepItem s in λ k. record {
+  group = group items i k;
+  blocks = none items i as_block refl k;
+  edges = none items i as_edge refl k;
+  honest = none items i as_honest refl k;
+  keys = none items i as_key refl k;
+  sessions = none items i as_session refl k;
+  steps = some items i as_step s refl k;
+}
+
+-- ---- lines that are taken
+
+-- a line of a form is right, and adds an item
+pub record Taken (items : List Item) (said : LineContent) (new : SoFar) : Type 0 where
+  pub item : Item
+  pub right : fault items said ≡ None
+  pub makes : made items said ≡ Some item
+  pub after : new ≡ so_far (items ++ item ∷ [])
+
+only_block : (items : List Item) (said : LineContent) → made items said ≡ None → said ≡ SaidBlock
+only_block items SaidBlock h = refl
+only_block items (SaidEdge label from to) h = absurd (cc)
+only_block items (SaidHonest who) h = absurd (cc)
+only_block items (SaidKey one two digits) h = absurd (cc)
+only_block items (SaidSession name graph nonce names version) h = absurd (cc)
+only_block items (SaidStart who session) h = absurd (cc)
+only_block items (SaidAct who session label values) h = absurd (cc)
+only_block items (SaidAbandon who session) h = absurd (cc)
+only_block items (SaidDeliver who what) h = absurd (cc)
+only_block items (SaidMake c) h = absurd (cc)
+
+pub took : (items : List Item) (said : LineContent) (new : SoFar) → (said ≡ SaidBlock → ⊥) → after_line (so_far items) said ≡ Ok new → Taken items said new
+unfolding after_line
+took items said new other e = by (fault items said) (made items said) refl refl e
+  where
+    by : (f : Option Kind) (m : Option Item) → fault items said ≡ f → made items said ≡ m → added (so_far items) f m ≡ Ok new → Taken items said new
+    by (Some k) m ef em e = absurd (cc)
+    by None (Some i) ef em e = let same : plus (so_far items) i ≡ new = cc in record { item = i; right = ef; makes = em; after = sym same ∙ sym (one_more items i) }
+    by None None ef em e = absurd (other (only_block items said em))
+
+pub stopped : (items : List Item) (said : LineContent) (kind : Kind) → after_line (so_far items) said ≡ Err kind → fault items said ≡ Some kind
+unfolding after_line
+stopped items said kind e = by (fault items said) (made items said) refl e
+  where
+    by : (f : Option Kind) (m : Option Item) → fault items said ≡ f → added (so_far items) f m ≡ Err kind → fault items said ≡ Some kind
+    by (Some k) m ef e = let same : k ≡ kind = cc in ef ∙ ap (λ x. Some x) same
+    by None (Some i) ef e = absurd (cc)
+    by None None ef e = absurd (cc)
+
+-- a block begins in its group
+pub begun : (items : List Item) (new : SoFar) → after_line (so_far items) SaidBlock ≡ Ok new → (fault items SaidBlock ≡ None) × (new ≡ so_far items)
+unfolding after_line
+begun items new e = by (fault items SaidBlock) refl e
+  where
+    by : (f : Option Kind) → fault items SaidBlock ≡ f → added (so_far items) f None ≡ Ok new → (fault items SaidBlock ≡ None) × (new ≡ so_far items)
+    by (Some k) ef e = absurd (cc)
+    by None ef e = let same : so_far items ≡ new = cc in (ef, sym same)

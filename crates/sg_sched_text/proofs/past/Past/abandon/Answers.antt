@@ -1,0 +1,12 @@
+use Rattle.std.proofs.Common.{◌∙◌, subst, false}
+use Rattle.sg_sched_text.specs.Adding.{Added, add_step}
+use Rattle.sg_sched_text.specs.Taken.{Takes}
+use Rattle.sg_sched_text.proofs.AddingLaws.{abandon_added}
+use Rattle.sg_sched_text.proofs.past.Past.abandon.Goals as goal
+
+pub returns : goal.returns
+returns c =
+    let past = c.args.self.now in
+    subst (λ (a : Added). Takes a c.add_step.new.self c.add_step.result)
+    ((λ i. add_step past false (c.is_honest-honest.ensures.honest i) (c.abandon_step-step.ensures i)) ∙ abandon_added past c.is_honest-honest.ensures.group c.args.who c.args.session.now)
+    c.add_step.ensures

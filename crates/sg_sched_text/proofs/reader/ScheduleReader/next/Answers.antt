@@ -1,0 +1,67 @@
+-- A line or a block, and what follows it.
+use Rattle.std.proofs.Common.{◌≡◌, ap, sym, subst, refl, rules, arith, Err, true, false}
+use Rattle.sg_sched.specs.Format.Forms.{SaysLine, is_skipped}
+use Rattle.sg_sched.specs.Format.Model.{said}
+use Rattle.sg_sched.specs.Format.Said.{SaidBlock}
+use Rattle.sg_sched_text.specs.declared.reader.ScheduleReader.{ScheduleReader}
+use Rattle.sg_sched_text.specs.ReadSoFar.{HasRead}
+use Rattle.sg_sched_text.proofs.BlockLine.{only_block}
+use Rattle.sg_sched_text.proofs.ReadSoFarLaws.{skips, says, opens, no_form, not_taken, skipped_is}
+use Rattle.sg_sched_text.proofs.reader.ScheduleReader.next.Goals as goal
+
+pub returns-then-is_skipped-clause-has_read : goal.returns-then-is_skipped-clause-has_read
+returns-then-is_skipped-clause-has_read c = λ bytes s.
+    let line = c.split_line.result.0.now in
+    let at = subst (λ (r : ScheduleReader). HasRead bytes r c.args.rest.now) (sym c.self.view_is) s in
+    let skip : is_skipped line ≡ true = skipped_is line c.line_content.result.now true c.line_content.ensures c.if-is_skipped.ensures in
+    skips bytes c.args.rest.now c.split_line.result.1.now line _ at c.split_line.ensures.split _ skip refl refl refl
+
+pub returns-in_err-say-in-Block-clause-has_read : goal.returns-in_err-say-in-Block-clause-has_read
+returns-in_err-say-in-Block-clause-has_read c = λ bytes s.
+    let line = c.split_line.result.0.now in
+    let at = subst (λ (r : ScheduleReader). HasRead bytes r c.args.rest.now) (sym c.self.view_is) s in
+    let is : SaysLine line SaidBlock = rw c.in-Block.is at (rw c.in-Ok-Some.field-0-is at c.in-Ok-Some.ensures) in
+    let same : c.from_residual.result ≡ Err c.in_err-say-in-Block.field-0.0 = search rules in
+    rw same (not_taken bytes c.args.rest.now c.split_line.result.1.now line _ at c.split_line.ensures.split SaidBlock c.in_err-say-in-Block.field-0.0 is c.in_err-say-in-Block.ensures.wrong)
+
+pub returns-in_ok-say-in-Block-clause-has_read : goal.returns-in_ok-say-in-Block-clause-has_read
+returns-in_ok-say-in-Block-clause-has_read c = λ bytes s.
+    let line = c.split_line.result.0.now in
+    let at = subst (λ (r : ScheduleReader). HasRead bytes r c.args.rest.now) (sym c.self.view_is) s in
+    let is : SaysLine line SaidBlock = rw c.in-Block.is at (rw c.in-Ok-Some.field-0-is at c.in-Ok-Some.ensures) in
+    let e = c.in_ok-say-in-Block.ensures in
+    c.block.ensures.has_read bytes (opens bytes c.args.rest.now c.split_line.result.1.now line _ at c.split_line.ensures.split c.say.new.self is e.taken e.number e.edge)
+
+pub returns-in_err-say-in_default : goal.returns-in_err-say-in_default
+returns-in_err-say-in_default c =
+    let line = c.split_line.result.0.now in
+    let is : SaysLine line (said c.in-Ok-Some.said) = rw c.in-Ok-Some.field-0-is at c.in-Ok-Some.ensures in
+    let same : c.from_residual-in_err-say-in_default.result ≡ Err c.in_err-say-in_default.field-0.0 = search rules in
+    record {
+      has_read = λ bytes s.
+          let at = subst (λ (r : ScheduleReader). HasRead bytes r c.args.rest.now) (sym c.self.view_is) s in
+          rw same (not_taken bytes c.args.rest.now c.split_line.result.1.now line _ at c.split_line.ensures.split (said c.in-Ok-Some.said) c.in_err-say-in_default.field-0.0 is c.in_err-say-in_default.ensures.wrong);
+      shorter = rw same tt;
+    }
+
+pub returns-in_ok-say-in_default : goal.returns-in_ok-say-in_default
+returns-in_ok-say-in_default c =
+    let line = c.split_line.result.0.now in
+    let is : SaysLine line (said c.in-Ok-Some.said) = rw c.in-Ok-Some.field-0-is at c.in-Ok-Some.ensures in
+    let e = c.in_ok-say-in_default.ensures in
+    let n = ap (λ (r : ScheduleReader). r.number) c.self.view_is in
+    let k = e.number in
+    let none : said c.in-Ok-Some.said ≡ SaidBlock → ⊥ = λ b. c.in_default.not-Block (only_block c.in-Ok-Some.said b) in
+    record {
+      has_read = λ bytes s.
+          let at = subst (λ (r : ScheduleReader). HasRead bytes r c.args.rest.now) (sym c.self.view_is) s in
+          says bytes c.args.rest.now c.split_line.result.1.now line _ at c.split_line.ensures.split (said c.in-Ok-Some.said) c.say-in_default.new.self is none e.taken e.number e.edge;
+      shorter = (c.split_line.ensures.shorter, omega (arith, n, k));
+    }
+
+pub returns-in-Ok-None-clause-has_read : goal.returns-in-Ok-None-clause-has_read
+returns-in-Ok-None-clause-has_read c = λ bytes s.
+    let line = c.split_line.result.0.now in
+    let at = subst (λ (r : ScheduleReader). HasRead bytes r c.args.rest.now) (sym c.self.view_is) s in
+    let skip : is_skipped line ≡ false = skipped_is line c.line_content.result.now false c.line_content.ensures c.if-is_skipped.ensures in
+    rw c.fault_at.ensures (no_form bytes c.args.rest.now c.split_line.result.1.now line _ at c.split_line.ensures.split _ refl skip (rw c.in-Ok-None.field-0-is at c.in-Ok-None.ensures))

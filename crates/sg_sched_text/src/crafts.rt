@@ -1,0 +1,133 @@
+//! The step of a craft.
+ghost use Rattle.std.specs.Prelude.{◌≡◌, option_map, option_copied, IfOk, IsTrue};
+ghost use Rattle.sg_sched.specs.Format.Faults.{is_short};
+ghost use Rattle.sg_sched.specs.Format.Forms.{is_craft};
+ghost use Rattle.sg_sched.specs.Format.Items.{graph_for, session_named};
+ghost use Rattle.sg_sched.specs.Format.Said.{SaidMake};
+ghost use Rattle.sg_sched.specs.Format.StepsHeld.{step_of};
+ghost use Rattle.sg_sched_text.specs.Adding.{after_line};
+ghost use Rattle.sg_sched_text.specs.Crafting.{craft_step, known_ends, known_lists, Lists};
+ghost use Rattle.sg_sched_text.specs.Taken.{Takes};
+
+use crate::craft::{items, openings, role, source};
+use crate::length::is_short;
+use crate::past::Past;
+use crate::rising::rises;
+use crate::stop::Stop;
+use sg_base::{Opening, OutOfMemory, Role, Seq};
+use sg_graph::Graph;
+use sg_sched::line::CraftLine;
+use sg_sched::{Craft, CraftItem, HeldCraft, Kind, Step};
+use std::marker::Model;
+
+// The lists of a craft.
+#[derive(Drop)]
+struct CraftLists {
+    know: Seq<Opening>,
+    items: Seq<CraftItem>,
+    openings: Seq<Opening>,
+}
+
+impl Model for CraftLists {
+    ghost use Rattle.sg_sched_text.specs.Crafting.{Lists};
+
+    ghost Value = { Lists };
+
+    ghost view = { λ l. record { know = l.know; items = l.items; openings = l.openings } };
+}
+
+impl Past {
+    /// A frame is made.
+    pub fn craft(&mut self, craft: CraftLine<'_>) -> Result<(), Stop>
+        requires { IsTrue (is_craft craft) }
+        ensures { Takes (after_line self.old (SaidMake craft.entry)) self.new result }
+    {
+        if !rises(self.graph_for(&craft.session), &craft) {
+            return Err(Stop::Wrong(Kind::Form));
+        }
+        if !self.is_short(&craft)? {
+            return Err(Stop::Wrong(Kind::Form));
+        }
+        let step = self.craft_step(craft)?;
+        self.add_step(false, true, step)
+    }
+
+    // Whether the frame has at most 60,000 bytes, where the session is declared.
+    fn is_short(&self, craft: &CraftLine<'_>) -> Result<bool, OutOfMemory>
+        requires { IsTrue (is_craft craft.now) }
+        ensures { IfOk result (λ b. b ≡ is_short (graph_for craft.now.session self.now) (session_named craft.now.session self.now) craft.now) }
+    {
+        let Some(index) = self.sessions.index(&craft.session) else {
+            return Ok(true);
+        };
+        let (_, like) = self.sessions.at(index);
+        is_short(self.alloc, like.names.as_slice(), like.version, craft)
+    }
+
+    // The step, if all its names are declared.
+    fn craft_step(&self, craft: CraftLine<'_>) -> Result<Option<Step>, OutOfMemory>
+        requires { IsTrue (is_craft craft) }
+        ensures { IfOk result (λ o. option_map step_of o ≡ craft_step self.now (graph_for craft.entry.session self.now) craft.entry) }
+    {
+        let graph = self.graph_for(&craft.session);
+        let Some(ends) = self.ends(graph, &craft) else {
+            return Ok(None);
+        };
+        let Some(lists) = self.lists(graph, &craft)? else {
+            return Ok(None);
+        };
+        let Some(seal) = source(self, graph, &craft.seal) else {
+            return Ok(None);
+        };
+        let held = HeldCraft::new(
+            self.alloc,
+            Craft {
+                session: ends.0,
+                from: ends.1,
+                to: ends.2,
+                join: craft.join,
+                know: lists.know,
+                items: lists.items,
+                openings: lists.openings,
+                seal,
+            },
+        )?;
+        Ok(Some(Step::Craft(held)))
+    }
+
+    // The session and the roles, if they are declared.
+    fn ends(&self, graph: Option<&Graph>, craft: &CraftLine<'_>) -> Option<(u32, Role, Role)>
+        ensures { option_map (λ e. (e.0, (e.1, e.2))) result ≡ known_ends self.now (option_copied graph.entry) craft.now }
+    {
+        let session = self.session_index(&craft.session)?;
+        let from = role(graph, &craft.from)?;
+        let to = role(graph, &craft.to)?;
+        Some((session, from, to))
+    }
+
+    // The lists, if all their names are declared.
+    #[tactic(auto, using(crate::proofs::FormParts::craft_parts))]
+    fn lists(
+        &self,
+        graph: Option<&Graph>,
+        craft: &CraftLine<'_>,
+    ) -> Result<Option<CraftLists>, OutOfMemory>
+        requires { IsTrue (is_craft craft.now) }
+        ensures { IfOk result (λ o. o ≡ known_lists self.now (option_copied graph.entry) craft.now) }
+    {
+        let Some(know) = openings(self.alloc, graph, craft.know.as_slice())? else {
+            return Ok(None);
+        };
+        let Some(items) = items(self, graph, craft.items.as_slice())? else {
+            return Ok(None);
+        };
+        let Some(openings) = openings(self.alloc, graph, craft.openings.as_slice())? else {
+            return Ok(None);
+        };
+        Ok(Some(CraftLists {
+            know,
+            items,
+            openings,
+        }))
+    }
+}

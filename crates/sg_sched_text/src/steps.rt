@@ -1,0 +1,171 @@
+//! Steps, of which a schedule has at most 200,000.
+ghost use Rattle.std.specs.Prelude.{◌≡◌, if◌then◌else◌, map, option_map, IfOk, IsTrue};
+ghost use Rattle.std.specs.List.{list_all};
+ghost use Rattle.sg_sched.specs.Format.Said.{SaidStart, SaidAct, SaidAbandon, SaidDeliver};
+ghost use Rattle.sg_sched.specs.Format.Forms.{is_given};
+ghost use Rattle.sg_sched.specs.Format.Model.{delivered};
+ghost use Rattle.sg_sched.specs.Format.Made.{what_of as made};
+ghost use Rattle.sg_sched.specs.Format.StepsHeld.{step_of, what_of};
+ghost use Rattle.sg_sched.specs.Format.Values.{bytes_of};
+ghost use Rattle.sg_sched_text.specs.Adding.{add_step, start_step, abandon_step, act_step, after_line};
+ghost use Rattle.sg_sched_text.specs.Taken.{Takes};
+
+use crate::past::Past;
+use crate::stop::Stop;
+use crate::values::{differ, known_values};
+use sg_base::{Name, OutOfMemory};
+use sg_sched::index::label_index;
+use sg_sched::line::Delivered;
+use sg_sched::value::read_hex;
+use sg_sched::{Change, Given, Kind, Step, What};
+use std::alloc::Global;
+
+const MOST_STEPS: usize = 200_000;
+
+impl Past {
+    /// A step, or `None` where it has a name that isn't declared.
+    #[tactic(auto, unfolding(crate::specs::Adding::add_step))]
+    pub fn add_step(&mut self, repeated: bool, honest: bool, step: Option<Step>) -> Result<(), Stop>
+        ensures { Takes (add_step self.old repeated honest (option_map step_of step)) self.new result }
+    {
+        if self.steps.len() >= MOST_STEPS {
+            return Err(Stop::Wrong(Kind::TooManySteps));
+        }
+        let Some(step) = step else {
+            return Err(Stop::Wrong(Kind::Unknown));
+        };
+        if repeated {
+            return Err(Stop::Wrong(Kind::Twice));
+        }
+        if !honest {
+            return Err(Stop::Wrong(Kind::NotHonest));
+        }
+        if let Err(_) = self.steps.push(step) {
+            return Err(Stop::OutOfMemory);
+        }
+        self.group = self.group.max(4);
+        Ok(())
+    }
+
+    /// The principal starts the session.
+    pub fn start(&mut self, who: Name, session: &Name) -> Result<(), Stop>
+        ensures { Takes (after_line self.old (SaidStart who session.now)) self.new result }
+    {
+        let honest = self.is_honest(&who);
+        let step = self.start_step(who, session);
+        self.add_step(false, honest, step)
+    }
+
+    // The step, or `None` where the session isn't declared.
+    fn start_step(&self, who: Name, session: &Name) -> Option<Step>
+        ensures { option_map step_of result ≡ start_step self.now who session.now }
+    {
+        let session = self.session_index(session)?;
+        Some(Step::Start { who, session })
+    }
+
+    /// The principal abandons the session.
+    pub fn abandon(&mut self, who: Name, session: &Name) -> Result<(), Stop>
+        ensures { Takes (after_line self.old (SaidAbandon who session.now)) self.new result }
+    {
+        let honest = self.is_honest(&who);
+        let step = self.abandon_step(who, session);
+        self.add_step(false, honest, step)
+    }
+
+    // The step, or `None` where the session isn't declared.
+    fn abandon_step(&self, who: Name, session: &Name) -> Option<Step>
+        ensures { option_map step_of result ≡ abandon_step self.now who session.now }
+    {
+        let session = self.session_index(session)?;
+        Some(Step::Abandon { who, session })
+    }
+
+    /// The principal is given bytes.
+    pub fn deliver(&mut self, who: Name, what: &Delivered<'_>) -> Result<(), Stop>
+        ensures { Takes (after_line self.old (SaidDeliver who (delivered what.now))) self.new result }
+    {
+        let honest = self.is_honest(&who);
+        let what = what_of(self.alloc, what)?;
+        self.add_step(false, honest, Some(Step::Deliver { who, what }))
+    }
+
+    /// The principal acts in the session.
+    pub fn act(
+        &mut self,
+        who: Name,
+        session: &Name,
+        label: &Name,
+        values: &[Given<'_>],
+    ) -> Result<(), Stop>
+        requires { IsTrue (list_all is_given values.now) }
+        ensures { Takes (after_line self.old (SaidAct who session.now label.now values.now)) self.new result }
+    {
+        let honest = self.is_honest(&who);
+        let repeated = !differ(self.alloc, values)?;
+        let step = self.act_step(who, session, label, values)?;
+        self.add_step(repeated, honest, step)
+    }
+
+    // The step of an act, or `None` where a name isn't declared.
+    fn act_step(
+        &self,
+        who: Name,
+        session: &Name,
+        label: &Name,
+        values: &[Given<'_>],
+    ) -> Result<Option<Step>, OutOfMemory>
+        requires { IsTrue (list_all is_given values.now) }
+        ensures { IfOk result (λ o. option_map step_of o ≡ act_step self.now who session.now label.now values.now) }
+    {
+        let Some(graph) = self.graph_for(session) else {
+            return Ok(None);
+        };
+        let Some(session) = self.session_index(session) else {
+            return Ok(None);
+        };
+        let Some(label) = label_index(graph, label) else {
+            return Ok(None);
+        };
+        match known_values(self.alloc, graph, values)? {
+            Some(values) => Ok(Some(Step::Act {
+                who,
+                session,
+                label,
+                values,
+            })),
+            None => Ok(None),
+        }
+    }
+}
+
+// What is delivered.
+fn what_of(alloc: Global, what: &Delivered<'_>) -> Result<What, OutOfMemory>
+    ensures { IfOk result (λ w. what_of w ≡ made (delivered what.now)) }
+{
+    match what {
+        Delivered::Frame(number) => Ok(What::Frame {
+            number: *number,
+            change: Change::Whole,
+        }),
+        Delivered::Flipped { number, at } => Ok(What::Frame {
+            number: *number,
+            change: Change::Flip(*at),
+        }),
+        Delivered::Cut { number, len } => Ok(What::Frame {
+            number: *number,
+            change: Change::Cut(*len),
+        }),
+        Delivered::Bytes(digits) => Ok(What::Bytes(bytes_of(alloc, digits)?)),
+    }
+}
+
+// The bytes of digits, or none where they are none.
+fn bytes_of(alloc: Global, digits: &[u8]) -> Result<Vec<u8>, OutOfMemory>
+    ensures { IfOk result (λ bytes. bytes.items ≡ bytes_of digits.now) }
+{
+    match read_hex(alloc, digits)? {
+        Some(bytes) => Ok(bytes),
+        None => Ok(Vec::new(alloc)),
+    }
+}

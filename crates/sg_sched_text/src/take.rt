@@ -1,0 +1,55 @@
+//! How one more line is taken.
+ghost use Rattle.std.specs.Prelude.{◌≡◌, IsTrue};
+ghost use Rattle.sg_sched.specs.Format.Forms.{is_form};
+ghost use Rattle.sg_sched.specs.Format.Model.{said};
+ghost use Rattle.sg_sched.specs.Format.Said.{SaidBlock};
+ghost use Rattle.sg_sched_text.specs.Adding.{after_line};
+ghost use Rattle.sg_sched_text.specs.Taken.{Takes};
+
+use crate::past::Past;
+use crate::stop::Stop;
+use sg_sched::Kind;
+use sg_sched::line::Line;
+
+impl Past {
+    /// Takes what a line says. One with which a block begins adds nothing by itself.
+    pub fn take(&mut self, line: Line<'_>) -> Result<(), Stop>
+        requires { IsTrue (is_form (said line)) }
+        ensures { Takes (after_line self.old (said line.entry)) self.new result }
+    {
+        match line {
+            Line::Block => self.block(),
+            Line::Edge { label, from, to } => self.add_edge(label, from, to),
+            Line::Honest(who) => self.add_honest(who),
+            Line::Key { one, two, digits } => self.add_key(one, two, digits),
+            Line::Session {
+                name,
+                graph,
+                nonce,
+                names,
+                version,
+            } => self.add_session(name, &graph, nonce, &names, version),
+            Line::Start { who, session } => self.start(who, &session),
+            Line::Act {
+                who,
+                session,
+                label,
+                values,
+            } => self.act(who, &session, &label, values.as_slice()),
+            Line::Abandon { who, session } => self.abandon(who, &session),
+            Line::Deliver { who, what } => self.deliver(who, &what),
+            Line::Craft(craft) => self.craft(craft),
+        }
+    }
+
+    // A block begins.
+    #[tactic(auto, unfolding(crate::specs::Adding::after_line))]
+    fn block(&mut self) -> Result<(), Stop>
+        ensures { Takes (after_line self.old SaidBlock) self.new result }
+    {
+        if self.group > 0 {
+            return Err(Stop::Wrong(Kind::Form));
+        }
+        Ok(())
+    }
+}
