@@ -9,7 +9,7 @@ use Rattle.sg_law.proofs.Lists.{last-append}
 use Rattle.sg_model.specs.Last.{Map, last}
 use Rattle.sg_model.specs.Values.{Value}
 use Rattle.sg_protocol.specs.Calls.{Event, Sent}
-use Rattle.sg_protocol.specs.Grown.{label_sent}
+use Rattle.sg_protocol.specs.Explaining.{label_sent}
 use Rattle.sg_vis.specs.Model.{origin_of}
 use Rattle.sg_vis.specs.declared.view.Origin.{Origin}
 use Rattle.sg_vis.specs.declared.view.Origin.TheVariants.{After}

@@ -3,16 +3,16 @@ use Rattle.std.proofs.Common.{◌≡◌, ℕ, Bool, true, false, ◌||◌, if◌
 use Rattle.std.specs.Prelude.{Option, Some, None}
 use Rattle.std.specs.Option.{option_or}
 use Rattle.std.proofs.lemmas.List.Folds.{list_any-append}
-use Rattle.sg_law.specs.Grown.{after_honest}
+use Rattle.sg_law.specs.Explaining.{after_honest}
 use Rattle.sg_model.specs.Last.{Map, after_last}
 use Rattle.sg_model.specs.Lists.{is_in, value_at, keys_of}
 use Rattle.sg_model.specs.Shape.{sender}
 use Rattle.sg_model.specs.Values.{Value}
 use Rattle.sg_protocol.specs.Calls.{Event, Started, Sent, Received}
 use Rattle.sg_protocol.specs.Graph.{Graph, shape}
-use Rattle.sg_protocol.specs.Grown.{hidden_steps, is_written, filled}
+use Rattle.sg_protocol.specs.Explaining.{hidden_steps, is_written, filled}
 use Rattle.sg_protocol.specs.Walk.{StoredStep, shown}
-use Rattle.sg_explain.specs.Events.{grown_along}
+use Rattle.sg_explain.specs.Events.{explaining_walk}
 use Rattle.sg_explain.specs.Filling.{filled_by, unless_written, given_by, added_by}
 
 -- a written value, filled in where it isn't written later
@@ -95,7 +95,7 @@ fill-append f (s ∷ ss) ts = λ i. record { label = s.label; writes = map_same 
 -- ---- the whole
 
 -- the walk after these events: what was there, filled in by them, and what they add
-along : (g : Graph) (honest : ℕ → Bool) (ps : List (Event × List ℕ)) (steps : List StoredStep) → grown_along g honest steps ps ≡ filled_by (given_by g honest ps) steps ++ added_by g honest ps
+along : (g : Graph) (honest : ℕ → Bool) (ps : List (Event × List ℕ)) (steps : List StoredStep) → explaining_walk g honest steps ps ≡ filled_by (given_by g honest ps) steps ++ added_by g honest ps
 along g honest [] steps = sym (append-nil (filled_by (λ x. None) steps) ∙ fill-none steps)
 along g honest ((Started sid r, walk) ∷ ps) steps = along g honest ps steps
 along g honest ((Sent sid r label time values, walk) ∷ ps) steps =
@@ -111,5 +111,5 @@ along g honest ((Received sid r label time values joins, walk) ∷ ps) steps =
     ∙ append_assoc (filled_by (unless_written a f) steps) (filled_by f a) (added_by g honest ps)
 
 -- the walk that is made event by event is what the events add, told from the last one
-pub from_end : (g : Graph) (honest : ℕ → Bool) (ps : List (Event × List ℕ)) → grown_along g honest [] ps ≡ added_by g honest ps
+pub from_end : (g : Graph) (honest : ℕ → Bool) (ps : List (Event × List ℕ)) → explaining_walk g honest [] ps ≡ added_by g honest ps
 from_end g honest ps = along g honest ps []

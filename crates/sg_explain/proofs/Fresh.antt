@@ -2,7 +2,7 @@
 use Rattle.std.proofs.Common.{◌≡◌, ℕ, zero, suc, ◌+◌, ◌-◌, ◌<◌, ◌==◌, Bool, true, false, ◌||◌, if◌then◌else◌, List, [], ◌∷◌, drop, length, get_or, refl, ap, sym, ◌∙◌, inl, inr, arith}
 use Rattle.std.specs.List.{list_any}
 use Rattle.std.proofs.lemmas.Bool.{cases_Bool, or_parts, or_right}
-use Rattle.sg_law.specs.Grown.{after_honest}
+use Rattle.sg_law.specs.Explaining.{after_honest}
 use Rattle.sg_model.specs.Last.{has, after_last}
 use Rattle.sg_model.specs.Shape.{Shape, sender}
 

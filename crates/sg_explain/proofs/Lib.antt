@@ -4,7 +4,7 @@ pub mod Keeping
 pub mod Filled
 pub mod Unknown
 pub mod Parted
-pub mod Coursed
+pub mod Traced
 pub mod Deltas
 pub mod Rows
 pub mod Ends

@@ -10,15 +10,15 @@ use Rattle.std.proofs.lemmas.List.{map-append}
 use Rattle.sg_protocol.specs.Calls.{Event, sid_of}
 use Rattle.sg_protocol.specs.Evidence.{IsView}
 use Rattle.sg_protocol.specs.Graph.{Graph}
-use Rattle.sg_protocol.specs.Grown.{grown_by, grown_by_all, walk_grown, IsExample, IsShown, AllShown, view_in}
+use Rattle.sg_protocol.specs.Explaining.{walk_after_event, walk_after_events, walk_after_steps, IsExample, IsShown, AllShown, view_in}
 use Rattle.sg_protocol.specs.Run.{run, events_of, events_of_outcome}
 use Rattle.sg_protocol.specs.Schedule.{honest_role}
 use Rattle.sg_protocol.specs.Texts.{Hash, IsHash}
 use Rattle.sg_protocol.specs.Walk.{StoredStep, OnePath}
 use Rattle.sg_protocol.specs.World.{Logged}
-use Rattle.sg_protocol.proofs.GrownWalks.{walks_are_grown, frames_show_views}
-use Rattle.sg_explain.specs.Events.{grown_along}
-use Rattle.sg_explain.specs.Sessions.{is_of_session, steps_of_session, events_beside, SessionsAreGrown, SessionsShowViews}
+use Rattle.sg_protocol.proofs.ExplainingWalks.{walks_explain, frames_show_views}
+use Rattle.sg_explain.specs.Events.{explaining_walk}
+use Rattle.sg_explain.specs.Sessions.{is_of_session, steps_of_session, events_beside, SessionsAreExplained, SessionsShowViews}
 
 -- ---- events of a session
 
@@ -114,37 +114,37 @@ spread_shown g sid before others (l ∷ ls) (p ∷ ps) e are all = elim (cases_B
 -- ---- the walk
 
 along_one : (g : Graph) (honest : ℕ → Bool) (steps : List StoredStep) (es : List Event) (walk : List ℕ) (rest : List (Event × List ℕ))
-    → grown_along g honest steps (map (λ e. (e, walk)) es ++ rest) ≡ grown_along g honest (grown_by_all g honest steps es walk) rest
+    → explaining_walk g honest steps (map (λ e. (e, walk)) es ++ rest) ≡ explaining_walk g honest (walk_after_events g honest steps es walk) rest
 along_one g honest steps [] walk rest = refl
-along_one g honest steps (e ∷ es) walk rest = along_one g honest (grown_by g honest steps e walk) es walk rest
+along_one g honest steps (e ∷ es) walk rest = along_one g honest (walk_after_event g honest steps e walk) es walk rest
 
-spread_grown : (g : Graph) (honest : ℕ → Bool) (sid : List ℕ) (steps : List StoredStep) (log : List Logged) (part : List (Logged × List ℕ)) → map first_of part ≡ steps_of_session sid log
-    → walk_grown g honest sid steps (spread sid log part) ≡ grown_along g honest steps (events_beside sid part)
-spread_grown g honest sid steps [] [] are = refl
-spread_grown g honest sid steps [] (p ∷ ps) are = absurd (cc)
-spread_grown g honest sid steps (l ∷ ls) [] are = elim (cases_Bool (is_of_session sid l)) [
+spread_explained : (g : Graph) (honest : ℕ → Bool) (sid : List ℕ) (steps : List StoredStep) (log : List Logged) (part : List (Logged × List ℕ)) → map first_of part ≡ steps_of_session sid log
+    → walk_after_steps g honest sid steps (spread sid log part) ≡ explaining_walk g honest steps (events_beside sid part)
+spread_explained g honest sid steps [] [] are = refl
+spread_explained g honest sid steps [] (p ∷ ps) are = absurd (cc)
+spread_explained g honest sid steps (l ∷ ls) [] are = elim (cases_Bool (is_of_session sid l)) [
   | inl y ↦ absurd (let z : [] ≡ l ∷ steps_of_session sid ls = rw y at are in cc)
-  | inr n ↦ ap (λ es. walk_grown g honest sid (grown_by_all g honest steps es []) (spread sid ls [])) (no_event sid l n) ∙ spread_grown g honest sid steps ls [] (rw n at are)
+  | inr n ↦ ap (λ es. walk_after_steps g honest sid (walk_after_events g honest steps es []) (spread sid ls [])) (no_event sid l n) ∙ spread_explained g honest sid steps ls [] (rw n at are)
 ]
-spread_grown g honest sid steps (l ∷ ls) (p ∷ ps) are = elim (cases_Bool (is_of_session sid l)) [
+spread_explained g honest sid steps (l ∷ ls) (p ∷ ps) are = elim (cases_Bool (is_of_session sid l)) [
   | inl y ↦
       (let are' : p.0 ∷ map first_of ps ≡ l ∷ steps_of_session sid ls = rw y at are in
       let is : l ≡ p.0 = cc in
       let rest : map first_of ps ≡ steps_of_session sid ls = cc in
-      rw y (spread_grown g honest sid (grown_by_all g honest steps (events_of sid (l ∷ [])) p.1) ls ps rest
-      ∙ ap (λ k. grown_along g honest (grown_by_all g honest steps (events_of sid (k ∷ [])) p.1) (events_beside sid ps)) is
+      rw y (spread_explained g honest sid (walk_after_events g honest steps (events_of sid (l ∷ [])) p.1) ls ps rest
+      ∙ ap (λ k. explaining_walk g honest (walk_after_events g honest steps (events_of sid (k ∷ [])) p.1) (events_beside sid ps)) is
       ∙ sym (along_one g honest steps (events_of sid (p.0 ∷ [])) p.1 (events_beside sid ps))))
-  | inr n ↦ rw n (ap (λ es. walk_grown g honest sid (grown_by_all g honest steps es []) (spread sid ls (p ∷ ps))) (no_event sid l n) ∙ spread_grown g honest sid steps ls (p ∷ ps) (rw n at are))
+  | inr n ↦ rw n (ap (λ es. walk_after_steps g honest sid (walk_after_events g honest steps es []) (spread sid ls (p ∷ ps))) (no_event sid l n) ∙ spread_explained g honest sid steps ls (p ∷ ps) (rw n at are))
 ]
 
 -- ---- the laws
 
-pub sessions_are_grown : (sha : Hash) → IsHash sha → SessionsAreGrown sha
-sessions_are_grown sha hash programs s sid cast g part compiled sched premises is gr are all =
+pub sessions_are_explained : (sha : Hash) → IsHash sha → SessionsAreExplained sha
+sessions_are_explained sha hash programs s sid cast g part compiled sched premises is gr are all =
     let log : List Logged = (run sha programs s).log in
-    let path = walks_are_grown sha hash programs s sid cast g (spread sid log part) compiled sched premises is gr (spread_all sid log part) (spread_shown g sid [] [] log part refl are all) in (
+    let path = walks_explain sha hash programs s sid cast g (spread sid log part) compiled sched premises is gr (spread_all sid log part) (spread_shown g sid [] [] log part refl are all) in (
       events_beside-are sid part ∙ ap (events_of sid) are ∙ events_of-part sid log,
-      subst (OnePath g (honest_role s cast) (events_of sid log)) (spread_grown g (honest_role s cast) sid [] log part are) path,
+      subst (OnePath g (honest_role s cast) (events_of sid log)) (spread_explained g (honest_role s cast) sid [] log part are) path,
     )
 
 -- where a step of the session stands among all

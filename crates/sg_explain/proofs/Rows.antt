@@ -6,7 +6,7 @@ use Rattle.std.proofs.lemmas.List.Elements.{All-contains}
 use Rattle.sg_model.specs.Shape.{Walk, target}
 use Rattle.sg_protocol.specs.Evidence.{View, IsView, IsViewTable}
 use Rattle.sg_protocol.specs.Graph.{Graph, shape}
-use Rattle.sg_protocol.specs.Grown.{IsExample}
+use Rattle.sg_protocol.specs.Explaining.{IsExample}
 use Rattle.sg_vis.specs.Table.{ShownView, Shows, views_of}
 use Rattle.sg_explain.specs.Examples.{AreShown, HasRow}
 

@@ -11,7 +11,7 @@ use Rattle.sg_model.specs.Values.{Value}
 use Rattle.sg_model.proofs.Small.{or_false}
 use Rattle.sg_protocol.specs.Calls.{Event, Started, Sent, Received}
 use Rattle.sg_protocol.specs.Graph.{Graph, IsGraph, writes}
-use Rattle.sg_protocol.specs.Grown.{hidden_steps, is_written}
+use Rattle.sg_protocol.specs.Explaining.{hidden_steps, is_written}
 use Rattle.sg_protocol.specs.Walk.{StoredStep, shown}
 use Rattle.sg_protocol.proofs.Moves.{writes_below}
 use Rattle.sg_walk.specs.Model.{event_of, values_of}

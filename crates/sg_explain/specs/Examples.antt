@@ -5,7 +5,7 @@ use Rattle.sg_protocol.specs.Calls.{Event}
 use Rattle.sg_protocol.specs.Evidence.{View}
 use Rattle.sg_protocol.specs.Frame.{Frame}
 use Rattle.sg_protocol.specs.Graph.{Graph}
-use Rattle.sg_protocol.specs.Grown.{label_sent}
+use Rattle.sg_protocol.specs.Explaining.{label_sent}
 use Rattle.sg_protocol.specs.Verdict.{seen}
 use Rattle.sg_vis.specs.Table.{ShownView, Shows}
 

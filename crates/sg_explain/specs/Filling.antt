@@ -2,14 +2,14 @@
 use Rattle.std.specs.Prelude.{ℕ, Bool, if◌then◌else◌, List, [], ◌∷◌, ◌++◌, map, get_or, Option, None, option_map}
 use Rattle.std.specs.Option.{option_or}
 use Rattle.sg_base.specs.Model.{value_of}
-use Rattle.sg_law.specs.Grown.{after_honest}
+use Rattle.sg_law.specs.Explaining.{after_honest}
 use Rattle.sg_model.specs.Last.{after_last}
 use Rattle.sg_model.specs.Lists.{value_at}
 use Rattle.sg_model.specs.Shape.{sender}
 use Rattle.sg_model.specs.Values.{Value}
 use Rattle.sg_protocol.specs.Calls.{Event, Started, Sent, Received}
 use Rattle.sg_protocol.specs.Graph.{Graph, shape, writes}
-use Rattle.sg_protocol.specs.Grown.{hidden_steps, is_written}
+use Rattle.sg_protocol.specs.Explaining.{hidden_steps, is_written}
 use Rattle.sg_protocol.specs.Walk.{StoredStep, shown}
 use Rattle.sg_explain.specs.declared.kept.KeptValues.{KeptValues}
 

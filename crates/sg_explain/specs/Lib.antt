@@ -2,4 +2,4 @@ pub mod Events
 pub mod Filling
 pub mod Sessions
 pub mod Examples
-pub mod Courses
+pub mod Traces

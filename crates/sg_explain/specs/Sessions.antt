@@ -5,7 +5,7 @@ use Rattle.sg_protocol.specs.Calls.{Event, Deliver, Happened, sid_of}
 use Rattle.sg_protocol.specs.Evidence.{IsView}
 use Rattle.sg_protocol.specs.Frame.{Cast, Frame}
 use Rattle.sg_protocol.specs.Graph.{Graph}
-use Rattle.sg_protocol.specs.Grown.{AllShown, view_in}
+use Rattle.sg_protocol.specs.Explaining.{AllShown, view_in}
 use Rattle.sg_protocol.specs.IsSchedule.{AreCompiled, IsSchedule}
 use Rattle.sg_protocol.specs.Keyring.{Program}
 use Rattle.sg_protocol.specs.Premises.{Premises}
@@ -16,7 +16,7 @@ use Rattle.sg_protocol.specs.Texts.{Hash}
 use Rattle.sg_protocol.specs.Verdict.{receipt}
 use Rattle.sg_protocol.specs.Walk.{OnePath}
 use Rattle.sg_protocol.specs.World.{Logged, Answered}
-use Rattle.sg_explain.specs.Events.{grown_along}
+use Rattle.sg_explain.specs.Events.{explaining_walk}
 
 -- the step has an event of the session
 abbrev pub is_of_session : List ℕ → Logged → Bool
@@ -31,11 +31,11 @@ abbrev pub events_beside : List ℕ → List (Logged × List ℕ) → List (Even
 events_beside sid part = flat_map (λ (l : Logged × List ℕ). map (λ e. (e, l.1)) (events_of sid (l.0 ∷ []))) part
 
 -- Where the premises hold, the walk of a session's events is one path of them, whichever walks that show what was taken stand beside its steps
-abbrev pub SessionsAreGrown : Hash → Type 0
-SessionsAreGrown sha = (programs : List Program) (s : Schedule) (sid : List ℕ) (cast : Cast) (g : Graph) (part : List (Logged × List ℕ)) → AreCompiled sha s.graphs programs → IsSchedule sha s →
+abbrev pub SessionsAreExplained : Hash → Type 0
+SessionsAreExplained sha = (programs : List Program) (s : Schedule) (sid : List ℕ) (cast : Cast) (g : Graph) (part : List (Logged × List ℕ)) → AreCompiled sha s.graphs programs → IsSchedule sha s →
     let w = run sha programs s in
     Premises sha s w → cast_of_session sid w.log ≡ Some cast → graph_with sha s.graphs cast.graph ≡ Some g → map (λ (l : Logged × List ℕ). l.0) part ≡ steps_of_session sid w.log → AllShown g sid [] part →
-    (map (λ (p : Event × List ℕ). p.0) (events_beside sid part) ≡ events_of sid w.log) × OnePath g (honest_role s cast) (events_of sid w.log) (grown_along g (honest_role s cast) [] (events_beside sid part))
+    (map (λ (p : Event × List ℕ). p.0) (events_beside sid part) ≡ events_of sid w.log) × OnePath g (honest_role s cast) (events_of sid w.log) (explaining_walk g (honest_role s cast) [] (events_beside sid part))
 
 -- Where the premises hold, each frame that was taken in a session shows its receiver a view, by the session's steps alone
 abbrev pub SessionsShowViews : Hash → Type 0

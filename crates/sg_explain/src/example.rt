@@ -3,7 +3,7 @@ ghost use Rattle.std.specs.Prelude.{◌≡◌, ℕ, ◌<◌, All, Contains, IfOk
 ghost use Rattle.sg_model.specs.Lists.{keys_of};
 ghost use Rattle.sg_protocol.specs.Evidence.{IsView, IsViewTable};
 ghost use Rattle.sg_protocol.specs.Graph.{AreNumbers, Graph};
-ghost use Rattle.sg_protocol.specs.Grown.{IsExample};
+ghost use Rattle.sg_protocol.specs.Explaining.{IsExample};
 ghost use Rattle.sg_protocol.specs.Spelling.{HasSpelling};
 ghost use Rattle.sg_protocol.specs.Verdict.{seen};
 ghost use Rattle.sg_vis.specs.Model.{origin_of};

@@ -6,7 +6,7 @@
 //!
 //! Such walks are in the role's table of views: `view_example` finds the one beside the view that a frame shows, which begins with the
 //! receiver's own last label, which `Origins` has. Whichever walks are given, in a run in which the premises hold the walk that is made is
-//! one path of the session's events: `sessions_are_grown` says it of all its steps, and `courses_are_grown` of a session that is gone
+//! one path of the session's events: `sessions_are_explained` says it of all its steps, and `traces_are_explained` of a session that is gone
 //! through step by step.
 //!
 //! The pass goes from the last event to the first, and keeps for each variable the value of the earliest receipt since. A step that
@@ -15,15 +15,15 @@
 #![tactic(auto)]
 
 mod example;
-mod growing;
 mod kept;
 mod laws;
 mod origins;
+mod pass;
 mod recent;
 mod shown;
 
 pub use example::view_example;
-pub use growing::grow;
-pub use laws::{courses_are_grown, sessions_are_grown};
+pub use laws::{sessions_are_explained, traces_are_explained};
 pub use origins::Origins;
+pub use pass::explain;
 pub use shown::ShownEvent;

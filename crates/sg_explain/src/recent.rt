@@ -1,6 +1,6 @@
 //! What of a walk is new.
 ghost use Rattle.std.specs.Prelude.{◌≡◌, ◌<◌, ◌==◌, ◌||◌, All, length};
-ghost use Rattle.sg_law.specs.Grown.{after_honest};
+ghost use Rattle.sg_law.specs.Explaining.{after_honest};
 ghost use Rattle.sg_model.specs.Last.{after_last};
 ghost use Rattle.sg_model.specs.Lists.{is_in};
 ghost use Rattle.sg_model.specs.Shape.{sender};

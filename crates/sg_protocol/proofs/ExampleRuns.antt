@@ -10,7 +10,7 @@ use Rattle.sg_protocol.specs.Schedule.{Schedule, Step, StartStep, ActStep, Deliv
 use Rattle.sg_protocol.specs.World.{World, Outcome, Answered, Crafted, NoFrame}
 use Rattle.sg_protocol.specs.Run.{run, events_of}
 use Rattle.sg_protocol.specs.Premises.{hashed}
-use Rattle.sg_protocol.specs.Grown.{filled, grown_by, walk_grown}
+use Rattle.sg_protocol.specs.Explaining.{filled, walk_after_event, walk_after_steps}
 use Rattle.sg_protocol.proofs.Examples.{shop, pair, order, ask, offer, refuse, pass, deny, retry, programs, alice, bob, carl, shop_schedule, pair_schedule, outcomes, toy, forged, colliding}
 
 -- a word for what came of a step
@@ -188,7 +188,7 @@ written = refl
 -- ---- the walk that is made event by event
 
 -- the warehouse receives the order on a walk whose customer and shop nobody saw, and so learns the value that was hidden
-learnt : grown_by shop warehouse [] (Received [] 2 ask 2 ((0, tea) ∷ []) true) (order ∷ ask ∷ []) ≡ order_of (Some tea)
+learnt : walk_after_event shop warehouse [] (Received [] 2 ask 2 ((0, tea) ∷ []) true) (order ∷ ask ∷ []) ≡ order_of (Some tea)
 learnt = refl
 
 -- only the last write of a variable is filled in
@@ -196,7 +196,7 @@ last_filled : filled ((0, tea) ∷ []) (step order ((0, None) ∷ []) ∷ step r
 last_filled = refl
 
 -- of a walk that shows a role what it received, only the steps after its own last one and after the last honest one are added
-added : grown_by shop (λ r. nat_eq r 0) (step order ((0, Some tea) ∷ []) ∷ []) (Received [] 0 pass 5 ((1, forty) ∷ []) false) (order ∷ ask ∷ offer ∷ pass ∷ [])
+added : walk_after_event shop (λ r. nat_eq r 0) (step order ((0, Some tea) ∷ []) ∷ []) (Received [] 0 pass 5 ((1, forty) ∷ []) false) (order ∷ ask ∷ offer ∷ pass ∷ [])
     ≡ step order ((0, Some tea) ∷ []) ∷ step ask [] ∷ step offer ((1, Some forty) ∷ []) ∷ step pass [] ∷ []
 added = refl
 
@@ -208,7 +208,7 @@ passed_run = ordered (passes_on tea tea ∷ deliver carl 2 ∷ ActStep carl 0 of
 abbrev beside : ℕ → List ℕ
 beside k = if k == 4 then (order ∷ ask ∷ []) else (order ∷ ask ∷ offer ∷ pass ∷ [])
 
-grown : walk_grown shop (λ r. not (nat_eq r 1)) (sid_at toy passed_run 0) [] (map (λ l. (l, beside l.number)) (run toy (programs toy shop 12) passed_run).log)
+walk_made : walk_after_steps shop (λ r. not (nat_eq r 1)) (sid_at toy passed_run 0) [] (map (λ l. (l, beside l.number)) (run toy (programs toy shop 12) passed_run).log)
     ≡ step order ((0, Some tea) ∷ []) ∷ step ask [] ∷ step offer ((1, Some forty) ∷ []) ∷ step pass [] ∷ []
 unfolding is_utf8 chars encode_utf8
-grown = refl
+walk_made = refl

@@ -44,12 +44,12 @@ use Rattle.sg_model.specs.Names.{is_name, is_name_byte, is_letter, reserved}
 use Rattle.sg_model.proofs.Small.{same_bytes, clash}
 use Rattle.sg_law.proofs.Members.{in_left, in_map, rec_in, all_in, in_parts}
 use Rattle.sg_law.specs.Values.{Binding}
-use Rattle.sg_law.proofs.Follow.{grown_follows}
+use Rattle.sg_law.proofs.Follow.{made_follows}
 use Rattle.sg_law.proofs.Lists.{nil_from_map}
-use Rattle.sg_law.specs.Grown.{IsFollowedAsGrown, moves_of}
-use Rattle.sg_protocol.specs.Grown.{AllShown, walk_grown}
+use Rattle.sg_law.specs.Explaining.{IsFollowedAsMade, moves_of}
+use Rattle.sg_protocol.specs.Explaining.{AllShown, walk_after_steps}
 use Rattle.sg_protocol.specs.Walk.{OnePath}
-use Rattle.sg_protocol.proofs.Grown.{Grows, grows_idle, grows_called, Shown, shown_idle, shown_called}
+use Rattle.sg_protocol.proofs.Explaining.{Explains, explains_idle, explains_called, Shown, shown_idle, shown_called}
 use Rattle.sg_protocol.proofs.Paths.{one_path, acts_of, steps_of, TypedDeed}
 use Rattle.sg_protocol.proofs.TextLaws.{one_opening, one_canonical}
 use Rattle.sg_protocol.proofs.TextLaws as TL
@@ -321,22 +321,22 @@ module _ (sha : Hash) (hash : IsHash sha) (programs : List Program) (s : Schedul
       (same_bytes (graph_digest sha found_graph.0) first.cast.graph (find_passes (λ z. bytes_eq (graph_digest sha z) first.cast.graph) s.graphs found_graph.0 found_graph.1) ∙ sym first.digest ∙ the_program.digest))
 
   -- nothing is made at first
-  nothing_made : Grows of_run (new_world programs s) begins
+  nothing_made : Explains of_run (new_world programs s) begins
   unfolding begins
-  nothing_made log e a = record { ms = []; are = refl; shown = tt; same = ap (walk_grown g (honest_role s first.cast) sid []) (nil_from_map (λ (x : Logged × List ℕ). x.0) log e) }
+  nothing_made log e a = record { ms = []; are = refl; shown = tt; same = ap (walk_after_steps g (honest_role s first.cast) sid []) (nil_from_map (λ (x : Logged × List ℕ). x.0) log e) }
 
   -- whichever walks stand beside the steps, the walk that is made so explains the events
-  pub grown_path : (log : List (Logged × List ℕ)) → map (λ (x : Logged × List ℕ). x.0) log ≡ wf.log → AllShown g sid [] log → OnePath g (honest_role s first.cast) (events_of sid wf.log) (walk_grown g (honest_role s first.cast) sid [] log)
-  grown_path log e a =
+  pub path_explaining : (log : List (Logged × List ℕ)) → map (λ (x : Logged × List ℕ). x.0) log ≡ wf.log → AllShown g sid [] log → OnePath g (honest_role s first.cast) (events_of sid wf.log) (walk_after_steps g (honest_role s first.cast) sid [] log)
+  path_explaining log e a =
       let h = honest_role s first.cast in
       let q = with_all of_run
-      (Grows of_run)
-      (grows_idle of_run)
-      (λ w k p h x good fit who past its_past c call_is after out. grows_called of_run w k p x good fit who past its_past c call_is after out h)
+      (Explains of_run)
+      (explains_idle of_run)
+      (λ w k p h x good fit who past its_past c call_is after out. explains_called of_run w k p x good fit who past its_past c call_is after out h)
       (new_world programs s) 1 (begins, nothing_made) s.steps (recursion_from_All (IsStep sha s) s.steps sched.steps) fit_new refl
       in
       let m = q.1 log e a in
-      let f : IsFollowedAsGrown (shape g) h commit m.ms = grown_follows (shape g) h commit m.ms the_program.accepted.sighted (subst (λ l. Binding commit (all_openings l)) (sym m.are) (binding q.0.moves q.0.used)) (subst (AllMay (shape g) h commit (V.at_first (shape g))) (sym m.are) q.0.may) m.shown in
+      let f : IsFollowedAsMade (shape g) h commit m.ms = made_follows (shape g) h commit m.ms the_program.accepted.sighted (subst (λ l. Binding commit (all_openings l)) (sym m.are) (binding q.0.moves q.0.used)) (subst (AllMay (shape g) h commit (V.at_first (shape g))) (sym m.are) q.0.may) m.shown in
       subst (OnePath g h (events_of sid wf.log)) (ap steps_of f.1 ∙ sym m.same)
       (one_path g h commit (moves_of m.ms) (events_of sid wf.log) the_program.is_graph f.0 (q.0.events ∙ ap (λ l. flat_map (acts_of g) (map deed_of l)) (sym m.are)) (subst (λ l. AllByRecursion (TypedDeed g h) (map deed_of l)) (sym m.are) q.0.typed))
 
@@ -368,8 +368,8 @@ module _ (sha : Hash) (hash : IsHash sha) (programs : List Program) (s : Schedul
         is_cast = first.is_cast;
         graph = g;
         is_graph = graph_is;
-        steps = walk_grown g (honest_role s first.cast) sid [] b.0;
-        path = grown_path b.0 b.1 b.2;
+        steps = walk_after_steps g (honest_role s first.cast) sid [] b.0;
+        path = path_explaining b.0 b.1 b.2;
       }
 
   -- what a frame that was accepted last shows

@@ -7,7 +7,7 @@
 //! Reading order, shortest way first. What the headline says: `Graph`, `Targets`, `Knowledge`, `Evidence`, `Accepted`, `Frame`,
 //! `Spelling`, `Reading`, `Texts`, `Keyring`, `Session`, `Sending`, `Checks`, `Calls`, `Node`, `Verdict`, `Acting`, `NodeAfter`,
 //! `Past`, `Notes`, `Schedule`, `World`, `Crafted`, `Run`, `Premises`, `Walk`, `IsSchedule`, `Headline`. What code keeps and may
-//! rely on: `Kept`, `Representation`, `Following`, `Live`, `Reachable`, `NodeStates`, `Ranges`. What a replay tells: `Grown`, `Steps`,
+//! rely on: `Kept`, `Representation`, `Following`, `Live`, `Reachable`, `NodeStates`, `Ranges`. What a replay tells: `Explaining`, `Steps`,
 //! `Broken`, `Turn`, `Told`. What else holds: `Isolation`, `Receipts`, `LastSteps`, `Completeness`, `GoesOn`, `Claims`, `Restarts`. Examples
 //! are computed in `proofs/Example*.antt`; of the proofs read `proofs/Whole.antt` first, which puts the headline together.
 #![tactic(auto)]
@@ -29,7 +29,7 @@ ghost use Rattle.sg_protocol.specs.Returns.{TablesShowReturns};
 ghost use Rattle.sg_protocol.specs.Following.{KeptFollowsWalks};
 ghost use Rattle.sg_protocol.specs.Representation.{StatesRepresent};
 ghost use Rattle.sg_protocol.specs.Headline.{Headline, SessionsFollowWalks, NoneJoinsTwice, NodesJoinOnce, SessionsHaveOneCast, NoneTakesTwoRoles};
-ghost use Rattle.sg_protocol.specs.Grown.{WalksAreGrown, FramesShowViews};
+ghost use Rattle.sg_protocol.specs.Explaining.{WalksExplain, FramesShowViews};
 ghost use Rattle.sg_protocol.specs.Isolation.{SessionsAreIsolated, AnswersAreOfSessions, CallsKeepAlike, CallsLeaveOthers};
 ghost use Rattle.sg_protocol.specs.Receipts.{ReceiptsHaveSends};
 ghost use Rattle.sg_protocol.specs.Beginnings.{RunsGoOn, PremisesHoldBefore};
@@ -212,8 +212,8 @@ pub fn sessions_follow()
 /// sender are added, hidden, and each value received is filled in at the last step that writes its variable. Whichever such
 /// walks are given, where the premises hold, what is made so is one path of the session's events: for each schedule, for the
 /// programs compiled from its graphs, and for each session with an event, under the graph of its first event's cast.
-pub fn walks_grown()
-    ensures grown { (sha : List ℕ → List ℕ) → IsHash sha → WalksAreGrown sha }
+pub fn walks_explain()
+    ensures explained { (sha : List ℕ → List ℕ) → IsHash sha → WalksExplain sha }
     ensures shown { (sha : List ℕ → List ℕ) → IsHash sha → FramesShowViews sha }
 {}
 

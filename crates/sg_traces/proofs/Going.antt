@@ -1,4 +1,4 @@
--- The courses of a run go on by a step.
+-- The traces of a run go on by a step.
 use Rattle.std.proofs.Common.{◌≡◌, ℕ, zero, suc, ◌<◌, nat_lt, Bool, true, false, not, ◌||◌, ◌&&◌, cond, List, [], ◌∷◌, ◌++◌, map, filter, length, refl, sym, ◌∙◌, ap, subst, inl, inr, arith, append-nil}
 use Rattle.std.specs.Prelude.{Some, Ok, bytes_eq, find, flat_map, slice_get, option_and_then}
 use Rattle.std.specs.List.{AllByRecursion, list_any}
@@ -8,9 +8,9 @@ use Rattle.std.proofs.lemmas.Grind.{flat_map-append}
 use Rattle.std.proofs.lemmas.List.{map-append}
 use Rattle.std.proofs.lemmas.List.Elements.{filter-append}
 use Rattle.indexmap.specs.IndexMap.{set_value_at}
-use Rattle.sg_explain.specs.Courses.{IsCourse, is_receipt}
+use Rattle.sg_explain.specs.Traces.{IsTrace, is_receipt}
 use Rattle.sg_explain.specs.Sessions.{is_of_session, steps_of_session}
-use Rattle.sg_explain.proofs.Coursed.{goes_on, courses_show_views}
+use Rattle.sg_explain.proofs.Traced.{goes_on, traces_show_views}
 use Rattle.sg_text.specs.Sessions.{firsts}
 use Rattle.sg_text.proofs.Firsts.{has_text-firsts, has_text-filtered, firsts-new, firsts-again}
 use Rattle.sg_model.specs.Lists.{has_text, all_differ, is_in}
@@ -31,15 +31,15 @@ use Rattle.sg_protocol.specs.Verdict.{receipt}
 use Rattle.sg_protocol.specs.World.{Logged, Answered}
 use Rattle.sg_protocol.proofs.RealHash.{real_hash}
 use Rattle.sg_protocol.proofs.Whole.{honest_inside}
-use Rattle.sg_traces.specs.Courses.{Course, Courses}
-use Rattle.sg_traces.specs.Runs.{IsUnbroken, IsCourseOf, AreCourses, sids_of}
+use Rattle.sg_traces.specs.Traces.{Trace, Traces}
+use Rattle.sg_traces.specs.Runs.{IsUnbroken, IsTraceOf, AreTraces, sids_of}
 use Rattle.sg_traces.specs.Adding.{AreHonestIn, Begins, Adds, Takes, view_now}
 use Rattle.sg_traces.proofs.Entries.{IsEntry}
 
 -- ---- texts that stand once
 
 abbrev pub Entry : Type 0
-Entry = List ℕ × Course
+Entry = List ℕ × Trace
 
 abbrev pub keys : List Entry → List (List ℕ)
 keys es = map (λ (e : Entry). e.0) es
@@ -121,21 +121,21 @@ first_cast sid before l after e call cast none one is called has =
     let at : find (is_of_session sid) (before ++ l ∷ after) ≡ Some l = (no_steps sid before none).1 (l ∷ after) ∙ ap (λ (b : Bool). cond b (Some l) (find (is_of_session sid) after)) yes in
     ap (option_and_then cast_in) (sym called) ∙ ap (option_and_then (λ (x : Logged). option_and_then cast_in x.call)) (sym at) ∙ has
 
--- ---- one course
+-- ---- one trace
 
 module _ (s : Schedule) (log : List Logged) (before : List Logged) (l : Logged) where
   abbrev pub Before : Entry → Type 0
-  Before x = IsCourseOf s log before x.0 x.1
+  Before x = IsTraceOf s log before x.0 x.1
 
   abbrev pub Now : Entry → Type 0
-  Now x = IsCourseOf s log (before ++ l ∷ []) x.0 x.1
+  Now x = IsTraceOf s log (before ++ l ∷ []) x.0 x.1
 
-  same_course : (x : Entry) → steps_of_session x.0 (before ++ l ∷ []) ≡ steps_of_session x.0 before → Before x → Now x
-  same_course x same h = record { cast = h.cast; graph = h.graph; honest = h.honest; course = subst (λ ls. IsCourse x.1.graph x.0 ls x.1.shown x.1.origins) (sym same) h.course }
+  same_trace : (x : Entry) → steps_of_session x.0 (before ++ l ∷ []) ≡ steps_of_session x.0 before → Before x → Now x
+  same_trace x same h = record { cast = h.cast; graph = h.graph; honest = h.honest; trace = subst (λ ls. IsTrace x.1.graph x.0 ls x.1.shown x.1.origins) (sym same) h.trace }
 
   -- a step of another session leaves it
   of_other : (e : Event) → events_of_outcome l.outcome ≡ e ∷ [] → (x : Entry) → bytes_eq (sid_of e) x.0 ≡ false → Before x → Now x
-  of_other e one x n h = same_course x (none_of x.0 before l (of_session x.0 l e one ∙ or_false (bytes_eq (sid_of e) x.0) ∙ n)) h
+  of_other e one x n h = same_trace x (none_of x.0 before l (of_session x.0 l e one ∙ or_false (bytes_eq (sid_of e) x.0) ∙ n)) h
 
   all_others : (sid : List ℕ) → ((x : Entry) → bytes_eq sid x.0 ≡ false → Before x → Now x) → (es : List Entry) → has_text sid (keys es) ≡ false → AllByRecursion Before es → AllByRecursion Now es
   all_others sid other [] n a = tt
@@ -143,12 +143,12 @@ module _ (s : Schedule) (log : List Logged) (before : List Logged) (l : Logged) 
       let ps = or_parts (bytes_eq sid x.0) (has_text sid (keys xs)) n in
       (other x ps.0 a.0, all_others sid other xs ps.1 a.1)
 
-  in_keys : (es : List Entry) (i : ℕ) (sid : List ℕ) (old : Course) → slice_get es i ≡ Some (sid, old) → has_text sid (keys es) ≡ true
+  in_keys : (es : List Entry) (i : ℕ) (sid : List ℕ) (old : Trace) → slice_get es i ≡ Some (sid, old) → has_text sid (keys es) ≡ true
   in_keys [] i sid old at = absurd (cc)
   in_keys (x ∷ xs) zero sid old at = (let q : x ≡ (sid, old) = cc in rw (bytes_same sid x.0 (sym (ap (λ (z : Entry). z.0) q))) refl)
   in_keys (x ∷ xs) (suc i) sid old at = or_right (bytes_eq sid x.0) (has_text sid (keys xs)) (in_keys xs i sid old at)
 
-  all_at : (sid : List ℕ) → ((x : Entry) → bytes_eq sid x.0 ≡ false → Before x → Now x) → (old new : Course) → (Before (sid, old) → Now (sid, new)) → (es : List Entry) (i : ℕ) → all_differ (keys es) ≡ true → slice_get es i ≡ Some (sid, old)
+  all_at : (sid : List ℕ) → ((x : Entry) → bytes_eq sid x.0 ≡ false → Before x → Now x) → (old new : Trace) → (Before (sid, old) → Now (sid, new)) → (es : List Entry) (i : ℕ) → all_differ (keys es) ≡ true → slice_get es i ≡ Some (sid, old)
       → AllByRecursion Before es → AllByRecursion Now (set_value_at es i new)
   all_at sid other old new step [] i d at a = absurd (cc)
   all_at sid other old new step (x ∷ xs) zero d at a =
@@ -160,23 +160,23 @@ module _ (s : Schedule) (log : List Logged) (before : List Logged) (l : Logged) 
       let ps = and_parts (not (has_text x.0 (keys xs))) (all_differ (keys xs)) d in
       (other x (differs x xs sid i old at (not-true (has_text x.0 (keys xs)) ps.0)) a.0, all_at sid other old new step xs i ps.1 at a.1)
     where
-      differs : (x : Entry) (xs : List Entry) (sid : List ℕ) (i : ℕ) (old : Course) → slice_get xs i ≡ Some (sid, old) → has_text x.0 (keys xs) ≡ false → bytes_eq sid x.0 ≡ false
+      differs : (x : Entry) (xs : List Entry) (sid : List ℕ) (i : ℕ) (old : Trace) → slice_get xs i ≡ Some (sid, old) → has_text x.0 (keys xs) ≡ false → bytes_eq sid x.0 ≡ false
       differs x xs sid i old at n = elim (cases_Bool (bytes_eq sid x.0)) [
         | inl y ↦ clash (has_text x.0 (keys xs)) (subst (λ z. has_text z (keys xs) ≡ true) (same_bytes sid x.0 y) (in_keys xs i sid old at)) n
         | inr m ↦ m
       ]
 
-keys_kept : (es : List Entry) (i : ℕ) (new : Course) → keys (set_value_at es i new) ≡ keys es
+keys_kept : (es : List Entry) (i : ℕ) (new : Trace) → keys (set_value_at es i new) ≡ keys es
 keys_kept [] i new = refl
 keys_kept (x ∷ xs) zero new = refl
 keys_kept (x ∷ xs) (suc i) new = ap (λ ks. x.0 ∷ ks) (keys_kept xs i new)
 
--- ---- all courses
+-- ---- all traces
 
--- a session that has a course goes on
-pub goes_at : (s : Schedule) (programs : List Program) (before : List Logged) (l : Logged) (e : Event) (es : List Entry) (i : ℕ) (old new : Course) → events_of_outcome l.outcome ≡ e ∷ [] → slice_get es i ≡ Some (sid_of e, old)
-    → (IsCourseOf s (run real programs s).log before (sid_of e) old → IsCourseOf s (run real programs s).log (before ++ l ∷ []) (sid_of e) new)
-    → AreCourses s before (record { programs = programs; courses = es }) → AreCourses s (before ++ l ∷ []) (record { programs = programs; courses = set_value_at es i new })
+-- a session that has a trace goes on
+pub goes_at : (s : Schedule) (programs : List Program) (before : List Logged) (l : Logged) (e : Event) (es : List Entry) (i : ℕ) (old new : Trace) → events_of_outcome l.outcome ≡ e ∷ [] → slice_get es i ≡ Some (sid_of e, old)
+    → (IsTraceOf s (run real programs s).log before (sid_of e) old → IsTraceOf s (run real programs s).log (before ++ l ∷ []) (sid_of e) new)
+    → AreTraces s before (record { programs = programs; traces = es }) → AreTraces s (before ++ l ∷ []) (record { programs = programs; traces = set_value_at es i new })
 goes_at s programs before l e es i old new one at step are =
     let log = (run real programs s).log in
     let there : has_text (sid_of e) (sids_of before) ≡ true = sym (has_text-firsts (sid_of e) (sids_of before)) ∙ ap (has_text (sid_of e)) (sym are.sids) ∙ in_keys s log before l es i (sid_of e) old at in
@@ -187,9 +187,9 @@ goes_at s programs before l e es i old new one at step are =
     }
 
 -- a session that has none begins
-pub goes_new : (s : Schedule) (programs : List Program) (before : List Logged) (l : Logged) (e : Event) (es : List Entry) (new : Course) → events_of_outcome l.outcome ≡ e ∷ [] → has_text (sid_of e) (keys es) ≡ false
-    → IsCourseOf s (run real programs s).log (before ++ l ∷ []) (sid_of e) new
-    → AreCourses s before (record { programs = programs; courses = es }) → AreCourses s (before ++ l ∷ []) (record { programs = programs; courses = es ++ (sid_of e, new) ∷ [] })
+pub goes_new : (s : Schedule) (programs : List Program) (before : List Logged) (l : Logged) (e : Event) (es : List Entry) (new : Trace) → events_of_outcome l.outcome ≡ e ∷ [] → has_text (sid_of e) (keys es) ≡ false
+    → IsTraceOf s (run real programs s).log (before ++ l ∷ []) (sid_of e) new
+    → AreTraces s before (record { programs = programs; traces = es }) → AreTraces s (before ++ l ∷ []) (record { programs = programs; traces = es ++ (sid_of e, new) ∷ [] })
 goes_new s programs before l e es new one none is are =
     let log = (run real programs s).log in
     let absent : has_text (sid_of e) (sids_of before) ≡ false = sym (has_text-firsts (sid_of e) (sids_of before)) ∙ ap (has_text (sid_of e)) (sym are.sids) ∙ none in
@@ -199,42 +199,42 @@ goes_new s programs before l e es new one none is are =
     }
 
 -- a step without an event leaves all as they were
-pub goes_past : (s : Schedule) (before : List Logged) (l : Logged) (c : Courses) → events_of_outcome l.outcome ≡ [] → AreCourses s before c → AreCourses s (before ++ l ∷ []) c
+pub goes_past : (s : Schedule) (before : List Logged) (l : Logged) (c : Traces) → events_of_outcome l.outcome ≡ [] → AreTraces s before c → AreTraces s (before ++ l ∷ []) c
 goes_past s before l c none are =
     let log = (run real c.programs s).log in
     let no : (sid : List ℕ) → is_of_session sid l ≡ false = λ sid. ap (list_any (λ x. bytes_eq (sid_of x) sid)) none in
     record {
       sids = are.sids ∙ ap firsts (sym (ap (map sid_of) (flat_map-append (λ (x : Logged). events_of_outcome x.outcome) before (l ∷ []) ∙ ap (λ es. flat_map (λ (x : Logged). events_of_outcome x.outcome) before ++ (es ++ [])) none ∙ append-nil (flat_map (λ (x : Logged). events_of_outcome x.outcome) before))));
-      each = all_same (λ x h. same_course s log before l x (none_of x.0 before l (no x.0)) h) c.courses are.each;
+      each = all_same (λ x h. same_trace s log before l x (none_of x.0 before l (no x.0)) h) c.traces are.each;
     }
   where
     all_same : {P Q : Entry → Type 0} → ((x : Entry) → P x → Q x) → (es : List Entry) → AllByRecursion P es → AllByRecursion Q es
     all_same f [] a = tt
     all_same f (x ∷ xs) a = (f x a.0, all_same f xs a.1)
 
--- ---- the step of a course
+-- ---- the step of a trace
 
--- the new course, by what it adds
-added : (s : Schedule) (log before : List Logged) (l : Logged) (sid : List ℕ) (old new : Course) (e : Event) (walk : List ℕ) → events_of_outcome l.outcome ≡ e ∷ [] → sid_of e ≡ sid → Adds old new e walk
-    → IsCourseOf s log before sid old → IsCourse old.graph sid (steps_of_session sid before ++ l ∷ []) (old.shown ++ (e, walk) ∷ []) new.origins → IsCourseOf s log (before ++ l ∷ []) sid new
-added s log before l sid old new e walk one is add h course = record {
+-- the new trace, by what it adds
+added : (s : Schedule) (log before : List Logged) (l : Logged) (sid : List ℕ) (old new : Trace) (e : Event) (walk : List ℕ) → events_of_outcome l.outcome ≡ e ∷ [] → sid_of e ≡ sid → Adds old new e walk
+    → IsTraceOf s log before sid old → IsTrace old.graph sid (steps_of_session sid before ++ l ∷ []) (old.shown ++ (e, walk) ∷ []) new.origins → IsTraceOf s log (before ++ l ∷ []) sid new
+added s log before l sid old new e walk one is add h trace = record {
   cast = h.cast ∙ ap Some (sym add.cast);
   graph = ap (λ (c : Cast). graph_with real s.graphs c.graph) add.cast ∙ h.graph ∙ ap Some (sym add.graph);
   honest = λ r. ap (is_in r) add.honest ∙ h.honest r ∙ ap (λ (c : Cast). honest_role s c r) (sym add.cast);
-  course = subst (λ (g : Graph). IsCourse g sid (steps_of_session sid (before ++ l ∷ [])) new.shown new.origins) (sym add.graph)
-      (subst (λ ls. IsCourse old.graph sid ls new.shown new.origins) (sym (more_of sid before l e one is))
-      (subst (λ ps. IsCourse old.graph sid (steps_of_session sid before ++ l ∷ []) ps new.origins) (sym add.shown) course));
+  trace = subst (λ (g : Graph). IsTrace g sid (steps_of_session sid (before ++ l ∷ [])) new.shown new.origins) (sym add.graph)
+      (subst (λ ls. IsTrace old.graph sid ls new.shown new.origins) (sym (more_of sid before l e one is))
+      (subst (λ ps. IsTrace old.graph sid (steps_of_session sid before ++ l ∷ []) ps new.origins) (sym add.shown) trace));
 }
 
 -- an act or a start
-pub acts : (s : Schedule) (log before : List Logged) (l : Logged) (sid : List ℕ) (old new : Course) (e : Event) (walk : List ℕ) → events_of_outcome l.outcome ≡ e ∷ [] → sid_of e ≡ sid → is_receipt e ≡ false → Adds old new e walk
-    → IsCourseOf s log before sid old → IsCourseOf s log (before ++ l ∷ []) sid new
+pub acts : (s : Schedule) (log before : List Logged) (l : Logged) (sid : List ℕ) (old new : Trace) (e : Event) (walk : List ℕ) → events_of_outcome l.outcome ≡ e ∷ [] → sid_of e ≡ sid → is_receipt e ≡ false → Adds old new e walk
+    → IsTraceOf s log before sid old → IsTraceOf s log (before ++ l ∷ []) sid new
 acts s log before l sid old new e walk one is other add h =
     let here : events_of sid (l ∷ []) ≡ e ∷ [] = ap (λ es. filter (λ x. bytes_eq (sid_of x) sid) (es ++ [])) one ∙ ap (λ (b : Bool). cond b (e ∷ []) []) (bytes_same (sid_of e) sid is) in
-    let course : IsCourse old.graph sid (steps_of_session sid before ++ l ∷ []) (old.shown ++ (e, walk) ∷ []) new.origins = (goes_on old.graph sid).acts (steps_of_session sid before) old.shown old.origins new.origins l e walk h.course one here other add.origins in
-    added s log before l sid old new e walk one is add h course
+    let trace : IsTrace old.graph sid (steps_of_session sid before ++ l ∷ []) (old.shown ++ (e, walk) ∷ []) new.origins = (goes_on old.graph sid).acts (steps_of_session sid before) old.shown old.origins new.origins l e walk h.trace one here other add.origins in
+    added s log before l sid old new e walk one is add h trace
 
--- ---- where a course begins
+-- ---- where a trace begins
 
 -- the honest roles are those of the cast
 pub honest_roles : (s : Schedule) → IsSchedule real s → (cast : Cast) (set : List ℕ) → AreHonestIn s.honest cast set → (r : ℕ) → is_in r set ≡ honest_role s cast r
@@ -245,9 +245,9 @@ honest_roles s sched cast set are r = are r ∙ by (nat_lt r (length cast.names)
     by false e false h = refl
     by false e true h = absurd (let less : r < length cast.names = honest_inside real s sched cast r h in let z : nat_lt r (length cast.names) ≡ true = grind (arith, nat_tests, less) in let y : true ≡ false = sym z ∙ e in cc)
 
--- a new course is that of a session of which no step has an event
-pub begins : (programs : List Program) (s : Schedule) (u : IsUnbroken programs s) (before : List Logged) (e : Event) (i : IsEntry programs s e) (cast : Cast) (c : Course) → has_text (sid_of e) (sids_of before) ≡ false → i.cast ≡ cast
-    → Begins programs s.honest cast (role_of e) c → IsCourseOf s (run real programs s).log before (sid_of e) c
+-- a new trace is that of a session of which no step has an event
+pub begins : (programs : List Program) (s : Schedule) (u : IsUnbroken programs s) (before : List Logged) (e : Event) (i : IsEntry programs s e) (cast : Cast) (c : Trace) → has_text (sid_of e) (sids_of before) ≡ false → i.cast ≡ cast
+    → Begins programs s.honest cast (role_of e) c → IsTraceOf s (run real programs s).log before (sid_of e) c
 begins programs s u before e i cast c none same b =
     let is_cast : i.cast ≡ c.cast = same ∙ sym b.of_cast in
     let two : Some i.program ≡ Some b.program = sym i.found ∙ ap (λ (x : Cast). program_for programs x.graph (role_of e)) same ∙ b.found in
@@ -257,14 +257,14 @@ begins programs s u before e i cast c none same b =
       cast = i.is_cast ∙ ap Some is_cast;
       graph = ap (λ (x : Cast). graph_with real s.graphs x.graph) (sym is_cast) ∙ i.is_graph ∙ ap Some graph;
       honest = λ r. honest_roles s u.schedule cast c.honest b.honest r ∙ ap (λ (x : Cast). honest_role s x r) (sym b.of_cast);
-      course = subst (λ ls. IsCourse c.graph (sid_of e) ls c.shown c.origins) (sym (no_steps (sid_of e) before none).0) (subst (λ ps. IsCourse c.graph (sid_of e) [] ps c.origins) (sym b.shown) ((goes_on c.graph (sid_of e)).begins c.origins b.origins));
+      trace = subst (λ ls. IsTrace c.graph (sid_of e) ls c.shown c.origins) (sym (no_steps (sid_of e) before none).0) (subst (λ ps. IsTrace c.graph (sid_of e) [] ps c.origins) (sym b.shown) ((goes_on c.graph (sid_of e)).begins c.origins b.origins));
     }
 
 -- ---- a frame that was taken
 
-pub takes : (programs : List Program) (s : Schedule) (u : IsUnbroken programs s) (before : List Logged) (l : Logged) (after : List Logged) (bs : List ℕ) (f : Frame) (old new : Course) → (run real programs s).log ≡ before ++ l ∷ after → l.call ≡ Some (Deliver bs) → read bs ≡ Ok f
+pub takes : (programs : List Program) (s : Schedule) (u : IsUnbroken programs s) (before : List Logged) (l : Logged) (after : List Logged) (bs : List ℕ) (f : Frame) (old new : Trace) → (run real programs s).log ≡ before ++ l ∷ after → l.call ≡ Some (Deliver bs) → read bs ≡ Ok f
     → events_of_outcome l.outcome ≡ receipt f ∷ [] → l.outcome ≡ Answered (Happened (receipt f)) → IsEntry programs s (receipt f) → Takes programs old new (receipt f) f
-    → IsCourseOf s (run real programs s).log before f.sid old → IsCourseOf s (run real programs s).log (before ++ l ∷ []) f.sid new
+    → IsTraceOf s (run real programs s).log before f.sid old → IsTraceOf s (run real programs s).log (before ++ l ∷ []) f.sid new
 takes programs s u before l after bs f old new parts call reads one outcome i t h =
     let log = (run real programs s).log in
     let casts : Some i.cast ≡ Some old.cast = sym i.is_cast ∙ h.cast in
@@ -275,9 +275,9 @@ takes programs s u before l after bs f old new parts call reads one outcome i t 
     ap (steps_of_session f.sid) parts ∙ filter-append (is_of_session f.sid) before (l ∷ after)
     ∙ ap (λ (b : Bool). steps_of_session f.sid before ++ cond b (l ∷ steps_of_session f.sid after) (steps_of_session f.sid after)) (of_session f.sid l (receipt f) one ∙ or_false (bytes_eq f.sid f.sid) ∙ bytes_refl f.sid) in
     let view : IsView old.graph f.receiver (view_now old f) =
-    courses_show_views real real_hash programs s f.sid old.cast old.graph (steps_of_session f.sid before) old.shown old.origins l (steps_of_session f.sid after) bs f u.compiled u.schedule u.premises h.cast h.graph steps h.course call reads outcome refl i.small in
+    traces_show_views real real_hash programs s f.sid old.cast old.graph (steps_of_session f.sid before) old.shown old.origins l (steps_of_session f.sid after) bs f u.compiled u.schedule u.premises h.cast h.graph steps h.trace call reads outcome refl i.small in
     let found : program_for programs old.cast.graph f.receiver ≡ Some i.program = ap (λ (x : Cast). program_for programs x.graph f.receiver) (sym cast) ∙ i.found in
     let got = t i.program found (i.of_graph ∙ graph) i.is_role view in
-    let course : IsCourse old.graph f.sid (steps_of_session f.sid before ++ l ∷ []) (old.shown ++ (receipt f, got.0) ∷ []) new.origins =
-    (goes_on old.graph f.sid).takes (steps_of_session f.sid before) old.shown old.origins new.origins l bs f got.0 h.course call reads outcome refl i.small got.1 got.2.origins in
-    added s log before l f.sid old new (receipt f) got.0 one refl got.2 h course
+    let trace : IsTrace old.graph f.sid (steps_of_session f.sid before ++ l ∷ []) (old.shown ++ (receipt f, got.0) ∷ []) new.origins =
+    (goes_on old.graph f.sid).takes (steps_of_session f.sid before) old.shown old.origins new.origins l bs f got.0 h.trace call reads outcome refl i.small got.1 got.2.origins in
+    added s log before l f.sid old new (receipt f) got.0 one refl got.2 h trace

@@ -1,4 +1,4 @@
--- What a course makes of a frame, by the program that is found for the receiver.
+-- What a trace makes of a frame, by the program that is found for the receiver.
 use Rattle.std.proofs.Common.{◌≡◌, ℕ, zero, suc, ◌<◌, ◌≤◌, ◌&&◌, Bool, bytes_eq, All, length, get_or, map, List, [], ◌∷◌, ◌++◌, refl, sym, ◌∙◌, ap, subst, arith}
 use Rattle.std.specs.Prelude.{Option, Some, None, Result, Ok, Err, OnOk, OnErr, find, slice_get}
 use Rattle.std.proofs.lemmas.List.{map-append}
@@ -12,7 +12,7 @@ use Rattle.sg_model.specs.Names.{Name}
 use Rattle.sg_model.proofs.Small.{bytes_eq-swap, eqb-swap}
 use Rattle.sg_protocol.specs.Frame.{Cast, Frame}
 use Rattle.sg_protocol.specs.Graph.{Graph}
-use Rattle.sg_protocol.specs.Grown.{IsExample}
+use Rattle.sg_protocol.specs.Explaining.{IsExample}
 use Rattle.sg_protocol.specs.IsSchedule.{IsProgram}
 use Rattle.sg_protocol.specs.Keyring.{Program}
 use Rattle.sg_protocol.specs.Node.{program_for}
@@ -20,7 +20,7 @@ use Rattle.sg_program.specs.Together.{is_for}
 use Rattle.sg_protocol.specs.Texts.{real}
 use Rattle.sg_vis.specs.Table.{ShownView, Shows, views_of}
 use Rattle.sg_traces.specs.Adding.{Adds, Begins, Takes, view_now}
-use Rattle.sg_traces.specs.Courses.{Course}
+use Rattle.sg_traces.specs.Traces.{Trace}
 use Rattle.sg_traces.specs.Tables.{Begun, GoesAt}
 use Rattle.sg_traces.proofs.Going.{Entry}
 use Rattle.sg_traces.proofs.Found.{entry_at}
@@ -43,7 +43,7 @@ found_for d r ps = ap (λ (test : Program → Bool). find test ps) (λ i p. byte
 
 -- ---- a frame
 
-module _ (programs : List Program) (old new : Course) (e : Event) (f : Frame) (q : Program) (table : List ShownView) (origin : Option ℕ) where
+module _ (programs : List Program) (old new : Trace) (e : Event) (f : Frame) (q : Program) (table : List ShownView) (origin : Option ℕ) where
   -- this program, with its table, is found, and the view begins with this label
   pub record IsFound : Type 0 where
     pub is : Some q ≡ program_for programs old.cast.graph f.receiver
@@ -85,7 +85,7 @@ module _ (programs : List Program) (old new : Course) (e : Event) (f : Frame) (q
       absurd (omega (arith, more, edges))
 
 -- no program
-pub no_program : (programs : List Program) (old new : Course) (e : Event) (f : Frame) → None ≡ program_for programs old.cast.graph f.receiver → Takes programs old new e f
+pub no_program : (programs : List Program) (old new : Trace) (e : Event) (f : Frame) → None ≡ program_for programs old.cast.graph f.receiver → Takes programs old new e f
 no_program programs old new e f none p found graph role view = absurd (let two : None ≡ Some p = none ∙ found in cc)
 
 pub edges_within : (walk : List ℕ) (n m : ℕ) → n ≤ m → All (λ e. e < n) walk → All (λ e. e < m) walk
@@ -98,22 +98,22 @@ shown_more old was now x is more = ap (map pair_of) more ∙ map-append pair_of 
 
 -- ---- the table
 
-pub goes_at_index : (P : Course → Course → Type 0) (es : List Entry) (i : ℕ) (old new : Course) → slice_get (map (λ (e : Entry). e.1) es) i ≡ Some old → P old new → GoesAt P es (set_value_at es i new) i
+pub goes_at_index : (P : Trace → Trace → Type 0) (es : List Entry) (i : ℕ) (old new : Trace) → slice_get (map (λ (e : Entry). e.1) es) i ≡ Some old → P old new → GoesAt P es (set_value_at es i new) i
 goes_at_index P es i old new at comes =
     let entry = entry_at es i old at in
     record { sid = entry.0; old = old; new = new; is_old = entry.1; is_new = refl; comes = comes }
 
 -- the value at an index put there again
-pub same_value : (es : List Entry) (i : ℕ) (old new : Course) → slice_get (map (λ (e : Entry). e.1) es) i ≡ Some old → new ≡ old → set_value_at es i new ≡ es
+pub same_value : (es : List Entry) (i : ℕ) (old new : Trace) → slice_get (map (λ (e : Entry). e.1) es) i ≡ Some old → new ≡ old → set_value_at es i new ≡ es
 same_value es i old new at is = ap (set_value_at es i) is ∙ put_again es i at
   where
     put_again : (es : List Entry) (i : ℕ) → slice_get (map (λ (e : Entry). e.1) es) i ≡ Some old → set_value_at es i old ≡ es
     put_again [] i at = refl
-    put_again (x ∷ xs) zero at = (let same : x.1 ≡ old = cc in ap (λ (z : Course). (x.0, z) ∷ xs) (sym same))
+    put_again (x ∷ xs) zero at = (let same : x.1 ≡ old = cc in ap (λ (z : Trace). (x.0, z) ∷ xs) (sym same))
     put_again (x ∷ xs) (suc i) at = ap (λ ys. x ∷ ys) (put_again xs i at)
 
--- a course that begins and goes on is put last
-pub begun_of : (Comes : Course → Course → Type 0) (programs : List Program) (names : List Name) (was cast : Cast) (at role : ℕ) (here sid : List ℕ) (es now : List Entry) (old new : Course) → Begins programs names was at old → Comes old new → now ≡ es ++ (here, new) ∷ []
+-- a trace that begins and goes on is put last
+pub begun_of : (Comes : Trace → Trace → Type 0) (programs : List Program) (names : List Name) (was cast : Cast) (at role : ℕ) (here sid : List ℕ) (es now : List Entry) (old new : Trace) → Begins programs names was at old → Comes old new → now ≡ es ++ (here, new) ∷ []
     → was ≡ cast → at ≡ role → here ≡ sid → Begun Comes programs names cast role sid es now
 begun_of Comes programs names was cast at role here sid es now old new b comes more casts roles sids p found = record {
   old = old;

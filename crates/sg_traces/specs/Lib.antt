@@ -1,4 +1,4 @@
-pub mod Courses
+pub mod Traces
 pub mod Runs
 pub mod Adding
 pub mod Tables

@@ -1,8 +1,8 @@
--- The courses of the sessions of a run.
+-- The traces of the sessions of a run.
 use Rattle.std.specs.Prelude.{◌≡◌, ℕ, List, [], ◌∷◌, ◌++◌, map, flat_map, bytes_eq, Option, Some}
 use Rattle.std.specs.Map.{lookup}
 use Rattle.std.specs.List.{AllByRecursion}
-use Rattle.sg_explain.specs.Courses.{IsCourse}
+use Rattle.sg_explain.specs.Traces.{IsTrace}
 use Rattle.sg_explain.specs.Sessions.{steps_of_session}
 use Rattle.sg_text.specs.Sessions.{firsts}
 use Rattle.sg_model.specs.Lists.{is_in}
@@ -16,7 +16,7 @@ use Rattle.sg_protocol.specs.Schedule.{Schedule, graph_with, honest_role}
 use Rattle.sg_protocol.specs.Texts.{real}
 use Rattle.sg_protocol.specs.Walk.{StoredStep}
 use Rattle.sg_protocol.specs.World.{Logged}
-use Rattle.sg_traces.specs.Courses.{Course, Courses}
+use Rattle.sg_traces.specs.Traces.{Trace, Traces}
 
 -- the programs are those of the schedule's graphs, and both premises hold of its run
 pub record IsUnbroken (programs : List Program) (s : Schedule) : Type 0 where
@@ -33,25 +33,25 @@ pub record IsNext (programs : List Program) (s : Schedule) (before : List Logged
 abbrev pub sids_of : List Logged → List (List ℕ)
 sids_of steps = map sid_of (flat_map (λ l. events_of_outcome l.outcome) steps)
 
--- the course is that of the session's steps among these, with the cast and the graph that the session has in the whole log
-pub record IsCourseOf (s : Schedule) (log steps : List Logged) (sid : List ℕ) (c : Course) : Type 0 where
+-- the trace is that of the session's steps among these, with the cast and the graph that the session has in the whole log
+pub record IsTraceOf (s : Schedule) (log steps : List Logged) (sid : List ℕ) (c : Trace) : Type 0 where
   pub cast : cast_of_session sid log ≡ Some c.cast
   pub graph : graph_with real s.graphs c.cast.graph ≡ Some c.graph
   pub honest : (r : ℕ) → is_in r c.honest ≡ honest_role s c.cast r
-  pub course : IsCourse c.graph sid (steps_of_session sid steps) c.shown c.origins
+  pub trace : IsTrace c.graph sid (steps_of_session sid steps) c.shown c.origins
 
--- the courses are those of the sessions that have events in these steps of the run, in the order of their first events
-pub record AreCourses (s : Schedule) (steps : List Logged) (c : Courses) : Type 0 where
-  pub sids : map (λ (e : List ℕ × Course). e.0) c.courses ≡ firsts (sids_of steps)
-  pub each : AllByRecursion (λ (e : List ℕ × Course). IsCourseOf s (run real c.programs s).log steps e.0 e.1) c.courses
+-- the traces are those of the sessions that have events in these steps of the run, in the order of their first events
+pub record AreTraces (s : Schedule) (steps : List Logged) (c : Traces) : Type 0 where
+  pub sids : map (λ (e : List ℕ × Trace). e.0) c.traces ≡ firsts (sids_of steps)
+  pub each : AllByRecursion (λ (e : List ℕ × Trace). IsTraceOf s (run real c.programs s).log steps e.0 e.1) c.traces
 
--- in an unbroken run, what were the courses of the steps before the next one is with it the courses of the steps with it
-abbrev pub GoOn : Schedule → List Logged → Logged → Courses → Courses → Type 0
-GoOn s before l old new = IsUnbroken old.programs s → IsNext old.programs s before l → AreCourses s before old → AreCourses s (before ++ l ∷ []) new
+-- in an unbroken run, what were the traces of the steps before the next one is with it the traces of the steps with it
+abbrev pub GoOn : Schedule → List Logged → Logged → Traces → Traces → Type 0
+GoOn s before l old new = IsUnbroken old.programs s → IsNext old.programs s before l → AreTraces s before old → AreTraces s (before ++ l ∷ []) new
 
--- the course of a session
-abbrev pub course_at : Courses → List ℕ → Option Course
-course_at c sid = lookup (bytes_eq sid) c.courses
+-- the trace of a session
+abbrev pub trace_at : Traces → List ℕ → Option Trace
+trace_at c sid = lookup (bytes_eq sid) c.traces
 
 -- these steps are a walk that explains the session
 abbrev pub IsExplainedBy : List Program → Schedule → List ℕ → List StoredStep → Type 0

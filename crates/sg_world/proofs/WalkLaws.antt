@@ -10,10 +10,10 @@ use Rattle.std.proofs.lemmas.Option.{same_Some}
 use Rattle.std.proofs.Math.Seq.{take-length}
 use Rattle.std.proofs.lemmas.Slice.Eq.{bytes_eq-Decides}
 use Rattle.std.proofs.lemmas.List.Elements.{filter_map-append}
-use Rattle.sg_traces.specs.Courses.{Course, Courses}
-use Rattle.sg_traces.specs.Runs.{AreCourses, IsCourseOf, IsExplainedBy, IsUnbroken, sids_of}
-use Rattle.sg_explain.proofs.Coursed.{courses_are_grown}
-use Rattle.sg_explain.specs.Events.{grown_along}
+use Rattle.sg_traces.specs.Traces.{Trace, Traces}
+use Rattle.sg_traces.specs.Runs.{AreTraces, IsTraceOf, IsExplainedBy, IsUnbroken, sids_of}
+use Rattle.sg_explain.proofs.Traced.{traces_are_explained}
+use Rattle.sg_explain.specs.Events.{explaining_walk}
 use Rattle.sg_law.proofs.Members.{all_in}
 use Rattle.sg_text.proofs.Firsts.{has_text-firsts}
 use Rattle.sg_text.proofs.Steps.{HasSteps-IsStoredWalk}
@@ -37,7 +37,7 @@ use Rattle.sg_walk.specs.Model.{steps_of}
 use Rattle.sg_walk.specs.declared.stored.StoredWalk.{StoredWalk}
 use Rattle.sg_world.specs.Account.{account, cast_met, graph_of, honest_in}
 use Rattle.sg_world.specs.Replay.{Replay, run_of}
-use Rattle.sg_world.specs.Walked.{CanWalkAll, IsPath, Path, PremisesHold, WalksAreMade, WalksAreWritten, path_at, path_grown, path_line, steps_grown}
+use Rattle.sg_world.specs.Walked.{CanWalkAll, IsPath, Path, PremisesHold, WalksAreMade, WalksAreWritten, path_at, path_of_trace, path_line, steps_of_trace}
 
 -- ---- events
 
@@ -139,7 +139,7 @@ has_its_steps r s p h =
     by None q steps w = subst (λ (o : Option Graph). HasSteps (graph_or_none o) steps) (sym q) (none steps (subst (λ (o : Option Graph). IsStoredWalk (graph_or_none o) steps) q w))
     by (Some g) q steps w = subst (λ (o : Option Graph). HasSteps (graph_or_none o) steps) (sym q) (HasSteps-IsStoredWalk g (there (cast_met r p.sid) g q) steps (subst (λ (o : Option Graph). IsStoredWalk (graph_or_none o) steps) q w))
 
--- ---- grown walks
+-- ---- walks that are made
 
 -- a walk that explains a session is a path with the graph and the honest roles of its cast
 pub explained_path : (r : Replay) (sid : List ℕ) (cast : Cast) (g : Graph) (steps : List StoredStep) → cast_met r sid ≡ Some cast → graph_with real r.schedule.graphs cast.graph ≡ Some g
@@ -152,84 +152,84 @@ explained_path r sid cast g steps is_cast is_graph path =
     (subst (λ (h : ℕ → Bool). OnePath g h (events_of sid (run_of r).log) steps) (sym alike) path)
 
 module _ (r : Replay) (compiled : AreCompiled real r.schedule.graphs r.programs) (schedule : IsSchedule real r.schedule) (hold : PremisesHold r) where
-  -- the walk of a session's course explains the session
-  course_path : (sid : List ℕ) (c : Course) → IsCourseOf r.schedule (run_of r).log (run_of r).log sid c → IsPath r (path_grown (sid, c))
-  course_path sid c h =
+  -- the walk of a session's trace explains the session
+  session_path : (sid : List ℕ) (c : Trace) → IsTraceOf r.schedule (run_of r).log (run_of r).log sid c → IsPath r (path_of_trace (sid, c))
+  session_path sid c h =
       let graph : graph_of r sid ≡ c.graph = ap graph_or_none (ap (option_and_then (λ (c : Cast). graph_with real r.schedule.graphs c.graph)) h.cast ∙ h.graph) in
-      let path : OnePath c.graph (honest_role r.schedule c.cast) (events_of sid (run_of r).log) (grown_along c.graph (honest_role r.schedule c.cast) [] c.shown) =
-      courses_are_grown real real_hash r.programs r.schedule sid c.cast c.graph c.shown c.origins compiled schedule hold h.cast h.graph h.course in
-      let same : steps_grown c ≡ grown_along c.graph (honest_role r.schedule c.cast) [] c.shown = λ i. grown_along c.graph (λ role. h.honest role i) [] c.shown in
+      let path : OnePath c.graph (honest_role r.schedule c.cast) (events_of sid (run_of r).log) (explaining_walk c.graph (honest_role r.schedule c.cast) [] c.shown) =
+      traces_are_explained real real_hash r.programs r.schedule sid c.cast c.graph c.shown c.origins compiled schedule hold h.cast h.graph h.trace in
+      let same : steps_of_trace c ≡ explaining_walk c.graph (honest_role r.schedule c.cast) [] c.shown = λ i. explaining_walk c.graph (λ role. h.honest role i) [] c.shown in
       record {
         graph = sym graph;
         honest = λ role. h.honest role ∙ sym (ap (λ (o : Option Cast). option_map_or (λ c. honest_role r.schedule c role) o false) h.cast);
-        path = explained_path r sid c.cast c.graph (steps_grown c) h.cast h.graph (subst (OnePath c.graph (honest_role r.schedule c.cast) (events_of sid (run_of r).log)) (sym same) path);
+        path = explained_path r sid c.cast c.graph (steps_of_trace c) h.cast h.graph (subst (OnePath c.graph (honest_role r.schedule c.cast) (events_of sid (run_of r).log)) (sym same) path);
       }
 
-  course_paths : (es : List (List ℕ × Course)) → AllByRecursion (λ (e : List ℕ × Course). IsCourseOf r.schedule (run_of r).log (run_of r).log e.0 e.1) es → AllByRecursion (λ (e : List ℕ × Course). IsPath r (path_grown e)) es
-  course_paths [] h = tt
-  course_paths (e ∷ es) h = (course_path e.0 e.1 h.0, course_paths es h.1)
+  session_paths : (es : List (List ℕ × Trace)) → AllByRecursion (λ (e : List ℕ × Trace). IsTraceOf r.schedule (run_of r).log (run_of r).log e.0 e.1) es → AllByRecursion (λ (e : List ℕ × Trace). IsPath r (path_of_trace e)) es
+  session_paths [] h = tt
+  session_paths (e ∷ es) h = (session_path e.0 e.1 h.0, session_paths es h.1)
 
-  pub grown_paths : (c : Courses) → AreCourses r.schedule (run_of r).log c → c.programs ≡ r.programs → AllByRecursion (λ (e : List ℕ × Course). IsPath r (path_grown e)) c.courses
-  grown_paths c are same = course_paths c.courses (subst (λ (ps : List Program). AllByRecursion (λ (e : List ℕ × Course). IsCourseOf r.schedule (run real ps r.schedule).log (run_of r).log e.0 e.1) c.courses) same are.each)
+  pub trace_paths : (c : Traces) → AreTraces r.schedule (run_of r).log c → c.programs ≡ r.programs → AllByRecursion (λ (e : List ℕ × Trace). IsPath r (path_of_trace e)) c.traces
+  trace_paths c are same = session_paths c.traces (subst (λ (ps : List Program). AllByRecursion (λ (e : List ℕ × Trace). IsTraceOf r.schedule (run real ps r.schedule).log (run_of r).log e.0 e.1) c.traces) same are.each)
 
-  have_steps : (es : List (List ℕ × Course)) → AllByRecursion (λ (e : List ℕ × Course). IsPath r (path_grown e)) es → AllByRecursion (λ (e : List ℕ × Course). HasSteps e.1.graph (steps_grown e.1)) es
+  have_steps : (es : List (List ℕ × Trace)) → AllByRecursion (λ (e : List ℕ × Trace). IsPath r (path_of_trace e)) es → AllByRecursion (λ (e : List ℕ × Trace). HasSteps e.1.graph (steps_of_trace e.1)) es
   have_steps [] h = tt
-  have_steps (e ∷ es) h = (has_its_steps r schedule (path_grown e) h.0, have_steps es h.1)
+  have_steps (e ∷ es) h = (has_its_steps r schedule (path_of_trace e) h.0, have_steps es h.1)
 
-  pub can_walk : (c : Courses) → AreCourses r.schedule (run_of r).log c → c.programs ≡ r.programs → CanWalkAll c
-  can_walk c are same = have_steps c.courses (grown_paths c are same)
+  pub can_walk : (c : Traces) → AreTraces r.schedule (run_of r).log c → c.programs ≡ r.programs → CanWalkAll c
+  can_walk c are same = have_steps c.traces (trace_paths c are same)
 
-  all_mapped : (es : List (List ℕ × Course)) → AllByRecursion (λ (e : List ℕ × Course). IsPath r (path_grown e)) es → AllByRecursion (IsPath r) (map path_grown es)
+  all_mapped : (es : List (List ℕ × Trace)) → AllByRecursion (λ (e : List ℕ × Trace). IsPath r (path_of_trace e)) es → AllByRecursion (IsPath r) (map path_of_trace es)
   all_mapped [] h = tt
   all_mapped (e ∷ es) h = (h.0, all_mapped es h.1)
 
-  sids_mapped : (es : List (List ℕ × Course)) → map (λ (p : Path). p.sid) (map path_grown es) ≡ map (λ (e : List ℕ × Course). e.0) es
+  sids_mapped : (es : List (List ℕ × Trace)) → map (λ (p : Path). p.sid) (map path_of_trace es) ≡ map (λ (e : List ℕ × Trace). e.0) es
   sids_mapped [] = refl
   sids_mapped (e ∷ es) = ap (λ (z : List (List ℕ)). e.0 ∷ z) (sids_mapped es)
 
   -- the walks of all sessions with an event, in the order of their first events
-  pub walks_made : (c : Courses) → AreCourses r.schedule (run_of r).log c → c.programs ≡ r.programs → (count : ℕ) → count ≡ length c.courses → WalksAreMade r count
+  pub walks_made : (c : Traces) → AreTraces r.schedule (run_of r).log c → c.programs ≡ r.programs → (count : ℕ) → count ≡ length c.traces → WalksAreMade r count
   walks_made c are same count many = record {
-    paths = map path_grown c.courses;
-    each = all_mapped c.courses (grown_paths c are same);
-    sids = sids_mapped c.courses ∙ are.sids;
-    many = many ∙ sym (length-map c.courses path_grown);
+    paths = map path_of_trace c.traces;
+    each = all_mapped c.traces (trace_paths c are same);
+    sids = sids_mapped c.traces ∙ are.sids;
+    many = many ∙ sym (length-map c.traces path_of_trace);
   }
 
   -- the walks of all sessions with an event, in their order
-  pub walks_written : (c : Courses) → AreCourses r.schedule (run_of r).log c → c.programs ≡ r.programs → (old new : List ℕ)
+  pub walks_written : (c : Traces) → AreTraces r.schedule (run_of r).log c → c.programs ≡ r.programs → (old new : List ℕ)
       → new ≡ old ++ flat_map (path_line (met (account r))) (filter_map (path_at c) (all_sids (met (account r)))) → WalksAreWritten r old new
   walks_written c are same old new text = record {
     paths = filter_map (path_at c) (all_sids (met (account r)));
-    each = told_paths path_grown (λ sid w. refl) r c.courses (grown_paths c are same) (all_sids (met (account r)));
-    sids = told_met path_grown (λ sid w. refl) c.courses (met (account r)) (λ sid. ap (has_text sid) are.sids ∙ has_text-firsts sid (sids_of (run_of r).log));
+    each = told_paths path_of_trace (λ sid w. refl) r c.traces (trace_paths c are same) (all_sids (met (account r)));
+    sids = told_met path_of_trace (λ sid w. refl) c.traces (met (account r)) (λ sid. ap (has_text sid) are.sids ∙ has_text-firsts sid (sids_of (run_of r).log));
     text = text;
   }
 
--- where so many walks are made as there are courses
+-- where so many walks are made as there are traces
 pub made_ok : {E : Type 0} {P : ℕ → Type 0} {n : ℕ} (res : Result ℕ E) → ((count : ℕ) → count ≡ n → P count) → IfOk res (λ count. count ≡ n) → IfOk res P
 made_ok (Ok count) f h = f count h
 made_ok (Err e) f h = tt
 
--- what a course's walk gives explains the session
-pub grown_path : (r : Replay) (c : Courses) (sid : List ℕ) (o : Option StoredWalk) (w : StoredWalk) → IsUnbroken r.programs r.schedule → AreCourses r.schedule (run_of r).log c → c.programs ≡ r.programs
-    → ((s : Schedule) → IsUnbroken c.programs s → AreCourses s (run real c.programs s).log c → MatchOption o (events_of sid (run real c.programs s).log ≡ []) (λ w. IsExplainedBy c.programs s sid (steps_of w)))
+-- what a trace's walk gives explains the session
+pub trace_path : (r : Replay) (c : Traces) (sid : List ℕ) (o : Option StoredWalk) (w : StoredWalk) → IsUnbroken r.programs r.schedule → AreTraces r.schedule (run_of r).log c → c.programs ≡ r.programs
+    → ((s : Schedule) → IsUnbroken c.programs s → AreTraces s (run real c.programs s).log c → MatchOption o (events_of sid (run real c.programs s).log ≡ []) (λ w. IsExplainedBy c.programs s sid (steps_of w)))
     → o ≡ Some w → OnePath (graph_of r sid) (honest_in r sid) (events_of sid (run_of r).log) (steps_of w)
-grown_path r c sid o w unbroken are same gives is =
-    let found = gives r.schedule (subst (λ (ps : List Program). IsUnbroken ps r.schedule) (sym same) unbroken) (subst (λ (ps : List Program). AreCourses r.schedule (run real ps r.schedule).log c) (sym same) are) in
+trace_path r c sid o w unbroken are same gives is =
+    let found = gives r.schedule (subst (λ (ps : List Program). IsUnbroken ps r.schedule) (sym same) unbroken) (subst (λ (ps : List Program). AreTraces r.schedule (run real ps r.schedule).log c) (sym same) are) in
     let here : IsExplainedBy c.programs r.schedule sid (steps_of w) = subst (λ (z : Option StoredWalk). MatchOption z (events_of sid (run real c.programs r.schedule).log ≡ []) (λ w. IsExplainedBy c.programs r.schedule sid (steps_of w))) is found in
     let e : IsExplainedBy r.programs r.schedule sid (steps_of w) = subst (λ (ps : List Program). IsExplainedBy ps r.schedule sid (steps_of w)) same here in
     explained_path r sid e.0.cast e.0.graph (steps_of w) e.0.is_cast e.0.is_graph (subst (OnePath e.0.graph (honest_role r.schedule e.0.cast) (events_of sid (run_of r).log)) e.1 e.0.path)
 
 -- ---- written one after another
 
--- the graph of a course that is found has the steps of its walk
-pub found_can_walk : (sid : List ℕ) (es : List (List ℕ × Course)) (c : Course) → AllByRecursion (λ (e : List ℕ × Course). HasSteps e.1.graph (steps_grown e.1)) es → lookup (bytes_eq sid) es ≡ Some c → HasSteps c.graph (steps_grown c)
+-- the graph of a trace that is found has the steps of its walk
+pub found_can_walk : (sid : List ℕ) (es : List (List ℕ × Trace)) (c : Trace) → AllByRecursion (λ (e : List ℕ × Trace). HasSteps e.1.graph (steps_of_trace e.1)) es → lookup (bytes_eq sid) es ≡ Some c → HasSteps c.graph (steps_of_trace c)
 found_can_walk sid [] c h q = absurd (cc)
 found_can_walk sid (e ∷ es) c h q = by (bytes_eq sid e.0) q (found_can_walk sid es c h.1)
   where
-    by : (b : Bool) → cond b (Some e.1) (lookup (bytes_eq sid) es) ≡ Some c → (lookup (bytes_eq sid) es ≡ Some c → HasSteps c.graph (steps_grown c)) → HasSteps c.graph (steps_grown c)
-    by true q rest = subst (λ (z : Course). HasSteps z.graph (steps_grown z)) (same_Some e.1 c q) h.0
+    by : (b : Bool) → cond b (Some e.1) (lookup (bytes_eq sid) es) ≡ Some c → (lookup (bytes_eq sid) es ≡ Some c → HasSteps c.graph (steps_of_trace c)) → HasSteps c.graph (steps_of_trace c)
+    by true q rest = subst (λ (z : Trace). HasSteps z.graph (steps_of_trace z)) (same_Some e.1 c q) h.0
     by false q rest = rest q
 
 none_taken : (i : ℕ) → take {A = List ℕ} i [] ++ [] ≡ []

@@ -1,9 +1,9 @@
 -- The walks of the sessions of a replay, and why a session has none.
 use Rattle.std.specs.Prelude.{◌≡◌, ◌≢◌, ℕ, List, [], ◌++◌, map, flat_map, length, Option, option_map}
 use Rattle.std.specs.List.{AllByRecursion}
-use Rattle.sg_traces.specs.Courses.{Course, Courses}
-use Rattle.sg_traces.specs.Runs.{course_at}
-use Rattle.sg_explain.specs.Events.{grown_along}
+use Rattle.sg_traces.specs.Traces.{Trace, Traces}
+use Rattle.sg_traces.specs.Runs.{trace_at}
+use Rattle.sg_explain.specs.Events.{explaining_walk}
 use Rattle.sg_text.specs.Sessions.{KnownSessions, firsts, sids_met}
 use Rattle.sg_text.specs.Walks.{HasSteps, walk_line}
 use Rattle.sg_model.specs.Lists.{is_in}
@@ -64,20 +64,20 @@ pub record WalksAreMade (r : Replay) (count : ℕ) : Type 0 where
   pub sids : map (λ p. p.sid) paths ≡ firsts (map sid_of (account r).events)
   pub many : count ≡ length paths
 
--- ---- walks that are grown
+-- ---- walks that are made
 
--- the steps of a course's walk
-abbrev pub steps_grown : Course → List StoredStep
-steps_grown c = grown_along c.graph (λ role. is_in role c.honest) [] c.shown
+-- the steps of a trace's walk
+abbrev pub steps_of_trace : Trace → List StoredStep
+steps_of_trace c = explaining_walk c.graph (λ role. is_in role c.honest) [] c.shown
 
--- the walk of a session's course
-abbrev pub path_grown : List ℕ × Course → Path
-path_grown e = record { sid = e.0; graph = e.1.graph; honest = e.1.honest; steps = steps_grown e.1 }
+-- the walk of a session's trace
+abbrev pub path_of_trace : List ℕ × Trace → Path
+path_of_trace e = record { sid = e.0; graph = e.1.graph; honest = e.1.honest; steps = steps_of_trace e.1 }
 
--- the walk of a session, if it has a course
-abbrev pub path_at : Courses → List ℕ → Option Path
-path_at courses sid = option_map (λ (c : Course). path_grown (sid, c)) (course_at courses sid)
+-- the walk of a session, if it has a trace
+abbrev pub path_at : Traces → List ℕ → Option Path
+path_at traces sid = option_map (λ (c : Trace). path_of_trace (sid, c)) (trace_at traces sid)
 
--- the graph of each course has the steps of its walk
-abbrev pub CanWalkAll : Courses → Type 0
-CanWalkAll courses = AllByRecursion (λ (e : List ℕ × Course). HasSteps e.1.graph (steps_grown e.1)) courses.courses
+-- the graph of each trace has the steps of its walk
+abbrev pub CanWalkAll : Traces → Type 0
+CanWalkAll traces = AllByRecursion (λ (e : List ℕ × Trace). HasSteps e.1.graph (steps_of_trace e.1)) traces.traces

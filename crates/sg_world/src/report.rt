@@ -8,7 +8,7 @@ ghost use Rattle.sg_model.specs.Lists.{is_in};
 ghost use Rattle.sg_report.specs.Model.{forgery_of};
 ghost use Rattle.sg_report.specs.Report.{IsReport, lines_from, met, premise_lines, premises_hold};
 ghost use Rattle.sg_world.specs.Account.{CanBeNamed, account, forgery};
-ghost use Rattle.sg_world.specs.Walked.{CanWalkAll, PremisesHold, WalksAreWritten, path_at, path_line, steps_grown};
+ghost use Rattle.sg_world.specs.Walked.{CanWalkAll, PremisesHold, WalksAreWritten, path_at, path_line, steps_of_trace};
 
 use crate::World;
 use crate::lines::put_lines;
@@ -17,7 +17,7 @@ use sg_base::{ByteOut, Name, OutOfMemory, Sid};
 use sg_premises::Forged;
 use sg_report::{Forgery, put_premises};
 use sg_text::{SessionNames, put_walk};
-use sg_traces::{Course, Courses};
+use sg_traces::{Trace, Traces};
 use std::alloc::Global;
 
 impl<'p> World<'p> {
@@ -73,8 +73,8 @@ impl<'p> World<'p> {
         requires { PremisesHold self.now }
         ensures { names.now ≡ naming 120 (met (account self.now)) → OnOk result (WalksAreWritten self.now out.old out.new) }
     {
-        let courses = self.courses()?;
-        put_walks(self.alloc, out, names, &courses)
+        let traces = self.traces()?;
+        put_walks(self.alloc, out, names, &traces)
     }
 }
 
@@ -90,66 +90,66 @@ fn reported(forged: &Forged<'_>) -> Forgery
     }
 }
 
-// Writes the walks of the sessions that have a course, in the order of the names.
+// Writes the walks of the sessions that have a trace, in the order of the names.
 fn put_walks<'r>(
     alloc: Global,
     out: &mut ByteOut,
     names: &SessionNames,
-    courses: &Courses<'r>,
+    traces: &Traces<'r>,
 ) -> Result<(), OutOfMemory>
-    requires { CanWalkAll courses.now }
-    ensures { (m : KnownSessions) → names.now ≡ naming 120 m → OnOk result (out.new ≡ out.old ++ flat_map (path_line m) (filter_map (path_at courses.now) (all_sids m))) }
+    requires { CanWalkAll traces.now }
+    ensures { (m : KnownSessions) → names.now ≡ naming 120 m → OnOk result (out.new ≡ out.old ++ flat_map (path_line m) (filter_map (path_at traces.now) (all_sids m))) }
 {
     for index in 0..names.len() {
-        put_walk_at(alloc, out, names, courses, index)?;
+        put_walk_at(alloc, out, names, traces, index)?;
     }
     Ok(())
 }
 
-// Writes the walk of the session at an index, if it has a course.
+// Writes the walk of the session at an index, if it has a trace.
 fn put_walk_at<'r>(
     alloc: Global,
     out: &mut ByteOut,
     names: &SessionNames,
-    courses: &Courses<'r>,
+    traces: &Traces<'r>,
     index: usize,
 ) -> Result<(), OutOfMemory>
-    requires { CanWalkAll courses.now }
-    ensures { (m : KnownSessions) → names.now ≡ naming 120 m → OnOk result (out.new ≡ out.old ++ flat_map (path_line m) (filter_map (path_at courses.now) (option_to_list (slice_get (all_sids m) index)))) }
+    requires { CanWalkAll traces.now }
+    ensures { (m : KnownSessions) → names.now ≡ naming 120 m → OnOk result (out.new ≡ out.old ++ flat_map (path_line m) (filter_map (path_at traces.now) (option_to_list (slice_get (all_sids m) index)))) }
 {
     match names.at(index) {
-        Some((sid, name)) => put_walk_of(alloc, out, courses, &sid, &name),
+        Some((sid, name)) => put_walk_of(alloc, out, traces, &sid, &name),
         None => Ok(()),
     }
 }
 
-// Writes the walk of a session of this name, if it has a course.
+// Writes the walk of a session of this name, if it has a trace.
 fn put_walk_of<'r>(
     alloc: Global,
     out: &mut ByteOut,
-    courses: &Courses<'r>,
+    traces: &Traces<'r>,
     sid: &Sid,
     name: &Name,
 ) -> Result<(), OutOfMemory>
-    requires { CanWalkAll courses.now }
-    ensures { OnOk result (out.new ≡ out.old ++ flat_map (λ p. walk_line name.now p.graph (λ role. is_in role p.honest) p.steps) (option_to_list (path_at courses.now sid.now))) }
+    requires { CanWalkAll traces.now }
+    ensures { OnOk result (out.new ≡ out.old ++ flat_map (λ p. walk_line name.now p.graph (λ role. is_in role p.honest) p.steps) (option_to_list (path_at traces.now sid.now))) }
 {
-    match courses.get(sid) {
-        Some(course) => put_course(alloc, out, course, name),
+    match traces.get(sid) {
+        Some(trace) => put_trace(alloc, out, trace, name),
         None => Ok(()),
     }
 }
 
-// Writes the walk of a course in a session of this name.
-fn put_course<'r>(
+// Writes the walk of a trace in a session of this name.
+fn put_trace<'r>(
     alloc: Global,
     out: &mut ByteOut,
-    course: &Course<'r>,
+    trace: &Trace<'r>,
     name: &Name,
 ) -> Result<(), OutOfMemory>
-    requires { HasSteps course.now.graph (steps_grown course.now) }
-    ensures { OnOk result (out.new ≡ out.old ++ walk_line name.now course.now.graph (λ role. is_in role course.now.honest) (steps_grown course.now)) }
+    requires { HasSteps trace.now.graph (steps_of_trace trace.now) }
+    ensures { OnOk result (out.new ≡ out.old ++ walk_line name.now trace.now.graph (λ role. is_in role trace.now.honest) (steps_of_trace trace.now)) }
 {
-    let walk = course.walk(alloc)?;
-    put_walk(out, name.as_bytes(), course.graph(), course.honest(), &walk)
+    let walk = trace.walk(alloc)?;
+    put_walk(out, name.as_bytes(), trace.graph(), trace.honest(), &walk)
 }

@@ -1,7 +1,7 @@
 //! The walk that explains a session.
 ghost use Rattle.std.specs.Prelude.{◌≡◌, ◌≢◌, [], bytes_eq, filter_map, length, IfErr, IfOk, MatchBool, OnOk};
 ghost use Rattle.std.specs.Option.{option_to_list};
-ghost use Rattle.sg_traces.specs.Runs.{AreCourses, IsUnbroken};
+ghost use Rattle.sg_traces.specs.Runs.{AreTraces, IsUnbroken};
 ghost use Rattle.sg_model.specs.Lists.{has_text};
 ghost use Rattle.sg_protocol.specs.Run.{events_of};
 ghost use Rattle.sg_protocol.specs.Walk.{OnePath};
@@ -14,10 +14,10 @@ ghost use Rattle.sg_world.specs.Walked.{IsWalkFault, PremisesHold, WalksAreMade}
 use crate::World;
 use crate::premises::Principals;
 use crate::record::TakenStep;
-use crate::walks::courses;
+use crate::walks::traces;
 use sg_base::{OutOfMemory, Sid};
 use sg_report::sid_told;
-use sg_traces::Courses;
+use sg_traces::Traces;
 use sg_walk::StoredWalk;
 use std::alloc::Global;
 use thiserror::Error;
@@ -53,7 +53,7 @@ impl<'p> World<'p> {
         if !unbroken {
             return Err(WalkFault::PremiseBroken);
         }
-        match self.grown(&sid) {
+        match self.walk_explaining(&sid) {
             Ok(walk) => Ok(walk),
             Err(_) => Err(WalkFault::OutOfMemory),
         }
@@ -64,17 +64,17 @@ impl<'p> World<'p> {
         requires { PremisesHold self.now }
         ensures { IfOk result (WalksAreMade self.now) }
     {
-        let courses = self.courses()?;
-        make_walks(self.alloc, &courses)
+        let traces = self.traces()?;
+        make_walks(self.alloc, &traces)
     }
 
-    // The course of each session with an event.
-    pub(crate) fn courses(&self) -> Result<Courses<'_>, OutOfMemory>
+    // The trace of each session with an event.
+    pub(crate) fn traces(&self) -> Result<Traces<'_>, OutOfMemory>
         ensures programs { IfOk result (λ c. c.programs ≡ self.now.programs) }
-        ensures courses { IsUnbroken self.now.programs self.now.schedule → IfOk result (AreCourses self.now.schedule (run_of self.now).log) }
+        ensures traces { IsUnbroken self.now.programs self.now.schedule → IfOk result (AreTraces self.now.schedule (run_of self.now).log) }
     {
         let honest = Principals { nodes: &self.nodes };
-        courses(
+        traces(
             self.alloc,
             self.setting.programs(),
             &honest,
@@ -101,30 +101,30 @@ impl<'p> World<'p> {
         Ok(self.collision()?.is_none())
     }
 
-    // The walk that is grown for a session with an event.
-    fn grown(&self, sid: &Sid) -> Result<StoredWalk, OutOfMemory>
+    // The walk that is made for a session with an event.
+    fn walk_explaining(&self, sid: &Sid) -> Result<StoredWalk, OutOfMemory>
         requires unbroken { PremisesHold self.now }
         requires event { events_of sid.now (run_of self.now).log ≢ [] }
         ensures { IfOk result (λ walk. OnePath (graph_of self.now sid.now) (honest_in self.now sid.now) (events_of sid.now (run_of self.now).log) (steps_of walk)) }
     {
-        let courses = self.courses()?;
-        match courses.walk(self.alloc, sid)? {
+        let traces = self.traces()?;
+        match traces.walk(self.alloc, sid)? {
             Some(walk) => Ok(walk),
             None => unreachable!(),
         }
     }
 }
 
-// Makes the walk of each course, and gives their number.
-fn make_walks<'r>(alloc: Global, courses: &Courses<'r>) -> Result<usize, OutOfMemory>
-    ensures { IfOk result (λ count. count ≡ length courses.now.courses) }
+// Makes the walk of each trace, and gives their number.
+fn make_walks<'r>(alloc: Global, traces: &Traces<'r>) -> Result<usize, OutOfMemory>
+    ensures { IfOk result (λ count. count ≡ length traces.now.traces) }
 {
-    for index in 0..courses.len() {
-        if let Some((_, course)) = courses.at(index) {
-            let _walk = course.walk(alloc)?;
+    for index in 0..traces.len() {
+        if let Some((_, trace)) = traces.at(index) {
+            let _walk = trace.walk(alloc)?;
         }
     }
-    Ok(courses.len())
+    Ok(traces.len())
 }
 
 // An event of these steps has the identifier.

@@ -1,6 +1,6 @@
-//! The courses of a replay's sessions, by its record.
+//! The traces of a replay's sessions, by its record.
 ghost use Rattle.std.specs.Prelude.{◌≡◌, ◌++◌, ◌∷◌, [], ℕ, List, IfOk, OnOk, Some, option_map, option_and_then};
-ghost use Rattle.sg_traces.specs.Runs.{AreCourses, GoOn, IsUnbroken};
+ghost use Rattle.sg_traces.specs.Runs.{AreTraces, GoOn, IsUnbroken};
 ghost use Rattle.sg_protocol.specs.Calls.{Call, Start, Deliver};
 ghost use Rattle.sg_protocol.specs.Run.{events_of_outcome, run};
 ghost use Rattle.sg_protocol.specs.Schedule.{Schedule, cast_of};
@@ -21,50 +21,50 @@ use sg_premises::Honest;
 use sg_program::Programs;
 use sg_report::Outcome;
 use sg_sched::{Change, Step, What};
-use sg_traces::Courses;
+use sg_traces::Traces;
 use sg_walk::Event;
 use std::alloc::Global;
 
-/// The courses of the sessions of a record, gone through once.
-pub(crate) fn courses<'r, 'p, H: Honest>(
+/// The traces of the sessions of a record, gone through once.
+pub(crate) fn traces<'r, 'p, H: Honest>(
     alloc: Global,
     programs: &'r Programs,
     honest: &H,
     setting: &Setting<'_>,
     entries: &'r [TakenStep<'p>],
     frames: &[Seq<u8>],
-) -> Result<Courses<'r>, OutOfMemory>
+) -> Result<Traces<'r>, OutOfMemory>
     ensures programs { IfOk result (λ c. c.programs ≡ programs.now) }
-    ensures courses { (s : Schedule) → s.honest ≡ H.names honest.now → s.sessions ≡ setting.now.sessions → AreOfRun programs.now s entries.now frames.now
-        → IsUnbroken programs.now s → IfOk result (λ c. AreCourses s (run real programs.now s).log c) }
+    ensures traces { (s : Schedule) → s.honest ≡ H.names honest.now → s.sessions ≡ setting.now.sessions → AreOfRun programs.now s entries.now frames.now
+        → IsUnbroken programs.now s → IfOk result (λ c. AreTraces s (run real programs.now s).log c) }
 {
-    let mut courses = Courses::new(alloc, programs);
+    let mut traces = Traces::new(alloc, programs);
     for entry in entries {
-        go_on(alloc, &mut courses, honest, setting, frames, entry)?;
+        go_on(alloc, &mut traces, honest, setting, frames, entry)?;
     }
-    Ok(courses)
+    Ok(traces)
 }
 
 // Goes on by an entry.
 fn go_on<'r, 'p, H: Honest>(
     alloc: Global,
-    courses: &mut Courses<'r>,
+    traces: &mut Traces<'r>,
     honest: &H,
     setting: &Setting<'_>,
     recorded: &[Seq<u8>],
     entry: &'r TakenStep<'p>,
 ) -> Result<(), OutOfMemory>
     ensures goes_on { (s : Schedule) (before : List Logged) (l : Logged) → s.honest ≡ H.names honest.now → s.sessions ≡ setting.now.sessions
-        → IsOfStep s before l recorded.now entry.now → OnOk result (GoOn s before l courses.old courses.new) }
-    ensures programs { courses.new.programs ≡ courses.old.programs }
+        → IsOfStep s before l recorded.now entry.now → OnOk result (GoOn s before l traces.old traces.new) }
+    ensures programs { traces.new.programs ≡ traces.old.programs }
 {
     let Some(event) = event_in(&entry.outcome) else {
         return Ok(());
     };
     match &entry.step {
-        Step::Start { session, .. } => start(alloc, courses, honest, setting, *session, event),
-        Step::Act { .. } => courses.sent(event),
-        Step::Deliver { what, .. } => receive(alloc, courses, honest, recorded, what, event),
+        Step::Start { session, .. } => start(alloc, traces, honest, setting, *session, event),
+        Step::Act { .. } => traces.sent(event),
+        Step::Deliver { what, .. } => receive(alloc, traces, honest, recorded, what, event),
         // Neither has an event.
         Step::Abandon { .. } => Ok(()),
         Step::Craft(_) => Ok(()),
@@ -86,7 +86,7 @@ fn event_in<'e>(outcome: &'e Outcome) -> Option<&'e Event>
 // Goes on by the start of the session at an index.
 fn start<'r, H: Honest>(
     alloc: Global,
-    courses: &mut Courses<'r>,
+    traces: &mut Traces<'r>,
     honest: &H,
     setting: &Setting<'_>,
     session: u32,
@@ -94,11 +94,11 @@ fn start<'r, H: Honest>(
 ) -> Result<(), OutOfMemory>
     ensures goes_on { (s : Schedule) (before : List Logged) (l : Logged) (call : Call) → s.honest ≡ H.names honest.now → s.sessions ≡ setting.now.sessions
         → l.call ≡ Some call → option_map Start (cast_of s session) ≡ Some call → events_of_outcome l.outcome ≡ event_of event.now ∷ []
-        → OnOk result (GoOn s before l courses.old courses.new) }
-    ensures programs { courses.new.programs ≡ courses.old.programs }
+        → OnOk result (GoOn s before l traces.old traces.new) }
+    ensures programs { traces.new.programs ≡ traces.old.programs }
 {
     match setting.sessions().get(session as usize) {
-        Some(declared) => courses.started(alloc, honest, &declared.cast, event),
+        Some(declared) => traces.started(alloc, honest, &declared.cast, event),
         None => Ok(()),
     }
 }
@@ -106,7 +106,7 @@ fn start<'r, H: Honest>(
 // Goes on by what was delivered.
 fn receive<'r, H: Honest>(
     alloc: Global,
-    courses: &mut Courses<'r>,
+    traces: &mut Traces<'r>,
     honest: &H,
     recorded: &[Seq<u8>],
     what: &What,
@@ -114,14 +114,14 @@ fn receive<'r, H: Honest>(
 ) -> Result<(), OutOfMemory>
     ensures goes_on { (s : Schedule) (before : List Logged) (l : Logged) (call : Call) (w last : World) (later : List (List ℕ)) → s.honest ≡ H.names honest.now
         → l.call ≡ Some call → option_map Deliver (bytes_of w (what_of what.now)) ≡ Some call → events_of_outcome l.outcome ≡ event_of event.now ∷ []
-        → frames last ≡ recorded.now → recorded.now ≡ frames w ++ later → OnOk result (GoOn s before l courses.old courses.new) }
-    ensures programs { courses.new.programs ≡ courses.old.programs }
+        → frames last ≡ recorded.now → recorded.now ≡ frames w ++ later → OnOk result (GoOn s before l traces.old traces.new) }
+    ensures programs { traces.new.programs ≡ traces.old.programs }
 {
     match what {
-        What::Bytes(bytes) => courses.delivered(alloc, honest, bytes.as_slice(), event),
+        What::Bytes(bytes) => traces.delivered(alloc, honest, bytes.as_slice(), event),
         What::Frame { number, change } => match frame_at(recorded, *number) {
             None => Ok(()),
-            Some(frame) => receive_changed(alloc, courses, honest, frame, *change, event),
+            Some(frame) => receive_changed(alloc, traces, honest, frame, *change, event),
         },
     }
 }
@@ -129,22 +129,22 @@ fn receive<'r, H: Honest>(
 // Goes on by a frame that was delivered with a change.
 fn receive_changed<'r, H: Honest>(
     alloc: Global,
-    courses: &mut Courses<'r>,
+    traces: &mut Traces<'r>,
     honest: &H,
     frame: &[u8],
     change: Change,
     event: &'r Event,
 ) -> Result<(), OutOfMemory>
     ensures goes_on { (s : Schedule) (before : List Logged) (l : Logged) → s.honest ≡ H.names honest.now → l.call ≡ Some (Deliver (changed_to change frame.now))
-        → events_of_outcome l.outcome ≡ event_of event.now ∷ [] → OnOk result (GoOn s before l courses.old courses.new) }
-    ensures programs { courses.new.programs ≡ courses.old.programs }
+        → events_of_outcome l.outcome ≡ event_of event.now ∷ [] → OnOk result (GoOn s before l traces.old traces.new) }
+    ensures programs { traces.new.programs ≡ traces.old.programs }
 {
     match change {
-        Change::Whole => courses.delivered(alloc, honest, frame, event),
-        Change::Cut(count) => { courses.delivered(alloc, honest, first_bytes(frame, count), event) }
+        Change::Whole => traces.delivered(alloc, honest, frame, event),
+        Change::Cut(count) => { traces.delivered(alloc, honest, first_bytes(frame, count), event) }
         Change::Flip(at) => {
             let changed = flipped(alloc, frame, at)?;
-            courses.delivered(alloc, honest, changed.as_slice(), event)
+            traces.delivered(alloc, honest, changed.as_slice(), event)
         }
     }
 }

@@ -17,11 +17,11 @@ use Rattle.sg_world.proofs.walks.go_on.Goals as goal
 
 pub returns-in_default-clause-goes_on : goal.returns-in_default-clause-goes_on
 returns-in_default-clause-goes_on g c s before l honest sessions step u n are =
-    goes_past s before l c.args.courses.now
+    goes_past s before l c.args.traces.now
     (events_told l step.number c.args.entry.now.told None step.told (ap (option_map (λ e. event_of e.now)) (sym c.in_default.is) ∙ c.event_in.ensures ∙ ap (λ (e : Taken). option_and_then event_told e.told) c.entry.view_is)) are
 
 pub returns-in-Abandon-clause-goes_on : goal.returns-in-Abandon-clause-goes_on
 returns-in-Abandon-clause-goes_on g c s before l honest sessions step =
-    abandoned c.args.courses.now.programs s before l (event_of c.in-Some.event.now) (sid_at real s c.in-Abandon.session) c.args.courses.now c.args.courses.now refl
+    abandoned c.args.traces.now.programs s before l (event_of c.in-Some.event.now) (sid_at real s c.in-Abandon.session) c.args.traces.now c.args.traces.now refl
     (step.call ∙ ap (λ (e : Taken). call_of real s step.world (suc (length before)) e.step) (sym c.entry.view_is) ∙ ap (λ x. call_of real s step.world (suc (length before)) (step_of x)) c.in-Abandon.is)
     (events_told l step.number c.args.entry.now.told (Some (event_of c.in-Some.event.now)) step.told (ap (option_map (λ e. event_of e.now)) (sym c.in-Some.is) ∙ c.event_in.ensures ∙ ap (λ (e : Taken). option_and_then event_told e.told) c.entry.view_is))

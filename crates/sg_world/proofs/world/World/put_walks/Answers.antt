@@ -1,5 +1,5 @@
 use Rattle.std.proofs.Common.{refl}
-use Rattle.sg_traces.specs.Runs.{AreCourses, IsUnbroken}
+use Rattle.sg_traces.specs.Runs.{AreTraces, IsUnbroken}
 use Rattle.sg_report.specs.Report.{met}
 use Rattle.sg_world.specs.Account.{account}
 use Rattle.sg_world.specs.Replay.{run_of}
@@ -13,12 +13,12 @@ put_walks-requires c =
     let compiled = compiled_is c.args.self.now c.self.inside.setting c.self.inside.nodes.entries c.self.inside.history.done c.self.view_is c.self.invariant c.self.inside.history.done.entries refl in
     let schedule = schedule_is c.args.self.now c.self.inside.setting c.self.inside.nodes.entries c.self.inside.history.done c.self.view_is c.self.invariant c.self.inside.history.done.entries refl in
     let unbroken : IsUnbroken c.args.self.now.programs c.args.self.now.schedule = record { compiled = compiled; schedule = schedule; premises = c.requires } in
-    can_walk c.args.self.now compiled schedule c.requires c.in_ok-courses.courses (c.in_ok-courses.ensures.courses unbroken) c.in_ok-courses.ensures.programs
+    can_walk c.args.self.now compiled schedule c.requires c.in_ok-traces.traces (c.in_ok-traces.ensures.traces unbroken) c.in_ok-traces.ensures.programs
 
 pub returns : goal.returns
 returns c = λ e.
     let compiled = compiled_is c.args.self.now c.self.inside.setting c.self.inside.nodes.entries c.self.inside.history.done c.self.view_is c.self.invariant c.self.inside.history.done.entries refl in
     let schedule = schedule_is c.args.self.now c.self.inside.setting c.self.inside.nodes.entries c.self.inside.history.done c.self.view_is c.self.invariant c.self.inside.history.done.entries refl in
     let unbroken : IsUnbroken c.args.self.now.programs c.args.self.now.schedule = record { compiled = compiled; schedule = schedule; premises = c.requires } in
-    let are : AreCourses c.args.self.now.schedule (run_of c.args.self.now).log c.in_ok-courses.courses = c.in_ok-courses.ensures.courses unbroken in
-    on_ok c.put_walks.result (walks_written c.args.self.now compiled schedule c.requires c.in_ok-courses.courses are c.in_ok-courses.ensures.programs c.args.out.now c.put_walks.new.out) (c.put_walks.ensures (met (account c.args.self.now)) e)
+    let are : AreTraces c.args.self.now.schedule (run_of c.args.self.now).log c.in_ok-traces.traces = c.in_ok-traces.ensures.traces unbroken in
+    on_ok c.put_walks.result (walks_written c.args.self.now compiled schedule c.requires c.in_ok-traces.traces are c.in_ok-traces.ensures.programs c.args.out.now c.put_walks.new.out) (c.put_walks.ensures (met (account c.args.self.now)) e)
