@@ -7,7 +7,7 @@ use Rattle.sg_model.specs.Lists.{is_in}
 use Rattle.sg_model.proofs.Small.{same_or_not, drop_from, and_false}
 use Rattle.sg_base.specs.Sets.{with_member}
 use Rattle.sg_base.proofs.SetLaws.{is_in-with_role}
-use Rattle.sg_walk.specs.declared.event.Event.{Event as Told}
+use Rattle.sg_walk.specs.declared.event.Event.{Event as CodeEvent}
 use Rattle.sg_audit.specs.Merged.{Log, roles_of}
 use Rattle.sg_audit.specs.Model.{log_of}
 
@@ -18,7 +18,7 @@ small_in (l ∷ ls) h r i = elim (cases_Bool (l.0 == r)) [
   | inr e ↦ small_in ls h.1 r (rw e at i)
 ]
 
-small_drop : (n : ℕ) (logs : List (ℕ × List Told)) → AllByRecursion (λ (l : Log). l.0 < 16) (map log_of logs) → AllByRecursion (λ (l : Log). l.0 < 16) (map log_of (drop n logs))
+small_drop : (n : ℕ) (logs : List (ℕ × List CodeEvent)) → AllByRecursion (λ (l : Log). l.0 < 16) (map log_of logs) → AllByRecursion (λ (l : Log). l.0 < 16) (map log_of (drop n logs))
 small_drop zero logs h = h
 small_drop (suc n) [] h = tt
 small_drop (suc n) (l ∷ ls) h = small_drop n ls h.1
@@ -33,7 +33,7 @@ with_role x set rs l small same r = is_in-with_role x r set ∙ elim (same_or_no
 ]
 
 -- one more log, from behind
-pub one_more : (logs : List (ℕ × List Told)) (left : ℕ) (set : List ℕ) (log : ℕ × List Told) → AllByRecursion (λ (l : Log). l.0 < 16) (map log_of logs) → left < length logs → log ≡ get_or logs left log
+pub one_more : (logs : List (ℕ × List CodeEvent)) (left : ℕ) (set : List ℕ) (log : ℕ × List CodeEvent) → AllByRecursion (λ (l : Log). l.0 < 16) (map log_of logs) → left < length logs → log ≡ get_or logs left log
     → ((r : ℕ) → is_in r set ≡ is_in r (roles_of (map log_of (drop (left + 1) logs)))) → (r : ℕ) → is_in r (with_member 16 set log.0) ≡ is_in r (roles_of (map log_of (drop left logs)))
 one_more logs left set log small l e same r =
     let cut = drop_from logs left log l e in
@@ -42,6 +42,6 @@ one_more logs left set log small l e same r =
     with_role log.0 set (roles_of (map log_of (drop (suc left) logs))) here.0 (small_in (map log_of (drop (suc left) logs)) here.1) (subst (λ n. (r : ℕ) → is_in r set ≡ is_in r (roles_of (map log_of (drop n logs)))) up same) r
     ∙ ap (λ ls. is_in r (roles_of (map log_of ls))) (sym cut)
 
-pub small_at : (logs : List (ℕ × List Told)) (left : ℕ) (log : ℕ × List Told) → AllByRecursion (λ (l : Log). l.0 < 16) (map log_of logs) → left < length logs → log ≡ get_or logs left log → log.0 < 16
+pub small_at : (logs : List (ℕ × List CodeEvent)) (left : ℕ) (log : ℕ × List CodeEvent) → AllByRecursion (λ (l : Log). l.0 < 16) (map log_of logs) → left < length logs → log ≡ get_or logs left log → log.0 < 16
 small_at logs left log small l e =
     (subst (λ ls. AllByRecursion (λ (l : Log). l.0 < 16) (map log_of ls)) (drop_from logs left log l e) (small_drop left logs small)).0

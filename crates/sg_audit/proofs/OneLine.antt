@@ -14,7 +14,7 @@ use Rattle.sg_protocol.specs.Walk.{StoredStep}
 use Rattle.sg_parse.proofs.Sets.{rising-differ}
 use Rattle.sg_audit.specs.Merged.{Log, roles_of, events_of}
 use Rattle.sg_audit.specs.Said.{Given, StepContent, LogContent, SaidSession, SaidLog, SaidEvent, SaidWalk, differ, falls, rise}
-use Rattle.sg_audit.specs.Sessions.{Session, Told, sessions_of, event, stored_step}
+use Rattle.sg_audit.specs.Sessions.{Session, LogsSoFar, sessions_of, event, stored_step}
 use Rattle.sg_audit.specs.Faults.{last_logs, event_count, is_double, is_strange, where', fault, is_open as is_open_now, all_have_logs as all_have, is_whole as is_over}
 use Rattle.sg_audit.specs.SoFar.{SoFar, all_logs, all_sessions, all_have_logs, is_whole, is_open, add, add_session, add_log, open_log, add_event, count_event, with_event, add_walk, is_unknown}
 use Rattle.sg_audit.specs.declared.fault.Mistake.{Mistake}
@@ -28,7 +28,7 @@ abbrev pub session_by : SoFar → Name → Session
 session_by d n = record { name = n; logs = all_logs d; walk = d.walk }
 
 -- what the lines so far told
-abbrev pub told_by : SoFar → Told
+abbrev pub told_by : SoFar → LogsSoFar
 told_by d = record { over = d.done; last = option_map (session_by d) d.name }
 
 -- what else the reader keeps

@@ -11,7 +11,7 @@ use Rattle.sg_sched.specs.Text.{lines, content, words}
 use Rattle.sg_sched.specs.Format.Spells.{Line}
 use Rattle.sg_audit.specs.Said.{LogContent}
 use Rattle.sg_audit.specs.Reading.{form}
-use Rattle.sg_audit.specs.Sessions.{Logs, Told, sessions_of}
+use Rattle.sg_audit.specs.Sessions.{Logs, LogsSoFar, sessions_of}
 use Rattle.sg_audit.specs.Faults.{fault, is_whole as is_over}
 use Rattle.sg_audit.specs.Spells.{IsBlock, TellAfter, Nothing, SpellsLogs, Fault, WrongLine, NoGraph, IsFirstFault, NoLine, NoBlock, NotClosed, OfGraph, OfNoForm, OfAForm, TooFew, IsFault, told_as}
 use Rattle.sg_audit.specs.SoFar.{nothing, is_whole, all_sessions}
@@ -89,11 +89,11 @@ fault_first bytes f h = subst (Outcome bytes) h (outcome bytes)
 -- ---- what is spelled is read
 
 -- what the reader keeps of lines that tell this
-state_of : (g : Graph) (ls : List Line) (t : Told) (a : TellAfter g ls t) → Reached g a.behind t
+state_of : (g : Graph) (ls : List Line) (t : LogsSoFar) (a : TellAfter g ls t) → Reached g a.behind t
 state_of g ls t a = let s = a.spelled in reached g a.behind t s.is_graph a.tell
 
 -- after lines that tell this, the others are read on
-after_told : (g : Graph) (ls : List Line) (t : Told) (a : TellAfter g ls t) (rest : List Line) → let r = state_of g ls t a in read_lines 1 (ls ++ rest) ≡ read_sessions g (1 + length ls) r.state rest
+after_told : (g : Graph) (ls : List Line) (t : LogsSoFar) (a : TellAfter g ls t) (rest : List Line) → let r = state_of g ls t a in read_lines 1 (ls ++ rest) ≡ read_sessions g (1 + length ls) r.state rest
 after_told g ls t a rest =
     let r = state_of g ls t a in
     let laid : ls ++ rest ≡ a.block ++ (a.behind ++ rest) = ap (λ xs. xs ++ rest) a.all ∙ append_assoc a.block a.behind rest in

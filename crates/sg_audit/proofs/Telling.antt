@@ -8,7 +8,7 @@ use Rattle.sg_sched.specs.Format.Forms.{is_skipped}
 use Rattle.sg_sched.specs.Format.Spells.{Line}
 use Rattle.sg_audit.specs.Said.{LogContent}
 use Rattle.sg_audit.specs.Reading.{form}
-use Rattle.sg_audit.specs.Sessions.{Logs, Told, sessions_of, added}
+use Rattle.sg_audit.specs.Sessions.{Logs, LogsSoFar, sessions_of, added}
 use Rattle.sg_audit.specs.Faults.{fault, is_whole as is_over}
 use Rattle.sg_audit.specs.Spells.{Tell, Nothing, Skip, Say, Fault, WrongLine}
 use Rattle.sg_audit.specs.SoFar.{SoFar, nothing, is_whole, add}
@@ -50,7 +50,7 @@ pub nothing_kept : Kept nothing
 nothing_kept = record { names = refl; count = refl; first = λ q. refl }
 
 -- the reader keeps what the lines tell, and goes on with those behind them
-pub record Reached (g : Graph) (ls : List Line) (t : Told) : Type 0 where
+pub record Reached (g : Graph) (ls : List Line) (t : LogsSoFar) : Type 0 where
   pub state : SoFar
   pub fine : Fine g state
   pub keeps : Kept state
@@ -65,7 +65,7 @@ goes_on g ls l d e h a n rest =
     let number : n + length ls + 1 ≡ n + length (ls ++ l ∷ []) = omega (arith, long) in
     ap (read_sessions g n nothing) (append_assoc ls (l ∷ []) rest) ∙ h n (l ∷ rest) ∙ ap (λ r. go_on (n + length ls) r (λ d'. read_sessions g (n + length ls + 1) d' rest)) a ∙ ap (λ m. read_sessions g m e rest) number
 
-pub reached : (g : Graph) (ls : List Line) (t : Told) → IsGraph g → Tell g ls t → Reached g ls t
+pub reached : (g : Graph) (ls : List Line) (t : LogsSoFar) → IsGraph g → Tell g ls t → Reached g ls t
 reached g _ _ is Nothing = record {
   state = nothing;
   fine = nothing_fine g;
@@ -96,10 +96,10 @@ reached g _ _ is (Say {ls = ls} {t = t} l s tell n says right) =
 
 -- how the lines behind a block end, where the first has this number
 pub data Ends (g : Graph) (n : ℕ) (ls : List Line) : Result Logs Fault → Type 0 where
-  Well : (t : Told) → Tell g ls t → is_over g t ≡ true → Ends g n ls (Ok (record { graph = g; sessions = sessions_of t }))
-  Few : (t : Told) → Tell g ls t → is_over g t ≡ false → Ends g n ls (Err (WrongLine (n + length ls) Form))
-  Formless : (t : Told) (right rest : List Line) (line : Line) → ls ≡ right ++ line ∷ rest → Tell g right t → is_skipped line ≡ false → form g (words (content line)) ≡ None → Ends g n ls (Err (WrongLine (n + length right) Form))
-  Faulty : (t : Told) (right rest : List Line) (line : Line) (said : LogContent) {kind : Mistake} → ls ≡ right ++ line ∷ rest → Tell g right t → is_skipped line ≡ false → form g (words (content line)) ≡ Some said
+  Well : (t : LogsSoFar) → Tell g ls t → is_over g t ≡ true → Ends g n ls (Ok (record { graph = g; sessions = sessions_of t }))
+  Few : (t : LogsSoFar) → Tell g ls t → is_over g t ≡ false → Ends g n ls (Err (WrongLine (n + length ls) Form))
+  Formless : (t : LogsSoFar) (right rest : List Line) (line : Line) → ls ≡ right ++ line ∷ rest → Tell g right t → is_skipped line ≡ false → form g (words (content line)) ≡ None → Ends g n ls (Err (WrongLine (n + length right) Form))
+  Faulty : (t : LogsSoFar) (right rest : List Line) (line : Line) (said : LogContent) {kind : Mistake} → ls ≡ right ++ line ∷ rest → Tell g right t → is_skipped line ≡ false → form g (words (content line)) ≡ Some said
       → fault g t said ≡ Some kind → Ends g n ls (Err (WrongLine (n + length right) kind))
 
 pub ends : (g : Graph) (n : ℕ) (prefix : List Line) (d : SoFar) (ls : List Line) → IsGraph g → Fine g d → Kept d → Tell g prefix (told_by d) → Ends g n (prefix ++ ls) (read_sessions g (n + length prefix) d ls)

@@ -7,30 +7,30 @@ use Rattle.sg_model.specs.Limits.{most_events}
 use Rattle.sg_protocol.specs.Graph.{Graph}
 use Rattle.sg_audit.specs.Merged.{Log, roles_of, events_of}
 use Rattle.sg_audit.specs.Said.{Given, StepContent, LogContent, SaidSession, SaidLog, SaidEvent, SaidWalk, differ, falls}
-use Rattle.sg_audit.specs.Sessions.{Told, sessions_of}
+use Rattle.sg_audit.specs.Sessions.{LogsSoFar, sessions_of}
 use Rattle.sg_audit.specs.declared.fault.Mistake.{Mistake}
 use Rattle.sg_audit.specs.declared.fault.Mistake.TheVariants.{Form, TooManyEvents, Unknown, Twice}
 
 -- ---- what is told
 
 -- the logs of the last session
-abbrev pub last_logs : Told → List Log
+abbrev pub last_logs : LogsSoFar → List Log
 last_logs t = option_map_or (λ s. s.logs) t.last []
 
 -- there is a session, and its walk isn't told
-abbrev pub is_open : Told → Bool
+abbrev pub is_open : LogsSoFar → Bool
 is_open t = option_map_or (λ s. is_none s.walk) t.last false
 
 -- each role of the graph has a log in the last session
-abbrev pub all_have_logs : Graph → Told → Bool
+abbrev pub all_have_logs : Graph → LogsSoFar → Bool
 all_have_logs g t = list_all (λ r. is_in r (roles_of (last_logs t))) (below (length g.roles))
 
 -- the last session may end: its walk is told, or needn't be, since each role has a log
-abbrev pub is_whole : Graph → Told → Bool
+abbrev pub is_whole : Graph → LogsSoFar → Bool
 is_whole g t = not (is_open t) || all_have_logs g t
 
 -- how many events there are in all
-abbrev pub event_count : Told → ℕ
+abbrev pub event_count : LogsSoFar → ℕ
 event_count t = length (flat_map (λ s. events_of s.logs) (sessions_of t))
 
 -- a variable is named twice
@@ -45,14 +45,14 @@ is_strange s = is_none s.label || not s.writes.known
 
 -- out of place: a session before the last one may end; a log or a walk in no session that is open, or a walk where each role has a log; an event in no log.
 -- Or variables, all the graph's and none named twice, that don't rise
-abbrev pub is_wrong : Graph → Told → LogContent → Bool
+abbrev pub is_wrong : Graph → LogsSoFar → LogContent → Bool
 is_wrong g t (SaidSession n) = not (is_whole g t)
 is_wrong g t (SaidLog role) = not (is_open t)
 is_wrong g t (SaidEvent sent label time v) = not (is_open t) || length (last_logs t) == 0 || falls v
 is_wrong g t (SaidWalk steps) = not (is_open t) || all_have_logs g t || list_any (λ s. falls s.writes) steps
 
 -- the event 100,001
-abbrev pub is_too_many : Told → LogContent → Bool
+abbrev pub is_too_many : LogsSoFar → LogContent → Bool
 is_too_many t (SaidEvent sent label time v) = nat_le most_events (event_count t)
 is_too_many t other = false
 
@@ -64,7 +64,7 @@ is_unknown (SaidEvent sent label time v) = is_none label || not v.known
 is_unknown (SaidWalk steps) = list_any is_strange steps
 
 -- a session of this name or a log of this role is there, or a variable is named twice
-abbrev pub is_repeated : Told → LogContent → Bool
+abbrev pub is_repeated : LogsSoFar → LogContent → Bool
 is_repeated t (SaidSession n) = has_text n (map (λ s. s.name) (sessions_of t))
 is_repeated t (SaidLog role) = option_map_or (λ r. is_in r (roles_of (last_logs t))) role false
 is_repeated t (SaidEvent sent label time v) = is_double v
@@ -75,5 +75,5 @@ abbrev pub where' : Bool → Mistake → Option Mistake
 where' b kind = if b then Some kind else None
 
 -- what is wrong with a line, the first in this order
-abbrev pub fault : Graph → Told → LogContent → Option Mistake
+abbrev pub fault : Graph → LogsSoFar → LogContent → Option Mistake
 fault g t l = first_some (where' (is_wrong g t l) Form ∷ where' (is_too_many t l) TooManyEvents ∷ where' (is_unknown l) Unknown ∷ where' (is_repeated t l) Twice ∷ [])

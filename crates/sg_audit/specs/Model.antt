@@ -2,12 +2,12 @@
 use Rattle.std.specs.Prelude.{ℕ, List, map, Option, option_map}
 use Rattle.sg_protocol.specs.Walk.{StoredStep}
 use Rattle.sg_walk.specs.Model.{event_of, steps_of}
-use Rattle.sg_walk.specs.declared.event.Event.{Event as Told}
+use Rattle.sg_walk.specs.declared.event.Event.{Event as CodeEvent}
 use Rattle.sg_audit.specs.Merged.{Log}
 use Rattle.sg_audit.specs.declared.session.SessionLog.{SessionLog}
 
 -- a log that is held
-abbrev pub log_of : ℕ × List Told → Log
+abbrev pub log_of : ℕ × List CodeEvent → Log
 log_of l = (l.0, map event_of l.1)
 
 -- the logs of a session

@@ -22,12 +22,12 @@ pub record Logs : Type 0 where
   pub sessions : List Session
 
 -- what lines tell: the sessions that are over, and the last one, which may go on
-pub record Told : Type 0 where
+pub record LogsSoFar : Type 0 where
   pub over : List Session
   pub last : Option Session
 
 -- all sessions
-abbrev pub sessions_of : Told → List Session
+abbrev pub sessions_of : LogsSoFar → List Session
 sessions_of t = option_map_or (λ s. t.over ++ s ∷ []) t.last t.over
 
 -- ---- what one more line adds
@@ -52,11 +52,11 @@ abbrev pub with_event : (ℕ → Event) → List Log → List Log
 with_event e logs = change_last (λ (l : Log). (l.0, l.1 ++ e l.0 ∷ [])) logs
 
 -- the last session with other logs
-abbrev pub with_logs : (List Log → List Log) → Told → Told
+abbrev pub with_logs : (List Log → List Log) → LogsSoFar → LogsSoFar
 with_logs f t = record { over = t.over; last = option_map (λ s. record { name = s.name; logs = f s.logs; walk = s.walk }) t.last }
 
 -- a session begins; the last one gets a log, the last log an event, the last session its walk
-abbrev pub added : Told → LogContent → Told
+abbrev pub added : LogsSoFar → LogContent → LogsSoFar
 added t (SaidSession n) = record { over = sessions_of t; last = Some (record { name = n; logs = []; walk = None }) }
 added t (SaidLog role) = with_logs (λ logs. logs ++ (unwrap_or role 0, []) ∷ []) t
 added t (SaidEvent sent label time v) = with_logs (with_event (λ r. event sent r (unwrap_or label 0) time v.pairs)) t

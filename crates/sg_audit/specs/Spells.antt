@@ -10,7 +10,7 @@ use Rattle.sg_sched.specs.Format.Forms.{is_skipped}
 use Rattle.sg_sched.specs.Format.Spells.{Line, closes}
 use Rattle.sg_audit.specs.Said.{LogContent}
 use Rattle.sg_audit.specs.Written.{Says}
-use Rattle.sg_audit.specs.Sessions.{Logs, Told, sessions_of, added}
+use Rattle.sg_audit.specs.Sessions.{Logs, LogsSoFar, sessions_of, added}
 use Rattle.sg_audit.specs.Faults.{fault, is_whole}
 use Rattle.sg_audit.specs.declared.fault.Mistake.{Mistake}
 use Rattle.sg_audit.specs.declared.fault.Mistake.TheVariants.{Form, Unknown, Twice, TooManyEvents}
@@ -45,13 +45,13 @@ abbrev pub SaysLine : AGraph → Line → LogContent → Type 0
 SaysLine g line said = Says g (words (content line)) said
 
 -- the lines after the block, from the first one on, tell this, and none of them is wrong
-pub data Tell (g : AGraph) : List Line → Told → Type 0 where
+pub data Tell (g : AGraph) : List Line → LogsSoFar → Type 0 where
   Nothing : Tell g [] (record { over = []; last = None })
-  Skip : {ls : List Line} {t : Told} (line : Line) → Tell g ls t → IsTrue (is_skipped line) → Tell g (ls ++ line ∷ []) t
-  Say : {ls : List Line} {t : Told} (line : Line) (said : LogContent) → Tell g ls t → IsFalse (is_skipped line) → SaysLine g line said → fault g t said ≡ None → Tell g (ls ++ line ∷ []) (added t said)
+  Skip : {ls : List Line} {t : LogsSoFar} (line : Line) → Tell g ls t → IsTrue (is_skipped line) → Tell g (ls ++ line ∷ []) t
+  Say : {ls : List Line} {t : LogsSoFar} (line : Line) (said : LogContent) → Tell g ls t → IsFalse (is_skipped line) → SaysLine g line said → fault g t said ≡ None → Tell g (ls ++ line ∷ []) (added t said)
 
 -- after the block of a graph, these lines tell this
-pub record TellAfter (g : AGraph) (ls : List Line) (t : Told) : Type 0 where
+pub record TellAfter (g : AGraph) (ls : List Line) (t : LogsSoFar) : Type 0 where
   pub block : List Line
   pub text : List ℕ
   pub behind : List Line
@@ -62,7 +62,7 @@ pub record TellAfter (g : AGraph) (ls : List Line) (t : Told) : Type 0 where
 
 -- the bytes are the logs: they tell the sessions, and the last one may end
 pub record SpellsLogs (bytes : List ℕ) (l : Logs) : Type 0 where
-  pub told : Told
+  pub told : LogsSoFar
   pub tell : TellAfter l.graph (lines bytes) told
   pub whole : IsTrue (is_whole l.graph told)
   pub sessions : l.sessions ≡ sessions_of told
@@ -81,11 +81,11 @@ pub data IsFirstFault (ls : List Line) : Fault → Type 0 where
       → (words (content line) ≡ codes "graph" ∷ codes "{" ∷ [] → ⊥) → IsFirstFault ls (WrongLine (length before + 1) Form)
   NotClosed : (inner : List Line) → IsOpened ls inner → IsFirstFault ls (WrongLine (length ls) Form)
   OfGraph : (block rest : List Line) (text : List ℕ) {e : ParseFault} → ls ≡ block ++ rest → IsBlock block text → read text ≡ Err e → IsFirstFault ls (NoGraph e)
-  OfNoForm : (g : AGraph) (t : Told) (right rest : List Line) (line : Line) → ls ≡ right ++ line ∷ rest → TellAfter g right t → IsFalse (is_skipped line)
+  OfNoForm : (g : AGraph) (t : LogsSoFar) (right rest : List Line) (line : Line) → ls ≡ right ++ line ∷ rest → TellAfter g right t → IsFalse (is_skipped line)
       → ((said : LogContent) → SaysLine g line said → ⊥) → IsFirstFault ls (WrongLine (length right + 1) Form)
-  OfAForm : (g : AGraph) (t : Told) (right rest : List Line) (line : Line) (said : LogContent) {kind : Mistake} → ls ≡ right ++ line ∷ rest → TellAfter g right t → IsFalse (is_skipped line)
+  OfAForm : (g : AGraph) (t : LogsSoFar) (right rest : List Line) (line : Line) (said : LogContent) {kind : Mistake} → ls ≡ right ++ line ∷ rest → TellAfter g right t → IsFalse (is_skipped line)
       → SaysLine g line said → fault g t said ≡ Some kind → IsFirstFault ls (WrongLine (length right + 1) kind)
-  TooFew : (g : AGraph) (t : Told) → TellAfter g ls t → IsFalse (is_whole g t) → IsFirstFault ls (WrongLine (length ls + 1) Form)
+  TooFew : (g : AGraph) (t : LogsSoFar) → TellAfter g ls t → IsFalse (is_whole g t) → IsFirstFault ls (WrongLine (length ls + 1) Form)
 
 -- a fault as the program tells it: the event 100,001 without its line
 abbrev pub told_as : Fault → LogFault

@@ -13,22 +13,22 @@ use Rattle.std.specs.Prelude.{OnOk, Result}
 use Rattle.sg_model.specs.Limits.{most_steps}
 use Rattle.sg_protocol.specs.Calls.{Event, Refusal}
 use Rattle.sg_protocol.specs.Graph.{Graph}
-use Rattle.sg_report.specs.Told.{Told, Happened, Sends, Abandoned, NotDelivered}
-use Rattle.sg_drive.specs.Counted.{CanRise, with_event, with_sent, with_session, with_told}
+use Rattle.sg_report.specs.Reported.{Reported, Happened, Sends, Abandoned, NotDelivered}
+use Rattle.sg_drive.specs.Counted.{CanRise, with_event, with_sent, with_session, with_reported}
 use Rattle.sg_drive.specs.Summary.{Counts, completed, count, counts, is_abandoned, is_received, is_refused, is_sent}
 
 -- ---- one count
 
-count_more : (which : Told → Bool) (ts : List Told) (t : Told) → count which (ts ++ t ∷ []) ≡ (if which t then count which ts + 1 else count which ts)
+count_more : (which : Reported → Bool) (ts : List Reported) (t : Reported) → count which (ts ++ t ∷ []) ≡ (if which t then count which ts + 1 else count which ts)
 count_more which ts t =
     let both = length-append (filter which ts) (filter which (t ∷ [])) in
-    ap (λ (z : List Told). length z) (filter-append which ts (t ∷ [])) ∙ both ∙ by (which t)
+    ap (λ (z : List Reported). length z) (filter-append which ts (t ∷ [])) ∙ both ∙ by (which t)
   where
     by : (b : Bool) → length (filter which ts) + length (cond b (t ∷ []) []) ≡ (if b then count which ts + 1 else count which ts)
     by true = refl
     by false = omega arith
 
-pub count_few : (which : Told → Bool) (ts : List Told) → count which ts ≤ length ts
+pub count_few : (which : Reported → Bool) (ts : List Reported) → count which ts ≤ length ts
 count_few which [] = omega arith
 count_few which (t ∷ ts) = by (which t) (count_few which ts)
   where
@@ -45,13 +45,13 @@ firsts_more xs (Some sid) = elim (cases_Bool (has_text sid xs)) [
   | inr e ↦ firsts-new sid xs e ∙ sym (ap (λ b. if b then firsts xs else firsts xs ++ sid ∷ []) (has_text-firsts sid xs ∙ e))
 ]
 
-complete_more : (g : Graph) (ts : List Told) (t : Told) → firsts (filter_map (completed g) (ts ++ t ∷ [])) ≡ option_map_or (λ sid. with_session sid (firsts (filter_map (completed g) ts))) (completed g t) (firsts (filter_map (completed g) ts))
+complete_more : (g : Graph) (ts : List Reported) (t : Reported) → firsts (filter_map (completed g) (ts ++ t ∷ [])) ≡ option_map_or (λ sid. with_session sid (firsts (filter_map (completed g) ts))) (completed g t) (firsts (filter_map (completed g) ts))
 complete_more g ts t = ap firsts (filter_map-append (completed g) ts (t ∷ [])) ∙ firsts_more (filter_map (completed g) ts) (completed g t)
 
 -- ---- all counts
 
 -- with what came of one step more
-pub counts_more : (g : Graph) (ts : List Told) (t : Told) → counts g (ts ++ t ∷ []) ≡ with_told g t (counts g ts)
+pub counts_more : (g : Graph) (ts : List Reported) (t : Reported) → counts g (ts ++ t ∷ []) ≡ with_reported g t (counts g ts)
 counts_more g ts t = λ i. record {
   sent = count_more is_sent ts t i;
   received = count_more is_received ts t i;
@@ -61,7 +61,7 @@ counts_more g ts t = λ i. record {
 }
 
 -- where few are told, each count can rise
-pub can_rise : (g : Graph) (ts : List Told) (c : Counts) → c ≡ counts g ts → length ts < most_steps → CanRise c
+pub can_rise : (g : Graph) (ts : List Reported) (c : Counts) → c ≡ counts g ts → length ts < most_steps → CanRise c
 can_rise g ts c e l = subst CanRise (sym e) (record {
   sent = (let f = count_few is_sent ts in omega (arith, f, l));
   received = (let f = count_few is_received ts in omega (arith, f, l));
@@ -91,32 +91,32 @@ all_taken n xs e = ap (λ k. take k xs) e ∙ whole xs
 -- ---- the loop
 
 -- one step more was counted
-pub counted_more : (g : Graph) (log : List Told) (i : ℕ) (before after : Counts) (o : Option Told) → i < length log → before ≡ counts g (take i log) → o ≡ slice_get log i → ((t : Told) → o ≡ Some t → after ≡ with_told g t before) → after ≡ counts g (take (i + 1) log)
+pub counted_more : (g : Graph) (log : List Reported) (i : ℕ) (before after : Counts) (o : Option Reported) → i < length log → before ≡ counts g (take i log) → o ≡ slice_get log i → ((t : Reported) → o ≡ Some t → after ≡ with_reported g t before) → after ≡ counts g (take (i + 1) log)
 counted_more g log i before after o l e told q =
     let r = got log i l in
     let one : i + 1 ≡ suc i = omega arith in
-    q r.0 (told ∙ r.1) ∙ ap (with_told g r.0) e ∙ sym (counts_more g (take i log) r.0) ∙ ap (counts g) (sym r.2) ∙ ap (λ k. counts g (take k log)) (sym one)
+    q r.0 (told ∙ r.1) ∙ ap (with_reported g r.0) e ∙ sym (counts_more g (take i log) r.0) ∙ ap (counts g) (sym r.2) ∙ ap (λ k. counts g (take k log)) (sym one)
 
 -- ---- one outcome
 
-pub sends_told : {V E : Type 0} (g : Graph) (e : Event) (to : List ℕ) (n : ℕ) (c c2 : Counts) (r : Result V E) (told : Told) → Some (Sends e to n) ≡ Some told → OnOk r (c2 ≡ with_sent g e c) → OnOk r (c2 ≡ with_told g told c)
-sends_told g e to n c c2 r told q h = let same : Sends e to n ≡ told = cc in subst (λ (t : Told). OnOk r (c2 ≡ with_told g t c)) same h
+pub sends_told : {V E : Type 0} (g : Graph) (e : Event) (to : List ℕ) (n : ℕ) (c c2 : Counts) (r : Result V E) (told : Reported) → Some (Sends e to n) ≡ Some told → OnOk r (c2 ≡ with_sent g e c) → OnOk r (c2 ≡ with_reported g told c)
+sends_told g e to n c c2 r told q h = let same : Sends e to n ≡ told = cc in subst (λ (t : Reported). OnOk r (c2 ≡ with_reported g t c)) same h
 
-pub event_told : (g : Graph) (e : Event) (c c2 : Counts) (told : Told) → Some (Happened e) ≡ Some told → c2 ≡ with_event e c → c2 ≡ with_told g told c
-event_told g e c c2 told q h = let same : Happened e ≡ told = cc in subst (λ (t : Told). c2 ≡ with_told g t c) same h
+pub event_reported : (g : Graph) (e : Event) (c c2 : Counts) (told : Reported) → Some (Happened e) ≡ Some told → c2 ≡ with_event e c → c2 ≡ with_reported g told c
+event_reported g e c c2 told q h = let same : Happened e ≡ told = cc in subst (λ (t : Reported). c2 ≡ with_reported g t c) same h
 
-pub refused_told : (g : Graph) (o : Option Refusal) (c c2 : Counts) (told : Told) → option_map NotDelivered o ≡ Some told → c2 ≡ record c { refused = c.refused + 1 } → c2 ≡ with_told g told c
+pub refused_told : (g : Graph) (o : Option Refusal) (c c2 : Counts) (told : Reported) → option_map NotDelivered o ≡ Some told → c2 ≡ record c { refused = c.refused + 1 } → c2 ≡ with_reported g told c
 refused_told g None c c2 told q h = absurd (cc)
-refused_told g (Some why) c c2 told q h = let same : NotDelivered why ≡ told = cc in subst (λ (t : Told). c2 ≡ with_told g t c) same h
+refused_told g (Some why) c c2 told q h = let same : NotDelivered why ≡ told = cc in subst (λ (t : Reported). c2 ≡ with_reported g t c) same h
 
-pub abandoned_told : (g : Graph) (c c2 : Counts) (told : Told) → Some Abandoned ≡ Some told → c2 ≡ record c { abandoned = c.abandoned + 1 } → c2 ≡ with_told g told c
-abandoned_told g c c2 told q h = let same : Abandoned ≡ told = cc in subst (λ (t : Told). c2 ≡ with_told g t c) same h
+pub abandoned_told : (g : Graph) (c c2 : Counts) (told : Reported) → Some Abandoned ≡ Some told → c2 ≡ record c { abandoned = c.abandoned + 1 } → c2 ≡ with_reported g told c
+abandoned_told g c c2 told q h = let same : Abandoned ≡ told = cc in subst (λ (t : Reported). c2 ≡ with_reported g t c) same h
 
 -- what counts for nothing
-pub same_told : (g : Graph) (t : Told) (c : Counts) (told : Told) → Some t ≡ Some told → c ≡ with_told g t c → c ≡ with_told g told c
-same_told g t c told q h = let same : t ≡ told = cc in subst (λ (t : Told). c ≡ with_told g t c) same h
+pub same_told : (g : Graph) (t : Reported) (c : Counts) (told : Reported) → Some t ≡ Some told → c ≡ with_reported g t c → c ≡ with_reported g told c
+same_told g t c told q h = let same : t ≡ told = cc in subst (λ (t : Reported). c ≡ with_reported g t c) same h
 
-pub fault_told : {F : Type 0} (g : Graph) (f : F → Told) (o : Option F) (c : Counts) (told : Told) → ((x : F) → c ≡ with_told g (f x) c) → option_map f o ≡ Some told → c ≡ with_told g told c
+pub fault_told : {F : Type 0} (g : Graph) (f : F → Reported) (o : Option F) (c : Counts) (told : Reported) → ((x : F) → c ≡ with_reported g (f x) c) → option_map f o ≡ Some told → c ≡ with_reported g told c
 fault_told g f None c told h q = absurd (cc)
 fault_told g f (Some x) c told h q = same_told g (f x) c told q (h x)
 

@@ -21,7 +21,7 @@ use Rattle.sg_protocol.specs.Steps.{frame_number}
 use Rattle.sg_protocol.specs.Texts.{real}
 use Rattle.sg_protocol.specs.Verdict.{decided, receipt, rows, verdict_on}
 use Rattle.sg_protocol.specs.World.{past_of}
-use Rattle.sg_report.specs.Told.{told_answer}
+use Rattle.sg_report.specs.Reported.{reported_answer}
 use Rattle.sg_world.specs.Replay.{Replay, next_number, run_of, stepped}
 use Rattle.sg_drive.proofs.DrawnValues.{confounded, drawn_are_values, written_few, written_small}
 use Rattle.sg_drive.proofs.Left.{add, at, budget_of, few_roles, graph_is, spend_step}
@@ -103,7 +103,7 @@ module _ (m : Machine) (begun left : ℕ) (x : Going) (ways : List OnItsWay) (h 
       (own_next m.graph few x.replay h.run role has_role step act good is) (ways_next m.graph few x.replay h.run role has_role step act good is is_graph ways h.each)
 
   -- what came of it
-  sent : (a : Answer) → answer real (node_of past) act ≡ a → HasBudget left begun (at m (with_frame session label (number_sent (Some (told_answer (frame_number (run_of x.replay).log) a))) acted))
+  sent : (a : Answer) → answer real (node_of past) act ≡ a → HasBudget left begun (at m (with_frame session label (number_sent (Some (reported_answer (frame_number (run_of x.replay).log) a))) acted))
   sent (Sends e to f) q =
       let s : IsOwnSent real real_hash m.graph few role (omega (arith, has_role, few)) (node_of past) (h.run.nodes role has_role).2 sid label f = own_sent real real_hash m.graph few role (omega (arith, has_role, few)) (node_of past) (h.run.nodes role has_role).2 sid label values confounders good e to f q in
       let o : OnItsWay = record { pending = record { frame = frame_number (run_of x.replay).log; session = session; label = label; count = 0 }; time = last_time f.items; taken = false } in

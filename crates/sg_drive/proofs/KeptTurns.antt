@@ -19,7 +19,7 @@ use Rattle.sg_protocol.specs.Session.{Session, last_time}
 use Rattle.sg_protocol.specs.Steps.{frame_number}
 use Rattle.sg_protocol.specs.Texts.{real}
 use Rattle.sg_protocol.specs.Verdict.{receipt}
-use Rattle.sg_report.specs.Told.{told_answer}
+use Rattle.sg_report.specs.Reported.{reported_answer}
 use Rattle.sg_world.specs.Replay.{next_number, run_of, stepped}
 use Rattle.sg_drive.proofs.DrawnValues.{chosen_there}
 use Rattle.sg_drive.proofs.Kept.{WereTold, accepted_is, along_keeps, get_some}
@@ -145,10 +145,10 @@ module _ (m : Machine) (begun left : ℕ) (x : Going) (ways : List OnItsWay) (h 
       let more = anew.2 in
       on_keeps m begun left given anew.0 anew.1 o.pending.session node (last_time on.frame.items) there.session (subst (λ z. sum_by steps_of anew.0 + steps_after z ≤ left) (sym same) more) (were_told spent)
 
-  came : (a : Answer) → answer real (node_of past) (Deliver on.bytes) ≡ a → HasBudget left begun (at m (goes_on m.seed m.graph o.pending (accepted_time (Some (told_answer (frame_number (run_of x.replay).log) a))) given))
+  came : (a : Answer) → answer real (node_of past) (Deliver on.bytes) ≡ a → HasBudget left begun (at m (goes_on m.seed m.graph o.pending (accepted_time (Some (reported_answer (frame_number (run_of x.replay).log) a))) given))
   came (Happened e) q =
       let which : receipt on.frame ≡ e = accepted_is (node_of past) on.bytes on.frame e on.reads q in
-      subst (λ (z : Event). HasBudget left begun (at m (goes_on m.seed m.graph o.pending (accepted_time (Some (told_answer (frame_number (run_of x.replay).log) (Happened z)))) given))) which
+      subst (λ (z : Event). HasBudget left begun (at m (goes_on m.seed m.graph o.pending (accepted_time (Some (reported_answer (frame_number (run_of x.replay).log) (Happened z)))) given))) which
       (accepted (q ∙ ap (λ (z : Event). Happened z) (sym which)) o.taken refl)
   came other q = budget_of left left begun (at m given) ways (omega arith) after
 

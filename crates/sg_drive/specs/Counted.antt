@@ -5,7 +5,7 @@ use Rattle.sg_model.specs.Limits.{most_steps}
 use Rattle.sg_model.specs.Lists.{has_text}
 use Rattle.sg_protocol.specs.Calls.{Event}
 use Rattle.sg_protocol.specs.Graph.{Graph}
-use Rattle.sg_report.specs.Told.{Told}
+use Rattle.sg_report.specs.Reported.{Reported}
 use Rattle.sg_drive.specs.Summary.{Counts, completed, completed_by, is_abandoned, is_receipt, is_received, is_refused, is_sent}
 
 -- one more session, unless it is there
@@ -13,8 +13,8 @@ abbrev pub with_session : List ℕ → List (List ℕ) → List (List ℕ)
 with_session sid sids = if has_text sid sids then sids else sids ++ sid ∷ []
 
 -- the counts with what came of one more step
-abbrev pub with_told : Graph → Told → Counts → Counts
-with_told g t c = record {
+abbrev pub with_reported : Graph → Reported → Counts → Counts
+with_reported g t c = record {
   sent = if is_sent t then c.sent + 1 else c.sent;
   received = if is_received t then c.received + 1 else c.received;
   refused = if is_refused t then c.refused + 1 else c.refused;

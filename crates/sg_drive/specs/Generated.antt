@@ -9,7 +9,7 @@ use Rattle.sg_protocol.specs.Calls.{Received}
 use Rattle.sg_protocol.specs.Graph.{Graph, VariableKind, Int, Text, shape, writes, kind_of}
 use Rattle.sg_protocol.specs.Keyring.{Program}
 use Rattle.sg_protocol.specs.Schedule.{StartStep, ActStep, AbandonStep, DeliverStep, Whole}
-use Rattle.sg_report.specs.Told.{Told, Happened, Sends}
+use Rattle.sg_report.specs.Reported.{Reported, Happened, Sends}
 use Rattle.sg_drive.specs.Draws.{draw}
 use Rattle.sg_drive.specs.Going.{Pending, Going, beginning, taking, drawing, adding, without, came_last}
 use Rattle.sg_drive.specs.Setup.{player}
@@ -35,7 +35,7 @@ values_drawn seed i g [] = []
 values_drawn seed i g (x ∷ xs) = (x, value_drawn (kind_of g x) (draw seed i)) ∷ values_drawn seed (i + 1) g xs
 
 -- the number of the frame that was sent, where one was
-abbrev pub number_sent : Option Told → Option ℕ
+abbrev pub number_sent : Option Reported → Option ℕ
 number_sent (Some (Sends e to n)) = Some n
 number_sent other = None
 
@@ -70,7 +70,7 @@ goes_on_by seed g session node time [] x = x
 goes_on_by seed g session node time (e ∷ es) x = if nat_lt time 16 then play seed g session node x else taking (AbandonStep (player_at g node) session) x
 
 -- the time of the frame that was accepted, where a delivery was
-abbrev pub accepted_time : Option Told → Option ℕ
+abbrev pub accepted_time : Option Reported → Option ℕ
 accepted_time (Some (Happened (Received sid r label time values joins))) = Some time
 accepted_time other = None
 

@@ -4,7 +4,7 @@ use Rattle.sg_model.specs.Last.{last}
 use Rattle.sg_protocol.specs.Graph.{Graph}
 use Rattle.sg_protocol.specs.Keyring.{Program}
 use Rattle.sg_protocol.specs.Schedule.{Step}
-use Rattle.sg_report.specs.Told.{Told, told_log}
+use Rattle.sg_report.specs.Reported.{Reported, reported_log}
 use Rattle.sg_world.specs.Replay.{Replay, run_of, with_taken}
 use Rattle.sg_drive.specs.Setup.{setup}
 
@@ -43,5 +43,5 @@ abbrev pub without : (index : ℕ) → Going → Going
 without index x = record x { pending = remove x.pending index }
 
 -- what came of the last step, by the run of all
-abbrev pub came_last : Going → Option Told
-came_last x = last (told_log (run_of x.replay).log)
+abbrev pub came_last : Going → Option Reported
+came_last x = last (reported_log (run_of x.replay).log)

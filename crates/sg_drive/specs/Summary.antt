@@ -7,7 +7,7 @@ use Rattle.sg_model.specs.Shape.{target}
 use Rattle.sg_protocol.specs.Calls.{Event, Sent, Received}
 use Rattle.sg_protocol.specs.Graph.{Graph, shape}
 use Rattle.sg_report.specs.Report.{Account, premise_lines, premises_hold}
-use Rattle.sg_report.specs.Told.{Told, Happened, Sends, Abandoned, NotDelivered, told_log}
+use Rattle.sg_report.specs.Reported.{Reported, Happened, Sends, Abandoned, NotDelivered, reported_log}
 use Rattle.sg_world.specs.Account.{account}
 use Rattle.sg_world.specs.Replay.{Replay, run_of}
 use Rattle.sg_world.specs.Walked.{WalksAreMade}
@@ -15,7 +15,7 @@ use Rattle.sg_world.specs.Walked.{WalksAreMade}
 -- ---- what came of a step
 
 -- a frame was sent
-abbrev pub is_sent : Told → Bool
+abbrev pub is_sent : Reported → Bool
 is_sent (Sends e to frame) = true
 is_sent other = false
 
@@ -25,17 +25,17 @@ is_receipt (Received sid r label time values joins) = true
 is_receipt other = false
 
 -- a delivery was accepted
-abbrev pub is_received : Told → Bool
+abbrev pub is_received : Reported → Bool
 is_received (Happened e) = is_receipt e
 is_received other = false
 
 -- a delivery was refused
-abbrev pub is_refused : Told → Bool
+abbrev pub is_refused : Reported → Bool
 is_refused (NotDelivered why) = true
 is_refused other = false
 
 -- a session was abandoned
-abbrev pub is_abandoned : Told → Bool
+abbrev pub is_abandoned : Reported → Bool
 is_abandoned Abandoned = true
 is_abandoned other = false
 
@@ -45,14 +45,14 @@ completed_by g (Sent sid r label time values) = if length (leaving_from g (targe
 completed_by g other = None
 
 -- the session of a frame that was sent so
-abbrev pub completed : Graph → Told → Option (List ℕ)
+abbrev pub completed : Graph → Reported → Option (List ℕ)
 completed g (Sends e to frame) = completed_by g e
 completed g other = None
 
 -- ---- the counts
 
 -- how many there are of these
-abbrev pub count : (Told → Bool) → List Told → ℕ
+abbrev pub count : (Reported → Bool) → List Reported → ℕ
 count which told = length (filter which told)
 
 -- how many frames were sent, deliveries accepted and refused and sessions abandoned, and the sessions that were completed, in the order of their last frames
@@ -64,7 +64,7 @@ pub record Counts : Type 0 where
   pub complete : List (List ℕ)
 
 -- the counts of what is told
-abbrev pub counts : Graph → List Told → Counts
+abbrev pub counts : Graph → List Reported → Counts
 counts g told = record {
   sent = count is_sent told;
   received = count is_received told;
@@ -75,7 +75,7 @@ counts g told = record {
 
 -- the counts of a replay's run
 abbrev pub counts_of : Graph → Replay → Counts
-counts_of g r = counts g (told_log (run_of r).log)
+counts_of g r = counts g (reported_log (run_of r).log)
 
 -- ---- the text
 

@@ -4,9 +4,9 @@ ghost use Rattle.sg_graph.specs.Edges.{leaving_from};
 ghost use Rattle.sg_model.specs.Shape.{target};
 ghost use Rattle.sg_protocol.specs.Graph.{Graph, shape};
 ghost use Rattle.sg_report.specs.Outcome.{outcome_of};
-ghost use Rattle.sg_report.specs.Told.{Told};
+ghost use Rattle.sg_report.specs.Reported.{Reported};
 ghost use Rattle.sg_walk.specs.Model.{event_of};
-ghost use Rattle.sg_drive.specs.Counted.{CanRise, with_event, with_sent, with_told};
+ghost use Rattle.sg_drive.specs.Counted.{CanRise, with_event, with_sent, with_reported};
 ghost use Rattle.sg_drive.specs.Summary.{completed_by, counts, counts_of};
 
 use crate::sids::Sids;
@@ -65,7 +65,7 @@ impl Tally {
     // Counts what came of a step, of which something is told.
     fn add(&mut self, graph: &Graph, outcome: &Outcome) -> Result<(), OutOfMemory>
         requires few { CanRise self.old }
-        ensures { (told : Told) → outcome_of outcome.now ≡ Some told → OnOk result (self.new ≡ with_told graph.now told self.old) }
+        ensures { (told : Reported) → outcome_of outcome.now ≡ Some told → OnOk result (self.new ≡ with_reported graph.now told self.old) }
     {
         match outcome {
             Outcome::Sent { event, .. } => self.add_sent(graph, event),

@@ -10,7 +10,7 @@ use Rattle.sg_protocol.specs.Graph.{Graph}
 use Rattle.sg_protocol.specs.Keyring.{Keyring, Program}
 use Rattle.sg_protocol.specs.Past.{Past, node_of, past_after}
 use Rattle.sg_protocol.specs.Texts.{real}
-use Rattle.sg_report.specs.Told.{Told, told_answer, sid_left}
+use Rattle.sg_report.specs.Reported.{Reported, reported_answer, sid_left}
 use Rattle.sg_script.specs.Script.{Choice, Script}
 use Rattle.sg_play.specs.declared.fault.PlayFault.{PlayFault}
 use Rattle.sg_play.specs.declared.fault.PlayFault.TheVariants.{LinkFailed, WriteFailed, OutOfMemory}
@@ -25,7 +25,7 @@ use Rattle.sg_play.proofs.Telling.{asked_quiet}
 use Rattle.sg_keep.specs.declared.fault.KeepFault.{KeepFault}
 use Rattle.sg_keep.specs.declared.fault.KeepFault.TheVariants.{Played, DiskFailed}
 use Rattle.sg_keep.specs.declared.keeper.Keeper.{Keeper}
-use Rattle.sg_keep.specs.Joins.{IsNew, join_in, join_told, joins_made, with_join}
+use Rattle.sg_keep.specs.Joins.{IsNew, join_in, join_reported, joins_made, with_join}
 use Rattle.sg_keep.specs.Kept.{AllRepresent, AreOfJoins, Kept}
 use Rattle.sg_keep.specs.Representation.{CameTo, HasAskedNode, HoldsJoins, IsAsked, RepresentsKept}
 use Rattle.sg_keep.proofs.Ending.{IsBetween, end_on, not_kept, played_end, stopped}
@@ -39,7 +39,7 @@ working joins = record { joins = joins; failed = false }
 
 -- ---- the node was asked
 
-pub asked_node : (k : Keeper) (pl : Player) (may_leave : List ℕ → Type 0) (c : Call) (told : Option Told) (graph : Option Graph) (h : HoldsJoins k may_leave) → Comes 0 k.player.node pl.node h.past c told graph None → HasAskedNode (record k { player = pl }) may_leave told
+pub asked_node : (k : Keeper) (pl : Player) (may_leave : List ℕ → Type 0) (c : Call) (told : Option Reported) (graph : Option Graph) (h : HoldsJoins k may_leave) → Comes 0 k.player.node pl.node h.past c told graph None → HasAskedNode (record k { player = pl }) may_leave told
 asked_node k pl may_leave c told graph h came = record {
   past = h.past;
   call = c;
@@ -52,7 +52,7 @@ asked_node k pl may_leave c told graph h came = record {
   images = subst (AllRepresent may_leave) h.represents.joins h.images;
 }
 
-pub is_asked : (k : Keeper) (pl : Player) (may_leave : List ℕ → Type 0) (p : Play) (c : Call) (told : Option Told) (graph : Option Graph) → HoldsJoins k may_leave → RepresentsKept k p → pl ≡ record k.player { node = pl.node }
+pub is_asked : (k : Keeper) (pl : Player) (may_leave : List ℕ → Type 0) (p : Play) (c : Call) (told : Option Reported) (graph : Option Graph) → HoldsJoins k may_leave → RepresentsKept k p → pl ≡ record k.player { node = pl.node }
     → ((number : ℕ) → Comes number k.player.node pl.node p.past c told graph None) → None ≡ sid_left c → IsAsked (record k { player = pl }) p c told graph
 is_asked k pl may_leave p c told graph h s is comes stays = record {
   asked = subst (λ (x : Player). HasAsked x p c told graph []) (sym is) (asked_quiet k.player pl.node p c told graph s.player comes);
@@ -65,7 +65,7 @@ is_asked k pl may_leave p c told graph h s is comes stays = record {
 
 -- ---- the join of what came of it
 
-told_join : (n : ℕ) (a : Answer) → join_told (told_answer n a) ≡ join_in a
+told_join : (n : ℕ) (a : Answer) → join_reported (reported_answer n a) ≡ join_in a
 told_join n (Protocol.Happened e) = refl
 told_join n (Protocol.Sends e to f) = refl
 told_join n Protocol.Abandoned = refl
@@ -74,19 +74,19 @@ told_join n (Protocol.NotActed x) = refl
 told_join n Protocol.NotAbandoned = refl
 told_join n (Protocol.NotDelivered x) = refl
 
-module _ (k : Keeper) (may_leave : List ℕ → Type 0) (told : Option Told) (h : HasAskedNode k may_leave told) where
+module _ (k : Keeper) (may_leave : List ℕ → Type 0) (told : Option Reported) (h : HasAskedNode k may_leave told) where
   -- the node's answer
   abbrev given : Answer
   given = answer real (node_of h.past) h.call
 
-  pub join_is : (r : Option Join) → r ≡ option_and_then join_told told → r ≡ join_in given
-  join_is r e = e ∙ ap (option_and_then join_told) h.is_told ∙ told_join h.number given
+  pub join_is : (r : Option Join) → r ≡ option_and_then join_reported told → r ≡ join_in given
+  join_is r e = e ∙ ap (option_and_then join_reported) h.is_told ∙ told_join h.number given
 
   -- a pair that joins is new to the ledger
-  pub is_new : IfSome (option_and_then join_told told) (IsNew k.ledger.joins)
-  is_new = by (option_and_then join_told told) refl
+  pub is_new : IfSome (option_and_then join_reported told) (IsNew k.ledger.joins)
+  is_new = by (option_and_then join_reported told) refl
     where
-      by : (o : Option Join) → o ≡ option_and_then join_told told → IfSome o (IsNew k.ledger.joins)
+      by : (o : Option Join) → o ≡ option_and_then join_reported told → IfSome o (IsNew k.ledger.joins)
       by None e = tt
       by (Some j) e = subst (λ (l : OpenLedger). IsNew l.joins j) (sym h.ledger) ((any_call real (node_of h.past) h.call h.range).1 j (sym (join_is (Some j) e)))
 
@@ -97,13 +97,13 @@ module _ (k : Keeper) (may_leave : List ℕ → Type 0) (told : Option Told) (h 
   represent_now = subst (λ (o : OpenLedger). AllRepresent may_leave o.joins) (sym h.ledger) h.images
 
   -- the node's joins are the ledger's with it
-  pub node_joins : (r : Option Join) → r ≡ option_and_then join_told told → k.player.node.joins ≡ with_join k.ledger.joins r
+  pub node_joins : (r : Option Join) → r ≡ option_and_then join_reported told → k.player.node.joins ≡ with_join k.ledger.joins r
   node_joins r e =
       h.represents.joins ∙ joins_with h.past h.call h.range
       ∙ (λ i. with_join (sym (ap (λ (o : OpenLedger). o.joins) h.ledger) i) (sym (join_is r e) i))
 
   -- the ledger has it
-  pub holds_after : (l : OpenLedger) (now_leaves : List ℕ → Type 0) (r : Option Join) → r ≡ option_and_then join_told told → l ≡ working (with_join k.ledger.joins r) → AllRepresent now_leaves l.joins → HoldsJoins (record k { ledger = l }) now_leaves
+  pub holds_after : (l : OpenLedger) (now_leaves : List ℕ → Type 0) (r : Option Join) → r ≡ option_and_then join_reported told → l ≡ working (with_join k.ledger.joins r) → AllRepresent now_leaves l.joins → HoldsJoins (record k { ledger = l }) now_leaves
   holds_after l now_leaves r e is all = record {
     past = past_after real h.past h.call;
     represents = h.represents;
@@ -114,7 +114,7 @@ module _ (k : Keeper) (may_leave : List ℕ → Type 0) (told : Option Told) (h 
 
 -- ---- the call is told
 
-module _ (start now : Outside) (may_leave : List ℕ → Type 0) (k : Keeper) (p : Play) (c : Call) (told : Option Told) (graph : Option Graph) (a : IsAsked k p c told graph) where
+module _ (start now : Outside) (may_leave : List ℕ → Type 0) (k : Keeper) (p : Play) (c : Call) (told : Option Reported) (graph : Option Graph) (a : IsAsked k p c told graph) where
   -- the joins of the node with the call
   node_has : k.player.node.joins ≡ (called p c).past.first ++ joins_made (called p c).past.calls
   node_has = a.asked.node.joins ∙ joins_of_node (past_after real p.past c) a.asked.told_past

@@ -4,8 +4,8 @@ use Rattle.std.specs.Option.{option_map_or}
 use Rattle.sg_ledger.specs.Format.{Join}
 use Rattle.sg_protocol.specs.Calls.{Event, Answer, Happened, sid_of, role_of, does_join}
 use Rattle.sg_protocol.specs.Past.{AnsweredCall}
-use Rattle.sg_report.specs.Told as Report
-use Rattle.sg_report.specs.Told.{Told}
+use Rattle.sg_report.specs.Reported as Report
+use Rattle.sg_report.specs.Reported.{Reported}
 
 -- the pair that an event joins, if it joins one
 abbrev pub join_of : Event → Option Join
@@ -17,9 +17,9 @@ join_in (Happened e) = join_of e
 join_in other = None
 
 -- so by what is told of it
-abbrev pub join_told : Told → Option Join
-join_told (Report.Happened e) = join_of e
-join_told other = None
+abbrev pub join_reported : Reported → Option Join
+join_reported (Report.Happened e) = join_of e
+join_reported other = None
 
 -- joins, with one more if there is one
 abbrev pub with_join : List Join → Option Join → List Join

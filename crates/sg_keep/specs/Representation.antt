@@ -12,7 +12,7 @@ use Rattle.sg_protocol.specs.NodeStates.{RepresentsPast}
 use Rattle.sg_protocol.specs.Past.{Past, node_of, past_after}
 use Rattle.sg_protocol.specs.Ranges.{IsCallInRange}
 use Rattle.sg_protocol.specs.Texts.{real}
-use Rattle.sg_report.specs.Told.{Told, told_answer, sid_left}
+use Rattle.sg_report.specs.Reported.{Reported, reported_answer, sid_left}
 use Rattle.sg_keep.specs.Joins.{joins_made}
 use Rattle.sg_keep.specs.Kept.{AllRepresent, AreOfJoins, Kept}
 use Rattle.sg_keep.specs.declared.fault.KeepFault.{KeepFault}
@@ -27,14 +27,14 @@ pub record HoldsJoins (k : Keeper) (may_leave : List ℕ → Type 0) : Type 0 wh
   pub images : AllRepresent may_leave k.player.node.joins
 
 -- the node has been asked one more call, and this came of it; the ledger has the joins from before
-pub record HasAskedNode (k : Keeper) (may_leave : List ℕ → Type 0) (told : Option Told) : Type 0 where
+pub record HasAskedNode (k : Keeper) (may_leave : List ℕ → Type 0) (told : Option Reported) : Type 0 where
   pub past : Past
   pub call : Call
   pub number : ℕ
   pub range : IsCallInRange call
   pub told_before : IsTold past
   pub represents : RepresentsPast k.player.node (past_after real past call)
-  pub is_told : told ≡ Some (told_answer number (answer real (node_of past) call))
+  pub is_told : told ≡ Some (reported_answer number (answer real (node_of past) call))
   pub ledger : k.ledger ≡ record { joins = (node_of past).joins; failed = false }
   pub images : AllRepresent may_leave (node_of past).joins
 
@@ -45,7 +45,7 @@ pub record RepresentsKept (k : Keeper) (p : Play) : Type 0 where
   pub sent : AreOfJoins (joins_made p.past.calls) (frames_of p.steps)
 
 -- the player has asked a call that leaves no session, and this came of it, which is not told yet
-pub record IsAsked (k : Keeper) (p : Play) (c : Call) (told : Option Told) (graph : Option Graph) : Type 0 where
+pub record IsAsked (k : Keeper) (p : Play) (c : Call) (told : Option Reported) (graph : Option Graph) : Type 0 where
   pub asked : HasAsked k.player p c told graph []
   pub stays : None ≡ sid_left c
   pub told_before : IsTold p.past

@@ -2,7 +2,7 @@
 ghost use Rattle.std.specs.Prelude.{◌≡◌, option_and_then};
 ghost use Rattle.sg_report.specs.Outcome.{outcome_of};
 ghost use Rattle.sg_walk.specs.Model.{event_of};
-ghost use Rattle.sg_keep.specs.Joins.{join_of, join_told};
+ghost use Rattle.sg_keep.specs.Joins.{join_of, join_reported};
 
 use sg_base::{Role, Sid};
 use sg_report::Outcome;
@@ -10,7 +10,7 @@ use sg_walk::Event;
 
 /// The pair that was joined, if one was.
 pub(crate) fn join_in(outcome: &Outcome) -> Option<(Sid, Role)>
-    ensures { result ≡ option_and_then join_told (outcome_of outcome.now) }
+    ensures { result ≡ option_and_then join_reported (outcome_of outcome.now) }
 {
     match outcome {
         Outcome::Started(event) => join_of(event),

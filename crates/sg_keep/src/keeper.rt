@@ -7,7 +7,7 @@ ghost use Rattle.sg_play.specs.Ends.{Outside, Whole};
 ghost use Rattle.sg_play.specs.Played.{Play, with_turn};
 ghost use Rattle.sg_protocol.specs.Calls.{Call};
 ghost use Rattle.sg_report.specs.Outcome.{outcome_of};
-ghost use Rattle.sg_keep.specs.Joins.{IsNew, join_told, with_join};
+ghost use Rattle.sg_keep.specs.Joins.{IsNew, join_reported, with_join};
 ghost use Rattle.sg_keep.specs.Kept.{AllRepresent};
 
 use crate::KeepFault;
@@ -16,7 +16,7 @@ use sg_base::{Fresh, Link, Sink};
 use sg_graph::Graph;
 use sg_ledger::{AddJoinFault, Disk, Ledger};
 use sg_play::{PlayFault, Player};
-use sg_report::{Outcome, sid_told};
+use sg_report::{Outcome, sid_reported};
 
 /// One principal who plays a script, and the ledger of its joins.
 #[derive(Drop)]
@@ -59,7 +59,7 @@ impl<'p> Keeper<'p> {
             Ok(()) => {}
             Err(fault) => return Err(KeepFault::Played(fault)),
         }
-        match self.player.play_if(sid_told(outcome), link, fresh, out) {
+        match self.player.play_if(sid_reported(outcome), link, fresh, out) {
             Ok(()) => Ok(()),
             Err(fault) => Err(KeepFault::Played(fault)),
         }
@@ -91,15 +91,15 @@ pub fn add_join<D: Disk>(
 ) -> Result<(), KeepFault>
     requires working { ledger.old.failed ≡ false }
     requires images { AllRepresent (D.may_leave disk.old) ledger.old.joins }
-    requires new { IfSome (option_and_then join_told (outcome_of outcome.now)) (IsNew ledger.old.joins) }
+    requires new { IfSome (option_and_then join_reported (outcome_of outcome.now)) (IsNew ledger.old.joins) }
     ensures disk_bound { D.bound disk.new ≡ D.bound disk.old }
     ensures falls { D.faults disk.old ≤ D.faults disk.new }
     ensures failed { result ≡ Err KeepFault.DiskFailed → HasRisen (D.faults disk.old) (D.faults disk.new) }
     ensures causes { IfErr result (λ e. (e ≡ KeepFault.DiskFailed) ⊎ (e ≡ KeepFault.Played PlayFault.OutOfMemory)) }
-    ensures added { OnOk result (ledger.new ≡ record { joins = with_join ledger.old.joins (option_and_then join_told (outcome_of outcome.now)); failed = false }) }
+    ensures added { OnOk result (ledger.new ≡ record { joins = with_join ledger.old.joins (option_and_then join_reported (outcome_of outcome.now)); failed = false }) }
     ensures images { OnOk result (AllRepresent (D.may_leave disk.new) ledger.new.joins) }
     ensures between { OnErr result ((image : List ℕ) → D.may_leave disk.new image
-        → Represents image ledger.old.joins ⊎ Represents image (with_join ledger.old.joins (option_and_then join_told (outcome_of outcome.now)))) }
+        → Represents image ledger.old.joins ⊎ Represents image (with_join ledger.old.joins (option_and_then join_reported (outcome_of outcome.now)))) }
 {
     let Some(join) = join_in(outcome) else {
         return Ok(());

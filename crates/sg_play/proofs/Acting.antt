@@ -13,7 +13,7 @@ use Rattle.sg_protocol.specs.Graph.{Graph}
 use Rattle.sg_protocol.specs.NodeStates.{NodeState}
 use Rattle.sg_protocol.specs.Past.{node_of}
 use Rattle.sg_protocol.specs.Turn.{turn_of}
-use Rattle.sg_report.specs.Told.{Told}
+use Rattle.sg_report.specs.Reported.{Reported}
 use Rattle.sg_script.specs.Script.{Choice}
 use Rattle.sg_walk.specs.Model.{values_of}
 use Rattle.sg_play.specs.declared.fault.PlayFault.{PlayFault}
@@ -47,7 +47,7 @@ pub act_is : (sid : List ℕ) (c : Choice) (label : ℕ) (values : Map Value) (c
 act_is sid c label values count drawn words l v n w = let d = w ∙ ap (λ k. next_words k words) n in λ i. Act sid (l i) (v i) (d i)
 
 -- the player has acted
-pub has_acted : (old : Player) (n : NodeState) (table : List (Spot × List Choice)) (counted : ℕ) (p : Play) (sid : List ℕ) (graph : Name) (node : ℕ) (c : Choice) (call : Call) (told : Option Told) (by : Option Graph) (frame : Option (Addr × (Name × List ℕ)))
+pub has_acted : (old : Player) (n : NodeState) (table : List (Spot × List Choice)) (counted : ℕ) (p : Play) (sid : List ℕ) (graph : Name) (node : ℕ) (c : Choice) (call : Call) (told : Option Reported) (by : Option Graph) (frame : Option (Addr × (Name × List ℕ)))
     (left : Option (List (List ℕ))) → RepresentsPlay old p → find (is_ready graph node) p.choices ≡ Some c → call ≡ act_by sid c p.words → ComesMade old.keys.now old.frames counted old.node n p.past call told by frame
     → HoldsChoices table (used graph node p.choices) → left ≡ Some (drop (length c.values) p.words) → HasActed (record old { node = n; choices = table; frames = counted }) left sid graph node p told by (frames_made frame)
 has_acted old n table counted p sid graph node c call told by frame left s first is_call comes holds words =
@@ -83,7 +83,7 @@ module _ (start now : Outside) (pl : Player) (words : Option (List (List ℕ))) 
   act_none old before x p e same kept s w h = act_same (p, false) x (Ok false) e (((subst (λ (z : Player). RepresentsPlay z p) (sym same) s, h), kept ∙ w), refl)
 
 -- by the first choice
-module _ (start now : Outside) (old pl : Player) (words : Option (List (List ℕ))) (sid : List ℕ) (graph : Name) (node : ℕ) (p : Play) (told : Option Told) (by : Option Graph) (made : List (Addr × List ℕ)) (h : HasActed old words sid graph node p told by made) where
+module _ (start now : Outside) (old pl : Player) (words : Option (List (List ℕ))) (sid : List ℕ) (graph : Name) (node : ℕ) (p : Play) (told : Option Reported) (by : Option Graph) (made : List (Addr × List ℕ)) (h : HasActed old words sid graph node p told by made) where
   pub act_given : (sent : Bool) → Came start now pl (called (chosen graph node h.choice p) (act_by sid h.choice p.words)) (Ok tt) → sent ≡ is_sent (answer_in p (act_by sid h.choice p.words)) → CameActing start now pl words (acted_in sid graph node p) (Ok sent)
   act_given sent came is = act_same start now pl words (acted_by sid graph node p h.choice) (acted_in sid graph node p) (Ok sent) (acted_first sid node p graph h.choice h.is_first) ((came, h.words_left), is)
 

@@ -9,15 +9,15 @@ use Rattle.sg_walk.specs.declared.event.Event.{Event}
 use Rattle.sg_report.specs.declared.outcome.Outcome.{Outcome}
 use Rattle.sg_report.specs.declared.outcome.Outcome.TheVariants as held
 use Rattle.sg_report.specs.Outcome.{outcome_of}
-use Rattle.sg_report.specs.Told.{Told, Sends, NotStarted, NotActed, NotDelivered, told_answer}
+use Rattle.sg_report.specs.Reported.{Reported, Sends, NotStarted, NotActed, NotDelivered, reported_answer}
 use Rattle.sg_play.specs.Turns.{is_sent}
 
 -- a frame was sent
-abbrev tells_sent : Told → Bool
+abbrev tells_sent : Reported → Bool
 tells_sent (Sends e to n) = true
 tells_sent other = false
 
-answer_sent : (k : ℕ) (a : Answer) → tells_sent (told_answer k a) ≡ is_sent a
+answer_sent : (k : ℕ) (a : Answer) → tells_sent (reported_answer k a) ≡ is_sent a
 answer_sent k (Protocol.Happened e) = refl
 answer_sent k (Protocol.Sends e to f) = refl
 answer_sent k Protocol.Abandoned = refl
@@ -27,18 +27,18 @@ answer_sent k Protocol.NotAbandoned = refl
 answer_sent k (Protocol.NotDelivered x) = refl
 
 -- the answer is told so
-told_so : (k : ℕ) (a : Answer) (t : Told) → Some t ≡ Some (told_answer k a) → tells_sent t ≡ is_sent a
-told_so k a t e = ap tells_sent (same_Some t (told_answer k a) e) ∙ answer_sent k a
+told_so : (k : ℕ) (a : Answer) (t : Reported) → Some t ≡ Some (reported_answer k a) → tells_sent t ≡ is_sent a
+told_so k a t e = ap tells_sent (same_Some t (reported_answer k a) e) ∙ answer_sent k a
 
 -- no fault tells of a frame
-of_fault : {F : Type 0} (k : ℕ) (a : Answer) (t : F → Told) (o : Option F) → ((f : F) → tells_sent (t f) ≡ false) → option_map t o ≡ Some (told_answer k a) → false ≡ is_sent a
+of_fault : {F : Type 0} (k : ℕ) (a : Answer) (t : F → Reported) (o : Option F) → ((f : F) → tells_sent (t f) ≡ false) → option_map t o ≡ Some (reported_answer k a) → false ≡ is_sent a
 of_fault k a t None h e = absurd (cc)
 of_fault k a t (Some f) h e = sym (h f) ∙ told_so k a (t f) e
 
-pub was_sent : (o : Outcome) (event : Event) (to : Name) (frame k : ℕ) (a : Answer) → o ≡ held.Sent event to frame → outcome_of o ≡ Some (told_answer k a) → true ≡ is_sent a
-was_sent o event to frame k a is e = told_so k a _ (subst (λ (z : Outcome). outcome_of z ≡ Some (told_answer k a)) is e)
+pub was_sent : (o : Outcome) (event : Event) (to : Name) (frame k : ℕ) (a : Answer) → o ≡ held.Sent event to frame → outcome_of o ≡ Some (reported_answer k a) → true ≡ is_sent a
+was_sent o event to frame k a is e = told_so k a _ (subst (λ (z : Outcome). outcome_of z ≡ Some (reported_answer k a)) is e)
 
-pub was_not : (o : Outcome) (k : ℕ) (a : Answer) → ((event : Event) (to : Name) (frame : ℕ) → o ≡ held.Sent event to frame → ⊥) → outcome_of o ≡ Some (told_answer k a) → false ≡ is_sent a
+pub was_not : (o : Outcome) (k : ℕ) (a : Answer) → ((event : Event) (to : Name) (frame : ℕ) → o ≡ held.Sent event to frame → ⊥) → outcome_of o ≡ Some (reported_answer k a) → false ≡ is_sent a
 was_not (held.Started x) k a never e = told_so k a _ e
 was_not (held.Sent event to frame) k a never e = absurd (never event to frame refl)
 was_not (held.Received x) k a never e = told_so k a _ e

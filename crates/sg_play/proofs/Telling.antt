@@ -15,7 +15,7 @@ use Rattle.sg_protocol.specs.NodeStates.{NodeState}
 use Rattle.sg_protocol.specs.Past.{AnsweredCall, past_after}
 use Rattle.sg_protocol.specs.Texts.{real}
 use Rattle.sg_report.specs.Lines.{graph_or_none, line_text}
-use Rattle.sg_report.specs.Told.{Told, told_answer, session_told, sid_left, sid_told}
+use Rattle.sg_report.specs.Reported.{Reported, reported_answer, session_reported, sid_left, sid_reported}
 use Rattle.sg_play.specs.declared.player.Player.{Player}
 use Rattle.sg_play.specs.Asking.{Comes, ComesMade, sealed_in}
 use Rattle.sg_play.specs.Meeting.{met_more}
@@ -36,7 +36,7 @@ sids_more calls c =
 abbrev with_events : List (List ℕ) → KnownSessions
 with_events l = record { declared = []; events = l }
 
-met_by : (m : List (List ℕ)) (k : ℕ) (a : Answer) → with_events (m ++ map sid_of (events_of_answer a)) ≡ met_more (with_events m) (told_answer k a)
+met_by : (m : List (List ℕ)) (k : ℕ) (a : Answer) → with_events (m ++ map sid_of (events_of_answer a)) ≡ met_more (with_events m) (reported_answer k a)
 met_by m k (Protocol.Happened e) = refl
 met_by m k (Protocol.Sends e to f) = refl
 met_by m k Protocol.Abandoned = ap with_events (append-nil m)
@@ -46,11 +46,11 @@ met_by m k Protocol.NotAbandoned = ap with_events (append-nil m)
 met_by m k (Protocol.NotDelivered x) = ap with_events (append-nil m)
 
 -- the sessions after a call, by what is told of it
-pub met_after : (calls : List AnsweredCall) (c : AnsweredCall) (k : ℕ) → met_in (calls ++ c ∷ []) ≡ met_more (met_in calls) (told_answer k c.answer)
+pub met_after : (calls : List AnsweredCall) (c : AnsweredCall) (k : ℕ) → met_in (calls ++ c ∷ []) ≡ met_more (met_in calls) (reported_answer k c.answer)
 met_after calls c k = ap with_events (sids_more calls c) ∙ met_by (met_in calls).events k c.answer
 
 -- the session in which something happened
-pub told_given : (k : ℕ) (a : Answer) → sid_told (told_answer k a) ≡ sid_given a
+pub told_given : (k : ℕ) (a : Answer) → sid_reported (reported_answer k a) ≡ sid_given a
 told_given k (Protocol.Happened e) = refl
 told_given k (Protocol.Sends e to f) = refl
 told_given k Protocol.Abandoned = refl
@@ -78,7 +78,7 @@ no_more : (n : ℕ) → n ≡ n + 0
 no_more n = omega arith
 
 -- a call that sends no frame was asked
-pub asked_quiet : (pl : Player) (n : NodeState) (p : Play) (c : Call) (told : Option Told) (graph : Option Graph) → RepresentsPlay pl p → ((number : ℕ) → Comes number pl.node n p.past c told graph None) → HasAsked (record pl { node = n }) p c told graph []
+pub asked_quiet : (pl : Player) (n : NodeState) (p : Play) (c : Call) (told : Option Reported) (graph : Option Graph) → RepresentsPlay pl p → ((number : ℕ) → Comes number pl.node n p.past c told graph None) → HasAsked (record pl { node = n }) p c told graph []
 asked_quiet pl n p c told graph s h =
     let came = h (length (frames_of p.steps) + 1) in
     record {
@@ -96,7 +96,7 @@ asked_quiet pl n p c told graph s h =
     }
 
 -- an act was asked, with its frame
-pub asked_made : (pl : Player) (n : NodeState) (counted : ℕ) (p : Play) (c : Call) (told : Option Told) (graph : Option Graph) (frame : Option (Addr × (Name × List ℕ))) → RepresentsPlay pl p → ComesMade pl.keys.now pl.frames counted pl.node n p.past c told graph frame
+pub asked_made : (pl : Player) (n : NodeState) (counted : ℕ) (p : Play) (c : Call) (told : Option Reported) (graph : Option Graph) (frame : Option (Addr × (Name × List ℕ))) → RepresentsPlay pl p → ComesMade pl.keys.now pl.frames counted pl.node n p.past c told graph frame
     → HasAsked (record pl { node = n; frames = counted }) p c told graph (frames_made frame)
 asked_made pl n counted p c told graph frame s h =
     let came = h.comes in
@@ -109,14 +109,14 @@ asked_made pl n counted p c told graph frame s h =
       names = s.names;
       steps = s.steps;
       frames = h.is_counted ∙ ap (λ k. k + length (frames_made frame)) s.frames;
-      is_told = came.is_told ∙ ap (λ k. Some (told_answer (k + 1) (answer_in p c))) s.frames;
+      is_told = came.is_told ∙ ap (λ k. Some (reported_answer (k + 1) (answer_in p c))) s.frames;
       is_graph = came.is_graph;
       is_made = ap frames_made h.is_frame ∙ is_addressed pl.keys.now (answer_in p c) ∙ ap (λ (k : Keyring). frames_in k (answer_in p c)) (sym s.keys);
     }
 
 -- what is told of a call
-abbrev pub told_in : Play → Call → Told
-told_in p c = told_answer (length (frames_of p.steps) + 1) (answer_in p c)
+abbrev pub told_in : Play → Call → Reported
+told_in p c = reported_answer (length (frames_of p.steps) + 1) (answer_in p c)
 
 -- the sessions that are met with it
 met_with : (p : Play) (c : Call) → met_more (met_in p.past.calls) (told_in p c) ≡ met_in (past_after real p.past c).calls
@@ -127,21 +127,21 @@ pub told_rest : (old met : Player) (number : ℕ) → met ≡ record old { names
 told_rest old met number is next = (λ i. record (is i) { steps = next i }) ∙ (λ i. record old { names = met.names; steps = (is i).steps + 1 })
 
 -- the line is that of the step
-pub line_is : (pl : Player) (p : Play) (c : Call) (told : Option Told) (left : Option (List ℕ)) (graph : Option Graph) (made : List (Addr × List ℕ)) (line : List ℕ) → HasAsked pl p c told graph made → left ≡ sid_left c
-    → line ≡ line_text (option_map_or (session_name 115 (met_more (met_in p.past.calls) (told_in p c))) (session_told left (told_in p c)) []) (graph_or_none graph) (pl.steps + 1) pl.keys.now.me (told_in p c) → line ≡ (step_in p c).line
+pub line_is : (pl : Player) (p : Play) (c : Call) (told : Option Reported) (left : Option (List ℕ)) (graph : Option Graph) (made : List (Addr × List ℕ)) (line : List ℕ) → HasAsked pl p c told graph made → left ≡ sid_left c
+    → line ≡ line_text (option_map_or (session_name 115 (met_more (met_in p.past.calls) (told_in p c))) (session_reported left (told_in p c)) []) (graph_or_none graph) (pl.steps + 1) pl.keys.now.me (told_in p c) → line ≡ (step_in p c).line
 line_is pl p c told left graph made line h l e =
     let met = met_with p c in
     let number : pl.steps + 1 ≡ length (past_after real p.past c).calls = ap (λ n. n + 1) h.steps ∙ sym (one_more p.past.calls (record { call = c; answer = answer_in p c })) in
     let graphed = h.is_graph in
     let me : pl.keys.now.me ≡ p.past.keys.me = ap (λ (k : Keyring). k.me) (sym h.keys) in
-    e ∙ (λ i. line_text (option_map_or (session_name 115 (met i)) (session_told (l i) (told_in p c)) []) (graph_or_none (graphed i)) (number i) (me i) (told_in p c))
+    e ∙ (λ i. line_text (option_map_or (session_name 115 (met i)) (session_reported (l i) (told_in p c)) []) (graph_or_none (graphed i)) (number i) (me i) (told_in p c))
 
 -- the names are those after it
 pub names_are : (ns : Naming) (p : Play) (c : Call) → ns ≡ naming 115 (met_more (met_in p.past.calls) (told_in p c)) → ns ≡ naming 115 (met_in (past_after real p.past c).calls)
 names_are ns p c e = e ∙ ap (naming 115) (met_with p c)
 
 -- and the player represents the play with the step
-pub represents_told : (old new : Player) (p : Play) (c : Call) (told : Option Told) (graph : Option Graph) (made : List (Addr × List ℕ)) → HasAsked old p c told graph made → new ≡ record old { names = new.names; steps = old.steps + 1 }
+pub represents_told : (old new : Player) (p : Play) (c : Call) (told : Option Reported) (graph : Option Graph) (made : List (Addr × List ℕ)) → HasAsked old p c told graph made → new ≡ record old { names = new.names; steps = old.steps + 1 }
     → new.names ≡ naming 115 (met_more (met_in p.past.calls) (told_in p c)) → RepresentsPlay new (called p c)
 represents_told old new p c told graph made h is names = subst (λ (pl : Player). RepresentsPlay pl (called p c)) (sym is) (record {
   node = h.node;

@@ -14,7 +14,7 @@ use Rattle.sg_protocol.specs.Spelling.{spelling}
 use Rattle.sg_protocol.specs.Texts.{real}
 use Rattle.sg_protocol.specs.Told.{graph_of_call}
 use Rattle.sg_node.specs.Answers.{GoesOn}
-use Rattle.sg_report.specs.Told.{Told, told_answer}
+use Rattle.sg_report.specs.Reported.{Reported, reported_answer}
 use Rattle.sg_play.specs.Posting.{frames_made}
 
 -- the frame that an answer sends: its receiver, and its bytes
@@ -23,9 +23,9 @@ sealed_in (Sends e to f) = Some (to, spelling f)
 sealed_in other = None
 
 -- what comes of a call is what the node of the past answers, where its frame has this number, by the graph of the call; and the new state goes on for the past
-pub record Comes (number : ℕ) (old new : NodeState) (past : Past) (call : Call) (told : Option Told) (graph : Option Graph) (sealed : Option (Name × List ℕ)) : Type 0 where
+pub record Comes (number : ℕ) (old new : NodeState) (past : Past) (call : Call) (told : Option Reported) (graph : Option Graph) (sealed : Option (Name × List ℕ)) : Type 0 where
   pub range : IsCallInRange call
-  pub is_told : told ≡ Some (told_answer number (answer real (node_of past) call))
+  pub is_told : told ≡ Some (reported_answer number (answer real (node_of past) call))
   pub is_graph : graph ≡ graph_of_call real (node_of past) call
   pub is_sealed : sealed ≡ sealed_in (answer real (node_of past) call)
   pub goes_on : GoesOn old new call past
@@ -35,7 +35,7 @@ abbrev pub addressed : Keyring → Option (Name × List ℕ) → Option (Addr ×
 addressed keys sealed = option_and_then (λ s. option_map (λ at. (at, s)) (addr_of keys s.0)) sealed
 
 -- so with the frame that is made, at its address: it has the next number after these, and is counted
-pub record ComesMade (keys : Keyring) (frames counted : ℕ) (old new : NodeState) (past : Past) (call : Call) (told : Option Told) (graph : Option Graph) (frame : Option (Addr × (Name × List ℕ))) : Type 0 where
+pub record ComesMade (keys : Keyring) (frames counted : ℕ) (old new : NodeState) (past : Past) (call : Call) (told : Option Reported) (graph : Option Graph) (frame : Option (Addr × (Name × List ℕ))) : Type 0 where
   pub comes : Comes (frames + 1) old new past call told graph (sealed_in (answer real (node_of past) call))
   pub is_frame : frame ≡ addressed keys (sealed_in (answer real (node_of past) call))
   pub is_counted : counted ≡ frames + length (frames_made frame)

@@ -1,8 +1,8 @@
 -- The sessions that are met by what is told of a step.
 use Rattle.std.specs.Option.{option_map_or}
 use Rattle.sg_text.specs.Sessions.{KnownSessions, with_event}
-use Rattle.sg_report.specs.Told.{Told, sid_told}
+use Rattle.sg_report.specs.Reported.{Reported, sid_reported}
 
 -- it is met
-abbrev pub met_more : KnownSessions → Told → KnownSessions
-met_more m t = option_map_or (with_event m) (sid_told t) m
+abbrev pub met_more : KnownSessions → Reported → KnownSessions
+met_more m t = option_map_or (with_event m) (sid_reported t) m

@@ -10,7 +10,7 @@ use Rattle.sg_protocol.specs.NodeStates.{NodeState, RepresentsPast}
 use Rattle.sg_protocol.specs.Past.{Past, node_of, past_after}
 use Rattle.sg_protocol.specs.Texts.{real}
 use Rattle.sg_protocol.specs.Told.{graph_of_call}
-use Rattle.sg_report.specs.Told.{Told, told_answer}
+use Rattle.sg_report.specs.Reported.{Reported, reported_answer}
 use Rattle.sg_script.specs.Script.{Choice}
 use Rattle.sg_play.specs.Choosing.{is_ready}
 use Rattle.sg_play.specs.declared.fault.PlayFault.{PlayFault}
@@ -32,7 +32,7 @@ pub record RepresentsPlay (pl : Player) (p : Play) : Type 0 where
   pub frames : pl.frames ≡ length (frames_of p.steps)
 
 -- the player has asked its node this call, and this came of it, which is not told yet. These frames are counted
-pub record HasAsked (pl : Player) (p : Play) (c : Call) (told : Option Told) (graph : Option Graph) (made : List (Addr × List ℕ)) : Type 0 where
+pub record HasAsked (pl : Player) (p : Play) (c : Call) (told : Option Reported) (graph : Option Graph) (made : List (Addr × List ℕ)) : Type 0 where
   pub node : RepresentsPast pl.node (past_after real p.past c)
   pub told_past : IsTold (past_after real p.past c)
   pub keys : p.past.keys ≡ pl.keys.now
@@ -41,7 +41,7 @@ pub record HasAsked (pl : Player) (p : Play) (c : Call) (told : Option Told) (gr
   pub names : pl.names ≡ naming 115 (met_in p.past.calls)
   pub steps : pl.steps ≡ length p.past.calls
   pub frames : pl.frames ≡ length (frames_of p.steps) + length made
-  pub is_told : told ≡ Some (told_answer (length (frames_of p.steps) + 1) (answer_in p c))
+  pub is_told : told ≡ Some (reported_answer (length (frames_of p.steps) + 1) (answer_in p c))
   pub is_graph : graph ≡ graph_of_call real (node_of p.past) c
   pub is_made : made ≡ frames_in p.past.keys (answer_in p c)
 
@@ -66,7 +66,7 @@ CameActing start now pl words x (Ok sent) = CameTo start now pl words x.0 (Ok tt
 CameActing start now pl words x (Err fault) = CameTo start now pl words x.0 (Err fault)
 
 -- the player has asked for the act by the first choice that can be taken, and this came of it
-pub record HasActed (pl : Player) (words : Option (List (List ℕ))) (sid : List ℕ) (graph : Name) (node : ℕ) (p : Play) (told : Option Told) (by : Option Graph) (made : List (Addr × List ℕ)) : Type 0 where
+pub record HasActed (pl : Player) (words : Option (List (List ℕ))) (sid : List ℕ) (graph : Name) (node : ℕ) (p : Play) (told : Option Reported) (by : Option Graph) (made : List (Addr × List ℕ)) : Type 0 where
   pub choice : Choice
   pub is_first : find (is_ready graph node) p.choices ≡ Some choice
   pub asked : HasAsked pl (chosen graph node choice p) (act_by sid choice p.words) told by made

@@ -13,7 +13,7 @@ use Rattle.sg_protocol.specs.Told.{graph_of_call}
 use Rattle.sg_keys.specs.Names.{addr_of}
 use Rattle.sg_text.specs.Sessions.{KnownSessions, session_name}
 use Rattle.sg_report.specs.Lines.{graph_or_none, line_text}
-use Rattle.sg_report.specs.Told.{told_answer, session_told, sid_left}
+use Rattle.sg_report.specs.Reported.{reported_answer, session_reported, sid_left}
 
 -- a step: its line, and the frame that it sends, if it sends one, with the address of its receiver
 pub record Step : Type 0 where
@@ -44,9 +44,9 @@ frames_in keys other = []
 -- the line of a call before which `sent` frames were sent, by the graph of the session that the call is of
 abbrev pub line_of : Past → (sent : ℕ) → Call → List ℕ
 line_of past sent c =
-    let told = told_answer (sent + 1) (answer real (node_of past) c) in
+    let told = reported_answer (sent + 1) (answer real (node_of past) c) in
     let calls = (past_after real past c).calls in
     line_text
-    (option_map_or (session_name 115 (met_in calls)) (session_told (sid_left c) told) [])
+    (option_map_or (session_name 115 (met_in calls)) (session_reported (sid_left c) told) [])
     (graph_or_none (graph_of_call real (node_of past) c))
     (length calls) past.keys.me told

@@ -7,7 +7,7 @@ ghost use Rattle.sg_text.specs.Sessions.{KnownSessions, naming, session_name};
 ghost use Rattle.sg_protocol.specs.Calls.{Call, Start, Deliver};
 ghost use Rattle.sg_report.specs.Lines.{graph_or_none, line_text};
 ghost use Rattle.sg_report.specs.Outcome.{outcome_of};
-ghost use Rattle.sg_report.specs.Told.{Told, session_told, sid_left};
+ghost use Rattle.sg_report.specs.Reported.{Reported, session_reported, sid_left};
 ghost use Rattle.sg_play.specs.Meeting.{met_more};
 ghost use Rattle.sg_play.specs.Posting.{frames_made};
 
@@ -15,15 +15,15 @@ use crate::PlayFault;
 use crate::ask::{ask_deliver, ask_start};
 use crate::choices::Choices;
 use crate::post::{Made, let_go, post};
+use crate::reported::reported_line;
 use crate::run::cast_of;
-use crate::told::told_line;
 use sg_base::{Addr, Link, Name, Sealed, Seq, Sid, Sink};
 use sg_crypt::Cast;
 use sg_graph::Graph;
 use sg_keys::Keyring;
 use sg_node::Node;
 use sg_program::Programs;
-use sg_report::{Outcome, sid_told};
+use sg_report::{Outcome, sid_reported};
 use sg_script::{ScriptChoice, ScriptStart};
 use sg_text::SessionNames;
 use std::alloc::Global;
@@ -123,7 +123,7 @@ impl<'p> Player<'p> {
     {
         let (outcome, graph) = ask_start(self.alloc, &mut self.node, cast)?;
         self.give(None, graph, &outcome, None, link, out)?;
-        Ok(sid_told(&outcome))
+        Ok(sid_reported(&outcome))
     }
 
     /// Takes a delivery: the session whose turn may have come.
@@ -145,7 +145,7 @@ impl<'p> Player<'p> {
     {
         let (outcome, graph) = ask_deliver(self.alloc, &mut self.node, bytes)?;
         self.give(None, graph, &outcome, None, link, out)?;
-        Ok(sid_told(&outcome))
+        Ok(sid_reported(&outcome))
     }
 
     /// Leaves a session.
@@ -222,10 +222,10 @@ impl<'p> Player<'p> {
     // Meets the session in which an outcome happened, if it did in one.
     fn meet(&mut self, outcome: &Outcome) -> Result<(), PlayFault>
         ensures rest { OnOk result (self.new ≡ record self.old { names = self.new.names }) }
-        ensures names { OnOk result ((m : KnownSessions) (t : Told) → outcome_of outcome.now ≡ Some t → self.old.names ≡ naming 115 m → self.new.names ≡ naming 115 (met_more m t)) }
+        ensures names { OnOk result ((m : KnownSessions) (t : Reported) → outcome_of outcome.now ≡ Some t → self.old.names ≡ naming 115 m → self.new.names ≡ naming 115 (met_more m t)) }
         ensures memory { IfErr result (λ e. e ≡ PlayFault.OutOfMemory) }
     {
-        match sid_told(outcome) {
+        match sid_reported(outcome) {
             Some(sid) => match self.names.meet(self.alloc, sid) {
                 Ok(()) => Ok(()),
                 Err(_) => Err(PlayFault::OutOfMemory),
@@ -242,13 +242,13 @@ impl<'p> Player<'p> {
         graph: Option<&Graph>,
         outcome: &Outcome,
     ) -> Result<Vec<u8>, PlayFault>
-        ensures text { IfOk result (λ v. (m : KnownSessions) (t : Told) → outcome_of outcome.now ≡ Some t → self.now.names ≡ naming 115 m
+        ensures text { IfOk result (λ v. (m : KnownSessions) (t : Reported) → outcome_of outcome.now ≡ Some t → self.now.names ≡ naming 115 m
             → v.items ≡ line_text (option_map_or (session_name 115 m) sid []) (graph_or_none (option_copied graph.entry)) number self.now.keys.now.me t) }
         ensures memory { IfErr result (λ e. e ≡ PlayFault.OutOfMemory) }
     {
         let who = self.keys.me();
         let name = self.name(sid);
-        told_line(self.alloc, number, who, bytes_of(&name), graph, outcome)
+        reported_line(self.alloc, number, who, bytes_of(&name), graph, outcome)
     }
 
     // The name of a session, if there is one.
@@ -285,10 +285,10 @@ fn next_step(number: u64) -> Result<u64, PlayFault>
 
 // The session that a line names: that of the outcome's event, or the one that was left.
 fn session_of(left: Option<Sid>, outcome: &Outcome) -> Option<Sid>
-    ensures { IfSome (outcome_of outcome.now) (λ t. result ≡ session_told left t) }
+    ensures { IfSome (outcome_of outcome.now) (λ t. result ≡ session_reported left t) }
 {
     match outcome {
         Outcome::Abandoned => left,
-        _ => sid_told(outcome),
+        _ => sid_reported(outcome),
     }
 }

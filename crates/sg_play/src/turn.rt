@@ -4,7 +4,7 @@ ghost use Rattle.std.specs.Option.{option_copied};
 ghost use Rattle.sg_base.specs.Outside.{HasRisen};
 ghost use Rattle.sg_protocol.specs.Calls.{Answer};
 ghost use Rattle.sg_report.specs.Outcome.{outcome_of};
-ghost use Rattle.sg_report.specs.Told.{told_answer};
+ghost use Rattle.sg_report.specs.Reported.{reported_answer};
 ghost use Rattle.sg_play.specs.Choosing.{is_ready};
 ghost use Rattle.sg_play.specs.Ends.{Outside, Whole};
 ghost use Rattle.sg_play.specs.Played.{Play, plays_on};
@@ -144,7 +144,7 @@ impl<'p> Player<'p> {
 
 // A step was sent.
 fn was_sent(outcome: &Outcome) -> bool
-    ensures { (k : ℕ) (a : Answer) → outcome_of outcome.now ≡ Some (told_answer k a) → result ≡ is_sent a }
+    ensures { (k : ℕ) (a : Answer) → outcome_of outcome.now ≡ Some (reported_answer k a) → result ≡ is_sent a }
 {
     matches!(outcome, Outcome::Sent { .. })
 }

@@ -11,23 +11,23 @@ use Rattle.sg_node.specs.declared.fault.ActFault.{ActFault}
 use Rattle.sg_node.specs.declared.fault.ActFault.TheVariants as acting
 use Rattle.sg_node.specs.declared.fault.Refusal.{Refusal}
 use Rattle.sg_node.specs.declared.fault.Refusal.TheVariants as refusals
-use Rattle.sg_report.specs.Told.{Told, NotStarted, NotActed, NotDelivered, told_answer}
+use Rattle.sg_report.specs.Reported.{Reported, NotStarted, NotActed, NotDelivered, reported_answer}
 use Rattle.sg_protocol.specs.Run.{frame_in}
 
 -- the answer is one that sends nothing, and this is told of it
-abbrev pub SendsNothing : ℕ → Answer → Option Told → Type 0
-SendsNothing number a told = (told ≡ Some (told_answer number a)) × (None ≡ frame_in a)
+abbrev pub SendsNothing : ℕ → Answer → Option Reported → Type 0
+SendsNothing number a told = (told ≡ Some (reported_answer number a)) × (None ≡ frame_in a)
 
 -- a fault that is not `OutOfMemory`
 abbrev pub Given : {F : Type 0} → Option F → Type 0
 Given {F} o = (f : F) × (o ≡ Some f)
 
 -- what is told of a fault
-refused : {F : Type 0} (number : ℕ) (a : Answer) (g : F → Answer) (t : F → Told) (o : Option F) → ((f : F) → told_answer number (g f) ≡ t f) → ((f : F) → frame_in (g f) ≡ None) → Given o
+refused : {F : Type 0} (number : ℕ) (a : Answer) (g : F → Answer) (t : F → Reported) (o : Option F) → ((f : F) → reported_answer number (g f) ≡ t f) → ((f : F) → frame_in (g f) ≡ None) → Given o
     → IsAnswer a (option_map g o) → SendsNothing number a (option_map t o)
 refused number a g t o told frame f h =
     let is : a ≡ g f.0 = subst (λ z. IsAnswer a (option_map g z)) f.1 h in
-    (ap (option_map t) f.1 ∙ ap (λ (z : Told). Some z) (sym (told f.0) ∙ ap (told_answer number) (sym is)), sym (ap frame_in is ∙ frame f.0))
+    (ap (option_map t) f.1 ∙ ap (λ (z : Reported). Some z) (sym (told f.0) ∙ ap (reported_answer number) (sym is)), sym (ap frame_in is ∙ frame f.0))
 
 -- no fault is `OutOfMemory`, but that one
 start_given : (fault : StartFault) → fault ≢ starting.OutOfMemory → Given (start_fault fault)
@@ -76,8 +76,8 @@ pub not_delivered : (number : ℕ) (a : Answer) (fault : Refusal) → fault ≢ 
 not_delivered number a fault ne h = refused number a Protocol.NotDelivered NotDelivered (refusal fault) (λ f. refl) (λ f. refl) (refusal_given fault ne) h
 
 -- an answer without a frame
-pub quiet : (number : ℕ) (a given : Answer) (t : Told) → told_answer number given ≡ t → frame_in given ≡ None → a ≡ given → SendsNothing number a (Some t)
-quiet number a given t told frame is = (ap (λ (z : Told). Some z) (sym told ∙ ap (told_answer number) (sym is)), sym (ap frame_in is ∙ frame))
+pub quiet : (number : ℕ) (a given : Answer) (t : Reported) → reported_answer number given ≡ t → frame_in given ≡ None → a ≡ given → SendsNothing number a (Some t)
+quiet number a given t told frame is = (ap (λ (z : Reported). Some z) (sym told ∙ ap (reported_answer number) (sym is)), sym (ap frame_in is ∙ frame))
 
 -- what failed so failed by one error
 pub err_same : {A E : Type 0} (r : Result A E) (d e : E) → r ≡ Err d → r ≡ Err e → d ≡ e

@@ -3,10 +3,10 @@ use Rattle.std.proofs.Common.{◌≡◌, ℕ, ◌<◌, true, false, Option, true
 use Rattle.sg_protocol.specs.Calls.{Answer, Happened, Sends, NotActed, NotDelivered, ActFault, SendFault, Refusal}
 use Rattle.sg_protocol.specs.Graph.{Graph}
 use Rattle.sg_protocol.specs.Told.{names_numbers}
-use Rattle.sg_report.specs.Told.{CanBeTold, told_answer}
+use Rattle.sg_report.specs.Reported.{CanBeReported, reported_answer}
 
 -- an answer that names no number is told by any graph, or by none
-pub told-without_numbers : (graph : Option Graph) (n : ℕ) (a : Answer) → names_numbers a ≡ false → CanBeTold graph (told_answer n a)
+pub told-without_numbers : (graph : Option Graph) (n : ℕ) (a : Answer) → names_numbers a ≡ false → CanBeReported graph (reported_answer n a)
 told-without_numbers graph n (Happened e) h = absurd (true≢false h)
 told-without_numbers graph n (Sends e to f) h = absurd (true≢false h)
 told-without_numbers graph n (NotActed (ActFault.Send (SendFault.BadValues x))) h = absurd (true≢false h)

@@ -1,4 +1,4 @@
-pub mod Told
+pub mod Reported
 pub mod Outcome
 pub mod Reasons
 pub mod Lines

@@ -9,7 +9,7 @@ use Rattle.sg_protocol.specs.Walk.{StoredStep, OnePath}
 use Rattle.sg_text.specs.Sessions.{KnownSessions, session_name, sids_met}
 use Rattle.sg_text.specs.Walks.{walk_line}
 use Rattle.sg_report.specs.Lines.{graph_or_none, line_text}
-use Rattle.sg_report.specs.Told.{Told}
+use Rattle.sg_report.specs.Reported.{Reported}
 
 -- ---- what is reported
 
@@ -18,7 +18,7 @@ pub record StepLine : Type 0 where
   pub who : Option Name
   pub session : Option (List ℕ)
   pub graph : Option Graph
-  pub told : Told
+  pub told : Reported
 
 -- a tag of two honest principals that was found right in a step, and that nobody had made
 pub record Forgery : Type 0 where

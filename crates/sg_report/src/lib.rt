@@ -1,7 +1,7 @@
 //! What came of each step of a replay, and how it is reported.
 //!
 //! An `Outcome` holds what a step brought about: an event, the number of a crafted frame, or why nothing happened. What is told of it is
-//! `Told`, the core's answer with a frame's number in place of the frame, so a report can be read against a run. No outcome says that
+//! `Reported`, the core's answer with a frame's number in place of the frame, so a report can be read against a run. No outcome says that
 //! memory ran out: that is the call's error.
 //!
 //! A report has a line for each step, the lines of the two premises, and where both hold the walk of each session with an event, the
@@ -15,5 +15,5 @@ mod premises;
 mod reason;
 
 pub use line::{put_line, report_line};
-pub use outcome::{Outcome, sid_told};
+pub use outcome::{Outcome, sid_reported};
 pub use premises::{Forgery, put_premises};

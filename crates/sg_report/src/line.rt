@@ -4,9 +4,9 @@ ghost use Rattle.std.specs.Option.{option_copied};
 ghost use Rattle.sg_text.specs.Events.{event_text, event_values, sent_to};
 ghost use Rattle.sg_protocol.specs.Told.{HasEvent};
 ghost use Rattle.sg_walk.specs.Model.{event_of};
-ghost use Rattle.sg_report.specs.Lines.{by_whom, graph_or_none, line_text, told_text};
+ghost use Rattle.sg_report.specs.Lines.{by_whom, graph_or_none, line_text, reported_text};
 ghost use Rattle.sg_report.specs.Outcome.{outcome_of};
-ghost use Rattle.sg_report.specs.Told.{CanBeTold, Happened, Sends};
+ghost use Rattle.sg_report.specs.Reported.{CanBeReported, Happened, Sends};
 
 use crate::Outcome;
 use crate::reason::{put_act_fault, put_refusal, put_start_fault};
@@ -27,7 +27,7 @@ pub fn report_line(
     graph: Option<&Graph>,
     outcome: &Outcome,
 ) -> Result<Vec<u8>, OutOfMemory>
-    requires { IfSome (outcome_of outcome.now) (CanBeTold (option_copied graph)) }
+    requires { IfSome (outcome_of outcome.now) (CanBeReported (option_copied graph)) }
     ensures { IfOk result (λ text. IsSomeAnd (outcome_of outcome.now) (λ told. text.items ≡ line_text session.now (graph_or_none (option_copied graph.entry)) step who told)) }
 {
     let mut out = ByteOut::new(alloc);
@@ -44,13 +44,13 @@ pub fn put_line(
     graph: Option<&Graph>,
     outcome: &Outcome,
 ) -> Result<(), OutOfMemory>
-    requires { IfSome (outcome_of outcome.now) (CanBeTold (option_copied graph)) }
+    requires { IfSome (outcome_of outcome.now) (CanBeReported (option_copied graph)) }
     ensures { OnOk result (IsSomeAnd (outcome_of outcome.now) (λ told. out.new ≡ out.old ++ line_text session.now (graph_or_none (option_copied graph.entry)) step who.now told)) }
 {
     out.decimal(step)?;
     out.u8(b' ')?;
     put_whom(out, who, outcome)?;
-    put_told(out, session, graph, outcome)?;
+    put_reported(out, session, graph, outcome)?;
     out.u8(b'\n')
 }
 
@@ -68,14 +68,14 @@ fn put_whom(out: &mut ByteOut, who: &[u8], outcome: &Outcome) -> Result<(), OutO
 }
 
 // Writes what came of a step.
-fn put_told(
+fn put_reported(
     out: &mut ByteOut,
     session: &[u8],
     graph: Option<&Graph>,
     outcome: &Outcome,
 ) -> Result<(), OutOfMemory>
-    requires { IfSome (outcome_of outcome.now) (CanBeTold (option_copied graph)) }
-    ensures { OnOk result (IsSomeAnd (outcome_of outcome.now) (λ told. out.new ≡ out.old ++ told_text session.now (graph_or_none (option_copied graph.entry)) told)) }
+    requires { IfSome (outcome_of outcome.now) (CanBeReported (option_copied graph)) }
+    ensures { OnOk result (IsSomeAnd (outcome_of outcome.now) (λ told. out.new ≡ out.old ++ reported_text session.now (graph_or_none (option_copied graph.entry)) told)) }
 {
     match outcome {
         Outcome::Started(event) => put_happened(out, session, graph, event),
@@ -108,8 +108,8 @@ fn put_happened(
     graph: Option<&Graph>,
     event: &Event,
 ) -> Result<(), OutOfMemory>
-    requires { CanBeTold (option_copied graph) (Happened (event_of event.now)) }
-    ensures { OnOk result (out.new ≡ out.old ++ told_text session.now (graph_or_none (option_copied graph.entry)) (Happened (event_of event.now))) }
+    requires { CanBeReported (option_copied graph) (Happened (event_of event.now)) }
+    ensures { OnOk result (out.new ≡ out.old ++ reported_text session.now (graph_or_none (option_copied graph.entry)) (Happened (event_of event.now))) }
 {
     match graph {
         Some(graph) => put_of_graph(out, session, graph, event),
@@ -124,7 +124,7 @@ fn put_of_graph(
     event: &Event,
 ) -> Result<(), OutOfMemory>
     requires { HasEvent graph.now (event_of event.now) }
-    ensures { OnOk result (out.new ≡ out.old ++ told_text session.now graph.now (Happened (event_of event.now))) }
+    ensures { OnOk result (out.new ≡ out.old ++ reported_text session.now graph.now (Happened (event_of event.now))) }
 {
     put_event(out, session, graph, event)?;
     put_event_values(out, graph, event)
@@ -138,8 +138,8 @@ fn put_sending(
     to: &Name,
     frame: u32,
 ) -> Result<(), OutOfMemory>
-    requires { CanBeTold (option_copied graph) (Sends (event_of event.now) to.now frame) }
-    ensures { OnOk result (out.new ≡ out.old ++ told_text session.now (graph_or_none (option_copied graph.entry)) (Sends (event_of event.now) to.now frame)) }
+    requires { CanBeReported (option_copied graph) (Sends (event_of event.now) to.now frame) }
+    ensures { OnOk result (out.new ≡ out.old ++ reported_text session.now (graph_or_none (option_copied graph.entry)) (Sends (event_of event.now) to.now frame)) }
 {
     match graph {
         Some(graph) => put_sending_of(out, session, graph, event, to, frame),
@@ -156,7 +156,7 @@ fn put_sending_of(
     frame: u32,
 ) -> Result<(), OutOfMemory>
     requires { HasEvent graph.now (event_of event.now) }
-    ensures { OnOk result (out.new ≡ out.old ++ told_text session.now graph.now (Sends (event_of event.now) to.now frame)) }
+    ensures { OnOk result (out.new ≡ out.old ++ reported_text session.now graph.now (Sends (event_of event.now) to.now frame)) }
 {
     put_event(out, session, graph, event)?;
     put_sent_to(out, to, frame)?;

@@ -2,7 +2,7 @@
 ghost use Rattle.std.specs.Prelude.{◌≡◌, option_and_then, option_map};
 ghost use Rattle.sg_protocol.specs.Calls.{sid_of};
 ghost use Rattle.sg_report.specs.Outcome.{outcome_of};
-ghost use Rattle.sg_report.specs.Told.{event_told, sid_told};
+ghost use Rattle.sg_report.specs.Reported.{event_reported, sid_reported};
 
 use sg_base::{Name, Sid};
 use sg_node::{ActFault, Refusal, StartFault};
@@ -44,9 +44,9 @@ pub enum Outcome {
 }
 
 /// The session of the event that an outcome tells, if it tells one.
-pub fn sid_told(outcome: &Outcome) -> Option<Sid>
-    ensures told { result ≡ option_and_then sid_told (outcome_of outcome.now) }
-    ensures event { result ≡ option_map sid_of (option_and_then event_told (outcome_of outcome.now)) }
+pub fn sid_reported(outcome: &Outcome) -> Option<Sid>
+    ensures told { result ≡ option_and_then sid_reported (outcome_of outcome.now) }
+    ensures event { result ≡ option_map sid_of (option_and_then event_reported (outcome_of outcome.now)) }
 {
     match outcome {
         Outcome::Started(event) => Some(sid_of(event)),

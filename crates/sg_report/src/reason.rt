@@ -7,7 +7,7 @@ ghost use Rattle.sg_protocol.specs.Calls.{Send};
 ghost use Rattle.sg_protocol.specs.Graph.{variable_name};
 ghost use Rattle.sg_report.specs.Lines.{graph_or_none};
 ghost use Rattle.sg_report.specs.Reasons.{act_text, refusal_text, send_text, start_text};
-ghost use Rattle.sg_report.specs.Told.{CanBeTold, NotActed, NotDelivered};
+ghost use Rattle.sg_report.specs.Reported.{CanBeReported, NotActed, NotDelivered};
 
 use sg_base::{ByteOut, Name, OutOfMemory, Time, Var};
 use sg_graph::{Graph, put_var};
@@ -36,7 +36,7 @@ pub(crate) fn put_act_fault(
     graph: Option<&Graph>,
     fault: ActFault,
 ) -> Result<(), OutOfMemory>
-    requires { IfSome (act_fault fault) (λ f. CanBeTold (option_copied graph) (NotActed f)) }
+    requires { IfSome (act_fault fault) (λ f. CanBeReported (option_copied graph) (NotActed f)) }
     ensures { OnOk result (IsSomeAnd (act_fault fault) (λ f. out.new ≡ out.old ++ act_text (graph_or_none (option_copied graph.entry)) f)) }
 {
     match fault {
@@ -53,7 +53,7 @@ fn put_send_fault(
     graph: Option<&Graph>,
     fault: SendFault,
 ) -> Result<(), OutOfMemory>
-    requires { IfSome (send_fault fault) (λ f. CanBeTold (option_copied graph) (NotActed (Send f))) }
+    requires { IfSome (send_fault fault) (λ f. CanBeReported (option_copied graph) (NotActed (Send f))) }
     ensures { OnOk result (IsSomeAnd (send_fault fault) (λ f. out.new ≡ out.old ++ send_text (graph_or_none (option_copied graph.entry)) f)) }
 {
     match fault {
@@ -70,7 +70,7 @@ pub(crate) fn put_refusal(
     graph: Option<&Graph>,
     why: Refusal,
 ) -> Result<(), OutOfMemory>
-    requires { IfSome (refusal why) (λ w. CanBeTold (option_copied graph) (NotDelivered w)) }
+    requires { IfSome (refusal why) (λ w. CanBeReported (option_copied graph) (NotDelivered w)) }
     ensures { OnOk result (IsSomeAnd (refusal why) (λ w. out.new ≡ out.old ++ refusal_text (graph_or_none (option_copied graph.entry)) w)) }
 {
     match why {

@@ -2,7 +2,7 @@
 use Rattle.std.proofs.Common.{◌≡◌, ◌⊎◌, ⊎_elim, inl, inr, ℕ, List, [], true, false, Option, Some, None, is_some, option_and_then, IfSome, Result, Ok, Err, OnOk, refl, sym, ap, ◌∙◌, subst}
 use Rattle.sg_base.specs.declared.address.Addr.{Addr}
 use Rattle.sg_keep.proofs.NewJoins.{any_call, joins_of_node, joins_with}
-use Rattle.sg_keep.specs.Joins.{IsNew, join_in, join_told, joins_made, with_join}
+use Rattle.sg_keep.specs.Joins.{IsNew, join_in, join_reported, joins_made, with_join}
 use Rattle.sg_keep.specs.Kept.{AllRepresent}
 use Rattle.sg_ledger.specs.Format.{Join, OpenLedger, Represents}
 use Rattle.sg_model.specs.Names.{Name}
@@ -18,7 +18,7 @@ use Rattle.sg_protocol.specs.Calls.{Call, Answer}
 use Rattle.sg_protocol.specs.Graph.{Graph}
 use Rattle.sg_protocol.specs.Past.{Past, node_of, past_after}
 use Rattle.sg_protocol.specs.Texts.{real}
-use Rattle.sg_report.specs.Told.{Told, told_answer}
+use Rattle.sg_report.specs.Reported.{Reported, reported_answer}
 use Rattle.sg_serve.specs.declared.server.Server.{Server}
 use Rattle.sg_serve.specs.Served.{images_if, joins_kept, joins_of}
 use Rattle.sg_serve.specs.Serving.{Serving, Reply}
@@ -30,7 +30,7 @@ working joins = record { joins = joins; failed = false }
 
 -- ---- the node was asked
 
-pub asked_node : (sv : Server) (pl : Player) (may_leave : List ℕ → Type 0) (c : Call) (told : Option Told) (graph : Option Graph) (h : HoldsJoins sv may_leave) → Comes 0 sv.player.node pl.node h.past c told graph None → HasAskedNode (record sv { player = pl }) may_leave told
+pub asked_node : (sv : Server) (pl : Player) (may_leave : List ℕ → Type 0) (c : Call) (told : Option Reported) (graph : Option Graph) (h : HoldsJoins sv may_leave) → Comes 0 sv.player.node pl.node h.past c told graph None → HasAskedNode (record sv { player = pl }) may_leave told
 asked_node sv pl may_leave c told graph h came = record {
   past = h.past;
   call = c;
@@ -43,7 +43,7 @@ asked_node sv pl may_leave c told graph h came = record {
   images = subst (AllRepresent (images_if (is_some sv.ledger) may_leave)) h.represents.joins h.images;
 }
 
-pub has_called : (sv : Server) (pl : Player) (s : Serving) (c : Call) (told : Option Told) (graph : Option Graph) → RepresentsServing sv s → pl ≡ record sv.player { node = pl.node } → ((number : ℕ) → Comes number sv.player.node pl.node s.play.past c told graph None)
+pub has_called : (sv : Server) (pl : Player) (s : Serving) (c : Call) (told : Option Reported) (graph : Option Graph) → RepresentsServing sv s → pl ≡ record sv.player { node = pl.node } → ((number : ℕ) → Comes number sv.player.node pl.node s.play.past c told graph None)
     → HasCalled (record sv { player = pl }) s c told graph None
 has_called sv pl s c told graph h is comes = record {
   asked = subst (λ (x : Player). HasAsked x s.play c told graph []) (sym is) (asked_quiet sv.player pl.node s.play c told graph h.player comes);
@@ -77,7 +77,7 @@ holds_on old new may_leave h same keeps =
 
 -- ---- the join of what came of it
 
-told_join : (n : ℕ) (a : Answer) → join_told (told_answer n a) ≡ join_in a
+told_join : (n : ℕ) (a : Answer) → join_reported (reported_answer n a) ≡ join_in a
 told_join n (Protocol.Happened e) = refl
 told_join n (Protocol.Sends e to f) = refl
 told_join n Protocol.Abandoned = refl
@@ -86,17 +86,17 @@ told_join n (Protocol.NotActed x) = refl
 told_join n Protocol.NotAbandoned = refl
 told_join n (Protocol.NotDelivered x) = refl
 
-module _ (sv : Server) (may_leave : List ℕ → Type 0) (told : Option Told) (h : HasAskedNode sv may_leave told) where
+module _ (sv : Server) (may_leave : List ℕ → Type 0) (told : Option Reported) (h : HasAskedNode sv may_leave told) where
   -- the node's answer
   abbrev given : Answer
   given = answer real (node_of h.past) h.call
 
   -- the pair that it joins, if it joins one
   abbrev joined : Option Join
-  joined = option_and_then join_told told
+  joined = option_and_then join_reported told
 
   join_is : joined ≡ join_in given
-  join_is = ap (option_and_then join_told) h.is_told ∙ told_join h.number given
+  join_is = ap (option_and_then join_reported) h.is_told ∙ told_join h.number given
 
   -- where there is no ledger
   pub holds_none : sv.ledger ≡ None → HoldsJoins sv may_leave

@@ -20,7 +20,7 @@ use Rattle.sg_protocol.specs.Calls.{Abandon, Act, Call, Start}
 use Rattle.sg_protocol.specs.Graph.{Graph}
 use Rattle.sg_protocol.specs.Keyring.{Program}
 use Rattle.sg_sched_text.specs.Adding.{is_twice, known_values}
-use Rattle.sg_report.specs.Told.{Told, sid_left}
+use Rattle.sg_report.specs.Reported.{Reported, sid_left}
 use Rattle.sg_sched.specs.Format.Said.{Given}
 use Rattle.sg_script.specs.Script.{Start as ScriptStart}
 use Rattle.sg_serve.specs.declared.fault.ServeFault.{ServeFault}
@@ -31,7 +31,7 @@ use Rattle.sg_serve.proofs.Saying.{of_some}
 
 -- ---- a call that makes its frame
 
-pub called_made : (sv : Server) (pl : Player) (s : Serving) (c : Call) (told : Option Told) (graph : Option Graph) (frame : Option (Addr × (Name × List ℕ))) → RepresentsServing sv s → HasAsked pl s.play c told graph (frames_made frame) → frame ≡ addressed s.play.past.keys (sealed_in (answer_in s.play c))
+pub called_made : (sv : Server) (pl : Player) (s : Serving) (c : Call) (told : Option Reported) (graph : Option Graph) (frame : Option (Addr × (Name × List ℕ))) → RepresentsServing sv s → HasAsked pl s.play c told graph (frames_made frame) → frame ≡ addressed s.play.past.keys (sealed_in (answer_in s.play c))
     → HasCalled (record sv { player = pl }) s c told graph frame
 called_made sv pl s c told graph frame st asked is = record {
   asked = asked;
@@ -47,12 +47,12 @@ no_frame : (frame : Option (Addr × (Name × List ℕ))) → [] ≡ frames_made 
 no_frame None e = refl
 no_frame (Some f) e = absurd (cc)
 
-pub called_quiet : (sv : Server) (pl : Player) (s : Serving) (c : Call) (told : Option Told) (graph : Option Graph) → RepresentsServing sv s → HasAsked pl s.play c told graph [] → HasCalled (record sv { player = pl }) s c told graph None
+pub called_quiet : (sv : Server) (pl : Player) (s : Serving) (c : Call) (told : Option Reported) (graph : Option Graph) → RepresentsServing sv s → HasAsked pl s.play c told graph [] → HasCalled (record sv { player = pl }) s c told graph None
 called_quiet sv pl s c told graph st asked =
     called_made sv pl s c told graph None st asked (no_frame (addressed s.play.past.keys (sealed_in (answer_in s.play c))) (asked.is_made ∙ sym (is_addressed s.play.past.keys (answer_in s.play c))))
 
 -- a session was left
-pub abandoned : (sv new : Server) (pl : Player) (n : ℕ) (sid : List ℕ) (told : Option Told) (graph : Option Graph) (r : Result Step ServeFault) → ((p : Play) → RepresentsPlay sv.player p → Some sid ≡ slice_get (sids_of p) (n - 1))
+pub abandoned : (sv new : Server) (pl : Player) (n : ℕ) (sid : List ℕ) (told : Option Reported) (graph : Option Graph) (r : Result Step ServeFault) → ((p : Play) → RepresentsPlay sv.player p → Some sid ≡ slice_get (sids_of p) (n - 1))
     → ((p : Play) → RepresentsPlay sv.player p → HasAsked pl p (Abandon sid) told graph []) → IfOk r (λ step. (s : Serving) (c : Call) → HasCalled (record sv { player = pl }) s c told graph None → Some sid ≡ sid_left c → HasReplied new step (calls s c))
     → IfOk r (λ step. (s : Serving) → RepresentsServing sv s → HasReplied new step (of_session s n (λ x. calls s (Abandon x))))
 abandoned sv new pl n sid told graph (Ok step) at asked h =
@@ -81,7 +81,7 @@ less_represents sv n s st = record {
 
 -- ---- an act
 
-pub acted : (sv new : Server) (pl : Player) (words : Option (List (List ℕ))) (sid : List ℕ) (label n : ℕ) (vs : Map Value) (ws : List (List ℕ)) (told : Option Told) (graph : Option Graph) (frame : Option (Addr × (Name × List ℕ))) (r : Result Step ServeFault) → n ≡ length vs
+pub acted : (sv new : Server) (pl : Player) (words : Option (List (List ℕ))) (sid : List ℕ) (label n : ℕ) (vs : Map Value) (ws : List (List ℕ)) (told : Option Reported) (graph : Option Graph) (frame : Option (Addr × (Name × List ℕ))) (r : Result Step ServeFault) → n ≡ length vs
     → ((all : List (List ℕ)) → words ≡ Some all → ws ≡ next_words n all) → ((p : Play) → RepresentsPlay sv.player p → HasAsked pl p (Act sid label vs ws) told graph (frames_made frame))
     → ((p : Play) → RepresentsPlay sv.player p → frame ≡ addressed p.past.keys (sealed_in (answer_in p (Act sid label vs ws))))
     → IfOk r (λ step. (s : Serving) (c : Call) → HasCalled (record sv { player = pl }) s c told graph frame → None ≡ sid_left c → HasReplied new step (calls s c))

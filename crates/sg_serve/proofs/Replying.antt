@@ -12,7 +12,7 @@ use Rattle.sg_protocol.specs.Calls.{Call}
 use Rattle.sg_protocol.specs.Graph.{Graph}
 use Rattle.sg_protocol.specs.Past.{node_of, past_after}
 use Rattle.sg_protocol.specs.Texts.{real}
-use Rattle.sg_report.specs.Told.{Told}
+use Rattle.sg_report.specs.Reported.{Reported}
 use Rattle.sg_serve.specs.declared.fault.ServeFault.{ServeFault}
 use Rattle.sg_serve.specs.declared.server.Server.{Server}
 use Rattle.sg_serve.specs.Served.{images_if, joins_kept, joins_of}
@@ -49,7 +49,7 @@ kept_is : (o : Option OpenLedger) (joins : List Join) → ((l : OpenLedger) → 
 kept_is None joins h e = absurd (cc)
 kept_is (Some l) joins h e = h l refl
 
-module _ (sv : Server) (may_leave : List ℕ → Type 0) (s : Serving) (c : Call) (told : Option Told) (graph : Option Graph) (frame : Option (Addr × (Name × List ℕ))) (h : HasCalled sv s c told graph frame) where
+module _ (sv : Server) (may_leave : List ℕ → Type 0) (s : Serving) (c : Call) (told : Option Reported) (graph : Option Graph) (frame : Option (Addr × (Name × List ℕ))) (h : HasCalled sv s c told graph frame) where
   -- the joins of the node with the call
   pub node_has : sv.player.node.joins ≡ joins_of (calls s c).0
   node_has = h.asked.node.joins ∙ joins_of_node (past_after real s.play.past c) h.asked.told_past

@@ -20,8 +20,8 @@ use Rattle.sg_protocol.specs.Past.{node_of}
 use Rattle.sg_protocol.specs.Spelling.{spelling}
 use Rattle.sg_protocol.specs.Texts.{real}
 use Rattle.sg_protocol.specs.Told.{graph_of_call}
-use Rattle.sg_report.specs.Told as Report
-use Rattle.sg_report.specs.Told.{Told, session_told, sid_left, told_answer}
+use Rattle.sg_report.specs.Reported as Report
+use Rattle.sg_report.specs.Reported.{Reported, session_reported, sid_left, reported_answer}
 use Rattle.sg_serve.specs.declared.server.Server.{Server}
 use Rattle.sg_serve.specs.Posted.{posted}
 use Rattle.sg_serve.specs.Serving.{Serving, as_sent, calls, frame_made, graphs_with, is_live, last_of, last_with, session_in, sids_of}
@@ -38,7 +38,7 @@ one_graph p g gs l = sym (ap (λ (b : Bool). if b then gs ++ g ∷ [] else gs) (
 -- ---- the frame
 
 -- the frame has the number that is told of it
-frame_is : (keys : Keyring) (n number : ℕ) (a : Answer) (told : Option Told) (frame : Option (Addr × (Name × List ℕ))) → told ≡ Some (told_answer n a) → ((e : Event) (to : Name) (k : ℕ) → told ≡ Some (Report.Sends e to k) → number ≡ k) → frame ≡ addressed keys (sealed_in a)
+frame_is : (keys : Keyring) (n number : ℕ) (a : Answer) (told : Option Reported) (frame : Option (Addr × (Name × List ℕ))) → told ≡ Some (reported_answer n a) → ((e : Event) (to : Name) (k : ℕ) → told ≡ Some (Report.Sends e to k) → number ≡ k) → frame ≡ addressed keys (sealed_in a)
     → option_map (as_sent number) frame ≡ option_map (as_sent n) (addressed keys (sealed_in a))
 frame_is keys n number (Protocol.Happened e) told frame t h is = ap (option_map (as_sent number)) is
 frame_is keys n number (Protocol.Sends e to f) told frame t h is = ap (option_map (as_sent number)) is ∙ ap (λ (k : ℕ). option_map (as_sent k) (addressed keys (Some (to, spelling f)))) (h e to n t)
@@ -55,14 +55,14 @@ posted_made n (Some f) = refl
 
 -- ---- a call was told
 
-module _ (sv : Server) (pl : Player) (s : Serving) (c : Call) (told : Option Told) (graph : Option Graph) (frame : Option (Addr × (Name × List ℕ))) (left : Option (List ℕ)) (h : HasCalled sv s c told graph frame) (leaves : left ≡ sid_left c) where
+module _ (sv : Server) (pl : Player) (s : Serving) (c : Call) (told : Option Reported) (graph : Option Graph) (frame : Option (Addr × (Name × List ℕ))) (left : Option (List ℕ)) (h : HasCalled sv s c told graph frame) (leaves : left ≡ sid_left c) where
   -- the number of a frame
   abbrev next : ℕ
   next = length (frames_of s.play.steps) + 1
 
-  pub session_is : (session : Option (List ℕ)) → IfSome told (λ t. session ≡ session_told left t) → session ≡ session_in s.play c
+  pub session_is : (session : Option (List ℕ)) → IfSome told (λ t. session ≡ session_reported left t) → session ≡ session_in s.play c
   session_is session e =
-      subst (λ (o : Option Told). IfSome o (λ t. session ≡ session_told left t)) h.asked.is_told e ∙ ap (λ (l : Option (List ℕ)). session_told l (told_answer next (answer_in s.play c))) leaves
+      subst (λ (o : Option Reported). IfSome o (λ t. session ≡ session_reported left t)) h.asked.is_told e ∙ ap (λ (l : Option (List ℕ)). session_reported l (reported_answer next (answer_in s.play c))) leaves
 
   pub made_is : (number : ℕ) → ((e : Event) (to : Name) (k : ℕ) → told ≡ Some (Report.Sends e to k) → number ≡ k) → option_map (as_sent number) frame ≡ frame_made s.play c
   made_is number is = frame_is s.play.past.keys next number (answer_in s.play c) told frame h.asked.is_told is h.is_frame

@@ -19,7 +19,7 @@ use Rattle.sg_protocol.specs.NodeStates.{RepresentsPast}
 use Rattle.sg_protocol.specs.Past.{Past, node_of, past_after}
 use Rattle.sg_protocol.specs.Ranges.{IsCallInRange}
 use Rattle.sg_protocol.specs.Texts.{real}
-use Rattle.sg_report.specs.Told.{Told, told_answer}
+use Rattle.sg_report.specs.Reported.{Reported, reported_answer}
 use Rattle.sg_serve.specs.declared.fault.ServeFault.{ServeFault}
 use Rattle.sg_serve.specs.declared.server.Server.{Server}
 use Rattle.sg_serve.specs.Lines.{Run, asks_quit, given, gives, receipt, until_quit, with_line, with_lines}
@@ -43,14 +43,14 @@ pub record HoldsJoins (sv : Server) (may_leave : List ℕ → Type 0) : Type 0 w
   pub images : AllRepresent (images_if (is_some sv.ledger) may_leave) sv.player.node.joins
 
 -- the node has been asked one more call, and this came of it; the ledger, if there is one, has the joins from before
-pub record HasAskedNode (sv : Server) (may_leave : List ℕ → Type 0) (told : Option Told) : Type 0 where
+pub record HasAskedNode (sv : Server) (may_leave : List ℕ → Type 0) (told : Option Reported) : Type 0 where
   pub past : Past
   pub call : Call
   pub number : ℕ
   pub range : IsCallInRange call
   pub told_before : IsTold past
   pub represents : RepresentsPast sv.player.node (past_after real past call)
-  pub is_told : told ≡ Some (told_answer number (answer real (node_of past) call))
+  pub is_told : told ≡ Some (reported_answer number (answer real (node_of past) call))
   pub ledger : (l : OpenLedger) → sv.ledger ≡ Some l → l ≡ record { joins = (node_of past).joins; failed = false }
   pub images : AllRepresent (images_if (is_some sv.ledger) may_leave) (node_of past).joins
 
@@ -59,7 +59,7 @@ abbrev pub LedgerHas : Server → List Join → Type 0
 LedgerHas sv joins = (l : OpenLedger) → sv.ledger ≡ Some l → l.joins ≡ joins
 
 -- the player has asked its node this call, and this came of it, which is not told yet
-pub record HasCalled (sv : Server) (s : Serving) (c : Call) (told : Option Told) (graph : Option Graph) (frame : Option (Addr × (Name × List ℕ))) : Type 0 where
+pub record HasCalled (sv : Server) (s : Serving) (c : Call) (told : Option Reported) (graph : Option Graph) (frame : Option (Addr × (Name × List ℕ))) : Type 0 where
   pub asked : HasAsked sv.player s.play c told graph (frames_made frame)
   pub told_before : IsTold s.play.past
   pub is_frame : frame ≡ addressed s.play.past.keys (sealed_in (answer_in s.play c))

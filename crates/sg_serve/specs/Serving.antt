@@ -21,7 +21,7 @@ use Rattle.sg_protocol.specs.Told.{graph_of_call, live_with}
 use Rattle.sg_protocol.specs.Turn.{turn_of}
 use Rattle.sg_sched_text.specs.Adding.{known_values, is_twice}
 use Rattle.sg_report.specs.Lines.{graph_or_none}
-use Rattle.sg_report.specs.Told.{session_told, sid_left, told_answer}
+use Rattle.sg_report.specs.Reported.{session_reported, sid_left, reported_answer}
 use Rattle.sg_request.specs.declared.request.Request.{Request}
 use Rattle.sg_request.specs.declared.request.Request.TheVariants as request
 use Rattle.sg_sched.specs.Format.Items.{labels_of}
@@ -86,7 +86,7 @@ frame_made p c = option_map (as_sent (length (frames_of p.steps) + 1)) (addresse
 
 -- the session that the line of a call names
 abbrev pub session_in : Play → Call → Option (List ℕ)
-session_in p c = session_told (sid_left c) (told_answer (length (frames_of p.steps) + 1) (answer_in p c))
+session_in p c = session_reported (sid_left c) (reported_answer (length (frames_of p.steps) + 1) (answer_in p c))
 
 -- the last frames after a session may have sent one: it is the session's last frame, and a session that is not live any more has ended
 abbrev pub last_with : (live : Bool) → (sid : List ℕ) → Option SentFrame → List Kept → List Kept

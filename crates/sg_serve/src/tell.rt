@@ -11,7 +11,7 @@ ghost use Rattle.sg_play.specs.Representation.{HasAsked, RepresentsPlay};
 ghost use Rattle.sg_protocol.specs.Calls.{Call, Event};
 ghost use Rattle.sg_protocol.specs.Past.{node_of};
 ghost use Rattle.sg_report.specs.Outcome.{outcome_of};
-ghost use Rattle.sg_report.specs.Told.{Sends, session_told, sid_left};
+ghost use Rattle.sg_report.specs.Reported.{Sends, session_reported, sid_left};
 ghost use Rattle.sg_serve.specs.Served.{images_if, joins_kept};
 ghost use Rattle.sg_serve.specs.Serving.{Serving, as_sent, calls, graphs_with, last_of};
 ghost use Rattle.sg_serve.specs.Representation.{HasAskedNode, HasCalled, HasReplied, HoldsJoins, LedgerHas, Replied};
@@ -25,7 +25,7 @@ use sg_base::{Addr, Sealed, Sid};
 use sg_graph::Graph;
 use sg_keep::{KeepFault, add_join};
 use sg_ledger::{Disk, Ledger};
-use sg_report::{Outcome, sid_told};
+use sg_report::{Outcome, sid_reported};
 
 impl<'p> Server<'p> {
     // Keeps the join of what came of a call that makes no frame and leaves no session, if it is one, and then tells what came of it.
@@ -169,11 +169,11 @@ impl<'p> Server<'p> {
 
 // The session that a line names: that of the outcome's event, or the one that was left.
 fn session_of(left: &Option<Sid>, outcome: &Outcome) -> Option<Sid>
-    ensures { IfSome (outcome_of outcome.now) (λ t. result ≡ session_told left.now t) }
+    ensures { IfSome (outcome_of outcome.now) (λ t. result ≡ session_reported left.now t) }
 {
     match outcome {
         Outcome::Abandoned => *left,
-        _ => sid_told(outcome),
+        _ => sid_reported(outcome),
     }
 }
 

@@ -32,10 +32,10 @@ one_more g xs i x old new l at all t =
 -- ---- walks
 
 -- the walk of a right answer is one of the graph
-pub walk_of_yes : (g : Graph) (logs : List Log) (told : Option (List StoredStep)) (a : Audit) (walk : StoredWalk) → IsAnswer g logs told a → a ≡ Yes walk → IsStoredWalk g (steps_of walk)
-walk_of_yes g logs told (Yes w) walk h e = let same : w ≡ walk = cc in subst (λ (v : StoredWalk). IsStoredWalk g (steps_of v)) same h.0.path.walk
-walk_of_yes g logs told (Clash time) walk h e = let no : ⊥ = cc in absurd no
-walk_of_yes g logs told No walk h e = let no : ⊥ = cc in absurd no
+pub walk_of_yes : (g : Graph) (logs : List Log) (known : Option (List StoredStep)) (a : Audit) (walk : StoredWalk) → IsAnswer g logs known a → a ≡ Yes walk → IsStoredWalk g (steps_of walk)
+walk_of_yes g logs known (Yes w) walk h e = let same : w ≡ walk = cc in subst (λ (v : StoredWalk). IsStoredWalk g (steps_of v)) same h.0.path.walk
+walk_of_yes g logs known (Clash time) walk h e = let no : ⊥ = cc in absurd no
+walk_of_yes g logs known No walk h e = let no : ⊥ = cc in absurd no
 
 -- what is said, and then the walk
 pub said_and_walk : {A E : Type 0} (r : Result A E) (old one new said line other : List ℕ) → one ≡ old ++ said → line ≡ other → OnOk r (new ≡ one ++ line) → OnOk r (new ≡ old ++ (said ++ other))

@@ -7,16 +7,16 @@ use Rattle.sg_claims.specs.declared.decision.Answer.{Answer}
 use Rattle.sg_protocol.specs.Graph.{Graph, shape}
 use Rattle.sg_top.specs.Claimed.{AreAnswered, OneMore, OnClaims, answer_line, does_hold, most_claims_file}
 use Rattle.sg_top.specs.Ending.{Ending}
-use Rattle.sg_top.specs.Ends.{Told, Output}
+use Rattle.sg_top.specs.Ends.{KnownFiles, Output}
 use Rattle.sg_top.proofs.InOrder.{unread}
 
 -- the claims are read after the graph, which changed nothing of what the files hold
-pub on_later : (g : Graph) (claims : List ℕ) (told told' : Told) (f0 f1 f2 : ℕ) (old new : Output) (e : Ending) → told' ≡ told → f0 ≤ f1 → f1 ≤ f2
-    → OnClaims g claims told' f1 f2 old new e → OnClaims g claims told f0 f2 old new e
-on_later g claims told told' f0 f1 f2 old new e same a b h = widened (subst (λ t. OnClaims g claims t f1 f2 old new e) same h)
+pub on_later : (g : Graph) (claims : List ℕ) (known known' : KnownFiles) (f0 f1 f2 : ℕ) (old new : Output) (e : Ending) → known' ≡ known → f0 ≤ f1 → f1 ≤ f2
+    → OnClaims g claims known' f1 f2 old new e → OnClaims g claims known f0 f2 old new e
+on_later g claims known known' f0 f1 f2 old new e same a b h = widened (subst (λ t. OnClaims g claims t f1 f2 old new e) same h)
   where
-    widened : OnClaims g claims told f1 f2 old new e → OnClaims g claims told f0 f2 old new e
-    widened (inl u) = inl (u.0, unread most_claims_file claims told f0 f1 f2 e a b u.1)
+    widened : OnClaims g claims known f1 f2 old new e → OnClaims g claims known f0 f2 old new e
+    widened (inl u) = inl (u.0, unread most_claims_file claims known f0 f1 f2 e a b u.1)
     widened (inr held) = inr held
 
 -- one more of the claims is answered

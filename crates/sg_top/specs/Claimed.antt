@@ -20,7 +20,7 @@ use Rattle.sg_protocol.specs.Keyring.{Program}
 use Rattle.sg_protocol.specs.Texts.{real}
 use Rattle.sg_program.specs.Compiled.{IsWhole}
 use Rattle.sg_top.specs.Ending.{Ending, Written, NoGraph, GraphRefused, ClaimsRefused, ClaimFails, WriteFailed, NoMemory}
-use Rattle.sg_top.specs.Ends.{Told, Output, Writes, IsFirstRefused, IsUnread}
+use Rattle.sg_top.specs.Ends.{KnownFiles, Output, Writes, IsFirstRefused, IsUnread}
 use Rattle.sg_top.specs.Setup.{Holds, EndsAt}
 
 -- a file of claims has at most 1 MiB
@@ -109,13 +109,13 @@ abbrev pub OnClaimsIn : Graph → List ℕ → (old new : Output) → Ending →
 OnClaimsIn g bytes old new ending = ((new ≡ old) × RefusesClaims g bytes ending) ⊎ Decides g bytes old new ending
 
 -- the same of a file, which is not read, and nothing is written, or holds such bytes
-abbrev pub OnClaims : Graph → (claims : List ℕ) → Told → (faults faults' : ℕ) → (old new : Output) → Ending → Type 0
-OnClaims g claims told faults faults' old new ending =
-    ((new ≡ old) × IsUnread most_claims_file claims told faults faults' ending)
-    ⊎ Holds told most_claims_file claims (λ bytes. OnClaimsIn g bytes old new ending)
+abbrev pub OnClaims : Graph → (claims : List ℕ) → KnownFiles → (faults faults' : ℕ) → (old new : Output) → Ending → Type 0
+OnClaims g claims known faults faults' old new ending =
+    ((new ≡ old) × IsUnread most_claims_file claims known faults faults' ending)
+    ⊎ Holds known most_claims_file claims (λ bytes. OnClaimsIn g bytes old new ending)
 
 -- the claims of a file are decided on the graph of another so: the graph is read and checked first, and where it is refused nothing is written
-abbrev pub DecidesClaims : (graph claims : List ℕ) → Told → (faults faults' : ℕ) → (old new : Output) → Ending → Type 0
-DecidesClaims graph claims told faults faults' old new ending =
-    ((new ≡ old) × EndsAt told faults faults' most_graph_file graph RefusesGraph ending)
-    ⊎ ((g : Graph) × Holds told most_graph_file graph (λ bytes. IsAcceptedText bytes g) × OnClaims g claims told faults faults' old new ending)
+abbrev pub DecidesClaims : (graph claims : List ℕ) → KnownFiles → (faults faults' : ℕ) → (old new : Output) → Ending → Type 0
+DecidesClaims graph claims known faults faults' old new ending =
+    ((new ≡ old) × EndsAt known faults faults' most_graph_file graph RefusesGraph ending)
+    ⊎ ((g : Graph) × Holds known most_graph_file graph (λ bytes. IsAcceptedText bytes g) × OnClaims g claims known faults faults' old new ending)

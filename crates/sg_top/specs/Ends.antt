@@ -34,12 +34,12 @@ use Rattle.sg_top.specs.Replayed.{CanBeReplayed, Reports, IsOverfull}
 use Rattle.sg_top.specs.Driven.{IsOverfullDrive, Sums}
 
 -- files, each its name and its bytes, where they are told
-abbrev pub Told : Type 0
-Told = Option (List (List ℕ × List ℕ))
+abbrev pub KnownFiles : Type 0
+KnownFiles = Option (List (List ℕ × List ℕ))
 
 -- what a file has, where it is told
-abbrev pub Has : Told → List ℕ → Option (List ℕ) → Type 0
-Has told file found = (files : List (List ℕ × List ℕ)) → told ≡ Some files → file_at files file ≡ found
+abbrev pub Has : KnownFiles → List ℕ → Option (List ℕ) → Type 0
+Has known file found = (files : List (List ℕ × List ℕ)) → known ≡ Some files → file_at files file ≡ found
 
 -- a place that is written to: its bytes, where they are told, and its count of faults
 pub record Output : Type 0 where
@@ -241,15 +241,15 @@ Composes bytes old new ending = (text : List ℕ) × IsComposition bytes text ×
 -- ---- files
 
 -- a file is not read: the files failed, which their count shows, there is no such file, it has more bytes than it may have, or memory ran out
-abbrev pub IsUnread : ℕ → List ℕ → Told → (faults faults' : ℕ) → Ending → Type 0
-IsUnread most file told faults faults' (FileFailed word) = (word ≡ file) × HasRisen faults faults'
-IsUnread most file told faults faults' (NoSuchFile word) = (word ≡ file) × Has told file None
-IsUnread most file told faults faults' (TooLarge word) = (word ≡ file) × ((files : List (List ℕ × List ℕ)) → told ≡ Some files → IsSomeAnd (file_at files file) (λ bytes. most < length bytes))
-IsUnread most file told faults faults' NoMemory = ⊤
-IsUnread most file told faults faults' ending = ⊥
+abbrev pub IsUnread : ℕ → List ℕ → KnownFiles → (faults faults' : ℕ) → Ending → Type 0
+IsUnread most file known faults faults' (FileFailed word) = (word ≡ file) × HasRisen faults faults'
+IsUnread most file known faults faults' (NoSuchFile word) = (word ≡ file) × Has known file None
+IsUnread most file known faults faults' (TooLarge word) = (word ≡ file) × ((files : List (List ℕ × List ℕ)) → known ≡ Some files → IsSomeAnd (file_at files file) (λ bytes. most < length bytes))
+IsUnread most file known faults faults' NoMemory = ⊤
+IsUnread most file known faults faults' ending = ⊥
 
 -- what is done with a file of at most `most` bytes ends so: it is read and done with its bytes, or it is not read and nothing is written
-abbrev pub OnFile : (List ℕ → (old new : Output) → Ending → Type 0) → ℕ → List ℕ → Told → (faults faults' : ℕ) → (old new : Output) → Ending → Type 0
-OnFile Does most file told faults faults' old new ending =
-    ((bytes : List ℕ) × Has told file (Some bytes) × (length bytes ≤ most) × Does bytes old new ending)
-    ⊎ ((new ≡ old) × IsUnread most file told faults faults' ending)
+abbrev pub OnFile : (List ℕ → (old new : Output) → Ending → Type 0) → ℕ → List ℕ → KnownFiles → (faults faults' : ℕ) → (old new : Output) → Ending → Type 0
+OnFile Does most file known faults faults' old new ending =
+    ((bytes : List ℕ) × Has known file (Some bytes) × (length bytes ≤ most) × Does bytes old new ending)
+    ⊎ ((new ≡ old) × IsUnread most file known faults faults' ending)

@@ -10,7 +10,7 @@ use Rattle.sg_ledger.specs.Format.{Join, IsLedger, IsFirstBadSlot, Represents}
 use Rattle.sg_play.specs.Played.{Play, played}
 use Rattle.sg_play.specs.declared.fault.PlayFault.TheVariants as PlayFaults
 use Rattle.sg_top.specs.Ending.{Ending, Written, NoLedger, BadSlot, LedgerNotEmpty, WriteFailed, LinkFailed, DiskFailed, NoMemory}
-use Rattle.sg_top.specs.Ends.{Told, Output, Writes}
+use Rattle.sg_top.specs.Ends.{KnownFiles, Output, Writes}
 use Rattle.sg_top.specs.Runs.{Outside, IsUntouched, Takes, TakesAtMost, WaitsAt, CanHavePlayed}
 use Rattle.sg_top.specs.Setup.{RunFiles, Setup, HasSetup, LacksSetup}
 
@@ -99,10 +99,10 @@ KeepsSetup file s most old new disk disk' ending =
     ⊎ (IsUntouched old new × IsLeft disk disk' × IsBound file disk disk' ending × LacksLedger disk disk' ending)
 
 -- a run over the ledger of a file ends so: the files hold a setup, which is played over the ledger, if there is one; or they hold none, and nothing is touched, nor the disk asked
-abbrev pub KeepsRun : (file : List ℕ) → RunFiles → (most : ℕ) → Told → (faults faults' : ℕ) → (old new : Outside) → (disk disk' : Disked) → Ending → Type 0
-KeepsRun file named most told faults faults' old new disk disk' ending =
-    ((s : Setup) × HasSetup told named s × KeepsSetup file s most old new disk disk' ending)
-    ⊎ (IsUntouched old new × IsNotAsked disk disk' × LacksSetup told faults faults' named ending)
+abbrev pub KeepsRun : (file : List ℕ) → RunFiles → (most : ℕ) → KnownFiles → (faults faults' : ℕ) → (old new : Outside) → (disk disk' : Disked) → Ending → Type 0
+KeepsRun file named most known faults faults' old new disk disk' ending =
+    ((s : Setup) × HasSetup known named s × KeepsSetup file s most old new disk disk' ending)
+    ⊎ (IsUntouched old new × IsNotAsked disk disk' × LacksSetup known faults faults' named ending)
 
 -- with these endings a run over a ledger may have played
 abbrev pub CanHaveKept : Ending → Type 0

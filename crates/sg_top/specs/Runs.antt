@@ -9,7 +9,7 @@ use Rattle.sg_play.specs.declared.fault.PlayFault.{PlayFault}
 use Rattle.sg_play.specs.declared.fault.PlayFault.TheVariants as Play
 use Rattle.sg_protocol.specs.Keyring.{Keyring}
 use Rattle.sg_top.specs.Ending.{Ending, Written, LinkFailed, WriteFailed, NoMemory}
-use Rattle.sg_top.specs.Ends.{Told, Output}
+use Rattle.sg_top.specs.Ends.{KnownFiles, Output}
 use Rattle.sg_top.specs.Setup.{RunFiles, Setup, HasSetup, LacksSetup, waits_at}
 
 -- a link: the address at which it waits, if it is open, the deliveries to come and the frames sent, where they are told, and its count of faults
@@ -68,10 +68,10 @@ abbrev pub WaitsAt : Keyring → (old new : Outside) → Ending → Type 0
 WaitsAt keys old new ending = ((new.link).bound ≡ Some (waits_at keys)) ⊎ ((ending ≡ LinkFailed) × LacksLink old new)
 
 -- a run ends so: the files hold a setup, which is played over the link at the address of its keys; or they hold none, and nothing is touched
-abbrev pub Runs : RunFiles → (most : ℕ) → Told → (faults faults' : ℕ) → (old new : Outside) → Ending → Type 0
-Runs named most told faults faults' old new ending =
-    ((s : Setup) × HasSetup told named s × WaitsAt s.keys old new ending × PlayEnds s most old new ending)
-    ⊎ (IsUntouched old new × LacksSetup told faults faults' named ending)
+abbrev pub Runs : RunFiles → (most : ℕ) → KnownFiles → (faults faults' : ℕ) → (old new : Outside) → Ending → Type 0
+Runs named most known faults faults' old new ending =
+    ((s : Setup) × HasSetup known named s × WaitsAt s.keys old new ending × PlayEnds s most old new ending)
+    ⊎ (IsUntouched old new × LacksSetup known faults faults' named ending)
 
 -- with these endings a run may have played
 abbrev pub CanHavePlayed : Ending → Type 0

@@ -11,7 +11,7 @@ use Rattle.sg_serve.specs.declared.fault.ServeFault.{ServeFault}
 use Rattle.sg_serve.specs.declared.fault.ServeFault.TheVariants as ServeFaults
 use Rattle.sg_wait.specs.declared.coming.Coming.{Coming}
 use Rattle.sg_top.specs.Ending.{Ending, Written, InputFailed, WriteFailed, LinkFailed, DiskFailed, NoMemory}
-use Rattle.sg_top.specs.Ends.{Told, Output}
+use Rattle.sg_top.specs.Ends.{KnownFiles, Output}
 use Rattle.sg_top.specs.Ledgers.{Disked, IsBound, IsLeft, IsNotAsked, LacksLedger}
 use Rattle.sg_top.specs.Setup.{HasPrincipal, LacksPrincipal, Principal, waits_at}
 
@@ -104,10 +104,10 @@ ServesPrincipal (Some file) p old new disk disk' ending =
     ⊎ (IsUnasked old new × IsLeft disk disk' × IsBound file disk disk' ending × LacksLedger disk disk' ending)
 
 -- a run for an application ends so: the files hold a principal, which serves; or they hold none, and nothing is touched, nor the disk asked
-abbrev pub ServesRun : NamedFiles → Told → (faults faults' : ℕ) → (old new : Application) → (disk disk' : Disked) → Ending → Type 0
-ServesRun named told faults faults' old new disk disk' ending =
-    ((p : Principal) × HasPrincipal told named.keys named.programs p × ServesPrincipal named.ledger p old new disk disk' ending)
-    ⊎ (IsUnasked old new × IsNotAsked disk disk' × LacksPrincipal told faults faults' named.keys named.programs ending)
+abbrev pub ServesRun : NamedFiles → KnownFiles → (faults faults' : ℕ) → (old new : Application) → (disk disk' : Disked) → Ending → Type 0
+ServesRun named known faults faults' old new disk disk' ending =
+    ((p : Principal) × HasPrincipal known named.keys named.programs p × ServesPrincipal named.ledger p old new disk disk' ending)
+    ⊎ (IsUnasked old new × IsNotAsked disk disk' × LacksPrincipal known faults faults' named.keys named.programs ending)
 
 -- with these endings a run for an application may have begun
 abbrev pub CanHaveServed : Ending → Type 0

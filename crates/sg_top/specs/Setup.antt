@@ -15,7 +15,7 @@ use Rattle.sg_script.specs.Format.{SpellsScript, script_file}
 use Rattle.sg_script.specs.Script.{Script}
 use Rattle.sg_script.specs.declared.fault.ScriptFault.TheVariants.{OutOfMemory as NoMemoryForScripts}
 use Rattle.sg_top.specs.Ending.{Ending, KeysRefused, ScriptRefused, ProgramRefused, GraphRefused, NoMemory}
-use Rattle.sg_top.specs.Ends.{Told, Has, IsUnread}
+use Rattle.sg_top.specs.Ends.{KnownFiles, Has, IsUnread}
 use Rattle.sg_top.specs.declared.ending.BadProgram.{BadProgram}
 use Rattle.sg_top.specs.declared.ending.BadProgram.TheVariants.{Malformed, NotTheTable, Twice}
 
@@ -43,8 +43,8 @@ waits_at keys = record { ip = keys.ip; port = keys.port }
 -- ---- what the files hold
 
 -- the file has at most `most` bytes, and `Such` holds of them
-abbrev pub Holds : Told → (most : ℕ) → (file : List ℕ) → (List ℕ → Type 0) → Type 0
-Holds told most file Such = (bytes : List ℕ) × Has told file (Some bytes) × (length bytes ≤ most) × Such bytes
+abbrev pub Holds : KnownFiles → (most : ℕ) → (file : List ℕ) → (List ℕ → Type 0) → Type 0
+Holds known most file Such = (bytes : List ℕ) × Has known file (Some bytes) × (length bytes ≤ most) × Such bytes
 
 -- the bytes are the text of the program
 abbrev pub IsTextOf : Program → List ℕ → Type 0
@@ -58,20 +58,20 @@ pub record Adds (Such : Program → Type 0) (before after : List Program) : Type
   pub is : after ≡ before ++ program ∷ []
 
 -- the files hold these programs, in order, none of which is of another graph with the name of one before it, or of the same graph and role
-pub data HoldPrograms (told : Told) : (files : List (List ℕ)) → List Program → Type 0 where
-  NoPrograms : HoldPrograms told [] []
-  OneMore : {files : List (List ℕ)} {programs : List Program} {file : List ℕ} {p : Program} → HoldPrograms told files programs
-      → Holds told most_program_file file (IsTextOf p) → list_any (clashes p) programs ≡ false → HoldPrograms told (files ++ file ∷ []) (programs ++ p ∷ [])
+pub data HoldPrograms (known : KnownFiles) : (files : List (List ℕ)) → List Program → Type 0 where
+  NoPrograms : HoldPrograms known [] []
+  OneMore : {files : List (List ℕ)} {programs : List Program} {file : List ℕ} {p : Program} → HoldPrograms known files programs
+      → Holds known most_program_file file (IsTextOf p) → list_any (clashes p) programs ≡ false → HoldPrograms known (files ++ file ∷ []) (programs ++ p ∷ [])
 
 -- the files hold the principal
-pub record HasPrincipal (told : Told) (keys : List ℕ) (programs : List (List ℕ)) (p : Principal) : Type 0 where
-  pub has_keys : Holds told most_script_file keys (λ bytes. SpellsKeys bytes p.keys)
-  pub has_programs : HoldPrograms told programs p.programs
+pub record HasPrincipal (known : KnownFiles) (keys : List ℕ) (programs : List (List ℕ)) (p : Principal) : Type 0 where
+  pub has_keys : Holds known most_script_file keys (λ bytes. SpellsKeys bytes p.keys)
+  pub has_programs : HoldPrograms known programs p.programs
 
 -- the files hold the setup
-pub record HasSetup (told : Told) (named : RunFiles) (s : Setup) : Type 0 where
-  pub principal : HasPrincipal told named.keys named.programs (record { keys = s.keys; programs = s.programs })
-  pub script : Holds told most_script_file named.script (λ bytes. SpellsScript s.programs bytes s.script)
+pub record HasSetup (known : KnownFiles) (named : RunFiles) (s : Setup) : Type 0 where
+  pub principal : HasPrincipal known named.keys named.programs (record { keys = s.keys; programs = s.programs })
+  pub script : Holds known most_script_file named.script (λ bytes. SpellsScript s.programs bytes s.script)
 
 -- ---- what is refused
 
@@ -101,27 +101,27 @@ RefusesScript programs bytes NoMemory = ⊤
 RefusesScript programs bytes ending = ⊥
 
 -- it ends at this file, of at most `most` bytes: the file isn't read, or what it holds is refused
-abbrev pub EndsAt : Told → (faults faults' : ℕ) → (most : ℕ) → (file : List ℕ) → (List ℕ → Ending → Type 0) → Ending → Type 0
-EndsAt told faults faults' most file Refuses ending = IsUnread most file told faults faults' ending ⊎ Holds told most file (λ bytes. Refuses bytes ending)
+abbrev pub EndsAt : KnownFiles → (faults faults' : ℕ) → (most : ℕ) → (file : List ℕ) → (List ℕ → Ending → Type 0) → Ending → Type 0
+EndsAt known faults faults' most file Refuses ending = IsUnread most file known faults faults' ending ⊎ Holds known most file (λ bytes. Refuses bytes ending)
 
 -- it ends at a program of these files, those before it being read and taken
-pub record StopsAtProgram (told : Told) (faults faults' : ℕ) (files : List (List ℕ)) (ending : Ending) : Type 0 where
+pub record StopsAtProgram (known : KnownFiles) (faults faults' : ℕ) (files : List (List ℕ)) (ending : Ending) : Type 0 where
   pub before : List (List ℕ)
   pub file : List ℕ
   pub behind : List (List ℕ)
   pub programs : List Program
   pub are : files ≡ before ++ file ∷ behind
-  pub held : HoldPrograms told before programs
-  pub ends : EndsAt told faults faults' most_program_file file (RefusesProgram programs) ending
+  pub held : HoldPrograms known before programs
+  pub ends : EndsAt known faults faults' most_program_file file (RefusesProgram programs) ending
 
 -- there is no principal, by the first cause: the keys are looked at first, then the programs in order
-pub data LacksPrincipal (told : Told) (faults faults' : ℕ) (keys : List ℕ) (programs : List (List ℕ)) (ending : Ending) : Type 0 where
-  AtKeys : EndsAt told faults faults' most_script_file keys RefusesKeys ending → LacksPrincipal told faults faults' keys programs ending
-  AtProgram : {found : Keyring} → Holds told most_script_file keys (λ bytes. SpellsKeys bytes found) → StopsAtProgram told faults faults' programs ending
-      → LacksPrincipal told faults faults' keys programs ending
+pub data LacksPrincipal (known : KnownFiles) (faults faults' : ℕ) (keys : List ℕ) (programs : List (List ℕ)) (ending : Ending) : Type 0 where
+  AtKeys : EndsAt known faults faults' most_script_file keys RefusesKeys ending → LacksPrincipal known faults faults' keys programs ending
+  AtProgram : {found : Keyring} → Holds known most_script_file keys (λ bytes. SpellsKeys bytes found) → StopsAtProgram known faults faults' programs ending
+      → LacksPrincipal known faults faults' keys programs ending
 
 -- there is no setup, by the first cause: the principal is looked at first, then the script
-pub data LacksSetup (told : Told) (faults faults' : ℕ) (named : RunFiles) (ending : Ending) : Type 0 where
-  AtPrincipal : LacksPrincipal told faults faults' named.keys named.programs ending → LacksSetup told faults faults' named ending
-  AtScript : {p : Principal} → HasPrincipal told named.keys named.programs p → EndsAt told faults faults' most_script_file named.script (RefusesScript p.programs) ending
-      → LacksSetup told faults faults' named ending
+pub data LacksSetup (known : KnownFiles) (faults faults' : ℕ) (named : RunFiles) (ending : Ending) : Type 0 where
+  AtPrincipal : LacksPrincipal known faults faults' named.keys named.programs ending → LacksSetup known faults faults' named ending
+  AtScript : {p : Principal} → HasPrincipal known named.keys named.programs p → EndsAt known faults faults' most_script_file named.script (RefusesScript p.programs) ending
+      → LacksSetup known faults faults' named ending

@@ -8,7 +8,7 @@ use Rattle.sg_stream.specs.Traffic.{Traffic}
 use Rattle.sg_args.specs.Command.{Command, Check, Compile, Run, Replay, Drive, Ledger, Keep, Stream, Audit, Compose, Suggest, Claims, Serve, command_of}
 use Rattle.sg_top.specs.Claimed.{DecidesClaims, Suggests}
 use Rattle.sg_top.specs.Ending.{Ending, NoCommand, NoMemory, status_of, line_of}
-use Rattle.sg_top.specs.Ends.{Told, Output, OnFile, Checks, Compiles, Replays, Drives, Audits, Composes}
+use Rattle.sg_top.specs.Ends.{KnownFiles, Output, OnFile, Checks, Compiles, Replays, Drives, Audits, Composes}
 use Rattle.sg_top.specs.Ledgers.{CanHaveKept, Disked, IsNotAsked, KeepsRun, Makes}
 use Rattle.sg_top.specs.Runs.{CanHavePlayed, Linked, Outside, IsUntouched, Runs}
 use Rattle.sg_top.specs.Serves.{Application, CanHaveServed, Entered, ServesRun, Waited}
@@ -34,26 +34,26 @@ application over_tcp o b = record {
 }
 
 -- the work that a command asks for ends so; a run over connections is a run over that link
-abbrev pub Works : Option Command → Told → (faults faults' : ℕ) → (old new : Outside) → (stream stream' : Linked) → (disk disk' : Disked) → (beside beside' : Beside) → Ending → Type 0
-Works None told faults faults' old new stream stream' disk disk' beside beside' ending = IsUntouched old new × (faults' ≡ faults) × (ending ≡ NoCommand)
-Works (Some (Check file)) told faults faults' old new stream stream' disk disk' beside beside' ending = OnFile Checks most_graph_file file told faults faults' old.out new.out ending
-Works (Some (Compile file role)) told faults faults' old new stream stream' disk disk' beside beside' ending = OnFile (Compiles role) most_graph_file file told faults faults' old.out new.out ending
-Works (Some (Run keys script most programs)) told faults faults' old new stream stream' disk disk' beside beside' ending = Runs (record { keys = keys; programs = programs; script = script }) most told faults faults' old new ending
-Works (Some (Replay file)) told faults faults' old new stream stream' disk disk' beside beside' ending = OnFile Replays most_schedule_file file told faults faults' old.out new.out ending
-Works (Some (Drive seed sessions file)) told faults faults' old new stream stream' disk disk' beside beside' ending = OnFile (Drives seed sessions) most_graph_file file told faults faults' old.out new.out ending
-Works (Some (Ledger file)) told faults faults' old new stream stream' disk disk' beside beside' ending = (faults' ≡ faults) × Makes file old.out new.out disk disk' ending
-Works (Some (Keep file keys script most programs)) told faults faults' old new stream stream' disk disk' beside beside' ending = KeepsRun file (record { keys = keys; programs = programs; script = script }) most told faults faults' old new disk disk' ending
-Works (Some (Stream keys script most programs)) told faults faults' old new stream stream' disk disk' beside beside' ending = Runs (record { keys = keys; programs = programs; script = script }) most told faults faults' (record old { link = stream }) (record new { link = stream' }) ending
-Works (Some (Audit file)) told faults faults' old new stream stream' disk disk' beside beside' ending = OnFile Audits most_logs_file file told faults faults' old.out new.out ending
-Works (Some (Compose file)) told faults faults' old new stream stream' disk disk' beside beside' ending = OnFile Composes most_graph_file file told faults faults' old.out new.out ending
-Works (Some (Suggest file)) told faults faults' old new stream stream' disk disk' beside beside' ending = OnFile Suggests most_graph_file file told faults faults' old.out new.out ending
-Works (Some (Claims graph claims)) told faults faults' old new stream stream' disk disk' beside beside' ending = DecidesClaims graph claims told faults faults' old.out new.out ending
-Works (Some (Serve over_tcp ledger keys programs)) told faults faults' old new stream stream' disk disk' beside beside' ending = ServesRun (record { keys = keys; programs = programs; ledger = ledger }) told faults faults' (application over_tcp old beside) (application over_tcp new beside') disk disk' ending
+abbrev pub Works : Option Command → KnownFiles → (faults faults' : ℕ) → (old new : Outside) → (stream stream' : Linked) → (disk disk' : Disked) → (beside beside' : Beside) → Ending → Type 0
+Works None known faults faults' old new stream stream' disk disk' beside beside' ending = IsUntouched old new × (faults' ≡ faults) × (ending ≡ NoCommand)
+Works (Some (Check file)) known faults faults' old new stream stream' disk disk' beside beside' ending = OnFile Checks most_graph_file file known faults faults' old.out new.out ending
+Works (Some (Compile file role)) known faults faults' old new stream stream' disk disk' beside beside' ending = OnFile (Compiles role) most_graph_file file known faults faults' old.out new.out ending
+Works (Some (Run keys script most programs)) known faults faults' old new stream stream' disk disk' beside beside' ending = Runs (record { keys = keys; programs = programs; script = script }) most known faults faults' old new ending
+Works (Some (Replay file)) known faults faults' old new stream stream' disk disk' beside beside' ending = OnFile Replays most_schedule_file file known faults faults' old.out new.out ending
+Works (Some (Drive seed sessions file)) known faults faults' old new stream stream' disk disk' beside beside' ending = OnFile (Drives seed sessions) most_graph_file file known faults faults' old.out new.out ending
+Works (Some (Ledger file)) known faults faults' old new stream stream' disk disk' beside beside' ending = (faults' ≡ faults) × Makes file old.out new.out disk disk' ending
+Works (Some (Keep file keys script most programs)) known faults faults' old new stream stream' disk disk' beside beside' ending = KeepsRun file (record { keys = keys; programs = programs; script = script }) most known faults faults' old new disk disk' ending
+Works (Some (Stream keys script most programs)) known faults faults' old new stream stream' disk disk' beside beside' ending = Runs (record { keys = keys; programs = programs; script = script }) most known faults faults' (record old { link = stream }) (record new { link = stream' }) ending
+Works (Some (Audit file)) known faults faults' old new stream stream' disk disk' beside beside' ending = OnFile Audits most_logs_file file known faults faults' old.out new.out ending
+Works (Some (Compose file)) known faults faults' old new stream stream' disk disk' beside beside' ending = OnFile Composes most_graph_file file known faults faults' old.out new.out ending
+Works (Some (Suggest file)) known faults faults' old new stream stream' disk disk' beside beside' ending = OnFile Suggests most_graph_file file known faults faults' old.out new.out ending
+Works (Some (Claims graph claims)) known faults faults' old new stream stream' disk disk' beside beside' ending = DecidesClaims graph claims known faults faults' old.out new.out ending
+Works (Some (Serve over_tcp ledger keys programs)) known faults faults' old new stream stream' disk disk' beside beside' ending = ServesRun (record { keys = keys; programs = programs; ledger = ledger }) known faults faults' (application over_tcp old beside) (application over_tcp new beside') disk disk' ending
 
 -- the work that the words ask for ends so, or memory ran out before they were read, and nothing was touched
-abbrev pub Does : (words : List (List ℕ)) → Told → (faults faults' : ℕ) → (old new : Outside) → (stream stream' : Linked) → (disk disk' : Disked) → (beside beside' : Beside) → Ending → Type 0
-Does words told faults faults' old new stream stream' disk disk' beside beside' ending =
-    Works (command_of words) told faults faults' old new stream stream' disk disk' beside beside' ending
+abbrev pub Does : (words : List (List ℕ)) → KnownFiles → (faults faults' : ℕ) → (old new : Outside) → (stream stream' : Linked) → (disk disk' : Disked) → (beside beside' : Beside) → Ending → Type 0
+Does words known faults faults' old new stream stream' disk disk' beside beside' ending =
+    Works (command_of words) known faults faults' old new stream stream' disk disk' beside beside' ending
     ⊎ (IsUntouched old new × (stream' ≡ stream) × IsNotAsked disk disk' × (beside' ≡ beside) × (faults' ≡ faults) × (ending ≡ NoMemory))
 
 -- a line is written, no write failed, and its status is given, or it is not taken whole, which the count of faults shows, and the status is that of a failed write
@@ -69,9 +69,9 @@ Says work old new status =
     ⊎ ((line_of work ≢ []) × Puts old new (line_of NoMemory) (status_of NoMemory) status)
 
 -- the program ended with this status: its work ended in some way, and so it says
-pub record Ends (words : List (List ℕ)) (told : Told) (faults faults' : ℕ) (old new : Outside) (stream stream' : Linked) (disk disk' : Disked) (beside beside' : Beside) (err err' : Output) (status : ℕ) : Type 0 where
+pub record Ends (words : List (List ℕ)) (known : KnownFiles) (faults faults' : ℕ) (old new : Outside) (stream stream' : Linked) (disk disk' : Disked) (beside beside' : Beside) (err err' : Output) (status : ℕ) : Type 0 where
   pub work : Ending
-  pub does : Does words told faults faults' old new stream stream' disk disk' beside beside' work
+  pub does : Does words known faults faults' old new stream stream' disk disk' beside beside' work
   pub says : Says work err err' status
 
 -- one of the statuses of a run that may have played

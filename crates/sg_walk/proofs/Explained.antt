@@ -17,7 +17,7 @@ use Rattle.sg_law.proofs.Com.{value_at-merge}
 use Rattle.sg_protocol.proofs.Known.{value_none}
 use Rattle.sg_walk.specs.Matching.{IsNextAct, Takes, acts_from, is_start, kept, value_from}
 use Rattle.sg_walk.specs.Model.{event_of, step_of, values_of, writes_of}
-use Rattle.sg_walk.specs.declared.event.Event.{Event as Told}
+use Rattle.sg_walk.specs.declared.event.Event.{Event as CodeEvent}
 use Rattle.sg_walk.specs.declared.event.Event.TheVariants.{Started, Sent, Received}
 use Rattle.sg_walk.specs.declared.stored.StoredStep.{StoredStep as Step}
 use Rattle.sg_walk.proofs.Pairs.{cons_head}
@@ -26,23 +26,23 @@ use Rattle.sg_walk.proofs.Steps.{keys_writes}
 -- ---- the events
 
 -- another event does one thing
-one_act : (e : Told) → is_start e ≡ false → (a : Act) × (acts_of_event (event_of e) ≡ a ∷ [])
+one_act : (e : CodeEvent) → is_start e ≡ false → (a : Act) × (acts_of_event (event_of e) ≡ a ∷ [])
 one_act (Started sid r) h = absurd (cc)
 one_act (Sent sid r label time values) h = (_, refl)
 one_act (Received sid r label time values joins) h = (_, refl)
 
 -- what is done from an index on, with the event of the index in front
-acts_next : (events : List Told) (at : ℕ) (e : Told) → at < length events → e ≡ get_or events at e → acts_from events at ≡ acts_of_event (event_of e) ++ acts_from events (suc at)
+acts_next : (events : List CodeEvent) (at : ℕ) (e : CodeEvent) → at < length events → e ≡ get_or events at e → acts_from events at ≡ acts_of_event (event_of e) ++ acts_from events (suc at)
 acts_next events at e l is = ap (λ l. flat_map acts_of_event (map event_of l)) (drop_from events at e l is)
 
-not_start : (events : List Told) (at : ℕ) (e : Told) → at < length events → e ≡ get_or events at e → IfSome (slice_get events at) (λ e. is_start e ≡ false) → is_start e ≡ false
+not_start : (events : List CodeEvent) (at : ℕ) (e : CodeEvent) → at < length events → e ≡ get_or events at e → IfSome (slice_get events at) (λ e. is_start e ≡ false) → is_start e ≡ false
 not_start [] at e l is h = absurd (omega arith)
 not_start (x ∷ xs) zero e l is h = subst (λ y. is_start y ≡ false) (sym is) h
 not_start (x ∷ xs) (suc at) e l is h = not_start xs at e (omega arith) is h
 
 -- ---- one act of an honest role
 
-pub takes_other : (events : List Told) (from at : ℕ) (e : Told) (b : Bool) (a : Act) → b ≡ true → e ≡ get_or events at e → IsNextAct events from at
+pub takes_other : (events : List CodeEvent) (from at : ℕ) (e : CodeEvent) (b : Bool) (a : Act) → b ≡ true → e ≡ get_or events at e → IsNextAct events from at
     → (acts_of_event (event_of e) ≡ a ∷ [] → ⊥) → Takes events from (act_if b a) None
 takes_other events from at e false a h is n d = absurd (cc)
 takes_other events from at e true a h is n d = λ rest q.
@@ -110,7 +110,7 @@ counts_as taken (x ∷ xs) (suc i) l =
 -- ---- the loop over the steps
 
 -- the events explain what the honest roles do on the steps before an index, and the rest is to be what they do from a store on
-pub record Explaining (W : Type 0) (g : Graph) (honest : ℕ → Bool) (taken : Bool) (events : List Told) (steps : List Step) (number at : ℕ) (indices : List (Option ℕ)) : Type 0 where
+pub record Explaining (W : Type 0) (g : Graph) (honest : ℕ → Bool) (taken : Bool) (events : List CodeEvent) (steps : List Step) (number at : ℕ) (indices : List (Option ℕ)) : Type 0 where
   pub store : Map (Option Value)
   pub noted : AreIndices (map step_of steps) indices store
   pub rest : W ↔ (acts_from events at ≡ honest_acts g honest taken store (map step_of (drop number steps)))
@@ -136,7 +136,7 @@ acts_of_step : (g : Graph) (honest : ℕ → Bool) (taken : Bool) (store : Map (
 acts_of_step g honest taken store s ss = regroup (sending g honest s) (receiving g honest taken (merge store (writes_of s.writes)) s ss) (honest_acts g honest taken (merge store (writes_of s.writes)) ss)
 
 -- the receipt after it isn't there
-pub refuse_receipt : (W : Type 0) (g : Graph) (honest : ℕ → Bool) (taken : Bool) (events : List Told) (steps : List Step) (i at sent : ℕ) (indices indices' : List (Option ℕ)) (s : Step) (hears : Bool) (xs : List ℕ)
+pub refuse_receipt : (W : Type 0) (g : Graph) (honest : ℕ → Bool) (taken : Bool) (events : List CodeEvent) (steps : List Step) (i at sent : ℕ) (indices indices' : List (Option ℕ)) (s : Step) (hears : Bool) (xs : List ℕ)
     → i < length steps → s ≡ get_or steps i s → Takes events at (sending g honest s) (Some sent)
     → ((x : ℕ) → x < 32 → get_or indices' x None ≡ (if is_in x (keys_of s.writes) then Some i else get_or indices x None))
     → hears ≡ (honest (receiver (shape g) s.label) && (taken || not (i + 1 == length steps)))
@@ -154,7 +154,7 @@ refuse_receipt W g honest taken events steps i at sent indices indices' s hears 
     ∙ ap (λ m. act_if hears (Receives (receiver (shape g) s.label) s.label m) ++ honest_acts g honest taken now (map step_of (drop (suc i) steps))) (sym same))
 
 -- both are there
-pub explain_step : (W : Type 0) (g : Graph) (honest : ℕ → Bool) (taken : Bool) (events : List Told) (steps : List Step) (i at sent received : ℕ) (indices indices' : List (Option ℕ)) (s : Step) (hears : Bool) (xs : List ℕ)
+pub explain_step : (W : Type 0) (g : Graph) (honest : ℕ → Bool) (taken : Bool) (events : List CodeEvent) (steps : List Step) (i at sent received : ℕ) (indices indices' : List (Option ℕ)) (s : Step) (hears : Bool) (xs : List ℕ)
     → i < length steps → s ≡ get_or steps i s → Takes events at (sending g honest s) (Some sent)
     → ((x : ℕ) → x < 32 → get_or indices' x None ≡ (if is_in x (keys_of s.writes) then Some i else get_or indices x None))
     → hears ≡ (honest (receiver (shape g) s.label) && (taken || not (i + 1 == length steps)))
@@ -185,16 +185,16 @@ explain_step W g honest taken events steps i at sent received indices indices' s
     }
 
 -- at the end no act is to be left
-pub explain_end : (W : Type 0) (g : Graph) (honest : ℕ → Bool) (taken : Bool) (events : List Told) (steps : List Step) (i at : ℕ) (indices : List (Option ℕ))
+pub explain_end : (W : Type 0) (g : Graph) (honest : ℕ → Bool) (taken : Bool) (events : List CodeEvent) (steps : List Step) (i at : ℕ) (indices : List (Option ℕ))
     → length steps ≤ i → Explaining W g honest taken events steps i at indices → W ↔ (acts_from events at ≡ [])
 explain_end W g honest taken events steps i at indices l k =
     subst (λ ss. W ↔ (acts_from events at ≡ honest_acts g honest taken k.store (map step_of ss))) (drop_end steps i l) k.rest
 
 -- where an act is next, some act is left
-pub some_left : (events : List Told) (from at : ℕ) → IsNextAct events from at → acts_from events from ≡ [] → ⊥
+pub some_left : (events : List CodeEvent) (from at : ℕ) → IsNextAct events from at → acts_from events from ≡ [] → ⊥
 some_left events from at n e = left events at n.0 n.2 (sym n.1 ∙ e)
   where
-    left : (events : List Told) (at : ℕ) → at < length events → IfSome (slice_get events at) (λ e. is_start e ≡ false) → acts_from events at ≡ [] → ⊥
+    left : (events : List CodeEvent) (at : ℕ) → at < length events → IfSome (slice_get events at) (λ e. is_start e ≡ false) → acts_from events at ≡ [] → ⊥
     left [] at l s e = absurd (omega arith)
     left (x ∷ xs) zero l s e =
         let one = one_act x s in
@@ -202,7 +202,7 @@ some_left events from at n e = left events at n.0 n.2 (sym n.1 ∙ e)
     left (x ∷ xs) (suc at) l s e = left xs at (omega arith) s e
 
 -- no index is noted, and nothing is stored
-pub Explaining-init : (W : Type 0) (g : Graph) (honest : ℕ → Bool) (taken : Bool) (events : List Told) (steps : List Step)
+pub Explaining-init : (W : Type 0) (g : Graph) (honest : ℕ → Bool) (taken : Bool) (events : List CodeEvent) (steps : List Step)
     → (W ↔ (acts_from events 0 ≡ honest_acts g honest taken [] (map step_of steps))) → Explaining W g honest taken events steps 0 0 (replicate 32 None)
 Explaining-init W g honest taken events steps w = record {
   store = [];
@@ -225,7 +225,7 @@ pub kept_keys : (steps : List StoredStep) (indices : List (Option ℕ)) (xs : Li
 kept_keys steps indices xs vs e = sym (keys_shown vs) ∙ ap keys_of e ∙ keys_kept steps indices xs
 
 -- no act is left exactly where the events explain the whole
-pub explains_whole : (W : Type 0) (events : List Told) (at : ℕ) (next : Option ℕ) (b : Bool) → b ≡ is_none next → MatchOption next (acts_from events at ≡ []) (IsNextAct events at)
+pub explains_whole : (W : Type 0) (events : List CodeEvent) (at : ℕ) (next : Option ℕ) (b : Bool) → b ≡ is_none next → MatchOption next (acts_from events at ≡ []) (IsNextAct events at)
     → (W ↔ (acts_from events at ≡ [])) → IsTrue b ↔ W
 explains_whole W events at None b e m w = (λ t. w.1 m, λ x. e)
 explains_whole W events at (Some n) b e m w = (λ t. (let z : true ≡ false = sym t ∙ e in absurd (cc)), λ x. absurd (some_left events at n m (w.0 x)))

@@ -7,7 +7,7 @@ use Rattle.sg_model.specs.Values.{Value}
 use Rattle.sg_protocol.specs.Graph.{Graph, shape, writes}
 use Rattle.sg_protocol.specs.Walk.{StoredStep, IsStoredStep, Act, acts_of_event, is_carried, is_written_first}
 use Rattle.sg_walk.specs.Model.{event_of}
-use Rattle.sg_walk.specs.declared.event.Event.{Event as Told}
+use Rattle.sg_walk.specs.declared.event.Event.{Event as CodeEvent}
 use Rattle.sg_walk.specs.declared.event.Event.TheVariants.{Started, Sent, Received}
 
 -- the step has an edge of the graph, and writes what its edge writes
@@ -24,21 +24,21 @@ is_next [] x = false
 is_next (y ∷ ys) x = y == x
 
 -- the event is a start
-abbrev pub is_start : Told → Bool
+abbrev pub is_start : CodeEvent → Bool
 is_start (Started sid r) = true
 is_start (Sent sid r label time values) = false
 is_start (Received sid r label time values joins) = false
 
 -- what the events from an index on did
-abbrev pub acts_from : List Told → ℕ → List Act
+abbrev pub acts_from : List CodeEvent → ℕ → List Act
 acts_from events at = flat_map acts_of_event (map event_of (drop at events))
 
 -- the event at this index isn't a start, and those before it, from the other index on, are starts
-abbrev pub IsNextAct : List Told → ℕ → ℕ → Type 0
+abbrev pub IsNextAct : List CodeEvent → ℕ → ℕ → Type 0
 IsNextAct events from at = (at < length events) × (acts_from events from ≡ acts_from events at) × IfSome (slice_get events at) (λ e. is_start e ≡ false)
 
 -- the acts come next, and the answer is the index after them; or they don't come next
-abbrev pub Takes : List Told → ℕ → List Act → Option ℕ → Type 0
+abbrev pub Takes : List CodeEvent → ℕ → List Act → Option ℕ → Type 0
 Takes events at acts result = MatchOption result ((rest : List Act) → acts_from events at ≡ acts ++ rest → ⊥) (λ next. acts_from events at ≡ acts ++ acts_from events next)
 
 -- the value that the step of this number wrote, where it isn't hidden

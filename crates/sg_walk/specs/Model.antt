@@ -6,7 +6,7 @@ use Rattle.sg_base.specs.Model.{value_of}
 use Rattle.sg_base.specs.declared.value.Value.{Value as Held}
 use Rattle.sg_protocol.specs.Calls.{Event, Started, Sent, Received}
 use Rattle.sg_protocol.specs.Walk.{StoredStep}
-use Rattle.sg_walk.specs.declared.event.Event.{Event as Told}
+use Rattle.sg_walk.specs.declared.event.Event.{Event as CodeEvent}
 use Rattle.sg_walk.specs.declared.event.Event.TheVariants.{Started as ToldStart, Sent as ToldSend, Received as ToldReceipt}
 use Rattle.sg_walk.specs.declared.stored.StoredStep.{StoredStep as Step}
 use Rattle.sg_walk.specs.declared.stored.StoredWalk.{StoredWalk}
@@ -20,7 +20,7 @@ abbrev pub writes_of : Map (Option Held) → Map (Option Value)
 writes_of writes = map (λ (w : ℕ × Option Held). (w.0, option_map value_of w.1)) writes
 
 -- the event
-abbrev pub event_of : Told → Event
+abbrev pub event_of : CodeEvent → Event
 event_of (ToldStart sid r) = Started sid r
 event_of (ToldSend sid r label time values) = Sent sid r label time (values_of values)
 event_of (ToldReceipt sid r label time values joins) = Received sid r label time (values_of values) joins

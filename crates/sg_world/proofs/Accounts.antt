@@ -7,7 +7,7 @@ use Rattle.sg_protocol.specs.IsSchedule.{AreCompiled, IsSchedule}
 use Rattle.sg_protocol.specs.Run.{run}
 use Rattle.sg_protocol.specs.Texts.{real}
 use Rattle.sg_report.specs.Report.{StepLine, met}
-use Rattle.sg_report.specs.Told.{CanBeTold, told_log}
+use Rattle.sg_report.specs.Reported.{CanBeReported, reported_log}
 use Rattle.sg_world.specs.Account.{CanBeNamed, account, lines_of}
 use Rattle.sg_world.specs.Holds.{Holds, schedule_of}
 use Rattle.sg_world.specs.Kept.{Recorded, Taken}
@@ -44,11 +44,11 @@ module _ (rep : Replay) (d : Setting) (nodes : List Named) (r : Recorded) (is : 
     lines_kept =
         let w = run real d.programs (schedule_of d nodes r) in
         ap (map (line_kept d)) same
-        ∙ lines_alike (replay d nodes r) d refl refl r.entries w.log (told_log w.log) h.run.told h.run.graphs (entries_of_steps d.programs (schedule_of d nodes r) h.taken) (recursion_from_All (CanBeNamed (schedule_of d nodes r)) (schedule_of d nodes r).steps named_here)
+        ∙ lines_alike (replay d nodes r) d refl refl r.entries w.log (reported_log w.log) h.run.told h.run.graphs (entries_of_steps d.programs (schedule_of d nodes r) h.taken) (recursion_from_All (CanBeNamed (schedule_of d nodes r)) (schedule_of d nodes r).steps named_here)
         ∙ ap (λ (z : Replay). map {B = Option StepLine} Some (lines_of z)) is
 
-    told : AllByRecursion (λ (l : StepLine). CanBeTold l.graph l.told) (account rep).lines
-    told = subst (λ (z : Replay). AllByRecursion (λ (l : StepLine). CanBeTold l.graph l.told) (lines_of z)) is (lines_can_be_told (replay d nodes r) h.compiled h.schedule h.taken named_here)
+    told : AllByRecursion (λ (l : StepLine). CanBeReported l.graph l.told) (account rep).lines
+    told = subst (λ (z : Replay). AllByRecursion (λ (l : StepLine). CanBeReported l.graph l.told) (lines_of z)) is (lines_can_be_told (replay d nodes r) h.compiled h.schedule h.taken named_here)
 
     -- and each can be written
     pub can_write : All (CanBeWritten d) es

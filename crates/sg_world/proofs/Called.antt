@@ -29,7 +29,7 @@ use Rattle.sg_protocol.specs.World.{World, call_of}
 use Rattle.sg_walk.specs.Model.{values_of}
 use Rattle.sg_role.specs.Sending.{with_notes}
 use Rattle.sg_node.specs.Answers.{GoesOn}
-use Rattle.sg_report.specs.Told.{Told, Sends, told_answer}
+use Rattle.sg_report.specs.Reported.{Reported, Sends, reported_answer}
 use Rattle.sg_report.proofs.Answered.{SendsNothing}
 use Rattle.sg_world.specs.Comes.{Comes, ComesOfCall}
 use Rattle.sg_world.specs.Kept.{Came, no_frame}
@@ -39,7 +39,7 @@ noted_first : (blank : Came) (notes more : Notes) → blank ≡ no_frame → not
 noted_first blank notes more none h = h ∙ ap (λ (z : Came). with_notes z.notes more) none
 
 -- what comes of a call that sends nothing
-pub comes_quiet : (number : ℕ) (old new : NodeState) (past : Past) (call : Call) (told : Option Told) (graph : Option Graph) (notes : Notes) (blank c : Came) → blank ≡ no_frame → c ≡ record blank { told = told; graph = graph; notes = notes } → IsCallInRange call
+pub comes_quiet : (number : ℕ) (old new : NodeState) (past : Past) (call : Call) (told : Option Reported) (graph : Option Graph) (notes : Notes) (blank c : Came) → blank ≡ no_frame → c ≡ record blank { told = told; graph = graph; notes = notes } → IsCallInRange call
     → SendsNothing number (answer real (node_of past) call) told → graph ≡ graph_of_call real (node_of past) call → notes ≡ with_notes blank.notes (noted_of real (node_of past) call) → GoesOn old new call past → ComesOfCall number old new past call c
 comes_quiet number old new past call told graph notes blank c none e range h graphed noted goes =
     subst (ComesOfCall number old new past call) (sym e) (record {
@@ -88,7 +88,7 @@ pub comes_sent : (number : ℕ) (old new : NodeState) (past : Past) (sid : List 
 comes_sent number old new past sid label values confounders e to bytes graph notes blank c none is f given spelled range graphed noted goes =
     subst (ComesOfCall number old new past (Act sid label values confounders)) (sym is) (record {
       range = range;
-      told = ap (λ (a : Answer). Some (told_answer number a)) (sym given);
+      told = ap (λ (a : Answer). Some (reported_answer number a)) (sym given);
       graph = graphed;
       frame = ap (λ (z : List ℕ). Some z) spelled ∙ ap frame_in (sym given);
       notes = noted_first blank notes (noted_of real (node_of past) (Act sid label values confounders)) none noted;

@@ -26,34 +26,34 @@ use Rattle.sg_world.specs.Comes.{Comes, ComesOfCall}
 use Rattle.sg_world.specs.Entries.{graph_of_entry}
 use Rattle.sg_world.specs.Kept.{Came, Taken, Recorded, HoldsRun, with_came}
 use Rattle.sg_world.specs.Representation.{RepresentsAs, RepresentPasts}
-use Rattle.sg_report.specs.Told.{Crafted, Told, told_after, told_log, told_outcome}
+use Rattle.sg_report.specs.Reported.{Crafted, Reported, reported_after, reported_log, reported_outcome}
 use Rattle.sg_world.proofs.EntryGraphs.{IsBefore, graph_of_called}
 use Rattle.sg_world.proofs.Pasts.{Named, names, Found, found, after}
 
 -- what is told of a longer log
-told_more : (before xs : List Logged) (l : Logged) → told_after before (xs ++ l ∷ []) ≡ told_after before xs ++ told_outcome (frame_number (before ++ xs)) l.outcome ∷ []
-told_more before [] l = ap (λ (z : List Logged). told_outcome (frame_number z) l.outcome ∷ []) (sym (append-nil before))
+told_more : (before xs : List Logged) (l : Logged) → reported_after before (xs ++ l ∷ []) ≡ reported_after before xs ++ reported_outcome (frame_number (before ++ xs)) l.outcome ∷ []
+told_more before [] l = ap (λ (z : List Logged). reported_outcome (frame_number z) l.outcome ∷ []) (sym (append-nil before))
 told_more before (x ∷ xs) l =
-    ap (λ z. told_outcome (frame_number before) x.outcome ∷ z) (told_more (before ++ x ∷ []) xs l
-    ∙ ap (λ (z : List Logged). told_after (before ++ x ∷ []) xs ++ told_outcome (frame_number z) l.outcome ∷ []) (append_assoc before (x ∷ []) xs))
+    ap (λ z. reported_outcome (frame_number before) x.outcome ∷ z) (told_more (before ++ x ∷ []) xs l
+    ∙ ap (λ (z : List Logged). reported_after (before ++ x ∷ []) xs ++ reported_outcome (frame_number z) l.outcome ∷ []) (append_assoc before (x ∷ []) xs))
 
 -- the record of a run with one more entry
 record Entered (programs : List Program) (s : Schedule) (ps : List Past) (w : World) (l : Logged) (r : Recorded) (x : Step) (c : Came) : Type 0 where
-  told : map (λ (e : Taken). e.told) (with_came r x c).entries ≡ map {B = Option Told} Some (told_log (w.log ++ l ∷ []))
+  told : map (λ (e : Taken). e.told) (with_came r x c).entries ≡ map {B = Option Reported} Some (reported_log (w.log ++ l ∷ []))
   graphs : map (λ (e : Taken). e.graph) (with_came r x c).entries ≡ map (graph_of_entry programs (with_step s x)) (w.log ++ l ∷ [])
   notes : (with_came r x c).notes ≡ map (λ (l : Logged). l.notes) (w.log ++ l ∷ [])
   frames : (with_came r x c).frames ≡ Core.frames (record { pasts = ps; log = w.log ++ l ∷ [] })
   size : (with_came r x c).size ≡ record_size s (record { pasts = ps; log = w.log ++ l ∷ [] })
 
 entered : (programs : List Program) (s : Schedule) (ps : List Past) (w : World) (nodes : List Named) (l : Logged) (r : Recorded) (k : ℕ) (x : Step) (c : Came) → IsBefore programs s w k x → HoldsRun programs s w nodes r
-    → c.told ≡ Some (told_outcome (length r.frames + 1) l.outcome) → c.graph ≡ graph_of_entry programs (with_step s x) l → c.frame ≡ l.frame → c.notes ≡ l.notes → Entered programs s ps w l r x c
+    → c.told ≡ Some (reported_outcome (length r.frames + 1) l.outcome) → c.graph ≡ graph_of_entry programs (with_step s x) l → c.frame ≡ l.frame → c.notes ≡ l.notes → Entered programs s ps w l r x c
 entered programs s ps w nodes l r k x c b h told graph frame notes = record {
   told =
       map-append (λ (e : Taken). e.told) r.entries (record { step = x; told = c.told; graph = c.graph } ∷ [])
       ∙ (λ i. h.told i ++ told i ∷ [])
-      ∙ ap (λ n. map {B = Option Told} Some (told_log w.log) ++ Some (told_outcome n l.outcome) ∷ []) number
-      ∙ sym (map-append {B = Option Told} Some (told_log w.log) (told_outcome (frame_number w.log) l.outcome ∷ []))
-      ∙ ap (map {B = Option Told} Some) (sym (told_more [] w.log l));
+      ∙ ap (λ n. map {B = Option Reported} Some (reported_log w.log) ++ Some (reported_outcome n l.outcome) ∷ []) number
+      ∙ sym (map-append {B = Option Reported} Some (reported_log w.log) (reported_outcome (frame_number w.log) l.outcome ∷ []))
+      ∙ ap (map {B = Option Reported} Some) (sym (told_more [] w.log l));
   graphs =
       map-append (λ (e : Taken). e.graph) r.entries (record { step = x; told = c.told; graph = c.graph } ∷ [])
       ∙ (λ i. (h.graphs ∙ sym b.graphs) i ++ graph i ∷ [])

@@ -18,7 +18,7 @@ mod PremiseLaws
 mod NamesMore
 mod WrittenLines
 mod WalkLaws
-pub mod Reported
+pub mod ReportText
 mod Accounts
 mod Gathered
 mod Taken

@@ -12,7 +12,7 @@ use Rattle.sg_protocol.specs.Steps.{frame_number}
 use Rattle.sg_protocol.specs.Texts.{real}
 use Rattle.sg_protocol.specs.World as Core
 use Rattle.sg_protocol.specs.World.{Logged, frames}
-use Rattle.sg_report.specs.Told.{Told, told_after, told_log, told_outcome, event_told}
+use Rattle.sg_report.specs.Reported.{Reported, reported_after, reported_log, reported_outcome, event_reported}
 use Rattle.sg_world.specs.EntriesOfRun.{AreOfRun, IsOfStep}
 use Rattle.sg_world.specs.Kept.{Taken}
 use Rattle.sg_world.proofs.EntryCalls.{entry_call}
@@ -20,10 +20,10 @@ use Rattle.sg_world.proofs.EntryCalls.{entry_call}
 -- ---- events
 
 -- the event of an outcome is that which is told
-pub told_event : (n : ℕ) (o : Core.Outcome) → events_of_outcome o ≡ option_to_list (event_told (told_outcome n o))
+pub told_event : (n : ℕ) (o : Core.Outcome) → events_of_outcome o ≡ option_to_list (event_reported (reported_outcome n o))
 told_event n (Core.Outcome.Answered a) = of_answer a
   where
-    of_answer : (a : Protocol.Answer) → events_of_answer a ≡ option_to_list (event_told (told_outcome n (Core.Outcome.Answered a)))
+    of_answer : (a : Protocol.Answer) → events_of_answer a ≡ option_to_list (event_reported (reported_outcome n (Core.Outcome.Answered a)))
     of_answer (Protocol.Answer.Happened e) = refl
     of_answer (Protocol.Answer.Sends e to f) = refl
     of_answer Protocol.Answer.Abandoned = refl
@@ -35,20 +35,20 @@ told_event n Core.Outcome.Crafted = refl
 told_event n Core.Outcome.NoFrame = refl
 
 -- the events of an entry, by its told outcome
-pub events_told : (l : Logged) (n : ℕ) (told : Option Told) (e : Option Event) → told ≡ Some (told_outcome n l.outcome) → e ≡ option_and_then event_told told → events_of_outcome l.outcome ≡ option_to_list e
-events_told l n told e is of = told_event n l.outcome ∙ ap option_to_list (sym (of ∙ ap (option_and_then event_told) is))
+pub events_told : (l : Logged) (n : ℕ) (told : Option Reported) (e : Option Event) → told ≡ Some (reported_outcome n l.outcome) → e ≡ option_and_then event_reported told → events_of_outcome l.outcome ≡ option_to_list e
+events_told l n told e is of = told_event n l.outcome ∙ ap option_to_list (sym (of ∙ ap (option_and_then event_reported) is))
 
 -- ---- frames
 
 -- ---- entries
 
 -- what is told of a log, at an index
-told_at : (before xs : List Logged) (i : ℕ) (l : Logged) → slice_get xs i ≡ Some l → slice_get (told_after before xs) i ≡ Some (told_outcome (frame_number (before ++ take i xs)) l.outcome)
+told_at : (before xs : List Logged) (i : ℕ) (l : Logged) → slice_get xs i ≡ Some l → slice_get (reported_after before xs) i ≡ Some (reported_outcome (frame_number (before ++ take i xs)) l.outcome)
 told_at before [] i l e = absurd (cc)
-told_at before (x ∷ xs) zero l e = (let same : x ≡ l = cc in ap (λ (z : Logged). Some (told_outcome (frame_number before) z.outcome)) same ∙ ap (λ (ls : List Logged). Some (told_outcome (frame_number ls) l.outcome)) (sym (append-nil before)))
-told_at before (x ∷ xs) (suc i) l e = told_at (before ++ x ∷ []) xs i l e ∙ ap (λ (ls : List Logged). Some (told_outcome (frame_number ls) l.outcome)) (append_assoc before (x ∷ []) (take i xs))
+told_at before (x ∷ xs) zero l e = (let same : x ≡ l = cc in ap (λ (z : Logged). Some (reported_outcome (frame_number before) z.outcome)) same ∙ ap (λ (ls : List Logged). Some (reported_outcome (frame_number ls) l.outcome)) (sym (append-nil before)))
+told_at before (x ∷ xs) (suc i) l e = told_at (before ++ x ∷ []) xs i l e ∙ ap (λ (ls : List Logged). Some (reported_outcome (frame_number ls) l.outcome)) (append_assoc before (x ∷ []) (take i xs))
 
-told_length : (before xs : List Logged) → length (told_after before xs) ≡ length xs
+told_length : (before xs : List Logged) → length (reported_after before xs) ≡ length xs
 told_length before [] = refl
 told_length before (x ∷ xs) = ap suc (told_length (before ++ x ∷ []) xs)
 
@@ -94,7 +94,7 @@ module _ (programs : List Program) (s : Schedule) (entries : List Taken) (record
   log = (run real programs s).log
 
   pub as_many : length entries ≡ length log
-  as_many = sym (length_map (λ (e : Taken). e.told) entries) ∙ ap length h.told ∙ length_map {B = Option Told} Some (told_log log) ∙ told_length [] log
+  as_many = sym (length_map (λ (e : Taken). e.told) entries) ∙ ap length h.told ∙ length_map {B = Option Reported} Some (reported_log log) ∙ told_length [] log
 
   pub all_taken : (i : ℕ) → i ≡ length entries → take i log ≡ log
   all_taken i e = take_whole log i (e ∙ as_many)
@@ -106,9 +106,9 @@ module _ (programs : List Program) (s : Schedule) (entries : List Taken) (record
       let l : Logged = p.0 in
       let step : slice_get s.steps (length (take i log)) ≡ Some e.step = ap (slice_get s.steps) (take_length log i within) ∙ ap (λ (xs : List Step). slice_get xs i) h.steps ∙ map_at (λ (x : Taken). x.step) entries i e at in
       let b = entry_call programs s (take i log) l (drop (suc i) log) e.step h.taken p.2 step in
-      let both : Some e.told ≡ Some (Some (told_outcome (frame_number (take i log)) l.outcome)) =
-      sym (map_at (λ (x : Taken). x.told) entries i e at) ∙ ap (λ (ts : List (Option Told)). slice_get ts i) h.told ∙ map_at {B = Option Told} Some (told_log log) i (told_outcome (frame_number (take i log)) l.outcome) (told_at [] log i l p.1) in
-      let told : e.told ≡ Some (told_outcome (frame_number (take i log)) l.outcome) = cc in
+      let both : Some e.told ≡ Some (Some (reported_outcome (frame_number (take i log)) l.outcome)) =
+      sym (map_at (λ (x : Taken). x.told) entries i e at) ∙ ap (λ (ts : List (Option Reported)). slice_get ts i) h.told ∙ map_at {B = Option Reported} Some (reported_log log) i (reported_outcome (frame_number (take i log)) l.outcome) (told_at [] log i l p.1) in
+      let told : e.told ≡ Some (reported_outcome (frame_number (take i log)) l.outcome) = cc in
       record {
         entry = l;
         after = drop (suc i) log;

@@ -7,7 +7,7 @@ use Rattle.sg_protocol.proofs.Roles.{none_takes_two_roles, sessions_have_one_cas
 use Rattle.sg_protocol.proofs.Sendings.{receipts_have_sends}
 use Rattle.sg_protocol.specs.Texts.{real}
 use Rattle.sg_world.specs.Laws.{LawsHold}
-use Rattle.sg_world.proofs.Reported.{hold_is, says_hold}
+use Rattle.sg_world.proofs.ReportText.{hold_is, says_hold}
 
 -- the laws of the core, for a replay
 pub laws_hold : LawsHold

@@ -32,8 +32,8 @@ use Rattle.sg_protocol.specs.Verdict.{verdict_on, decided, receipt, rows}
 use Rattle.sg_protocol.specs.World.{World, Logged, Outcome, Answered, bytes_of, call_of, past_of}
 use Rattle.sg_report.proofs.Tellable.{told-without_numbers}
 use Rattle.sg_report.specs.Report.{StepLine}
-use Rattle.sg_report.specs.Told.{CanBeTold, told_answer, told_outcome, told_after}
-use Rattle.sg_world.specs.Account.{graph_told, line_of_entry, lines_of, CanBeNamed}
+use Rattle.sg_report.specs.Reported.{CanBeReported, reported_answer, reported_outcome, reported_after}
+use Rattle.sg_world.specs.Account.{graph_reported, line_of_entry, lines_of, CanBeNamed}
 use Rattle.sg_world.specs.Entries.{graph_of_entry, past_before}
 use Rattle.sg_world.specs.Replay.{Replay, run_of}
 use Rattle.sg_world.proofs.RunEntries.{EntryOf, IsSilent, entries_of_steps}
@@ -112,7 +112,7 @@ among n x (y ∷ ys) a h = by (cases_Bool (y == x)) (among n x ys a.1)
     by (inr e) rest = rest (subst (λ b. (b || is_in x ys) ≡ true) e h)
 
 -- an answer is told by the graph of its call, or a refused variable by one that has it
-can_tell : (gs : List Graph) (g : Graph) (n : ℕ) (node : Node) (c : Call) (a : Answer) → answer real node c ≡ a → GivesFor gs c → HasNamed g c a → CanBeTold (graph_told gs (Some g) (told_answer n a)) (told_answer n a)
+can_tell : (gs : List Graph) (g : Graph) (n : ℕ) (node : Node) (c : Call) (a : Answer) → answer real node c ≡ a → GivesFor gs c → HasNamed g c a → CanBeReported (graph_reported gs (Some g) (reported_answer n a)) (reported_answer n a)
 can_tell gs g n node c (Happened e) q given h = h
 can_tell gs g n node c (Sends e to f) q given h = h
 can_tell gs g n node (Act sid label values confounders) (NotActed (ActFault.Send (SendFault.BadValues x))) q given (inl there) = by_first gs (Some g) x g (inl refl) there
@@ -143,7 +143,7 @@ module _ (r : Replay) (compiled : AreCompiled real r.schedule.graphs r.programs)
       by (Some bs) e = subst (GivesFor r.schedule.graphs) (same_Some (Deliver bs) c e) tt
   given_for w k (CraftStep d) c h e = absurd (cc)
 
-  silent_told : (n : ℕ) (g : Option Graph) (o : Outcome) → IsSilent o → CanBeTold g (told_outcome n o)
+  silent_told : (n : ℕ) (g : Option Graph) (o : Outcome) → IsSilent o → CanBeReported g (reported_outcome n o)
   silent_told n g (Answered a) h = absurd h
   silent_told n g Outcome.Crafted h = tt
   silent_told n g Outcome.NoFrame h = tt
@@ -157,24 +157,24 @@ module _ (r : Replay) (compiled : AreCompiled real r.schedule.graphs r.programs)
         ∙ ap (λ (o : Option (Program × Session)). option_map (λ (x : Program × Session). x.0.graph) o) t.is_session
 
     answered_told : (c : Call) (e : l.call ≡ Some c) (a : IsAnswered real r.programs r.schedule l c) (b : Bool) → names_numbers (answer real (node_of a.past) c) ≡ b
-        → CanBeTold (graph_told r.schedule.graphs (graph_of_entry r.programs r.schedule l) (told_answer n (answer real (node_of a.past) c))) (told_answer n (answer real (node_of a.past) c))
-    answered_told c e a false q = told-without_numbers (graph_told r.schedule.graphs (graph_of_entry r.programs r.schedule l) (told_answer n (answer real (node_of a.past) c))) n (answer real (node_of a.past) c) q
+        → CanBeReported (graph_reported r.schedule.graphs (graph_of_entry r.programs r.schedule l) (reported_answer n (answer real (node_of a.past) c))) (reported_answer n (answer real (node_of a.past) c))
+    answered_told c e a false q = told-without_numbers (graph_reported r.schedule.graphs (graph_of_entry r.programs r.schedule l) (reported_answer n (answer real (node_of a.past) c))) n (answer real (node_of a.past) c) q
     answered_told c e a true q =
         let t : IsTold real (node_of a.past) c (answer real (node_of a.past) c) = entries_are_told real real_hash r.programs r.schedule compiled schedule l c there e a q in
-        subst (λ (g : Option Graph). CanBeTold (graph_told r.schedule.graphs g (told_answer n (answer real (node_of a.past) c))) (told_answer n (answer real (node_of a.past) c))) (sym (graph_is c e a t))
+        subst (λ (g : Option Graph). CanBeReported (graph_reported r.schedule.graphs g (reported_answer n (answer real (node_of a.past) c))) (reported_answer n (answer real (node_of a.past) c))) (sym (graph_is c e a t))
         (can_tell r.schedule.graphs t.program.graph n (node_of a.past) c (answer real (node_of a.past) c) refl (given_for of.world of.number x c named (sym of.call ∙ e)) t.named)
 
-    line_told : CanBeTold (graph_told r.schedule.graphs (graph_of_entry r.programs r.schedule l) (told_outcome n l.outcome)) (told_outcome n l.outcome)
+    line_told : CanBeReported (graph_reported r.schedule.graphs (graph_of_entry r.programs r.schedule l) (reported_outcome n l.outcome)) (reported_outcome n l.outcome)
     line_told = by l.call refl
       where
-        by : (o : Option Call) → l.call ≡ o → CanBeTold (graph_told r.schedule.graphs (graph_of_entry r.programs r.schedule l) (told_outcome n l.outcome)) (told_outcome n l.outcome)
-        by None e = silent_told n (graph_told r.schedule.graphs (graph_of_entry r.programs r.schedule l) (told_outcome n l.outcome)) l.outcome (of.silent e)
+        by : (o : Option Call) → l.call ≡ o → CanBeReported (graph_reported r.schedule.graphs (graph_of_entry r.programs r.schedule l) (reported_outcome n l.outcome)) (reported_outcome n l.outcome)
+        by None e = silent_told n (graph_reported r.schedule.graphs (graph_of_entry r.programs r.schedule l) (reported_outcome n l.outcome)) l.outcome (of.silent e)
         by (Some c) e =
             let a : IsAnswered real r.programs r.schedule l c = entries_are_answered real r.programs r.schedule l c there e in
-            subst (λ (o : Outcome). CanBeTold (graph_told r.schedule.graphs (graph_of_entry r.programs r.schedule l) (told_outcome n o)) (told_outcome n o)) (sym a.outcome) (answered_told c e a (names_numbers (answer real (node_of a.past) c)) refl)
+            subst (λ (o : Outcome). CanBeReported (graph_reported r.schedule.graphs (graph_of_entry r.programs r.schedule l) (reported_outcome n o)) (reported_outcome n o)) (sym a.outcome) (answered_told c e a (names_numbers (answer real (node_of a.past) c)) refl)
 
   all_told : (xs : List Step) (ls before : List Logged) → AllZip (EntryOf r.schedule) xs ls → AllByRecursion (CanBeNamed r.schedule) xs → ((l : Logged) → In ls l → In (run_of r).log l)
-      → AllByRecursion (λ (ln : StepLine). CanBeTold ln.graph ln.told) (map (line_of_entry r) (zip ls (told_after before ls)))
+      → AllByRecursion (λ (ln : StepLine). CanBeReported ln.graph ln.told) (map (line_of_entry r) (zip ls (reported_after before ls)))
   all_told [] [] before a h i = tt
   all_told [] (l ∷ ls) before a h i = absurd a
   all_told (x ∷ xs) [] before a h i = absurd a
@@ -182,6 +182,6 @@ module _ (r : Replay) (compiled : AreCompiled real r.schedule.graphs r.programs)
       (line_told l x (frame_number before) (contains_from_in (run_of r).log l (i l (inl refl))) a.0 h.0, all_told xs ls (before ++ l ∷ []) a.1 h.1 (λ m j. i m (inr j)))
 
   -- each line of the account can be told
-  pub lines_can_be_told : list_all (is_taken r.schedule) r.schedule.steps ≡ true → All (CanBeNamed r.schedule) r.schedule.steps → AllByRecursion (λ (ln : StepLine). CanBeTold ln.graph ln.told) (lines_of r)
+  pub lines_can_be_told : list_all (is_taken r.schedule) r.schedule.steps ≡ true → All (CanBeNamed r.schedule) r.schedule.steps → AllByRecursion (λ (ln : StepLine). CanBeReported ln.graph ln.told) (lines_of r)
   lines_can_be_told taken named =
       all_told r.schedule.steps (run_of r).log [] (entries_of_steps r.programs r.schedule taken) (recursion_from_All (CanBeNamed r.schedule) r.schedule.steps named) (λ l i. i)

@@ -8,8 +8,8 @@ use Rattle.sg_protocol.specs.Graph.{Graph}
 use Rattle.sg_protocol.specs.Schedule.{who_of}
 use Rattle.sg_report.specs.Lines.{graph_or_none, line_text}
 use Rattle.sg_report.specs.Report.{StepLine, line, lines_from, name_in}
-use Rattle.sg_report.specs.Told.{CanBeTold, Told, session_told}
-use Rattle.sg_world.specs.Account.{graph_told, variable_refused}
+use Rattle.sg_report.specs.Reported.{CanBeReported, Reported, session_reported}
+use Rattle.sg_world.specs.Account.{graph_reported, variable_refused}
 use Rattle.sg_world.specs.Kept.{Taken}
 use Rattle.sg_world.specs.KeptLines.{CanBeWritten, left_by, line_kept}
 use Rattle.sg_world.specs.Setting.{Setting}
@@ -59,33 +59,33 @@ all_taken d (x ∷ es) [] h = absurd (cc)
 all_taken d (x ∷ es) (y ∷ ls) h = let rest : map (line_kept d) es ≡ map {B = Option StepLine} Some ls = cc in ap (λ (z : List StepLine). y ∷ z) (all_taken d es ls rest)
 
 -- each line can be written where those of an account can be told
-pub can_be_written : (d : Setting) (es : List Taken) (ls : List StepLine) → map (line_kept d) es ≡ map {B = Option StepLine} Some ls → AllByRecursion (λ (l : StepLine). CanBeTold l.graph l.told) ls → AllByRecursion (CanBeWritten d) es
+pub can_be_written : (d : Setting) (es : List Taken) (ls : List StepLine) → map (line_kept d) es ≡ map {B = Option StepLine} Some ls → AllByRecursion (λ (l : StepLine). CanBeReported l.graph l.told) ls → AllByRecursion (CanBeWritten d) es
 can_be_written d [] ls h a = tt
 can_be_written d (x ∷ es) [] h a = absurd (cc)
 can_be_written d (x ∷ es) (y ∷ ls) h a =
     let here : line_kept d x ≡ Some y = cc in
     let rest : map (line_kept d) es ≡ map {B = Option StepLine} Some ls = cc in
-    (subst (λ (o : Option StepLine). IfSome o (λ l. CanBeTold l.graph l.told)) (sym here) a.0, can_be_written d es ls rest a.1)
+    (subst (λ (o : Option StepLine). IfSome o (λ l. CanBeReported l.graph l.told)) (sym here) a.0, can_be_written d es ls rest a.1)
 
 -- ---- one line
 
 -- a refused variable is named by the graph that is found for it
-pub refused_graph : (gs : List Graph) (g : Option Graph) (o : Option Told) (res : Option ℕ) (x : ℕ) (found : Option Graph) → res ≡ Some x → IfSome o (λ told. res ≡ variable_refused told)
-    → found ≡ find (λ h. nat_lt x (length h.variables)) (option_to_list g ++ gs) → IfSome o (λ told. found ≡ graph_told gs g told)
+pub refused_graph : (gs : List Graph) (g : Option Graph) (o : Option Reported) (res : Option ℕ) (x : ℕ) (found : Option Graph) → res ≡ Some x → IfSome o (λ told. res ≡ variable_refused told)
+    → found ≡ find (λ h. nat_lt x (length h.variables)) (option_to_list g ++ gs) → IfSome o (λ told. found ≡ graph_reported gs g told)
 refused_graph gs g None res x found is h e = tt
 refused_graph gs g (Some told) res x found is h e =
     e ∙ ap (λ (v : Option ℕ). option_map_or (λ y. find (λ h. nat_lt y (length h.variables)) (option_to_list g ++ gs)) v g) (sym is ∙ h)
 
 -- what is written of a step is its line
 pub entry_written : {A E : Type 0} (res : Result A E) (m : KnownSessions) (d : Setting) (k : ℕ) (e : Taken) (who : Option (List ℕ)) (sid : Option (List ℕ)) (name session : List ℕ) (graph : Option Graph) (old new : List ℕ)
-    → who ≡ who_of e.step → name ≡ unwrap_or who [] → IfSome e.told (λ told. sid ≡ session_told (left_by d.sessions e.step) told) → session ≡ option_map_or (name_in m) sid []
-    → IfSome e.told (λ told. graph ≡ graph_told d.graphs e.graph told) → OnOk res (IsSomeAnd e.told (λ told. new ≡ old ++ line_text session (graph_or_none graph) k name told))
+    → who ≡ who_of e.step → name ≡ unwrap_or who [] → IfSome e.told (λ told. sid ≡ session_reported (left_by d.sessions e.step) told) → session ≡ option_map_or (name_in m) sid []
+    → IfSome e.told (λ told. graph ≡ graph_reported d.graphs e.graph told) → OnOk res (IsSomeAnd e.told (λ told. new ≡ old ++ line_text session (graph_or_none graph) k name told))
     → OnOk res (IsSomeAnd (line_kept d e) (λ l. new ≡ old ++ line m k l))
 entry_written {A} {E} res m d k e who sid name session graph old new is_who is_name is_sid is_session is_graph h = by e.told is_sid is_graph res h
   where
-    by : (o : Option Told) → IfSome o (λ told. sid ≡ session_told (left_by d.sessions e.step) told) → IfSome o (λ told. graph ≡ graph_told d.graphs e.graph told) → (res : Result A E)
+    by : (o : Option Reported) → IfSome o (λ told. sid ≡ session_reported (left_by d.sessions e.step) told) → IfSome o (λ told. graph ≡ graph_reported d.graphs e.graph told) → (res : Result A E)
         → OnOk res (IsSomeAnd o (λ told. new ≡ old ++ line_text session (graph_or_none graph) k name told))
-        → OnOk res (IsSomeAnd (option_map {U = StepLine} (λ told. record { who = who_of e.step; session = session_told (left_by d.sessions e.step) told; graph = graph_told d.graphs e.graph told; told = told }) o) (λ l. new ≡ old ++ line m k l))
+        → OnOk res (IsSomeAnd (option_map {U = StepLine} (λ told. record { who = who_of e.step; session = session_reported (left_by d.sessions e.step) told; graph = graph_reported d.graphs e.graph told; told = told }) o) (λ l. new ≡ old ++ line m k l))
     by o s g (Err x) h = tt
     by None s g (Ok x) h = absurd h
     by (Some told) s g (Ok x) h =

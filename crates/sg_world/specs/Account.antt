@@ -15,33 +15,33 @@ use Rattle.sg_protocol.specs.Texts.{real, session_id}
 use Rattle.sg_protocol.specs.World.{Logged}
 use Rattle.sg_report.specs.Lines.{graph_or_none}
 use Rattle.sg_report.specs.Report.{StepLine, Forgery, Account}
-use Rattle.sg_report.specs.Told.{Told, NotActed, told_log, session_told, sid_left}
+use Rattle.sg_report.specs.Reported.{Reported, NotActed, reported_log, session_reported, sid_left}
 use Rattle.sg_world.specs.Entries.{graph_of_entry}
 use Rattle.sg_world.specs.Replay.{Replay, run_of}
 
 -- ---- the lines
 
 -- the variable for which an act was refused
-abbrev pub variable_refused : Told → Option ℕ
+abbrev pub variable_refused : Reported → Option ℕ
 variable_refused (NotActed (Send (BadValues x))) = Some x
 variable_refused other = None
 
 -- the graph by which a line names its numbers: that of its call. Where this one doesn't have the variable for which an act was refused, it is the first graph that has it
-abbrev pub graph_told : List Graph → Option Graph → Told → Option Graph
-graph_told graphs g told = option_map_or (λ x. find (λ h. nat_lt x (length h.variables)) (option_to_list g ++ graphs)) (variable_refused told) g
+abbrev pub graph_reported : List Graph → Option Graph → Reported → Option Graph
+graph_reported graphs g told = option_map_or (λ x. find (λ h. nat_lt x (length h.variables)) (option_to_list g ++ graphs)) (variable_refused told) g
 
 -- the line of an entry of which this is told
-abbrev pub line_of_entry : Replay → Logged × Told → StepLine
+abbrev pub line_of_entry : Replay → Logged × Reported → StepLine
 line_of_entry r e = record {
   who = e.0.who;
-  session = session_told (option_and_then sid_left e.0.call) e.1;
-  graph = graph_told r.schedule.graphs (graph_of_entry r.programs r.schedule e.0) e.1;
+  session = session_reported (option_and_then sid_left e.0.call) e.1;
+  graph = graph_reported r.schedule.graphs (graph_of_entry r.programs r.schedule e.0) e.1;
   told = e.1;
 }
 
 -- a line for each entry
 abbrev pub lines_of : Replay → List StepLine
-lines_of r = map (line_of_entry r) (zip (run_of r).log (told_log (run_of r).log))
+lines_of r = map (line_of_entry r) (zip (run_of r).log (reported_log (run_of r).log))
 
 -- ---- the sessions
 

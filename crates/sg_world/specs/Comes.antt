@@ -19,13 +19,13 @@ use Rattle.sg_protocol.specs.World.{World, frames, call_of, flipped}
 use Rattle.sg_sched.specs.declared.step.Change.{Change}
 use Rattle.sg_sched.specs.declared.step.Change.TheVariants.{Whole, Flip, Cut}
 use Rattle.sg_node.specs.Answers.{GoesOn}
-use Rattle.sg_report.specs.Told.{told_answer}
+use Rattle.sg_report.specs.Reported.{reported_answer}
 use Rattle.sg_world.specs.Kept.{Came, no_frame}
 
 -- what comes of a call is what the node of the past answers, where its frame has this number, by the graph of the call; and the new state goes on for the past
 pub record ComesOfCall (number : ℕ) (old new : NodeState) (past : Past) (call : Call) (c : Came) : Type 0 where
   pub range : IsCallInRange call
-  pub told : c.told ≡ Some (told_answer number (answer real (node_of past) call))
+  pub told : c.told ≡ Some (reported_answer number (answer real (node_of past) call))
   pub graph : c.graph ≡ graph_of_call real (node_of past) call
   pub frame : c.frame ≡ frame_in (answer real (node_of past) call)
   pub notes : c.notes ≡ noted_of real (node_of past) call

@@ -11,7 +11,7 @@ use Rattle.sg_protocol.specs.Spelling.{spelling}
 use Rattle.sg_protocol.specs.Texts.{real, session_id}
 use Rattle.sg_protocol.specs.World.{World, frames}
 use Rattle.sg_craft.specs.Means.{CanBeMade}
-use Rattle.sg_report.specs.Told.{Crafted}
+use Rattle.sg_report.specs.Reported.{Crafted}
 use Rattle.sg_world.specs.Comes.{ComesAt}
 use Rattle.sg_world.specs.Kept.{Came}
 use Rattle.sg_world.specs.Setting.{Setting}

@@ -11,11 +11,11 @@ use Rattle.sg_protocol.specs.Steps.{record_size}
 use Rattle.sg_protocol.specs.World.{World, frames}
 use Rattle.sg_world.specs.Entries.{graph_of_entry}
 use Rattle.sg_world.specs.Representation.{RepresentPasts}
-use Rattle.sg_report.specs.Told.{Told, NoFrame, told_log}
+use Rattle.sg_report.specs.Reported.{Reported, NoFrame, reported_log}
 
 -- what came of a step: what is told of it, the graph by which its numbers have names, the frame that it records, and what was noted
 pub record Came : Type 0 where
-  pub told : Option Told
+  pub told : Option Reported
   pub graph : Option Graph
   pub frame : Option (List ℕ)
   pub notes : Notes
@@ -27,7 +27,7 @@ no_frame = record { told = Some NoFrame; graph = None; frame = None; notes = no_
 -- a step that was taken, what is told of it, and the graph by which its numbers have names
 pub record Taken : Type 0 where
   pub step : Step
-  pub told : Option Told
+  pub told : Option Reported
   pub graph : Option Graph
 
 -- the steps, what was noted at each, the frames, and the size in bytes
@@ -56,7 +56,7 @@ with_came r x c = record {
 -- the nodes and the record are those of a run of these programs
 pub record HoldsRun (programs : List Program) (s : Schedule) (w : World) (nodes : List (Name × NodeState)) (r : Recorded) : Type 0 where
   pub stand : RepresentPasts nodes w.pasts
-  pub told : map (λ e. e.told) r.entries ≡ map Some (told_log w.log)
+  pub told : map (λ e. e.told) r.entries ≡ map Some (reported_log w.log)
   pub graphs : map (λ e. e.graph) r.entries ≡ map (graph_of_entry programs s) w.log
   pub notes : r.notes ≡ map (λ l. l.notes) w.log
   pub frames : r.frames ≡ frames w

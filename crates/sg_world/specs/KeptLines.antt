@@ -5,14 +5,14 @@ use Rattle.sg_protocol.specs.Schedule.{Declared, Step, AbandonStep, who_of}
 use Rattle.sg_protocol.specs.Texts.{real, session_id}
 use Rattle.sg_text.specs.Sessions.{KnownSessions}
 use Rattle.sg_report.specs.Report.{StepLine}
-use Rattle.sg_report.specs.Told.{CanBeTold, event_told, session_told}
-use Rattle.sg_world.specs.Account.{declared_in, graph_told}
+use Rattle.sg_report.specs.Reported.{CanBeReported, event_reported, session_reported}
+use Rattle.sg_world.specs.Account.{declared_in, graph_reported}
 use Rattle.sg_world.specs.Kept.{Taken}
 use Rattle.sg_world.specs.Setting.{Setting}
 
 -- the sid of the event that came of a step, if one did
 abbrev pub sid_kept : Taken → Option (List ℕ)
-sid_kept e = option_map sid_of (option_and_then event_told e.told)
+sid_kept e = option_map sid_of (option_and_then event_reported e.told)
 
 -- the sessions that are declared, and those of the events of these steps
 abbrev pub met_in : List Declared → List Taken → KnownSessions
@@ -25,8 +25,8 @@ left_by sessions other = None
 
 -- the line of a step that was taken
 abbrev pub line_kept : Setting → Taken → Option StepLine
-line_kept d e = option_map (λ told. record { who = who_of e.step; session = session_told (left_by d.sessions e.step) told; graph = graph_told d.graphs e.graph told; told = told }) e.told
+line_kept d e = option_map (λ told. record { who = who_of e.step; session = session_reported (left_by d.sessions e.step) told; graph = graph_reported d.graphs e.graph told; told = told }) e.told
 
 -- the line can be written
 abbrev pub CanBeWritten : Setting → Taken → Type 0
-CanBeWritten d e = IfSome (line_kept d e) (λ l. CanBeTold l.graph l.told)
+CanBeWritten d e = IfSome (line_kept d e) (λ l. CanBeReported l.graph l.told)

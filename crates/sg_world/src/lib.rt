@@ -25,7 +25,7 @@
 //! for what sessions are called, once for the lines, and once for each premise; where both hold it goes through the sessions in one pass
 //! more, and writes the walk of each as soon as it is made. `walk_of` gives the walk of one session. What a report says by the run
 //! stands in `specs/Account.antt`, and that it says so in `proofs/Tellable.antt` (each line can be told), `proofs/KeptLines.antt` (the
-//! lines and the names), `proofs/WalkLaws.antt` (the walks) and `proofs/Reported.antt` (the text).
+//! lines and the names), `proofs/WalkLaws.antt` (the walks) and `proofs/ReportText.antt` (the text).
 #![tactic(auto)]
 
 mod call;

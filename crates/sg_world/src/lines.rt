@@ -4,9 +4,9 @@ ghost use Rattle.std.specs.Option.{option_copied, option_map_or, option_to_list}
 ghost use Rattle.sg_text.specs.Sessions.{KnownSessions, naming};
 ghost use Rattle.sg_report.specs.Outcome.{outcome_of};
 ghost use Rattle.sg_report.specs.Report.{StepLine, line, lines_from, name_in};
-ghost use Rattle.sg_report.specs.Told.{session_told};
+ghost use Rattle.sg_report.specs.Reported.{session_reported};
 ghost use Rattle.sg_sched.specs.Format.StepsHeld.{step_of};
-ghost use Rattle.sg_world.specs.Account.{graph_told, variable_refused};
+ghost use Rattle.sg_world.specs.Account.{graph_reported, variable_refused};
 ghost use Rattle.sg_world.specs.KeptLines.{CanBeWritten, left_by, line_kept};
 
 use crate::record::TakenStep;
@@ -15,7 +15,7 @@ use crate::take::who;
 use sg_base::{ByteOut, Name, OutOfMemory, Sid, Var};
 use sg_graph::Graph;
 use sg_node::ActFault;
-use sg_report::{Outcome, put_line, sid_told};
+use sg_report::{Outcome, put_line, sid_reported};
 use sg_role::SendFault;
 use sg_sched::Step;
 use sg_text::SessionNames;
@@ -85,11 +85,11 @@ fn name_in(names: &SessionNames, session: &Option<Sid>) -> Option<Name>
 
 // The session that the line names, if it names one.
 fn session_for<'p>(setting: &Setting<'p>, step: &Step, outcome: &Outcome) -> Option<Sid>
-    ensures { IfSome (outcome_of outcome.now) (λ told. result ≡ session_told (left_by setting.now.sessions (step_of step.now)) told) }
+    ensures { IfSome (outcome_of outcome.now) (λ told. result ≡ session_reported (left_by setting.now.sessions (step_of step.now)) told) }
 {
     match outcome {
         Outcome::Abandoned => left(setting, step),
-        _ => sid_told(outcome),
+        _ => sid_reported(outcome),
     }
 }
 
@@ -112,7 +112,7 @@ fn graph_for<'a>(
     graphs: &'a [Graph],
     outcome: &Outcome,
 ) -> Option<&'a Graph>
-    ensures { IfSome (outcome_of outcome.now) (λ told. option_copied result ≡ graph_told graphs.now (option_copied of_call.entry) told) }
+    ensures { IfSome (outcome_of outcome.now) (λ told. option_copied result ≡ graph_reported graphs.now (option_copied of_call.entry) told) }
 {
     match refused(outcome) {
         Some(var) => first_with(of_call, graphs, var),

@@ -9,7 +9,7 @@ ghost use Rattle.sg_world.specs.KeptLines.{met_in, sid_kept};
 use crate::record::TakenStep;
 use crate::setting::Setting;
 use sg_base::{OutOfMemory, Sid};
-use sg_report::sid_told;
+use sg_report::sid_reported;
 use sg_sched::Declared;
 use sg_text::SessionNames;
 use std::alloc::Global;
@@ -67,7 +67,7 @@ fn meet<'p>(
 ) -> Result<(), OutOfMemory>
     ensures { (m : KnownSessions) → names.old ≡ naming 120 m → OnOk result (names.new ≡ naming 120 (record m { events = m.events ++ option_to_list (sid_kept entry.now) })) }
 {
-    match sid_told(&entry.outcome) {
+    match sid_reported(&entry.outcome) {
         Some(sid) => names.meet(alloc, sid),
         None => Ok(()),
     }

@@ -16,7 +16,7 @@ use crate::premises::Principals;
 use crate::record::TakenStep;
 use crate::walks::traces;
 use sg_base::{OutOfMemory, Sid};
-use sg_report::sid_told;
+use sg_report::sid_reported;
 use sg_traces::Traces;
 use sg_walk::StoredWalk;
 use std::alloc::Global;
@@ -143,7 +143,7 @@ fn is_met<'p>(entries: &[TakenStep<'p>], sid: &Sid) -> bool
 fn is_of<'p>(entry: &TakenStep<'p>, sid: &Sid) -> bool
     ensures { result ≡ has_text sid.now (option_to_list (sid_kept entry.now)) }
 {
-    match sid_told(&entry.outcome) {
+    match sid_reported(&entry.outcome) {
         Some(told) => same(sid, &told),
         None => false,
     }

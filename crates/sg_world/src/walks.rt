@@ -7,7 +7,7 @@ ghost use Rattle.sg_protocol.specs.Schedule.{Schedule, cast_of};
 ghost use Rattle.sg_protocol.specs.Texts.{real};
 ghost use Rattle.sg_protocol.specs.World.{World, Logged, bytes_of, frames};
 ghost use Rattle.sg_report.specs.Outcome.{outcome_of};
-ghost use Rattle.sg_report.specs.Told.{event_told};
+ghost use Rattle.sg_report.specs.Reported.{event_reported};
 ghost use Rattle.sg_sched.specs.Format.StepsHeld.{what_of};
 ghost use Rattle.sg_walk.specs.Model.{event_of};
 ghost use Rattle.sg_world.specs.Comes.{changed_to};
@@ -73,7 +73,7 @@ fn go_on<'r, 'p, H: Honest>(
 
 // The event of an outcome, if it has one.
 fn event_in<'e>(outcome: &'e Outcome) -> Option<&'e Event>
-    ensures { option_map (λ e. event_of e.now) result ≡ option_and_then event_told (outcome_of outcome.now) }
+    ensures { option_map (λ e. event_of e.now) result ≡ option_and_then event_reported (outcome_of outcome.now) }
 {
     match outcome {
         Outcome::Started(event) => Some(event),

@@ -6,7 +6,7 @@ ghost use Rattle.sg_protocol.specs.IsSchedule.{AreCompiled, IsSchedule};
 ghost use Rattle.sg_protocol.specs.Texts.{real};
 ghost use Rattle.sg_sched.specs.Format.StepsHeld.{step_of};
 ghost use Rattle.sg_report.specs.Outcome.{outcome_of};
-ghost use Rattle.sg_report.specs.Told.{told_log};
+ghost use Rattle.sg_report.specs.Reported.{reported_log};
 ghost use Rattle.sg_world.specs.Faults.{IsStepFault, IsAdmitted};
 ghost use Rattle.sg_world.specs.Laws.{HasPrograms, RunLaws};
 ghost use Rattle.sg_sched.specs.Steps.{CanBeTaken};
@@ -83,7 +83,7 @@ impl<'p> World<'p> {
     /// The number of steps that were taken. It takes no memory.
     pub fn len(&self) -> usize
         ensures steps { result ≡ length self.now.schedule.steps }
-        ensures told { result ≡ length (told_log (run_of self.now).log) }
+        ensures told { result ≡ length (reported_log (run_of self.now).log) }
     {
         self.history.count()
     }
@@ -100,7 +100,7 @@ impl<'p> World<'p> {
     /// What came of the step at an index, counted from 0. It takes no memory.
     pub fn outcome(&self, index: usize) -> &Outcome
         requires { index < length self.now.schedule.steps }
-        ensures { outcome_of result.now ≡ slice_get (told_log (run_of self.now).log) index }
+        ensures { outcome_of result.now ≡ slice_get (reported_log (run_of self.now).log) index }
     {
         let entry = &self.history.entries()[index];
         &entry.outcome
@@ -108,7 +108,7 @@ impl<'p> World<'p> {
 
     /// What came of the last step, or `None` where none was taken. It takes no memory.
     pub fn last(&self) -> Option<&Outcome>
-        ensures { option_map (λ o. outcome_of o.now) result ≡ option_map Some (last (told_log (run_of self.now).log)) }
+        ensures { option_map (λ o. outcome_of o.now) result ≡ option_map Some (last (reported_log (run_of self.now).log)) }
     {
         self.history.last()
     }

@@ -1,6 +1,6 @@
 use Rattle.std.proofs.Common.{sym, ◌∙◌}
 use Rattle.sg_drive.proofs.Written.{rest_with, rest_without}
-use Rattle.sg_world.proofs.Reported.{hold_is}
+use Rattle.sg_world.proofs.ReportText.{hold_is}
 use Rattle.sg_drive.proofs.summary_text.put_rest.Goals as goal
 
 pub put_walks-requires : goal.put_walks-requires

@@ -3,33 +3,33 @@ use Rattle.std.specs.Prelude.{option_and_then}
 use Rattle.sg_ledger.specs.Format.{Represents}
 use Rattle.sg_ledger.specs.declared.ledger.AddJoinFault.{AddJoinFault}
 use Rattle.sg_report.specs.Outcome.{outcome_of}
-use Rattle.sg_keep.specs.Joins.{join_told}
+use Rattle.sg_keep.specs.Joins.{join_reported}
 use Rattle.sg_keep.proofs.Adding.{new_of, with_none, with_one}
 use Rattle.sg_keep.proofs.Asking.{working}
 use Rattle.sg_keep.proofs.keeper.add_join.Goals as goal
 
 pub returns-in_default-clause-added : goal.returns-in_default-clause-added
-returns-in_default-clause-added g c = λ i. record { joins = with_none c.args.ledger.now.joins (option_and_then join_told (outcome_of c.args.outcome.now)) c.join_in.result c.join_in.ensures c.in_default.is i; failed = c.requires.working i }
+returns-in_default-clause-added g c = λ i. record { joins = with_none c.args.ledger.now.joins (option_and_then join_reported (outcome_of c.args.outcome.now)) c.join_in.result c.join_in.ensures c.in_default.is i; failed = c.requires.working i }
 
 pub add-requires-clause-role : goal.add-requires-clause-role
-add-requires-clause-role g c = (new_of c.args.ledger.now.joins (option_and_then join_told (outcome_of c.args.outcome.now)) c.join_in.result c.join_in.ensures c.in-Some.join c.in-Some.is c.requires.new).role
+add-requires-clause-role g c = (new_of c.args.ledger.now.joins (option_and_then join_reported (outcome_of c.args.outcome.now)) c.join_in.result c.join_in.ensures c.in-Some.join c.in-Some.is c.requires.new).role
 
 pub unreachable-requires : goal.unreachable-requires
 unreachable-requires g c =
-    (new_of c.args.ledger.now.joins (option_and_then join_told (outcome_of c.args.outcome.now)) c.join_in.result c.join_in.ensures c.in-Some.join c.in-Some.is c.requires.new).absent
+    (new_of c.args.ledger.now.joins (option_and_then join_reported (outcome_of c.args.outcome.now)) c.join_in.result c.join_in.ensures c.in-Some.join c.in-Some.is c.requires.new).absent
     (c.add.ensures.twice.0 (c.in-Err-Twice.is ∙ ap (λ (f : AddJoinFault). Err f) c.in-Err-Twice.field-0-is))
 
 pub unreachable-requires-in-Err-Full : goal.unreachable-requires-in-Err-Full
 unreachable-requires-in-Err-Full g c =
-    let room = (new_of c.args.ledger.now.joins (option_and_then join_told (outcome_of c.args.outcome.now)) c.join_in.result c.join_in.ensures c.in-Some.join c.in-Some.is c.requires.new).room in
+    let room = (new_of c.args.ledger.now.joins (option_and_then join_reported (outcome_of c.args.outcome.now)) c.join_in.result c.join_in.ensures c.in-Some.join c.in-Some.is c.requires.new).room in
     let full = (c.add.ensures.full.0 (c.in-Err-Full.is ∙ ap (λ (f : AddJoinFault). Err f) c.in-Err-Full.field-0-is)).1 in
     omega (arith, room, full)
 
 pub returns-in-Ok-clause-added : goal.returns-in-Ok-clause-added
-returns-in-Ok-clause-added g c = c.in-Ok.ensures.added ∙ ap working (with_one c.args.ledger.now.joins (option_and_then join_told (outcome_of c.args.outcome.now)) c.join_in.result c.join_in.ensures c.in-Some.join c.in-Some.is)
+returns-in-Ok-clause-added g c = c.in-Ok.ensures.added ∙ ap working (with_one c.args.ledger.now.joins (option_and_then join_reported (outcome_of c.args.outcome.now)) c.join_in.result c.join_in.ensures c.in-Some.join c.in-Some.is)
 
 pub returns-in-Err-Failed-clause-between : goal.returns-in-Err-Failed-clause-between
 returns-in-Err-Failed-clause-between g c = λ image left.
-    let more = with_one c.args.ledger.now.joins (option_and_then join_told (outcome_of c.args.outcome.now)) c.join_in.result c.join_in.ensures c.in-Some.join c.in-Some.is in
+    let more = with_one c.args.ledger.now.joins (option_and_then join_reported (outcome_of c.args.outcome.now)) c.join_in.result c.join_in.ensures c.in-Some.join c.in-Some.is in
     ⊎_elim (λ s. inl s) (λ s. inr (subst (Represents image) more s))
     (c.add.ensures.any_moment.each image (g.met.D.Disk.counts_now c.add.new.disk (g.D.Disk.moment c.args.disk.now) image c.add.ensures.any_moment.later left))

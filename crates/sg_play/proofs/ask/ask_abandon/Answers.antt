@@ -5,7 +5,7 @@ use Rattle.sg_protocol.specs.Calls as Protocol
 use Rattle.sg_protocol.specs.Calls.{Abandon}
 use Rattle.sg_protocol.specs.Past.{node_of}
 use Rattle.sg_protocol.specs.Texts.{real}
-use Rattle.sg_report.specs.Told.{Abandoned, NotAbandoned}
+use Rattle.sg_report.specs.Reported.{Abandoned, NotAbandoned}
 use Rattle.sg_report.proofs.Answered.{quiet}
 use Rattle.sg_play.proofs.Called.{comes_quiet}
 use Rattle.sg_play.proofs.ask.ask_abandon.Goals as goal

@@ -9,7 +9,7 @@ use Rattle.sg_role.specs.declared.fault.SendFault.TheVariants as sending
 use Rattle.sg_node.specs.Faults.{act_fault}
 use Rattle.sg_node.specs.declared.fault.ActFault.TheVariants as acting
 use Rattle.sg_walk.specs.Model.{event_of, values_of}
-use Rattle.sg_report.specs.Told.{NotActed}
+use Rattle.sg_report.specs.Reported.{NotActed}
 use Rattle.sg_report.proofs.Answered.{err_same, not_acted}
 use Rattle.sg_play.proofs.Called.{comes_quiet, comes_sent}
 use Rattle.sg_play.proofs.ask.ask_numbered.Goals as goal

@@ -9,7 +9,7 @@ use Rattle.sg_protocol.specs.Texts.{real}
 use Rattle.sg_node.specs.Faults.{start_fault}
 use Rattle.sg_node.specs.declared.fault.StartFault.TheVariants as starting
 use Rattle.sg_walk.specs.Model.{event_of}
-use Rattle.sg_report.specs.Told.{Happened, NotStarted}
+use Rattle.sg_report.specs.Reported.{Happened, NotStarted}
 use Rattle.sg_report.proofs.Answered.{err_same, not_started, quiet}
 use Rattle.sg_play.proofs.Called.{comes_quiet}
 use Rattle.sg_play.proofs.ask.ask_start.Goals as goal

@@ -6,7 +6,7 @@ use Rattle.sg_protocol.specs.Calls.{Abandon}
 use Rattle.sg_protocol.specs.Past.{node_of}
 use Rattle.sg_protocol.specs.Texts.{real}
 use Rattle.sg_node.proofs.Acts.{with_none}
-use Rattle.sg_report.specs.Told.{Abandoned, NotAbandoned}
+use Rattle.sg_report.specs.Reported.{Abandoned, NotAbandoned}
 use Rattle.sg_report.proofs.Answered.{quiet}
 use Rattle.sg_world.proofs.Called.{comes_quiet}
 use Rattle.sg_world.proofs.call.abandon.Goals as goal

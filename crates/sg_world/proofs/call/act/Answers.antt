@@ -14,7 +14,7 @@ use Rattle.sg_node.specs.Faults.{act_fault}
 use Rattle.sg_node.specs.declared.fault.ActFault.TheVariants as acting
 use Rattle.sg_walk.specs.Model.{event_of, values_of}
 use Rattle.sg_world.specs.Kept.{Came}
-use Rattle.sg_report.specs.Told.{NotActed}
+use Rattle.sg_report.specs.Reported.{NotActed}
 use Rattle.sg_report.proofs.Answered.{err_same, not_acted}
 use Rattle.sg_world.proofs.Called.{comes_quiet, comes_sent}
 use Rattle.sg_world.proofs.call.act.Goals as goal

@@ -1,16 +1,16 @@
 use Rattle.std.proofs.Common.{refl}
-use Rattle.sg_report.specs.Told.{Crafted, NotStarted, NotActed, NotAbandoned, NoFrame}
-use Rattle.sg_drive.proofs.Counting.{abandoned_told, event_told, fault_told, refused_told, same_told, sends_told}
+use Rattle.sg_report.specs.Reported.{Crafted, NotStarted, NotActed, NotAbandoned, NoFrame}
+use Rattle.sg_drive.proofs.Counting.{abandoned_told, event_reported, fault_told, refused_told, same_told, sends_told}
 use Rattle.sg_drive.proofs.tally.Tally.add.Goals as goal
 
 pub returns-in-Sent : goal.returns-in-Sent
 returns-in-Sent c = λ told e. sends_told c.args.graph.now _ _ _ c.args.self.now c.add_sent.new.self c.add_sent.result told (rw c.in-Sent.is at e) c.add_sent.ensures
 
 pub returns-in-Started : goal.returns-in-Started
-returns-in-Started c = λ told e. event_told c.args.graph.now _ c.args.self.now c.add_event.new.self told (rw c.in-Started.is at e) c.add_event.ensures
+returns-in-Started c = λ told e. event_reported c.args.graph.now _ c.args.self.now c.add_event.new.self told (rw c.in-Started.is at e) c.add_event.ensures
 
 pub returns-in-Received : goal.returns-in-Received
-returns-in-Received c = λ told e. event_told c.args.graph.now _ c.args.self.now c.add_event-in-Received.new.self told (rw c.in-Received.is at e) c.add_event-in-Received.ensures
+returns-in-Received c = λ told e. event_reported c.args.graph.now _ c.args.self.now c.add_event-in-Received.new.self told (rw c.in-Received.is at e) c.add_event-in-Received.ensures
 
 pub returns-in-NotDelivered : goal.returns-in-NotDelivered
 returns-in-NotDelivered c = λ told e. refused_told c.args.graph.now _ c.args.self.now c.add_refused.new.self told (rw c.in-NotDelivered.is at e) c.add_refused.ensures

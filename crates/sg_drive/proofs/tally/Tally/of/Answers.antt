@@ -1,5 +1,5 @@
 use Rattle.std.proofs.Common.{◌≡◌, length, take, ap, ◌∙◌, arith}
-use Rattle.sg_report.specs.Told.{told_log}
+use Rattle.sg_report.specs.Reported.{reported_log}
 use Rattle.sg_world.specs.Replay.{run_of}
 use Rattle.sg_drive.proofs.Counting.{all_taken, can_rise, counted_more, length_taken}
 use Rattle.sg_drive.specs.Summary.{counts}
@@ -10,7 +10,7 @@ loop-index-init c = c.new-tally.ensures c.args.graph.now
 
 pub add-requires : goal.add-requires
 add-requires c =
-    let log = told_log (run_of c.args.world.now).log in
+    let log = reported_log (run_of c.args.world.now).log in
     let told = c.len-index-end.ensures.told in
     let steps = c.len-index-end.ensures.steps in
     let few = c.requires.few in
@@ -20,14 +20,14 @@ add-requires c =
 
 pub loop-index-preserved : goal.loop-index-preserved
 loop-index-preserved c =
-    let log = told_log (run_of c.args.world.now).log in
+    let log = reported_log (run_of c.args.world.now).log in
     let told = c.len-index-end.ensures.told in
     let t = c.loop-index-test.true in
     counted_more c.args.graph.now log c.loop-index.index c.loop-index.tally c.add.new.self _ (omega (arith, told, t)) c.loop-index.invariant c.outcome.ensures c.in_ok-add.ensures
 
 pub returns : goal.returns
 returns c =
-    let log = told_log (run_of c.args.world.now).log in
+    let log = reported_log (run_of c.args.world.now).log in
     let told = c.len-index-end.ensures.told in
     let last = c.loop-index-test.false in
     let end = c.loop-index.auto.index-end in

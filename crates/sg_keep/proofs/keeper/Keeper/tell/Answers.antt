@@ -1,7 +1,7 @@
 use Rattle.std.proofs.Common.{◌∙◌, Ok, Err, option_and_then, refl, ap}
 use Rattle.std.specs.Option.{option_copied}
 use Rattle.sg_report.specs.Outcome.{outcome_of}
-use Rattle.sg_report.specs.Told.{sid_told}
+use Rattle.sg_report.specs.Reported.{sid_reported}
 use Rattle.sg_play.specs.Ends.{Outside}
 use Rattle.sg_play.specs.Played.{answer_in, called}
 use Rattle.sg_play.proofs.Keeping.{keeps_same, keeps_then}
@@ -69,8 +69,8 @@ returns-in-Ok-play_if-clause-came g c = λ p k start a w h.
     let leaves = g.D.Disk.may_leave c.keep_join.new.disk in
     let now : Outside = record { written = g.O.Sink.written c.play_if.new.out; sent = g.L.Link.sent c.play_if.new.link } in
     let given = c.in-Ok-give.ensures.came p k start (asked_then start now leaves c.args.self.now p k told graph a m c.keep_join.ensures.player c.in-Ok.ensures.holds) a.stays h in
-    let sid = c.sid_told.ensures.told ∙ ap (option_and_then sid_told) a.asked.is_told ∙ told_given _ (answer_in p k) in
-    let turn = turn_given start now c.play_if.new.self (g.R.Fresh.words c.play_if.new.fresh) p k c.sid_told.result (Ok tt) sid (c.in-Ok-play_if.ensures.came (called p k) start given.0 w given.1) in
+    let sid = c.sid_reported.ensures.told ∙ ap (option_and_then sid_reported) a.asked.is_told ∙ told_given _ (answer_in p k) in
+    let turn = turn_given start now c.play_if.new.self (g.R.Fresh.words c.play_if.new.fresh) p k c.sid_reported.result (Ok tt) sid (c.in-Ok-play_if.ensures.came (called p k) start given.0 w given.1) in
     (represents_kept start now leaves c.args.self.now p k told graph a m c.keep_join.ensures.player c.in-Ok.ensures.holds (record m { player = c.play_if.new.self }) turn.0.0, turn.0.1, turn.1)
 
 pub returns-in-Err-play_if-clause-faults : goal.returns-in-Err-play_if-clause-faults
@@ -94,6 +94,6 @@ returns-in-Err-play_if-clause-came g c = λ p k start a w h.
     let leaves = g.D.Disk.may_leave c.keep_join.new.disk in
     let now : Outside = record { written = g.O.Sink.written c.play_if.new.out; sent = g.L.Link.sent c.play_if.new.link } in
     let given = c.in-Ok-give.ensures.came p k start (asked_then start now leaves c.args.self.now p k told graph a m c.keep_join.ensures.player c.in-Ok.ensures.holds) a.stays h in
-    let sid = c.sid_told.ensures.told ∙ ap (option_and_then sid_told) a.asked.is_told ∙ told_given _ (answer_in p k) in
-    let turn = turn_given start now c.play_if.new.self (g.R.Fresh.words c.play_if.new.fresh) p k c.sid_told.result (Err c.in-Err-play_if.fault) sid (c.in-Err-play_if.ensures.came (called p k) start given.0 w given.1) in
+    let sid = c.sid_reported.ensures.told ∙ ap (option_and_then sid_reported) a.asked.is_told ∙ told_given _ (answer_in p k) in
+    let turn = turn_given start now c.play_if.new.self (g.R.Fresh.words c.play_if.new.fresh) p k c.sid_reported.result (Err c.in-Err-play_if.fault) sid (c.in-Err-play_if.ensures.came (called p k) start given.0 w given.1) in
     unplayed start now leaves c.args.self.now p k told graph a m c.keep_join.ensures.player c.in-Ok.ensures.holds c.in-Err-play_if.fault turn

@@ -3,7 +3,7 @@ use Rattle.std.specs.Option.{option_copied, option_map_or}
 use Rattle.sg_text.specs.Sessions.{session_name}
 use Rattle.sg_report.specs.Lines.{graph_or_none, line_text}
 use Rattle.sg_report.specs.Outcome.{outcome_of}
-use Rattle.sg_report.specs.Told.{Told, session_told}
+use Rattle.sg_report.specs.Reported.{Reported, session_reported}
 use Rattle.sg_play.specs.declared.player.Player.{Player}
 use Rattle.sg_play.specs.Meeting.{met_more}
 use Rattle.sg_play.specs.Steps.{met_in}
@@ -22,7 +22,7 @@ returns-clause-told c = λ p k made asked left.
     let met = met_more (met_in p.past.calls) t in
     let rest = told_rest old c.meet.new.self c.in_ok-number.number c.in_ok-meet.ensures.rest c.in_ok-number.ensures.next in
     let named = c.in_ok-meet.ensures.names (met_in p.past.calls) t asked.is_told asked.names in
-    let session : c.session_of.result ≡ session_told c.args.left t = subst (λ (o : Option Told). IfSome o (λ x. c.session_of.result ≡ session_told c.args.left x)) asked.is_told c.session_of.ensures in
+    let session : c.session_of.result ≡ session_reported c.args.left t = subst (λ (o : Option Reported). IfSome o (λ x. c.session_of.result ≡ session_reported c.args.left x)) asked.is_told c.session_of.ensures in
     let number : c.in_ok-number.number ≡ old.steps + 1 = c.in_ok-number.ensures.next ∙ ap (λ (pl : Player). pl.steps + 1) c.in_ok-meet.ensures.rest in
     let me : c.meet.new.self.keys.now.me ≡ old.keys.now.me = ap (λ (pl : Player). pl.keys.now.me) c.in_ok-meet.ensures.rest in
     let text = c.in_ok-line.ensures.text met t asked.is_told named ∙ (λ i. line_text (option_map_or (session_name 115 met) (session i) []) (graph_or_none graph) (number i) (me i) t) in (

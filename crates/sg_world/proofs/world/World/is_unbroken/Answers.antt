@@ -1,6 +1,6 @@
 use Rattle.std.proofs.Common.{ap, not, sym, ◌∙◌, subst, MatchBool}
 use Rattle.sg_world.specs.Walked.{PremisesHold}
-use Rattle.sg_world.proofs.Reported.{collision_says, forged_breaks, not_not}
+use Rattle.sg_world.proofs.ReportText.{collision_says, forged_breaks, not_not}
 use Rattle.sg_world.proofs.world.World.is_unbroken.Goals as goal
 
 pub returns-then-is_some : goal.returns-then-is_some

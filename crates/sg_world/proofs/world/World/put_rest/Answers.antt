@@ -1,5 +1,5 @@
 use Rattle.std.proofs.Common.{sym, ◌∙◌}
-use Rattle.sg_world.proofs.Reported.{hold_is, on_ok, report_with}
+use Rattle.sg_world.proofs.ReportText.{hold_is, on_ok, report_with}
 use Rattle.sg_world.proofs.world.World.put_rest.Goals as goal
 
 pub put_walks-requires : goal.put_walks-requires

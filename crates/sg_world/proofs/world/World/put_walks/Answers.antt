@@ -4,7 +4,7 @@ use Rattle.sg_report.specs.Report.{met}
 use Rattle.sg_world.specs.Account.{account}
 use Rattle.sg_world.specs.Replay.{run_of}
 use Rattle.sg_world.proofs.Accounts.{compiled_is, schedule_is}
-use Rattle.sg_world.proofs.Reported.{on_ok}
+use Rattle.sg_world.proofs.ReportText.{on_ok}
 use Rattle.sg_world.proofs.WalkLaws.{can_walk, walks_written}
 use Rattle.sg_world.proofs.world.World.put_walks.Goals as goal
 

@@ -6,7 +6,7 @@ ghost use Rattle.sg_model.specs.Lists.{keys_of};
 ghost use Rattle.sg_protocol.specs.Told.{HasEvent, HasNumbers};
 ghost use Rattle.sg_report.specs.Lines.{graph_or_none, line_text};
 ghost use Rattle.sg_report.specs.Outcome.{outcome_of};
-ghost use Rattle.sg_report.specs.Told.{CanBeTold, Told};
+ghost use Rattle.sg_report.specs.Reported.{CanBeReported, Reported};
 ghost use Rattle.sg_walk.specs.Model.{event_of, values_of};
 
 use crate::PlayFault;
@@ -20,7 +20,7 @@ use std::alloc::Global;
 
 /// The line of a step, in a session of this name. Roles, labels and variables have their names by the graph. A session's own graph has
 /// them all, except where two different graphs have one digest: then there is no line, as if memory ran out.
-pub(crate) fn told_line(
+pub(crate) fn reported_line(
     alloc: Global,
     step: u64,
     who: Name,
@@ -28,10 +28,10 @@ pub(crate) fn told_line(
     graph: Option<&Graph>,
     outcome: &Outcome,
 ) -> Result<Vec<u8>, PlayFault>
-    ensures text { IfOk result (λ v. (t : Told) → outcome_of outcome.now ≡ Some t → v.items ≡ line_text session.now (graph_or_none (option_copied graph.entry)) step who t) }
+    ensures text { IfOk result (λ v. (t : Reported) → outcome_of outcome.now ≡ Some t → v.items ≡ line_text session.now (graph_or_none (option_copied graph.entry)) step who t) }
     ensures memory { IfErr result (λ e. e ≡ PlayFault.OutOfMemory) }
 {
-    if !can_be_told(graph, outcome) {
+    if !can_be_reported(graph, outcome) {
         return Err(PlayFault::OutOfMemory);
     }
     match report_line(alloc, step, who, session, graph, outcome) {
@@ -41,8 +41,8 @@ pub(crate) fn told_line(
 }
 
 // The graph has what an outcome names by its number.
-fn can_be_told(graph: Option<&Graph>, outcome: &Outcome) -> bool
-    ensures { result ≡ true → IfSome (outcome_of outcome.now) (CanBeTold (option_copied graph.entry)) }
+fn can_be_reported(graph: Option<&Graph>, outcome: &Outcome) -> bool
+    ensures { result ≡ true → IfSome (outcome_of outcome.now) (CanBeReported (option_copied graph.entry)) }
 {
     match outcome {
         Outcome::Started(event) => has_event_if(graph, event),

@@ -2,7 +2,7 @@ use Rattle.std.specs.Option.{option_copied}
 use Rattle.sg_node.specs.Faults.{act_fault}
 use Rattle.sg_report.specs.Lines.{graph_or_none}
 use Rattle.sg_report.proofs.Words.{then_act}
-use Rattle.sg_report.proofs.line.put_told.Goals as goal
+use Rattle.sg_report.proofs.line.put_reported.Goals as goal
 
 pub returns-in_ok-bytes-in-NotActed : goal.returns-in_ok-bytes-in-NotActed
 returns-in_ok-bytes-in-NotActed c =

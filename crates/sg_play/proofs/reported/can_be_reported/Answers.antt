@@ -1,4 +1,4 @@
-use Rattle.sg_play.proofs.told.can_be_told.Goals as goal
+use Rattle.sg_play.proofs.reported.can_be_reported.Goals as goal
 
 pub returns-in-Started : goal.returns-in-Started
 returns-in-Started c = rw c.in-Started.is c.has_event_if.ensures
