@@ -47,7 +47,7 @@ impl<'p> Keeper<'p> {
             (record { link = L.faults link.new; out = O.faults out.new; disk = D.faults disk.new }) result }
         ensures deliveries { L.deliveries link.new ≡ L.deliveries link.old }
         ensures holds { OnOk result (HoldsJoins self.new (D.may_leave disk.new)) }
-        ensures came { (p : Play) (c : Call) (start : Outside) → IsAsked self.old p c (outcome_of outcome.now) (option_copied graph.entry) → R.words fresh.old ≡ Some p.words
+        ensures progress { (p : Play) (c : Call) (start : Outside) → IsAsked self.old p c (outcome_of outcome.now) (option_copied graph.entry) → R.words fresh.old ≡ Some p.words
             → Whole start (record { written = O.written out.old; sent = L.sent link.old }) p.steps
             → CameTo start (record { written = O.written out.new; sent = L.sent link.new }) (D.may_leave disk.new) self.new (R.words fresh.new) (with_turn p c) result }
     {

@@ -35,7 +35,7 @@ impl<'p> Keeper<'p> {
             (record { link = L.faults link.new; out = O.faults out.new; disk = D.faults disk.new }) result }
         ensures deliveries { L.deliveries link.new ≡ L.deliveries link.old }
         ensures holds { OnOk result (HoldsJoins self.new (D.may_leave disk.new)) }
-        ensures came { (p : Play) (start : Outside) → RepresentsKept self.old p → R.words fresh.old ≡ Some p.words
+        ensures progress { (p : Play) (start : Outside) → RepresentsKept self.old p → R.words fresh.old ≡ Some p.words
             → Whole start (record { written = O.written out.old; sent = L.sent link.old }) p.steps
             → CameTo start (record { written = O.written out.new; sent = L.sent link.new }) (D.may_leave disk.new) self.new (R.words fresh.new) (all_starts p starts.now) result }
     {
@@ -64,7 +64,7 @@ impl<'p> Keeper<'p> {
             (record { link = L.faults link.new; out = O.faults out.new; disk = D.faults disk.new }) result }
         ensures deliveries { L.deliveries link.new ≡ L.deliveries link.old }
         ensures holds { OnOk result (HoldsJoins self.new (D.may_leave disk.new)) }
-        ensures came { (p : Play) (start : Outside) → RepresentsKept self.old p → R.words fresh.old ≡ Some p.words
+        ensures progress { (p : Play) (start : Outside) → RepresentsKept self.old p → R.words fresh.old ≡ Some p.words
             → Whole start (record { written = O.written out.old; sent = L.sent link.old }) p.steps
             → CameTo start (record { written = O.written out.new; sent = L.sent link.new }) (D.may_leave disk.new) self.new (R.words fresh.new) (starts p start_of.now) result }
     {
@@ -90,7 +90,7 @@ impl<'p> Keeper<'p> {
         ensures disk_bound { D.bound disk.new ≡ D.bound disk.old }
         ensures faults { TellsFaults (record { link = L.faults link.old; out = O.faults out.old; disk = D.faults disk.old })
             (record { link = L.faults link.new; out = O.faults out.new; disk = D.faults disk.new }) result }
-        ensures came { (p : Play) (start : Outside) (deliveries : List (List ℕ)) → L.deliveries link.old ≡ Some deliveries → RepresentsKept self.old p → R.words fresh.old ≡ Some p.words
+        ensures progress { (p : Play) (start : Outside) (deliveries : List (List ℕ)) → L.deliveries link.old ≡ Some deliveries → RepresentsKept self.old p → R.words fresh.old ≡ Some p.words
             → Whole start (record { written = O.written out.old; sent = L.sent link.old }) p.steps
             → CameTo start (record { written = O.written out.new; sent = L.sent link.new }) (D.may_leave disk.new) self.new (R.words fresh.new) (all_deliveries p (take most deliveries)) result }
         ensures left { OnOk result ((deliveries : List (List ℕ)) → L.deliveries link.old ≡ Some deliveries → L.deliveries link.new ≡ Some (drop most deliveries)) }
@@ -129,7 +129,7 @@ impl<'p> Keeper<'p> {
             (record { link = L.faults link.new; out = O.faults out.new; disk = D.faults disk.new }) result }
         ensures deliveries { L.deliveries link.new ≡ L.deliveries link.old }
         ensures holds { OnOk result (HoldsJoins self.new (D.may_leave disk.new)) }
-        ensures came { (p : Play) (start : Outside) → RepresentsKept self.old p → R.words fresh.old ≡ Some p.words
+        ensures progress { (p : Play) (start : Outside) → RepresentsKept self.old p → R.words fresh.old ≡ Some p.words
             → Whole start (record { written = O.written out.old; sent = L.sent link.old }) p.steps
             → CameTo start (record { written = O.written out.new; sent = L.sent link.new }) (D.may_leave disk.new) self.new (R.words fresh.new) (with_turn p (Deliver bytes.now)) result }
     {

@@ -117,7 +117,7 @@ impl<'p> Player<'p> {
         ensures link_failed { result ≡ Err PlayFault.LinkFailed → HasRisen (L.faults link.old) (L.faults link.new) }
         ensures write_failed { result ≡ Err PlayFault.WriteFailed → HasRisen (O.faults out.old) (O.faults out.new) }
         ensures deliveries { L.deliveries link.new ≡ L.deliveries link.old }
-        ensures came { (p : Play) (start : Outside) → RepresentsPlay self.old p → Whole start (record { written = O.written out.old; sent = L.sent link.old }) p.steps
+        ensures progress { (p : Play) (start : Outside) → RepresentsPlay self.old p → Whole start (record { written = O.written out.old; sent = L.sent link.old }) p.steps
             → Came start (record { written = O.written out.new; sent = L.sent link.new }) self.new (called p (Start cast)) (done result) }
         ensures turn { IfOk result (λ sid. (p : Play) → RepresentsPlay self.old p → sid ≡ sid_given (answer_in p (Start cast))) }
     {
@@ -139,7 +139,7 @@ impl<'p> Player<'p> {
         ensures link_failed { result ≡ Err PlayFault.LinkFailed → HasRisen (L.faults link.old) (L.faults link.new) }
         ensures write_failed { result ≡ Err PlayFault.WriteFailed → HasRisen (O.faults out.old) (O.faults out.new) }
         ensures deliveries { L.deliveries link.new ≡ L.deliveries link.old }
-        ensures came { (p : Play) (start : Outside) → RepresentsPlay self.old p → Whole start (record { written = O.written out.old; sent = L.sent link.old }) p.steps
+        ensures progress { (p : Play) (start : Outside) → RepresentsPlay self.old p → Whole start (record { written = O.written out.old; sent = L.sent link.old }) p.steps
             → Came start (record { written = O.written out.new; sent = L.sent link.new }) self.new (called p (Deliver bytes.now)) (done result) }
         ensures turn { IfOk result (λ sid. (p : Play) → RepresentsPlay self.old p → sid ≡ sid_given (answer_in p (Deliver bytes.now))) }
     {
@@ -161,7 +161,7 @@ impl<'p> Player<'p> {
         ensures link_failed { result ≡ Err PlayFault.LinkFailed → HasRisen (L.faults link.old) (L.faults link.new) }
         ensures write_failed { result ≡ Err PlayFault.WriteFailed → HasRisen (O.faults out.old) (O.faults out.new) }
         ensures deliveries { L.deliveries link.new ≡ L.deliveries link.old }
-        ensures came { (p : Play) (start : Outside) → RepresentsPlay self.old p → Whole start (record { written = O.written out.old; sent = L.sent link.old }) p.steps
+        ensures progress { (p : Play) (start : Outside) → RepresentsPlay self.old p → Whole start (record { written = O.written out.old; sent = L.sent link.old }) p.steps
             → Came start (record { written = O.written out.new; sent = L.sent link.new }) self.new (abandons sid p) result }
         ensures joins { OnOk result (KeepsJoins self.old.node self.new.node) }
     {
@@ -186,7 +186,7 @@ impl<'p> Player<'p> {
         ensures link_failed { result ≡ Err PlayFault.LinkFailed → HasRisen (L.faults link.old) (L.faults link.new) }
         ensures write_failed { result ≡ Err PlayFault.WriteFailed → HasRisen (O.faults out.old) (O.faults out.new) }
         ensures deliveries { L.deliveries link.new ≡ L.deliveries link.old }
-        ensures came { (p : Play) (c : Call) (start : Outside) → HasAsked self.old p c (outcome_of outcome.now) (option_copied graph.entry) (frames_made frame) → left ≡ sid_left c
+        ensures progress { (p : Play) (c : Call) (start : Outside) → HasAsked self.old p c (outcome_of outcome.now) (option_copied graph.entry) (frames_made frame) → left ≡ sid_left c
             → Whole start (record { written = O.written out.old; sent = L.sent link.old }) p.steps
             → Came start (record { written = O.written out.new; sent = L.sent link.new }) self.new (called p c) result }
         ensures node { OnOk result (self.new.node ≡ self.old.node) }

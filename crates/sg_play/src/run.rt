@@ -32,7 +32,7 @@ impl<'p> Player<'p> {
         ensures link_failed { result ≡ Err PlayFault.LinkFailed → HasRisen (L.faults link.old) (L.faults link.new) }
         ensures write_failed { result ≡ Err PlayFault.WriteFailed → HasRisen (O.faults out.old) (O.faults out.new) }
         ensures deliveries { L.deliveries link.new ≡ L.deliveries link.old }
-        ensures came { (p : Play) (start : Outside) → RepresentsPlay self.old p → R.words fresh.old ≡ Some p.words → Whole start (record { written = O.written out.old; sent = L.sent link.old }) p.steps
+        ensures progress { (p : Play) (start : Outside) → RepresentsPlay self.old p → R.words fresh.old ≡ Some p.words → Whole start (record { written = O.written out.old; sent = L.sent link.old }) p.steps
             → CameTo start (record { written = O.written out.new; sent = L.sent link.new }) self.new (R.words fresh.new) (all_starts p starts.now) result }
     {
         for start in starts {
@@ -55,7 +55,7 @@ impl<'p> Player<'p> {
         ensures link_failed { result ≡ Err PlayFault.LinkFailed → HasRisen (L.faults link.old) (L.faults link.new) }
         ensures write_failed { result ≡ Err PlayFault.WriteFailed → HasRisen (O.faults out.old) (O.faults out.new) }
         ensures deliveries { L.deliveries link.new ≡ L.deliveries link.old }
-        ensures came { (p : Play) (start : Outside) → RepresentsPlay self.old p → R.words fresh.old ≡ Some p.words → Whole start (record { written = O.written out.old; sent = L.sent link.old }) p.steps
+        ensures progress { (p : Play) (start : Outside) → RepresentsPlay self.old p → R.words fresh.old ≡ Some p.words → Whole start (record { written = O.written out.old; sent = L.sent link.old }) p.steps
             → CameTo start (record { written = O.written out.new; sent = L.sent link.new }) self.new (R.words fresh.new) (starts p start_of.now) result }
     {
         let nonce = fresh.next();
@@ -78,7 +78,7 @@ impl<'p> Player<'p> {
         ensures out_falls { O.faults out.old ≤ O.faults out.new }
         ensures link_failed { result ≡ Err PlayFault.LinkFailed → HasRisen (L.faults link.old) (L.faults link.new) }
         ensures write_failed { result ≡ Err PlayFault.WriteFailed → HasRisen (O.faults out.old) (O.faults out.new) }
-        ensures came { (p : Play) (start : Outside) (deliveries : List (List ℕ)) → L.deliveries link.old ≡ Some deliveries → RepresentsPlay self.old p → R.words fresh.old ≡ Some p.words
+        ensures progress { (p : Play) (start : Outside) (deliveries : List (List ℕ)) → L.deliveries link.old ≡ Some deliveries → RepresentsPlay self.old p → R.words fresh.old ≡ Some p.words
             → Whole start (record { written = O.written out.old; sent = L.sent link.old }) p.steps
             → CameTo start (record { written = O.written out.new; sent = L.sent link.new }) self.new (R.words fresh.new) (all_deliveries p (take most deliveries)) result }
         ensures left { OnOk result ((deliveries : List (List ℕ)) → L.deliveries link.old ≡ Some deliveries → L.deliveries link.new ≡ Some (drop most deliveries)) }
@@ -109,7 +109,7 @@ impl<'p> Player<'p> {
         ensures link_failed { result ≡ Err PlayFault.LinkFailed → HasRisen (L.faults link.old) (L.faults link.new) }
         ensures write_failed { result ≡ Err PlayFault.WriteFailed → HasRisen (O.faults out.old) (O.faults out.new) }
         ensures deliveries { L.deliveries link.new ≡ L.deliveries link.old }
-        ensures came { (p : Play) (start : Outside) → RepresentsPlay self.old p → R.words fresh.old ≡ Some p.words → Whole start (record { written = O.written out.old; sent = L.sent link.old }) p.steps
+        ensures progress { (p : Play) (start : Outside) → RepresentsPlay self.old p → R.words fresh.old ≡ Some p.words → Whole start (record { written = O.written out.old; sent = L.sent link.old }) p.steps
             → CameTo start (record { written = O.written out.new; sent = L.sent link.new }) self.new (R.words fresh.new) (with_turn p (Deliver bytes.now)) result }
     {
         let sid = self.take(bytes, link, out)?;
@@ -131,7 +131,7 @@ impl<'p> Player<'p> {
         ensures link_failed { result ≡ Err PlayFault.LinkFailed → HasRisen (L.faults link.old) (L.faults link.new) }
         ensures write_failed { result ≡ Err PlayFault.WriteFailed → HasRisen (O.faults out.old) (O.faults out.new) }
         ensures deliveries { L.deliveries link.new ≡ L.deliveries link.old }
-        ensures came { (p : Play) (start : Outside) → RepresentsPlay self.old p → R.words fresh.old ≡ Some p.words → Whole start (record { written = O.written out.old; sent = L.sent link.old }) p.steps
+        ensures progress { (p : Play) (start : Outside) → RepresentsPlay self.old p → R.words fresh.old ≡ Some p.words → Whole start (record { written = O.written out.old; sent = L.sent link.old }) p.steps
             → CameTo start (record { written = O.written out.new; sent = L.sent link.new }) self.new (R.words fresh.new) (option_map_or (λ s. plays_on s p) sid p) result }
         ensures joins { OnOk result (KeepsJoins self.old.node self.new.node) }
     {

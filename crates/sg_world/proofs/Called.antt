@@ -32,21 +32,21 @@ use Rattle.sg_node.specs.Answers.{GoesOn}
 use Rattle.sg_report.specs.Reported.{Reported, Sends, reported_answer}
 use Rattle.sg_report.proofs.Answered.{SendsNothing}
 use Rattle.sg_world.specs.Comes.{Comes, ComesOfCall}
-use Rattle.sg_world.specs.Kept.{Came, no_frame}
+use Rattle.sg_world.specs.Kept.{StepResult, no_frame}
 
 -- the notes of a call that begins with none
-noted_first : (blank : Came) (notes more : Notes) → blank ≡ no_frame → notes ≡ with_notes blank.notes more → notes ≡ with_notes no_notes more
-noted_first blank notes more none h = h ∙ ap (λ (z : Came). with_notes z.notes more) none
+noted_first : (blank : StepResult) (notes more : Notes) → blank ≡ no_frame → notes ≡ with_notes blank.notes more → notes ≡ with_notes no_notes more
+noted_first blank notes more none h = h ∙ ap (λ (z : StepResult). with_notes z.notes more) none
 
 -- what comes of a call that sends nothing
-pub comes_quiet : (number : ℕ) (old new : NodeState) (past : Past) (call : Call) (told : Option Reported) (graph : Option Graph) (notes : Notes) (blank c : Came) → blank ≡ no_frame → c ≡ record blank { told = told; graph = graph; notes = notes } → IsCallInRange call
+pub comes_quiet : (number : ℕ) (old new : NodeState) (past : Past) (call : Call) (told : Option Reported) (graph : Option Graph) (notes : Notes) (blank c : StepResult) → blank ≡ no_frame → c ≡ record blank { told = told; graph = graph; notes = notes } → IsCallInRange call
     → SendsNothing number (answer real (node_of past) call) told → graph ≡ graph_of_call real (node_of past) call → notes ≡ with_notes blank.notes (noted_of real (node_of past) call) → GoesOn old new call past → ComesOfCall number old new past call c
 comes_quiet number old new past call told graph notes blank c none e range h graphed noted goes =
     subst (ComesOfCall number old new past call) (sym e) (record {
       range = range;
       told = h.0;
       graph = graphed;
-      frame = ap (λ (z : Came). z.frame) none ∙ h.1;
+      frame = ap (λ (z : StepResult). z.frame) none ∙ h.1;
       notes = noted_first blank notes (noted_of real (node_of past) call) none noted;
       goes_on = goes;
     })
@@ -58,7 +58,7 @@ if_is_ok Q (Err e) f = tt
 
 -- ---- the call of a step
 
-pub comes_start : (s : Schedule) (w : World) (k number : ℕ) (who : Name) (n : ℕ) (ds : List Declared) (cast : Cast) (old new : NodeState) (past : Past) (c : Came)
+pub comes_start : (s : Schedule) (w : World) (k number : ℕ) (who : Name) (n : ℕ) (ds : List Declared) (cast : Cast) (old new : NodeState) (past : Past) (c : StepResult)
     → ds ≡ s.sessions → option_map (λ (d : Declared). d.cast) (slice_get ds n) ≡ Some cast → ComesOfCall number old new past (Start cast) c → Comes number old new past (call_of real s w k (StartStep who n)) c
 comes_start s w k number who n ds cast old new past c same at h =
     subst (λ (o : Option Call). Comes number old new past o c) (sym (ap (option_map Start) (ap (λ (ds : List Declared). option_map (λ (d : Declared). d.cast) (slice_get ds n)) (sym same) ∙ at))) h
@@ -71,7 +71,7 @@ sid_is s n ds sid same at = by (slice_get ds n) at ∙ ap (λ (ds : List Declare
     by None e = absurd (cc)
     by (Some d) e = sym (cc)
 
-pub comes_act : (s : Schedule) (w : World) (k number : ℕ) (who : Name) (n label : ℕ) (values : Map Value) (ds : List Declared) (sid : List ℕ) (confounders : List (List ℕ)) (old new : NodeState) (past : Past) (c : Came)
+pub comes_act : (s : Schedule) (w : World) (k number : ℕ) (who : Name) (n label : ℕ) (values : Map Value) (ds : List Declared) (sid : List ℕ) (confounders : List (List ℕ)) (old new : NodeState) (past : Past) (c : StepResult)
     → ds ≡ s.sessions → option_map (λ (d : Declared). session_id real d.cast) (slice_get ds n) ≡ Some sid → confounders ≡ map (λ (v : ℕ × Value). confounder k v.0) values
     → ComesOfCall number old new past (Act sid label values confounders) c → Comes number old new past (call_of real s w k (ActStep who n label values)) c
 comes_act s w k number who n label values ds sid confounders old new past c same at are h =
@@ -81,7 +81,7 @@ comes_act s w k number who n label values ds sid confounders old new past c same
 -- ---- answers
 
 -- what comes of a step that was sent
-pub comes_sent : (number : ℕ) (old new : NodeState) (past : Past) (sid : List ℕ) (label : ℕ) (values : Map Value) (confounders : List (List ℕ)) (e : Protocol.Event) (to bytes : List ℕ) (graph : Option Graph) (notes : Notes) (blank c : Came)
+pub comes_sent : (number : ℕ) (old new : NodeState) (past : Past) (sid : List ℕ) (label : ℕ) (values : Map Value) (confounders : List (List ℕ)) (e : Protocol.Event) (to bytes : List ℕ) (graph : Option Graph) (notes : Notes) (blank c : StepResult)
     → blank ≡ no_frame → c ≡ record { told = Some (Sends e to number); graph = graph; frame = Some bytes; notes = notes } → (f : Frame) → answer real (node_of past) (Act sid label values confounders) ≡ Protocol.Sends e to f → bytes ≡ spelling f
     → AreValues values confounders → graph ≡ graph_of_call real (node_of past) (Act sid label values confounders) → notes ≡ with_notes blank.notes (noted_of real (node_of past) (Act sid label values confounders)) → GoesOn old new (Act sid label values confounders) past
     → ComesOfCall number old new past (Act sid label values confounders) c

@@ -24,7 +24,7 @@ use Rattle.sg_node.proofs.Life.{pasts_go_on}
 use Rattle.sg_node.specs.Answers.{IsTold}
 use Rattle.sg_world.specs.Comes.{Comes, ComesOfCall}
 use Rattle.sg_world.specs.Entries.{graph_of_entry}
-use Rattle.sg_world.specs.Kept.{Came, Taken, Recorded, HoldsRun, with_came}
+use Rattle.sg_world.specs.Kept.{StepResult, Taken, Recorded, HoldsRun, with_result}
 use Rattle.sg_world.specs.Representation.{RepresentsAs, RepresentPasts}
 use Rattle.sg_report.specs.Reported.{Crafted, Reported, reported_after, reported_log, reported_outcome}
 use Rattle.sg_world.proofs.EntryGraphs.{IsBefore, graph_of_called}
@@ -38,14 +38,14 @@ told_more before (x ∷ xs) l =
     ∙ ap (λ (z : List Logged). reported_after (before ++ x ∷ []) xs ++ reported_outcome (frame_number z) l.outcome ∷ []) (append_assoc before (x ∷ []) xs))
 
 -- the record of a run with one more entry
-record Entered (programs : List Program) (s : Schedule) (ps : List Past) (w : World) (l : Logged) (r : Recorded) (x : Step) (c : Came) : Type 0 where
-  told : map (λ (e : Taken). e.told) (with_came r x c).entries ≡ map {B = Option Reported} Some (reported_log (w.log ++ l ∷ []))
-  graphs : map (λ (e : Taken). e.graph) (with_came r x c).entries ≡ map (graph_of_entry programs (with_step s x)) (w.log ++ l ∷ [])
-  notes : (with_came r x c).notes ≡ map (λ (l : Logged). l.notes) (w.log ++ l ∷ [])
-  frames : (with_came r x c).frames ≡ Core.frames (record { pasts = ps; log = w.log ++ l ∷ [] })
-  size : (with_came r x c).size ≡ record_size s (record { pasts = ps; log = w.log ++ l ∷ [] })
+record Entered (programs : List Program) (s : Schedule) (ps : List Past) (w : World) (l : Logged) (r : Recorded) (x : Step) (c : StepResult) : Type 0 where
+  told : map (λ (e : Taken). e.told) (with_result r x c).entries ≡ map {B = Option Reported} Some (reported_log (w.log ++ l ∷ []))
+  graphs : map (λ (e : Taken). e.graph) (with_result r x c).entries ≡ map (graph_of_entry programs (with_step s x)) (w.log ++ l ∷ [])
+  notes : (with_result r x c).notes ≡ map (λ (l : Logged). l.notes) (w.log ++ l ∷ [])
+  frames : (with_result r x c).frames ≡ Core.frames (record { pasts = ps; log = w.log ++ l ∷ [] })
+  size : (with_result r x c).size ≡ record_size s (record { pasts = ps; log = w.log ++ l ∷ [] })
 
-entered : (programs : List Program) (s : Schedule) (ps : List Past) (w : World) (nodes : List Named) (l : Logged) (r : Recorded) (k : ℕ) (x : Step) (c : Came) → IsBefore programs s w k x → HoldsRun programs s w nodes r
+entered : (programs : List Program) (s : Schedule) (ps : List Past) (w : World) (nodes : List Named) (l : Logged) (r : Recorded) (k : ℕ) (x : Step) (c : StepResult) → IsBefore programs s w k x → HoldsRun programs s w nodes r
     → c.told ≡ Some (reported_outcome (length r.frames + 1) l.outcome) → c.graph ≡ graph_of_entry programs (with_step s x) l → c.frame ≡ l.frame → c.notes ≡ l.notes → Entered programs s ps w l r x c
 entered programs s ps w nodes l r k x c b h told graph frame notes = record {
   told =
@@ -80,8 +80,8 @@ entered programs s ps w nodes l r k x c b h told graph frame notes = record {
     both : Option (List ℕ) → Notes → ℕ
     both o n = option_map_or (λ (bs : List ℕ). length bs) o 0 + sum_by (λ n. length n.text) n.made + sum_by (λ n. length n.text) n.found + sum_by (λ t. length t) n.hashed
 
-held : (programs : List Program) (s : Schedule) (ps : List Past) (w : World) (nodes : List Named) (l : Logged) (r : Recorded) (x : Step) (c : Came) → RepresentPasts nodes ps → Entered programs s ps w l r x c
-    → HoldsRun programs (with_step s x) (record { pasts = ps; log = w.log ++ l ∷ [] }) nodes (with_came r x c)
+held : (programs : List Program) (s : Schedule) (ps : List Past) (w : World) (nodes : List Named) (l : Logged) (r : Recorded) (x : Step) (c : StepResult) → RepresentPasts nodes ps → Entered programs s ps w l r x c
+    → HoldsRun programs (with_step s x) (record { pasts = ps; log = w.log ++ l ∷ [] }) nodes (with_result r x c)
 held programs s ps w nodes l r x c stand e = record { stand = stand; told = e.told; graphs = e.graphs; notes = e.notes; frames = e.frames; size = e.size }
 
 -- the value at an index put there again
@@ -91,40 +91,40 @@ same_value (n ∷ ns) zero who old e = let q : n ≡ (who, old) = cc in ap (λ (
 same_value (n ∷ ns) (suc i) who old e = ap (λ (z : List Named). n ∷ z) (same_value ns i who old e)
 
 -- the node represents its past with the call
-represents_after : (number : ℕ) (who : Name) (old new : NodeState) (call : Call) (c : Came) → ((past : Past) → RepresentsPast old past → ComesOfCall number old new past call c)
+represents_after : (number : ℕ) (who : Name) (old new : NodeState) (call : Call) (c : StepResult) → ((past : Past) → RepresentsPast old past → ComesOfCall number old new past call c)
     → (past : Past) → past.keys.me ≡ who → RepresentsPast old past → IsTold past → RepresentsAs (who, new) (past_after real past call)
 represents_after number who old new call c come past me represents told =
-    let came = come past represents in
-    record { me = me; represents = came.goes_on.represents; told = pasts_go_on past call told came.range }
+    let performed = come past represents in
+    record { me = me; represents = performed.goes_on.represents; told = pasts_go_on past call told performed.range }
 
 -- a principal's step, with the call that it makes
-call_held : (programs : List Program) (s : Schedule) (w : World) (nodes : List Named) (r : Recorded) (k : ℕ) (x : Step) (c : Came) (who : Name) (i : ℕ) (old new : NodeState) (o : Option Call) (f : Found old who w.pasts)
+call_held : (programs : List Program) (s : Schedule) (w : World) (nodes : List Named) (r : Recorded) (k : ℕ) (x : Step) (c : StepResult) (who : Name) (i : ℕ) (old new : NodeState) (o : Option Call) (f : Found old who w.pasts)
     → IsBefore programs s w k x → HoldsRun programs s w nodes r → all_differ (names nodes) ≡ true → slice_get nodes i ≡ Some (who, old) → ((past : Past) → RepresentsPast old past → Comes (length r.frames + 1) old new past o c)
-    → HoldsRun programs (with_step s x) (called_if real w k who o f.past) (set_value_at nodes i new) (with_came r x c)
+    → HoldsRun programs (with_step s x) (called_if real w k who o f.past) (set_value_at nodes i new) (with_result r x c)
 call_held programs s w nodes r k x c who i old new None f b h d at come =
-    let came = come f.past f.represents in
+    let performed = come f.past f.represents in
     held programs s w.pasts w (set_value_at nodes i new) _ r x c
-    (subst (λ (z : List Named). RepresentPasts z w.pasts) (sym (ap (λ z. set_value_at nodes i z) came.1 ∙ same_value nodes i who old at)) h.stand)
-    (entered programs s w.pasts w nodes _ r k x c b h (ap (λ (z : Came). z.told) came.0) (ap (λ (z : Came). z.graph) came.0) (ap (λ (z : Came). z.frame) came.0) (ap (λ (z : Came). z.notes) came.0))
+    (subst (λ (z : List Named). RepresentPasts z w.pasts) (sym (ap (λ z. set_value_at nodes i z) performed.1 ∙ same_value nodes i who old at)) h.stand)
+    (entered programs s w.pasts w nodes _ r k x c b h (ap (λ (z : StepResult). z.told) performed.0) (ap (λ (z : StepResult). z.graph) performed.0) (ap (λ (z : StepResult). z.frame) performed.0) (ap (λ (z : StepResult). z.notes) performed.0))
 call_held programs s w nodes r k x c who i old new (Some call) f b h d at come =
-    let came = come f.past f.represents in
+    let performed = come f.past f.represents in
     held programs s _ w (set_value_at nodes i new) _ r x c
     (after nodes w.pasts i who old new call h.stand d at (represents_after (length r.frames + 1) who old new call c come))
-    (entered programs s _ w nodes _ r k x c b h came.told (came.graph ∙ sym (graph_of_called programs s w k x who call f.past b f.is_past)) came.frame came.notes)
+    (entered programs s _ w nodes _ r k x c b h performed.told (performed.graph ∙ sym (graph_of_called programs s w k x who call f.past b f.is_past)) performed.frame performed.notes)
 
-who_held : (programs : List Program) (s : Schedule) (w : World) (nodes : List Named) (r : Recorded) (k : ℕ) (x : Step) (c : Came) (who me : Name) (i : ℕ) (old new : NodeState) (o : Option Call) → me ≡ who
+who_held : (programs : List Program) (s : Schedule) (w : World) (nodes : List Named) (r : Recorded) (k : ℕ) (x : Step) (c : StepResult) (who me : Name) (i : ℕ) (old new : NodeState) (o : Option Call) → me ≡ who
     → IsBefore programs s w k x → HoldsRun programs s w nodes r → all_differ (names nodes) ≡ true → slice_get nodes i ≡ Some (who, old) → ((past : Past) → RepresentsPast old past → Comes (length r.frames + 1) old new past o c)
-    → HoldsRun programs (with_step s x) (option_map_or (called_if real w k me o) (past_of w me) w) (set_value_at nodes i new) (with_came r x c)
+    → HoldsRun programs (with_step s x) (option_map_or (called_if real w k me o) (past_of w me) w) (set_value_at nodes i new) (with_result r x c)
 who_held programs s w nodes r k x c who me i old new o e b h d at come =
     let f = found nodes w.pasts i who old h.stand d at in
-    subst (λ (z : Name). HoldsRun programs (with_step s x) (option_map_or (called_if real w k z o) (past_of w z) w) (set_value_at nodes i new) (with_came r x c)) (sym e)
-    (subst (λ (z : Option Past). HoldsRun programs (with_step s x) (option_map_or (called_if real w k who o) z w) (set_value_at nodes i new) (with_came r x c)) (sym f.is_past)
+    subst (λ (z : Name). HoldsRun programs (with_step s x) (option_map_or (called_if real w k z o) (past_of w z) w) (set_value_at nodes i new) (with_result r x c)) (sym e)
+    (subst (λ (z : Option Past). HoldsRun programs (with_step s x) (option_map_or (called_if real w k who o) z w) (set_value_at nodes i new) (with_result r x c)) (sym f.is_past)
     (call_held programs s w nodes r k x c who i old new o f b h d at come))
 
 -- a principal's step at its node
-pub step_held : (programs : List Program) (s : Schedule) (w : World) (nodes : List Named) (r : Recorded) (k : ℕ) (x : Step) (c : Came) (who : Name) (i : ℕ) (old new : NodeState) → who_of x ≡ Some who
+pub step_held : (programs : List Program) (s : Schedule) (w : World) (nodes : List Named) (r : Recorded) (k : ℕ) (x : Step) (c : StepResult) (who : Name) (i : ℕ) (old new : NodeState) → who_of x ≡ Some who
     → IsBefore programs s w k x → HoldsRun programs s w nodes r → all_differ (names nodes) ≡ true → slice_get nodes i ≡ Some (who, old) → ((past : Past) → RepresentsPast old past → Comes (length r.frames + 1) old new past (call_of real s w k x) c)
-    → HoldsRun programs (with_step s x) (world_after real s w k x) (set_value_at nodes i new) (with_came r x c)
+    → HoldsRun programs (with_step s x) (world_after real s w k x) (set_value_at nodes i new) (with_result r x c)
 step_held programs s w nodes r k (CraftStep cr) c who i old new e b h d at come = absurd (cc)
 step_held programs s w nodes r k (StartStep me n) c who i old new e b h d at come = who_held programs s w nodes r k (StartStep me n) c who me i old new (call_of real s w k (StartStep me n)) (cc) b h d at come
 step_held programs s w nodes r k (ActStep me n label values) c who i old new e b h d at come = who_held programs s w nodes r k (ActStep me n label values) c who me i old new (call_of real s w k (ActStep me n label values)) (cc) b h d at come
@@ -132,7 +132,7 @@ step_held programs s w nodes r k (AbandonStep me n) c who i old new e b h d at c
 step_held programs s w nodes r k (DeliverStep me what) c who i old new e b h d at come = who_held programs s w nodes r k (DeliverStep me what) c who me i old new (call_of real s w k (DeliverStep me what)) (cc) b h d at come
 
 -- a craft
-pub craft_held : (programs : List Program) (s : Schedule) (w : World) (nodes : List Named) (r : Recorded) (k : ℕ) (x : Craft) (c : Came) → IsBefore programs s w k (CraftStep x) → HoldsRun programs s w nodes r
+pub craft_held : (programs : List Program) (s : Schedule) (w : World) (nodes : List Named) (r : Recorded) (k : ℕ) (x : Craft) (c : StepResult) → IsBefore programs s w k (CraftStep x) → HoldsRun programs s w nodes r
     → c.told ≡ Some (Crafted (length r.frames + 1)) → c.graph ≡ None → c.frame ≡ option_map spelling (crafted real s w x) → c.notes ≡ no_notes
-    → HoldsRun programs (with_step s (CraftStep x)) (world_after real s w k (CraftStep x)) nodes (with_came r (CraftStep x) c)
+    → HoldsRun programs (with_step s (CraftStep x)) (world_after real s w k (CraftStep x)) nodes (with_result r (CraftStep x) c)
 craft_held programs s w nodes r k x c b h told graph frame notes = held programs s w.pasts w nodes _ r (CraftStep x) c h.stand (entered programs s w.pasts w nodes _ r k (CraftStep x) c b h told graph frame notes)

@@ -24,7 +24,7 @@ use Rattle.sg_protocol.specs.World.{World, Logged}
 use Rattle.sg_world.specs.Comes.{ComesAt}
 use Rattle.sg_world.specs.Entries.{graph_of_entry}
 use Rattle.sg_world.specs.Holds.{Holds, schedule_of}
-use Rattle.sg_world.specs.Kept.{Came, Taken, Recorded, HoldsRun, with_came, added_size}
+use Rattle.sg_world.specs.Kept.{StepResult, Taken, Recorded, HoldsRun, with_result, added_size}
 use Rattle.sg_world.specs.Indices.{IsIndexOf}
 use Rattle.sg_world.specs.Setting.{Setting}
 use Rattle.sg_world.proofs.EntryGraphs.{is_before}
@@ -56,50 +56,50 @@ names_same [] i new = refl
 names_same (n ∷ ns) zero new = refl
 names_same (n ∷ ns) (suc i) new = ap (λ (z : List Name). n.0 ∷ z) (names_same ns i new)
 
-module _ (d : Setting) (nodes now : List Named) (r : Recorded) (x : Step) (c : Came) (index k : ℕ)
+module _ (d : Setting) (nodes now : List Named) (r : Recorded) (x : Step) (c : StepResult) (index k : ℕ)
     (h : Holds d nodes r) (at : IsIndexOf nodes x (Some index)) (room : length r.entries < most_steps) (step : IsStep real (schedule_of d nodes r) x) (number : k ≡ length r.entries + 1)
-    (came : ComesAt d.sessions r.frames k x index nodes now c) where
+    (performed : ComesAt d.sessions r.frames k x index nodes now c) where
   abbrev S : Schedule
   S = schedule_of d nodes r
 
   abbrev W : World
   W = run real d.programs (schedule_of d nodes r)
 
-  who : who_of x ≡ Some came.who
-  who = let q : Some at.0 ≡ Some (came.who, came.old) = sym at.1 ∙ came.is_old in at.2 ∙ ap (λ (z : Option Named). option_map (λ (n : Named). n.0) z) q
+  who : who_of x ≡ Some performed.who
+  who = let q : Some at.0 ≡ Some (performed.who, performed.old) = sym at.1 ∙ performed.is_old in at.2 ∙ ap (λ (z : Option Named). option_map (λ (n : Named). n.0) z) q
 
   at_end : k ≡ length (schedule_of d nodes r).steps + 1
   at_end = let e = length-map r.entries (λ (e : Taken). e.step) in omega (arith, e, number)
 
-  held : HoldsRun d.programs (with_step (schedule_of d nodes r) x) (world_after real (schedule_of d nodes r) (run real d.programs (schedule_of d nodes r)) k x) (set_value_at nodes index came.new) (with_came r x c)
-  held = step_held d.programs S W nodes r k x c came.who index came.old came.new who (is_before d.programs S k x at_end) h.run (and_parts (all_differ (names nodes)) (list_all is_name (names nodes)) h.schedule.honest_names).0 came.is_old
-      (λ past represents. came.comes S W past refl (sym h.run.frames) represents)
+  held : HoldsRun d.programs (with_step (schedule_of d nodes r) x) (world_after real (schedule_of d nodes r) (run real d.programs (schedule_of d nodes r)) k x) (set_value_at nodes index performed.new) (with_result r x c)
+  held = step_held d.programs S W nodes r k x c performed.who index performed.old performed.new who (is_before d.programs S k x at_end) h.run (and_parts (all_differ (names nodes)) (list_all is_name (names nodes)) h.schedule.honest_names).0 performed.is_old
+      (λ past represents. performed.comes S W past refl (sym h.run.frames) represents)
 
   run_is : run real d.programs (with_step (schedule_of d nodes r) x) ≡ world_after real (schedule_of d nodes r) (run real d.programs (schedule_of d nodes r)) k x
   run_is = runs_go_by_step real d.programs S x ∙ ap (λ n. world_after real S W n x) (sym at_end)
 
-  same : schedule_of d now (with_came r x c) ≡ with_step (schedule_of d nodes r) x
+  same : schedule_of d now (with_result r x c) ≡ with_step (schedule_of d nodes r) x
   same =
-      let honest : names now ≡ names nodes = ap names came.is_new ∙ names_same nodes index came.new in
-      let steps : map (λ (e : Taken). e.step) (with_came r x c).entries ≡ map (λ (e : Taken). e.step) r.entries ++ x ∷ [] = map-append (λ (e : Taken). e.step) r.entries (record { step = x; told = c.told; graph = c.graph } ∷ []) in
+      let honest : names now ≡ names nodes = ap names performed.is_new ∙ names_same nodes index performed.new in
+      let steps : map (λ (e : Taken). e.step) (with_result r x c).entries ≡ map (λ (e : Taken). e.step) r.entries ++ x ∷ [] = map-append (λ (e : Taken). e.step) r.entries (record { step = x; told = c.told; graph = c.graph } ∷ []) in
       (λ i. record { graphs = d.graphs; honest = honest i; keys = d.keys; sessions = d.sessions; steps = steps i })
 
   is_one : is_taken (schedule_of d nodes r) x ≡ true
-  is_one = subst (λ (o : Option Name). option_map_or (λ n. has_text n (names nodes)) o true ≡ true) (sym who) (in_names nodes index came.who came.old came.is_old)
+  is_one = subst (λ (o : Option Name). option_map_or (λ n. has_text n (names nodes)) o true ≡ true) (sym who) (in_names nodes index performed.who performed.old performed.is_old)
 
   all_taken : list_all (is_taken (with_step (schedule_of d nodes r) x)) (with_step (schedule_of d nodes r) x).steps ≡ true
   all_taken = list_all-append (is_taken S) S.steps (x ∷ []) ∙ (λ i. h.taken i && (is_one i && true))
 
-  pub next : Holds d now (with_came r x c) × (schedule_of d now (with_came r x c) ≡ with_step (schedule_of d nodes r) x)
+  pub next : Holds d now (with_result r x c) × (schedule_of d now (with_result r x c) ≡ with_step (schedule_of d nodes r) x)
   next = (
     record {
       schedule = subst (IsSchedule real) (sym same) (schedule_more real S x h.schedule step);
       compiled = h.compiled;
       taken = subst (λ (z : Schedule). list_all (is_taken z) z.steps ≡ true) (sym same) all_taken;
       few = (let e = length-append r.entries (record { step = x; told = c.told; graph = c.graph } ∷ []) in omega (arith, e, room));
-      run = subst (λ (z : Schedule). HoldsRun d.programs z (run real d.programs z) now (with_came r x c)) (sym same)
-          (subst (λ (w : World). HoldsRun d.programs (with_step S x) w now (with_came r x c)) (sym run_is)
-          (subst (λ (ns : List Named). HoldsRun d.programs (with_step S x) (world_after real S W k x) ns (with_came r x c)) (sym came.is_new) held));
+      run = subst (λ (z : Schedule). HoldsRun d.programs z (run real d.programs z) now (with_result r x c)) (sym same)
+          (subst (λ (w : World). HoldsRun d.programs (with_step S x) w now (with_result r x c)) (sym run_is)
+          (subst (λ (ns : List Named). HoldsRun d.programs (with_step S x) (world_after real S W k x) ns (with_result r x c)) (sym performed.is_new) held));
     },
     same,
   )

@@ -20,10 +20,10 @@ use Rattle.sg_sched.specs.declared.step.Change.{Change}
 use Rattle.sg_sched.specs.declared.step.Change.TheVariants.{Whole, Flip, Cut}
 use Rattle.sg_node.specs.Answers.{GoesOn}
 use Rattle.sg_report.specs.Reported.{reported_answer}
-use Rattle.sg_world.specs.Kept.{Came, no_frame}
+use Rattle.sg_world.specs.Kept.{StepResult, no_frame}
 
 -- what comes of a call is what the node of the past answers, where its frame has this number, by the graph of the call; and the new state goes on for the past
-pub record ComesOfCall (number : ℕ) (old new : NodeState) (past : Past) (call : Call) (c : Came) : Type 0 where
+pub record ComesOfCall (number : ℕ) (old new : NodeState) (past : Past) (call : Call) (c : StepResult) : Type 0 where
   pub range : IsCallInRange call
   pub told : c.told ≡ Some (reported_answer number (answer real (node_of past) call))
   pub graph : c.graph ≡ graph_of_call real (node_of past) call
@@ -32,7 +32,7 @@ pub record ComesOfCall (number : ℕ) (old new : NodeState) (past : Past) (call 
   pub goes_on : GoesOn old new call past
 
 -- what comes of a step that makes this call; where there is no frame to deliver, it makes none, and the state is as before
-abbrev pub Comes : ℕ → NodeState → NodeState → Past → Option Call → Came → Type 0
+abbrev pub Comes : ℕ → NodeState → NodeState → Past → Option Call → StepResult → Type 0
 Comes number old new past None c = (c ≡ no_frame) × (new ≡ old)
 Comes number old new past (Some call) c = ComesOfCall number old new past call c
 
@@ -53,13 +53,13 @@ changed_to (Flip at) bs = flipped at bs
 changed_to (Cut len) bs = take len bs
 
 -- for each schedule of these sessions and each run that recorded these frames, this comes of the call of step k
-abbrev pub ComesOfStep : List Declared → List (List ℕ) → ℕ → Step → NodeState → NodeState → Came → Type 0
+abbrev pub ComesOfStep : List Declared → List (List ℕ) → ℕ → Step → NodeState → NodeState → StepResult → Type 0
 ComesOfStep sessions recorded k x old new c =
     (s : Schedule) (w : World) (past : Past) → sessions ≡ s.sessions → frames w ≡ recorded → RepresentsPast old past
     → Comes (length recorded + 1) old new past (call_of real s w k x) c
 
 -- so it does at the node of the principal, and the others are as before
-pub record ComesAt (sessions : List Declared) (recorded : List (List ℕ)) (k : ℕ) (x : Step) (index : ℕ) (nodes now : List (Name × NodeState)) (c : Came) : Type 0 where
+pub record ComesAt (sessions : List Declared) (recorded : List (List ℕ)) (k : ℕ) (x : Step) (index : ℕ) (nodes now : List (Name × NodeState)) (c : StepResult) : Type 0 where
   pub who : Name
   pub old : NodeState
   pub new : NodeState

@@ -14,14 +14,14 @@ use Rattle.sg_world.specs.Representation.{RepresentPasts}
 use Rattle.sg_report.specs.Reported.{Reported, NoFrame, reported_log}
 
 -- what came of a step: what is told of it, the graph by which its numbers have names, the frame that it records, and what was noted
-pub record Came : Type 0 where
+pub record StepResult : Type 0 where
   pub told : Option Reported
   pub graph : Option Graph
   pub frame : Option (List ℕ)
   pub notes : Notes
 
 -- what comes of a delivery of a frame that isn't there
-abbrev pub no_frame : Came
+abbrev pub no_frame : StepResult
 no_frame = record { told = Some NoFrame; graph = None; frame = None; notes = no_notes }
 
 -- a step that was taken, what is told of it, and the graph by which its numbers have names
@@ -38,15 +38,15 @@ pub record Recorded : Type 0 where
   pub size : ℕ
 
 -- the bytes that a step adds
-abbrev pub added_size : Came → ℕ
+abbrev pub added_size : StepResult → ℕ
 added_size c = option_map_or (λ bs. length bs) c.frame 0
     + sum_by (λ n. length n.text) c.notes.made
     + sum_by (λ n. length n.text) c.notes.found
     + sum_by (λ t. length t) c.notes.hashed
 
 -- the record with one more step
-abbrev pub with_came : Recorded → Step → Came → Recorded
-with_came r x c = record {
+abbrev pub with_result : Recorded → Step → StepResult → Recorded
+with_result r x c = record {
   entries = r.entries ++ record { step = x; told = c.told; graph = c.graph } ∷ [];
   notes = r.notes ++ c.notes ∷ [];
   frames = r.frames ++ option_to_list c.frame;

@@ -19,7 +19,7 @@ ghost use Rattle.sg_walk.specs.Model.{values_of};
 ghost use Rattle.sg_world.specs.Comes.{Comes, ComesOfCall, ComesOfStep, IsNamed, changed_to};
 ghost use Rattle.sg_world.specs.Kept.{no_frame};
 
-use crate::record::Came;
+use crate::record::StepResult;
 use crate::setting::Setting;
 use sg_base::{Label, OutOfMemory, Seq, Sid, Value, Var, tell_bytes};
 use sg_craft::{confounder, first_bytes, flipped, frame_at};
@@ -31,7 +31,7 @@ use sg_role::SendFault;
 use sg_sched::{Change, Step, What};
 use std::alloc::{AllocError, Global};
 
-/// Makes the call of a step of this number at the principal's node, and writes what comes of it over `came`. If memory runs out, the node is as
+/// Makes the call of a step of this number at the principal's node, and writes what comes of it over `step_result`. If memory runs out, the node is as
 /// before.
 pub(crate) fn call<'p>(
     alloc: Global,
@@ -40,16 +40,16 @@ pub(crate) fn call<'p>(
     recorded: &[Seq<u8>],
     number: u32,
     step: &Step,
-    came: &mut Came<'p>,
+    step_result: &mut StepResult<'p>,
 ) -> Result<(), OutOfMemory>
     requires named { IsNamed (length setting.now.sessions) (step_of step.now) }
     requires few { length recorded.now + 1 < 2 ^ 32 }
-    requires blank { came.old ≡ no_frame }
-    ensures comes { OnOk result (ComesOfStep setting.now.sessions recorded.now number (step_of step.now) node.old node.new came.new) }
+    requires blank { step_result.old ≡ no_frame }
+    ensures comes { OnOk result (ComesOfStep setting.now.sessions recorded.now number (step_of step.now) node.old node.new step_result.new) }
     ensures back { OnErr result (node.new ≡ node.old) }
 {
     match step {
-        Step::Start { session, .. } => start(node, setting.cast(*session), came),
+        Step::Start { session, .. } => start(node, setting.cast(*session), step_result),
         Step::Act {
             session,
             label,
@@ -64,14 +64,14 @@ pub(crate) fn call<'p>(
                 *label,
                 values.as_slice(),
                 confounders.as_slice(),
-                came,
+                step_result,
             )
         }
         Step::Abandon { session, .. } => {
-            abandon(node, setting.sid(*session), came);
+            abandon(node, setting.sid(*session), step_result);
             Ok(())
         }
-        Step::Deliver { what, .. } => deliver_what(alloc, node, recorded, what, came),
+        Step::Deliver { what, .. } => deliver_what(alloc, node, recorded, what, step_result),
         Step::Craft(_) => Ok(()),
     }
 }
@@ -86,21 +86,25 @@ pub(crate) fn next_frame(recorded: &[Seq<u8>]) -> u32
 
 // Starts a session.
 #[cold]
-fn start<'p>(node: &mut Node<'p>, cast: Cast, came: &mut Came<'p>) -> Result<(), OutOfMemory>
-    requires blank { came.old ≡ no_frame }
-    ensures comes { (number : ℕ) (past : Past) → RepresentsPast node.old past → OnOk result (ComesOfCall number node.old node.new past (Start cast) came.new) }
+fn start<'p>(
+    node: &mut Node<'p>,
+    cast: Cast,
+    step_result: &mut StepResult<'p>,
+) -> Result<(), OutOfMemory>
+    requires blank { step_result.old ≡ no_frame }
+    ensures comes { (number : ℕ) (past : Past) → RepresentsPast node.old past → OnOk result (ComesOfCall number node.old node.new past (Start cast) step_result.new) }
     ensures back { OnErr result (node.new ≡ node.old) }
 {
     tell_cast(&cast);
-    came.graph = node.start_graph(&cast);
-    match node.start(cast, &mut came.notes) {
-        Ok(event) => came.set_outcome(Outcome::Started(event)),
+    step_result.graph = node.start_graph(&cast);
+    match node.start(cast, &mut step_result.notes) {
+        Ok(event) => step_result.set_outcome(Outcome::Started(event)),
         Err(fault) => {
             let lacks = is_start_memory(&fault);
             if lacks {
                 return Err(AllocError);
             }
-            came.set_outcome(Outcome::NotStarted(fault));
+            step_result.set_outcome(Outcome::NotStarted(fault));
         }
     }
     Ok(())
@@ -121,29 +125,29 @@ fn act<'p>(
     label: Label,
     values: &[(Var, Value)],
     confounders: &[[u8; 16]],
-    came: &mut Came<'p>,
+    step_result: &mut StepResult<'p>,
 ) -> Result<(), OutOfMemory>
     requires values { AllByRecursion (λ w. (w.0 < 256) × IsValue w.1) (values_of values.now) }
     requires count { length confounders.now ≡ length values.now }
     requires bytes { AllByRecursion (AreBytes 16) confounders.now }
-    requires blank { came.old ≡ no_frame }
+    requires blank { step_result.old ≡ no_frame }
     ensures comes { (past : Past) → RepresentsPast node.old past
-        → OnOk result (ComesOfCall frame node.old node.new past (Act sid label (values_of values.now) confounders.now) came.new) }
+        → OnOk result (ComesOfCall frame node.old node.new past (Act sid label (values_of values.now) confounders.now) step_result.new) }
     ensures back { OnErr result (node.new ≡ node.old) }
 {
-    came.graph = node.graph_of(&sid);
-    match node.act(sid, label, values, confounders, &mut came.notes) {
+    step_result.graph = node.graph_of(&sid);
+    match node.act(sid, label, values, confounders, &mut step_result.notes) {
         Ok((event, sealed)) => {
             let (to, bytes) = sealed.release();
-            came.set_outcome(Outcome::Sent { event, to, frame });
-            came.set_frame(Seq::from_vec(tight(bytes)));
+            step_result.set_outcome(Outcome::Sent { event, to, frame });
+            step_result.set_frame(Seq::from_vec(tight(bytes)));
         }
         Err(fault) => {
             let lacks = is_act_memory(&fault);
             if lacks {
                 return Err(AllocError);
             }
-            came.set_outcome(Outcome::NotActed(fault));
+            step_result.set_outcome(Outcome::NotActed(fault));
         }
     }
     Ok(())
@@ -170,14 +174,14 @@ fn is_act_memory(fault: &ActFault) -> bool
 
 // Leaves a session.
 #[cold]
-fn abandon<'p>(node: &mut Node<'p>, sid: Sid, came: &mut Came<'p>)
-    requires { came.old ≡ no_frame }
-    ensures { (number : ℕ) (past : Past) → RepresentsPast node.old past → ComesOfCall number node.old node.new past (Abandon sid) came.new }
+fn abandon<'p>(node: &mut Node<'p>, sid: Sid, step_result: &mut StepResult<'p>)
+    requires { step_result.old ≡ no_frame }
+    ensures { (number : ℕ) (past : Past) → RepresentsPast node.old past → ComesOfCall number node.old node.new past (Abandon sid) step_result.new }
 {
-    came.graph = node.graph_of(&sid);
+    step_result.graph = node.graph_of(&sid);
     match node.abandon(sid) {
-        Ok(()) => came.set_outcome(Outcome::Abandoned),
-        Err(_) => came.set_outcome(Outcome::NotAbandoned),
+        Ok(()) => step_result.set_outcome(Outcome::Abandoned),
+        Err(_) => step_result.set_outcome(Outcome::NotAbandoned),
     }
 }
 
@@ -187,18 +191,18 @@ fn deliver_what<'p>(
     node: &mut Node<'p>,
     recorded: &[Seq<u8>],
     what: &What,
-    came: &mut Came<'p>,
+    step_result: &mut StepResult<'p>,
 ) -> Result<(), OutOfMemory>
-    requires blank { came.old ≡ no_frame }
+    requires blank { step_result.old ≡ no_frame }
     ensures comes { (number : ℕ) (w : World) (past : Past) → frames w ≡ recorded.now → RepresentsPast node.old past
-        → OnOk result (Comes number node.old node.new past (option_map Deliver (bytes_of w (what_of what.now))) came.new) }
+        → OnOk result (Comes number node.old node.new past (option_map Deliver (bytes_of w (what_of what.now))) step_result.new) }
     ensures back { OnErr result (node.new ≡ node.old) }
 {
     match what {
-        What::Bytes(bytes) => deliver(alloc, node, bytes.as_slice(), came),
+        What::Bytes(bytes) => deliver(alloc, node, bytes.as_slice(), step_result),
         What::Frame { number, change } => match frame_at(recorded, *number) {
             None => Ok(()),
-            Some(frame) => deliver_frame(alloc, node, frame, *change, came),
+            Some(frame) => deliver_frame(alloc, node, frame, *change, step_result),
         },
     }
 }
@@ -209,19 +213,19 @@ fn deliver_frame<'p>(
     node: &mut Node<'p>,
     frame: &[u8],
     change: Change,
-    came: &mut Came<'p>,
+    step_result: &mut StepResult<'p>,
 ) -> Result<(), OutOfMemory>
-    requires blank { came.old ≡ no_frame }
+    requires blank { step_result.old ≡ no_frame }
     ensures comes { (number : ℕ) (past : Past) → RepresentsPast node.old past
-        → OnOk result (ComesOfCall number node.old node.new past (Deliver (changed_to change frame.now)) came.new) }
+        → OnOk result (ComesOfCall number node.old node.new past (Deliver (changed_to change frame.now)) step_result.new) }
     ensures back { OnErr result (node.new ≡ node.old) }
 {
     match change {
-        Change::Whole => deliver(alloc, node, frame, came),
-        Change::Cut(count) => deliver(alloc, node, first_bytes(frame, count), came),
+        Change::Whole => deliver(alloc, node, frame, step_result),
+        Change::Cut(count) => deliver(alloc, node, first_bytes(frame, count), step_result),
         Change::Flip(at) => {
             let changed = flipped(alloc, frame, at)?;
-            deliver(alloc, node, changed.as_slice(), came)
+            deliver(alloc, node, changed.as_slice(), step_result)
         }
     }
 }
@@ -231,15 +235,15 @@ fn deliver<'p>(
     alloc: Global,
     node: &mut Node<'p>,
     bytes: &[u8],
-    came: &mut Came<'p>,
+    step_result: &mut StepResult<'p>,
 ) -> Result<(), OutOfMemory>
-    requires blank { came.old ≡ no_frame }
-    ensures comes { (number : ℕ) (past : Past) → RepresentsPast node.old past → OnOk result (ComesOfCall number node.old node.new past (Deliver bytes.now) came.new) }
+    requires blank { step_result.old ≡ no_frame }
+    ensures comes { (number : ℕ) (past : Past) → RepresentsPast node.old past → OnOk result (ComesOfCall number node.old node.new past (Deliver bytes.now) step_result.new) }
     ensures back { OnErr result (node.new ≡ node.old) }
 {
     match decode(alloc, bytes) {
-        Ok(frame) => deliver_read(node, &frame, bytes, came),
-        Err(DecodeFault::Malformed { .. }) => deliver_malformed(node, bytes, came),
+        Ok(frame) => deliver_read(node, &frame, bytes, step_result),
+        Err(DecodeFault::Malformed { .. }) => deliver_malformed(node, bytes, step_result),
         Err(DecodeFault::OutOfMemory) => Err(AllocError),
     }
 }
@@ -249,24 +253,24 @@ fn deliver_read<'p>(
     node: &mut Node<'p>,
     frame: &Frame,
     bytes: &[u8],
-    came: &mut Came<'p>,
+    step_result: &mut StepResult<'p>,
 ) -> Result<(), OutOfMemory>
     requires spelled { SpellsFrame bytes.now frame.now }
     requires read { read bytes.now ≡ Ok frame.now }
-    requires blank { came.old ≡ no_frame }
-    ensures comes { (number : ℕ) (past : Past) → RepresentsPast node.old past → OnOk result (ComesOfCall number node.old node.new past (Deliver bytes.now) came.new) }
+    requires blank { step_result.old ≡ no_frame }
+    ensures comes { (number : ℕ) (past : Past) → RepresentsPast node.old past → OnOk result (ComesOfCall number node.old node.new past (Deliver bytes.now) step_result.new) }
     ensures back { OnErr result (node.new ≡ node.old) }
 {
     tell_bytes(bytes);
-    came.graph = node.frame_graph(frame);
-    match node.deliver_frame(frame, bytes, &mut came.notes) {
-        Ok(event) => came.set_outcome(Outcome::Received(event)),
+    step_result.graph = node.frame_graph(frame);
+    match node.deliver_frame(frame, bytes, &mut step_result.notes) {
+        Ok(event) => step_result.set_outcome(Outcome::Received(event)),
         Err(why) => {
             let lacks = is_delivery_memory(&why);
             if lacks {
                 return Err(AllocError);
             }
-            came.set_outcome(Outcome::NotDelivered(why));
+            step_result.set_outcome(Outcome::NotDelivered(why));
         }
     }
     Ok(())
@@ -277,22 +281,22 @@ fn deliver_read<'p>(
 fn deliver_malformed<'p>(
     node: &mut Node<'p>,
     bytes: &[u8],
-    came: &mut Came<'p>,
+    step_result: &mut StepResult<'p>,
 ) -> Result<(), OutOfMemory>
     requires malformed { IsErr (read bytes.now) }
-    requires blank { came.old ≡ no_frame }
-    ensures comes { (number : ℕ) (past : Past) → RepresentsPast node.old past → OnOk result (ComesOfCall number node.old node.new past (Deliver bytes.now) came.new) }
+    requires blank { step_result.old ≡ no_frame }
+    ensures comes { (number : ℕ) (past : Past) → RepresentsPast node.old past → OnOk result (ComesOfCall number node.old node.new past (Deliver bytes.now) step_result.new) }
     ensures back { OnErr result (node.new ≡ node.old) }
 {
     tell_bytes(bytes);
-    match node.deliver(bytes, &mut came.notes) {
-        Ok(event) => came.set_outcome(Outcome::Received(event)),
+    match node.deliver(bytes, &mut step_result.notes) {
+        Ok(event) => step_result.set_outcome(Outcome::Received(event)),
         Err(why) => {
             let lacks = is_delivery_memory(&why);
             if lacks {
                 return Err(AllocError);
             }
-            came.set_outcome(Outcome::NotDelivered(why));
+            step_result.set_outcome(Outcome::NotDelivered(why));
         }
     }
     Ok(())

@@ -7,7 +7,7 @@ ghost use Rattle.sg_world.specs.Crafts.{CanBeCrafted, ComesOfCraft, ComesOfCraft
 ghost use Rattle.sg_world.specs.Kept.{no_frame};
 
 use crate::call::next_frame;
-use crate::record::Came;
+use crate::record::StepResult;
 use crate::setting::Setting;
 use sg_base::{OutOfMemory, Seq};
 use sg_craft::{Means, make_frame};
@@ -15,25 +15,25 @@ use sg_report::Outcome;
 use sg_sched::{Craft, Step};
 use std::alloc::Global;
 
-/// Makes the frame of a step that is a craft, and writes over `came` that it did.
+/// Makes the frame of a step that is a craft, and writes over `step_result` that it did.
 #[cold]
 pub(crate) fn craft<'p>(
     alloc: Global,
     setting: &Setting<'p>,
     recorded: &[Seq<u8>],
     step: &Step,
-    came: &mut Came<'p>,
+    step_result: &mut StepResult<'p>,
 ) -> Result<(), OutOfMemory>
     requires craft { who_of (step_of step.now) ≡ None }
     requires can { IsCraftable setting.now (step_of step.now) }
     requires few { length recorded.now + 1 < 2 ^ 32 }
-    requires blank { came.old ≡ no_frame }
-    ensures { OnOk result (ComesOfCrafting setting.now recorded.now (step_of step.now) came.new) }
+    requires blank { step_result.old ≡ no_frame }
+    ensures { OnOk result (ComesOfCrafting setting.now recorded.now (step_of step.now) step_result.new) }
 {
     let Step::Craft(wanted) = step else {
         unreachable!();
     };
-    craft_frame(alloc, setting, recorded, wanted.get(), came)
+    craft_frame(alloc, setting, recorded, wanted.get(), step_result)
 }
 
 // Makes the frame of a craft.
@@ -42,13 +42,13 @@ fn craft_frame<'p>(
     setting: &Setting<'p>,
     recorded: &[Seq<u8>],
     wanted: &Craft,
-    came: &mut Came<'p>,
+    step_result: &mut StepResult<'p>,
 ) -> Result<(), OutOfMemory>
     requires can { CanBeCrafted setting.now wanted.now }
     requires few { length recorded.now + 1 < 2 ^ 32 }
-    requires blank { came.old ≡ no_frame }
+    requires blank { step_result.old ≡ no_frame }
     ensures { (s : Schedule) (w : World) → Declares s setting.now → frames w ≡ recorded.now
-        → OnOk result (ComesOfCraft (length recorded.now + 1) s w wanted.now came.new) }
+        → OnOk result (ComesOfCraft (length recorded.now + 1) s w wanted.now step_result.new) }
 {
     let cast = setting.cast(wanted.session);
     let sid = setting.sid(wanted.session);
@@ -63,9 +63,9 @@ fn craft_frame<'p>(
         frames: recorded,
     };
     let bytes = make_frame(alloc, &means, wanted)?;
-    came.set_outcome(Outcome::Crafted {
+    step_result.set_outcome(Outcome::Crafted {
         frame: next_frame(recorded),
     });
-    came.set_frame(Seq::from_vec(bytes));
+    step_result.set_frame(Seq::from_vec(bytes));
     Ok(())
 }

@@ -9,7 +9,7 @@ ghost use Rattle.sg_world.specs.Comes.{ComesAt, IsNamed};
 ghost use Rattle.sg_world.specs.Kept.{no_frame};
 
 use crate::call::call;
-use crate::record::Came;
+use crate::record::StepResult;
 use crate::setting::Setting;
 use indexmap::IndexMap;
 use sg_base::{Name, OutOfMemory, Seq};
@@ -61,7 +61,7 @@ pub(crate) fn index_of<'p>(nodes: &IndexMap<Name, Node<'p>>, who: &Name) -> Opti
     nodes.get_index_of(who)
 }
 
-/// Makes the call of a step of this number at the node at an index, and writes what comes of it over `came`. If memory runs out, the nodes are as
+/// Makes the call of a step of this number at the node at an index, and writes what comes of it over `step_result`. If memory runs out, the nodes are as
 /// before.
 pub(crate) fn call_at<'p>(
     alloc: Global,
@@ -71,13 +71,13 @@ pub(crate) fn call_at<'p>(
     recorded: &[Seq<u8>],
     number: u32,
     step: &Step,
-    came: &mut Came<'p>,
+    step_result: &mut StepResult<'p>,
 ) -> Result<(), OutOfMemory>
     requires within { index < length nodes.old.entries }
     requires named { IsNamed (length setting.now.sessions) (step_of step.now) }
     requires few { length recorded.now + 1 < 2 ^ 32 }
-    requires blank { came.old ≡ no_frame }
-    ensures comes { OnOk result (ComesAt setting.now.sessions recorded.now number (step_of step.now) index nodes.old.entries nodes.new.entries came.new) }
+    requires blank { step_result.old ≡ no_frame }
+    ensures comes { OnOk result (ComesAt setting.now.sessions recorded.now number (step_of step.now) index nodes.old.entries nodes.new.entries step_result.new) }
     ensures back { OnErr result (nodes.new.entries ≡ nodes.old.entries) }
 {
     call(
@@ -87,6 +87,6 @@ pub(crate) fn call_at<'p>(
         recorded,
         number,
         step,
-        came,
+        step_result,
     )
 }

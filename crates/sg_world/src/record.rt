@@ -4,7 +4,7 @@ ghost use Rattle.std.specs.Option.{option_map_or, option_to_list};
 ghost use Rattle.sg_model.specs.Last.{last};
 ghost use Rattle.sg_sched.specs.Format.StepsHeld.{step_of};
 ghost use Rattle.sg_report.specs.Outcome.{outcome_of};
-ghost use Rattle.sg_world.specs.Kept.{added_size, with_came};
+ghost use Rattle.sg_world.specs.Kept.{added_size, with_result};
 
 use sg_base::{OutOfMemory, Seq};
 use sg_crypt::{Hashed, Note, Notes};
@@ -16,32 +16,32 @@ use std::marker::Model;
 
 /// What came of a step, the graph by which its numbers have names, the frame that it records, and what was noted.
 #[derive(Drop)]
-pub(crate) struct Came<'p> {
+pub(crate) struct StepResult<'p> {
     pub outcome: Outcome,
     pub graph: Option<&'p Graph>,
     pub frame: Option<Seq<u8>>,
     pub notes: Notes,
 }
 
-impl<'p> Model for Came<'p> {
+impl<'p> Model for StepResult<'p> {
     ghost use Rattle.std.specs.Option.{option_copied};
     ghost use Rattle.sg_report.specs.Outcome.{outcome_of};
-    ghost use Rattle.sg_world.specs.Kept.{Came};
+    ghost use Rattle.sg_world.specs.Kept.{StepResult};
 
-    ghost Value = { Came };
+    ghost Value = { StepResult };
 
     ghost view = { λ c. record { told = outcome_of c.outcome; graph = option_copied c.graph; frame = c.frame; notes = c.notes } };
 }
 
-impl<'p> Came<'p> {
+impl<'p> StepResult<'p> {
     ghost use Rattle.std.specs.Prelude.{Some};
     ghost use Rattle.sg_world.specs.Kept.{no_frame};
 
     /// What comes of a delivery of a frame that isn't there. It takes no memory.
-    pub fn no_frame(alloc: Global) -> Came<'p>
+    pub fn no_frame(alloc: Global) -> StepResult<'p>
         ensures { result ≡ no_frame }
     {
-        Came {
+        StepResult {
             outcome: Outcome::NoFrame,
             graph: None,
             frame: None,
@@ -174,18 +174,18 @@ impl<'p> Record<'p> {
     }
 
     /// Records a step with what came of it. It takes no memory.
-    pub fn put(&mut self, step: Step, came: Came<'p>)
+    pub fn put(&mut self, step: Step, step_result: StepResult<'p>)
         requires room { 0 < self.old.room }
-        requires size { self.old.done.size + added_size came < 2 ^ 64 }
-        ensures { self.new.done ≡ with_came self.old.done (step_of step) came.entry }
+        requires size { self.old.done.size + added_size step_result < 2 ^ 64 }
+        ensures { self.new.done ≡ with_result self.old.done (step_of step) step_result.entry }
     {
-        self.size += added(&came);
-        let Came {
+        self.size += added(&step_result);
+        let StepResult {
             outcome,
             graph,
             frame,
             notes,
-        } = came;
+        } = step_result;
         put_frame(&mut self.frames, frame);
         put_notes(&mut self.notes, notes);
         put_entry(
@@ -226,14 +226,14 @@ fn put_entry<'p>(entries: &mut Vec<TakenStep<'p>>, entry: TakenStep<'p>)
 }
 
 // The bytes that a step adds.
-fn added(came: &Came<'_>) -> u64
-    requires { added_size came.now < 2 ^ 64 }
-    ensures { result ≡ added_size came.now }
+fn added(step_result: &StepResult<'_>) -> u64
+    requires { added_size step_result.now < 2 ^ 64 }
+    ensures { result ≡ added_size step_result.now }
 {
-    frame_size(&came.frame)
-        + notes_size(came.notes.made())
-        + notes_size(came.notes.found())
-        + texts_size(came.notes.hashed())
+    frame_size(&step_result.frame)
+        + notes_size(step_result.notes.made())
+        + notes_size(step_result.notes.found())
+        + texts_size(step_result.notes.hashed())
 }
 
 // The bytes of a frame, if there is one.

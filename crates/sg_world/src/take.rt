@@ -14,7 +14,7 @@ ghost use Rattle.sg_world.specs.Indices.{IsFaultOf, IsIndexOf, names_of};
 use crate::StepFault;
 use crate::craft::craft;
 use crate::nodes::{call_at, index_of};
-use crate::record::{Came, Record};
+use crate::record::{Record, StepResult};
 use crate::setting::Setting;
 use indexmap::IndexMap;
 use sg_base::{Name, OutOfMemory, Seq};
@@ -80,8 +80,8 @@ pub(crate) fn take_step<'p>(
     let kept = copy_step(alloc, step)?;
     history.make_room()?;
     let number = history.count() as u32 + 1;
-    let mut came = Came::no_frame(alloc);
-    come(
+    let mut step_result = StepResult::no_frame(alloc);
+    perform(
         alloc,
         setting,
         nodes,
@@ -89,14 +89,14 @@ pub(crate) fn take_step<'p>(
         history.frames(),
         number,
         step,
-        &mut came,
+        &mut step_result,
     )?;
-    history.put(kept, came);
+    history.put(kept, step_result);
     Ok(())
 }
 
-// Writes what comes of a step of this number over `came`: at the node at its index, or of the craft.
-fn come<'p>(
+// Writes what comes of a step of this number over `step_result`: at the node at its index, or of the craft.
+fn perform<'p>(
     alloc: Global,
     setting: &Setting<'p>,
     nodes: &mut IndexMap<Name, Node<'p>>,
@@ -104,19 +104,28 @@ fn come<'p>(
     recorded: &[Seq<u8>],
     number: u32,
     step: &Step,
-    came: &mut Came<'p>,
+    step_result: &mut StepResult<'p>,
 ) -> Result<(), OutOfMemory>
     requires index { IsIndexOf nodes.old.entries (step_of step.now) index }
     requires named { IsNamed (length setting.now.sessions) (step_of step.now) }
     requires can { IsCraftable setting.now (step_of step.now) }
     requires few { length recorded.now + 1 < 2 ^ 32 }
-    requires blank { came.old ≡ no_frame }
-    ensures comes { OnOk result (ComesOfIndex setting.now recorded.now number (step_of step.now) index nodes.old.entries nodes.new.entries came.new) }
+    requires blank { step_result.old ≡ no_frame }
+    ensures comes { OnOk result (ComesOfIndex setting.now recorded.now number (step_of step.now) index nodes.old.entries nodes.new.entries step_result.new) }
     ensures back { OnErr result (nodes.new.entries ≡ nodes.old.entries) }
 {
     match index {
-        Some(index) => call_at(alloc, nodes, index, setting, recorded, number, step, came),
-        None => craft(alloc, setting, recorded, step, came),
+        Some(index) => call_at(
+            alloc,
+            nodes,
+            index,
+            setting,
+            recorded,
+            number,
+            step,
+            step_result,
+        ),
+        None => craft(alloc, setting, recorded, step, step_result),
     }
 }
 

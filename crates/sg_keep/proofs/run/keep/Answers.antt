@@ -47,7 +47,7 @@ returns-in-Err-start_all-clause-kept g c = λ deliveries words told drawn.
     let begun = beginning c.args.keys.now c.args.programs.now first script.choices words in
     subst (λ (z : Script). Kept start now leaves (played c.args.keys.now c.args.programs.now first z (take c.args.most deliveries) words) (Err c.in-Err-start_all.fault)) is
     (starts_ended start now leaves c.args.keys.now c.args.programs.now first script (take c.args.most deliveries) words c.in-Err-start_all.fault
-    (c.in-Err-start_all.ensures.came begun start (represents_first keeper c.args.keys.now c.args.programs.now first script.choices words (c.in-Ok-new.ensures.represents first words new)) drawn (whole_none start)))
+    (c.in-Err-start_all.ensures.progress begun start (represents_first keeper c.args.keys.now c.args.programs.now first script.choices words (c.in-Ok-new.ensures.represents first words new)) drawn (whole_none start)))
 
 pub returns-in-Err-start_all-clause-at_most : goal.returns-in-Err-start_all-clause-at_most
 returns-in-Err-start_all-clause-at_most g c = λ deliveries told. (0, omega arith, c.start_all.ensures.deliveries ∙ told)
@@ -73,7 +73,7 @@ returns-clause-kept g c = λ deliveries words told drawn.
     let script : Script = record { starts = c.as_slice.result.now; choices = c.script.inside.choices } in
     let is : script ≡ c.args.script = ap (λ (ss : List ScriptStart). record { starts = ss; choices = c.script.inside.choices }) c.as_slice.ensures ∙ c.script.view_is in
     let begun = beginning c.args.keys.now c.args.programs.now first script.choices words in
-    let started = c.in-Ok-start_all.ensures.came begun start (represents_first keeper c.args.keys.now c.args.programs.now first script.choices words (c.in-Ok-new.ensures.represents first words new)) drawn (whole_none start) in
+    let started = c.in-Ok-start_all.ensures.progress begun start (represents_first keeper c.args.keys.now c.args.programs.now first script.choices words (c.in-Ok-new.ensures.represents first words new)) drawn (whole_none start) in
     subst (λ (z : Script). Kept start now leaves (played c.args.keys.now c.args.programs.now first z (take c.args.most deliveries) words) c.take_all.result) is
     (came_kept start now leaves c.take_all.new.self (g.R.Fresh.words c.take_all.new.fresh) (played c.args.keys.now c.args.programs.now first script (take c.args.most deliveries) words) c.take_all.result c.take_all.ensures.holds
-    (c.take_all.ensures.came (all_starts begun script.starts) start deliveries (c.in-Ok-start_all.ensures.deliveries ∙ told) started.0 started.2 started.1))
+    (c.take_all.ensures.progress (all_starts begun script.starts) start deliveries (c.in-Ok-start_all.ensures.deliveries ∙ told) started.0 started.2 started.1))

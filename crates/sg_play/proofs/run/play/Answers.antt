@@ -27,7 +27,7 @@ returns-in_err-start_all-clause-played g c = let from = err_from_is_err_and c.fr
     let begun = beginning c.args.keys.now c.args.programs.now first script.choices words in
     subst (λ (z : Script). Ended start now (played c.args.keys.now c.args.programs.now first z (take c.args.most deliveries) words).steps c.from_residual-in_err-start_all.result) is
     (starts_failed start now c.args.keys.now c.args.programs.now first script (take c.args.most deliveries) words c.start_all.new.self (g.R.Fresh.words c.start_all.new.fresh) c.from_residual-in_err-start_all.result c.in_err-start_all.field-0.0 same
-    (c.in_err-start_all.ensures.came begun start (c.in_ok-player.ensures.represents first words new) drawn (whole_none start)))
+    (c.in_err-start_all.ensures.progress begun start (c.in_ok-player.ensures.represents first words new) drawn (whole_none start)))
 
 pub returns-clause-played : goal.returns-clause-played
 returns-clause-played g c = λ first deliveries words new told drawn.
@@ -36,10 +36,10 @@ returns-clause-played g c = λ first deliveries words new told drawn.
     let script : Script = record { starts = c.as_slice.result.now; choices = c.script.inside.choices } in
     let is : script ≡ c.args.script = ap (λ (ss : List ScriptStart). record { starts = ss; choices = c.script.inside.choices }) c.as_slice.ensures ∙ c.script.view_is in
     let begun = beginning c.args.keys.now c.args.programs.now first script.choices words in
-    let started = c.in_ok-start_all.ensures.came begun start (c.in_ok-player.ensures.represents first words new) drawn (whole_none start) in
+    let started = c.in_ok-start_all.ensures.progress begun start (c.in_ok-player.ensures.represents first words new) drawn (whole_none start) in
     subst (λ (z : Script). Ended start now (played c.args.keys.now c.args.programs.now first z (take c.args.most deliveries) words).steps c.take_all.result) is
     (ended_so start now c.take_all.new.self (g.R.Fresh.words c.take_all.new.fresh) (played c.args.keys.now c.args.programs.now first script (take c.args.most deliveries) words) c.take_all.result
-    (c.take_all.ensures.came (all_starts begun script.starts) start deliveries (c.in_ok-start_all.ensures.deliveries ∙ told) started.0.0 started.1 started.0.1))
+    (c.take_all.ensures.progress (all_starts begun script.starts) start deliveries (c.in_ok-start_all.ensures.deliveries ∙ told) started.0.0 started.1 started.0.1))
 
 pub returns-in_err-player-clause-link_failed : goal.returns-in_err-player-clause-link_failed
 returns-in_err-player-clause-link_failed g c = λ e. let same : c.from_residual.result ≡ Err c.in_err-player.field-0.0 = search rules in let is = err_same c.from_residual.result c.in_err-player.field-0.0 LinkFailed same e in let m = c.in_err-player.ensures.memory in absurd (cc)

@@ -10,11 +10,11 @@ use Rattle.sg_world.proofs.Next.{frames_few}
 use Rattle.sg_world.proofs.Taken.{step_fits, step_taken}
 use Rattle.sg_world.proofs.take.take_step.Goals as goal
 
-pub come-requires-clause-can : goal.come-requires-clause-can
-come-requires-clause-can c = craftable c.args.setting.now c.args.nodes.now.entries c.args.history.now.done (step_of c.args.step.now) c.requires.step.range
+pub perform-requires-clause-can : goal.perform-requires-clause-can
+perform-requires-clause-can c = craftable c.args.setting.now c.args.nodes.now.entries c.args.history.now.done (step_of c.args.step.now) c.requires.step.range
 
-pub come-requires-clause-few : goal.come-requires-clause-few
-come-requires-clause-few c =
+pub perform-requires-clause-few : goal.perform-requires-clause-few
+perform-requires-clause-few c =
     let s = schedule_of c.args.setting.now c.args.nodes.now.entries c.args.history.now.done in
     let a = ap (λ (z : List (List ℕ)). length z) c.frames.ensures in
     let b = ap (λ (z : Recorded). length z.frames) c.make_room.ensures.done in
@@ -24,18 +24,18 @@ come-requires-clause-few c =
 
 pub put-requires-clause-size : goal.put-requires-clause-size
 put-requires-clause-size c =
-    let comes = subst (λ (fs : List (List ℕ)). ComesOfIndex c.args.setting.now fs (c.count.result + 1) (step_of c.args.step.now) c.args.index c.args.nodes.now.entries c.come.new.nodes.entries c.come.new.came) c.frames.ensures c.in_ok-come.ensures.comes in
-    step_fits c.args.setting.now c.args.nodes.now.entries c.come.new.nodes.entries c.args.history.now.done c.make_room.new.self.done (step_of c.args.step.now) c.come.new.came c.args.index (c.count.result + 1)
+    let comes = subst (λ (fs : List (List ℕ)). ComesOfIndex c.args.setting.now fs (c.count.result + 1) (step_of c.args.step.now) c.args.index c.args.nodes.now.entries c.perform.new.nodes.entries c.perform.new.step_result) c.frames.ensures c.in_ok-perform.ensures.comes in
+    step_fits c.args.setting.now c.args.nodes.now.entries c.perform.new.nodes.entries c.args.history.now.done c.make_room.new.self.done (step_of c.args.step.now) c.perform.new.step_result c.args.index (c.count.result + 1)
     c.requires.holds c.requires.index c.requires.room c.requires.step.range c.make_room.ensures.done (ap (λ (n : ℕ). n + 1) c.count.ensures) comes c.requires.size
 
 pub returns-clause-taken : goal.returns-clause-taken
 returns-clause-taken c =
-    let comes = subst (λ (fs : List (List ℕ)). ComesOfIndex c.args.setting.now fs (c.count.result + 1) (step_of c.args.step.now) c.args.index c.args.nodes.now.entries c.come.new.nodes.entries c.come.new.came) c.frames.ensures c.in_ok-come.ensures.comes in
-    (step_taken c.args.setting.now c.args.nodes.now.entries c.come.new.nodes.entries c.args.history.now.done c.make_room.new.self.done c.put.new.self.done (step_of c.args.step.now) (step_of c.in_ok-kept.kept) c.come.new.came c.args.index (c.count.result + 1)
+    let comes = subst (λ (fs : List (List ℕ)). ComesOfIndex c.args.setting.now fs (c.count.result + 1) (step_of c.args.step.now) c.args.index c.args.nodes.now.entries c.perform.new.nodes.entries c.perform.new.step_result) c.frames.ensures c.in_ok-perform.ensures.comes in
+    (step_taken c.args.setting.now c.args.nodes.now.entries c.perform.new.nodes.entries c.args.history.now.done c.make_room.new.self.done c.put.new.self.done (step_of c.args.step.now) (step_of c.in_ok-kept.kept) c.perform.new.step_result c.args.index (c.count.result + 1)
     c.requires.holds c.requires.index c.requires.room c.requires.step.range c.make_room.ensures.done (ap (λ (n : ℕ). n + 1) c.count.ensures) comes c.in_ok-kept.ensures c.put.ensures).0
 
 pub returns-clause-schedule : goal.returns-clause-schedule
 returns-clause-schedule c =
-    let comes = subst (λ (fs : List (List ℕ)). ComesOfIndex c.args.setting.now fs (c.count.result + 1) (step_of c.args.step.now) c.args.index c.args.nodes.now.entries c.come.new.nodes.entries c.come.new.came) c.frames.ensures c.in_ok-come.ensures.comes in
-    (step_taken c.args.setting.now c.args.nodes.now.entries c.come.new.nodes.entries c.args.history.now.done c.make_room.new.self.done c.put.new.self.done (step_of c.args.step.now) (step_of c.in_ok-kept.kept) c.come.new.came c.args.index (c.count.result + 1)
+    let comes = subst (λ (fs : List (List ℕ)). ComesOfIndex c.args.setting.now fs (c.count.result + 1) (step_of c.args.step.now) c.args.index c.args.nodes.now.entries c.perform.new.nodes.entries c.perform.new.step_result) c.frames.ensures c.in_ok-perform.ensures.comes in
+    (step_taken c.args.setting.now c.args.nodes.now.entries c.perform.new.nodes.entries c.args.history.now.done c.make_room.new.self.done c.put.new.self.done (step_of c.args.step.now) (step_of c.in_ok-kept.kept) c.perform.new.step_result c.args.index (c.count.result + 1)
     c.requires.holds c.requires.index c.requires.room c.requires.step.range c.make_room.ensures.done (ap (λ (n : ℕ). n + 1) c.count.ensures) comes c.in_ok-kept.ensures c.put.ensures).1

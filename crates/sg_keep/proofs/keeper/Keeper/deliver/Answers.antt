@@ -13,15 +13,15 @@ tell-requires g c =
     let h = c.requires.holds in
     record { asked = asked_node c.args.self.now c.ask_deliver.new.self (g.D.Disk.may_leave c.args.disk.now) (Deliver c.args.bytes.now) (outcome_of c.in-Ok.outcome) (option_copied c.in-Ok.graph) h (c.in-Ok.ensures.comes 0 h.past h.represents) }
 
-pub returns-in-Ok-clause-came : goal.returns-in-Ok-clause-came
-returns-in-Ok-clause-came g c = λ p start s w h.
-    c.tell.ensures.came p (Deliver c.args.bytes.now) start
+pub returns-in-Ok-clause-progress : goal.returns-in-Ok-clause-progress
+returns-in-Ok-clause-progress g c = λ p start s w h.
+    c.tell.ensures.progress p (Deliver c.args.bytes.now) start
     (is_asked c.args.self.now c.ask_deliver.new.self (g.D.Disk.may_leave c.args.disk.now) p (Deliver c.args.bytes.now) (outcome_of c.in-Ok.outcome) (option_copied c.in-Ok.graph) c.requires.holds s c.in-Ok.ensures.rest (λ number. c.in-Ok.ensures.comes number p.past s.player.node) refl)
     w h
 
 pub returns-in-Err-clause-faults : goal.returns-in-Err-clause-faults
 returns-in-Err-clause-faults g c = memory_tells (record { link = g.L.Link.faults c.args.link.now; out = g.O.Sink.faults c.args.out.now; disk = g.D.Disk.faults c.args.disk.now }) c.in-Err.fault c.in-Err.ensures.memory
 
-pub returns-in-Err-clause-came : goal.returns-in-Err-clause-came
-returns-in-Err-clause-came g c = λ p start s w h.
+pub returns-in-Err-clause-progress : goal.returns-in-Err-clause-progress
+returns-in-Err-clause-progress g c = λ p start s w h.
     memory_end start (record { written = g.O.Sink.written c.args.out.now; sent = g.L.Link.sent c.args.link.now }) (g.D.Disk.may_leave c.args.disk.now) c.args.self.now p (with_turn p (Deliver c.args.bytes.now)) c.requires.holds s (with_call p (Deliver c.args.bytes.now)) h c.in-Err.fault c.in-Err.ensures.memory

@@ -13,7 +13,7 @@ use Rattle.sg_keep.proofs.Going.{starts_on}
 use Rattle.sg_keep.proofs.keeper.Keeper.start_all.Goals as goal
 
 pub loop-start-init : goal.loop-start-init
-loop-start-init g c = record { link_bound = refl; disk_bound = refl; falls = no_fall (record { link = g.L.Link.faults c.args.link.now; out = g.O.Sink.faults c.args.out.now; disk = g.D.Disk.faults c.args.disk.now }); deliveries = refl; holds = c.requires.holds; came = λ p start s w h. (s, h, w) }
+loop-start-init g c = record { link_bound = refl; disk_bound = refl; falls = no_fall (record { link = g.L.Link.faults c.args.link.now; out = g.O.Sink.faults c.args.out.now; disk = g.D.Disk.faults c.args.disk.now }); deliveries = refl; holds = c.requires.holds; progress = λ p start s w h. (s, h, w) }
 
 pub loop-start-preserved : goal.loop-start-preserved
 loop-start-preserved g c =
@@ -28,13 +28,13 @@ loop-start-preserved g c =
       falls = falls_on old mid new inv.falls (falls_of mid new c.start_one.result c.start_one.ensures.faults);
       deliveries = one.deliveries ∙ inv.deliveries;
       holds = one.holds;
-      came = λ p start s w h.
+      progress = λ p start s w h.
           let now : Outside = record { written = g.O.Sink.written c.start_one.new.out; sent = g.L.Link.sent c.start_one.new.link } in
           let at = c.loop-start.start-index in
           let so_far : Play = all_starts p (take at c.args.starts.now) in
-          let before = inv.came p start s w h in
+          let before = inv.progress p start s w h in
           to_same start now (g.D.Disk.may_leave c.start_one.new.disk) c.start_one.new.self (g.R.Fresh.words c.start_one.new.fresh) (starts so_far c.start-item.result) (all_starts p (take (at + 1) c.args.starts.now)) (Ok tt)
-          (start_next p at c.args.starts.now c.start-item.result c.loop-start-test.true c.start-item.is) (one.came so_far start before.0 before.2 before.1);
+          (start_next p at c.args.starts.now c.start-item.result c.loop-start-test.true c.start-item.is) (one.progress so_far start before.0 before.2 before.1);
     }
 
 pub returns-in-Err-clause-faults : goal.returns-in-Err-clause-faults
@@ -44,20 +44,20 @@ returns-in-Err-clause-faults g c =
     let new : Counts = record { link = g.L.Link.faults c.start_one.new.link; out = g.O.Sink.faults c.start_one.new.out; disk = g.D.Disk.faults c.start_one.new.disk } in
     later_tells old mid new (Err c.in-Err.fault) c.loop-start.invariant.falls c.in-Err.ensures.faults
 
-pub returns-in-Err-clause-came : goal.returns-in-Err-clause-came
-returns-in-Err-clause-came g c = λ p start s w h.
+pub returns-in-Err-clause-progress : goal.returns-in-Err-clause-progress
+returns-in-Err-clause-progress g c = λ p start s w h.
     let now : Outside = record { written = g.O.Sink.written c.start_one.new.out; sent = g.L.Link.sent c.start_one.new.link } in
     let leaves = g.D.Disk.may_leave c.start_one.new.disk in
     let at = c.loop-start.start-index in
     let so_far : Play = all_starts p (take at c.args.starts.now) in
-    let before = c.loop-start.invariant.came p start s w h in
+    let before = c.loop-start.invariant.progress p start s w h in
     end_on start now leaves (all_starts p (take (at + 1) c.args.starts.now)) (all_starts p c.args.starts.now) c.in-Err.fault (starts_on p (at + 1) c.args.starts.now)
-    (subst (λ (z : Play). Kept start now leaves z (Err c.in-Err.fault)) (start_next p at c.args.starts.now c.start-item.result c.loop-start-test.true c.start-item.is) (c.in-Err.ensures.came so_far start before.0 before.2 before.1))
+    (subst (λ (z : Play). Kept start now leaves z (Err c.in-Err.fault)) (start_next p at c.args.starts.now c.start-item.result c.loop-start-test.true c.start-item.is) (c.in-Err.ensures.progress so_far start before.0 before.2 before.1))
 
 pub returns-clause-faults : goal.returns-clause-faults
 returns-clause-faults g c = went (record { link = g.L.Link.faults c.args.link.now; out = g.O.Sink.faults c.args.out.now; disk = g.D.Disk.faults c.args.disk.now }) (record { link = g.L.Link.faults c.loop-start.link; out = g.O.Sink.faults c.loop-start.out; disk = g.D.Disk.faults c.loop-start.disk }) tt c.loop-start.invariant.falls
 
-pub returns-clause-came : goal.returns-clause-came
-returns-clause-came g c = λ p start s w h.
+pub returns-clause-progress : goal.returns-clause-progress
+returns-clause-progress g c = λ p start s w h.
     let now : Outside = record { written = g.O.Sink.written c.loop-start.out; sent = g.L.Link.sent c.loop-start.link } in
-    subst (λ (z : List ScriptStart). CameTo start now (g.D.Disk.may_leave c.loop-start.disk) c.loop-start.self (g.R.Fresh.words c.loop-start.fresh) (all_starts p z) (Ok tt)) (take_all c.loop-start.start-index c.args.starts.now c.loop-start-test.false) (c.loop-start.invariant.came p start s w h)
+    subst (λ (z : List ScriptStart). CameTo start now (g.D.Disk.may_leave c.loop-start.disk) c.loop-start.self (g.R.Fresh.words c.loop-start.fresh) (all_starts p z) (Ok tt)) (take_all c.loop-start.start-index c.args.starts.now c.loop-start-test.false) (c.loop-start.invariant.progress p start s w h)

@@ -20,7 +20,7 @@ loop-taken-init g c = record {
   falls = no_fall (record { link = g.L.Link.faults c.args.link.now; out = g.O.Sink.faults c.args.out.now; disk = g.D.Disk.faults c.args.disk.now });
   holds = c.requires.holds;
   left = λ deliveries told. told;
-  came = λ p start deliveries told s w h. (s, h, w);
+  progress = λ p start deliveries told s w h. (s, h, w);
 }
 
 pub loop-taken-preserved : goal.loop-taken-preserved
@@ -39,14 +39,14 @@ loop-taken-preserved g c =
       falls = falls_on old mid new inv.falls (falls_on mid took new (link_took _ _ _ _ c.recv.ensures.never_falls) (falls_of took new c.deliver.result c.deliver.ensures.faults));
       holds = one.holds;
       left = λ deliveries told. one.deliveries ∙ (first (drop k deliveries) (inv.left deliveries told)).1 ∙ ap (λ l. Some l) (left_next k deliveries);
-      came = λ p start deliveries told s w h.
+      progress = λ p start deliveries told s w h.
           let now : Outside = record { written = g.O.Sink.written c.deliver.new.out; sent = g.L.Link.sent c.deliver.new.link } in
           let so_far : Play = all_deliveries p (take k deliveries) in
-          let before = inv.came p start deliveries told s w h in
+          let before = inv.progress p start deliveries told s w h in
           let whole = nothing_sent start so_far (g.O.Sink.written c.loop-taken.out) (g.L.Link.sent c.loop-taken.link) (g.L.Link.sent c.recv.new.self) c.recv.ensures.kept_sent before.1 in
           let next : drop k deliveries ≡ c.as_slice.result.now ∷ drop 1 (drop k deliveries) = (first (drop k deliveries) (inv.left deliveries told)).0 ∙ ap (λ (b : List ℕ). b ∷ drop 1 (drop k deliveries)) (sym c.as_slice.ensures.value) in
           to_same start now (g.D.Disk.may_leave c.deliver.new.disk) c.deliver.new.self (g.R.Fresh.words c.deliver.new.fresh) (with_turn so_far (Deliver c.as_slice.result.now)) (all_deliveries p (take (k + 1) deliveries)) (Ok tt)
-          (delivery_next p k deliveries c.as_slice.result.now next) (one.came so_far start before.0 before.2 whole);
+          (delivery_next p k deliveries c.as_slice.result.now next) (one.progress so_far start before.0 before.2 whole);
     }
 
 pub returns-in-Err-clause-faults : goal.returns-in-Err-clause-faults
@@ -57,19 +57,19 @@ returns-in-Err-clause-faults g c =
     let new : Counts = record { link = g.L.Link.faults c.deliver.new.link; out = g.O.Sink.faults c.deliver.new.out; disk = g.D.Disk.faults c.deliver.new.disk } in
     later_tells old took new (Err c.in-Err.fault) (falls_on old mid took c.loop-taken.invariant.falls (link_took _ _ _ _ c.recv.ensures.never_falls)) c.in-Err.ensures.faults
 
-pub returns-in-Err-clause-came : goal.returns-in-Err-clause-came
-returns-in-Err-clause-came g c = let within : c.loop-taken._taken + 1 ≤ c.args.most = omega arith in λ p start deliveries told s w h.
+pub returns-in-Err-clause-progress : goal.returns-in-Err-clause-progress
+returns-in-Err-clause-progress g c = let within : c.loop-taken._taken + 1 ≤ c.args.most = omega arith in λ p start deliveries told s w h.
     let inv = c.loop-taken.invariant in
     let k = c.loop-taken._taken in
     let first = rw c.in-Ok-Some.field-0-is at c.in-Ok-Some.ensures.first in
     let now : Outside = record { written = g.O.Sink.written c.deliver.new.out; sent = g.L.Link.sent c.deliver.new.link } in
     let leaves = g.D.Disk.may_leave c.deliver.new.disk in
     let so_far : Play = all_deliveries p (take k deliveries) in
-    let before = inv.came p start deliveries told s w h in
+    let before = inv.progress p start deliveries told s w h in
     let whole = nothing_sent start so_far (g.O.Sink.written c.loop-taken.out) (g.L.Link.sent c.loop-taken.link) (g.L.Link.sent c.recv.new.self) c.recv.ensures.kept_sent before.1 in
     let next : drop k deliveries ≡ c.as_slice.result.now ∷ drop 1 (drop k deliveries) = (first (drop k deliveries) (inv.left deliveries told)).0 ∙ ap (λ (b : List ℕ). b ∷ drop 1 (drop k deliveries)) (sym c.as_slice.ensures.value) in
     end_on start now leaves (all_deliveries p (take (k + 1) deliveries)) (all_deliveries p (take c.args.most deliveries)) c.in-Err.fault (deliveries_on p (k + 1) c.args.most deliveries within)
-    (subst (λ (z : Play). Kept start now leaves z (Err c.in-Err.fault)) (delivery_next p k deliveries c.as_slice.result.now next) (c.in-Err.ensures.came so_far start before.0 before.2 whole))
+    (subst (λ (z : Play). Kept start now leaves z (Err c.in-Err.fault)) (delivery_next p k deliveries c.as_slice.result.now next) (c.in-Err.ensures.progress so_far start before.0 before.2 whole))
 
 pub returns-in-Err-clause-at_most : goal.returns-in-Err-clause-at_most
 returns-in-Err-clause-at_most g c = let within : c.loop-taken._taken + 1 ≤ c.args.most = omega arith in λ deliveries told.
@@ -84,14 +84,14 @@ returns-in-Ok-None-clause-faults g c =
     let took : Counts = record { link = g.L.Link.faults c.recv.new.self; out = g.O.Sink.faults c.loop-taken.out; disk = g.D.Disk.faults c.loop-taken.disk } in
     went old took tt (falls_on old mid took c.loop-taken.invariant.falls (link_took _ _ _ _ c.recv.ensures.never_falls))
 
-pub returns-in-Ok-None-clause-came : goal.returns-in-Ok-None-clause-came
-returns-in-Ok-None-clause-came g c = let within : c.loop-taken._taken ≤ c.args.most = omega arith in λ p start deliveries told s w h.
+pub returns-in-Ok-None-clause-progress : goal.returns-in-Ok-None-clause-progress
+returns-in-Ok-None-clause-progress g c = let within : c.loop-taken._taken ≤ c.args.most = omega arith in λ p start deliveries told s w h.
     let inv = c.loop-taken.invariant in
     let k = c.loop-taken._taken in
     let end = rw c.in-Ok-None.field-0-is at c.in-Ok-None.ensures.at_end in
     let now : Outside = record { written = g.O.Sink.written c.loop-taken.out; sent = g.L.Link.sent c.recv.new.self } in
     let so_far : Play = all_deliveries p (take k deliveries) in
-    let before = inv.came p start deliveries told s w h in
+    let before = inv.progress p start deliveries told s w h in
     let whole = nothing_sent start so_far (g.O.Sink.written c.loop-taken.out) (g.L.Link.sent c.loop-taken.link) (g.L.Link.sent c.recv.new.self) c.recv.ensures.kept_sent before.1 in
     subst (λ (z : List (List ℕ)). CameTo start now (g.D.Disk.may_leave c.loop-taken.disk) c.loop-taken.self (g.R.Fresh.words c.loop-taken.fresh) (all_deliveries p z) (Ok tt))
     (sym (taken_all k c.args.most deliveries within (end (drop k deliveries) (inv.left deliveries told)))) (before.0, whole, before.2)
@@ -117,12 +117,12 @@ returns-in-Err-Failed-clause-faults g c =
     let took : Counts = record { link = g.L.Link.faults c.recv.new.self; out = g.O.Sink.faults c.loop-taken.out; disk = g.D.Disk.faults c.loop-taken.disk } in
     later_tells old mid took _ c.loop-taken.invariant.falls (link_tells _ _ _ _ c.recv.ensures.never_falls (c.recv.ensures.failed (c.in-Err-Failed.is ∙ ap Err c.in-Err-Failed.field-0-is)))
 
-pub returns-in-Err-Failed-clause-came : goal.returns-in-Err-Failed-clause-came
-returns-in-Err-Failed-clause-came g c = let within : c.loop-taken._taken ≤ c.args.most = omega arith in λ p start deliveries told s w h.
+pub returns-in-Err-Failed-clause-progress : goal.returns-in-Err-Failed-clause-progress
+returns-in-Err-Failed-clause-progress g c = let within : c.loop-taken._taken ≤ c.args.most = omega arith in λ p start deliveries told s w h.
     let k = c.loop-taken._taken in
     let now : Outside = record { written = g.O.Sink.written c.loop-taken.out; sent = g.L.Link.sent c.recv.new.self } in
     let so_far : Play = all_deliveries p (take k deliveries) in
-    let before = c.loop-taken.invariant.came p start deliveries told s w h in
+    let before = c.loop-taken.invariant.progress p start deliveries told s w h in
     link_end start now (g.D.Disk.may_leave c.loop-taken.disk) c.loop-taken.self so_far (all_deliveries p (take c.args.most deliveries)) c.loop-taken.invariant.holds before.0 (deliveries_on p k c.args.most deliveries within)
     (nothing_sent start so_far (g.O.Sink.written c.loop-taken.out) (g.L.Link.sent c.loop-taken.link) (g.L.Link.sent c.recv.new.self) c.recv.ensures.kept_sent before.1)
 
@@ -136,12 +136,12 @@ returns-in-Err-OutOfMemory-clause-faults g c =
     let took : Counts = record { link = g.L.Link.faults c.recv.new.self; out = g.O.Sink.faults c.loop-taken.out; disk = g.D.Disk.faults c.loop-taken.disk } in
     later_tells old mid took _ c.loop-taken.invariant.falls (link_full _ _ _ _ c.recv.ensures.never_falls)
 
-pub returns-in-Err-OutOfMemory-clause-came : goal.returns-in-Err-OutOfMemory-clause-came
-returns-in-Err-OutOfMemory-clause-came g c = let within : c.loop-taken._taken ≤ c.args.most = omega arith in λ p start deliveries told s w h.
+pub returns-in-Err-OutOfMemory-clause-progress : goal.returns-in-Err-OutOfMemory-clause-progress
+returns-in-Err-OutOfMemory-clause-progress g c = let within : c.loop-taken._taken ≤ c.args.most = omega arith in λ p start deliveries told s w h.
     let k = c.loop-taken._taken in
     let now : Outside = record { written = g.O.Sink.written c.loop-taken.out; sent = g.L.Link.sent c.recv.new.self } in
     let so_far : Play = all_deliveries p (take k deliveries) in
-    let before = c.loop-taken.invariant.came p start deliveries told s w h in
+    let before = c.loop-taken.invariant.progress p start deliveries told s w h in
     memory_end start now (g.D.Disk.may_leave c.loop-taken.disk) c.loop-taken.self so_far (all_deliveries p (take c.args.most deliveries)) c.loop-taken.invariant.holds before.0 (deliveries_on p k c.args.most deliveries within)
     (nothing_sent start so_far (g.O.Sink.written c.loop-taken.out) (g.L.Link.sent c.loop-taken.link) (g.L.Link.sent c.recv.new.self) c.recv.ensures.kept_sent before.1) _ refl
 
@@ -151,10 +151,10 @@ returns-in-Err-OutOfMemory-clause-at_most g c = let within : c.loop-taken._taken
 pub returns-clause-faults : goal.returns-clause-faults
 returns-clause-faults g c = went (record { link = g.L.Link.faults c.args.link.now; out = g.O.Sink.faults c.args.out.now; disk = g.D.Disk.faults c.args.disk.now }) (record { link = g.L.Link.faults c.loop-taken.link; out = g.O.Sink.faults c.loop-taken.out; disk = g.D.Disk.faults c.loop-taken.disk }) tt c.loop-taken.invariant.falls
 
-pub returns-clause-came : goal.returns-clause-came
-returns-clause-came g c = let all : c.loop-taken._taken ≡ c.args.most = omega arith in λ p start deliveries told s w h.
+pub returns-clause-progress : goal.returns-clause-progress
+returns-clause-progress g c = let all : c.loop-taken._taken ≡ c.args.most = omega arith in λ p start deliveries told s w h.
     let now : Outside = record { written = g.O.Sink.written c.loop-taken.out; sent = g.L.Link.sent c.loop-taken.link } in
-    subst (λ (k : ℕ). CameTo start now (g.D.Disk.may_leave c.loop-taken.disk) c.loop-taken.self (g.R.Fresh.words c.loop-taken.fresh) (all_deliveries p (take k deliveries)) (Ok tt)) all (c.loop-taken.invariant.came p start deliveries told s w h)
+    subst (λ (k : ℕ). CameTo start now (g.D.Disk.may_leave c.loop-taken.disk) c.loop-taken.self (g.R.Fresh.words c.loop-taken.fresh) (all_deliveries p (take k deliveries)) (Ok tt)) all (c.loop-taken.invariant.progress p start deliveries told s w h)
 
 pub returns-clause-left : goal.returns-clause-left
 returns-clause-left g c = let all : c.loop-taken._taken ≡ c.args.most = omega arith in λ deliveries told.

@@ -16,8 +16,8 @@ returns-in-Err-clause-faults g c =
     unkept_tells (g.L.Link.faults c.args.link.now) (g.O.Sink.faults c.args.out.now) (g.D.Disk.faults c.args.disk.now) (g.D.Disk.faults c.keep_join.new.disk) c.in-Err.fault c.keep_join.ensures.falls c.in-Err.ensures.causes
     (λ e. c.keep_join.ensures.failed (c.in-Err.is ∙ ap Err e))
 
-pub returns-in-Err-clause-came : goal.returns-in-Err-clause-came
-returns-in-Err-clause-came g c = λ p k start a w h.
+pub returns-in-Err-clause-progress : goal.returns-in-Err-clause-progress
+returns-in-Err-clause-progress g c = λ p k start a w h.
     unkept start (record { written = g.O.Sink.written c.args.out.now; sent = g.L.Link.sent c.args.link.now }) (g.D.Disk.may_leave c.keep_join.new.disk) c.args.self.now p k (outcome_of c.args.outcome.now) (option_copied c.args.graph) a
     c.in-Err.fault c.in-Err.ensures.causes c.in-Err.ensures.images h
 
@@ -33,14 +33,14 @@ returns-in-Err-give-clause-faults g c =
     (disk_falls_only link out (g.D.Disk.faults c.args.disk.now) kept c.keep_join.ensures.falls)
     (of_play link link' out out' kept c.give.result _ c.in-Err-give.fault c.in-Err-give.is refl c.give.ensures.link_falls c.give.ensures.out_falls c.give.ensures.link_failed c.give.ensures.write_failed)
 
-pub returns-in-Err-give-clause-came : goal.returns-in-Err-give-clause-came
-returns-in-Err-give-clause-came g c = λ p k start a w h.
+pub returns-in-Err-give-clause-progress : goal.returns-in-Err-give-clause-progress
+returns-in-Err-give-clause-progress g c = λ p k start a w h.
     let told = outcome_of c.args.outcome.now in
     let graph = option_copied c.args.graph in
     let m = c.keep_join.new.self in
     let now : Outside = record { written = g.O.Sink.written c.give.new.out; sent = g.L.Link.sent c.give.new.link } in
     untold start now (g.D.Disk.may_leave c.keep_join.new.disk) c.args.self.now p k told graph a m c.keep_join.ensures.player c.in-Ok.ensures.holds c.in-Err-give.fault
-    (c.in-Err-give.ensures.came p k start (asked_then start now (g.D.Disk.may_leave c.keep_join.new.disk) c.args.self.now p k told graph a m c.keep_join.ensures.player c.in-Ok.ensures.holds) a.stays h)
+    (c.in-Err-give.ensures.progress p k start (asked_then start now (g.D.Disk.may_leave c.keep_join.new.disk) c.args.self.now p k told graph a m c.keep_join.ensures.player c.in-Ok.ensures.holds) a.stays h)
 
 pub returns-in-Ok-play_if-clause-faults : goal.returns-in-Ok-play_if-clause-faults
 returns-in-Ok-play_if-clause-faults g c =
@@ -61,16 +61,16 @@ returns-in-Ok-play_if-clause-holds g c =
     holds_on kept (record kept { player = c.play_if.new.self }) (g.D.Disk.may_leave c.keep_join.new.disk) c.in-Ok.ensures.holds refl
     (keeps_then kept.player.node c.give.new.self.node c.play_if.new.self.node (keeps_same kept.player.node c.give.new.self.node c.in-Ok-give.ensures.node) c.in-Ok-play_if.ensures.joins)
 
-pub returns-in-Ok-play_if-clause-came : goal.returns-in-Ok-play_if-clause-came
-returns-in-Ok-play_if-clause-came g c = λ p k start a w h.
+pub returns-in-Ok-play_if-clause-progress : goal.returns-in-Ok-play_if-clause-progress
+returns-in-Ok-play_if-clause-progress g c = λ p k start a w h.
     let told = outcome_of c.args.outcome.now in
     let graph = option_copied c.args.graph in
     let m = c.keep_join.new.self in
     let leaves = g.D.Disk.may_leave c.keep_join.new.disk in
     let now : Outside = record { written = g.O.Sink.written c.play_if.new.out; sent = g.L.Link.sent c.play_if.new.link } in
-    let given = c.in-Ok-give.ensures.came p k start (asked_then start now leaves c.args.self.now p k told graph a m c.keep_join.ensures.player c.in-Ok.ensures.holds) a.stays h in
+    let given = c.in-Ok-give.ensures.progress p k start (asked_then start now leaves c.args.self.now p k told graph a m c.keep_join.ensures.player c.in-Ok.ensures.holds) a.stays h in
     let sid = c.sid_reported.ensures.told ∙ ap (option_and_then sid_reported) a.asked.is_told ∙ told_given _ (answer_in p k) in
-    let turn = turn_given start now c.play_if.new.self (g.R.Fresh.words c.play_if.new.fresh) p k c.sid_reported.result (Ok tt) sid (c.in-Ok-play_if.ensures.came (called p k) start given.0 w given.1) in
+    let turn = turn_given start now c.play_if.new.self (g.R.Fresh.words c.play_if.new.fresh) p k c.sid_reported.result (Ok tt) sid (c.in-Ok-play_if.ensures.progress (called p k) start given.0 w given.1) in
     (represents_kept start now leaves c.args.self.now p k told graph a m c.keep_join.ensures.player c.in-Ok.ensures.holds (record m { player = c.play_if.new.self }) turn.0.0, turn.0.1, turn.1)
 
 pub returns-in-Err-play_if-clause-faults : goal.returns-in-Err-play_if-clause-faults
@@ -86,14 +86,14 @@ returns-in-Err-play_if-clause-faults g c =
     (record { link = c.give.ensures.link_falls; out = c.give.ensures.out_falls; disk = c.keep_join.ensures.falls })
     (of_play mid_link link' mid_out out' kept c.play_if.result _ c.in-Err-play_if.fault c.in-Err-play_if.is refl c.play_if.ensures.link_falls c.play_if.ensures.out_falls c.play_if.ensures.link_failed c.play_if.ensures.write_failed)
 
-pub returns-in-Err-play_if-clause-came : goal.returns-in-Err-play_if-clause-came
-returns-in-Err-play_if-clause-came g c = λ p k start a w h.
+pub returns-in-Err-play_if-clause-progress : goal.returns-in-Err-play_if-clause-progress
+returns-in-Err-play_if-clause-progress g c = λ p k start a w h.
     let told = outcome_of c.args.outcome.now in
     let graph = option_copied c.args.graph in
     let m = c.keep_join.new.self in
     let leaves = g.D.Disk.may_leave c.keep_join.new.disk in
     let now : Outside = record { written = g.O.Sink.written c.play_if.new.out; sent = g.L.Link.sent c.play_if.new.link } in
-    let given = c.in-Ok-give.ensures.came p k start (asked_then start now leaves c.args.self.now p k told graph a m c.keep_join.ensures.player c.in-Ok.ensures.holds) a.stays h in
+    let given = c.in-Ok-give.ensures.progress p k start (asked_then start now leaves c.args.self.now p k told graph a m c.keep_join.ensures.player c.in-Ok.ensures.holds) a.stays h in
     let sid = c.sid_reported.ensures.told ∙ ap (option_and_then sid_reported) a.asked.is_told ∙ told_given _ (answer_in p k) in
-    let turn = turn_given start now c.play_if.new.self (g.R.Fresh.words c.play_if.new.fresh) p k c.sid_reported.result (Err c.in-Err-play_if.fault) sid (c.in-Err-play_if.ensures.came (called p k) start given.0 w given.1) in
+    let turn = turn_given start now c.play_if.new.self (g.R.Fresh.words c.play_if.new.fresh) p k c.sid_reported.result (Err c.in-Err-play_if.fault) sid (c.in-Err-play_if.ensures.progress (called p k) start given.0 w given.1) in
     unplayed start now leaves c.args.self.now p k told graph a m c.keep_join.ensures.player c.in-Ok.ensures.holds c.in-Err-play_if.fault turn

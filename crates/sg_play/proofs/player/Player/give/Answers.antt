@@ -8,8 +8,8 @@ use Rattle.sg_play.proofs.Extends.{by_call}
 use Rattle.sg_play.proofs.Results.{anyway}
 use Rattle.sg_play.proofs.player.Player.give.Goals as goal
 
-pub returns-in-Ok-clause-came : goal.returns-in-Ok-clause-came
-returns-in-Ok-clause-came g c = λ p k start asked left w.
+pub returns-in-Ok-clause-progress : goal.returns-in-Ok-clause-progress
+returns-in-Ok-clause-progress g c = λ p k start asked left w.
     let told = c.in-Ok.ensures.told p k (frames_made c.args.frame) asked left in
     came_after start (record { written = g.O.Sink.written c.args.out.now; sent = g.L.Link.sent c.args.link.now }) (record { written = g.O.Sink.written c.post.new.out; sent = g.L.Link.sent c.post.new.link }) c.tell.new.self p k
     c.in-Ok.line.items (frames_made c.args.frame) c.post.result w told.1 told.0
@@ -25,8 +25,8 @@ returns-in-Err-clause-write_failed g c = λ e.
     let memory : c.in-Err.fault ≡ OutOfMemory = c.in-Err.ensures.memory in
     absurd (cc)
 
-pub returns-in-Err-clause-came : goal.returns-in-Err-clause-came
-returns-in-Err-clause-came g c = λ p k start asked left w. no_memory_by start (record { written = g.O.Sink.written c.args.out.now; sent = g.L.Link.sent c.args.link.now }) p (called p k) c.in-Err.fault c.in-Err.ensures.memory (by_call p k) w
+pub returns-in-Err-clause-progress : goal.returns-in-Err-clause-progress
+returns-in-Err-clause-progress g c = λ p k start asked left w. no_memory_by start (record { written = g.O.Sink.written c.args.out.now; sent = g.L.Link.sent c.args.link.now }) p (called p k) c.in-Err.fault c.in-Err.ensures.memory (by_call p k) w
 
 pub returns-in-Ok-clause-node : goal.returns-in-Ok-clause-node
 returns-in-Ok-clause-node g c = anyway c.post.result (c.tell.new.self.node ≡ c.args.self.now.node) (ap (λ (pl : Player). pl.node) c.in-Ok.ensures.rest)

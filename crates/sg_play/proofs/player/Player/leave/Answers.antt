@@ -5,8 +5,8 @@ use Rattle.sg_play.proofs.Keeping.{keeps_same, keeps_then}
 use Rattle.sg_play.proofs.Results.{mapped}
 use Rattle.sg_play.proofs.player.Player.leave.Goals as goal
 
-pub returns-clause-came : goal.returns-clause-came
-returns-clause-came g c = λ p start represents w. c.give.ensures.came p (Abandon c.args.sid) start (c.ask_abandon-outcome.ensures.asked p represents) refl w
+pub returns-clause-progress : goal.returns-clause-progress
+returns-clause-progress g c = λ p start represents w. c.give.ensures.progress p (Abandon c.args.sid) start (c.ask_abandon-outcome.ensures.asked p represents) refl w
 
 pub returns-clause-joins : goal.returns-clause-joins
 returns-clause-joins g c =

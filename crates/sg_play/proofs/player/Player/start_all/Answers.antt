@@ -5,7 +5,7 @@ use Rattle.sg_play.proofs.Running.{start_failed, start_more, starts_done}
 use Rattle.sg_play.proofs.player.Player.start_all.Goals as goal
 
 pub loop-start-init : goal.loop-start-init
-loop-start-init g c = record { link_bound = refl; link_falls = omega arith; out_falls = omega arith; deliveries = refl; came = λ p start s w h. ((s, h), w) }
+loop-start-init g c = record { link_bound = refl; link_falls = omega arith; out_falls = omega arith; deliveries = refl; progress = λ p start s w h. ((s, h), w) }
 
 pub loop-start-preserved : goal.loop-start-preserved
 loop-start-preserved g c =
@@ -16,23 +16,23 @@ loop-start-preserved g c =
       link_falls = omega (arith, inv.link_falls, one.link_falls);
       out_falls = omega (arith, inv.out_falls, one.out_falls);
       deliveries = one.deliveries ∙ inv.deliveries;
-      came = λ p start s w h.
+      progress = λ p start s w h.
           let now : Outside = record { written = g.O.Sink.written c.start_one.new.out; sent = g.L.Link.sent c.start_one.new.link } in
           let so_far : Play = all_starts p (take c.loop-start.start-index c.args.starts.now) in
-          let before = inv.came p start s w h in
+          let before = inv.progress p start s w h in
           start_more start now c.start_one.new.self (g.R.Fresh.words c.start_one.new.fresh) p c.args.starts.now c.loop-start.start-index c.start-item.result c.loop-start-test.true c.start-item.is
-          (one.came so_far start before.0.0 before.1 before.0.1);
+          (one.progress so_far start before.0.0 before.1 before.0.1);
     }
 
-pub returns-in_err-start_one-clause-came : goal.returns-in_err-start_one-clause-came
-returns-in_err-start_one-clause-came g c = let same : c.from_residual.result ≡ Err c.in_err-start_one.field-0.0 = search rules in λ p start s w h.
+pub returns-in_err-start_one-clause-progress : goal.returns-in_err-start_one-clause-progress
+returns-in_err-start_one-clause-progress g c = let same : c.from_residual.result ≡ Err c.in_err-start_one.field-0.0 = search rules in λ p start s w h.
     let now : Outside = record { written = g.O.Sink.written c.start_one.new.out; sent = g.L.Link.sent c.start_one.new.link } in
     let so_far : Play = all_starts p (take c.loop-start.start-index c.args.starts.now) in
-    let before = c.loop-start.invariant.came p start s w h in
+    let before = c.loop-start.invariant.progress p start s w h in
     start_failed start now c.start_one.new.self (g.R.Fresh.words c.start_one.new.fresh) p c.args.starts.now c.loop-start.start-index c.start-item.result c.from_residual.result c.in_err-start_one.field-0.0 c.loop-start-test.true c.start-item.is same
-    (c.in_err-start_one.ensures.came so_far start before.0.0 before.1 before.0.1)
+    (c.in_err-start_one.ensures.progress so_far start before.0.0 before.1 before.0.1)
 
-pub returns-clause-came : goal.returns-clause-came
-returns-clause-came g c = λ p start s w h.
+pub returns-clause-progress : goal.returns-clause-progress
+returns-clause-progress g c = λ p start s w h.
     let now : Outside = record { written = g.O.Sink.written c.loop-start.out; sent = g.L.Link.sent c.loop-start.link } in
-    starts_done start now c.loop-start.self (g.R.Fresh.words c.loop-start.fresh) p c.args.starts.now c.loop-start.start-index c.loop-start-test.false (c.loop-start.invariant.came p start s w h)
+    starts_done start now c.loop-start.self (g.R.Fresh.words c.loop-start.fresh) p c.args.starts.now c.loop-start.start-index c.loop-start-test.false (c.loop-start.invariant.progress p start s w h)

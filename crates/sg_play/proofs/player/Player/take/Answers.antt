@@ -21,8 +21,8 @@ returns-in_err-outcome-clause-write_failed g c = let same : c.from_residual.resu
     let memory : c.in_err-outcome.field-0.0 ≡ OutOfMemory = c.in_err-outcome.ensures.memory in
     absurd (cc)
 
-pub returns-in_err-outcome-clause-came : goal.returns-in_err-outcome-clause-came
-returns-in_err-outcome-clause-came g c = let same : c.from_residual.result ≡ Err c.in_err-outcome.field-0.0 = search rules in λ p start represents w.
+pub returns-in_err-outcome-clause-progress : goal.returns-in_err-outcome-clause-progress
+returns-in_err-outcome-clause-progress g c = let same : c.from_residual.result ≡ Err c.in_err-outcome.field-0.0 = search rules in λ p start represents w.
     rw same (no_memory_by start (record { written = g.O.Sink.written c.args.out.now; sent = g.L.Link.sent c.args.link.now }) p (called p (Deliver c.args.bytes.now)) c.in_err-outcome.field-0.0 c.in_err-outcome.ensures.memory (by_call p (Deliver c.args.bytes.now)) w)
 
 pub returns-in_err-give-clause-link_failed : goal.returns-in_err-give-clause-link_failed
@@ -33,15 +33,15 @@ pub returns-in_err-give-clause-write_failed : goal.returns-in_err-give-clause-wr
 returns-in_err-give-clause-write_failed g c = let same : c.from_residual-in_err-give.result ≡ Err c.in_err-give.field-0.0 = search rules in λ e.
     c.in_err-give.ensures.write_failed (ap Err (err_same c.from_residual-in_err-give.result c.in_err-give.field-0.0 WriteFailed same e))
 
-pub returns-in_err-give-clause-came : goal.returns-in_err-give-clause-came
-returns-in_err-give-clause-came g c = let same : c.from_residual-in_err-give.result ≡ Err c.in_err-give.field-0.0 = search rules in λ p start represents w.
+pub returns-in_err-give-clause-progress : goal.returns-in_err-give-clause-progress
+returns-in_err-give-clause-progress g c = let same : c.from_residual-in_err-give.result ≡ Err c.in_err-give.field-0.0 = search rules in λ p start represents w.
     let asked = asked_quiet c.args.self.now c.ask_deliver.new.node p (Deliver c.args.bytes.now) (outcome_of c.in_ok-outcome.outcome) (option_copied c.in_ok-outcome.graph) represents (λ number. c.in_ok-outcome.ensures.comes number p.past represents.node) in
-    rw same (c.in_err-give.ensures.came p (Deliver c.args.bytes.now) start asked refl w)
+    rw same (c.in_err-give.ensures.progress p (Deliver c.args.bytes.now) start asked refl w)
 
-pub returns-clause-came : goal.returns-clause-came
-returns-clause-came g c = λ p start represents w.
+pub returns-clause-progress : goal.returns-clause-progress
+returns-clause-progress g c = λ p start represents w.
     let asked = asked_quiet c.args.self.now c.ask_deliver.new.node p (Deliver c.args.bytes.now) (outcome_of c.in_ok-outcome.outcome) (option_copied c.in_ok-outcome.graph) represents (λ number. c.in_ok-outcome.ensures.comes number p.past represents.node) in
-    c.in_ok-give.ensures.came p (Deliver c.args.bytes.now) start asked refl w
+    c.in_ok-give.ensures.progress p (Deliver c.args.bytes.now) start asked refl w
 
 pub returns-clause-turn : goal.returns-clause-turn
 returns-clause-turn g c = λ p represents.
