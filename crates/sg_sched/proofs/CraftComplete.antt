@@ -12,7 +12,7 @@ use Rattle.sg_model.proofs.Small.{and_left, and_right}
 use Rattle.sg_protocol.specs.Schedule.{CraftJoin}
 use Rattle.sg_base.specs.Words.{name, number}
 use Rattle.sg_sched.specs.Words.{frame}
-use Rattle.sg_sched.specs.Format.Said.{Word, Committed, From, FromKey, FromItem, FromSeal, FromZero, ItemContent, CraftContent, LineContent, SaidMake, committed_word, from_words, tag_words, item_words, join_words, list_words, option_words, joined_names}
+use Rattle.sg_sched.specs.Format.Said.{Word, Committed, TagSource, FromKey, FromItem, FromSeal, FromZero, ItemContent, CraftContent, LineContent, SaidMake, committed_word, from_words, tag_words, item_words, join_words, list_words, option_words, joined_names}
 use Rattle.sg_sched.specs.Format.Forms.{is_committed, is_source, is_tag, is_item, are_committed, is_join, is_wide, is_short, is_frame, are_names, is_craft, is_form}
 use Rattle.sg_sched.specs.Format.Values.{is_value}
 use Rattle.sg_sched.specs.Format.Reading.{WordsLeft, Taker, word, after, ended, split_at}
@@ -62,7 +62,7 @@ run_ok (c ∷ cs) rest h e = rw (committed_ok c (and_left (is_committed c) (list
 
 -- ---- sources
 
-pub source_ok : (s : From) (rest : WordsLeft) → is_source s ≡ true → source (from_words s ++ rest) ≡ Some (s, rest)
+pub source_ok : (s : TagSource) (rest : WordsLeft) → is_source s ≡ true → source (from_words s ++ rest) ≡ Some (s, rest)
 unfolding source copy_source word
 source_ok FromZero rest h = refl
 source_ok (FromKey one two) rest h = rw (name_ok one (and_left (is_name one) (is_name two) h), name_ok two (and_right (is_name one) (is_name two) h)) refl
@@ -107,7 +107,7 @@ repeated_ok first take print ok Guard r (suc n) (x ∷ xs) rest l h g e =
 
 -- ---- tags and items
 
-tag_ok : (t : Name × From) (rest : WordsLeft) → is_tag t ≡ true → tag (tag_print t ++ rest) ≡ Some (t, rest)
+tag_ok : (t : Name × TagSource) (rest : WordsLeft) → is_tag t ≡ true → tag (tag_print t ++ rest) ≡ Some (t, rest)
 unfolding tag word
 tag_ok t rest h = rw (name_ok t.0 (and_left (is_name t.0) (is_source t.1) h), source_ok t.1 rest (and_right (is_name t.0) (is_source t.1) h)) refl
 
@@ -123,7 +123,7 @@ pub record Behind (rest : WordsLeft) : Type 0 where
   pub no_run : run rest ≡ ([], rest)
   pub no_tag : is_next (codes "tag") rest ≡ false
 
-tags_run : (ts : List (Name × From)) (rest : WordsLeft) → run rest ≡ ([], rest) → run (flat_map tag_words ts ++ rest) ≡ ([], flat_map tag_words ts ++ rest)
+tags_run : (ts : List (Name × TagSource)) (rest : WordsLeft) → run rest ≡ ([], rest) → run (flat_map tag_words ts ++ rest) ≡ ([], flat_map tag_words ts ++ rest)
 unfolding committed
 tags_run [] rest e = e
 tags_run (t ∷ ts) rest e = refl

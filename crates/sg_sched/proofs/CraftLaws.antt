@@ -12,7 +12,7 @@ use Rattle.sg_model.proofs.Small.{some_same}
 use Rattle.sg_protocol.specs.Schedule.{CraftJoin}
 use Rattle.sg_base.specs.Words.{name, number}
 use Rattle.sg_sched.specs.Words.{frame}
-use Rattle.sg_sched.specs.Format.Said.{Word, Committed, From, ItemContent, CraftContent, LineContent, SaidMake, committed_word, from_words, item_words, join_words, list_words, option_words, joined_names, craft_words}
+use Rattle.sg_sched.specs.Format.Said.{Word, Committed, TagSource, ItemContent, CraftContent, LineContent, SaidMake, committed_word, from_words, item_words, join_words, list_words, option_words, joined_names, craft_words}
 use Rattle.sg_sched.specs.Format.Forms.{is_committed, is_source, is_item, are_committed, is_join, is_wide, are_names, is_craft, is_form}
 use Rattle.sg_sched.specs.Format.Reading.{WordsLeft, Taker, word, after, ended}
 use Rattle.sg_sched.specs.Format.CraftReading.{run, few, some_of, listed, source, repeated, item, all_names, name_list, sixteen, cast, optional, join_parts, join, opened, exactly, ends, ends_of, seal_form, some_items, craft_form}
@@ -167,11 +167,11 @@ ends_are ws e rest h =
     by session from to r w n true q h = none_some h
     by session from to r w n false q h = took ends_print ends_ok {x = (session, from, to)} {r = r} w (both n (ap not q)) h
 
-record SealIs (ws : WordsLeft) (s : From) : Type 0 where
+record SealIs (ws : WordsLeft) (s : TagSource) : Type 0 where
   pub words : ws ≡ codes "seal" ∷ from_words s
   pub form : is_source s ≡ true
 
-seal_is : (ws : WordsLeft) (s : From) → seal_form ws ≡ Some s → SealIs ws s
+seal_is : (ws : WordsLeft) (s : TagSource) → seal_form ws ≡ Some s → SealIs ws s
 unfolding seal_form
 seal_is ws s h =
     let a = step (exactly (codes "seal")) (λ _. after source λ seal. ended (Some seal)) ws s h in
@@ -181,7 +181,7 @@ seal_is ws s h =
     subst (λ s. SealIs ws s) (some_same e.1) (record { words = line_up a.all (exactly_is (codes "seal") a.first a.value a.was) (t.words ∙ ap (λ (r : WordsLeft). from_words b.value ++ r) e.0 ∙ append-nil (from_words b.value)); form = t.form })
 
 -- a craft of its parts
-abbrev made : Ends → Option CraftJoin → List Committed → List ItemContent → List Committed → From → CraftContent
+abbrev made : Ends → Option CraftJoin → List Committed → List ItemContent → List Committed → TagSource → CraftContent
 made e j know items openings seal = record { session = e.0; from = e.1; to = e.2; join = j; know = know; items = items; openings = openings; seal = seal }
 
 -- the openings and the seal, behind the items
@@ -189,14 +189,14 @@ abbrev ending : Ends → Option CraftJoin → List Committed → List ItemConten
 ending e j know items = after opened λ openings. λ ws. option_map (λ seal. SaidMake (made e j know items openings seal)) (seal_form ws)
 
 record Sealed (e : Ends) (j : Option CraftJoin) (know : List Committed) (items : List ItemContent) (openings : List Committed) (ws : WordsLeft) (s : LineContent) : Type 0 where
-  pub seal : From
+  pub seal : TagSource
   pub is : SealIs ws seal
   pub said : Some (SaidMake (made e j know items openings seal)) ≡ Some s
 
 sealed : (e : Ends) (j : Option CraftJoin) (know : List Committed) (items : List ItemContent) (openings : List Committed) (ws : WordsLeft) (s : LineContent) → option_map (λ seal. SaidMake (made e j know items openings seal)) (seal_form ws) ≡ Some s → Sealed e j know items openings ws s
 sealed e j know items openings ws s h = by (seal_form ws) refl h
   where
-    by : (o : Option From) → seal_form ws ≡ o → option_map (λ seal. SaidMake (made e j know items openings seal)) o ≡ Some s → Sealed e j know items openings ws s
+    by : (o : Option TagSource) → seal_form ws ≡ o → option_map (λ seal. SaidMake (made e j know items openings seal)) o ≡ Some s → Sealed e j know items openings ws s
     by None q h = none_some h
     by (Some seal) q h = record { seal = seal; is = seal_is ws seal q; said = h }
 

@@ -9,7 +9,7 @@ use Rattle.std.proofs.lemmas.Fmt.{decimal_is_IsNumeral}
 use Rattle.std.proofs.lemmas.Str.Parse.{digit_from_value}
 use Rattle.sg_model.specs.Names.{Name, is_name}
 use Rattle.sg_model.proofs.Small.{and_left, and_right}
-use Rattle.sg_sched.specs.Format.Said.{Word, Committed, From, FromKey, FromItem, FromSeal, FromZero, committed_word, from_words, tag_words}
+use Rattle.sg_sched.specs.Format.Said.{Word, Committed, TagSource, FromKey, FromItem, FromSeal, FromZero, committed_word, from_words, tag_words}
 use Rattle.sg_sched.specs.Format.Forms.{is_committed, is_source, is_tag, is_wide, is_short, is_frame}
 use Rattle.sg_sched.specs.Format.Values.{is_value}
 use Rattle.sg_sched.proofs.FormatWords.{both, lacks, name_lacks, equal_split, equal_split-at, number_word, number_decimal, frame_number, frame_is_wide, short_is_wide, wide}
@@ -79,22 +79,22 @@ run_complete (c ∷ cs) rest h e = rw (committed_complete c (and_left (is_commit
 -- ---- SOURCE
 
 -- copy fN I ROLE, from behind I
-abbrev pub copy_said : ℕ → Word → List Word → Option (From × List Word)
+abbrev pub copy_said : ℕ → Word → List Word → Option (TagSource × List Word)
 copy_said n i [] = None
 copy_said n i (r ∷ ws) = option_map (λ k. (FromItem n k r, ws)) (number_word i)
 
 -- a source, from behind its first word
-abbrev pub key_from : List Word → Option (From × List Word)
+abbrev pub key_from : List Word → Option (TagSource × List Word)
 key_from (a ∷ b ∷ ws) = Some (FromKey a b, ws)
 key_from other = None
 
 -- copy, from behind it
-abbrev pub copy_from : List Word → Option (From × List Word)
+abbrev pub copy_from : List Word → Option (TagSource × List Word)
 copy_from (f ∷ x ∷ ws) = option_and_then (λ n. if bytes_eq x (codes "seal") then Some (FromSeal n, ws) else copy_said n x ws) (frame_number f)
 copy_from other = None
 
 -- a source and the words behind it
-abbrev pub source_said : List Word → Option (From × List Word)
+abbrev pub source_said : List Word → Option (TagSource × List Word)
 source_said [] = None
 source_said (w ∷ ws) = if bytes_eq w (codes "zero") then Some (FromZero, ws) else if bytes_eq w (codes "key") then key_from ws
     else if bytes_eq w (codes "copy") then copy_from ws else None
@@ -107,7 +107,7 @@ digits_no_seal (c ∷ cs) d = by (c == 115) refl
     by false e = rw e
     by true e = let same : c ≡ 115 = eqb-true c 115 e in absurd (omega (arith, digit_from_value c d.0))
 
-pub source_complete : (s : From) (rest : List Word) → is_source s ≡ true → source_said (from_words s ++ rest) ≡ Some (s, rest)
+pub source_complete : (s : TagSource) (rest : List Word) → is_source s ≡ true → source_said (from_words s ++ rest) ≡ Some (s, rest)
 source_complete FromZero rest h = refl
 source_complete (FromKey one two) rest h = refl
 source_complete (FromSeal n) rest h = rw (number_decimal n (frame_is_wide n h))
@@ -119,17 +119,17 @@ source_complete (FromItem n i role) rest h =
 -- ---- tag ROLE SOURCE ..
 
 -- a role, its source and the tags that follow
-abbrev pub tag_then : (List Word → Option (List (Name × From) × List Word)) → List Word → Option (List (Name × From) × List Word)
+abbrev pub tag_then : (List Word → Option (List (Name × TagSource) × List Word)) → List Word → Option (List (Name × TagSource) × List Word)
 tag_then more [] = None
-tag_then more (r ∷ ws) = option_and_then (λ (p : From × List Word). option_map (λ (q : List (Name × From) × List Word). ((r, p.0) ∷ q.0, q.1)) (more p.1)) (source_said ws)
+tag_then more (r ∷ ws) = option_and_then (λ (p : TagSource × List Word). option_map (λ (q : List (Name × TagSource) × List Word). ((r, p.0) ∷ q.0, q.1)) (more p.1)) (source_said ws)
 
 -- up to n tags, and the words behind them
-abbrev pub tags_said : ℕ → List Word → Option (List (Name × From) × List Word)
+abbrev pub tags_said : ℕ → List Word → Option (List (Name × TagSource) × List Word)
 tags_said zero ws = Some ([], ws)
 tags_said (suc n) [] = Some ([], [])
 tags_said (suc n) (w ∷ ws) = if bytes_eq w (codes "tag") then tag_then (tags_said n) ws else Some ([], w ∷ ws)
 
-pub tags_complete : (n : ℕ) (ts : List (Name × From)) (rest : List Word) → length ts ≤ n → list_all is_tag ts ≡ true → ((m : ℕ) → tags_said m rest ≡ Some ([], rest))
+pub tags_complete : (n : ℕ) (ts : List (Name × TagSource)) (rest : List Word) → length ts ≤ n → list_all is_tag ts ≡ true → ((m : ℕ) → tags_said m rest ≡ Some ([], rest))
     → tags_said n (flat_map tag_words ts ++ rest) ≡ Some (ts, rest)
 tags_complete n [] rest l h e = e n
 tags_complete zero (t ∷ ts) rest l h e = absurd (omega arith)

@@ -3,7 +3,7 @@ use Rattle.std.specs.Prelude.{◌≡◌, ℕ, List, [], ◌∷◌, ◌++◌, map
 use Rattle.sg_model.specs.Lists.{below}
 use Rattle.sg_protocol.specs.Schedule.{StartStep}
 use Rattle.sg_sched.specs.Pair.{edge, node}
-use Rattle.sg_sched.specs.Format.Said.{LineContent, SaidBlock, SaidEdge, SaidHonest, SaidKey, SaidSession, SaidStart, SaidAct, SaidAbandon, SaidDeliver, SaidMake, TheFrame, FromKey, FromItem, FromZero, Committed, From}
+use Rattle.sg_sched.specs.Format.Said.{LineContent, SaidBlock, SaidEdge, SaidHonest, SaidKey, SaidSession, SaidStart, SaidAct, SaidAbandon, SaidDeliver, SaidMake, TheFrame, FromKey, FromItem, FromZero, Committed, TagSource}
 use Rattle.sg_sched.specs.Format.Items.{Item, GraphItem, EdgeItem, HonestItem, StepItem}
 use Rattle.sg_sched.specs.Format.Kinds.{Kind, Form, Unknown, Twice, NotHonest, TooManySteps, TooManySessions}
 use Rattle.sg_sched.specs.Format.Faults.{fault, blank_frame}
@@ -116,7 +116,7 @@ step_200001 = OfAForm {said = SaidAbandon (codes "a") (codes "s1")} (record { sp
 -- ---- crafts
 
 -- a frame of one item without commitments, and a list that is known
-abbrev crafted : List Committed → List ℕ → List Committed → List (List ℕ × From) → List Committed → From → LineContent
+abbrev crafted : List Committed → List ℕ → List Committed → List (List ℕ × TagSource) → List Committed → TagSource → LineContent
 crafted know label delta tags openings seal = SaidMake (record {
   session = codes "s1";
   from = codes "p";

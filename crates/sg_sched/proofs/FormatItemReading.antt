@@ -5,14 +5,14 @@ use Rattle.std.proofs.Common.{arith, append_assoc}
 use Rattle.std.proofs.lemmas.Bool.{leb-true}
 use Rattle.sg_model.specs.Names.{Name, is_name}
 use Rattle.sg_model.proofs.Small.{and_left, and_right}
-use Rattle.sg_sched.specs.Format.Said.{Word, Committed, From, ItemContent, committed_word, tag_words, item_words}
+use Rattle.sg_sched.specs.Format.Said.{Word, Committed, TagSource, ItemContent, committed_word, tag_words, item_words}
 use Rattle.sg_sched.specs.Format.Forms.{is_committed, are_committed, is_tag, is_item}
 use Rattle.sg_sched.proofs.FormatWords.{number_word, number_decimal, time_is_wide}
 use Rattle.sg_sched.proofs.FormatCraftReading.{committed_said, run, run_complete, tags_said, tags_complete}
 
 -- an item with its tags, and the items that follow
 abbrev pub item_behind : (List Word → Option (List ItemContent × List Word)) → Name → ℕ → List Committed × List Word → Option (List ItemContent × List Word)
-item_behind more label time r = option_and_then (λ (ts : List (Name × From) × List Word). option_map (λ (is : List ItemContent × List Word).
+item_behind more label time r = option_and_then (λ (ts : List (Name × TagSource) × List Word). option_map (λ (is : List ItemContent × List Word).
     (record { label = label; time = time; delta = r.0; tags = ts.0 } ∷ is.0, is.1)) (more ts.1)) (tags_said 14 r.1)
 
 -- LABEL TIME and what follows
@@ -32,7 +32,7 @@ pub record Stops (k : Word) : Type 0 where
   pub no_tag : bytes_eq k (codes "tag") ≡ false
   pub no_item : bytes_eq k (codes "item") ≡ false
 
-run_tags : (ts : List (Name × From)) (rest : List Word) → run rest ≡ ([], rest) → run (flat_map tag_words ts ++ rest) ≡ ([], flat_map tag_words ts ++ rest)
+run_tags : (ts : List (Name × TagSource)) (rest : List Word) → run rest ≡ ([], rest) → run (flat_map tag_words ts ++ rest) ≡ ([], flat_map tag_words ts ++ rest)
 run_tags [] rest e = e
 run_tags ((r, s) ∷ ts) rest e = refl
 

@@ -8,7 +8,7 @@ use Rattle.std.proofs.lemmas.Bool.{leb-true}
 use Rattle.sg_model.specs.Names.{Name}
 use Rattle.sg_model.proofs.Small.{and_left, and_right}
 use Rattle.sg_protocol.specs.Schedule.{CraftJoin}
-use Rattle.sg_sched.specs.Format.Said.{Word, Committed, From, ItemContent, CraftContent, LineContent, SaidMake, committed_word, from_words, item_words, join_words, list_words, option_words, joined_names}
+use Rattle.sg_sched.specs.Format.Said.{Word, Committed, TagSource, ItemContent, CraftContent, LineContent, SaidMake, committed_word, from_words, item_words, join_words, list_words, option_words, joined_names}
 use Rattle.sg_sched.specs.Format.Forms.{is_committed, are_committed, is_source, is_item, is_join, is_wide, are_names, is_craft}
 use Rattle.sg_sched.proofs.FormatWords.{same_self, number_word, number_decimal, name_list, name_list-joined, wide}
 use Rattle.sg_sched.proofs.FormatCraftReading.{committed_said, run, run_complete, source_said, source_complete}
@@ -17,17 +17,17 @@ use Rattle.sg_sched.proofs.FormatItemReading.{items_said, items_complete}
 -- ---- the end
 
 -- the source, where no word is left
-abbrev pub none_left : From → List Word → Option From
+abbrev pub none_left : TagSource → List Word → Option TagSource
 none_left s [] = Some s
 none_left s (w ∷ ws) = None
 
 -- seal SOURCE, and no more
-abbrev pub end_said : List Word → Option From
+abbrev pub end_said : List Word → Option TagSource
 end_said [] = None
-end_said (w ∷ ws) = if bytes_eq w (codes "seal") then option_and_then (λ (p : From × List Word). none_left p.0 p.1) (source_said ws) else None
+end_said (w ∷ ws) = if bytes_eq w (codes "seal") then option_and_then (λ (p : TagSource × List Word). none_left p.0 p.1) (source_said ws) else None
 
-end_complete : (s : From) → is_source s ≡ true → end_said (codes "seal" ∷ from_words s) ≡ Some s
-end_complete s h = ap (λ o. option_and_then (λ (p : From × List Word). none_left p.0 p.1) o) (ap source_said (sym (append-nil (from_words s))) ∙ source_complete s [] h)
+end_complete : (s : TagSource) → is_source s ≡ true → end_said (codes "seal" ∷ from_words s) ≡ Some s
+end_complete s h = ap (λ o. option_and_then (λ (p : TagSource × List Word). none_left p.0 p.1) o) (ap source_said (sym (append-nil (from_words s))) ∙ source_complete s [] h)
 
 -- ---- a word and commitments
 

@@ -12,7 +12,7 @@ use Rattle.sg_model.proofs.Small.{some_same}
 use Rattle.sg_protocol.specs.Schedule.{CraftJoin}
 use Rattle.sg_base.specs.Words.{name, number}
 use Rattle.sg_sched.specs.Words.{frame}
-use Rattle.sg_sched.specs.Format.Said.{Word, Committed, From, ItemContent, CraftContent, LineContent, SaidMake, committed_word, from_words, tag_words, item_words, join_words, list_words, option_words, joined_names, craft_words}
+use Rattle.sg_sched.specs.Format.Said.{Word, Committed, TagSource, ItemContent, CraftContent, LineContent, SaidMake, committed_word, from_words, tag_words, item_words, join_words, list_words, option_words, joined_names, craft_words}
 use Rattle.sg_sched.specs.Format.Forms.{is_committed, is_source, is_tag, is_item, are_committed, is_join, is_wide, are_names, is_craft, is_form}
 use Rattle.sg_sched.specs.Format.Reading.{WordsLeft, Taker, word, after, ended}
 use Rattle.sg_sched.specs.Format.CraftReading.{time, run, few, some_of, listed, source, repeated, tag, item, is_next, all_names, name_list, sixteen, cast, optional, join_parts, join, opened, exactly, ends, ends_of, seal_form, some_items, craft_form}
@@ -24,13 +24,13 @@ use Rattle.sg_sched.proofs.TakerLaws.{Taken, taken_is, taken_of, Took, took, run
 
 -- ---- tags
 
-abbrev pub tag_print : Name × From → WordsLeft
+abbrev pub tag_print : Name × TagSource → WordsLeft
 tag_print t = t.0 ∷ from_words t.1
 
-abbrev tag_with : Name → From → WordsLeft → Option ((Name × From) × WordsLeft)
+abbrev tag_with : Name → TagSource → WordsLeft → Option ((Name × TagSource) × WordsLeft)
 tag_with role s rest = Some ((role, s), rest)
 
-pub tag_is : (ws : WordsLeft) (t : Name × From) (rest : WordsLeft) → tag ws ≡ Some (t, rest) → Took tag_print is_tag ws t rest
+pub tag_is : (ws : WordsLeft) (t : Name × TagSource) (rest : WordsLeft) → tag ws ≡ Some (t, rest) → Took tag_print is_tag ws t rest
 unfolding tag
 tag_is ws t rest h =
     let a = step name (λ role. after source λ s rest. tag_with role s rest) ws (t, rest) h in
@@ -78,7 +78,7 @@ few_run ws cs rest h =
 abbrev pub item_print : ItemContent → WordsLeft
 item_print i = i.label ∷ decimal i.time ∷ (map committed_word i.delta ++ flat_map tag_words i.tags)
 
-abbrev pub item_of : Name → ℕ → List Committed → List (Name × From) → ItemContent
+abbrev pub item_of : Name → ℕ → List Committed → List (Name × TagSource) → ItemContent
 item_of label t delta tags = record { label = label; time = t; delta = delta; tags = tags }
 
 pub item_is : (ws : WordsLeft) (i : ItemContent) (rest : WordsLeft) → item ws ≡ Some (i, rest) → Took item_print is_item ws i rest

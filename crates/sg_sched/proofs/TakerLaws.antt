@@ -9,7 +9,7 @@ use Rattle.sg_model.specs.Names.{Name, is_name}
 use Rattle.sg_model.proofs.Small.{some_same}
 use Rattle.sg_base.specs.Words.{name, number}
 use Rattle.sg_sched.specs.Words.{frame}
-use Rattle.sg_sched.specs.Format.Said.{Word, Committed, From, FromKey, FromItem, FromSeal, FromZero, ItemContent, committed_word, from_words, tag_words, item_words}
+use Rattle.sg_sched.specs.Format.Said.{Word, Committed, TagSource, FromKey, FromItem, FromSeal, FromZero, ItemContent, committed_word, from_words, tag_words, item_words}
 use Rattle.sg_sched.specs.Format.Forms.{is_committed, is_source, is_tag, is_item, is_wide, is_short, is_frame, are_committed}
 use Rattle.sg_sched.specs.Format.Values.{is_value}
 use Rattle.sg_sched.specs.Format.Reading.{WordsLeft, Taker, word, after, ended, split_at}
@@ -104,14 +104,14 @@ run_is (w ∷ ws) = by (committed w) refl (run_is ws)
 -- ---- sources
 
 -- the item's number, and the role behind it
-abbrev copy_role : ℕ → ℕ → WordsLeft → Option (From × WordsLeft)
+abbrev copy_role : ℕ → ℕ → WordsLeft → Option (TagSource × WordsLeft)
 copy_role n item ws = after (word name) (λ role rest. Some (FromItem n item role, rest)) ws
 
 -- the frame's tag
-abbrev copy_seal : ℕ → WordsLeft → Option (From × WordsLeft)
+abbrev copy_seal : ℕ → WordsLeft → Option (TagSource × WordsLeft)
 copy_seal n ws = Some (FromSeal n, ws)
 
-copy_is : (n : ℕ) (f : Word) (ws : WordsLeft) (s : From) (rest : WordsLeft) → f ≡ 102 ∷ decimal n → is_frame n ≡ true → copy_source n ws ≡ Some (s, rest) → Took from_words is_source (codes "copy" ∷ f ∷ ws) s rest
+copy_is : (n : ℕ) (f : Word) (ws : WordsLeft) (s : TagSource) (rest : WordsLeft) → f ≡ 102 ∷ decimal n → is_frame n ≡ true → copy_source n ws ≡ Some (s, rest) → Took from_words is_source (codes "copy" ∷ f ∷ ws) s rest
 unfolding copy_source
 copy_is n f [] s rest e k h = none_some h
 copy_is n f (w ∷ ws) s rest e k h = by (bytes_eq w (codes "seal")) refl h
@@ -129,13 +129,13 @@ copy_is n f (w ∷ ws) s rest e k h = by (bytes_eq w (codes "seal")) refl h
     by false q h = numbered (number 4294967295 w) refl h
 
 -- NAME NAME, and no more
-abbrev key_source : WordsLeft → Option (From × WordsLeft)
+abbrev key_source : WordsLeft → Option (TagSource × WordsLeft)
 key_source ws = after (word name) (λ one. after (word name) (λ two rest. Some (FromKey one two, rest))) ws
 
-abbrev zero_source : WordsLeft → Option (From × WordsLeft)
+abbrev zero_source : WordsLeft → Option (TagSource × WordsLeft)
 zero_source ws = Some (FromZero, ws)
 
-pub source_is : (ws : WordsLeft) (s : From) (rest : WordsLeft) → source ws ≡ Some (s, rest) → Took from_words is_source ws s rest
+pub source_is : (ws : WordsLeft) (s : TagSource) (rest : WordsLeft) → source ws ≡ Some (s, rest) → Took from_words is_source ws s rest
 unfolding source
 source_is [] s rest h = none_some h
 source_is (w ∷ ws) s rest h = by (bytes_eq w (codes "key")) (bytes_eq w (codes "copy")) (bytes_eq w (codes "zero")) refl refl refl h

@@ -10,7 +10,7 @@ use Rattle.sg_model.specs.Names.{Name, is_name}
 use Rattle.sg_model.proofs.Small.{and_left, and_right}
 use Rattle.sg_protocol.specs.Schedule.{CraftJoin}
 use Rattle.sg_base.specs.Words.{name, number}
-use Rattle.sg_sched.specs.Format.Said.{Word, Committed, From, ItemContent, CraftContent, LineContent, SaidMake, committed_word, from_words, item_words, join_words, list_words, option_words, joined_names}
+use Rattle.sg_sched.specs.Format.Said.{Word, Committed, TagSource, ItemContent, CraftContent, LineContent, SaidMake, committed_word, from_words, item_words, join_words, list_words, option_words, joined_names}
 use Rattle.sg_sched.specs.Format.Forms.{is_committed, is_source, is_item, are_committed, is_join, is_wide, are_names, is_craft}
 use Rattle.sg_sched.specs.Format.Reading.{WordsLeft, Taker, word, after, ended}
 use Rattle.sg_sched.specs.Format.CraftReading.{committed, run, few, some_of, listed, source, repeated, item, is_next, all_names, name_list, sixteen, cast, optional, join_parts, join, opened, exactly, ends, seal_form, some_items, craft_form}
@@ -87,9 +87,9 @@ join_ok (Some j) rest h a =
 
 -- ---- the end and the ends
 
-seal_ok : (s : From) → is_source s ≡ true → seal_form (codes "seal" ∷ from_words s) ≡ Some s
+seal_ok : (s : TagSource) → is_source s ≡ true → seal_form (codes "seal" ∷ from_words s) ≡ Some s
 unfolding seal_form word
-seal_ok s h = ap (λ o. option_and_then (λ (p : From × WordsLeft). ended (Some p.0) p.1) o) (ap source (sym (append-nil (from_words s))) ∙ source_ok s [] h)
+seal_ok s h = ap (λ o. option_and_then (λ (p : TagSource × WordsLeft). ended (Some p.0) p.1) o) (ap source (sym (append-nil (from_words s))) ∙ source_ok s [] h)
 
 ends_ok : (session from to : Name) (rest : WordsLeft) → are_names (session ∷ from ∷ to ∷ []) ≡ true → not (bytes_eq from to) ≡ true → ends (session ∷ codes "from" ∷ from ∷ codes "to" ∷ to ∷ rest) ≡ Some ((session, from, to), rest)
 unfolding ends word

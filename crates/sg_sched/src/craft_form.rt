@@ -10,7 +10,7 @@ ghost use Rattle.sg_sched.specs.Format.Model.{said, taken};
 use crate::act::split_at;
 use crate::craft::CraftJoin;
 use crate::form::{take_name, take_number};
-use crate::line::{Committed, CraftLine, From, ItemLine, Line, TagLine};
+use crate::line::{Committed, CraftLine, ItemLine, Line, TagLine, TagSource};
 use crate::names::split_part;
 use crate::text::Words;
 use crate::value::is_value;
@@ -130,16 +130,16 @@ fn take_opened<'a>(
 
 /// `seal`, or `I ROLE`.
 #[tactic(auto, unfolding(crate::specs::Format::CraftReading::copy_source))]
-fn take_copy(frame: u32, words: &mut Words) -> Option<From>
+fn take_copy(frame: u32, words: &mut Words) -> Option<TagSource>
     ensures { copy_source frame words.old ≡ taken (option_map from_of result) words.new }
 {
     let word = words.next()?;
     if word == b"seal".as_slice() {
-        return Some(From::Seal { frame });
+        return Some(TagSource::Seal { frame });
     }
     let item = read_number(word, u64::from(u32::MAX))? as u32;
     let role = take_name(words)?;
-    Some(From::Item { frame, item, role })
+    Some(TagSource::Item { frame, item, role })
 }
 
 #[tactic(auto, unfolding(crate::specs::Format::Reading::word))]
@@ -151,19 +151,19 @@ fn take_frame(words: &mut Words) -> Option<u32>
 
 /// Where a tag comes from.
 #[tactic(auto, unfolding(crate::specs::Format::CraftReading::source))]
-fn take_source(words: &mut Words) -> Option<From>
+fn take_source(words: &mut Words) -> Option<TagSource>
     ensures { source words.old ≡ taken (option_map from_of result) words.new }
 {
     let word = words.next()?;
     if word == b"key".as_slice() {
         let one = take_name(words)?;
         let two = take_name(words)?;
-        Some(From::Key { one, two })
+        Some(TagSource::Key { one, two })
     } else if word == b"copy".as_slice() {
         let frame = take_frame(words)?;
         take_copy(frame, words)
     } else if word == b"zero".as_slice() {
-        Some(From::Zero)
+        Some(TagSource::Zero)
     } else {
         None
     }
@@ -380,7 +380,7 @@ fn take_exactly(first: &[u8], words: &mut Words) -> Option<()>
 
 /// `seal SOURCE`, and no more.
 #[tactic(auto, unfolding(crate::specs::Format::CraftReading::seal_form))]
-fn take_seal(words: &mut Words) -> Option<From>
+fn take_seal(words: &mut Words) -> Option<TagSource>
     ensures { option_map from_of result ≡ seal_form words.old }
 {
     take_exactly(b"seal", words)?;

@@ -65,7 +65,7 @@ impl<'a> Model for Committed<'a> {
 
 /// Where a crafted tag comes from.
 #[derive(Drop)]
-pub enum From {
+pub enum TagSource {
     /// It is made under a key.
     Key {
         /// One principal.
@@ -97,15 +97,15 @@ pub struct TagLine {
     /// The name of the role.
     pub role: Name,
     /// Where its tag comes from.
-    pub from: From,
+    pub from: TagSource,
 }
 
 impl Model for TagLine {
     ghost use Rattle.sg_model.specs.Names.{Name};
-    ghost use Rattle.sg_sched.specs.Format.Said.{From};
+    ghost use Rattle.sg_sched.specs.Format.Said.{TagSource};
     ghost use Rattle.sg_sched.specs.Format.Sources.{from_of};
 
-    ghost Value = { Name × From };
+    ghost Value = { Name × TagSource };
 
     ghost view = { λ t. (t.role, from_of t.from) };
 }
@@ -149,7 +149,7 @@ pub struct CraftLine<'a> {
     /// The openings.
     pub openings: Seq<Committed<'a>>,
     /// Where the frame's tag comes from.
-    pub seal: From,
+    pub seal: TagSource,
 }
 
 impl<'a> Model for CraftLine<'a> {

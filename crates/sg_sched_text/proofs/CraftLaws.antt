@@ -10,7 +10,7 @@ use Rattle.sg_model.specs.Lists.{has_text, first_some}
 use Rattle.sg_model.specs.Values.{Opening}
 use Rattle.sg_protocol.specs.Graph.{Graph}
 use Rattle.sg_protocol.specs.Schedule.{Source, CopyItem, CraftItem, Step, CraftStep}
-use Rattle.sg_sched.specs.Format.Said.{Committed, From, FromKey, FromItem, FromSeal, FromZero, ItemContent, CraftContent, SaidMake}
+use Rattle.sg_sched.specs.Format.Said.{Committed, TagSource, FromKey, FromItem, FromSeal, FromZero, ItemContent, CraftContent, SaidMake}
 use Rattle.sg_sched.specs.Format.Items.{SoFar, StepItem, Item, session_names, session_named, index, graph_for, roles_of, labels_of, variables_of}
 use Rattle.sg_sched.specs.Format.Made.{opening, source, craft_item, craft}
 use Rattle.sg_sched.specs.Format.Kinds.{Kind, Form, TooManySteps, Unknown, Twice, NotHonest}
@@ -31,7 +31,7 @@ module _ (past : SoFar) (g : Option Graph) where
       all_is (known_opening g) (λ c. knows_variable g c.variable) (opening g) opening_is cs
       ∙ ap (λ b. if b then Some (map (opening g) cs) else None) (sym (list_all-map (knows_variable g) (λ c. c.variable) cs))
 
-  source_is : (f : From) → known_source past g f ≡ (if knows_source past g f then Some (source g f) else None)
+  source_is : (f : TagSource) → known_source past g f ≡ (if knows_source past g f then Some (source g f) else None)
   source_is (FromKey one two) = refl
   source_is (FromItem frame item role) = known_index (CopyItem frame item) role (roles_of g)
   source_is (FromSeal frame) = refl
@@ -42,15 +42,15 @@ module _ (past : SoFar) (g : Option Graph) where
   tag_tests true false r s = refl
   tag_tests false b r s = refl
 
-  tag_is : (t : Name × From) → known_tag past g t ≡ (if has_text t.0 (roles_of g) && knows_source past g t.1 then Some (tag_of (index t.0 (roles_of g)) (source g t.1)) else None)
+  tag_is : (t : Name × TagSource) → known_tag past g t ≡ (if has_text t.0 (roles_of g) && knows_source past g t.1 then Some (tag_of (index t.0 (roles_of g)) (source g t.1)) else None)
   tag_is t =
       then_index (λ r. option_map (tag_of r) (known_source past g t.1)) t.0 (roles_of g)
       ∙ ap (λ o. if has_text t.0 (roles_of g) then option_map (tag_of (index t.0 (roles_of g))) o else None) (source_is t.1)
       ∙ tag_tests (has_text t.0 (roles_of g)) (knows_source past g t.1) (index t.0 (roles_of g)) (source g t.1)
 
-  tags_are : (ts : List (Name × From)) → all_made (known_tag past g) ts
-      ≡ (if list_all (λ (t : Name × From). has_text t.0 (roles_of g) && knows_source past g t.1) ts then Some (map (λ (t : Name × From). (index t.0 (roles_of g), source g t.1)) ts) else None)
-  tags_are ts = all_is (known_tag past g) (λ (t : Name × From). has_text t.0 (roles_of g) && knows_source past g t.1) (λ (t : Name × From). (index t.0 (roles_of g), source g t.1)) tag_is ts
+  tags_are : (ts : List (Name × TagSource)) → all_made (known_tag past g) ts
+      ≡ (if list_all (λ (t : Name × TagSource). has_text t.0 (roles_of g) && knows_source past g t.1) ts then Some (map (λ (t : Name × TagSource). (index t.0 (roles_of g), source g t.1)) ts) else None)
+  tags_are ts = all_is (known_tag past g) (λ (t : Name × TagSource). has_text t.0 (roles_of g) && knows_source past g t.1) (λ (t : Name × TagSource). (index t.0 (roles_of g), source g t.1)) tag_is ts
 
   three : {A B C : Type 0} (a b c : Bool) (x : A) (y : B) (make : A → B → C)
       → (if a then option_and_then (λ x. option_map (make x) (if c then Some y else None)) (if b then Some x else None) else None) ≡ (if a && b && c then Some (make x y) else None)
@@ -64,8 +64,8 @@ module _ (past : SoFar) (g : Option Graph) where
       let l = index i.label (labels_of g) in
       then_index (λ l. option_and_then (λ ds. option_map (item_of i l ds) (all_made (known_tag past g) i.tags)) (all_made (known_opening g) i.delta)) i.label (labels_of g)
       ∙ (λ k. if has_text i.label (labels_of g) then option_and_then (λ ds. option_map (item_of i l ds) (tags_are i.tags k)) (openings_are i.delta k) else None)
-      ∙ three (has_text i.label (labels_of g)) (list_all (knows_variable g) (variables i.delta)) (list_all (λ (t : Name × From). has_text t.0 (roles_of g) && knows_source past g t.1) i.tags)
-      (map (opening g) i.delta) (map (λ (t : Name × From). (index t.0 (roles_of g), source g t.1)) i.tags) (item_of i l)
+      ∙ three (has_text i.label (labels_of g)) (list_all (knows_variable g) (variables i.delta)) (list_all (λ (t : Name × TagSource). has_text t.0 (roles_of g) && knows_source past g t.1) i.tags)
+      (map (opening g) i.delta) (map (λ (t : Name × TagSource). (index t.0 (roles_of g), source g t.1)) i.tags) (item_of i l)
 
   items_are : (is : List ItemContent) → all_made (known_item past g) is ≡ (if list_all (knows_item past g) is then Some (map (craft_item g) is) else None)
   items_are is = all_is (known_item past g) (knows_item past g) (craft_item g) item_is is

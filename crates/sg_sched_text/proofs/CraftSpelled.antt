@@ -28,7 +28,7 @@ use Rattle.sg_protocol.specs.Crafted.{committed_to, crafted_item, crafted_items,
 use Rattle.sg_protocol.proofs.RealHash.{real_hash}
 use Rattle.sg_protocol.proofs.Sent.{len_concat, cut_tag}
 use Rattle.sg_protocol.proofs.Spelled.{to_bytes, bytes-append, bytes-zeros, u64_bytes}
-use Rattle.sg_sched.specs.Format.Said.{Committed, From, ItemContent, CraftContent}
+use Rattle.sg_sched.specs.Format.Said.{Committed, TagSource, ItemContent, CraftContent}
 use Rattle.sg_sched.specs.Format.Forms.{is_committed, are_committed, is_item, is_join, is_craft, is_source, are_names, is_wide}
 use Rattle.sg_sched.specs.Format.Items.{Session, SoFar, index, roles_of, variables_of, labels_of}
 use Rattle.sg_sched.specs.Format.Made.{opening, source, craft_item, craft}
@@ -100,12 +100,12 @@ openings_are values g few (c ∷ cs) h f =
 
 -- ---- tags
 
-tag_keys : (g : Option Graph) (T : ℕ × Source → List ℕ) (ts : List (Name × From))
-    → keys_of (map (λ (t : ℕ × Source). (t.0, T t)) (map (λ (t : Name × From). (index t.0 (roles_of g), source g t.1)) ts)) ≡ map (λ n. index n (roles_of g)) (tag_roles ts)
+tag_keys : (g : Option Graph) (T : ℕ × Source → List ℕ) (ts : List (Name × TagSource))
+    → keys_of (map (λ (t : ℕ × Source). (t.0, T t)) (map (λ (t : Name × TagSource). (index t.0 (roles_of g), source g t.1)) ts)) ≡ map (λ n. index n (roles_of g)) (tag_roles ts)
 tag_keys g T [] = refl
 tag_keys g T (t ∷ ts) = ap (λ ks. index t.0 (roles_of g) ∷ ks) (tag_keys g T ts)
 
-roles_known : (p : SoFar) (g : Option Graph) (ts : List (Name × From)) → list_all (λ (t : Name × From). has_text t.0 (roles_of g) && knows_source p g t.1) ts ≡ true
+roles_known : (p : SoFar) (g : Option Graph) (ts : List (Name × TagSource)) → list_all (λ (t : Name × TagSource). has_text t.0 (roles_of g) && knows_source p g t.1) ts ≡ true
     → list_all (λ n. has_text n (roles_of g)) (tag_roles ts) ≡ true
 roles_known p g [] h = refl
 roles_known p g (t ∷ ts) h =
@@ -113,8 +113,8 @@ roles_known p g (t ∷ ts) h =
     let m = and_parts (has_text t.0 (roles_of g)) (knows_source p g t.1) k.0 in
     rw m.0 (roles_known p g ts k.1)
 
-tags_are : (g : Option Graph) (few : length (roles_of g) ≤ 16) (v : ℕ) (T : ℕ × Source → List ℕ) → ((t : ℕ × Source) → IsTag v (T t)) → (ts : List (Name × From))
-    → list_all (λ n. has_text n (roles_of g)) (tag_roles ts) ≡ true → AllByRecursion (λ (t : ℕ × List ℕ). (t.0 < 16) × IsTag v t.1) (map (λ (t : ℕ × Source). (t.0, T t)) (map (λ (t : Name × From). (index t.0 (roles_of g), source g t.1)) ts))
+tags_are : (g : Option Graph) (few : length (roles_of g) ≤ 16) (v : ℕ) (T : ℕ × Source → List ℕ) → ((t : ℕ × Source) → IsTag v (T t)) → (ts : List (Name × TagSource))
+    → list_all (λ n. has_text n (roles_of g)) (tag_roles ts) ≡ true → AllByRecursion (λ (t : ℕ × List ℕ). (t.0 < 16) × IsTag v t.1) (map (λ (t : ℕ × Source). (t.0, T t)) (map (λ (t : Name × TagSource). (index t.0 (roles_of g), source g t.1)) ts))
 tags_are g few v T is [] h = tt
 tags_are g few v T is (t ∷ ts) h =
     let k = and_parts (has_text t.0 (roles_of g)) _ h in
@@ -166,8 +166,8 @@ module _ (p : SoFar) (g : Graph) (is_graph : IsGraph g) (ps : List Program) (s :
       let few = parts.few in
       let few_tags = parts.tags in
       let T : ℕ × Source → List ℕ = λ t. cut v (tag_by real s (new_world ps s) (text_to h x before (bare before i) t.0) t.1) in
-      let made : Map Source = map (λ (t : Name × From). (index t.0 (roles_of (Some g)), source (Some g) t.1)) i.tags in
-      let few_made = length-map {B = ℕ × Source} i.tags (λ (t : Name × From). (index t.0 (roles_of (Some g)), source (Some g) t.1)) in
+      let made : Map Source = map (λ (t : Name × TagSource). (index t.0 (roles_of (Some g)), source (Some g) t.1)) i.tags in
+      let few_made = length-map {B = ℕ × Source} i.tags (λ (t : Name × TagSource). (index t.0 (roles_of (Some g)), source (Some g) t.1)) in
       let few_all = length-map {B = ℕ × List ℕ} made (λ (t : ℕ × Source). (t.0, T t)) in
       record {
         role = sender_below h is_other (index i.label (labels_of (Some g)));
@@ -208,12 +208,12 @@ module _ (p : SoFar) (g : Graph) (is_graph : IsGraph g) (ps : List Program) (s :
       let b : Item = crafted_item real s (new_world ps s) h x before (craft_item (Some g) i) in
       let c = len_concat (u8 b.role ∷ u16 b.label ∷ u32 b.time ∷ map_bytes (λ c. c) b.delta ∷ map_bytes (take (tag_len v)) b.tags ∷ []) in
       let os = map (opening (Some g)) i.delta in
-      let made : Map Source = map (λ (t : Name × From). (index t.0 (roles_of (Some g)), source (Some g) t.1)) i.tags in
+      let made : Map Source = map (λ (t : Name × TagSource). (index t.0 (roles_of (Some g)), source (Some g) t.1)) i.tags in
       let d = map_len (λ c. c) (λ (o : Opening). (o.variable, commitment real x.sid o)) 33 os (λ o. let l = (real_hash (commitment_text_of x.sid o)).0 in omega (arith, l)) in
       let e = map_len (take (tag_len v)) (λ (t : ℕ × Source). (t.0, cut v (tag_by real s (new_world ps s) (text_to h x before (record b { tags = [] }) t.0) t.1))) (1 + tag_len v) made
       (λ t. let k = cut_taken v version _ (tag_has ps s (text_to h x before (record b { tags = [] }) t.0) t.1) in omega (arith, k)) in
       let m = length-map i.delta (opening (Some g)) in
-      let n = length-map {B = ℕ × Source} i.tags (λ (t : Name × From). (index t.0 (roles_of (Some g)), source (Some g) t.1)) in
+      let n = length-map {B = ℕ × Source} i.tags (λ (t : Name × TagSource). (index t.0 (roles_of (Some g)), source (Some g) t.1)) in
       let q : (1 + tag_len v) * length made ≡ (1 + tag_len v) * length i.tags = ap (λ k. (1 + tag_len v) * k) n in
       omega (arith, c, d, e, m, q)
 

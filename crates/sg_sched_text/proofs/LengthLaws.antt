@@ -10,7 +10,7 @@ use Rattle.sg_protocol.specs.Frame.{Item, Frame, tag_len}
 use Rattle.sg_protocol.specs.Spelling.{spelling, body, u8, u16, u32, short_text, sized, value_bytes, kind_code, item_bytes, map_bytes, pair_bytes, opening_bytes, join_bytes, join_code, magic}
 use Rattle.sg_protocol.specs.Schedule.{CraftJoin}
 use Rattle.sg_protocol.proofs.Sent.{len_concat}
-use Rattle.sg_sched.specs.Format.Said.{Committed, From, ItemContent, CraftContent}
+use Rattle.sg_sched.specs.Format.Said.{Committed, TagSource, ItemContent, CraftContent}
 use Rattle.sg_sched.specs.Format.Items.{Session}
 use Rattle.sg_sched.specs.Format.Made.{opening}
 use Rattle.sg_sched.specs.Format.Faults.{zeros, blank_cast, blank_item, blank_frame, is_short}
@@ -40,7 +40,7 @@ item_is v i =
     let b : Item = blank_item i in
     let c = len_concat (u8 b.role ∷ u16 b.label ∷ u32 b.time ∷ map_bytes (λ c. c) b.delta ∷ map_bytes (take (tag_len v)) b.tags ∷ []) in
     let d = map_len (λ c. c) (λ (c : Committed). (0, zeros 32)) 33 i.delta (λ c. refl) in
-    let e = map_len (take (tag_len v)) (λ (t : Name × From). (0, zeros 32)) (1 + tag_len v) i.tags (λ t. let k = tag_taken v in omega (arith, k)) in
+    let e = map_len (take (tag_len v)) (λ (t : Name × TagSource). (0, zeros 32)) (1 + tag_len v) i.tags (λ t. let k = tag_taken v in omega (arith, k)) in
     omega (arith, c, d, e)
 
 pub opening_is : (g : Option Graph) (c : Committed) → length (opening_bytes (opening g c)) ≡ opening_len c

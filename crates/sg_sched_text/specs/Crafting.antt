@@ -8,7 +8,7 @@ use Rattle.sg_protocol.specs.Graph.{Graph}
 use Rattle.sg_protocol.specs.Frame.{tag_len}
 use Rattle.sg_protocol.specs.Spelling.{value_bytes}
 use Rattle.sg_protocol.specs.Schedule.{confounder, CraftJoin, Source, Key, CopyItem, CopySeal, Zero, CraftItem, Step, CraftStep}
-use Rattle.sg_sched.specs.Format.Said.{Committed, From, FromKey, FromItem, FromSeal, FromZero, ItemContent, CraftContent}
+use Rattle.sg_sched.specs.Format.Said.{Committed, TagSource, FromKey, FromItem, FromSeal, FromZero, ItemContent, CraftContent}
 use Rattle.sg_sched.specs.Format.Values.{value_of}
 use Rattle.sg_sched.specs.Format.Items.{Session, SoFar, roles_of, variables_of, labels_of, has_key}
 use Rattle.sg_sched_text.specs.Adding.{session_index}
@@ -29,7 +29,7 @@ abbrev pub known_role : Option Graph → Name → Option ℕ
 known_role g n = position (bytes_eq n) (roles_of g)
 
 -- a source, if its pair or its role is declared
-abbrev pub known_source : SoFar → Option Graph → From → Option Source
+abbrev pub known_source : SoFar → Option Graph → TagSource → Option Source
 known_source past g (FromKey one two) = if has_key past one two then Some (Key one two) else None
 known_source past g (FromItem frame item role) = option_map (CopyItem frame item) (known_role g role)
 known_source past g (FromSeal frame) = Some (CopySeal frame)
@@ -40,7 +40,7 @@ abbrev pub tag_of : ℕ → Source → ℕ × Source
 tag_of role source = (role, source)
 
 -- a role and its source
-abbrev pub known_tag : SoFar → Option Graph → Name × From → Option (ℕ × Source)
+abbrev pub known_tag : SoFar → Option Graph → Name × TagSource → Option (ℕ × Source)
 known_tag past g t = option_and_then (λ r. option_map (tag_of r) (known_source past g t.1)) (known_role g t.0)
 
 -- an item of these parts

@@ -17,7 +17,7 @@ use byteorder::{BigEndian, ByteOrder};
 use sg_base::{Label, Name, Opening, OutOfMemory, Role, Seq, Time, Var};
 use sg_graph::Graph;
 use sg_sched::index::{label_index, role_index, var_index};
-use sg_sched::line::{Committed, From, ItemLine, TagLine};
+use sg_sched::line::{Committed, ItemLine, TagLine, TagSource};
 use sg_sched::{CraftItem, Source};
 use std::alloc::Global;
 
@@ -103,18 +103,18 @@ pub(crate) fn openings(
 }
 
 /// The source, if its pair or its role is declared.
-pub(crate) fn source(past: &Past, graph: Option<&Graph>, from: &From) -> Option<Source>
+pub(crate) fn source(past: &Past, graph: Option<&Graph>, from: &TagSource) -> Option<Source>
     ensures { option_map source_of result ≡ known_source past.now (option_copied graph.entry) (from_of from.now) }
 {
     match from {
-        From::Key { one, two } => {
+        TagSource::Key { one, two } => {
             if past.keys.has_pair(one, two) {
                 Some(Source::Key(*one, *two))
             } else {
                 None
             }
         }
-        From::Item {
+        TagSource::Item {
             frame,
             item,
             role: name,
@@ -126,8 +126,8 @@ pub(crate) fn source(past: &Past, graph: Option<&Graph>, from: &From) -> Option<
                 role,
             })
         }
-        From::Seal { frame } => Some(Source::CopySeal { frame: *frame }),
-        From::Zero => Some(Source::Zero),
+        TagSource::Seal { frame } => Some(Source::CopySeal { frame: *frame }),
+        TagSource::Zero => Some(Source::Zero),
     }
 }
 

@@ -6,7 +6,7 @@ use Rattle.sg_model.specs.Limits.{most_roles, most_time, most_variables}
 use Rattle.sg_protocol.specs.Schedule.{CraftJoin}
 use Rattle.sg_base.specs.Words.{name, number}
 use Rattle.sg_sched.specs.Words.{frame}
-use Rattle.sg_sched.specs.Format.Said.{Word, Committed, From, FromKey, FromItem, FromSeal, FromZero, ItemContent, LineContent, SaidMake}
+use Rattle.sg_sched.specs.Format.Said.{Word, Committed, TagSource, FromKey, FromItem, FromSeal, FromZero, ItemContent, LineContent, SaidMake}
 use Rattle.sg_sched.specs.Format.Values.{is_value}
 use Rattle.sg_sched.specs.Format.Reading.{WordsLeft, Taker, word, after, ended, short, split_at}
 
@@ -87,13 +87,13 @@ listed first (w ∷ ws) = if bytes_eq w first then some_of (run ws) else Some ([
 -- ---- sources
 
 -- seal, or I ROLE
-unfoldable pub copy_source : ℕ → Taker From
+unfoldable pub copy_source : ℕ → Taker TagSource
 copy_source n [] = None
 copy_source n (w ∷ ws) = if bytes_eq w (codes "seal") then Some (FromSeal n, ws)
     else option_and_then (λ item. after (word name) (λ role rest. Some (FromItem n item role, rest)) ws) (number 4294967295 w)
 
 -- key NAME NAME, copy fN I ROLE, copy fN seal, zero
-unfoldable pub source : Taker From
+unfoldable pub source : Taker TagSource
 source [] = None
 source (w ∷ ws) =
     if bytes_eq w (codes "key") then after (word name) (λ one. after (word name) (λ two rest. Some (FromKey one two, rest))) ws
@@ -114,7 +114,7 @@ repeated first take (suc n) [] = Some ([], [])
 repeated first take (suc n) (w ∷ ws) = if bytes_eq w first then after take (λ x rest. more_after x (repeated first take n rest)) ws else Some ([], w ∷ ws)
 
 -- a tag, after its first word
-unfoldable pub tag : Taker (Name × From)
+unfoldable pub tag : Taker (Name × TagSource)
 tag =
     after (word name) λ role.
     after source λ s rest.
@@ -169,7 +169,7 @@ ends =
     ends_of session from to
 
 -- seal SOURCE, and no more
-unfoldable pub seal_form : WordsLeft → Option From
+unfoldable pub seal_form : WordsLeft → Option TagSource
 seal_form =
     after (word (exactly (codes "seal"))) λ _.
     after source λ seal.

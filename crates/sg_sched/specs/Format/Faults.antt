@@ -9,7 +9,7 @@ use Rattle.sg_protocol.specs.Graph.{Graph}
 use Rattle.sg_protocol.specs.Frame.{Cast, Item as FrameItem, Frame}
 use Rattle.sg_protocol.specs.Spelling.{spelling}
 use Rattle.sg_protocol.specs.Schedule.{CraftJoin}
-use Rattle.sg_sched.specs.Format.Said.{Committed, From, FromKey, FromItem, FromSeal, FromZero, ItemContent, CraftContent, LineContent, SaidBlock, SaidEdge, SaidHonest, SaidKey, SaidSession, SaidStart, SaidAct, SaidAbandon, SaidDeliver, SaidMake}
+use Rattle.sg_sched.specs.Format.Said.{Committed, TagSource, FromKey, FromItem, FromSeal, FromZero, ItemContent, CraftContent, LineContent, SaidBlock, SaidEdge, SaidHonest, SaidKey, SaidSession, SaidStart, SaidAct, SaidAbandon, SaidDeliver, SaidMake}
 use Rattle.sg_sched.specs.Format.Items.{Session, Item, SoFar, so_far, graphs_of_past, graph_names, session_names, index, session_named, graph_for, roles_of, variables_of, labels_of, has_key}
 use Rattle.sg_sched.specs.Format.Made.{opening}
 use Rattle.sg_sched.specs.Format.Kinds.{Kind, Form, TooManySteps, TooManySessions, Unknown, Twice, NotHonest}
@@ -47,8 +47,8 @@ abbrev pub variables : List Committed → List Name
 variables cs = map (λ c. c.variable) cs
 
 -- the roles for which there are tags
-abbrev pub tag_roles : List (Name × From) → List Name
-tag_roles ts = map (λ (t : Name × From). t.0) ts
+abbrev pub tag_roles : List (Name × TagSource) → List Name
+tag_roles ts = map (λ (t : Name × TagSource). t.0) ts
 
 -- the variables of each list rise, and the roles of each item's tags
 abbrev pub rises : Option Graph → CraftContent → Bool
@@ -67,7 +67,7 @@ blank_cast s j = record { version = s.version; graph = zeros 32; nonce = zeros 1
 
 -- an item with zeros for its commitments and tags
 abbrev pub blank_item : ItemContent → FrameItem
-blank_item i = record { role = 0; label = 0; time = i.time; delta = map (λ c. (0, zeros 32)) i.delta; tags = map (λ (t : Name × From). (0, zeros 32)) i.tags }
+blank_item i = record { role = 0; label = 0; time = i.time; delta = map (λ c. (0, zeros 32)) i.delta; tags = map (λ (t : Name × TagSource). (0, zeros 32)) i.tags }
 
 -- the frame that a craft makes, with zeros for what is hashed or tagged, which doesn't change its length
 abbrev pub blank_frame : Option Graph → Session → CraftContent → Frame
@@ -113,7 +113,7 @@ abbrev pub knows_variable : Option Graph → Name → Bool
 knows_variable g n = has_text n (variables_of g)
 
 -- the role of a source is one of the graph's, or its two principals have a key
-abbrev pub knows_source : SoFar → Option Graph → From → Bool
+abbrev pub knows_source : SoFar → Option Graph → TagSource → Bool
 knows_source past g (FromKey one two) = has_key past one two
 knows_source past g (FromItem frame item role) = has_text role (roles_of g)
 knows_source past g (FromSeal frame) = true
@@ -122,7 +122,7 @@ knows_source past g FromZero = true
 -- the label, the variables, the roles and the sources of an item are declared
 abbrev pub knows_item : SoFar → Option Graph → ItemContent → Bool
 knows_item past g i = has_text i.label (labels_of g) && list_all (knows_variable g) (variables i.delta)
-    && list_all (λ (t : Name × From). has_text t.0 (roles_of g) && knows_source past g t.1) i.tags
+    && list_all (λ (t : Name × TagSource). has_text t.0 (roles_of g) && knows_source past g t.1) i.tags
 
 -- each name of a graph, role, label, variable, session or key pair is declared
 abbrev pub is_known : SoFar → LineContent → Bool

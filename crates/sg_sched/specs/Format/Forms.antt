@@ -7,7 +7,7 @@ use Rattle.sg_model.specs.Lists.{has_text, all_differ}
 use Rattle.sg_model.specs.Limits.{most_roles, most_time, most_variables}
 use Rattle.sg_protocol.specs.Schedule.{CraftJoin}
 use Rattle.sg_sched.specs.Text.{content, words}
-use Rattle.sg_sched.specs.Format.Said.{Given, Committed, From, FromKey, FromItem, FromSeal, FromZero, ItemContent, CraftContent, Delivered, TheFrame, TheFlipped, TheCut, TheBytes, LineContent, SaidBlock, SaidEdge, SaidHonest, SaidKey, SaidSession, SaidStart, SaidAct, SaidAbandon, SaidDeliver, SaidMake, line_words}
+use Rattle.sg_sched.specs.Format.Said.{Given, Committed, TagSource, FromKey, FromItem, FromSeal, FromZero, ItemContent, CraftContent, Delivered, TheFrame, TheFlipped, TheCut, TheBytes, LineContent, SaidBlock, SaidEdge, SaidHonest, SaidKey, SaidSession, SaidStart, SaidAct, SaidAbandon, SaidDeliver, SaidMake, line_words}
 use Rattle.sg_sched.specs.Format.Values.{is_value, is_hex_of, is_hex}
 
 -- all are names
@@ -39,14 +39,14 @@ abbrev pub are_committed : List Committed → Bool
 are_committed cs = nat_le (length cs) most_variables && list_all is_committed cs
 
 -- a source has names and numbers in their ranges. Items of a copied frame are counted from 1, and item 0 is a form
-abbrev pub is_source : From → Bool
+abbrev pub is_source : TagSource → Bool
 is_source (FromKey one two) = is_name one && is_name two
 is_source (FromItem frame item role) = is_frame frame && is_short item && is_name role
 is_source (FromSeal frame) = is_frame frame
 is_source FromZero = true
 
 -- tag ROLE SOURCE
-abbrev pub is_tag : Name × From → Bool
+abbrev pub is_tag : Name × TagSource → Bool
 is_tag t = is_name t.0 && is_source t.1
 
 -- a time from 1 to 1,000,000, at most 32 commitments and at most 14 tags

@@ -7,7 +7,7 @@ use Rattle.sg_model.specs.Values.{Value, Opening}
 use Rattle.sg_protocol.specs.Graph.{Graph}
 use Rattle.sg_protocol.specs.Schedule.{confounder, What, Whole, Flipped, Cut, Bytes, Source, Key, CopyItem, CopySeal, Zero, CraftItem, Craft, StartStep, ActStep, AbandonStep, DeliverStep, CraftStep}
 use Rattle.sg_sched.specs.Pair.{edge}
-use Rattle.sg_sched.specs.Format.Said.{Given, Committed, From, FromKey, FromItem, FromSeal, FromZero, ItemContent, CraftContent, Delivered, TheFrame, TheFlipped, TheCut, TheBytes, LineContent, SaidBlock, SaidEdge, SaidHonest, SaidKey, SaidSession, SaidStart, SaidAct, SaidAbandon, SaidDeliver, SaidMake}
+use Rattle.sg_sched.specs.Format.Said.{Given, Committed, TagSource, FromKey, FromItem, FromSeal, FromZero, ItemContent, CraftContent, Delivered, TheFrame, TheFlipped, TheCut, TheBytes, LineContent, SaidBlock, SaidEdge, SaidHonest, SaidKey, SaidSession, SaidStart, SaidAct, SaidAbandon, SaidDeliver, SaidMake}
 use Rattle.sg_sched.specs.Format.Values.{value_of, bytes_of}
 use Rattle.sg_sched.specs.Format.Items.{Item, EdgeItem, HonestItem, KeyItem, SessionItem, StepItem, SoFar, so_far, graphs_of_past, graph_names, session_names, index, graph_for, roles_of, variables_of, labels_of}
 
@@ -24,7 +24,7 @@ abbrev pub opening : Option Graph → Committed → Opening
 opening g c = let x = index c.variable (variables_of g) in record { variable = x; confounder = confounder c.step x; value = value_of c.value }
 
 -- where a tag comes from
-abbrev pub source : Option Graph → From → Source
+abbrev pub source : Option Graph → TagSource → Source
 source g (FromKey one two) = Key one two
 source g (FromItem frame item role) = CopyItem frame item (index role (roles_of g))
 source g (FromSeal frame) = CopySeal frame
@@ -36,7 +36,7 @@ craft_item g i = record {
   label = index i.label (labels_of g);
   time = i.time;
   delta = map (opening g) i.delta;
-  tags = map (λ (t : Name × From). (index t.0 (roles_of g), source g t.1)) i.tags;
+  tags = map (λ (t : Name × TagSource). (index t.0 (roles_of g), source g t.1)) i.tags;
 }
 
 -- a craft

@@ -20,18 +20,18 @@ pub record Committed : Type 0 where
   pub step : ℕ
 
 -- SOURCE: where a crafted tag comes from
-pub data From : Type 0 where
-  FromKey : (one two : Name) → From
-  FromItem : (frame item : ℕ) (role : Name) → From
-  FromSeal : (frame : ℕ) → From
-  FromZero : From
+pub data TagSource : Type 0 where
+  FromKey : (one two : Name) → TagSource
+  FromItem : (frame item : ℕ) (role : Name) → TagSource
+  FromSeal : (frame : ℕ) → TagSource
+  FromZero : TagSource
 
 -- item LABEL TIME [COMMITTED ..] [tag ROLE SOURCE ..]
 pub record ItemContent : Type 0 where
   pub label : Name
   pub time : ℕ
   pub delta : List Committed
-  pub tags : List (Name × From)
+  pub tags : List (Name × TagSource)
 
 -- the words of a craft
 pub record CraftContent : Type 0 where
@@ -42,7 +42,7 @@ pub record CraftContent : Type 0 where
   pub know : List Committed
   pub items : List ItemContent
   pub openings : List Committed
-  pub seal : From
+  pub seal : TagSource
 
 -- what is delivered: a recorded frame, whole, changed in a bit or cut short, or bytes in hexadecimal digits
 pub data Delivered : Type 0 where
@@ -85,14 +85,14 @@ abbrev pub committed_word : Committed → Word
 committed_word c = c.variable ++ 61 ∷ (c.value ++ 35 ∷ decimal c.step)
 
 -- SOURCE
-abbrev pub from_words : From → List Word
+abbrev pub from_words : TagSource → List Word
 from_words (FromKey one two) = codes "key" ∷ one ∷ two ∷ []
 from_words (FromItem frame item role) = codes "copy" ∷ frame_word frame ∷ decimal item ∷ role ∷ []
 from_words (FromSeal frame) = codes "copy" ∷ frame_word frame ∷ codes "seal" ∷ []
 from_words FromZero = codes "zero" ∷ []
 
 -- tag ROLE SOURCE
-abbrev pub tag_words : Name × From → List Word
+abbrev pub tag_words : Name × TagSource → List Word
 tag_words t = codes "tag" ∷ t.0 ∷ from_words t.1
 
 -- item LABEL TIME [COMMITTED ..] [tag ROLE SOURCE ..]
