@@ -3,7 +3,7 @@ ghost use Rattle.std.specs.Prelude.{◌≡◌, IfOk};
 
 use sg_base::{OutOfMemory, Seq};
 use sg_graph::Graph;
-use sg_sched::Declared;
+use sg_sched::NamedSession;
 use std::alloc::Global;
 
 /// Equal graphs.
@@ -18,7 +18,10 @@ pub fn copy_graphs(alloc: Global, graphs: &[Graph]) -> Result<Seq<Graph>, OutOfM
 }
 
 /// Equal sessions.
-pub fn copy_sessions(alloc: Global, sessions: &[Declared]) -> Result<Seq<Declared>, OutOfMemory>
+pub fn copy_sessions(
+    alloc: Global,
+    sessions: &[NamedSession],
+) -> Result<Seq<NamedSession>, OutOfMemory>
     ensures { IfOk result (λ s. s ≡ sessions.now) }
 {
     let mut copies = Seq::new(alloc);
@@ -28,10 +31,10 @@ pub fn copy_sessions(alloc: Global, sessions: &[Declared]) -> Result<Seq<Declare
     Ok(copies)
 }
 
-fn copy_session(session: &Declared) -> Declared
+fn copy_session(session: &NamedSession) -> NamedSession
     ensures { result ≡ session.now }
 {
-    Declared {
+    NamedSession {
         name: session.name,
         cast: session.cast,
     }

@@ -5,7 +5,7 @@ ghost use Rattle.sg_protocol.specs.Texts.{graph_text_of, real, session_id as id_
 use sg_base::{OutOfMemory, Sid};
 use sg_crypt::{Hashed, graph_text, session_id};
 use sg_graph::{Graph, canonical_text};
-use sg_sched::Declared;
+use sg_sched::NamedSession;
 use std::alloc::Global;
 
 /// The texts under the digests of these graphs, in order.
@@ -29,7 +29,7 @@ fn text_of(alloc: Global, graph: &Graph) -> Result<Hashed, OutOfMemory>
 }
 
 /// The identifiers of these sessions, in order.
-pub fn sids_of(alloc: Global, sessions: &[Declared]) -> Result<Vec<Sid>, OutOfMemory>
+pub fn sids_of(alloc: Global, sessions: &[NamedSession]) -> Result<Vec<Sid>, OutOfMemory>
     ensures { IfOk result (λ s. s.items ≡ map (λ d. id_of real d.cast) sessions.now) }
 {
     let mut sids = Vec::new(alloc);

@@ -17,7 +17,7 @@ use Rattle.sg_protocol.specs.IsSchedule.{AreCompiled, IsProgram}
 use Rattle.sg_protocol.specs.Keyring.{Program}
 use Rattle.sg_protocol.specs.Past.{Past, node_of}
 use Rattle.sg_protocol.specs.Ranges.{IsCast}
-use Rattle.sg_protocol.specs.Schedule.{Declared, Schedule, cast_of}
+use Rattle.sg_protocol.specs.Schedule.{NamedSession, Schedule, cast_of}
 use Rattle.sg_protocol.specs.Spelling.{u64}
 use Rattle.sg_protocol.specs.Texts.{graph_text_of, real}
 use Rattle.sg_protocol.specs.World.{new_world}
@@ -108,4 +108,4 @@ numbered_at g k (suc n) (suc i) l = numbered_at g (suc k) n i (omega arith)
 pub own_cast : (s : Schedule) (sessions n : ℕ) (g : Graph) → without_steps s ≡ setup sessions g → 2 ≤ length g.roles → length g.roles ≤ 16 → n < sessions → (c : Cast) × (cast_of s n ≡ Some c) × IsCast c × (c.names ≡ players (length g.roles))
 own_cast s sessions n g e two few l =
     let at = numbered_at g 1 sessions n l in
-    ((numbered_session g at.0).cast, ap (λ (z : Schedule). cast_of z n) e ∙ ap (option_map (λ (d : Declared). d.cast)) at.1, numbered_cast g at.0 two few, refl)
+    ((numbered_session g at.0).cast, ap (λ (z : Schedule). cast_of z n) e ∙ ap (option_map (λ (d : NamedSession). d.cast)) at.1, numbered_cast g at.0 two few, refl)

@@ -5,7 +5,7 @@ use Rattle.sg_model.specs.Lists.{below, range_from}
 use Rattle.sg_model.specs.Names.{Name}
 use Rattle.sg_protocol.specs.Crafted.{nonce_of}
 use Rattle.sg_protocol.specs.Graph.{Graph}
-use Rattle.sg_protocol.specs.Schedule.{PairKey, Declared, Schedule}
+use Rattle.sg_protocol.specs.Schedule.{PairKey, NamedSession, Schedule}
 use Rattle.sg_protocol.specs.Texts.{real, graph_digest}
 
 -- the principal of a role: p and the role's number
@@ -29,7 +29,7 @@ abbrev pub keys_for : ℕ → List PairKey
 keys_for roles = flat_map (keys_with_later roles) (below roles)
 
 -- session number s: its name is s and the number, its nonce is the number
-abbrev pub numbered_session : Graph → ℕ → Declared
+abbrev pub numbered_session : Graph → ℕ → NamedSession
 numbered_session g s = record {
   name = 115 ∷ decimal s;
   cast = record { version = 1; graph = graph_digest real g; nonce = nonce_of s; names = players (length g.roles) };

@@ -13,7 +13,7 @@ use sg_crypt::Cast;
 use sg_graph::Graph;
 use sg_sched::cast::{digest_of, nonce_bytes};
 use sg_sched::node_name::name_of;
-use sg_sched::{Declared, PairKey, Schedule};
+use sg_sched::{NamedSession, PairKey, Schedule};
 use std::alloc::Global;
 
 /// `sessions` sessions of a graph, counted from 1, with a principal for each role, all of them honest; no step.
@@ -106,7 +106,7 @@ fn sessions_of(
     sessions: u32,
     graph: &Graph,
     names: &[Name],
-) -> Result<Seq<Declared>, OutOfMemory>
+) -> Result<Seq<NamedSession>, OutOfMemory>
     requires names { names.now ≡ players (length graph.now.roles) }
     requires two { 2 ≤ length graph.now.roles }
     requires many { length graph.now.roles ≤ 16 }
@@ -127,14 +127,14 @@ fn session(
     number: u32,
     digest: [u8; 32],
     names: &[Name],
-) -> Result<Declared, OutOfMemory>
+) -> Result<NamedSession, OutOfMemory>
     requires number { number ≤ most_driven }
     requires names { (2 ≤ length names.now) × (length names.now ≤ 16) }
     ensures { IfOk result (λ d. d ≡ record { name = 115 ∷ decimal number; cast = record { version = 1; graph = digest; nonce = nonce_of number; names = names.now } }) }
 {
     let name = session_name(alloc, number)?;
     match Cast::new(1, digest, nonce_bytes(u64::from(number)), names) {
-        Some(cast) => Ok(Declared { name, cast }),
+        Some(cast) => Ok(NamedSession { name, cast }),
         None => unreachable!(),
     }
 }

@@ -20,7 +20,7 @@ use Rattle.sg_protocol.specs.TextLaws.{CastFits}
 use Rattle.sg_protocol.specs.Keyring.{Program}
 use Rattle.sg_protocol.specs.Session.{Session, principal, new_session}
 use Rattle.sg_protocol.specs.Calls.{Event, Call, Start, Act, Abandon, Deliver, Answer, Sends}
-use Rattle.sg_protocol.specs.Schedule.{Schedule, Step, StartStep, ActStep, AbandonStep, DeliverStep, CraftStep, What, Declared, cast_of, sid_at, confounder, graph_with}
+use Rattle.sg_protocol.specs.Schedule.{Schedule, Step, StartStep, ActStep, AbandonStep, DeliverStep, CraftStep, What, NamedSession, cast_of, sid_at, confounder, graph_with}
 use Rattle.sg_protocol.specs.Acting.{answer}
 use Rattle.std.specs.Prelude.{Result, Ok, Err, option_and_then}
 use Rattle.sg_model.specs.Bytes.{IsBytes}
@@ -65,7 +65,7 @@ declared_in A P (y ∷ ys) (suc n) x a e = declared_in A P ys n x (All-tail P y 
 
 module _ (sha : Hash) (hash : IsHash sha) (programs : List Program) (s : Schedule) (compiled : AreCompiled sha s.graphs programs) (sched : IsSchedule sha s) where
   -- a declared session's cast can be read
-  declared_fits : (d : Declared) → IsDeclared sha s.graphs d → CastFits d.cast × AreBytes 32 d.cast.graph × AreBytes 16 d.cast.nonce × (list_all is_name d.cast.names ≡ true)
+  declared_fits : (d : NamedSession) → IsDeclared sha s.graphs d → CastFits d.cast × AreBytes 32 d.cast.graph × AreBytes 16 d.cast.nonce × (list_all is_name d.cast.names ≡ true)
   declared_fits d h =
       let bytes : AreBytes 32 d.cast.graph = subst (AreBytes 32) (sym h.digest) (hash (graph_text_of h.graph)) in
       (record { version = h.version; graph = bytes.0; nonce = h.nonce.0 }, bytes, h.nonce, (and_parts (all_differ d.cast.names) (list_all is_name d.cast.names) h.names).1)
@@ -73,9 +73,9 @@ module _ (sha : Hash) (hash : IsHash sha) (programs : List Program) (s : Schedul
   pub casts_fit : (n : ℕ) (c : Cast) → cast_of s n ≡ Some c → CastFits c
   casts_fit n c e = go (slice_get s.sessions n) refl e
     where
-      go : (o : Option Declared) → slice_get s.sessions n ≡ o → option_map (λ (d : Declared). d.cast) o ≡ Some c → CastFits c
+      go : (o : Option NamedSession) → slice_get s.sessions n ≡ o → option_map (λ (d : NamedSession). d.cast) o ≡ Some c → CastFits c
       go None q e = absurd (cc)
-      go (Some d) q e = (let r : d.cast ≡ c = cc in subst CastFits r (declared_fits d (declared_in Declared (IsDeclared sha s.graphs) s.sessions n d sched.sessions q)).0)
+      go (Some d) q e = (let r : d.cast ≡ c = cc in subst CastFits r (declared_fits d (declared_in NamedSession (IsDeclared sha s.graphs) s.sessions n d sched.sessions q)).0)
 
   -- what a run records are bytes, and its live sessions are fit
   pub record Fit (w : World) : Type 0 where
@@ -272,9 +272,9 @@ module _ (sha : Hash) (hash : IsHash sha) (programs : List Program) (s : Schedul
   cast_facts : (n : ℕ) (c : Cast) → cast_of s n ≡ Some c → CastFits c × AreBytes 32 c.graph × AreBytes 16 c.nonce × (list_all is_name c.names ≡ true)
   cast_facts n c e = go (slice_get s.sessions n) refl e
     where
-      go : (o : Option Declared) → slice_get s.sessions n ≡ o → option_map (λ (d : Declared). d.cast) o ≡ Some c → CastFits c × AreBytes 32 c.graph × AreBytes 16 c.nonce × (list_all is_name c.names ≡ true)
+      go : (o : Option NamedSession) → slice_get s.sessions n ≡ o → option_map (λ (d : NamedSession). d.cast) o ≡ Some c → CastFits c × AreBytes 32 c.graph × AreBytes 16 c.nonce × (list_all is_name c.names ≡ true)
       go None q e = absurd (cc)
-      go (Some d) q e = (let r : d.cast ≡ c = cc in subst (λ z. CastFits z × AreBytes 32 z.graph × AreBytes 16 z.nonce × (list_all is_name z.names ≡ true)) r (declared_fits d (declared_in Declared (IsDeclared sha s.graphs) s.sessions n d sched.sessions q)))
+      go (Some d) q e = (let r : d.cast ≡ c = cc in subst (λ z. CastFits z × AreBytes 32 z.graph × AreBytes 16 z.nonce × (list_all is_name z.names ≡ true)) r (declared_fits d (declared_in NamedSession (IsDeclared sha s.graphs) s.sessions n d sched.sessions q)))
 
   names_rec : (ns : List Name) → list_all is_name ns ≡ true → AllByRecursion (λ n. IsTrue (is_name n)) ns
   names_rec [] h = tt

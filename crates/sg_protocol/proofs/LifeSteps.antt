@@ -21,7 +21,7 @@ use Rattle.sg_protocol.specs.Verdict.{receipt}
 use Rattle.sg_protocol.specs.Acting.{answer}
 use Rattle.sg_protocol.specs.Notes.{notes}
 use Rattle.sg_protocol.specs.Past.{AnsweredCall, Past, node_of, past_after}
-use Rattle.sg_protocol.specs.Schedule.{Schedule, Declared, Step, StartStep, ActStep, AbandonStep, DeliverStep, CraftStep}
+use Rattle.sg_protocol.specs.Schedule.{Schedule, NamedSession, Step, StartStep, ActStep, AbandonStep, DeliverStep, CraftStep}
 use Rattle.sg_protocol.specs.World.{Outcome, Logged, World, Answered, Crafted, NoFrame, past_of, new_world, call_of}
 use Rattle.sg_protocol.specs.Run.{called, called_if, uncalled, world_after, world_after_all, run, frame_in}
 use Rattle.sg_protocol.specs.Premises.{MadeBefore, hashed, Premises}
@@ -237,7 +237,7 @@ frames_show_last_steps_over_restarts sha hash programs s xs x ys who bs f l cast
     let n : ℕ = number_after sha s (new_world programs s) 1 zs in
     let longer : run_with_restarts sha programs s (xs ++ Stepped x ∷ ys) ≡ world_over_restarts sha s w n ys = ap (run_with_restarts sha programs s) whole ∙ over_append sha s zs ys (new_world programs s) 1 in
     let early : Premises sha s w = premises_earlier sha s n w (world_over_restarts sha s w n ys) (over_suffix sha s ys w n) (over_below sha s zs (new_world programs s) 1 (λ l i. absurd i)) (subst (Premises sha s) longer premises) in
-    let es : List Declared = dropped sha s (new_world programs s) 1 zs in
+    let es : List NamedSession = dropped sha s (new_world programs s) 1 zs in
     let its : List Step = (without_restarts sha programs s zs).steps in
     let p : Schedule = plain sha hash programs s compiled sched zs good_zs in
     let w' : World = run sha programs p in

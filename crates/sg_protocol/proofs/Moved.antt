@@ -12,7 +12,7 @@ use Rattle.sg_protocol.specs.Reading.{read}
 use Rattle.sg_protocol.specs.Frame.{Cast, Item, Frame}
 use Rattle.sg_protocol.specs.Graph.{Graph}
 use Rattle.sg_protocol.specs.IsSchedule.{IsStep}
-use Rattle.sg_protocol.specs.Schedule.{Schedule, Declared, Source, CraftItem, Craft, Step, What, Key, CopyItem, CopySeal, Zero, Whole, Flipped, Cut, Bytes, StartStep, ActStep, AbandonStep, DeliverStep, CraftStep, graph_with, cast_of, sid_at, confounder}
+use Rattle.sg_protocol.specs.Schedule.{Schedule, NamedSession, Source, CraftItem, Craft, Step, What, Key, CopyItem, CopySeal, Zero, Whole, Flipped, Cut, Bytes, StartStep, ActStep, AbandonStep, DeliverStep, CraftStep, graph_with, cast_of, sid_at, confounder}
 use Rattle.sg_protocol.specs.Sending.{text_to, text_of}
 use Rattle.sg_protocol.specs.Session.{Session, new_session}
 use Rattle.sg_protocol.specs.Spelling.{HasSpelling}
@@ -22,16 +22,16 @@ use Rattle.sg_protocol.specs.World.{World, frames, frame_at, flipped, bytes_of, 
 
 -- ---- places
 
-none_behind : (ds : List Declared) (n : ℕ) → slice_get ds (n + length ds) ≡ None
+none_behind : (ds : List NamedSession) (n : ℕ) → slice_get ds (n + length ds) ≡ None
 none_behind [] n = refl
 none_behind (d ∷ ds) n = (let e : n + length (d ∷ ds) ≡ suc (n + length ds) = omega arith in ap (slice_get (d ∷ ds)) e ∙ none_behind ds n)
 
-pub at_moved : (ds es : List Declared) (n : ℕ) → slice_get (ds ++ es) (moved_to ds (length es) n) ≡ slice_get ds n
+pub at_moved : (ds es : List NamedSession) (n : ℕ) → slice_get (ds ++ es) (moved_to ds (length es) n) ≡ slice_get ds n
 at_moved [] es n = none_behind es n
 at_moved (d ∷ ds) es zero = refl
 at_moved (d ∷ ds) es (suc n) = at_moved ds es n
 
-module _ (sha : Hash) (s : Schedule) (es : List Declared) (ys : List Step) where
+module _ (sha : Hash) (s : Schedule) (es : List NamedSession) (ys : List Step) where
   -- the schedule with more sessions, and other steps
   abbrev pub more : Schedule
   more = record s { sessions = s.sessions ++ es; steps = ys }
@@ -40,7 +40,7 @@ module _ (sha : Hash) (s : Schedule) (es : List Declared) (ys : List Step) where
   index_of n = moved_to s.sessions (length es) n
 
   pub cast_moved : (n : ℕ) → cast_of more (index_of n) ≡ cast_of s n
-  cast_moved n = ap (option_map (λ (d : Declared). d.cast)) (at_moved s.sessions es n)
+  cast_moved n = ap (option_map (λ (d : NamedSession). d.cast)) (at_moved s.sessions es n)
 
   pub sid_moved : (n : ℕ) → sid_at sha more (index_of n) ≡ sid_at sha s n
   sid_moved n = ap (λ o. option_map_or (session_id sha) o []) (cast_moved n)

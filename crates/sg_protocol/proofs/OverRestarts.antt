@@ -11,7 +11,7 @@ use Rattle.sg_protocol.specs.Texts.{Hash, IsHash, graph_text_of}
 use Rattle.sg_protocol.specs.Session.{principal}
 use Rattle.sg_protocol.specs.Calls.{Event, sid_of}
 use Rattle.sg_protocol.specs.Notes.{Notes}
-use Rattle.sg_protocol.specs.Schedule.{Schedule, Declared, Step, honest_role}
+use Rattle.sg_protocol.specs.Schedule.{Schedule, NamedSession, Step, honest_role}
 use Rattle.sg_protocol.specs.World.{Logged, World, new_world}
 use Rattle.sg_protocol.specs.Run.{run, events_of_outcome, events_of, cast_in, cast_of_session}
 use Rattle.sg_protocol.specs.Premises.{Unforged, hashed, CollisionFree, Premises}
@@ -96,10 +96,10 @@ module _ (w w' : World) (same : Same w w') where
       let m = u l n back f one two in
       (m.0, entry_there m.0 m.1, m.2, m.3)
 
-  pub premises_same : (sha : Hash) (s : Schedule) (es : List Declared) (ys : List Step) → Premises sha s w → Premises sha (more sha s es ys) w'
+  pub premises_same : (sha : Hash) (s : Schedule) (es : List NamedSession) (ys : List Step) → Premises sha s w → Premises sha (more sha s es ys) w'
   premises_same sha s es ys p = record { unforged = unforged_same s p.unforged; collision_free = subst (CollisionFree sha) (hashed_same s) p.collision_free }
 
-  explained_back : (sha : Hash) (s : Schedule) (es : List Declared) (ys : List Step) (sid : List ℕ) → IsExplained sha (more sha s es ys) w' sid → IsExplained sha s w sid
+  explained_back : (sha : Hash) (s : Schedule) (es : List NamedSession) (ys : List Step) (sid : List ℕ) → IsExplained sha (more sha s es ys) w' sid → IsExplained sha s w sid
   explained_back sha s es ys sid x = record {
     cast = x.cast;
     is_cast = cast_same sid ∙ x.is_cast;
@@ -123,7 +123,7 @@ module _ (w w' : World) (same : Same w w') where
   had_there : (l : Logged) (who : Name) (e : Event) → HadEvent w l who e → HadEvent w' l who e
   had_there l who e h = (entry_there l h.0, h.1, h.2)
 
-  of_cast_back : (sha : Hash) (s : Schedule) (es : List Declared) (ys : List Step) (l : Logged) (who : Name) (e : Event) → IsOfCast sha (more sha s es ys) w' l who e → IsOfCast sha s w l who e
+  of_cast_back : (sha : Hash) (s : Schedule) (es : List NamedSession) (ys : List Step) (l : Logged) (who : Name) (e : Event) → IsOfCast sha (more sha s es ys) w' l who e → IsOfCast sha s w l who e
   of_cast_back sha s es ys l who e x = record {
     cast = x.cast;
     is_cast = cast_same (sid_of e) ∙ x.is_cast;

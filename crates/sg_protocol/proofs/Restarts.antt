@@ -26,7 +26,7 @@ use Rattle.sg_protocol.specs.Acting.{answer}
 use Rattle.sg_protocol.specs.Notes.{notes, no_notes}
 use Rattle.sg_protocol.specs.NodeAfter.{node_after}
 use Rattle.sg_protocol.specs.Past.{Past, node_of}
-use Rattle.sg_protocol.specs.Schedule.{Schedule, PairKey, Declared, Step, What, StartStep, ActStep, AbandonStep, DeliverStep, CraftStep, sid_at}
+use Rattle.sg_protocol.specs.Schedule.{Schedule, PairKey, NamedSession, Step, What, StartStep, ActStep, AbandonStep, DeliverStep, CraftStep, sid_at}
 use Rattle.sg_protocol.specs.World.{Outcome, Logged, World, Answered, Crafted, NoFrame, frames, past_of, new_world, call_of, bytes_of}
 use Rattle.sg_protocol.specs.Run.{called, called_if, uncalled, world_after, world_after_all, run, frame_in}
 use Rattle.sg_protocol.specs.Crafted.{crafted}
@@ -144,7 +144,7 @@ module _ (sha : Hash) where
   same_if w w' k who None (Some p) (Some p') e h = same_idle w w' k (Some who) NoFrame None None refl h
   same_if w w' k who (Some c) (Some p) (Some p') e h = same_called w w' k who c p p' h (ap (λ (v : Shown). v.1) (some_same e))
 
-  module _ (s : Schedule) (es : List Declared) (ys : List Step) where
+  module _ (s : Schedule) (es : List NamedSession) (ys : List Step) where
     abbrev s' : Schedule
     s' = more sha s es ys
 
@@ -242,7 +242,7 @@ module _ (sha : Hash) (t : Schedule) (who : Name) where
   find_live {p} {xs} ps e a =
       find_all (λ (q : Past). bytes_eq q.keys.me who) (λ (q : Past). HasLive who xs (shown q)) ps p (all_off_map (HasLive who xs) shown ps a) e (find_passes (λ (q : Past). bytes_eq q.keys.me who) ps p e)
 
-  left_all : (xs : List Session) (w : World) (k o : ℕ) (pre post : List Declared) → t.sessions ≡ pre ++ (map declared xs ++ post) → o ≡ length pre → AllByRecursion (λ (x : Session). session_id sha x.cast ≡ x.sid) xs
+  left_all : (xs : List Session) (w : World) (k o : ℕ) (pre post : List NamedSession) → t.sessions ≡ pre ++ (map declared xs ++ post) → o ≡ length pre → AllByRecursion (λ (x : Session). session_id sha x.cast ≡ x.sid) xs
       → AllByRecursion (HasLive who xs) (map shown w.pasts) → (q : Option Past) → past_of w who ≡ q → IsThere xs q → Left who w (world_after_all sha t w k (abandon_steps who o xs))
   left_all [] w k o pre post e at ids live q its is = record { nodes = all_emptied who (map shown w.pasts) live; log = λ log h. h }
   left_all (x ∷ xs) w k o pre post e at ids live None its is = absurd is
@@ -256,7 +256,7 @@ module _ (sha : Hash) (t : Schedule) (who : Name) where
       now = called sha w k who (Abandon x.sid) p
 
       sid_is : sid_at sha t o ≡ x.sid
-      sid_is = ap (λ z. option_map_or (session_id sha) (option_map (λ (d : Declared). d.cast) z) []) (ap (λ l. slice_get l o) e ∙ ap (slice_get (pre ++ (map declared (x ∷ xs) ++ post))) at ∙ at_length pre (declared x) (map declared xs ++ post)) ∙ ids.0
+      sid_is = ap (λ z. option_map_or (session_id sha) (option_map (λ (d : NamedSession). d.cast) z) []) (ap (λ l. slice_get l o) e ∙ ap (slice_get (pre ++ (map declared (x ∷ xs) ++ post))) at ∙ at_length pre (declared x) (map declared xs ++ post)) ∙ ids.0
 
       step_is : world_after sha t w k (AbandonStep who o) ≡ now
       step_is = ap (λ z. option_map_or (called_if sha w k who (Some (Abandon (sid_at sha t o)))) z w) its ∙ ap (λ z. called sha w k who (Abandon z) p) sid_is
@@ -393,16 +393,16 @@ module _ (sha : Hash) (hash : IsHash sha) (programs : List Program) (s : Schedul
     | inr e ↦ rw e h
   ]
 
-  declared_again : (d : Declared) (c : Cast) → d.cast ≡ c → IsDeclared sha s.graphs d → IsDeclared sha s.graphs (record { name = []; cast = c })
+  declared_again : (d : NamedSession) (c : Cast) → d.cast ≡ c → IsDeclared sha s.graphs d → IsDeclared sha s.graphs (record { name = []; cast = c })
   declared_again d c e h = subst (λ z. IsDeclared sha s.graphs (record { name = []; cast = z })) e (record { graph = h.graph; is_there = h.is_there; digest = h.digest; count = h.count; names = h.names; nonce = h.nonce; version = h.version })
 
   -- what a step calls
   calls_ok : (w : World) → Fits_ w → (k : ℕ) (x : Step) → IsStep sha s x → (c : Call) → call_of sha s w k x ≡ Some c → CallOk c
   calls_ok w fit k x good c e = go x good e
     where
-      start_ : (n : ℕ) (o : Option Declared) → slice_get s.sessions n ≡ o → option_map Start (option_map (λ (d : Declared). d.cast) o) ≡ Some c → CallOk c
+      start_ : (n : ℕ) (o : Option NamedSession) → slice_get s.sessions n ≡ o → option_map Start (option_map (λ (d : NamedSession). d.cast) o) ≡ Some c → CallOk c
       start_ n None q e = absurd (cc)
-      start_ n (Some d) q e = let r : Start d.cast ≡ c = some_same e in subst CallOk r (declared_again d d.cast refl (declared_in Declared (IsDeclared sha s.graphs) s.sessions n d sched.sessions q))
+      start_ n (Some d) q e = let r : Start d.cast ≡ c = some_same e in subst CallOk r (declared_again d d.cast refl (declared_in NamedSession (IsDeclared sha s.graphs) s.sessions n d sched.sessions q))
 
       deliver_ : (who : Name) (what : What) → IsStep sha s (DeliverStep who what) → (o : Option (List ℕ)) → bytes_of w what ≡ o → option_map Deliver o ≡ Some c → CallOk c
       deliver_ who what gd None q e = absurd (cc)
@@ -488,7 +488,7 @@ module _ (sha : Hash) (hash : IsHash sha) (programs : List Program) (s : Schedul
       (all_on_map (IsDeclared sha s.graphs) declared (live_of w who) (all_weaker CanDeclare (λ (x : Session). IsDeclared sha s.graphs (declared x)) (λ x c. c.1) (live_of w who) (live_can w who h)))
       (all_declared xs good.1 (world_restarted w who) (k + length (live_of w who)) (holds_restarted w who h))
 
-  all_steps : (es : List Declared) (ys : List Step) (xs : List StepOrRestart) → AllByRecursion (IsStepOrRestart sha s) xs → (o : ℕ) (w : World) (k : ℕ) → AllByRecursion (IsStep sha (more sha s es ys)) (plain_steps sha s (length es) o w k xs)
+  all_steps : (es : List NamedSession) (ys : List Step) (xs : List StepOrRestart) → AllByRecursion (IsStepOrRestart sha s) xs → (o : ℕ) (w : World) (k : ℕ) → AllByRecursion (IsStep sha (more sha s es ys)) (plain_steps sha s (length es) o w k xs)
   all_steps es ys [] good o w k = tt
   all_steps es ys (Stepped x ∷ xs) good o w k = (step_moved sha s es ys x good.0, all_steps es ys xs good.1 o (world_after sha s w k x) (k + 1))
   all_steps es ys (Restarted who ∷ xs) good o w k =
@@ -498,7 +498,7 @@ module _ (sha : Hash) (hash : IsHash sha) (programs : List Program) (s : Schedul
       abandons [] o = tt
       abandons (x ∷ ls) o = (tt, abandons ls (o + 1))
 
-  module _ (es : List Declared) (ys : List Step) where
+  module _ (es : List NamedSession) (ys : List Step) where
     abbrev t : Schedule
     t = more sha s es ys
 
@@ -512,7 +512,7 @@ module _ (sha : Hash) (hash : IsHash sha) (programs : List Program) (s : Schedul
     has_live who w h (p ∷ ps) a = ((λ e. sym (ap (λ o. option_map_or (λ (p : Past). (node_of p).live) o []) (a.0 e))), has_live who w h ps a.1)
 
     -- both worlds are the same so far, and the sessions that are still to be dropped are declared from place o on
-    record Ready (w w' : World) (k o : ℕ) (pre : List Declared) (xs : List StepOrRestart) : Type 0 where
+    record Ready (w w' : World) (k o : ℕ) (pre : List NamedSession) (xs : List StepOrRestart) : Type 0 where
       holds : Holds w
       same : Same w w'
       sessions : t.sessions ≡ pre ++ dropped sha s w k xs
@@ -521,10 +521,10 @@ module _ (sha : Hash) (hash : IsHash sha) (programs : List Program) (s : Schedul
     abbrev left_of : World → World → ℕ → ℕ → Name → World
     left_of w w' k o who = world_after_all sha t w' k (abandon_steps who o (live_of w who))
 
-    ready_stepped : (x : Step) (xs : List StepOrRestart) → IsStep sha s x → (w w' : World) (k o : ℕ) (pre : List Declared) → Ready w w' k o pre (Stepped x ∷ xs) → Ready (world_after sha s w k x) (world_after sha t w' k (moved_step s.sessions (length es) x)) (k + 1) o pre xs
+    ready_stepped : (x : Step) (xs : List StepOrRestart) → IsStep sha s x → (w w' : World) (k o : ℕ) (pre : List NamedSession) → Ready w w' k o pre (Stepped x ∷ xs) → Ready (world_after sha s w k x) (world_after sha t w' k (moved_step s.sessions (length es) x)) (k + 1) o pre xs
     ready_stepped x xs good w w' k o pre r = record { holds = holds_step w k x good r.holds; same = same_step sha s es ys w w' k x r.same; sessions = r.sessions; at = r.at }
 
-    ready_restarted : (who : Name) (xs : List StepOrRestart) (w w' : World) (k o : ℕ) (pre : List Declared) → Ready w w' k o pre (Restarted who ∷ xs) → Ready (world_restarted w who) (left_of w w' k o who) (k + length (live_of w who)) (o + length (live_of w who)) (pre ++ map declared (live_of w who)) xs
+    ready_restarted : (who : Name) (xs : List StepOrRestart) (w w' : World) (k o : ℕ) (pre : List NamedSession) → Ready w w' k o pre (Restarted who ∷ xs) → Ready (world_restarted w who) (left_of w w' k o who) (k + length (live_of w who)) (o + length (live_of w who)) (pre ++ map declared (live_of w who)) xs
     ready_restarted who xs w w' k o pre r =
         let ls : List Session = live_of w who in
         let h : Holds w = r.holds in
@@ -537,7 +537,7 @@ module _ (sha : Hash) (hash : IsHash sha) (programs : List Program) (s : Schedul
           at = (let l : length (pre ++ map declared ls) ≡ length pre + length ls = length-append pre (map declared ls) ∙ ap (λ n. length pre + n) (length_map declared ls) in let a = r.at in omega (arith, a, l));
         }
 
-    both : (xs : List StepOrRestart) → AllByRecursion (IsStepOrRestart sha s) xs → (w w' : World) (k o : ℕ) (pre : List Declared) → Ready w w' k o pre xs
+    both : (xs : List StepOrRestart) → AllByRecursion (IsStepOrRestart sha s) xs → (w w' : World) (k o : ℕ) (pre : List NamedSession) → Ready w w' k o pre xs
         → Same (world_over_restarts sha s w k xs) (world_after_all sha t w' k (plain_steps sha s (length es) o w k xs))
     both [] good w w' k o pre r = r.same
     both (Stepped x ∷ xs) good w w' k o pre r = both xs good.1 (world_after sha s w k x) (world_after sha t w' k (moved_step s.sessions (length es) x)) (k + 1) o pre (ready_stepped x xs good.0 w w' k o pre r)
@@ -547,7 +547,7 @@ module _ (sha : Hash) (hash : IsHash sha) (programs : List Program) (s : Schedul
         (both xs good.1 (world_restarted w who) (left_of w w' k o who) (k + n) (o + n) (pre ++ map declared (live_of w who)) (ready_restarted who xs w w' k o pre r))
 
     -- what a last step adds
-    both_last : (xs : List StepOrRestart) (x : Step) → AllByRecursion (IsStepOrRestart sha s) (xs ++ Stepped x ∷ []) → (w w' : World) (k o : ℕ) (pre : List Declared) → Ready w w' k o pre (xs ++ Stepped x ∷ [])
+    both_last : (xs : List StepOrRestart) (x : Step) → AllByRecursion (IsStepOrRestart sha s) (xs ++ Stepped x ∷ []) → (w w' : World) (k o : ℕ) (pre : List NamedSession) → Ready w w' k o pre (xs ++ Stepped x ∷ [])
         → AddsSame (world_over_restarts sha s w k xs).log (world_over_restarts sha s w k (xs ++ Stepped x ∷ [])).log (world_after_all sha t w' k (plain_steps sha s (length es) o w k (xs ++ Stepped x ∷ []))).log
     both_last [] x good w w' k o pre r = last_step sha s es ys w w' k x r.same
     both_last (Stepped y ∷ xs) x good w w' k o pre r = both_last xs x good.1 (world_after sha s w k y) (world_after sha t w' k (moved_step s.sessions (length es) y)) (k + 1) o pre (ready_stepped y (xs ++ Stepped x ∷ []) good.0 w w' k o pre r)
@@ -561,7 +561,7 @@ module _ (sha : Hash) (hash : IsHash sha) (programs : List Program) (s : Schedul
     abbrev wr : World
     wr = run_with_restarts sha programs s xs
 
-    abbrev more_sessions : List Declared
+    abbrev more_sessions : List NamedSession
     more_sessions = dropped sha s (new_world programs s) 1 xs
 
     abbrev its_steps : List Step

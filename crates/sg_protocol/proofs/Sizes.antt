@@ -28,7 +28,7 @@ use Rattle.sg_protocol.specs.Calls.{StartFault, Call, Start, Act, Abandon, Deliv
 use Rattle.sg_protocol.specs.Past.{Past, node_of}
 use Rattle.sg_protocol.specs.Reading.{read}
 use Rattle.sg_protocol.specs.Acting.{answer, openings_for}
-use Rattle.sg_protocol.specs.Schedule.{Schedule, Source, Craft, CraftItem, Declared, Step, StartStep, ActStep, AbandonStep, DeliverStep, CraftStep, confounder, cast_of, sid_at, graph_with}
+use Rattle.sg_protocol.specs.Schedule.{Schedule, Source, Craft, CraftItem, NamedSession, Step, StartStep, ActStep, AbandonStep, DeliverStep, CraftStep, confounder, cast_of, sid_at, graph_with}
 use Rattle.sg_law.proofs.Members.{rec_in}
 use Rattle.sg_law.proofs.Upto.{in_from_Contains}
 use Rattle.sg_protocol.specs.World.{World, Logged, Answered, Crafted, NoFrame, past_of, new_world, call_of, bytes_of}
@@ -506,7 +506,7 @@ module _ (sha : Hash) (hash : IsHash sha) (programs : List Program) (s : Schedul
   declared_len : (n : ℕ) (c : Cast) → cast_of s n ≡ Some c → length (session_text_of c) ≤ 589
   declared_len n c e = by_declared (slice_get s.sessions n) refl e
     where
-      by_graph : (d : Declared) → IsDeclared sha s.graphs d → length (session_text_of d.cast) ≤ 589
+      by_graph : (d : NamedSession) → IsDeclared sha s.graphs d → length (session_text_of d.cast) ≤ 589
       by_graph d h =
           let long : length d.cast.graph ≡ 32 = subst (λ z. length z ≡ 32) (sym h.digest) (hash (graph_text_of h.graph)).0 in
           let ig : IsGraph h.graph = rec_in IsGraph s.graphs h.graph (recursion_from_All IsGraph s.graphs sched.are_graphs) (in_from_Contains s.graphs h.graph h.is_there) in
@@ -514,9 +514,9 @@ module _ (sha : Hash) (hash : IsHash sha) (programs : List Program) (s : Schedul
           let count = h.count in
           cast_len d.cast long h.nonce.0 (omega (arith, few, count)) (and_parts (all_differ d.cast.names) (list_all is_name d.cast.names) h.names).1
 
-      by_declared : (o : Option Declared) → slice_get s.sessions n ≡ o → option_map (λ (d : Declared). d.cast) o ≡ Some c → length (session_text_of c) ≤ 589
+      by_declared : (o : Option NamedSession) → slice_get s.sessions n ≡ o → option_map (λ (d : NamedSession). d.cast) o ≡ Some c → length (session_text_of c) ≤ 589
       by_declared None q e = absurd (let z : None ≡ Some c = e in cc)
-      by_declared (Some d) q e = (let r : d.cast ≡ c = cc in subst (λ z. length (session_text_of z) ≤ 589) r (by_graph d (declared_in Declared (IsDeclared sha s.graphs) s.sessions n d sched.sessions q)))
+      by_declared (Some d) q e = (let r : d.cast ≡ c = cc in subst (λ z. length (session_text_of z) ≤ 589) r (by_graph d (declared_in NamedSession (IsDeclared sha s.graphs) s.sessions n d sched.sessions q)))
 
   module _ (w : World) (fit : Fit sha hash programs s compiled sched w) (k : ℕ) where
     start_bytes : (c : Cast) → length (session_text_of c) ≤ 589 → (a : Answer) → notes_bytes (notes_of_start c a) ≤ 589

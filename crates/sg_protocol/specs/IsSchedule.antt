@@ -13,7 +13,7 @@ use Rattle.sg_protocol.specs.Frame.{IsValue}
 use Rattle.sg_protocol.specs.Spelling.{HasSpelling}
 use Rattle.sg_protocol.specs.Texts.{Hash, graph_digest}
 use Rattle.sg_protocol.specs.Keyring.{Program}
-use Rattle.sg_protocol.specs.Schedule.{PairKey, Declared, Step, Schedule, Bytes, ActStep, DeliverStep, CraftStep}
+use Rattle.sg_protocol.specs.Schedule.{PairKey, NamedSession, Step, Schedule, Bytes, ActStep, DeliverStep, CraftStep}
 use Rattle.sg_protocol.specs.World.{new_world}
 use Rattle.sg_protocol.specs.Crafted.{crafted}
 
@@ -41,7 +41,7 @@ pub record AreCompiled (sha : Hash) (graphs : List Graph) (programs : List Progr
 
 -- A declared session is of some graph of these, by its digest, with a principal for each of its roles, all different, and a nonce and a version.
 -- Another graph before it may have the same digest: that no two texts do is a premise, and no part of the format
-pub record IsDeclared (sha : Hash) (graphs : List Graph) (d : Declared) : Type 0 where
+pub record IsDeclared (sha : Hash) (graphs : List Graph) (d : NamedSession) : Type 0 where
   pub graph : Graph
   pub is_there : Contains graphs graph
   pub digest : d.cast.graph ≡ graph_digest sha graph

@@ -12,7 +12,7 @@ use Rattle.sg_protocol.specs.Calls.{Event, sid_of, role_of, does_join, Call, Aba
 use Rattle.sg_protocol.specs.Node.{has_joined}
 use Rattle.sg_protocol.specs.Notes.{no_notes}
 use Rattle.sg_protocol.specs.Past.{AnsweredCall, Past, joins_once, pairs_differ, new_node, node_of, past_after, AreAnswers, answers}
-use Rattle.sg_protocol.specs.Schedule.{Schedule, Declared, Step, StartStep, ActStep, AbandonStep, DeliverStep, CraftStep, graph_with, honest_role}
+use Rattle.sg_protocol.specs.Schedule.{Schedule, NamedSession, Step, StartStep, ActStep, AbandonStep, DeliverStep, CraftStep, graph_with, honest_role}
 use Rattle.sg_protocol.specs.World.{Outcome, Logged, World, Answered, frames, past_of, new_world}
 use Rattle.sg_protocol.specs.Run.{world_after, run, events_of_outcome, events_of, cast_of_session}
 use Rattle.sg_protocol.specs.Premises.{hashed, CollisionFree, Premises}
@@ -109,13 +109,13 @@ IsStepOrRestart sha s (Restarted who) = ⊤
 -- ---- the schedule without restarts
 
 -- the place of a session where m more are declared: a place that the list lacks is moved behind the new ones
-abbrev pub moved_to : List Declared → ℕ → ℕ → ℕ
+abbrev pub moved_to : List NamedSession → ℕ → ℕ → ℕ
 moved_to [] m n = n + m
 moved_to (d ∷ ds) m zero = zero
 moved_to (d ∷ ds) m (suc n) = suc (moved_to ds m n)
 
 -- the same step where m more sessions are declared
-abbrev pub moved_step : List Declared → ℕ → Step → Step
+abbrev pub moved_step : List NamedSession → ℕ → Step → Step
 moved_step ds m (StartStep who n) = StartStep who (moved_to ds m n)
 moved_step ds m (ActStep who n label values) = ActStep who (moved_to ds m n) label values
 moved_step ds m (AbandonStep who n) = AbandonStep who (moved_to ds m n)
@@ -123,11 +123,11 @@ moved_step ds m (DeliverStep who what) = DeliverStep who what
 moved_step ds m (CraftStep c) = CraftStep (record c { session = moved_to ds m c.session })
 
 -- a session, declared
-abbrev pub declared : Session → Declared
+abbrev pub declared : Session → NamedSession
 declared x = record { name = []; cast = x.cast }
 
 -- the sessions that restarts drop, declared in their order
-abbrev pub dropped : Hash → Schedule → World → ℕ → List StepOrRestart → List Declared
+abbrev pub dropped : Hash → Schedule → World → ℕ → List StepOrRestart → List NamedSession
 dropped sha s w k [] = []
 dropped sha s w k (Stepped x ∷ xs) = dropped sha s (world_after sha s w k x) (k + 1) xs
 dropped sha s w k (Restarted who ∷ xs) = map declared (live_of w who) ++ dropped sha s (world_restarted w who) (k + length (live_of w who)) xs

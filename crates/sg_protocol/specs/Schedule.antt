@@ -18,7 +18,7 @@ pub record PairKey : Type 0 where
   pub key : List ℕ
 
 -- a session by its name
-pub record Declared : Type 0 where
+pub record NamedSession : Type 0 where
   pub name : Name
   pub cast : Cast
 
@@ -72,7 +72,7 @@ pub record Schedule : Type 0 where
   pub graphs : List Graph
   pub honest : List Name
   pub keys : List PairKey
-  pub sessions : List Declared
+  pub sessions : List NamedSession
   pub steps : List Step
 
 -- ---- what a schedule says

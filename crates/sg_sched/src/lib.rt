@@ -48,7 +48,7 @@ pub use fault::{Kind, LineFault};
 pub use key::PairKey;
 pub use line::Given;
 pub use read_line::is_skipped;
-pub use schedule::{Declared, Schedule};
+pub use schedule::{NamedSession, Schedule};
 pub use step::{Change, Step, What};
 pub use text::{Words, line_content, split_line};
 pub use value::read_value;

@@ -8,17 +8,17 @@ use std::marker::Model;
 
 /// A session by its name.
 #[derive(Debug, Drop)]
-pub struct Declared {
+pub struct NamedSession {
     /// The name that steps use.
     pub name: Name,
     /// The session's cast.
     pub cast: Cast,
 }
 
-impl Model for Declared {
-    ghost use Rattle.sg_protocol.specs.Schedule.{Declared};
+impl Model for NamedSession {
+    ghost use Rattle.sg_protocol.specs.Schedule.{NamedSession};
 
-    ghost Value = { Declared };
+    ghost Value = { NamedSession };
 
     ghost view = { λ d. record { name = d.name; cast = d.cast } };
 }
@@ -33,7 +33,7 @@ pub struct Schedule {
     /// The keys of pairs of principals.
     pub keys: Seq<PairKey>,
     /// The sessions.
-    pub sessions: Seq<Declared>,
+    pub sessions: Seq<NamedSession>,
     /// The steps.
     pub steps: Seq<Step>,
 }

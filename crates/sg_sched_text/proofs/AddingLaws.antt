@@ -12,7 +12,7 @@ use Rattle.sg_protocol.specs.Schedule.{Step, StartStep, ActStep, AbandonStep, De
 use Rattle.sg_sched.specs.Pair.{edge, labels}
 use Rattle.sg_sched.specs.Format.Said.{Word, Given, Delivered, SaidEdge, SaidHonest, SaidKey, SaidSession, SaidStart, SaidAct, SaidAbandon, SaidDeliver}
 use Rattle.sg_sched.specs.Format.Values.{bytes_of}
-use Rattle.sg_sched.specs.Format.Items.{Item, EdgeItem, HonestItem, KeyItem, SessionItem, StepItem, SoFar, graphs_of_past, graph_names, session_names, index, graph_for, labels_of, is_key_of}
+use Rattle.sg_sched.specs.Format.Items.{Item, EdgeItem, HonestItem, KeyItem, SessionItem, StepItem, SoFar, graphs_declared, graph_names, session_names, index, graph_for, labels_of, is_key_of}
 use Rattle.sg_sched.specs.Format.Made.{values, what_of}
 use Rattle.sg_sched.specs.Format.Kinds.{Form, TooManySteps, TooManySessions, Unknown, Twice, NotHonest}
 use Rattle.sg_sched.specs.Format.Faults.{where', fits_graph, is_like, knows_variable}
@@ -63,14 +63,14 @@ session_tests past false true false true true like item = refl
 session_tests past false true false true false true item = refl
 session_tests past false true false true false false item = refl
 
-fits_is : (past : SoFar) (graph : Name) (names : List Name) → fits_at past (position (bytes_eq graph) (graph_names (graphs_of_past past))) names ≡ fits_graph past graph names
-fits_is past graph names = ap (λ o. option_map_or (λ g. length names == length g.roles) o true) (then_index (slice_get (graphs_of_past past)) graph (graph_names (graphs_of_past past)))
+fits_is : (past : SoFar) (graph : Name) (names : List Name) → fits_at past (position (bytes_eq graph) (graph_names (graphs_declared past))) names ≡ fits_graph past graph names
+fits_is past graph names = ap (λ o. option_map_or (λ g. length names == length g.roles) o true) (then_index (slice_get (graphs_declared past)) graph (graph_names (graphs_declared past)))
 
 pub session_added : (past : SoFar) (name graph : Name) (nonce : ℕ) (names : List Name) (version : ℕ)
     → add_session past name graph nonce names version ≡ after_line past (SaidSession name graph nonce names version)
 unfolding add_session after_line
 session_added past name graph nonce names version =
-    let gs = graph_names (graphs_of_past past) in
+    let gs = graph_names (graphs_declared past) in
     let one : ℕ → Added = λ index.
     if has_text name (session_names past) then Err Twice
     else if list_any (is_like index nonce names version) past.sessions then Err Twice

@@ -3,7 +3,7 @@ use Rattle.std.proofs.Common.{◌≡◌, ℕ, ◌≤◌, List, ◌++◌, length,
 use Rattle.sg_protocol.specs.Schedule.{Schedule}
 use Rattle.sg_protocol.specs.Texts.{real}
 use Rattle.sg_sched.specs.Text.{lines}
-use Rattle.sg_sched.specs.Format.Items.{SoFar, graphs_of_past}
+use Rattle.sg_sched.specs.Format.Items.{SoFar, graphs_declared}
 use Rattle.sg_sched.specs.Format.Kinds.{Kind}
 use Rattle.sg_sched.specs.Format.Spells.{Declare, SpellsSchedule, IsFirstFault, AtIt, AtEdge}
 use Rattle.sg_sched.specs.declared.fault.LineFault.{LineFault}
@@ -12,20 +12,20 @@ use Rattle.sg_sched.proofs.FormatNotBoth.{not_both}
 use Rattle.sg_sched.proofs.FormatPairOnce.{no_pair_at}
 use Rattle.sg_sched_text.specs.declared.reader.ScheduleReader.{ScheduleReader}
 use Rattle.sg_sched_text.specs.ReadSoFar.{HasRead, IsFault}
-use Rattle.sg_sched_text.specs.Whole.{schedule_of_past, HaveCasts}
+use Rattle.sg_sched_text.specs.Whole.{schedule_declared, HaveCasts}
 use Rattle.sg_sched_text.proofs.BlockLaws.{none_left}
 use Rattle.sg_sched_text.proofs.SessionsDeclared.{casts}
 
 -- each session that is kept has a cast
-pub casts_kept : (bytes : List ℕ) (r : ScheduleReader) (rest : List ℕ) → HasRead bytes r rest → HaveCasts (length (graphs_of_past r.past)) r.past.sessions
-casts_kept bytes r rest s = subst (λ (p : SoFar). HaveCasts (length (graphs_of_past p)) p.sessions) (sym s.keeps.past) (casts s.keeps.declared)
+pub casts_kept : (bytes : List ℕ) (r : ScheduleReader) (rest : List ℕ) → HasRead bytes r rest → HaveCasts (length (graphs_declared r.past)) r.past.sessions
+casts_kept bytes r rest s = subst (λ (p : SoFar). HaveCasts (length (graphs_declared p)) p.sessions) (sym s.keeps.past) (casts s.keeps.declared)
 
 -- where nothing is left, the bytes spell the schedule that is kept
-pub spelled : (bytes : List ℕ) (r : ScheduleReader) (rest : List ℕ) → HasRead bytes r rest → length rest ≤ 0 → (t : Schedule) → t ≡ schedule_of_past real r.past → SpellsSchedule real bytes t
+pub spelled : (bytes : List ℕ) (r : ScheduleReader) (rest : List ℕ) → HasRead bytes r rest → length rest ≤ 0 → (t : Schedule) → t ≡ schedule_declared real r.past → SpellsSchedule real bytes t
 spelled bytes r rest s h t e = record {
   items = s.items;
   declared = subst (λ ls. Declare ls s.items) (sym (s.all ∙ ap (λ xs. s.right ++ lines xs) (none_left rest h) ∙ append-nil s.right)) s.keeps.declared;
-  schedule = sym (e ∙ ap (schedule_of_past real) s.keeps.past);
+  schedule = sym (e ∙ ap (schedule_declared real) s.keeps.past);
 }
 
 -- no line of a schedule is wrong

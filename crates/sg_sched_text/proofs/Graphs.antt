@@ -5,7 +5,7 @@ use Rattle.std.specs.Option.{option_or}
 use Rattle.std.proofs.lemmas.List.{map_push, length-map}
 use Rattle.sg_model.specs.Names.{Name}
 use Rattle.sg_protocol.specs.Graph.{Graph}
-use Rattle.sg_sched.specs.Format.Items.{Session, SoFar, graphs_of_past, graph_names, session_named, graph_for}
+use Rattle.sg_sched.specs.Format.Items.{Session, SoFar, graphs_declared, graph_names, session_named, graph_for}
 use Rattle.sg_sched_text.specs.Adding.{session_index}
 use Rattle.sg_sched_text.proofs.Indices.{index_append, index_map, found_at}
 
@@ -26,10 +26,10 @@ session_found n past =
     found_at (λ (s : Session). bytes_eq n s.name) past.sessions
     ∙ ap (option_and_then (slice_get past.sessions)) (sym (index_map (bytes_eq n) (λ (s : Session). s.name) past.sessions))
 
-pub graph_by : (past : SoFar) (n : Name) (i : ℕ) (s : Session) → session_index past n ≡ Some i → slice_get past.sessions i ≡ Some s → slice_get (graphs_of_past past) s.graph ≡ graph_for n past
+pub graph_by : (past : SoFar) (n : Name) (i : ℕ) (s : Session) → session_index past n ≡ Some i → slice_get past.sessions i ≡ Some s → slice_get (graphs_declared past) s.graph ≡ graph_for n past
 graph_by past n i s p q =
-    sym (ap (option_and_then (λ (s : Session). slice_get (graphs_of_past past) s.graph)) (session_found n past ∙ ap (option_and_then (slice_get past.sessions)) p ∙ q))
+    sym (ap (option_and_then (λ (s : Session). slice_get (graphs_declared past) s.graph)) (session_found n past ∙ ap (option_and_then (slice_get past.sessions)) p ∙ q))
 
 pub no_graph : (past : SoFar) (n : Name) → session_index past n ≡ None → None ≡ graph_for n past
 no_graph past n p =
-    sym (ap (option_and_then (λ (s : Session). slice_get (graphs_of_past past) s.graph)) (session_found n past ∙ ap (option_and_then (slice_get past.sessions)) p))
+    sym (ap (option_and_then (λ (s : Session). slice_get (graphs_declared past) s.graph)) (session_found n past ∙ ap (option_and_then (slice_get past.sessions)) p))

@@ -17,7 +17,7 @@ use Rattle.sg_protocol.specs.Frame.{Cast, IsCastOf}
 use Rattle.sg_protocol.specs.Spelling.{HasSpelling}
 use Rattle.sg_protocol.specs.Texts.{real, graph_digest, session_id}
 use Rattle.sg_protocol.specs.Session.{new_session}
-use Rattle.sg_protocol.specs.Schedule.{PairKey, Declared, Schedule, Craft, Step, StartStep, ActStep, AbandonStep, DeliverStep, CraftStep, Whole, Flipped, Cut, Bytes, cast_of, graph_with}
+use Rattle.sg_protocol.specs.Schedule.{PairKey, NamedSession, Schedule, Craft, Step, StartStep, ActStep, AbandonStep, DeliverStep, CraftStep, Whole, Flipped, Cut, Bytes, cast_of, graph_with}
 use Rattle.sg_protocol.specs.World.{new_world}
 use Rattle.sg_protocol.specs.Crafted.{crafted, crafted_frame}
 use Rattle.sg_protocol.specs.IsSchedule.{IsSchedule, IsDeclared, IsPairKey, IsStep}
@@ -25,13 +25,13 @@ use Rattle.sg_protocol.proofs.RealHash.{real_hash}
 use Rattle.sg_sched.specs.Pair.{edge}
 use Rattle.sg_sched.specs.Format.Said.{Given, LineContent, SaidBlock, SaidEdge, SaidHonest, SaidKey, SaidSession, SaidStart, SaidAct, SaidAbandon, SaidDeliver, SaidMake}
 use Rattle.sg_sched.specs.Format.Forms.{is_form, is_given, are_names}
-use Rattle.sg_sched.specs.Format.Items.{Session, Item, GraphItem, EdgeItem, HonestItem, KeyItem, SessionItem, StepItem, SoFar, so_far, graphs_of_past, graph_names, index, session_names, graph_for, labels_of, declared, digest_at}
+use Rattle.sg_sched.specs.Format.Items.{Session, Item, GraphItem, EdgeItem, HonestItem, KeyItem, SessionItem, StepItem, SoFar, so_far, graphs_declared, graph_names, index, session_names, graph_for, labels_of, declared, digest_at}
 use Rattle.sg_sched.specs.Format.Made.{made_after, values, craft, what_of}
 use Rattle.sg_sched.specs.Format.Faults.{knows_variable}
 use Rattle.sg_sched.specs.Format.Spells.{Line, Add, Skip, Say, Show, Declare, Nothing, Next, SpellsSchedule}
 use Rattle.sg_sched.specs.Format.Values.{bytes_of}
 use Rattle.sg_sched_text.specs.Plus.{plus}
-use Rattle.sg_sched_text.specs.Whole.{schedule_of_past}
+use Rattle.sg_sched_text.specs.Whole.{schedule_declared}
 use Rattle.sg_sched_text.proofs.CraftSpelled.{nonce_has, index_below}
 use Rattle.sg_sched_text.proofs.Growing.{one_more}
 use Rattle.sg_sched_text.proofs.RightLines.{IsRight, right, in_group}
@@ -77,7 +77,7 @@ said_meant p m said i form r e = by said form r e (said_more p m.sound said i fo
         let same : KeyItem k ≡ i = cc in
         subst (λ i. Meant (plus p i)) same (key_meant p m one two digits form r k refl (subst (λ i. Sound (plus p i)) (sym same) sound))
     by (SaidSession name graph nonce names version) form r e sound =
-        let s : Session = record { name = name; graph = index graph (graph_names (graphs_of_past p)); nonce = nonce; names = names; version = version } in
+        let s : Session = record { name = name; graph = index graph (graph_names (graphs_declared p)); nonce = nonce; names = names; version = version } in
         let same : SessionItem s ≡ i = cc in
         let late = (or_parts (nat_lt 3 p.group) _ r.form).0 in
         subst (λ i. Meant (plus p i)) same (session_meant p m s (in_group p 3 late) (subst (λ i. Sound (plus p i)) (sym same) sound))
@@ -120,8 +120,8 @@ meant (Next {first = first} {more = more} {items = items} {new = new} d a) = add
 -- ---- the schedule
 
 cast_at : (gs : List Graph) (ss : List Session) (n : ℕ) (s : Session) → slice_get ss n ≡ Some s
-    → option_map (λ (d : Declared). d.cast) (slice_get (map (declared real gs) ss) n) ≡ Some ((declared real gs s).cast)
-cast_at gs ss n s e = ap (option_map (λ (d : Declared). d.cast)) (slice_get-map (declared real gs) ss n ∙ ap (option_map (declared real gs)) e)
+    → option_map (λ (d : NamedSession). d.cast) (slice_get (map (declared real gs) ss) n) ≡ Some ((declared real gs s).cast)
+cast_at gs ss n s e = ap (option_map (λ (d : NamedSession). d.cast)) (slice_get-map (declared real gs) ss n ∙ ap (option_map (declared real gs)) e)
 
 digest_is : (gs : List Graph) (i : ℕ) (g : Graph) → slice_get gs i ≡ Some g → digest_at real gs i ≡ graph_digest real g
 digest_is gs i g e = ap (λ (o : Option Graph). option_map_or (graph_digest real) o []) e
@@ -147,10 +147,10 @@ names_held (n ∷ ns) h = let k = and_parts (is_name n) (list_all is_name ns) h 
 
 module _ (p : SoFar) (m : Meant p) where
   abbrev s : Schedule
-  s = schedule_of_past real p
+  s = schedule_declared real p
 
   abbrev gs : List Graph
-  gs = graphs_of_past p
+  gs = graphs_declared p
 
   cast_has : (x : Session) → IsOf gs x → IsCastOf x.version ((declared real gs x).cast)
   cast_has x o =
@@ -173,7 +173,7 @@ module _ (p : SoFar) (m : Meant p) where
         let o : IsOf gs x = session_in gs p.sessions c.session x m.sound.sessions f.there in
         let cast : Cast = (declared real gs x).cast in
         let h = graph_there gs x.graph o.graph cast.graph (all_graphs p m) o.there (sym (digest_is gs x.graph o.graph o.there)) in
-        let its_cast : cast_of t c.session ≡ Some cast = ap (λ (ds : List Declared). option_map (λ (d : Declared). d.cast) (slice_get ds c.session)) sessions ∙ cast_at gs p.sessions c.session x f.there in
+        let its_cast : cast_of t c.session ≡ Some cast = ap (λ (ds : List NamedSession). option_map (λ (d : NamedSession). d.cast) (slice_get ds c.session)) sessions ∙ cast_at gs p.sessions c.session x f.there in
         let its_graph : graph_with real t.graphs cast.graph ≡ Some h.0 = ap (λ (hs : List Graph). graph_with real hs cast.graph) graphs ∙ h.1 in
         let at : crafted real t (new_world [] t) c ≡ Some (crafted_frame real t (new_world [] t) c h.0 (new_session (session_id real cast) cast c.from)) =
         ap (option_and_then (λ (cast : Cast). option_map (λ g. crafted_frame real t (new_world [] t) c g (new_session (session_id real cast) cast c.from)) (graph_with real t.graphs cast.graph))) its_cast

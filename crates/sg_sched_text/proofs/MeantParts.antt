@@ -26,7 +26,7 @@ use Rattle.sg_protocol.specs.IsSchedule.{IsPairKey}
 use Rattle.sg_sched.specs.Pair.{graphs_of, edge}
 use Rattle.sg_sched.specs.Format.Said.{SaidEdge, SaidHonest, SaidKey}
 use Rattle.sg_sched.specs.Format.Forms.{is_form}
-use Rattle.sg_sched.specs.Format.Items.{Session, GraphItem, EdgeItem, HonestItem, KeyItem, SessionItem, StepItem, SoFar, graphs_of_past, graph_names, is_key_of}
+use Rattle.sg_sched.specs.Format.Items.{Session, GraphItem, EdgeItem, HonestItem, KeyItem, SessionItem, StepItem, SoFar, graphs_declared, graph_names, is_key_of}
 use Rattle.sg_sched.specs.Format.Made.{values}
 use Rattle.sg_sched.specs.Format.Values.{bytes_of}
 use Rattle.sg_sched.proofs.FormatApart.{names_append}
@@ -63,7 +63,7 @@ pub record Meant (p : SoFar) : Type 0 where
   pub sound : Sound p
   pub blocks : AllByRecursion IsGraph p.blocks
   pub edges : AreEdges p.edges
-  pub names : all_differ (graph_names (graphs_of_past p)) ≡ true
+  pub names : all_differ (graph_names (graphs_declared p)) ≡ true
   pub honest : all_differ p.honest ≡ true
   pub are_names : list_all is_name p.honest ≡ true
   pub keys : AllByRecursion IsPairKey p.keys
@@ -101,7 +101,7 @@ nothing_of ss [] e = tt
 nothing_of ss (s ∷ steps) e = absurd (cc)
 
 -- the names of all graphs with an edge more
-edge_names : (p : SoFar) (es : List Edge) (e : Edge) → p.edges ≡ es → all_differ (graph_names (graphs_of_past p)) ≡ true
+edge_names : (p : SoFar) (es : List Edge) (e : Edge) → p.edges ≡ es → all_differ (graph_names (graphs_declared p)) ≡ true
     → has_text (codes "pair") (graph_names p.blocks) ≡ false → all_differ (graph_names (p.blocks ++ graphs_of (es ++ e ∷ []))) ≡ true
 edge_names p [] e q d h =
     let old : all_differ (graph_names p.blocks) ≡ true = ap all_differ (sym (ap (λ es. graph_names (p.blocks ++ graphs_of es)) q ∙ ap graph_names (append-nil p.blocks))) ∙ d in
@@ -111,7 +111,7 @@ edge_names p (f ∷ es) e q d h =
     ∙ sym (ap all_differ (ap (λ es. graph_names (p.blocks ++ graphs_of es)) q ∙ names_append p.blocks (graphs_of (f ∷ es)))) ∙ d
 
 module _ (p : SoFar) (m : Meant p) where
-  pub graph_meant : (g : Graph) → p.group ≤ 0 → Sound (plus p (GraphItem g)) → IsGraph g → has_text g.name (graph_names (graphs_of_past p)) ≡ false → Meant (plus p (GraphItem g))
+  pub graph_meant : (g : Graph) → p.group ≤ 0 → Sound (plus p (GraphItem g)) → IsGraph g → has_text g.name (graph_names (graphs_declared p)) ≡ false → Meant (plus p (GraphItem g))
   graph_meant g early sound is fresh =
       let none : p.steps ≡ [] = m.none_yet (omega (arith, early)) in
       let pair = graphs_of p.edges in

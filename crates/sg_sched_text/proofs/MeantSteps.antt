@@ -18,7 +18,7 @@ use Rattle.sg_protocol.specs.Schedule.{DeliverStep}
 use Rattle.sg_sched.specs.Pair.{graphs_of}
 use Rattle.sg_sched.specs.Format.Said.{Given, ItemContent, CraftContent, Delivered, TheFrame, TheFlipped, TheCut, TheBytes, SaidMake}
 use Rattle.sg_sched.specs.Format.Forms.{is_given, is_item, is_craft}
-use Rattle.sg_sched.specs.Format.Items.{Session, SoFar, graphs_of_past, index, session_names, session_named, graph_for, roles_of, variables_of}
+use Rattle.sg_sched.specs.Format.Items.{Session, SoFar, graphs_declared, index, session_names, session_named, graph_for, roles_of, variables_of}
 use Rattle.sg_sched.specs.Format.Made.{written, values, craft, what_of}
 use Rattle.sg_sched.specs.Format.Faults.{rise, rises, variables, tag_roles, is_short, knows_variable, knows_item, knows_source}
 use Rattle.sg_sched_text.specs.Crafting.{frame_len}
@@ -87,7 +87,7 @@ session_in gs [] i s a h = absurd (cc)
 session_in gs (x ∷ ss) zero s a h = let same : x ≡ s = cc in subst (IsOf gs) same a.0
 session_in gs (x ∷ ss) (suc i) s a h = session_in gs ss i s a.1 h
 
-pub all_graphs : (p : SoFar) → Meant p → AllByRecursion IsGraph (graphs_of_past p)
+pub all_graphs : (p : SoFar) → Meant p → AllByRecursion IsGraph (graphs_declared p)
 all_graphs p m = all-append IsGraph p.blocks (graphs_of p.edges) m.blocks (pair p.edges m.edges)
   where
     pair : (es : List Edge) → AreEdges es → AllByRecursion IsGraph (graphs_of es)
@@ -160,10 +160,10 @@ craft_fits p m c form r =
     let rs = and_parts (rises g0 c) (is_short g0 (session_named c.session p) c) fine in
     let k = known_craft p c g0 r.known in
     let s = session_at p c.session k.session in
-    let o : IsOf (graphs_of_past p) s.0 = session_in (graphs_of_past p) p.sessions (index c.session (session_names p)) s.0 m.sound.sessions s.2 in
+    let o : IsOf (graphs_declared p) s.0 = session_in (graphs_declared p) p.sessions (index c.session (session_names p)) s.0 m.sound.sessions s.2 in
     let g : Graph = o.graph in
-    let at : g0 ≡ Some g = ap (option_and_then (λ (s : Session). slice_get (graphs_of_past p) s.graph)) s.1 ∙ o.there in
-    let is : IsGraph g = graph_in (graphs_of_past p) s.0.graph g (all_graphs p m) o.there in
+    let at : g0 ≡ Some g = ap (option_and_then (λ (s : Session). slice_get (graphs_declared p) s.graph)) s.1 ∙ o.there in
+    let is : IsGraph g = graph_in (graphs_declared p) s.0.graph g (all_graphs p m) o.there in
     let few : nat_le (frame_len s.0 c) 60000 ≡ true = short_is g0 s.0 c (session_named c.session p) s.1 ∙ rs.1 in
     subst (λ (g : Option Graph). FitsCraft p.sessions (craft p g c)) (sym at)
     (in_graph p c g s.0 is form (subst (IsKnown p c) at k) (ap (λ g. rises g c) (sym at) ∙ rs.0) (leb-true (frame_len s.0 c) 60000 few) o.version s.2)

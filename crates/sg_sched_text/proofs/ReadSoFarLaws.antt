@@ -12,7 +12,7 @@ use Rattle.sg_sched.specs.Text.{lines, content, words}
 use Rattle.sg_sched.specs.Pair.{graphs_of}
 use Rattle.sg_sched.specs.Format.Said.{LineContent, SaidBlock, SaidEdge, SaidHonest, SaidKey, SaidSession, SaidStart, SaidAct, SaidAbandon, SaidDeliver, SaidMake}
 use Rattle.sg_sched.specs.Format.Forms.{SaysLine, is_skipped, is_comment}
-use Rattle.sg_sched.specs.Format.Items.{Item, GraphItem, EdgeItem, HonestItem, KeyItem, SessionItem, StepItem, SoFar, so_far, edges, graphs, graph_names, graphs_of_past}
+use Rattle.sg_sched.specs.Format.Items.{Item, GraphItem, EdgeItem, HonestItem, KeyItem, SessionItem, StepItem, SoFar, so_far, edges, graphs, graph_names, graphs_declared}
 use Rattle.sg_sched.specs.Format.Kinds.{Kind, Form}
 use Rattle.sg_sched.specs.Format.Made.{made}
 use Rattle.sg_sched.specs.Format.Spells.{Line, Declare, Nothing, Next, Skip, Say, Show, IsBlock, IsFirstFault, AtIt, AtEdge, IsPairAt, OfNoForm, OfAForm, NotClosed, NoGraph, SameGraph}
@@ -292,7 +292,7 @@ module _ (bytes after : List ℕ) (r : ScheduleReader) (o : Opens bytes r after)
     pub shows : (new : ScheduleReader) → IsShown text r.past new.past → new.number ≡ r.number + count + 1 → new.first_edge ≡ r.first_edge → HasRead bytes new rest
     shows new sh number first_edge =
         let g = sh.graph in
-        let names : graphs_of_past r.past ≡ graphs o.items = ap graphs_of_past o.keeps.past in
+        let names : graphs_declared r.past ≡ graphs o.items = ap graphs_declared o.keeps.past in
         record {
           right = o.right ++ these;
           items = o.items ++ GraphItem g ∷ [];
@@ -389,7 +389,7 @@ pair_named n (e ∷ es) h = by (bytes_eq n (codes "pair")) refl h
     by false q h = absurd (cc)
 
 -- a name of no graph
-pub fresh_name : (n : Name) (p : SoFar) → has_text n (graph_names p.blocks) ≡ false → has_text n (graph_names (graphs_of p.edges)) ≡ false → has_text n (graph_names (graphs_of_past p)) ≡ false
+pub fresh_name : (n : Name) (p : SoFar) → has_text n (graph_names p.blocks) ≡ false → has_text n (graph_names (graphs_of p.edges)) ≡ false → has_text n (graph_names (graphs_declared p)) ≡ false
 fresh_name n p a b = ap (has_text n) (names_apart p.blocks (graphs_of p.edges)) ∙ no_text_both n (graph_names p.blocks) (graph_names (graphs_of p.edges)) a b
 
 -- ---- what the calls say, put together

@@ -15,7 +15,7 @@ use Rattle.sg_protocol.specs.TextLaws.{IsVersion}
 use Rattle.sg_sched.specs.Pair.{graphs_of, pair_graph, edge}
 use Rattle.sg_sched.specs.Format.Said.{LineContent, SaidBlock, SaidEdge, SaidHonest, SaidKey, SaidSession, SaidStart, SaidAct, SaidAbandon, SaidDeliver, SaidMake}
 use Rattle.sg_sched.specs.Format.Forms.{is_form, is_wide, are_names}
-use Rattle.sg_sched.specs.Format.Items.{Session, Item, GraphItem, EdgeItem, HonestItem, KeyItem, SessionItem, StepItem, SoFar, so_far, graphs_of_past, graph_names, session_names, graph_for, labels_of, index}
+use Rattle.sg_sched.specs.Format.Items.{Session, Item, GraphItem, EdgeItem, HonestItem, KeyItem, SessionItem, StepItem, SoFar, so_far, graphs_declared, graph_names, session_names, graph_for, labels_of, index}
 use Rattle.sg_protocol.specs.Schedule.{Step, StartStep, ActStep, AbandonStep, DeliverStep, CraftStep}
 use Rattle.sg_sched.specs.Format.Made.{made_after, values, what_of, craft}
 use Rattle.sg_sched.specs.Format.Values.{bytes_of}
@@ -46,8 +46,8 @@ pub record IsOf (gs : List Graph) (s : Session) : Type 0 where
 
 -- what is held of all that is declared
 pub record Sound (p : SoFar) : Type 0 where
-  pub graphs : AllByRecursion HasFewRoles (graphs_of_past p)
-  pub sessions : AllByRecursion (IsOf (graphs_of_past p)) p.sessions
+  pub graphs : AllByRecursion HasFewRoles (graphs_declared p)
+  pub sessions : AllByRecursion (IsOf (graphs_declared p)) p.sessions
   pub none_yet : p.group ≤ 2 → p.sessions ≡ []
 
 -- ---- graphs
@@ -78,11 +78,11 @@ named n gs h = by (position (bytes_eq n) (graph_names gs)) refl (some_index (byt
         let d : Graph = pair_graph [] in
         (get_or gs i d, ap (slice_get gs) (ap (λ (o : Option ℕ). unwrap_or o 0) e) ∙ slice_get-get_or gs i d within)
 
-fits : (p : SoFar) (graph : Name) (names : List Name) (g : Graph) → has_text graph (graph_names (graphs_of_past p)) ≡ true → slice_get (graphs_of_past p) (index graph (graph_names (graphs_of_past p))) ≡ Some g
+fits : (p : SoFar) (graph : Name) (names : List Name) (g : Graph) → has_text graph (graph_names (graphs_declared p)) ≡ true → slice_get (graphs_declared p) (index graph (graph_names (graphs_declared p))) ≡ Some g
     → fits_graph p graph names ≡ true → length names ≡ length g.roles
 fits p graph names g known there h =
-    let o : Option Graph = if has_text graph (graph_names (graphs_of_past p)) then slice_get (graphs_of_past p) (index graph (graph_names (graphs_of_past p))) else None in
-    let e : o ≡ Some g = ap (λ b. if b then slice_get (graphs_of_past p) (index graph (graph_names (graphs_of_past p))) else None) known ∙ there in
+    let o : Option Graph = if has_text graph (graph_names (graphs_declared p)) then slice_get (graphs_declared p) (index graph (graph_names (graphs_declared p))) else None in
+    let e : o ≡ Some g = ap (λ b. if b then slice_get (graphs_declared p) (index graph (graph_names (graphs_declared p))) else None) known ∙ there in
     eqb-true (length names) (length g.roles) (sym (ap (λ o. option_map_or (λ (g : Graph). length names == length g.roles) o true) e) ∙ h)
 
 -- ---- one item more
@@ -105,7 +105,7 @@ module _ (p : SoFar) (s : Sound p) where
       let blocks : AllByRecursion HasFewRoles (p.blocks ++ g ∷ []) = all-append HasFewRoles p.blocks (g ∷ []) (two_parts p.blocks (graphs_of p.edges) s.graphs) (few, tt) in
       record {
         graphs = all-append HasFewRoles (p.blocks ++ g ∷ []) (graphs_of p.edges) blocks (pair_few p.edges);
-        sessions = nothing_of (graphs_of_past (plus p (GraphItem g))) p.sessions none;
+        sessions = nothing_of (graphs_declared (plus p (GraphItem g))) p.sessions none;
         none_yet = λ h. none;
       }
 
@@ -114,14 +114,14 @@ module _ (p : SoFar) (s : Sound p) where
       let none : p.sessions ≡ [] = s.none_yet (omega (arith, early)) in
       record {
         graphs = all-append HasFewRoles p.blocks (graphs_of (p.edges ++ e ∷ [])) (two_parts p.blocks (graphs_of p.edges) s.graphs) (pair_few (p.edges ++ e ∷ []));
-        sessions = nothing_of (graphs_of_past (plus p (EdgeItem e))) p.sessions none;
+        sessions = nothing_of (graphs_declared (plus p (EdgeItem e))) p.sessions none;
         none_yet = λ h. none;
       }
 
   session_more : (name graph : Name) (nonce : ℕ) (names : List Name) (version : ℕ) → is_form (SaidSession name graph nonce names version) ≡ true
-      → IsRight p (SaidSession name graph nonce names version) → Sound (plus p (SessionItem (record { name = name; graph = index graph (graph_names (graphs_of_past p)); nonce = nonce; names = names; version = version })))
+      → IsRight p (SaidSession name graph nonce names version) → Sound (plus p (SessionItem (record { name = name; graph = index graph (graph_names (graphs_declared p)); nonce = nonce; names = names; version = version })))
   session_more name graph nonce names version form r =
-      let gs = graphs_of_past p in
+      let gs = graphs_declared p in
       let f = or_parts _ (not (fits_graph p graph names)) r.form in
       let at = named graph gs r.known in
       let a = is_name name && is_name graph && is_wide nonce && nat_le 1 (length names) in
@@ -148,10 +148,10 @@ module _ (p : SoFar) (s : Sound p) where
       }
 
   -- an item that is neither a graph nor a session
-  other_more : (q : SoFar) → graphs_of_past q ≡ graphs_of_past p → q.sessions ≡ p.sessions → p.group ≤ q.group → Sound q
+  other_more : (q : SoFar) → graphs_declared q ≡ graphs_declared p → q.sessions ≡ p.sessions → p.group ≤ q.group → Sound q
   other_more q gs ss later = record {
     graphs = subst (AllByRecursion HasFewRoles) (sym gs) s.graphs;
-    sessions = subst (λ gs. AllByRecursion (IsOf gs) q.sessions) (sym gs) (subst (AllByRecursion (IsOf (graphs_of_past p))) (sym ss) s.sessions);
+    sessions = subst (λ gs. AllByRecursion (IsOf gs) q.sessions) (sym gs) (subst (AllByRecursion (IsOf (graphs_declared p))) (sym ss) s.sessions);
     none_yet = λ h. ss ∙ s.none_yet (omega (arith, h, later));
   }
 
@@ -171,7 +171,7 @@ module _ (p : SoFar) (s : Sound p) where
       let same : k ≡ i = cc in
       subst (λ i. Sound (plus p i)) same (other_more (plus p k) refl refl (omega arith))
   said_more (SaidSession name graph nonce names version) i form r m =
-      let s : Item = SessionItem (record { name = name; graph = index graph (graph_names (graphs_of_past p)); nonce = nonce; names = names; version = version }) in
+      let s : Item = SessionItem (record { name = name; graph = index graph (graph_names (graphs_declared p)); nonce = nonce; names = names; version = version }) in
       let same : s ≡ i = cc in
       subst (λ i. Sound (plus p i)) same (session_more name graph nonce names version form r)
   said_more (SaidStart who session) i form r m = step_more (StartStep who (index session (session_names p))) i (cc)
@@ -208,5 +208,5 @@ cast_of gs (s ∷ ss) a =
     (record { graph = slice_get_within gs s.graph h.graph h.there; version = h.version; some = omega (arith, c, m); few = omega (arith, c, f) }, cast_of gs ss a.1)
 
 -- each session has a cast
-pub casts : {ls : List Line} {items : List Item} → Declare ls items → HaveCasts (length (graphs_of_past (so_far items))) (so_far items).sessions
-casts {items = items} d = cast_of (graphs_of_past (so_far items)) (so_far items).sessions (sound d).sessions
+pub casts : {ls : List Line} {items : List Item} → Declare ls items → HaveCasts (length (graphs_declared (so_far items))) (so_far items).sessions
+casts {items = items} d = cast_of (graphs_declared (so_far items)) (so_far items).sessions (sound d).sessions

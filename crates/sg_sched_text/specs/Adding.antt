@@ -12,7 +12,7 @@ use Rattle.sg_protocol.specs.Schedule.{Step, StartStep, ActStep, AbandonStep}
 use Rattle.sg_sched.specs.Pair.{edge, labels}
 use Rattle.sg_sched.specs.Format.Said.{Word, Given, LineContent}
 use Rattle.sg_sched.specs.Format.Values.{bytes_of}
-use Rattle.sg_sched.specs.Format.Items.{Item, EdgeItem, HonestItem, KeyItem, SessionItem, StepItem, Session, SoFar, graphs_of_past, graph_names, session_names, graph_for, labels_of, is_key_of}
+use Rattle.sg_sched.specs.Format.Items.{Item, EdgeItem, HonestItem, KeyItem, SessionItem, StepItem, Session, SoFar, graphs_declared, graph_names, session_names, graph_for, labels_of, is_key_of}
 use Rattle.sg_sched.specs.Format.Made.{made_after, values}
 use Rattle.sg_sched.specs.Format.Kinds.{Kind, Form, TooManySteps, TooManySessions, Unknown, Twice, NotHonest}
 use Rattle.sg_sched.specs.Format.Faults.{fault_after, is_like, knows_variable}
@@ -63,19 +63,19 @@ session_at name nonce names version index = record { name = name; graph = index;
 
 -- there are as many names as the graph at the index has roles, if there is one
 abbrev pub fits_at : SoFar → Option ℕ → List Name → Bool
-fits_at past index names = option_map_or (λ g. length names == length g.roles) (option_and_then (slice_get (graphs_of_past past)) index) true
+fits_at past index names = option_map_or (λ g. length names == length g.roles) (option_and_then (slice_get (graphs_declared past)) index) true
 
 -- at most 100,000 sessions, of declared graphs, that are not alike
 unfoldable pub add_session : SoFar → Name → Name → ℕ → List Name → ℕ → Added
 add_session past name graph nonce names version =
     if nat_lt 3 past.group then Err Form
-    else if not (fits_at past (position (bytes_eq graph) (graph_names (graphs_of_past past))) names) then Err Form
+    else if not (fits_at past (position (bytes_eq graph) (graph_names (graphs_declared past))) names) then Err Form
     else if nat_le most_declared (length past.sessions) then Err TooManySessions
     else option_map_or (λ index.
     if has_text name (session_names past) then Err Twice
     else if list_any (is_like index nonce names version) past.sessions then Err Twice
     else Ok (plus past (SessionItem (session_at name nonce names version index))))
-    (position (bytes_eq graph) (graph_names (graphs_of_past past))) (Err Unknown)
+    (position (bytes_eq graph) (graph_names (graphs_declared past))) (Err Unknown)
 
 -- ---- steps
 

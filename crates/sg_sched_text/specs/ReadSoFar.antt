@@ -9,7 +9,7 @@ use Rattle.sg_parse.specs.declared.fault.ParseFault.{ParseFault}
 use Rattle.sg_sched.specs.Text.{lines}
 use Rattle.sg_sched.specs.Format.Said.{SaidBlock, SaidEdge}
 use Rattle.sg_sched.specs.Format.Forms.{SaysLine}
-use Rattle.sg_sched.specs.Format.Items.{Item, GraphItem, SoFar, so_far, edges, graphs_of_past, graph_names}
+use Rattle.sg_sched.specs.Format.Items.{Item, GraphItem, SoFar, so_far, edges, graphs_declared, graph_names}
 use Rattle.sg_sched.specs.Format.Kinds as Format
 use Rattle.sg_sched.specs.Format.Kinds.{Twice, Graph}
 use Rattle.sg_sched.specs.Format.Faults.{fault}
@@ -85,7 +85,7 @@ pub record Says {A : Type 0} (added : Added) (old new : ScheduleReader) (result 
 pub record IsShown (text : List ℕ) (old new : SoFar) : Type 0 where
   pub graph : AGraph
   pub spelled : SpellsGraph text graph
-  pub fresh : IsFalse (has_text graph.name (graph_names (graphs_of_past old)))
+  pub fresh : IsFalse (has_text graph.name (graph_names (graphs_declared old)))
   pub added : new ≡ plus old (GraphItem graph)
 
 -- the text is no graph's, or its graph has the name of one before, or is named `pair` after edge lines

@@ -11,7 +11,7 @@ ghost use Rattle.sg_sched.specs.Format.Values.{is_value, value_of as spelled};
 ghost use Rattle.sg_sched_text.specs.Crafting.{known_opening, known_source, known_tag, known_item};
 ghost use Rattle.sg_sched_text.specs.Numbers.{all_made};
 
-use crate::past::Past;
+use crate::declarations::Declared;
 use crate::values::spelled_value;
 use byteorder::{BigEndian, ByteOrder};
 use sg_base::{Label, Name, Opening, OutOfMemory, Role, Seq, Time, Var};
@@ -103,7 +103,7 @@ pub(crate) fn openings(
 }
 
 /// The source, if its pair or its role is declared.
-pub(crate) fn source(past: &Past, graph: Option<&Graph>, from: &TagSource) -> Option<Source>
+pub(crate) fn source(past: &Declared, graph: Option<&Graph>, from: &TagSource) -> Option<Source>
     ensures { option_map source_of result ≡ known_source past.now (option_copied graph.entry) (from_of from.now) }
 {
     match from {
@@ -132,7 +132,7 @@ pub(crate) fn source(past: &Past, graph: Option<&Graph>, from: &TagSource) -> Op
 }
 
 // The role and its source, if they are declared.
-fn tag(past: &Past, graph: Option<&Graph>, line: &TagLine) -> Option<(Role, Source)>
+fn tag(past: &Declared, graph: Option<&Graph>, line: &TagLine) -> Option<(Role, Source)>
     ensures { option_map tag_of result ≡ known_tag past.now (option_copied graph.entry) line.now }
 {
     let role = role(graph, &line.role)?;
@@ -142,7 +142,7 @@ fn tag(past: &Past, graph: Option<&Graph>, line: &TagLine) -> Option<(Role, Sour
 
 // The tags, if all their names are declared.
 fn tags(
-    past: &Past,
+    past: &Declared,
     graph: Option<&Graph>,
     list: &[TagLine],
 ) -> Result<Option<Seq<(Role, Source)>>, OutOfMemory>
@@ -161,7 +161,7 @@ fn tags(
 // The item, if all its names are declared.
 #[tactic(auto, using(crate::proofs::FormParts::item_parts))]
 fn item(
-    past: &Past,
+    past: &Declared,
     graph: Option<&Graph>,
     line: &ItemLine<'_>,
 ) -> Result<Option<CraftItem>, OutOfMemory>
@@ -188,7 +188,7 @@ fn item(
 /// The items, if all their names are declared.
 #[tactic(auto, using(crate::proofs::FormParts::each))]
 pub(crate) fn items(
-    past: &Past,
+    past: &Declared,
     graph: Option<&Graph>,
     list: &[ItemLine<'_>],
 ) -> Result<Option<Seq<CraftItem>>, OutOfMemory>

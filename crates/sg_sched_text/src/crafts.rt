@@ -10,8 +10,8 @@ ghost use Rattle.sg_sched_text.specs.Crafting.{craft_step, known_ends, known_lis
 ghost use Rattle.sg_sched_text.specs.Taken.{Takes};
 
 use crate::craft::{items, openings, role, source};
+use crate::declarations::Declared;
 use crate::length::is_short;
-use crate::past::Past;
 use crate::rising::rises;
 use crate::stop::Stop;
 use sg_base::{Opening, OutOfMemory, Role, Seq};
@@ -36,7 +36,7 @@ impl Model for CraftLists {
     ghost view = { λ l. record { know = l.know; items = l.items; openings = l.openings } };
 }
 
-impl Past {
+impl Declared {
     /// A frame is made.
     pub fn craft(&mut self, craft: CraftLine<'_>) -> Result<(), Stop>
         requires { IsTrue (is_craft craft) }

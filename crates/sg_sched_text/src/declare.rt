@@ -4,13 +4,13 @@ ghost use Rattle.std.specs.Option.{option_map_or};
 ghost use Rattle.sg_model.specs.Lists.{has_text};
 ghost use Rattle.sg_model.specs.Names.{reserved};
 ghost use Rattle.sg_sched.specs.Format.Values.{is_hex_of, bytes_of};
-ghost use Rattle.sg_sched.specs.Format.Items.{GraphItem, graphs_of_past, graph_names};
+ghost use Rattle.sg_sched.specs.Format.Items.{GraphItem, graphs_declared, graph_names};
 ghost use Rattle.sg_sched_text.specs.Adding.{add_edge, add_honest, add_key, add_session};
 ghost use Rattle.sg_sched_text.specs.Holding.{HasRoles};
 ghost use Rattle.sg_sched_text.specs.Plus.{plus};
 ghost use Rattle.sg_sched_text.specs.Taken.{Takes};
 
-use crate::past::Past;
+use crate::declarations::Declared;
 use crate::sessions::Like;
 use crate::stop::Stop;
 use sg_base::{Name, OutOfMemory, read_hex};
@@ -23,7 +23,7 @@ const MOST_EDGES: usize = 512;
 
 const MOST_SESSIONS: usize = 100_000;
 
-impl Past {
+impl Declared {
     /// The graph of a block, of a new name.
     pub fn add_block(&mut self, graph: Graph) -> Result<(), OutOfMemory>
         requires new_name { has_text graph.name (graph_names self.old.blocks) ≡ false }
@@ -133,8 +133,8 @@ impl Past {
 
     // Whether there are as many principals as the graph at the index has roles, or no such graph.
     fn fits(&self, index: Option<usize>, names: &NameSet) -> bool
-        requires { IfSome index (λ i. i < length (graphs_of_past self.now)) }
-        ensures { result ≡ option_map_or (λ g. length names.now == length g.roles) (option_and_then (slice_get (graphs_of_past self.now)) index) true }
+        requires { IfSome index (λ i. i < length (graphs_declared self.now)) }
+        ensures { result ≡ option_map_or (λ g. length names.now == length g.roles) (option_and_then (slice_get (graphs_declared self.now)) index) true }
     {
         let Some(index) = index else {
             return true;

@@ -9,7 +9,7 @@ ghost use Rattle.sg_sched_text.specs.ReadSoFar.{HasRead, Opens, Says, Shows, IsF
 ghost use Rattle.sg_sched_text.specs.Taken.{IsRefused, fault_at};
 
 use crate::block::{count_lines, split_block};
-use crate::past::Past;
+use crate::declarations::Declared;
 use crate::stop::Stop;
 use sg_graph::Graph;
 use sg_parse::{ParseFault, parse_graph};
@@ -22,7 +22,7 @@ use std::alloc::Global;
 #[derive(Drop)]
 pub(crate) struct ScheduleReader {
     /// What they declare.
-    pub past: Past,
+    pub past: Declared,
     /// The number of the last line that was read.
     pub number: u32,
     /// The number of the first edge line, if there is one.
@@ -36,7 +36,7 @@ impl ScheduleReader {
         ensures number { result.number ≡ 0 }
     {
         ScheduleReader {
-            past: Past::new(alloc),
+            past: Declared::new(alloc),
             number: 0,
             first_edge: 0,
         }

@@ -10,7 +10,7 @@ ghost use Rattle.sg_sched.specs.Format.Values.{bytes_of};
 ghost use Rattle.sg_sched_text.specs.Adding.{add_step, start_step, abandon_step, act_step, after_line};
 ghost use Rattle.sg_sched_text.specs.Taken.{Takes};
 
-use crate::past::Past;
+use crate::declarations::Declared;
 use crate::stop::Stop;
 use crate::values::{differ, known_values};
 use sg_base::{Name, OutOfMemory};
@@ -22,7 +22,7 @@ use std::alloc::Global;
 
 const MOST_STEPS: usize = 200_000;
 
-impl Past {
+impl Declared {
     /// A step, or `None` where it has a name that isn't declared.
     #[tactic(auto, unfolding(crate::specs::Adding::add_step))]
     pub fn add_step(&mut self, repeated: bool, honest: bool, step: Option<Step>) -> Result<(), Stop>

@@ -6,12 +6,12 @@ ghost use Rattle.sg_sched.specs.Format.Said.{SaidBlock};
 ghost use Rattle.sg_sched_text.specs.Adding.{after_line};
 ghost use Rattle.sg_sched_text.specs.Taken.{Takes};
 
-use crate::past::Past;
+use crate::declarations::Declared;
 use crate::stop::Stop;
 use sg_sched::Kind;
 use sg_sched::line::Line;
 
-impl Past {
+impl Declared {
     /// Takes what a line says. One with which a block begins adds nothing by itself.
     pub fn take(&mut self, line: Line<'_>) -> Result<(), Stop>
         requires { IsTrue (is_form (said line)) }

@@ -1,32 +1,32 @@
 //! The schedule of all that is declared.
 ghost use Rattle.std.specs.Prelude.{◌≡◌, length, map, ◌++◌, IfOk, IsErr, MatchResult};
 ghost use Rattle.sg_protocol.specs.Texts.{real, graph_digest};
-ghost use Rattle.sg_sched.specs.Format.Items.{graphs_of_past, declared};
+ghost use Rattle.sg_sched.specs.Format.Items.{graphs_declared, declared};
 ghost use Rattle.sg_sched.specs.Format.StepsHeld.{step_of};
 ghost use Rattle.sg_sched.specs.Pair.{graphs_of};
 ghost use Rattle.sg_sched_text.specs.Holding.{HasCast};
 ghost use Rattle.sg_sched_text.specs.Sessions.{session_of};
-ghost use Rattle.sg_sched_text.specs.Whole.{schedule_of_past, declared_by, HaveCasts};
+ghost use Rattle.sg_sched_text.specs.Whole.{schedule_declared, declared_by, HaveCasts};
 
-use crate::past::Past;
+use crate::declarations::Declared;
 use crate::sessions::{Like, Sessions};
 use sg_base::{Name, OutOfMemory, Seq};
 use sg_crypt::Cast;
 use sg_graph::Graph;
 use sg_sched::cast::{digest_of, nonce_bytes};
 use sg_sched::pair::Pair;
-use sg_sched::{Declared, PairKey, Schedule, Step};
+use sg_sched::{NamedSession, PairKey, Schedule, Step};
 use std::alloc::Global;
 
-impl Past {
+impl Declared {
     /// The schedule of all that is declared.
     pub fn schedule(self) -> Result<Schedule, OutOfMemory>
-        requires { HaveCasts (length (graphs_of_past self)) self.sessions }
-        ensures { IfOk result (λ s. s ≡ schedule_of_past real self) }
+        requires { HaveCasts (length (graphs_declared self)) self.sessions }
+        ensures { IfOk result (λ s. s ≡ schedule_declared real self) }
     {
         let sessions = self.declared()?;
         let honest = self.honest.to_list(self.alloc)?;
-        let Past {
+        let Declared {
             alloc,
             group: _,
             blocks,
@@ -41,9 +41,9 @@ impl Past {
     }
 
     // The sessions with their casts.
-    fn declared(&self) -> Result<Seq<Declared>, OutOfMemory>
-        requires { HaveCasts (length (graphs_of_past self.now)) self.now.sessions }
-        ensures { IfOk result (λ found. found ≡ map (declared real (graphs_of_past self.now)) self.now.sessions) }
+    fn declared(&self) -> Result<Seq<NamedSession>, OutOfMemory>
+        requires { HaveCasts (length (graphs_declared self.now)) self.now.sessions }
+        ensures { IfOk result (λ found. found ≡ map (declared real (graphs_declared self.now)) self.now.sessions) }
     {
         let digests = self.digests()?;
         with_casts(self.alloc, &self.sessions, digests.as_slice())
@@ -51,7 +51,7 @@ impl Past {
 
     // The digest of each graph.
     fn digests(&self) -> Result<Seq<[u8; 32]>, OutOfMemory>
-        ensures { IfOk result (λ digests. digests ≡ map (graph_digest real) (graphs_of_past self.now)) }
+        ensures { IfOk result (λ digests. digests ≡ map (graph_digest real) (graphs_declared self.now)) }
     {
         let mut found = digests(self.alloc, self.blocks.as_slice())?;
         if let Some(graph) = self.pair.graph() {
@@ -66,7 +66,7 @@ fn together(
     graphs: Result<Seq<Graph>, OutOfMemory>,
     honest: Seq<Name>,
     keys: Seq<PairKey>,
-    sessions: Seq<Declared>,
+    sessions: Seq<NamedSession>,
     steps: Seq<Step>,
 ) -> Result<Schedule, OutOfMemory>
     ensures { MatchResult graphs (λ gs. IfOk result (λ s. s ≡ record { graphs = gs; honest = honest; keys = keys; sessions = sessions; steps = map step_of steps })) (λ _. IsErr result) }
@@ -109,7 +109,7 @@ fn with_casts(
     alloc: Global,
     sessions: &Sessions,
     digests: &[[u8; 32]],
-) -> Result<Seq<Declared>, OutOfMemory>
+) -> Result<Seq<NamedSession>, OutOfMemory>
     requires { HaveCasts (length digests.now) sessions.now }
     ensures { IfOk result (λ found. found ≡ map (declared_by digests.now) sessions.now) }
 {
@@ -122,7 +122,7 @@ fn with_casts(
 }
 
 // A session with its cast.
-fn with_cast(name: Name, like: &Like, digests: &[[u8; 32]]) -> Declared
+fn with_cast(name: Name, like: &Like, digests: &[[u8; 32]]) -> NamedSession
     requires { HasCast (length digests.now) (session_of name like.now) }
     ensures { result ≡ declared_by digests.now (session_of name like.now) }
 {
@@ -133,7 +133,7 @@ fn with_cast(name: Name, like: &Like, digests: &[[u8; 32]]) -> Declared
         nonce_bytes(like.nonce),
         like.names.as_slice(),
     ) {
-        Some(cast) => Declared { name, cast },
+        Some(cast) => NamedSession { name, cast },
         None => unreachable!(),
     }
 }

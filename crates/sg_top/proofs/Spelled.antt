@@ -20,7 +20,7 @@ use Rattle.sg_protocol.specs.Texts.{Hash}
 use Rattle.sg_sched.specs.Pair.{edge}
 use Rattle.sg_sched.specs.Format.Values.{bytes_of}
 use Rattle.sg_sched.specs.Format.Said.{Given, LineContent, SaidBlock, SaidEdge, SaidHonest, SaidKey, SaidSession, SaidStart, SaidAct, SaidAbandon, SaidDeliver, SaidMake}
-use Rattle.sg_sched.specs.Format.Items.{Session, Item, GraphItem, EdgeItem, HonestItem, KeyItem, SessionItem, StepItem, SoFar, so_far, schedule_of, graphs, declared, graphs_of_past, graph_names, session_names, session_named, graph_for, labels_of, variables_of, index}
+use Rattle.sg_sched.specs.Format.Items.{Session, Item, GraphItem, EdgeItem, HonestItem, KeyItem, SessionItem, StepItem, SoFar, so_far, schedule_of, graphs, declared, graphs_declared, graph_names, session_names, session_named, graph_for, labels_of, variables_of, index}
 use Rattle.sg_sched.specs.Format.Made.{made_after, written, values, what_of, craft}
 use Rattle.sg_sched.specs.Format.Faults.{knows_variable}
 use Rattle.sg_sched.specs.Format.Spells.{Line, Add, Skip, Say, Show, Declare, Nothing, Next, SpellsSchedule}
@@ -48,7 +48,7 @@ record Fits (honest : List Name) (gs : List Graph) (sessions : ℕ) (x : Step) :
 
 -- it is known of each step so far, and there is none before the last group
 record AllFit (p : SoFar) : Type 0 where
-  steps : AllByRecursion (Fits p.honest (graphs_of_past p) (length p.sessions)) p.steps
+  steps : AllByRecursion (Fits p.honest (graphs_declared p) (length p.sessions)) p.steps
   none_yet : p.group ≤ 3 → p.steps ≡ []
 
 -- ---- names
@@ -61,14 +61,14 @@ known_index n ns h = by (position (bytes_eq n) ns) refl (some_index (bytes_eq n)
     by (Some i) e s = subst (λ (o : Option ℕ). unwrap_or o 0 < length ns) (sym e) (position-Some (bytes_eq n) ns i [] e).0
 
 -- the graph of a session is one of the graphs
-graph_there : (p : SoFar) (n : Name) (g : Graph) → graph_for n p ≡ Some g → Contains (graphs_of_past p) g
+graph_there : (p : SoFar) (n : Name) (g : Graph) → graph_for n p ≡ Some g → Contains (graphs_declared p) g
 graph_there p n g h = by (session_named n p) refl
   where
-    by : (o : Option Session) → session_named n p ≡ o → Contains (graphs_of_past p) g
-    by None e = absurd (let no = sym h ∙ ap (option_and_then (λ (s : Session). slice_get (graphs_of_past p) s.graph)) e in cc)
+    by : (o : Option Session) → session_named n p ≡ o → Contains (graphs_declared p) g
+    by None e = absurd (let no = sym h ∙ ap (option_and_then (λ (s : Session). slice_get (graphs_declared p) s.graph)) e in cc)
     by (Some s) e =
-        let at : slice_get (graphs_of_past p) s.graph ≡ Some g = sym (ap (option_and_then (λ (s : Session). slice_get (graphs_of_past p) s.graph)) e) ∙ h in
-        (s.graph, slice_get_within (graphs_of_past p) s.graph g at, get_or_from_slice_get (graphs_of_past p) s.graph g g at)
+        let at : slice_get (graphs_declared p) s.graph ≡ Some g = sym (ap (option_and_then (λ (s : Session). slice_get (graphs_declared p) s.graph)) e) ∙ h in
+        (s.graph, slice_get_within (graphs_declared p) s.graph g at, get_or_from_slice_get (graphs_declared p) s.graph g g at)
 
 -- ---- values
 
@@ -111,16 +111,16 @@ module _ (p : SoFar) (a : AllFit p) where
   early : (i : Item) → (plus p i).steps ≡ p.steps → p.group ≤ 3 → AllFit (plus p i)
   early i same first =
       let none : (plus p i).steps ≡ [] = same ∙ a.none_yet first in
-      record { steps = nothing_of (Fits (plus p i).honest (graphs_of_past (plus p i)) (length (plus p i).sessions)) (plus p i).steps none; none_yet = λ h. none }
+      record { steps = nothing_of (Fits (plus p i).honest (graphs_declared (plus p i)) (length (plus p i).sessions)) (plus p i).steps none; none_yet = λ h. none }
 
-  step_more : (x : Step) (i : Item) → Fits p.honest (graphs_of_past p) (length p.sessions) x → StepItem x ≡ i → AllFit (plus p i)
+  step_more : (x : Step) (i : Item) → Fits p.honest (graphs_declared p) (length p.sessions) x → StepItem x ≡ i → AllFit (plus p i)
   step_more x i f same = subst (λ i. AllFit (plus p i)) same (record {
-    steps = all-append (Fits p.honest (graphs_of_past p) (length p.sessions)) p.steps (x ∷ []) a.steps (f, tt);
+    steps = all-append (Fits p.honest (graphs_declared p) (length p.sessions)) p.steps (x ∷ []) a.steps (f, tt);
     none_yet = λ h. absurd (omega (arith, h));
   })
 
   act_names : (who session label : Name) (vs : List Given) (g : Option Graph) → graph_for session p ≡ g → has_text label (labels_of g) ≡ true → list_all (λ v. knows_variable g v.variable) vs ≡ true
-      → Names (graphs_of_past p) (length p.sessions) (ActStep who (index session (session_names p)) (index label (labels_of g)) (values g vs))
+      → Names (graphs_declared p) (length p.sessions) (ActStep who (index session (session_names p)) (index label (labels_of g)) (values g vs))
   act_names who session label vs None e l h = absurd (cc)
   act_names who session label vs (Some g) e l h = (g, graph_there p session g e, values_known g vs h)
 
@@ -139,7 +139,7 @@ module _ (p : SoFar) (a : AllFit p) where
   said_more (SaidHonest who) i r m = early_more (HonestItem who) i 1 (omega arith) (in_group p 1 r.form) refl (cc)
   said_more (SaidKey one two digits) i r m = let k : PairKey = record { one = one; two = two; key = bytes_of digits } in early_more (KeyItem k) i 2 (omega arith) (in_group p 2 r.form) refl (cc)
   said_more (SaidSession name graph nonce names version) i r m =
-      let s : Session = record { name = name; graph = index graph (graph_names (graphs_of_past p)); nonce = nonce; names = names; version = version } in
+      let s : Session = record { name = name; graph = index graph (graph_names (graphs_declared p)); nonce = nonce; names = names; version = version } in
       early_more (SessionItem s) i 3 (omega arith) (in_group p 3 (or_parts (nat_lt 3 p.group) _ r.form).0) refl (cc)
   said_more (SaidStart who session) i r m = step_more (StartStep who (index session (session_names p))) i (record { of = r.honest; names = tt }) (cc)
   said_more (SaidAct who session label vs) i r m =

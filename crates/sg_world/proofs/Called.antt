@@ -21,7 +21,7 @@ use Rattle.sg_protocol.specs.Notes.{Notes, no_notes, notes as noted_of}
 use Rattle.sg_protocol.specs.Past.{Past, node_of}
 use Rattle.sg_protocol.specs.Ranges.{IsCallInRange, AreValues}
 use Rattle.sg_protocol.specs.Run.{frame_in}
-use Rattle.sg_protocol.specs.Schedule.{Declared, Schedule, StartStep, ActStep, sid_at, confounder}
+use Rattle.sg_protocol.specs.Schedule.{NamedSession, Schedule, StartStep, ActStep, sid_at, confounder}
 use Rattle.sg_protocol.specs.Spelling.{spelling, u64}
 use Rattle.sg_protocol.specs.Texts.{real, session_id}
 use Rattle.sg_protocol.specs.Told.{graph_of_call}
@@ -58,21 +58,21 @@ if_is_ok Q (Err e) f = tt
 
 -- ---- the call of a step
 
-pub comes_start : (s : Schedule) (w : World) (k number : ℕ) (who : Name) (n : ℕ) (ds : List Declared) (cast : Cast) (old new : NodeState) (past : Past) (c : StepResult)
-    → ds ≡ s.sessions → option_map (λ (d : Declared). d.cast) (slice_get ds n) ≡ Some cast → ComesOfCall number old new past (Start cast) c → Comes number old new past (call_of real s w k (StartStep who n)) c
+pub comes_start : (s : Schedule) (w : World) (k number : ℕ) (who : Name) (n : ℕ) (ds : List NamedSession) (cast : Cast) (old new : NodeState) (past : Past) (c : StepResult)
+    → ds ≡ s.sessions → option_map (λ (d : NamedSession). d.cast) (slice_get ds n) ≡ Some cast → ComesOfCall number old new past (Start cast) c → Comes number old new past (call_of real s w k (StartStep who n)) c
 comes_start s w k number who n ds cast old new past c same at h =
-    subst (λ (o : Option Call). Comes number old new past o c) (sym (ap (option_map Start) (ap (λ (ds : List Declared). option_map (λ (d : Declared). d.cast) (slice_get ds n)) (sym same) ∙ at))) h
+    subst (λ (o : Option Call). Comes number old new past o c) (sym (ap (option_map Start) (ap (λ (ds : List NamedSession). option_map (λ (d : NamedSession). d.cast) (slice_get ds n)) (sym same) ∙ at))) h
 
 -- the identifier at an index
-sid_is : (s : Schedule) (n : ℕ) (ds : List Declared) (sid : List ℕ) → ds ≡ s.sessions → option_map (λ (d : Declared). session_id real d.cast) (slice_get ds n) ≡ Some sid → sid ≡ sid_at real s n
-sid_is s n ds sid same at = by (slice_get ds n) at ∙ ap (λ (ds : List Declared). option_map_or (session_id real) (option_map (λ (d : Declared). d.cast) (slice_get ds n)) []) same
+sid_is : (s : Schedule) (n : ℕ) (ds : List NamedSession) (sid : List ℕ) → ds ≡ s.sessions → option_map (λ (d : NamedSession). session_id real d.cast) (slice_get ds n) ≡ Some sid → sid ≡ sid_at real s n
+sid_is s n ds sid same at = by (slice_get ds n) at ∙ ap (λ (ds : List NamedSession). option_map_or (session_id real) (option_map (λ (d : NamedSession). d.cast) (slice_get ds n)) []) same
   where
-    by : (o : Option Declared) → option_map (λ (d : Declared). session_id real d.cast) o ≡ Some sid → sid ≡ option_map_or (session_id real) (option_map (λ (d : Declared). d.cast) o) []
+    by : (o : Option NamedSession) → option_map (λ (d : NamedSession). session_id real d.cast) o ≡ Some sid → sid ≡ option_map_or (session_id real) (option_map (λ (d : NamedSession). d.cast) o) []
     by None e = absurd (cc)
     by (Some d) e = sym (cc)
 
-pub comes_act : (s : Schedule) (w : World) (k number : ℕ) (who : Name) (n label : ℕ) (values : Map Value) (ds : List Declared) (sid : List ℕ) (confounders : List (List ℕ)) (old new : NodeState) (past : Past) (c : StepResult)
-    → ds ≡ s.sessions → option_map (λ (d : Declared). session_id real d.cast) (slice_get ds n) ≡ Some sid → confounders ≡ map (λ (v : ℕ × Value). confounder k v.0) values
+pub comes_act : (s : Schedule) (w : World) (k number : ℕ) (who : Name) (n label : ℕ) (values : Map Value) (ds : List NamedSession) (sid : List ℕ) (confounders : List (List ℕ)) (old new : NodeState) (past : Past) (c : StepResult)
+    → ds ≡ s.sessions → option_map (λ (d : NamedSession). session_id real d.cast) (slice_get ds n) ≡ Some sid → confounders ≡ map (λ (v : ℕ × Value). confounder k v.0) values
     → ComesOfCall number old new past (Act sid label values confounders) c → Comes number old new past (call_of real s w k (ActStep who n label values)) c
 comes_act s w k number who n label values ds sid confounders old new past c same at are h =
     subst (λ (z : List ℕ). ComesOfCall number old new past (Act z label values (map (λ (v : ℕ × Value). confounder k v.0) values)) c) (sid_is s n ds sid same at)

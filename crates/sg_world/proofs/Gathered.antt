@@ -4,7 +4,7 @@ use Rattle.sg_protocol.specs.Crafted.{crafted_frame}
 use Rattle.sg_protocol.specs.Frame.{Cast, Frame}
 use Rattle.sg_protocol.specs.Graph.{Graph}
 use Rattle.sg_protocol.specs.IsSchedule.{IsStep}
-use Rattle.sg_protocol.specs.Schedule.{Schedule, Declared, Craft, Step, StartStep, ActStep, AbandonStep, DeliverStep, CraftStep, cast_of, graph_with}
+use Rattle.sg_protocol.specs.Schedule.{Schedule, NamedSession, Craft, Step, StartStep, ActStep, AbandonStep, DeliverStep, CraftStep, cast_of, graph_with}
 use Rattle.sg_protocol.specs.Session.{new_session}
 use Rattle.sg_protocol.specs.Spelling.{HasSpelling}
 use Rattle.sg_protocol.specs.Texts.{real, session_id}
@@ -55,7 +55,7 @@ craftable d nodes r (CraftStep x) step = by_cast d nodes r x step (cast_of (sche
 
 -- the means are of the craft's session
 pub record AreGathered (d : Setting) (x : Craft) (m : Means) : Type 0 where
-  pub cast : option_map (λ (e : Declared). e.cast) (slice_get d.sessions x.session) ≡ Some m.cast
+  pub cast : option_map (λ (e : NamedSession). e.cast) (slice_get d.sessions x.session) ≡ Some m.cast
   pub graph : graph_with real d.graphs m.cast.graph ≡ Some m.graph
   pub sid : m.sid ≡ session_id real m.cast
   pub keys : m.keys ≡ d.keys

@@ -7,7 +7,7 @@ use Rattle.std.proofs.lemmas.Option.{slice_get-get_or}
 use Rattle.sg_protocol.specs.Calls.{Happened, Sends, Start, Deliver, Event, sid_of}
 use Rattle.sg_protocol.specs.Frame.{Cast}
 use Rattle.sg_protocol.specs.Run.{events_of_outcome}
-use Rattle.sg_protocol.specs.Schedule.{Declared, Schedule, Step, StartStep, ActStep, AbandonStep, DeliverStep, CraftStep, cast_of, who_of}
+use Rattle.sg_protocol.specs.Schedule.{NamedSession, Schedule, Step, StartStep, ActStep, AbandonStep, DeliverStep, CraftStep, cast_of, who_of}
 use Rattle.sg_protocol.specs.Steps.{frame_number}
 use Rattle.sg_protocol.specs.Texts.{real, session_id}
 use Rattle.sg_protocol.specs.World.{World, Logged, Outcome, Answered, bytes_of, call_of}
@@ -37,7 +37,7 @@ left_is s w k (StartStep who n) h = no_start (cast_of s n)
 left_is s w k (ActStep who n label values) h = refl
 left_is s w k (AbandonStep who n) h = by (slice_get s.sessions n) (get_or s.sessions n _) (slice_get-get_or s.sessions n (record { name = []; cast = record { version = 0; graph = []; nonce = []; names = [] } }) h)
   where
-    by : (o : Option Declared) (d : Declared) → o ≡ Some d → Some (option_map_or (session_id real) (option_map (λ (d : Declared). d.cast) o) []) ≡ option_map (λ (d : Declared). session_id real d.cast) o
+    by : (o : Option NamedSession) (d : NamedSession) → o ≡ Some d → Some (option_map_or (session_id real) (option_map (λ (d : NamedSession). d.cast) o) []) ≡ option_map (λ (d : NamedSession). session_id real d.cast) o
     by None d e = absurd (cc)
     by (Some c) d e = refl
 left_is s w k (DeliverStep who what) h = no_delivery (bytes_of w what)
@@ -57,7 +57,7 @@ module _ (r : Replay) (d : Setting) (sessions : d.sessions ≡ r.schedule.sessio
       }))
     where
       left : left_by d.sessions e.step ≡ option_and_then sid_left l.call
-      left = ap (λ (ss : List Declared). left_by ss e.step) sessions ∙ sym (left_is r.schedule of.world of.number e.step named) ∙ ap (option_and_then sid_left) (sym of.call)
+      left = ap (λ (ss : List NamedSession). left_by ss e.step) sessions ∙ sym (left_is r.schedule of.world of.number e.step named) ∙ ap (option_and_then sid_left) (sym of.call)
 
   -- the lines that are kept are those of the account
   pub lines_alike : (es : List Taken) (ls : List Logged) (ts : List Reported) → map (λ (e : Taken). e.told) es ≡ map {B = Option Reported} Some ts → map (λ (e : Taken). e.graph) es ≡ map (graph_of_entry r.programs r.schedule) ls

@@ -9,22 +9,22 @@ use Rattle.std.proofs.lemmas.List.{get_or-map, map-append, take_more}
 use Rattle.std.proofs.lemmas.List.Elements.{filter_map-append}
 use Rattle.sg_text.specs.Sessions.{KnownSessions, with_declared}
 use Rattle.sg_model.specs.Lists.{has_text}
-use Rattle.sg_protocol.specs.Schedule.{Declared}
+use Rattle.sg_protocol.specs.Schedule.{NamedSession}
 use Rattle.sg_protocol.specs.Texts.{real, session_id}
 use Rattle.sg_world.specs.Kept.{Taken}
 use Rattle.sg_world.specs.Account.{declared_in}
 use Rattle.sg_world.specs.KeptLines.{met_in, sid_kept}
 
 -- one more session is declared
-pub declared_next : (ss : List Declared) (i : ℕ) (d : Declared) → i < length ss → d ≡ get_or ss i d → with_declared (met_in (take i ss) []) d.name (session_id real d.cast) ≡ met_in (take (i + 1) ss) []
+pub declared_next : (ss : List NamedSession) (i : ℕ) (d : NamedSession) → i < length ss → d ≡ get_or ss i d → with_declared (met_in (take i ss) []) d.name (session_id real d.cast) ≡ met_in (take (i + 1) ss) []
 declared_next ss i d l at =
     let more : take (i + 1) ss ≡ take i ss ++ d ∷ [] = take_more ss i d l ∙ ap (λ y. take i ss ++ y ∷ []) (sym at) in
-    ap (λ (z : List (List ℕ × List ℕ)). let m : KnownSessions = record { declared = z; events = [] } in m) (sym (ap declared_in more ∙ map-append (λ (d : Declared). (d.name, session_id real d.cast)) (take i ss) (d ∷ [])))
+    ap (λ (z : List (List ℕ × List ℕ)). let m : KnownSessions = record { declared = z; events = [] } in m) (sym (ap declared_in more ∙ map-append (λ (d : NamedSession). (d.name, session_id real d.cast)) (take i ss) (d ∷ [])))
 
-pub declared_step : (ss : List Declared) (sids : List (List ℕ)) (i : ℕ) (d : Declared) (sid : List ℕ) → sids ≡ map (λ (d : Declared). session_id real d.cast) ss → i < length ss → d ≡ get_or ss i d → sid ≡ get_or sids i sid
+pub declared_step : (ss : List NamedSession) (sids : List (List ℕ)) (i : ℕ) (d : NamedSession) (sid : List ℕ) → sids ≡ map (λ (d : NamedSession). session_id real d.cast) ss → i < length ss → d ≡ get_or ss i d → sid ≡ get_or sids i sid
     → with_declared (met_in (take i ss) []) d.name sid ≡ met_in (take (i + 1) ss) []
 declared_step ss sids i d sid are l at sid_at =
-    let is : sid ≡ session_id real d.cast = sid_at ∙ ap (λ (z : List (List ℕ)). get_or z i sid) are ∙ get_or-map (λ (d : Declared). session_id real d.cast) ss i d sid l ∙ ap (λ (d : Declared). session_id real d.cast) (sym at) in
+    let is : sid ≡ session_id real d.cast = sid_at ∙ ap (λ (z : List (List ℕ)). get_or z i sid) are ∙ get_or-map (λ (d : NamedSession). session_id real d.cast) ss i d sid l ∙ ap (λ (d : NamedSession). session_id real d.cast) (sym at) in
     ap (with_declared (met_in (take i ss) []) d.name) is ∙ declared_next ss i d l at
 
 abbrev pub met_with : KnownSessions → List (List ℕ) → KnownSessions

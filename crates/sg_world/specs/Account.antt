@@ -10,7 +10,7 @@ use Rattle.sg_protocol.specs.Graph.{Graph}
 use Rattle.sg_protocol.specs.Notes.{Note}
 use Rattle.sg_protocol.specs.Premises.{hashed}
 use Rattle.sg_protocol.specs.Run.{events_of_outcome, cast_of_session}
-use Rattle.sg_protocol.specs.Schedule.{Declared, Schedule, Step, ActStep, AbandonStep, graph_with, honest_role}
+use Rattle.sg_protocol.specs.Schedule.{NamedSession, Schedule, Step, ActStep, AbandonStep, graph_with, honest_role}
 use Rattle.sg_protocol.specs.Texts.{real, session_id}
 use Rattle.sg_protocol.specs.World.{Logged}
 use Rattle.sg_report.specs.Lines.{graph_or_none}
@@ -58,7 +58,7 @@ abbrev pub honest_in : Replay → List ℕ → ℕ → Bool
 honest_in r sid role = option_map_or (λ c. honest_role r.schedule c role) (cast_met r sid) false
 
 -- the declared sessions with their sids
-abbrev pub declared_in : List Declared → List (List ℕ × List ℕ)
+abbrev pub declared_in : List NamedSession → List (List ℕ × List ℕ)
 declared_in sessions = map (λ d. (d.name, session_id real d.cast)) sessions
 
 -- ---- the whole

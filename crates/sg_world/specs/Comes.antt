@@ -12,7 +12,7 @@ use Rattle.sg_protocol.specs.Notes.{notes as noted_of}
 use Rattle.sg_protocol.specs.Past.{Past, node_of}
 use Rattle.sg_protocol.specs.Ranges.{IsCallInRange}
 use Rattle.sg_protocol.specs.Run.{frame_in}
-use Rattle.sg_protocol.specs.Schedule.{Declared, Schedule, Step, StartStep, ActStep, AbandonStep, DeliverStep, CraftStep}
+use Rattle.sg_protocol.specs.Schedule.{NamedSession, Schedule, Step, StartStep, ActStep, AbandonStep, DeliverStep, CraftStep}
 use Rattle.sg_protocol.specs.Texts.{real}
 use Rattle.sg_protocol.specs.Told.{graph_of_call}
 use Rattle.sg_protocol.specs.World.{World, frames, call_of, flipped}
@@ -53,13 +53,13 @@ changed_to (Flip at) bs = flipped at bs
 changed_to (Cut len) bs = take len bs
 
 -- for each schedule of these sessions and each run that recorded these frames, this comes of the call of step k
-abbrev pub ComesOfStep : List Declared → List (List ℕ) → ℕ → Step → NodeState → NodeState → StepResult → Type 0
+abbrev pub ComesOfStep : List NamedSession → List (List ℕ) → ℕ → Step → NodeState → NodeState → StepResult → Type 0
 ComesOfStep sessions recorded k x old new c =
     (s : Schedule) (w : World) (past : Past) → sessions ≡ s.sessions → frames w ≡ recorded → RepresentsPast old past
     → Comes (length recorded + 1) old new past (call_of real s w k x) c
 
 -- so it does at the node of the principal, and the others are as before
-pub record ComesAt (sessions : List Declared) (recorded : List (List ℕ)) (k : ℕ) (x : Step) (index : ℕ) (nodes now : List (Name × NodeState)) (c : StepResult) : Type 0 where
+pub record ComesAt (sessions : List NamedSession) (recorded : List (List ℕ)) (k : ℕ) (x : Step) (index : ℕ) (nodes now : List (Name × NodeState)) (c : StepResult) : Type 0 where
   pub who : Name
   pub old : NodeState
   pub new : NodeState

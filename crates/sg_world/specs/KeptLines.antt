@@ -1,7 +1,7 @@
 -- What the lines and the names of a report are made of, by what is kept.
 use Rattle.std.specs.Prelude.{ℕ, List, filter_map, Option, None, option_map, option_and_then, slice_get, IfSome}
 use Rattle.sg_protocol.specs.Calls.{sid_of}
-use Rattle.sg_protocol.specs.Schedule.{Declared, Step, AbandonStep, who_of}
+use Rattle.sg_protocol.specs.Schedule.{NamedSession, Step, AbandonStep, who_of}
 use Rattle.sg_protocol.specs.Texts.{real, session_id}
 use Rattle.sg_text.specs.Sessions.{KnownSessions}
 use Rattle.sg_report.specs.Report.{StepLine}
@@ -15,11 +15,11 @@ abbrev pub sid_kept : Taken → Option (List ℕ)
 sid_kept e = option_map sid_of (option_and_then event_reported e.told)
 
 -- the sessions that are declared, and those of the events of these steps
-abbrev pub met_in : List Declared → List Taken → KnownSessions
+abbrev pub met_in : List NamedSession → List Taken → KnownSessions
 met_in sessions entries = record { declared = declared_in sessions; events = filter_map sid_kept entries }
 
 -- the sid that a step gives up
-abbrev pub left_by : List Declared → Step → Option (List ℕ)
+abbrev pub left_by : List NamedSession → Step → Option (List ℕ)
 left_by sessions (AbandonStep who n) = option_map (λ d. session_id real d.cast) (slice_get sessions n)
 left_by sessions other = None
 

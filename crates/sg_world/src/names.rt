@@ -10,7 +10,7 @@ use crate::record::TakenStep;
 use crate::setting::Setting;
 use sg_base::{OutOfMemory, Sid};
 use sg_report::sid_reported;
-use sg_sched::Declared;
+use sg_sched::NamedSession;
 use sg_text::SessionNames;
 use std::alloc::Global;
 
@@ -32,7 +32,7 @@ pub(crate) fn session_names<'p>(
 // Declares these sessions, where none was before.
 fn declare_all(
     names: &mut SessionNames,
-    sessions: &[Declared],
+    sessions: &[NamedSession],
     sids: &[Sid],
 ) -> Result<(), OutOfMemory>
     requires { sids.now ≡ map (λ d. session_id real d.cast) sessions.now }

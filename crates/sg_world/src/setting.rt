@@ -13,7 +13,7 @@ use sg_crypt::{Cast, Hashed};
 use sg_declared::{copy_graphs, copy_sessions, sids_of, texts_of};
 use sg_graph::Graph;
 use sg_program::{Program, Programs};
-use sg_sched::{Declared, Schedule};
+use sg_sched::{NamedSession, Schedule};
 use std::alloc::{AllocError, Global};
 use std::marker::Model;
 
@@ -23,7 +23,7 @@ pub(crate) struct Setting<'p> {
     programs: &'p Programs,
     graphs: Seq<Graph>,
     keys: PairKeys,
-    sessions: Seq<Declared>,
+    sessions: Seq<NamedSession>,
     // of the sessions, in order
     sids: Vec<Sid>,
     // of the graphs, in order
@@ -91,7 +91,7 @@ impl<'p> Setting<'p> {
     }
 
     /// The sessions.
-    pub fn sessions(&self) -> &[Declared]
+    pub fn sessions(&self) -> &[NamedSession]
         ensures { result.now ≡ self.now.sessions }
     {
         self.sessions.as_slice()

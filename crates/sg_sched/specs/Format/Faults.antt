@@ -10,7 +10,7 @@ use Rattle.sg_protocol.specs.Frame.{Cast, Item as FrameItem, Frame}
 use Rattle.sg_protocol.specs.Spelling.{spelling}
 use Rattle.sg_protocol.specs.Schedule.{CraftJoin}
 use Rattle.sg_sched.specs.Format.Said.{Committed, TagSource, FromKey, FromItem, FromSeal, FromZero, ItemContent, CraftContent, LineContent, SaidBlock, SaidEdge, SaidHonest, SaidKey, SaidSession, SaidStart, SaidAct, SaidAbandon, SaidDeliver, SaidMake}
-use Rattle.sg_sched.specs.Format.Items.{Session, Item, SoFar, so_far, graphs_of_past, graph_names, session_names, index, session_named, graph_for, roles_of, variables_of, labels_of, has_key}
+use Rattle.sg_sched.specs.Format.Items.{Session, Item, SoFar, so_far, graphs_declared, graph_names, session_names, index, session_named, graph_for, roles_of, variables_of, labels_of, has_key}
 use Rattle.sg_sched.specs.Format.Made.{opening}
 use Rattle.sg_sched.specs.Format.Kinds.{Kind, Form, TooManySteps, TooManySessions, Unknown, Twice, NotHonest}
 
@@ -34,7 +34,7 @@ is_late past l = nat_lt (group l) past.group
 -- there are as many names as the graph has roles
 abbrev pub fits_graph : SoFar → Name → List Name → Bool
 fits_graph past graph names =
-    option_map_or (λ g. length names == length g.roles) (if has_text graph (graph_names (graphs_of_past past)) then slice_get (graphs_of_past past) (index graph (graph_names (graphs_of_past past))) else None) true
+    option_map_or (λ g. length names == length g.roles) (if has_text graph (graph_names (graphs_declared past)) then slice_get (graphs_declared past) (index graph (graph_names (graphs_declared past))) else None) true
 
 -- ---- form: what rises in a craft, where its names are declared
 
@@ -130,7 +130,7 @@ is_known past SaidBlock = true
 is_known past (SaidEdge label from to) = true
 is_known past (SaidHonest who) = true
 is_known past (SaidKey one two digits) = true
-is_known past (SaidSession name graph nonce names version) = has_text graph (graph_names (graphs_of_past past))
+is_known past (SaidSession name graph nonce names version) = has_text graph (graph_names (graphs_declared past))
 is_known past (SaidStart who session) = has_text session (session_names past)
 is_known past (SaidAct who session label values) = has_text session (session_names past) && has_text label (labels_of (graph_for session past))
     && list_all (λ v. knows_variable (graph_for session past) v.variable) values
@@ -159,7 +159,7 @@ is_repeated past (SaidEdge label from to) = has_text label (map (λ e. e.name) p
 is_repeated past (SaidHonest who) = has_text who past.honest
 is_repeated past (SaidKey one two digits) = has_key past one two
 is_repeated past (SaidSession name graph nonce names version) =
-    has_text name (session_names past) || list_any (is_like (index graph (graph_names (graphs_of_past past))) nonce names version) past.sessions
+    has_text name (session_names past) || list_any (is_like (index graph (graph_names (graphs_declared past))) nonce names version) past.sessions
 is_repeated past (SaidAct who session label values) = not (all_differ (map (λ v. v.variable) values))
 is_repeated past other = false
 

@@ -5,7 +5,7 @@ use Rattle.std.specs.Option.{option_map_or}
 use Rattle.sg_model.specs.Names.{Name}
 use Rattle.sg_protocol.specs.Graph.{Graph, Edge}
 use Rattle.sg_protocol.specs.Texts.{Hash, graph_digest}
-use Rattle.sg_protocol.specs.Schedule.{PairKey, Declared, Step, Schedule}
+use Rattle.sg_protocol.specs.Schedule.{PairKey, NamedSession, Step, Schedule}
 use Rattle.sg_protocol.specs.Crafted.{nonce_of}
 use Rattle.sg_sched.specs.Pair.{graphs_of}
 
@@ -102,7 +102,7 @@ abbrev pub digest_at : Hash → List Graph → ℕ → List ℕ
 digest_at sha gs n = option_map_or (graph_digest sha) (slice_get gs n) []
 
 -- a session with its cast
-abbrev pub declared : Hash → List Graph → Session → Declared
+abbrev pub declared : Hash → List Graph → Session → NamedSession
 declared sha gs s = record {
   name = s.name;
   cast = record { version = s.version; graph = digest_at sha gs s.graph; nonce = nonce_of s.nonce; names = s.names };
@@ -139,8 +139,8 @@ abbrev pub so_far : List Item → SoFar
 so_far items = record { group = last_group items; blocks = blocks items; edges = edges items; honest = honest items; keys = keys items; sessions = sessions items; steps = steps items }
 
 -- the graphs so far: those of the blocks, and after them `pair`, if there are edge lines
-abbrev pub graphs_of_past : SoFar → List Graph
-graphs_of_past past = past.blocks ++ graphs_of past.edges
+abbrev pub graphs_declared : SoFar → List Graph
+graphs_declared past = past.blocks ++ graphs_of past.edges
 
 -- the names of graphs
 abbrev pub graph_names : List Graph → List Name
@@ -160,7 +160,7 @@ session_named n past = find (λ s. bytes_eq n s.name) past.sessions
 
 -- the graph of the session of a name
 abbrev pub graph_for : Name → SoFar → Option Graph
-graph_for n past = option_and_then (λ s. slice_get (graphs_of_past past) s.graph) (session_named n past)
+graph_for n past = option_and_then (λ s. slice_get (graphs_declared past) s.graph) (session_named n past)
 
 -- the names of a graph's roles; none where there is no graph
 abbrev pub roles_of : Option Graph → List Name

@@ -9,7 +9,7 @@ use Rattle.sg_protocol.specs.Schedule.{confounder, What, Whole, Flipped, Cut, By
 use Rattle.sg_sched.specs.Pair.{edge}
 use Rattle.sg_sched.specs.Format.Said.{Given, Committed, TagSource, FromKey, FromItem, FromSeal, FromZero, ItemContent, CraftContent, Delivered, TheFrame, TheFlipped, TheCut, TheBytes, LineContent, SaidBlock, SaidEdge, SaidHonest, SaidKey, SaidSession, SaidStart, SaidAct, SaidAbandon, SaidDeliver, SaidMake}
 use Rattle.sg_sched.specs.Format.Values.{value_of, bytes_of}
-use Rattle.sg_sched.specs.Format.Items.{Item, EdgeItem, HonestItem, KeyItem, SessionItem, StepItem, SoFar, so_far, graphs_of_past, graph_names, session_names, index, graph_for, roles_of, variables_of, labels_of}
+use Rattle.sg_sched.specs.Format.Items.{Item, EdgeItem, HonestItem, KeyItem, SessionItem, StepItem, SoFar, so_far, graphs_declared, graph_names, session_names, index, graph_for, roles_of, variables_of, labels_of}
 
 -- the number of a variable of the graph, and its value
 abbrev pub written : Option Graph → Given → ℕ × Value
@@ -66,7 +66,7 @@ made_after past (SaidEdge label from to) = Some (EdgeItem (edge label from to))
 made_after past (SaidHonest who) = Some (HonestItem who)
 made_after past (SaidKey one two digits) = Some (KeyItem (record { one = one; two = two; key = bytes_of digits }))
 made_after past (SaidSession name graph nonce names version) =
-    Some (SessionItem (record { name = name; graph = index graph (graph_names (graphs_of_past past)); nonce = nonce; names = names; version = version }))
+    Some (SessionItem (record { name = name; graph = index graph (graph_names (graphs_declared past)); nonce = nonce; names = names; version = version }))
 made_after past (SaidStart who session) = Some (StepItem (StartStep who (index session (session_names past))))
 made_after past (SaidAct who session label vs) =
     let g = graph_for session past in

@@ -4,7 +4,7 @@ use Rattle.sg_sched.specs.Format.Items.{SoFar}
 use Rattle.sg_sched_text.specs.Adding.{session_index}
 use Rattle.sg_sched_text.specs.Sessions.{session_of}
 use Rattle.sg_sched_text.proofs.Graphs.{graph_by, no_graph}
-use Rattle.sg_sched_text.proofs.past.Past.graph_for.Goals as goal
+use Rattle.sg_sched_text.proofs.declarations.Declared.graph_for.Goals as goal
 
 pub returns-in_err-index : goal.returns-in_err-index
 returns-in_err-index c =

@@ -4,7 +4,7 @@ use Rattle.sg_sched.specs.Format.Model.{delivered}
 use Rattle.sg_sched_text.specs.Adding.{Added, add_step}
 use Rattle.sg_sched_text.specs.Taken.{Takes}
 use Rattle.sg_sched_text.proofs.AddingLaws.{deliver_added}
-use Rattle.sg_sched_text.proofs.past.Past.deliver.Goals as goal
+use Rattle.sg_sched_text.proofs.declarations.Declared.deliver.Goals as goal
 
 pub returns : goal.returns
 returns c =

@@ -4,7 +4,7 @@ use Rattle.sg_sched.specs.Format.Model.{said}
 use Rattle.sg_sched_text.specs.Adding.{Added, after_line}
 use Rattle.sg_sched_text.specs.Taken.{Takes}
 use Rattle.sg_sched_text.proofs.AddingLaws.{edge_added, honest_added, key_added, session_added}
-use Rattle.sg_sched_text.proofs.past.Past.take.Goals as goal
+use Rattle.sg_sched_text.proofs.declarations.Declared.take.Goals as goal
 
 pub returns-in-Edge : goal.returns-in-Edge
 returns-in-Edge c =

@@ -7,7 +7,7 @@ use Rattle.sg_sched.specs.Format.Items.{SoFar, graph_for}
 use Rattle.sg_sched.specs.Format.Said.{CraftContent}
 use Rattle.sg_sched_text.specs.Crafting.{Lists, known_ends, known_lists, known_source}
 use Rattle.sg_sched_text.proofs.CraftLaws.{no_ends, no_lists, no_seal, all_known}
-use Rattle.sg_sched_text.proofs.past.Past.craft_step.Goals as goal
+use Rattle.sg_sched_text.proofs.declarations.Declared.craft_step.Goals as goal
 
 pub returns-in_default : goal.returns-in_default
 returns-in_default c =

@@ -8,7 +8,7 @@ use Rattle.sg_sched.specs.Format.Said.{CraftContent}
 use Rattle.sg_sched_text.specs.Adding.{Added, add_step}
 use Rattle.sg_sched_text.specs.Taken.{Takes}
 use Rattle.sg_sched_text.proofs.CraftLaws.{craft_wrong, craft_added}
-use Rattle.sg_sched_text.proofs.past.Past.craft.Goals as goal
+use Rattle.sg_sched_text.proofs.declarations.Declared.craft.Goals as goal
 
 pub returns-then-not-rises : goal.returns-then-not-rises
 returns-then-not-rises c =

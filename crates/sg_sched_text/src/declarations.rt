@@ -1,7 +1,7 @@
 //! What the lines so far declare.
 ghost use Rattle.std.specs.Prelude.{◌≡◌, ◌<◌, ◌≤◌, ◌==◌, length, bytes_eq, position, slice_get, option_copied, IfSome};
 ghost use Rattle.sg_model.specs.Lists.{has_text};
-ghost use Rattle.sg_sched.specs.Format.Items.{graphs_of_past, graph_names, graph_for};
+ghost use Rattle.sg_sched.specs.Format.Items.{graphs_declared, graph_names, graph_for};
 ghost use Rattle.sg_sched.specs.Pair.{graphs_of};
 ghost use Rattle.sg_sched_text.specs.Adding.{session_index};
 ghost use Rattle.sg_sched_text.specs.Plus.{nothing};
@@ -20,7 +20,7 @@ use std::marker::Model;
 
 /// What the lines so far declare, each kind in the order of its lines, and the last group that has begun.
 #[derive(Drop)]
-pub(crate) struct Past {
+pub(crate) struct Declared {
     pub alloc: Global,
     pub group: u8,
     pub blocks: Blocks,
@@ -31,7 +31,7 @@ pub(crate) struct Past {
     pub steps: Seq<Step>,
 }
 
-impl Model for Past {
+impl Model for Declared {
     ghost use Rattle.std.specs.Prelude.{◌≤◌, map};
     ghost use Rattle.sg_sched.specs.Format.Items.{SoFar};
     ghost use Rattle.sg_sched.specs.Format.StepsHeld.{step_of};
@@ -51,12 +51,12 @@ impl Model for Past {
     ghost invariant = { λ p. p.group ≤ 4 };
 }
 
-impl Past {
+impl Declared {
     /// Before the first line. It takes no memory.
-    pub fn new(alloc: Global) -> Past
+    pub fn new(alloc: Global) -> Declared
         ensures { result ≡ nothing }
     {
-        Past {
+        Declared {
             alloc,
             group: 0,
             blocks: Blocks::new(alloc),
@@ -70,8 +70,8 @@ impl Past {
 
     /// The index of the graph of this name, if it is declared. The graph of the edge lines stands after those of the blocks.
     pub fn graph_index(&self, name: &Name) -> Option<usize>
-        ensures index { result ≡ position (bytes_eq name.now) (graph_names (graphs_of_past self.now)) }
-        ensures within { IfSome result (λ i. i < length (graphs_of_past self.now)) }
+        ensures index { result ≡ position (bytes_eq name.now) (graph_names (graphs_declared self.now)) }
+        ensures within { IfSome result (λ i. i < length (graphs_declared self.now)) }
     {
         if let Some(index) = self.blocks.index(name) {
             return Some(index);
@@ -86,7 +86,7 @@ impl Past {
 
     /// The graph at an index.
     pub fn graph_at(&self, index: usize) -> Option<&Graph>
-        ensures graph { option_copied result ≡ slice_get (graphs_of_past self.now) index }
+        ensures graph { option_copied result ≡ slice_get (graphs_declared self.now) index }
         ensures roles { IfSome result (λ g. HasRoles g.now) }
     {
         let count = self.blocks.len();

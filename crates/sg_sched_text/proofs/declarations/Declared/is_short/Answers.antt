@@ -9,7 +9,7 @@ use Rattle.sg_sched_text.specs.Crafting.{join_len, lens, item_len, opening_len}
 use Rattle.sg_sched_text.specs.Sessions.{session_of}
 use Rattle.sg_sched_text.proofs.Graphs.{session_found}
 use Rattle.sg_sched_text.proofs.LengthLaws.{short_is, short_none}
-use Rattle.sg_sched_text.proofs.past.Past.is_short.Goals as goal
+use Rattle.sg_sched_text.proofs.declarations.Declared.is_short.Goals as goal
 
 pub returns-in_default : goal.returns-in_default
 returns-in_default c =

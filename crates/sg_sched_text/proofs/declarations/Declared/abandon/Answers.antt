@@ -2,7 +2,7 @@ use Rattle.std.proofs.Common.{◌∙◌, subst, false}
 use Rattle.sg_sched_text.specs.Adding.{Added, add_step}
 use Rattle.sg_sched_text.specs.Taken.{Takes}
 use Rattle.sg_sched_text.proofs.AddingLaws.{abandon_added}
-use Rattle.sg_sched_text.proofs.past.Past.abandon.Goals as goal
+use Rattle.sg_sched_text.proofs.declarations.Declared.abandon.Goals as goal
 
 pub returns : goal.returns
 returns c =
