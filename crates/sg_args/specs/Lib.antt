@@ -1,3 +1,3 @@
 pub mod Command
 pub mod Model
-pub mod Given
+pub mod Parsed

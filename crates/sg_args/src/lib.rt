@@ -8,7 +8,7 @@
 #![tactic(auto)]
 
 mod command;
-mod given;
+mod parsed;
 
 pub use command::{Command, read_command};
-pub use given::{CommandLine, Given};
+pub use parsed::{CommandLine, Parsed};

@@ -23,7 +23,7 @@ use Rattle.sg_audit.specs.declared.fault.Mistake.{Mistake}
 use Rattle.sg_audit.specs.declared.fault.Mistake.TheVariants.{Form, TooManyEvents, Unknown, Twice}
 use Rattle.sg_model.specs.Values.{Value}
 use Rattle.sg_model.proofs.Small.{some_same}
-use Rattle.sg_audit.specs.Said.{Given, LogContent, StepContent, SaidSession, SaidLog, SaidEvent, SaidWalk, numbered, falls, rise}
+use Rattle.sg_audit.specs.Said.{Assignments, LogContent, StepContent, SaidSession, SaidLog, SaidEvent, SaidWalk, numbered, falls, rise}
 use Rattle.sg_graph.specs.Parts.{edge_names, variable_names}
 use Rattle.sg_sched.specs.Format.Values.{spelled_value}
 use Rattle.sg_audit.specs.Reading.{all_assigned, time, form, session_form, log_form, event_form, walk_form}
@@ -146,7 +146,7 @@ adds_log g d e (Some r) is small f h =
       differ = differ_last (all_logs d) (r, []) f.differ (sym (f.roles r) ∙ two.0);
     })
 
-adds_event : (g : Graph) (d e : SoFar) (sent : Bool) (label : Option ℕ) (at : ℕ) (v : Given Value) → Fine g d → add_event d sent label at v ≡ Ok e → Fine g e
+adds_event : (g : Graph) (d e : SoFar) (sent : Bool) (label : Option ℕ) (at : ℕ) (v : Assignments Value) → Fine g d → add_event d sent label at v ≡ Ok e → Fine g e
 unfolding add_event
 adds_event g d e sent label at v f h = let one = split_if (not (is_open d)) Form (option_map_or (count_event d sent label at v) d.role (Err Form)) e h in in_log d.role refl one.1
   where
@@ -250,7 +250,7 @@ unfolding event_form
 event_fits g sent ws s h =
     after_fits (FitsSaid g) (word name) _ ws s (λ n rest q.
     after_fits {A = ℕ} (FitsSaid g) (word time) (λ at left. option_map (SaidEvent sent (numbered (edge_names g) n) at) (all_assigned (variable_names g) spelled_value left)) rest s (λ t left r.
-    mapped_fits {A = Given Value} (FitsSaid g) (SaidEvent sent (numbered (edge_names g) n) t) (all_assigned (variable_names g) spelled_value left) s (λ a. tt) r) q) h
+    mapped_fits {A = Assignments Value} (FitsSaid g) (SaidEvent sent (numbered (edge_names g) n) t) (all_assigned (variable_names g) spelled_value left) s (λ a. tt) r) q) h
 
 walk_fits : (g : Graph) (ws : List Word) (s : LogContent) → walk_form g ws ≡ Some s → FitsSaid g s
 unfolding walk_form

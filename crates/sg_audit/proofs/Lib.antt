@@ -5,7 +5,7 @@ pub mod ManyLogs
 pub mod SentLaws
 pub mod Answering
 pub mod Honest
-pub mod Givens
+pub mod AssignmentLaws
 pub mod Parts
 pub mod Ranges
 pub mod Orders
@@ -15,7 +15,7 @@ pub mod NextLine
 pub mod Telling
 pub mod Blocks
 pub mod Spelled
-pub mod WrittenGivens
+pub mod WrittenAssignments
 pub mod WrittenSteps
 pub mod WrittenWalks
 pub mod WrittenLines

@@ -10,7 +10,7 @@ use Rattle.sg_protocol.specs.Calls.{Event}
 use Rattle.sg_protocol.specs.Graph.{Graph}
 use Rattle.sg_protocol.specs.Walk.{StoredStep}
 use Rattle.sg_audit.specs.Merged.{Log, events_of}
-use Rattle.sg_audit.specs.Said.{Given, LogContent, SaidSession, SaidLog, SaidEvent, SaidWalk, falls}
+use Rattle.sg_audit.specs.Said.{Assignments, LogContent, SaidSession, SaidLog, SaidEvent, SaidWalk, falls}
 use Rattle.sg_audit.specs.Sessions.{Session, change_last, event, stored_step, with_event as with_one, added}
 use Rattle.sg_audit.specs.Faults.{where', fault, is_too_many, is_unknown, is_repeated}
 use Rattle.sg_audit.specs.SoFar.{SoFar, all_logs, all_sessions}
@@ -90,10 +90,10 @@ count_stays d logs walk None h = refl
 count_stays d logs walk (Some n) h = counted d.done (with_last d logs walk n) ∙ ap (λ m. length (events_in d.done) + m) h ∙ sym (counted d.done (session_by d n))
 
 -- an event stands in a session and in a log
-in_session : (g : Graph) (d : SoFar) (sent : Bool) (label : Option ℕ) (time : ℕ) (v : Given Value) → d.name ≡ None → fault g (told_by d) (SaidEvent sent label time v) ≡ None → ⊥
+in_session : (g : Graph) (d : SoFar) (sent : Bool) (label : Option ℕ) (time : ℕ) (v : Assignments Value) → d.name ≡ None → fault g (told_by d) (SaidEvent sent label time v) ≡ None → ⊥
 in_session g d sent label time v e h = let bad : ◌≡◌ {A = Option Mistake} (Some Form) None = rw e at h in absurd (cc)
 
-in_log : (g : Graph) (d : SoFar) (sent : Bool) (label : Option ℕ) (time : ℕ) (v : Given Value) → Kept d → d.role ≡ None → fault g (told_by d) (SaidEvent sent label time v) ≡ None → ⊥
+in_log : (g : Graph) (d : SoFar) (sent : Bool) (label : Option ℕ) (time : ℕ) (v : Assignments Value) → Kept d → d.role ≡ None → fault g (told_by d) (SaidEvent sent label time v) ≡ None → ⊥
 in_log g d sent label time v k q h = by d.name refl
   where
     none : all_logs d ≡ []

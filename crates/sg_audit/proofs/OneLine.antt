@@ -13,7 +13,7 @@ use Rattle.sg_protocol.specs.Graph.{Graph}
 use Rattle.sg_protocol.specs.Walk.{StoredStep}
 use Rattle.sg_parse.proofs.Sets.{rising-differ}
 use Rattle.sg_audit.specs.Merged.{Log, roles_of, events_of}
-use Rattle.sg_audit.specs.Said.{Given, StepContent, LogContent, SaidSession, SaidLog, SaidEvent, SaidWalk, differ, falls, rise}
+use Rattle.sg_audit.specs.Said.{Assignments, StepContent, LogContent, SaidSession, SaidLog, SaidEvent, SaidWalk, differ, falls, rise}
 use Rattle.sg_audit.specs.Sessions.{Session, LogsSoFar, sessions_of, event, stored_step}
 use Rattle.sg_audit.specs.Faults.{last_logs, event_count, is_double, is_strange, where', fault, is_open as is_open_now, all_have_logs as all_have, is_whole as is_over}
 use Rattle.sg_audit.specs.SoFar.{SoFar, all_logs, all_sessions, all_have_logs, is_whole, is_open, add, add_session, add_log, open_log, add_event, count_event, with_event, add_walk, is_unknown}
@@ -149,7 +149,7 @@ kinds_unknown true t false known e x = refl
 some_logs : (logs : List Log) (l : Log) → (length (logs ++ l ∷ []) == 0) ≡ false
 some_logs logs l = let n = length-append logs (l ∷ []) in grind (arith, nat_tests, n)
 
-event_same : (g : Graph) (d : SoFar) (sent : Bool) (label : Option ℕ) (time : ℕ) (v : Given Value) → Fine g d → Kept d
+event_same : (g : Graph) (d : SoFar) (sent : Bool) (label : Option ℕ) (time : ℕ) (v : Assignments Value) → Fine g d → Kept d
     → add_event d sent label time v ≡ judged (fault g (told_by d) (SaidEvent sent label time v)) (next d (SaidEvent sent label time v))
 unfolding add_event
 event_same g d sent label time v f k =

@@ -17,10 +17,10 @@ use Rattle.sg_sched.specs.Format.Reading.{word, after, ended}
 use Rattle.sg_sched.proofs.FormLaws.{none_some, step, ended_is, line_up, name_ok}
 use Rattle.sg_sched.proofs.FormatWords.{both}
 use Rattle.sg_sched.proofs.NumberLaws.{number_is, number_ok}
-use Rattle.sg_audit.specs.Said.{Given, StepContent, LogContent, SaidSession, SaidLog, SaidEvent, SaidWalk, numbered}
+use Rattle.sg_audit.specs.Said.{Assignments, StepContent, LogContent, SaidSession, SaidLog, SaidEvent, SaidWalk, numbered}
 use Rattle.sg_audit.specs.Reading.{all_assigned, steps, time, session_form, log_form, event_form, walk_form, form}
 use Rattle.sg_audit.specs.Written.{Written, ASession, ALog, AnEvent, AWalk, line_words, is_given, is_form, said_in, Says}
-use Rattle.sg_audit.proofs.WrittenGivens.{of_values, pairs_are, pairs_ok}
+use Rattle.sg_audit.proofs.WrittenAssignments.{of_values, pairs_are, pairs_ok}
 use Rattle.sg_audit.proofs.WrittenWalks.{steps_are, steps_ok}
 
 -- ---- words
@@ -89,7 +89,7 @@ event_is g sent ws s h =
     let t = time_is b.first b.value b.was in
     valued a.value b.value b.rest (line_up a.all n.0 (line_up b.all t.0 refl)) n.1 t.1 (all_assigned (variable_names g) spelled_value b.rest) refl b.more
   where
-    valued : (label : Name) (at : ℕ) (rest : List Word) → ws ≡ label ∷ decimal at ∷ rest → is_name label ≡ true → is_time at ≡ true → (o : Option (Given Value)) → all_assigned (variable_names g) spelled_value rest ≡ o
+    valued : (label : Name) (at : ℕ) (rest : List Word) → ws ≡ label ∷ decimal at ∷ rest → is_name label ≡ true → is_time at ≡ true → (o : Option (Assignments Value)) → all_assigned (variable_names g) spelled_value rest ≡ o
         → option_map (SaidEvent sent (numbered (edge_names g) label) at) o ≡ Some s → Says g (event_word sent ∷ ws) s
     valued label at rest e n t None f h = none_some h
     valued label at rest e n t (Some v) f h =

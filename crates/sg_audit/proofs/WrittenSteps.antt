@@ -7,7 +7,7 @@ use Rattle.std.proofs.lemmas.Slice.Eq.{bytes_eq-Decides}
 use Rattle.sg_model.specs.Names.{is_name}
 use Rattle.sg_model.specs.Values.{Value, IntValue}
 use Rattle.sg_model.proofs.Small.{and_left, and_right, some_same}
-use Rattle.sg_sched.specs.Format.Said.{Word, Given as Pair, given_word, joined_names}
+use Rattle.sg_sched.specs.Format.Said.{Word, Assignment as Pair, given_word, joined_names}
 use Rattle.sg_sched.specs.Format.Values.{is_value, int_value, text_value, text_bytes, as_text, put_before, hex_byte, is_plain}
 use Rattle.sg_base.specs.Words.{number, from_one, is_digit, has_needless_zero, up_to, value}
 use Rattle.sg_sched.proofs.FormLaws.{none_some}
@@ -16,7 +16,7 @@ use Rattle.sg_sched.proofs.PartLaws.{joined_onto}
 use Rattle.sg_sched.proofs.ValueLaws.{no_quote}
 use Rattle.sg_audit.specs.Reading.{parts}
 use Rattle.sg_audit.specs.Written.{is_write}
-use Rattle.sg_audit.proofs.WrittenGivens.{is_shown}
+use Rattle.sg_audit.proofs.WrittenAssignments.{is_shown}
 
 -- ---- commas outside quotes
 

@@ -10,15 +10,15 @@ use Rattle.sg_model.specs.Values.{Value}
 use Rattle.sg_model.proofs.Small.{and_left, and_right, some_same}
 use Rattle.sg_protocol.specs.Graph.{Graph}
 use Rattle.sg_graph.specs.Parts.{variable_names, edge_names}
-use Rattle.sg_sched.specs.Format.Said.{Word, Given as Pair, given_word, joined_names}
+use Rattle.sg_sched.specs.Format.Said.{Word, Assignment as Pair, given_word, joined_names}
 use Rattle.sg_sched.specs.Format.Reading.{split_at}
 use Rattle.sg_sched.proofs.FormLaws.{none_some}
 use Rattle.sg_sched.proofs.PartLaws.{split_is, split_ok}
 use Rattle.sg_sched.proofs.FormatWords.{both, lacks, name_lacks}
-use Rattle.sg_audit.specs.Said.{Given, StepContent, numbered}
+use Rattle.sg_audit.specs.Said.{Assignments, StepContent, numbered}
 use Rattle.sg_audit.specs.Reading.{all_assigned, shown_or_hidden, parts, unclosed, written, labelled, unstarred, step, steps}
 use Rattle.sg_audit.specs.Written.{WrittenStep, writes_word, step_word, is_write, is_step, shown_value, given_in, step_in}
-use Rattle.sg_audit.proofs.WrittenGivens.{of_writes, is_shown, pairs_are, pairs_ok}
+use Rattle.sg_audit.proofs.WrittenAssignments.{of_writes, is_shown, pairs_are, pairs_ok}
 use Rattle.sg_audit.proofs.WrittenSteps.{Split, split_of, parts_joined, closed_writes}
 
 -- ---- what stands before )
@@ -52,7 +52,7 @@ unclosed_is (c ∷ cs) v h = by (slice_index (c ∷ cs) (length (c ∷ cs) - 1) 
 abbrev pub are_some : List Pair → Bool
 are_some ps = nat_lt 0 (length ps) && list_all is_write ps
 
-pub record Writes (names : List Name) (w : Word) (v : Given (Option Value)) : Type 0 where
+pub record Writes (names : List Name) (w : Word) (v : Assignments (Option Value)) : Type 0 where
   pub list : List Pair
   pub spelled : w ≡ joined_names (map given_word list) ++ 41 ∷ []
   pub form : are_some list ≡ true
@@ -61,7 +61,7 @@ pub record Writes (names : List Name) (w : Word) (v : Given (Option Value)) : Ty
 some_length : (p : Pair) (ps : List Pair) → nat_lt 0 (length (p ∷ ps)) ≡ true
 some_length p ps = grind (arith, common_steps)
 
-writes_are : (names : List Name) (w : Word) (v : Given (Option Value)) → written names w ≡ Some v → Writes names w v
+writes_are : (names : List Name) (w : Word) (v : Assignments (Option Value)) → written names w ≡ Some v → Writes names w v
 writes_are names w v h = found (unclosed w) refl h
   where
     listed : (inner : Word) → w ≡ inner ++ 41 ∷ [] → (s : Split false inner) → (ps : List Pair) → parts false inner ≡ map given_word ps → list_all is_write ps ≡ true → v ≡ given_in names shown_value ps → Writes names w v
@@ -150,7 +150,7 @@ step_is g w s h = found (split_at 40 (unstarred w)) refl h
       says = some_same h;
     }
 
-    listed : (p : Word × Word) → split_at 40 (unstarred w) ≡ Some p → is_name p.0 ≡ true → (o : Option (Given (Option Value))) → written (variable_names g) p.1 ≡ o
+    listed : (p : Word × Word) → split_at 40 (unstarred w) ≡ Some p → is_name p.0 ≡ true → (o : Option (Assignments (Option Value))) → written (variable_names g) p.1 ≡ o
         → option_map (λ writes. record { label = numbered (edge_names g) p.0; writes = writes }) o ≡ Some s → Steps g w s
     listed p e n None f h = none_some h
     listed p e n (Some v) f h =

@@ -6,7 +6,7 @@ use Rattle.sg_model.specs.Lists.{has_text, is_in, below, keys_of, first_some}
 use Rattle.sg_model.specs.Limits.{most_events}
 use Rattle.sg_protocol.specs.Graph.{Graph}
 use Rattle.sg_audit.specs.Merged.{Log, roles_of, events_of}
-use Rattle.sg_audit.specs.Said.{Given, StepContent, LogContent, SaidSession, SaidLog, SaidEvent, SaidWalk, differ, falls}
+use Rattle.sg_audit.specs.Said.{Assignments, StepContent, LogContent, SaidSession, SaidLog, SaidEvent, SaidWalk, differ, falls}
 use Rattle.sg_audit.specs.Sessions.{LogsSoFar, sessions_of}
 use Rattle.sg_audit.specs.declared.fault.Mistake.{Mistake}
 use Rattle.sg_audit.specs.declared.fault.Mistake.TheVariants.{Form, TooManyEvents, Unknown, Twice}
@@ -34,7 +34,7 @@ abbrev pub event_count : LogsSoFar → ℕ
 event_count t = length (flat_map (λ s. events_of s.logs) (sessions_of t))
 
 -- a variable is named twice
-abbrev pub is_double : {A : Type 0} → Given A → Bool
+abbrev pub is_double : {A : Type 0} → Assignments A → Bool
 is_double v = not (differ (keys_of v.pairs))
 
 -- the label of the step or a variable of it isn't the graph's

@@ -10,20 +10,20 @@ use Rattle.sg_graph.specs.Parts.{variable_names, edge_names}
 use Rattle.sg_sched.specs.Format.Said.{Word}
 use Rattle.sg_sched.specs.Format.Values.{spelled_value}
 use Rattle.sg_sched.specs.Format.Reading.{WordsLeft, word, after, ended, split_at}
-use Rattle.sg_audit.specs.Said.{Given, StepContent, LogContent, SaidSession, SaidLog, SaidEvent, SaidWalk, numbered, nothing_given, one_given, both_given}
+use Rattle.sg_audit.specs.Said.{Assignments, StepContent, LogContent, SaidSession, SaidLog, SaidEvent, SaidWalk, numbered, nothing_given, one_given, both_given}
 
 -- ---- variables with values
 
 -- a name, and what stands after it
-abbrev pub as_named : {A : Type 0} → List Name → (Word → Option A) → Word × Word → Option (Given A)
+abbrev pub as_named : {A : Type 0} → List Name → (Word → Option A) → Word × Word → Option (Assignments A)
 as_named names read p = if is_name p.0 then option_map (one_given names p.0) (read p.1) else None
 
 -- VAR=VALUE, by a reader of the value
-unfoldable pub assigned : {A : Type 0} → List Name → (Word → Option A) → Word → Option (Given A)
+unfoldable pub assigned : {A : Type 0} → List Name → (Word → Option A) → Word → Option (Assignments A)
 assigned names read w = option_and_then (as_named names read) (split_at 61 w)
 
 -- each word is VAR=VALUE
-abbrev pub all_assigned : {A : Type 0} → List Name → (Word → Option A) → List Word → Option (Given A)
+abbrev pub all_assigned : {A : Type 0} → List Name → (Word → Option A) → List Word → Option (Assignments A)
 all_assigned names read [] = Some nothing_given
 all_assigned names read (w ∷ ws) = option_and_then (λ v. option_map (both_given v) (all_assigned names read ws)) (assigned names read w)
 
@@ -56,7 +56,7 @@ abbrev pub unclosed : Word → Option Word
 unclosed w = if slice_index w (length w - 1) == 41 then Some (take (length w - 1) w) else None
 
 -- what a step writes, after its (
-abbrev pub written : List Name → Word → Option (Given (Option Value))
+abbrev pub written : List Name → Word → Option (Assignments (Option Value))
 written names w = option_and_then (λ inner. all_assigned names shown_or_hidden (parts false inner)) (unclosed w)
 
 -- a label alone, or LABEL(VAR=VALUE,..)

@@ -12,34 +12,34 @@ abbrev pub numbered : List Name → Name → Option ℕ
 numbered names n = if has_text n names then Some (index_of n names) else None
 
 -- variables with what they are given: those that the graph declares, in the order of the line, and whether it declares all
-pub record Given (A : Type 0) : Type 0 where
+pub record Assignments (A : Type 0) : Type 0 where
   pub pairs : Map A
   pub known : Bool
 
 -- a step of a walk: its label, if the graph has it, and what it writes
 pub record StepContent : Type 0 where
   pub label : Option ℕ
-  pub writes : Given (Option Value)
+  pub writes : Assignments (Option Value)
 
 -- what a line says. A role or a label is none where the graph has none of the name
 pub data LogContent : Type 0 where
   SaidSession : Name → LogContent
   SaidLog : (role : Option ℕ) → LogContent
-  SaidEvent : (sent : Bool) (label : Option ℕ) (time : ℕ) (values : Given Value) → LogContent
+  SaidEvent : (sent : Bool) (label : Option ℕ) (time : ℕ) (values : Assignments Value) → LogContent
   SaidWalk : List StepContent → LogContent
 
 -- ---- variables
 
 -- no variables
-abbrev pub nothing_given : {A : Type 0} → Given A
+abbrev pub nothing_given : {A : Type 0} → Assignments A
 nothing_given = record { pairs = []; known = true }
 
 -- one variable, by its name among all
-abbrev pub one_given : {A : Type 0} → List Name → Name → A → Given A
+abbrev pub one_given : {A : Type 0} → List Name → Name → A → Assignments A
 one_given names n v = option_map_or (λ x. record { pairs = (x, v) ∷ []; known = true }) (numbered names n) (record { pairs = []; known = false })
 
 -- both, one after the other
-abbrev pub both_given : {A : Type 0} → Given A → Given A → Given A
+abbrev pub both_given : {A : Type 0} → Assignments A → Assignments A → Assignments A
 both_given a b = record { pairs = a.pairs ++ b.pairs; known = b.known && a.known }
 
 -- no number stands twice
@@ -48,9 +48,9 @@ differ [] = true
 differ (n ∷ ns) = not (is_in n ns) && differ ns
 
 -- the variables rise
-abbrev pub rise : {A : Type 0} → Given A → Bool
+abbrev pub rise : {A : Type 0} → Assignments A → Bool
 rise v = rises_from 0 (keys_of v.pairs)
 
 -- all are declared, none is named twice, and they don't rise
-abbrev pub falls : {A : Type 0} → Given A → Bool
+abbrev pub falls : {A : Type 0} → Assignments A → Bool
 falls v = v.known && differ (keys_of v.pairs) && not (rise v)

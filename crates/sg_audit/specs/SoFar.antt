@@ -11,7 +11,7 @@ use Rattle.sg_protocol.specs.Graph.{Graph}
 use Rattle.sg_protocol.specs.Calls.{Event}
 use Rattle.sg_protocol.specs.Walk.{StoredStep}
 use Rattle.sg_audit.specs.Merged.{Log}
-use Rattle.sg_audit.specs.Said.{Given, StepContent, LogContent, SaidSession, SaidLog, SaidEvent, SaidWalk, falls, rise}
+use Rattle.sg_audit.specs.Said.{Assignments, StepContent, LogContent, SaidSession, SaidLog, SaidEvent, SaidWalk, falls, rise}
 use Rattle.sg_audit.specs.Sessions.{Session, event, stored_step}
 use Rattle.sg_audit.specs.declared.fault.Mistake.{Mistake}
 use Rattle.sg_audit.specs.declared.fault.Mistake.TheVariants.{Form, TooManyEvents, Unknown, Twice}
@@ -82,16 +82,16 @@ abbrev pub with_event : SoFar → Event → SoFar
 with_event d e = record { names = d.names; count = d.count + 1; done = d.done; name = d.name; logs = d.logs; roles = d.roles; role = d.role; events = d.events ++ e ∷ []; walk = d.walk }
 
 -- the event, where its label and its variables are the graph's and none is named twice
-abbrev pub put_event : SoFar → Bool → (role : ℕ) → Option ℕ → ℕ → Given Value → Added
+abbrev pub put_event : SoFar → Bool → (role : ℕ) → Option ℕ → ℕ → Assignments Value → Added
 put_event d sent role None time v = Err Unknown
 put_event d sent role (Some label) time v = if not v.known then Err Unknown else if not (rise v) then Err Twice else Ok (with_event d (event sent role label time v.pairs))
 
 -- an event of the role of the last log; there are at most 100,000
-abbrev pub count_event : SoFar → Bool → Option ℕ → ℕ → Given Value → ℕ → Added
+abbrev pub count_event : SoFar → Bool → Option ℕ → ℕ → Assignments Value → ℕ → Added
 count_event d sent label time v role = if falls v then Err Form else if nat_le most_events d.count then Err TooManyEvents else put_event d sent role label time v
 
 -- an event stands in a log
-unfoldable pub add_event : SoFar → Bool → Option ℕ → ℕ → Given Value → Added
+unfoldable pub add_event : SoFar → Bool → Option ℕ → ℕ → Assignments Value → Added
 add_event d sent label time v = if not (is_open d) then Err Form else option_map_or (count_event d sent label time v) d.role (Err Form)
 
 -- ---- walks

@@ -4,11 +4,11 @@ use Rattle.sg_base.specs.declared.value.Value.{Value as Held}
 use Rattle.sg_model.specs.Values.{Value}
 use Rattle.sg_walk.specs.Model.{values_of, writes_of, steps_of}
 use Rattle.sg_audit.specs.Model.{log_of}
-use Rattle.sg_audit.specs.Said.{Given, StepContent, LogContent, SaidSession, SaidLog, SaidEvent, SaidWalk}
+use Rattle.sg_audit.specs.Said.{Assignments, StepContent, LogContent, SaidSession, SaidLog, SaidEvent, SaidWalk}
 use Rattle.sg_audit.specs.SoFar.{SoFar, Added}
 use Rattle.sg_audit.specs.Sessions.{Session, Logs}
 use Rattle.sg_audit.specs.Spells.{Fault, WrongLine, NoGraph}
-use Rattle.sg_audit.specs.declared.given.Given.{Given as Taken}
+use Rattle.sg_audit.specs.declared.assignments.Assignments.{Assignments as Taken}
 use Rattle.sg_audit.specs.declared.line.LogLine.{LogLine}
 use Rattle.sg_audit.specs.declared.line.LogLine.TheVariants.{Session as ALine, Log, Event, Walk}
 use Rattle.sg_audit.specs.declared.step.GivenStep.{GivenStep}
@@ -21,11 +21,11 @@ use Rattle.sg_audit.specs.declared.fault.LogFault.{LogFault}
 use Rattle.sg_audit.specs.declared.fault.LogFault.TheVariants.{Form, Unknown, Twice, Graph, TooManyEvents, OutOfMemory}
 
 -- the values that are held
-abbrev pub given_values : Taken Held → Given Value
+abbrev pub given_values : Taken Held → Assignments Value
 given_values v = record { pairs = values_of v.pairs; known = v.known }
 
 -- the values that are held, some hidden
-abbrev pub given_writes : Taken (Option Held) → Given (Option Value)
+abbrev pub given_writes : Taken (Option Held) → Assignments (Option Value)
 given_writes v = record { pairs = writes_of v.pairs; known = v.known }
 
 -- a step that is held

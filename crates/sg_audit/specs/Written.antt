@@ -9,9 +9,9 @@ use Rattle.sg_model.specs.Values.{Value}
 use Rattle.sg_model.specs.Limits.{most_time}
 use Rattle.sg_protocol.specs.Graph.{Graph}
 use Rattle.sg_graph.specs.Parts.{variable_names, edge_names}
-use Rattle.sg_sched.specs.Format.Said.{Word, Given as Pair, given_word, joined_names}
+use Rattle.sg_sched.specs.Format.Said.{Word, Assignment as Pair, given_word, joined_names}
 use Rattle.sg_sched.specs.Format.Values.{is_value, value_of}
-use Rattle.sg_audit.specs.Said.{Given, StepContent, LogContent, SaidSession, SaidLog, SaidEvent, SaidWalk, numbered}
+use Rattle.sg_audit.specs.Said.{Assignments, StepContent, LogContent, SaidSession, SaidLog, SaidEvent, SaidWalk, numbered}
 
 -- a step of a walk: whether * stands in front, the label, and what stands between ( and ) where they stand
 pub record WrittenStep : Type 0 where
@@ -72,7 +72,7 @@ abbrev pub shown_value : Word → Option Value
 shown_value w = if bytes_eq w (codes "?") then None else Some (value_of w)
 
 -- the variables that the graph declares with their values, and whether it declares all
-abbrev pub given_in : {A : Type 0} → List Name → (Word → A) → List Pair → Given A
+abbrev pub given_in : {A : Type 0} → List Name → (Word → A) → List Pair → Assignments A
 given_in names value ps = record { pairs = filter_map (λ p. option_map (λ x. (x, value p.value)) (numbered names p.variable)) ps; known = list_all (λ p. has_text p.variable names) ps }
 
 -- a step

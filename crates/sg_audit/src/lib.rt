@@ -24,10 +24,10 @@
 #![tactic(auto)]
 
 mod answer;
+mod assignments;
 mod copy;
 mod explain;
 mod fault;
-mod given;
 pub mod laws;
 mod line;
 mod lines;

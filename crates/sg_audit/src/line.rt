@@ -5,7 +5,7 @@ ghost use Rattle.sg_audit.specs.Reading.{event_form, form, log_form, session_for
 ghost use Rattle.sg_audit.specs.Taken.{Fits, said};
 ghost use Rattle.sg_sched.specs.Format.Reading.{word};
 
-use crate::given::{Given, label_named, read_values, role_named};
+use crate::assignments::{Assignments, label_named, read_values, role_named};
 use crate::step::{GivenStep, read_steps};
 use sg_base::{Label, Name, OutOfMemory, Role, Seq, Time, Value, read_number};
 use sg_graph::Graph;
@@ -21,7 +21,7 @@ pub(crate) enum LogLine {
         sent: bool,
         label: Option<Label>,
         time: Time,
-        values: Given<Value>,
+        values: Assignments<Value>,
     },
     Walk(Seq<GivenStep>),
 }

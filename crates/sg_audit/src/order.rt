@@ -7,25 +7,25 @@ ghost use Rattle.sg_audit.specs.Said.{differ, falls, rise};
 ghost use Rattle.sg_audit.specs.SoFar.{is_unknown};
 ghost use Rattle.sg_audit.specs.Taken.{given_values, given_writes, step_said};
 
-use crate::given::Given;
+use crate::assignments::Assignments;
 use crate::step::GivenStep;
 use sg_base::{Value, Var};
 
 /// Whether the variables of an event rise.
-pub(crate) fn values_rise(given: &Given<Value>) -> bool
+pub(crate) fn values_rise(given: &Assignments<Value>) -> bool
     ensures { result ≡ rise (given_values given.now) }
 {
     rises(given.pairs.as_slice())
 }
 
 /// Whether all variables of an event are declared, none is named twice, and they don't rise.
-pub(crate) fn values_fall(given: &Given<Value>) -> bool
+pub(crate) fn values_fall(given: &Assignments<Value>) -> bool
     ensures { result ≡ falls (given_values given.now) }
 {
     given.known && values_differ(given) && !values_rise(given)
 }
 
-fn values_differ(given: &Given<Value>) -> bool
+fn values_differ(given: &Assignments<Value>) -> bool
     ensures { result ≡ differ (keys_of (given_values given.now).pairs) }
 {
     differ(given.pairs.as_slice())
@@ -73,19 +73,19 @@ fn is_unknown(step: &GivenStep) -> bool
     step.label.is_none() || !step.writes.known
 }
 
-fn writes_rise(given: &Given<Option<Value>>) -> bool
+fn writes_rise(given: &Assignments<Option<Value>>) -> bool
     ensures { result ≡ rise (given_writes given.now) }
 {
     rises(given.pairs.as_slice())
 }
 
-fn writes_fall(given: &Given<Option<Value>>) -> bool
+fn writes_fall(given: &Assignments<Option<Value>>) -> bool
     ensures { result ≡ falls (given_writes given.now) }
 {
     given.known && writes_differ(given) && !writes_rise(given)
 }
 
-fn writes_differ(given: &Given<Option<Value>>) -> bool
+fn writes_differ(given: &Assignments<Option<Value>>) -> bool
     ensures { result ≡ differ (keys_of (given_writes given.now).pairs) }
 {
     differ(given.pairs.as_slice())

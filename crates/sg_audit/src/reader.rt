@@ -7,8 +7,8 @@ ghost use Rattle.sg_audit.specs.Taken.{Fits, Takes, said, session_of, given_valu
 ghost use Rattle.sg_model.specs.Lists.{is_in, below};
 ghost use Rattle.sg_walk.specs.Model.{event_of, step_of, steps_of};
 
+use crate::assignments::Assignments;
 use crate::fault::{Mistake, Stop};
-use crate::given::Given;
 use crate::line::LogLine;
 use crate::order::{some_fall, some_not_rise, some_unknown, values_fall, values_rise};
 use crate::session::SessionLog;
@@ -191,7 +191,7 @@ impl LogsReader {
         sent: bool,
         label: Option<Label>,
         time: Time,
-        values: Given<Value>,
+        values: Assignments<Value>,
     ) -> Result<(), Stop>
         ensures { Takes (add_event self.old sent label time (given_values values)) self.new result }
     {
@@ -268,7 +268,7 @@ fn have_all(roles: RoleSet, count: u8) -> bool
 }
 
 // An event of the role, with zeros for its session. No receipt joins.
-fn event(sent: bool, role: Role, label: Label, time: Time, values: Given<Value>) -> Event
+fn event(sent: bool, role: Role, label: Label, time: Time, values: Assignments<Value>) -> Event
     ensures { event_of result ≡ event sent role label time (given_values values).pairs }
 {
     let sid = Sid([0; 32]);

@@ -4,7 +4,7 @@ ghost use Rattle.sg_graph.specs.Parts.{variable_names};
 ghost use Rattle.sg_audit.specs.Reading.{all_assigned, labelled, part_end, parts, shown_or_hidden, step, steps, unclosed, unstarred, written};
 ghost use Rattle.sg_audit.specs.Taken.{given_writes, step_said};
 
-use crate::given::{Given, label_named, put_write};
+use crate::assignments::{Assignments, label_named, put_write};
 use sg_base::{Label, Name, OutOfMemory, Seq, Value};
 use sg_graph::Graph;
 use sg_sched::{Words, split_at};
@@ -14,7 +14,7 @@ use std::alloc::Global;
 #[derive(Debug, Drop)]
 pub(crate) struct GivenStep {
     pub label: Option<Label>,
-    pub writes: Given<Option<Value>>,
+    pub writes: Assignments<Option<Value>>,
 }
 
 /// All words that are left, each as a step.
@@ -63,7 +63,7 @@ fn bare_step(alloc: Global, graph: &Graph, word: &[u8]) -> Option<GivenStep>
     let name = Name::new(word)?;
     Some(GivenStep {
         label: label_named(graph, &name),
-        writes: Given {
+        writes: Assignments {
             pairs: Seq::new(alloc),
             known: true,
         },
@@ -96,7 +96,7 @@ fn read_written(
     alloc: Global,
     graph: &Graph,
     word: &[u8],
-) -> Result<Option<Given<Option<Value>>>, OutOfMemory>
+) -> Result<Option<Assignments<Option<Value>>>, OutOfMemory>
     ensures { IfOk result (λ o. option_map given_writes o ≡ written (variable_names graph.now) word.now) }
 {
     match unclosed(word) {
@@ -119,10 +119,10 @@ fn read_writes(
     alloc: Global,
     graph: &Graph,
     inner: &[u8],
-) -> Result<Option<Given<Option<Value>>>, OutOfMemory>
+) -> Result<Option<Assignments<Option<Value>>>, OutOfMemory>
     ensures { IfOk result (λ o. option_map given_writes o ≡ all_assigned (variable_names graph.now) shown_or_hidden (parts false inner.now)) }
 {
-    let mut given = Given {
+    let mut given = Assignments {
         pairs: Seq::new(alloc),
         known: true,
     };

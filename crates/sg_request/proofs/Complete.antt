@@ -5,7 +5,7 @@ use Rattle.std.specs.Fmt.{decimal}
 use Rattle.std.proofs.Common.{arith}
 use Rattle.sg_model.specs.Names.{Name, is_name}
 use Rattle.sg_model.proofs.Small.{and_left, and_right}
-use Rattle.sg_sched.specs.Format.Said.{Given, given_word, joined_names}
+use Rattle.sg_sched.specs.Format.Said.{Assignment, given_word, joined_names}
 use Rattle.sg_sched.specs.Format.Forms.{is_given}
 use Rattle.sg_sched.specs.Format.Reading.{word}
 use Rattle.sg_sched.proofs.FormLaws.{name_ok}
@@ -22,7 +22,7 @@ start_complete graph v names h =
     let prefix = and_left (is_name graph && is_version v) (is_cast names) h in
     rw (name_ok graph (and_left (is_name graph) (is_version v) prefix), version_ok v (and_right (is_name graph) (is_version v) prefix), cast_ok names (and_right (is_name graph && is_version v) (is_cast names) h)) refl
 
-act_complete : (n : ℕ) (label : Name) (vs : List Given) → is_request (Act n label vs) ≡ true → act_form (session_word n ∷ label ∷ map given_word vs) ≡ Some (Act n label vs)
+act_complete : (n : ℕ) (label : Name) (vs : List Assignment) → is_request (Act n label vs) ≡ true → act_form (session_word n ∷ label ∷ map given_word vs) ≡ Some (Act n label vs)
 unfolding act_form word
 act_complete n label vs h =
     let prefix = and_left (is_session n && is_name label) (list_all is_given vs) h in

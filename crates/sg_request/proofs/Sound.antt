@@ -5,7 +5,7 @@ use Rattle.std.proofs.lemmas.Slice.Eq.{bytes_eq-Decides}
 use Rattle.sg_model.specs.Names.{Name, is_name}
 use Rattle.sg_model.proofs.Small.{some_same}
 use Rattle.sg_base.specs.Words.{name, number}
-use Rattle.sg_sched.specs.Format.Said.{Word, Given, given_word}
+use Rattle.sg_sched.specs.Format.Said.{Word, Assignment, given_word}
 use Rattle.sg_sched.specs.Format.Reading.{WordsLeft, word, after, ended, givens}
 use Rattle.sg_sched.specs.Format.CraftReading.{cast}
 use Rattle.sg_sched.proofs.FormatWords.{both}
@@ -48,7 +48,7 @@ act_sound ws r h =
     by a.value b.value b.rest (λ (t : WordsLeft) e. ap (λ t. codes "act" ∷ t) (line_up a.all s.0 (line_up b.all l.same e))) (both s.1 l.name) (givens b.rest) refl b.more
   where
     by : (n : ℕ) (label : Name) (rest : WordsLeft) → ((t : WordsLeft) → rest ≡ t → (codes "act" ∷ ws) ≡ codes "act" ∷ session_word n ∷ label ∷ t) → (is_session n && is_name label) ≡ true
-        → (o : Option (List Given)) → givens rest ≡ o → option_map (Act n label) o ≡ Some r → Says (codes "act" ∷ ws) r
+        → (o : Option (List Assignment)) → givens rest ≡ o → option_map (Act n label) o ≡ Some r → Says (codes "act" ∷ ws) r
     by n label rest w p None e h = none_some h
     by n label rest w p (Some vs) e h = let g = givens_are rest vs e in says {r = Act n label vs} (w (map given_word vs) g.0) (both p g.1) h
 

@@ -9,7 +9,7 @@ ghost use Rattle.sg_request.specs.Request.{act_form, content, form, quit_form, r
 use crate::request::Request;
 use sg_base::{Name, OutOfMemory, Seq, read_number};
 use sg_sched::word::read_name;
-use sg_sched::{Words, read_cast, read_givens};
+use sg_sched::{Words, read_assignments, read_cast};
 use std::alloc::Global;
 
 /// What a line asks for, given without its line feed, or `None` where it is of no form. It takes memory for the names of a `start` and for
@@ -163,7 +163,7 @@ fn act<'a>(alloc: Global, words: &mut Words<'a>) -> Result<Option<Request<'a>>, 
     let Some(label) = take_name(words) else {
         return Ok(None);
     };
-    match read_givens(alloc, words)? {
+    match read_assignments(alloc, words)? {
         Some(values) => Ok(Some(Request::Act {
             session,
             label,

@@ -1,6 +1,6 @@
 //! What a line asks for.
 use sg_base::{Name, Seq};
-use sg_sched::Given;
+use sg_sched::Assignment;
 
 /// What a line asks for. A session is its number here, from 1.
 #[derive(Drop)]
@@ -21,7 +21,7 @@ pub enum Request<'a> {
         /// The name of the label.
         label: Name,
         /// What is written, in the order of the line, each value as it is written there.
-        values: Seq<Given<'a>>,
+        values: Seq<Assignment<'a>>,
     },
     /// To leave the session of this number.
     Abandon(u32),

@@ -8,7 +8,7 @@ use Rattle.sg_model.specs.Names.{Name, is_name, reserved}
 use Rattle.sg_model.specs.Lists.{has_text, all_differ}
 use Rattle.sg_model.proofs.Small.{and_left, and_right}
 use Rattle.sg_sched.specs.Words.{names}
-use Rattle.sg_sched.specs.Format.Said.{Word, Given, SaidEdge, SaidKey, SaidSession, SaidAct, joined_names, given_word, version_words}
+use Rattle.sg_sched.specs.Format.Said.{Word, Assignment, SaidEdge, SaidKey, SaidSession, SaidAct, joined_names, given_word, version_words}
 use Rattle.sg_sched.specs.Format.Forms.{is_form, is_given, is_wide, are_names}
 use Rattle.sg_sched.specs.Format.Values.{is_hex_of}
 use Rattle.sg_sched.specs.Format.Reading.{word, edge_form, edge_of, key_form, session_form, version, act_form}
@@ -87,7 +87,7 @@ session_complete name graph nonce ns v h =
     session_with name graph nonce ns v (and_left (is_name name) (is_name graph) h1) (and_right (is_name name) (is_name graph) h1) (and_right a1 (is_wide nonce) h2) (and_right a2 (nat_le 1 (length ns)) h3)
     (and_right a3 (are_names ns) h4) (and_right a4 (all_differ ns) h5) (and_right a5 (v == 1 || v == 2) h)
 
-pub act_complete : (who session label : Name) (vs : List Given) → is_form (SaidAct who session label vs) ≡ true → act_form (who ∷ session ∷ label ∷ map given_word vs) ≡ Some (SaidAct who session label vs)
+pub act_complete : (who session label : Name) (vs : List Assignment) → is_form (SaidAct who session label vs) ≡ true → act_form (who ∷ session ∷ label ∷ map given_word vs) ≡ Some (SaidAct who session label vs)
 unfolding act_form word
 act_complete who session label vs h =
     let n = and_left (are_names (who ∷ session ∷ label ∷ [])) (list_all is_given vs) h in

@@ -7,7 +7,7 @@ use Rattle.hex.specs.Hex.{decode_pairs}
 use Rattle.sg_sched.proofs.FormatGraphs.{shop, relay}
 use Rattle.sg_base.specs.Words.{number}
 use Rattle.sg_sched.specs.Pair.{edge}
-use Rattle.sg_sched.specs.Format.Said.{Word, Given, Committed}
+use Rattle.sg_sched.specs.Format.Said.{Word, Assignment, Committed}
 use Rattle.sg_sched.specs.Format.Items.{Item, GraphItem, EdgeItem, HonestItem, KeyItem, SessionItem}
 
 -- what the check of a literal line unfolds
@@ -32,7 +32,7 @@ abbrev pub session_item : List ℕ → ℕ → List (List ℕ) → Item
 session_item name nonce names = SessionItem (record { name = name; graph = 0; nonce = nonce; names = names; version = 1 })
 
 -- VAR=VALUE
-abbrev pub given : List ℕ → List ℕ → Given
+abbrev pub given : List ℕ → List ℕ → Assignment
 given variable value = record { variable = variable; value = value }
 
 -- VAR=VALUE#K

@@ -12,7 +12,7 @@ use Rattle.sg_model.specs.Lists.{has_text, all_differ}
 use Rattle.sg_model.proofs.Small.{and_left, and_right, some_same}
 use Rattle.sg_base.specs.Words.{name, number}
 use Rattle.sg_sched.specs.Words.{names, frame}
-use Rattle.sg_sched.specs.Format.Said.{Word, Given, LineContent, SaidEdge, SaidSession, SaidAct, SaidDeliver, TheFrame, TheFlipped, TheCut, TheBytes, line_words, joined_names, given_word, version_words}
+use Rattle.sg_sched.specs.Format.Said.{Word, Assignment, LineContent, SaidEdge, SaidSession, SaidAct, SaidDeliver, TheFrame, TheFlipped, TheCut, TheBytes, line_words, joined_names, given_word, version_words}
 use Rattle.sg_sched.specs.Format.Forms.{is_form, is_given, is_wide, is_short, are_names}
 use Rattle.sg_sched.specs.Format.Values.{is_value, is_hex}
 use Rattle.sg_sched.specs.Format.Reading.{WordsLeft, Taker, word, after, ended, edge_form, edge_of, session_form, version, act_form, given, given_of, givens, split_at, split_step, hex, short, frame_form, what_form, deliver_form}
@@ -169,38 +169,38 @@ split_ok mark (c ∷ cs) v h = by (c == mark) refl (split_ok mark cs v (and_righ
     by false e ih l = ap (λ b. if b then found_first (cs ++ mark ∷ v) else option_map (in_front c) (split_at mark (cs ++ mark ∷ v))) e ∙ ap (option_map (in_front c)) ih
     by true e ih l = absurd (true≢false (sym l ∙ ap not e))
 
-pub given_is : (w : Word) (v : Given) → given w ≡ Some v → (w ≡ given_word v) × (is_given v ≡ true)
+pub given_is : (w : Word) (v : Assignment) → given w ≡ Some v → (w ≡ given_word v) × (is_given v ≡ true)
 unfolding given
 given_is w v h = found (split_at 61 w) refl h
   where
     by : (p : Word × Word) → split_at 61 w ≡ Some p → (b : Bool) → (is_name p.0 && is_value p.1) ≡ b → (if b then Some (record { variable = p.0; value = p.1 }) else None) ≡ Some v → (w ≡ given_word v) × (is_given v ≡ true)
-    by p e true q h = subst (λ (v : Given). (w ≡ given_word v) × (is_given v ≡ true)) (some_same h) (split_is 61 w p.0 p.1 e, q)
+    by p e true q h = subst (λ (v : Assignment). (w ≡ given_word v) × (is_given v ≡ true)) (some_same h) (split_is 61 w p.0 p.1 e, q)
     by p e false q h = none_some h
 
     found : (o : Option (Word × Word)) → split_at 61 w ≡ o → option_and_then given_of o ≡ Some v → (w ≡ given_word v) × (is_given v ≡ true)
     found None e h = none_some h
     found (Some p) e h = by p e (is_name p.0 && is_value p.1) refl h
 
-pub given_ok : (v : Given) → is_given v ≡ true → given (given_word v) ≡ Some v
+pub given_ok : (v : Assignment) → is_given v ≡ true → given (given_word v) ≡ Some v
 unfolding given
 given_ok v h = ap (option_and_then given_of) (split_ok 61 v.variable v.value (name_lacks 61 v.variable refl (and_left (is_name v.variable) (is_value v.value) h))) ∙ ap (λ b. if b then Some v else None) h
 
-pub givens_are : (ws : WordsLeft) (vs : List Given) → givens ws ≡ Some vs → (ws ≡ map given_word vs) × (list_all is_given vs ≡ true)
-givens_are [] vs h = subst (λ (vs : List Given). ([] ≡ map given_word vs) × (list_all is_given vs ≡ true)) (some_same h) (refl, refl)
+pub givens_are : (ws : WordsLeft) (vs : List Assignment) → givens ws ≡ Some vs → (ws ≡ map given_word vs) × (list_all is_given vs ≡ true)
+givens_are [] vs h = subst (λ (vs : List Assignment). ([] ≡ map given_word vs) × (list_all is_given vs ≡ true)) (some_same h) (refl, refl)
 givens_are (w ∷ ws) vs h = first (given w) refl (λ us f. givens_are ws us f) h
   where
-    rest : ((us : List Given) → givens ws ≡ Some us → (ws ≡ map given_word us) × (list_all is_given us ≡ true)) → (v : Given) → given w ≡ Some v → (o : Option (List Given)) → givens ws ≡ o → option_map (λ vs. v ∷ vs) o ≡ Some vs → ((w ∷ ws) ≡ map given_word vs) × (list_all is_given vs ≡ true)
+    rest : ((us : List Assignment) → givens ws ≡ Some us → (ws ≡ map given_word us) × (list_all is_given us ≡ true)) → (v : Assignment) → given w ≡ Some v → (o : Option (List Assignment)) → givens ws ≡ o → option_map (λ vs. v ∷ vs) o ≡ Some vs → ((w ∷ ws) ≡ map given_word vs) × (list_all is_given vs ≡ true)
     rest ih v e None f h = none_some h
     rest ih v e (Some us) f h =
         let g = given_is w v e in
         let r = ih us f in
-        subst (λ (vs : List Given). ((w ∷ ws) ≡ map given_word vs) × (list_all is_given vs ≡ true)) (some_same h) ((λ i. g.0 i ∷ r.0 i), both g.1 r.1)
+        subst (λ (vs : List Assignment). ((w ∷ ws) ≡ map given_word vs) × (list_all is_given vs ≡ true)) (some_same h) ((λ i. g.0 i ∷ r.0 i), both g.1 r.1)
 
-    first : (o : Option Given) → given w ≡ o → ((us : List Given) → givens ws ≡ Some us → (ws ≡ map given_word us) × (list_all is_given us ≡ true)) → option_and_then (λ v. option_map (λ vs. v ∷ vs) (givens ws)) o ≡ Some vs → ((w ∷ ws) ≡ map given_word vs) × (list_all is_given vs ≡ true)
+    first : (o : Option Assignment) → given w ≡ o → ((us : List Assignment) → givens ws ≡ Some us → (ws ≡ map given_word us) × (list_all is_given us ≡ true)) → option_and_then (λ v. option_map (λ vs. v ∷ vs) (givens ws)) o ≡ Some vs → ((w ∷ ws) ≡ map given_word vs) × (list_all is_given vs ≡ true)
     first None e ih h = none_some h
     first (Some v) e ih h = rest ih v e (givens ws) refl h
 
-pub givens_ok : (vs : List Given) → list_all is_given vs ≡ true → givens (map given_word vs) ≡ Some vs
+pub givens_ok : (vs : List Assignment) → list_all is_given vs ≡ true → givens (map given_word vs) ≡ Some vs
 givens_ok [] h = refl
 givens_ok (v ∷ vs) h = rw (given_ok v (and_left (is_given v) (list_all is_given vs) h), givens_ok vs (and_right (is_given v) (list_all is_given vs) h)) refl
 
@@ -216,6 +216,6 @@ act_sound ws s h =
     by a.value b.value d.value d.rest (λ (r : WordsLeft) e. ap (λ r. codes "act" ∷ r) (line_up a.all l.same (line_up b.all m.same (line_up d.all n.same e)))) (both l.name (both m.name (both n.name refl))) (givens d.rest) refl d.more
   where
     by : (who session label : Name) (rest : WordsLeft) → ((r : WordsLeft) → rest ≡ r → (codes "act" ∷ ws) ≡ codes "act" ∷ who ∷ session ∷ label ∷ r) → are_names (who ∷ session ∷ label ∷ []) ≡ true
-        → (o : Option (List Given)) → givens rest ≡ o → option_map (SaidAct who session label) o ≡ Some s → Fits (codes "act" ∷ ws) s
+        → (o : Option (List Assignment)) → givens rest ≡ o → option_map (SaidAct who session label) o ≡ Some s → Fits (codes "act" ∷ ws) s
     by who session label rest w n None e h = none_some h
     by who session label rest w n (Some vs) e h = let g = givens_are rest vs e in fits {s = SaidAct who session label vs} (w (map given_word vs) g.0) (both n g.1) h

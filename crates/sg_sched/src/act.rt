@@ -4,7 +4,7 @@ ghost use Rattle.sg_sched.specs.Format.Reading.{split_at, given, givens, act_for
 ghost use Rattle.sg_sched.specs.Format.Model.{said};
 
 use crate::form::take_name;
-use crate::line::{Given, Line};
+use crate::line::{Assignment, Line};
 use crate::text::{Words, index_of};
 use crate::value::is_value;
 use crate::word::read_name;
@@ -25,7 +25,10 @@ pub fn split_at(mark: u8, word: &[u8]) -> Option<(&[u8], &[u8])>
 
 /// `VAR=VALUE`.
 #[tactic(auto, unfolding(crate::specs::Format::Reading::given, sg_base::specs::Words::name))]
-pub fn read_given<'a>(alloc: Global, word: &'a [u8]) -> Result<Option<Given<'a>>, OutOfMemory>
+pub fn read_assignment<'a>(
+    alloc: Global,
+    word: &'a [u8],
+) -> Result<Option<Assignment<'a>>, OutOfMemory>
     ensures { IfOk result (λ o. o ≡ given word.now) }
 {
     let Some((variable, value)) = split_at(b'=', word) else {
@@ -35,22 +38,22 @@ pub fn read_given<'a>(alloc: Global, word: &'a [u8]) -> Result<Option<Given<'a>>
         return Ok(None);
     };
     if is_value(alloc, value)? {
-        Ok(Some(Given { variable, value }))
+        Ok(Some(Assignment { variable, value }))
     } else {
         Ok(None)
     }
 }
 
 /// Each word that is left as `VAR=VALUE`, with a written value that spells one, or `None` where a word isn't so.
-pub fn read_givens<'a>(
+pub fn read_assignments<'a>(
     alloc: Global,
     words: &mut Words<'a>,
-) -> Result<Option<Seq<Given<'a>>>, OutOfMemory>
+) -> Result<Option<Seq<Assignment<'a>>>, OutOfMemory>
     ensures { IfOk result (λ o. o ≡ givens words.old) }
 {
     let mut values = Seq::new(alloc);
     'words: while let Some(word) = words.next() {
-        match read_given(alloc, word)? {
+        match read_assignment(alloc, word)? {
             Some(value) => values.push(value)?,
             None => return Ok(None),
         }
@@ -72,7 +75,7 @@ pub(crate) fn act<'a>(alloc: Global, words: &mut Words<'a>) -> Result<Option<Lin
     let Some(label) = take_name(words) else {
         return Ok(None);
     };
-    match read_givens(alloc, words)? {
+    match read_assignments(alloc, words)? {
         Some(values) => Ok(Some(Line::Act {
             who,
             session,

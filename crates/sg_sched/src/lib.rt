@@ -41,12 +41,12 @@ mod text;
 pub mod value;
 pub mod word;
 
-pub use act::{read_given, read_givens, split_at};
+pub use act::{read_assignment, read_assignments, split_at};
 pub use craft::{Craft, CraftItem, CraftJoin, HeldCraft, Source};
 pub use craft_form::read_cast;
 pub use fault::{Kind, LineFault};
 pub use key::PairKey;
-pub use line::Given;
+pub use line::Assignment;
 pub use read_line::is_skipped;
 pub use schedule::{NamedSession, Schedule};
 pub use step::{Change, Step, What};

@@ -6,17 +6,17 @@ use std::marker::Model;
 
 /// `VAR=VALUE`, the value as it is written.
 #[derive(Drop)]
-pub struct Given<'a> {
+pub struct Assignment<'a> {
     /// The name of the variable.
     pub variable: Name,
     /// The written value, which spells one.
     pub value: &'a [u8],
 }
 
-impl<'a> Model for Given<'a> {
-    ghost use Rattle.sg_sched.specs.Format.Said.{Given};
+impl<'a> Model for Assignment<'a> {
+    ghost use Rattle.sg_sched.specs.Format.Said.{Assignment};
 
-    ghost Value = { Given };
+    ghost Value = { Assignment };
 
     ghost view = { λ g. record { variable = g.variable; value = g.value.now } };
 }
@@ -224,7 +224,7 @@ pub enum Line<'a> {
         /// The name of the label.
         label: Name,
         /// What is written.
-        values: Seq<Given<'a>>,
+        values: Seq<Assignment<'a>>,
     },
     /// The principal abandons the session.
     Abandon {

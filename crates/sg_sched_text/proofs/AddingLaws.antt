@@ -10,7 +10,7 @@ use Rattle.sg_model.specs.Lists.{has_text, first_some}
 use Rattle.sg_protocol.specs.Graph.{Graph}
 use Rattle.sg_protocol.specs.Schedule.{Step, StartStep, ActStep, AbandonStep, DeliverStep}
 use Rattle.sg_sched.specs.Pair.{edge, labels}
-use Rattle.sg_sched.specs.Format.Said.{Word, Given, Delivered, SaidEdge, SaidHonest, SaidKey, SaidSession, SaidStart, SaidAct, SaidAbandon, SaidDeliver}
+use Rattle.sg_sched.specs.Format.Said.{Word, Assignment, Delivered, SaidEdge, SaidHonest, SaidKey, SaidSession, SaidStart, SaidAct, SaidAbandon, SaidDeliver}
 use Rattle.sg_sched.specs.Format.Values.{bytes_of}
 use Rattle.sg_sched.specs.Format.Items.{Item, EdgeItem, HonestItem, KeyItem, SessionItem, StepItem, SoFar, graphs_declared, graph_names, session_names, index, graph_for, labels_of, is_key_of}
 use Rattle.sg_sched.specs.Format.Made.{values, what_of}
@@ -130,14 +130,14 @@ module _ (past : SoFar) (h : past.group ≤ 4) where
   act_tests true false c made = refl
   act_tests false b c made = refl
 
-  act_known : (g : Option Graph) (who label : Name) (vs : List Given) (s l : ℕ) → option_map (ActStep who s l) (known_values g vs) ≡ (if list_all (λ v. knows_variable g v.variable) vs then Some (ActStep who s l (values g vs)) else None)
+  act_known : (g : Option Graph) (who label : Name) (vs : List Assignment) (s l : ℕ) → option_map (ActStep who s l) (known_values g vs) ≡ (if list_all (λ v. knows_variable g v.variable) vs then Some (ActStep who s l (values g vs)) else None)
   act_known g who label vs s l = by (list_all (λ v. knows_variable g v.variable) vs)
     where
       by : (b : Bool) → option_map (ActStep who s l) (if b then Some (values g vs) else None) ≡ (if b then Some (ActStep who s l (values g vs)) else None)
       by true = refl
       by false = refl
 
-  pub act_added : (who session label : Name) (vs : List Given)
+  pub act_added : (who session label : Name) (vs : List Assignment)
       → add_step past (is_twice vs) (has_text who past.honest) (act_step past who session label vs) ≡ after_line past (SaidAct who session label vs)
   unfolding after_line
   act_added who session label vs =

@@ -23,7 +23,7 @@ use Rattle.sg_protocol.specs.Crafted.{crafted, crafted_frame}
 use Rattle.sg_protocol.specs.IsSchedule.{IsSchedule, IsDeclared, IsPairKey, IsStep}
 use Rattle.sg_protocol.proofs.RealHash.{real_hash}
 use Rattle.sg_sched.specs.Pair.{edge}
-use Rattle.sg_sched.specs.Format.Said.{Given, LineContent, SaidBlock, SaidEdge, SaidHonest, SaidKey, SaidSession, SaidStart, SaidAct, SaidAbandon, SaidDeliver, SaidMake}
+use Rattle.sg_sched.specs.Format.Said.{Assignment, LineContent, SaidBlock, SaidEdge, SaidHonest, SaidKey, SaidSession, SaidStart, SaidAct, SaidAbandon, SaidDeliver, SaidMake}
 use Rattle.sg_sched.specs.Format.Forms.{is_form, is_given, are_names}
 use Rattle.sg_sched.specs.Format.Items.{Session, Item, GraphItem, EdgeItem, HonestItem, KeyItem, SessionItem, StepItem, SoFar, so_far, graphs_declared, graph_names, index, session_names, graph_for, labels_of, declared, digest_at}
 use Rattle.sg_sched.specs.Format.Made.{made_after, values, craft, what_of}
@@ -56,7 +56,7 @@ room n h = by (nat_le most_steps n) refl h
 said_meant : (p : SoFar) (m : Meant p) (said : LineContent) (i : Item) → is_form said ≡ true → IsRight p said → made_after p said ≡ Some i → Meant (plus p i)
 said_meant p m said i form r e = by said form r e (said_more p m.sound said i form r e)
   where
-    act_form : (who session label : Name) (vs : List Given) → is_form (SaidAct who session label vs) ≡ true → list_all is_given vs ≡ true
+    act_form : (who session label : Name) (vs : List Assignment) → is_form (SaidAct who session label vs) ≡ true → list_all is_given vs ≡ true
     act_form who session label vs h = (and_parts (are_names (who ∷ session ∷ label ∷ [])) (list_all is_given vs) h).1
 
     step : (s : Step) → StepItem s ≡ i → (if nat_le most_steps (length p.steps) then Some TooManySteps else None) ≡ None → FitsStep p.sessions s → Sound (plus p i) → Meant (plus p i)

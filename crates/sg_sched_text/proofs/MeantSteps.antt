@@ -16,7 +16,7 @@ use Rattle.sg_protocol.specs.Frame.{IsValue}
 use Rattle.sg_protocol.specs.TextLaws.{IsVersion}
 use Rattle.sg_protocol.specs.Schedule.{DeliverStep}
 use Rattle.sg_sched.specs.Pair.{graphs_of}
-use Rattle.sg_sched.specs.Format.Said.{Given, ItemContent, CraftContent, Delivered, TheFrame, TheFlipped, TheCut, TheBytes, SaidMake}
+use Rattle.sg_sched.specs.Format.Said.{Assignment, ItemContent, CraftContent, Delivered, TheFrame, TheFlipped, TheCut, TheBytes, SaidMake}
 use Rattle.sg_sched.specs.Format.Forms.{is_given, is_item, is_craft}
 use Rattle.sg_sched.specs.Format.Items.{Session, SoFar, graphs_declared, index, session_names, session_named, graph_for, roles_of, variables_of}
 use Rattle.sg_sched.specs.Format.Made.{written, values, craft, what_of}
@@ -35,7 +35,7 @@ use Rattle.sg_sched_text.proofs.MeantParts.{FitsCraft, FitsStep, Meant}
 
 -- ---- acts
 
-written_fits : (g : Option Graph) (vs : List Given) → list_all is_given vs ≡ true → AllByRecursion (λ (w : ℕ × Value). IsValue w.1) (map (written g) vs)
+written_fits : (g : Option Graph) (vs : List Assignment) → list_all is_given vs ≡ true → AllByRecursion (λ (w : ℕ × Value). IsValue w.1) (map (written g) vs)
 written_fits g [] h = tt
 written_fits g (v ∷ vs) h = let k = and_parts (is_given v) (list_all is_given vs) h in (value_is v.value (given_value v k.0), written_fits g vs k.1)
 
@@ -57,7 +57,7 @@ range_fits : (ws : Map Value) → AllByRecursion (λ (w : ℕ × Value). IsValue
 range_fits ws a k zero l = tt
 range_fits ws a k (suc j) l = found_fits ws k a (value_at ws k) refl _ (omega (arith, l)) (range_fits ws a (suc k) j (omega (arith, l)))
 
-pub values_fit : (g : Option Graph) (vs : List Given) → list_all is_given vs ≡ true → AllByRecursion (λ (w : ℕ × Value). (w.0 < 256) × IsValue w.1) (values g vs)
+pub values_fit : (g : Option Graph) (vs : List Assignment) → list_all is_given vs ≡ true → AllByRecursion (λ (w : ℕ × Value). (w.0 < 256) × IsValue w.1) (values g vs)
 values_fit g vs h = range_fits (map (written g) vs) (written_fits g vs h) 0 32 (omega arith)
 
 pub delivered_fits : (ss : List Session) (who : Name) (what : Delivered) → FitsStep ss (DeliverStep who (what_of what))

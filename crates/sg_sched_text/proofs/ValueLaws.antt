@@ -11,7 +11,7 @@ use Rattle.sg_model.specs.Names.{Name}
 use Rattle.sg_model.specs.Values.{Value}
 use Rattle.sg_model.proofs.Small.{drop_at}
 use Rattle.sg_protocol.specs.Graph.{Graph}
-use Rattle.sg_sched.specs.Format.Said.{Given}
+use Rattle.sg_sched.specs.Format.Said.{Assignment}
 use Rattle.sg_sched.specs.Format.Values.{value_of}
 use Rattle.sg_sched.specs.Format.Items.{variables_of, index}
 use Rattle.sg_sched.specs.Format.Made.{written}
@@ -66,24 +66,24 @@ id_map : {A : Type 0} (o : Option A) → option_map (λ x. x) o ≡ o
 id_map None = refl
 id_map (Some x) = refl
 
-number_is : (names : List Name) (v : Given) → number_of names v ≡ (if has_text v.variable names then Some (index v.variable names) else None)
+number_is : (names : List Name) (v : Assignment) → number_of names v ≡ (if has_text v.variable names then Some (index v.variable names) else None)
 number_is names v = sym (id_map (number_of names v)) ∙ known_index (λ n. n) v.variable names
 
-numbers_are : (names : List Name) (vs : List Given) → numbers_of names vs ≡ (if list_all (λ v. has_text v.variable names) vs then Some (map (λ v. index v.variable names) vs) else None)
+numbers_are : (names : List Name) (vs : List Assignment) → numbers_of names vs ≡ (if list_all (λ v. has_text v.variable names) vs then Some (map (λ v. index v.variable names) vs) else None)
 numbers_are names vs = all_is (number_of names) (λ v. has_text v.variable names) (λ v. index v.variable names) (number_is names) vs
 
-pub as_many : (names : List Name) (vs : List Given) (ns : List ℕ) → numbers_of names vs ≡ Some ns → length ns ≡ length vs
+pub as_many : (names : List Name) (vs : List Assignment) (ns : List ℕ) → numbers_of names vs ≡ Some ns → length ns ≡ length vs
 as_many names vs ns h = by (list_all (λ v. has_text v.variable names) vs) (sym (numbers_are names vs) ∙ h)
   where
     by : (b : Bool) → (if b then Some (map (λ v. index v.variable names) vs) else None) ≡ Some ns → length ns ≡ length vs
     by true e = let same : map (λ v. index v.variable names) vs ≡ ns = cc in ap length (sym same) ∙ length-map vs (λ v. index v.variable names)
     by false e = absurd (cc)
 
-pairs_are : (g : Option Graph) (vs : List Given) → numbered (map (λ v. index v.variable (variables_of g)) vs) vs ≡ map (written g) vs
+pairs_are : (g : Option Graph) (vs : List Assignment) → numbered (map (λ v. index v.variable (variables_of g)) vs) vs ≡ map (written g) vs
 pairs_are g [] = refl
 pairs_are g (v ∷ vs) = ap (λ ws. written g v ∷ ws) (pairs_are g vs)
 
-pub by_numbers : (g : Option Graph) (vs : List Given) → option_map (λ ns. from_number 0 (numbered ns vs)) (numbers_of (variables_of g) vs) ≡ known_values g vs
+pub by_numbers : (g : Option Graph) (vs : List Assignment) → option_map (λ ns. from_number 0 (numbered ns vs)) (numbers_of (variables_of g) vs) ≡ known_values g vs
 by_numbers g vs = ap (option_map (λ ns. from_number 0 (numbered ns vs))) (numbers_are (variables_of g) vs) ∙ by (list_all (λ v. knows_variable g v.variable) vs)
   where
     by : (b : Bool) → option_map (λ ns. from_number 0 (numbered ns vs)) (if b then Some (map (λ v. index v.variable (variables_of g)) vs) else None)
@@ -100,12 +100,12 @@ other_number n x h = by (n == x) refl
     by false e = refl
     by true e = absurd (h (eqb-true n x e))
 
-pub stands : (ns : List ℕ) (vs : List Given) (x i n : ℕ) → i < length ns → length ns ≡ length vs → n ≡ get_or ns i n
+pub stands : (ns : List ℕ) (vs : List Assignment) (x i n : ℕ) → i < length ns → length ns ≡ length vs → n ≡ get_or ns i n
     → value_at (numbered (drop i ns) (drop i vs)) x ≡ (if n == x then option_map (λ v. value_of v.value) (slice_get vs i) else value_at (numbered (drop (i + 1) ns) (drop (i + 1) vs)) x)
 stands ns vs x i n h same e =
     let w : i < length vs = omega (arith, h, same) in
-    let v : Given = get_or vs i (record { variable = []; value = [] }) in
+    let v : Assignment = get_or vs i (record { variable = []; value = [] }) in
     let s : slice_get vs i ≡ Some v = slice_get-get_or vs i (record { variable = []; value = [] }) w in
     let f : v ≡ get_or vs i v = sym (get_or_from_slice_get vs i v v s) in
     (λ k. value_at (numbered (drop_at ns i n h e k) (drop_at vs i v w f k)) x)
-    ∙ ap (λ (o : Option Given). if n == x then option_map (λ v. value_of v.value) o else value_at (numbered (drop (i + 1) ns) (drop (i + 1) vs)) x) (sym s)
+    ∙ ap (λ (o : Option Assignment). if n == x then option_map (λ v. value_of v.value) o else value_at (numbered (drop (i + 1) ns) (drop (i + 1) vs)) x) (sym s)

@@ -10,7 +10,7 @@ use Rattle.sg_model.specs.Limits.{most_declared, most_edges, most_steps}
 use Rattle.sg_protocol.specs.Graph.{Graph}
 use Rattle.sg_protocol.specs.Schedule.{Step, StartStep, ActStep, AbandonStep}
 use Rattle.sg_sched.specs.Pair.{edge, labels}
-use Rattle.sg_sched.specs.Format.Said.{Word, Given, LineContent}
+use Rattle.sg_sched.specs.Format.Said.{Word, Assignment, LineContent}
 use Rattle.sg_sched.specs.Format.Values.{bytes_of}
 use Rattle.sg_sched.specs.Format.Items.{Item, EdgeItem, HonestItem, KeyItem, SessionItem, StepItem, Session, SoFar, graphs_declared, graph_names, session_names, graph_for, labels_of, is_key_of}
 use Rattle.sg_sched.specs.Format.Made.{made_after, values}
@@ -98,17 +98,17 @@ abbrev pub abandon_step : SoFar → Name → Name → Option Step
 abandon_step past who session = option_map (AbandonStep who) (session_index past session)
 
 -- the values of an act, where all its variables are the graph's
-abbrev pub known_values : Option Graph → List Given → Option (Map Value)
+abbrev pub known_values : Option Graph → List Assignment → Option (Map Value)
 known_values g vs = if list_all (λ v. knows_variable g v.variable) vs then Some (values g vs) else None
 
 -- an act of the session at an index
-abbrev pub act_of : Option Graph → Name → Name → List Given → ℕ → Option Step
+abbrev pub act_of : Option Graph → Name → Name → List Assignment → ℕ → Option Step
 act_of g who label vs s = option_and_then (λ l. option_map (ActStep who s l) (known_values g vs)) (position (bytes_eq label) (labels_of g))
 
 -- the step of an act
-abbrev pub act_step : SoFar → Name → Name → Name → List Given → Option Step
+abbrev pub act_step : SoFar → Name → Name → Name → List Assignment → Option Step
 act_step past who session label vs = option_and_then (act_of (graph_for session past) who label vs) (session_index past session)
 
 -- an act names a variable twice
-abbrev pub is_twice : List Given → Bool
+abbrev pub is_twice : List Assignment → Bool
 is_twice vs = not (all_differ (map (λ v. v.variable) vs))

@@ -17,7 +17,7 @@ use sg_base::{Name, OutOfMemory};
 use sg_sched::index::label_index;
 use sg_sched::line::Delivered;
 use sg_sched::value::read_hex;
-use sg_sched::{Change, Given, Kind, Step, What};
+use sg_sched::{Assignment, Change, Kind, Step, What};
 use std::alloc::Global;
 
 const MOST_STEPS: usize = 200_000;
@@ -96,7 +96,7 @@ impl Declared {
         who: Name,
         session: &Name,
         label: &Name,
-        values: &[Given<'_>],
+        values: &[Assignment<'_>],
     ) -> Result<(), Stop>
         requires { IsTrue (list_all is_given values.now) }
         ensures { Takes (after_line self.old (SaidAct who session.now label.now values.now)) self.new result }
@@ -113,7 +113,7 @@ impl Declared {
         who: Name,
         session: &Name,
         label: &Name,
-        values: &[Given<'_>],
+        values: &[Assignment<'_>],
     ) -> Result<Option<Step>, OutOfMemory>
         requires { IsTrue (list_all is_given values.now) }
         ensures { IfOk result (λ o. option_map step_of o ≡ act_step self.now who session.now label.now values.now) }

@@ -14,7 +14,7 @@ use sg_base::{OutOfMemory, Seq, Value, Var};
 use sg_graph::Graph;
 use sg_parse::NameSet;
 use sg_sched::index::var_index;
-use sg_sched::{Given, read_value};
+use sg_sched::{Assignment, read_value};
 use std::alloc::Global;
 
 /// What is given to variables of the graph, or `None` where a variable isn't one of them.
@@ -22,7 +22,7 @@ use std::alloc::Global;
 pub fn known_values(
     alloc: Global,
     graph: &Graph,
-    values: &[Given<'_>],
+    values: &[Assignment<'_>],
 ) -> Result<Option<Seq<(Var, Value)>>, OutOfMemory>
     requires { IsTrue (list_all is_given values.now) }
     ensures { IfOk result (λ o. option_map (λ ws. map (λ (w : ℕ × Value). (w.0, value_of w.1)) ws) o ≡ known_values (Some graph.now) values.now) }
@@ -37,7 +37,7 @@ pub fn known_values(
 fn numbers(
     alloc: Global,
     graph: &Graph,
-    values: &[Given<'_>],
+    values: &[Assignment<'_>],
 ) -> Result<Option<Seq<Var>>, OutOfMemory>
     ensures { IfOk result (λ o. o ≡ numbers_of (variables_of (Some graph.now)) values.now) }
 {
@@ -56,7 +56,7 @@ fn numbers(
 fn in_order(
     alloc: Global,
     numbers: &[Var],
-    values: &[Given<'_>],
+    values: &[Assignment<'_>],
 ) -> Result<Seq<(Var, Value)>, OutOfMemory>
     requires same { length numbers.now ≡ length values.now }
     requires given { IsTrue (list_all is_given values.now) }
@@ -74,7 +74,7 @@ fn in_order(
 fn put_value(
     alloc: Global,
     numbers: &[Var],
-    values: &[Given<'_>],
+    values: &[Assignment<'_>],
     number: u8,
     found: &mut Seq<(Var, Value)>,
 ) -> Result<(), OutOfMemory>
@@ -94,7 +94,7 @@ fn put_value(
 }
 
 // The index of a number, if it is there.
-fn index_of(numbers: &[Var], values: &[Given<'_>], number: u8) -> Option<usize>
+fn index_of(numbers: &[Var], values: &[Assignment<'_>], number: u8) -> Option<usize>
     requires { length numbers.now ≡ length values.now }
     ensures { MatchOption result (value_at (numbered numbers.now values.now) number ≡ None)
         (λ i. (i < length values.now) × (value_at (numbered numbers.now values.now) number ≡ option_map (λ v. spelled v.value) (slice_get values.now i))) }
@@ -120,7 +120,7 @@ pub(crate) fn spelled_value(alloc: Global, word: &[u8]) -> Result<Value, OutOfMe
 }
 
 /// Whether the variables are different.
-pub fn differ(alloc: Global, values: &[Given<'_>]) -> Result<bool, OutOfMemory>
+pub fn differ(alloc: Global, values: &[Assignment<'_>]) -> Result<bool, OutOfMemory>
     ensures { IfOk result (λ b. b ≡ all_differ (map (λ v. v.variable) values.now)) }
 {
     let mut names = NameSet::new(alloc);

@@ -21,7 +21,7 @@ use Rattle.sg_protocol.specs.Graph.{Graph}
 use Rattle.sg_protocol.specs.Keyring.{Program}
 use Rattle.sg_sched_text.specs.Adding.{is_twice, known_values}
 use Rattle.sg_report.specs.Reported.{Reported, sid_left}
-use Rattle.sg_sched.specs.Format.Said.{Given}
+use Rattle.sg_sched.specs.Format.Said.{Assignment}
 use Rattle.sg_script.specs.Script.{Start as ScriptStart}
 use Rattle.sg_serve.specs.declared.fault.ServeFault.{ServeFault}
 use Rattle.sg_serve.specs.declared.server.Server.{Server}
@@ -100,7 +100,7 @@ not_twice true e = refl
 not_twice false e = absurd (cc)
 
 -- an act that is given well
-pub acts_is : (s : Serving) (n : ℕ) (sid : List ℕ) (g : Graph) (name : Name) (given : List Given) (label : ℕ) (vs : Map Value) → Some sid ≡ slice_get (sids_of s.play) (n - 1) → Some g ≡ graph_at s n → Some label ≡ position (bytes_eq name) (map (λ e. e.name) g.edges)
+pub acts_is : (s : Serving) (n : ℕ) (sid : List ℕ) (g : Graph) (name : Name) (given : List Assignment) (label : ℕ) (vs : Map Value) → Some sid ≡ slice_get (sids_of s.play) (n - 1) → Some g ≡ graph_at s n → Some label ≡ position (bytes_eq name) (map (λ e. e.name) g.edges)
     → Some vs ≡ known_values (Some g) given → false ≡ is_twice given → acts s sid label vs ≡ of_session s n (λ x. acts_by s x (graph_at s n) name given)
 acts_is s n sid g name given label vs at is index known once =
     ap (λ (b : Bool). if b then says s (wrong_text Twice) else acts s sid label vs) once

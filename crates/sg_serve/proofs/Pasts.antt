@@ -21,7 +21,7 @@ use Rattle.sg_request.specs.Request.{request_of}
 use Rattle.sg_request.specs.declared.request.Request.{Request}
 use Rattle.sg_request.specs.declared.request.Request.TheVariants as request
 use Rattle.sg_sched.specs.Format.Items.{labels_of}
-use Rattle.sg_sched.specs.Format.Said.{Given}
+use Rattle.sg_sched.specs.Format.Said.{Assignment}
 use Rattle.sg_script.specs.Script.{Start as ScriptStart}
 use Rattle.sg_wait.specs.Waiting.{received}
 use Rattle.sg_serve.specs.Laws.{AgainChangesNothing, IsOfNode, RunsAreOfNodes}
@@ -50,7 +50,7 @@ in_session s n f h = by_option s f (slice_get (sids_of s.play) (n - 1)) _ h (inl
 by_start : (s : Serving) (start : ScriptStart) → GoesTo s (starts s start)
 by_start s start = by_option s _ (find (is_named start.graph) s.play.past.programs) _ (λ p. inr (_, refl)) (inl refl)
 
-by_act : (s : Serving) (sid : List ℕ) (graph : Option Graph) (label : Name) (given : List Given) → GoesTo s (acts_by s sid graph label given)
+by_act : (s : Serving) (sid : List ℕ) (graph : Option Graph) (label : Name) (given : List Assignment) → GoesTo s (acts_by s sid graph label given)
 by_act s sid graph label given =
     by_option s (acts_if s sid graph given) (position (bytes_eq label) (labels_of graph)) _
     (λ l. by_option s _ (known_values graph given) _ (λ values. by_bool s (is_twice given) _ _ (inl refl) (inr (_, refl))) (inl refl)) (inl refl)

@@ -6,7 +6,7 @@ use Rattle.sg_model.specs.Names.{Name, is_name}
 use Rattle.sg_sched.specs.Format.CraftReading.{cast}
 use Rattle.sg_sched.specs.Format.Forms.{is_given}
 use Rattle.sg_sched.specs.Format.Reading.{WordsLeft, after, ended, given, given_of, givens, split_at, word}
-use Rattle.sg_sched.specs.Format.Said.{Given, Word}
+use Rattle.sg_sched.specs.Format.Said.{Assignment, Word}
 use Rattle.sg_sched.specs.Format.Values.{is_value}
 use Rattle.sg_sched.specs.Text.{words}
 use Rattle.sg_request.specs.Request.{act_form, content, form, milliseconds, quit_form, receive_form, request_of, session, session_form, short_form, start_form, version}
@@ -16,15 +16,15 @@ use Rattle.sg_serve.specs.Requests.{AreGiven}
 
 -- ---- a value
 
-given_if : (b : Bool) (w v : Given) → is_given w ≡ b → (if b then Some w else None) ≡ Some v → is_given v ≡ true
-given_if true w v t e = subst (λ (x : Given). is_given x ≡ true) (let z : w ≡ v = (cc) in z) t
+given_if : (b : Bool) (w v : Assignment) → is_given w ≡ b → (if b then Some w else None) ≡ Some v → is_given v ≡ true
+given_if true w v t e = subst (λ (x : Assignment). is_given x ≡ true) (let z : w ≡ v = (cc) in z) t
 given_if false w v t e = absurd (cc)
 
-given_pair : (o : Option (Word × Word)) (v : Given) → option_and_then given_of o ≡ Some v → is_given v ≡ true
+given_pair : (o : Option (Word × Word)) (v : Assignment) → option_and_then given_of o ≡ Some v → is_given v ≡ true
 given_pair None v e = absurd (cc)
 given_pair (Some p) v e = given_if (is_name p.0 && is_value p.1) (record { variable = p.0; value = p.1 }) v refl e
 
-given_ok : (w : Word) (v : Given) → given w ≡ Some v → is_given v ≡ true
+given_ok : (w : Word) (v : Assignment) → given w ≡ Some v → is_given v ≡ true
 unfolding given
 given_ok w v e = given_pair (split_at 61 w) v e
 
@@ -33,17 +33,17 @@ both true b e f = f
 both false b e f = absurd (cc)
 
 -- one value more
-given_more : (v : Given) (o : Option (List Given)) (vs : List Given) → is_given v ≡ true → ((us : List Given) → o ≡ Some us → list_all is_given us ≡ true) → option_map (λ (us : List Given). v ∷ us) o ≡ Some vs → list_all is_given vs ≡ true
+given_more : (v : Assignment) (o : Option (List Assignment)) (vs : List Assignment) → is_given v ≡ true → ((us : List Assignment) → o ≡ Some us → list_all is_given us ≡ true) → option_map (λ (us : List Assignment). v ∷ us) o ≡ Some vs → list_all is_given vs ≡ true
 given_more v None vs t h e = absurd (cc)
-given_more v (Some us) vs t h e = subst (λ (xs : List Given). list_all is_given xs ≡ true) (let z : v ∷ us ≡ vs = (cc) in z) (both (is_given v) (list_all is_given us) t (h us refl))
+given_more v (Some us) vs t h e = subst (λ (xs : List Assignment). list_all is_given xs ≡ true) (let z : v ∷ us ≡ vs = (cc) in z) (both (is_given v) (list_all is_given us) t (h us refl))
 
-givens_on : (o : Option Given) (later : Option (List Given)) (vs : List Given) → ((v : Given) → o ≡ Some v → is_given v ≡ true) → ((us : List Given) → later ≡ Some us → list_all is_given us ≡ true)
-    → option_and_then (λ (v : Given). option_map (λ (us : List Given). v ∷ us) later) o ≡ Some vs → list_all is_given vs ≡ true
+givens_on : (o : Option Assignment) (later : Option (List Assignment)) (vs : List Assignment) → ((v : Assignment) → o ≡ Some v → is_given v ≡ true) → ((us : List Assignment) → later ≡ Some us → list_all is_given us ≡ true)
+    → option_and_then (λ (v : Assignment). option_map (λ (us : List Assignment). v ∷ us) later) o ≡ Some vs → list_all is_given vs ≡ true
 givens_on None later vs one more e = absurd (cc)
 givens_on (Some v) later vs one more e = given_more v later vs (one v refl) more e
 
-givens_ok : (ws : WordsLeft) (vs : List Given) → givens ws ≡ Some vs → list_all is_given vs ≡ true
-givens_ok [] vs e = subst (λ (xs : List Given). list_all is_given xs ≡ true) (let z : [] ≡ vs = (cc) in z) refl
+givens_ok : (ws : WordsLeft) (vs : List Assignment) → givens ws ≡ Some vs → list_all is_given vs ≡ true
+givens_ok [] vs e = subst (λ (xs : List Assignment). list_all is_given xs ≡ true) (let z : [] ≡ vs = (cc) in z) refl
 givens_ok (w ∷ ws) vs e = givens_on (given w) (givens ws) vs (given_ok w) (givens_ok ws) e
 
 -- ---- forms

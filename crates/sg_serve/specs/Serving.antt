@@ -25,7 +25,7 @@ use Rattle.sg_report.specs.Reported.{session_reported, sid_left, reported_answer
 use Rattle.sg_request.specs.declared.request.Request.{Request}
 use Rattle.sg_request.specs.declared.request.Request.TheVariants as request
 use Rattle.sg_sched.specs.Format.Items.{labels_of}
-use Rattle.sg_sched.specs.Format.Said.{Given}
+use Rattle.sg_sched.specs.Format.Said.{Assignment}
 use Rattle.sg_script.specs.Script.{Start as ScriptStart}
 
 -- how far it has come: its node's past with the words that are left, which is a play without choices; the graph of each session, in the order of their first events; and the last frames
@@ -119,11 +119,11 @@ abbrev pub acts : Serving → (sid : List ℕ) → (label : ℕ) → Map Value �
 acts s sid label values = calls (less (length values) s) (Act sid label values (next_words (length values) s.play.words))
 
 -- an act as it is given, by the graph of its session: with variables of the graph alone, each of them once
-abbrev pub acts_if : Serving → (sid : List ℕ) → Option Graph → List Given → (label : ℕ) → Reply
+abbrev pub acts_if : Serving → (sid : List ℕ) → Option Graph → List Assignment → (label : ℕ) → Reply
 acts_if s sid graph given label = option_map_or (λ values. if is_twice given then says s (wrong_text Twice) else acts s sid label values) (known_values graph given) (says s (wrong_text Unknown))
 
 -- and with a label of the graph
-abbrev pub acts_by : Serving → (sid : List ℕ) → Option Graph → (label : Name) → List Given → Reply
+abbrev pub acts_by : Serving → (sid : List ℕ) → Option Graph → (label : Name) → List Assignment → Reply
 acts_by s sid graph label given = option_map_or (acts_if s sid graph given) (position (bytes_eq label) (labels_of graph)) (says s (wrong_text Unknown))
 
 -- a delivery, if one came

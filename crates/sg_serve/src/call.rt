@@ -19,7 +19,7 @@ use sg_answers::Wrong;
 use sg_base::{Fresh, Label, Name, Seq, Sid, Value, Var};
 use sg_ledger::Disk;
 use sg_play::draw;
-use sg_sched::Given;
+use sg_sched::Assignment;
 use sg_sched::index::label_index;
 use sg_sched_text::{differ, known_values};
 use sg_script::ScriptStart;
@@ -99,7 +99,7 @@ impl<'p> Server<'p> {
         &mut self,
         number: u32,
         label: &Name,
-        values: &[Given<'_>],
+        values: &[Assignment<'_>],
         fresh: &mut R,
     ) -> Result<Reply, ServeFault>
         requires given { IsTrue (list_all is_given values.now) }

@@ -19,7 +19,7 @@ use Rattle.sg_protocol.specs.Steps.{is_taken}
 use Rattle.sg_protocol.specs.Texts.{Hash}
 use Rattle.sg_sched.specs.Pair.{edge}
 use Rattle.sg_sched.specs.Format.Values.{bytes_of}
-use Rattle.sg_sched.specs.Format.Said.{Given, LineContent, SaidBlock, SaidEdge, SaidHonest, SaidKey, SaidSession, SaidStart, SaidAct, SaidAbandon, SaidDeliver, SaidMake}
+use Rattle.sg_sched.specs.Format.Said.{Assignment, LineContent, SaidBlock, SaidEdge, SaidHonest, SaidKey, SaidSession, SaidStart, SaidAct, SaidAbandon, SaidDeliver, SaidMake}
 use Rattle.sg_sched.specs.Format.Items.{Session, Item, GraphItem, EdgeItem, HonestItem, KeyItem, SessionItem, StepItem, SoFar, so_far, schedule_of, graphs, declared, graphs_declared, graph_names, session_names, session_named, graph_for, labels_of, variables_of, index}
 use Rattle.sg_sched.specs.Format.Made.{made_after, written, values, what_of, craft}
 use Rattle.sg_sched.specs.Format.Faults.{knows_variable}
@@ -73,7 +73,7 @@ graph_there p n g h = by (session_named n p) refl
 -- ---- values
 
 -- each variable that is written is the graph's
-written_known : (g : Graph) (vs : List Given) → list_all (λ v. knows_variable (Some g) v.variable) vs ≡ true → AllByRecursion (λ (w : ℕ × Value). w.0 < length g.variables) (map (written (Some g)) vs)
+written_known : (g : Graph) (vs : List Assignment) → list_all (λ v. knows_variable (Some g) v.variable) vs ≡ true → AllByRecursion (λ (w : ℕ × Value). w.0 < length g.variables) (map (written (Some g)) vs)
 written_known g [] h = tt
 written_known g (v ∷ vs) h =
     let k = and_parts (knows_variable (Some g) v.variable) (list_all (λ v. knows_variable (Some g) v.variable) vs) h in
@@ -97,7 +97,7 @@ range_known : (n : ℕ) (ws : Map Value) → AllByRecursion (λ (w : ℕ × Valu
 range_known n ws a k zero = tt
 range_known n ws a k (suc j) = found_known n ws k a (value_at ws k) refl _ (range_known n ws a (suc k) j)
 
-values_known : (g : Graph) (vs : List Given) → list_all (λ v. knows_variable (Some g) v.variable) vs ≡ true → AllByRecursion (λ x. x < length g.variables) (keys_of (values (Some g) vs))
+values_known : (g : Graph) (vs : List Assignment) → list_all (λ v. knows_variable (Some g) v.variable) vs ≡ true → AllByRecursion (λ x. x < length g.variables) (keys_of (values (Some g) vs))
 values_known g vs h = range_known (length g.variables) (map (written (Some g)) vs) (written_known g vs h) 0 32
 
 -- ---- one item more
@@ -119,12 +119,12 @@ module _ (p : SoFar) (a : AllFit p) where
     none_yet = λ h. absurd (omega (arith, h));
   })
 
-  act_names : (who session label : Name) (vs : List Given) (g : Option Graph) → graph_for session p ≡ g → has_text label (labels_of g) ≡ true → list_all (λ v. knows_variable g v.variable) vs ≡ true
+  act_names : (who session label : Name) (vs : List Assignment) (g : Option Graph) → graph_for session p ≡ g → has_text label (labels_of g) ≡ true → list_all (λ v. knows_variable g v.variable) vs ≡ true
       → Names (graphs_declared p) (length p.sessions) (ActStep who (index session (session_names p)) (index label (labels_of g)) (values g vs))
   act_names who session label vs None e l h = absurd (cc)
   act_names who session label vs (Some g) e l h = (g, graph_there p session g e, values_known g vs h)
 
-  known_act : (session label : Name) (vs : List Given) (g : Option Graph) → has_text session (session_names p) && has_text label (labels_of g) && list_all (λ v. knows_variable g v.variable) vs ≡ true
+  known_act : (session label : Name) (vs : List Assignment) (g : Option Graph) → has_text session (session_names p) && has_text label (labels_of g) && list_all (λ v. knows_variable g v.variable) vs ≡ true
       → (has_text label (labels_of g) ≡ true) × (list_all (λ v. knows_variable g v.variable) vs ≡ true)
   known_act session label vs g h =
       let k = and_parts (has_text session (session_names p) && has_text label (labels_of g)) (list_all (λ v. knows_variable g v.variable) vs) h in

@@ -18,7 +18,7 @@ use crate::replay::replay;
 use crate::run::run;
 use crate::serve::serve;
 use crate::suggest::suggest;
-use sg_args::{Command, CommandLine, Given};
+use sg_args::{Command, CommandLine, Parsed};
 use sg_base::{Files, Fresh, Link, Sink, write_all};
 use sg_input::Input;
 use sg_ledger::Disk;
@@ -133,7 +133,7 @@ fn on_line<
     ensures input { IsOnInput (command_of line.now) ⊎ (input.new ≡ input.old) }
     ensures disk { IsOnDisk (command_of line.now) ⊎ (disk.new ≡ disk.old) }
 {
-    match Given::read(alloc, line) {
+    match Parsed::read(alloc, line) {
         Ok(given) => {
             let ending = work(
                 alloc,

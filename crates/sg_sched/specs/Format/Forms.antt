@@ -7,7 +7,7 @@ use Rattle.sg_model.specs.Lists.{has_text, all_differ}
 use Rattle.sg_model.specs.Limits.{most_roles, most_time, most_variables}
 use Rattle.sg_protocol.specs.Schedule.{CraftJoin}
 use Rattle.sg_sched.specs.Text.{content, words}
-use Rattle.sg_sched.specs.Format.Said.{Given, Committed, TagSource, FromKey, FromItem, FromSeal, FromZero, ItemContent, CraftContent, Delivered, TheFrame, TheFlipped, TheCut, TheBytes, LineContent, SaidBlock, SaidEdge, SaidHonest, SaidKey, SaidSession, SaidStart, SaidAct, SaidAbandon, SaidDeliver, SaidMake, line_words}
+use Rattle.sg_sched.specs.Format.Said.{Assignment, Committed, TagSource, FromKey, FromItem, FromSeal, FromZero, ItemContent, CraftContent, Delivered, TheFrame, TheFlipped, TheCut, TheBytes, LineContent, SaidBlock, SaidEdge, SaidHonest, SaidKey, SaidSession, SaidStart, SaidAct, SaidAbandon, SaidDeliver, SaidMake, line_words}
 use Rattle.sg_sched.specs.Format.Values.{is_value, is_hex_of, is_hex}
 
 -- all are names
@@ -27,7 +27,7 @@ abbrev pub is_frame : ℕ → Bool
 is_frame n = nat_lt 0 n && is_short n
 
 -- VAR=VALUE: a name and a value
-abbrev pub is_given : Given → Bool
+abbrev pub is_given : Assignment → Bool
 is_given v = is_name v.variable && is_value v.value
 
 -- VAR=VALUE#K: a name, a value, and a number below 2 ^ 64

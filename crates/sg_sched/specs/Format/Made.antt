@@ -7,16 +7,16 @@ use Rattle.sg_model.specs.Values.{Value, Opening}
 use Rattle.sg_protocol.specs.Graph.{Graph}
 use Rattle.sg_protocol.specs.Schedule.{confounder, What, Whole, Flipped, Cut, Bytes, Source, Key, CopyItem, CopySeal, Zero, CraftItem, Craft, StartStep, ActStep, AbandonStep, DeliverStep, CraftStep}
 use Rattle.sg_sched.specs.Pair.{edge}
-use Rattle.sg_sched.specs.Format.Said.{Given, Committed, TagSource, FromKey, FromItem, FromSeal, FromZero, ItemContent, CraftContent, Delivered, TheFrame, TheFlipped, TheCut, TheBytes, LineContent, SaidBlock, SaidEdge, SaidHonest, SaidKey, SaidSession, SaidStart, SaidAct, SaidAbandon, SaidDeliver, SaidMake}
+use Rattle.sg_sched.specs.Format.Said.{Assignment, Committed, TagSource, FromKey, FromItem, FromSeal, FromZero, ItemContent, CraftContent, Delivered, TheFrame, TheFlipped, TheCut, TheBytes, LineContent, SaidBlock, SaidEdge, SaidHonest, SaidKey, SaidSession, SaidStart, SaidAct, SaidAbandon, SaidDeliver, SaidMake}
 use Rattle.sg_sched.specs.Format.Values.{value_of, bytes_of}
 use Rattle.sg_sched.specs.Format.Items.{Item, EdgeItem, HonestItem, KeyItem, SessionItem, StepItem, SoFar, so_far, graphs_declared, graph_names, session_names, index, graph_for, roles_of, variables_of, labels_of}
 
 -- the number of a variable of the graph, and its value
-abbrev pub written : Option Graph → Given → ℕ × Value
+abbrev pub written : Option Graph → Assignment → ℕ × Value
 written g v = (index v.variable (variables_of g), value_of v.value)
 
 -- the values of an act, handed on in rising number
-abbrev pub values : Option Graph → List Given → Map Value
+abbrev pub values : Option Graph → List Assignment → Map Value
 values g vs = in_order 32 (map (written g) vs)
 
 -- the opening of a variable of the graph, with the confounder of the step

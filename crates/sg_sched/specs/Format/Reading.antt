@@ -4,7 +4,7 @@ use Rattle.sg_model.specs.Names.{Name, reserved, is_name}
 use Rattle.sg_model.specs.Lists.{has_text}
 use Rattle.sg_base.specs.Words.{name, number}
 use Rattle.sg_sched.specs.Words.{names, frame}
-use Rattle.sg_sched.specs.Format.Said.{Word, Given, TheFrame, TheFlipped, TheCut, TheBytes, LineContent, SaidBlock, SaidEdge, SaidHonest, SaidKey, SaidSession, SaidStart, SaidAct, SaidAbandon, SaidDeliver}
+use Rattle.sg_sched.specs.Format.Said.{Word, Assignment, TheFrame, TheFlipped, TheCut, TheBytes, LineContent, SaidBlock, SaidEdge, SaidHonest, SaidKey, SaidSession, SaidStart, SaidAct, SaidAbandon, SaidDeliver}
 use Rattle.sg_sched.specs.Format.Values.{is_value, is_hex_of, is_hex}
 
 -- ---- readers
@@ -50,15 +50,15 @@ split_at mark [] = None
 split_at mark (c ∷ cs) = split_step mark c cs (split_at mark cs)
 
 -- a name and a value
-abbrev pub given_of : Word × Word → Option Given
+abbrev pub given_of : Word × Word → Option Assignment
 given_of p = if is_name p.0 && is_value p.1 then Some (record { variable = p.0; value = p.1 }) else None
 
 -- VAR=VALUE
-unfoldable pub given : Word → Option Given
+unfoldable pub given : Word → Option Assignment
 given w = option_and_then given_of (split_at 61 w)
 
 -- each word is VAR=VALUE
-abbrev pub givens : WordsLeft → Option (List Given)
+abbrev pub givens : WordsLeft → Option (List Assignment)
 givens [] = Some []
 givens (w ∷ ws) = option_and_then (λ v. option_map (λ vs. v ∷ vs) (givens ws)) (given w)
 

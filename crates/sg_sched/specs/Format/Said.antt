@@ -9,7 +9,7 @@ abbrev pub Word : Type 0
 Word = List ℕ
 
 -- VAR=VALUE
-pub record Given : Type 0 where
+pub record Assignment : Type 0 where
   pub variable : Name
   pub value : Word
 
@@ -59,7 +59,7 @@ pub data LineContent : Type 0 where
   SaidKey : (one two : Name) (digits : Word) → LineContent
   SaidSession : (name graph : Name) (nonce : ℕ) (names : List Name) (version : ℕ) → LineContent
   SaidStart : (who session : Name) → LineContent
-  SaidAct : (who session label : Name) (values : List Given) → LineContent
+  SaidAct : (who session label : Name) (values : List Assignment) → LineContent
   SaidAbandon : (who session : Name) → LineContent
   SaidDeliver : (who : Name) → Delivered → LineContent
   SaidMake : CraftContent → LineContent
@@ -77,7 +77,7 @@ abbrev pub frame_word : ℕ → Word
 frame_word n = 102 ∷ decimal n
 
 -- VAR=VALUE
-abbrev pub given_word : Given → Word
+abbrev pub given_word : Assignment → Word
 given_word v = v.variable ++ 61 ∷ v.value
 
 -- VAR=VALUE#K

@@ -4,7 +4,7 @@ use Rattle.sg_play.specs.Steps.{Step}
 use Rattle.sg_protocol.specs.Calls.{Abandon}
 use Rattle.sg_request.specs.declared.request.Request.{Request}
 use Rattle.sg_request.specs.declared.request.Request.TheVariants as request
-use Rattle.sg_sched.specs.Format.Said.{Given}
+use Rattle.sg_sched.specs.Format.Said.{Assignment}
 use Rattle.sg_serve.specs.Served.{images_if}
 use Rattle.sg_serve.specs.Serving.{acts_by, calls, graph_at, of_session, replies, says, sends_again, turn_line}
 use Rattle.sg_serve.specs.Representation.{HasReplied, Replied}
@@ -19,7 +19,7 @@ returns-in-Act-clause-replied g c = λ s st w.
     let a = of_session s n (λ sid. acts_by s sid (graph_at s n) c.in-Act.label c.in-Act.values) in
     subst (λ (q : Request). Replied (images_if (is_some sv.ledger) (g.D.Disk.may_leave c.args.disk.now)) s c.act.new.self (replies s q) c.act.result) (sym c.in-Act.is)
     (replied_plain sv c.act.new.self (g.D.Disk.may_leave c.args.disk.now) s a c.act.result c.requires.holds st
-    (subst (λ (vs : List Given). IfOk c.act.result (λ step. HasReplied c.act.new.self step (of_session s n (λ sid. acts_by s sid (graph_at s n) c.in-Act.label vs)))) c.as_slice.ensures
+    (subst (λ (vs : List Assignment). IfOk c.act.result (λ step. HasReplied c.act.new.self step (of_session s n (λ sid. acts_by s sid (graph_at s n) c.in-Act.label vs)))) c.as_slice.ensures
     (applied c.act.result _ (λ (step : Step). HasReplied c.act.new.self step (of_session s n (λ sid. acts_by s sid (graph_at s n) c.in-Act.label c.as_slice.result.now))) (λ step h. h s st w) c.act.ensures.replied)))
 
 pub returns-in-Abandon-clause-replied : goal.returns-in-Abandon-clause-replied

@@ -15,7 +15,7 @@ use std::alloc::Global;
 
 /// Those variables of a line that the graph declares, in the order of the line, and whether it declares all.
 #[derive(Debug, Drop)]
-pub(crate) struct Given<T> {
+pub(crate) struct Assignments<T> {
     pub pairs: Seq<(Var, T)>,
     pub known: bool,
 }
@@ -51,10 +51,10 @@ pub(crate) fn read_values(
     alloc: Global,
     graph: &Graph,
     words: &mut Words<'_>,
-) -> Result<Option<Given<Value>>, OutOfMemory>
+) -> Result<Option<Assignments<Value>>, OutOfMemory>
     ensures { IfOk result (λ o. option_map given_values o ≡ all_assigned (variable_names graph.now) spelled_value words.old) }
 {
-    let mut given = Given {
+    let mut given = Assignments {
         pairs: Seq::new(alloc),
         known: true,
     };
@@ -71,7 +71,7 @@ pub(crate) fn read_values(
 fn put_value(
     alloc: Global,
     graph: &Graph,
-    given: &mut Given<Value>,
+    given: &mut Assignments<Value>,
     word: &[u8],
 ) -> Result<bool, OutOfMemory>
     ensures { IfOk result (λ b. (if b then Some (given_values given.new) else None) ≡ option_map (both_given (given_values given.old)) (assigned (variable_names graph.now) spelled_value word.now)) }
@@ -97,7 +97,7 @@ fn put_value(
 pub(crate) fn put_write(
     alloc: Global,
     graph: &Graph,
-    given: &mut Given<Option<Value>>,
+    given: &mut Assignments<Option<Value>>,
     word: &[u8],
 ) -> Result<bool, OutOfMemory>
     ensures { IfOk result (λ b. (if b then Some (given_writes given.new) else None) ≡ option_map (both_given (given_writes given.old)) (assigned (variable_names graph.now) shown_or_hidden word.now)) }

@@ -7,13 +7,13 @@ use Rattle.sg_model.specs.Names.{Name, is_name}
 use Rattle.sg_model.specs.Values.{Value, TextValue}
 use Rattle.sg_model.proofs.Small.{and_left, and_right, some_same}
 use Rattle.sg_parse.specs.Reading.{index_of}
-use Rattle.sg_sched.specs.Format.Said.{Word, Given as Pair, given_word}
+use Rattle.sg_sched.specs.Format.Said.{Word, Assignment as Pair, given_word}
 use Rattle.sg_sched.specs.Format.Values.{spelled_value, is_value, value_of}
 use Rattle.sg_sched.specs.Format.Reading.{split_at}
 use Rattle.sg_sched.proofs.FormLaws.{none_some}
 use Rattle.sg_sched.proofs.PartLaws.{split_is, split_ok}
 use Rattle.sg_sched.proofs.FormatWords.{both, name_lacks}
-use Rattle.sg_audit.specs.Said.{Given, one_given, both_given}
+use Rattle.sg_audit.specs.Said.{Assignments, one_given, both_given}
 use Rattle.sg_audit.specs.Reading.{as_named, assigned, all_assigned, shown_or_hidden}
 use Rattle.sg_audit.specs.Written.{shown_value, given_in}
 
@@ -44,13 +44,13 @@ of_writes = record { reads = λ w. by (bytes_eq w (codes "?")) (spelled_value w)
 -- ---- one word
 
 -- a word that is VAR=VALUE, and what it gives
-pub record Pairs {A : Type 0} (names : List Name) (ok : Word → Bool) (value : Word → A) (w : Word) (v : Given A) : Type 0 where
+pub record Pairs {A : Type 0} (names : List Name) (ok : Word → Bool) (value : Word → A) (w : Word) (v : Assignments A) : Type 0 where
   pub pair : Pair
   pub spelled : w ≡ given_word pair
   pub form : (is_name pair.variable && ok pair.value) ≡ true
   pub gives : v ≡ one_given names pair.variable (value pair.value)
 
-pub pair_is : {A : Type 0} (names : List Name) (read : Word → Option A) (ok : Word → Bool) (value : Word → A) → IsReader read ok value → (w : Word) (v : Given A) → assigned names read w ≡ Some v → Pairs names ok value w v
+pub pair_is : {A : Type 0} (names : List Name) (read : Word → Option A) (ok : Word → Bool) (value : Word → A) → IsReader read ok value → (w : Word) (v : Assignments A) → assigned names read w ≡ Some v → Pairs names ok value w v
 unfolding assigned
 pair_is {A} names read ok value r w v h = found (split_at 61 w) refl h
   where
@@ -88,7 +88,7 @@ and_swap false false = refl
 pub in_front : {A : Type 0} (names : List Name) (value : Word → A) (p : Pair) (ps : List Pair) → both_given (one_given names p.variable (value p.value)) (given_in names value ps) ≡ given_in names value (p ∷ ps)
 in_front {A} names value p ps = by (has_text p.variable names) refl
   where
-    rest : Given A
+    rest : Assignments A
     rest = given_in names value ps
 
     by : (b : Bool) → has_text p.variable names ≡ b → both_given (one_given names p.variable (value p.value)) (given_in names value ps) ≡ given_in names value (p ∷ ps)
@@ -96,17 +96,17 @@ in_front {A} names value p ps = by (has_text p.variable names) refl
     by false e = rw e (λ i. record { pairs = rest.pairs; known = and_swap rest.known false i })
 
 -- words that are VAR=VALUE, and what they give
-pub record AllPairs {A : Type 0} (names : List Name) (ok : Word → Bool) (value : Word → A) (ws : List Word) (v : Given A) : Type 0 where
+pub record AllPairs {A : Type 0} (names : List Name) (ok : Word → Bool) (value : Word → A) (ws : List Word) (v : Assignments A) : Type 0 where
   pub list : List Pair
   pub spelled : ws ≡ map given_word list
   pub form : list_all (λ p. is_name p.variable && ok p.value) list ≡ true
   pub gives : v ≡ given_in names value list
 
-pub pairs_are : {A : Type 0} (names : List Name) (read : Word → Option A) (ok : Word → Bool) (value : Word → A) → IsReader read ok value → (ws : List Word) (v : Given A) → all_assigned names read ws ≡ Some v → AllPairs names ok value ws v
+pub pairs_are : {A : Type 0} (names : List Name) (read : Word → Option A) (ok : Word → Bool) (value : Word → A) → IsReader read ok value → (ws : List Word) (v : Assignments A) → all_assigned names read ws ≡ Some v → AllPairs names ok value ws v
 pairs_are names read ok value r [] v h = record { list = []; spelled = refl; form = refl; gives = sym (some_same h) }
 pairs_are {A} names read ok value r (w ∷ ws) v h = first (assigned names read w) refl (pairs_are names read ok value r ws) h
   where
-    rest : ((u : Given A) → all_assigned names read ws ≡ Some u → AllPairs names ok value ws u) → (x : Given A) → assigned names read w ≡ Some x → (o : Option (Given A)) → all_assigned names read ws ≡ o → option_map (both_given x) o ≡ Some v → AllPairs names ok value (w ∷ ws) v
+    rest : ((u : Assignments A) → all_assigned names read ws ≡ Some u → AllPairs names ok value ws u) → (x : Assignments A) → assigned names read w ≡ Some x → (o : Option (Assignments A)) → all_assigned names read ws ≡ o → option_map (both_given x) o ≡ Some v → AllPairs names ok value (w ∷ ws) v
     rest ih x e None f h = none_some h
     rest ih x e (Some u) f h =
         let a = pair_is names read ok value r w x e in
@@ -118,7 +118,7 @@ pairs_are {A} names read ok value r (w ∷ ws) v h = first (assigned names read 
           gives = sym (some_same h) ∙ (λ i. both_given (a.gives i) (b.gives i)) ∙ in_front names value a.pair b.list;
         }
 
-    first : (o : Option (Given A)) → assigned names read w ≡ o → ((u : Given A) → all_assigned names read ws ≡ Some u → AllPairs names ok value ws u) → option_and_then (λ v. option_map (both_given v) (all_assigned names read ws)) o ≡ Some v → AllPairs names ok value (w ∷ ws) v
+    first : (o : Option (Assignments A)) → assigned names read w ≡ o → ((u : Assignments A) → all_assigned names read ws ≡ Some u → AllPairs names ok value ws u) → option_and_then (λ v. option_map (both_given v) (all_assigned names read ws)) o ≡ Some v → AllPairs names ok value (w ∷ ws) v
     first None e ih h = none_some h
     first (Some x) e ih h = rest ih x e (all_assigned names read ws) refl h
 

@@ -3,7 +3,7 @@ ghost use Rattle.std.specs.Prelude.{◌≡◌, IfErr, IfOk, drop, map, option_ma
 ghost use Rattle.clap.specs.Words.{kind_of};
 ghost use Rattle.sg_args.specs.Command.{command_of};
 ghost use Rattle.sg_args.specs.Model.{command_held};
-ghost use Rattle.sg_args.specs.Given.{IsBehindDashes, words_found};
+ghost use Rattle.sg_args.specs.Parsed.{IsBehindDashes, words_found};
 
 use crate::command::{Command, read_command};
 use clap::error::ErrorKind;
@@ -23,7 +23,7 @@ impl<'w> Model for CommandLine<'w> {
 
     ghost Value = { List (List ℕ) };
 
-    ghost use Rattle.sg_args.specs.Given.{IsBehindDashes};
+    ghost use Rattle.sg_args.specs.Parsed.{IsBehindDashes};
 
     ghost view = { λ l. drop 2 (map (λ s. s.now) l.all.items) };
 
@@ -47,27 +47,27 @@ impl<'w> CommandLine<'w> {
 
 /// The words of a command line, as `clap` reads them. A clause sees them as a list.
 #[derive(Drop)]
-pub struct Given<'w> {
+pub struct Parsed<'w> {
     matches: ArgMatches<'w>,
 }
 
-impl<'w> Model for Given<'w> {
+impl<'w> Model for Parsed<'w> {
     ghost use Rattle.std.specs.Prelude.{ℕ, List};
 
     ghost Value = { List (List ℕ) };
 
-    ghost use Rattle.sg_args.specs.Given.{words_found};
+    ghost use Rattle.sg_args.specs.Parsed.{words_found};
 
     ghost view = { λ g. words_found g.matches };
 }
 
-impl<'g> Given<'g> {
+impl<'g> Parsed<'g> {
     /// What `clap` reads of a command line, which are its words, whatever they are.
-    pub fn read<'w>(alloc: Global, line: &'g CommandLine<'w>) -> Result<Given<'g>, OutOfMemory>
+    pub fn read<'w>(alloc: Global, line: &'g CommandLine<'w>) -> Result<Parsed<'g>, OutOfMemory>
         ensures { IfOk result (λ g. g ≡ line.now) }
     {
         let matches = matches(alloc, line.all.as_slice()).map_err(|_| AllocError)?;
-        Ok(Given { matches })
+        Ok(Parsed { matches })
     }
 
     /// The command that the words ask for, or `None` where they are not in the table of commands. It takes no memory.

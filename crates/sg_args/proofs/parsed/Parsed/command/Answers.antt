@@ -3,8 +3,8 @@ use Rattle.std.specs.Option.{option_map}
 use Rattle.clap.proofs.WalkLemmas.{raw_values-rows}
 use Rattle.clap.specs.Words.{found_of}
 use Rattle.sg_args.specs.Command.{command_of}
-use Rattle.sg_args.specs.Given.{words_found}
-use Rattle.sg_args.proofs.given.Given.command.Goals as goal
+use Rattle.sg_args.specs.Parsed.{words_found}
+use Rattle.sg_args.proofs.parsed.Parsed.command.Goals as goal
 
 -- what clap gives as text, or nothing
 abbrev texts : Option (Bor (List (Bor (List ℕ)))) → List (List ℕ)

@@ -5,7 +5,7 @@ use Rattle.sg_sched.specs.Format.Values.{spelled_value}
 use Rattle.sg_audit.specs.Said.{both_given}
 use Rattle.sg_audit.specs.Reading.{all_assigned}
 use Rattle.sg_audit.specs.Taken.{given_values}
-use Rattle.sg_audit.proofs.given.read_values.Given as goal
+use Rattle.sg_audit.proofs.assignments.read_values.Given as goal
 
 abbrev pub invariant-words : goal.invariant-words
 invariant-words l =
