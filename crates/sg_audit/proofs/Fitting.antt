@@ -29,7 +29,7 @@ use Rattle.sg_sched.specs.Format.Values.{spelled_value}
 use Rattle.sg_audit.specs.Reading.{all_assigned, time, form, session_form, log_form, event_form, walk_form}
 use Rattle.sg_audit.specs.SoFar.{SoFar, nothing, all_logs, all_sessions, all_have_logs, is_whole, is_open, add, add_session, add_log, add_event, count_event, put_event, with_event, add_walk, is_unknown}
 use Rattle.sg_audit.specs.Sessions.{Session, Logs, event, stored_step}
-use Rattle.sg_audit.specs.Read.{add_line, go_on, read_sessions}
+use Rattle.sg_audit.specs.Read.{add_line, unless_wrong, read_sessions}
 use Rattle.std.proofs.lemmas.List.Elements.{All-from_recursion}
 use Rattle.std.proofs.lemmas.Bool.{cases_Bool, not-false}
 use Rattle.sg_audit.specs.Spells.{Fault}
@@ -305,7 +305,7 @@ reads_sessions g n d [] logs is f h = elim (cases_Bool (is_whole g d)) [
 reads_sessions g n d (l ∷ ls) logs is f h = by (add_line g d l) (λ e q. adds_line g d e l is f q) (λ e k q. reads_sessions g (n + 1) e ls logs is k q) h
   where
     by : (added : Result SoFar Mistake) → ((e : SoFar) → added ≡ Ok e → Fine g e) → ((e : SoFar) → Fine g e → read_sessions g (n + 1) e ls ≡ Ok logs → AllByRecursion (Fit g) logs.sessions)
-        → go_on n added (λ d'. read_sessions g (n + 1) d' ls) ≡ Ok logs → AllByRecursion (Fit g) logs.sessions
+        → unless_wrong n added (λ d'. read_sessions g (n + 1) d' ls) ≡ Ok logs → AllByRecursion (Fit g) logs.sessions
     by (Ok e) k r q = r e (k e refl) q
     by (Err kind) k r q = absurd (err_ok _ _ q)
 

@@ -15,7 +15,7 @@ use Rattle.sg_audit.specs.Sessions.{Logs, LogsSoFar, sessions_of}
 use Rattle.sg_audit.specs.Faults.{fault, is_whole as is_over}
 use Rattle.sg_audit.specs.Spells.{IsBlock, TellAfter, Nothing, SpellsLogs, Fault, WrongLine, NoGraph, IsFirstFault, NoLine, NoBlock, NotClosed, OfGraph, OfNoForm, OfAForm, TooFew, IsFault, told_as}
 use Rattle.sg_audit.specs.SoFar.{nothing, is_whole, all_sessions}
-use Rattle.sg_audit.specs.Read.{go_on, read, read_lines, read_sessions, with_graph}
+use Rattle.sg_audit.specs.Read.{unless_wrong, read, read_lines, read_sessions, with_graph}
 use Rattle.sg_audit.specs.Taken.{Refuses, logs_held}
 use Rattle.sg_audit.specs.declared.session.Logs.{Logs as Held}
 use Rattle.sg_audit.specs.declared.fault.Mistake.TheVariants.{Form as FormKind, Unknown as UnknownKind, Twice as TwiceKind, TooManyEvents as TooManyKind}
@@ -123,7 +123,7 @@ first_found ls _ (OfNoForm g t right rest l at a z unsaid) =
     let r = state_of g right t a in
     let number : 1 + length right ≡ length right + 1 = omega arith in
     ap (read_lines 1) at ∙ after_told g right t a (l ∷ rest)
-    ∙ ap (λ x. go_on (1 + length right) x (λ d. read_sessions g (1 + length right + 1) d rest)) (no_line g r.state l z (formless (form g (words (content l))) refl))
+    ∙ ap (λ x. unless_wrong (1 + length right) x (λ d. read_sessions g (1 + length right + 1) d rest)) (no_line g r.state l z (formless (form g (words (content l))) refl))
     ∙ ap (λ n. Err (WrongLine n FormKind)) number
   where
     formless : (o : Option LogContent) → form g (words (content l)) ≡ o → form g (words (content l)) ≡ None
@@ -133,7 +133,7 @@ first_found ls _ (OfAForm g t right rest l s {kind = kind} at a z says wrong) =
     let r = state_of g right t a in
     let number : 1 + length right ≡ length right + 1 = omega arith in
     ap (read_lines 1) at ∙ after_told g right t a (l ∷ rest)
-    ∙ ap (λ x. go_on (1 + length right) x (λ d. read_sessions g (1 + length right + 1) d rest)) (wrong_line g r.state l s kind r.fine r.keeps z (form_ok g (words (content l)) s says) (ap (λ x. fault g x s) r.told ∙ wrong))
+    ∙ ap (λ x. unless_wrong (1 + length right) x (λ d. read_sessions g (1 + length right + 1) d rest)) (wrong_line g r.state l s kind r.fine r.keeps z (form_ok g (words (content l)) s says) (ap (λ x. fault g x s) r.told ∙ wrong))
     ∙ ap (λ n. Err (WrongLine n kind)) number
 first_found ls _ (TooFew g t a few) =
     let r = state_of g ls t a in

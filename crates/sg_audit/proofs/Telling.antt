@@ -12,7 +12,7 @@ use Rattle.sg_audit.specs.Sessions.{Logs, LogsSoFar, sessions_of, added}
 use Rattle.sg_audit.specs.Faults.{fault, is_whole as is_over}
 use Rattle.sg_audit.specs.Spells.{Tell, Nothing, Skip, Say, Fault, WrongLine}
 use Rattle.sg_audit.specs.SoFar.{SoFar, nothing, is_whole, add}
-use Rattle.sg_audit.specs.Read.{add_line, go_on, read_sessions}
+use Rattle.sg_audit.specs.Read.{add_line, unless_wrong, read_sessions}
 use Rattle.sg_audit.specs.declared.fault.Mistake.{Mistake}
 use Rattle.sg_audit.specs.declared.fault.Mistake.TheVariants.{Form}
 use Rattle.sg_audit.proofs.Fitting.{Fine, form_fits, adds, nothing_fine}
@@ -63,7 +63,7 @@ goes_on : (g : Graph) (ls : List Line) (l : Line) (d e : SoFar) → ((n : ℕ) (
 goes_on g ls l d e h a n rest =
     let long = length-append ls (l ∷ []) in
     let number : n + length ls + 1 ≡ n + length (ls ++ l ∷ []) = omega (arith, long) in
-    ap (read_sessions g n nothing) (append_assoc ls (l ∷ []) rest) ∙ h n (l ∷ rest) ∙ ap (λ r. go_on (n + length ls) r (λ d'. read_sessions g (n + length ls + 1) d' rest)) a ∙ ap (λ m. read_sessions g m e rest) number
+    ap (read_sessions g n nothing) (append_assoc ls (l ∷ []) rest) ∙ h n (l ∷ rest) ∙ ap (λ r. unless_wrong (n + length ls) r (λ d'. read_sessions g (n + length ls + 1) d' rest)) a ∙ ap (λ m. read_sessions g m e rest) number
 
 pub reached : (g : Graph) (ls : List Line) (t : LogsSoFar) → IsGraph g → Tell g ls t → Reached g ls t
 reached g _ _ is Nothing = record {
@@ -128,12 +128,12 @@ ends g n prefix d (l ∷ ls) is f k tell = elim (cases_Bool (is_skipped l)) [
         let long = length-append prefix (l ∷ []) in
         let number : n + length (prefix ++ l ∷ []) ≡ n + length prefix + 1 = omega (arith, long) in
         let rest = more e f' k' tell' in
-        subst (λ r. Ends g n (prefix ++ l ∷ ls) r) (ap (λ m. read_sessions g m e ls) number ∙ sym (ap (λ r. go_on (n + length prefix) r (λ d'. read_sessions g (n + length prefix + 1) d' ls)) a))
+        subst (λ r. Ends g n (prefix ++ l ∷ ls) r) (ap (λ m. read_sessions g m e ls) number ∙ sym (ap (λ r. unless_wrong (n + length prefix) r (λ d'. read_sessions g (n + length prefix + 1) d' ls)) a))
         (subst (λ xs. Ends g n xs (read_sessions g (n + length (prefix ++ l ∷ [])) e ls)) (append_assoc prefix (l ∷ []) ls) rest)
 
     -- the line is not taken
     off : (kind : Mistake) → Ends g n (prefix ++ l ∷ ls) (Err (WrongLine (n + length prefix) kind)) → add_line g d l ≡ Err kind → Goal
-    off kind e a = subst (Ends g n (prefix ++ l ∷ ls)) (sym (ap (λ r. go_on (n + length prefix) r (λ d'. read_sessions g (n + length prefix + 1) d' ls)) a)) e
+    off kind e a = subst (Ends g n (prefix ++ l ∷ ls)) (sym (ap (λ r. unless_wrong (n + length prefix) r (λ d'. read_sessions g (n + length prefix + 1) d' ls)) a)) e
 
     of : Rest → (s : LogContent) → is_skipped l ≡ false → form g (words (content l)) ≡ Some s → (o : Option Mistake) → fault g (told_by d) s ≡ o → Goal
     of more s z h None e = on more (next d s) (fine_next g d l s is f k h e) (kept g d s k e) (subst (Tell g (prefix ++ l ∷ [])) (sym (moved d s k)) (Say l s tell z (form_is g (words (content l)) s h) e)) (right_line g d l s f k z h e)

@@ -26,14 +26,14 @@ add_line g d line = if is_skipped line then Ok d else option_map_or (add g d) (f
 -- ---- sessions
 
 -- goes on after line n, where that is not wrong
-abbrev pub go_on : {A : Type 0} → ℕ → Added → (SoFar → Result A Fault) → Result A Fault
-go_on n (Ok d) next = next d
-go_on n (Err kind) next = Err (WrongLine n kind)
+abbrev pub unless_wrong : {A : Type 0} → ℕ → Added → (SoFar → Result A Fault) → Result A Fault
+unless_wrong n (Ok d) next = next d
+unless_wrong n (Err kind) next = Err (WrongLine n kind)
 
 -- the logs of what was said and of the lines from number n on. Where they end too early, the line that is missing is wrong
 abbrev pub read_sessions : Graph → ℕ → SoFar → List Line → Result Logs Fault
 read_sessions g n d [] = if is_whole g d then Ok (record { graph = g; sessions = all_sessions d }) else Err (WrongLine n Form)
-read_sessions g n d (l ∷ ls) = go_on n (add_line g d l) (λ d'. read_sessions g (n + 1) d' ls)
+read_sessions g n d (l ∷ ls) = unless_wrong n (add_line g d l) (λ d'. read_sessions g (n + 1) d' ls)
 
 -- ---- the graph
 

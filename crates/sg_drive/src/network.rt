@@ -110,11 +110,11 @@ impl<'g, 'p> Generator<'g, 'p> {
             change: Change::Whole,
         };
         self.take(Step::Deliver { who, what })?;
-        self.go_on(frame)
+        self.continue_if_accepted(frame)
     }
 
     // Where the last step accepted the frame, its session goes on.
-    fn go_on(&mut self, frame: &Pending) -> Result<(), GenerateFault>
+    fn continue_if_accepted(&mut self, frame: &Pending) -> Result<(), GenerateFault>
         requires room { HasRoom 1 500000002 self.old }
         requires there { IsThere self.old.graph self.old.sessions frame.now }
         ensures going { OnOk result (self.new ≡ record self.old { going = gone_on self.old.seed self.old.graph frame.now self.old.going }) }

@@ -85,12 +85,17 @@ impl<'p> Node<'p> {
     {
         match &frame.join {
             Some(cast) => self.join(frame, *cast.get(), bytes, notes),
-            None => self.go_on(frame, bytes, notes),
+            None => self.continue_session(frame, bytes, notes),
         }
     }
 
     // Takes a frame that continues a session.
-    fn go_on(&mut self, frame: &Frame, bytes: &[u8], notes: &mut Notes) -> Result<Event, Refusal>
+    fn continue_session(
+        &mut self,
+        frame: &Frame,
+        bytes: &[u8],
+        notes: &mut Notes,
+    ) -> Result<Event, Refusal>
         requires spelled { SpellsFrame bytes.now frame.now }
         requires continues { frame.now.join ≡ None }
         ensures answer { (n : DefinedNode) → RepresentsNode self.old n → IsAnswer (verdict_on real n (Ok frame.now)) (delivery_answer result) }
@@ -268,7 +273,7 @@ fn take<'p>(
 {
     match sessions.take(index) {
         Some(Live::Waiting(wait)) => {
-            let (event, taken) = wait.go_on(accepted);
+            let (event, taken) = wait.accept_unchecked(accepted);
             match taken {
                 Taken::Turn(turn) => {
                     sessions.put(index, Live::AtTurn(turn));

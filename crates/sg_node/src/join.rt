@@ -178,7 +178,7 @@ fn first_receipt<'p>(
     ensures taken { IfSome result (λ r. TurnsOrEnds (goes_on accepted.entry.program.graph accepted.entry.after.kept.place) (state_after accepted.entry) r.1) }
 {
     match Await::join(ticket, before) {
-        Ok(wait) => Some(wait.go_on(accepted)),
+        Ok(wait) => Some(wait.accept_unchecked(accepted)),
         Err((ticket, _before)) => {
             ticket.give_up();
             None

@@ -76,7 +76,7 @@ impl<'p> Turn<'p> {
         tell(kept, values, confounders);
         let counts = notes.counts();
         match make_step(alloc, kept, keys, label, values, confounders, notes) {
-            Ok(step) => Ok(go_on(label, step)),
+            Ok(step) => Ok(after_step(label, step)),
             Err(_) => {
                 notes.keep(counts);
                 Err((self, SendFault::OutOfMemory))
@@ -96,7 +96,7 @@ fn tell(kept: &KeptState, values: &[(Var, Value)], confounders: &[[u8; 16]])
 }
 
 // The role after a step. It takes no memory.
-fn go_on<'p>(label: Label, step: MadeStep<'p>) -> Sent<'p>
+fn after_step<'p>(label: Label, step: MadeStep<'p>) -> Sent<'p>
     requires { HoldsWaiting (state_of step.kept.value) }
     ensures event { event_sent result ≡ event_of step.entry.event }
     ensures frame { frame_made result ≡ step.entry.sealed }

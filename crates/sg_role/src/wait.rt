@@ -70,14 +70,14 @@ impl<'p> Await<'p> {
         ensures back { IfErr result (λ e. (e.0 ≡ self.entry) × (e.1 ≡ accepted.entry)) }
     {
         if same(self.before.kept.as_ref(), accepted.before.as_ref()) {
-            Ok(self.go_on(accepted))
+            Ok(self.accept_unchecked(accepted))
         } else {
             Err((self, accepted))
         }
     }
 
     /// Takes a frame that was accepted where the role held what it holds. It takes no memory.
-    pub fn go_on(self, accepted: Accepted<'p>) -> (Event, Taken<'p>)
+    pub fn accept_unchecked(self, accepted: Accepted<'p>) -> (Event, Taken<'p>)
         requires fits { accepted.before ≡ self.held }
         ensures event { event_of result.0 ≡ accepted.entry.event }
         ensures taken { TurnsOrEnds (goes_on accepted.entry.program.graph accepted.entry.after.kept.place) (state_after accepted.entry) result.1 }

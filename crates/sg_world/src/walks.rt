@@ -40,13 +40,13 @@ pub(crate) fn traces<'r, 'p, H: Honest>(
 {
     let mut traces = Traces::new(alloc, programs);
     for entry in entries {
-        go_on(alloc, &mut traces, honest, setting, frames, entry)?;
+        add_entry(alloc, &mut traces, honest, setting, frames, entry)?;
     }
     Ok(traces)
 }
 
 // Goes on by an entry.
-fn go_on<'r, 'p, H: Honest>(
+fn add_entry<'r, 'p, H: Honest>(
     alloc: Global,
     traces: &mut Traces<'r>,
     honest: &H,

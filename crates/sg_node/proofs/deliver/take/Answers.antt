@@ -16,4 +16,4 @@ put-requires-clause-within c = subst (λ k. c.args.index < k) (sym (ap length c.
 pub returns-in-Turn-clause-slots : goal.returns-in-Turn-clause-slots
 returns-in-Turn-clause-slots c =
     c.put.ensures.slots ∙ ap (λ z. set_value_at z c.args.index (Some (AtTurn c.in-Turn.turn))) c.take.ensures.slots ∙ set_twice c.args.sessions.now.slots c.args.index None (Some (AtTurn c.in-Turn.turn))
-    ∙ ap (set_value_at c.args.sessions.now.slots c.args.index) (left_turn c.args.accepted c.in-Turn.turn (subst (TurnsOrEnds (goes_on c.args.accepted.program.graph (c.args.accepted.after.kept).place) (state_after c.args.accepted)) c.in-Turn.is c.go_on-event.ensures.taken))
+    ∙ ap (set_value_at c.args.sessions.now.slots c.args.index) (left_turn c.args.accepted c.in-Turn.turn (subst (TurnsOrEnds (goes_on c.args.accepted.program.graph (c.args.accepted.after.kept).place) (state_after c.args.accepted)) c.in-Turn.is c.accept_unchecked-event.ensures.taken))

@@ -12,13 +12,13 @@ loop-entry-init g c = record { programs = c.new-traces.ensures.programs; traces 
 
 pub loop-entry-preserved : goal.loop-entry-preserved
 loop-entry-preserved g c = record {
-  programs = c.in_ok-go_on.ensures.programs ∙ c.loop-entry.invariant.programs;
+  programs = c.in_ok-add_entry.ensures.programs ∙ c.loop-entry.invariant.programs;
   traces = λ s honest sessions of u.
       let at = entry_there c.args.programs.now s c.args.entries.now c.args.frames.now of c.loop-entry.entry-index c.entry-item.result c.loop-entry-test.true c.entry-item.is in
       let same = sym c.loop-entry.invariant.programs in
       let before : List Logged = take c.loop-entry.entry-index (run real c.args.programs.now s).log in
-      subst (λ ls. AreTraces s ls c.go_on.new.traces) (sym at.next)
-      (c.in_ok-go_on.ensures.goes_on s before at.entry honest sessions at.of_step
+      subst (λ ls. AreTraces s ls c.add_entry.new.traces) (sym at.next)
+      (c.in_ok-add_entry.ensures.goes_on s before at.entry honest sessions at.of_step
       (subst (λ (ps : List Program). IsUnbroken ps s) same u)
       (subst (λ (ps : List Program). IsNext ps s before at.entry) same (record { after = at.after; parts = at.parts }))
       (c.loop-entry.invariant.traces s honest sessions of u));

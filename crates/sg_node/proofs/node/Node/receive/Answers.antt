@@ -5,5 +5,5 @@ use Rattle.sg_node.proofs.node.Node.receive.Goals as goal
 pub join-requires-clause-joins : goal.join-requires-clause-joins
 join-requires-clause-joins c = sym (ap (λ (f : Frame). f.join) c.frame.view_is) ∙ c.in-Some.is ∙ ap (λ z. Some z) (sym c.get.ensures)
 
-pub go_on-requires-clause-continues : goal.go_on-requires-clause-continues
-go_on-requires-clause-continues c = sym (ap (λ (f : Frame). f.join) c.frame.view_is) ∙ c.in-None.is
+pub continue_session-requires-clause-continues : goal.continue_session-requires-clause-continues
+continue_session-requires-clause-continues c = sym (ap (λ (f : Frame). f.join) c.frame.view_is) ∙ c.in-None.is

@@ -41,8 +41,8 @@ returns-in-Err-make_step-clause-memory c = λ s represents lacks.
     let none : first_some (send_rows p h label vs) ≡ None = subst (λ (z : RoleState). first_some (send_rows z.program z.held label vs) ≡ None) v c.in_default.ensures.right in
     ap first_some (sym (rows_held keys p h s represents.holds label vs)) ∙ none
 
-pub go_on-requires : goal.go_on-requires
-go_on-requires c =
+pub after_step-requires : goal.after_step-requires
+after_step-requires c =
     let p = c.args.self.program in
     let h = c.args.self.held in
     let keys = c.args.keys.now in
@@ -92,7 +92,7 @@ returns-in-Ok-clause-frame c = λ s represents.
     let turn : IsReachableAtTurn real p h = (subst HoldsTurn c.self.view_is c.self.invariant).reachable in
     let ip : IsProgram real p = subst (λ (z : RoleState). IsProgram real z.program) v c.tell.ensures.program in
     let are = c.tell.ensures.values in
-    c.go_on.ensures.frame ∙ c.in-Ok.ensures.frame
+    c.after_step.ensures.frame ∙ c.in-Ok.ensures.frame
     ∙ ap (λ (z : RoleState). (principal z.held.cast (receiver (shape z.program.graph) label), spelling (step_frame keys z.program z.held label os))) v
     ∙ (λ j. (principal (represents.holds j).cast (receiver (shape p.graph) label), spelling (frame_held keys p h s represents.holds label os ip.is_graph j)))
 
@@ -112,8 +112,8 @@ returns-in-Ok-clause-state c = λ s represents.
     let are = c.tell.ensures.values in
     let made : state_of c.in-Ok.step.kept.value ≡ record { program = p; held = step_held keys p h label os } =
     c.in-Ok.ensures.state ∙ ap (λ (z : RoleState). record { program = z.program; held = step_held keys z.program z.held label os }) v in
-    next_represents keys p h label vs cs ip turn s represents c.go_on.result
-    (subst (λ (z : RoleState). WaitsOrEnds (may_return z.program label) z c.go_on.result) made c.go_on.ensures.state)
+    next_represents keys p h label vs cs ip turn s represents c.after_step.result
+    (subst (λ (z : RoleState). WaitsOrEnds (may_return z.program label) z c.after_step.result) made c.after_step.ensures.state)
 
 pub returns-in-Ok-clause-notes : goal.returns-in-Ok-clause-notes
 returns-in-Ok-clause-notes c = λ s represents.

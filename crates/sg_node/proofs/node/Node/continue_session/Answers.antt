@@ -22,7 +22,7 @@ use Rattle.sg_node.proofs.Receipts.{err_or, in_ok, not_err, no_err, received, re
 use Rattle.sg_node.specs.declared.sessions.Live.TheVariants.{Waiting}
 use Rattle.sg_node.proofs.Indices.{some_none}
 use Rattle.sg_node.proofs.Continuing.{AcceptedBy, first_for, unknown, at_its_turn, version_is, refused, taken, noted, next_slots, next_state}
-use Rattle.sg_node.proofs.node.Node.go_on.Goals as goal
+use Rattle.sg_node.proofs.node.Node.continue_session.Goals as goal
 
 pub returns-in_default-clause-answer : goal.returns-in_default-clause-answer
 returns-in_default-clause-answer c = λ m st. (unknown c.self.inside c.self.invariant c.args.frame.now c.requires.continues m (subst (λ (z : NodeState). RepresentsNode z m) (sym c.self.view_is) st) (sym c.find_for.ensures ∙ c.in_default.is)).0

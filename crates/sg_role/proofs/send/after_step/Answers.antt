@@ -2,7 +2,7 @@ use Rattle.sg_protocol.proofs.Reachable.{states_are_reachable}
 use Rattle.sg_protocol.proofs.RealHash.{real_hash}
 use Rattle.sg_protocol.specs.Texts.{real}
 use Rattle.sg_role.specs.Model.{state_of}
-use Rattle.sg_role.proofs.send.go_on.Goals as goal
+use Rattle.sg_role.proofs.send.after_step.Goals as goal
 
 pub invariant_of-result : goal.invariant_of-result
 invariant_of-result c =

@@ -13,7 +13,7 @@ use Rattle.sg_walk.specs.declared.event.Event.{Event as CodeEvent}
 use Rattle.sg_walk.specs.Model.{event_of}
 use Rattle.sg_world.specs.Kept.{Taken}
 use Rattle.sg_world.proofs.Passing.{events_told}
-use Rattle.sg_world.proofs.walks.go_on.Goals as goal
+use Rattle.sg_world.proofs.walks.add_entry.Goals as goal
 
 pub returns-in_default-clause-goes_on : goal.returns-in_default-clause-goes_on
 returns-in_default-clause-goes_on g c s before l honest sessions step u n are =
