@@ -16,7 +16,7 @@ ghost use Rattle.sg_craft.specs.Means.{with_keys, with_frames};
 use crate::Means;
 use crate::commitments::{committed_to, none_yet, overwrite};
 use crate::source::tag_by;
-use sg_base::{Label, NodeId, Opening, OutOfMemory, Role, Seq, Tag, tell_bytes};
+use sg_base::{Label, NodeId, Opening, OutOfMemory, Role, Seq, Tag, facts_of_bytes};
 use sg_crypt::{cut, item_text};
 use sg_frame::Item;
 use sg_graph::Graph;
@@ -147,13 +147,13 @@ pub(crate) fn cut_tag(version: u8, tag: Tag) -> Tag
     ensures value { result ≡ cut version tag }
     ensures range { IsTag version result }
 {
-    tell(&tag);
+    facts_of_tag(&tag);
     cut(version, tag)
 }
 
 // What the type `Tag` says.
-fn tell(tag: &Tag)
+fn facts_of_tag(tag: &Tag)
     ensures { AreBytes 32 tag.now }
 {
-    tell_bytes(&tag.0);
+    facts_of_bytes(&tag.0);
 }

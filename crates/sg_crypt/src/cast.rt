@@ -6,7 +6,7 @@ ghost use Rattle.sg_protocol.specs.Frame.{IsCastOf};
 ghost use Rattle.sg_protocol.specs.TextLaws.{IsVersion};
 ghost use Rattle.sg_crypt.specs.Model.{filled};
 
-use sg_base::{Name, Role, tell_bytes};
+use sg_base::{Name, Role, facts_of_bytes};
 use std::marker::Model;
 
 /// Who takes part in a session: the version of its frames, 1 or 2, the digest of its graph, sixteen bytes that tell it from other
@@ -48,9 +48,9 @@ impl Cast {
         if (version != 1 && version != 2) || names.len() < 2 || names.len() > 16 {
             return None;
         }
-        tell_bytes(&graph);
-        tell_bytes(&nonce);
-        tell_names(names);
+        facts_of_bytes(&graph);
+        facts_of_bytes(&nonce);
+        facts_of_names(names);
         Some(Cast {
             version,
             graph,
@@ -118,7 +118,7 @@ fn filled(names: &[Name]) -> [Name; 16]
 }
 
 // What the type `Name` says of each of these.
-fn tell_names(names: &[Name])
+fn facts_of_names(names: &[Name])
     ensures { AllByRecursion (λ n. IsTrue (is_name n)) names.now }
 {
     for name in names {

@@ -70,7 +70,7 @@ impl<'g, 'p> Generator<'g, 'p> {
             Ok(values) => values,
             Err(_) => return Err(GenerateFault::OutOfMemory),
         };
-        tell_values(values.as_slice());
+        facts_of_values(values.as_slice());
         let who = player_at(self.graph, node);
         self.take(Step::Act {
             who,
@@ -188,25 +188,25 @@ fn digits_of(alloc: Global, drawn: u32) -> Result<Chars, OutOfMemory>
 }
 
 // What the types say of each of these.
-fn tell_values(values: &[(Var, Value)])
+fn facts_of_values(values: &[(Var, Value)])
     ensures { AllByRecursion (λ w. (w.0 < 256) × IsValue w.1) (values_of values.now) }
 {
     for at in 0..values.len() {
         let given = &values[at];
-        tell_var(given.0);
-        tell_value(&given.1);
+        facts_of_var(given.0);
+        facts_of_value(&given.1);
     }
 }
 
 // What the type `Var` says of this.
-fn tell_var(var: Var)
+fn facts_of_var(var: Var)
     ensures { var < 256 }
 {
     let _number = var.0;
 }
 
 // What the type `Value` says of this.
-fn tell_value(value: &Value)
+fn facts_of_value(value: &Value)
     ensures { IsValue (value_of value.now) }
 {
     match value {
@@ -214,12 +214,12 @@ fn tell_value(value: &Value)
             let _number = *number;
         }
         Value::Text(text) => {
-            tell_bytes(text.as_bytes());
+            facts_of_bytes(text.as_bytes());
         }
     }
 }
 
 // What the type `u8` says of each of these.
-fn tell_bytes(bytes: &[u8])
+fn facts_of_bytes(bytes: &[u8])
     ensures { IsBytes bytes.now }
 {}

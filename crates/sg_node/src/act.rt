@@ -17,7 +17,7 @@ use crate::sessions::{Live, Sessions};
 use crate::{ActFault, Node};
 use sg_base::{Label, Sealed, Sid, Value, Var};
 use sg_crypt::Notes;
-use sg_role::{SendFault, Sent, tell_values};
+use sg_role::{SendFault, Sent, facts_of_values};
 use sg_walk::Event;
 
 impl<'p> Node<'p> {
@@ -44,7 +44,7 @@ impl<'p> Node<'p> {
         ensures memory { (past : Past) → RepresentsPast self.old past → result ≡ Err ActFault.OutOfMemory
             → is_sending (answer real (node_of past) (Act sid label (values_of values.now) confounders.now)) ≡ true }
     {
-        tell_values(values, confounders);
+        facts_of_values(values, confounders);
         let Some(index) = self.sessions.first(&sid, false) else {
             return Err(ActFault::UnknownSession);
         };

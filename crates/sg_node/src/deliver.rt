@@ -24,7 +24,7 @@ use crate::fault::refused;
 use crate::join::{Obstacle, first_obstacle, join_session, make_room, note_session};
 use crate::sessions::{Live, Sessions};
 use crate::{Node, Refusal};
-use sg_base::{Sid, tell_bytes};
+use sg_base::{Sid, facts_of_bytes};
 use sg_crypt::{Cast, Notes, session_id};
 use sg_frame::{DecodeFault, Frame, decode};
 use sg_keys::Keyring;
@@ -43,7 +43,7 @@ impl<'p> Node<'p> {
         ensures back { OnErr result (self.new ≡ self.old) }
         ensures memory { result ≡ Err Refusal.OutOfMemory → notes.new ≡ notes.old }
     {
-        tell_bytes(bytes);
+        facts_of_bytes(bytes);
         match decode(self.alloc, bytes) {
             Ok(frame) => self.deliver_frame(&frame, bytes, notes),
             Err(DecodeFault::Malformed { at }) => Err(Refusal::Malformed { at }),
@@ -68,7 +68,7 @@ impl<'p> Node<'p> {
         ensures back { OnErr result (self.new ≡ self.old) }
         ensures memory { result ≡ Err Refusal.OutOfMemory → notes.new ≡ notes.old }
     {
-        tell_bytes(bytes);
+        facts_of_bytes(bytes);
         let _programs = self.programs;
         self.receive(frame, bytes, notes)
     }

@@ -57,7 +57,7 @@ impl<'p> Node<'p> {
         ensures made { IfOk result (λ n. n ≡ new_state keys programs.entry.now []) }
         ensures represents { IfOk result (λ n. RepresentsPast n (new_past keys programs.entry.now [])) }
     {
-        tell_programs(programs);
+        facts_of_programs(programs);
         Ok(Node {
             alloc,
             keys,
@@ -80,7 +80,7 @@ impl<'p> Node<'p> {
         ensures made { IfOk result (λ n. n ≡ new_state keys programs.entry.now joins.now) }
         ensures represents { IfOk result (λ n. RepresentsPast n (new_past keys programs.entry.now joins.now)) }
     {
-        tell_programs(programs);
+        facts_of_programs(programs);
         Ok(Node {
             alloc,
             keys,
@@ -122,7 +122,7 @@ impl<'p> Node<'p> {
 }
 
 // What each program is.
-fn tell_programs(programs: &Programs)
+fn facts_of_programs(programs: &Programs)
     ensures { AllByRecursion (IsProgram real) programs.now }
 {
     for program in programs.as_slice() {

@@ -20,7 +20,7 @@ pub(crate) enum Live<'p> {
 }
 
 /// Tells what stands behind a live session.
-pub(crate) fn tell_backed(live: &Live)
+pub(crate) fn facts_of_live(live: &Live)
     ensures { IsReachable live.now }
 {
     match live {

@@ -34,7 +34,7 @@ impl<'p> Node<'p> {
         ensures back { OnErr result (self.new ≡ self.old) }
         ensures memory { result ≡ Err StartFault.OutOfMemory → notes.new ≡ notes.old }
     {
-        tell_cast(&cast);
+        facts_of_cast(&cast);
         let Some(found) = starter(self.programs, &cast.graph()) else {
             return Err(StartFault::OutOfMemory);
         };
@@ -104,7 +104,7 @@ fn fault_of(obstacle: Obstacle) -> StartFault
 }
 
 // What the type says of a cast.
-fn tell_cast(cast: &Cast)
+fn facts_of_cast(cast: &Cast)
     ensures { IsCast cast.now }
 {
     let _ = cast.version();

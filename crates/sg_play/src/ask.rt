@@ -12,15 +12,15 @@ ghost use Rattle.sg_play.specs.Asking.{Comes, ComesMade, addressed};
 ghost use Rattle.sg_play.specs.Posting.{frames_made};
 
 use crate::PlayFault;
-use crate::types::tell_cast;
-use sg_base::{Addr, Label, Sealed, Sid, Value, Var, tell_bytes};
+use crate::facts::facts_of_cast;
+use sg_base::{Addr, Label, Sealed, Sid, Value, Var, facts_of_bytes};
 use sg_crypt::{Cast, Notes};
 use sg_frame::{DecodeFault, decode};
 use sg_graph::Graph;
 use sg_keys::Keyring;
 use sg_node::{ActFault, Node, Refusal, StartFault};
 use sg_report::Outcome;
-use sg_role::{SendFault, tell_values};
+use sg_role::{SendFault, facts_of_values};
 use std::alloc::Global;
 
 /// Starts a session.
@@ -32,7 +32,7 @@ pub(crate) fn ask_start<'p>(
     ensures comes { (number : ℕ) (past : Past) → RepresentsPast node.old past → IfOk result (λ r. Comes number node.old node.new past (Start cast) (outcome_of r.0) (option_copied r.1) None) }
     ensures memory { IfErr result (λ e. e ≡ PlayFault.OutOfMemory) }
 {
-    tell_cast(&cast);
+    facts_of_cast(&cast);
     let graph = node.start_graph(&cast);
     let mut notes = Notes::new(alloc);
     match node.start(cast, &mut notes) {
@@ -63,7 +63,7 @@ pub(crate) fn ask_deliver<'p>(
     ensures comes { (number : ℕ) (past : Past) → RepresentsPast node.old past → IfOk result (λ r. Comes number node.old node.new past (Deliver bytes.now) (outcome_of r.0) (option_copied r.1) None) }
     ensures memory { IfErr result (λ e. e ≡ PlayFault.OutOfMemory) }
 {
-    tell_bytes(bytes);
+    facts_of_bytes(bytes);
     let graph = delivered_graph(alloc, node, bytes)?;
     let mut notes = Notes::new(alloc);
     match node.deliver(bytes, &mut notes) {
@@ -185,7 +185,7 @@ fn ask_numbered<'p>(
         → IfOk result (λ r. Comes number node.old node.new past (Act sid label (values_of values.now) words.now) (outcome_of r.0) (option_copied r.1) r.2) }
     ensures memory { IfErr result (λ e. e ≡ PlayFault.OutOfMemory) }
 {
-    tell_values(values, words);
+    facts_of_values(values, words);
     let graph = node.graph_of(&sid);
     let mut notes = Notes::new(alloc);
     match node.act(sid, label, values, words, &mut notes) {

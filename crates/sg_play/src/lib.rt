@@ -20,13 +20,13 @@
 mod ask;
 mod calls;
 mod choices;
+mod facts;
 mod fault;
 mod player;
 mod post;
 mod reported;
 mod run;
 mod turn;
-mod types;
 mod words;
 
 pub use fault::PlayFault;

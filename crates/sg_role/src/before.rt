@@ -67,7 +67,7 @@ impl<'p> Before<'p> {
           held = record { sid = session_id real cast; cast = cast; role = program.entry.now.role; kept = nothing_kept program.entry.now.graph };
         }) }
     {
-        tell(program, &cast);
+        facts(program, &cast);
         let new = KeptState::new(alloc, program, cast, sid)?;
         let kept = shared(alloc, new)?;
         Ok(Before { kept })
@@ -122,7 +122,7 @@ impl<'p> Before<'p> {
 }
 
 // What the types say of these.
-fn tell(program: &Program, cast: &Cast)
+fn facts(program: &Program, cast: &Cast)
     ensures program { IsProgram real program.now }
     ensures version { IsVersion cast.now.version }
     ensures cast { IsCastOf cast.now.version cast.now }

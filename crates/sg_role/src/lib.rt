@@ -38,6 +38,6 @@ pub use fault::{Refusal, SendFault};
 pub use sent::Sent;
 pub use taken::{Done, Taken};
 pub use turn::Turn;
-pub use values::tell_values;
+pub use values::facts_of_values;
 pub use verdict::examine;
 pub use wait::Await;

@@ -24,7 +24,7 @@ ghost use Rattle.sg_role.specs.Sending.{event_sent, frame_made, with_notes, Wait
 
 use crate::kept::KeptState;
 use crate::step::{MadeStep, make_step};
-use crate::values::{check_step, tell_values};
+use crate::values::{check_step, facts_of_values};
 use crate::{Await, Before, Done, SendFault, Sent, Turn};
 use sg_base::{Label, Value, Var};
 use sg_crypt::Notes;
@@ -73,7 +73,7 @@ impl<'p> Turn<'p> {
         if let Err(fault) = check_step(kept, label, values) {
             return Err((self, fault));
         }
-        tell(kept, values, confounders);
+        facts(kept, values, confounders);
         let counts = notes.counts();
         match make_step(alloc, kept, keys, label, values, confounders, notes) {
             Ok(step) => Ok(after_step(label, step)),
@@ -86,13 +86,13 @@ impl<'p> Turn<'p> {
 }
 
 // What the types say of the program, of the values and of the bytes that hide them.
-fn tell(kept: &KeptState, values: &[(Var, Value)], confounders: &[[u8; 16]])
+fn facts(kept: &KeptState, values: &[(Var, Value)], confounders: &[[u8; 16]])
     requires { length confounders.now ≡ length values.now }
     ensures program { IsProgram real (state_of kept.now).program }
     ensures values { AreValues (values_of values.now) confounders.now }
 {
     let _role = kept.program.role();
-    tell_values(values, confounders);
+    facts_of_values(values, confounders);
 }
 
 // The role after a step. It takes no memory.

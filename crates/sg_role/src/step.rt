@@ -28,7 +28,7 @@ use crate::own::{
     written_openings,
 };
 use crate::tags::note_for;
-use crate::values::tell_values;
+use crate::values::facts_of_values;
 use sg_base::{Label, Opening, OutOfMemory, Role, Sealed, Seq, Tag, Time, Value, Var};
 use sg_crypt::{Notes, SharedCast, frame_text};
 use sg_frame::{Frame, Item, body_len, encode};
@@ -70,7 +70,7 @@ pub(crate) fn make_step<'p>(
     ensures noted { OnOk result (notes.new ≡ with_notes notes.old (step_notes keys.now (state_of kept.now).program (state_of kept.now).held label (openings_for (values_of values.now) confounders.now))) }
     ensures keeps { Extends notes.old notes.new }
 {
-    tell_values(values, confounders);
+    facts_of_values(values, confounders);
     let written = written_openings(alloc, values, confounders)?;
     let event = step_event(alloc, kept, label, values)?;
     let (own, commitments) = own_item(alloc, kept, keys, label, written.as_slice(), notes)?;

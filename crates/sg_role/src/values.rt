@@ -16,7 +16,7 @@ ghost use Rattle.sg_role.specs.Stepping.{first_bad, send_rows};
 
 use crate::SendFault;
 use crate::kept::KeptState;
-use sg_base::{Label, Value, Var, tell_bytes};
+use sg_base::{Label, Value, Var, facts_of_bytes};
 use sg_graph::Graph;
 
 const LAST: u32 = 1_000_000;
@@ -164,34 +164,34 @@ fn has_other_type(graph: &Graph, values: &[(Var, Value)], var: Var) -> bool
 }
 
 /// What the types say of values and of the bytes that hide them. Nothing is done.
-pub fn tell_values(values: &[(Var, Value)], confounders: &[[u8; 16]])
+pub fn facts_of_values(values: &[(Var, Value)], confounders: &[[u8; 16]])
     requires { length confounders.now ≡ length values.now }
     ensures { AreValues (values_of values.now) confounders.now }
 {
-    tell_each(values);
-    tell_confounders(confounders);
+    facts_of_each(values);
+    facts_of_confounders(confounders);
 }
 
 // What the types say of each of these.
-fn tell_each(values: &[(Var, Value)])
+fn facts_of_each(values: &[(Var, Value)])
     ensures { AllByRecursion (λ w. (w.0 < 256) × IsValue w.1) (values_of values.now) }
 {
     for at in 0..values.len() {
         let given = &values[at];
-        tell_var(given.0);
-        tell_value(&given.1);
+        facts_of_var(given.0);
+        facts_of_value(&given.1);
     }
 }
 
 // What the type `Var` says of this.
-fn tell_var(var: Var)
+fn facts_of_var(var: Var)
     ensures { var < 256 }
 {
     let _number = var.0;
 }
 
 // What the type `Value` says of this.
-fn tell_value(value: &Value)
+fn facts_of_value(value: &Value)
     ensures { IsValue (value_of value.now) }
 {
     match value {
@@ -199,16 +199,16 @@ fn tell_value(value: &Value)
             let _number = *number;
         }
         Value::Text(text) => {
-            tell_bytes(text.as_bytes());
+            facts_of_bytes(text.as_bytes());
         }
     }
 }
 
 // What the type `u8` says of each of these.
-fn tell_confounders(confounders: &[[u8; 16]])
+fn facts_of_confounders(confounders: &[[u8; 16]])
     ensures { AllByRecursion (AreBytes 16) confounders.now }
 {
     for at in 0..confounders.len() {
-        tell_bytes(&confounders[at]);
+        facts_of_bytes(&confounders[at]);
     }
 }

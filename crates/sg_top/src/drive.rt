@@ -120,7 +120,7 @@ fn summary_of(
 {
     match generate(alloc, seed, sessions, graph, programs) {
         Ok(driven) => {
-            driven.world.tell_laws();
+            driven.world.laws();
             match summary(alloc, graph, &driven) {
                 Ok(text) => {
                     // The program ends next, so the run isn't given back piece by piece.

@@ -21,7 +21,7 @@ ghost use Rattle.sg_world.specs.Kept.{no_frame};
 
 use crate::record::StepResult;
 use crate::setting::Setting;
-use sg_base::{Label, OutOfMemory, Seq, Sid, Value, Var, tell_bytes};
+use sg_base::{Label, OutOfMemory, Seq, Sid, Value, Var, facts_of_bytes};
 use sg_craft::{confounder, first_bytes, flipped, frame_at};
 use sg_crypt::Cast;
 use sg_frame::{DecodeFault, Frame, decode};
@@ -95,7 +95,7 @@ fn start<'p>(
     ensures comes { (number : ℕ) (past : Past) → RepresentsPast node.old past → OnOk result (ComesOfCall number node.old node.new past (Start cast) step_result.new) }
     ensures back { OnErr result (node.new ≡ node.old) }
 {
-    tell_cast(&cast);
+    facts_of_cast(&cast);
     step_result.graph = node.start_graph(&cast);
     match node.start(cast, &mut step_result.notes) {
         Ok(event) => step_result.set_outcome(Outcome::Started(event)),
@@ -261,7 +261,7 @@ fn deliver_read<'p>(
     ensures comes { (number : ℕ) (past : Past) → RepresentsPast node.old past → OnOk result (ComesOfCall number node.old node.new past (Deliver bytes.now) step_result.new) }
     ensures back { OnErr result (node.new ≡ node.old) }
 {
-    tell_bytes(bytes);
+    facts_of_bytes(bytes);
     step_result.graph = node.frame_graph(frame);
     match node.deliver_frame(frame, bytes, &mut step_result.notes) {
         Ok(event) => step_result.set_outcome(Outcome::Received(event)),
@@ -288,7 +288,7 @@ fn deliver_malformed<'p>(
     ensures comes { (number : ℕ) (past : Past) → RepresentsPast node.old past → OnOk result (ComesOfCall number node.old node.new past (Deliver bytes.now) step_result.new) }
     ensures back { OnErr result (node.new ≡ node.old) }
 {
-    tell_bytes(bytes);
+    facts_of_bytes(bytes);
     match node.deliver(bytes, &mut step_result.notes) {
         Ok(event) => step_result.set_outcome(Outcome::Received(event)),
         Err(why) => {
@@ -325,7 +325,7 @@ fn confounders_of(
 }
 
 // What the type says of a cast.
-fn tell_cast(cast: &Cast)
+fn facts_of_cast(cast: &Cast)
     ensures { IsCast cast.now }
 {
     let _ = cast.version();

@@ -90,7 +90,7 @@ impl<'p> World<'p> {
 
     /// What holds of each replay: its schedule is one, its programs are those of the schedule's graphs, and the laws of runs hold of its run. It does
     /// nothing.
-    pub fn tell_laws(&self)
+    pub fn laws(&self)
         ensures programs { HasPrograms self.now }
         ensures laws { RunLaws self.now }
     {

@@ -41,7 +41,7 @@ seal-requires-clause-spelled c =
     let items : c.in_ok-items.items.items ≡ items_after p.graph h (step_item keys p h label os) = c.in_ok-items.ensures p.graph count ∙ (λ j. kept_items p.graph (c.as_slice-2.ensures.value j ++ own j ∷ [])) in
     let frame : c.in_ok-frame.frame ≡ record (step_frame keys p h label os) { tag = replicate 32 0 } = c.in_ok-frame.ensures.frame
     ∙ (λ j. record (frame_with p h label ((c.as_slice-3.ensures.value ∙ items) j) ((c.as_slice-4.ensures.value ∙ written) j)) { tag = replicate 32 0 }) in
-    let short : IsShortFrame c.in_ok-frame.frame = subst IsShortFrame (sym frame) (untagged_short (step_frame keys p h label os) (sends_short keys p h label vs c.args.confounders.now c.graph.ensures.program c.requires.turn.reachable c.requires.none c.tell_values.ensures)) in
+    let short : IsShortFrame c.in_ok-frame.frame = subst IsShortFrame (sym frame) (untagged_short (step_frame keys p h label os) (sends_short keys p h label vs c.args.confounders.now c.graph.ensures.program c.requires.turn.reachable c.requires.none c.facts_of_values.ensures)) in
     short.spelled
 
 pub seal-requires-clause-short : goal.seal-requires-clause-short
@@ -59,7 +59,7 @@ seal-requires-clause-short c =
     let items : c.in_ok-items.items.items ≡ items_after p.graph h (step_item keys p h label os) = c.in_ok-items.ensures p.graph count ∙ (λ j. kept_items p.graph (c.as_slice-2.ensures.value j ++ own j ∷ [])) in
     let frame : c.in_ok-frame.frame ≡ record (step_frame keys p h label os) { tag = replicate 32 0 } = c.in_ok-frame.ensures.frame
     ∙ (λ j. record (frame_with p h label ((c.as_slice-3.ensures.value ∙ items) j) ((c.as_slice-4.ensures.value ∙ written) j)) { tag = replicate 32 0 }) in
-    subst IsShortFrame (sym frame) (untagged_short (step_frame keys p h label os) (sends_short keys p h label vs c.args.confounders.now c.graph.ensures.program c.requires.turn.reachable c.requires.none c.tell_values.ensures))
+    subst IsShortFrame (sym frame) (untagged_short (step_frame keys p h label os) (sends_short keys p h label vs c.args.confounders.now c.graph.ensures.program c.requires.turn.reachable c.requires.none c.facts_of_values.ensures))
 
 pub next_kept-requires-clause-time : goal.next_kept-requires-clause-time
 next_kept-requires-clause-time c = time_left c.args.kept.now.program.now (state_of c.args.kept.now).held c.args.label (values_of c.args.values.now) c.requires.none

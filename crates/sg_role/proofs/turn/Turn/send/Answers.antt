@@ -53,8 +53,8 @@ after_step-requires c =
     let v = ap state_of c.as_ref-kept.ensures ∙ c.self.view_is in
     let none : first_some (send_rows p h label vs) ≡ None = subst (λ (z : RoleState). first_some (send_rows z.program z.held label vs) ≡ None) v c.in_default.ensures.right in
     let turn : IsReachableAtTurn real p h = (subst HoldsTurn c.self.view_is c.self.invariant).reachable in
-    let ip : IsProgram real p = subst (λ (z : RoleState). IsProgram real z.program) v c.tell.ensures.program in
-    let are = c.tell.ensures.values in
+    let ip : IsProgram real p = subst (λ (z : RoleState). IsProgram real z.program) v c.facts.ensures.program in
+    let are = c.facts.ensures.values in
     let made : state_of c.in-Ok.step.kept.value ≡ record { program = p; held = step_held keys p h label os } =
     c.in-Ok.ensures.state ∙ ap (λ (z : RoleState). record { program = z.program; held = step_held keys z.program z.held label os }) v in
     subst HoldsWaiting (sym made) (record {
@@ -74,8 +74,8 @@ returns-in-Ok-clause-accepted c = λ s represents.
     let v = ap state_of c.as_ref-kept.ensures ∙ c.self.view_is in
     let none : first_some (send_rows p h label vs) ≡ None = subst (λ (z : RoleState). first_some (send_rows z.program z.held label vs) ≡ None) v c.in_default.ensures.right in
     let turn : IsReachableAtTurn real p h = (subst HoldsTurn c.self.view_is c.self.invariant).reachable in
-    let ip : IsProgram real p = subst (λ (z : RoleState). IsProgram real z.program) v c.tell.ensures.program in
-    let are = c.tell.ensures.values in
+    let ip : IsProgram real p = subst (λ (z : RoleState). IsProgram real z.program) v c.facts.ensures.program in
+    let are = c.facts.ensures.values in
     ap first_some (sym (rows_held keys p h s represents.holds label vs)) ∙ none
 
 pub returns-in-Ok-clause-frame : goal.returns-in-Ok-clause-frame
@@ -90,8 +90,8 @@ returns-in-Ok-clause-frame c = λ s represents.
     let v = ap state_of c.as_ref-kept.ensures ∙ c.self.view_is in
     let none : first_some (send_rows p h label vs) ≡ None = subst (λ (z : RoleState). first_some (send_rows z.program z.held label vs) ≡ None) v c.in_default.ensures.right in
     let turn : IsReachableAtTurn real p h = (subst HoldsTurn c.self.view_is c.self.invariant).reachable in
-    let ip : IsProgram real p = subst (λ (z : RoleState). IsProgram real z.program) v c.tell.ensures.program in
-    let are = c.tell.ensures.values in
+    let ip : IsProgram real p = subst (λ (z : RoleState). IsProgram real z.program) v c.facts.ensures.program in
+    let are = c.facts.ensures.values in
     c.after_step.ensures.frame ∙ c.in-Ok.ensures.frame
     ∙ ap (λ (z : RoleState). (principal z.held.cast (receiver (shape z.program.graph) label), spelling (step_frame keys z.program z.held label os))) v
     ∙ (λ j. (principal (represents.holds j).cast (receiver (shape p.graph) label), spelling (frame_held keys p h s represents.holds label os ip.is_graph j)))
@@ -108,8 +108,8 @@ returns-in-Ok-clause-state c = λ s represents.
     let v = ap state_of c.as_ref-kept.ensures ∙ c.self.view_is in
     let none : first_some (send_rows p h label vs) ≡ None = subst (λ (z : RoleState). first_some (send_rows z.program z.held label vs) ≡ None) v c.in_default.ensures.right in
     let turn : IsReachableAtTurn real p h = (subst HoldsTurn c.self.view_is c.self.invariant).reachable in
-    let ip : IsProgram real p = subst (λ (z : RoleState). IsProgram real z.program) v c.tell.ensures.program in
-    let are = c.tell.ensures.values in
+    let ip : IsProgram real p = subst (λ (z : RoleState). IsProgram real z.program) v c.facts.ensures.program in
+    let are = c.facts.ensures.values in
     let made : state_of c.in-Ok.step.kept.value ≡ record { program = p; held = step_held keys p h label os } =
     c.in-Ok.ensures.state ∙ ap (λ (z : RoleState). record { program = z.program; held = step_held keys z.program z.held label os }) v in
     next_represents keys p h label vs cs ip turn s represents c.after_step.result
@@ -127,8 +127,8 @@ returns-in-Ok-clause-notes c = λ s represents.
     let v = ap state_of c.as_ref-kept.ensures ∙ c.self.view_is in
     let none : first_some (send_rows p h label vs) ≡ None = subst (λ (z : RoleState). first_some (send_rows z.program z.held label vs) ≡ None) v c.in_default.ensures.right in
     let turn : IsReachableAtTurn real p h = (subst HoldsTurn c.self.view_is c.self.invariant).reachable in
-    let ip : IsProgram real p = subst (λ (z : RoleState). IsProgram real z.program) v c.tell.ensures.program in
-    let are = c.tell.ensures.values in
+    let ip : IsProgram real p = subst (λ (z : RoleState). IsProgram real z.program) v c.facts.ensures.program in
+    let are = c.facts.ensures.values in
     let old = c.args.notes.now in
     c.in-Ok.ensures.noted ∙ ap (λ (z : RoleState). with_notes old (step_notes keys z.program z.held label os)) v
     ∙ ap (with_notes old) (notes_held keys p h s represents.holds label os ip.is_graph (shows_own keys p h label vs cs ip turn none are s represents))

@@ -2,7 +2,7 @@ use Rattle.std.proofs.Common.{refl}
 use Rattle.sg_world.specs.Laws.{HasPrograms}
 use Rattle.sg_world.proofs.Accounts.{compiled_is, schedule_is}
 use Rattle.sg_world.proofs.RunsOfReplays.{laws_hold}
-use Rattle.sg_world.proofs.world.World.tell_laws.Goals as goal
+use Rattle.sg_world.proofs.world.World.laws.Goals as goal
 
 pub returns-clause-programs : goal.returns-clause-programs
 returns-clause-programs c = record {

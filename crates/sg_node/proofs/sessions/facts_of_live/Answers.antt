@@ -1,4 +1,4 @@
-use Rattle.sg_node.proofs.sessions.tell_backed.Goals as goal
+use Rattle.sg_node.proofs.sessions.facts_of_live.Goals as goal
 
 pub returns-in-AtTurn : goal.returns-in-AtTurn
 returns-in-AtTurn c = rw c.in-AtTurn.is c.node.ensures.reachable

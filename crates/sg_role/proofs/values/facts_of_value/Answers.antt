@@ -4,7 +4,7 @@ use Rattle.sg_base.specs.Model.{value_of}
 use Rattle.sg_base.specs.declared.value.Value.{Value}
 use Rattle.sg_model.specs.Bytes.{IsBytes}
 use Rattle.sg_protocol.specs.Frame.{IsValue}
-use Rattle.sg_drive.proofs.play.tell_value.Goals as goal
+use Rattle.sg_role.proofs.values.facts_of_value.Goals as goal
 
 pub returns-in-Text : goal.returns-in-Text
-returns-in-Text c = subst (λ (v : Value). IsValue (value_of v)) (sym c.in-Text.is) (is_utf8-from_IsUtf8 c.in-Text.text c.as_bytes.ensures.text.0, c.as_bytes.ensures.text.1, subst IsBytes c.as_bytes.ensures.bytes c.tell_bytes.ensures)
+returns-in-Text c = subst (λ (v : Value). IsValue (value_of v)) (sym c.in-Text.is) (is_utf8-from_IsUtf8 c.in-Text.text c.as_bytes.ensures.text.0, c.as_bytes.ensures.text.1, subst IsBytes c.as_bytes.ensures.bytes c.facts_of_bytes.ensures)

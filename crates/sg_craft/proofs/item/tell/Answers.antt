@@ -1,6 +1,0 @@
-use Rattle.std.proofs.Common.{subst}
-use Rattle.sg_model.specs.Bytes.{AreBytes}
-use Rattle.sg_craft.proofs.item.tell.Goals as goal
-
-pub returns : goal.returns
-returns c = subst (AreBytes 32) c.tag.view_is (c.tag.told, c.tell_bytes.ensures)
